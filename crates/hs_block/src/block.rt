@@ -1,0 +1,120 @@
+//! A block, and its one spelling.
+ghost use Rattle.std.specs.Prelude.{◌≡◌, ◌+◌, ◌*◌, ◌<◌, ◌≤◌, ◌++◌, length, vec_len, vec_capacity, IfOk, OnOk, OnErr, IfErr, IsErrOf, IsOkUnless};
+ghost use Rattle.std.specs.List.{flat_map};
+ghost use Rattle.hs_limits.specs.Block.{IsBlock, spell};
+ghost use Rattle.hs_block.specs.Refusal.{IsCause};
+
+use crate::BlockFault;
+use hs_limits::{Address, ListOf};
+use std::alloc::Global;
+use std::marker::Model;
+
+/// Pointers to blocks, and bytes: at most 64 pointers and 65,536 bytes.
+#[derive(Debug, Drop)]
+pub struct Block {
+    pointers: ListOf<Address>,
+    bytes: ListOf<u8>,
+}
+
+impl Model for Block {
+    ghost use Rattle.hs_limits.specs.Block.{Block, IsBlock};
+
+    ghost Value = { Block };
+
+    ghost view = { λ a. record { pointers = a.pointers; bytes = a.bytes } };
+
+    ghost invariant = { λ a. IsBlock (record { pointers = a.pointers; bytes = a.bytes }) };
+}
+
+impl Block {
+    /// The block of these pointers and bytes. It copies both.
+    pub fn make(alloc: Global, pointers: &[Address], bytes: &[u8]) -> Result<Block, BlockFault>
+        ensures ok { IfOk result (λ block.
+            block ≡ record { pointers = pointers.now; bytes = bytes.now }) }
+        ensures valid { IfOk result IsBlock }
+
+        // Too many pointers come before too many bytes.
+        ensures too_many { 64 < length pointers.now →
+            IsErrOf result (BlockFault.TooMany (length pointers.now)) }
+        ensures too_long { length pointers.now ≤ 64 → 65536 < length bytes.now →
+            IsErrOf result (BlockFault.TooLong (length bytes.now)) }
+        ensures cause { IfErr result (λ fault. IsCause fault pointers.now bytes.now) }
+    {
+        if pointers.len() > 64 {
+            return Err(BlockFault::TooMany {
+                found: pointers.len() as u64,
+            });
+        }
+        if bytes.len() > 65_536 {
+            return Err(BlockFault::TooLong {
+                found: bytes.len() as u64,
+            });
+        }
+        Ok(Block {
+            pointers: ListOf::from_vec(Vec::from_slice(alloc, pointers)?),
+            bytes: ListOf::from_vec(Vec::from_slice(alloc, bytes)?),
+        })
+    }
+
+    /// The pointers, in order.
+    pub fn pointers(&self) -> &[Address]
+        ensures value { result.now ≡ self.now.pointers }
+        ensures valid { IsBlock self.now }
+    {
+        self.pointers.as_slice()
+    }
+
+    /// The bytes.
+    pub fn data(&self) -> &[u8]
+        ensures value { result.now ≡ self.now.bytes }
+        ensures valid { IsBlock self.now }
+    {
+        self.bytes.as_slice()
+    }
+
+    /// Puts the block's spelling at the end of `out`. An error leaves `out` as it was.
+    pub fn write(&self, out: &mut Vec<u8>) -> Result<(), BlockFault>
+        ensures ok { OnOk result (out.new.items ≡ out.old.items ++ spell self.now) }
+        ensures err { IsOkUnless result BlockFault.NoMemory }
+        ensures same { OnErr result (out.new.items ≡ out.old.items) }
+    {
+        write_spelling(self.pointers.as_slice(), self.bytes.as_slice(), out)
+    }
+}
+
+/// Puts the spelling of the block of these pointers and bytes at the end of `out`, with no block
+/// made. An error leaves `out` as it was.
+pub fn write_spelling(
+    pointers: &[Address],
+    bytes: &[u8],
+    out: &mut Vec<u8>,
+) -> Result<(), BlockFault>
+    requires { IsBlock (record { pointers = pointers.now; bytes = bytes.now }) }
+    ensures ok { OnOk result (out.new.items ≡
+        out.old.items ++ spell (record { pointers = pointers.now; bytes = bytes.now })) }
+    ensures err { IsOkUnless result BlockFault.NoMemory }
+    ensures same { OnErr result (out.new.items ≡ out.old.items) }
+{
+    out.reserve(7 + 32 * pointers.len() + bytes.len())?;
+    out.push(1).unwrap();
+    out.extend_from_slice(&(pointers.len() as u16).to_be_bytes())
+        .unwrap();
+    write_pointers(pointers, out);
+    out.extend_from_slice(&(bytes.len() as u32).to_be_bytes())
+        .unwrap();
+    out.extend_from_slice(bytes).unwrap();
+    Ok(())
+}
+
+/// Puts the pointers at the end of `out`, which has room for them.
+fn write_pointers(pointers: &[Address], out: &mut Vec<u8>)
+    requires { vec_len out.old + 32 * length pointers.now ≤ vec_capacity out.old }
+    ensures items { out.new.items ≡
+        out.old.items ++ flat_map (λ pointer. pointer.0) pointers.now }
+    ensures len { vec_len out.new ≡ vec_len out.old + 32 * length pointers.now }
+    ensures capacity { vec_capacity out.old ≤ vec_capacity out.new }
+{
+    for pointer in pointers {
+        out.extend_from_slice(&pointer.0).unwrap();
+    }
+}

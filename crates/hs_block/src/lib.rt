@@ -1,0 +1,14 @@
+//! Blocks: what makes one, its one spelling, and the names of spellings.
+#![tactic(auto)]
+
+mod block;
+mod fault;
+mod names;
+mod print;
+#[cfg(test)]
+mod tests;
+
+pub use block::{Block, write_spelling};
+pub use fault::BlockFault;
+pub use names::{Addresser, ShaNames, TailNames};
+pub use print::print_address;

@@ -1,0 +1,76 @@
+-- In which order a journal's entries stand.
+use Rattle.std.specs.Prelude.{◌≡◌, ℕ, ◌<◌, ◌≤◌, List, Option, Some, None, IsSome, slice_get}
+use Rattle.hs_model.specs.declared.command.Command.{Command}
+use Rattle.hs_model.specs.declared.op.Op.{Op}
+use Rattle.hs_model.specs.declared.op.Op.TheVariants as op
+use Rattle.hs_model.specs.declared.reply.Reply.TheVariants as reply
+use Rattle.hs_journal.specs.declared.entry.JournalEntry.{JournalEntry}
+use Rattle.hs_journal.specs.declared.entry.Who.TheVariants as who
+use Rattle.hs_journal.specs.Events.{client_op}
+
+-- place i has this entry
+abbrev pub IsAt : List JournalEntry → ℕ → JournalEntry → Type 0
+IsAt entries i entry = slice_get entries i ≡ Some entry
+
+-- place i has an entry of line n
+pub record IsOfLine (entries : List JournalEntry) (i n : ℕ) : Type 0 where
+  pub entry : JournalEntry
+  pub at : IsAt entries i entry
+  pub line : entry.who ≡ who.Line n
+
+-- the session of a client's operation, where it has one
+abbrev pub session_of : Option Op → Option (List ℕ)
+session_of None = None
+session_of (Some (op.Open name)) = Some name
+session_of (Some (op.Close name)) = Some name
+session_of (Some (op.Write name payload handles address)) = Some name
+session_of (Some (op.Read name handle)) = Some name
+session_of (Some (op.Look name key)) = Some name
+session_of (Some (op.Root name key handle)) = Some name
+session_of (Some (op.Drop key)) = None
+session_of (Some (op.Forget name handle)) = Some name
+session_of (Some (op.Name name handle)) = Some name
+session_of (Some op.Delete) = None
+session_of (Some op.Stat) = None
+
+-- the operation opens a session
+abbrev pub IsOpen : Option Op → Type 0
+IsOpen (Some (op.Open name)) = Unit {0}
+IsOpen other = ⊥
+
+-- an operation that is answered in its own event
+abbrev pub IsPrompt : Option Op → Type 0
+IsPrompt (Some (op.Open name)) = Unit {0}
+IsPrompt (Some (op.Close name)) = Unit {0}
+IsPrompt (Some (op.Look name key)) = Unit {0}
+IsPrompt (Some (op.Forget name handle)) = Unit {0}
+IsPrompt (Some (op.Name name handle)) = Unit {0}
+IsPrompt (Some op.Stat) = Unit {0}
+IsPrompt other = ⊥
+
+-- a line of a session, below line k, has no entry before place i
+pub record IsWaiting (commands : ℕ → Option Command) (entries : List JournalEntry) (i k : ℕ) (session : List ℕ) (line : ℕ) : Type 0 where
+  pub earlier : line < k
+  pub same_session : session_of (client_op (commands line)) ≡ Some session
+  pub unanswered : (j : ℕ) → j < i → IsOfLine entries j line → ⊥
+
+pub record IsOrdered (commands : ℕ → Option Command) (entries : List JournalEntry) : Type 0 where
+  -- an entry of a line names a line of the script that has a command
+  pub named : (i n : ℕ) → IsOfLine entries i n → IsSome (commands n)
+  -- no two entries name the same line
+  pub once : (i j n : ℕ) → IsOfLine entries i n → IsOfLine entries j n → i ≡ j
+  -- beside an entry of a session's line, at most one earlier line of the session is without its answer
+  pub alone : (i k : ℕ) (session : List ℕ) → IsOfLine entries i k → session_of (client_op (commands k)) ≡ Some session → (IsOpen (client_op (commands k)) → ⊥)
+      → (l m : ℕ) → IsWaiting commands entries i k session l → IsWaiting commands entries i k session m → l ≡ m
+  -- where there is one, the line is refused as busy with it
+  pub busy : (i k : ℕ) (session : List ℕ) (entry : JournalEntry) → IsAt entries i entry → entry.who ≡ who.Line k → session_of (client_op (commands k)) ≡ Some session → (IsOpen (client_op (commands k)) → ⊥)
+      → (l : ℕ) → IsWaiting commands entries i k session l → entry.reply ≡ reply.Busy l
+  -- and no line is refused as busy with anything else
+  pub only_busy : (i k l : ℕ) (entry : JournalEntry) → IsAt entries i entry → entry.who ≡ who.Line k → entry.reply ≡ reply.Busy l
+      → (session : List ℕ) × (session_of (client_op (commands k)) ≡ Some session) × (IsOpen (client_op (commands k)) → ⊥) × IsWaiting commands entries i k session l
+  -- a line that is answered in its own event has its entry before those of all later lines
+  pub prompt : (i j k n : ℕ) → IsOfLine entries i k → IsPrompt (client_op (commands k)) → IsOfLine entries j n → k < n → i < j
+  -- so has one that is refused as busy
+  pub prompt_busy : (i j k n l : ℕ) (entry : JournalEntry) → IsAt entries i entry → entry.who ≡ who.Line k → entry.reply ≡ reply.Busy l → IsOfLine entries j n → k < n → i < j
+  -- moments never fall
+  pub moments : (i j : ℕ) (first second : JournalEntry) → IsAt entries i first → IsAt entries j second → i ≤ j → first.moment ≤ second.moment

@@ -1,0 +1,68 @@
+//! The journal as a list with a limit.
+ghost use Rattle.std.specs.Prelude.{◌≡◌, ◌∷◌, ◌++◌, ◌<◌, ◌≤◌, ◌↔◌, [], length, IsTrue, OnOk, OnErr};
+ghost use Rattle.hs_journal.specs.declared.fault.JournalFault.TheVariants as fault;
+
+use crate::{JournalEntry, JournalFault};
+use hs_limits::ListOf;
+use std::alloc::Global;
+use std::marker::Model;
+
+/// The entries so far, in the order in which they were made, and how many there may be.
+#[derive(Debug, Drop)]
+pub struct Journal {
+    entries: ListOf<JournalEntry>,
+    limit: u32,
+}
+
+impl Model for Journal {
+    ghost use Rattle.hs_journal.specs.Told.{Told};
+
+    ghost Value = { Told };
+
+    ghost view = { λ a. record { entries = a.entries; limit = a.limit } };
+}
+
+impl Journal {
+    /// An empty journal that takes `limit` entries. It takes no memory.
+    pub fn new(alloc: Global, limit: u32) -> Journal
+        ensures entries { result.entries ≡ [] }
+        ensures limit { result.limit ≡ limit }
+    {
+        Journal {
+            entries: ListOf::new(alloc),
+            limit,
+        }
+    }
+
+    /// The entries in order.
+    pub fn entries(&self) -> &[JournalEntry]
+        ensures { result.now ≡ self.now.entries }
+    {
+        self.entries.as_slice()
+    }
+
+    /// Whether there are as many entries as the limit.
+    pub fn is_full(&self) -> bool
+        ensures { IsTrue result ↔ self.now.limit ≤ length self.now.entries }
+    {
+        u64::from(self.limit) <= self.entries.len() as u64
+    }
+
+    /// Adds an entry at the end. The entries before it stay as they are, and a fault changes nothing.
+    pub fn push(&mut self, entry: JournalEntry) -> Result<(), JournalFault>
+        ensures ok { OnOk result (self.new.entries ≡ self.old.entries ++ entry ∷ []) }
+        ensures room { OnOk result (length self.old.entries < self.old.limit) }
+        ensures full { self.old.limit ≤ length self.old.entries → result ≡ Err fault.OpsFull }
+        ensures only_full { result ≡ Err fault.OpsFull → self.old.limit ≤ length self.old.entries }
+        ensures same { OnErr result (self.new.entries ≡ self.old.entries) }
+        ensures limit { self.new.limit ≡ self.old.limit }
+    {
+        if self.is_full() {
+            return Err(JournalFault::OpsFull);
+        }
+        match self.entries.push(entry) {
+            Ok(()) => Ok(()),
+            Err(_) => Err(JournalFault::NoMemory),
+        }
+    }
+}

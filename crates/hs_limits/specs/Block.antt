@@ -1,0 +1,19 @@
+-- A block, and its one spelling.
+use Rattle.std.specs.Prelude.{ℕ, ◌≤◌, List, ◌∷◌, ◌++◌, length}
+use Rattle.std.specs.List.{flat_map}
+use Rattle.std.specs.Int.{w16, w32, to_be_bytes}
+use Rattle.hs_limits.specs.declared.address.Address.{Address}
+
+-- pointers to blocks, and bytes
+pub record Block : Type 0 where
+  pub pointers : List Address
+  pub bytes : List ℕ
+
+-- at most 64 pointers and 65,536 bytes
+pub record IsBlock (block : Block) : Type 0 where
+  pub pointers : length block.pointers ≤ 64
+  pub bytes : length block.bytes ≤ 65536
+
+-- the version 1, the number of pointers, the pointers, the number of bytes, the bytes
+abbrev pub spell : Block → List ℕ
+spell block = 1 ∷ to_be_bytes w16 (length block.pointers) ++ flat_map (λ pointer. pointer.0) block.pointers ++ to_be_bytes w32 (length block.bytes) ++ block.bytes

@@ -1,0 +1,4 @@
+pub mod FirstLemmas
+pub mod HoldLemmas
+pub mod JudgeLemmas
+pub mod RefusalLemmas

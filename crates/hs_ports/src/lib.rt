@@ -1,0 +1,24 @@
+//! What the store meets outside itself: sources, sinks, disks and the watch, with their contracts.
+#![tactic(auto)]
+
+mod disk;
+mod fault;
+mod list_sink;
+mod list_source;
+mod memory_disk;
+mod schedule;
+mod sink;
+mod source;
+mod watch;
+
+pub use disk::{Disk, Side};
+pub use fault::PortFault;
+pub use list_sink::ListSink;
+pub use list_source::ListSource;
+pub use memory_disk::MemoryDisk;
+pub use sink::Sink;
+pub use source::Source;
+pub use watch::Watch;
+
+#[cfg(test)]
+mod tests;

@@ -1,0 +1,4 @@
+mod WordsLemmas
+mod NumberLemmas
+mod PayloadLemmas
+mod TextLemmas

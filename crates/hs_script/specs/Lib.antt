@@ -1,0 +1,6 @@
+pub mod Lines
+pub mod Reading
+pub mod Text
+pub mod Built
+pub mod Answer
+pub use Rattle.hex.specs.Hex

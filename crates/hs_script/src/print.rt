@@ -1,0 +1,120 @@
+//! The line of an entry.
+ghost use Rattle.std.specs.Prelude.{◌≡◌, ◌++◌, OnOk, OnErr, IsOkUnless};
+ghost use Rattle.std.specs.Fmt.{decimal};
+ghost use Rattle.hs_script.specs.Text.{entry_text, who_text, reply_text, shard_text};
+
+use crate::ScriptFault;
+use crate::put::{put_address, put_bytes, put_named, put_stat};
+use hs_journal::{JournalEntry, Who};
+use hs_model::Reply;
+use std::io;
+use std::io::Write;
+
+/// Puts the line of an entry at the end of `out`. An error leaves `out` as it was: the line is made
+/// apart.
+pub fn print_entry(entry: &JournalEntry, out: &mut Vec<u8>) -> Result<(), ScriptFault>
+    ensures ok { OnOk result (out.new.items ≡ out.old.items ++ entry_text entry.now) }
+    ensures err { IsOkUnless result ScriptFault.NoMemory }
+    ensures same { OnErr result (out.new.items ≡ out.old.items) }
+{
+    let mut line = Vec::new(*out.allocator());
+    match put_entry(entry, &mut line) {
+        Ok(()) => {
+            out.extend_from_slice(line.as_slice())?;
+            Ok(())
+        }
+        Err(_) => Err(ScriptFault::NoMemory),
+    }
+}
+
+/// Puts the line of an entry at the end of `out`.
+#[tactic(auto, unfolding(crate::specs::Text::entry_text))]
+fn put_entry(entry: &JournalEntry, out: &mut Vec<u8>) -> io::Result<()>
+    ensures { OnOk result (out.new.items ≡ out.old.items ++ entry_text entry.now) }
+{
+    put_who(entry.who, out)?;
+    write!(out, " ")?;
+    put_reply(entry.who, &entry.reply, out)?;
+    write!(out, "\n")
+}
+
+/// Puts the number of the line at the end of `out`, or a dash.
+fn put_who(who: Who, out: &mut Vec<u8>) -> io::Result<()>
+    ensures { OnOk result (out.new.items ≡ out.old.items ++ who_text who) }
+{
+    match who {
+        Who::Line(number) => write!(out, "{number}"),
+        Who::Shard(_) => write!(out, "-"),
+        Who::Store => write!(out, "-"),
+    }
+}
+
+/// Puts a reply at the end of `out`.
+fn put_reply(who: Who, reply: &Reply, out: &mut Vec<u8>) -> io::Result<()>
+    ensures { OnOk result (out.new.items ≡ out.old.items ++ reply_text who reply.now) }
+{
+    match reply {
+        Reply::Ok => write!(out, "ok"),
+        Reply::New { handle, epoch } => write!(out, "new h{handle} e{epoch}"),
+        Reply::Dup { handle, epoch } => write!(out, "dup h{handle} e{epoch}"),
+        Reply::Bytes { bytes, handles } => put_bytes(bytes.as_slice(), handles.as_slice(), out),
+        Reply::Held { handle, epoch } => write!(out, "held h{handle} e{epoch}"),
+        Reply::Name { address } => put_address(address, out),
+        Reply::Stat {
+            blocks,
+            roots,
+            sessions,
+            epochs,
+            swept,
+        } => {
+            put_stat(
+                (*blocks, *roots, *sessions),
+                epochs.as_slice(),
+                swept.as_slice(),
+                out,
+            )
+        }
+        Reply::Run { epoch } => write!(out, "run e{epoch}"),
+        Reply::Enter { epoch } => write!(out, "enter {} e{epoch}", shard_of(who)),
+        Reply::Sweep { epoch, removed } => write!(
+            out,
+            "sweep {} e{epoch} {removed}",
+            shard_of(who)
+        ),
+        Reply::Done { epoch } => write!(out, "done e{epoch}"),
+        Reply::Down { peer, .. } => write!(out, "down {peer}"),
+        Reply::Visits { epoch, count } => write!(out, "visits e{epoch} {count}"),
+        Reply::NoSession { session } => put_named("no session ", session.as_slice(), out),
+        Reply::SessionTaken { session } => put_named("no taken ", session.as_slice(), out),
+        Reply::SessionsFull { limit } => write!(out, "no sessionsfull {limit}"),
+        Reply::Busy { line } => write!(out, "no busy {line}"),
+        Reply::TooLong { found } => write!(out, "no toolong {found}"),
+        Reply::TooMany { found } => write!(out, "no toomany {found}"),
+        Reply::NoHandle { handle } => write!(out, "no handle h{handle}"),
+        Reply::HandlesFull { limit } => write!(out, "no handlesfull {limit}"),
+        Reply::Stale { handle, held, now } => write!(out, "no stale h{handle} e{held} e{now}"),
+        Reply::Collision => write!(out, "no collision"),
+        Reply::ShardFull { limit } => write!(out, "no shardfull {limit}"),
+        Reply::KeyTaken { key } => put_named("no keytaken ", key.as_slice(), out),
+        Reply::NoKey { key } => put_named("no key ", key.as_slice(), out),
+        Reply::RootsFull { limit } => write!(out, "no rootsfull {limit}"),
+        Reply::Running { epoch } => write!(out, "no running e{epoch}"),
+        Reply::EpochEnd { limit } => write!(out, "no epochend {limit}"),
+        Reply::NoPeer { peer } => write!(out, "no peer {peer}"),
+        Reply::NotUp { peer } => write!(out, "no notup {peer}"),
+        Reply::NotDown { peer } => write!(out, "no notdown {peer}"),
+        Reply::NoMessage { message } => write!(out, "no message {message}"),
+        Reply::PoolFull { limit } => write!(out, "no poolfull {limit}"),
+    }
+}
+
+/// The shard that an entry is about, or 0.
+fn shard_of(who: Who) -> u8
+    ensures { shard_text who ≡ decimal result }
+{
+    match who {
+        Who::Shard(shard) => shard,
+        Who::Line(_) => 0,
+        Who::Store => 0,
+    }
+}

@@ -1,0 +1,152 @@
+-- What a run has fulfilled wherever it ends.
+use Rattle.std.proofs.Common.{◌≡◌, ℕ, zero, suc, ◌+◌, ◌-◌, ◌<◌, ◌≤◌, List, [], ◌∷◌, ◌++◌, length, take, drop, Option, Some, None, IfSome, IsSome, refl, sym, ap, subst, ◌∙◌, append_assoc, arith, take-append-drop, length-append, length-take, inl, inr}
+use Rattle.std.specs.List.{slice_get}
+use Rattle.std.proofs.lemmas.Bool.{ne_eqb, cases_eq, false≢true, lt-ltb}
+use Rattle.std.proofs.lemmas.List.{drop-drop, take_all}
+use Rattle.hs_limits.specs.declared.address.Address.{Address}
+use Rattle.hs_limits.specs.declared.limits.Limits.{Limits}
+use Rattle.hs_model.specs.Store.{Store}
+use Rattle.hs_journal.specs.declared.entry.JournalEntry.{JournalEntry}
+use Rattle.hs_journal.specs.declared.entry.Who.TheVariants as who
+use Rattle.hs_journal.specs.Events.{client_op}
+use Rattle.hs_journal.specs.Order.{IsOfLine}
+use Rattle.hs_ports.specs.Sink.{bytes_of, followed}
+use Rattle.hs_ports.specs.Source.{before}
+use Rattle.hs_script.specs.Lines.{before_first, lines_of, line_at}
+use Rattle.hs_script.specs.Reading.{bad, reading, commands_of, commands}
+use Rattle.hs_script.specs.Text.{text}
+use Rattle.hs_top.specs.declared.status.Status.{Status}
+use Rattle.hs_top.specs.Headline.{Answers, PutsFront, Ends, HasEnded, HasLast, IsBad, IsPrinted, Legal, complete_lines, input_limit}
+use Rattle.hs_top.specs.Lines.{HasNoFeed}
+use Rattle.hs_top.specs.Progress.{Progress}
+use Rattle.hs_top.proofs.ProgressLemmas.{ordered}
+use Rattle.hs_top.proofs.SpendsLemmas.{complete-none, complete-append}
+
+-- ---- what may be untold
+
+-- from what holds of a value that is told
+pub if_told : {X : Type 0} (P Q : X → Type 0) (o : Option X) → IfSome o P → ((x : X) → P x → Q x) → IfSome o Q
+if_told P Q None h f = tt
+if_told P Q (Some x) h f = f x h
+
+-- ---- lists
+
+-- the next line is the one at this place
+pub head_at : {X : Type 0} (xs : List X) (n : ℕ) (x : X) (rest : List X) → drop n xs ≡ x ∷ rest → slice_get xs n ≡ Some x
+head_at [] zero x rest e = absurd cc
+head_at [] (suc n) x rest e = absurd cc
+head_at (y ∷ ys) zero x rest e = cc
+head_at (y ∷ ys) (suc n) x rest e = head_at ys n x rest e
+
+-- and behind it are those from the next place on
+pub tail_at : {X : Type 0} (xs : List X) (n : ℕ) (x : X) (rest : List X) → drop n xs ≡ x ∷ rest → rest ≡ drop (n + 1) xs
+tail_at xs n x rest e = sym (ap (drop 1) e) ∙ drop-drop 1 n xs
+
+-- ---- clause 1
+
+-- a line with an operation is one of the lines
+within : (lines : List (List ℕ)) (n : ℕ) → IsSome (client_op (commands_of lines n)) → 0 < n
+within lines zero h = absurd (false≢true h)
+within lines (suc m) h = omega arith
+
+-- the progress of a run is legal
+pub legal : (script : List ℕ) (name : List ℕ → Address) (limits : Limits) (entry s : Store) (n : ℕ) (entries : List JournalEntry) (moment : ℕ) → Progress (commands script) name limits entry n entries s moment → Legal (commands script) name limits entry entries
+legal script name limits entry s n entries moment progress = record {
+  legal = progress.legal;
+  replied = progress.replied;
+  ordered = ordered (commands script) name limits entry s n entries moment progress refl;
+}
+
+one_line : (k l : ℕ) → who.Line k ≡ who.Line l → k ≡ l
+one_line k l same = cc
+
+-- with answers to n lines, the last line that was begun is line n, or the one behind it where it may lack its entry
+pub answers_by : (script : List ℕ) (name : List ℕ → Address) (limits : Limits) (entry s : Store) (n line : ℕ) (entries : List JournalEntry) (moment : ℕ) (ending : Status) (got got' : Option (List (ℕ × ℕ)))
+    → Progress (commands script) name limits entry n entries s moment → length entries ≤ limits.ops → n ≤ line → line ≤ n + 1 → (line ≡ n + 1 → HasLast ending → ⊥) → IsPrinted ending (bytes_of got) (text entries) (bytes_of got')
+    → Answers (commands script) name limits entry ending line entries got got'
+answers_by script name limits entry s n line entries moment ending got got' progress fits low high last printed = record {
+  answers = legal script name limits entry s n entries moment progress;
+  begun = λ place k here.
+      let b = progress.below place here.entry here.at in
+      let same : b.0 ≡ k = one_line b.0 k (sym b.1 ∙ here.line) in
+      omega (arith, b.2, same);
+  fits = fits;
+  all = λ k le asks has. by_place k le asks has;
+  printed = printed;
+}
+  where
+    by_place : (k : ℕ) → k ≤ line → IsSome (client_op (commands script k)) → (k ≡ line → HasLast ending) → (place : ℕ) × IsOfLine entries place k
+    by_place k le asks has = elim (cases_eq k (n + 1)) [
+      | inl same ↦ absurd (last (omega arith) (has (omega arith)))
+      | inr differs ↦ progress.all k (within (lines_of script) k asks) (omega arith) asks
+    ]
+
+-- ---- the bytes that were taken
+
+-- what was read, what is held and what is left are the script
+pub taken_is : (script held : List ℕ) (left : Option (List ℕ)) (t : ℕ) → before held left ≡ Some (drop t script) → before (take t script ++ held) left ≡ Some script
+taken_is script held None t e = absurd cc
+taken_is script held (Some rest) t e =
+    let same : held ++ rest ≡ drop t script = cc in
+    ap (λ (all : List ℕ). Some all) (append_assoc (take t script) held rest ∙ ap (λ (back : List ℕ). take t script ++ back) same ∙ take-append-drop t script)
+
+-- no line ends in what is held
+pub complete_taken : (script held : List ℕ) (t n : ℕ) → complete_lines (take t script) ≡ n → HasNoFeed held 0 (length held) → n ≡ complete_lines (take t script ++ held)
+complete_taken script held t n e none = omega (arith, e, complete-append (take t script) held, complete-none held none)
+
+-- how many bytes were taken
+pub taken-length : (script held : List ℕ) (t : ℕ) → t ≤ length script → length (take t script ++ held) ≡ t + length held
+taken-length script held t le = omega (arith, length-append (take t script) held, length-take t script)
+
+-- ---- a line that is too long
+
+-- a byte in front of the first line, or a first line of its own
+led : (b : ℕ) (lines : List (List ℕ)) → (first : List ℕ) × (more : List (List ℕ)) × (before_first b lines ≡ first ∷ more) × (1 ≤ length first)
+led b [] = (b ∷ [], [], refl, omega arith)
+led b (line ∷ lines) = (b ∷ line, lines, refl, omega arith)
+
+-- the first line has all the bytes up to the first line feed
+pub first_line : (held rest : List ℕ) → 0 < length held → HasNoFeed held 0 (length held) → (first : List ℕ) × (more : List (List ℕ)) × (lines_of (held ++ rest) ≡ first ∷ more) × (length held ≤ length first)
+unfolding lines_of
+first_line [] rest some none = absurd (omega arith)
+first_line (b ∷ []) rest some none = rw (ne_eqb b 10 (none 0 (omega arith) (omega arith))) (led b (lines_of rest))
+first_line (b ∷ c ∷ bs) rest some none =
+    let others : HasNoFeed (c ∷ bs) 0 (length (c ∷ bs)) = λ k low lt. none (suc k) (omega arith) (omega arith) in
+    let behind = first_line (c ∷ bs) rest (omega arith) others in
+    rw (ne_eqb b 10 (none 0 (omega arith) (omega arith)), behind.2) (b ∷ behind.0, behind.1, refl, omega (arith, behind.3))
+
+-- a line of more than 200,000 bytes is outside the language
+pub too_long : (line : List ℕ) → 200000 < length line → reading line ≡ bad
+unfolding reading
+too_long line long = rw (lt-ltb 200000 (length line) long) refl
+
+-- ---- the end of a run
+
+-- where a run ends, by what is held and left
+pub ends_at : (script held : List ℕ) (left : Option (List ℕ)) (cost line : ℕ) (ending : Status) → before held left ≡ Some (drop (input_limit - cost) script) → cost ≤ input_limit → input_limit - cost ≤ length script → length held ≤ cost
+    → ((k : ℕ) → k ≤ line → IsBad (lines_of script) k → ⊥) → line ≤ length (lines_of script) → (length (take (input_limit - cost) script ++ held) ≤ input_limit → HasEnded ending (lines_of script) line (take (input_limit - cost) script ++ held)) → Ends script left ending line
+ends_at script held left cost line ending pending low high few good within cause = record {
+  taken = take (input_limit - cost) script ++ held;
+  rest = taken_is script held left (input_limit - cost) pending;
+  good = good;
+  within = within;
+  cause = cause (omega (arith, taken-length script held (input_limit - cost) high));
+}
+
+-- the next line, where lines are left
+pub next_is : (lines : List (List ℕ)) (n : ℕ) (line : List ℕ) (more : List (List ℕ)) → drop n lines ≡ line ∷ more → line_at lines (n + 1) ≡ Some line
+next_is lines n line more e = rw (ne_eqb (n + 1) 0 (λ same. omega arith)) (ap (slice_get lines) (omega arith) ∙ head_at lines n line more e)
+
+-- one good line more
+pub good_more : (lines : List (List ℕ)) (n : ℕ) (line : List ℕ) → line_at lines (n + 1) ≡ Some line → (reading line ≡ bad → ⊥) → ((k : ℕ) → k ≤ n → IsBad lines k → ⊥) → (k : ℕ) → k ≤ n + 1 → IsBad lines k → ⊥
+good_more lines n line at good before k le is = elim (cases_eq k (n + 1)) [
+  | inl same ↦
+      let there : line_at lines (n + 1) ≡ Some is.line = subst (λ (m : ℕ). line_at lines m ≡ Some is.line) same is.at in
+      let one : is.line ≡ line = cc in
+      good (ap reading (sym one) ∙ is.outside)
+  | inr differs ↦ before k (omega arith) is
+]
+
+-- a text that is put whole is a front of itself
+pub whole_front : (got got' : Option (List ℕ)) (bytes : List ℕ) → got' ≡ followed got bytes → PutsFront got bytes got'
+whole_front got got' bytes put = record { count = length bytes; put = put ∙ ap (followed got) (sym (take_all (length bytes) bytes (omega arith))) }

@@ -1,0 +1,11 @@
+pub mod Asking
+pub mod Ending
+pub mod Entering
+pub mod Faults
+pub mod Headline
+pub mod Lines
+pub mod Progress
+pub mod Reader
+pub mod Serving
+pub mod Status
+pub mod Words

@@ -1,0 +1,26 @@
+-- What the program says of a status.
+use Rattle.std.specs.Prelude.{ℕ, List, [], ◌++◌, codes, decimal}
+use Rattle.hs_top.specs.declared.status.Status.{Status}
+use Rattle.hs_top.specs.declared.status.Status.TheVariants as status
+
+-- the exit status
+abbrev pub status_code : Status → ℕ
+status_code status.Done = 0
+status_code status.Usage = 2
+status_code (status.BadLine line) = 3
+status_code status.ReadFault = 5
+status_code status.WriteFault = 6
+status_code status.NoMemory = 7
+status_code status.OpsFull = 10
+status_code status.InputFull = 13
+
+-- the line on standard error, each behind the program's name
+abbrev pub fault_text : Status → List ℕ
+fault_text status.Done = []
+fault_text status.Usage = codes "hydra: usage: hydra COMMAND DIR G R [words]\n"
+fault_text (status.BadLine line) = codes "hydra: line " ++ (decimal line ++ codes " is not in the script language\n")
+fault_text status.ReadFault = codes "hydra: the input could not be read\n"
+fault_text status.WriteFault = codes "hydra: the output could not be written\n"
+fault_text status.NoMemory = codes "hydra: out of memory\n"
+fault_text status.OpsFull = codes "hydra: the journal is full\n"
+fault_text status.InputFull = codes "hydra: the input is too long\n"

@@ -1,0 +1,20 @@
+//! The top call: the words, the script's loop, and what the whole program promises.
+#![tactic(auto)]
+
+mod outcome;
+mod reader;
+mod run;
+mod script;
+mod status;
+mod stop;
+mod tell;
+mod top;
+mod words;
+
+pub use outcome::Outcome;
+pub use status::{Status, TopFault, fault_line};
+pub use top::{hydra, hydra_alone};
+pub use words::{is_load, shape_of};
+
+#[cfg(test)]
+mod tests;

@@ -1,0 +1,54 @@
+//! The texts that the program prints about itself.
+
+/// The answer to `--version`.
+pub const VERSION: &str = "hydra 0.1.0\n";
+
+/// The answer to `--help`.
+pub const HELP: &str = "\
+usage: hydra COMMAND DIR G R [options]
+       hydra --help
+       hydra --version
+
+A store keeps blocks of bytes, equal blocks once, each under an address that is
+made of its bytes; a session is given a handle for each block that it writes.
+
+One command is built so far, with G and R both 1 and no options:
+
+  hydra script DIR 1 1
+
+It reads a script from standard input and prints the answers to standard output.
+The blocks are kept in memory until the run ends. Where DIR is a folder, the files
+peer0.side0 and peer0.side1 are made in it if absent, and nothing is written to
+DIR yet.
+
+The lines of a script, each ended by a line feed:
+
+  open S        opens the session S, 1 to 16 of a-z 0-9
+  write S HEX   writes a block of these data: hexadecimal digits, two a byte, for
+                at most 65,536 bytes, or - for none
+  read S hN     reads the block of the session's handle hN, as h0
+  settle        completes what was asked before; so far each line is answered at
+                once, and nothing is left to complete
+  # ...         a comment, which is passed over, as an empty line is
+
+An answer begins with the number of the line that asked: ok, new for a block that
+was not there, dup for one that was, bytes for its data, and no for a refusal. A
+script, and beside it what is printed:
+
+  open a          1 ok
+  write a 6162    2 new h0 e1
+  settle
+  read a h0       4 bytes 6162
+  settle
+
+Exit statuses, each but 0 with a line on standard error:
+
+   0  the script was read to its end
+   2  the words are not those of a command
+   3  a line is not in the script language; the lines before it were run
+   5  the input could not be read
+   6  the output could not be written
+   7  out of memory
+  10  the journal of the run is full: so far it takes 64 answers
+  13  the input is too long
+";

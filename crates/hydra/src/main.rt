@@ -1,0 +1,22 @@
+//! The program: it runs a store by a script from standard input.
+#![tactic(auto)]
+
+mod command_line;
+mod fault_count;
+mod file_disk;
+mod help;
+mod retry;
+mod run;
+mod side_file;
+mod streams;
+
+use std::process::ExitCode;
+
+#[cfg(test)]
+mod tests;
+
+fn main(rt: HostRuntime) -> ExitCode {
+    let status = run::run(&rt, rt.stdin(), rt.stdout());
+    let _ = run::report(rt.alloc(), &mut rt.stderr(), &status);
+    ExitCode::from(status.code())
+}

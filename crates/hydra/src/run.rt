@@ -1,0 +1,149 @@
+//! A run of the program: its words, its input and output, and how it ended.
+ghost use Rattle.std.specs.Prelude.{◌≡◌, ◌≢◌, None, IfOk, OnOk, map, string_bytes, vec_len};
+ghost use Rattle.std.specs.Io.KnownBytes.{Appends};
+ghost use Rattle.hs_top.specs.Status.{fault_text};
+ghost use Rattle.hs_top.specs.Words.{shape_in};
+ghost use Rattle.hydra.specs.CommandLine.{IsFaulty, peers_in};
+
+use crate::command_line::{Request, request_of, words_of};
+use crate::file_disk::{FileDisk, open_disk};
+use crate::help::{HELP, VERSION};
+use crate::streams::{ReaderSource, WriterSink};
+use hs_block::ShaNames;
+use hs_ports::Watch;
+use hs_top::{Status, fault_line, shape_of};
+use std::alloc::{AllocError, Global};
+use std::io;
+use std::io::{ErrorKind, Read, Write};
+use std::rt::{Env, Files};
+use std::sync::Wait;
+use std::thread::Threads;
+
+/// Does what the words of the command line ask for, and says how it ended. Words that aren't text
+/// are a faulty command line.
+pub fn run<R, I, O>(rt: &R, input: I, output: O) -> Status
+where
+    R: Env + Files + AllocGlobal + Threads + Wait + Sync,
+    R::File: Send,
+    I: Read + Drop,
+    O: Write + Drop,
+{
+    match words_of(rt) {
+        Ok(words) => answer(rt, &words, input, output),
+        Err(error) if error.kind() == ErrorKind::InvalidData => Status::Usage,
+        Err(_) => Status::NoMemory,
+    }
+}
+
+// Prints the text that these words ask for, or runs the store.
+fn answer<R, I, O>(rt: &R, words: &[String], input: I, mut output: O) -> Status
+where
+    R: Files + AllocGlobal + Threads + Wait + Sync,
+    R::File: Send,
+    I: Read + Drop,
+    O: Write + Drop,
+    ensures usage { IsFaulty (map (λ word. string_bytes word) words.now)
+        → result ≢ Status.NoMemory → result ≡ Status.Usage }
+    ensures only_usage { result ≡ Status.Usage
+        → IsFaulty (map (λ word. string_bytes word) words.now) }
+{
+    match request_of(words) {
+        Request::Help => print(&mut output, HELP),
+        Request::Version => print(&mut output, VERSION),
+        Request::Run => serve(rt, words, input, output),
+    }
+}
+
+// Writes a text whole.
+fn print<O: Write>(output: &mut O, text: &str) -> Status
+    ensures done { result ≡ Status.Done
+        → Appends (O.contents output.old) (O.contents output.new) text.now }
+    ensures only { result ≢ Status.Done → result ≡ Status.WriteFault }
+{
+    match output.write_all(text.as_bytes()) {
+        Ok(()) => Status::Done,
+        Err(_) => Status::WriteFault,
+    }
+}
+
+// Makes the ports, and runs the store.
+fn serve<R, I, O>(rt: &R, words: &[String], input: I, output: O) -> Status
+where
+    R: Files + AllocGlobal + Threads + Wait + Sync,
+    R::File: Send,
+    I: Read + Drop,
+    O: Write + Drop,
+    ensures usage { shape_in (map (λ word. string_bytes word) words.now) ≡ None
+        → result ≢ Status.NoMemory → result ≡ Status.Usage }
+    ensures only_usage { result ≡ Status.Usage
+        → shape_in (map (λ word. string_bytes word) words.now) ≡ None }
+{
+    let alloc = rt.alloc();
+    let Ok(mut source) = ReaderSource::new(alloc, input) else {
+        return Status::NoMemory;
+    };
+    let Ok(mut disks) = disks_of(rt, alloc, words) else {
+        return Status::NoMemory;
+    };
+    let mut sink = WriterSink::new(output);
+    let mut watch = Watch::new();
+    let outcome = hs_top::hydra(
+        alloc,
+        rt,
+        words,
+        &ShaNames,
+        &mut source,
+        &mut sink,
+        &mut disks,
+        &mut watch,
+    );
+    outcome.status
+}
+
+// The disks of the peers under the folder that the words name; none where they name no shape.
+fn disks_of<R: Files>(
+    rt: &R,
+    alloc: Global,
+    words: &[String],
+) -> Result<Vec<FileDisk<R::File>>, AllocError>
+    ensures { IfOk result (λ disks.
+        vec_len disks ≡ peers_in (map (λ word. string_bytes word) words.now)) }
+{
+    match (words, shape_of(words)) {
+        ([_, dir, ..], Some(shape)) => {
+            let peers = usize::from(shape.shards) * usize::from(shape.copies);
+            open_disks(rt, alloc, dir.as_str(), peers)
+        }
+        _ => Ok(Vec::new(alloc)),
+    }
+}
+
+// The disks of this many peers under a folder.
+fn open_disks<R: Files>(
+    rt: &R,
+    alloc: Global,
+    dir: &str,
+    peers: usize,
+) -> Result<Vec<FileDisk<R::File>>, AllocError>
+    ensures { IfOk result (λ disks. vec_len disks ≡ peers) }
+{
+    let mut disks = Vec::new(alloc);
+    for peer in 0..peers {
+        disks.push(open_disk(rt, alloc, dir, peer))?;
+    }
+    Ok(disks)
+}
+
+/// Writes the line of a status, and nothing for `Done`. Without memory for it, it writes that
+/// there was none.
+pub fn report<E: Write>(alloc: Global, errors: &mut E, status: &Status) -> io::Result<()>
+    ensures ok { OnOk result (Appends (E.contents errors.old) (E.contents errors.new)
+        (fault_text status.now)) }
+{
+    let mut line = Vec::new(alloc);
+    if fault_line(status, &mut line).is_err() {
+        errors.write_all(b"hydra: out of memory\n")?;
+        return Err(ErrorKind::OutOfMemory.into());
+    }
+    errors.write_all(&line)
+}

@@ -1,0 +1,183 @@
+//! One side of a disk: a file and its length.
+ghost use Rattle.std.specs.Prelude.{◌≡◌, ◌+◌, ◌<◌, ◌≤◌, ◌^◌, IfOk, IfErr, OnOk, OnErr, IsNone, length, max};
+ghost use Rattle.hs_ports.specs.Disk.{HasRead, IsBetween};
+
+use crate::retry::{read_some, write_some};
+use hs_ports::PortFault;
+use std::fs::OpenFile;
+use std::io;
+use std::io::{Read, Seek, SeekFrom, Write};
+
+/// The most bytes that one call reads.
+const PIECE: usize = 65536;
+
+/// A file and its length, or none: then the length is 0, and each call fails.
+#[derive(Drop)]
+pub struct SideFile<F> {
+    pub file: Option<F>,
+    pub len: u64,
+    ghost fits: { len < 2 ^ 64 },
+}
+
+impl<F: Read + Write + Seek + OpenFile> SideFile<F> {
+    /// A file of this length.
+    pub fn new(file: F, len: u64) -> SideFile<F>
+        ensures value { result.len ≡ len }
+    {
+        SideFile {
+            file: Some(file),
+            len,
+        }
+    }
+
+    /// No file.
+    pub fn absent() -> SideFile<F>
+        ensures file { IsNone result.file }
+        ensures value { result.len ≡ 0 }
+    {
+        SideFile { file: None, len: 0 }
+    }
+
+    /// The length.
+    pub fn length(&self) -> Result<u64, PortFault>
+        ensures value { IfOk result (λ n. n ≡ self.now.len) }
+        ensures not_memory { IfErr result (λ fault. fault ≡ PortFault.Failed) }
+        ensures absent { IsNone self.now.file → result ≡ Err PortFault.Failed }
+    {
+        match &self.file {
+            Some(_) => Ok(self.len),
+            None => Err(PortFault::Failed),
+        }
+    }
+
+    /// Appends some of what stands from the place on, or nothing.
+    pub fn read(&mut self, at: u64, max: usize, into: &mut Vec<u8>) -> Result<usize, PortFault>
+        requires { 0 < max }
+        ensures found { IfOk result (λ n.
+            HasRead self.old.len at max into.old.items into.new.items n) }
+        ensures untaken { OnErr result (into.new.items ≡ into.old.items) }
+        ensures same { self.new.len ≡ self.old.len }
+        ensures absent { IsNone self.old.file → result ≡ Err PortFault.Failed }
+    {
+        match &mut self.file {
+            Some(file) => read_from(file, self.len, at, max, into),
+            None => Err(PortFault::Failed),
+        }
+    }
+
+    /// Writes over what is there and past the end; after a fault maybe a front alone.
+    pub fn write_at(&mut self, at: u64, bytes: &[u8]) -> Result<(), PortFault>
+        ensures size { OnOk result (
+            self.new.len ≡ max self.old.len (at + length bytes.now)) }
+        ensures size_torn { OnErr result (IsBetween self.old.len
+            (max self.old.len (at + length bytes.now)) self.new.len) }
+        ensures not_memory { IfErr result (λ fault. fault ≡ PortFault.Failed) }
+        ensures absent { IsNone self.old.file → result ≡ Err PortFault.Failed }
+    {
+        let fits = at.checked_add(bytes.len() as u64).is_some();
+        match &mut self.file {
+            Some(file) if fits => {
+                let done = write_from(file, at, bytes);
+                self.len = self.len.max(at + done as u64);
+                if done == bytes.len() {
+                    Ok(())
+                } else {
+                    Err(PortFault::Failed)
+                }
+            }
+            _ => Err(PortFault::Failed),
+        }
+    }
+
+    /// Cuts the file to this length.
+    pub fn cut(&mut self, len: u64) -> Result<(), PortFault>
+        ensures size { OnOk result (self.new.len ≡ len) }
+        ensures same { OnErr result (self.new.len ≡ self.old.len) }
+        ensures not_memory { IfErr result (λ fault. fault ≡ PortFault.Failed) }
+        ensures absent { IsNone self.old.file → result ≡ Err PortFault.Failed }
+    {
+        let done = match &self.file {
+            Some(file) => file.set_len(len).is_ok(),
+            None => false,
+        };
+        if !done {
+            return Err(PortFault::Failed);
+        }
+        self.len = len;
+        Ok(())
+    }
+
+    /// Puts the file on the medium.
+    pub fn sync(&self) -> Result<(), PortFault>
+        ensures not_memory { IfErr result (λ fault. fault ≡ PortFault.Failed) }
+        ensures absent { IsNone self.now.file → result ≡ Err PortFault.Failed }
+    {
+        let done = match &self.file {
+            Some(file) => file.sync_all().is_ok(),
+            None => false,
+        };
+        if done { Ok(()) } else { Err(PortFault::Failed) }
+    }
+}
+
+// Appends a piece of a file of this length from a place on, or nothing.
+fn read_from<F: Read + Seek>(
+    file: &mut F,
+    len: u64,
+    at: u64,
+    max: usize,
+    into: &mut Vec<u8>,
+) -> Result<usize, PortFault>
+    requires { 0 < max }
+    ensures found { IfOk result (λ n. HasRead len at max into.old.items into.new.items n) }
+    ensures untaken { OnErr result (into.new.items ≡ into.old.items) }
+{
+    if at >= len {
+        return Ok(0);
+    }
+    let start = into.len();
+    let most = (len - at).min(PIECE as u64).min(max as u64) as usize;
+    if into.resize(start + most, 0).is_err() {
+        return Err(PortFault::NoMemory);
+    }
+    match read_piece(file, at, &mut into[start..]) {
+        Ok(n) => {
+            into.truncate(start + n);
+            Ok(n)
+        }
+        Err(_) => {
+            into.truncate(start);
+            Err(PortFault::Failed)
+        }
+    }
+}
+
+// Reads a front of the piece, and at least one byte.
+fn read_piece<F: Read + Seek>(file: &mut F, at: u64, piece: &mut [u8]) -> io::Result<usize>
+    ensures some { IfOk result (λ n. 0 < n) }
+    ensures within { IfOk result (λ n. n ≤ length piece.new) }
+{
+    file.seek(SeekFrom::Start(at))?;
+    let n = read_some(file, piece)?;
+    if n == 0 {
+        return Err(io::ErrorKind::UnexpectedEof.into());
+    }
+    Ok(n)
+}
+
+// Writes from a place on, and says how many bytes the file took: all, unless it failed.
+fn write_from<F: Write + Seek>(file: &mut F, at: u64, bytes: &[u8]) -> usize
+    ensures within { result ≤ length bytes.now }
+{
+    if file.seek(SeekFrom::Start(at)).is_err() {
+        return 0;
+    }
+    let mut done = 0;
+    'pieces: while done < bytes.len() {
+        match write_some(file, &bytes[done..]) {
+            Ok(n) => done += n,
+            Err(_) => break 'pieces,
+        }
+    }
+    done
+}

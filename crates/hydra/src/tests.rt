@@ -1,0 +1,251 @@
+//! Each adapter once, through its trait: over real files, and over fakes that fail or are
+//! interrupted in one call.
+ghost use Rattle.std.specs.Prelude.{◌<◌};
+
+use crate::file_disk::{FileDisk, open_disk};
+use crate::streams::{ReaderSource, WriterSink};
+use hs_ports::{Disk, PortFault, Side, Sink, Source, Watch};
+use std::fs::{Metadata, OpenFile};
+use std::io::{Cursor, ErrorKind, Read, Seek, SeekFrom, Write};
+use std::test::Fail;
+use std::{env, fs, io, process};
+
+/// Gives and takes at most two bytes a call. One read or write, counted from 1, answers an error.
+#[derive(Drop)]
+struct Faulty<T> {
+    inner: T,
+    calls: u64,
+    at: u64,
+    kind: ErrorKind,
+}
+
+impl<T> Faulty<T> {
+    fn new(inner: T, at: u64, kind: ErrorKind) -> Faulty<T> {
+        Faulty {
+            inner,
+            calls: 0,
+            at,
+            kind,
+        }
+    }
+
+    fn step(&mut self) -> io::Result<()> {
+        self.calls = self.calls.saturating_add(1);
+        if self.calls == self.at {
+            Err(self.kind.into())
+        } else {
+            Ok(())
+        }
+    }
+}
+
+impl<T: Read> Read for Faulty<T> {
+    fn read(&mut self, buf: &mut [u8]) -> io::Result<usize> {
+        self.step()?;
+        let most = buf.len().min(2);
+        self.inner.read(&mut buf[..most])
+    }
+}
+
+impl<T: Write> Write for Faulty<T> {
+    fn write(&mut self, buf: &[u8]) -> io::Result<usize> {
+        self.step()?;
+        let most = buf.len().min(2);
+        self.inner.write(&buf[..most])
+    }
+
+    fn flush(&mut self) -> io::Result<()> {
+        self.inner.flush()
+    }
+}
+
+impl<T: Seek> Seek for Faulty<T> {
+    fn seek(&mut self, to: SeekFrom) -> io::Result<u64> {
+        self.inner.seek(to)
+    }
+}
+
+/// An empty file, whose length can't be set.
+impl<T> OpenFile for Faulty<T> {
+    fn metadata(&self) -> io::Result<Metadata> {
+        Ok(Metadata::of_file(0))
+    }
+
+    fn set_len(&self, _size: u64) -> io::Result<()> {
+        Err(ErrorKind::Unsupported.into())
+    }
+
+    fn sync_all(&self) -> io::Result<()> {
+        Ok(())
+    }
+
+    fn sync_data(&self) -> io::Result<()> {
+        Ok(())
+    }
+}
+
+fn take<S: Source>(source: &mut S, max: usize, into: &mut Vec<u8>) -> Result<usize, PortFault>
+    requires { 0 < max }
+{
+    source.take(max, into)
+}
+
+fn put<S: Sink>(sink: &mut S, watch: &mut Watch, piece: &[u8]) -> Result<usize, PortFault> {
+    sink.put(watch, piece)
+}
+
+fn length<D: Disk>(disk: &mut D, side: Side) -> Result<u64, PortFault> {
+    disk.len(side)
+}
+
+fn read<D: Disk>(
+    disk: &mut D,
+    side: Side,
+    at: u64,
+    into: &mut Vec<u8>,
+) -> Result<usize, PortFault> {
+    disk.read(side, at, 2, into)
+}
+
+fn append<D: Disk>(
+    disk: &mut D,
+    watch: &mut Watch,
+    side: Side,
+    bytes: &[u8],
+) -> Result<(), PortFault> {
+    let end = disk.len(side)?;
+    disk.write_at(watch, side, end, bytes)
+}
+
+fn clear<D: Disk>(disk: &mut D, watch: &mut Watch, side: Side) -> Result<(), PortFault> {
+    disk.cut(watch, side, 0)
+}
+
+fn sync<D: Disk>(disk: &mut D, watch: &mut Watch, side: Side) -> Result<(), PortFault> {
+    disk.sync(watch, side)
+}
+
+#[test]
+fn a_reader_goes_on_after_a_fault(rt: HostRuntime) -> Result<(), Fail> {
+    let alloc = rt.alloc();
+    let failed = [Ok(2), Err(PortFault::Failed), Ok(1), Ok(0)];
+    let calm = [Ok(2), Ok(1), Ok(0), Ok(0)];
+    for (kind, wanted, faults) in [
+        (ErrorKind::Other, failed, 1),
+        (ErrorKind::Interrupted, calm, 0),
+    ] {
+        let reader = Faulty::new(b"abc".as_slice(), 2, kind);
+        let mut source = ReaderSource::new(alloc, reader)?;
+        let mut into = Vec::new(alloc);
+        for want in wanted {
+            assert_eq!(rt; take(&mut source, 9, &mut into), want);
+        }
+        assert_eq!(rt; into.as_slice(), b"abc".as_slice());
+        assert_eq!(rt; source.faults(), faults);
+    }
+    Ok(())
+}
+
+#[test]
+fn a_writer_goes_on_after_a_fault(rt: HostRuntime) -> Result<(), Fail> {
+    let alloc = rt.alloc();
+    let failed = [Ok(2), Err(PortFault::Failed), Ok(2)];
+    let calm = [Ok(2), Ok(2), Ok(2)];
+    for (kind, wanted, faults) in [
+        (ErrorKind::Other, failed, 1),
+        (ErrorKind::Interrupted, calm, 0),
+    ] {
+        let mut watch = Watch::new();
+        let mut sink = WriterSink::new(Faulty::new(Vec::new(alloc), 2, kind));
+        for want in wanted {
+            assert_eq!(rt; put(&mut sink, &mut watch, b"abc"), want);
+        }
+        assert_eq!(rt; put(&mut sink, &mut watch, b""), Ok(0));
+        assert_eq!(rt; watch.now(), 4);
+        assert_eq!(rt; sink.faults(), faults);
+    }
+    Ok(())
+}
+
+#[test]
+fn a_put_hands_its_bytes_to_the_writer(rt: HostRuntime) -> Result<(), Fail> {
+    let mut watch = Watch::new();
+    let mut out = Vec::new(rt.alloc());
+    let mut sink = WriterSink::new(&mut out);
+    assert_eq!(rt; put(&mut sink, &mut watch, b"abc"), Ok(3));
+    drop(sink);
+    assert_eq!(rt; out.as_slice(), b"abc".as_slice());
+    Ok(())
+}
+
+#[test]
+fn files_keep_what_was_written(rt: HostRuntime) -> Result<(), Fail> {
+    let alloc = rt.alloc();
+    let name = format!(in alloc; "hydra-{}", process::id(rt.process()))?;
+    let dir = env::temp_dir(&rt)?.join(alloc, name.as_str())?;
+    fs::create_dir(&rt, dir.as_str())?;
+    let mut watch = Watch::new();
+    let mut disk = open_disk(&rt, alloc, dir.as_str(), 3);
+    assert_eq!(rt; append(&mut disk, &mut watch, Side::Zero, b"lost"), Ok(()));
+    assert_eq!(rt; clear(&mut disk, &mut watch, Side::Zero), Ok(()));
+    assert_eq!(rt; append(&mut disk, &mut watch, Side::One, b"ab"), Ok(()));
+    assert_eq!(rt; append(&mut disk, &mut watch, Side::One, b"c"), Ok(()));
+    assert_eq!(rt; sync(&mut disk, &mut watch, Side::One), Ok(()));
+    assert_eq!(rt; watch.now(), 5);
+    assert_eq!(rt; disk.faults(), 0);
+
+    let mut disk = open_disk(&rt, alloc, dir.as_str(), 3);
+    let mut into = Vec::new(alloc);
+    assert_eq!(rt; length(&mut disk, Side::Zero), Ok(0));
+    assert_eq!(rt; length(&mut disk, Side::One), Ok(3));
+    for (at, want) in [(0, Ok(2)), (2, Ok(1)), (3, Ok(0)), (9, Ok(0))] {
+        assert_eq!(rt; read(&mut disk, Side::One, at, &mut into), want, "at {at}");
+    }
+    assert_eq!(rt; into.as_slice(), b"abc".as_slice());
+    assert_eq!(rt; disk.faults(), 0);
+
+    let side = dir.join(alloc, "peer3.side1")?;
+    assert_eq!(rt; fs::read(&rt, side.as_str())?.as_slice(), b"abc".as_slice());
+    fs::remove_dir_all(&rt, dir.as_str())?;
+    Ok(())
+}
+
+#[test]
+fn a_write_that_fails_leaves_a_length_between(rt: HostRuntime) -> Result<(), Fail> {
+    let alloc = rt.alloc();
+    for (kind, want, len, faults) in [
+        (ErrorKind::Other, Err(PortFault::Failed), 4, 1),
+        (ErrorKind::Interrupted, Ok(()), 6, 0),
+    ] {
+        let zero = Faulty::new(Cursor::new(Vec::new(alloc)), 3, kind);
+        let one = Faulty::new(Cursor::new(Vec::new(alloc)), 3, kind);
+        let mut watch = Watch::new();
+        let mut disk = FileDisk::new(Some((zero, one)));
+        let done = append(&mut disk, &mut watch, Side::Zero, b"abcdef");
+        assert_eq!(rt; done, want);
+        assert_eq!(rt; length(&mut disk, Side::Zero), Ok(len));
+        assert_eq!(rt; disk.faults(), faults);
+        assert_eq!(rt;
+            clear(&mut disk, &mut watch, Side::Zero),
+            Err(PortFault::Failed)
+        );
+        assert_eq!(rt; length(&mut disk, Side::Zero), Ok(len));
+    }
+    Ok(())
+}
+
+#[test]
+fn each_call_of_a_disk_without_files_fails(rt: HostRuntime) -> Result<(), Fail> {
+    let alloc = rt.alloc();
+    let mut watch = Watch::new();
+    let mut into = Vec::new(alloc);
+    let mut disk = open_disk(&rt, alloc, "/nowhere/at/all", 0);
+    let side = Side::One;
+    assert_eq!(rt; length(&mut disk, side), Err(PortFault::Failed));
+    assert_eq!(rt; read(&mut disk, side, 0, &mut into), Err(PortFault::Failed));
+    assert_eq!(rt; clear(&mut disk, &mut watch, side), Err(PortFault::Failed));
+    assert_eq!(rt; sync(&mut disk, &mut watch, side), Err(PortFault::Failed));
+    assert_eq!(rt; disk.faults(), 4);
+    assert_eq!(rt; watch.now(), 2);
+    Ok(())
+}
