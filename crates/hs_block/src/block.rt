@@ -1,12 +1,13 @@
 //! A block, and its one spelling.
-ghost use Rattle.std.specs.Prelude.{◌≡◌, ◌+◌, ◌*◌, ◌<◌, ◌≤◌, ◌++◌, length, vec_len, vec_capacity, IfOk, OnOk, OnErr, IfErr, IsErrOf, IsOkUnless};
+ghost use Rattle.std.specs.Prelude.{◌≡◌, ℕ, List, [], Ok, ◌+◌, ◌*◌, ◌<◌, ◌≤◌, ◌++◌, length, vec_len, vec_capacity, IfOk, OnOk, OnErr, IfErr, IsErrOf, IsOkUnless};
 ghost use Rattle.std.specs.List.{flat_map};
-ghost use Rattle.hs_limits.specs.Block.{IsBlock, spell};
-ghost use Rattle.hs_block.specs.Refusal.{IsCause};
+ghost use Rattle.hs_limits.specs.Block.{Block, IsBlock, HasAddresses, spell};
+ghost use Rattle.hs_limits.specs.Reading.{addresses, read_block};
+ghost use Rattle.hs_block.specs.Refusal.{IsCause, IsReading};
 
 use crate::BlockFault;
-use hs_limits::{Address, ListOf};
-use std::alloc::Global;
+use hs_limits::{Address, ListOf, parts_of};
+use std::alloc::{AllocError, Global};
 use std::marker::Model;
 
 /// Pointers to blocks, and bytes: at most 64 pointers and 65,536 bytes.
@@ -54,6 +55,20 @@ impl Block {
             pointers: ListOf::from_vec(Vec::from_slice(alloc, pointers)?),
             bytes: ListOf::from_vec(Vec::from_slice(alloc, bytes)?),
         })
+    }
+
+    /// The block that the bytes spell, all of them. It copies pointers and bytes.
+    pub fn read(alloc: Global, bytes: &[u8]) -> Result<Block, BlockFault>
+        // What is read is spelled so.
+        ensures found { IfOk result (λ block.
+            IsBlock block × HasAddresses block × (bytes.now ≡ spell block)) }
+        // What is spelled so is read, unless memory runs out.
+        ensures only { (block : Block) → IsBlock block → HasAddresses block →
+            bytes.now ≡ spell block → IsReading result (Ok block) }
+        // Which fault it is: the first in the order of the bytes.
+        ensures exact { IsReading result (read_block bytes.now) }
+    {
+        block_of(alloc, bytes)
     }
 
     /// The pointers, in order.
@@ -118,3 +133,37 @@ fn write_pointers(pointers: &[Address], out: &mut Vec<u8>)
         out.extend_from_slice(&pointer.0).unwrap();
     }
 }
+
+/// The block that the bytes spell, or the first fault.
+fn block_of(alloc: Global, bytes: &[u8]) -> Result<Block, BlockFault>
+    ensures { IsReading result (read_block bytes.now) }
+{
+    let (count, pointers, content) = parts_of(bytes)?;
+    let pointers = ListOf::from_vec(addresses_of(alloc, count, pointers)?);
+    let bytes = ListOf::from_vec(Vec::from_slice(alloc, content)?);
+    Ok(Block { pointers, bytes })
+}
+
+/// As many addresses as the bytes hold, 32 bytes each.
+fn addresses_of(alloc: Global, count: u16, bytes: &[u8]) -> Result<Vec<Address>, AllocError>
+    requires { length bytes.now ≡ 32 * count }
+    ensures { IfOk result (λ pointers. pointers.items ≡ addresses count bytes.now) }
+{
+    let mut pointers = Vec::with_capacity(alloc, count as usize)?;
+    let mut rest = bytes;
+    for _ in 0..count {
+        let (front, behind) = rest.split_at(32);
+        let mut address = Address([0; 32]);
+        address.0.copy_from_slice(front);
+        pointers.push(address)?;
+        rest = behind;
+    }
+    Ok(pointers)
+}
+
+/// No spelling of a block is the beginning of another block's spelling.
+pub fn no_spelling_begins_another()
+    ensures { (a : Block) (b : Block) (rest : List ℕ) →
+        IsBlock a → HasAddresses a → IsBlock b → HasAddresses b →
+        spell b ≡ spell a ++ rest → (a ≡ b) × (rest ≡ []) }
+{}

@@ -8,7 +8,7 @@ mod print;
 #[cfg(test)]
 mod tests;
 
-pub use block::{Block, write_spelling};
+pub use block::{Block, no_spelling_begins_another, write_spelling};
 pub use fault::BlockFault;
 pub use names::{Addresser, ShaNames, TailNames};
 pub use print::print_address;

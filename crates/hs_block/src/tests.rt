@@ -67,3 +67,35 @@ fn a_block_is_made_spelled_named_or_refused(rt: HostRuntime) -> Result<(), Fail>
     }
     Ok(())
 }
+
+#[test]
+fn a_block_is_read_or_the_first_fault_found(rt: HostRuntime) -> Result<(), Fail> {
+    for (bytes, fault) in [
+        (
+            [1, 0, 0, 0, 0, 0, 2, 0x61].as_slice(),
+            BlockFault::Short { at: 8 },
+        ),
+        ([].as_slice(), BlockFault::Short { at: 0 }),
+        ([2].as_slice(), BlockFault::BadVersion { found: 2 }),
+        ([1, 0, 65].as_slice(), BlockFault::TooMany { found: 65 }),
+        (
+            [1, 0, 0, 0, 1, 0, 1].as_slice(),
+            BlockFault::TooLong { found: 65_537 },
+        ),
+        (
+            [1, 0, 0, 0, 0, 0, 1, 0x61, 0xff].as_slice(),
+            BlockFault::Trailing { at: 8 },
+        ),
+    ] {
+        assert_eq!(rt; Block::read(rt.alloc(), bytes).err(), Some(fault));
+    }
+
+    let pointers = [Address([7; 32]), Address([9; 32])];
+    let mut spelling = Vec::new(rt.alloc());
+    write_spelling(&pointers, b"ab".as_slice(), &mut spelling)?;
+    assert_eq!(rt; spelling.len(), 73);
+    let block = Block::read(rt.alloc(), spelling.as_slice())?;
+    assert_eq!(rt; block.pointers(), pointers.as_slice());
+    assert_eq!(rt; block.data(), b"ab".as_slice());
+    Ok(())
+}

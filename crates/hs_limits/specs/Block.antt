@@ -1,5 +1,5 @@
 -- A block, and its one spelling.
-use Rattle.std.specs.Prelude.{ℕ, ◌≤◌, List, ◌∷◌, ◌++◌, length}
+use Rattle.std.specs.Prelude.{◌≡◌, ℕ, ◌≤◌, List, ◌∷◌, ◌++◌, length, All}
 use Rattle.std.specs.List.{flat_map}
 use Rattle.std.specs.Int.{w16, w32, to_be_bytes}
 use Rattle.hs_limits.specs.declared.address.Address.{Address}
@@ -14,6 +14,17 @@ pub record IsBlock (block : Block) : Type 0 where
   pub pointers : length block.pointers ≤ 64
   pub bytes : length block.bytes ≤ 65536
 
+-- each pointer has the 32 bytes of an address, as every pointer that a program holds
+abbrev pub HasAddresses : Block → Type 0
+HasAddresses block = All (λ pointer. length pointer.0 ≡ 32) block.pointers
+
 -- the version 1, the number of pointers, the pointers, the number of bytes, the bytes
 abbrev pub spell : Block → List ℕ
 spell block = 1 ∷ to_be_bytes w16 (length block.pointers) ++ flat_map (λ pointer. pointer.0) block.pointers ++ to_be_bytes w32 (length block.bytes) ++ block.bytes
+
+-- the bytes are the spelling of some block
+pub record IsSpelling (spelling : List ℕ) : Type 0 where
+  pub block : Block
+  pub bounds : IsBlock block
+  pub addressed : HasAddresses block
+  pub spelled : spelling ≡ spell block

@@ -2,18 +2,22 @@
 #![tactic(auto)]
 
 mod address;
+mod delta;
 mod key;
 mod limits;
 mod list;
 mod name;
 mod shape;
+mod spelling;
 
 pub use address::{Address, Held, fresh};
+pub use delta::Delta;
 pub use key::Key;
 pub use limits::{Limits, PeerStatus};
 pub use list::ListOf;
-pub use name::Name;
+pub use name::{Name, is_name};
 pub use shape::{Shape, peer_of, shard_of, shard_of_key};
+pub use spelling::{SpellingFault, parts_of, spelt};
 
 #[cfg(test)]
 mod tests;

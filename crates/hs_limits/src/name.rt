@@ -104,8 +104,8 @@ fn is_name_byte(byte: u8) -> bool
     (byte >= b'a' && byte <= b'z') || (byte >= b'0' && byte <= b'9')
 }
 
-/// Whether the bytes make a name.
-fn is_name(bytes: &[u8]) -> bool
+/// Whether the bytes make a name. It takes no memory.
+pub fn is_name(bytes: &[u8]) -> bool
     ensures { result ≡ is_name bytes.now }
 {
     if bytes.is_empty() || bytes.len() > 16 {

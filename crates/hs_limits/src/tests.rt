@@ -1,5 +1,7 @@
 //! What no clause says: that the definitions are those meant, at values from the rules.
-use crate::{Address, Key, Limits, ListOf, Name, Shape, fresh, peer_of, shard_of, shard_of_key};
+use crate::{
+    Address, Key, Limits, ListOf, Name, Shape, fresh, peer_of, shard_of, shard_of_key, spelt,
+};
 use std::alloc::{AllocError, Global};
 use std::test::Fail;
 
@@ -56,4 +58,19 @@ fn what_belongs_where_and_for_how_long(rt: HostRuntime) -> Result<(), Fail> {
     }
     assert_eq!(rt; Limits::greatest().handles, 4096);
     Ok(())
+}
+
+#[test]
+fn bytes_are_a_spelling_or_not(rt: HostRuntime) {
+    for (bytes, answer) in [
+        ([1, 0, 0, 0, 0, 0, 0].as_slice(), true),
+        ([1, 0, 0, 0, 0, 0, 2, 0x61, 0x62].as_slice(), true),
+        ([1, 0, 0, 0, 0, 0, 2, 0x61].as_slice(), false),
+        ([1, 0, 0, 0, 0, 0, 1, 0x61, 0xff].as_slice(), false),
+        ([1, 0, 65].as_slice(), false),
+        ([2, 0, 0, 0, 0, 0, 0].as_slice(), false),
+        ([].as_slice(), false),
+    ] {
+        assert_eq!(rt; spelt(bytes), answer);
+    }
 }

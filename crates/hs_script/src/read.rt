@@ -5,11 +5,11 @@ ghost use Rattle.hs_script.specs.Lines.{words_of};
 ghost use Rattle.hs_script.specs.Reading.{reading, command_of, open_line, write_line, read_line, name_of, payload_of, handle_of};
 
 use crate::ScriptFault;
-use crate::name::{is_name, name_of};
+use crate::name::name_of;
 use crate::number::handle_of;
 use crate::payload::{is_payload, payload_of};
 use crate::words::split_word;
-use hs_limits::ListOf;
+use hs_limits::{ListOf, is_name};
 use hs_model::{Command, Op};
 use std::alloc::Global;
 

@@ -1,4 +1,5 @@
 pub mod BusyLemmas
+pub mod KeptLemmas
 pub mod EndingLemmas
 pub mod HaltLemmas
 pub mod LinesLemmas

@@ -1,12 +1,16 @@
 -- What the whole program promises, in the words of the plain store.
-use Rattle.std.specs.Prelude.{◌≡◌, ℕ, ◌+◌, ◌*◌, ◌<◌, ◌≤◌, Bool, false, ◌==◌, List, [], ◌++◌, length, take, Option, Some, IsSome, count_by}
+use Rattle.std.specs.Prelude.{◌≡◌, ℕ, ◌+◌, ◌*◌, ◌<◌, ◌≤◌, Bool, false, ◌==◌, List, [], ◌++◌, length, take, Option, Some, None, IsSome, Contains, count_by}
 use Rattle.std.specs.Option.{option_map_or}
 use Rattle.hs_limits.specs.declared.address.Address.{Address}
+use Rattle.hs_limits.specs.declared.address.Held.{Held}
 use Rattle.hs_limits.specs.declared.limits.Limits.{Limits}
 use Rattle.hs_limits.specs.Limits.{greatest_limits}
 use Rattle.hs_model.specs.declared.command.Command.{Command}
-use Rattle.hs_model.specs.Run.{IsLegal}
-use Rattle.hs_model.specs.Store.{Store}
+use Rattle.hs_model.specs.Run.{Event, IsLegal, run}
+use Rattle.hs_model.specs.Store.{Store, Root}
+use Rattle.hs_laws.specs.Held.{IsHeld, IsFreshHeld}
+use Rattle.hs_laws.specs.Reached.{IsWhole}
+use Rattle.hs_laws.specs.Valid.{IsValid}
 use Rattle.hs_journal.specs.declared.entry.JournalEntry.{JournalEntry}
 use Rattle.hs_journal.specs.Events.{client_op, events_of, IsAnswered}
 use Rattle.hs_journal.specs.Order.{IsOfLine, IsOrdered}
@@ -69,6 +73,18 @@ pub record Answers (commands : ℕ → Option Command) (name : List ℕ → Addr
   pub all : (n : ℕ) → n ≤ line → IsSome (client_op (commands n)) → (n ≡ line → HasLast ending) → (place : ℕ) × IsOfLine journal place n
   -- the bytes put are those before, and then the lines of the journal
   pub printed : IsPrinted ending (bytes_of got) (text journal) (bytes_of got')
+
+-- ---- clause 2: nothing is lost
+
+-- the store is valid, and all is present that a root which is not dropped reaches, or a held address that may still be used
+pub record KeepsAll (s : Store) : Type 0 where
+  pub valid : IsValid s
+  pub rooted : (root : Root) → Contains s.roots root → root.dropped ≡ None → IsWhole s root.address
+  pub held : (held : Held) → IsHeld s held → IsFreshHeld s held → IsWhole s held.address
+
+-- so it is in every store along a run: behind each front of its events
+abbrev pub KeepsAllAlong : Limits → Store → List Event → Type 0
+KeepsAllAlong limits entry events = (count : ℕ) → KeepsAll (run limits entry (take count events))
 
 -- ---- the causes of the statuses
 

@@ -1,10 +1,11 @@
 //! The top call.
 ghost use Rattle.std.specs.Prelude.{◌≡◌, ◌+◌, ◌<◌, ◌^◌, ◌≤◌, false, true, [], map, string_bytes, vec_len, IfSome};
+ghost use Rattle.hs_journal.specs.Events.{events_of};
 ghost use Rattle.hs_model.specs.Store.{empty_store};
 ghost use Rattle.hs_ports.specs.Fault.{HasRisen};
 ghost use Rattle.hs_script.specs.Reading.{commands};
 ghost use Rattle.hs_top.specs.Ending.{Fulfils, IsUntouched, status_of};
-ghost use Rattle.hs_top.specs.Headline.{Answers, Ends, Refuses, input_limit, is_run, run_limits};
+ghost use Rattle.hs_top.specs.Headline.{Answers, Ends, KeepsAllAlong, Refuses, input_limit, is_run, run_limits};
 ghost use Rattle.hs_top.specs.Words.{is_load};
 
 use crate::reader::Reader;
@@ -117,6 +118,12 @@ pub fn hydra_alone<A: Addresser, S: Source, K: Sink, D: Disk + Drop>(
         Answers (commands text) (A.name naming.now) run_limits (empty_store 1) result.status
         result.line result.journal.entries (K.got sink.old) (K.got sink.new)) }
 
+    // Clause 2: nothing is lost, in every store along the run.
+    ensures keeps { is_run (map (λ word. string_bytes word) words.now) (vec_len disks.old) ≡ true
+        → IfSome (S.left source.old) (λ text. KeepsAllAlong run_limits (empty_store 1)
+        (events_of (commands text) (A.name naming.now) run_limits (empty_store 1)
+        result.journal.entries)) }
+
     // What was refused, which lines were begun, and why the run ended.
     ensures refuses { is_run (map (λ word. string_bytes word) words.now) (vec_len disks.old) ≡ true
         → IfSome (S.left source.old) (λ text.
@@ -175,6 +182,12 @@ pub fn hydra<
         → IfSome (S.left source.old) (λ text.
         Answers (commands text) (A.name naming.now) run_limits (empty_store 1) result.status
         result.line result.journal.entries (K.got sink.old) (K.got sink.new)) }
+
+    // Clause 2: nothing is lost, in every store along the run.
+    ensures keeps { is_run (map (λ word. string_bytes word) words.now) (vec_len disks.old) ≡ true
+        → IfSome (S.left source.old) (λ text. KeepsAllAlong run_limits (empty_store 1)
+        (events_of (commands text) (A.name naming.now) run_limits (empty_store 1)
+        result.journal.entries)) }
 
     // What was refused, which lines were begun, and why the run ended.
     ensures refuses { is_run (map (λ word. string_bytes word) words.now) (vec_len disks.old) ≡ true

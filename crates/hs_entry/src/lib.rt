@@ -1,0 +1,19 @@
+//! Log entries: their kinds, their one spelling, and lists of them.
+#![tactic(auto)]
+
+mod entry;
+mod fault;
+mod list;
+mod rank;
+mod reading;
+mod same;
+#[cfg(test)]
+mod tests;
+mod writing;
+
+pub use entry::Entry;
+pub use fault::EntryFault;
+pub use list::EntryList;
+pub use rank::Rank;
+pub use reading::read_entry;
+pub use writing::write_entry;

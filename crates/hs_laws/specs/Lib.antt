@@ -1,0 +1,7 @@
+pub mod Distinct
+pub mod Reached
+pub mod Unreached
+pub mod Held
+pub mod Order
+pub mod Valid
+pub mod Runs
