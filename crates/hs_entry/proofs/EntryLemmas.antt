@@ -75,7 +75,7 @@ entry_takes bytes x fit e =
     subst (λ (y : ℕ × Entry). IsRead bytes y.0 y.1) (ok_is {E = EntryFault} made x b3.2)
     (record { fits = t2.1; readable = t3.readable; spelled = spelled ∙ ap (λ (k : ℕ). k ∷ (eight b2.0.0 ++ fields_of b3.0)) (sym t3.kind_is) })
 
-entry_again : (number : ℕ) (entry : Entry) → number < 2 ^ 64 → IsReadable entry → entry_at (payload number entry) ≡ Ok (number, entry)
+pub entry_again : (number : ℕ) (entry : Entry) → number < 2 ^ 64 → IsReadable entry → entry_at (payload number entry) ≡ Ok (number, entry)
 unfolding entry_at
 entry_again number entry lt fits =
     let whole : ℕ = length (payload number entry) in

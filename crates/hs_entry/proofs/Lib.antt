@@ -1,3 +1,4 @@
-mod EntryLemmas
+pub mod EntryLemmas
 mod KindLemmas
 mod ListLemmas
+pub mod ShortLemmas

@@ -3,6 +3,8 @@
 
 mod entry;
 mod fault;
+mod field;
+mod frame;
 mod list;
 mod rank;
 mod reading;

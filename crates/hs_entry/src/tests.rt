@@ -4,6 +4,7 @@ ghost use Rattle.hs_entry.specs.Payload.{HasPayload};
 use crate::{Entry, EntryFault, EntryList, Rank, read_entry, write_entry};
 use hs_limits::{Address, Delta, Key, ListOf};
 use std::alloc::{AllocError, Global};
+use std::process::Abort;
 use std::test::Fail;
 
 /// The bytes of hex digits.
@@ -75,15 +76,25 @@ fn known_payloads_are_written_and_read(rt: HostRuntime) -> Result<(), Fail> {
     Ok(())
 }
 
+/// The bytes of these hex digits are no entry, for this reason.
+fn is_refused(rt: &impl Abort, alloc: Global, text: &str, fault: EntryFault) -> Result<(), Fail> {
+    let bytes = bytes_of(alloc, text)?;
+    assert_eq!(rt;
+        read_entry(alloc, bytes.as_slice()).err(),
+        Some(fault),
+        "{text}"
+    );
+    Ok(())
+}
+
+/// The kind, and of a View: number, view, the end.
 #[test]
-fn each_fault_has_its_place(rt: HostRuntime) -> Result<(), Fail> {
-    let alloc = rt.alloc();
-    for (text, fault) in [
+fn each_fault_of_a_view_has_its_place(rt: HostRuntime) -> Result<(), Fail> {
+    let cases = [
         ("", EntryFault::Short { at: 0 }),
         ("00", EntryFault::BadKind { found: 0 }),
         ("04 0000", EntryFault::BadKind { found: 4 }),
         ("63", EntryFault::BadKind { found: 0x63 }),
-        // View: number, view, the end.
         ("01", EntryFault::Short { at: 1 }),
         ("01 00000000000000", EntryFault::Short { at: 8 }),
         ("01 0000000000000001", EntryFault::Short { at: 9 }),
@@ -99,7 +110,17 @@ fn each_fault_has_its_place(rt: HostRuntime) -> Result<(), Fail> {
             "01 0000000000000001 0000000000000001 ff",
             EntryFault::Trailing { at: 17 },
         ),
-        // Block: op, least, the block.
+    ];
+    for (text, fault) in cases {
+        is_refused(&rt, rt.alloc(), text, fault)?;
+    }
+    Ok(())
+}
+
+/// Op, least, the block.
+#[test]
+fn each_fault_of_a_block_has_its_place(rt: HostRuntime) -> Result<(), Fail> {
+    let cases = [
         (
             "02 0000000000000002 0000000000",
             EntryFault::Short { at: 14 },
@@ -128,7 +149,17 @@ fn each_fault_has_its_place(rt: HostRuntime) -> Result<(), Fail> {
             "02 0000000000000002 0000000000000002 0000ffffffffffff 010000000000026162ff",
             EntryFault::BadField { at: 25 },
         ),
-        // Mark: op, least, the block's number, the address, the end.
+    ];
+    for (text, fault) in cases {
+        is_refused(&rt, rt.alloc(), text, fault)?;
+    }
+    Ok(())
+}
+
+/// Op, least, the block's number, the address, the end.
+#[test]
+fn each_fault_of_a_mark_has_its_place(rt: HostRuntime) -> Result<(), Fail> {
+    let cases = [
         (
             "03 0000000000000003 00000000000000",
             EntryFault::Short { at: 16 },
@@ -159,13 +190,9 @@ fn each_fault_has_its_place(rt: HostRuntime) -> Result<(), Fail> {
              0707070707070707070707070707070707070707070707070707070707070707 00",
             EntryFault::Trailing { at: 65 },
         ),
-    ] {
-        let bytes = bytes_of(alloc, text)?;
-        assert_eq!(rt;
-            read_entry(alloc, bytes.as_slice()).err(),
-            Some(fault),
-            "{text}"
-        );
+    ];
+    for (text, fault) in cases {
+        is_refused(&rt, rt.alloc(), text, fault)?;
     }
     Ok(())
 }

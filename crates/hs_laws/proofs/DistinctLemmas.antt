@@ -18,7 +18,7 @@ use Rattle.hs_model.specs.Reach.{is_same}
 use Rattle.hs_model.specs.Refusals.{first}
 use Rattle.hs_model.specs.Run.{Event, asks, enters, sweeps, step, run}
 use Rattle.hs_model.specs.Store.{Store, Session, address_cmp, block_at, epoch_at, blocks_with, with_block, put_session}
-use Rattle.hs_laws.proofs.Members.{same-refl, same_from, at_is_same}
+use Rattle.hs_model.proofs.Members.{same-refl, same_from, at_is_same}
 
 same-flips : (a b : Address) → is_same a b ≡ false → is_same b a ≡ false
 same-flips a b f = go (is_same b a) refl

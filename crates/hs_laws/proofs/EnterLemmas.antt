@@ -10,8 +10,8 @@ use Rattle.hs_model.specs.Reach.{anchors, counts_in}
 use Rattle.hs_model.specs.Store.{Store, Root, epoch_at, root_epoch}
 use Rattle.hs_laws.specs.Valid.{least_epoch, rests_on, stands_in}
 use Rattle.hs_laws.proofs.EpochLemmas.{nat_le_from, nat_le-true, least_epoch-at, least_epoch-greatest, least_from_none_below}
-use Rattle.hs_laws.proofs.Members.{Member, member-filter, member_of_filter}
-use Rattle.hs_laws.proofs.ReachLemmas.{start}
+use Rattle.hs_model.proofs.Members.{Member, member-filter, member_of_filter}
+use Rattle.hs_model.proofs.ReachLemmas.{start}
 use Rattle.hs_laws.proofs.ValidLemmas.{starts-root, starts-given, starts-each, Reaches-more, Valid}
 
 -- ---- one number of a list set

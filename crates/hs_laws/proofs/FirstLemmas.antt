@@ -6,7 +6,7 @@ use Rattle.hs_model.specs.declared.reply.Reply.{Reply}
 use Rattle.hs_model.specs.Judge.{judge, refusals}
 use Rattle.hs_model.specs.Refusals.{first}
 use Rattle.hs_model.specs.Store.{Store}
-use Rattle.hs_laws.proofs.Members.{Member, member_from_contains}
+use Rattle.hs_model.proofs.Members.{Member, member_from_contains}
 
 first-some : (rs : List (Option Reply)) (refusal : Reply) → Member (Some refusal) rs → (r : Reply) × (first rs ≡ Some r)
 first-some [] refusal m = elim m [ ]

@@ -8,8 +8,8 @@ use Rattle.hs_limits.specs.declared.address.Held.{Held}
 use Rattle.hs_model.specs.Store.{Store, Session, text_cmp, session_at, holding, holding_all, with_sessions, put_session, hold_all}
 use Rattle.hs_laws.specs.Valid.{least_epoch, rests_on}
 use Rattle.hs_laws.proofs.InsertLemmas.{insert-value, set-value, entry_from_lookup}
-use Rattle.hs_laws.proofs.Members.{Member}
-use Rattle.hs_laws.proofs.ReachLemmas.{Reaches}
+use Rattle.hs_model.proofs.Members.{Member}
+use Rattle.hs_model.proofs.ReachLemmas.{Reaches}
 use Rattle.hs_laws.proofs.ValidLemmas.{HeldIn, AreHeld, Valid}
 
 -- other sessions, which hold no more than may be held

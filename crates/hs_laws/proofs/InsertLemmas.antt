@@ -6,7 +6,7 @@ use Rattle.std.specs.Map.{lookup, set_value, remove_entry}
 use Rattle.hs_limits.specs.declared.address.Address.{Address}
 use Rattle.hs_model.specs.Reach.{is_same}
 use Rattle.hs_model.specs.Store.{address_cmp}
-use Rattle.hs_laws.proofs.Members.{Member, same-refl, same_from, at_is_same}
+use Rattle.hs_model.proofs.Members.{Member, same-refl, same_from, at_is_same}
 
 -- ---- over any keys
 

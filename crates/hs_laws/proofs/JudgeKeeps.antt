@@ -26,9 +26,9 @@ use Rattle.hs_laws.proofs.EnterLemmas.{enter_valid}
 use Rattle.hs_laws.proofs.EpochLemmas.{nat_le-true, least_epoch-at, none_below_from_least}
 use Rattle.hs_laws.proofs.HoldKeeps.{sessions_valid, session_entry, put_valid, hold_all_valid}
 use Rattle.hs_laws.proofs.InsertLemmas.{insert-value, member_of_remove, entry_from_lookup}
-use Rattle.hs_laws.proofs.Members.{Member, member_of_map, same_from}
+use Rattle.hs_model.proofs.Members.{Member, member_of_map, same_from}
 use Rattle.hs_laws.proofs.PromiseLemmas.{anchored_from_held, least-epoch_at}
-use Rattle.hs_laws.proofs.ReachLemmas.{start, onward, Reaches}
+use Rattle.hs_model.proofs.ReachLemmas.{start, onward, Reaches}
 use Rattle.hs_laws.proofs.RootKeeps.{retained_is, rooted_valid, dropped_valid}
 use Rattle.hs_laws.proofs.SweepKeeps.{sweep_valid}
 use Rattle.hs_laws.proofs.ValidLemmas.{starts-root, HeldIn, Valid}
@@ -41,11 +41,11 @@ first-none None rs e = (refl, e)
 first-none (Some x) rs e = cc e
 
 -- no refusal of a line holds
-abbrev AllNone : List (Option Reply) → Type 0
+abbrev pub AllNone : List (Option Reply) → Type 0
 AllNone [] = Unit {0}
 AllNone (r ∷ rs) = (r ≡ None) × AllNone rs
 
-all_none : (rs : List (Option Reply)) → first rs ≡ None → AllNone rs
+pub all_none : (rs : List (Option Reply)) → first rs ≡ None → AllNone rs
 all_none [] e = tt
 all_none (r ∷ rs) e = let f = first-none r rs e in (f.0, all_none rs f.1)
 

@@ -1,5 +1,3 @@
-pub mod Members
-pub mod ReachLemmas
 pub mod FirstLemmas
 pub mod SweepLemmas
 pub mod EpochLemmas

@@ -27,7 +27,7 @@ use Rattle.hs_laws.specs.Order.{IsInOrder}
 use Rattle.hs_laws.proofs.DistinctLemmas.{none-distinct}
 use Rattle.hs_laws.proofs.HoldKeeps.{session_entry}
 use Rattle.hs_laws.proofs.InsertLemmas.{insert-value, set-value, member_of_remove, compare}
-use Rattle.hs_laws.proofs.Members.{Member, contains_from_member, member_from_contains}
+use Rattle.hs_model.proofs.Members.{Member, contains_from_member, member_from_contains}
 use Rattle.hs_laws.proofs.OrderLemmas.{address_total, insert-sorted, filter-sorted, remove-sorted, none-sorted, Rising, pairs_from_rising, rising_from_pairs, place-rising, without-rising, kept-rising}
 
 abbrev pub HandlesInOrder : List (List ℕ × Session) → Type 0

@@ -8,8 +8,8 @@ use Rattle.hs_model.specs.Reach.{anchors, counts_in}
 use Rattle.hs_model.specs.Store.{Store, Root, block_at, epoch_at, root_epoch, shard_at, empty_store, reborn}
 use Rattle.hs_laws.specs.Valid.{least_epoch, rests_on, stands_in}
 use Rattle.hs_laws.proofs.EpochLemmas.{nat_le_from, nat_le-true, least_epoch-at, least_epoch-greatest}
-use Rattle.hs_laws.proofs.Members.{Member}
-use Rattle.hs_laws.proofs.ReachLemmas.{Reached-each, start, Reaches}
+use Rattle.hs_model.proofs.Members.{Member}
+use Rattle.hs_model.proofs.ReachLemmas.{Reached-each, start, Reaches}
 use Rattle.hs_laws.proofs.ValidLemmas.{starts-root, starts-given, starts-each, Reaches-more, HeldIn, Valid}
 
 -- ---- from what is held to the anchors

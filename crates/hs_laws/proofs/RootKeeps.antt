@@ -7,9 +7,9 @@ use Rattle.hs_model.specs.Judge.{roots_with, drop_root}
 use Rattle.hs_model.specs.Reach.{anchors, counts_in}
 use Rattle.hs_model.specs.Store.{Store, Root, root_cmp, root_epoch, place_root, without_first, is_retained, retained_at, with_roots}
 use Rattle.hs_laws.specs.Valid.{least_epoch, rests_on, stands_in}
-use Rattle.hs_laws.proofs.Members.{Member}
+use Rattle.hs_model.proofs.Members.{Member}
 use Rattle.hs_laws.proofs.PromiseLemmas.{root_anchored}
-use Rattle.hs_laws.proofs.ReachLemmas.{start, Reaches}
+use Rattle.hs_model.proofs.ReachLemmas.{start, Reaches}
 use Rattle.hs_laws.proofs.ValidLemmas.{starts-root, starts-given, starts-each, Reaches-more, Valid}
 
 -- ---- members of placed and left roots

@@ -7,10 +7,10 @@ use Rattle.hs_laws.specs.Held.{IsHeld, IsFreshHeld}
 use Rattle.hs_laws.specs.Reached.{IsWhole}
 use Rattle.hs_laws.specs.Runs.{IsLeft}
 use Rattle.hs_laws.proofs.JudgeKeeps.{run_valid}
-use Rattle.hs_laws.proofs.Members.{member_from_contains}
+use Rattle.hs_model.proofs.Members.{member_from_contains}
 use Rattle.hs_laws.proofs.OrderKeeps.{Ordered, empty_ordered, run_ordered}
 use Rattle.hs_laws.proofs.PromiseLemmas.{empty_valid, root_present, held_present}
-use Rattle.hs_laws.proofs.ReachLemmas.{reached_from_is}
+use Rattle.hs_model.proofs.ReachLemmas.{reached_from_is}
 use Rattle.hs_laws.proofs.ValidLemmas.{Valid, held_in_from}
 
 pub left_valid : (limits : Limits) (s : Store) → IsLeft limits s → Valid s

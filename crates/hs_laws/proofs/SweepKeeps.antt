@@ -12,9 +12,9 @@ use Rattle.hs_model.specs.Store.{Store, address_cmp, shard_at}
 use Rattle.hs_laws.specs.Valid.{least_epoch, rests_on, stands_in}
 use Rattle.hs_laws.proofs.EpochLemmas.{least_epoch-at, least_from_none_below}
 use Rattle.hs_laws.proofs.EnterLemmas.{set-at}
-use Rattle.hs_laws.proofs.Members.{Member, member-map, member_of_map, member-filter, member_of_filter, same_from, at_is_same, among_from_member, member_from_among}
+use Rattle.hs_model.proofs.Members.{Member, member-map, member_of_map, member-filter, member_of_filter, same_from, at_is_same, among_from_member, member_from_among}
 use Rattle.hs_laws.proofs.PromiseLemmas.{anchored_from_held}
-use Rattle.hs_laws.proofs.ReachLemmas.{Reached-each, start, onward, Reaches, listed_from_reached}
+use Rattle.hs_model.proofs.ReachLemmas.{Reached-each, start, onward, Reaches, listed_from_reached}
 use Rattle.hs_laws.proofs.SweepLemmas.{some_from_member, member_from_some}
 use Rattle.hs_laws.proofs.ValidLemmas.{starts-root, starts-given, starts-each, Valid}
 

@@ -12,8 +12,8 @@ use Rattle.hs_model.specs.Inner.{sweep}
 use Rattle.hs_model.specs.Reach.{is_same, is_among, reached_from, anchors, is_swept, unreachable}
 use Rattle.hs_model.specs.Store.{Store, address_cmp, block_at, shard_at}
 use Rattle.hs_laws.specs.Unreached.{IsUnreached}
-use Rattle.hs_laws.proofs.Members.{Member, contains_from_member, member_from_contains, member-map, member_of_map, member-filter, member_of_filter, same-refl, same_from, at_is_same, among_from_member, member_from_among}
-use Rattle.hs_laws.proofs.ReachLemmas.{found_from_distinct, listed_is, is_listed}
+use Rattle.hs_model.proofs.Members.{Member, contains_from_member, member_from_contains, member-map, member_of_map, member-filter, member_of_filter, same-refl, same_from, at_is_same, among_from_member, member_from_among}
+use Rattle.hs_model.proofs.ReachLemmas.{found_from_distinct, listed_is, is_listed}
 
 -- ---- what is found, and what is a member
 

@@ -9,8 +9,8 @@ use Rattle.hs_model.specs.Reach.{anchors}
 use Rattle.hs_model.specs.Store.{Store, Root, Session, address_cmp, block_at, epoch_at}
 use Rattle.hs_laws.specs.Held.{IsHeld}
 use Rattle.hs_laws.specs.Valid.{least_epoch, AreEpochsInStep, rests_on, IsValid}
-use Rattle.hs_laws.proofs.Members.{Member, contains_from_member, member_from_contains, member-append_left, member-append_right, member-append, member-map, member_of_map, member-filter, member_of_filter}
-use Rattle.hs_laws.proofs.ReachLemmas.{Reached-each, onward, Reaches, reached_from_is, is_from_reached}
+use Rattle.hs_model.proofs.Members.{Member, contains_from_member, member_from_contains, member-append_left, member-append_right, member-append, member-map, member_of_map, member-filter, member_of_filter}
+use Rattle.hs_model.proofs.ReachLemmas.{Reached-each, onward, Reaches, reached_from_is, is_from_reached}
 use Rattle.hs_laws.proofs.SweepLemmas.{some_from_member, member_from_some}
 
 -- ---- starts: of the roots that pass a test, and of the gifts that do

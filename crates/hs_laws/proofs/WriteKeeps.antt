@@ -10,8 +10,8 @@ use Rattle.hs_model.specs.Store.{Store, address_cmp, block_at, epoch_at, blocks_
 use Rattle.hs_laws.specs.Valid.{least_epoch, rests_on, stands_in}
 use Rattle.hs_laws.proofs.EpochLemmas.{nat_le_from, nat_le-true}
 use Rattle.hs_laws.proofs.InsertLemmas.{insert-key, member-insert, insert-has, lookup-insert_same, lookup-insert_other}
-use Rattle.hs_laws.proofs.Members.{Member, same_from}
-use Rattle.hs_laws.proofs.ReachLemmas.{Reached-each, start, onward, Points, Reaches}
+use Rattle.hs_model.proofs.Members.{Member, same_from}
+use Rattle.hs_model.proofs.ReachLemmas.{Reached-each, start, onward, Points, Reaches}
 use Rattle.hs_laws.proofs.ValidLemmas.{starts-root, starts-given, starts-each, Valid}
 
 -- what is known where a block may be written: its pointers are anchored, and it is the one that is there, if one is

@@ -1,4 +1,16 @@
+pub mod Members
+pub mod ReachLemmas
+pub mod StepLemmas
+pub mod PointingLemmas
+pub mod SetLemmas
+pub mod SweptLemmas
+pub mod PeelLemmas
+pub mod AcyclicLemmas
 pub mod FirstLemmas
 pub mod HoldLemmas
 pub mod JudgeLemmas
+pub mod RootLemmas
 pub mod RefusalLemmas
+pub mod FilledLemmas
+pub mod HollowLemmas
+pub mod MapLemmas

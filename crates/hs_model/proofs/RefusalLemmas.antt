@@ -6,8 +6,9 @@ use Rattle.hs_limits.specs.Block.{Block}
 use Rattle.hs_model.specs.declared.op.Op.TheVariants as op
 use Rattle.hs_model.specs.declared.reply.Reply.{Reply}
 use Rattle.hs_model.specs.Judge.{refusals, address_of, pointers_at, given_address, written}
-use Rattle.hs_model.specs.Refusals.{first, refused_when, no_session, too_long, too_many, no_handle, no_handle_in, handles_full, handles_full_in, stale, stale_in, collision, shard_full}
-use Rattle.hs_model.specs.Store.{Store, Session, session_at, epoch_at}
+use Rattle.hs_model.specs.Refusals.{first, refused_when, no_session, too_long, too_many, no_handle, no_handle_in, handles_full, handles_full_in, stale, stale_in, collision, shard_full, no_key, key_taken, roots_full}
+use Rattle.hs_model.proofs.JudgeLemmas.{root_refusals}
+use Rattle.hs_model.specs.Store.{Store, Session, session_at, epoch_at, root_epoch}
 
 -- ---- an open session
 
@@ -56,3 +57,34 @@ unfolding refusals
 write_of_block limits s name payload handles address a block e d f =
     let g = rw e at f in
     rw (e, d) (first-append_none (of_session limits s name payload handles (given_address address)) (of_block limits s (given_address address) (written s name payload handles)) g)
+
+-- ---- the other operations of an open session
+
+first_one : (o : Option Reply) → first (o ∷ []) ≡ o
+first_one None = refl
+first_one (Some r) = refl
+
+pub held_of_open : (s : Store) (name handles : List ℕ) (session : Session) → session_at s name ≡ Some session → first (no_session s name ∷ no_handle s name handles ∷ []) ≡ no_handle_in (Some session) handles
+held_of_open s name handles session e = rw e (first_one (no_handle_in (Some session) handles))
+
+pub look_full : (limits : Limits) (s : Store) (name key : List ℕ) (session : Session) (r : Reply) → session_at s name ≡ Some session → handles_full_in limits (Some session) 1 ≡ Some r → first (no_session s name ∷ handles_full limits s name 1 ∷ no_key s key ∷ []) ≡ Some r
+look_full limits s name key session r e f = rw (e, f)
+
+pub look_key : (limits : Limits) (s : Store) (name key : List ℕ) (session : Session) → session_at s name ≡ Some session → handles_full_in limits (Some session) 1 ≡ None → first (no_session s name ∷ handles_full limits s name 1 ∷ no_key s key ∷ []) ≡ no_key s key
+look_key limits s name key session e f = rw (e, f) (first_one (no_key s key))
+
+abbrev of_use : Session → ℕ → ℕ → List (Option Reply)
+of_use session now handle = no_handle_in (Some session) (handle ∷ []) ∷ stale_in (Some session) now (handle ∷ []) ∷ []
+
+abbrev of_key : Limits → Store → List ℕ → Address → List (Option Reply)
+of_key limits s key a = key_taken s key a ∷ roots_full limits s key ∷ []
+
+pub root_unused : (limits : Limits) (s : Store) (name key : List ℕ) (handle now : ℕ) (session : Session) (r : Reply) → session_at s name ≡ Some session → now ≡ root_epoch s key → first (of_use session now handle) ≡ Some r → first (root_refusals limits s name key handle) ≡ Some r
+root_unused limits s name key handle now session r e f g =
+    let h = rw f at g in
+    rw e (first-append_some (of_use session (root_epoch s key) handle) (of_key limits s key (address_of s name handle)) r h)
+
+pub root_used : (limits : Limits) (s : Store) (name key : List ℕ) (handle now : ℕ) (session : Session) (a : Address) → session_at s name ≡ Some session → now ≡ root_epoch s key → a ≡ address_of s name handle → first (of_use session now handle) ≡ None → first (root_refusals limits s name key handle) ≡ first (of_key limits s key a)
+root_used limits s name key handle now session a e f d g =
+    let h = rw f at g in
+    rw d (rw e (first-append_none (of_use session (root_epoch s key) handle) (of_key limits s key (address_of s name handle)) h))

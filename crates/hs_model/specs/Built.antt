@@ -1,8 +1,8 @@
--- The operations that the program has so far.
+-- The operations that lines of a script ask for so far.
 use Rattle.hs_model.specs.declared.op.Op.{Op}
 use Rattle.hs_model.specs.declared.op.Op.TheVariants as op
 
--- open, write and read; the others come with the lines that ask for them
+-- open, write and read; the store in memory answers the others too, and no line asks for them yet
 abbrev pub IsBuilt : Op → Type 0
 IsBuilt (op.Open name) = Unit {0}
 IsBuilt (op.Close name) = ⊥

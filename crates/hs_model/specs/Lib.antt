@@ -1,5 +1,12 @@
 pub mod Store
 pub mod Reach
+pub mod Listed
+pub mod Plain
+pub mod Peel
+pub mod Pointing
+pub mod Swept
+pub mod RootWords
+pub mod Hollow
 pub mod Inner
 pub mod Refusals
 pub mod Judge

@@ -1,17 +1,28 @@
 //! The plain store in memory: what `judge` says, over ordered maps.
 ghost use Rattle.std.specs.Prelude.{◌≡◌, IfOk, OnOk};
 ghost use Rattle.hs_limits.specs.Shape.{IsShape};
-ghost use Rattle.hs_model.specs.Built.{IsBuilt};
 ghost use Rattle.hs_model.specs.Judge.{judge, held_or, nothing};
-ghost use Rattle.hs_model.specs.Store.{empty_store, epoch_at};
+ghost use Rattle.hs_model.specs.Store.{empty_store, epoch_at, root_epoch};
 
+mod bytes;
+mod close;
+mod delete;
+mod drop_root;
+mod enter;
+mod forget;
+mod look;
+mod name;
 mod open;
 mod read;
+mod root;
+mod stat;
+mod sweep;
 mod write;
 
+use crate::roots::Roots;
 use crate::seat::Seat;
 use crate::{Answer, ModelFault, Op, StoredBlock};
-use hs_limits::{Address, Held, Limits, Name, Shape, shard_of};
+use hs_limits::{Address, Held, Key, Limits, Name, Shape, shard_of, shard_of_key};
 use std::alloc::Global;
 use std::collections::BTreeMap;
 use std::marker::Model;
@@ -21,6 +32,7 @@ use std::marker::Model;
 pub struct MemoryStore {
     blocks: BTreeMap<Address, StoredBlock>,
     given: BTreeMap<Address, u64>,
+    roots: Roots,
     epochs: Vec<u64>,
     swept: Vec<u64>,
     sessions: BTreeMap<Name, Seat>,
@@ -29,7 +41,7 @@ pub struct MemoryStore {
 }
 
 impl Model for MemoryStore {
-    ghost use Rattle.std.specs.Prelude.{◌≡◌, [], length};
+    ghost use Rattle.std.specs.Prelude.{◌≡◌, length};
     ghost use Rattle.hs_limits.specs.Shape.{IsShape};
     ghost use Rattle.hs_model.specs.Store.{Store};
 
@@ -38,7 +50,7 @@ impl Model for MemoryStore {
     ghost view = { λ a. record {
       blocks = a.blocks.entries;
       given = a.given.entries;
-      roots = [];
+      roots = a.roots;
       epochs = a.epochs.items;
       swept = a.swept.items;
       sessions = a.sessions.entries;
@@ -61,6 +73,7 @@ impl MemoryStore {
         Ok(MemoryStore {
             blocks: BTreeMap::new(alloc),
             given: BTreeMap::new(alloc),
+            roots: Roots::new(alloc),
             epochs: vec![in alloc; 1; shards]?,
             swept: vec![in alloc; 1; shards]?,
             sessions: BTreeMap::new(alloc),
@@ -70,15 +83,16 @@ impl MemoryStore {
     }
 
     /// Judges an operation, and does it where it is not refused. The only fault is NoMemory, also
-    /// where a session has no handle number left; after it nothing is said of the store.
+    /// where a session has no handle number left, or more sessions are open than `stat` can tell;
+    /// after it nothing is said of the store.
     pub fn judge(&mut self, limits: Limits, op: Op) -> Result<Answer, ModelFault>
-        requires { IsBuilt op }
         ensures reply { IfOk result (λ answer. answer.reply ≡ (judge limits self.old op).reply) }
         ensures deed { IfOk result (λ answer. answer.deed ≡ (judge limits self.old op).deed) }
         ensures store { OnOk result (self.new ≡ (judge limits self.old op).store) }
     {
         match op {
             Op::Open { session } => self.open(limits, session),
+            Op::Close { session } => self.close(session),
             Op::Write {
                 session,
                 payload,
@@ -86,7 +100,17 @@ impl MemoryStore {
                 address,
             } => self.write(limits, session, payload, handles, address),
             Op::Read { session, handle } => self.read(limits, session, handle),
-            _ => unreachable!(),
+            Op::Look { session, key } => self.look(limits, session, key),
+            Op::Root {
+                session,
+                key,
+                handle,
+            } => self.root(limits, session, key, handle),
+            Op::Drop { key } => self.drop_root(key),
+            Op::Forget { session, handle } => self.forget(session, handle),
+            Op::Name { session, handle } => self.name(session, handle),
+            Op::Delete => self.delete(limits),
+            Op::Stat => self.stat(),
         }
     }
 
@@ -105,6 +129,14 @@ impl MemoryStore {
         ensures { result ≡ epoch_at self.now address.now }
     {
         let shard = shard_of(address, self.shape);
+        self.epochs[usize::from(shard)]
+    }
+
+    /// The epoch of a root's shard.
+    fn root_epoch(&self, key: &Key) -> u64
+        ensures { result ≡ root_epoch self.now key.now }
+    {
+        let shard = shard_of_key(key, self.shape);
         self.epochs[usize::from(shard)]
     }
 }

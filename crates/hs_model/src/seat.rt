@@ -1,6 +1,7 @@
 //! An open session of the plain store.
 ghost use Rattle.std.specs.Prelude.{◌≡◌, ◌∷◌, [], length, IfOk, OnOk};
 ghost use Rattle.std.specs.List.{range_with_len};
+ghost use Rattle.hs_model.specs.Judge.{forgetting};
 ghost use Rattle.hs_model.specs.Refusals.{first, too_long, too_many, handles_full_in, no_handle_in, stale_in, stale_handle};
 ghost use Rattle.hs_model.specs.Store.{new_session, holding, holding_all, held_in, helds_of};
 
@@ -78,6 +79,25 @@ impl Seat {
             handles.push(handle)?;
         }
         Ok(handles)
+    }
+
+    /// Gives up a handle, if it holds it.
+    pub(crate) fn forget(&mut self, handle: u32)
+        ensures { self.new ≡ forgetting handle self.old }
+    {
+        self.handles.remove(&handle);
+    }
+
+    /// Why a handle may not be used in an epoch, if it may not.
+    pub(crate) fn use_refusal(&self, now: u64, handle: u32) -> Option<Reply>
+        ensures { result ≡ first (no_handle_in (Some self.now) (handle ∷ [])
+            ∷ stale_in (Some self.now) now (handle ∷ [])
+            ∷ []) }
+    {
+        if let Some(refusal) = self.no_handle(&[handle]) {
+            return Some(refusal);
+        }
+        self.stale(now, &[handle])
     }
 
     /// Why it takes no write of these bytes and handles in an epoch, if it does not.

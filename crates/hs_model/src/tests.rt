@@ -1,9 +1,12 @@
-//! What the store answers to short runs of operations.
-ghost use Rattle.std.specs.Prelude.{IfOk};
-ghost use Rattle.hs_model.specs.Built.{IsBuilt};
+//! What the store answers to short runs of operations, and what the slow functions give.
+mod ask;
+mod bounds;
+mod scripts;
+mod slow;
 
-use crate::{MemoryStore, Op, Reply};
-use hs_limits::{Address, Limits, ListOf, Name, Shape};
+use crate::{MemoryStore, Reply};
+use ask::{Ask, op};
+use hs_limits::{Address, Limits, Shape};
 use std::alloc::Global;
 use std::process::Abort;
 use std::test::Fail;
@@ -16,40 +19,8 @@ const THIRD: Address = Address([3; 32]);
 
 const FOURTH: Address = Address([4; 32]);
 
-/// An operation, as a line of a table. A write asks for so many times one byte.
-#[derive(Clone, Copy)]
-enum Ask<'a> {
-    Open(&'a str),
-    Write(&'a str, u8, usize, &'a [u32], Address),
-    Read(&'a str, u32),
-}
-
-fn name(rt: &impl Abort, alloc: Global, text: &str) -> Result<Name, Fail> {
-    let bytes = text.as_bytes().to_vec(alloc)?;
-    Ok(Name::from_list(ListOf::from_vec(bytes)).expect(rt, "a name"))
-}
-
-fn op(rt: &impl Abort, alloc: Global, ask: Ask) -> Result<Op, Fail>
-    ensures { IfOk result IsBuilt }
-{
-    Ok(match ask {
-        Ask::Open(session) => Op::Open {
-            session: name(rt, alloc, session)?,
-        },
-        Ask::Write(session, byte, count, handles, address) => Op::Write {
-            session: name(rt, alloc, session)?,
-            payload: ListOf::from_vec(vec![in alloc; byte; count]?),
-            handles: ListOf::from_vec(handles.to_vec(alloc)?),
-            address: Some(address),
-        },
-        Ask::Read(session, handle) => Op::Read {
-            session: name(rt, alloc, session)?,
-            handle,
-        },
-    })
-}
-
-/// A reply in words: a read's bytes as their number.
+/// An answer in words: a read's bytes as numbers, names and keys as their bytes, an address as its
+/// first byte.
 fn told(alloc: Global, reply: &Reply) -> Result<String, Fail> {
     Ok(match reply {
         Reply::Ok => format!(in alloc; "Ok")?,
@@ -58,6 +29,29 @@ fn told(alloc: Global, reply: &Reply) -> Result<String, Fail> {
         Reply::Bytes { bytes, handles } => {
             format!(in alloc; "Bytes {:?} {:?}", bytes.as_slice(), handles.as_slice())?
         }
+        Reply::Held { handle, epoch } => format!(in alloc; "Held {handle} {epoch}")?,
+        Reply::Name { address } => format!(in alloc; "Name {}", address.0[0])?,
+        Reply::Stat {
+            blocks,
+            roots,
+            sessions,
+            epochs,
+            swept,
+        } => {
+            let epochs = epochs.as_slice();
+            let swept = swept.as_slice();
+            format!(in alloc; "Stat {blocks} {roots} {sessions} {epochs:?} {swept:?}")?
+        }
+        Reply::Run { epoch } => format!(in alloc; "Run {epoch}")?,
+        Reply::Enter { epoch } => format!(in alloc; "Enter {epoch}")?,
+        Reply::Sweep { epoch, removed } => format!(in alloc; "Sweep {epoch} {removed}")?,
+        refusal => refused(alloc, refusal)?,
+    })
+}
+
+/// A refusal in words.
+fn refused(alloc: Global, reply: &Reply) -> Result<String, Fail> {
+    Ok(match reply {
         Reply::NoSession { session } => format!(in alloc; "NoSession {:?}", session.as_slice())?,
         Reply::SessionTaken { session } => {
             format!(in alloc; "SessionTaken {:?}", session.as_slice())?
@@ -67,88 +61,59 @@ fn told(alloc: Global, reply: &Reply) -> Result<String, Fail> {
         Reply::TooMany { found } => format!(in alloc; "TooMany {found}")?,
         Reply::NoHandle { handle } => format!(in alloc; "NoHandle {handle}")?,
         Reply::HandlesFull { limit } => format!(in alloc; "HandlesFull {limit}")?,
+        Reply::Stale { handle, held, now } => format!(in alloc; "Stale {handle} {held} {now}")?,
         Reply::Collision => format!(in alloc; "Collision")?,
         Reply::ShardFull { limit } => format!(in alloc; "ShardFull {limit}")?,
+        Reply::KeyTaken { key } => format!(in alloc; "KeyTaken {:?}", key.as_slice())?,
+        Reply::NoKey { key } => format!(in alloc; "NoKey {:?}", key.as_slice())?,
+        Reply::RootsFull { limit } => format!(in alloc; "RootsFull {limit}")?,
+        Reply::Running { epoch } => format!(in alloc; "Running {epoch}")?,
+        Reply::EpochEnd { limit } => format!(in alloc; "EpochEnd {limit}")?,
         _ => format!(in alloc; "another")?,
     })
 }
 
-/// Each operation in turn is answered as its line says.
+/// What a line of a table is answered. `Early` stands for what a shard may not do yet.
+fn answer(
+    rt: &impl Abort,
+    alloc: Global,
+    store: &mut MemoryStore,
+    limits: Limits,
+    ask: Ask,
+) -> Result<String, Fail> {
+    match ask {
+        Ask::Enter(shard) => {
+            if store.may_enter(shard) {
+                return told(alloc, &store.enter(shard)?.reply);
+            }
+            Ok(format!(in alloc; "Early")?)
+        }
+        Ask::Sweep(shard) => {
+            if store.may_sweep(shard) {
+                return told(alloc, &store.sweep(shard)?.reply);
+            }
+            Ok(format!(in alloc; "Early")?)
+        }
+        ask => told(alloc, &store.judge(limits, op(rt, alloc, ask)?)?.reply),
+    }
+}
+
+/// Each line in turn is answered as it says, in a store of so many shards.
 fn answers(
     rt: &impl Abort,
     alloc: Global,
+    shape: Shape,
     limits: Limits,
     lines: &[(Ask, &str)],
 ) -> Result<(), Fail> {
-    let shape = Shape {
-        shards: 2,
-        copies: 1,
-    };
+    let shards = shape.shards;
+    let copies = shape.copies;
+    assert!(rt; shards == 1 || shards == 2 || shards == 4 || shards == 8);
+    assert!(rt; copies >= 1 && copies <= 4);
     let mut store = MemoryStore::new(alloc, shape)?;
     for (line, (ask, want)) in lines.iter().enumerate() {
-        let answer = store.judge(limits, op(rt, alloc, *ask)?)?;
-        let found = told(alloc, &answer.reply)?;
+        let found = answer(rt, alloc, &mut store, limits, *ask)?;
         assert_eq!(rt; found.as_str(), *want, "in line {line}");
     }
     Ok(())
-}
-
-#[test]
-fn open_write_and_read_are_answered(rt: HostRuntime) -> Result<(), Fail> {
-    let lines = [
-        (Ask::Open("a"), "Ok"),
-        (Ask::Open("a"), "SessionTaken [97]"),
-        (Ask::Write("b", 7, 1, &[], FIRST), "NoSession [98]"),
-        (Ask::Write("a", 7, 1, &[], FIRST), "New 0 1"),
-        (Ask::Write("a", 7, 1, &[], FIRST), "Dup 1 1"),
-        (Ask::Write("a", 8, 1, &[], FIRST), "Collision"),
-        (Ask::Write("a", 7, 1, &[0], FIRST), "Collision"),
-        (Ask::Read("b", 0), "NoSession [98]"),
-        (Ask::Read("a", 2), "NoHandle 2"),
-        (Ask::Read("a", 0), "Bytes [7] []"),
-        (Ask::Write("a", 9, 2, &[0, 5, 6], SECOND), "NoHandle 5"),
-        (Ask::Write("a", 9, 2, &[0], SECOND), "New 2 1"),
-        (Ask::Read("a", 2), "Bytes [9, 9] [3]"),
-        (Ask::Read("a", 3), "Bytes [7] []"),
-        (Ask::Write("a", 5, 0, &[2, 2], THIRD), "New 4 1"),
-        (Ask::Read("a", 4), "Bytes [] [5, 6]"),
-        (Ask::Read("a", 6), "Bytes [9, 9] [7]"),
-    ];
-    answers(&rt, rt.alloc(), Limits::greatest(), &lines)
-}
-
-#[test]
-fn a_block_takes_64_pointers_and_65536_bytes(rt: HostRuntime) -> Result<(), Fail> {
-    let lines = [
-        (Ask::Open("a"), "Ok"),
-        (Ask::Write("a", 0, 65_536, &[], FIRST), "New 0 1"),
-        (Ask::Write("a", 0, 65_537, &[], SECOND), "TooLong 65537"),
-        (Ask::Write("a", 0, 1, &[0; 64], SECOND), "New 1 1"),
-        (Ask::Write("a", 0, 1, &[0; 65], THIRD), "TooMany 65"),
-        (Ask::Write("a", 0, 65_537, &[9; 65], THIRD), "TooLong 65537"),
-        (Ask::Write("a", 0, 1, &[9; 65], THIRD), "TooMany 65"),
-    ];
-    answers(&rt, rt.alloc(), Limits::greatest(), &lines)
-}
-
-#[test]
-fn a_full_store_refuses(rt: HostRuntime) -> Result<(), Fail> {
-    let limits = Limits {
-        sessions: 1,
-        handles: 2,
-        blocks: 1,
-        ..Limits::greatest()
-    };
-    let lines = [
-        (Ask::Open("a"), "Ok"),
-        (Ask::Open("b"), "SessionsFull 1"),
-        (Ask::Open("a"), "SessionTaken [97]"),
-        (Ask::Write("a", 7, 1, &[], SECOND), "New 0 1"),
-        (Ask::Write("a", 8, 1, &[], FOURTH), "ShardFull 1"),
-        (Ask::Write("a", 8, 1, &[0], FIRST), "New 1 1"),
-        (Ask::Write("a", 9, 1, &[], FOURTH), "HandlesFull 2"),
-        (Ask::Read("a", 0), "Bytes [7] []"),
-        (Ask::Read("a", 1), "HandlesFull 2"),
-    ];
-    answers(&rt, rt.alloc(), limits, &lines)
 }

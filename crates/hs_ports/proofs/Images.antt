@@ -2,6 +2,7 @@
 use Rattle.std.proofs.Common.{◌≡◌, ◌∙◌, inl, inr, ℕ, ◌+◌, ◌-◌, ◌<◌, ◌≤◌, List, ◌++◌, length, take, drop, get_or, refl, ap, sym, arith, append_assoc, length-append, length-drop, length-take-le, take_all}
 use Rattle.std.proofs.Math.Seq.{take-append_seam, drop-append_seam}
 use Rattle.std.proofs.lemmas.List.{ext_get_or, get_or-take, get_or-drop}
+use Rattle.hs_ports.specs.ReplayLaws.{written_image, shortened_image}
 use Rattle.hs_ports.specs.Disk.{Loose, IsImage, byte_at, settled, written, shortened, overwritten, Torn, Clipped}
 
 -- two contents with one front have its bytes
@@ -60,3 +61,11 @@ pub take_clipped : (c : List ℕ) (len : ℕ) → len ≤ length c → Clipped l
 take_clipped c len h =
     let size : length (take len c) ≡ len = length-take-le len c h in
     record { front = take_all len (take len c) (omega arith); no_shorter = omega arith; no_longer = omega arith }
+
+-- what may be left before a write may be left after it too
+pub written_wider : (l : Loose) (c : List ℕ) (at n : ℕ) → IsImage l c → IsImage (written at n l) c
+written_wider l c at n image = written_image l c at n image
+
+-- and before a cut after it too
+pub shortened_wider : (l : Loose) (c : List ℕ) (len : ℕ) → IsImage l c → IsImage (shortened len l) c
+shortened_wider l c len image = shortened_image l c len image

@@ -1,33 +1,64 @@
 //! A disk in memory, which can be told to fail.
-ghost use Rattle.std.specs.Prelude.{◌≡◌, ◌<◌, ◌≤◌, ◌++◌, length, take, drop, IfOk, OnOk, OnErr};
-ghost use Rattle.hs_ports.specs.Disk.{HasRead, overwritten};
-ghost use Rattle.hs_ports.specs.MemoryDisk.{untold, of_side};
+ghost use Rattle.std.specs.Prelude.{◌≡◌, ◌<◌, ◌≤◌, ◌+◌, ◌++◌, ◌↔◌, false, ℕ, length, take, drop, max};
+ghost use Rattle.std.specs.Prelude.{IfOk, IfErr, OnOk, OnErr, IsTrue, IsErrOf};
+ghost use Rattle.hs_ports.specs.declared.disk.Side.{Side};
+ghost use Rattle.hs_ports.specs.Disk.{HasRead, IsImage, IsBetween, Torn, Clipped, Happens, Untouched};
+ghost use Rattle.hs_ports.specs.Disk.{other_side, overwritten, written, shortened, settled};
+ghost use Rattle.hs_ports.specs.Fault.{HasCause};
+ghost use Rattle.hs_ports.specs.Schedule.{next_call, fails_at};
+ghost use Rattle.hs_ports.specs.Watch.{Ticks};
 
 use crate::schedule::Schedule;
-use crate::{Disk, PortFault, Side, Watch};
+use crate::sides::Sides;
+use crate::{Disk, PortFault, Side, Tear, Watch};
 use std::alloc::{AllocError, Global};
 
-/// A disk in memory. For now a contract sees its lengths and its count of faults, and nothing of
-/// its contents.
+/// A disk in memory. It keeps a record of all calls that change it, and a contract sees what they
+/// made of its contents at each moment.
 #[derive(Drop)]
 pub struct MemoryDisk {
-    zero: Vec<u8>,
-    one: Vec<u8>,
+    sides: Sides,
     schedule: Schedule,
 }
 
 impl MemoryDisk {
+    ghost use Rattle.hs_ports.specs.Memory.{stands_of, fails_of, calls_of};
+    ghost use Rattle.hs_ports.specs.MemoryDisk.{IsFresh};
+
     /// A disk with these bytes on its sides, whose calls of the numbers `fails` answer `Failed`.
     /// The first call has number 1.
-    pub fn new(_alloc: Global, zero: Vec<u8>, one: Vec<u8>, fails: Vec<u64>) -> MemoryDisk
+    pub fn new(alloc: Global, zero: Vec<u8>, one: Vec<u8>, fails: Vec<u64>) -> MemoryDisk
         ensures zero { ⟦<MemoryDisk as Disk>⟧.size result Side.Zero ≡ length zero.items }
         ensures one { ⟦<MemoryDisk as Disk>⟧.size result Side.One ≡ length one.items }
+
+        // A crash leaves these bytes, at each moment until a call changes them.
+        ensures fresh { IsFresh zero.items one.items (⟦<MemoryDisk as Disk>⟧.stands result) }
+
+        ensures fails { fails_of result ≡ fails.items }
+        ensures calls { calls_of result ≡ 0 }
         ensures faults { ⟦<MemoryDisk as Disk>⟧.faults result ≡ 0 }
     {
         MemoryDisk {
-            zero,
-            one,
+            sides: Sides::new(alloc, zero, one),
             schedule: Schedule::new(fails),
+        }
+    }
+
+    /// One content of a side that a crash may have left at a moment: while the call acts that
+    /// raised the watch to it, or later, until the next one. At a moment above that of the last
+    /// call it is one that may be left from now on. It does the record's calls again, and takes
+    /// memory for the side three times.
+    #[tactic(auto, using(crate::proofs::SidesLemmas::last_is_below))]
+    pub fn image_at(&self, side: Side, moment: u64, tear: Tear) -> Result<Vec<u8>, PortFault>
+        ensures image { IfOk result (λ bytes.
+            IsImage ((stands_of self.now).past moment side) bytes.items) }
+        ensures new { tear ≡ Tear.New → (stands_of self.now).last < moment → IfOk result (λ bytes.
+            bytes.items ≡ (stands_of self.now).seen side) }
+        ensures memory { IfErr result (λ fault. fault ≡ PortFault.NoMemory) }
+    {
+        match self.sides.at(side).image_at(moment, tear) {
+            Ok(bytes) => Ok(bytes),
+            Err(_) => Err(PortFault::NoMemory),
         }
     }
 }
@@ -50,47 +81,49 @@ fn copy(from: &[u8], at: u64, max: usize, into: &mut Vec<u8>) -> Result<usize, A
     Ok(n)
 }
 
-// Writes over what is there and past the end, or nothing.
-fn overwrite(held: &mut Vec<u8>, at: u64, bytes: &[u8]) -> Result<(), AllocError>
-    requires { at ≤ length held.old.items }
-    ensures ok { OnOk result (held.new.items ≡ overwritten at bytes.now held.old.items) }
-    ensures err { OnErr result (held.new.items ≡ held.old.items) }
-{
-    let start = at as usize;
-    let over = bytes.len().min(held.len() - start);
-    held.extend_from_slice(&bytes[over..])?;
-    held[start..start + over].copy_from_slice(&bytes[..over]);
-    Ok(())
-}
-
 impl Disk for MemoryDisk {
-    ghost use Rattle.std.specs.Prelude.{length};
-    ghost use Rattle.std.proofs.Common.{rules};
+    ghost use Rattle.hs_ports.specs.Memory.{stands_of, size_of, fails_of, calls_of, faults_of};
+    ghost use Rattle.hs_ports.specs.SidesLaws.{fits_at, since_at, stays_at};
+    ghost use Rattle.std.specs.Prelude.{refl};
 
-    ghost tells = { ⊥ };
+    ghost tells = { Unit {0} };
 
-    ghost size = { λ disk side. of_side side (length disk.zero.items) (length disk.one.items) };
+    ghost size = { size_of };
 
-    ghost stands = { λ disk. untold };
+    ghost stands = { stands_of };
 
-    ghost faults = { λ disk. disk.schedule.faults };
+    ghost faults = { faults_of };
 
-    ghost fits = { λ disk side. Prim.search rules };
+    ghost fits = { λ disk side. fits_at disk.sides.zero disk.sides.one side
+        disk.sides.zero_fits disk.sides.one_fits };
 
-    ghost sized = { λ told disk side. absurd told };
+    ghost sized = { λ told disk side. refl };
 
-    ghost since = { λ told disk side m later. absurd told };
+    ghost since = { λ told disk side m later.
+        since_at disk.sides.zero disk.sides.one side m later };
 
-    ghost stays = { λ told disk side. absurd told };
+    ghost stays = { λ told disk side. stays_at disk.sides.zero disk.sides.one side };
 
-    fn len(&mut self, side: Side) -> Result<u64, PortFault> {
+    fn len(&mut self, side: Side) -> Result<u64, PortFault>
+        ensures value { IfOk result (λ n. n ≡ size_of self.old side) }
+
+        ensures same_size { (s : Side) → size_of self.new s ≡ size_of self.old s }
+        ensures same { stands_of self.new ≡ stands_of self.old }
+
+        ensures not_memory { IfErr result (λ fault. fault ≡ PortFault.Failed) }
+        ensures calm { OnOk result (faults_of self.new ≡ faults_of self.old) }
+        ensures cause { HasCause (faults_of self.old) (faults_of self.new) result }
+
+        // It fails exactly at the calls that it was told.
+        ensures exact { IsErrOf result PortFault.Failed ↔
+            IsTrue (fails_at (fails_of self.old) (next_call (calls_of self.old))) }
+        ensures calls { calls_of self.new ≡ next_call (calls_of self.old) }
+        ensures fails { fails_of self.new ≡ fails_of self.old }
+    {
         if self.schedule.refuses() {
             return Err(PortFault::Failed);
         }
-        match side {
-            Side::Zero => Ok(self.zero.len() as u64),
-            Side::One => Ok(self.one.len() as u64),
-        }
+        Ok(self.sides.at(side).bytes().len() as u64)
     }
 
     fn read(
@@ -99,15 +132,31 @@ impl Disk for MemoryDisk {
         at: u64,
         max: usize,
         into: &mut Vec<u8>,
-    ) -> Result<usize, PortFault> {
+    ) -> Result<usize, PortFault>
+        requires { 0 < max }
+
+        ensures found { IfOk result (λ n.
+            HasRead (size_of self.old side) at max into.old.items into.new.items n) }
+        ensures value { IfOk result (λ n.
+            into.new.items ≡ into.old.items ++ take n (drop at ((stands_of self.old).seen side))) }
+        ensures untaken { OnErr result (into.new.items ≡ into.old.items) }
+
+        ensures same_size { (s : Side) → size_of self.new s ≡ size_of self.old s }
+        ensures same { stands_of self.new ≡ stands_of self.old }
+
+        ensures calm { OnOk result (faults_of self.new ≡ faults_of self.old) }
+        ensures cause { HasCause (faults_of self.old) (faults_of self.new) result }
+
+        // It fails exactly at the calls that it was told.
+        ensures exact { IsErrOf result PortFault.Failed ↔
+            IsTrue (fails_at (fails_of self.old) (next_call (calls_of self.old))) }
+        ensures calls { calls_of self.new ≡ next_call (calls_of self.old) }
+        ensures fails { fails_of self.new ≡ fails_of self.old }
+    {
         if self.schedule.refuses() {
             return Err(PortFault::Failed);
         }
-        let copied = match side {
-            Side::Zero => copy(&self.zero, at, max, into),
-            Side::One => copy(&self.one, at, max, into),
-        };
-        match copied {
+        match copy(self.sides.at(side).bytes(), at, max, into) {
             Ok(n) => Ok(n),
             Err(_) => Err(PortFault::NoMemory),
         }
@@ -119,41 +168,115 @@ impl Disk for MemoryDisk {
         side: Side,
         at: u64,
         bytes: &[u8],
-    ) -> Result<(), PortFault> {
+    ) -> Result<(), PortFault>
+        requires { at ≤ size_of self.old side }
+
+        ensures size { OnOk result (
+            size_of self.new side ≡ max (size_of self.old side) (at + length bytes.now)) }
+        ensures seen { OnOk result ((stands_of self.new).seen side
+            ≡ overwritten at bytes.now ((stands_of self.old).seen side)) }
+
+        ensures size_torn { OnErr result (IsBetween (size_of self.old side)
+            (max (size_of self.old side) (at + length bytes.now)) (size_of self.new side)) }
+        ensures torn { OnErr result (Torn at (length bytes.now)
+            ((stands_of self.old).seen side) ((stands_of self.new).seen side)) }
+        ensures kept { OnErr result (
+            (stands_of self.new).seen side ≡ (stands_of self.old).seen side) }
+
+        ensures loose { (stands_of self.new).loose side
+            ≡ written at (length bytes.now) ((stands_of self.old).loose side) }
+        ensures moment { (stands_of self.old).last ≤ watch.old →
+            Happens side watch.new (written at (length bytes.now) ((stands_of self.old).loose side))
+            (stands_of self.old) (stands_of self.new) }
+        ensures later { Ticks watch.old watch.new }
+
+        ensures same_size { size_of self.new (other_side side) ≡ size_of self.old (other_side side) }
+        ensures same { Untouched (other_side side) (stands_of self.old) (stands_of self.new) }
+
+        ensures not_memory { IfErr result (λ fault. fault ≡ PortFault.Failed) }
+        ensures calm { OnOk result (faults_of self.new ≡ faults_of self.old) }
+        ensures cause { HasCause (faults_of self.old) (faults_of self.new) result }
+
+        // It fails at the calls that it was told.
+        ensures exact { IsTrue (fails_at (fails_of self.old) (next_call (calls_of self.old))) →
+            result ≡ Err PortFault.Failed }
+        ensures calls { calls_of self.new ≡ next_call (calls_of self.old) }
+        ensures fails { fails_of self.new ≡ fails_of self.old }
+    {
         watch.raise();
-        if self.schedule.refuses() {
-            return Err(PortFault::Failed);
-        }
-        let done = match side {
-            Side::Zero => overwrite(&mut self.zero, at, bytes),
-            Side::One => overwrite(&mut self.one, at, bytes),
-        };
-        match done {
-            Ok(()) => Ok(()),
-            Err(_) => {
-                self.schedule.fail();
-                Err(PortFault::Failed)
-            }
-        }
+        let refused = self.schedule.refuses();
+        let result = self.sides.write(refused, side, watch.now(), at, bytes);
+        self.schedule.count(refused, result)
     }
 
-    fn cut(&mut self, watch: &mut Watch, side: Side, len: u64) -> Result<(), PortFault> {
+    fn cut(&mut self, watch: &mut Watch, side: Side, len: u64) -> Result<(), PortFault>
+        requires { len ≤ size_of self.old side }
+
+        ensures size { OnOk result (size_of self.new side ≡ len) }
+        ensures seen { OnOk result (
+            (stands_of self.new).seen side ≡ take len ((stands_of self.old).seen side)) }
+
+        ensures size_torn { OnErr result (
+            IsBetween len (size_of self.old side) (size_of self.new side)) }
+        ensures torn { OnErr result (
+            Clipped len ((stands_of self.old).seen side) ((stands_of self.new).seen side)) }
+        ensures kept { OnErr result (
+            (stands_of self.new).seen side ≡ (stands_of self.old).seen side) }
+
+        ensures loose { (stands_of self.new).loose side
+            ≡ shortened len ((stands_of self.old).loose side) }
+        ensures moment { (stands_of self.old).last ≤ watch.old →
+            Happens side watch.new (shortened len ((stands_of self.old).loose side))
+            (stands_of self.old) (stands_of self.new) }
+        ensures later { Ticks watch.old watch.new }
+
+        ensures same_size { size_of self.new (other_side side) ≡ size_of self.old (other_side side) }
+        ensures same { Untouched (other_side side) (stands_of self.old) (stands_of self.new) }
+
+        ensures not_memory { IfErr result (λ fault. fault ≡ PortFault.Failed) }
+        ensures calm { OnOk result (faults_of self.new ≡ faults_of self.old) }
+        ensures cause { HasCause (faults_of self.old) (faults_of self.new) result }
+
+        // It fails at the calls that it was told.
+        ensures exact { IsTrue (fails_at (fails_of self.old) (next_call (calls_of self.old))) →
+            result ≡ Err PortFault.Failed }
+        ensures calls { calls_of self.new ≡ next_call (calls_of self.old) }
+        ensures fails { fails_of self.new ≡ fails_of self.old }
+    {
         watch.raise();
-        if self.schedule.refuses() {
-            return Err(PortFault::Failed);
-        }
-        match side {
-            Side::Zero => self.zero.truncate(len as usize),
-            Side::One => self.one.truncate(len as usize),
-        }
-        Ok(())
+        let refused = self.schedule.refuses();
+        let result = self.sides.cut(refused, side, watch.now(), len);
+        self.schedule.count(refused, result)
     }
 
-    fn sync(&mut self, watch: &mut Watch, _side: Side) -> Result<(), PortFault> {
+    fn sync(&mut self, watch: &mut Watch, side: Side) -> Result<(), PortFault>
+        ensures settled { OnOk result (
+            (stands_of self.new).loose side ≡ settled ((stands_of self.old).seen side)) }
+        ensures unsettled { OnErr result (
+            (stands_of self.new).loose side ≡ (stands_of self.old).loose side) }
+
+        ensures moment { (stands_of self.old).last ≤ watch.old →
+            Happens side watch.new ((stands_of self.old).loose side)
+            (stands_of self.old) (stands_of self.new) }
+        ensures later { Ticks watch.old watch.new }
+
+        ensures seen { (stands_of self.new).seen side ≡ (stands_of self.old).seen side }
+        ensures same_size { (s : Side) → size_of self.new s ≡ size_of self.old s }
+        ensures same { Untouched (other_side side) (stands_of self.old) (stands_of self.new) }
+
+        ensures not_memory { IfErr result (λ fault. fault ≡ PortFault.Failed) }
+        ensures calm { OnOk result (faults_of self.new ≡ faults_of self.old) }
+        ensures cause { HasCause (faults_of self.old) (faults_of self.new) result }
+
+        // It fails at the calls that it was told.
+        ensures exact { IsTrue (fails_at (fails_of self.old) (next_call (calls_of self.old))) →
+            result ≡ Err PortFault.Failed }
+        ensures calls { calls_of self.new ≡ next_call (calls_of self.old) }
+        ensures fails { fails_of self.new ≡ fails_of self.old }
+    {
         watch.raise();
-        if self.schedule.refuses() {
-            return Err(PortFault::Failed);
-        }
-        Ok(())
+        let refused = self.schedule.refuses();
+        let result = self.sides.sync(refused, side, watch.now());
+        self.schedule.count(refused, result)
     }
 }

@@ -1,6 +1,8 @@
 //! Which calls of a device in memory fail, and how often it has failed.
-ghost use Rattle.std.specs.Prelude.{◌≡◌, ◌≤◌, ◌+◌, ◌-◌, ◌^◌, if◌then◌else◌, min};
+ghost use Rattle.std.specs.Prelude.{◌≡◌, ◌≤◌, ◌+◌, ◌-◌, ◌^◌, ◌&&◌, not, if◌then◌else◌, is_err, min};
 ghost use Rattle.hs_ports.specs.Schedule.{next_call, fails_at};
+
+use crate::PortFault;
 
 /// The numbers, from 1, of the calls that fail, beside the counts of calls and faults.
 #[derive(Drop)]
@@ -49,5 +51,20 @@ impl Schedule {
         ensures fails { self.new.fails.items ≡ self.old.fails.items }
     {
         self.faults = self.faults.saturating_add(1);
+    }
+
+    /// Counts a fault of a call that wasn't refused, and hands the answer on.
+    pub fn count(&mut self, refused: bool, answer: Result<(), PortFault>) -> Result<(), PortFault>
+        ensures value { result ≡ answer }
+        ensures faults { self.new.faults ≡ (if is_err answer && not refused then
+            min (self.old.faults + 1) (2 ^ 64 - 1) else self.old.faults) }
+        ensures later { self.old.faults ≤ self.new.faults }
+        ensures calls { self.new.calls ≡ self.old.calls }
+        ensures fails { self.new.fails.items ≡ self.old.fails.items }
+    {
+        if answer.is_err() && !refused {
+            self.fail();
+        }
+        answer
     }
 }

@@ -1,7 +1,7 @@
 //! Each device in memory once, through its trait.
-ghost use Rattle.std.specs.Prelude.{◌<◌};
+ghost use Rattle.std.specs.Prelude.{◌≡◌, ◌<◌, ◌≤◌};
 
-use crate::{Disk, ListSink, ListSource, MemoryDisk, PortFault, Side, Sink, Source, Watch};
+use crate::{Disk, ListSink, ListSource, MemoryDisk, PortFault, Side, Sink, Source, Tear, Watch};
 
 fn take<S: Source>(source: &mut S, max: usize, into: &mut Vec<u8>) -> Result<usize, PortFault>
     requires { 0 < max }
@@ -35,6 +35,18 @@ fn write_all<D: Disk>(
     disk.cut(watch, side, 0)?;
     disk.write_at(watch, side, 0, bytes)?;
     disk.sync(watch, side)
+}
+
+// Writes, cuts, writes and syncs, whatever each of these answers.
+fn change<D: Disk>(disk: &mut D, watch: &mut Watch) -> [Result<(), PortFault>; 4]
+    requires { D.size disk.old Side.One ≡ 5 }
+{
+    [
+        disk.write_at(watch, Side::One, 1, b"XYZ!"),
+        disk.cut(watch, Side::One, 3),
+        disk.write_at(watch, Side::One, 3, b"pqr"),
+        disk.sync(watch, Side::One),
+    ]
 }
 
 #[test]
@@ -86,4 +98,70 @@ fn a_disk_gives_what_was_written(rt: HostRuntime) {
     }
     assert_eq!(rt; into.as_slice(), b"abcd".as_slice());
     assert_eq!(rt; watch.now(), 3);
+}
+
+#[test]
+fn a_disk_keeps_each_moment(rt: HostRuntime) {
+    let alloc = rt.alloc();
+    let mut watch = Watch::new();
+    let old = Vec::from_slice(alloc, b"abcde").expect(&rt, "memory");
+    let other = Vec::from_slice(alloc, b"zero").expect(&rt, "memory");
+    let fails = vec![in alloc; 5u64].expect(&rt, "memory");
+    let mut disk = MemoryDisk::new(alloc, other, old, fails);
+    assert_eq!(rt; change(&mut disk, &mut watch), [Ok(()); 4]);
+    let fifth = disk.write_at(&mut watch, Side::One, 0, b"zz");
+    assert_eq!(rt; fifth, Err(PortFault::Failed));
+    // moment; what Old, New, Half and Fill(b'-') leave
+    let table: [(u64, &[u8], &[u8], &[u8], &[u8]); 7] = [
+        (0, b"abcde", b"abcde", b"abcde", b"abcde"),
+        (1, b"abcde", b"aXYZ!", b"aXYde", b"a----"),
+        (2, b"abcde", b"aXY", b"aXY", b"a--"),
+        (3, b"abcde", b"aXYpqr", b"aXYp\0\0", b"a-----"),
+        (4, b"abcde", b"aXYpqr", b"aXYp\0\0", b"a-----"),
+        (5, b"aXYpqr", b"aXYpqr", b"aXYpqr", b"--Ypqr"),
+        (9, b"aXYpqr", b"aXYpqr", b"aXYpqr", b"--Ypqr"),
+    ];
+    for (moment, old, new, half, filled) in table {
+        let tears = [
+            (Tear::Old, old),
+            (Tear::New, new),
+            (Tear::Half, half),
+            (Tear::Fill(b'-'), filled),
+        ];
+        for (tear, want) in tears {
+            let image = disk.image_at(Side::One, moment, tear).expect(&rt, "memory");
+            assert_eq!(rt; image.as_slice(), want, "{tear:?} at {moment}");
+            let image = disk
+                .image_at(Side::Zero, moment, tear)
+                .expect(&rt, "memory");
+            assert_eq!(rt; image.as_slice(), b"zero".as_slice());
+        }
+    }
+}
+
+#[test]
+fn a_call_that_fails_does_nothing(rt: HostRuntime) {
+    let alloc = rt.alloc();
+    // the call that fails; what New and Old leave in the end
+    let table: [(u64, &[u8], &[u8]); 4] = [
+        (1, b"abcpqr", b"abcpqr"),
+        (2, b"aXYpqr", b"aXYpqr"),
+        (3, b"aXY", b"aXY"),
+        (4, b"aXYpqr", b"abcde"),
+    ];
+    for (call, new, old) in table {
+        let mut watch = Watch::new();
+        let bytes = Vec::from_slice(alloc, b"abcde").expect(&rt, "memory");
+        let fails = vec![in alloc; call].expect(&rt, "memory");
+        let mut disk = MemoryDisk::new(alloc, Vec::new(alloc), bytes, fails);
+        let answers = change(&mut disk, &mut watch);
+        for (i, answer) in answers.iter().enumerate() {
+            assert_eq!(rt; answer.is_err(), i as u64 + 1 == call, "call {i}");
+        }
+        for (tear, want) in [(Tear::New, new), (Tear::Old, old)] {
+            let image = disk.image_at(Side::One, 9, tear).expect(&rt, "memory");
+            assert_eq!(rt; image.as_slice(), want, "{tear:?} where call {call} failed");
+        }
+        assert_eq!(rt; watch.now(), 4);
+    }
 }

@@ -183,7 +183,7 @@ impl MemoryStore {
     }
 
     /// Adds a block in its shard's epoch, unless one is there already, and counts it as given.
-    fn add(
+    pub fn add(
         &mut self,
         address: Address,
         pointers: ListOf<Address>,
@@ -205,7 +205,7 @@ impl MemoryStore {
     }
 
     /// A session holds one address more, under its next number.
-    fn hold(&mut self, session: &Name, held: Held) -> Result<u32, ModelFault>
+    pub(super) fn hold(&mut self, session: &Name, held: Held) -> Result<u32, ModelFault>
         ensures number { IfOk result (λ handle. handle ≡ next_of (session_at self.old session.now)) }
         ensures store { OnOk result (self.new ≡ hold_all self.old session.now (held ∷ [])) }
     {
@@ -217,7 +217,7 @@ impl MemoryStore {
 }
 
 /// The address that a write was given.
-fn given_address(address: Option<Address>) -> Address
+pub(super) fn given_address(address: Option<Address>) -> Address
     ensures { result ≡ given_address address }
 {
     address.unwrap_or(nothing().address)

@@ -1,4 +1,4 @@
-use Rattle.hs_laws.proofs.ReachLemmas.{listed_is, is_listed}
+use Rattle.hs_model.proofs.ReachLemmas.{listed_is, is_listed}
 use Rattle.hs_laws.proofs.reach.reached_is_reached.Goals as goal
 
 pub returns-clause-exact : goal.returns-clause-exact

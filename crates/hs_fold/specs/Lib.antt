@@ -1,0 +1,9 @@
+pub mod Catalogue
+pub mod Opened
+pub mod Pending
+pub mod Good
+pub mod Keeping
+pub mod Lawful
+pub mod Order
+pub mod Prefix
+pub mod Served

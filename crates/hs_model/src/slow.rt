@@ -1,0 +1,11 @@
+//! The slow functions: what is reached, what a sweep would remove, and what goes by itself.
+mod peeling;
+mod pointing;
+mod reaching;
+mod unreached;
+
+pub use peeling::peel;
+pub(crate) use pointing::{Pointing, has, reach};
+pub use reaching::reached;
+pub use unreached::unreachable;
+pub(crate) use unreached::{Run, is_since, removes, rooted};

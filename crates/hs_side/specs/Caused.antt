@@ -1,0 +1,23 @@
+-- What a count of the disk's faults says of an answer.
+use Rattle.std.specs.Prelude.{ℕ, ◌≤◌, ⊤, Result, IsErrOf}
+use Rattle.hs_ports.specs.Fault.{HasRisen}
+use Rattle.hs_ports.specs.declared.fault.PortFault.{PortFault}
+use Rattle.hs_ports.specs.declared.fault.PortFault.TheVariants as port
+use Rattle.hs_side.specs.declared.fault.SideFault.{SideFault}
+use Rattle.hs_side.specs.declared.fault.SideFault.TheVariants.{NotALog, Disk, NoMemory}
+
+-- the count never falls, and `Disk` is answered only where it rose in this call
+pub record IsCaused {T : Type 0} (before now : ℕ) (result : Result T SideFault) : Type 0 where
+  pub later : before ≤ now
+  pub disk : IsErrOf result Disk → HasRisen before now
+
+-- the fault of a side where its disk has this one
+abbrev pub of_port : PortFault → SideFault
+of_port port.Failed = Disk
+of_port port.NoMemory = NoMemory
+
+-- any fault but that the side is no log
+abbrev pub IsOutside : SideFault → Type 0
+IsOutside (NotALog at) = ⊥
+IsOutside Disk = ⊤
+IsOutside NoMemory = ⊤

@@ -1,0 +1,156 @@
+//! Reading one frame of a side.
+ghost use Rattle.hs_ports.specs.declared.disk.Side.{Side};
+ghost use Rattle.std.specs.Prelude.{◌≡◌, ◌<◌, ◌≤◌, ◌+◌, ℕ, length, IfOk, OnOk, IfErr, None, Some, ◌==◌, if◌then◌else◌};
+ghost use Rattle.std.specs.Int.{w32, from_be_bytes, to_be_bytes};
+ghost use Rattle.hs_side.specs.Caused.{IsCaused};
+ghost use Rattle.hs_side.specs.Steps.{IsGate, IsPayload, IsNext, IsFrame, refusal};
+
+use crate::SideFault;
+use crate::format::is_open;
+use crate::reading::{fill, gate_at};
+use hs_entry::{EntryFault, read_entry};
+use hs_ports::{Disk, Side};
+use std::alloc::Global;
+
+// A payload has at most so many bytes.
+const MAX_PAYLOAD: u32 = 600_000;
+
+/// Whether the gate at a place is open.
+pub(crate) fn open_at<D: Disk>(
+    disk: &mut D,
+    side: Side,
+    size: u64,
+    at: u64,
+    held: &mut Vec<u8>,
+) -> Result<bool, SideFault>
+    requires { size ≡ D.size disk.old side }
+
+    ensures exact { D.tells → IsGate result at ((D.stands disk.old).seen side) }
+    ensures inside { OnOk result (at < size) }
+
+    ensures same_size { (s : Side) → D.size disk.new s ≡ D.size disk.old s }
+    ensures same { D.tells → D.stands disk.new ≡ D.stands disk.old }
+    ensures calm { OnOk result (D.faults disk.new ≡ D.faults disk.old) }
+    ensures cause { IsCaused (D.faults disk.old) (D.faults disk.new) result }
+{
+    if at >= size {
+        return Err(SideFault::NotALog { at });
+    }
+    let gate = gate_at(disk, side, at, held)?;
+    Ok(is_open(gate))
+}
+
+/// The number of four bytes.
+fn length_of(bytes: &[u8]) -> u32
+    requires { length bytes.now ≡ 4 }
+    ensures value { result ≡ from_be_bytes w32 bytes.now }
+    ensures back { to_be_bytes w32 result ≡ bytes.now }
+{
+    u32::from_be_bytes([bytes[0], bytes[1], bytes[2], bytes[3]])
+}
+
+/// Reads the payload behind the gate at a place into `held`.
+pub(crate) fn read_payload<D: Disk>(
+    disk: &mut D,
+    side: Side,
+    size: u64,
+    at: u64,
+    held: &mut Vec<u8>,
+) -> Result<(), SideFault>
+    requires size { size ≡ D.size disk.old side }
+    requires inside { at < size }
+
+    ensures exact { D.tells → IsPayload result at ((D.stands disk.old).seen side) held.new.items }
+    ensures short { OnOk result (length held.new.items ≤ 600000) }
+    ensures within { OnOk result (at + 5 + length held.new.items ≤ size) }
+
+    ensures same_size { (s : Side) → D.size disk.new s ≡ D.size disk.old s }
+    ensures same { D.tells → D.stands disk.new ≡ D.stands disk.old }
+    ensures calm { OnOk result (D.faults disk.new ≡ D.faults disk.old) }
+    ensures cause { IsCaused (D.faults disk.old) (D.faults disk.new) result }
+{
+    if size - at < 5 {
+        return Err(SideFault::NotALog { at });
+    }
+    held.clear();
+    fill(disk, side, at + 1, 4, held)?;
+    let len = length_of(held);
+    if len > MAX_PAYLOAD {
+        return Err(SideFault::NotALog { at });
+    }
+    if size - at - 5 < len as u64 {
+        return Err(SideFault::NotALog { at });
+    }
+    held.clear();
+    fill(disk, side, at + 5, len as usize, held)?;
+    Ok(())
+}
+
+/// The number of the entry that a payload is, where it is one that may come behind an ordinary
+/// entry with the number `last`, or first where that is 0. Only ordinary entries are read so far.
+fn next_number(alloc: Global, last: u64, payload: &[u8]) -> Result<Option<u64>, SideFault>
+    ensures exact { IfOk result (λ number. IsNext number last payload.now) }
+    ensures memory { IfErr result (λ fault. fault ≡ SideFault.NoMemory) }
+{
+    let (number, _) = match read_entry(alloc, payload) {
+        Ok(read) => read,
+        Err(fault) => return refused(fault),
+    };
+    Ok(follows(last, number))
+}
+
+/// What a payload that is not read is: no entry, unless memory ran out.
+fn refused(fault: EntryFault) -> Result<Option<u64>, SideFault>
+    ensures { result ≡ refusal fault }
+{
+    match fault {
+        EntryFault::NoMemory => Err(SideFault::NoMemory),
+        _ => Ok(None),
+    }
+}
+
+/// This number, where it is one above the last.
+fn follows(last: u64, number: u64) -> Option<u64>
+    ensures { result ≡ (if number == last + 1 then Some number else None) }
+{
+    if number > 0 && number - 1 == last {
+        Some(number)
+    } else {
+        None
+    }
+}
+
+/// Reads the frame at a place whose gate is open, behind an ordinary entry with the number `last`
+/// or at first, where that is 0. Its payload is put into `held`; its number is the answer.
+pub(crate) fn read_frame<D: Disk>(
+    alloc: Global,
+    disk: &mut D,
+    side: Side,
+    size: u64,
+    at: u64,
+    last: u64,
+    held: &mut Vec<u8>,
+) -> Result<u64, SideFault>
+    requires size { size ≡ D.size disk.old side }
+    requires inside { at < size }
+
+    ensures exact { D.tells →
+        IsFrame result at last ((D.stands disk.old).seen side) held.new.items }
+    ensures short { OnOk result (length held.new.items ≤ 600000) }
+    ensures within { OnOk result (at + 5 + length held.new.items ≤ size) }
+
+    ensures same_size { (s : Side) → D.size disk.new s ≡ D.size disk.old s }
+    ensures same { D.tells → D.stands disk.new ≡ D.stands disk.old }
+    ensures calm { OnOk result (D.faults disk.new ≡ D.faults disk.old) }
+    ensures cause { IsCaused (D.faults disk.old) (D.faults disk.new) result }
+{
+    match read_payload(disk, side, size, at, held) {
+        Ok(()) => {}
+        Err(fault) => return Err(fault),
+    }
+    match next_number(alloc, last, held) {
+        Ok(Some(number)) => Ok(number),
+        Ok(None) => Err(SideFault::NotALog { at }),
+        Err(fault) => Err(fault),
+    }
+}

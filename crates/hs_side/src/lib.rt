@@ -1,0 +1,22 @@
+//! One side of a disk as a log of sealed frames, which survives a stop anywhere.
+#![tactic(auto)]
+
+mod device;
+mod fault;
+mod format;
+mod frame;
+mod head;
+mod header;
+mod laws;
+mod log;
+mod open;
+mod read;
+mod reading;
+
+pub use fault::SideFault;
+pub use header::Header;
+pub use laws::a_log_is_read_exactly_where_it_is_spelled;
+pub use log::SideLog;
+
+#[cfg(test)]
+mod tests;

@@ -1,0 +1,208 @@
+//! One side of a disk as a log of sealed frames.
+ghost use Rattle.std.specs.Prelude.{◌≡◌, ◌<◌, ◌≤◌, ◌+◌, ◌^◌, ⊤, [], ◌∷◌, ◌++◌, ℕ, length, None, Some, IsSome, IsNone, IfSome, Ok, OnOk, OnErr, IfErr, IfOk, IsErrOf, vec_len, vec_capacity};
+ghost use Rattle.std.specs.Int.{w32, to_be_bytes};
+ghost use Rattle.hs_ports.specs.Disk.{IsImage, other_side, overwritten, settled};
+ghost use Rattle.hs_ports.specs.Moments.{EachMoment};
+ghost use Rattle.hs_entry.specs.declared.entry.Entry.{Entry};
+ghost use Rattle.hs_entry.specs.Reading.{entry_at};
+ghost use Rattle.hs_side.specs.Caused.{IsCaused, IsOutside};
+ghost use Rattle.hs_side.specs.Giving.{GivesSame, GivesEither};
+ghost use Rattle.hs_side.specs.Reading.{log_of, with_frame};
+ghost use Rattle.hs_side.specs.Spelling.{body};
+ghost use Rattle.hs_side.specs.Standing.{Stands, MayCome, opened};
+
+use crate::device::{put, put_and_settle, settle};
+use crate::{Header, SideFault};
+use hs_ports::{Disk, Side, Watch};
+use std::alloc::{AllocError, Global};
+use std::marker::Model;
+
+/// One side of a disk as a log: its sealed frames in order, and at most one frame that is appended
+/// and not sealed. The disk is handed to each call. The value keeps places; what the frames hold
+/// is on the disk.
+#[derive(Drop)]
+pub struct SideLog {
+    pub(crate) alloc: Global,
+    pub(crate) side: Side,
+    pub(crate) head: Option<(Header, u64)>,
+    pub(crate) places: Vec<u64>,
+    pub(crate) end: u64,
+    pub(crate) waiting: Option<u64>,
+}
+
+impl Model for SideLog {
+    ghost use Rattle.std.specs.Prelude.{◌≤◌, ◌+◌, IfSome, IsSome, vec_len, vec_capacity};
+    ghost use Rattle.hs_side.specs.Standing.{Kept};
+
+    ghost Value = { Kept };
+
+    ghost view = { λ a. record {
+      side = a.side;
+      head = a.head;
+      places = a.places.items;
+      end = a.end;
+      waiting = a.waiting;
+    } };
+
+    // an append made the room for the place that the seal adds
+    ghost invariant = { λ a. IfSome a.waiting (λ next. record {
+      holds : IsSome a.head;
+      room : vec_len a.places + 1 ≤ vec_capacity a.places;
+    }) };
+}
+
+impl SideLog {
+    /// The header, of a side that is not blank.
+    pub fn header(&self) -> Header
+        requires { IsSome self.now.head }
+        ensures { IfSome self.now.head (λ head. result ≡ head.0) }
+    {
+        match self.head {
+            Some((header, _)) => header,
+            None => unreachable!(),
+        }
+    }
+
+    /// The generation, and None exactly where the side is blank.
+    pub fn generation(&self) -> Option<u64>
+        ensures some { IfSome self.now.head (λ head. result ≡ Some head.1) }
+        ensures none { self.now.head ≡ None → result ≡ None }
+    {
+        match self.head {
+            Some((_, generation)) => Some(generation),
+            None => None,
+        }
+    }
+
+    /// The places of the sealed frames, in order.
+    pub fn places(&self) -> &[u64]
+        ensures { result.now ≡ self.now.places }
+    {
+        &self.places
+    }
+
+    /// The place of the frame that is appended and not sealed, and None exactly where there is
+    /// none.
+    pub fn unsealed(&self) -> Option<u64>
+        ensures some { IsSome self.now.waiting → result ≡ Some self.now.end }
+        ensures none { self.now.waiting ≡ None → result ≡ None }
+    {
+        match self.waiting {
+            Some(_) => Some(self.end),
+            None => None,
+        }
+    }
+
+    /// Writes a frame behind the last gate, in one write: its length, its payload, and the closed
+    /// gate behind it. Its own gate stays closed until `seal`. It makes the room for the place that
+    /// `seal` adds. Without memory nothing changes. After `Disk` the side must be opened again: what
+    /// the value says then is open.
+    pub fn append<D: Disk>(
+        &mut self,
+        disk: &mut D,
+        watch: &mut Watch,
+        payload: &[u8],
+    ) -> Result<(), SideFault>
+        requires stands { Stands D.tells self.old (D.size disk.old self.old.side) (D.stands disk.old) }
+        requires holds { IsSome self.old.head }
+        requires sealed { self.old.waiting ≡ None }
+        requires short { length payload.now ≤ 600000 }
+        requires comes { D.tells → MayCome ((D.stands disk.old).seen self.old.side) payload.now }
+
+        ensures value { OnOk result (self.new ≡ record self.old {
+          waiting = Some (self.old.end + 5 + length payload.now);
+        }) }
+        ensures stands { OnOk result (
+            Stands D.tells self.new (D.size disk.new self.new.side) (D.stands disk.new)) }
+        ensures written { D.tells → OnOk result ((D.stands disk.new).seen self.old.side
+            ≡ overwritten (self.old.end + 1) (body payload.now ++ 0 ∷ [])
+            ((D.stands disk.old).seen self.old.side)) }
+
+        // What is read stays, and it will be one frame more.
+        ensures same { D.tells → OnOk result (GivesSame
+            ((D.stands disk.old).seen self.old.side) ((D.stands disk.new).seen self.old.side)) }
+        ensures later { D.tells → OnOk result ((number : ℕ) (entry : Entry)
+            → entry_at payload.now ≡ Ok (number, entry)
+            → log_of (opened self.old.end ((D.stands disk.new).seen self.old.side))
+            ≡ with_frame (record { place = self.old.end; number = number; entry = entry })
+            (log_of ((D.stands disk.old).seen self.old.side))) }
+
+        ensures refused { IfErr result IsOutside }
+        ensures kept { IsErrOf result SideFault.NoMemory → (self.new ≡ self.old)
+            × Stands D.tells self.new (D.size disk.new self.new.side) (D.stands disk.new) }
+
+        ensures other { D.size disk.new (other_side self.old.side)
+            ≡ D.size disk.old (other_side self.old.side) }
+
+        ensures any_moment { D.tells → (D.stands disk.old).last ≤ watch.old →
+            EachMoment watch.old watch.new self.old.side (D.stands disk.old) (D.stands disk.new)
+            (GivesSame ((D.stands disk.old).seen self.old.side)) }
+        ensures cause { IsCaused (D.faults disk.old) (D.faults disk.new) result }
+    {
+        self.places.reserve(1)?;
+        let written = body_of(self.alloc, payload)?;
+        put(disk, watch, self.side, self.end + 1, &written)?;
+        self.waiting = Some(self.end + 5 + payload.len() as u64);
+        Ok(())
+    }
+
+    /// Puts the frame that waits on the medium, then opens its gate, and puts that on the medium.
+    /// It takes no memory. After `Disk` the side must be opened again: what the value says then is
+    /// open.
+    pub fn seal<D: Disk>(&mut self, disk: &mut D, watch: &mut Watch) -> Result<(), SideFault>
+        requires stands { Stands D.tells self.old (D.size disk.old self.old.side) (D.stands disk.old) }
+        requires waits { IsSome self.old.waiting }
+
+        ensures value { OnOk result (IfSome self.old.waiting (λ next. self.new ≡ record self.old {
+          places = self.old.places ++ self.old.end ∷ [];
+          end = next;
+          waiting = None;
+        })) }
+        ensures stands { OnOk result (
+            Stands D.tells self.new (D.size disk.new self.new.side) (D.stands disk.new)) }
+        ensures written { D.tells → OnOk result ((D.stands disk.new).seen self.old.side
+            ≡ opened self.old.end ((D.stands disk.old).seen self.old.side)) }
+        ensures durable { D.tells → OnOk result ((D.stands disk.new).loose self.old.side
+            ≡ settled (opened self.old.end ((D.stands disk.old).seen self.old.side))) }
+
+        // The log has the frame that waited, behind those before.
+        ensures grown { D.tells → OnOk result ((x : ℕ × Entry)
+            × (log_of ((D.stands disk.new).seen self.old.side)
+            ≡ with_frame (record { place = self.old.end; number = x.0; entry = x.1 })
+            (log_of ((D.stands disk.old).seen self.old.side)))) }
+
+        ensures refused { IfErr result (λ fault. fault ≡ SideFault.Disk) }
+
+        ensures other { D.size disk.new (other_side self.old.side)
+            ≡ D.size disk.old (other_side self.old.side) }
+
+        ensures any_moment { D.tells → (D.stands disk.old).last ≤ watch.old →
+            EachMoment watch.old watch.new self.old.side (D.stands disk.old) (D.stands disk.new)
+            (GivesEither ((D.stands disk.old).seen self.old.side)
+            (opened self.old.end ((D.stands disk.old).seen self.old.side))) }
+        ensures cause { IsCaused (D.faults disk.old) (D.faults disk.new) result }
+    {
+        let Some(next) = self.waiting else {
+            unreachable!()
+        };
+        // The body has to be on the medium before its gate opens.
+        settle(disk, watch, self.side)?;
+        put_and_settle(disk, watch, self.side, self.end, &[0xa5])?;
+        self.places.extend_from_slice(&[self.end]).unwrap();
+        self.end = next;
+        self.waiting = None;
+        Ok(())
+    }
+}
+
+/// What is written of a frame: its length, its payload, and the closed gate behind it.
+fn body_of(alloc: Global, payload: &[u8]) -> Result<Vec<u8>, AllocError>
+    requires { length payload.now ≤ 600000 }
+    ensures { IfOk result (λ written. written.items ≡ body payload.now ++ 0 ∷ []) }
+{
+    let mut written = Vec::with_capacity(alloc, payload.len() + 5)?;
+    written.extend_from_slice(&(payload.len() as u32).to_be_bytes())?;
+    written.extend_from_slice(payload)?;
+    written.push(0)?;
+    Ok(written)
+}

@@ -1,0 +1,145 @@
+//! Opening a side.
+ghost use Rattle.hs_ports.specs.declared.disk.Side.{Side};
+ghost use Rattle.std.specs.Prelude.{◌≡◌, ◌<◌, ◌≤◌, ◌+◌, ◌^◌, ℕ, [], length, None, Some, Ok, IfOk, OnOk};
+ghost use Rattle.hs_ports.specs.Disk.{IsImage, settled};
+ghost use Rattle.hs_ports.specs.Moments.{EachMoment};
+ghost use Rattle.hs_side.specs.Caused.{IsCaused};
+ghost use Rattle.hs_side.specs.Opening.{Opens};
+ghost use Rattle.hs_side.specs.Reading.{log_of};
+ghost use Rattle.hs_side.specs.Standing.{Stands, HasBytes, HasRoom};
+ghost use Rattle.hs_side.specs.declared.header.Header.{Header};
+ghost use Rattle.hs_side.specs.Steps.{IsHeadOf, IsScan};
+
+use crate::device::settle;
+use crate::frame::{open_at, read_frame};
+use crate::head::read_head;
+use crate::{Header, SideFault, SideLog};
+use hs_ports::{Disk, Side, Watch};
+use std::alloc::Global;
+
+impl SideLog {
+    /// Opens a side: puts it on the medium, and reads it. It writes nothing. A blank side has no
+    /// header and no frame.
+    pub fn open<D: Disk>(
+        alloc: Global,
+        disk: &mut D,
+        watch: &mut Watch,
+        side: Side,
+    ) -> Result<SideLog, SideFault>
+        // What is read, and which fault it is: `NotALog` with the first place that is wrong.
+        ensures exact { D.tells → Opens result (log_of ((D.stands disk.old).seen side)) }
+        ensures stands { IfOk result (λ log.
+            Stands D.tells log (D.size disk.new side) (D.stands disk.new)) }
+        ensures side { IfOk result (λ log. log.side ≡ side) }
+        ensures durable { D.tells → OnOk result ((D.stands disk.new).loose side
+            ≡ settled ((D.stands disk.old).seen side)) }
+
+        // It writes nothing: a read gives the same, and a crash leaves what it could leave before.
+        ensures same { D.tells → (D.stands disk.new).seen side ≡ (D.stands disk.old).seen side }
+        ensures same_size { (s : Side) → D.size disk.new s ≡ D.size disk.old s }
+
+        ensures any_moment { D.tells → (D.stands disk.old).last ≤ watch.old →
+            EachMoment watch.old watch.new side (D.stands disk.old) (D.stands disk.new)
+            (IsImage ((D.stands disk.old).loose side)) }
+        ensures cause { IsCaused (D.faults disk.old) (D.faults disk.new) result }
+    {
+        settle(disk, watch, side)?;
+        read_log(alloc, disk, side)
+    }
+
+    /// The value of a blank side.
+    pub(crate) fn blank(alloc: Global, side: Side) -> SideLog
+        ensures { result ≡ record {
+          side = side;
+          head = None;
+          places = [];
+          end = 0;
+          waiting = None;
+        } }
+    {
+        SideLog {
+            alloc,
+            side,
+            head: None,
+            places: Vec::new(alloc),
+            end: 0,
+            waiting: None,
+        }
+    }
+}
+
+/// Reads a side, all of which is on the medium.
+fn read_log<D: Disk>(alloc: Global, disk: &mut D, side: Side) -> Result<SideLog, SideFault>
+    ensures exact { D.tells → Opens result (log_of ((D.stands disk.old).seen side)) }
+    ensures has { D.tells → IfOk result (λ log. HasBytes 0xa5 log
+        ((D.stands disk.old).seen side) (settled ((D.stands disk.old).seen side))) }
+    ensures room { IfOk result (λ log. HasRoom log (D.size disk.old side)) }
+    ensures side { IfOk result (λ log. log.side ≡ side) }
+
+    ensures same_size { (s : Side) → D.size disk.new s ≡ D.size disk.old s }
+    ensures same { D.tells → D.stands disk.new ≡ D.stands disk.old }
+    ensures cause { IsCaused (D.faults disk.old) (D.faults disk.new) result }
+{
+    let size = disk.len(side)?;
+    let mut held = Vec::new(alloc);
+    let head = match read_head(disk, side, size, &mut held) {
+        Ok(Some(head)) => head,
+        Ok(None) => return Ok(SideLog::blank(alloc, side)),
+        Err(fault) => return Err(fault),
+    };
+    let (places, end) = match read_frames(alloc, disk, side, size, &mut held) {
+        Ok(scan) => scan,
+        Err(fault) => return Err(fault),
+    };
+    Ok(SideLog {
+        alloc,
+        side,
+        head: Some(head),
+        places,
+        end,
+        waiting: None,
+    })
+}
+
+/// Reads the frames of a side that is not blank, to the closed gate behind them: their places, and
+/// the place of that gate. What is held is used as a buffer.
+fn read_frames<D: Disk>(
+    alloc: Global,
+    disk: &mut D,
+    side: Side,
+    size: u64,
+    held: &mut Vec<u8>,
+) -> Result<(Vec<u64>, u64), SideFault>
+    requires size { size ≡ D.size disk.old side }
+    requires head { D.tells → (x : Header × ℕ)
+        × IsHeadOf (Ok (Some x)) ((D.stands disk.old).seen side) }
+
+    ensures exact { D.tells → IsScan (λ x. (x.0.items, x.1)) result
+        ((D.stands disk.old).seen side) }
+    ensures inside { IfOk result (λ x. x.1 < size) }
+
+    ensures same_size { (s : Side) → D.size disk.new s ≡ D.size disk.old s }
+    ensures same { D.tells → D.stands disk.new ≡ D.stands disk.old }
+    ensures calm { OnOk result (D.faults disk.new ≡ D.faults disk.old) }
+    ensures cause { IsCaused (D.faults disk.old) (D.faults disk.new) result }
+{
+    let mut places = Vec::new(alloc);
+    let mut last = 0;
+    let mut at = 17;
+    'frames: loop {
+        let opens = match open_at(disk, side, size, at, held) {
+            Ok(opens) => opens,
+            Err(fault) => return Err(fault),
+        };
+        if !opens {
+            return Ok((places, at));
+        }
+        let number = match read_frame(alloc, disk, side, size, at, last, held) {
+            Ok(number) => number,
+            Err(fault) => return Err(fault),
+        };
+        places.push(at)?;
+        at += 5 + held.len() as u64;
+        last = number;
+    }
+}
