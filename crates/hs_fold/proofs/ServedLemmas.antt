@@ -32,7 +32,7 @@ use Rattle.hs_fold.proofs.StoreLemmas.{mod-one, store-single, step-store, block-
 
 -- ---- one entry more
 
-append-apply : (at : Shard) (c : Catalogue) (es : List (ℕ × Entry)) (e : ℕ × Entry) → apply_all at c (es ++ e ∷ []) ≡ apply at (apply_all at c es) e
+pub append-apply : (at : Shard) (c : Catalogue) (es : List (ℕ × Entry)) (e : ℕ × Entry) → apply_all at c (es ++ e ∷ []) ≡ apply at (apply_all at c es) e
 append-apply at c [] e = refl
 append-apply at c (x ∷ es) e = append-apply at (apply at c x) es e
 
@@ -166,7 +166,7 @@ module _ (name : List ℕ → Address) (limits : Limits) (sessions : List (List 
   abbrev before : Store
   before = store_with sessions c
 
-  ordered : IsInOrder c
+  pub ordered : IsInOrder c
   ordered = all-ordered at empty_catalogue entries empty-ordered
 
   -- what is logged of a deed is what an answer did
@@ -192,7 +192,7 @@ module _ (name : List ℕ → Address) (limits : Limits) (sessions : List (List 
     facts : AllNone (refusals limits before (op.Write session payload [] address))
     facts = all_none (refusals limits before (op.Write session payload [] address)) none
 
-    within : length payload ≤ 65536
+    pub within : length payload ≤ 65536
     unfolding refusals
     within = short (length payload) 65536 facts.1.0
       where
@@ -203,20 +203,20 @@ module _ (name : List ℕ → Address) (limits : Limits) (sessions : List (List 
             no true r e = cc e
             no false r e = refl
 
-    full : shard_full limits (store_of (c ∷ [])) a ≡ None
+    pub full : shard_full limits (store_of (c ∷ [])) a ≡ None
     unfolding refusals
     full = facts.1.1.1.1.1.1.1.0
 
     wrote-store : after.store ≡ record (with_block (store_of (c ∷ [])) a block) { sessions = after.store.sessions }
     wrote-store = put_rest (with_block before a block) session _
 
-    name-is : name (spell block) ≡ a
+    pub name-is : name (spell block) ≡ a
     name-is = sym (ap (λ x. given_address x) (named within))
 
     store-is : (entry : Entry) → store_of (apply at c (number, entry) ∷ []) ≡ with_block (store_of (c ∷ [])) a block → after.store ≡ store_with after.store.sessions (catalogue_of at (entries ++ (number, entry) ∷ []))
     store-is entry e = wrote-store ∙ ap (λ (u : Store). record u { sessions = after.store.sessions }) (sym e ∙ one-more entry)
 
-    first-epoch : c.epoch ≡ 1
+    pub first-epoch : c.epoch ≡ 1
     first-epoch = list-epoch at empty_catalogue entries
 
     found-case : (found : Option Present) → present_at c a ≡ found → IsLogged (op.Write session payload [] address) after (written_deed (is_some (option_map (λ (p : Present). p.stored) found)) session a [] next)

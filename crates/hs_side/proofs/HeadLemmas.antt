@@ -1,8 +1,8 @@
 -- The head of a side that is read is the one that is spelled.
-use Rattle.std.proofs.Common.{◌≡◌, ◌∙◌, inl, inr, ℕ, ◌<◌, ◌≤◌, ◌^◌, ◌&&◌, ◌==◌, Bool, true, false, ltb, List, [], ◌∷◌, length, get_or, take, drop, Option, None, Some, Result, Ok, Err, refl, ap, sym, subst, arith}
+use Rattle.std.proofs.Common.{◌≡◌, ◌∙◌, inl, inr, ℕ, ◌<◌, ◌≤◌, ◌^◌, ◌&&◌, ◌==◌, Bool, true, false, ltb, List, [], ◌∷◌, length, get_or, take, drop, Option, None, Some, Result, Ok, Err, refl, ap, sym, subst, arith, if◌then◌else◌}
 use Rattle.std.specs.Int.{w64, from_be_bytes, to_be_bytes}
 use Rattle.std.proofs.lemmas.Bool.{cases_lt, eqb-true, le-ltb}
-use Rattle.std.proofs.lemmas.List.{get_or-take, get_or_past, take_all}
+use Rattle.std.proofs.lemmas.List.{drop-take, get_or-take, get_or_past, take-take, take_all}
 use Rattle.std.proofs.lemmas.Nat.{be_bytes_8}
 use Rattle.hs_limits.specs.Fields.{◌>>=◌, check}
 use Rattle.hs_limits.proofs.FieldLemmas.{IsBytes, IsBytes-drop, IsBytes-take, wide64, check_ok}
@@ -10,6 +10,7 @@ use Rattle.hs_ports.specs.Disk.{byte_at}
 use Rattle.hs_side.specs.declared.header.Header.{Header}
 use Rattle.hs_side.specs.declared.fault.SideFault.{SideFault}
 use Rattle.hs_side.specs.declared.fault.SideFault.TheVariants.{NotALog, Disk, NoMemory}
+use Rattle.hs_side.specs.Current.{generation_in}
 use Rattle.hs_side.specs.Steps.{IsHead, IsHeadOf}
 use Rattle.hs_side.specs.Reading.{is_open, is_blank, is_named, header_of, generation_of, head_of}
 use Rattle.hs_side.specs.Spelling.{head}
@@ -100,3 +101,20 @@ head_told result seen held long size is fit told = go result told
     go (Err (NotALog at)) e = (opens e.0, ap head_of (sym is) ∙ e.1)
     go (Err Disk) e = absurd e
     go (Err NoMemory) e = absurd e
+
+-- the generation is that of the first 17 bytes, where byte 0 is an open gate
+pub generation_told : (seen held : List ℕ) → 18 ≤ length seen → held ≡ take 17 seen → (if is_open (byte_at held 0) then Some (generation_of held) else None) ≡ generation_in seen
+generation_told seen held long is = go (is_open (byte_at seen 0)) refl
+  where
+    test : ltb (length seen) 18 ≡ false
+    test = le-ltb _ _ long
+
+    gate : byte_at held 0 ≡ byte_at seen 0
+    gate = ap (λ (l : List ℕ). get_or l 0 0) is ∙ get_or-take 17 seen 0 0 (omega arith)
+
+    field : generation_of held ≡ generation_of seen
+    field = ap (λ bytes. generation_of bytes) is ∙ ap (λ bytes. from_be_bytes w64 bytes) (ap (λ bytes. take 8 bytes) (drop-take 9 8 seen) ∙ take-take 8 8 (drop 9 seen) (omega arith))
+
+    go : (opens : Bool) → is_open (byte_at seen 0) ≡ opens → (if is_open (byte_at held 0) then Some (generation_of held) else None) ≡ generation_in seen
+    go true e = rw (gate, test, e) (ap (λ g. Some g) field)
+    go false e = rw (gate, test, e) refl

@@ -1,4 +1,5 @@
 pub mod Caused
+pub mod Current
 pub mod Follow
 pub mod Giving
 pub mod Opening

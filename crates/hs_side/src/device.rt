@@ -2,7 +2,7 @@
 ghost use Rattle.hs_ports.specs.declared.disk.Side.{Side};
 ghost use Rattle.std.specs.Prelude.{◌≡◌, ◌<◌, ◌≤◌, ◌+◌, ℕ, length, max, take, OnOk, OnErr, IfErr};
 ghost use Rattle.hs_ports.specs.Fault.{HasCause};
-ghost use Rattle.hs_ports.specs.Disk.{IsImage, other_side, overwritten, written, shortened, settled};
+ghost use Rattle.hs_ports.specs.Disk.{IsImage, Untouched, other_side, overwritten, written, shortened, settled};
 ghost use Rattle.hs_ports.specs.Watch.{Ticks};
 ghost use Rattle.hs_ports.specs.Moments.{EachMoment};
 
@@ -14,6 +14,8 @@ pub(crate) fn settle<D: Disk>(disk: &mut D, watch: &mut Watch, side: Side) -> Re
         (D.stands disk.new).loose side ≡ settled ((D.stands disk.old).seen side)) }
     ensures seen { D.tells → (D.stands disk.new).seen side ≡ (D.stands disk.old).seen side }
     ensures same_size { (s : Side) → D.size disk.new s ≡ D.size disk.old s }
+    ensures other { D.tells →
+        Untouched (other_side side) (D.stands disk.old) (D.stands disk.new) }
 
     ensures any_moment { D.tells → (D.stands disk.old).last ≤ watch.old →
         EachMoment watch.old watch.new side (D.stands disk.old) (D.stands disk.new)

@@ -41,7 +41,7 @@ fn is_named(bytes: &[u8]) -> bool
 }
 
 /// The number of bytes 9 to 16.
-fn generation_of(bytes: &[u8]) -> u64
+pub(crate) fn generation_of(bytes: &[u8]) -> u64
     requires { length bytes.now ≡ 17 }
     ensures { result ≡ generation_of bytes.now }
 {

@@ -5,6 +5,7 @@ mod device;
 mod fault;
 mod format;
 mod frame;
+mod glance;
 mod head;
 mod header;
 mod laws;
@@ -14,6 +15,7 @@ mod read;
 mod reading;
 
 pub use fault::SideFault;
+pub use glance::later_side;
 pub use header::Header;
 pub use laws::a_log_is_read_exactly_where_it_is_spelled;
 pub use log::SideLog;

@@ -52,6 +52,13 @@ impl Model for SideLog {
 }
 
 impl SideLog {
+    /// The side.
+    pub fn side(&self) -> Side
+        ensures { result ≡ self.now.side }
+    {
+        self.side
+    }
+
     /// The header, of a side that is not blank.
     pub fn header(&self) -> Header
         requires { IsSome self.now.head }

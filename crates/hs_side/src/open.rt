@@ -1,7 +1,7 @@
 //! Opening a side.
 ghost use Rattle.hs_ports.specs.declared.disk.Side.{Side};
 ghost use Rattle.std.specs.Prelude.{◌≡◌, ◌<◌, ◌≤◌, ◌+◌, ◌^◌, ℕ, [], length, None, Some, Ok, IfOk, OnOk};
-ghost use Rattle.hs_ports.specs.Disk.{IsImage, settled};
+ghost use Rattle.hs_ports.specs.Disk.{IsImage, Untouched, other_side, settled};
 ghost use Rattle.hs_ports.specs.Moments.{EachMoment};
 ghost use Rattle.hs_side.specs.Caused.{IsCaused};
 ghost use Rattle.hs_side.specs.Opening.{Opens};
@@ -31,12 +31,15 @@ impl SideLog {
         ensures stands { IfOk result (λ log.
             Stands D.tells log (D.size disk.new side) (D.stands disk.new)) }
         ensures side { IfOk result (λ log. log.side ≡ side) }
+        ensures rests { IfOk result (λ log. log.waiting ≡ None) }
         ensures durable { D.tells → OnOk result ((D.stands disk.new).loose side
             ≡ settled ((D.stands disk.old).seen side)) }
 
         // It writes nothing: a read gives the same, and a crash leaves what it could leave before.
         ensures same { D.tells → (D.stands disk.new).seen side ≡ (D.stands disk.old).seen side }
         ensures same_size { (s : Side) → D.size disk.new s ≡ D.size disk.old s }
+        ensures other { D.tells →
+            Untouched (other_side side) (D.stands disk.old) (D.stands disk.new) }
 
         ensures any_moment { D.tells → (D.stands disk.old).last ≤ watch.old →
             EachMoment watch.old watch.new side (D.stands disk.old) (D.stands disk.new)
@@ -75,6 +78,7 @@ fn read_log<D: Disk>(alloc: Global, disk: &mut D, side: Side) -> Result<SideLog,
         ((D.stands disk.old).seen side) (settled ((D.stands disk.old).seen side))) }
     ensures room { IfOk result (λ log. HasRoom log (D.size disk.old side)) }
     ensures side { IfOk result (λ log. log.side ≡ side) }
+    ensures rests { IfOk result (λ log. log.waiting ≡ None) }
 
     ensures same_size { (s : Side) → D.size disk.new s ≡ D.size disk.old s }
     ensures same { D.tells → D.stands disk.new ≡ D.stands disk.old }

@@ -1,0 +1,16 @@
+pub mod AdoptLemmas
+pub mod AnswerLemmas
+pub mod AskLemmas
+pub mod BeginLemmas
+pub mod CauseLemmas
+pub mod EntryLemmas
+pub mod ListLemmas
+pub mod LoadLemmas
+pub mod MarkLemmas
+pub mod NumberedLemmas
+pub mod OpenLemmas
+pub mod OtherLemmas
+pub mod PlaceLemmas
+pub mod ServingLemmas
+pub mod SpellingLemmas
+pub mod TellingLemmas

@@ -1,0 +1,14 @@
+use Rattle.hs_single.proofs.OpenLemmas.{one-call, then-calls}
+use Rattle.hs_single.proofs.open.current_side.Goals as goal
+
+pub returns-in_err-one-clause-any_moment : goal.returns-in_err-one-clause-any_moment
+returns-in_err-one-clause-any_moment g c = λ told last.
+    let one = c.glance.ensures.any_moment told last in
+    let two = c.glance-2.ensures.any_moment told one.last in
+    then-calls (one-call one.last (g.met.D.Disk.since told c.glance.new.disk) two) (one-call last (g.met.D.Disk.since told c.args.disk.now) one)
+
+pub returns-clause-any_moment : goal.returns-clause-any_moment
+returns-clause-any_moment g c = λ told last.
+    let one = c.glance.ensures.any_moment told last in
+    let two = c.glance-2.ensures.any_moment told one.last in
+    then-calls (one-call one.last (g.met.D.Disk.since told c.glance.new.disk) two) (one-call last (g.met.D.Disk.since told c.args.disk.now) one)

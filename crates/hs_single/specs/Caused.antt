@@ -1,0 +1,25 @@
+-- What a count of the disk's faults says of an answer.
+use Rattle.std.specs.Prelude.{ℕ, ◌≤◌, ⊤, Result, IsErrOf}
+use Rattle.hs_ports.specs.Fault.{HasRisen}
+use Rattle.hs_side.specs.declared.fault.SideFault.{SideFault}
+use Rattle.hs_side.specs.declared.fault.SideFault.TheVariants as side
+use Rattle.hs_single.specs.declared.fault.SingleFault.{SingleFault}
+use Rattle.hs_single.specs.declared.fault.SingleFault.TheVariants.{NotALog, WrongShape, Disk, NoMemory}
+
+-- the count never falls, and `Disk` is answered only where it rose in this call
+pub record IsCaused {T : Type 0} (before now : ℕ) (result : Result T SingleFault) : Type 0 where
+  pub later : before ≤ now
+  pub disk : IsErrOf result Disk → HasRisen before now
+
+-- the fault of a store where its side has this one
+abbrev pub of_side : SideFault → SingleFault
+of_side (side.NotALog at) = NotALog at
+of_side side.Disk = Disk
+of_side side.NoMemory = NoMemory
+
+-- the disk failed, or memory ran out
+abbrev pub IsOutside : SingleFault → Type 0
+IsOutside (NotALog at) = ⊥
+IsOutside (WrongShape found) = ⊥
+IsOutside Disk = ⊤
+IsOutside NoMemory = ⊤

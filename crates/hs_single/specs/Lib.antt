@@ -1,0 +1,5 @@
+pub mod Caused
+pub mod Lists
+pub mod Opening
+pub mod Serving
+pub mod Telling

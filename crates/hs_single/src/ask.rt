@@ -1,0 +1,64 @@
+//! Answering an operation.
+ghost use Rattle.std.specs.Prelude.{◌≡◌, ◌≤◌, ◌+◌, ◌∷◌, ◌++◌, [], length, ℕ, List, OnOk, IfOk, IfErr};
+ghost use Rattle.hs_limits.specs.declared.address.Address.{Address};
+ghost use Rattle.hs_ports.specs.Moments.{EachMoment};
+ghost use Rattle.hs_model.specs.declared.deed.Deed.{Deed};
+ghost use Rattle.hs_entry.specs.declared.entry.Entry.{Entry};
+ghost use Rattle.hs_fold.specs.Served.{IsNamed, IsServed};
+ghost use Rattle.hs_single.specs.Caused.{IsCaused, IsOutside};
+ghost use Rattle.hs_single.specs.Lists.{HasList, GivesLists};
+ghost use Rattle.hs_single.specs.Serving.{IsAnswered, IsReady, IsServing, IsSpelled, list_after};
+
+use crate::{Single, SingleFault};
+use hs_limits::Limits;
+use hs_model::{Answer, Op};
+use hs_ports::{Disk, Watch};
+
+impl Single {
+    /// Answers an operation of a line. What it did is on the disk before it is answered. The
+    /// spelling is that of a write's block. After a fault the store must be opened again.
+    pub fn ask<D: Disk>(
+        &mut self,
+        limits: Limits,
+        line: u64,
+        op: Op,
+        spelling: Vec<u8>,
+        disk: &mut D,
+        watch: &mut Watch,
+    ) -> Result<Answer, SingleFault>
+        requires served { IsServed op }
+        requires spelled { IsSpelled op spelling.items }
+        requires ready { IsReady D.tells self.old (D.size disk.old self.old.log.side)
+            (D.stands disk.old) }
+
+        ensures answered { D.tells → (name : List ℕ → Address) (entries : List (ℕ × Entry))
+            → IsServing name self.old ((D.stands disk.old).seen self.old.log.side) entries
+            → IsNamed name op → limits.blocks ≤ 16384
+            → IfOk result (λ answer. IsAnswered name limits line op self.old entries answer
+            self.new ((D.stands disk.new).seen self.old.log.side)) }
+        ensures refused { D.tells → (name : List ℕ → Address) (entries : List (ℕ × Entry))
+            → IsServing name self.old ((D.stands disk.old).seen self.old.log.side) entries
+            → IfErr result IsOutside }
+
+        ensures ready { OnOk result (IsReady D.tells self.new
+            (D.size disk.new self.new.log.side) (D.stands disk.new)) }
+        ensures side { OnOk result (self.new.log.side ≡ self.old.log.side) }
+
+        ensures any_moment { D.tells → (D.stands disk.old).last ≤ watch.old
+            → (name : List ℕ → Address) (entries : List (ℕ × Entry))
+            → IsServing name self.old ((D.stands disk.old).seen self.old.log.side) entries
+            → IsNamed name op → limits.blocks ≤ 16384 →
+            EachMoment watch.old watch.new self.old.log.side (D.stands disk.old) (D.stands disk.new)
+            (GivesLists entries (list_after name limits line op self.old entries)) }
+        ensures cause { IsCaused (D.faults disk.old) (D.faults disk.new) result }
+    {
+        let answer = match self.judge(limits, op, disk) {
+            Ok(answer) => answer,
+            Err(fault) => return Err(fault),
+        };
+        match self.log_deed(line, &answer.deed, spelling, disk, watch) {
+            Ok(()) => Ok(answer),
+            Err(fault) => Err(fault),
+        }
+    }
+}

@@ -1,0 +1,19 @@
+//! A store of one shard and one copy, on one disk.
+#![tactic(auto)]
+
+mod add;
+mod adopt;
+mod ask;
+mod begin;
+mod fault;
+mod fetch;
+mod judge;
+mod keep;
+mod load;
+mod log_deed;
+mod open;
+mod single;
+
+pub use fault::SingleFault;
+pub use load::Loaded;
+pub use single::Single;
