@@ -72,7 +72,13 @@ fn bad_input_has_its_status(rt: HostRuntime) -> Result<(), Fail> {
             Status::Done,
             2,
         ),
-        ("open a\n\nstat\n", "1 ok\n", bad(3), 2),
+        ("open a\n\nstats\n", "1 ok\n", bad(3), 2),
+        (
+            "open a\nstat\n",
+            "1 ok\n2 stat blocks 0 roots 0 sessions 1 epochs 1 swept 1\n",
+            Status::Done,
+            2,
+        ),
     ] {
         let seen = run(rt.alloc(), &ShaNames, &plain(script.as_bytes()))?;
         assert_eq!(rt; seen.text.as_slice(), text.as_bytes(), "{script}");

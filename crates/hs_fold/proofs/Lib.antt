@@ -1,5 +1,14 @@
+pub mod FitLemmas
+pub mod HistoryLemmas
 pub mod KeepingLemmas
+pub mod LineLemmas
+pub mod NumberedLemmas
+pub mod OneListLemmas
 pub mod OrderLemmas
-pub mod ServedLemmas
-pub mod StoreLemmas
 pub mod PrefixLemmas
+pub mod ServedLemmas
+pub mod SessionLemmas
+pub mod SoundLemmas
+pub mod StepLemmas
+pub mod StoreLemmas
+pub mod ViewLemmas

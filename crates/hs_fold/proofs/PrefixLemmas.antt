@@ -32,7 +32,7 @@ folded rank (e ∷ es) g =
     let rest : GoOn next.number es = subst (λ n. GoOn n es) (sym number) g.2 in
     folded next es rest ∙ rw number (omega arith)
 
-last-length : (es : List (ℕ × Entry)) → IsNumbered es → last_of es ≡ length es
+pub last-length : (es : List (ℕ × Entry)) → IsNumbered es → last_of es ≡ length es
 unfolding rank_of
 last-length es g = folded (record { view = 0; number = 0 }) es g ∙ omega arith
 
@@ -64,7 +64,7 @@ none-up_to n k (e ∷ es) g h =
     let above : nat_le e.0 k ≡ false = rw g.0 (grind (arith, nat_tests, h)) in
     rw above (none-up_to (n + 1) k es g.2 (omega (arith, h)))
 
-front-up_to : (n k : ℕ) (front rest : List (ℕ × Entry)) → GoOn n (front ++ rest) → k ≡ n + length front → filter (λ e. nat_le e.0 k) (front ++ rest) ≡ front
+pub front-up_to : (n k : ℕ) (front rest : List (ℕ × Entry)) → GoOn n (front ++ rest) → k ≡ n + length front → filter (λ e. nat_le e.0 k) (front ++ rest) ≡ front
 front-up_to n k [] rest g h = none-up_to n k rest g (omega (arith, h))
 front-up_to n k (e ∷ front) rest g h =
     let within : nat_le e.0 k ≡ true = rw g.0 (grind (arith, nat_tests, h)) in

@@ -12,6 +12,7 @@ use Rattle.hs_entry.specs.declared.entry.Entry.{Entry}
 use Rattle.hs_entry.specs.declared.entry.Entry.TheVariants as kind
 use Rattle.hs_fold.specs.Catalogue.{Present, Catalogue, Shard, empty_catalogue, present_at, apply}
 use Rattle.hs_fold.specs.Opened.{store_of}
+use Rattle.hs_fold.specs.Prefix.{last_of}
 
 -- ---- histories
 
@@ -75,10 +76,15 @@ FitAll name cs (deed ∷ deeds) =
 abbrev pub Ascends : Deed → Deed → Type 0
 Ascends first second = first.shard ≡ second.shard → first.number < second.number
 
--- some history of entries that fit gives these catalogues
-pub record AreLawful (name : List ℕ → Address) (cs : List Catalogue) : Type 0 where
+-- the list of a shard
+abbrev pub list_at : List (List (ℕ × Entry)) → ℕ → List (ℕ × Entry)
+list_at lists shard = slice_index_or lists shard []
+
+-- some history of entries that fit gives these catalogues; of a shard it has no number that its list doesn't go up to
+pub record AreLawful (name : List ℕ → Address) (lists : List (List (ℕ × Entry))) (cs : List Catalogue) : Type 0 where
   pub history : List Deed
   pub ascends : AllPairs Ascends history
+  pub within : All (λ deed. deed.number ≤ last_of (list_at lists deed.shard)) history
   pub fits : FitAll name (replicate (length cs) empty_catalogue) history
   pub gives : follow_all name (replicate (length cs) empty_catalogue) history ≡ cs
 
@@ -93,5 +99,5 @@ HasRisingViews entries = (before between after : List (ℕ × Entry)) (m n v w :
 pub record AreSound (name : List ℕ → Address) (lists : List (List (ℕ × Entry))) (cs : List Catalogue) : Type 0 where
   pub valid : IsValid (store_of cs)
   pub room : All (λ c. length c.blocks ≤ greatest_limits.blocks) cs
-  pub lawful : AreLawful name cs
+  pub lawful : AreLawful name lists cs
   pub views : All HasRisingViews lists

@@ -2,6 +2,7 @@ pub mod Catalogue
 pub mod Opened
 pub mod Pending
 pub mod Good
+pub mod Images
 pub mod Keeping
 pub mod Lawful
 pub mod Order

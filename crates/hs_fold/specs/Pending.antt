@@ -68,6 +68,31 @@ abbrev pub change_by : Store → Option Change → Store
 change_by s None = s
 change_by s (Some one) = change s one
 
+-- ---- which lines asked for them
+
+-- an Enter of line 0 is one that no line asked for
+abbrev pub entered_by : ℕ → Option ℕ
+entered_by op = if op == 0 then None else Some op
+
+-- the line that asked for an entry, where one did
+abbrev pub asked_by : Entry → Option ℕ
+asked_by (kind.Block op least bytes) = Some op
+asked_by (kind.Mark op least block address) = Some op
+asked_by (kind.Root op held address key) = Some op
+asked_by (kind.Drop op key) = Some op
+asked_by (kind.Enter op epoch) = entered_by op
+asked_by other = None
+
+-- some more lines
+abbrev pub with_line : Option ℕ → Option Change → List ℕ → List ℕ
+with_line (Some line) (Some one) lines = line ∷ lines
+with_line asked changed lines = lines
+
+-- the lines of the entries that change something, one after another, where the catalogue is this at first
+abbrev pub changing_lines : Shard → Catalogue → List (ℕ × Entry) → List ℕ
+changing_lines at c [] = []
+changing_lines at c (e ∷ es) = with_line (asked_by e.1) (change_of at c e.1) (changing_lines at (apply at c e) es)
+
 -- ---- which entries these are
 
 -- the entries of a list behind this number

@@ -3,12 +3,22 @@
 
 mod change;
 mod keeping;
+mod lines;
+mod numbered;
+mod one_list;
 mod order;
 mod prefix;
 mod served;
+mod sessions;
+mod sound;
 
 pub use change::{entries_change_the_store, lists_change_the_store};
 pub use keeping::blocks_were_stored;
+pub use lines::logged_entries_name_their_line;
+pub use numbered::numbered_lists_part;
+pub use one_list::one_list_opens;
 pub use order::catalogues_stay_in_order;
 pub use prefix::a_front_is_a_prefix;
 pub use served::served_operations_are_logged;
+pub use sessions::changes_leave_sessions;
+pub use sound::sound_lists_stay_sound;

@@ -2,7 +2,7 @@
 use Rattle.hs_model.specs.declared.op.Op.{Op}
 use Rattle.hs_model.specs.declared.op.Op.TheVariants as op
 
--- open, write and read; the store in memory answers the others too, and no line asks for them yet
+-- open, write, read and stat; the store in memory answers the others too, and no line asks for them yet
 abbrev pub IsBuilt : Op → Type 0
 IsBuilt (op.Open name) = Unit {0}
 IsBuilt (op.Close name) = ⊥
@@ -14,4 +14,4 @@ IsBuilt (op.Drop key) = ⊥
 IsBuilt (op.Forget name handle) = ⊥
 IsBuilt (op.Name name handle) = ⊥
 IsBuilt op.Delete = ⊥
-IsBuilt op.Stat = ⊥
+IsBuilt op.Stat = Unit {0}

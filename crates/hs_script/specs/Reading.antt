@@ -81,7 +81,7 @@ read_line (Some name) handle = says_by (λ n. command.Client (op.Read name n)) h
 
 -- the command of a line's words
 unfoldable pub command_of : List (List ℕ) → Reading
-command_of (verb ∷ []) = if bytes_eq verb (codes "settle") then says command.Settle else bad
+command_of (verb ∷ []) = if bytes_eq verb (codes "settle") then says command.Settle else if bytes_eq verb (codes "stat") then says (command.Client op.Stat) else bad
 command_of (verb ∷ s ∷ []) = if bytes_eq verb (codes "open") then open_line s else bad
 command_of (verb ∷ s ∷ word ∷ []) =
     if bytes_eq verb (codes "write") then write_line (name_of s) (payload_of word) else if bytes_eq verb (codes "read") then read_line (name_of s) (handle_of word) else bad

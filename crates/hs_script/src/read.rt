@@ -54,6 +54,8 @@ fn read_verb(verb: &[u8]) -> Result<Command, ScriptFault>
 {
     if verb == b"settle".as_slice() {
         Ok(Command::Settle)
+    } else if verb == b"stat".as_slice() {
+        Ok(Command::Client(Op::Stat))
     } else {
         Err(ScriptFault::BadLine)
     }

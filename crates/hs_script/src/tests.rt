@@ -19,6 +19,7 @@ fn shown(alloc: Global, line: &[u8]) -> Result<String, AllocError> {
 fn shown_command(alloc: Global, command: Command) -> Result<String, AllocError> {
     match command {
         Command::Settle => format!(in alloc; "settle"),
+        Command::Client(Op::Stat) => format!(in alloc; "stat"),
         Command::Client(Op::Open { session }) => {
             format!(in alloc; "open {:?}", session.as_slice())
         }
@@ -60,6 +61,7 @@ fn lines_of_the_language_say_commands(rt: HostRuntime) -> Result<(), Fail> {
         (b"read b7 h10".as_slice(), "read [98, 55] 10"),
         (b"read a h4294967295".as_slice(), "read [97] 4294967295"),
         (b"settle".as_slice(), "settle"),
+        (b"stat".as_slice(), "stat"),
         (b"".as_slice(), "blank"),
         (b"# x".as_slice(), "blank"),
         (b"#".as_slice(), "blank"),
@@ -99,7 +101,8 @@ fn other_lines_are_bad(rt: HostRuntime) -> Result<(), Fail> {
         b"read a h99999999999999999999999999999999".as_slice(),
         b"settle x".as_slice(),
         b"close a".as_slice(),
-        b"stat".as_slice(),
+        b"stat x".as_slice(),
+        b" stat".as_slice(),
     ] {
         assert_eq!(rt; shown(rt.alloc(), line)?.as_str(), "bad", "{line:?}");
     }

@@ -22,6 +22,7 @@ pub(crate) fn settle<D: Disk>(disk: &mut D, watch: &mut Watch, side: Side) -> Re
         (IsImage ((D.stands disk.old).loose side)) }
     ensures not_memory { IfErr result (λ fault. fault ≡ PortFault.Failed) }
     ensures calm { OnOk result (D.faults disk.new ≡ D.faults disk.old) }
+    ensures ticks { watch.old ≤ watch.new }
     ensures cause { HasCause (D.faults disk.old) (D.faults disk.new) result }
 {
     disk.sync(watch, side)
@@ -50,6 +51,7 @@ pub(crate) fn put<D: Disk>(
         (IsImage (written at (length bytes.now) ((D.stands disk.old).loose side))) }
     ensures not_memory { IfErr result (λ fault. fault ≡ PortFault.Failed) }
     ensures calm { OnOk result (D.faults disk.new ≡ D.faults disk.old) }
+    ensures ticks { watch.old ≤ watch.new }
     ensures cause { HasCause (D.faults disk.old) (D.faults disk.new) result }
 {
     disk.write_at(watch, side, at, bytes)
@@ -78,6 +80,7 @@ pub(crate) fn put_and_settle<D: Disk>(
         (IsImage (written at (length bytes.now) ((D.stands disk.old).loose side))) }
     ensures not_memory { IfErr result (λ fault. fault ≡ PortFault.Failed) }
     ensures calm { OnOk result (D.faults disk.new ≡ D.faults disk.old) }
+    ensures ticks { watch.old ≤ watch.new }
     ensures cause { HasCause (D.faults disk.old) (D.faults disk.new) result }
 {
     put(disk, watch, side, at, bytes)?;
@@ -105,6 +108,7 @@ pub(crate) fn cut_and_settle<D: Disk>(
         (IsImage (shortened len ((D.stands disk.old).loose side))) }
     ensures not_memory { IfErr result (λ fault. fault ≡ PortFault.Failed) }
     ensures calm { OnOk result (D.faults disk.new ≡ D.faults disk.old) }
+    ensures ticks { watch.old ≤ watch.new }
     ensures cause { HasCause (D.faults disk.old) (D.faults disk.new) result }
 {
     disk.cut(watch, side, len)?;

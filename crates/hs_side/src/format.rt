@@ -52,6 +52,7 @@ impl SideLog {
         ensures any_moment { D.tells → (D.stands disk.old).last ≤ watch.old →
             EachMoment watch.old watch.new side (D.stands disk.old) (D.stands disk.new)
             (GivesEmpty header generation) }
+        ensures ticks { watch.old ≤ watch.new }
         ensures cause { IsCaused (D.faults disk.old) (D.faults disk.new) result }
     {
         shut(alloc, disk, watch, side)?;
@@ -103,6 +104,7 @@ fn trim<D: Disk>(disk: &mut D, watch: &mut Watch, side: Side) -> Result<(), Port
         (GivesEmpty header generation) }
     ensures not_memory { IfErr result (λ fault. fault ≡ PortFault.Failed) }
     ensures calm { OnOk result (D.faults disk.new ≡ D.faults disk.old) }
+    ensures ticks { watch.old ≤ watch.new }
     ensures cause { HasCause (D.faults disk.old) (D.faults disk.new) result }
 {
     cut_and_settle(disk, watch, side, 1)
@@ -161,6 +163,7 @@ fn shut<D: Disk>(
         (GivesEmpty header generation) }
     ensures refused { IfErr result IsOutside }
     ensures calm { OnOk result (D.faults disk.new ≡ D.faults disk.old) }
+    ensures ticks { watch.old ≤ watch.new }
     ensures cause { IsCaused (D.faults disk.old) (D.faults disk.new) result }
 {
     if is_shut(alloc, disk, side)? {
@@ -195,6 +198,7 @@ fn write_head<D: Disk>(
         (GivesEmpty header generation) }
     ensures not_memory { IfErr result (λ fault. fault ≡ PortFault.Failed) }
     ensures calm { OnOk result (D.faults disk.new ≡ D.faults disk.old) }
+    ensures ticks { watch.old ≤ watch.new }
     ensures cause { HasCause (D.faults disk.old) (D.faults disk.new) result }
 {
     put_and_settle(disk, watch, side, 1, &head_of(header, generation))
@@ -226,6 +230,7 @@ fn open_gate<D: Disk>(
         (GivesEmpty header generation) }
     ensures not_memory { IfErr result (λ fault. fault ≡ PortFault.Failed) }
     ensures calm { OnOk result (D.faults disk.new ≡ D.faults disk.old) }
+    ensures ticks { watch.old ≤ watch.new }
     ensures cause { HasCause (D.faults disk.old) (D.faults disk.new) result }
 {
     put_and_settle(disk, watch, side, 0, &[0xa5])

@@ -144,6 +144,7 @@ impl SideLog {
         ensures any_moment { D.tells → (D.stands disk.old).last ≤ watch.old →
             EachMoment watch.old watch.new self.old.side (D.stands disk.old) (D.stands disk.new)
             (GivesSame ((D.stands disk.old).seen self.old.side)) }
+        ensures ticks { watch.old ≤ watch.new }
         ensures cause { IsCaused (D.faults disk.old) (D.faults disk.new) result }
     {
         self.places.reserve(1)?;
@@ -187,6 +188,7 @@ impl SideLog {
             EachMoment watch.old watch.new self.old.side (D.stands disk.old) (D.stands disk.new)
             (GivesEither ((D.stands disk.old).seen self.old.side)
             (opened self.old.end ((D.stands disk.old).seen self.old.side))) }
+        ensures ticks { watch.old ≤ watch.new }
         ensures cause { IsCaused (D.faults disk.old) (D.faults disk.new) result }
     {
         let Some(next) = self.waiting else {

@@ -44,6 +44,7 @@ impl SideLog {
         ensures any_moment { D.tells → (D.stands disk.old).last ≤ watch.old →
             EachMoment watch.old watch.new side (D.stands disk.old) (D.stands disk.new)
             (IsImage ((D.stands disk.old).loose side)) }
+        ensures ticks { watch.old ≤ watch.new }
         ensures cause { IsCaused (D.faults disk.old) (D.faults disk.new) result }
     {
         settle(disk, watch, side)?;

@@ -4,9 +4,11 @@ pub mod AskLemmas
 pub mod BeginLemmas
 pub mod CauseLemmas
 pub mod EntryLemmas
+pub mod ImageLemmas
 pub mod ListLemmas
 pub mod LoadLemmas
 pub mod MarkLemmas
+pub mod NeedsLemmas
 pub mod NumberedLemmas
 pub mod OpenLemmas
 pub mod OtherLemmas

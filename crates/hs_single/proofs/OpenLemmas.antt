@@ -1,14 +1,15 @@
 -- Opening leaves all as it is.
-use Rattle.std.proofs.Common.{◌≡◌, true, ℕ, ◌<◌, ◌≤◌, ◌⊎◌, inl, inr, List, [], map, Option, Some, None, Result, Ok, Err, IfOk, IfErr, IsSome, refl, ap, ◌∙◌, sym, subst, arith}
+use Rattle.std.proofs.Common.{◌≡◌, true, ℕ, ◌<◌, ◌≤◌, ◌⊎◌, inl, inr, List, [], length, map, Option, Some, None, Result, Ok, Err, IfOk, IfErr, OnOk, IsSome, refl, ap, ◌∙◌, sym, subst, arith}
 use Rattle.hs_limits.specs.declared.address.Address.{Address}
 use Rattle.hs_model.specs.Store.{empty_store}
 use Rattle.hs_ports.specs.declared.disk.Side.{Side}
 use Rattle.hs_ports.specs.declared.disk.Side.TheVariants.{Zero, One}
-use Rattle.hs_ports.specs.Disk.{Standing, Loose, IsImage, Untouched, other_side}
+use Rattle.hs_ports.specs.Disk.{Standing, Loose, IsImage, Untouched, other_side, settled}
+use Rattle.hs_ports.proofs.Images.{settled_only}
 use Rattle.hs_ports.specs.Moments.{EachMoment}
 use Rattle.hs_entry.specs.declared.entry.Entry.{Entry}
 use Rattle.hs_fold.specs.Prefix.{IsNumbered}
-use Rattle.hs_side.specs.Current.{current, generation_in, later_side}
+use Rattle.hs_side.specs.Current.{current, generation_in, later_side, list_in}
 use Rattle.hs_side.specs.Opening.{Shows, head_in, places_in}
 use Rattle.hs_side.specs.Reading.{Log, is_blank, log_of, entry_of, listed}
 use Rattle.hs_side.specs.Standing.{Kept}
@@ -16,13 +17,13 @@ use Rattle.hs_single.specs.declared.fault.SingleFault.{SingleFault}
 use Rattle.hs_single.specs.declared.fault.SingleFault.TheVariants.{NotALog, WrongShape, Disk, NoMemory}
 use Rattle.hs_single.specs.declared.load.Loaded.{Loaded}
 use Rattle.hs_single.specs.Caused.{IsOutside}
+use Rattle.hs_single.specs.Images.{IsAlone, LeavesList}
 use Rattle.hs_single.specs.Lists.{HasList}
-use Rattle.hs_single.specs.Opening.{LeavesAll, IsOpen, IsRefusal}
-use Rattle.hs_single.specs.Serving.{IsServing, Holds, catalogue_in}
+use Rattle.hs_single.specs.Opening.{HasOpened, LeavesAll, IsOpen, IsRefusal}
+use Rattle.hs_single.specs.Serving.{IsNumberedSide, IsServing, Holds, catalogue_in}
+use Rattle.hs_single.proofs.ImageLemmas.{Since, two-sides, current-same, list-same}
+use Rattle.hs_single.proofs.ListLemmas.{list-places}
 use Rattle.hs_single.proofs.NumberedLemmas.{log-blank, log-numbered}
-
-abbrev Since : Standing → Type 0
-Since disk = (side : Side) (m : ℕ) → disk.last < m → disk.past m side ≡ disk.loose side
 
 -- nothing was called
 pub no-call : {now : ℕ} {disk : Standing} → disk.last ≤ now → Since disk → LeavesAll now now disk disk
@@ -39,22 +40,16 @@ pub one-call : {before now : ℕ} {side : Side} {old new : Standing} → old.las
 one-call {before} {now} {side} {old} {new} last since each = record {
   later = each.later;
   last = each.last;
-  earlier = λ s m low fits. elim (of-two side s) [ inl e ↦ subst (λ x. new.past m x ≡ old.past m x) e (each.earlier m low fits) | inr e ↦ subst (λ x. new.past m x ≡ old.past m x) e (each.other.past m) ];
-  each = λ s m high fits c image. elim (of-two side s) [
+  earlier = λ s m low fits. elim (two-sides side s) [ inl e ↦ subst (λ x. new.past m x ≡ old.past m x) e (each.earlier m low fits) | inr e ↦ subst (λ x. new.past m x ≡ old.past m x) e (each.other.past m) ];
+  each = λ s m high fits c image. elim (two-sides side s) [
     | inl e ↦ subst (λ x. IsImage (new.past m x) c → IsImage (old.loose x) c) e (each.each m high fits c) image
     | inr e ↦ subst (λ x. IsImage (new.past m x) c → IsImage (old.loose x) c) e (λ i. subst (λ l. IsImage l c) (each.other.past m ∙ since (other_side side) m (omega arith)) i) image
   ];
-  standing = λ s c image. elim (of-two side s) [
+  standing = λ s c image. elim (two-sides side s) [
     | inl e ↦ subst (λ x. IsImage (new.loose x) c → IsImage (old.loose x) c) e (each.standing c) image
     | inr e ↦ subst (λ x. IsImage (new.loose x) c → IsImage (old.loose x) c) e (λ i. subst (λ l. IsImage l c) each.other.loose i) image
   ];
 }
-  where
-    of-two : (a b : Side) → (a ≡ b) ⊎ (other_side a ≡ b)
-    of-two Zero Zero = inl refl
-    of-two Zero One = inr refl
-    of-two One Zero = inr refl
-    of-two One One = inl refl
 
 -- some calls, and then some
 pub then-calls : {first middle last : ℕ} {a b c : Standing} → LeavesAll middle last b c → LeavesAll first middle a b → LeavesAll first last a c
@@ -85,12 +80,39 @@ open-seen side a b c d e one same here other after s =
     ∙ elim (two-sides side s) [ inl is ↦ subst (λ x. d.seen x ≡ c.seen x) is here | inr is ↦ subst (λ x. d.seen x ≡ c.seen x) is other.seen ]
     ∙ ap (λ (x : Standing). x.seen s) same
     ∙ one s
-  where
-    two-sides : (a b : Side) → (a ≡ b) ⊎ (other_side a ≡ b)
-    two-sides Zero Zero = inl refl
-    two-sides Zero One = inr refl
-    two-sides One Zero = inr refl
-    two-sides One One = inl refl
+
+-- both sides were put on the medium, one after the other
+pub both-settled : (a b c : Standing) → b.loose Zero ≡ settled (a.seen Zero) → Untouched One a b → c.loose One ≡ settled (b.seen One) → Untouched Zero b c → (s : Side) → c.loose s ≡ settled (a.seen s)
+both-settled a b c zero first one second Zero = second.loose ∙ zero
+both-settled a b c zero first one second One = one ∙ ap (λ bytes. settled bytes) first.seen
+
+-- and they still are behind the calls on the current side
+pub open-settled : (side : Side) (a b c d e : Standing) → ((s : Side) → b.loose s ≡ settled (a.seen s)) → ((s : Side) → b.seen s ≡ a.seen s) → c ≡ b → d.loose side ≡ settled (c.seen side) → Untouched (other_side side) c d → e ≡ d → (s : Side) → e.loose s ≡ settled (a.seen s)
+open-settled side a b c d e rests one same here other after s =
+    ap (λ (x : Standing). x.loose s) after
+    ∙ elim (two-sides side s) [
+      | inl is ↦ subst (λ x. d.loose x ≡ settled (a.seen x)) is (here ∙ ap (λ bytes. settled bytes) (ap (λ (x : Standing). x.seen side) same ∙ one side))
+      | inr is ↦ subst (λ x. d.loose x ≡ settled (a.seen x)) is (other.loose ∙ ap (λ (x : Standing). x.loose (other_side side)) same ∙ rests (other_side side))
+    ]
+
+-- so the disk is at rest, with the side that was read the current one
+pub open-alone : (side : Side) (a e : Standing) → ((s : Side) → e.loose s ≡ settled (a.seen s)) → ((s : Side) → e.seen s ≡ a.seen s) → side ≡ current a.seen → IsAlone side e
+open-alone side a e rests same is = record {
+  current = current-same a.seen e.seen same ∙ sym is;
+  settled = λ s. rests s ∙ ap (λ bytes. settled bytes) (sym (same s));
+}
+
+-- and a crash leaves its list
+pub open-leaves : (a e : Standing) (entries : List (ℕ × Entry)) → ((s : Side) → e.loose s ≡ settled (a.seen s)) → list_in a.seen ≡ Some entries → LeavesList e entries
+open-leaves a e entries rests listed image left = list-same a.seen image (λ s. settled_only (a.seen s) (image s) (subst (λ l. IsImage l (image s)) (rests s) (left s))) ∙ listed
+
+pub opened-alone : (result : Result Loaded SingleFault) (log : Kept) (e : Standing) → IfOk result (λ l. l.store.log ≡ log) → IsAlone log.side e → IfOk result (λ l. IsAlone l.store.log.side e)
+opened-alone (Ok l) log e kept alone = subst (λ (k : Kept). IsAlone k.side e) (sym kept) alone
+opened-alone (Err fault) log e kept alone = tt
+
+pub leaves-if : (e : Standing) (entries : List (ℕ × Entry)) (result : Result Loaded SingleFault) → LeavesList e entries → OnOk result (LeavesList e entries)
+leaves-if e entries (Ok l) leaves = leaves
+leaves-if e entries (Err fault) leaves = tt
 
 -- a current side that is blank is side zero
 zero-side : (seen : Side → List ℕ) → is_blank (seen (current seen)) ≡ true → current seen ≡ Zero
@@ -146,6 +168,7 @@ module _ (name : List ℕ → Address) (seen : Side → List ℕ) (log : Kept) (
             holds = subst (λ (x : Loaded). Holds name x.store []) (sym is) (record { plain = refl; numbers = refl });
             view = ap (λ (x : Loaded). x.view) is;
             list = record { begun = λ some. cc (subst (λ h. IsSome h) (head_is None e) some); blank = λ none. refl };
+            count = ap (λ (k : Kept). length k.places) kept ∙ ap (λ (ps : List ℕ). length ps) (shows.places ∙ ap (λ x. places_in x) e);
             zero = λ none. ap (λ (k : Kept). k.side) kept ∙ side ∙ zero-side seen (log-blank bytes (read ∙ ap (λ r. Ok r) e));
           }
       go (Some found) e =
@@ -162,6 +185,7 @@ module _ (name : List ℕ → Address) (seen : Side → List ℕ) (log : Kept) (
               begun = λ some. subst (λ (k : Kept). HasList k.places bytes (map entry_of found.frames)) (sym kept) has;
               blank = λ none. cc (sym none ∙ head_is (Some found) e);
             };
+            count = ap (λ (k : Kept). length k.places) kept ∙ list-places log.places bytes (map entry_of found.frames) has;
             zero = λ none. cc (sym none ∙ head_is (Some found) e);
           }
 
@@ -182,3 +206,20 @@ module _ (name : List ℕ → Address) (seen : Side → List ℕ) (log : Kept) (
       go : (c : Option Log) → content ≡ c → IfErr result (λ fault. IsRefusal fault refusal)
       go None e = out result (blank (shows.places ∙ ap (λ x. places_in x) e))
       go (Some l) e = out result (told (map entry_of l.frames) (has-some l e) (numbered l e))
+
+-- ---- what begin asks for, in the words of the disk afterwards
+
+module _ (name : List ℕ → Address) (seen later : Side → List ℕ) (same : (s : Side) → later s ≡ seen s) where
+  there : (l : Loaded) → IsOpen name l seen → seen (current seen) ≡ later l.store.log.side
+  there l o = sym (ap (λ s. later s) o.side ∙ same (current seen))
+
+  pub open-listed : (entries : List (ℕ × Entry)) → list_in seen ≡ Some entries → (result : Result Loaded SingleFault) → IfOk result (λ l. IsOpen name l seen) → IfOk result (λ l. HasOpened l.store.log (later l.store.log.side) entries)
+  open-listed entries listed (Ok l) o = subst (λ es. HasOpened l.store.log (later l.store.log.side) es) (some_is (sym o.listed ∙ listed)) (subst (λ b. HasOpened l.store.log b o.entries) (there l o) o.list)
+    where
+      some_is : {x y : List (ℕ × Entry)} → Some x ≡ Some y → x ≡ y
+      some_is e = cc e
+  open-listed entries listed (Err fault) o = tt
+
+  pub open-numbered : (result : Result Loaded SingleFault) → IfOk result (λ l. IsOpen name l seen) → IfOk result (λ l. IsSome l.store.log.head → IsNumberedSide l.store.log.places (later l.store.log.side))
+  open-numbered (Ok l) o = λ some. subst (λ b. IsNumberedSide l.store.log.places b) (there l o) (record { entries = o.entries; list = o.list.begun some; numbered = o.numbered })
+  open-numbered (Err fault) o = tt

@@ -1,11 +1,11 @@
 -- The lists that a side gives.
-use Rattle.std.specs.Prelude.{◌≡◌, ◌⊎◌, ℕ, List, map, Some, Ok, Contains}
+use Rattle.std.specs.Prelude.{◌≡◌, ℕ, List, map, Some, Ok, Contains}
 use Rattle.hs_limits.specs.Block.{Block}
 use Rattle.hs_limits.specs.Reading.{read_block}
 use Rattle.hs_entry.specs.declared.entry.Entry.{Entry}
 use Rattle.hs_entry.specs.declared.entry.Entry.TheVariants as kind
 use Rattle.hs_fold.specs.Prefix.{IsNumbered}
-use Rattle.hs_side.specs.Reading.{Log, log_of, entry_of, list_of}
+use Rattle.hs_side.specs.Reading.{Log, log_of, entry_of}
 
 -- the side is not blank, and its log has this list of entries, in frames at these places
 pub record HasList (places : List ℕ) (seen : List ℕ) (entries : List (ℕ × Entry)) : Type 0 where
@@ -28,7 +28,3 @@ pub record HasStored (places : List ℕ) (seen : List ℕ) (number : ℕ) (block
   pub bytes : List ℕ
   pub entry : HasEntry places seen number (kind.Block op least bytes)
   pub spelled : read_block bytes ≡ Ok block
-
--- a content gives one of two lists
-pub record GivesLists (before after : List (ℕ × Entry)) (content : List ℕ) : Type 0 where
-  pub one : (list_of content ≡ Some before) ⊎ (list_of content ≡ Some after)

@@ -1,5 +1,5 @@
 -- What opening the store of a disk answers.
-use Rattle.std.specs.Prelude.{◌≡◌, ℕ, ◌-◌, ◌^◌, ◌<◌, ◌≤◌, ⊤, Bool, ◌==◌, ◌&&◌, if◌then◌else◌, List, [], Option, None, Some, IsSome, Result, Ok, Err}
+use Rattle.std.specs.Prelude.{◌≡◌, ℕ, ◌-◌, ◌^◌, ◌<◌, ◌≤◌, ⊤, Bool, ◌==◌, ◌&&◌, if◌then◌else◌, List, [], length, Option, None, Some, IsSome, Result, Ok, Err}
 use Rattle.hs_limits.specs.declared.address.Address.{Address}
 use Rattle.hs_ports.specs.declared.disk.Side.{Side}
 use Rattle.hs_ports.specs.declared.disk.Side.TheVariants.{Zero}
@@ -57,6 +57,7 @@ pub record IsOpen (name : List ℕ → Address) (opened : Loaded) (seen : Side �
   pub holds : Holds name opened.store entries
   pub view : opened.view ≡ (catalogue_in name entries).view
   pub list : HasOpened opened.store.log (seen (current seen)) entries
+  pub count : length opened.store.log.places ≡ length entries
   pub zero : opened.store.log.head ≡ None → opened.store.log.side ≡ Zero
 
 -- calls that leave all as it is: a crash at a moment after before, or from now on, leaves on each side only what it could leave before

@@ -77,3 +77,9 @@ pub record IsAnswered (name : List ℕ → Address) (limits : Limits) (line : �
 abbrev pub IsSpelled : Op → List ℕ → Type 0
 IsSpelled (op.Write name payload handles address) spelling = length payload ≤ 65536 → spelling ≡ spell (record { pointers = []; bytes = payload })
 IsSpelled other spelling = Unit {0}
+
+-- the operations that look at the disk or write to it
+abbrev pub NeedsDisk : Op → Type 0
+NeedsDisk (op.Write name payload handles address) = Unit {0}
+NeedsDisk (op.Read name handle) = Unit {0}
+NeedsDisk other = ⊥

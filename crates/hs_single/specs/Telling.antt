@@ -31,3 +31,9 @@ numbers_after numbers number other = numbers
 abbrev pub SpellsIt : List ℕ → Deed → Type 0
 SpellsIt spelling (deed.Wrote session a pointers handle) = IsSpelling spelling
 SpellsIt spelling other = Unit {0}
+
+-- the deeds that are logged
+abbrev pub IsLogged : Deed → Type 0
+IsLogged (deed.Wrote session a pointers handle) = Unit {0}
+IsLogged (deed.Marked session a handle) = Unit {0}
+IsLogged other = ⊥

@@ -1,10 +1,10 @@
 //! The next entry of the list.
 ghost use Rattle.std.specs.Prelude.{◌≡◌, ◌≤◌, ◌+◌, ◌∷◌, ◌++◌, [], length, ℕ, List, OnOk, IfOk, IfErr};
-ghost use Rattle.hs_ports.specs.Moments.{EachMoment};
 ghost use Rattle.hs_entry.specs.declared.entry.Entry.{Entry};
 ghost use Rattle.hs_entry.specs.Reading.{IsReadable};
 ghost use Rattle.hs_single.specs.Caused.{IsCaused, IsOutside};
-ghost use Rattle.hs_single.specs.Lists.{HasList, GivesLists};
+ghost use Rattle.hs_single.specs.Images.{IsAlone, LeavesLists};
+ghost use Rattle.hs_single.specs.Lists.{HasList};
 ghost use Rattle.hs_single.specs.Serving.{IsReady};
 
 use crate::{Single, SingleFault};
@@ -37,11 +37,15 @@ impl Single {
         ensures numbers { self.new.numbers ≡ self.old.numbers }
         ensures refused { IfErr result IsOutside }
 
+        ensures alone { D.tells → (D.stands disk.old).last ≤ watch.old
+            → IsAlone self.old.log.side (D.stands disk.old)
+            → OnOk result (IsAlone self.new.log.side (D.stands disk.new)) }
         ensures any_moment { D.tells → (D.stands disk.old).last ≤ watch.old
-            → (entries : List (ℕ × Entry))
-            → HasList self.old.log.places ((D.stands disk.old).seen self.old.log.side) entries →
-            EachMoment watch.old watch.new self.old.log.side (D.stands disk.old) (D.stands disk.new)
-            (GivesLists entries (entries ++ (length entries + 1, entry.now) ∷ [])) }
+            → IsAlone self.old.log.side (D.stands disk.old) → (entries : List (ℕ × Entry))
+            → HasList self.old.log.places ((D.stands disk.old).seen self.old.log.side) entries
+            → LeavesLists watch.old watch.new (D.stands disk.old) (D.stands disk.new)
+            entries (entries ++ (length entries + 1, entry.now) ∷ []) }
+        ensures ticks { watch.old ≤ watch.new }
         ensures cause { IsCaused (D.faults disk.old) (D.faults disk.new) result }
     {
         let number = self.next();

@@ -1,13 +1,11 @@
 //! Answering an operation.
-ghost use Rattle.std.specs.Prelude.{◌≡◌, ◌≤◌, ◌+◌, ◌∷◌, ◌++◌, [], length, ℕ, List, OnOk, IfOk, IfErr};
+ghost use Rattle.std.specs.Prelude.{◌≡◌, ◌⊎◌, ◌≤◌, ℕ, List, OnOk, IfOk, IfErr};
 ghost use Rattle.hs_limits.specs.declared.address.Address.{Address};
-ghost use Rattle.hs_ports.specs.Moments.{EachMoment};
-ghost use Rattle.hs_model.specs.declared.deed.Deed.{Deed};
 ghost use Rattle.hs_entry.specs.declared.entry.Entry.{Entry};
 ghost use Rattle.hs_fold.specs.Served.{IsNamed, IsServed};
 ghost use Rattle.hs_single.specs.Caused.{IsCaused, IsOutside};
-ghost use Rattle.hs_single.specs.Lists.{HasList, GivesLists};
-ghost use Rattle.hs_single.specs.Serving.{IsAnswered, IsReady, IsServing, IsSpelled, list_after};
+ghost use Rattle.hs_single.specs.Images.{IsAlone, LeavesList, LeavesLists};
+ghost use Rattle.hs_single.specs.Serving.{IsAnswered, IsReady, IsServing, IsSpelled, NeedsDisk, list_after};
 
 use crate::{Single, SingleFault};
 use hs_limits::Limits;
@@ -40,16 +38,33 @@ impl Single {
             → IsServing name self.old ((D.stands disk.old).seen self.old.log.side) entries
             → IfErr result IsOutside }
 
+        // Where only memory can run out.
+        ensures in_memory { IfErr result (λ fault.
+            (fault ≡ SingleFault.NoMemory) ⊎ NeedsDisk op) }
+
         ensures ready { OnOk result (IsReady D.tells self.new
             (D.size disk.new self.new.log.side) (D.stands disk.new)) }
         ensures side { OnOk result (self.new.log.side ≡ self.old.log.side) }
+        ensures alone { D.tells → (D.stands disk.old).last ≤ watch.old
+            → IsAlone self.old.log.side (D.stands disk.old)
+            → OnOk result (IsAlone self.new.log.side (D.stands disk.new)) }
 
-        ensures any_moment { D.tells → (D.stands disk.old).last ≤ watch.old
+        // What a crash leaves, after Ok and at each moment.
+        ensures durable { D.tells → (D.stands disk.old).last ≤ watch.old
+            → IsAlone self.old.log.side (D.stands disk.old)
             → (name : List ℕ → Address) (entries : List (ℕ × Entry))
             → IsServing name self.old ((D.stands disk.old).seen self.old.log.side) entries
-            → IsNamed name op → limits.blocks ≤ 16384 →
-            EachMoment watch.old watch.new self.old.log.side (D.stands disk.old) (D.stands disk.new)
-            (GivesLists entries (list_after name limits line op self.old entries)) }
+            → IsNamed name op → limits.blocks ≤ 16384
+            → OnOk result (LeavesList (D.stands disk.new)
+            (list_after name limits line op self.old entries)) }
+        ensures any_moment { D.tells → (D.stands disk.old).last ≤ watch.old
+            → IsAlone self.old.log.side (D.stands disk.old)
+            → (name : List ℕ → Address) (entries : List (ℕ × Entry))
+            → IsServing name self.old ((D.stands disk.old).seen self.old.log.side) entries
+            → IsNamed name op → limits.blocks ≤ 16384
+            → LeavesLists watch.old watch.new (D.stands disk.old) (D.stands disk.new)
+            entries (list_after name limits line op self.old entries) }
+        ensures ticks { watch.old ≤ watch.new }
         ensures cause { IsCaused (D.faults disk.old) (D.faults disk.new) result }
     {
         let answer = match self.judge(limits, op, disk) {

@@ -1,14 +1,13 @@
 //! Beginning to serve: a new view.
 ghost use Rattle.std.specs.Prelude.{◌≡◌, ◌≤◌, ◌+◌, ◌∷◌, ◌++◌, [], length, ℕ, List, None, Some, IsSome, OnOk, IfErr};
 ghost use Rattle.hs_limits.specs.declared.address.Address.{Address};
-ghost use Rattle.hs_ports.specs.Moments.{EachMoment};
 ghost use Rattle.hs_entry.specs.declared.entry.Entry.{Entry};
 ghost use Rattle.hs_entry.specs.declared.entry.Entry.TheVariants as kind;
 ghost use Rattle.hs_fold.specs.Prefix.{IsNumbered};
-ghost use Rattle.hs_side.specs.Reading.{list_of};
 ghost use Rattle.hs_side.specs.Standing.{Stands};
 ghost use Rattle.hs_single.specs.Caused.{IsCaused, IsOutside};
-ghost use Rattle.hs_single.specs.Lists.{HasList, GivesLists};
+ghost use Rattle.hs_single.specs.Images.{IsAlone, LeavesList, LeavesLists};
+ghost use Rattle.hs_single.specs.Lists.{HasList};
 ghost use Rattle.hs_single.specs.Opening.{HasOpened};
 ghost use Rattle.hs_single.specs.Serving.{Holds, IsNumberedSide, IsReady, IsServing};
 
@@ -36,7 +35,7 @@ impl Single {
         ensures ready { OnOk result (IsReady D.tells self.new
             (D.size disk.new self.new.log.side) (D.stands disk.new)) }
         ensures side { OnOk result (self.new.log.side ≡ self.old.log.side) }
-        ensures durable { D.tells → (entries : List (ℕ × Entry))
+        ensures listed { D.tells → (entries : List (ℕ × Entry))
             → HasOpened self.old.log ((D.stands disk.old).seen self.old.log.side) entries
             → OnOk result (HasList self.new.log.places
             ((D.stands disk.new).seen self.old.log.side)
@@ -51,11 +50,22 @@ impl Single {
 
         ensures refused { IfErr result IsOutside }
 
+        ensures alone { D.tells → (D.stands disk.old).last ≤ watch.old
+            → IsAlone self.old.log.side (D.stands disk.old)
+            → OnOk result (IsAlone self.new.log.side (D.stands disk.new)) }
+
+        // What a crash leaves, after Ok and at each moment.
+        ensures durable { D.tells → (D.stands disk.old).last ≤ watch.old
+            → IsAlone self.old.log.side (D.stands disk.old) → (entries : List (ℕ × Entry))
+            → HasOpened self.old.log ((D.stands disk.old).seen self.old.log.side) entries
+            → OnOk result (LeavesList (D.stands disk.new)
+            (entries ++ (length entries + 1, kind.View (view + 1)) ∷ [])) }
         ensures any_moment { D.tells → (D.stands disk.old).last ≤ watch.old
-            → (entries : List (ℕ × Entry))
-            → HasOpened self.old.log ((D.stands disk.old).seen self.old.log.side) entries →
-            EachMoment watch.old watch.new self.old.log.side (D.stands disk.old) (D.stands disk.new)
-            (GivesLists entries (entries ++ (length entries + 1, kind.View (view + 1)) ∷ [])) }
+            → IsAlone self.old.log.side (D.stands disk.old) → (entries : List (ℕ × Entry))
+            → HasOpened self.old.log ((D.stands disk.old).seen self.old.log.side) entries
+            → LeavesLists watch.old watch.new (D.stands disk.old) (D.stands disk.new)
+            entries (entries ++ (length entries + 1, kind.View (view + 1)) ∷ []) }
+        ensures ticks { watch.old ≤ watch.new }
         ensures cause { IsCaused (D.faults disk.old) (D.faults disk.new) result }
     {
         let Some(next) = view.checked_add(1) else {
@@ -91,11 +101,15 @@ impl Single {
 
         ensures refused { IfErr result IsOutside }
 
+        ensures alone { D.tells → (D.stands disk.old).last ≤ watch.old
+            → IsAlone self.old.log.side (D.stands disk.old)
+            → OnOk result (IsAlone self.new.log.side (D.stands disk.new)) }
         ensures any_moment { D.tells → (D.stands disk.old).last ≤ watch.old
-            → (entries : List (ℕ × Entry))
-            → HasOpened self.old.log ((D.stands disk.old).seen self.old.log.side) entries →
-            EachMoment watch.old watch.new self.old.log.side (D.stands disk.old) (D.stands disk.new)
-            (λ content. list_of content ≡ Some entries) }
+            → IsAlone self.old.log.side (D.stands disk.old) → (entries : List (ℕ × Entry))
+            → HasOpened self.old.log ((D.stands disk.old).seen self.old.log.side) entries
+            → LeavesLists watch.old watch.new (D.stands disk.old) (D.stands disk.new)
+            entries entries }
+        ensures ticks { watch.old ≤ watch.new }
         ensures cause { IsCaused (D.faults disk.old) (D.faults disk.new) result }
     {
         if self.log.generation().is_some() {

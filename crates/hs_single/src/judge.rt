@@ -1,5 +1,5 @@
 //! What the plain store answers, with the bytes that it looks at read from the disk.
-ghost use Rattle.std.specs.Prelude.{◌≡◌, ℕ, List, Some, OnOk, IfOk, IfErr};
+ghost use Rattle.std.specs.Prelude.{◌≡◌, ◌⊎◌, ℕ, List, Some, OnOk, IfOk, IfErr};
 ghost use Rattle.hs_limits.specs.declared.address.Address.{Address};
 ghost use Rattle.hs_model.specs.Hollow.{filled, looks_at};
 ghost use Rattle.hs_model.specs.Judge.{bytes_of, judge};
@@ -9,8 +9,8 @@ ghost use Rattle.hs_entry.specs.declared.entry.Entry.{Entry};
 ghost use Rattle.hs_side.specs.Standing.{Stands};
 ghost use Rattle.hs_single.specs.Caused.{IsCaused, IsOutside};
 ghost use Rattle.hs_fold.specs.Served.{IsServed};
-ghost use Rattle.hs_single.specs.Serving.{store_at, IsJudged, IsServing, IsSpelled};
-ghost use Rattle.hs_single.specs.Telling.{SpellsIt};
+ghost use Rattle.hs_single.specs.Serving.{store_at, IsJudged, IsServing, IsSpelled, NeedsDisk};
+ghost use Rattle.hs_single.specs.Telling.{IsLogged, SpellsIt};
 
 use crate::{Single, SingleFault};
 use hs_limits::{Address, Limits, ListOf};
@@ -38,6 +38,11 @@ impl Single {
 
         ensures spells { (spelling : List ℕ) → IsServed op → IsSpelled op spelling
             → IfOk result (λ answer. SpellsIt spelling answer.deed) }
+
+        // Where it fails for more than memory it reads the disk, and what is logged was a write.
+        ensures in_memory { IfErr result (λ fault.
+            (fault ≡ SingleFault.NoMemory) ⊎ NeedsDisk op) }
+        ensures logs { IfOk result (λ answer. IsLogged answer.deed → NeedsDisk op) }
 
         ensures log { self.new.log ≡ self.old.log }
         ensures numbers { self.new.numbers ≡ self.old.numbers }

@@ -1,12 +1,12 @@
 //! One entry more on the disk.
 ghost use Rattle.std.specs.Prelude.{◌≡◌, ◌≤◌, ◌∷◌, ◌++◌, [], length, ℕ, List, None, Ok, IsSome, OnOk, IfErr};
-ghost use Rattle.hs_ports.specs.Moments.{EachMoment};
 ghost use Rattle.hs_entry.specs.declared.entry.Entry.{Entry};
 ghost use Rattle.hs_entry.specs.Payload.{payload, HasPayload};
 ghost use Rattle.hs_entry.specs.Reading.{entry_at};
 ghost use Rattle.hs_side.specs.Standing.{Stands, MayCome};
 ghost use Rattle.hs_single.specs.Caused.{IsCaused, IsOutside};
-ghost use Rattle.hs_single.specs.Lists.{HasList, GivesLists};
+ghost use Rattle.hs_single.specs.Images.{IsAlone, LeavesLists};
+ghost use Rattle.hs_single.specs.Lists.{HasList};
 
 use crate::{Single, SingleFault};
 use hs_entry::{Entry, EntryFault, write_entry};
@@ -45,12 +45,16 @@ impl Single {
         ensures numbers { self.new.numbers ≡ self.old.numbers }
         ensures refused { IfErr result IsOutside }
 
+        ensures alone { D.tells → (D.stands disk.old).last ≤ watch.old
+            → IsAlone self.old.log.side (D.stands disk.old) → (entries : List (ℕ × Entry))
+            → HasList self.old.log.places ((D.stands disk.old).seen self.old.log.side) entries
+            → OnOk result (IsAlone self.new.log.side (D.stands disk.new)) }
         ensures any_moment { D.tells → (D.stands disk.old).last ≤ watch.old
-            → (entries : List (ℕ × Entry))
-            → HasList self.old.log.places
-            ((D.stands disk.old).seen self.old.log.side) entries →
-            EachMoment watch.old watch.new self.old.log.side (D.stands disk.old) (D.stands disk.new)
-            (GivesLists entries (entries ++ (number, entry.now) ∷ [])) }
+            → IsAlone self.old.log.side (D.stands disk.old) → (entries : List (ℕ × Entry))
+            → HasList self.old.log.places ((D.stands disk.old).seen self.old.log.side) entries
+            → LeavesLists watch.old watch.new (D.stands disk.old) (D.stands disk.new)
+            entries (entries ++ (number, entry.now) ∷ []) }
+        ensures ticks { watch.old ≤ watch.new }
         ensures cause { IsCaused (D.faults disk.old) (D.faults disk.new) result }
     {
         self.payload.clear();

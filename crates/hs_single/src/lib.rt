@@ -12,8 +12,13 @@ mod keep;
 mod load;
 mod log_deed;
 mod open;
+mod places;
 mod single;
 
 pub use fault::SingleFault;
 pub use load::Loaded;
+pub use places::places_are_numbered;
 pub use single::Single;
+
+#[cfg(test)]
+mod tests;

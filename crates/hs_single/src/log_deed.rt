@@ -4,14 +4,14 @@ ghost use Rattle.std.specs.BTreeMap.{insert_entry, is_at};
 ghost use Rattle.std.specs.Map.{lookup};
 ghost use Rattle.hs_limits.specs.Block.{IsSpelling};
 ghost use Rattle.hs_model.specs.Store.{address_cmp};
-ghost use Rattle.hs_ports.specs.Moments.{EachMoment};
 ghost use Rattle.hs_entry.specs.declared.entry.Entry.{Entry};
 ghost use Rattle.hs_entry.specs.declared.entry.Entry.TheVariants as kind;
 ghost use Rattle.hs_fold.specs.Served.{always, with_logged};
 ghost use Rattle.hs_single.specs.Caused.{IsCaused, IsOutside};
-ghost use Rattle.hs_single.specs.Lists.{HasList, GivesLists};
+ghost use Rattle.hs_single.specs.Images.{IsAlone, LeavesLists};
+ghost use Rattle.hs_single.specs.Lists.{HasList};
 ghost use Rattle.hs_single.specs.Serving.{IsReady};
-ghost use Rattle.hs_single.specs.Telling.{SpellsIt, numbers_after, told_entry};
+ghost use Rattle.hs_single.specs.Telling.{IsLogged, SpellsIt, numbers_after, told_entry};
 
 use crate::{Single, SingleFault};
 use hs_entry::Entry;
@@ -49,12 +49,15 @@ impl Single {
         ensures side { OnOk result (self.new.log.side ≡ self.old.log.side) }
         ensures refused { IfErr result IsOutside }
 
+        ensures alone { D.tells → (D.stands disk.old).last ≤ watch.old
+            → IsAlone self.old.log.side (D.stands disk.old)
+            → OnOk result (IsAlone self.new.log.side (D.stands disk.new)) }
         ensures any_moment { D.tells → (D.stands disk.old).last ≤ watch.old
-            → (entries : List (ℕ × Entry))
-            → HasList self.old.log.places ((D.stands disk.old).seen self.old.log.side) entries →
-            EachMoment watch.old watch.new self.old.log.side (D.stands disk.old) (D.stands disk.new)
-            (GivesLists entries
-            (entries ++ (length entries + 1, kind.Block line always spelling.items) ∷ [])) }
+            → IsAlone self.old.log.side (D.stands disk.old) → (entries : List (ℕ × Entry))
+            → HasList self.old.log.places ((D.stands disk.old).seen self.old.log.side) entries
+            → LeavesLists watch.old watch.new (D.stands disk.old) (D.stands disk.new)
+            entries (entries ++ (length entries + 1, kind.Block line always spelling.items) ∷ []) }
+        ensures ticks { watch.old ≤ watch.new }
         ensures cause { IsCaused (D.faults disk.old) (D.faults disk.new) result }
     {
         let entry = Entry::Block {
@@ -95,12 +98,15 @@ impl Single {
         ensures side { OnOk result (self.new.log.side ≡ self.old.log.side) }
         ensures refused { IfErr result IsOutside }
 
+        ensures alone { D.tells → (D.stands disk.old).last ≤ watch.old
+            → IsAlone self.old.log.side (D.stands disk.old)
+            → OnOk result (IsAlone self.new.log.side (D.stands disk.new)) }
         ensures any_moment { D.tells → (D.stands disk.old).last ≤ watch.old
-            → (entries : List (ℕ × Entry))
-            → HasList self.old.log.places ((D.stands disk.old).seen self.old.log.side) entries →
-            EachMoment watch.old watch.new self.old.log.side (D.stands disk.old) (D.stands disk.new)
-            (GivesLists entries
-            (entries ++ (length entries + 1, kind.Mark line always block address) ∷ [])) }
+            → IsAlone self.old.log.side (D.stands disk.old) → (entries : List (ℕ × Entry))
+            → HasList self.old.log.places ((D.stands disk.old).seen self.old.log.side) entries
+            → LeavesLists watch.old watch.new (D.stands disk.old) (D.stands disk.new)
+            entries (entries ++ (length entries + 1, kind.Mark line always block address) ∷ []) }
+        ensures ticks { watch.old ≤ watch.new }
         ensures cause { IsCaused (D.faults disk.old) (D.faults disk.new) result }
     {
         let entry = Entry::Mark {
@@ -140,13 +146,18 @@ impl Single {
             (D.size disk.new self.new.log.side) (D.stands disk.new)) }
         ensures side { OnOk result (self.new.log.side ≡ self.old.log.side) }
         ensures refused { IfErr result IsOutside }
+        ensures in_memory { IfErr result (λ fault. IsLogged deed.now) }
 
+        ensures alone { D.tells → (D.stands disk.old).last ≤ watch.old
+            → IsAlone self.old.log.side (D.stands disk.old)
+            → OnOk result (IsAlone self.new.log.side (D.stands disk.new)) }
         ensures any_moment { D.tells → (D.stands disk.old).last ≤ watch.old
-            → (entries : List (ℕ × Entry))
-            → HasList self.old.log.places ((D.stands disk.old).seen self.old.log.side) entries →
-            EachMoment watch.old watch.new self.old.log.side (D.stands disk.old) (D.stands disk.new)
-            (GivesLists entries (with_logged entries (length entries + 1)
-            (told_entry self.old.numbers line spelling.items deed.now))) }
+            → IsAlone self.old.log.side (D.stands disk.old) → (entries : List (ℕ × Entry))
+            → HasList self.old.log.places ((D.stands disk.old).seen self.old.log.side) entries
+            → LeavesLists watch.old watch.new (D.stands disk.old) (D.stands disk.new)
+            entries (with_logged entries (length entries + 1)
+            (told_entry self.old.numbers line spelling.items deed.now)) }
+        ensures ticks { watch.old ≤ watch.new }
         ensures cause { IsCaused (D.faults disk.old) (D.faults disk.new) result }
     {
         match deed {

@@ -1,10 +1,14 @@
 //! Opening the store of a disk.
-ghost use Rattle.std.specs.Prelude.{◌≡◌, ◌≤◌, [], None, IfOk, IfErr, OnOk};
+ghost use Rattle.std.specs.Prelude.{◌≡◌, ◌≤◌, [], ℕ, List, None, Some, IsSome, IfOk, IfErr, OnOk};
 ghost use Rattle.hs_ports.specs.declared.disk.Side.{Side};
-ghost use Rattle.hs_side.specs.Current.{current, header_in};
+ghost use Rattle.hs_ports.specs.Disk.{settled};
+ghost use Rattle.hs_entry.specs.declared.entry.Entry.{Entry};
+ghost use Rattle.hs_side.specs.Current.{current, header_in, list_in};
 ghost use Rattle.hs_side.specs.Standing.{Stands};
 ghost use Rattle.hs_single.specs.Caused.{IsCaused, IsOutside};
-ghost use Rattle.hs_single.specs.Opening.{is_own, refused_head, refusal_in, IsOpen, IsRefusal, LeavesAll};
+ghost use Rattle.hs_single.specs.Images.{IsAlone, LeavesList};
+ghost use Rattle.hs_single.specs.Opening.{is_own, refused_head, refusal_in, HasOpened, IsOpen, IsRefusal, LeavesAll};
+ghost use Rattle.hs_single.specs.Serving.{IsNumberedSide};
 
 use crate::{Loaded, Single, SingleFault};
 use hs_block::Addresser;
@@ -23,6 +27,14 @@ impl Single {
     ) -> Result<Loaded, SingleFault>
         ensures value { D.tells → IfOk result (λ opened.
             IsOpen (A.name naming.now) opened (D.stands disk.old).seen) }
+        // What `begin` asks for, in the words of what the disk has now.
+        ensures listed { D.tells → (entries : List (ℕ × Entry))
+            → list_in (D.stands disk.old).seen ≡ Some entries
+            → IfOk result (λ opened. HasOpened opened.store.log
+            ((D.stands disk.new).seen opened.store.log.side) entries) }
+        ensures numbered { D.tells → IfOk result (λ opened. IsSome opened.store.log.head
+            → IsNumberedSide opened.store.log.places
+            ((D.stands disk.new).seen opened.store.log.side)) }
         ensures stands { IfOk result (λ opened. Stands D.tells opened.store.log
             (D.size disk.new opened.store.log.side) (D.stands disk.new)) }
         ensures rests { IfOk result (λ opened. opened.store.log.waiting ≡ None) }
@@ -38,8 +50,15 @@ impl Single {
             → (D.stands disk.new).seen s ≡ (D.stands disk.old).seen s }
         ensures same_size { (s : Side) → D.size disk.new s ≡ D.size disk.old s }
 
+        // All of both sides is on the medium, and the side that was read is the current one.
+        ensures alone { D.tells → IfOk result (λ opened.
+            IsAlone opened.store.log.side (D.stands disk.new)) }
+        ensures durable { D.tells → (entries : List (ℕ × Entry))
+            → list_in (D.stands disk.old).seen ≡ Some entries
+            → OnOk result (LeavesList (D.stands disk.new) entries) }
         ensures any_moment { D.tells → (D.stands disk.old).last ≤ watch.old →
             LeavesAll watch.old watch.new (D.stands disk.old) (D.stands disk.new) }
+        ensures ticks { watch.old ≤ watch.new }
         ensures cause { IsCaused (D.faults disk.old) (D.faults disk.new) result }
     {
         let side = match current_side(alloc, disk, watch) {
@@ -68,8 +87,11 @@ fn current_side<D: Disk>(
         → (D.stands disk.new).seen s ≡ (D.stands disk.old).seen s }
     ensures same_size { (s : Side) → D.size disk.new s ≡ D.size disk.old s }
 
+    ensures durable { D.tells → OnOk result ((s : Side)
+        → (D.stands disk.new).loose s ≡ settled ((D.stands disk.old).seen s)) }
     ensures any_moment { D.tells → (D.stands disk.old).last ≤ watch.old →
         LeavesAll watch.old watch.new (D.stands disk.old) (D.stands disk.new) }
+    ensures ticks { watch.old ≤ watch.new }
     ensures cause { IsCaused (D.faults disk.old) (D.faults disk.new) result }
 {
     let zero = SideLog::glance(alloc, disk, watch, Side::Zero)?;

@@ -32,6 +32,13 @@ impl Model for Single {
 }
 
 impl Single {
+    /// The number of the last entry, and 0 where there is none.
+    pub fn last(&self) -> u64
+        ensures { result ≡ length self.now.log.places }
+    {
+        self.log.places().len() as u64
+    }
+
     /// The number of the next entry.
     pub(crate) fn next(&self) -> u64
         ensures { result ≡ length self.now.log.places + 1 }

@@ -27,6 +27,8 @@ The lines of a script, each ended by a line feed:
   write S HEX   writes a block of these data: hexadecimal digits, two a byte, for
                 at most 65,536 bytes, or - for none
   read S hN     reads the block of the session's handle hN, as h0
+  stat          counts the blocks, the roots and the open sessions, and tells the
+                epochs
   settle        completes what was asked before; so far each line is answered at
                 once, and nothing is left to complete
   # ...         a comment, which is passed over, as an empty line is

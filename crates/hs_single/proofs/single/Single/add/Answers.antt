@@ -2,7 +2,7 @@ use Rattle.std.proofs.Common.{◌≡◌, ◌≤◌, ◌<◌, ◌^◌, ◌+◌, �
 use Rattle.std.proofs.lemmas.List.{length-map}
 use Rattle.hs_entry.specs.declared.entry.Entry.{Entry}
 use Rattle.hs_side.specs.Reading.{Frame, entry_of}
-use Rattle.hs_single.specs.Lists.{HasList, GivesLists}
+use Rattle.hs_single.specs.Lists.{HasList}
 use Rattle.hs_single.specs.Serving.{Serving, IsReady, IsNumberedSide}
 use Rattle.hs_single.proofs.EntryLemmas.{may-come, reads-again, next-numbered}
 use Rattle.hs_single.proofs.ListLemmas.{list-places}
@@ -39,6 +39,11 @@ returns-in-Ok-clause-ready g c =
     }
 
 pub returns-in-Err-clause-any_moment : goal.returns-in-Err-clause-any_moment
-returns-in-Err-clause-any_moment g c = λ told last entries list.
+returns-in-Err-clause-any_moment g c = λ told last alone entries list.
     let number : c.next-number.result ≡ length entries + 1 = c.next-number.ensures ∙ ap (λ n. n + 1) (list-places c.args.self.now.log.places _ entries list) in
-    rw number at (c.keep.ensures.any_moment told last entries list)
+    rw number at (c.keep.ensures.any_moment told last alone entries list)
+
+pub returns-in-Ok-clause-alone : goal.returns-in-Ok-clause-alone
+returns-in-Ok-clause-alone g c = λ told last alone.
+    let side = c.requires.ready.listed told in
+    c.in-Ok.ensures.alone told last alone side.entries side.list

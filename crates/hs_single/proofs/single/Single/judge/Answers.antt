@@ -1,7 +1,8 @@
 use Rattle.std.proofs.Common.{◌≡◌, ◌∙◌, ap, sym, subst, None}
 use Rattle.hs_model.specs.Hollow.{looks_at}
 use Rattle.hs_single.specs.Serving.{Serving, store_at}
-use Rattle.hs_single.specs.Telling.{SpellsIt}
+use Rattle.hs_single.specs.Telling.{IsLogged, SpellsIt}
+use Rattle.hs_single.proofs.NeedsLemmas.{logs-needs, looks-needs}
 use Rattle.hs_single.proofs.SpellingLemmas.{judge-spells}
 use Rattle.hs_single.proofs.ServingLemmas.{judged-without}
 use Rattle.hs_single.proofs.single.Single.judge.Goals as goal
@@ -17,3 +18,7 @@ returns-in_ok-judge-in-None-clause-answered g c = λ told name entries serves.
 pub returns-in_ok-judge-in-None-clause-spells : goal.returns-in_ok-judge-in-None-clause-spells
 returns-in_ok-judge-in-None-clause-spells g c = λ spelling served spelled.
     subst (λ d. SpellsIt spelling d) (sym c.in_ok-judge-in-None.ensures.deed) (judge-spells c.args.limits c.self.inside.plain spelling c.args.op served spelled)
+
+pub returns-in_ok-judge-in-None-clause-logs : goal.returns-in_ok-judge-in-None-clause-logs
+returns-in_ok-judge-in-None-clause-logs g c = λ logged.
+    logs-needs c.args.limits c.self.inside.plain c.args.op (subst (λ d. IsLogged d) c.in_ok-judge-in-None.ensures.deed logged)

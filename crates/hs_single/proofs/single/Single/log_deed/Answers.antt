@@ -4,16 +4,16 @@ use Rattle.std.specs.BTreeMap.{is_at}
 use Rattle.std.specs.Map.{lookup}
 use Rattle.hs_model.specs.declared.deed.Deed.TheVariants as deed
 use Rattle.hs_model.specs.Store.{address_cmp}
-use Rattle.hs_ports.proofs.MomentLemmas.{begun}
 use Rattle.hs_fold.specs.Served.{with_logged}
 use Rattle.hs_single.specs.Serving.{Serving}
 use Rattle.hs_single.specs.Telling.{told_entry}
-use Rattle.hs_single.proofs.ListLemmas.{at-rest, list-stays}
+use Rattle.hs_single.proofs.ImageLemmas.{no-lists}
+use Rattle.hs_single.proofs.ListLemmas.{has-list}
 use Rattle.hs_single.proofs.TellingLemmas.{IsOther, other-entry, other-numbers}
 use Rattle.hs_single.proofs.single.Single.log_deed.Goals as goal
 
 pub returns-in-Wrote-clause-any_moment : goal.returns-in-Wrote-clause-any_moment
-returns-in-Wrote-clause-any_moment g c = λ told last entries list. rw c.in-Wrote.is (c.log_block.ensures.any_moment told last entries list)
+returns-in-Wrote-clause-any_moment g c = λ told last alone entries list. rw c.in-Wrote.is (c.log_block.ensures.any_moment told last alone entries list)
 
 pub returns-in-Some-clause-durable : goal.returns-in-Some-clause-durable
 returns-in-Some-clause-durable g c = λ told entries list.
@@ -23,11 +23,11 @@ returns-in-Some-clause-durable g c = λ told entries list.
     rw (c.in-Marked.is, kept) (c.log_mark.ensures.durable told entries list)
 
 pub returns-in-Some-clause-any_moment : goal.returns-in-Some-clause-any_moment
-returns-in-Some-clause-any_moment g c = λ told last entries list.
+returns-in-Some-clause-any_moment g c = λ told last alone entries list.
     let inside : lookup (is_at (address_cmp c.in-Marked.address)) c.self.inside.numbers.entries ≡ Some c.in-Some.block = grind (arith, common_steps) in
     let kept : lookup (is_at (address_cmp c.in-Marked.address)) c.args.self.now.numbers ≡ Some c.in-Some.block =
     ap (λ (s : Serving). lookup (is_at (address_cmp c.in-Marked.address)) s.numbers) (sym c.self.view_is) ∙ inside in
-    rw (c.in-Marked.is, kept) (c.log_mark.ensures.any_moment told last entries list)
+    rw (c.in-Marked.is, kept) (c.log_mark.ensures.any_moment told last alone entries list)
 
 pub returns-in-Marked-clause-durable : goal.returns-in-Marked-clause-durable
 returns-in-Marked-clause-durable g c = λ told entries list.
@@ -37,10 +37,8 @@ returns-in-Marked-clause-durable g c = λ told entries list.
     rw (c.in-Marked.is, none) list
 
 pub returns-in-Marked-clause-any_moment : goal.returns-in-Marked-clause-any_moment
-returns-in-Marked-clause-any_moment g c = λ told last entries list.
-    begun last (g.met.D.Disk.since told c.args.disk.now c.args.self.now.log.side)
-    (λ content image. list-stays c.args.self.now.log.places _ content entries _ list
-    (at-rest g.D.Disk.tells c.args.self.now.log (g.D.Disk.size c.args.disk.now c.args.self.now.log.side) (g.D.Disk.stands c.args.disk.now) c.requires.ready.stands told c.requires.ready.begun c.requires.ready.sealed content image))
+returns-in-Marked-clause-any_moment g c = λ told last alone entries list.
+    no-lists c.args.self.now.log.side entries _ last (g.met.D.Disk.since told c.args.disk.now) alone (has-list c.args.self.now.log.places _ entries list)
 
 pub returns : goal.returns
 returns g c =
@@ -52,9 +50,10 @@ returns g c =
       ready = c.requires.ready;
       side = refl;
       refused = tt;
-      any_moment = λ told last entries list.
-          begun last (g.met.D.Disk.since told c.args.disk.now c.args.self.now.log.side)
-          (λ content image. list-stays c.args.self.now.log.places _ content entries _ list
-          (at-rest g.D.Disk.tells c.args.self.now.log (g.D.Disk.size c.args.disk.now c.args.self.now.log.side) (g.D.Disk.stands c.args.disk.now) c.requires.ready.stands told c.requires.ready.begun c.requires.ready.sealed content image));
+      in_memory = tt;
+      alone = λ told last alone. alone;
+      any_moment = λ told last alone entries list.
+          no-lists c.args.self.now.log.side entries _ last (g.met.D.Disk.since told c.args.disk.now) alone (has-list c.args.self.now.log.places _ entries list);
+      ticks = omega arith;
       cause = record { later = omega arith; disk = λ e. cc e };
     }
