@@ -1,7 +1,15 @@
-//! Worked examples, run on the top call over sources and sinks in memory.
+//! Worked examples, run on the top call over sources, sinks and disks in memory.
 #![tactic(auto)]
 
 #[cfg(test)]
+mod course;
+#[cfg(test)]
+mod disks;
+#[cfg(test)]
 mod harness;
+#[cfg(test)]
+mod logs;
+#[cfg(test)]
+mod stops;
 #[cfg(test)]
 mod tests;

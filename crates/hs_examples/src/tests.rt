@@ -1,23 +1,21 @@
-//! The worked examples, each a table named by what it shows; expected values are those of docs/FORMATS.md.
-use crate::harness::{Trial, one_disk, run, script_words};
+//! The worked examples, each a table named by what it shows; expected values are those of
+//! docs/FORMATS.md.
+use crate::harness::{MISSION, Trial, disk_of, plain, run, script_words};
 use hs_block::{ShaNames, TailNames};
 use hs_ports::{ListSink, ListSource, Watch};
+use hs_side::Header;
 use hs_top::{Status, fault_line, hydra, shape_of};
 use std::test::Fail;
 
-/// A script whose source and sink never fail.
-fn plain(script: &[u8]) -> Trial<'_> {
-    Trial {
-        script,
-        source_fails: &[],
-        sink_fails: &[],
-    }
-}
+const OTHER: Header = Header {
+    shards: 2,
+    copies: 1,
+    peer: 0,
+};
 
 #[test]
 fn the_first_script_is_answered(rt: HostRuntime) -> Result<(), Fail> {
-    let script = b"open a\nwrite a 6162\nsettle\nread a h0\nsettle\n";
-    let seen = run(rt.alloc(), &ShaNames, &plain(script.as_slice()))?;
+    let seen = run(rt.alloc(), &ShaNames, &plain(MISSION))?;
     assert_eq!(rt;
         seen.text.as_slice(),
         b"1 ok\n2 new h0 e1\n4 bytes 6162\n".as_slice()
@@ -26,8 +24,6 @@ fn the_first_script_is_answered(rt: HostRuntime) -> Result<(), Fail> {
     assert_eq!(rt; seen.outcome.line, 5);
     assert_eq!(rt; seen.outcome.journal.entries().len(), 3);
     assert!(rt; seen.outcome.refused.is_empty());
-    // One put for each line.
-    assert_eq!(rt; seen.moment, 3);
     Ok(())
 }
 
@@ -72,13 +68,13 @@ fn bad_input_has_its_status(rt: HostRuntime) -> Result<(), Fail> {
             Status::Done,
             2,
         ),
-        ("open a\n\nstats\n", "1 ok\n", bad(3), 2),
         (
-            "open a\nstat\n",
-            "1 ok\n2 stat blocks 0 roots 0 sessions 1 epochs 1 swept 1\n",
+            "open a\n\nstat\n",
+            "1 ok\n3 stat blocks 0 roots 0 sessions 1 epochs 1 swept 1\n",
             Status::Done,
-            2,
+            3,
         ),
+        ("open a\n\nturn 0\n", "1 ok\n", bad(3), 2),
     ] {
         let seen = run(rt.alloc(), &ShaNames, &plain(script.as_bytes()))?;
         assert_eq!(rt; seen.text.as_slice(), text.as_bytes(), "{script}");
@@ -171,7 +167,7 @@ fn words_outside_the_language_are_a_faulty_command_line(rt: HostRuntime) -> Resu
         assert_eq!(rt; shape_of(words.as_slice()).is_some(), fits, "{text}");
         let mut source = ListSource::new(rt.alloc(), Vec::new(rt.alloc()), Vec::new(rt.alloc()));
         let mut sink = ListSink::new(rt.alloc(), Vec::new(rt.alloc()));
-        let mut disks = one_disk(rt.alloc())?;
+        let mut disks = vec![in rt.alloc(); disk_of(rt.alloc(), &[], &[])?]?;
         let mut watch = Watch::new();
         let outcome = hydra(
             rt.alloc(),
@@ -192,6 +188,7 @@ fn words_outside_the_language_are_a_faulty_command_line(rt: HostRuntime) -> Resu
 
 #[test]
 fn each_status_has_its_code_and_its_line(rt: HostRuntime) -> Result<(), Fail> {
+    let found = OTHER;
     for (status, code, text) in [
         (Status::Done, 0, ""),
         (
@@ -204,6 +201,11 @@ fn each_status_has_its_code_and_its_line(rt: HostRuntime) -> Result<(), Fail> {
             3,
             "hydra: line 12 is not in the script language\n",
         ),
+        (
+            Status::ShardLost { shard: 0 },
+            4,
+            "hydra: shard 0 has no good peer\n",
+        ),
         (Status::ReadFault, 5, "hydra: the input could not be read\n"),
         (
             Status::WriteFault,
@@ -211,6 +213,11 @@ fn each_status_has_its_code_and_its_line(rt: HostRuntime) -> Result<(), Fail> {
             "hydra: the output could not be written\n",
         ),
         (Status::NoMemory, 7, "hydra: out of memory\n"),
+        (
+            Status::WrongShape { peer: 0, found },
+            8,
+            "hydra: the disk of peer 0 is of another store\n",
+        ),
         (Status::OpsFull, 10, "hydra: the journal is full\n"),
         (Status::InputFull, 13, "hydra: the input is too long\n"),
     ] {

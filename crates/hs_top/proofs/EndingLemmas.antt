@@ -2,7 +2,7 @@
 use Rattle.std.proofs.Common.{◌≡◌, ℕ, zero, suc, ◌+◌, ◌-◌, ◌<◌, ◌≤◌, List, [], ◌∷◌, ◌++◌, length, take, drop, Option, Some, None, IfSome, IsSome, refl, sym, ap, subst, ◌∙◌, append_assoc, arith, take-append-drop, length-append, length-take, inl, inr}
 use Rattle.std.specs.List.{slice_get}
 use Rattle.std.proofs.lemmas.Bool.{ne_eqb, cases_eq, false≢true, lt-ltb}
-use Rattle.std.proofs.lemmas.List.{drop-drop, take_all}
+use Rattle.std.proofs.lemmas.List.{drop-drop}
 use Rattle.hs_limits.specs.declared.address.Address.{Address}
 use Rattle.hs_limits.specs.declared.limits.Limits.{Limits}
 use Rattle.hs_model.specs.Store.{Store}
@@ -10,14 +10,15 @@ use Rattle.hs_journal.specs.declared.entry.JournalEntry.{JournalEntry}
 use Rattle.hs_journal.specs.declared.entry.Who.TheVariants as who
 use Rattle.hs_journal.specs.Events.{client_op}
 use Rattle.hs_journal.specs.Order.{IsOfLine}
-use Rattle.hs_ports.specs.Sink.{bytes_of, followed}
+use Rattle.hs_ports.specs.Sink.{bytes_of}
 use Rattle.hs_ports.specs.Source.{before}
 use Rattle.hs_script.specs.Lines.{before_first, lines_of, line_at}
 use Rattle.hs_script.specs.Reading.{bad, reading, commands_of, commands}
 use Rattle.hs_script.specs.Text.{text}
 use Rattle.hs_top.specs.declared.status.Status.{Status}
-use Rattle.hs_top.specs.Headline.{Answers, PutsFront, Ends, HasEnded, HasLast, IsBad, IsPrinted, Legal, complete_lines, input_limit}
+use Rattle.hs_top.specs.Headline.{Answers, Ends, HasEnded, HasLast, IsBad, IsPrinted, Legal, complete_lines, input_limit}
 use Rattle.hs_top.specs.Lines.{HasNoFeed}
+use Rattle.hs_top.specs.Lost.{has_note}
 use Rattle.hs_top.specs.Progress.{Progress}
 use Rattle.hs_top.proofs.ProgressLemmas.{ordered}
 use Rattle.hs_top.proofs.SpendsLemmas.{complete-none, complete-append}
@@ -28,6 +29,11 @@ use Rattle.hs_top.proofs.SpendsLemmas.{complete-none, complete-append}
 pub if_told : {X : Type 0} (P Q : X → Type 0) (o : Option X) → IfSome o P → ((x : X) → P x → Q x) → IfSome o Q
 if_told P Q None h f = tt
 if_told P Q (Some x) h f = f x h
+
+-- and from two
+pub if_both : {X : Type 0} (P Q R : X → Type 0) (o : Option X) → IfSome o P → IfSome o Q → ((x : X) → P x → Q x → R x) → IfSome o R
+if_both P Q R None h k f = tt
+if_both P Q R (Some x) h k f = f x h k
 
 -- ---- lists
 
@@ -45,7 +51,7 @@ tail_at xs n x rest e = sym (ap (drop 1) e) ∙ drop-drop 1 n xs
 -- ---- clause 1
 
 -- a line with an operation is one of the lines
-within : (lines : List (List ℕ)) (n : ℕ) → IsSome (client_op (commands_of lines n)) → 0 < n
+pub within : (lines : List (List ℕ)) (n : ℕ) → IsSome (client_op (commands_of lines n)) → 0 < n
 within lines zero h = absurd (false≢true h)
 within lines (suc m) h = omega arith
 
@@ -62,7 +68,7 @@ one_line k l same = cc
 
 -- with answers to n lines, the last line that was begun is line n, or the one behind it where it may lack its entry
 pub answers_by : (script : List ℕ) (name : List ℕ → Address) (limits : Limits) (entry s : Store) (n line : ℕ) (entries : List JournalEntry) (moment : ℕ) (ending : Status) (got got' : Option (List (ℕ × ℕ)))
-    → Progress (commands script) name limits entry n entries s moment → length entries ≤ limits.ops → n ≤ line → line ≤ n + 1 → (line ≡ n + 1 → HasLast ending → ⊥) → IsPrinted ending (bytes_of got) (text entries) (bytes_of got')
+    → Progress (commands script) name limits entry n entries s moment → length entries ≤ limits.ops → n ≤ line → line ≤ n + 1 → (line ≡ n + 1 → HasLast ending (has_note entries) (client_op (commands script line)) → ⊥) → IsPrinted ending (bytes_of got) (text entries) (bytes_of got')
     → Answers (commands script) name limits entry ending line entries got got'
 answers_by script name limits entry s n line entries moment ending got got' progress fits low high last printed = record {
   answers = legal script name limits entry s n entries moment progress;
@@ -72,12 +78,15 @@ answers_by script name limits entry s n line entries moment ending got got' prog
       omega (arith, b.2, same);
   fits = fits;
   all = λ k le asks has. by_place k le asks has;
+  notes = λ place x at none. let b = progress.below place x at in absurd (none b.0 b.1);
   printed = printed;
 }
   where
-    by_place : (k : ℕ) → k ≤ line → IsSome (client_op (commands script k)) → (k ≡ line → HasLast ending) → (place : ℕ) × IsOfLine entries place k
+    by_place : (k : ℕ) → k ≤ line → IsSome (client_op (commands script k)) → (k ≡ line → HasLast ending (has_note entries) (client_op (commands script k))) → (place : ℕ) × IsOfLine entries place k
     by_place k le asks has = elim (cases_eq k (n + 1)) [
-      | inl same ↦ absurd (last (omega arith) (has (omega arith)))
+      | inl same ↦
+          let is : k ≡ line = omega arith in
+          absurd (last (omega arith) (subst (λ (l : ℕ). HasLast ending (has_note entries) (client_op (commands script l))) is (has is)))
       | inr differs ↦ progress.all k (within (lines_of script) k asks) (omega arith) asks
     ]
 
@@ -146,7 +155,3 @@ good_more lines n line at good before k le is = elim (cases_eq k (n + 1)) [
       good (ap reading (sym one) ∙ is.outside)
   | inr differs ↦ before k (omega arith) is
 ]
-
--- a text that is put whole is a front of itself
-pub whole_front : (got got' : Option (List ℕ)) (bytes : List ℕ) → got' ≡ followed got bytes → PutsFront got bytes got'
-whole_front got got' bytes put = record { count = length bytes; put = put ∙ ap (followed got) (sym (take_all (length bytes) bytes (omega arith))) }

@@ -17,25 +17,25 @@ use Rattle.hs_journal.specs.declared.entry.Who.TheVariants as who
 use Rattle.hs_journal.specs.Events.{client_op, addressed, line_event, asked, event_at, store_by, with_event, events_of, HasAnswer, IsAnswered}
 use Rattle.hs_journal.specs.Order.{IsAt, IsOfLine, IsOrdered, IsWaiting, session_of}
 use Rattle.hs_top.proofs.BusyLemmas.{IsNotBusy, judge_not_busy, never_busy}
-use Rattle.hs_top.specs.Progress.{store_after, Tells, Progress}
+use Rattle.hs_top.specs.Progress.{store_after, IsAnswer, Progress}
 
 -- ---- places in a list with one more element
 
 -- an element of the longer list is one of the shorter, or the new one at its end
-at_more : {X : Type 0} (xs : List X) (y : X) (i : ℕ) (x : X) → slice_get (xs ++ y ∷ []) i ≡ Some x → (slice_get xs i ≡ Some x) ⊎ ((i ≡ length xs) × (x ≡ y))
+pub at_more : {X : Type 0} (xs : List X) (y : X) (i : ℕ) (x : X) → slice_get (xs ++ y ∷ []) i ≡ Some x → (slice_get xs i ≡ Some x) ⊎ ((i ≡ length xs) × (x ≡ y))
 at_more [] y zero x at = inr (refl, cc)
 at_more [] y (suc i) x at = absurd cc
 at_more (z ∷ zs) y zero x at = inl at
 at_more (z ∷ zs) y (suc i) x at = elim (at_more zs y i x at) [ inl old ↦ inl old | inr new ↦ inr (ap suc new.0, new.1) ]
 
 -- an element of the shorter list stays where it is
-at_stays : {X : Type 0} (xs : List X) (y : X) (i : ℕ) (x : X) → slice_get xs i ≡ Some x → slice_get (xs ++ y ∷ []) i ≡ Some x
+pub at_stays : {X : Type 0} (xs : List X) (y : X) (i : ℕ) (x : X) → slice_get xs i ≡ Some x → slice_get (xs ++ y ∷ []) i ≡ Some x
 at_stays [] y i x at = absurd cc
 at_stays (z ∷ zs) y zero x at = at
 at_stays (z ∷ zs) y (suc i) x at = at_stays zs y i x at
 
 -- the new element stands at the end
-at_end : {X : Type 0} (xs : List X) (y : X) → slice_get (xs ++ y ∷ []) (length xs) ≡ Some y
+pub at_end : {X : Type 0} (xs : List X) (y : X) → slice_get (xs ++ y ∷ []) (length xs) ≡ Some y
 at_end [] y = refl
 at_end (z ∷ zs) y = at_end zs y
 
@@ -49,7 +49,7 @@ module _ (commands : ℕ → Option Command) (name : List ℕ → Address) (limi
   store_after-more s (first ∷ rest) entry = store_after-more (store_by limits s (event_at commands name s first)) rest entry
 
   -- one more entry that has its answer
-  replied_more : (s t : Store) (entries : List JournalEntry) (entry : JournalEntry) → store_after commands name limits s entries ≡ t → IsAnswered commands name limits s entries → HasAnswer limits t entry (event_at commands name t entry)
+  pub replied_more : (s t : Store) (entries : List JournalEntry) (entry : JournalEntry) → store_after commands name limits s entries ≡ t → IsAnswered commands name limits s entries → HasAnswer limits t entry (event_at commands name t entry)
       → IsAnswered commands name limits s (entries ++ entry ∷ [])
   replied_more s t [] entry same before now = (subst (λ (u : Store). HasAnswer limits u entry (event_at commands name u entry)) (sym same) now, tt)
   replied_more s t (first ∷ rest) entry same before now = (before.0, replied_more (store_by limits s (event_at commands name s first)) t rest entry same before.1 now)
@@ -64,7 +64,7 @@ module _ (commands : ℕ → Option Command) (name : List ℕ → Address) (limi
   legal_front s (Some event) more legal = ((legal.0, tt), legal.1)
 
   -- one more entry whose event is allowed
-  legal_more : (s t : Store) (entries : List JournalEntry) (entry : JournalEntry) → store_after commands name limits s entries ≡ t → IsLegal limits s (events_of commands name limits s entries) → IsLegal limits t (with_event (event_at commands name t entry) [])
+  pub legal_more : (s t : Store) (entries : List JournalEntry) (entry : JournalEntry) → store_after commands name limits s entries ≡ t → IsLegal limits s (events_of commands name limits s entries) → IsLegal limits t (with_event (event_at commands name t entry) [])
       → IsLegal limits s (events_of commands name limits s (entries ++ entry ∷ []))
   legal_more s t [] entry same before now = subst (λ (u : Store). IsLegal limits u (with_event (event_at commands name u entry) [])) (sym same) now
   legal_more s t (first ∷ rest) entry same before now =
@@ -81,7 +81,7 @@ line_event_asked name s o other h = refl
 
 module _ (commands : ℕ → Option Command) (name : List ℕ → Address) (limits : Limits) where
   -- the event of an entry that answers an operation
-  event_told : (n : ℕ) (o : Op) (s : Store) (entry : JournalEntry) → client_op (commands n) ≡ Some o → Tells name limits n o s entry → event_at commands name s entry ≡ Some (asks (addressed name s o))
+  event_told : (n : ℕ) (o : Op) (s : Store) (entry : JournalEntry) → client_op (commands n) ≡ Some o → IsAnswer name limits n o s entry → event_at commands name s entry ≡ Some (asks (addressed name s o))
   event_told n o s entry says tells =
       let not_busy : IsNotBusy entry.reply = rw tells.reply (judge_not_busy limits s (addressed name s o)) in
       rw tells.line (line_event_asked name s (client_op (commands n)) entry.reply not_busy ∙ rw says refl)
@@ -127,7 +127,7 @@ one_line k l same = cc
 
 -- one more answer: that to the next line
 module _ (commands : ℕ → Option Command) (name : List ℕ → Address) (limits : Limits) (start s : Store) (n : ℕ) (entries : List JournalEntry) (moment moment' : ℕ) (o : Op) (entry : JournalEntry)
-    (so_far : Progress commands name limits start n entries s moment) (says : client_op (commands (n + 1)) ≡ Some o) (tells : Tells name limits (n + 1) o s entry) (after : moment ≤ entry.moment) (before : entry.moment ≤ moment') where
+    (so_far : Progress commands name limits start n entries s moment) (says : client_op (commands (n + 1)) ≡ Some o) (tells : IsAnswer name limits (n + 1) o s entry) (after : moment ≤ entry.moment) (before : entry.moment ≤ moment') where
   event-is : event_at commands name s entry ≡ Some (asks (addressed name s o))
   event-is = event_told commands name limits (n + 1) o s entry says tells
 

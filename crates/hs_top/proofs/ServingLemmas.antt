@@ -1,39 +1,39 @@
--- One line more of a script, and each way in which its run ends.
-use Rattle.std.proofs.Common.{◌≡◌, ℕ, ◌+◌, ◌-◌, ◌≤◌, Bool, false, List, [], ◌∷◌, ◌++◌, length, take, drop, Option, Some, None, refl, sym, ap, ◌∙◌, arith, length-append, length-drop}
+-- One line more of a script.
+use Rattle.std.proofs.Common.{◌≡◌, ℕ, ◌+◌, ◌-◌, ◌≤◌, Bool, true, false, List, [], ◌∷◌, length, take, drop, Option, Some, None, refl, sym, ap, ◌∙◌, arith, length-append, length-drop}
 use Rattle.std.specs.Option.{option_map}
-use Rattle.std.proofs.lemmas.Grind.{flat_map-append}
-use Rattle.std.proofs.lemmas.List.{append-nil, drop-drop}
+use Rattle.std.proofs.lemmas.List.{drop-drop}
 use Rattle.hs_limits.specs.declared.address.Address.{Address}
 use Rattle.hs_limits.specs.declared.limits.Limits.{Limits}
 use Rattle.hs_model.specs.declared.command.Command.{Command}
+use Rattle.hs_model.specs.declared.course.CourseItem.{CourseItem}
 use Rattle.hs_model.specs.declared.op.Op.{Op}
 use Rattle.hs_model.specs.Store.{Store}
 use Rattle.hs_journal.specs.declared.entry.JournalEntry.{JournalEntry}
 use Rattle.hs_journal.specs.Events.{client_op}
-use Rattle.hs_ports.specs.Sink.{followed}
+use Rattle.hs_entry.specs.declared.entry.Entry.{Entry}
+use Rattle.hs_ports.specs.Disk.{Standing}
+use Rattle.hs_ports.specs.Fault.{HasRisen}
+use Rattle.hs_ports.specs.Sink.{bytes_of, followed}
 use Rattle.hs_ports.specs.Source.{before}
 use Rattle.hs_script.specs.Lines.{lines_of, line_at}
 use Rattle.hs_script.specs.Reading.{bad, reading, command_in, commands_of, commands}
-use Rattle.hs_script.specs.Text.{entry_text, text}
+use Rattle.hs_script.specs.Text.{text}
+use Rattle.hs_single.specs.Serving.{Serving, IsServing, store_at}
 use Rattle.hs_top.specs.declared.run.Run.{Run}
-use Rattle.hs_top.specs.Asking.{Begins}
-use Rattle.hs_top.specs.Headline.{complete_lines, input_limit}
-use Rattle.hs_top.specs.Progress.{Progress}
+use Rattle.hs_top.specs.declared.status.Status.{Status}
+use Rattle.hs_top.specs.declared.stop.Stop.{Stop}
+use Rattle.hs_top.specs.Ending.{Fulfils, IsScriptStop}
+use Rattle.hs_top.specs.Lost.{has_note}
+use Rattle.hs_top.specs.Asking.{Begins, list_behind}
+use Rattle.hs_top.specs.Headline.{IsBad, complete_lines, input_limit, run_limits}
+use Rattle.hs_top.specs.Lasting.{Going, Lasts}
 use Rattle.hs_top.specs.Reader.{Spends}
-use Rattle.hs_top.specs.Serving.{Served}
+use Rattle.hs_top.specs.Serving.{Runs, Served}
 use Rattle.hs_top.proofs.EndingLemmas.{tail_at, next_is, good_more}
+use Rattle.hs_top.proofs.FrontLemmas.{text_more}
 use Rattle.hs_top.proofs.ProgressLemmas.{progress_quiet, progress_told}
 use Rattle.hs_top.proofs.SpendsLemmas.{complete-append}
-use Rattle.hs_top.proofs.TellingLemmas.{followed_twice, take-add}
-
--- ---- text
-
--- the line of one more entry
-pub text_more : (before got got' : Option (List ℕ)) (entries entries' : List JournalEntry) (entry : JournalEntry) → got ≡ followed before (text entries) → got' ≡ followed got (entry_text entry) → entries' ≡ entries ++ entry ∷ []
-    → got' ≡ followed before (text entries')
-text_more before got got' entries entries' entry so_far put told =
-    let longer : text entries ++ entry_text entry ≡ text entries' = ap (λ (last : List ℕ). text entries ++ last) (sym (append-nil (entry_text entry))) ∙ sym (flat_map-append entry_text entries (entry ∷ [])) ∙ ap text (sym told) in
-    put ∙ ap (λ (g : Option (List ℕ)). followed g (entry_text entry)) so_far ∙ followed_twice before (text entries) (entry_text entry) ∙ ap (followed before) longer
+use Rattle.hs_top.proofs.TellingLemmas.{take-add}
 
 -- ---- one line more
 
@@ -41,29 +41,30 @@ text_more before got got' entries entries' entry so_far put told =
 command_next : (lines : List (List ℕ)) (n : ℕ) (line : List ℕ) → line_at lines (n + 1) ≡ Some line → commands_of lines (n + 1) ≡ command_in (reading line)
 command_next lines n line at = rw at refl
 
-module _ (name : List ℕ → Address) (limits : Limits) (old new : Run) (got got' : Option (List ℕ)) (moment moment' : ℕ) where
-  -- the progress with one more line, by what it asks
-  progress_more : (commands : ℕ → Option Command) (start : Store) (o : Option Op) → client_op (commands (old.line + 1)) ≡ o → Begins name limits o old new got got' moment moment'
-      → Progress commands name limits start old.line old.journal.entries old.store moment → Progress commands name limits start (old.line + 1) new.journal.entries new.store moment'
-  progress_more commands start None says begins so_far =
-      rw (begins.told, begins.store) (progress_quiet commands name limits start old.store old.line old.journal.entries moment moment' so_far says begins.later)
-  progress_more commands start (Some o) says begins so_far =
-      rw (begins.told, begins.store) (progress_told commands name limits start old.store old.line old.journal.entries moment moment' o begins.entry so_far says begins.tells begins.after begins.before)
-
-  -- the entries stay within the limit
-  fits_more : (o : Option Op) → Begins name limits o old new got got' moment moment' → old.journal.limit ≡ limits.ops → length old.journal.entries ≤ limits.ops → length new.journal.entries ≤ limits.ops
-  fits_more None begins limit fits = omega (arith, fits, ap length begins.told)
-  fits_more (Some o) begins limit fits = omega (arith, begins.room, limit, ap length begins.told, length-append old.journal.entries (begins.entry ∷ []))
-
-  -- what was put with one more line
-  pub put_more_lines : (before : Option (List ℕ)) (o : Option Op) → Begins name limits o old new got got' moment moment' → got ≡ followed before (text old.journal.entries) → got' ≡ followed before (text new.journal.entries)
-  put_more_lines before None begins so_far = begins.put ∙ so_far ∙ ap (λ (entries : List JournalEntry). followed before (text entries)) (sym begins.told)
-  put_more_lines before (Some o) begins so_far = text_more before got got' old.journal.entries new.journal.entries begins.entry so_far begins.put begins.told
-
-  -- what was refused with one more line
-  pub refused_more : (o : Option Op) → Begins name limits o old new got got' moment moment' → new.refused ≡ old.refused
-  refused_more None begins = begins.refused
-  refused_more (Some o) begins = begins.refused
+module _ (commands : ℕ → Option Command) (name : List ℕ → Address) (limits : Limits) (start : Store) (before : ℕ) (got first : Option (List (ℕ × ℕ))) (old new : Run) (disk disk' : Standing) (got' got'' : Option (List (ℕ × ℕ))) (now now' : ℕ) where
+  -- one more line, by what it asks
+  pub runs_more : (Asked : Type 0) (o : Option Op) (runs : Runs Asked commands name limits start before got first old disk got' now) → client_op (commands (old.told.line + 1)) ≡ o
+      → Begins name limits (old.told.line + 1) o old new runs.list disk disk' got' got'' now now' → new.told.line ≡ old.told.line + 1 → old.told.journal.limit ≡ limits.ops
+      → (Asked → Going commands name limits start before now' disk' new.store.log.side new.told.course new.told.journal.entries got got'' (list_behind name limits (old.told.line + 1) old.store runs.list o))
+      → Runs Asked commands name limits start before got first new disk' got'' now'
+  runs_more Asked None runs says quiet begun limit goes = record {
+    list = runs.list;
+    serves = rw (quiet.store, quiet.still) runs.serves;
+    progress = rw (begun, ap (λ j. j.entries) quiet.journal, quiet.store) (progress_quiet commands name limits start (store_at name old.store runs.list) old.told.line old.told.journal.entries now now' runs.progress says (omega (arith, quiet.at)));
+    fits = rw (ap (λ j. j.entries) quiet.journal) runs.fits;
+    refused = quiet.refused ∙ runs.refused;
+    put = ap bytes_of quiet.put ∙ runs.put ∙ ap (λ (entries : List JournalEntry). followed (bytes_of first) (text entries)) (sym (ap (λ j. j.entries) quiet.journal));
+    going = goes;
+  }
+  runs_more Asked (Some o) runs says asks begun limit goes = record {
+    list = list_behind name limits (old.told.line + 1) old.store runs.list (Some o);
+    serves = asks.serves;
+    progress = rw (begun, asks.tells.told, asks.store) (progress_told commands name limits start (store_at name old.store runs.list) old.told.line old.told.journal.entries now now' o asks.entry runs.progress says asks.answer asks.after asks.before);
+    fits = omega (arith, asks.tells.room, limit, ap length asks.tells.told, length-append old.told.journal.entries (asks.entry ∷ []));
+    refused = asks.tells.refused ∙ runs.refused;
+    put = text_more (bytes_of first) (bytes_of got') (bytes_of got'') old.told.journal.entries new.told.journal.entries asks.entry runs.put asks.tells.put asks.tells.told;
+    going = goes;
+  }
 
 -- ---- what is left of the script
 
@@ -77,8 +78,8 @@ pub record Advanced (script : List ℕ) (pending : Option (List ℕ)) (cost : �
   pub at : line_at (lines_of script) (n + 1) ≡ Some line
   pub within : n + 1 ≤ length (lines_of script)
 
-module _ (script : List ℕ) (name : List ℕ → Address) (limits : Limits) (entry : Store) (n : ℕ) (entries : List JournalEntry) (s : Store) (moment : ℕ) (pending pending' : Option (List ℕ)) (cost cost' count : ℕ) (ended ended' : Bool)
-    (served : Served script pending cost ended name limits entry n entries s moment) (spends : Spends ended' pending pending' cost cost' count) where
+module _ (script : List ℕ) (n : ℕ) (pending pending' : Option (List ℕ)) (cost cost' count : ℕ) (ended ended' : Bool)
+    (served : Served script pending cost ended n) (spends : Spends ended' pending pending' cost cost' count) where
   -- how much of the script is behind
   behind : input_limit - cost' ≡ (input_limit - cost) + count
   behind = omega (arith, served.low, spends.spent)
@@ -126,22 +127,42 @@ module _ (script : List ℕ) (name : List ℕ → Address) (limits : Limits) (en
       let nothing : drop n (lines_of script) ≡ [] = sym served.lines ∙ cc in
       omega (arith, served.within, length-drop n (lines_of script), ap length nothing)
 
--- one more line is answered
-pub served_more : (script : List ℕ) (name : List ℕ → Address) (limits : Limits) (entry : Store) (old new : Run) (got got' : Option (List ℕ)) (moment moment' : ℕ) (pending pending' : Option (List ℕ)) (cost cost' : ℕ) (ended ended' : Bool) (line : List ℕ)
-    → Served script pending cost ended name limits entry old.line old.journal.entries old.store moment → Advanced script pending' cost' ended' old.line line → Begins name limits (client_op (command_in (reading line))) old new got got' moment moment'
-    → (reading line ≡ bad → ⊥) → new.line ≡ old.line + 1 → old.journal.limit ≡ limits.ops
-    → Served script pending' cost' ended' name limits entry new.line new.journal.entries new.store moment'
-served_more script name limits entry old new got got' moment moment' pending pending' cost cost' ended ended' line served next begins good begun limit =
-    let o : Option Op = client_op (command_in (reading line)) in
-    let says : client_op (commands script (old.line + 1)) ≡ o = ap client_op (command_next (lines_of script) old.line line next.at) in
-    rw begun (record {
-      left = next.left;
-      low = next.low;
-      high = next.high;
-      lines = next.lines;
-      complete = next.complete;
-      within = next.within;
-      good = good_more (lines_of script) old.line line next.at good served.good;
-      progress = progress_more name limits old new got got' moment moment' (commands script) entry o says begins served.progress;
-      fits = fits_more name limits old new got got' moment moment' o begins limit served.fits;
-    })
+-- one more line is read
+pub served_more : (script : List ℕ) (n n' : ℕ) (pending' : Option (List ℕ)) (cost' : ℕ) (ended' : Bool) (line : List ℕ) → ((k : ℕ) → k ≤ n → IsBad (lines_of script) k → ⊥) → Advanced script pending' cost' ended' n line → (reading line ≡ bad → ⊥) → n' ≡ n + 1
+    → Served script pending' cost' ended' n'
+served_more script n n' pending' cost' ended' line before next good begun = rw begun (record {
+  left = next.left;
+  low = next.low;
+  high = next.high;
+  lines = next.lines;
+  complete = next.complete;
+  within = next.within;
+  good = good_more (lines_of script) n line next.at good before;
+})
+
+-- what the next line asks
+pub asked_next : (script : List ℕ) (pending' : Option (List ℕ)) (cost' : ℕ) (ended' : Bool) (n : ℕ) (line : List ℕ) → Advanced script pending' cost' ended' n line → client_op (commands script (n + 1)) ≡ client_op (command_in (reading line))
+asked_next script pending' cost' ended' n line next = ap client_op (command_next (lines_of script) n line next.at)
+
+-- ---- what is said for every list that a disk has
+
+abbrev pub FulfilAll : (ℕ → Option Command) → (List ℕ → Address) → Serving → List ℕ → Status → ℕ → List JournalEntry → List JournalEntry → Option (List (ℕ × ℕ)) → Option (List (ℕ × ℕ)) → Type 0
+FulfilAll commands name store seen ending line journal refused got got' =
+    (list : List (ℕ × Entry)) → IsServing name store seen list → Fulfils commands name run_limits (store_at name store list) ending line journal refused got got'
+
+abbrev pub LastAll : (ℕ → Option Command) → (List ℕ → Address) → Serving → Standing → ℕ → List CourseItem → Option (List (ℕ × ℕ)) → ℕ → Standing → List CourseItem → List JournalEntry → Option (List (ℕ × ℕ)) → Type 0
+LastAll commands name store disk now course first now' disk' course' journal got' =
+    (before : ℕ) (got : Option (List (ℕ × ℕ))) (list : List (ℕ × Entry)) → IsServing name store (disk.seen store.log.side) list
+    → Going commands name run_limits (store_at name store list) before now disk store.log.side course [] got first list
+    → Lasts commands name run_limits (store_at name store list) before now' disk' course' journal got got'
+
+abbrev pub RunAll : (ℕ → Option Command) → (List ℕ → Address) → Serving → Standing → ℕ → List CourseItem → Option (List (ℕ × ℕ)) → Run → Standing → Option (List (ℕ × ℕ)) → ℕ → Type 0
+RunAll commands name store disk now course first run disk' got' now' =
+    (before : ℕ) (got : Option (List (ℕ × ℕ))) (list : List (ℕ × Entry)) → IsServing name store (disk.seen store.log.side) list
+    → Runs (Going commands name run_limits (store_at name store list) before now disk store.log.side course [] got first list) commands name run_limits (store_at name store list) before got first run disk' got' now'
+
+abbrev pub SaidAll : (List ℕ → Address) → Serving → List ℕ → Stop → List JournalEntry → Type 0
+SaidAll name store seen halt journal = (list : List (ℕ × Entry)) → IsServing name store seen list → IsScriptStop halt journal
+
+abbrev pub NoteAll : (List ℕ → Address) → Serving → List ℕ → List JournalEntry → ℕ → ℕ → Type 0
+NoteAll name store seen journal faults faults' = (list : List (ℕ × Entry)) → IsServing name store seen list → has_note journal ≡ true → HasRisen faults faults'

@@ -1,11 +1,12 @@
 -- What the whole program promises, in the words of the plain store.
-use Rattle.std.specs.Prelude.{◌≡◌, ℕ, ◌+◌, ◌*◌, ◌<◌, ◌≤◌, Bool, false, ◌==◌, List, [], ◌++◌, length, take, Option, Some, None, IsSome, Contains, count_by}
+use Rattle.std.specs.Prelude.{◌≡◌, ℕ, ◌+◌, ◌*◌, ◌<◌, ◌≤◌, Bool, true, false, ◌==◌, List, [], ◌++◌, length, take, Option, Some, None, IsSome, Contains, count_by}
 use Rattle.std.specs.Option.{option_map_or}
 use Rattle.hs_limits.specs.declared.address.Address.{Address}
 use Rattle.hs_limits.specs.declared.address.Held.{Held}
 use Rattle.hs_limits.specs.declared.limits.Limits.{Limits}
 use Rattle.hs_limits.specs.Limits.{greatest_limits}
 use Rattle.hs_model.specs.declared.command.Command.{Command}
+use Rattle.hs_model.specs.declared.op.Op.{Op}
 use Rattle.hs_model.specs.Run.{Event, IsLegal, run}
 use Rattle.hs_model.specs.Store.{Store, Root}
 use Rattle.hs_laws.specs.Held.{IsHeld, IsFreshHeld}
@@ -13,7 +14,8 @@ use Rattle.hs_laws.specs.Reached.{IsWhole}
 use Rattle.hs_laws.specs.Valid.{IsValid}
 use Rattle.hs_journal.specs.declared.entry.JournalEntry.{JournalEntry}
 use Rattle.hs_journal.specs.Events.{client_op, events_of, IsAnswered}
-use Rattle.hs_journal.specs.Order.{IsOfLine, IsOrdered}
+use Rattle.hs_journal.specs.declared.entry.Who.TheVariants as who
+use Rattle.hs_journal.specs.Order.{IsAt, IsOfLine, IsOrdered, IsPrompt}
 use Rattle.hs_ports.specs.Sink.{bytes_of, followed}
 use Rattle.hs_ports.specs.Source.{before}
 use Rattle.hs_script.specs.Lines.{lines_of, line_at}
@@ -21,6 +23,7 @@ use Rattle.hs_script.specs.Reading.{bad, reading}
 use Rattle.hs_script.specs.Text.{text}
 use Rattle.hs_top.specs.declared.status.Status.{Status}
 use Rattle.hs_top.specs.declared.status.Status.TheVariants as status
+use Rattle.hs_top.specs.Lost.{has_note, lost_entry}
 use Rattle.hs_top.specs.Words.{shape_in}
 
 -- the words are in the command language, and there is a disk for each peer
@@ -46,11 +49,17 @@ pub record Legal (commands : ℕ → Option Command) (name : List ℕ → Addres
   -- the entries stand in the order of a journal
   pub ordered : IsOrdered commands journal
 
--- the last line that was begun has its entry, unless memory was wanting or the journal full
-abbrev pub HasLast : Status → Type 0
-HasLast status.NoMemory = ⊥
-HasLast status.OpsFull = ⊥
-HasLast other = Unit {0}
+-- the last line that was begun has its entry: but not where memory was wanting or the journal full; and where a disk was lost, only if it is answered in its own event
+abbrev pub HasLast : Status → Bool → Option Op → Type 0
+HasLast status.NoMemory lost o = ⊥
+HasLast status.OpsFull lost o = ⊥
+HasLast other true o = IsPrompt o
+HasLast other false o = Unit {0}
+
+-- an entry that is of no line is the last one, and tells that peer 0 is down since the line that was begun last
+pub record IsNote (journal : List JournalEntry) (line place : ℕ) (entry : JournalEntry) : Type 0 where
+  pub last : place + 1 ≡ length journal
+  pub lost : entry ≡ lost_entry line entry.moment
 
 -- a front of a text was put behind the bytes before, where they are told
 pub record PutsFront (before : Option (List ℕ)) (bytes : List ℕ) (after : Option (List ℕ)) : Type 0 where
@@ -70,7 +79,9 @@ pub record Answers (commands : ℕ → Option Command) (name : List ℕ → Addr
   pub begun : (place n : ℕ) → IsOfLine journal place n → n ≤ line
   pub fits : length journal ≤ limits.ops
   -- each line that was begun and on which a client asks has its entry
-  pub all : (n : ℕ) → n ≤ line → IsSome (client_op (commands n)) → (n ≡ line → HasLast ending) → (place : ℕ) × IsOfLine journal place n
+  pub all : (n : ℕ) → n ≤ line → IsSome (client_op (commands n)) → (n ≡ line → HasLast ending (has_note journal) (client_op (commands n))) → (place : ℕ) × IsOfLine journal place n
+  -- and there is no other entry, but for the note of a disk that was lost
+  pub notes : (place : ℕ) (entry : JournalEntry) → IsAt journal place entry → ((n : ℕ) → entry.who ≡ who.Line n → ⊥) → IsNote journal line place entry
   -- the bytes put are those before, and then the lines of the journal
   pub printed : IsPrinted ending (bytes_of got) (text journal) (bytes_of got')
 
@@ -108,6 +119,7 @@ abbrev pub HasEnded : Status → List (List ℕ) → ℕ → List ℕ → Type 0
 HasEnded status.Done lines line taken = (line ≡ length lines) × (length taken ≤ input_limit)
 HasEnded (status.BadLine n) lines line taken = (n ≡ line + 1) × IsBad lines n × (length taken ≤ input_limit)
 HasEnded status.ReadFault lines line taken = (line ≡ complete_lines taken) × (length taken ≤ input_limit)
+HasEnded (status.WrongShape peer found) lines line taken = (line ≡ 0) × (taken ≡ [])
 HasEnded status.InputFull lines line taken = (line ≡ complete_lines (take input_limit taken)) × (length taken ≡ input_limit + 1)
 HasEnded other lines line taken = length taken ≤ input_limit
 

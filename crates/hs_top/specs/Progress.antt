@@ -19,7 +19,7 @@ store_after commands name limits s [] = s
 store_after commands name limits s (entry ∷ entries) = store_after commands name limits (store_by limits s (event_at commands name s entry)) entries
 
 -- an entry answers an operation of line n at a store
-pub record Tells (name : List ℕ → Address) (limits : Limits) (n : ℕ) (o : Op) (s : Store) (entry : JournalEntry) : Type 0 where
+pub record IsAnswer (name : List ℕ → Address) (limits : Limits) (n : ℕ) (o : Op) (s : Store) (entry : JournalEntry) : Type 0 where
   pub line : entry.who ≡ who.Line n
   pub reply : entry.reply ≡ (judge limits s (addressed name s o)).reply
   pub deed : entry.deed ≡ (judge limits s (addressed name s o)).deed

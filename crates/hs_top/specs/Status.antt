@@ -8,9 +8,11 @@ abbrev pub status_code : Status → ℕ
 status_code status.Done = 0
 status_code status.Usage = 2
 status_code (status.BadLine line) = 3
+status_code (status.ShardLost shard) = 4
 status_code status.ReadFault = 5
 status_code status.WriteFault = 6
 status_code status.NoMemory = 7
+status_code (status.WrongShape peer found) = 8
 status_code status.OpsFull = 10
 status_code status.InputFull = 13
 
@@ -19,8 +21,10 @@ abbrev pub fault_text : Status → List ℕ
 fault_text status.Done = []
 fault_text status.Usage = codes "hydra: usage: hydra COMMAND DIR G R [words]\n"
 fault_text (status.BadLine line) = codes "hydra: line " ++ (decimal line ++ codes " is not in the script language\n")
+fault_text (status.ShardLost shard) = codes "hydra: shard " ++ (decimal shard ++ codes " has no good peer\n")
 fault_text status.ReadFault = codes "hydra: the input could not be read\n"
 fault_text status.WriteFault = codes "hydra: the output could not be written\n"
 fault_text status.NoMemory = codes "hydra: out of memory\n"
+fault_text (status.WrongShape peer found) = codes "hydra: the disk of peer " ++ (decimal peer ++ codes " is of another store\n")
 fault_text status.OpsFull = codes "hydra: the journal is full\n"
 fault_text status.InputFull = codes "hydra: the input is too long\n"

@@ -1,6 +1,7 @@
 //! The top call: the words, the script's loop, and what the whole program promises.
 #![tactic(auto)]
 
+mod opening;
 mod outcome;
 mod reader;
 mod run;
@@ -9,6 +10,7 @@ mod status;
 mod stop;
 mod tell;
 mod top;
+mod transcript;
 mod words;
 
 pub use outcome::Outcome;

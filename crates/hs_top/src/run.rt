@@ -1,39 +1,32 @@
-//! What a run of a script has made so far, and what one line adds to it.
-ghost use Rattle.std.specs.Prelude.{◌≡◌, ◌+◌, ◌<◌, ◌^◌, ◌≤◌, ◌∷◌, ◌++◌, [], IfOk, OnOk, IfErr, IsOkUnless, ℕ};
-ghost use Rattle.hs_journal.specs.Events.{addressed, client_op};
+//! A run of a script over its store, and what one line does to it.
+ghost use Rattle.std.specs.Prelude.{◌≡◌, ◌+◌, ◌<◌, ◌^◌, ◌≤◌, ◌∷◌, ◌++◌, [], ℕ, List, Option, Some, true, nat_lt, IfOk, OnOk, IfErr, OnErr, IsOkUnless, IfSome};
 ghost use Rattle.hs_model.specs.Built.{IsBuilt};
-ghost use Rattle.hs_model.specs.Store.{Store, empty_store};
-ghost use Rattle.hs_ports.specs.Sink.{bytes_of, followed};
+ghost use Rattle.hs_model.specs.Store.{Store};
 ghost use Rattle.hs_script.specs.Built.{IsBare};
-ghost use Rattle.hs_script.specs.Reading.{bad, command_in, reading};
-ghost use Rattle.hs_script.specs.Text.{entry_text};
 ghost use Rattle.hs_top.specs.Headline.{run_limits};
-ghost use Rattle.hs_top.specs.Faults.{SinkCause};
+ghost use Rattle.hs_top.specs.Naming.{IsNamedAs};
 
 use crate::stop::Stop;
-use crate::tell::put_all;
+use crate::transcript::Transcript;
 use hs_block::{Addresser, write_spelling};
-use hs_journal::{Journal, JournalEntry, Who};
-use hs_limits::{Limits, ListOf, Shape};
-use hs_model::{Command, MemoryStore, Op};
-use hs_ports::{Sink, Watch};
-use hs_script::{ScriptFault, print_entry, read_line};
+use hs_journal::{JournalEntry, Who};
+use hs_limits::Limits;
+use hs_model::{Answer, Command, CourseItem, Op};
+use hs_ports::{Disk, Sink, Watch};
+use hs_script::{ScriptFault, read_line};
+use hs_single::{Single, SingleFault};
 use std::alloc::Global;
 
-/// What a run has made so far: the store, the journal, the entries that it could not take, the
-/// number of the last line that was begun, and the line that is printed.
+/// A run: what it has told so far, and its store.
 #[derive(Drop)]
 pub(crate) struct Run {
     pub(crate) alloc: Global,
-    pub(crate) store: MemoryStore,
-    pub(crate) journal: Journal,
-    pub(crate) refused: ListOf<JournalEntry>,
-    pub(crate) line: u64,
-    pub(crate) text: Vec<u8>,
+    pub(crate) told: Transcript,
+    pub(crate) store: Single,
 }
 
 /// The limits of a run.
-fn limits() -> Limits
+pub(crate) fn limits() -> Limits
     ensures { result ≡ run_limits }
 {
     let mut limits = Limits::greatest();
@@ -41,14 +34,22 @@ fn limits() -> Limits
     limits
 }
 
-/// The operation as it is judged: a write gets the address of its block.
-fn address<A: Addresser>(alloc: Global, naming: &A, op: Op) -> Result<Op, Stop>
+/// An operation as it is judged, and the spelling of its block, where it has one.
+#[derive(Drop)]
+struct Named {
+    op: Op,
+    spelling: Vec<u8>,
+}
+
+/// The operation with the address of its block, where it has one.
+fn name_block<A: Addresser>(alloc: Global, naming: &A, op: Op) -> Result<Named, Stop>
     requires built { IsBuilt op }
     requires bare { IsBare op }
-    ensures ok { IfOk result (λ found. (s : Store) → found ≡ addressed (A.name naming.now) s op) }
-    ensures built { IfOk result IsBuilt }
+    ensures ok { IfOk result (λ found. IsNamedAs (A.name naming.now) op found.op
+        found.spelling.items) }
     ensures err { IsOkUnless result Stop.NoMemory }
 {
+    let mut spelling = Vec::new(alloc);
     match op {
         Op::Write {
             session,
@@ -57,7 +58,6 @@ fn address<A: Addresser>(alloc: Global, naming: &A, op: Op) -> Result<Op, Stop>
             address: _,
         } => {
             let address = if payload.len() <= 65_536 {
-                let mut spelling = Vec::new(alloc);
                 match write_spelling(&[], payload.as_slice(), &mut spelling) {
                     Ok(()) => Some(naming.address(spelling.as_slice())),
                     Err(_) => return Err(Stop::NoMemory),
@@ -65,136 +65,102 @@ fn address<A: Addresser>(alloc: Global, naming: &A, op: Op) -> Result<Op, Stop>
             } else {
                 None
             };
-            Ok(Op::Write {
+            let op = Op::Write {
                 session,
                 payload,
                 handles,
                 address,
-            })
+            };
+            Ok(Named { op, spelling })
         }
-        other => Ok(other),
+        other => Ok(Named {
+            op: other,
+            spelling,
+        }),
     }
 }
 
 impl Run {
-    ghost use Rattle.hs_top.specs.Asking.{Asks, AsksNot, Begins, LineHalts};
-    ghost use Rattle.hs_top.specs.Entering.{Tells, TellsNot};
-
-    /// A run that has begun no line.
-    pub(crate) fn new(alloc: Global) -> Result<Run, Stop>
-        ensures store { IfOk result (λ run. run.store ≡ empty_store 1) }
-        ensures journal { IfOk result (λ run. run.journal.entries ≡ []) }
-        ensures limit { IfOk result (λ run. run.journal.limit ≡ run_limits.ops) }
-        ensures refused { IfOk result (λ run. run.refused ≡ []) }
-        ensures line { IfOk result (λ run. run.line ≡ 0) }
-    {
-        let shape = Shape {
-            shards: 1,
-            copies: 1,
-        };
-        let store = match MemoryStore::new(alloc, shape) {
-            Ok(store) => store,
-            Err(_) => return Err(Stop::NoMemory),
-        };
-        Ok(Run {
-            alloc,
-            store,
-            journal: Journal::new(alloc, limits().ops),
-            refused: ListOf::new(alloc),
-            line: 0,
-            text: Vec::new(alloc),
-        })
-    }
-
-    /// Adds an entry to the journal and then puts its line. Where the journal is full the entry is
-    /// refused.
-    fn tell<K: Sink>(
-        &mut self,
-        entry: JournalEntry,
-        sink: &mut K,
-        watch: &mut Watch,
-    ) -> Result<(), Stop>
-        ensures told { OnOk result (Tells self.old self.new entry (bytes_of (K.got sink.old))
-            (bytes_of (K.got sink.new))) }
-        ensures halted { IfErr result (λ stop. TellsNot stop self.old self.new entry
-            (bytes_of (K.got sink.old)) (bytes_of (K.got sink.new))) }
-        ensures same { (self.new.store ≡ self.old.store) × (self.new.line ≡ self.old.line) ×
-            (self.new.journal.limit ≡ self.old.journal.limit) }
-        ensures later { watch.old ≤ watch.new }
-        ensures cause { SinkCause (K.faults sink.old) (K.faults sink.new) result }
-    {
-        if self.journal.is_full() {
-            self.refused.push(entry)?;
-            return Err(Stop::OpsFull);
-        }
-        self.text.clear();
-        match print_entry(&entry, &mut self.text) {
-            Ok(()) => {}
-            Err(_) => return Err(Stop::NoMemory),
-        }
-        match self.journal.push(entry) {
-            Ok(()) => {}
-            Err(_) => return Err(Stop::NoMemory),
-        }
-        put_all(sink, watch, self.text.as_slice())
-    }
-
-    /// Answers an operation of the line that is begun.
-    fn ask<A: Addresser, K: Sink>(
-        &mut self,
-        op: Op,
-        naming: &A,
-        sink: &mut K,
-        watch: &mut Watch,
-    ) -> Result<(), Stop>
-        requires built { IsBuilt op }
-        requires bare { IsBare op }
-        requires room { self.old.line < 2 ^ 63 }
-        ensures asks { OnOk result (Asks (A.name naming.now) run_limits op self.old self.new
-            (bytes_of (K.got sink.old)) (bytes_of (K.got sink.new)) watch.old watch.new) }
-        ensures halted { IfErr result (λ stop. AsksNot stop (A.name naming.now) run_limits op
-            self.old self.new (bytes_of (K.got sink.old)) (bytes_of (K.got sink.new)) watch.old
-            watch.new) }
-        ensures line { self.new.line ≡ self.old.line + 1 }
-        ensures limit { self.new.journal.limit ≡ self.old.journal.limit }
-        ensures later { watch.old ≤ watch.new }
-        ensures cause { SinkCause (K.faults sink.old) (K.faults sink.new) result }
-    {
-        self.line += 1;
-        let op = address(self.alloc, naming, op)?;
-        let answer = match self.store.judge(limits(), op) {
-            Ok(answer) => answer,
-            Err(_) => return Err(Stop::NoMemory),
-        };
-        let entry = JournalEntry {
-            who: Who::Line(self.line),
-            moment: watch.now(),
-            deed: answer.deed,
-            reply: answer.reply,
-        };
-        self.tell(entry, sink, watch)
-    }
+    ghost use Rattle.std.specs.Prelude.{length};
+    ghost use Rattle.hs_entry.specs.declared.entry.Entry.{Entry};
+    ghost use Rattle.hs_fold.specs.Served.{IsServed};
+    ghost use Rattle.hs_journal.specs.Events.{client_op};
+    ghost use Rattle.hs_limits.specs.declared.address.Address.{Address};
+    ghost use Rattle.hs_model.specs.declared.command.Command.{Command};
+    ghost use Rattle.hs_model.specs.declared.op.Op.{Op};
+    ghost use Rattle.hs_script.specs.Reading.{bad, command_in, reading};
+    ghost use Rattle.hs_single.specs.Images.{IsAlone};
+    ghost use Rattle.hs_single.specs.Serving.{IsReady, IsServing, IsSpelled};
+    ghost use Rattle.hs_top.specs.Asking.{AddsItems, Asks, AsksNot, Begins, IsAskStop, LineEnds, LineHalts, list_behind};
+    ghost use Rattle.hs_top.specs.Entering.{Adds, IsSame, Notes, Tells, TellsNot};
+    ghost use Rattle.hs_top.specs.Faults.{IsNoted, SinkCause};
+    ghost use Rattle.hs_top.specs.Lasting.{Going, Lasts};
+    ghost use Rattle.hs_top.specs.Lost.{has_note};
+    ghost use Rattle.hs_top.specs.Passing.{answer_entry, took_items, Concludes, Passes, PassesWhole};
+    ghost use Rattle.hs_top.specs.Serving.{Before};
 
     /// Begins the next line of the script. A bad line is not begun.
-    pub(crate) fn begin<A: Addresser, K: Sink>(
+    pub(crate) fn begin<A: Addresser, K: Sink, D: Disk>(
         &mut self,
         bytes: &[u8],
         naming: &A,
+        disk: &mut D,
         sink: &mut K,
         watch: &mut Watch,
     ) -> Result<(), Stop>
-        requires room { self.old.line < 2 ^ 63 }
-        ensures begins { OnOk result (Begins (A.name naming.now) run_limits
-            (client_op (command_in (reading bytes.now))) self.old self.new
-            (bytes_of (K.got sink.old)) (bytes_of (K.got sink.new)) watch.old watch.new) }
+        requires room { self.old.told.line < 2 ^ 63 }
+        requires ready { IsReady D.tells self.old.store
+            (D.size disk.old self.old.store.log.side) (D.stands disk.old) }
+
+        // Where the disk tells: what was answered, or why not.
+        ensures begins { D.tells → (list : List (ℕ × Entry)) → IsServing (A.name naming.now)
+            self.old.store ((D.stands disk.old).seen self.old.store.log.side) list
+            → OnOk result (Begins (A.name naming.now) run_limits (self.old.told.line + 1)
+            (client_op (command_in (reading bytes.now))) self.old self.new list
+            (D.stands disk.old) (D.stands disk.new)
+            (K.got sink.old) (K.got sink.new) watch.old watch.new) }
+        ensures halted { D.tells → (list : List (ℕ × Entry)) → IsServing (A.name naming.now)
+            self.old.store ((D.stands disk.old).seen self.old.store.log.side) list
+            → IfErr result (λ stop. LineHalts stop (A.name naming.now) run_limits
+            (self.old.told.line + 1) (reading bytes.now) self.old self.new list
+            (K.got sink.old) (K.got sink.new) watch.old watch.new) }
+
+        // And what holds of every stop.
+        ensures goes { D.tells → (commands : ℕ → Option Command) (start : Store) (before : ℕ)
+            (got : Option (List (ℕ × ℕ))) (list : List (ℕ × Entry))
+            → Before commands (A.name naming.now) run_limits start before got
+            (client_op (command_in (reading bytes.now))) self.old (D.stands disk.old)
+            (K.got sink.old) watch.old list
+            → OnOk result (Going commands (A.name naming.now) run_limits start before watch.new
+            (D.stands disk.new) self.new.store.log.side self.new.told.course
+            self.new.told.journal.entries got (K.got sink.new) (list_behind (A.name naming.now) run_limits (self.old.told.line + 1)
+            self.old.store list (client_op (command_in (reading bytes.now))))) }
+        ensures lasts { D.tells → (commands : ℕ → Option Command) (start : Store) (before : ℕ)
+            (got : Option (List (ℕ × ℕ))) (list : List (ℕ × Entry))
+            → Before commands (A.name naming.now) run_limits start before got
+            (client_op (command_in (reading bytes.now))) self.old (D.stands disk.old)
+            (K.got sink.old) watch.old list
+            → OnErr result (Lasts commands (A.name naming.now) run_limits start before watch.new
+            (D.stands disk.new) self.new.told.course self.new.told.journal.entries got
+            (K.got sink.new)) }
+
+        // Whatever the disk tells.
         ensures good { OnOk result (reading bytes.now ≡ bad → ⊥) }
-        ensures halted { IfErr result (λ stop. LineHalts stop (A.name naming.now) run_limits
-            (reading bytes.now) self.old self.new (bytes_of (K.got sink.old))
-            (bytes_of (K.got sink.new)) watch.old watch.new) }
-        ensures line { OnOk result (self.new.line ≡ self.old.line + 1) }
-        ensures most { self.new.line ≤ self.old.line + 1 }
-        ensures limit { self.new.journal.limit ≡ self.old.journal.limit }
-        ensures later { watch.old ≤ watch.new }
+        ensures line { OnOk result (self.new.told.line ≡ self.old.told.line + 1) }
+        ensures ends { IfErr result (λ stop. LineEnds stop (reading bytes.now)
+            self.old.told.line self.new.told.line) }
+        ensures most { self.new.told.line ≤ self.old.told.line + 1 }
+        ensures ready { OnOk result (IsReady D.tells self.new.store
+            (D.size disk.new self.new.store.log.side) (D.stands disk.new)) }
+        ensures limit { self.new.told.journal.limit ≡ self.old.told.journal.limit }
+        ensures course { AddsItems (self.old.told.line + 1) self.new.told.line
+            (client_op (command_in (reading bytes.now))) self.old.told.course
+            self.new.told.course }
+        ensures noted { D.tells → (list : List (ℕ × Entry)) → IsServing (A.name naming.now)
+            self.old.store ((D.stands disk.old).seen self.old.store.log.side) list
+            → IsNoted (has_note self.old.told.journal.entries)
+            (has_note self.new.told.journal.entries) (D.faults disk.old) (D.faults disk.new) }
+        ensures later { D.faults disk.old ≤ D.faults disk.new }
         ensures cause { SinkCause (K.faults sink.old) (K.faults sink.new) result }
     {
         let read = match read_line(self.alloc, bytes) {
@@ -203,16 +169,193 @@ impl Run {
             Err(ScriptFault::NoMemory) => return Err(Stop::NoMemory),
         };
         match read {
-            Some(Command::Client(op)) => self.ask(op, naming, sink, watch),
+            Some(Command::Client(op)) => self.ask(op, naming, disk, sink, watch),
             Some(Command::Settle) => {
-                self.line += 1;
+                self.told.line += 1;
                 Ok(())
             }
             None => {
-                self.line += 1;
+                self.told.line += 1;
                 Ok(())
             }
             Some(_) => unreachable!(),
         }
+    }
+
+    /// Begins the next line, on which a client asks, and answers it.
+    fn ask<A: Addresser, K: Sink, D: Disk>(
+        &mut self,
+        op: Op,
+        naming: &A,
+        disk: &mut D,
+        sink: &mut K,
+        watch: &mut Watch,
+    ) -> Result<(), Stop>
+        requires built { IsBuilt op }
+        requires bare { IsBare op }
+        requires room { self.old.told.line < 2 ^ 63 }
+        requires ready { IsReady D.tells self.old.store
+            (D.size disk.old self.old.store.log.side) (D.stands disk.old) }
+
+        ensures asks { D.tells → (list : List (ℕ × Entry)) → IsServing (A.name naming.now)
+            self.old.store ((D.stands disk.old).seen self.old.store.log.side) list
+            → OnOk result (Asks (A.name naming.now) run_limits (self.old.told.line + 1) op
+            self.old self.new list (D.stands disk.new) (K.got sink.old) (K.got sink.new) watch.old watch.new) }
+        ensures halted { D.tells → (list : List (ℕ × Entry)) → IsServing (A.name naming.now)
+            self.old.store ((D.stands disk.old).seen self.old.store.log.side) list
+            → IfErr result (λ stop. AsksNot stop (A.name naming.now) run_limits
+            (self.old.told.line + 1) op self.old self.new list (K.got sink.old) (K.got sink.new) watch.old watch.new) }
+
+        ensures goes { D.tells → (commands : ℕ → Option Command) (start : Store) (before : ℕ)
+            (got : Option (List (ℕ × ℕ))) (list : List (ℕ × Entry))
+            → Before commands (A.name naming.now) run_limits start before got (Some op) self.old
+            (D.stands disk.old) (K.got sink.old) watch.old list
+            → OnOk result (Going commands (A.name naming.now) run_limits start before watch.new
+            (D.stands disk.new) self.new.store.log.side self.new.told.course
+            self.new.told.journal.entries got (K.got sink.new) (list_behind (A.name naming.now) run_limits (self.old.told.line + 1)
+            self.old.store list (Some op))) }
+        ensures lasts { D.tells → (commands : ℕ → Option Command) (start : Store) (before : ℕ)
+            (got : Option (List (ℕ × ℕ))) (list : List (ℕ × Entry))
+            → Before commands (A.name naming.now) run_limits start before got (Some op) self.old
+            (D.stands disk.old) (K.got sink.old) watch.old list
+            → OnErr result (Lasts commands (A.name naming.now) run_limits start before watch.new
+            (D.stands disk.new) self.new.told.course self.new.told.journal.entries got
+            (K.got sink.new)) }
+
+        ensures line { self.new.told.line ≡ self.old.told.line + 1 }
+        ensures stops { IfErr result IsAskStop }
+        ensures ready { OnOk result (IsReady D.tells self.new.store
+            (D.size disk.new self.new.store.log.side) (D.stands disk.new)) }
+        ensures limit { self.new.told.journal.limit ≡ self.old.told.journal.limit }
+        ensures course { AddsItems (self.old.told.line + 1) self.new.told.line (Some op)
+            self.old.told.course self.new.told.course }
+        ensures noted { D.tells → (list : List (ℕ × Entry)) → IsServing (A.name naming.now)
+            self.old.store ((D.stands disk.old).seen self.old.store.log.side) list
+            → IsNoted (has_note self.old.told.journal.entries)
+            (has_note self.new.told.journal.entries) (D.faults disk.old) (D.faults disk.new) }
+        ensures later { D.faults disk.old ≤ D.faults disk.new }
+        ensures cause { SinkCause (K.faults sink.old) (K.faults sink.new) result }
+    {
+        self.told.line += 1;
+        let begun = CourseItem::Begun {
+            line: self.told.line,
+            moment: watch.now(),
+        };
+        self.told.note(begun)?;
+        let asked = name_block(self.alloc, naming, op)?;
+        self.answer(asked.op, asked.spelling, disk, sink, watch)
+    }
+
+    /// Answers the operation of the line that is begun.
+    fn answer<K: Sink, D: Disk>(
+        &mut self,
+        op: Op,
+        spelling: Vec<u8>,
+        disk: &mut D,
+        sink: &mut K,
+        watch: &mut Watch,
+    ) -> Result<(), Stop>
+        requires served { IsServed op }
+        requires spelled { IsSpelled op spelling.items }
+        requires ready { IsReady D.tells self.old.store
+            (D.size disk.old self.old.store.log.side) (D.stands disk.old) }
+
+        ensures asks { D.tells → (name : List ℕ → Address) (o : Op) (list : List (ℕ × Entry))
+            → IsNamedAs name o op spelling.items → IsServing name self.old.store
+            ((D.stands disk.old).seen self.old.store.log.side) list
+            → OnOk result (Asks name run_limits self.old.told.line o self.old self.new list
+            (D.stands disk.new) (K.got sink.old) (K.got sink.new) watch.old watch.new) }
+        ensures halted { D.tells → (name : List ℕ → Address) (o : Op) (list : List (ℕ × Entry))
+            → IsNamedAs name o op spelling.items → IsServing name self.old.store
+            ((D.stands disk.old).seen self.old.store.log.side) list
+            → IfErr result (λ stop. AsksNot stop name run_limits self.old.told.line o self.old
+            self.new list (K.got sink.old) (K.got sink.new) watch.old watch.new) }
+
+        ensures passes { D.tells → (D.stands disk.old).last ≤ watch.old
+            → IsAlone self.old.store.log.side (D.stands disk.old)
+            → (name : List ℕ → Address) (o : Op) (list : List (ℕ × Entry))
+            → IsNamedAs name o op spelling.items → IsServing name self.old.store
+            ((D.stands disk.old).seen self.old.store.log.side) list
+            → OnOk result (PassesWhole name run_limits self.old.told.line o watch.old watch.new
+            self.old self.new (D.stands disk.old) (D.stands disk.new) list (K.got sink.old)
+            (K.got sink.new)) }
+        ensures passes_not { D.tells → (D.stands disk.old).last ≤ watch.old
+            → IsAlone self.old.store.log.side (D.stands disk.old)
+            → (name : List ℕ → Address) (o : Op) (list : List (ℕ × Entry))
+            → IsNamedAs name o op spelling.items → IsServing name self.old.store
+            ((D.stands disk.old).seen self.old.store.log.side) list
+            → OnErr result (Passes name run_limits self.old.told.line o watch.old watch.new
+            self.old self.new (D.stands disk.old) (D.stands disk.new) list (K.got sink.old)
+            (K.got sink.new)) }
+
+        ensures line { self.new.told.line ≡ self.old.told.line }
+        ensures stops { IfErr result IsAskStop }
+        ensures ready { OnOk result (IsReady D.tells self.new.store
+            (D.size disk.new self.new.store.log.side) (D.stands disk.new)) }
+        ensures limit { self.new.told.journal.limit ≡ self.old.told.journal.limit }
+        ensures course { AddsItems self.old.told.line self.new.told.line (Some op)
+            self.old.told.course self.new.told.course }
+        ensures noted { D.tells → (name : List ℕ → Address) (list : List (ℕ × Entry))
+            → IsServing name self.old.store
+            ((D.stands disk.old).seen self.old.store.log.side) list
+            → IsNoted (has_note self.old.told.journal.entries)
+            (has_note self.new.told.journal.entries) (D.faults disk.old) (D.faults disk.new) }
+        ensures later { D.faults disk.old ≤ D.faults disk.new }
+        ensures cause { SinkCause (K.faults sink.old) (K.faults sink.new) result }
+    {
+        let before = self.store.last();
+        match self
+            .store
+            .ask(limits(), self.told.line, op, spelling, disk, watch)
+        {
+            Ok(answer) => self.conclude(answer, before, sink, watch),
+            Err(fault) => match fault {
+                SingleFault::NoMemory => Err(Stop::NoMemory),
+                _ => Err(self.told.lose_good(sink, watch)),
+            },
+        }
+    }
+
+    /// Tells an answer. Where the store has an entry more than `before`, it took effect.
+    fn conclude<K: Sink>(
+        &mut self,
+        answer: Answer,
+        before: u64,
+        sink: &mut K,
+        watch: &mut Watch,
+    ) -> Result<(), Stop>
+        ensures concluded { OnOk result (Concludes watch.new self.old.told self.new.told
+            (answer_entry self.old.told.line watch.old answer)
+            (took_items before (length self.old.store.log.places) watch.old)
+            (K.got sink.old) (K.got sink.new)) }
+        ensures halted { IfErr result (λ stop. TellsNot stop self.old.told self.new.told
+            (answer_entry self.old.told.line watch.old answer)
+            (K.got sink.old) (K.got sink.new)) }
+        ensures adds { Adds watch.old watch.new self.old.told self.new.told
+            (answer_entry self.old.told.line watch.old answer)
+            (K.got sink.old) (K.got sink.new) }
+        ensures notes { Notes watch.old watch.new self.old.told self.new.told
+            (took_items before (length self.old.store.log.places) watch.old) }
+        ensures store { self.new.store ≡ self.old.store }
+        ensures line { self.new.told.line ≡ self.old.told.line }
+        ensures limit { self.new.told.journal.limit ≡ self.old.told.journal.limit }
+        ensures cause { SinkCause (K.faults sink.old) (K.faults sink.new) result }
+    {
+        let last = self.store.last();
+        if last != before {
+            let took = CourseItem::Took {
+                shard: 0,
+                number: last,
+                moment: watch.now(),
+            };
+            self.told.note(took)?;
+        }
+        let entry = JournalEntry {
+            who: Who::Line(self.told.line),
+            moment: watch.now(),
+            deed: answer.deed,
+            reply: answer.reply,
+        };
+        self.told.tell(entry, sink, watch)
     }
 }

@@ -2,6 +2,7 @@
 ghost use Rattle.std.specs.Prelude.{◌≡◌, ◌++◌, OnOk, IsOkUnless};
 ghost use Rattle.hs_top.specs.Status.{status_code, fault_text};
 
+use hs_side::Header;
 use std::io;
 use std::io::Write;
 use thiserror::Error;
@@ -15,12 +16,16 @@ pub enum Status {
     Usage,
     /// The first line outside the script language.
     BadLine { line: u64 },
+    /// A shard has no good peer any more.
+    ShardLost { shard: u8 },
     /// The source failed.
     ReadFault,
     /// The sink failed.
     WriteFault,
     /// There was no memory.
     NoMemory,
+    /// The disk of a peer is of a store of another shape, or of another peer.
+    WrongShape { peer: u8, found: Header },
     /// The journal can't take the entries of the next event.
     OpsFull,
     /// The input has more bytes than a script may have.
@@ -43,9 +48,11 @@ impl Status {
             Status::Done => 0,
             Status::Usage => 2,
             Status::BadLine { .. } => 3,
+            Status::ShardLost { .. } => 4,
             Status::ReadFault => 5,
             Status::WriteFault => 6,
             Status::NoMemory => 7,
+            Status::WrongShape { .. } => 8,
             Status::OpsFull => 10,
             Status::InputFull => 13,
         }
@@ -73,9 +80,13 @@ fn put_line(status: &Status, out: &mut Vec<u8>) -> io::Result<()>
         Status::BadLine { line } => {
             write!(out, "hydra: line {line} is not in the script language\n")
         }
+        Status::ShardLost { shard } => write!(out, "hydra: shard {shard} has no good peer\n"),
         Status::ReadFault => write!(out, "hydra: the input could not be read\n"),
         Status::WriteFault => write!(out, "hydra: the output could not be written\n"),
         Status::NoMemory => write!(out, "hydra: out of memory\n"),
+        Status::WrongShape { peer, .. } => {
+            write!(out, "hydra: the disk of peer {peer} is of another store\n")
+        }
         Status::OpsFull => write!(out, "hydra: the journal is full\n"),
         Status::InputFull => write!(out, "hydra: the input is too long\n"),
     }

@@ -2,11 +2,16 @@
 ghost use Rattle.std.specs.Prelude.{◌≡◌};
 ghost use Rattle.hs_top.specs.declared.stop.Stop.TheVariants.{NoMemory};
 
+use hs_side::Header;
 use std::alloc::{AllocError, AllocFailed};
 
 /// Why a run stops: what the top call makes a status of.
 #[derive(Clone, Copy, Debug, PartialEq, Eq)]
 pub(crate) enum Stop {
+    /// The disk is of a store of another shape, or of another peer.
+    WrongShape { found: Header },
+    /// The only shard has no good peer: its disk failed, or is no log.
+    ShardLost,
     /// The next line is outside the script language.
     BadLine,
     /// The source failed.

@@ -1,6 +1,7 @@
 //! What is put into the sink.
 ghost use Rattle.std.specs.Prelude.{◌≡◌, ◌≤◌, ◌-◌, ℕ, take, OnOk, OnErr, IsOkUnless};
 ghost use Rattle.hs_ports.specs.Sink.{bytes_of, followed};
+ghost use Rattle.hs_top.specs.Entering.{PutsAll, PutsLate};
 ghost use Rattle.hs_top.specs.Faults.{SinkCause};
 ghost use Rattle.hs_top.specs.Headline.{PutsFront};
 
@@ -13,8 +14,9 @@ pub(crate) fn put_all<K: Sink>(sink: &mut K, watch: &mut Watch, bytes: &[u8]) ->
         bytes.now) }
     ensures front { OnErr result (PutsFront (bytes_of (K.got sink.old)) bytes.now
         (bytes_of (K.got sink.new))) }
+    ensures late { PutsLate watch.old watch.new bytes.now (K.got sink.old) (K.got sink.new) }
+    ensures all { OnOk result (PutsAll watch.new bytes.now (K.got sink.old) (K.got sink.new)) }
     ensures err { IsOkUnless result Stop.WriteFault }
-    ensures later { watch.old ≤ watch.new }
     ensures cause { SinkCause (K.faults sink.old) (K.faults sink.new) result }
 {
     let mut done = 0;

@@ -1,23 +1,25 @@
 //! The top call.
-ghost use Rattle.std.specs.Prelude.{◌≡◌, ◌+◌, ◌<◌, ◌^◌, ◌≤◌, false, true, [], map, string_bytes, vec_len, IfSome};
-ghost use Rattle.hs_journal.specs.Events.{events_of};
-ghost use Rattle.hs_model.specs.Store.{empty_store};
+ghost use Rattle.std.specs.Prelude.{◌≡◌, ◌<◌, ◌^◌, ◌≤◌, ◌∷◌, false, true, [], map, string_bytes, vec_len, IfSome};
 ghost use Rattle.hs_ports.specs.Fault.{HasRisen};
 ghost use Rattle.hs_script.specs.Reading.{commands};
-ghost use Rattle.hs_top.specs.Ending.{Fulfils, IsUntouched, status_of};
-ghost use Rattle.hs_top.specs.Headline.{Answers, Ends, KeepsAllAlong, Refuses, input_limit, is_run, run_limits};
+ghost use Rattle.hs_top.specs.Ending.{IsUntouched, status_of};
+ghost use Rattle.hs_top.specs.Headline.{Ends, is_run};
+ghost use Rattle.hs_top.specs.Promise.{Promises};
 ghost use Rattle.hs_top.specs.Words.{is_load};
 
+use crate::opening::open_store;
 use crate::reader::Reader;
-use crate::run::Run;
+use crate::run::{Run, limits};
 use crate::script::serve;
 use crate::stop::Stop;
+use crate::transcript::Transcript;
 use crate::words::{is_load, shape_of};
 use crate::{Outcome, Status};
 use hs_block::Addresser;
 use hs_journal::Journal;
 use hs_limits::ListOf;
 use hs_ports::{Disk, Sink, Source, Watch};
+use hs_single::Single;
 use std::alloc::Global;
 use std::sync::Wait;
 use std::thread::Threads;
@@ -32,6 +34,8 @@ fn status_of(ended: Result<(), Stop>, line: u64) -> Status
 {
     match ended {
         Ok(()) => Status::Done,
+        Err(Stop::WrongShape { found }) => Status::WrongShape { peer: 0, found },
+        Err(Stop::ShardLost) => Status::ShardLost { shard: 0 },
         Err(Stop::BadLine) => Status::BadLine { line: line + 1 },
         Err(Stop::ReadFault) => Status::ReadFault,
         Err(Stop::WriteFault) => Status::WriteFault,
@@ -41,66 +45,91 @@ fn status_of(ended: Result<(), Stop>, line: u64) -> Status
     }
 }
 
+/// The outcome of a run that was told so.
+fn outcome(told: Transcript, ended: Result<(), Stop>) -> Outcome
+    requires { told.line < 2 ^ 63 }
+    ensures status { result.status ≡ status_of ended told.line }
+    ensures journal { result.journal.entries ≡ told.journal.entries }
+    ensures refused { result.refused ≡ told.refused }
+    ensures course { result.course ≡ told.course }
+    ensures line { result.line ≡ told.line }
+{
+    let status = status_of(ended, told.line);
+    let Transcript {
+        journal,
+        refused,
+        course,
+        line,
+        text: _,
+    } = told;
+    Outcome {
+        status,
+        journal,
+        refused,
+        course,
+        line,
+    }
+}
+
 /// The outcome of a run that did nothing.
 fn nothing(alloc: Global, status: Status) -> Outcome
     ensures status { result.status ≡ status }
     ensures journal { result.journal.entries ≡ [] }
     ensures refused { result.refused ≡ [] }
+    ensures course { result.course ≡ [] }
     ensures line { result.line ≡ 0 }
 {
     Outcome {
         status,
         journal: Journal::new(alloc, 0),
         refused: ListOf::new(alloc),
+        course: ListOf::new(alloc),
         line: 0,
     }
 }
 
-/// Runs a script over blocks in memory.
-fn script<A: Addresser, S: Source, K: Sink>(
+/// Runs a script over the store of a disk.
+fn script<A: Addresser, S: Source, K: Sink, D: Disk>(
     alloc: Global,
     naming: &A,
     source: &mut S,
     sink: &mut K,
+    disk: &mut D,
     watch: &mut Watch,
 ) -> Outcome
-    ensures fulfils { IfSome (S.left source.old) (λ text. Fulfils text (S.left source.new)
-        (A.name naming.now)
-        run_limits (empty_store 1) result.status result.line
-        result.journal.entries result.refused (K.got sink.old) (K.got sink.new)) }
+    ensures promises { D.tells → IfSome (S.left source.old) (λ text. Promises (commands text)
+        (A.name naming.now) result.status result.line result.journal.entries result.refused
+        result.course watch.old watch.new (D.stands disk.old ∷ []) (D.stands disk.new ∷ [])
+        (D.faults disk.old ∷ []) (D.faults disk.new ∷ []) (K.got sink.old) (K.got sink.new)) }
+    ensures ends { IfSome (S.left source.old) (λ text.
+        Ends text (S.left source.new) result.status result.line) }
     ensures no_usage { result.status ≡ Status.Usage → ⊥ }
-    ensures read_fault { result.status ≡ Status.ReadFault → HasRisen (S.faults source.old)
-        (S.faults source.new) }
-    ensures write_fault { result.status ≡ Status.WriteFault → HasRisen (K.faults sink.old)
-        (K.faults sink.new) }
+    ensures read_fault { result.status ≡ Status.ReadFault
+        → HasRisen (S.faults source.old) (S.faults source.new) }
+    ensures write_fault { result.status ≡ Status.WriteFault
+        → HasRisen (K.faults sink.old) (K.faults sink.new) }
     ensures source_later { S.faults source.old ≤ S.faults source.new }
     ensures sink_later { K.faults sink.old ≤ K.faults sink.new }
+    ensures disk_later { D.faults disk.old ≤ D.faults disk.new }
 {
-    let mut run = match Run::new(alloc) {
-        Ok(run) => run,
-        Err(_) => return nothing(alloc, Status::NoMemory),
+    let mut told = Transcript::new(alloc, limits().ops);
+    let store = match open_store(alloc, &mut told, naming, disk, sink, watch) {
+        Ok(store) => store,
+        Err(stop) => return outcome(told, Err(stop)),
     };
+    let mut run = Run { alloc, told, store };
     let mut reader = Reader::new(alloc, INPUT_MOST);
-    let ended = serve(&mut run, &mut reader, naming, source, sink, watch);
-    let status = status_of(ended, run.line);
+    let ended = serve(&mut run, &mut reader, naming, source, disk, sink, watch);
     let Run {
         alloc: _,
+        told,
         store: _,
-        journal,
-        refused,
-        line,
-        text: _,
     } = run;
-    Outcome {
-        status,
-        journal,
-        refused,
-        line,
-    }
+    outcome(told, ended)
 }
 
-/// Does every command but `load`, and waits for nobody. So far that is `script DIR 1 1`, with
-/// blocks in memory: the disks are not touched. Other words are a faulty command line.
+/// Does every command but `load`, and waits for nobody. So far that is `script DIR 1 1`. Other words
+/// are a faulty command line.
 pub fn hydra_alone<A: Addresser, S: Source, K: Sink, D: Disk + Drop>(
     alloc: Global,
     words: &[String],
@@ -112,28 +141,20 @@ pub fn hydra_alone<A: Addresser, S: Source, K: Sink, D: Disk + Drop>(
 ) -> Outcome
     requires { is_load (map (λ word. string_bytes word) words.now) ≡ false }
 
-    // Clause 1, on every status of a run, where the source tells the script.
-    ensures answers { is_run (map (λ word. string_bytes word) words.now) (vec_len disks.old) ≡ true
-        → IfSome (S.left source.old) (λ text.
-        Answers (commands text) (A.name naming.now) run_limits (empty_store 1) result.status
-        result.line result.journal.entries (K.got sink.old) (K.got sink.new)) }
+    // Clauses 1, 2 and 3, the course, and the causes of a loss and of a disk that is refused,
+    // where the disk and the source tell.
+    ensures promises { D.tells
+        → is_run (map (λ word. string_bytes word) words.now) (vec_len disks.old) ≡ true
+        → IfSome (S.left source.old) (λ text. Promises (commands text) (A.name naming.now)
+        result.status result.line result.journal.entries result.refused result.course watch.old
+        watch.new (map (λ disk. D.stands disk) disks.old.items)
+        (map (λ disk. D.stands disk) disks.new.items) (map (λ disk. D.faults disk) disks.old.items)
+        (map (λ disk. D.faults disk) disks.new.items) (K.got sink.old) (K.got sink.new)) }
 
-    // Clause 2: nothing is lost, in every store along the run.
-    ensures keeps { is_run (map (λ word. string_bytes word) words.now) (vec_len disks.old) ≡ true
-        → IfSome (S.left source.old) (λ text. KeepsAllAlong run_limits (empty_store 1)
-        (events_of (commands text) (A.name naming.now) run_limits (empty_store 1)
-        result.journal.entries)) }
-
-    // What was refused, which lines were begun, and why the run ended.
-    ensures refuses { is_run (map (λ word. string_bytes word) words.now) (vec_len disks.old) ≡ true
-        → IfSome (S.left source.old) (λ text.
-        Refuses result.status (commands text) (A.name naming.now) run_limits (empty_store 1)
-        result.journal.entries result.refused) }
+    // Which lines were begun, and why the run ended.
     ensures ends { is_run (map (λ word. string_bytes word) words.now) (vec_len disks.old) ≡ true
         → IfSome (S.left source.old) (λ text.
         Ends text (S.left source.new) result.status result.line) }
-
-    // Which status comes.
     ensures usage { is_run (map (λ word. string_bytes word) words.now) (vec_len disks.old) ≡ false
         → result.status ≡ Status.Usage }
     ensures only_usage { result.status ≡ Status.Usage
@@ -146,18 +167,20 @@ pub fn hydra_alone<A: Addresser, S: Source, K: Sink, D: Disk + Drop>(
     // What stays.
     ensures untouched { result.status ≡ Status.Usage → IsUntouched
         result.journal.entries result.refused result.line
-        (S.left source.old) (S.left source.new) (K.got sink.old) (K.got sink.new) watch.old watch.new }
-    ensures disks { disks.new.items ≡ disks.old.items }
+        (S.left source.old) (S.left source.new) (K.got sink.old) (K.got sink.new)
+        watch.old watch.new }
+    ensures disks { result.status ≡ Status.Usage → disks.new.items ≡ disks.old.items }
+    ensures count { vec_len disks.new ≡ vec_len disks.old }
     ensures source_later { S.faults source.old ≤ S.faults source.new }
     ensures sink_later { K.faults sink.old ≤ K.faults sink.new }
 {
-    let Some(shape) = shape_of(words) else {
-        return nothing(alloc, Status::Usage);
-    };
-    if disks.len() != usize::from(shape.shards) * usize::from(shape.copies) {
+    if shape_of(words).is_none() {
         return nothing(alloc, Status::Usage);
     }
-    script(alloc, naming, source, sink, watch)
+    match disks.as_mut_slice() {
+        [disk] => script(alloc, naming, source, sink, disk, watch),
+        _ => nothing(alloc, Status::Usage),
+    }
 }
 
 /// Does a command. `load` is a faulty command line so far; every other command is `hydra_alone`'s.
@@ -177,28 +200,20 @@ pub fn hydra<
     disks: &mut Vec<D>,
     watch: &mut Watch,
 ) -> Outcome
-    // Clause 1, on every status of a run, where the source tells the script.
-    ensures answers { is_run (map (λ word. string_bytes word) words.now) (vec_len disks.old) ≡ true
-        → IfSome (S.left source.old) (λ text.
-        Answers (commands text) (A.name naming.now) run_limits (empty_store 1) result.status
-        result.line result.journal.entries (K.got sink.old) (K.got sink.new)) }
+    // Clauses 1, 2 and 3, the course, and the causes of a loss and of a disk that is refused,
+    // where the disk and the source tell.
+    ensures promises { D.tells
+        → is_run (map (λ word. string_bytes word) words.now) (vec_len disks.old) ≡ true
+        → IfSome (S.left source.old) (λ text. Promises (commands text) (A.name naming.now)
+        result.status result.line result.journal.entries result.refused result.course watch.old
+        watch.new (map (λ disk. D.stands disk) disks.old.items)
+        (map (λ disk. D.stands disk) disks.new.items) (map (λ disk. D.faults disk) disks.old.items)
+        (map (λ disk. D.faults disk) disks.new.items) (K.got sink.old) (K.got sink.new)) }
 
-    // Clause 2: nothing is lost, in every store along the run.
-    ensures keeps { is_run (map (λ word. string_bytes word) words.now) (vec_len disks.old) ≡ true
-        → IfSome (S.left source.old) (λ text. KeepsAllAlong run_limits (empty_store 1)
-        (events_of (commands text) (A.name naming.now) run_limits (empty_store 1)
-        result.journal.entries)) }
-
-    // What was refused, which lines were begun, and why the run ended.
-    ensures refuses { is_run (map (λ word. string_bytes word) words.now) (vec_len disks.old) ≡ true
-        → IfSome (S.left source.old) (λ text.
-        Refuses result.status (commands text) (A.name naming.now) run_limits (empty_store 1)
-        result.journal.entries result.refused) }
+    // Which lines were begun, and why the run ended.
     ensures ends { is_run (map (λ word. string_bytes word) words.now) (vec_len disks.old) ≡ true
         → IfSome (S.left source.old) (λ text.
         Ends text (S.left source.new) result.status result.line) }
-
-    // Which status comes.
     ensures usage { is_run (map (λ word. string_bytes word) words.now) (vec_len disks.old) ≡ false
         → result.status ≡ Status.Usage }
     ensures only_usage { result.status ≡ Status.Usage
@@ -211,8 +226,10 @@ pub fn hydra<
     // What stays.
     ensures untouched { result.status ≡ Status.Usage → IsUntouched
         result.journal.entries result.refused result.line
-        (S.left source.old) (S.left source.new) (K.got sink.old) (K.got sink.new) watch.old watch.new }
-    ensures disks { disks.new.items ≡ disks.old.items }
+        (S.left source.old) (S.left source.new) (K.got sink.old) (K.got sink.new)
+        watch.old watch.new }
+    ensures disks { result.status ≡ Status.Usage → disks.new.items ≡ disks.old.items }
+    ensures count { vec_len disks.new ≡ vec_len disks.old }
     ensures source_later { S.faults source.old ≤ S.faults source.new }
     ensures sink_later { K.faults sink.old ≤ K.faults sink.new }
 {

@@ -1,12 +1,12 @@
 //! A pair of files as a disk.
-ghost use Rattle.std.specs.Prelude.{◌≡◌, IfNone};
+ghost use Rattle.std.specs.Prelude.{◌≡◌, false, IfNone};
 ghost use Rattle.hs_ports.specs.MemoryDisk.{untold, of_side};
 
 use crate::fault_count::FaultCount;
 use crate::side_file::SideFile;
 use hs_ports::{Disk, PortFault, Side, Watch};
 use std::alloc::Global;
-use std::fs::{OpenFile, OpenOptions};
+use std::fs::{File, OpenFile, OpenOptions, TryLockError};
 use std::io::{Read, Seek, Write};
 use std::rt::Files;
 use std::{fs, io};
@@ -18,6 +18,8 @@ pub struct FileDisk<F> {
     zero: SideFile<F>,
     one: SideFile<F>,
     count: FaultCount,
+    /// Whether there are no files since another run has them.
+    pub is_taken: bool,
 }
 
 impl<F: Read + Write + Seek + OpenFile + Drop> FileDisk<F> {
@@ -27,21 +29,33 @@ impl<F: Read + Write + Seek + OpenFile + Drop> FileDisk<F> {
         ensures zero { IfNone files (⟦<FileDisk<F> as Disk>⟧.size result Side.Zero ≡ 0) }
         ensures one { IfNone files (⟦<FileDisk<F> as Disk>⟧.size result Side.One ≡ 0) }
         ensures faults { ⟦<FileDisk<F> as Disk>⟧.faults result ≡ 0 }
+        ensures taken { result.is_taken ≡ false }
     {
-        let count = FaultCount::new();
         if let Some((zero, one)) = files {
             if let (Ok(zero_data), Ok(one_data)) = (zero.metadata(), one.metadata()) {
                 return FileDisk {
                     zero: SideFile::new(zero, zero_data.len()),
                     one: SideFile::new(one, one_data.len()),
-                    count,
+                    count: FaultCount::new(),
+                    is_taken: false,
                 };
             }
         }
+        FileDisk::absent(false)
+    }
+
+    /// A disk without files, whose calls all fail.
+    pub fn absent(is_taken: bool) -> FileDisk<F>
+        ensures zero { ⟦<FileDisk<F> as Disk>⟧.size result Side.Zero ≡ 0 }
+        ensures one { ⟦<FileDisk<F> as Disk>⟧.size result Side.One ≡ 0 }
+        ensures faults { ⟦<FileDisk<F> as Disk>⟧.faults result ≡ 0 }
+        ensures taken { result.is_taken ≡ is_taken }
+    {
         FileDisk {
             zero: SideFile::absent(),
             one: SideFile::absent(),
-            count,
+            count: FaultCount::new(),
+            is_taken,
         }
     }
 
@@ -54,30 +68,44 @@ impl<F: Read + Write + Seek + OpenFile + Drop> FileDisk<F> {
 }
 
 /// The disk of a peer: the files `peerP.side0` and `peerP.side1` of a folder, which are made where
-/// they are absent. Where one can't be opened, it is a disk whose calls all fail.
-pub fn open_disk<R: Files>(rt: &R, alloc: Global, dir: &str, peer: usize) -> FileDisk<R::File> {
+/// they are absent. A lock on the first keeps other runs out until the disk is dropped. Where one
+/// can't be opened, or another run has the lock, it is a disk whose calls all fail.
+pub fn open_disk<R: Files<File = File>>(
+    rt: &R,
+    alloc: Global,
+    dir: &str,
+    peer: usize,
+) -> FileDisk<File> {
     // A file that is opened while a standard stream is closed gets that stream's number, and
     // would be read as input or written as output. These three take such numbers meanwhile.
     let held = (fs::open(rt, "/"), fs::open(rt, "/"), fs::open(rt, "/"));
     let (Ok(_), Ok(_), Ok(_)) = &held else {
-        return FileDisk::new(None);
+        return FileDisk::absent(false);
     };
-    let zero = open_side(rt, alloc, dir, peer, 0);
+    let Ok(zero) = open_side(rt, alloc, dir, peer, 0) else {
+        return FileDisk::absent(false);
+    };
+    // The lock comes before the lengths are read: until then another run may change them.
+    match zero.try_lock() {
+        Ok(()) => {}
+        Err(TryLockError::WouldBlock) => return FileDisk::absent(true),
+        Err(TryLockError::Error(_)) => return FileDisk::absent(false),
+    }
     let one = open_side(rt, alloc, dir, peer, 1);
     drop(held);
-    match (zero, one) {
-        (Ok(zero), Ok(one)) => FileDisk::new(Some((zero, one))),
-        _ => FileDisk::new(None),
+    match one {
+        Ok(one) => FileDisk::new(Some((zero, one))),
+        Err(_) => FileDisk::absent(false),
     }
 }
 
-fn open_side<R: Files>(
+fn open_side<R: Files<File = File>>(
     rt: &R,
     alloc: Global,
     dir: &str,
     peer: usize,
     side: u8,
-) -> io::Result<R::File> {
+) -> io::Result<File> {
     let path = format!(in alloc; "{dir}/peer{peer}.side{side}")?;
     let mut options = OpenOptions::new();
     options.read(true).write(true).create(true);

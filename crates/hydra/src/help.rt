@@ -17,9 +17,10 @@ One command is built so far, with G and R both 1 and no options:
   hydra script DIR 1 1
 
 It reads a script from standard input and prints the answers to standard output.
-The blocks are kept in memory until the run ends. Where DIR is a folder, the files
-peer0.side0 and peer0.side1 are made in it if absent, and nothing is written to
-DIR yet.
+The blocks are kept in DIR, which is made if absent, in the files peer0.side0 and
+peer0.side1. What a line did is on the disk before it is answered, and a later
+run finds what an earlier one left, wherever that one stopped; sessions end with
+their run. One run at a time has a DIR: another is told so on standard error.
 
 The lines of a script, each ended by a line feed:
 
@@ -34,8 +35,8 @@ The lines of a script, each ended by a line feed:
   # ...         a comment, which is passed over, as an empty line is
 
 An answer begins with the number of the line that asked: ok, new for a block that
-was not there, dup for one that was, bytes for its data, and no for a refusal. A
-script, and beside it what is printed:
+was not there, dup for one that was, bytes for its data, stat for the counts, and
+no for a refusal. A script, and beside it what is printed on a new DIR:
 
   open a          1 ok
   write a 6162    2 new h0 e1
@@ -48,9 +49,12 @@ Exit statuses, each but 0 with a line on standard error:
    0  the script was read to its end
    2  the words are not those of a command
    3  a line is not in the script language; the lines before it were run
+   4  the disk failed or is no log of a store, or another run has it; the last
+      line printed is - down 0
    5  the input could not be read
    6  the output could not be written
    7  out of memory
+   8  the disk is of another store; nothing was written to it
   10  the journal of the run is full: so far it takes 64 answers
   13  the input is too long
 ";

@@ -16,7 +16,8 @@ use std::process::ExitCode;
 mod tests;
 
 fn main(rt: HostRuntime) -> ExitCode {
-    let status = run::run(&rt, rt.stdin(), rt.stdout());
-    let _ = run::report(rt.alloc(), &mut rt.stderr(), &status);
+    let mut errors = rt.stderr();
+    let status = run::run(&rt, rt.stdin(), rt.stdout(), &mut errors);
+    let _ = run::report(rt.alloc(), &mut errors, &status);
     ExitCode::from(status.code())
 }

@@ -1,9 +1,11 @@
 //! A run of the program: its words, its input and output, and how it ended.
-ghost use Rattle.std.specs.Prelude.{◌≡◌, ◌≢◌, None, IfOk, OnOk, map, string_bytes, vec_len};
+ghost use Rattle.std.specs.Prelude.{◌≡◌, ◌≢◌, None, IfOk, IsTrue, OnOk, map, string_bytes, vec_len};
 ghost use Rattle.std.specs.Io.KnownBytes.{Appends};
+ghost use Rattle.std.specs.List.{list_all, list_any};
 ghost use Rattle.hs_top.specs.Status.{fault_text};
 ghost use Rattle.hs_top.specs.Words.{shape_in};
 ghost use Rattle.hydra.specs.CommandLine.{IsFaulty, peers_in};
+ghost use Rattle.hydra.specs.Taken.{taken_text};
 
 use crate::command_line::{Request, request_of, words_of};
 use crate::file_disk::{FileDisk, open_disk};
@@ -13,35 +15,36 @@ use hs_block::ShaNames;
 use hs_ports::Watch;
 use hs_top::{Status, fault_line, shape_of};
 use std::alloc::{AllocError, Global};
-use std::io;
+use std::fs::File;
 use std::io::{ErrorKind, Read, Write};
 use std::rt::{Env, Files};
 use std::sync::Wait;
 use std::thread::Threads;
+use std::{fs, io};
 
 /// Does what the words of the command line ask for, and says how it ended. Words that aren't text
-/// are a faulty command line.
-pub fn run<R, I, O>(rt: &R, input: I, output: O) -> Status
+/// are a faulty command line. Where another run has the folder, `errors` gets the line of that.
+pub fn run<R, I, O, E>(rt: &R, input: I, output: O, errors: &mut E) -> Status
 where
-    R: Env + Files + AllocGlobal + Threads + Wait + Sync,
-    R::File: Send,
+    R: Env + Files<File = File> + AllocGlobal + Threads + Wait + Sync,
     I: Read + Drop,
     O: Write + Drop,
+    E: Write,
 {
     match words_of(rt) {
-        Ok(words) => answer(rt, &words, input, output),
+        Ok(words) => answer(rt, &words, input, output, errors),
         Err(error) if error.kind() == ErrorKind::InvalidData => Status::Usage,
         Err(_) => Status::NoMemory,
     }
 }
 
 // Prints the text that these words ask for, or runs the store.
-fn answer<R, I, O>(rt: &R, words: &[String], input: I, mut output: O) -> Status
+fn answer<R, I, O, E>(rt: &R, words: &[String], input: I, mut output: O, errors: &mut E) -> Status
 where
-    R: Files + AllocGlobal + Threads + Wait + Sync,
-    R::File: Send,
+    R: Files<File = File> + AllocGlobal + Threads + Wait + Sync,
     I: Read + Drop,
     O: Write + Drop,
+    E: Write,
     ensures usage { IsFaulty (map (λ word. string_bytes word) words.now)
         → result ≢ Status.NoMemory → result ≡ Status.Usage }
     ensures only_usage { result ≡ Status.Usage
@@ -50,7 +53,7 @@ where
     match request_of(words) {
         Request::Help => print(&mut output, HELP),
         Request::Version => print(&mut output, VERSION),
-        Request::Run => serve(rt, words, input, output),
+        Request::Run => serve(rt, words, input, output, errors),
     }
 }
 
@@ -67,12 +70,12 @@ fn print<O: Write>(output: &mut O, text: &str) -> Status
 }
 
 // Makes the ports, and runs the store.
-fn serve<R, I, O>(rt: &R, words: &[String], input: I, output: O) -> Status
+fn serve<R, I, O, E>(rt: &R, words: &[String], input: I, output: O, errors: &mut E) -> Status
 where
-    R: Files + AllocGlobal + Threads + Wait + Sync,
-    R::File: Send,
+    R: Files<File = File> + AllocGlobal + Threads + Wait + Sync,
     I: Read + Drop,
     O: Write + Drop,
+    E: Write,
     ensures usage { shape_in (map (λ word. string_bytes word) words.now) ≡ None
         → result ≢ Status.NoMemory → result ≡ Status.Usage }
     ensures only_usage { result ≡ Status.Usage
@@ -85,6 +88,7 @@ where
     let Ok(mut disks) = disks_of(rt, alloc, words) else {
         return Status::NoMemory;
     };
+    let _ = tell_taken(errors, &disks);
     let mut sink = WriterSink::new(output);
     let mut watch = Watch::new();
     let outcome = hs_top::hydra(
@@ -100,17 +104,23 @@ where
     outcome.status
 }
 
-// The disks of the peers under the folder that the words name; none where they name no shape.
-fn disks_of<R: Files>(
+/// The disks of the peers under the folder that the words name, which is made where it is absent;
+/// none where they name no shape.
+pub fn disks_of<R: Files<File = File>>(
     rt: &R,
     alloc: Global,
     words: &[String],
-) -> Result<Vec<FileDisk<R::File>>, AllocError>
-    ensures { IfOk result (λ disks.
+) -> Result<Vec<FileDisk<File>>, AllocError>
+    ensures count { IfOk result (λ disks.
         vec_len disks ≡ peers_in (map (λ word. string_bytes word) words.now)) }
+    ensures whole { IfOk result (λ disks.
+        IsTrue (list_any (λ disk. disk.is_taken) disks.items)
+        → IsTrue (list_all (λ disk. disk.is_taken) disks.items)) }
 {
     match (words, shape_of(words)) {
         ([_, dir, ..], Some(shape)) => {
+            // Where it can't be made, the files can't be opened.
+            let _ = fs::create_dir_all(rt, dir.as_str());
             let peers = usize::from(shape.shards) * usize::from(shape.copies);
             open_disks(rt, alloc, dir.as_str(), peers)
         }
@@ -118,20 +128,60 @@ fn disks_of<R: Files>(
     }
 }
 
-// The disks of this many peers under a folder.
-fn open_disks<R: Files>(
+// The disks of this many peers under a folder. Where another run has one, it counts as having all:
+// else each of two runs might go on with a part of them.
+fn open_disks<R: Files<File = File>>(
     rt: &R,
     alloc: Global,
     dir: &str,
     peers: usize,
-) -> Result<Vec<FileDisk<R::File>>, AllocError>
-    ensures { IfOk result (λ disks. vec_len disks ≡ peers) }
+) -> Result<Vec<FileDisk<File>>, AllocError>
+    ensures count { IfOk result (λ disks. vec_len disks ≡ peers) }
+    ensures whole { IfOk result (λ disks.
+        IsTrue (list_any (λ disk. disk.is_taken) disks.items)
+        → IsTrue (list_all (λ disk. disk.is_taken) disks.items)) }
 {
     let mut disks = Vec::new(alloc);
     for peer in 0..peers {
-        disks.push(open_disk(rt, alloc, dir, peer))?;
+        let disk = open_disk(rt, alloc, dir, peer);
+        if disk.is_taken {
+            return taken_disks(alloc, peers);
+        }
+        disks.push(disk)?;
     }
     Ok(disks)
+}
+
+// This many disks that another run has.
+#[tactic(auto, using(crate::proofs::TakenLemmas::all_pushed))]
+fn taken_disks(alloc: Global, peers: usize) -> Result<Vec<FileDisk<File>>, AllocError>
+    ensures count { IfOk result (λ disks. vec_len disks ≡ peers) }
+    ensures all { IfOk result (λ disks. IsTrue (list_all (λ disk. disk.is_taken) disks.items)) }
+{
+    let mut disks = Vec::new(alloc);
+    for _ in 0..peers {
+        disks.push(FileDisk::absent(true))?;
+    }
+    Ok(disks)
+}
+
+/// Writes the line that another run has the folder, where it has.
+pub fn tell_taken<E: Write>(errors: &mut E, disks: &[FileDisk<File>]) -> io::Result<()>
+    ensures ok { OnOk result (Appends (E.contents errors.old) (E.contents errors.new)
+        (taken_text (list_any (λ disk. disk.is_taken) disks.now))) }
+{
+    if is_any_taken(disks) {
+        errors.write_all(b"hydra: another run has the folder\n")
+    } else {
+        errors.write_all(b"")
+    }
+}
+
+// Whether another run has one of the disks.
+fn is_any_taken(disks: &[FileDisk<File>]) -> bool
+    ensures { result ≡ list_any (λ disk. disk.is_taken) disks.now }
+{
+    disks.iter().any(|disk| disk.is_taken)
 }
 
 /// Writes the line of a status, and nothing for `Done`. Without memory for it, it writes that

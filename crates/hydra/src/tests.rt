@@ -3,6 +3,7 @@
 ghost use Rattle.std.specs.Prelude.{◌<◌};
 
 use crate::file_disk::{FileDisk, open_disk};
+use crate::run::{disks_of, tell_taken};
 use crate::streams::{ReaderSource, WriterSink};
 use hs_ports::{Disk, PortFault, Side, Sink, Source, Watch};
 use std::fs::{Metadata, OpenFile};
@@ -193,6 +194,7 @@ fn files_keep_what_was_written(rt: HostRuntime) -> Result<(), Fail> {
     assert_eq!(rt; sync(&mut disk, &mut watch, Side::One), Ok(()));
     assert_eq!(rt; watch.now(), 5);
     assert_eq!(rt; disk.faults(), 0);
+    drop(disk);
 
     let mut disk = open_disk(&rt, alloc, dir.as_str(), 3);
     let mut into = Vec::new(alloc);
@@ -207,6 +209,41 @@ fn files_keep_what_was_written(rt: HostRuntime) -> Result<(), Fail> {
     let side = dir.join(alloc, "peer3.side1")?;
     assert_eq!(rt; fs::read(&rt, side.as_str())?.as_slice(), b"abc".as_slice());
     fs::remove_dir_all(&rt, dir.as_str())?;
+    Ok(())
+}
+
+#[test]
+fn a_folder_is_made_and_one_run_has_it(rt: HostRuntime) -> Result<(), Fail> {
+    let alloc = rt.alloc();
+    let name = format!(in alloc; "hydra-had-{}", process::id(rt.process()))?;
+    let top = env::temp_dir(&rt)?.join(alloc, name.as_str())?;
+    let dir = top.join(alloc, "a/b")?;
+    let mut words = Vec::new(alloc);
+    for word in ["script", dir.as_str(), "1", "1"] {
+        words.push(String::from_str(alloc, word)?)?;
+    }
+    let first = disks_of(&rt, alloc, &words)?;
+    let mut second = disks_of(&rt, alloc, &words)?;
+    let mut told = Vec::new(alloc);
+    tell_taken(&mut told, &first)?;
+    assert_eq!(rt; told.as_slice(), b"".as_slice());
+    tell_taken(&mut told, &second)?;
+    assert_eq!(rt;
+        told.as_slice(),
+        b"hydra: another run has the folder\n".as_slice()
+    );
+    for disk in second.iter_mut() {
+        assert_eq!(rt; length(disk, Side::Zero), Err(PortFault::Failed));
+        assert_eq!(rt; disk.faults(), 1);
+    }
+
+    drop(first);
+    let mut third = disks_of(&rt, alloc, &words)?;
+    assert_eq!(rt; third.len(), 1);
+    for disk in third.iter_mut() {
+        assert_eq!(rt; length(disk, Side::Zero), Ok(0));
+    }
+    fs::remove_dir_all(&rt, top.as_str())?;
     Ok(())
 }
 

@@ -1,24 +1,31 @@
-use Rattle.std.proofs.Common.{◌≡◌, ◌+◌, ◌≤◌, [], IfSome, IsTrue}
-use Rattle.hs_model.specs.Store.{empty_store}
-use Rattle.hs_ports.specs.Sink.{bytes_of, followed}
-use Rattle.hs_script.specs.Text.{text}
+use Rattle.std.proofs.Common.{◌≡◌, ◌+◌, ◌≤◌, [], ℕ, List, Option, IfSome, IsTrue}
+use Rattle.hs_entry.specs.declared.entry.Entry.{Entry}
+use Rattle.hs_script.specs.Reading.{commands}
+use Rattle.hs_single.specs.Serving.{IsReady, IsServing, store_at}
+use Rattle.hs_top.specs.Course.{GrowsBy}
 use Rattle.hs_top.specs.Headline.{input_limit, run_limits}
+use Rattle.hs_top.specs.Lasting.{Going}
 use Rattle.hs_top.specs.Reader.{pending, cost}
-use Rattle.hs_top.specs.Serving.{Served}
+use Rattle.hs_top.specs.Serving.{Runs, Served}
 use Rattle.hs_top.proofs.script.serve.Given as goal
 
--- the lines that were begun are answered and printed, and the others are left
+-- the lines that were begun are read, answered and printed, and the others are left
 abbrev pub invariant-serving : goal.invariant-serving
 invariant-serving g l =
     record {
-      served : IfSome (g.S.Source.left l.fn.source) (λ script. Served script (pending l.reader (g.S.Source.left l.source)) (cost l.reader) l.reader.ended (g.A.Addresser.name l.naming) run_limits (empty_store 1) l.run.line l.run.journal.entries l.run.store l.watch);
-      put : bytes_of (g.K.Sink.got l.sink) ≡ followed (bytes_of (g.K.Sink.got l.fn.sink)) (text l.run.journal.entries);
-      limit : l.run.journal.limit ≡ run_limits.ops;
-      refused : l.run.refused ≡ [];
+      served : IfSome (g.S.Source.left l.fn.source) (λ script. Served script (pending l.reader (g.S.Source.left l.source)) (cost l.reader) l.reader.ended l.run.told.line);
+      runs : g.D.Disk.tells → IfSome (g.S.Source.left l.fn.source) (λ script. (before : ℕ) (got : Option (List (ℕ × ℕ))) (list : List (ℕ × Entry))
+          → IsServing (g.A.Addresser.name l.naming) l.fn.run.store ((g.D.Disk.stands l.fn.disk).seen l.fn.run.store.log.side) list
+          → Runs (Going (commands script) (g.A.Addresser.name l.naming) run_limits (store_at (g.A.Addresser.name l.naming) l.fn.run.store list) before l.fn.watch (g.D.Disk.stands l.fn.disk) l.fn.run.store.log.side l.fn.run.told.course [] got (g.K.Sink.got l.fn.sink) list)
+          (commands script) (g.A.Addresser.name l.naming) run_limits (store_at (g.A.Addresser.name l.naming) l.fn.run.store list) before got (g.K.Sink.got l.fn.sink) l.run (g.D.Disk.stands l.disk) (g.K.Sink.got l.sink) l.watch);
+      limit : l.run.told.journal.limit ≡ run_limits.ops;
+      course : IfSome (g.S.Source.left l.fn.source) (λ script. GrowsBy (commands script) l.run.told.line l.fn.run.told.course l.run.told.course);
+      ready : IsReady g.D.Disk.tells l.run.store (g.D.Disk.size l.disk l.run.store.log.side) (g.D.Disk.stands l.disk);
       over : IsTrue l.reader.ended → IfSome (pending l.reader (g.S.Source.left l.source)) (λ all. all ≡ []);
-      room : l.run.line + cost l.reader ≤ input_limit;
+      room : l.run.told.line + cost l.reader ≤ input_limit;
       taken : g.S.Source.faults l.fn.source ≤ g.S.Source.faults l.source;
       given : g.K.Sink.faults l.fn.sink ≤ g.K.Sink.faults l.sink;
+      failed : g.D.Disk.faults l.fn.disk ≤ g.D.Disk.faults l.disk;
     }
 
 abbrev pub decreases-serving : goal.decreases-serving

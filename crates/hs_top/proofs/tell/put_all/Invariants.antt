@@ -1,5 +1,6 @@
-use Rattle.std.proofs.Common.{◌≡◌, ◌-◌, ◌≤◌, length, take}
+use Rattle.std.proofs.Common.{◌≡◌, ◌-◌, ◌^◌, ◌≤◌, length, take}
 use Rattle.hs_ports.specs.Sink.{bytes_of, followed}
+use Rattle.hs_top.proofs.LateLemmas.{Late}
 use Rattle.hs_top.proofs.tell.put_all.Given as goal
 
 -- the front was put
@@ -7,8 +8,8 @@ abbrev pub invariant-putting : goal.invariant-putting
 invariant-putting g l = record {
   within : l.done ≤ length l.bytes;
   put : bytes_of (g.K.Sink.got l.sink) ≡ followed (bytes_of (g.K.Sink.got l.fn.sink)) (take l.done l.bytes);
+  late : Late (2 ^ 64 - 1) l.fn.watch l.watch l.done l.bytes (g.K.Sink.got l.fn.sink) (g.K.Sink.got l.sink);
   counted : g.K.Sink.faults l.fn.sink ≤ g.K.Sink.faults l.sink;
-  later : l.fn.watch ≤ l.watch;
 }
 
 abbrev pub decreases-putting : goal.decreases-putting
