@@ -53,6 +53,7 @@ impl SideLog {
             EachMoment watch.old watch.new side (D.stands disk.old) (D.stands disk.new)
             (GivesEmpty header generation) }
         ensures ticks { watch.old ≤ watch.new }
+        ensures calm { OnOk result (D.faults disk.new ≡ D.faults disk.old) }
         ensures cause { IsCaused (D.faults disk.old) (D.faults disk.new) result }
     {
         shut(alloc, disk, watch, side)?;

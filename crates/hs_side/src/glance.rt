@@ -41,6 +41,7 @@ impl SideLog {
             EachMoment watch.old watch.new side (D.stands disk.old) (D.stands disk.new)
             (IsImage ((D.stands disk.old).loose side)) }
         ensures ticks { watch.old ≤ watch.new }
+        ensures calm { OnOk result (D.faults disk.new ≡ D.faults disk.old) }
         ensures cause { IsCaused (D.faults disk.old) (D.faults disk.new) result }
     {
         settle(disk, watch, side)?;
@@ -59,6 +60,7 @@ impl SideLog {
         ensures same { D.tells → D.stands disk.new ≡ D.stands disk.old }
         ensures same_size { (s : Side) → D.size disk.new s ≡ D.size disk.old s }
 
+        ensures calm { OnOk result (D.faults disk.new ≡ D.faults disk.old) }
         ensures cause { IsCaused (D.faults disk.old) (D.faults disk.new) result }
     {
         let size = disk.len(side)?;
@@ -94,6 +96,7 @@ fn read_generation<D: Disk>(
 
     ensures same { D.tells → D.stands disk.new ≡ D.stands disk.old }
     ensures same_size { (s : Side) → D.size disk.new s ≡ D.size disk.old s }
+    ensures calm { OnOk result (D.faults disk.new ≡ D.faults disk.old) }
     ensures cause { IsCaused (D.faults disk.old) (D.faults disk.new) result }
 {
     let size = disk.len(side)?;

@@ -145,6 +145,7 @@ impl SideLog {
             EachMoment watch.old watch.new self.old.side (D.stands disk.old) (D.stands disk.new)
             (GivesSame ((D.stands disk.old).seen self.old.side)) }
         ensures ticks { watch.old ≤ watch.new }
+        ensures calm { OnOk result (D.faults disk.new ≡ D.faults disk.old) }
         ensures cause { IsCaused (D.faults disk.old) (D.faults disk.new) result }
     {
         self.places.reserve(1)?;
@@ -189,6 +190,7 @@ impl SideLog {
             (GivesEither ((D.stands disk.old).seen self.old.side)
             (opened self.old.end ((D.stands disk.old).seen self.old.side))) }
         ensures ticks { watch.old ≤ watch.new }
+        ensures calm { OnOk result (D.faults disk.new ≡ D.faults disk.old) }
         ensures cause { IsCaused (D.faults disk.old) (D.faults disk.new) result }
     {
         let Some(next) = self.waiting else {

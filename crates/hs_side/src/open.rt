@@ -45,6 +45,7 @@ impl SideLog {
             EachMoment watch.old watch.new side (D.stands disk.old) (D.stands disk.new)
             (IsImage ((D.stands disk.old).loose side)) }
         ensures ticks { watch.old ≤ watch.new }
+        ensures calm { OnOk result (D.faults disk.new ≡ D.faults disk.old) }
         ensures cause { IsCaused (D.faults disk.old) (D.faults disk.new) result }
     {
         settle(disk, watch, side)?;
@@ -83,6 +84,7 @@ fn read_log<D: Disk>(alloc: Global, disk: &mut D, side: Side) -> Result<SideLog,
 
     ensures same_size { (s : Side) → D.size disk.new s ≡ D.size disk.old s }
     ensures same { D.tells → D.stands disk.new ≡ D.stands disk.old }
+    ensures calm { OnOk result (D.faults disk.new ≡ D.faults disk.old) }
     ensures cause { IsCaused (D.faults disk.old) (D.faults disk.new) result }
 {
     let size = disk.len(side)?;

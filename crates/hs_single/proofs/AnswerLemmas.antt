@@ -1,5 +1,5 @@
 -- What was judged in memory and then logged is what the plain store answers, and the store serves the list behind it.
-use Rattle.std.proofs.Common.{◌≡◌, ℕ, ◌+◌, ◌≤◌, List, map, length, Option, Some, None, refl, sym, ap, ◌∙◌, subst}
+use Rattle.std.proofs.Common.{◌≡◌, ℕ, ◌+◌, ◌≤◌, List, length, sym, ap, ◌∙◌}
 use Rattle.hs_limits.specs.declared.address.Address.{Address}
 use Rattle.hs_limits.specs.declared.limits.Limits.{Limits}
 use Rattle.hs_model.specs.declared.answer.Answer.{Answer}
@@ -7,17 +7,16 @@ use Rattle.hs_model.specs.declared.deed.Deed.{Deed}
 use Rattle.hs_model.specs.declared.op.Op.{Op}
 use Rattle.hs_model.specs.Hollow.{hollow}
 use Rattle.hs_model.specs.Judge.{judge}
-use Rattle.hs_model.specs.Store.{Store, Session}
+use Rattle.hs_model.specs.Store.{Store}
 use Rattle.hs_entry.specs.declared.entry.Entry.{Entry}
 use Rattle.hs_fold.specs.Prefix.{IsNumbered}
-use Rattle.hs_fold.specs.Served.{IsServed, IsNamed, logged, store_with, with_logged}
+use Rattle.hs_fold.specs.Served.{IsServed, IsNamed, store_with, with_logged}
 use Rattle.hs_fold.proofs.ServedLemmas.{judge-logged}
 use Rattle.hs_single.specs.Lists.{HasList}
-use Rattle.hs_single.specs.Serving.{Serving, IsServing, IsAnswered, IsJudged, IsSpelled, IsNumberedSide, catalogue_in, list_after, store_at}
+use Rattle.hs_single.specs.Serving.{Serving, IsServing, IsAnswered, IsJudged, IsSpelled, catalogue_in, list_after, store_at}
 use Rattle.hs_single.specs.Telling.{told_entry, numbers_after}
 use Rattle.hs_single.proofs.AskLemmas.{IsTold, judge-told}
 use Rattle.hs_single.proofs.ListLemmas.{list-places}
-use Rattle.hs_single.proofs.NumberedLemmas.{log-numbered}
 
 module _ (name : List ℕ → Address) (limits : Limits) (line : ℕ) (o : Op) (spelling : List ℕ) (old : Serving) (entries : List (ℕ × Entry)) (served : IsServed o) (named : IsNamed name o) (spelled : IsSpelled o spelling) (low : limits.blocks ≤ 16384) (seen : List ℕ) (serves : IsServing name old seen entries) where
   abbrev after : Deed

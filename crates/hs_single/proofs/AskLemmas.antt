@@ -1,9 +1,9 @@
 -- What is told to the log is what is logged, and the numbers that are kept are those of the list behind it.
-use Rattle.std.proofs.Common.{◌≡◌, ℕ, ◌+◌, ◌≤◌, List, [], ◌∷◌, ◌++◌, length, map, Bool, true, false, Option, Some, None, is_some, refl, sym, ap, ◌∙◌, subst, arith}
+use Rattle.std.proofs.Common.{◌≡◌, ℕ, ◌≤◌, List, [], ◌∷◌, length, map, Option, Some, None, is_some, refl, sym, ap, ◌∙◌, subst, arith}
 use Rattle.std.proofs.lemmas.Map.Made.{lookup-map_values}
 use Rattle.std.proofs.lemmas.Map.Steps.{set_value_same}
 use Rattle.std.specs.BTreeMap.{insert_entry, is_at}
-use Rattle.std.specs.Map.{lookup, set_value}
+use Rattle.std.specs.Map.{lookup}
 use Rattle.std.specs.Option.{option_map}
 use Rattle.hs_limits.specs.declared.address.Address.{Address}
 use Rattle.hs_limits.specs.declared.limits.Limits.{Limits}
@@ -19,7 +19,7 @@ use Rattle.hs_model.specs.Store.{Store, Session, address_cmp, block_at, next_of,
 use Rattle.hs_model.proofs.MapLemmas.{map-insert_entry, map-set_value}
 use Rattle.hs_entry.specs.declared.entry.Entry.{Entry}
 use Rattle.hs_entry.specs.declared.entry.Entry.TheVariants as kind
-use Rattle.hs_fold.specs.Catalogue.{Present, Catalogue, Shard, empty_catalogue, present_at, fresh_present, apply, catalogue_of}
+use Rattle.hs_fold.specs.Catalogue.{Present, Catalogue, Shard, empty_catalogue, present_at, fresh_present, catalogue_of}
 use Rattle.hs_fold.specs.Served.{IsServed, IsNamed, always, mark_of, logged, only_shard, store_with, with_logged}
 use Rattle.hs_fold.proofs.ServedLemmas.{append-apply, block-is, stored-entry, given-entry, within, full, name-is, first-epoch, ordered}
 use Rattle.hs_single.specs.Serving.{IsSpelled}

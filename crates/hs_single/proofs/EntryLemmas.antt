@@ -1,5 +1,5 @@
 -- An entry that is read may come next, and its payload is short.
-use Rattle.std.proofs.Common.{◌≡◌, ℕ, ◌+◌, ◌*◌, ◌^◌, ◌<◌, ◌≤◌, ◌==◌, ◌&&◌, List, [], ◌∷◌, ◌++◌, length, Bool, true, false, cond, Option, Some, None, Ok, refl, sym, ap, ◌∙◌, subst, arith, length-append}
+use Rattle.std.proofs.Common.{◌≡◌, ℕ, ◌+◌, ◌^◌, ◌<◌, ◌==◌, ◌&&◌, List, [], ◌∷◌, ◌++◌, length, true, false, Some, Ok, refl, ap, ◌∙◌, subst, arith}
 use Rattle.std.proofs.lemmas.Bool.Decides.{nat_tests}
 use Rattle.std.specs.Option.{option_and_then}
 use Rattle.hs_entry.specs.declared.entry.Entry.{Entry}
@@ -9,8 +9,7 @@ use Rattle.hs_entry.specs.Payload.{payload}
 use Rattle.hs_entry.specs.Reading.{IsReadable, entry_at}
 use Rattle.hs_entry.proofs.EntryLemmas.{entry_again}
 use Rattle.hs_fold.specs.Prefix.{GoOn, IsNumbered}
-use Rattle.hs_side.specs.Follow.{Follow, start, only_if, after_entry, after, may_end, followed}
-use Rattle.hs_side.specs.Reading.{list_of}
+use Rattle.hs_side.specs.Follow.{Follow, start, only_if, after_entry, after, followed}
 use Rattle.hs_side.specs.Standing.{MayCome}
 use Rattle.hs_single.specs.Lists.{HasList}
 use Rattle.hs_single.proofs.ListLemmas.{has-list}

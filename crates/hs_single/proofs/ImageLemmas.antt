@@ -1,13 +1,13 @@
 -- What a crash leaves of both sides, where the side in use is current and the other is at rest.
-use Rattle.std.proofs.Common.{◌≡◌, ◌∙◌, ◌⊎◌, inl, inr, ℕ, ◌<◌, ◌≤◌, Bool, true, false, cond, List, [], ◌∷◌, ◌++◌, take, drop, Option, Some, None, Result, Ok, Err, refl, ap, sym, subst, arith, if◌then◌else◌}
+use Rattle.std.proofs.Common.{◌≡◌, ◌∙◌, ◌⊎◌, inl, inr, ℕ, ◌<◌, ◌≤◌, Bool, true, false, cond, List, [], ◌∷◌, ◌++◌, take, drop, Option, Some, None, Result, Ok, refl, ap, sym, subst, arith, if◌then◌else◌}
 use Rattle.std.proofs.lemmas.List.{drop-take, take-take}
 use Rattle.std.specs.Int.{w64, from_be_bytes}
 use Rattle.hs_ports.specs.declared.disk.Side.{Side}
 use Rattle.hs_ports.specs.declared.disk.Side.TheVariants.{Zero, One}
-use Rattle.hs_ports.specs.Disk.{Standing, Loose, IsImage, Untouched, other_side, settled}
+use Rattle.hs_ports.specs.Disk.{Standing, IsImage, other_side, settled}
 use Rattle.hs_ports.specs.Moments.{EachMoment}
 use Rattle.hs_ports.proofs.Images.{settled_only}
-use Rattle.hs_limits.specs.Fields.{◌>>=◌, check}
+use Rattle.hs_limits.specs.Fields.{◌>>=◌}
 use Rattle.hs_limits.proofs.FieldLemmas.{bind_ok}
 use Rattle.hs_entry.specs.declared.entry.Entry.{Entry}
 use Rattle.hs_side.specs.declared.header.Header.{Header}

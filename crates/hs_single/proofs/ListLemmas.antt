@@ -1,5 +1,5 @@
 -- Which lists a side gives before and after an entry is kept.
-use Rattle.std.proofs.Common.{◌≡◌, ℕ, ◌⊎◌, inl, inr, List, [], ◌∷◌, ◌++◌, ◌≤◌, map, Option, Some, None, Result, Ok, Err, length, refl, sym, ap, ◌∙◌, subst, IsSome, MatchOption}
+use Rattle.std.proofs.Common.{◌≡◌, ℕ, ◌⊎◌, inl, inr, List, [], ◌∷◌, ◌++◌, ◌≤◌, Option, Some, None, Ok, length, refl, sym, ap, ◌∙◌, subst, IsSome, MatchOption}
 use Rattle.std.proofs.lemmas.List.{map-append, length-map}
 use Rattle.hs_ports.specs.Moments.{EachMoment}
 use Rattle.hs_ports.specs.Disk.{Standing, IsImage, settled}
@@ -12,7 +12,7 @@ use Rattle.hs_side.specs.Giving.{GivesSame, GivesEither}
 use Rattle.hs_side.specs.declared.header.Header.{Header}
 use Rattle.hs_side.specs.Follow.{Follow}
 use Rattle.hs_side.specs.Standing.{Kept, Stands, HasLog, HasNone, Waits}
-use Rattle.hs_side.specs.Reading.{Log, Frame, log_of, entry_of, entries_of, listed, list_of, with_frame}
+use Rattle.hs_side.specs.Reading.{Frame, log_of, entry_of, listed, list_of, with_frame}
 use Rattle.hs_side.specs.Current.{generation_in}
 use Rattle.hs_single.specs.Images.{IsAlone, LeavesLists}
 use Rattle.hs_single.specs.Lists.{HasList}

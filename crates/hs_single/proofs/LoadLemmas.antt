@@ -1,5 +1,5 @@
 -- The entry of each frame of a list.
-use Rattle.std.proofs.Common.{◌≡◌, ℕ, ◌+◌, ◌<◌, List, [], ◌∷◌, ◌++◌, length, map, take, Ok, Err, Result, IfOk, refl, sym, ap, ◌∙◌, subst, get_or, slice_index, arith, Contains}
+use Rattle.std.proofs.Common.{◌≡◌, ℕ, ◌+◌, ◌<◌, List, [], ◌∷◌, ◌++◌, length, take, Ok, Err, Result, IfOk, sym, ap, ◌∙◌, subst, get_or, slice_index, arith, Contains}
 use Rattle.std.proofs.lemmas.List.{get_or-map, length-map, take_more}
 use Rattle.std.proofs.lemmas.List.Elements.{Contains-get_or}
 use Rattle.hs_limits.specs.declared.address.Address.{Address}

@@ -1,32 +1,24 @@
 -- What a Mark entry does to what is kept in memory.
-use Rattle.std.proofs.Common.{◌≡◌, ℕ, ◌+◌, ◌==◌, ◌&&◌, List, [], ◌∷◌, ◌++◌, length, map, Bool, true, false, cond, not, Option, Some, None, is_none, is_some, Result, Ok, Err, refl, ap, ◌∙◌, sym, subst, nat_le, nat_lt, slice_index, arith}
+use Rattle.std.proofs.Common.{◌≡◌, ℕ, ◌+◌, ◌==◌, ◌&&◌, List, [], ◌∷◌, ◌++◌, Bool, true, false, cond, Option, Some, None, refl, ap, ◌∙◌, sym, subst, nat_le, arith}
 use Rattle.std.proofs.lemmas.Bool.Decides.{nat_tests}
-use Rattle.std.proofs.lemmas.List.{length-map}
 use Rattle.std.proofs.lemmas.Map.Made.{lookup-map_values, keys_of-map_values}
 use Rattle.std.proofs.lemmas.Map.Steps.{set_value_same}
 use Rattle.std.specs.BTreeMap.{insert_entry, is_at}
 use Rattle.std.specs.List.Sorted.{IsStrictlySortedBy}
 use Rattle.std.specs.Map.{keys_of, lookup, set_value}
 use Rattle.std.specs.Option.{option_map}
-use Rattle.std.specs.Result.{result_ok}
 use Rattle.hs_limits.specs.declared.address.Address.{Address}
-use Rattle.hs_limits.specs.declared.spelling.SpellingFault.{SpellingFault}
 use Rattle.hs_limits.specs.Block.{Block}
-use Rattle.hs_limits.specs.Reading.{read_block}
-use Rattle.hs_limits.specs.Shape.{shard_of}
-use Rattle.hs_model.specs.declared.store.StoredBlock.{StoredBlock}
-use Rattle.hs_model.specs.Hollow.{without_bytes, hollow_blocks, hollow}
-use Rattle.hs_model.specs.Store.{Store, Session, address_cmp, block_at, epoch_at, with_block, blocks_with}
-use Rattle.hs_model.proofs.MapLemmas.{map-insert_entry, map-set_value, insert-present}
+use Rattle.hs_model.specs.Hollow.{without_bytes, hollow_blocks}
+use Rattle.hs_model.specs.Store.{Session, address_cmp, block_at, epoch_at, with_block, blocks_with}
+use Rattle.hs_model.proofs.MapLemmas.{map-set_value, insert-present}
 use Rattle.hs_laws.proofs.OrderLemmas.{address_total}
 use Rattle.hs_entry.specs.declared.entry.Entry.{Entry}
 use Rattle.hs_entry.specs.declared.entry.Entry.TheVariants as kind
-use Rattle.hs_fold.specs.Catalogue.{Present, Catalogue, Shard, empty_catalogue, present_at, is_fresh, has_room, is_stored, fresh_present, with_present, store_block, is_marked, marked, give_block, apply, apply_all}
-use Rattle.hs_fold.specs.Order.{IsInOrder}
-use Rattle.hs_fold.specs.Served.{only_shard, store_with}
-use Rattle.hs_fold.proofs.OrderLemmas.{all-ordered, empty-ordered}
+use Rattle.hs_fold.specs.Catalogue.{Present, Catalogue, empty_catalogue, present_at, is_fresh, is_marked, marked, give_block}
+use Rattle.hs_fold.specs.Served.{only_shard}
 use Rattle.hs_fold.proofs.ServedLemmas.{list-epoch}
-use Rattle.hs_fold.proofs.StoreLemmas.{single, stored_of, marks_of, store-single, mod-one}
+use Rattle.hs_fold.proofs.StoreLemmas.{stored_of, marks_of}
 use Rattle.hs_single.specs.Serving.{Serving, Holds, catalogue_in}
 use Rattle.hs_single.proofs.AdoptLemmas.{ordered, laid, numbers_of, Tells, tells, holds-more, number-found, own, epoch-is}
 

@@ -1,5 +1,5 @@
 -- The entries of a log that is read have numbers that go on by one from 1.
-use Rattle.std.proofs.Common.{◌≡◌, ℕ, zero, suc, ◌+◌, ◌==◌, ◌&&◌, List, [], ◌∷◌, ◌++◌, length, map, take, drop, Bool, true, false, cond, Option, Some, None, Result, Ok, Err, refl, ap, ◌∙◌, sym, subst, arith, nat_le, is_ok, if◌then◌else◌}
+use Rattle.std.proofs.Common.{◌≡◌, ℕ, zero, suc, ◌+◌, ◌==◌, ◌&&◌, List, [], ◌∷◌, length, map, take, drop, Bool, true, false, Option, Some, None, Result, Ok, Err, refl, ap, ◌∙◌, sym, subst, arith, nat_le, is_ok, if◌then◌else◌}
 use Rattle.std.specs.Int.{w64}
 use Rattle.std.proofs.lemmas.Bool.Decides.{nat_tests}
 use Rattle.hs_limits.specs.Fields.{◌>>=◌, check, byte_at, bytes_at, number_at}
@@ -12,7 +12,7 @@ use Rattle.hs_entry.specs.declared.fault.EntryFault.TheVariants as why
 use Rattle.hs_entry.specs.Entries.{is_of_base}
 use Rattle.hs_entry.specs.Reading.{is_epoch, is_kind, view_at, block_at, mark_at, fields_at, entry_at}
 use Rattle.hs_fold.specs.Prefix.{GoOn, IsNumbered}
-use Rattle.hs_side.specs.Follow.{Follow, start, after, after_entry, after_base, only_if, may_end}
+use Rattle.hs_side.specs.Follow.{Follow, start, after, after_entry, only_if, may_end}
 use Rattle.hs_side.specs.Reading.{Log, Frame, Found, entry_of, frames, with_frames, payload_at, found_in, is_open, is_blank, head_of, log_of}
 use Rattle.hs_side.proofs.ReadLemmas.{found_read}
 

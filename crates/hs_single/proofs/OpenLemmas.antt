@@ -4,7 +4,7 @@ use Rattle.hs_limits.specs.declared.address.Address.{Address}
 use Rattle.hs_model.specs.Store.{empty_store}
 use Rattle.hs_ports.specs.declared.disk.Side.{Side}
 use Rattle.hs_ports.specs.declared.disk.Side.TheVariants.{Zero, One}
-use Rattle.hs_ports.specs.Disk.{Standing, Loose, IsImage, Untouched, other_side, settled}
+use Rattle.hs_ports.specs.Disk.{Standing, IsImage, Untouched, other_side, settled}
 use Rattle.hs_ports.proofs.Images.{settled_only}
 use Rattle.hs_ports.specs.Moments.{EachMoment}
 use Rattle.hs_entry.specs.declared.entry.Entry.{Entry}

@@ -1,12 +1,12 @@
 -- Where the entry of a number stands.
-use Rattle.std.proofs.Common.{◌≡◌, ℕ, ◌+◌, ◌<◌, List, [], ◌∷◌, length, map, zero, suc, refl, sym, ap, ◌∙◌, subst, get_or, slice_index, arith, Contains}
+use Rattle.std.proofs.Common.{◌≡◌, ℕ, ◌+◌, ◌<◌, List, [], ◌∷◌, length, zero, suc, sym, ap, ◌∙◌, subst, get_or, slice_index, arith, Contains}
 use Rattle.std.proofs.lemmas.Grind.{common_steps}
 use Rattle.std.proofs.lemmas.List.{get_or-map, length-map}
 use Rattle.std.proofs.lemmas.List.Elements.{Contains-get_or}
 use Rattle.hs_entry.specs.declared.entry.Entry.{Entry}
-use Rattle.hs_fold.specs.Prefix.{GoOn, IsNumbered}
+use Rattle.hs_fold.specs.Prefix.{GoOn}
 use Rattle.hs_side.specs.Reading.{Log, Frame, entry_of}
-use Rattle.hs_single.specs.Lists.{HasList, HasEntry}
+use Rattle.hs_single.specs.Lists.{HasEntry}
 
 -- in a list that is numbered the place tells the number
 pub numbered-at : (n : ℕ) (es : List (ℕ × Entry)) (i : ℕ) (d : ℕ × Entry) → GoOn n es → i < length es → (get_or es i d).0 ≡ n + i + 1

@@ -1,5 +1,5 @@
 -- What is kept in memory of a block, and where its bytes are.
-use Rattle.std.proofs.Common.{◌≡◌, ℕ, List, [], ◌∷◌, map, Option, Some, None, Ok, refl, sym, ap, ◌∙◌, subst}
+use Rattle.std.proofs.Common.{◌≡◌, ℕ, List, [], Option, Some, None, refl, sym, ap, ◌∙◌, subst}
 use Rattle.std.proofs.lemmas.Map.Made.{lookup-map_values}
 use Rattle.std.specs.BTreeMap.{is_at}
 use Rattle.std.specs.Map.{lookup}
@@ -9,19 +9,18 @@ use Rattle.hs_limits.specs.declared.limits.Limits.{Limits}
 use Rattle.hs_limits.specs.Block.{Block}
 use Rattle.hs_model.specs.declared.answer.Answer.{Answer}
 use Rattle.hs_model.specs.declared.op.Op.{Op}
-use Rattle.hs_model.specs.declared.store.StoredBlock.{StoredBlock}
-use Rattle.hs_model.specs.Hollow.{without_bytes, hollow_blocks, hollow, filled_blocks, filled, looks_at}
+use Rattle.hs_model.specs.Hollow.{without_bytes, hollow, filled_blocks, filled, looks_at}
 use Rattle.hs_model.specs.Judge.{bytes_of, judge}
 use Rattle.hs_model.specs.Store.{Store, address_cmp, block_at}
 use Rattle.hs_model.proofs.FilledLemmas.{judge_without, left_without, judge_filled, left_filled}
 use Rattle.hs_entry.specs.declared.entry.Entry.{Entry}
-use Rattle.hs_fold.specs.Catalogue.{Present, Catalogue, present_at, empty_catalogue}
+use Rattle.hs_fold.specs.Catalogue.{Present, present_at, empty_catalogue}
 use Rattle.hs_fold.specs.Order.{IsInOrder}
-use Rattle.hs_fold.specs.Served.{only_shard, store_with}
+use Rattle.hs_fold.specs.Served.{only_shard}
 use Rattle.hs_fold.proofs.KeepingLemmas.{was-stored}
 use Rattle.hs_fold.proofs.OrderLemmas.{all-ordered, empty-ordered}
 use Rattle.hs_fold.proofs.ServedLemmas.{block-is}
-use Rattle.hs_single.specs.Lists.{HasList, HasEntry, HasStored}
+use Rattle.hs_single.specs.Lists.{HasStored}
 use Rattle.hs_single.specs.Serving.{Serving, IsServing, Holds, IsJudged, catalogue_in, store_at}
 
 ordered : (name : List ℕ → Address) (entries : List (ℕ × Entry)) → IsInOrder (catalogue_in name entries)

@@ -3,8 +3,6 @@ use Rattle.std.proofs.Common.{◌≡◌, ℕ, ◌≤◌, List, [], ◌∷◌, le
 use Rattle.std.proofs.lemmas.Bool.Decides.{nat_tests}
 use Rattle.hs_limits.specs.declared.address.Address.{Address}
 use Rattle.hs_limits.specs.declared.limits.Limits.{Limits}
-use Rattle.hs_limits.specs.Block.{Block, IsSpelling, spell}
-use Rattle.hs_model.specs.declared.deed.Deed.{Deed}
 use Rattle.hs_model.specs.declared.op.Op.{Op}
 use Rattle.hs_model.specs.declared.op.Op.TheVariants as op
 use Rattle.hs_model.specs.declared.reply.Reply.{Reply}
@@ -12,7 +10,7 @@ use Rattle.hs_model.specs.declared.reply.Reply.TheVariants as reply
 use Rattle.hs_model.specs.Judge.{judge, judged, refusals, granted, given_address, written_deed}
 use Rattle.hs_model.specs.Refusals.{first, refused_when}
 use Rattle.hs_model.specs.Store.{Store, block_at, next_of, session_at}
-use Rattle.hs_laws.proofs.JudgeKeeps.{AllNone, all_none}
+use Rattle.hs_laws.proofs.JudgeKeeps.{all_none}
 use Rattle.hs_fold.specs.Served.{IsServed}
 use Rattle.hs_single.specs.Serving.{IsSpelled}
 use Rattle.hs_single.specs.Telling.{SpellsIt}

@@ -1,5 +1,5 @@
 -- What is logged of a deed that stores and gives nothing.
-use Rattle.std.proofs.Common.{◌≡◌, ℕ, List, Option, None, refl}
+use Rattle.std.proofs.Common.{◌≡◌, ℕ, List, None, refl}
 use Rattle.hs_limits.specs.declared.address.Address.{Address}
 use Rattle.hs_model.specs.declared.deed.Deed.{Deed}
 use Rattle.hs_model.specs.declared.deed.Deed.TheVariants as deed

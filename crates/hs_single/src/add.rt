@@ -46,6 +46,7 @@ impl Single {
             → LeavesLists watch.old watch.new (D.stands disk.old) (D.stands disk.new)
             entries (entries ++ (length entries + 1, entry.now) ∷ []) }
         ensures ticks { watch.old ≤ watch.new }
+        ensures calm { OnOk result (D.faults disk.new ≡ D.faults disk.old) }
         ensures cause { IsCaused (D.faults disk.old) (D.faults disk.new) result }
     {
         let number = self.next();

@@ -65,6 +65,7 @@ impl Single {
             → LeavesLists watch.old watch.new (D.stands disk.old) (D.stands disk.new)
             entries (list_after name limits line op self.old entries) }
         ensures ticks { watch.old ≤ watch.new }
+        ensures calm { OnOk result (D.faults disk.new ≡ D.faults disk.old) }
         ensures cause { IsCaused (D.faults disk.old) (D.faults disk.new) result }
     {
         let answer = match self.judge(limits, op, disk) {

@@ -66,6 +66,7 @@ impl Single {
             → LeavesLists watch.old watch.new (D.stands disk.old) (D.stands disk.new)
             entries (entries ++ (length entries + 1, kind.View (view + 1)) ∷ []) }
         ensures ticks { watch.old ≤ watch.new }
+        ensures calm { OnOk result (D.faults disk.new ≡ D.faults disk.old) }
         ensures cause { IsCaused (D.faults disk.old) (D.faults disk.new) result }
     {
         let Some(next) = view.checked_add(1) else {
@@ -110,6 +111,7 @@ impl Single {
             → LeavesLists watch.old watch.new (D.stands disk.old) (D.stands disk.new)
             entries entries }
         ensures ticks { watch.old ≤ watch.new }
+        ensures calm { OnOk result (D.faults disk.new ≡ D.faults disk.old) }
         ensures cause { IsCaused (D.faults disk.old) (D.faults disk.new) result }
     {
         if self.log.generation().is_some() {

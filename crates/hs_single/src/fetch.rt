@@ -1,5 +1,5 @@
 //! The bytes of a block, from the disk.
-ghost use Rattle.std.specs.Prelude.{◌≡◌, ◌+◌, ◌<◌, ℕ, List, length, slice_index, None, Some, Ok, IfOk, IfErr, IfSome, Contains};
+ghost use Rattle.std.specs.Prelude.{◌≡◌, ◌+◌, ◌<◌, ℕ, List, length, slice_index, None, Some, Ok, IfOk, IfErr, IfSome, Contains, OnOk};
 ghost use Rattle.hs_limits.specs.Block.{Block};
 ghost use Rattle.hs_limits.specs.Reading.{read_block};
 ghost use Rattle.hs_ports.specs.declared.disk.Side.{Side};
@@ -36,6 +36,7 @@ impl Single {
 
         ensures same { D.tells → D.stands disk.new ≡ D.stands disk.old }
         ensures same_size { (s : Side) → D.size disk.new s ≡ D.size disk.old s }
+        ensures calm { OnOk result (D.faults disk.new ≡ D.faults disk.old) }
         ensures cause { IsCaused (D.faults disk.old) (D.faults disk.new) result }
     {
         let payload = match self.payload_of(number, disk) {
@@ -58,6 +59,7 @@ impl Single {
 
         ensures same { D.tells → D.stands disk.new ≡ D.stands disk.old }
         ensures same_size { (s : Side) → D.size disk.new s ≡ D.size disk.old s }
+        ensures calm { OnOk result (D.faults disk.new ≡ D.faults disk.old) }
         ensures cause { IsCaused (D.faults disk.old) (D.faults disk.new) result }
     {
         let Some(place) = self.place_of(number) else {

@@ -48,6 +48,7 @@ impl Single {
         ensures numbers { self.new.numbers ≡ self.old.numbers }
         ensures same { D.tells → D.stands disk.new ≡ D.stands disk.old }
         ensures same_size { (s : Side) → D.size disk.new s ≡ D.size disk.old s }
+        ensures calm { OnOk result (D.faults disk.new ≡ D.faults disk.old) }
         ensures cause { IsCaused (D.faults disk.old) (D.faults disk.new) result }
     {
         match self.plain.looks_at(&op) {
@@ -84,6 +85,7 @@ impl Single {
         ensures numbers { self.new.numbers ≡ self.old.numbers }
         ensures same { D.tells → D.stands disk.new ≡ D.stands disk.old }
         ensures same_size { (s : Side) → D.size disk.new s ≡ D.size disk.old s }
+        ensures calm { OnOk result (D.faults disk.new ≡ D.faults disk.old) }
         ensures cause { IsCaused (D.faults disk.old) (D.faults disk.new) result }
     {
         match self.bring(address, disk) {
@@ -112,6 +114,7 @@ impl Single {
         ensures numbers { self.new.numbers ≡ self.old.numbers }
         ensures same { D.tells → D.stands disk.new ≡ D.stands disk.old }
         ensures same_size { (s : Side) → D.size disk.new s ≡ D.size disk.old s }
+        ensures calm { OnOk result (D.faults disk.new ≡ D.faults disk.old) }
         ensures cause { IsCaused (D.faults disk.old) (D.faults disk.new) result }
     {
         let Some(number) = self.numbers.get(address).copied() else {

@@ -3,6 +3,7 @@ pub mod AskingLemmas
 pub mod BackLemmas
 pub mod BeginningLemmas
 pub mod BusyLemmas
+pub mod CalmLemmas
 pub mod CourseLemmas
 pub mod KeptLemmas
 pub mod EndingLemmas

@@ -25,7 +25,7 @@ use Rattle.hs_top.specs.declared.stop.Stop.{Stop}
 use Rattle.hs_top.specs.declared.stop.Stop.TheVariants as stop
 use Rattle.hs_top.specs.declared.transcript.Transcript.{Transcript}
 use Rattle.hs_top.specs.Course.{GrowsBy, IsItem}
-use Rattle.hs_top.specs.Ending.{Fulfils, IsScriptStop, status_of}
+use Rattle.hs_top.specs.Ending.{Fulfils, IsScriptStop, IsUntold, status_of}
 use Rattle.hs_top.specs.Entry.{IsSoundAtEntry, OneListAtEntry, counted, entry_store, only_shape, start_of, taken_course}
 use Rattle.hs_top.specs.Headline.{Ends, KeepsAllAlong, run_limits}
 use Rattle.hs_top.specs.Lasting.{Going, Lasts, Prints}
@@ -49,16 +49,16 @@ keeps_by asks name ending line journal refused course before disk got got' fulfi
 
 -- ---- by what stopped it
 
-pub lost_end : (r : Result (Unit {0}) Stop) (line : ℕ) (journal : List JournalEntry) → ((halt : Stop) → r ≡ Err halt → IsScriptStop halt journal) → IsLostEnd (status_of r line) journal
-lost_end (Ok x) line journal h = tt
-lost_end (Err stop.ShardLost) line journal h = (refl, h stop.ShardLost refl)
-lost_end (Err stop.NoMemory) line journal h = tt
-lost_end (Err stop.WriteFault) line journal h = tt
-lost_end (Err stop.OpsFull) line journal h = tt
-lost_end (Err stop.BadLine) line journal h = tt
-lost_end (Err stop.ReadFault) line journal h = tt
-lost_end (Err stop.InputFull) line journal h = tt
-lost_end (Err (stop.WrongShape found)) line journal h = tt
+pub lost_end : (r : Result (Unit {0}) Stop) (line : ℕ) (journal : List JournalEntry) → ((halt : Stop) → r ≡ Err halt → IsScriptStop halt journal) → IsUntold r journal → IsLostEnd (status_of r line) journal
+lost_end (Ok x) line journal h untold = untold
+lost_end (Err stop.ShardLost) line journal h untold = (refl, h stop.ShardLost refl)
+lost_end (Err stop.NoMemory) line journal h untold = tt
+lost_end (Err stop.WriteFault) line journal h untold = tt
+lost_end (Err stop.OpsFull) line journal h untold = tt
+lost_end (Err stop.BadLine) line journal h untold = untold
+lost_end (Err stop.ReadFault) line journal h untold = untold
+lost_end (Err stop.InputFull) line journal h untold = untold
+lost_end (Err (stop.WrongShape found)) line journal h untold = tt
 
 -- a script's lines find no other shape
 pub served_shape : (r : Result (Unit {0}) Stop) (line : ℕ) (journal : List JournalEntry) (seen : Side → List ℕ) → ((halt : Stop) → r ≡ Err halt → IsScriptStop halt journal) → IsShapeEnd (status_of r line) journal seen
@@ -234,7 +234,8 @@ module _ (script : List ℕ) (name : List ℕ → Address) (before mid now : ℕ
     → Going (commands script) name run_limits (store_at name store list) before mid disk' store.log.side course [] got got' list
     → Lasts (commands script) name run_limits (store_at name store list) before now disk'' course' journal got got'')
     (noted : (list : List (ℕ × Entry)) → IsServing name store (disk'.seen store.log.side) list → has_note journal ≡ true → HasRisen faults' faults'')
-    (said : (halt : Stop) → r ≡ Err halt → IsScriptStop halt journal) where
+    (said : (halt : Stop) → r ≡ Err halt → IsScriptStop halt journal)
+    (untold : (list : List (ℕ × Entry)) → IsServing name store (disk'.seen store.log.side) list → IsUntold r journal) where
   abbrev list' : List (ℕ × Entry)
   list' = viewed opens.list opens.view
 
@@ -261,7 +262,7 @@ module _ (script : List ℕ) (name : List ℕ → Address) (before mid now : ℕ
     follows = opened_follows name before mid course store disk disk' got opens course' grows.noted grows.added (commands script) line grows.items;
     aside = opened_aside name before mid course store disk disk' got opens course' grows.noted grows.added (status_of r line) journal;
     noted = λ is. inl (risen_before faults faults' faults'' later (noted list' opens.serves is));
-    lost = lost_end r line journal said;
+    lost = lost_end r line journal said (untold list' opens.serves);
     shape = served_shape r line journal disk.seen said;
     other_shape = λ header is. found_on store header r line faults faults' faults'' (found header is) later';
     unwritten = served_unwritten r line journal before now disk disk'' said;
@@ -290,7 +291,8 @@ module _ (left : Option (List ℕ)) (name : List ℕ → Address) (before mid no
     → Going (commands script) name run_limits (store_at name store list) first mid disk' store.log.side course [] start got' list
     → Lasts (commands script) name run_limits (store_at name store list) first now disk'' course' journal start got''))
     (noted : IfSome left (λ script. (list : List (ℕ × Entry)) → IsServing name store (disk'.seen store.log.side) list → has_note journal ≡ true → HasRisen faults' faults''))
-    (said : IfSome left (λ script. (list : List (ℕ × Entry)) → IsServing name store (disk'.seen store.log.side) list → IfErr r (λ halt. IsScriptStop halt journal))) where
+    (said : IfSome left (λ script. (list : List (ℕ × Entry)) → IsServing name store (disk'.seen store.log.side) list → IfErr r (λ halt. IsScriptStop halt journal)))
+    (untold : IfSome left (λ script. (list : List (ℕ × Entry)) → IsServing name store (disk'.seen store.log.side) list → IsUntold r journal)) where
   pub promises_served : IfSome left (λ script. Promises (commands script) name (status_of r line) line journal refused course' before now (disk ∷ []) (disk'' ∷ []) (faults ∷ []) (faults'' ∷ []) got got'')
   promises_served = if_any (λ script. Promises (commands script) name (status_of r line) line journal refused course' before now (disk ∷ []) (disk'' ∷ []) (faults ∷ []) (faults'' ∷ []) got got'') left (λ script is.
       promises_on script name before mid now course course' store disk disk' disk'' faults faults' faults'' got got' got'' journal refused r line same opens
@@ -300,7 +302,8 @@ module _ (left : Option (List ℕ)) (name : List ℕ → Address) (before mid no
       → Going (commands script) name run_limits (store_at name store list) first mid disk' store.log.side course [] start got' list
       → Lasts (commands script) name run_limits (store_at name store list) first now disk'' course' journal start got'') left script is lasts) before got)
       (if_at (λ script. (list : List (ℕ × Entry)) → IsServing name store (disk'.seen store.log.side) list → has_note journal ≡ true → HasRisen faults' faults'') left script is noted)
-      (λ halt e. err_at (λ halt. IsScriptStop halt journal) r halt e ((if_at (λ script. (list : List (ℕ × Entry)) → IsServing name store (disk'.seen store.log.side) list → IfErr r (λ halt. IsScriptStop halt journal)) left script is said) (viewed opens.list opens.view) opens.serves)))
+      (λ halt e. err_at (λ halt. IsScriptStop halt journal) r halt e ((if_at (λ script. (list : List (ℕ × Entry)) → IsServing name store (disk'.seen store.log.side) list → IfErr r (λ halt. IsScriptStop halt journal)) left script is said) (viewed opens.list opens.view) opens.serves))
+      (if_at (λ script. (list : List (ℕ × Entry)) → IsServing name store (disk'.seen store.log.side) list → IsUntold r journal) left script is untold))
 
 -- ---- the same of what is handed back
 

@@ -1,5 +1,5 @@
 -- One line more of a script.
-use Rattle.std.proofs.Common.{◌≡◌, ℕ, ◌+◌, ◌-◌, ◌≤◌, Bool, true, false, List, [], ◌∷◌, length, take, drop, Option, Some, None, refl, sym, ap, ◌∙◌, arith, length-append, length-drop}
+use Rattle.std.proofs.Common.{◌≡◌, ℕ, ◌+◌, ◌-◌, ◌≤◌, Bool, true, false, List, [], ◌∷◌, length, take, drop, Option, Some, None, Err, refl, sym, ap, ◌∙◌, arith, length-append, length-drop}
 use Rattle.std.specs.Option.{option_map}
 use Rattle.std.proofs.lemmas.List.{drop-drop}
 use Rattle.hs_limits.specs.declared.address.Address.{Address}
@@ -22,7 +22,7 @@ use Rattle.hs_single.specs.Serving.{Serving, IsServing, store_at}
 use Rattle.hs_top.specs.declared.run.Run.{Run}
 use Rattle.hs_top.specs.declared.status.Status.{Status}
 use Rattle.hs_top.specs.declared.stop.Stop.{Stop}
-use Rattle.hs_top.specs.Ending.{Fulfils, IsScriptStop}
+use Rattle.hs_top.specs.Ending.{Fulfils, IsScriptStop, IsUntold}
 use Rattle.hs_top.specs.Lost.{has_note}
 use Rattle.hs_top.specs.Asking.{Begins, list_behind}
 use Rattle.hs_top.specs.Headline.{IsBad, complete_lines, input_limit, run_limits}
@@ -166,3 +166,9 @@ SaidAll name store seen halt journal = (list : List (ℕ × Entry)) → IsServin
 
 abbrev pub NoteAll : (List ℕ → Address) → Serving → List ℕ → List JournalEntry → ℕ → ℕ → Type 0
 NoteAll name store seen journal faults faults' = (list : List (ℕ × Entry)) → IsServing name store seen list → has_note journal ≡ true → HasRisen faults faults'
+
+abbrev pub UntoldAll : (List ℕ → Address) → Serving → List ℕ → Stop → List JournalEntry → Type 0
+UntoldAll name store seen halt journal = (list : List (ℕ × Entry)) → IsServing name store seen list → IsUntold (Err halt) journal
+
+abbrev pub CleanAll : (List ℕ → Address) → Serving → List ℕ → List JournalEntry → Type 0
+CleanAll name store seen journal = (list : List (ℕ × Entry)) → IsServing name store seen list → has_note journal ≡ false

@@ -227,9 +227,9 @@ module _ (script : List ℕ) (name : List ℕ → Address) (start : Store) (old 
   note_not stop.ShardLost (moment, on, later, h) = (refl, ap has_note (note_entries moment h.told))
   note_not stop.WriteFault h = tt
   note_not stop.OpsFull h = tt
-  note_not stop.BadLine h = tt
-  note_not stop.ReadFault h = tt
-  note_not stop.InputFull h = tt
+  note_not stop.BadLine h = absurd h
+  note_not stop.ReadFault h = absurd h
+  note_not stop.InputFull h = absurd h
 
   pub aside_not : (halt : Stop) → OpensNot halt old new before now got got' → IsSetAside (status_of (Err halt) 0) new.journal.entries
   aside_not (stop.WrongShape found) h = tt

@@ -1,5 +1,5 @@
 -- How a run ends.
-use Rattle.std.specs.Prelude.{◌≡◌, ℕ, ◌+◌, ⊤, true, List, [], Option, Result, Ok, Err}
+use Rattle.std.specs.Prelude.{◌≡◌, ℕ, ◌+◌, ⊤, true, false, List, [], Option, Result, Ok, Err}
 use Rattle.hs_limits.specs.declared.address.Address.{Address}
 use Rattle.hs_limits.specs.declared.limits.Limits.{Limits}
 use Rattle.hs_model.specs.declared.command.Command.{Command}
@@ -30,6 +30,14 @@ IsScriptStop stop.ShardLost journal = has_note journal ≡ true
 IsScriptStop (stop.WrongShape found) journal = ⊥
 IsScriptStop other journal = ⊤
 
+-- they come to their end, to a bad line, or to a source that gives no more, without such a note
+abbrev pub IsUntold : Result (Unit {0}) Stop → List JournalEntry → Type 0
+IsUntold (Ok x) journal = has_note journal ≡ false
+IsUntold (Err stop.BadLine) journal = has_note journal ≡ false
+IsUntold (Err stop.ReadFault) journal = has_note journal ≡ false
+IsUntold (Err stop.InputFull) journal = has_note journal ≡ false
+IsUntold other journal = ⊤
+
 -- what is promised of a script's answers
 pub record Fulfils (commands : ℕ → Option Command) (name : List ℕ → Address) (limits : Limits) (entry : Store) (ending : Status) (line : ℕ) (journal refused : List JournalEntry) (got got' : Option (List (ℕ × ℕ))) : Type 0 where
   pub answers : Answers commands name limits entry ending line journal got got'
@@ -43,3 +51,12 @@ pub record IsUntouched (entries refused : List JournalEntry) (line : ℕ) (left 
   pub unread : left' ≡ left
   pub unput : got' ≡ got
   pub same_moment : moment' ≡ moment
+
+-- a run ends so only where no disk failed in it: what is counted of the disks stands
+abbrev pub IsCalm : {X : Type 0} → Status → X → X → Type 0
+IsCalm status.Done before now = now ≡ before
+IsCalm status.Usage before now = now ≡ before
+IsCalm (status.BadLine line) before now = now ≡ before
+IsCalm status.ReadFault before now = now ≡ before
+IsCalm status.InputFull before now = now ≡ before
+IsCalm other before now = ⊤

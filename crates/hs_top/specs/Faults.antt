@@ -1,5 +1,5 @@
 -- What a stop says of the counts of faults.
-use Rattle.std.specs.Prelude.{◌≡◌, ◌⊎◌, ℕ, ◌≤◌, Bool, true, Result, IsErrOf}
+use Rattle.std.specs.Prelude.{◌≡◌, ◌⊎◌, ℕ, ◌≤◌, ⊤, Bool, true, Result, Ok, Err, IsErrOf}
 use Rattle.hs_ports.specs.Fault.{HasRisen}
 use Rattle.hs_top.specs.declared.stop.Stop.{Stop}
 use Rattle.hs_top.specs.declared.stop.Stop.TheVariants as stop
@@ -22,3 +22,11 @@ pub record LossCause (before now : ℕ) (halt : Stop) : Type 0 where
 -- a note that was not there before came where the disk's count rose
 abbrev pub IsNoted : Bool → Bool → ℕ → ℕ → Type 0
 IsNoted before after faults faults' = after ≡ true → (before ≡ true) ⊎ HasRisen faults faults'
+
+-- the disk's count stands where the script came to its end, a line was bad, or no more of the source could be read
+abbrev pub IsCalmStop : Result (Unit {0}) Stop → ℕ → ℕ → Type 0
+IsCalmStop (Ok x) before now = now ≡ before
+IsCalmStop (Err stop.BadLine) before now = now ≡ before
+IsCalmStop (Err stop.ReadFault) before now = now ≡ before
+IsCalmStop (Err stop.InputFull) before now = now ≡ before
+IsCalmStop other before now = ⊤

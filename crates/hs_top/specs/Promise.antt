@@ -60,9 +60,13 @@ IsSetAside other journal = has_note journal ≡ true
 
 -- ---- the causes of two statuses
 
--- shard 0 is lost where that is told
+-- shard 0 is lost where that is told, and no run goes on behind it
 abbrev pub IsLostEnd : Status → List JournalEntry → Type 0
 IsLostEnd (status.ShardLost shard) journal = (shard ≡ 0) × (has_note journal ≡ true)
+IsLostEnd status.Done journal = has_note journal ≡ false
+IsLostEnd (status.BadLine line) journal = has_note journal ≡ false
+IsLostEnd status.ReadFault journal = has_note journal ≡ false
+IsLostEnd status.InputFull journal = has_note journal ≡ false
 IsLostEnd other journal = ⊤
 
 -- peer 0 has the disk of another store only where it is refused as such, and nothing is told then

@@ -103,6 +103,7 @@ pub(crate) fn open_store<A: Addresser, K: Sink, D: Disk>(
     ensures line { told.new.line ≡ told.old.line }
     ensures limit { told.new.journal.limit ≡ told.old.journal.limit }
     ensures ticks { watch.old ≤ watch.new }
+    ensures calm { OnOk result (D.faults disk.new ≡ D.faults disk.old) }
     ensures later { D.faults disk.old ≤ D.faults disk.new }
     ensures cause { SinkCause (K.faults sink.old) (K.faults sink.new) result }
 {

@@ -1,5 +1,5 @@
 //! A run of a script over its store, and what one line does to it.
-ghost use Rattle.std.specs.Prelude.{◌≡◌, ◌+◌, ◌<◌, ◌^◌, ◌≤◌, ◌∷◌, ◌++◌, [], ℕ, List, Option, Some, true, nat_lt, IfOk, OnOk, IfErr, OnErr, IsOkUnless, IfSome};
+ghost use Rattle.std.specs.Prelude.{◌≡◌, ◌+◌, ◌<◌, ◌^◌, ◌≤◌, ◌∷◌, ◌++◌, [], ℕ, List, Option, Some, true, nat_lt, IfOk, OnOk, IfErr, OnErr, IsErrOf, IsOkUnless, IfSome};
 ghost use Rattle.hs_model.specs.Built.{IsBuilt};
 ghost use Rattle.hs_model.specs.Store.{Store};
 ghost use Rattle.hs_script.specs.Built.{IsBare};
@@ -160,6 +160,9 @@ impl Run {
             self.old.store ((D.stands disk.old).seen self.old.store.log.side) list
             → IsNoted (has_note self.old.told.journal.entries)
             (has_note self.new.told.journal.entries) (D.faults disk.old) (D.faults disk.new) }
+        ensures calm { OnOk result (D.faults disk.new ≡ D.faults disk.old) }
+        ensures calm_bad { IsErrOf result Stop.BadLine
+            → D.faults disk.new ≡ D.faults disk.old }
         ensures later { D.faults disk.old ≤ D.faults disk.new }
         ensures cause { SinkCause (K.faults sink.old) (K.faults sink.new) result }
     {
@@ -233,6 +236,7 @@ impl Run {
             self.old.store ((D.stands disk.old).seen self.old.store.log.side) list
             → IsNoted (has_note self.old.told.journal.entries)
             (has_note self.new.told.journal.entries) (D.faults disk.old) (D.faults disk.new) }
+        ensures calm { OnOk result (D.faults disk.new ≡ D.faults disk.old) }
         ensures later { D.faults disk.old ≤ D.faults disk.new }
         ensures cause { SinkCause (K.faults sink.old) (K.faults sink.new) result }
     {
@@ -300,6 +304,7 @@ impl Run {
             ((D.stands disk.old).seen self.old.store.log.side) list
             → IsNoted (has_note self.old.told.journal.entries)
             (has_note self.new.told.journal.entries) (D.faults disk.old) (D.faults disk.new) }
+        ensures calm { OnOk result (D.faults disk.new ≡ D.faults disk.old) }
         ensures later { D.faults disk.old ≤ D.faults disk.new }
         ensures cause { SinkCause (K.faults sink.old) (K.faults sink.new) result }
     {

@@ -3,9 +3,10 @@ ghost use Rattle.std.specs.Prelude.{◌≡◌, ◌+◌, ◌<◌, ◌^◌, ◌≤
 ghost use Rattle.hs_entry.specs.declared.entry.Entry.{Entry};
 ghost use Rattle.hs_script.specs.Reading.{commands};
 ghost use Rattle.hs_single.specs.Serving.{IsReady, IsServing, store_at};
-ghost use Rattle.hs_top.specs.Ending.{Fulfils, IsScriptStop, status_of};
+ghost use Rattle.hs_top.specs.Ending.{Fulfils, IsScriptStop, IsUntold, status_of};
 ghost use Rattle.hs_ports.specs.Fault.{HasRisen};
 ghost use Rattle.hs_top.specs.Course.{GrowsBy};
+ghost use Rattle.hs_top.specs.Faults.{IsCalmStop};
 ghost use Rattle.hs_top.specs.Lost.{has_note};
 ghost use Rattle.hs_top.specs.Headline.{Ends, input_limit, run_limits};
 ghost use Rattle.hs_top.specs.Lasting.{Going, Lasts};
@@ -72,8 +73,13 @@ pub(crate) fn serve<A: Addresser, S: Source, K: Sink, D: Disk>(
         → IsServing (A.name naming.now) run.old.store
         ((D.stands disk.old).seen run.old.store.log.side) list
         → IfErr result (λ stop. IsScriptStop stop run.new.told.journal.entries)) }
+    ensures untold { D.tells → IfSome (S.left source.old) (λ script. (list : List (ℕ × Entry))
+        → IsServing (A.name naming.now) run.old.store
+        ((D.stands disk.old).seen run.old.store.log.side) list
+        → IsUntold result run.new.told.journal.entries) }
     ensures course { IfSome (S.left source.old) (λ script. GrowsBy (commands script)
         run.new.told.line run.old.told.course run.new.told.course) }
+    ensures calm { IsCalmStop result (D.faults disk.old) (D.faults disk.new) }
     ensures later { D.faults disk.old ≤ D.faults disk.new }
     ensures cause { StopCause (S.faults source.old) (S.faults source.new) (K.faults sink.old)
         (K.faults sink.new) result }

@@ -2,7 +2,7 @@
 ghost use Rattle.std.specs.Prelude.{◌≡◌, ◌<◌, ◌^◌, ◌≤◌, ◌∷◌, false, true, [], map, string_bytes, vec_len, IfSome};
 ghost use Rattle.hs_ports.specs.Fault.{HasRisen};
 ghost use Rattle.hs_script.specs.Reading.{commands};
-ghost use Rattle.hs_top.specs.Ending.{IsUntouched, status_of};
+ghost use Rattle.hs_top.specs.Ending.{IsCalm, IsUntouched, status_of};
 ghost use Rattle.hs_top.specs.Headline.{Ends, is_run};
 ghost use Rattle.hs_top.specs.Promise.{Promises};
 ghost use Rattle.hs_top.specs.Words.{is_load};
@@ -108,6 +108,7 @@ fn script<A: Addresser, S: Source, K: Sink, D: Disk>(
         → HasRisen (S.faults source.old) (S.faults source.new) }
     ensures write_fault { result.status ≡ Status.WriteFault
         → HasRisen (K.faults sink.old) (K.faults sink.new) }
+    ensures calm { IsCalm result.status (D.faults disk.old ∷ []) (D.faults disk.new ∷ []) }
     ensures source_later { S.faults source.old ≤ S.faults source.new }
     ensures sink_later { K.faults sink.old ≤ K.faults sink.new }
     ensures disk_later { D.faults disk.old ≤ D.faults disk.new }
@@ -163,6 +164,8 @@ pub fn hydra_alone<A: Addresser, S: Source, K: Sink, D: Disk + Drop>(
         → HasRisen (S.faults source.old) (S.faults source.new) }
     ensures write_fault { result.status ≡ Status.WriteFault
         → HasRisen (K.faults sink.old) (K.faults sink.new) }
+    ensures calm { IsCalm result.status (map (λ disk. D.faults disk) disks.old.items)
+        (map (λ disk. D.faults disk) disks.new.items) }
 
     // What stays.
     ensures untouched { result.status ≡ Status.Usage → IsUntouched
@@ -222,6 +225,8 @@ pub fn hydra<
         → HasRisen (S.faults source.old) (S.faults source.new) }
     ensures write_fault { result.status ≡ Status.WriteFault
         → HasRisen (K.faults sink.old) (K.faults sink.new) }
+    ensures calm { IsCalm result.status (map (λ disk. D.faults disk) disks.old.items)
+        (map (λ disk. D.faults disk) disks.new.items) }
 
     // What stays.
     ensures untouched { result.status ≡ Status.Usage → IsUntouched

@@ -44,6 +44,7 @@ returns-in_default-fault g c = record {
   journal = tt;
   refused = tt;
   put = tt;
+  calm = tt;
   halted = halted_by c.lose_good.result c.args.told.now _ _ _ c.begin.new.watch _ _ _ (omega (arith, c.open.ensures.ticks, c.begin.ensures.ticks)) c.lose_good.ensures.adds.put.later c.lose_good.ensures.lost;
   shape = λ told. shape_by c.lose_good.result _ _ _ _ _ _ c.lose_good.ensures.lost;
   only_shape = λ told found is. absurd (none_is _ (sym (c.in-Ok.ensures.accepted told) ∙ is));

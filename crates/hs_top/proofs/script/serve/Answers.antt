@@ -1,13 +1,14 @@
-use Rattle.std.proofs.Common.{◌≡◌, inl, inr, ◌+◌, ◌<◌, ◌≤◌, None, length, ◌∙◌, sym, arith, length-drop}
+use Rattle.std.proofs.Common.{◌≡◌, inl, inr, ◌+◌, ◌<◌, ◌≤◌, None, Err, length, ◌∙◌, ap, sym, arith, length-drop}
 use Rattle.std.proofs.lemmas.Bool.{false≢true}
 use Rattle.hs_script.specs.Reading.{commands}
 use Rattle.hs_top.specs.Headline.{run_limits}
 use Rattle.hs_top.specs.Reader.{cost, held_of}
+use Rattle.hs_top.proofs.CalmLemmas.{calm_line, calm_same, untold_line, untold_same}
 use Rattle.hs_top.proofs.EndingLemmas.{if_both, if_told}
 use Rattle.hs_top.proofs.EndsLemmas.{ends_done, ends_halted, ends_line}
 use Rattle.hs_top.proofs.GrowsLemmas.{ends_least, grows_more, no_note, risen_before}
 use Rattle.hs_top.proofs.HaltLemmas.{fulfils_done, fulfils_halt, fulfils_line}
-use Rattle.hs_top.proofs.ServingLemmas.{FulfilAll, LastAll, NoteAll, RunAll, SaidAll, advanced, asked_next, left_more, low_more, high_more, none_left, served_more, runs_more}
+use Rattle.hs_top.proofs.ServingLemmas.{CleanAll, FulfilAll, LastAll, NoteAll, RunAll, SaidAll, UntoldAll, advanced, asked_next, left_more, low_more, high_more, none_left, served_more, runs_more}
 use Rattle.hs_top.proofs.TopLemmas.{said_halt, said_line}
 use Rattle.hs_top.proofs.script.serve.Goals as goal
 
@@ -32,6 +33,12 @@ returns-in-Err-clause-noted g c = λ told. if_told _ (λ script. NoteAll _ _ _ c
 pub returns-in-Err-clause-said : goal.returns-in-Err-clause-said
 returns-in-Err-clause-said g c = λ told. if_told _ (λ script. SaidAll _ _ _ c.in-Err.stop c.serving.run.told.journal.entries) _ (c.serving.invariant.runs told) (λ script r list serves. said_halt c.in-Err.stop _ _ _ _ _ _ _ c.in-Err.ensures.halted)
 
+pub returns-in-Err-clause-calm : goal.returns-in-Err-clause-calm
+returns-in-Err-clause-calm g c = calm_same c.in-Err.stop _ _ c.serving.invariant.calm
+
+pub returns-in-Err-clause-untold : goal.returns-in-Err-clause-untold
+returns-in-Err-clause-untold g c = λ told. if_told _ (λ script. UntoldAll _ _ _ c.in-Err.stop c.serving.run.told.journal.entries) _ (c.serving.invariant.runs told) (λ script r list serves. untold_same c.in-Err.stop _ (no_note _ _ _ _ _ _ _ _ (r 0 None list serves).progress))
+
 -- ---- the input ended
 
 pub returns-then-not-more-clause-ends : goal.returns-then-not-more-clause-ends
@@ -55,6 +62,9 @@ returns-then-not-more-clause-lasts g c = λ told. if_told _ (λ script. LastAll 
 
 pub returns-then-not-more-clause-noted : goal.returns-then-not-more-clause-noted
 returns-then-not-more-clause-noted g c = λ told. if_told _ (λ script. NoteAll _ _ _ c.serving.run.told.journal.entries (g.D.Disk.faults c.args.disk.now) (g.D.Disk.faults c.serving.disk)) _ (c.serving.invariant.runs told) (λ script r list serves is. absurd (false≢true (sym (no_note _ _ _ _ _ _ _ _ (r 0 None list serves).progress) ∙ is)))
+
+pub returns-then-not-more-clause-untold : goal.returns-then-not-more-clause-untold
+returns-then-not-more-clause-untold g c = λ told. if_told _ (λ script. CleanAll _ _ _ c.serving.run.told.journal.entries) _ (c.serving.invariant.runs told) (λ script r list serves. no_note _ _ _ _ _ _ _ _ (r 0 None list serves).progress)
 
 -- ---- a line was not done
 
@@ -103,6 +113,11 @@ returns-in-Err-begin-clause-said g c = λ told. if_told _ (λ script. SaidAll _ 
     let run = r 0 None list serves in
     said_line c.in-Err-begin.stop _ _ _ _ _ _ _ _ _ _ _ _ _ (c.in-Err-begin.ensures.halted told run.list run.serves) c.in-Err-begin.ensures.ends)
 
+pub returns-in-Err-begin-clause-untold : goal.returns-in-Err-begin-clause-untold
+returns-in-Err-begin-clause-untold g c = λ told. if_told _ (λ script. UntoldAll _ _ _ c.in-Err-begin.stop c.begin.new.self.told.journal.entries) _ (c.serving.invariant.runs told) (λ script r list serves.
+    let run = r 0 None list serves in
+    untold_line c.in-Err-begin.stop _ _ _ _ _ _ _ _ _ _ _ _ _ (c.in-Err-begin.ensures.halted told run.list run.serves) c.in-Err-begin.ensures.ends (no_note _ _ _ _ _ _ _ _ run.progress))
+
 pub returns-in-Err-begin-clause-course : goal.returns-in-Err-begin-clause-course
 returns-in-Err-begin-clause-course g c = if_both _ _ _ _ c.serving.invariant.served c.serving.invariant.course (λ script served grows.
     let read = rw c.if-not-more.false at c.in-Ok.ensures.read in
@@ -111,6 +126,9 @@ returns-in-Err-begin-clause-course g c = if_both _ _ _ _ c.serving.invariant.ser
     let ends = rw c.line.ensures at c.in-Err-begin.ensures.ends in
     let adds = rw c.line.ensures at c.in-Err-begin.ensures.course in
     grows_more (commands script) _ _ _ _ _ _ _ grows adds (ends_least c.in-Err-begin.stop _ _ _ ends) (asked_next script _ _ _ _ _ next))
+
+pub returns-in-Err-begin-clause-calm : goal.returns-in-Err-begin-clause-calm
+returns-in-Err-begin-clause-calm g c = calm_line c.in-Err-begin.stop _ _ _ _ _ c.in-Err-begin.ensures.ends (λ is. c.in-Err-begin.ensures.calm_bad (ap Err is) ∙ c.serving.invariant.calm)
 
 -- ---- one more line is answered
 
@@ -147,5 +165,6 @@ serving-preserved g c =
       room = omega (arith, e.line, c.serving.invariant.room, shorter);
       taken = omega (arith, c.serving.invariant.taken, c.in-Ok.ensures.cause.later);
       given = omega (arith, c.serving.invariant.given, e.cause.later);
+      calm = e.calm ∙ c.serving.invariant.calm;
       failed = omega (arith, c.serving.invariant.failed, e.later);
     }

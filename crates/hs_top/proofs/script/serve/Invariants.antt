@@ -25,6 +25,7 @@ invariant-serving g l =
       room : l.run.told.line + cost l.reader ≤ input_limit;
       taken : g.S.Source.faults l.fn.source ≤ g.S.Source.faults l.source;
       given : g.K.Sink.faults l.fn.sink ≤ g.K.Sink.faults l.sink;
+      calm : g.D.Disk.faults l.disk ≡ g.D.Disk.faults l.fn.disk;
       failed : g.D.Disk.faults l.fn.disk ≤ g.D.Disk.faults l.disk;
     }
 

@@ -1,9 +1,4 @@
-use Rattle.std.proofs.Common.{◌≡◌, ◌≤◌, ◌<◌, ◌^◌, ◌+◌, ◌∷◌, ◌++◌, ℕ, List, length, [], IsSome, ap, sym, ◌∙◌, subst, inl}
-use Rattle.std.proofs.lemmas.List.{length-map}
-use Rattle.hs_entry.specs.declared.entry.Entry.{Entry}
-use Rattle.hs_side.specs.Reading.{Frame, entry_of}
-use Rattle.hs_single.specs.Lists.{HasList}
-use Rattle.hs_single.specs.Serving.{Serving, IsReady, IsNumberedSide}
+use Rattle.std.proofs.Common.{◌≡◌, ◌+◌, ◌∷◌, ◌++◌, length, [], IsSome, ap, sym, ◌∙◌, subst}
 use Rattle.hs_single.proofs.EntryLemmas.{may-come, reads-again, next-numbered}
 use Rattle.hs_single.proofs.ListLemmas.{list-places}
 use Rattle.hs_entry.proofs.ShortLemmas.{payload-short}

@@ -1,4 +1,4 @@
-use Rattle.std.proofs.Common.{◌≡◌, ◌∙◌, ◌+◌, ap, sym, subst, length}
+use Rattle.std.proofs.Common.{◌≡◌, ◌∙◌, ap, subst}
 use Rattle.hs_fold.specs.Prefix.{IsNumbered}
 use Rattle.hs_side.specs.Standing.{Kept}
 use Rattle.hs_single.specs.Images.{IsAlone}

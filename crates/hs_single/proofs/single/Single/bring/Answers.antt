@@ -4,7 +4,6 @@ use Rattle.std.specs.BTreeMap.{is_at}
 use Rattle.std.specs.Map.{lookup}
 use Rattle.hs_model.specs.Hollow.{filled}
 use Rattle.hs_model.specs.Store.{address_cmp}
-use Rattle.hs_side.specs.Standing.{Kept}
 use Rattle.hs_single.specs.Serving.{Serving}
 use Rattle.hs_single.proofs.ServingLemmas.{nothing-there, stored-there}
 use Rattle.hs_single.proofs.single.Single.bring.Goals as goal

@@ -1,7 +1,6 @@
 use Rattle.std.proofs.Common.{◌≡◌, ◌∙◌, ap, Ok}
 use Rattle.hs_entry.specs.declared.entry.Entry.TheVariants as kind
 use Rattle.hs_entry.specs.Reading.{entry_at}
-use Rattle.hs_single.specs.Caused.{IsOutside}
 use Rattle.hs_single.proofs.CauseLemmas.{memory_is_outside}
 use Rattle.hs_single.proofs.single.Single.fetch.Goals as goal
 

@@ -2,7 +2,7 @@ use Rattle.std.proofs.Common.{◌≡◌, ◌∙◌, ap, sym, subst, None}
 use Rattle.hs_model.specs.Hollow.{looks_at}
 use Rattle.hs_single.specs.Serving.{Serving, store_at}
 use Rattle.hs_single.specs.Telling.{IsLogged, SpellsIt}
-use Rattle.hs_single.proofs.NeedsLemmas.{logs-needs, looks-needs}
+use Rattle.hs_single.proofs.NeedsLemmas.{logs-needs}
 use Rattle.hs_single.proofs.SpellingLemmas.{judge-spells}
 use Rattle.hs_single.proofs.ServingLemmas.{judged-without}
 use Rattle.hs_single.proofs.single.Single.judge.Goals as goal

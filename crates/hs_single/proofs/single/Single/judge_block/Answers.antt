@@ -1,4 +1,4 @@
-use Rattle.std.proofs.Common.{◌≡◌, ◌∙◌, ap, sym, subst}
+use Rattle.std.proofs.Common.{◌∙◌, ap, sym, subst}
 use Rattle.hs_model.specs.Hollow.{filled}
 use Rattle.hs_single.specs.Serving.{Serving, store_at}
 use Rattle.hs_single.specs.Telling.{SpellsIt}

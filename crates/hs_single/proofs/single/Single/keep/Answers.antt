@@ -1,5 +1,4 @@
-use Rattle.std.proofs.Common.{◌≡◌, ◌≤◌, ◌+◌, ◌∷◌, ◌++◌, [], ℕ, length, None, List, Some, refl, ap, sym, ◌∙◌}
-use Rattle.hs_entry.specs.declared.entry.Entry.{Entry}
+use Rattle.std.proofs.Common.{◌≡◌, ◌+◌, ◌∷◌, ◌++◌, [], length, None, ap, sym, ◌∙◌}
 use Rattle.hs_entry.specs.Payload.{payload}
 use Rattle.hs_side.specs.Current.{generation_in}
 use Rattle.hs_side.specs.Standing.{Kept, opened}

@@ -17,5 +17,6 @@ invariant-frames g l = record {
   holds : g.D.Disk.tells → (entries : List (ℕ × Entry)) → HasList l.fn.log.places ((g.D.Disk.stands l.fn.disk).seen l.fn.log.side) entries → IsNumbered entries → IsLoading (g.A.Addresser.name l.naming) l.store l.view (take l.index entries);
   same : g.D.Disk.tells → g.D.Disk.stands l.disk ≡ g.D.Disk.stands l.fn.disk;
   same_size : (s : Side) → g.D.Disk.size l.disk s ≡ g.D.Disk.size l.fn.disk s;
+  calm : g.D.Disk.faults l.disk ≡ g.D.Disk.faults l.fn.disk;
   later : g.D.Disk.faults l.fn.disk ≤ g.D.Disk.faults l.disk;
 }

@@ -1,12 +1,9 @@
-use Rattle.std.proofs.Common.{◌≡◌, ◌∙◌, ap, sym, Some, None, ℕ, List, length, ◌+◌, refl, arith, subst}
+use Rattle.std.proofs.Common.{◌≡◌, ◌∙◌, ap, sym, Some, None, length, ◌+◌, refl, arith}
 use Rattle.std.proofs.lemmas.Grind.{common_steps}
 use Rattle.std.specs.BTreeMap.{is_at}
 use Rattle.std.specs.Map.{lookup}
-use Rattle.hs_model.specs.declared.deed.Deed.TheVariants as deed
 use Rattle.hs_model.specs.Store.{address_cmp}
-use Rattle.hs_fold.specs.Served.{with_logged}
 use Rattle.hs_single.specs.Serving.{Serving}
-use Rattle.hs_single.specs.Telling.{told_entry}
 use Rattle.hs_single.proofs.ImageLemmas.{no-lists}
 use Rattle.hs_single.proofs.ListLemmas.{has-list}
 use Rattle.hs_single.proofs.TellingLemmas.{IsOther, other-entry, other-numbers}
@@ -55,5 +52,6 @@ returns g c =
       any_moment = λ told last alone entries list.
           no-lists c.args.self.now.log.side entries _ last (g.met.D.Disk.since told c.args.disk.now) alone (has-list c.args.self.now.log.places _ entries list);
       ticks = omega arith;
+      calm = refl;
       cause = record { later = omega arith; disk = λ e. cc e };
     }

@@ -2,7 +2,6 @@ use Rattle.std.proofs.Common.{◌≡◌, ◌∙◌, refl, ap, sym, subst, [], No
 use Rattle.hs_ports.specs.declared.disk.Side.{Side}
 use Rattle.hs_side.specs.Standing.{Kept, Stands}
 use Rattle.hs_side.specs.Spelling.{spelled}
-use Rattle.hs_single.specs.Images.{IsAlone}
 use Rattle.hs_single.specs.Lists.{HasList}
 use Rattle.hs_single.specs.Serving.{Serving}
 use Rattle.hs_single.proofs.BeginLemmas.{none-if, blank-side, first-alone, first-lists, formatted, opened-list}

@@ -1,6 +1,5 @@
-use Rattle.std.proofs.Common.{◌≡◌, ◌∙◌, sym, ap, subst, None, Some, slice_index, List, ℕ, [], ◌++◌, Ok}
+use Rattle.std.proofs.Common.{◌≡◌, ◌∙◌, sym, ap, Some, ℕ, ◌++◌, Ok}
 use Rattle.hs_side.specs.Opening.{ReadsAt}
-use Rattle.hs_side.specs.Reading.{Frame}
 use Rattle.hs_single.specs.Serving.{Serving}
 use Rattle.hs_single.proofs.PlaceLemmas.{frame-of}
 use Rattle.hs_single.proofs.single.Single.payload_of.Goals as goal
