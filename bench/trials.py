@@ -47,15 +47,15 @@ def answers_of(out):
 
 
 def found_again(program, folder, blocks):
-    """Writes blocks that a run answered again: each has to be there. Gives how many blocks there are."""
+    """Writes blocks that a run answered again: each has to be there. Gives how many there are, and the seconds of a run."""
     for first in range(0, max(1, len(blocks)), MOST):
         part = blocks[first : first + MOST]
-        answers, _, _ = run(program, folder, script(part, ["stat"]))
+        answers, _, seconds = run(program, folder, script(part, ["stat"]))
         for number, block in enumerate(part):
             if answers.get(number + 2) != f"dup h{number} e1":
                 wrong(f"block {block} was answered and is answered {answers.get(number + 2)}")
         count = int(answers[len(part) + 2].split()[2])
-    return count
+    return count, seconds
 
 
 def later_run(program, top):
@@ -84,12 +84,13 @@ def kills(program, top, writes, seed):
     chance = random.Random(seed)
     fresh = (number.to_bytes(8, "big").hex() * 64 for number in range(1 << 40))
     blocks = [next(fresh) for _ in range(MOST)]
-    whole = min(run(program, os.path.join(top, f"whole{n}"), script(blocks))[2] for n in range(3))
     folder = os.path.join(top, "killed")
+    # A whole run takes about so long; on a folder with a longer log it takes longer to open.
+    seconds = run(program, os.path.join(top, "whole"), script(blocks))[2]
     told, runs, cut, tried = [], 0, 0, 0
     while len(told) < writes:
         blocks = [next(fresh) for _ in range(MOST)]
-        answers, ended = killed(program, folder, script(blocks), chance.uniform(0, whole))
+        answers, ended = killed(program, folder, script(blocks), chance.uniform(0, seconds))
         new = [block for number, block in enumerate(blocks) if number + 2 in answers]
         for number in range(len(new)):
             if answers[number + 2] != f"new h{number} e1":
@@ -97,7 +98,8 @@ def kills(program, top, writes, seed):
         told += new
         tried += len(blocks) if ended else min(len(blocks), len(new) + 1)
         runs, cut = runs + 1, cut + (not ended)
-        count = found_again(program, folder, told)
+        count, last = found_again(program, folder, told)
+        seconds = max(seconds, last)
         if not len(told) <= count <= tried:
             wrong(f"{count} blocks, where {len(told)} were answered and at most {tried} begun")
     print(f"{runs} runs, {cut} of them killed on their way, {len(told)} blocks answered as new: each was found again")
@@ -118,7 +120,7 @@ def two_at_once(program, top):
     out, _ = first.communicate("write a 62\n")
     if (out, first.returncode) != ("3 new h1 e1\n", 0):
         wrong(f"the first of two runs goes on: {first.returncode} {out}")
-    if found_again(program, folder, ["61", "62"]) != 2:
+    if found_again(program, folder, ["61", "62"])[0] != 2:
         wrong("two runs mixed")
     print("of two runs at once the second is told so, and the first goes on")
 
