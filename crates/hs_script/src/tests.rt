@@ -182,7 +182,7 @@ fn printed(alloc: Global, who: Who, reply: Reply) -> Result<Vec<u8>, ScriptFault
 }
 
 #[test]
-fn plain_entries_are_printed(rt: HostRuntime) -> Result<(), Fail> {
+fn answers_are_printed(rt: HostRuntime) -> Result<(), Fail> {
     for (who, reply, want) in [
         (Who::Line(1), Reply::Ok, b"1 ok\n".as_slice()),
         (
@@ -216,6 +216,16 @@ fn plain_entries_are_printed(rt: HostRuntime) -> Result<(), Fail> {
             },
             b"8 name a0a0a0a0a0a0a0a0a0a0a0a0a0a0a0a0a0a0a0a0a0a0a0a0a0a0a0a0a0a0a0a0\n".as_slice(),
         ),
+    ] {
+        let line = printed(rt.alloc(), who, reply)?;
+        assert_eq!(rt; line.as_slice(), want);
+    }
+    Ok(())
+}
+
+#[test]
+fn refusals_are_printed(rt: HostRuntime) -> Result<(), Fail> {
+    for (who, reply, want) in [
         (
             Who::Line(7),
             Reply::NoHandle { handle: 2 },
@@ -240,6 +250,16 @@ fn plain_entries_are_printed(rt: HostRuntime) -> Result<(), Fail> {
             Reply::TooLong { found: 65_537 },
             b"8 no toolong 65537\n".as_slice(),
         ),
+    ] {
+        let line = printed(rt.alloc(), who, reply)?;
+        assert_eq!(rt; line.as_slice(), want);
+    }
+    Ok(())
+}
+
+#[test]
+fn entries_of_no_line_are_printed(rt: HostRuntime) -> Result<(), Fail> {
+    for (who, reply, want) in [
         (
             Who::Shard(1),
             Reply::Enter { epoch: 2 },

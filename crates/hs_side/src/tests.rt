@@ -155,7 +155,6 @@ fn an_empty_log_has_eighteen_bytes(rt: HostRuntime) -> Result<(), Fail> {
 #[test]
 fn what_stands_behind_a_closed_gate_is_no_frame(rt: HostRuntime) {
     let alloc = rt.alloc();
-    let not_a_log = |at| Err(SideFault::NotALog { at });
     let cases = [
         ("the whole log", 79, 0, b"\xa5".as_slice(), Ok(2)),
         ("a torn gate", 79, 39, b"\x00".as_slice(), Ok(1)),
@@ -164,6 +163,17 @@ fn what_stands_behind_a_closed_gate_is_no_frame(rt: HostRuntime) {
         ("nor behind the other", 40, 39, b"\x5a".as_slice(), Ok(1)),
         ("fewer than 18 bytes", 17, 0, b"\xa5".as_slice(), Ok(0)),
         ("byte 0 closed", 79, 0, b"\x00".as_slice(), Ok(0)),
+    ];
+    for (name, len, at, with, want) in cases {
+        assert_eq!(rt; frames_in(alloc, len, at, with), want, "{name}");
+    }
+}
+
+#[test]
+fn a_side_with_a_wrong_byte_is_no_log(rt: HostRuntime) {
+    let alloc = rt.alloc();
+    let not_a_log = |at| Err(SideFault::NotALog { at });
+    let cases = [
         (
             "an open gate at the end",
             40,
