@@ -1,6 +1,7 @@
 //! Whether two entries are the same.
 ghost use Rattle.std.specs.Prelude.{◌≡◌, ◌↔◌, IsTrue};
 ghost use Rattle.hs_entry.specs.declared.entry.Entry.TheVariants as kinds;
+ghost use Rattle.hs_entry.specs.Entries.{is_of_base};
 
 use crate::Entry;
 use hs_limits::{Address, Delta, Key};
@@ -33,35 +34,7 @@ pub(crate) fn same(a: &Entry, b: &Entry) -> bool
             total,
             deltas,
         } => is_got(*sender, *epoch, *round, *total, deltas.as_slice(), b),
-        Entry::Base {
-            view,
-            epoch,
-            swept,
-            round,
-            frames,
-        } => is_base(*view, *epoch, *swept, *round, *frames, b),
-        Entry::KeptBlock {
-            born,
-            mark,
-            flags,
-            count,
-            bytes,
-        } => is_kept_block(*born, *mark, *flags, *count, bytes.as_slice(), b),
-        Entry::KeptRoot {
-            created,
-            dropped,
-            counted,
-            address,
-            key,
-        } => is_kept_root(*created, *dropped, *counted, address, key, b),
-        Entry::KeptRound {
-            way,
-            other,
-            epoch,
-            round,
-            total,
-            deltas,
-        } => is_kept_round(*way, *other, *epoch, *round, *total, deltas.as_slice(), b),
+        _ => same_frame(a, b),
     }
 }
 
@@ -176,6 +149,45 @@ fn is_got(sender: u8, epoch: u64, round: u32, total: u32, deltas: &[Delta], b: &
                 && same_deltas(deltas, other_deltas.as_slice())
         }
         _ => false,
+    }
+}
+
+/// Whether the two are the same Base or the same kept frame.
+fn same_frame(a: &Entry, b: &Entry) -> bool
+    requires { IsTrue (is_of_base a.now) }
+    ensures { IsTrue result ↔ (a.now ≡ b.now) }
+{
+    match a {
+        Entry::Base {
+            view,
+            epoch,
+            swept,
+            round,
+            frames,
+        } => is_base(*view, *epoch, *swept, *round, *frames, b),
+        Entry::KeptBlock {
+            born,
+            mark,
+            flags,
+            count,
+            bytes,
+        } => is_kept_block(*born, *mark, *flags, *count, bytes.as_slice(), b),
+        Entry::KeptRoot {
+            created,
+            dropped,
+            counted,
+            address,
+            key,
+        } => is_kept_root(*created, *dropped, *counted, address, key, b),
+        Entry::KeptRound {
+            way,
+            other,
+            epoch,
+            round,
+            total,
+            deltas,
+        } => is_kept_round(*way, *other, *epoch, *round, *total, deltas.as_slice(), b),
+        _ => unreachable!(),
     }
 }
 

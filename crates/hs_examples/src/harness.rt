@@ -1,7 +1,8 @@
 //! Runs of the top call over memory, and the disks that they are begun on and leave.
+use crate::{Ran, run_in_memory};
 use hs_block::Addresser;
 use hs_ports::{Disk, ListSink, ListSource, MemoryDisk, PortFault, Side, Tear, Watch};
-use hs_top::{Outcome, hydra_alone, is_load};
+use hs_top::Outcome;
 use std::alloc::{AllocError, Global};
 
 /// A write of two bytes, and a read of them.
@@ -31,15 +32,6 @@ pub(crate) fn plain(script: &[u8]) -> Trial<'_> {
         source_fails: &[],
         sink_fails: &[],
     }
-}
-
-/// The words `script d 1 1`.
-pub(crate) fn script_words(alloc: Global) -> Result<Vec<String>, AllocError> {
-    let mut words = Vec::new(alloc);
-    for word in ["script", "d", "1", "1"] {
-        words.push(String::from_str(alloc, word)?)?;
-    }
-    Ok(words)
 }
 
 /// A disk with these bytes on side zero and a blank side one, whose calls of the numbers `fails`
@@ -103,28 +95,18 @@ pub(crate) fn run_on<A: Addresser>(
     trial: &Trial<'_>,
     disk: MemoryDisk,
 ) -> Result<Seen, AllocError> {
-    let words = script_words(alloc)?;
     let bytes = Vec::from_slice(alloc, trial.script)?;
     let mut source = ListSource::new(alloc, bytes, Vec::from_slice(alloc, trial.source_fails)?);
     let mut sink = ListSink::new(alloc, Vec::from_slice(alloc, trial.sink_fails)?);
-    let mut disks = vec![in alloc; disk]?;
     let mut watch = Watch::new();
-    let words = words.as_slice();
-    if is_load(words) {
-        return Err(AllocError);
-    }
-    let outcome = hydra_alone(
+    let Ran { outcome, disk } = run_in_memory(
         alloc,
-        words,
         naming,
         &mut source,
         &mut sink,
-        &mut disks,
+        disk,
         &mut watch,
-    );
-    let Some(disk) = disks.pop() else {
-        return Err(AllocError);
-    };
+    )?;
     Ok(Seen {
         outcome,
         text: Vec::from_slice(alloc, sink.bytes())?,

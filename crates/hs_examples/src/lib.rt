@@ -1,6 +1,10 @@
 //! Worked examples, run on the top call over sources, sinks and disks in memory.
 #![tactic(auto)]
 
+mod run;
+
+pub use run::{Ran, run_in_memory};
+
 #[cfg(test)]
 mod course;
 #[cfg(test)]

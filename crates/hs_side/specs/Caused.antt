@@ -1,5 +1,5 @@
 -- What a count of the disk's faults says of an answer.
-use Rattle.std.specs.Prelude.{ℕ, ◌≤◌, ⊤, Result, IsErrOf}
+use Rattle.std.specs.Prelude.{◌≡◌, ℕ, ◌≤◌, ⊤, Result, Ok, Err, IsErrOf}
 use Rattle.hs_ports.specs.Fault.{HasRisen}
 use Rattle.hs_ports.specs.declared.fault.PortFault.{PortFault}
 use Rattle.hs_ports.specs.declared.fault.PortFault.TheVariants as port
@@ -10,6 +10,13 @@ use Rattle.hs_side.specs.declared.fault.SideFault.TheVariants.{NotALog, Disk, No
 pub record IsCaused {T : Type 0} (before now : ℕ) (result : Result T SideFault) : Type 0 where
   pub later : before ≤ now
   pub disk : IsErrOf result Disk → HasRisen before now
+
+-- Ok, and that the side is no log, are answered only where the count stands: a call that failed is told first
+abbrev pub IsCalm : {T : Type 0} → ℕ → ℕ → Result T SideFault → Type 0
+IsCalm before now (Ok x) = now ≡ before
+IsCalm before now (Err (NotALog at)) = now ≡ before
+IsCalm before now (Err Disk) = ⊤
+IsCalm before now (Err NoMemory) = ⊤
 
 -- the fault of a side where its disk has this one
 abbrev pub of_port : PortFault → SideFault

@@ -4,7 +4,7 @@ ghost use Rattle.std.specs.Prelude.{◌≡◌, ◌<◌, ◌≤◌, ◌+◌, ◌^
 ghost use Rattle.hs_ports.specs.Disk.{byte_at, other_side, settled};
 ghost use Rattle.hs_ports.specs.Fault.{HasCause};
 ghost use Rattle.hs_ports.specs.Moments.{EachMoment};
-ghost use Rattle.hs_side.specs.Caused.{IsCaused, IsOutside};
+ghost use Rattle.hs_side.specs.Caused.{IsCalm, IsCaused, IsOutside};
 ghost use Rattle.hs_side.specs.Giving.{GivesEmpty, IsBlankEverywhere};
 ghost use Rattle.hs_side.specs.Reading.{is_open};
 ghost use Rattle.hs_side.specs.Spelling.{empty_back, spelled};
@@ -53,7 +53,7 @@ impl SideLog {
             EachMoment watch.old watch.new side (D.stands disk.old) (D.stands disk.new)
             (GivesEmpty header generation) }
         ensures ticks { watch.old ≤ watch.new }
-        ensures calm { OnOk result (D.faults disk.new ≡ D.faults disk.old) }
+        ensures calm { IsCalm (D.faults disk.old) (D.faults disk.new) result }
         ensures cause { IsCaused (D.faults disk.old) (D.faults disk.new) result }
     {
         shut(alloc, disk, watch, side)?;
@@ -130,7 +130,7 @@ fn is_shut<D: Disk>(alloc: Global, disk: &mut D, side: Side) -> Result<bool, Sid
     ensures same_size { (s : Side) → D.size disk.new s ≡ D.size disk.old s }
     ensures same { D.tells → D.stands disk.new ≡ D.stands disk.old }
     ensures refused { IfErr result IsOutside }
-    ensures calm { OnOk result (D.faults disk.new ≡ D.faults disk.old) }
+    ensures calm { IsCalm (D.faults disk.old) (D.faults disk.new) result }
     ensures cause { IsCaused (D.faults disk.old) (D.faults disk.new) result }
 {
     let size = disk.len(side)?;

@@ -2,7 +2,7 @@
 ghost use Rattle.hs_ports.specs.declared.disk.Side.{Side};
 ghost use Rattle.std.specs.Prelude.{◌≡◌, ◌<◌, ◌≤◌, ◌+◌, ℕ, length, IfOk, OnOk, IfErr, None, Some, ◌==◌, if◌then◌else◌};
 ghost use Rattle.std.specs.Int.{w32, from_be_bytes, to_be_bytes};
-ghost use Rattle.hs_side.specs.Caused.{IsCaused};
+ghost use Rattle.hs_side.specs.Caused.{IsCalm, IsCaused};
 ghost use Rattle.hs_side.specs.Steps.{IsGate, IsPayload, IsNext, IsFrame, refusal};
 
 use crate::SideFault;
@@ -30,7 +30,7 @@ pub(crate) fn open_at<D: Disk>(
 
     ensures same_size { (s : Side) → D.size disk.new s ≡ D.size disk.old s }
     ensures same { D.tells → D.stands disk.new ≡ D.stands disk.old }
-    ensures calm { OnOk result (D.faults disk.new ≡ D.faults disk.old) }
+    ensures calm { IsCalm (D.faults disk.old) (D.faults disk.new) result }
     ensures cause { IsCaused (D.faults disk.old) (D.faults disk.new) result }
 {
     if at >= size {
@@ -66,7 +66,7 @@ pub(crate) fn read_payload<D: Disk>(
 
     ensures same_size { (s : Side) → D.size disk.new s ≡ D.size disk.old s }
     ensures same { D.tells → D.stands disk.new ≡ D.stands disk.old }
-    ensures calm { OnOk result (D.faults disk.new ≡ D.faults disk.old) }
+    ensures calm { IsCalm (D.faults disk.old) (D.faults disk.new) result }
     ensures cause { IsCaused (D.faults disk.old) (D.faults disk.new) result }
 {
     if size - at < 5 {
@@ -141,7 +141,7 @@ pub(crate) fn read_frame<D: Disk>(
 
     ensures same_size { (s : Side) → D.size disk.new s ≡ D.size disk.old s }
     ensures same { D.tells → D.stands disk.new ≡ D.stands disk.old }
-    ensures calm { OnOk result (D.faults disk.new ≡ D.faults disk.old) }
+    ensures calm { IsCalm (D.faults disk.old) (D.faults disk.new) result }
     ensures cause { IsCaused (D.faults disk.old) (D.faults disk.new) result }
 {
     match read_payload(disk, side, size, at, held) {

@@ -3,7 +3,7 @@ ghost use Rattle.std.specs.Prelude.{◌≡◌, ◌≤◌, length, Some, None, If
 ghost use Rattle.hs_ports.specs.declared.disk.Side.{Side};
 ghost use Rattle.hs_ports.specs.Disk.{IsImage, Untouched, byte_at, other_side, settled};
 ghost use Rattle.hs_ports.specs.Moments.{EachMoment};
-ghost use Rattle.hs_side.specs.Caused.{IsCaused, IsOutside};
+ghost use Rattle.hs_side.specs.Caused.{IsCalm, IsCaused, IsOutside};
 ghost use Rattle.hs_side.specs.Current.{generation_in, header_in, later_side, IsHeader};
 ghost use Rattle.hs_side.specs.Reading.{generation_of, is_open};
 
@@ -41,7 +41,7 @@ impl SideLog {
             EachMoment watch.old watch.new side (D.stands disk.old) (D.stands disk.new)
             (IsImage ((D.stands disk.old).loose side)) }
         ensures ticks { watch.old ≤ watch.new }
-        ensures calm { OnOk result (D.faults disk.new ≡ D.faults disk.old) }
+        ensures calm { IsCalm (D.faults disk.old) (D.faults disk.new) result }
         ensures cause { IsCaused (D.faults disk.old) (D.faults disk.new) result }
     {
         settle(disk, watch, side)?;
@@ -60,7 +60,7 @@ impl SideLog {
         ensures same { D.tells → D.stands disk.new ≡ D.stands disk.old }
         ensures same_size { (s : Side) → D.size disk.new s ≡ D.size disk.old s }
 
-        ensures calm { OnOk result (D.faults disk.new ≡ D.faults disk.old) }
+        ensures calm { IsCalm (D.faults disk.old) (D.faults disk.new) result }
         ensures cause { IsCaused (D.faults disk.old) (D.faults disk.new) result }
     {
         let size = disk.len(side)?;
@@ -96,7 +96,7 @@ fn read_generation<D: Disk>(
 
     ensures same { D.tells → D.stands disk.new ≡ D.stands disk.old }
     ensures same_size { (s : Side) → D.size disk.new s ≡ D.size disk.old s }
-    ensures calm { OnOk result (D.faults disk.new ≡ D.faults disk.old) }
+    ensures calm { IsCalm (D.faults disk.old) (D.faults disk.new) result }
     ensures cause { IsCaused (D.faults disk.old) (D.faults disk.new) result }
 {
     let size = disk.len(side)?;

@@ -1,7 +1,7 @@
 //! Reading the head of a side.
 ghost use Rattle.hs_ports.specs.declared.disk.Side.{Side};
 ghost use Rattle.std.specs.Prelude.{◌≡◌, ◌<◌, ◌≤◌, ◌+◌, length, IfOk, IfErr, IsSome, OnOk};
-ghost use Rattle.hs_side.specs.Caused.{IsCaused};
+ghost use Rattle.hs_side.specs.Caused.{IsCalm, IsCaused};
 ghost use Rattle.hs_side.specs.Reading.{is_named, generation_of};
 ghost use Rattle.hs_side.specs.Steps.{IsHead, IsHeadOf};
 
@@ -66,7 +66,7 @@ pub(crate) fn read_head<D: Disk>(
 
     ensures same_size { (s : Side) → D.size disk.new s ≡ D.size disk.old s }
     ensures same { D.tells → D.stands disk.new ≡ D.stands disk.old }
-    ensures calm { OnOk result (D.faults disk.new ≡ D.faults disk.old) }
+    ensures calm { IsCalm (D.faults disk.old) (D.faults disk.new) result }
     ensures cause { IsCaused (D.faults disk.old) (D.faults disk.new) result }
 {
     if size < 18 {

@@ -5,7 +5,7 @@ ghost use Rattle.hs_ports.specs.Disk.{IsImage, other_side, overwritten, settled}
 ghost use Rattle.hs_ports.specs.Moments.{EachMoment};
 ghost use Rattle.hs_entry.specs.declared.entry.Entry.{Entry};
 ghost use Rattle.hs_entry.specs.Reading.{entry_at};
-ghost use Rattle.hs_side.specs.Caused.{IsCaused, IsOutside};
+ghost use Rattle.hs_side.specs.Caused.{IsCalm, IsCaused, IsOutside};
 ghost use Rattle.hs_side.specs.Giving.{GivesSame, GivesEither};
 ghost use Rattle.hs_side.specs.Reading.{log_of, with_frame};
 ghost use Rattle.hs_side.specs.Spelling.{body};
@@ -145,7 +145,7 @@ impl SideLog {
             EachMoment watch.old watch.new self.old.side (D.stands disk.old) (D.stands disk.new)
             (GivesSame ((D.stands disk.old).seen self.old.side)) }
         ensures ticks { watch.old ≤ watch.new }
-        ensures calm { OnOk result (D.faults disk.new ≡ D.faults disk.old) }
+        ensures calm { IsCalm (D.faults disk.old) (D.faults disk.new) result }
         ensures cause { IsCaused (D.faults disk.old) (D.faults disk.new) result }
     {
         self.places.reserve(1)?;
@@ -190,7 +190,7 @@ impl SideLog {
             (GivesEither ((D.stands disk.old).seen self.old.side)
             (opened self.old.end ((D.stands disk.old).seen self.old.side))) }
         ensures ticks { watch.old ≤ watch.new }
-        ensures calm { OnOk result (D.faults disk.new ≡ D.faults disk.old) }
+        ensures calm { IsCalm (D.faults disk.old) (D.faults disk.new) result }
         ensures cause { IsCaused (D.faults disk.old) (D.faults disk.new) result }
     {
         let Some(next) = self.waiting else {

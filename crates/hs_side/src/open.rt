@@ -3,7 +3,7 @@ ghost use Rattle.hs_ports.specs.declared.disk.Side.{Side};
 ghost use Rattle.std.specs.Prelude.{◌≡◌, ◌<◌, ◌≤◌, ◌+◌, ◌^◌, ℕ, [], length, None, Some, Ok, IfOk, OnOk};
 ghost use Rattle.hs_ports.specs.Disk.{IsImage, Untouched, other_side, settled};
 ghost use Rattle.hs_ports.specs.Moments.{EachMoment};
-ghost use Rattle.hs_side.specs.Caused.{IsCaused};
+ghost use Rattle.hs_side.specs.Caused.{IsCalm, IsCaused};
 ghost use Rattle.hs_side.specs.Opening.{Opens};
 ghost use Rattle.hs_side.specs.Reading.{log_of};
 ghost use Rattle.hs_side.specs.Standing.{Stands, HasBytes, HasRoom};
@@ -45,7 +45,7 @@ impl SideLog {
             EachMoment watch.old watch.new side (D.stands disk.old) (D.stands disk.new)
             (IsImage ((D.stands disk.old).loose side)) }
         ensures ticks { watch.old ≤ watch.new }
-        ensures calm { OnOk result (D.faults disk.new ≡ D.faults disk.old) }
+        ensures calm { IsCalm (D.faults disk.old) (D.faults disk.new) result }
         ensures cause { IsCaused (D.faults disk.old) (D.faults disk.new) result }
     {
         settle(disk, watch, side)?;
@@ -84,7 +84,7 @@ fn read_log<D: Disk>(alloc: Global, disk: &mut D, side: Side) -> Result<SideLog,
 
     ensures same_size { (s : Side) → D.size disk.new s ≡ D.size disk.old s }
     ensures same { D.tells → D.stands disk.new ≡ D.stands disk.old }
-    ensures calm { OnOk result (D.faults disk.new ≡ D.faults disk.old) }
+    ensures calm { IsCalm (D.faults disk.old) (D.faults disk.new) result }
     ensures cause { IsCaused (D.faults disk.old) (D.faults disk.new) result }
 {
     let size = disk.len(side)?;
@@ -127,7 +127,7 @@ fn read_frames<D: Disk>(
 
     ensures same_size { (s : Side) → D.size disk.new s ≡ D.size disk.old s }
     ensures same { D.tells → D.stands disk.new ≡ D.stands disk.old }
-    ensures calm { OnOk result (D.faults disk.new ≡ D.faults disk.old) }
+    ensures calm { IsCalm (D.faults disk.old) (D.faults disk.new) result }
     ensures cause { IsCaused (D.faults disk.old) (D.faults disk.new) result }
 {
     let mut places = Vec::new(alloc);

@@ -2,7 +2,7 @@
 ghost use Rattle.hs_ports.specs.declared.disk.Side.{Side};
 ghost use Rattle.std.specs.Prelude.{◌≡◌, OnOk, OnErr, IfErr};
 ghost use Rattle.std.specs.List.{Contains};
-ghost use Rattle.hs_side.specs.Caused.{IsCaused, IsOutside};
+ghost use Rattle.hs_side.specs.Caused.{IsCalm, IsCaused, IsOutside};
 ghost use Rattle.hs_side.specs.Opening.{ReadsAt};
 ghost use Rattle.hs_side.specs.Standing.{Stands};
 
@@ -31,7 +31,7 @@ impl SideLog {
         ensures same { D.tells → D.stands disk.new ≡ D.stands disk.old }
         ensures same_size { (s : Side) → D.size disk.new s ≡ D.size disk.old s }
 
-        ensures calm { OnOk result (D.faults disk.new ≡ D.faults disk.old) }
+        ensures calm { IsCalm (D.faults disk.old) (D.faults disk.new) result }
         ensures cause { IsCaused (D.faults disk.old) (D.faults disk.new) result }
     {
         let size = disk.len(self.side)?;

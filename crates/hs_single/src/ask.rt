@@ -3,7 +3,7 @@ ghost use Rattle.std.specs.Prelude.{◌≡◌, ◌⊎◌, ◌≤◌, ℕ, List, 
 ghost use Rattle.hs_limits.specs.declared.address.Address.{Address};
 ghost use Rattle.hs_entry.specs.declared.entry.Entry.{Entry};
 ghost use Rattle.hs_fold.specs.Served.{IsNamed, IsServed};
-ghost use Rattle.hs_single.specs.Caused.{IsCaused, IsOutside};
+ghost use Rattle.hs_single.specs.Caused.{IsCalm, IsCaused, IsOutside};
 ghost use Rattle.hs_single.specs.Images.{IsAlone, LeavesList, LeavesLists};
 ghost use Rattle.hs_single.specs.Serving.{IsAnswered, IsReady, IsServing, IsSpelled, NeedsDisk, list_after};
 
@@ -65,7 +65,7 @@ impl Single {
             → LeavesLists watch.old watch.new (D.stands disk.old) (D.stands disk.new)
             entries (list_after name limits line op self.old entries) }
         ensures ticks { watch.old ≤ watch.new }
-        ensures calm { OnOk result (D.faults disk.new ≡ D.faults disk.old) }
+        ensures calm { IsCalm (D.faults disk.old) (D.faults disk.new) result }
         ensures cause { IsCaused (D.faults disk.old) (D.faults disk.new) result }
     {
         let answer = match self.judge(limits, op, disk) {

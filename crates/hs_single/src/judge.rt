@@ -7,7 +7,7 @@ ghost use Rattle.hs_model.specs.Store.{block_at};
 ghost use Rattle.hs_ports.specs.declared.disk.Side.{Side};
 ghost use Rattle.hs_entry.specs.declared.entry.Entry.{Entry};
 ghost use Rattle.hs_side.specs.Standing.{Stands};
-ghost use Rattle.hs_single.specs.Caused.{IsCaused, IsOutside};
+ghost use Rattle.hs_single.specs.Caused.{IsCalm, IsCaused, IsOutside};
 ghost use Rattle.hs_fold.specs.Served.{IsServed};
 ghost use Rattle.hs_single.specs.Serving.{store_at, IsJudged, IsServing, IsSpelled, NeedsDisk};
 ghost use Rattle.hs_single.specs.Telling.{IsLogged, SpellsIt};
@@ -48,7 +48,7 @@ impl Single {
         ensures numbers { self.new.numbers ≡ self.old.numbers }
         ensures same { D.tells → D.stands disk.new ≡ D.stands disk.old }
         ensures same_size { (s : Side) → D.size disk.new s ≡ D.size disk.old s }
-        ensures calm { OnOk result (D.faults disk.new ≡ D.faults disk.old) }
+        ensures calm { IsCalm (D.faults disk.old) (D.faults disk.new) result }
         ensures cause { IsCaused (D.faults disk.old) (D.faults disk.new) result }
     {
         match self.plain.looks_at(&op) {
@@ -85,7 +85,7 @@ impl Single {
         ensures numbers { self.new.numbers ≡ self.old.numbers }
         ensures same { D.tells → D.stands disk.new ≡ D.stands disk.old }
         ensures same_size { (s : Side) → D.size disk.new s ≡ D.size disk.old s }
-        ensures calm { OnOk result (D.faults disk.new ≡ D.faults disk.old) }
+        ensures calm { IsCalm (D.faults disk.old) (D.faults disk.new) result }
         ensures cause { IsCaused (D.faults disk.old) (D.faults disk.new) result }
     {
         match self.bring(address, disk) {
@@ -114,7 +114,7 @@ impl Single {
         ensures numbers { self.new.numbers ≡ self.old.numbers }
         ensures same { D.tells → D.stands disk.new ≡ D.stands disk.old }
         ensures same_size { (s : Side) → D.size disk.new s ≡ D.size disk.old s }
-        ensures calm { OnOk result (D.faults disk.new ≡ D.faults disk.old) }
+        ensures calm { IsCalm (D.faults disk.old) (D.faults disk.new) result }
         ensures cause { IsCaused (D.faults disk.old) (D.faults disk.new) result }
     {
         let Some(number) = self.numbers.get(address).copied() else {

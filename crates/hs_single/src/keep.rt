@@ -4,7 +4,7 @@ ghost use Rattle.hs_entry.specs.declared.entry.Entry.{Entry};
 ghost use Rattle.hs_entry.specs.Payload.{payload, HasPayload};
 ghost use Rattle.hs_entry.specs.Reading.{entry_at};
 ghost use Rattle.hs_side.specs.Standing.{Stands, MayCome};
-ghost use Rattle.hs_single.specs.Caused.{IsCaused, IsOutside};
+ghost use Rattle.hs_single.specs.Caused.{IsCalm, IsCaused, IsOutside};
 ghost use Rattle.hs_single.specs.Images.{IsAlone, LeavesLists};
 ghost use Rattle.hs_single.specs.Lists.{HasList};
 
@@ -55,7 +55,7 @@ impl Single {
             → LeavesLists watch.old watch.new (D.stands disk.old) (D.stands disk.new)
             entries (entries ++ (number, entry.now) ∷ []) }
         ensures ticks { watch.old ≤ watch.new }
-        ensures calm { OnOk result (D.faults disk.new ≡ D.faults disk.old) }
+        ensures calm { IsCalm (D.faults disk.old) (D.faults disk.new) result }
         ensures cause { IsCaused (D.faults disk.old) (D.faults disk.new) result }
     {
         self.payload.clear();

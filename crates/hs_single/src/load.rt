@@ -7,7 +7,7 @@ ghost use Rattle.hs_entry.specs.declared.entry.Entry.{Entry};
 ghost use Rattle.hs_entry.specs.Reading.{entry_at};
 ghost use Rattle.hs_fold.specs.Prefix.{IsNumbered};
 ghost use Rattle.hs_side.specs.Standing.{Stands};
-ghost use Rattle.hs_single.specs.Caused.{IsCaused, IsOutside};
+ghost use Rattle.hs_single.specs.Caused.{IsCalm, IsCaused, IsOutside};
 ghost use Rattle.hs_single.specs.Lists.{HasList};
 ghost use Rattle.hs_single.specs.Serving.{catalogue_in, IsServing};
 
@@ -62,7 +62,7 @@ impl Single {
 
         ensures same { D.tells → D.stands disk.new ≡ D.stands disk.old }
         ensures same_size { (s : Side) → D.size disk.new s ≡ D.size disk.old s }
-        ensures calm { OnOk result (D.faults disk.new ≡ D.faults disk.old) }
+        ensures calm { IsCalm (D.faults disk.old) (D.faults disk.new) result }
         ensures cause { IsCaused (D.faults disk.old) (D.faults disk.new) result }
     {
         let mut store = Single::empty(alloc, log)?;
@@ -114,7 +114,7 @@ impl Single {
 
         ensures same { D.tells → D.stands disk.new ≡ D.stands disk.old }
         ensures same_size { (s : Side) → D.size disk.new s ≡ D.size disk.old s }
-        ensures calm { OnOk result (D.faults disk.new ≡ D.faults disk.old) }
+        ensures calm { IsCalm (D.faults disk.old) (D.faults disk.new) result }
         ensures cause { IsCaused (D.faults disk.old) (D.faults disk.new) result }
     {
         let place = self.log.places()[index];

@@ -5,7 +5,7 @@ ghost use Rattle.hs_ports.specs.Disk.{settled};
 ghost use Rattle.hs_entry.specs.declared.entry.Entry.{Entry};
 ghost use Rattle.hs_side.specs.Current.{current, header_in, list_in};
 ghost use Rattle.hs_side.specs.Standing.{Stands};
-ghost use Rattle.hs_single.specs.Caused.{IsCaused, IsOutside};
+ghost use Rattle.hs_single.specs.Caused.{IsCalm, IsCaused, IsOutside};
 ghost use Rattle.hs_single.specs.Images.{IsAlone, LeavesList};
 ghost use Rattle.hs_single.specs.Opening.{is_own, refused_head, refusal_in, HasOpened, IsOpen, IsRefusal, LeavesAll};
 ghost use Rattle.hs_single.specs.Serving.{IsNumberedSide};
@@ -59,7 +59,7 @@ impl Single {
         ensures any_moment { D.tells → (D.stands disk.old).last ≤ watch.old →
             LeavesAll watch.old watch.new (D.stands disk.old) (D.stands disk.new) }
         ensures ticks { watch.old ≤ watch.new }
-        ensures calm { OnOk result (D.faults disk.new ≡ D.faults disk.old) }
+        ensures calm { IsCalm (D.faults disk.old) (D.faults disk.new) result }
         ensures cause { IsCaused (D.faults disk.old) (D.faults disk.new) result }
     {
         let side = match current_side(alloc, disk, watch) {
@@ -93,7 +93,7 @@ fn current_side<D: Disk>(
     ensures any_moment { D.tells → (D.stands disk.old).last ≤ watch.old →
         LeavesAll watch.old watch.new (D.stands disk.old) (D.stands disk.new) }
     ensures ticks { watch.old ≤ watch.new }
-    ensures calm { OnOk result (D.faults disk.new ≡ D.faults disk.old) }
+    ensures calm { IsCalm (D.faults disk.old) (D.faults disk.new) result }
     ensures cause { IsCaused (D.faults disk.old) (D.faults disk.new) result }
 {
     let zero = SideLog::glance(alloc, disk, watch, Side::Zero)?;
@@ -110,7 +110,7 @@ fn check_head<D: Disk>(alloc: Global, disk: &mut D, side: Side) -> Result<(), Si
 
     ensures same { D.tells → D.stands disk.new ≡ D.stands disk.old }
     ensures same_size { (s : Side) → D.size disk.new s ≡ D.size disk.old s }
-    ensures calm { OnOk result (D.faults disk.new ≡ D.faults disk.old) }
+    ensures calm { IsCalm (D.faults disk.old) (D.faults disk.new) result }
     ensures cause { IsCaused (D.faults disk.old) (D.faults disk.new) result }
 {
     let head = SideLog::head(alloc, disk, side)?;

@@ -1,6 +1,5 @@
 -- What one line does, from where it was begun.
-use Rattle.std.proofs.Common.{◌≡◌, ℕ, List, Option, Result, Ok, Err, ◌∙◌}
-use Rattle.std.specs.Prelude.{IfErr, OnErr, OnOk}
+use Rattle.std.proofs.Common.{◌≡◌, ℕ, List, Option, ◌∙◌}
 use Rattle.hs_limits.specs.declared.address.Address.{Address}
 use Rattle.hs_limits.specs.declared.limits.Limits.{Limits}
 use Rattle.hs_model.specs.declared.op.Op.{Op}
@@ -13,24 +12,6 @@ use Rattle.hs_top.specs.declared.stop.Stop.TheVariants as stop
 use Rattle.hs_top.specs.declared.transcript.Transcript.{Transcript}
 use Rattle.hs_top.specs.Asking.{Asks, AsksNot}
 use Rattle.hs_top.specs.Entering.{IsAbove, IsSame, Tells, TellsFront}
-
--- ---- results
-
-pub on_ok : {T E : Type 0} (r : Result T E) (P Q : Type 0) → OnOk r P → (P → Q) → OnOk r Q
-on_ok (Ok x) P Q h f = f h
-on_ok (Err e) P Q h f = tt
-
-pub on_err : {T E : Type 0} (r : Result T E) (P Q : Type 0) → OnErr r P → (P → Q) → OnErr r Q
-on_err (Ok x) P Q h f = tt
-on_err (Err e) P Q h f = f h
-
-pub an_err : {T E : Type 0} (r : Result T E) (P : Type 0) → P → OnErr r P
-an_err (Ok x) P h = tt
-an_err (Err e) P h = h
-
-pub if_err : {T E : Type 0} (r : Result T E) (P Q : E → Type 0) → IfErr r P → ((e : E) → P e → Q e) → IfErr r Q
-if_err (Ok x) P Q h f = tt
-if_err (Err e) P Q h f = f e h
 
 -- ---- from a transcript with the same journal
 

@@ -1,5 +1,5 @@
 -- What is said of every stop while the store of a disk is opened and its view begins.
-use Rattle.std.proofs.Common.{◌≡◌, inl, inr, ℕ, ◌+◌, ◌≤◌, List, [], ◌∷◌, ◌++◌, length, Option, Some, None, Result, Ok, Err, refl, sym, ap, subst, ◌∙◌, arith, length-append, OnErr}
+use Rattle.std.proofs.Common.{◌≡◌, inl, inr, ℕ, ◌+◌, ◌≤◌, List, [], ◌∷◌, ◌++◌, length, Option, Some, None, Result, Err, refl, sym, ap, subst, ◌∙◌, arith, length-append}
 use Rattle.std.specs.Prelude.{All}
 use Rattle.std.specs.List.{Contains}
 use Rattle.std.proofs.lemmas.Bool.{cases_lt}
@@ -169,8 +169,3 @@ began_with course course' noted m n added begun none = cons_is (sym (ap (λ (ite
   where
     cons_is : item.Good 0 m ∷ item.Took 0 n m ∷ noted ≡ [] → ⊥
     cons_is e = cc e
-
--- whatever was answered
-pub on_err : {T E : Type 0} {P : Type 0} (result : Result T E) → P → OnErr result P
-on_err (Ok x) h = tt
-on_err (Err e) h = h

@@ -12,6 +12,7 @@ use Rattle.hs_top.specs.declared.stop.Stop.TheVariants as stop
 use Rattle.hs_top.specs.declared.transcript.Transcript.{Transcript}
 use Rattle.hs_top.specs.Asking.{LineEnds, LineHalts}
 use Rattle.hs_top.specs.Ending.{IsCalm, IsUntold, status_of}
+use Rattle.hs_top.specs.Entering.{IsLost}
 use Rattle.hs_top.specs.Faults.{IsCalmStop}
 use Rattle.hs_top.specs.Lost.{has_note}
 use Rattle.hs_top.specs.Opens.{OpensNot}
@@ -25,7 +26,7 @@ calm_same stop.ShardLost a b e = tt
 calm_same stop.WriteFault a b e = tt
 calm_same stop.NoMemory a b e = tt
 calm_same stop.OpsFull a b e = tt
-calm_same (stop.WrongShape found) a b e = tt
+calm_same (stop.WrongShape found) a b e = e
 
 -- a line that was not done
 pub calm_line : (halt : Stop) (said : Reading) (line line' a b : ℕ) → LineEnds halt said line line' → (halt ≡ stop.BadLine → b ≡ a) → IsCalmStop (Err halt) a b
@@ -48,18 +49,29 @@ calm_end (Err stop.ShardLost) line a m b e h = tt
 calm_end (Err stop.WriteFault) line a m b e h = tt
 calm_end (Err stop.NoMemory) line a m b e h = tt
 calm_end (Err stop.OpsFull) line a m b e h = tt
-calm_end (Err (stop.WrongShape found)) line a m b e h = tt
+calm_end (Err (stop.WrongShape found)) line a m b e h = ap (λ (n : ℕ). n ∷ []) (h ∙ e)
 
 -- the store was not opened
-pub calm_not : (halt : Stop) (old new : Transcript) (before now : ℕ) (got got' : Option (List (ℕ × ℕ))) (a b : List ℕ) → OpensNot halt old new before now got got' → IsCalm (status_of (Err halt) 0) a b
-calm_not stop.BadLine old new before now got got' a b h = absurd h
-calm_not stop.ReadFault old new before now got got' a b h = absurd h
-calm_not stop.InputFull old new before now got got' a b h = absurd h
-calm_not stop.ShardLost old new before now got got' a b h = tt
-calm_not stop.WriteFault old new before now got got' a b h = tt
-calm_not stop.NoMemory old new before now got got' a b h = tt
-calm_not stop.OpsFull old new before now got got' a b h = tt
-calm_not (stop.WrongShape found) old new before now got got' a b h = tt
+pub calm_not : (halt : Stop) (old new : Transcript) (before now : ℕ) (got got' : Option (List (ℕ × ℕ))) (a b : ℕ) → OpensNot halt old new before now got got' → IsCalmStop (Err halt) a b → IsCalm (status_of (Err halt) 0) (a ∷ []) (b ∷ [])
+calm_not stop.BadLine old new before now got got' a b h e = absurd h
+calm_not stop.ReadFault old new before now got got' a b h e = absurd h
+calm_not stop.InputFull old new before now got got' a b h e = absurd h
+calm_not stop.ShardLost old new before now got got' a b h e = tt
+calm_not stop.WriteFault old new before now got got' a b h e = tt
+calm_not stop.NoMemory old new before now got got' a b h e = tt
+calm_not stop.OpsFull old new before now got got' a b h e = tt
+calm_not (stop.WrongShape found) old new before now got got' a b h e = ap (λ (n : ℕ). n ∷ []) e
+
+-- its loss was told, or could not be
+pub calm_lost : (halt : Stop) (old new : Transcript) (entry : JournalEntry) (got got' : Option (List (ℕ × ℕ))) (a b : ℕ) → IsLost halt old new entry got got' → IsCalmStop (Err halt) a b
+calm_lost stop.BadLine old new entry got got' a b h = absurd h
+calm_lost stop.ReadFault old new entry got got' a b h = absurd h
+calm_lost stop.InputFull old new entry got got' a b h = absurd h
+calm_lost stop.ShardLost old new entry got got' a b h = tt
+calm_lost stop.WriteFault old new entry got got' a b h = tt
+calm_lost stop.NoMemory old new entry got got' a b h = tt
+calm_lost stop.OpsFull old new entry got got' a b h = tt
+calm_lost (stop.WrongShape found) old new entry got got' a b h = absurd h
 
 -- the same of what is handed back
 pub calm_as : (ending ending' : Status) (a b : List ℕ) → ending' ≡ ending → IsCalm ending a b → IsCalm ending' a b

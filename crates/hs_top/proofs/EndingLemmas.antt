@@ -1,5 +1,5 @@
 -- What a run has fulfilled wherever it ends.
-use Rattle.std.proofs.Common.{◌≡◌, ℕ, zero, suc, ◌+◌, ◌-◌, ◌<◌, ◌≤◌, List, [], ◌∷◌, ◌++◌, length, take, drop, Option, Some, None, IfSome, IsSome, refl, sym, ap, subst, ◌∙◌, append_assoc, arith, take-append-drop, length-append, length-take, inl, inr}
+use Rattle.std.proofs.Common.{◌≡◌, ℕ, zero, suc, ◌+◌, ◌-◌, ◌<◌, ◌≤◌, List, [], ◌∷◌, ◌++◌, length, take, drop, Option, Some, None, IsSome, refl, sym, ap, subst, ◌∙◌, append_assoc, arith, take-append-drop, length-append, length-take, inl, inr}
 use Rattle.std.specs.List.{slice_get}
 use Rattle.std.proofs.lemmas.Bool.{ne_eqb, cases_eq, false≢true, lt-ltb}
 use Rattle.std.proofs.lemmas.List.{drop-drop}
@@ -22,18 +22,6 @@ use Rattle.hs_top.specs.Lost.{has_note}
 use Rattle.hs_top.specs.Progress.{Progress}
 use Rattle.hs_top.proofs.ProgressLemmas.{ordered}
 use Rattle.hs_top.proofs.SpendsLemmas.{complete-none, complete-append}
-
--- ---- what may be untold
-
--- from what holds of a value that is told
-pub if_told : {X : Type 0} (P Q : X → Type 0) (o : Option X) → IfSome o P → ((x : X) → P x → Q x) → IfSome o Q
-if_told P Q None h f = tt
-if_told P Q (Some x) h f = f x h
-
--- and from two
-pub if_both : {X : Type 0} (P Q R : X → Type 0) (o : Option X) → IfSome o P → IfSome o Q → ((x : X) → P x → Q x → R x) → IfSome o R
-if_both P Q R None h k f = tt
-if_both P Q R (Some x) h k f = f x h k
 
 -- ---- lists
 

@@ -4,6 +4,7 @@ pub mod BackLemmas
 pub mod BeginningLemmas
 pub mod BusyLemmas
 pub mod CalmLemmas
+pub mod CaseLemmas
 pub mod CourseLemmas
 pub mod KeptLemmas
 pub mod EndingLemmas
@@ -23,6 +24,7 @@ pub mod ProgressLemmas
 pub mod PromiseLemmas
 pub mod ServingLemmas
 pub mod SpendsLemmas
+pub mod StartLemmas
 pub mod StopLemmas
 pub mod TellingLemmas
 pub mod TopLemmas

@@ -33,6 +33,7 @@ use Rattle.hs_top.specs.Lost.{has_note}
 use Rattle.hs_top.specs.Opens.{IsCutShort, IsLossCause, IsShapeStop, IsShapeTold, LeavesUnwritten, MayBegin, Opens, OpensNot, TakenCourse, viewed}
 use Rattle.hs_top.specs.Promise.{IsGoodUntold, IsLostEnd, IsShapeEnd, IsShapeFound, LeavesOther, MayStop, Promises}
 use Rattle.hs_top.specs.Stops.{Stops, got_by}
+use Rattle.hs_top.proofs.CaseLemmas.{err_at, if_any, if_at}
 use Rattle.hs_top.proofs.EntryLemmas.{valid_at}
 use Rattle.hs_top.proofs.KeptLemmas.{kept_along}
 use Rattle.hs_top.proofs.GrowsLemmas.{risen_before}
@@ -267,18 +268,6 @@ module _ (script : List ℕ) (name : List ℕ → Address) (before mid now : ℕ
     other_shape = λ header is. found_on store header r line faults faults' faults'' (found header is) later';
     unwritten = served_unwritten r line journal before now disk disk'' said;
   }
-
--- ---- what a source or a result tells
-
-pub if_any : {X : Type 0} (P : X → Type 0) (o : Option X) → ((x : X) → o ≡ Some x → P x) → IfSome o P
-if_any P None h = tt
-if_any P (Some x) h = h x refl
-
-pub if_at : {X : Type 0} (P : X → Type 0) (o : Option X) (x : X) → o ≡ Some x → IfSome o P → P x
-if_at P o x e h = subst (λ o. IfSome o P) e h
-
-pub err_at : {T E : Type 0} (P : E → Type 0) (r : Result T E) (e : E) → r ≡ Err e → IfErr r P → P e
-err_at P r e is h = subst (λ r. IfErr r P) is h
 
 -- ---- the store was opened, and the source tells its script or not
 

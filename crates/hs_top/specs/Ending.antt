@@ -59,4 +59,5 @@ IsCalm status.Usage before now = now ≡ before
 IsCalm (status.BadLine line) before now = now ≡ before
 IsCalm status.ReadFault before now = now ≡ before
 IsCalm status.InputFull before now = now ≡ before
+IsCalm (status.WrongShape peer found) before now = now ≡ before
 IsCalm other before now = ⊤

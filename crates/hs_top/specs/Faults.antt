@@ -23,10 +23,11 @@ pub record LossCause (before now : ℕ) (halt : Stop) : Type 0 where
 abbrev pub IsNoted : Bool → Bool → ℕ → ℕ → Type 0
 IsNoted before after faults faults' = after ≡ true → (before ≡ true) ⊎ HasRisen faults faults'
 
--- the disk's count stands where the script came to its end, a line was bad, or no more of the source could be read
+-- the disk's count stands where the script came to its end, a line was bad, no more of the source could be read, or the disk is another store's
 abbrev pub IsCalmStop : Result (Unit {0}) Stop → ℕ → ℕ → Type 0
 IsCalmStop (Ok x) before now = now ≡ before
 IsCalmStop (Err stop.BadLine) before now = now ≡ before
 IsCalmStop (Err stop.ReadFault) before now = now ≡ before
 IsCalmStop (Err stop.InputFull) before now = now ≡ before
+IsCalmStop (Err (stop.WrongShape found)) before now = now ≡ before
 IsCalmStop other before now = ⊤

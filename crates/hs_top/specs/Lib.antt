@@ -14,6 +14,7 @@ pub mod Passing
 pub mod Progress
 pub mod Promise
 pub mod Reader
+pub mod Rest
 pub mod Serving
 pub mod Status
 pub mod Stops

@@ -1,6 +1,7 @@
 //! The top call: the words, the script's loop, and what the whole program promises.
 #![tactic(auto)]
 
+mod laws;
 mod opening;
 mod outcome;
 mod reader;
@@ -13,6 +14,7 @@ mod top;
 mod transcript;
 mod words;
 
+pub use laws::a_run_may_begin;
 pub use outcome::Outcome;
 pub use status::{Status, TopFault, fault_line};
 pub use top::{hydra, hydra_alone};

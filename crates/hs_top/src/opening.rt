@@ -10,7 +10,7 @@ ghost use Rattle.hs_side.specs.declared.header.Header.{Header};
 ghost use Rattle.hs_single.specs.Opening.{refusal_in};
 ghost use Rattle.hs_single.specs.Serving.{IsReady, catalogue_in};
 ghost use Rattle.hs_single.specs.declared.fault.SingleFault.TheVariants as single;
-ghost use Rattle.hs_top.specs.Faults.{SinkCause};
+ghost use Rattle.hs_top.specs.Faults.{IsCalmStop, SinkCause};
 ghost use Rattle.hs_top.specs.Headline.{run_limits};
 ghost use Rattle.hs_top.specs.Lasting.{Lasts, Prints};
 ghost use Rattle.hs_top.specs.Lost.{has_note};
@@ -104,6 +104,8 @@ pub(crate) fn open_store<A: Addresser, K: Sink, D: Disk>(
     ensures limit { told.new.journal.limit ≡ told.old.journal.limit }
     ensures ticks { watch.old ≤ watch.new }
     ensures calm { OnOk result (D.faults disk.new ≡ D.faults disk.old) }
+    ensures calm_halt { IfErr result (λ halt.
+        IsCalmStop (Err halt) (D.faults disk.old) (D.faults disk.new)) }
     ensures later { D.faults disk.old ≤ D.faults disk.new }
     ensures cause { SinkCause (K.faults sink.old) (K.faults sink.new) result }
 {

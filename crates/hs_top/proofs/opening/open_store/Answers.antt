@@ -4,7 +4,9 @@ use Rattle.hs_single.specs.Serving.{IsServing}
 use Rattle.hs_top.specs.Headline.{run_limits}
 use Rattle.hs_top.specs.Opens.{viewed}
 use Rattle.hs_top.proofs.AnswerLemmas.{outside_disk}
-use Rattle.hs_top.proofs.BeginningLemmas.{began_with, begun_goes, begun_lasts, begun_lost, course_is, halted_by, lasts_lost, loss_cause, on_err, opened_is, places-count, shape_by, sink_by, taken_by, unwritten_by}
+use Rattle.hs_top.proofs.BeginningLemmas.{began_with, begun_goes, begun_lasts, begun_lost, course_is, halted_by, lasts_lost, loss_cause, opened_is, places-count, shape_by, sink_by, taken_by, unwritten_by}
+use Rattle.hs_top.proofs.CalmLemmas.{calm_lost}
+use Rattle.hs_top.proofs.CaseLemmas.{an_err}
 use Rattle.hs_top.proofs.GrowsLemmas.{risen_before}
 use Rattle.hs_top.proofs.OpeningLemmas.{listed-numbered, prints_lost, taken_lasts}
 use Rattle.hs_top.proofs.opening.open_store.Goals as goal
@@ -19,6 +21,9 @@ returns-in_default-clause-noted g c = λ told is. loss_cause c.in-Err.fault _ _ 
 
 pub returns-in_default-clause-prints : goal.returns-in_default-clause-prints
 returns-in_default-clause-prints g c = λ put. prints_lost _ c.open.new.watch _ _ _ _ _ _ _ put refl c.requires.journal c.open.ensures.ticks c.lose.ensures.adds
+
+pub returns-in_default-clause-calm_halt : goal.returns-in_default-clause-calm_halt
+returns-in_default-clause-calm_halt g c = calm_lost c.lose.result _ _ _ _ _ _ _ c.lose.ensures.lost
 
 pub returns-in_default-clause-memory : goal.returns-in_default-clause-memory
 returns-in_default-clause-memory g c = λ told commands list is may e none. lasts_lost commands _ _ _ c.open.new.watch _ _ _ _ _ _ _ _ _ c.lose.result c.requires.journal refl c.lose.ensures.adds c.lose.ensures.lost (cc e)
@@ -45,6 +50,7 @@ returns-in_default-fault g c = record {
   refused = tt;
   put = tt;
   calm = tt;
+  calm_halt = calm_lost c.lose_good.result _ _ _ _ _ _ _ c.lose_good.ensures.lost;
   halted = halted_by c.lose_good.result c.args.told.now _ _ _ c.begin.new.watch _ _ _ (omega (arith, c.open.ensures.ticks, c.begin.ensures.ticks)) c.lose_good.ensures.adds.put.later c.lose_good.ensures.lost;
   shape = λ told. shape_by c.lose_good.result _ _ _ _ _ _ c.lose_good.ensures.lost;
   only_shape = λ told found is. absurd (none_is _ (sym (c.in-Ok.ensures.accepted told) ∙ is));
@@ -73,7 +79,7 @@ returns-in_default-fault g c = record {
     none_is x e = cc e
 
 pub returns-in_err-note-clause-lasts : goal.returns-in_err-note-clause-lasts
-returns-in_err-note-clause-lasts g c = λ told commands list is may. on_err c.from_residual-in_err-note.result (λ t.
+returns-in_err-note-clause-lasts g c = λ told commands list is may. an_err c.from_residual-in_err-note.result _ (λ t.
     let opened = c.in-Ok.ensures.value told in
     let leaves = c.open.ensures.any_moment told may.last in
     let lists = c.begin.ensures.any_moment told leaves.last (c.in-Ok.ensures.alone told) list (c.in-Ok.ensures.listed told list is) in

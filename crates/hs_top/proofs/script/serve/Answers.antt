@@ -4,7 +4,7 @@ use Rattle.hs_script.specs.Reading.{commands}
 use Rattle.hs_top.specs.Headline.{run_limits}
 use Rattle.hs_top.specs.Reader.{cost, held_of}
 use Rattle.hs_top.proofs.CalmLemmas.{calm_line, calm_same, untold_line, untold_same}
-use Rattle.hs_top.proofs.EndingLemmas.{if_both, if_told}
+use Rattle.hs_top.proofs.CaseLemmas.{if_both, if_told}
 use Rattle.hs_top.proofs.EndsLemmas.{ends_done, ends_halted, ends_line}
 use Rattle.hs_top.proofs.GrowsLemmas.{ends_least, grows_more, no_note, risen_before}
 use Rattle.hs_top.proofs.HaltLemmas.{fulfils_done, fulfils_halt, fulfils_line}

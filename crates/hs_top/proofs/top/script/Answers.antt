@@ -2,8 +2,8 @@ use Rattle.std.proofs.Common.{Err, ap, ◌∙◌}
 use Rattle.hs_model.specs.Store.{empty_store}
 use Rattle.hs_top.specs.Ending.{status_of}
 use Rattle.hs_top.proofs.CalmLemmas.{calm_as, calm_end, calm_not}
-use Rattle.hs_top.proofs.EndingLemmas.{if_told}
-use Rattle.hs_top.proofs.PromiseLemmas.{ends_as, if_any, promises_as, promises_not, promises_served}
+use Rattle.hs_top.proofs.CaseLemmas.{if_any, if_told}
+use Rattle.hs_top.proofs.PromiseLemmas.{ends_as, promises_as, promises_not, promises_served}
 use Rattle.hs_top.proofs.TopLemmas.{ends_not}
 use Rattle.hs_top.proofs.top.script.Goals as goal
 
@@ -28,7 +28,7 @@ pub returns-in-Err-clause-calm : goal.returns-in-Err-clause-calm
 returns-in-Err-clause-calm g c =
     let e = c.in-Err.ensures in
     let zero = e.line ∙ c.new-told.ensures.line in
-    calm_as _ _ _ _ (c.outcome.ensures.status ∙ ap (status_of (Err c.in-Err.stop)) zero) (calm_not c.in-Err.stop _ _ _ _ _ _ _ _ e.halted)
+    calm_as _ _ _ _ (c.outcome.ensures.status ∙ ap (status_of (Err c.in-Err.stop)) zero) (calm_not c.in-Err.stop _ _ _ _ _ _ _ _ e.halted e.calm_halt)
 
 -- ---- its script was served
 

@@ -2,7 +2,7 @@ use Rattle.std.proofs.Common.{◌≤◌, inl, inr, ◌∙◌, refl, ap, sym, ari
 use Rattle.hs_single.specs.Serving.{store_at}
 use Rattle.hs_top.specs.Headline.{run_limits}
 use Rattle.hs_top.proofs.AnswerLemmas.{asks_by, asks_not_by, bad_by, lost_by, needs_by, note_same, outside_disk, passes_by, took_by, whole_by}
-use Rattle.hs_top.proofs.AskingLemmas.{an_err, if_err, on_ok}
+use Rattle.hs_top.proofs.CaseLemmas.{an_err, if_err, on_ok}
 use Rattle.hs_top.proofs.EnteringLemmas.{adds_none, notes_none}
 use Rattle.hs_top.proofs.run.Run.answer.Goals as goal
 

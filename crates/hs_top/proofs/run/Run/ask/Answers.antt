@@ -1,6 +1,7 @@
 use Rattle.std.proofs.Common.{inl, inr, ◌+◌, refl, ap, arith}
 use Rattle.hs_top.specs.Headline.{run_limits}
-use Rattle.hs_top.proofs.AskingLemmas.{an_err, asks_from, asks_not_from, if_err, on_err, on_ok}
+use Rattle.hs_top.proofs.AskingLemmas.{asks_from, asks_not_from}
+use Rattle.hs_top.proofs.CaseLemmas.{an_err, if_err, on_err, on_ok}
 use Rattle.hs_top.proofs.LastingLemmas.{begun_lasts}
 use Rattle.hs_top.proofs.PassingLemmas.{passes_lost, passes_answered, passes_whole}
 use Rattle.hs_top.proofs.run.Run.ask.Goals as goal
