@@ -2,6 +2,7 @@
 use Rattle.std.specs.Prelude.{◌≡◌, ℕ, ◌<◌, ◌≤◌, ⊤, List, length, Result, Ok, Err, IsOk}
 use Rattle.hs_limits.specs.declared.address.Address.{Address}
 use Rattle.hs_limits.specs.declared.spelling.SpellingFault.{SpellingFault}
+use Rattle.hs_limits.specs.declared.spelling.TheConstants.{MOST_POINTERS, MOST_BYTES}
 use Rattle.hs_limits.specs.declared.spelling.SpellingFault.TheVariants as reasons
 use Rattle.hs_limits.specs.Block.{Block}
 use Rattle.hs_block.specs.declared.fault.BlockFault.{BlockFault}
@@ -9,9 +10,9 @@ use Rattle.hs_block.specs.declared.fault.BlockFault.TheVariants.{Short, BadVersi
 
 -- the fault has this cause in the pointers and bytes, and gives the number found there
 abbrev pub IsCause : BlockFault → List Address → List ℕ → Type 0
-IsCause (TooMany found) pointers bytes = (64 < length pointers) × (found ≡ length pointers)
+IsCause (TooMany found) pointers bytes = (MOST_POINTERS < length pointers) × (found ≡ length pointers)
 IsCause (TooLong found) pointers bytes =
-    (length pointers ≤ 64) × (65536 < length bytes) × (found ≡ length bytes)
+    (length pointers ≤ MOST_POINTERS) × (MOST_BYTES < length bytes) × (found ≡ length bytes)
 IsCause NoMemory pointers bytes = ⊤
 IsCause (Short at) pointers bytes = ⊥
 IsCause (BadVersion found) pointers bytes = ⊥

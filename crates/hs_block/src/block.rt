@@ -6,7 +6,7 @@ ghost use Rattle.hs_limits.specs.Reading.{addresses, read_block};
 ghost use Rattle.hs_block.specs.Refusal.{IsCause, IsReading};
 
 use crate::BlockFault;
-use hs_limits::{Address, ListOf, parts_of};
+use hs_limits::{Address, ListOf, MOST_BYTES, MOST_POINTERS, parts_of};
 use std::alloc::{AllocError, Global};
 use std::marker::Model;
 
@@ -35,18 +35,18 @@ impl Block {
         ensures valid { IfOk result IsBlock }
 
         // Too many pointers come before too many bytes.
-        ensures too_many { 64 < length pointers.now →
+        ensures too_many { MOST_POINTERS < length pointers.now →
             IsErrOf result (BlockFault.TooMany (length pointers.now)) }
-        ensures too_long { length pointers.now ≤ 64 → 65536 < length bytes.now →
+        ensures too_long { length pointers.now ≤ MOST_POINTERS → MOST_BYTES < length bytes.now →
             IsErrOf result (BlockFault.TooLong (length bytes.now)) }
         ensures cause { IfErr result (λ fault. IsCause fault pointers.now bytes.now) }
     {
-        if pointers.len() > 64 {
+        if pointers.len() > MOST_POINTERS {
             return Err(BlockFault::TooMany {
                 found: pointers.len() as u64,
             });
         }
-        if bytes.len() > 65_536 {
+        if bytes.len() > MOST_BYTES {
             return Err(BlockFault::TooLong {
                 found: bytes.len() as u64,
             });

@@ -3,6 +3,7 @@ use Rattle.std.specs.Prelude.{◌≡◌, ℕ, ◌≤◌, List, ◌∷◌, ◌++�
 use Rattle.std.specs.List.{flat_map}
 use Rattle.std.specs.Int.{w16, w32, to_be_bytes}
 use Rattle.hs_limits.specs.declared.address.Address.{Address}
+use Rattle.hs_limits.specs.declared.spelling.TheConstants.{MOST_POINTERS, MOST_BYTES}
 
 -- pointers to blocks, and bytes
 pub record Block : Type 0 where
@@ -11,8 +12,8 @@ pub record Block : Type 0 where
 
 -- at most 64 pointers and 65,536 bytes
 pub record IsBlock (block : Block) : Type 0 where
-  pub pointers : length block.pointers ≤ 64
-  pub bytes : length block.bytes ≤ 65536
+  pub pointers : length block.pointers ≤ MOST_POINTERS
+  pub bytes : length block.bytes ≤ MOST_BYTES
 
 -- each pointer has the 32 bytes of an address, as every pointer that a program holds
 abbrev pub HasAddresses : Block → Type 0

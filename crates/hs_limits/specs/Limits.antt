@@ -1,6 +1,7 @@
 -- The limits of a run.
 use Rattle.std.specs.Prelude.{◌≤◌}
 use Rattle.hs_limits.specs.declared.limits.Limits.{Limits}
+use Rattle.hs_limits.specs.declared.limits.TheConstants.{LAST_EPOCH}
 
 -- the limits that hold where no option lowers them
 abbrev pub greatest_limits : Limits
@@ -10,16 +11,16 @@ greatest_limits = record {
   sessions = 64;
   handles = 4096;
   pool = 65536;
-  epochs = 281474976710655;
+  epochs = LAST_EPOCH;
   ops = 1048576;
 }
 
 -- no number is above the greatest
 pub record IsLimits (limits : Limits) : Type 0 where
-  pub blocks : limits.blocks ≤ 16384
-  pub roots : limits.roots ≤ 4096
-  pub sessions : limits.sessions ≤ 64
-  pub handles : limits.handles ≤ 4096
-  pub pool : limits.pool ≤ 65536
-  pub epochs : limits.epochs ≤ 281474976710655
-  pub ops : limits.ops ≤ 1048576
+  pub blocks : limits.blocks ≤ greatest_limits.blocks
+  pub roots : limits.roots ≤ greatest_limits.roots
+  pub sessions : limits.sessions ≤ greatest_limits.sessions
+  pub handles : limits.handles ≤ greatest_limits.handles
+  pub pool : limits.pool ≤ greatest_limits.pool
+  pub epochs : limits.epochs ≤ greatest_limits.epochs
+  pub ops : limits.ops ≤ greatest_limits.ops

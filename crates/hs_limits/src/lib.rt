@@ -13,11 +13,11 @@ mod spelling;
 pub use address::{Address, Held, fresh};
 pub use delta::Delta;
 pub use key::Key;
-pub use limits::{Limits, PeerStatus};
+pub use limits::{LAST_EPOCH, Limits, PeerStatus};
 pub use list::ListOf;
 pub use name::{Name, is_name};
 pub use shape::{Shape, peer_of, shard_of, shard_of_key};
-pub use spelling::{SpellingFault, parts_of, spelt};
+pub use spelling::{MOST_BYTES, MOST_POINTERS, SpellingFault, parts_of, spelt};
 
 #[cfg(test)]
 mod tests;

@@ -1,6 +1,9 @@
 //! The limits of a run, and what a peer is.
 ghost use Rattle.std.specs.Prelude.{◌≡◌};
 
+/// The greatest number of an epoch.
+pub const LAST_EPOCH: u64 = 281_474_976_710_655;
+
 /// How much a store takes before it refuses. No number is above that of `Limits::greatest`.
 #[derive(Clone, Copy, Debug, PartialEq, Eq)]
 pub struct Limits {
@@ -33,7 +36,7 @@ impl Limits {
             sessions: 64,
             handles: 4_096,
             pool: 65_536,
-            epochs: 281_474_976_710_655,
+            epochs: LAST_EPOCH,
             ops: 1_048_576,
         }
     }

@@ -6,18 +6,31 @@ ghost use Rattle.hs_limits.specs.Block.{IsSpelling};
 ghost use Rattle.hs_limits.specs.Fields.{Gives, byte_at, bytes_at, number_at};
 ghost use Rattle.hs_limits.specs.Reading.{addresses, read_block};
 
+use thiserror::Error;
+
+/// The most pointers of a block.
+pub const MOST_POINTERS: usize = 64;
+
+/// The most bytes of data of a block.
+pub const MOST_BYTES: usize = 65_536;
+
 /// Why bytes spell no block: the first fault in the order of the bytes.
-#[derive(Clone, Copy, Debug, PartialEq, Eq)]
+#[derive(Clone, Copy, Debug, PartialEq, Eq, Error)]
 pub enum SpellingFault {
     /// The input ends inside a field, at `at`.
+    #[error("the block ends inside a field, at byte {at}")]
     Short { at: u64 },
     /// The first byte is not 1.
+    #[error("a block begins with 1, not {found}")]
     BadVersion { found: u8 },
     /// More than 64 pointers are announced.
+    #[error("a block has at most 64 pointers, not {found}")]
     TooMany { found: u64 },
     /// More than 65,536 bytes are announced.
+    #[error("a block has at most 65536 bytes, not {found}")]
     TooLong { found: u64 },
     /// The block ends before the input does: the place of the first byte behind it.
+    #[error("the block ends before byte {at}")]
     Trailing { at: u64 },
 }
 
@@ -35,9 +48,9 @@ pub fn spelt(bytes: &[u8]) -> bool
 pub fn parts_of(bytes: &[u8]) -> Result<(u16, &[u8], &[u8]), SpellingFault>
     ensures exact { Gives (λ x. record { pointers = addresses x.0 x.1.now; bytes = x.2.now })
         result (read_block bytes.now) }
-    ensures few { IfOk result (λ x. x.0 ≤ 64) }
+    ensures few { IfOk result (λ x. x.0 ≤ MOST_POINTERS) }
     ensures whole { IfOk result (λ x. length x.1.now ≡ 32 * x.0) }
-    ensures short { IfOk result (λ x. length x.2.now ≤ 65536) }
+    ensures short { IfOk result (λ x. length x.2.now ≤ MOST_BYTES) }
 {
     let whole = bytes.len() as u64;
     let (version, rest) = u8_at(whole, bytes)?;
@@ -45,14 +58,14 @@ pub fn parts_of(bytes: &[u8]) -> Result<(u16, &[u8], &[u8]), SpellingFault>
         return Err(SpellingFault::BadVersion { found: version });
     }
     let (count, rest) = u16_at(whole, rest)?;
-    if count > 64 {
+    if count as usize > MOST_POINTERS {
         return Err(SpellingFault::TooMany {
             found: count as u64,
         });
     }
     let (pointers, rest) = split(whole, rest, 32 * count as usize)?;
     let (len, rest) = u32_at(whole, rest)?;
-    if len > 65_536 {
+    if len as usize > MOST_BYTES {
         return Err(SpellingFault::TooLong { found: len as u64 });
     }
     let (content, rest) = split(whole, rest, len as usize)?;
