@@ -6,6 +6,7 @@ use Rattle.hs_ports.specs.Disk.{byte_at}
 use Rattle.hs_entry.specs.declared.entry.Entry.{Entry}
 use Rattle.hs_entry.specs.declared.fault.EntryFault.{EntryFault}
 use Rattle.hs_entry.specs.Reading.{entry_at}
+use Rattle.hs_side.specs.declared.frame.TheConstants.{MOST_PAYLOAD}
 use Rattle.hs_side.specs.declared.header.Header.{Header}
 use Rattle.hs_side.specs.Follow.{Follow, start, after, may_end}
 
@@ -55,7 +56,7 @@ length_at bytes = from_be_bytes w32 (take 4 bytes)
 unfoldable pub payload_at : List ℕ → Option (List ℕ)
 payload_at bytes =
     if nat_lt (length bytes) 4 then None else
-    if nat_lt 600000 (length_at bytes) then None else
+    if nat_lt MOST_PAYLOAD (length_at bytes) then None else
     if nat_lt (length bytes) (4 + length_at bytes) then None else
     Some (take (length_at bytes) (drop 4 bytes))
 

@@ -2,6 +2,7 @@
 use Rattle.std.specs.Prelude.{◌≡◌, ℕ, ◌+◌, ◌^◌, ◌<◌, ◌≤◌, true, false, List, [], ◌∷◌, ◌++◌, length, drop, Some}
 use Rattle.std.specs.List.{flat_map}
 use Rattle.std.specs.Int.{w32, w64, to_be_bytes}
+use Rattle.hs_side.specs.declared.frame.TheConstants.{MOST_PAYLOAD}
 use Rattle.hs_side.specs.declared.header.Header.{Header}
 use Rattle.hs_side.specs.Follow.{Follow, start, may_end}
 use Rattle.hs_side.specs.Reading.{is_open, Found, found_in, Frame, Log}
@@ -36,7 +37,7 @@ AreLaid at follow [] [] last = last ≡ follow
 AreLaid at follow [] (placed ∷ found) last = ⊥
 AreLaid at follow (payload ∷ payloads) [] last = ⊥
 AreLaid at follow (payload ∷ payloads) (placed ∷ found) last =
-    (x : Found) × (length payload ≤ 600000) × (found_in follow payload ≡ Some x)
+    (x : Found) × (length payload ≤ MOST_PAYLOAD) × (found_in follow payload ≡ Some x)
     × (placed ≡ record { place = at; number = x.number; entry = x.entry })
     × AreLaid (at + 5 + length payload) x.follow payloads found last
 

@@ -3,6 +3,7 @@ use Rattle.std.specs.Prelude.{◌≡◌, ℕ, ◌+◌, ◌<◌, ◌≤◌, ◌^�
 use Rattle.std.specs.List.{Contains}
 use Rattle.hs_ports.specs.declared.disk.Side.{Side}
 use Rattle.hs_ports.specs.Disk.{Loose, IsImage, Standing, settled, overwritten}
+use Rattle.hs_side.specs.declared.frame.TheConstants.{MOST_PAYLOAD}
 use Rattle.hs_side.specs.declared.header.Header.{Header}
 use Rattle.hs_entry.specs.declared.entry.Entry.{Entry}
 use Rattle.hs_entry.specs.Reading.{entry_at}
@@ -46,7 +47,7 @@ pub record Framed (bytes : List ℕ) (placed : Frame) : Type 0 where
   pub after : List ℕ
   pub split : bytes ≡ before ++ frame payload ++ after
   pub place : placed.place ≡ 17 + length before
-  pub short : length payload ≤ 600000
+  pub short : length payload ≤ MOST_PAYLOAD
   pub read : entry_at payload ≡ Ok (placed.number, placed.entry)
 
 -- bytes that read as these frames, whatever stands behind them, and that have each of them
@@ -63,7 +64,7 @@ pub record Waits (gate : ℕ) (follow : Follow) (end next : ℕ) (rest : List �
   pub more : List ℕ
   pub written : rest ≡ body payload ++ 0 ∷ more
   pub behind : next ≡ end + 5 + length payload
-  pub short : length payload ≤ 600000
+  pub short : length payload ≤ MOST_PAYLOAD
   pub readable : found_in follow payload ≡ Some found
   pub ends : is_open gate ≡ true → may_end found.follow ≡ true
 

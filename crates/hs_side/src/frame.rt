@@ -12,8 +12,8 @@ use hs_entry::{EntryFault, read_entry};
 use hs_ports::{Disk, Side};
 use std::alloc::Global;
 
-// A payload has at most so many bytes.
-const MAX_PAYLOAD: u32 = 600_000;
+/// The most bytes of a payload.
+pub const MOST_PAYLOAD: u32 = 600_000;
 
 /// Whether the gate at a place is open.
 pub(crate) fn open_at<D: Disk>(
@@ -61,7 +61,7 @@ pub(crate) fn read_payload<D: Disk>(
     requires inside { at < size }
 
     ensures exact { D.tells → IsPayload result at ((D.stands disk.old).seen side) held.new.items }
-    ensures short { OnOk result (length held.new.items ≤ 600000) }
+    ensures short { OnOk result (length held.new.items ≤ MOST_PAYLOAD) }
     ensures within { OnOk result (at + 5 + length held.new.items ≤ size) }
 
     ensures same_size { (s : Side) → D.size disk.new s ≡ D.size disk.old s }
@@ -75,7 +75,7 @@ pub(crate) fn read_payload<D: Disk>(
     held.clear();
     fill(disk, side, at + 1, 4, held)?;
     let len = length_of(held);
-    if len > MAX_PAYLOAD {
+    if len > MOST_PAYLOAD {
         return Err(SideFault::NotALog { at });
     }
     if size - at - 5 < len as u64 {
@@ -136,7 +136,7 @@ pub(crate) fn read_frame<D: Disk>(
 
     ensures exact { D.tells →
         IsFrame result at last ((D.stands disk.old).seen side) held.new.items }
-    ensures short { OnOk result (length held.new.items ≤ 600000) }
+    ensures short { OnOk result (length held.new.items ≤ MOST_PAYLOAD) }
     ensures within { OnOk result (at + 5 + length held.new.items ≤ size) }
 
     ensures same_size { (s : Side) → D.size disk.new s ≡ D.size disk.old s }

@@ -15,6 +15,7 @@ mod read;
 mod reading;
 
 pub use fault::SideFault;
+pub use frame::MOST_PAYLOAD;
 pub use glance::later_side;
 pub use header::Header;
 pub use laws::a_log_is_read_exactly_where_it_is_spelled;

@@ -5,6 +5,7 @@ ghost use Rattle.hs_ports.specs.Disk.{IsImage, other_side, overwritten, settled}
 ghost use Rattle.hs_ports.specs.Moments.{EachMoment};
 ghost use Rattle.hs_entry.specs.declared.entry.Entry.{Entry};
 ghost use Rattle.hs_entry.specs.Reading.{entry_at};
+ghost use Rattle.hs_side.specs.declared.frame.TheConstants.{MOST_PAYLOAD};
 ghost use Rattle.hs_side.specs.Caused.{IsCalm, IsCaused, IsOutside};
 ghost use Rattle.hs_side.specs.Giving.{GivesSame, GivesEither};
 ghost use Rattle.hs_side.specs.Reading.{log_of, with_frame};
@@ -113,7 +114,7 @@ impl SideLog {
         requires stands { Stands D.tells self.old (D.size disk.old self.old.side) (D.stands disk.old) }
         requires holds { IsSome self.old.head }
         requires sealed { self.old.waiting ≡ None }
-        requires short { length payload.now ≤ 600000 }
+        requires short { length payload.now ≤ MOST_PAYLOAD }
         requires comes { D.tells → MayCome ((D.stands disk.old).seen self.old.side) payload.now }
 
         ensures value { OnOk result (self.new ≡ record self.old {
@@ -208,7 +209,7 @@ impl SideLog {
 
 /// What is written of a frame: its length, its payload, and the closed gate behind it.
 fn body_of(alloc: Global, payload: &[u8]) -> Result<Vec<u8>, AllocError>
-    requires { length payload.now ≤ 600000 }
+    requires { length payload.now ≤ MOST_PAYLOAD }
     ensures { IfOk result (λ written. written.items ≡ body payload.now ++ 0 ∷ []) }
 {
     let mut written = Vec::with_capacity(alloc, payload.len() + 5)?;

@@ -3,6 +3,7 @@ ghost use Rattle.std.specs.Prelude.{◌≡◌, ◌≤◌, ◌∷◌, ◌++◌, [
 ghost use Rattle.hs_entry.specs.declared.entry.Entry.{Entry};
 ghost use Rattle.hs_entry.specs.Payload.{payload, HasPayload};
 ghost use Rattle.hs_entry.specs.Reading.{entry_at};
+ghost use Rattle.hs_side.specs.declared.frame.TheConstants.{MOST_PAYLOAD};
 ghost use Rattle.hs_side.specs.Standing.{Stands, MayCome};
 ghost use Rattle.hs_single.specs.Caused.{IsCalm, IsCaused, IsOutside};
 ghost use Rattle.hs_single.specs.Images.{IsAlone, LeavesLists};
@@ -25,7 +26,7 @@ impl Single {
         requires holds { IsSome self.old.log.head }
         requires sealed { self.old.log.waiting ≡ None }
         requires payload { HasPayload entry.now }
-        requires short { length (payload number entry.now) ≤ 600000 }
+        requires short { length (payload number entry.now) ≤ MOST_PAYLOAD }
         requires reads { entry_at (payload number entry.now) ≡ Ok (number, entry.now) }
         requires comes { D.tells → MayCome ((D.stands disk.old).seen self.old.log.side) (payload number entry.now) }
 

@@ -20,8 +20,8 @@ returns-then-size-at-lt5-clause-exact g c told =
     let sized = g.met.D.Disk.sized told disk c.args.side in
     (refl, payload_short (drop (c.args.at + 1) seen) (omega (arith, length-drop (c.args.at + 1) seen)))
 
-pub returns-then-len-gt-MAX_PAYLOAD-clause-exact : goal.returns-then-len-gt-MAX_PAYLOAD-clause-exact
-returns-then-len-gt-MAX_PAYLOAD-clause-exact g c told =
+pub returns-then-len-gt-MOST_PAYLOAD-clause-exact : goal.returns-then-len-gt-MOST_PAYLOAD-clause-exact
+returns-then-len-gt-MOST_PAYLOAD-clause-exact g c told =
     let disk = c.args.disk.now in
     let seen = (g.D.Disk.stands disk).seen c.args.side in
     let sized = g.met.D.Disk.sized told disk c.args.side in
