@@ -108,8 +108,8 @@ fn is_key_byte(byte: u8) -> bool
         || byte == b'-'
 }
 
-/// Whether the bytes make a key.
-fn is_key(bytes: &[u8]) -> bool
+/// Whether the bytes make a key. It takes no memory.
+pub fn is_key(bytes: &[u8]) -> bool
     ensures { result ≡ is_key bytes.now }
 {
     if bytes.is_empty() || bytes.len() > 64 {

@@ -12,7 +12,7 @@ mod spelling;
 
 pub use address::{Address, Held, fresh};
 pub use delta::Delta;
-pub use key::Key;
+pub use key::{Key, is_key};
 pub use limits::{LAST_EPOCH, Limits, PeerStatus};
 pub use list::ListOf;
 pub use name::{Name, is_name};
