@@ -1,0 +1,2 @@
+pub mod Members
+pub use Rattle.hs_limits.specs.Shape
