@@ -14,3 +14,4 @@ pub mod DistinctLemmas
 pub mod OrderLemmas
 pub mod OrderKeeps
 pub mod RunLemmas
+pub mod WriteAnswers

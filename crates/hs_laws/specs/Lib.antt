@@ -5,3 +5,4 @@ pub mod Held
 pub mod Order
 pub mod Valid
 pub mod Runs
+pub mod Written

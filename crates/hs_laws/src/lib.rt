@@ -9,6 +9,7 @@ mod refusal;
 mod runs;
 mod sweep;
 mod valid;
+mod write;
 
 pub use distinct::addresses_stay_distinct;
 pub use order::lists_stay_in_order;
@@ -18,3 +19,4 @@ pub use refusal::a_refusal_leaves_the_store;
 pub use runs::legal_runs_keep_all;
 pub use sweep::sweep_is_exact;
 pub use valid::{enter_keeps_valid, judge_keeps_valid, store_begins_valid, sweep_keeps_valid};
+pub use write::{a_collision_stores_nothing, dup_is_the_same_block, new_was_absent};
