@@ -1,6 +1,7 @@
 //! Log entries: their kinds, their one spelling, and lists of them.
 #![tactic(auto)]
 
+mod copy;
 mod entry;
 mod fault;
 mod field;

@@ -342,6 +342,13 @@ fn list(alloc: Global, first: u64, second: u64) -> Result<EntryList, EntryFault>
 }
 
 #[test]
+fn an_entry_is_copied(rt: HostRuntime) -> Result<(), Fail> {
+    let copy = Entry::View { view: 3 }.copy(rt.alloc())?;
+    assert!(rt; matches!(copy, Entry::View { view: 3 }));
+    Ok(())
+}
+
+#[test]
 fn lists_have_ranks(rt: HostRuntime) -> Result<(), Fail> {
     let list = list(rt.alloc(), 2, 4)?;
     let rank = list.rank();
