@@ -1,6 +1,7 @@
 //! Answering an operation.
 ghost use Rattle.std.specs.Prelude.{◌≡◌, ◌⊎◌, ◌≤◌, ℕ, List, OnOk, IfOk, IfErr};
 ghost use Rattle.hs_limits.specs.declared.address.Address.{Address};
+ghost use Rattle.hs_limits.specs.Limits.{IsLimits};
 ghost use Rattle.hs_entry.specs.declared.entry.Entry.{Entry};
 ghost use Rattle.hs_fold.specs.Served.{IsNamed, IsServed};
 ghost use Rattle.hs_single.specs.Caused.{IsCalm, IsCaused, IsOutside};
@@ -24,6 +25,7 @@ impl Single {
         disk: &mut D,
         watch: &mut Watch,
     ) -> Result<Answer, SingleFault>
+        requires bounded { IsLimits limits }
         requires served { IsServed op }
         requires spelled { IsSpelled op spelling.items }
         requires ready { IsReady D.tells self.old (D.size disk.old self.old.log.side)
@@ -31,7 +33,7 @@ impl Single {
 
         ensures answered { D.tells → (name : List ℕ → Address) (entries : List (ℕ × Entry))
             → IsServing name self.old ((D.stands disk.old).seen self.old.log.side) entries
-            → IsNamed name op → limits.blocks ≤ 16384
+            → IsNamed name op
             → IfOk result (λ answer. IsAnswered name limits line op self.old entries answer
             self.new ((D.stands disk.new).seen self.old.log.side)) }
         ensures refused { D.tells → (name : List ℕ → Address) (entries : List (ℕ × Entry))
@@ -54,14 +56,14 @@ impl Single {
             → IsAlone self.old.log.side (D.stands disk.old)
             → (name : List ℕ → Address) (entries : List (ℕ × Entry))
             → IsServing name self.old ((D.stands disk.old).seen self.old.log.side) entries
-            → IsNamed name op → limits.blocks ≤ 16384
+            → IsNamed name op
             → OnOk result (LeavesList (D.stands disk.new)
             (list_after name limits line op self.old entries)) }
         ensures any_moment { D.tells → (D.stands disk.old).last ≤ watch.old
             → IsAlone self.old.log.side (D.stands disk.old)
             → (name : List ℕ → Address) (entries : List (ℕ × Entry))
             → IsServing name self.old ((D.stands disk.old).seen self.old.log.side) entries
-            → IsNamed name op → limits.blocks ≤ 16384
+            → IsNamed name op
             → LeavesLists watch.old watch.new (D.stands disk.old) (D.stands disk.new)
             entries (list_after name limits line op self.old entries) }
         ensures ticks { watch.old ≤ watch.new }

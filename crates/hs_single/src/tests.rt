@@ -1,5 +1,6 @@
 //! What a store answers, what it answers when it is opened again, and how it fails.
 ghost use Rattle.std.specs.Prelude.{◌≡◌, IfOk, OnOk};
+ghost use Rattle.hs_limits.specs.Limits.{IsLimits};
 ghost use Rattle.hs_fold.specs.Served.{IsServed};
 ghost use Rattle.hs_single.specs.Serving.{IsReady, IsSpelled};
 
@@ -78,6 +79,7 @@ fn told<D: Disk>(
     disk: &mut D,
     watch: &mut Watch,
 ) -> Result<String, Fail>
+    requires bounded { IsLimits limits }
     requires served { IsServed asked.0 }
     requires spelled { IsSpelled asked.0 asked.1.items }
     requires ready { IsReady D.tells store.old (D.size disk.old store.old.log.side)
@@ -98,7 +100,9 @@ fn answers<D: Disk>(
     bytes: &[u8],
     disk: &mut D,
     watch: &mut Watch,
-) -> Result<String, Fail> {
+) -> Result<String, Fail>
+    requires bounded { IsLimits limits }
+{
     let mut store = begun(alloc, disk, watch)?;
     let none = Vec::new(alloc);
     let open = Op::Open {

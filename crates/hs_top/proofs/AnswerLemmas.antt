@@ -1,6 +1,6 @@
 -- What an answer of the store is to a line, and what a loss of the disk is.
-use Rattle.std.proofs.Common.{◌≡◌, ◌⊎◌, inl, inr, ℕ, ◌≤◌, Bool, ◌||◌, List, [], ◌∷◌, ◌++◌, length, Option, Some, refl, sym, ap, subst, ◌∙◌}
-use Rattle.std.specs.Prelude.{All}
+use Rattle.std.proofs.Common.{◌≡◌, ◌⊎◌, inl, inr, ℕ, ◌≤◌, Bool, true, false, ◌||◌, List, [], ◌∷◌, ◌++◌, length, Option, Some, Result, Ok, Err, refl, sym, ap, subst, ◌∙◌}
+use Rattle.std.specs.Prelude.{All, IfErr, OnOk}
 use Rattle.std.specs.List.{Contains}
 use Rattle.std.proofs.lemmas.Bool.{cases_eq, eq-eqb, ne_eqb}
 use Rattle.std.proofs.lemmas.List.Elements.{All-nil, All-cons, All-contains, All-head, All-tail, All-weaker}
@@ -136,8 +136,38 @@ note_stays [] (e ∷ more) line moment answer h =
     ap (λ (x : JournalEntry). is_note_of x.who || has_note more) (All-head (λ e. e ≡ answer_entry line moment answer) e more h) ∙ note_stays [] more line moment answer (All-tail (λ e. e ≡ answer_entry line moment answer) e more h)
 note_stays (e ∷ journal) more line moment answer h = ap (λ (b : Bool). is_note_of e.who || b) (note_stays journal more line moment answer h)
 
-pub note_same : (now now' line moment : ℕ) (answer : Answer) (old new : Transcript) (got got' : Option (List (ℕ × ℕ))) → Adds now now' old new (answer_entry line moment answer) got got' → has_note new.journal.entries ≡ has_note old.journal.entries
+note_same : (now now' line moment : ℕ) (answer : Answer) (old new : Transcript) (got got' : Option (List (ℕ × ℕ))) → Adds now now' old new (answer_entry line moment answer) got got' → has_note new.journal.entries ≡ has_note old.journal.entries
 note_same now now' line moment answer old new got got' adds = ap has_note adds.added ∙ note_stays old.journal.entries adds.more line moment answer adds.here
+
+refused_same : (line moment : ℕ) (answer : Answer) (old new : Transcript) (got got' : Option (List (ℕ × ℕ))) (r : Result (Unit {0}) Stop) → OnOk r (new.refused ≡ old.refused)
+    → IfErr r (λ halt. TellsNot halt old new (answer_entry line moment answer) got got') → has_note new.refused ≡ has_note old.refused
+refused_same line moment answer old new got got' (Ok x) same h = ap has_note same
+refused_same line moment answer old new got got' (Err stop.WriteFault) same h = ap has_note h.refused
+refused_same line moment answer old new got got' (Err stop.NoMemory) same h = ap has_note h.refused
+refused_same line moment answer old new got got' (Err stop.OpsFull) same h =
+    ap has_note h.refused ∙ note_stays old.refused (answer_entry line moment answer ∷ []) line moment answer (All-cons (λ e. e ≡ answer_entry line moment answer) (answer_entry line moment answer) [] refl (All-nil (λ e. e ≡ answer_entry line moment answer)))
+refused_same line moment answer old new got got' (Err stop.ShardLost) same h = absurd h
+refused_same line moment answer old new got got' (Err stop.BadLine) same h = absurd h
+refused_same line moment answer old new got got' (Err stop.ReadFault) same h = absurd h
+refused_same line moment answer old new got got' (Err stop.InputFull) same h = absurd h
+refused_same line moment answer old new got got' (Err (stop.WrongShape found)) same h = absurd h
+
+has_note-append : (some more : List JournalEntry) → has_note (some ++ more) ≡ (has_note some || has_note more)
+has_note-append [] more = refl
+has_note-append (e ∷ some) more = ap (λ (b : Bool). is_note_of e.who || b) (has_note-append some more) ∙ sym (or_assoc (is_note_of e.who) (has_note some) (has_note more))
+  where
+    or_assoc : (a b c : Bool) → ((a || b) || c) ≡ (a || (b || c))
+    or_assoc true b c = refl
+    or_assoc false b c = refl
+
+-- and neither are those that are refused
+pub notes_same : (now now' line moment : ℕ) (answer : Answer) (old new : Transcript) (got got' : Option (List (ℕ × ℕ))) (r : Result (Unit {0}) Stop) → Adds now now' old new (answer_entry line moment answer) got got' → OnOk r (new.refused ≡ old.refused)
+    → IfErr r (λ halt. TellsNot halt old new (answer_entry line moment answer) got got') → has_note (new.journal.entries ++ new.refused) ≡ has_note (old.journal.entries ++ old.refused)
+notes_same now now' line moment answer old new got got' r adds same halted =
+    has_note-append new.journal.entries new.refused
+    ∙ (ap (λ (b : Bool). b || has_note new.refused) (note_same now now' line moment answer old new got got' adds)
+    ∙ (ap (λ (b : Bool). has_note old.journal.entries || b) (refused_same line moment answer old new got got' r same halted)
+    ∙ sym (has_note-append old.journal.entries old.refused)))
 
 -- ---- faults
 

@@ -6,6 +6,7 @@ use Rattle.std.proofs.lemmas.Bool.{cases_lt}
 use Rattle.std.proofs.lemmas.List.{length-map}
 use Rattle.std.proofs.lemmas.List.Elements.{All-nil, All-cons, All-contains, All-weaker}
 use Rattle.hs_limits.specs.declared.address.Address.{Address}
+use Rattle.hs_limits.specs.declared.limits.Limits.{Limits}
 use Rattle.hs_model.specs.declared.command.Command.{Command}
 use Rattle.hs_model.specs.declared.course.CourseItem.{CourseItem}
 use Rattle.hs_model.specs.declared.course.CourseItem.TheVariants as item
@@ -33,7 +34,6 @@ use Rattle.hs_top.specs.declared.transcript.Transcript.{Transcript}
 use Rattle.hs_top.specs.Course.{IsItem}
 use Rattle.hs_top.specs.Entering.{Adds, IsLost, IsSame, Notes}
 use Rattle.hs_top.specs.Faults.{LossCause, SinkCause}
-use Rattle.hs_top.specs.Headline.{run_limits}
 use Rattle.hs_top.specs.Lasting.{Going, Lasts}
 use Rattle.hs_top.specs.Lost.{lost_entry}
 use Rattle.hs_top.specs.Opens.{IsLossCause, IsShapeStop, LeavesUnwritten, MayBegin, OpensNot, TakenCourse, opened_course, viewed}
@@ -66,10 +66,10 @@ module _ (mid now : ℕ) (old new : Transcript) (entry : JournalEntry) (got got'
       none_is : entry ∷ [] ≡ [] → ⊥
       none_is e = cc e
 
-pub lasts_lost : (commands : ℕ → Option Command) (name : List ℕ → Address) (start : Store) (before mid now : ℕ) (old new : Transcript) (line : ℕ) (disk : Standing) (course : List CourseItem) (got got' got'' : Option (List (ℕ × ℕ))) (halt : Stop)
+pub lasts_lost : (commands : ℕ → Option Command) (name : List ℕ → Address) (limits : Limits) (start : Store) (before mid now : ℕ) (old new : Transcript) (line : ℕ) (disk : Standing) (course : List CourseItem) (got got' got'' : Option (List (ℕ × ℕ))) (halt : Stop)
     → old.journal.entries ≡ [] → got' ≡ got → Adds mid now old new (lost_entry line mid) got' got'' → IsLost halt old new (lost_entry line mid) got' got'' → halt ≡ stop.NoMemory
-    → Lasts commands name run_limits start before mid disk course [] got got → Lasts commands name run_limits start before now disk course new.journal.entries got got''
-lasts_lost commands name start before mid now old new line disk course got got' got'' halt none put adds lost is lasts =
+    → Lasts commands name limits start before mid disk course [] got got → Lasts commands name limits start before now disk course new.journal.entries got got''
+lasts_lost commands name limits start before mid now old new line disk course got got' got'' halt none put adds lost is lasts =
     let same = same_lost mid now old new (lost_entry line mid) got' got'' halt none adds lost is in
     rw (still_lost mid now old new (lost_entry line mid) got' got'' halt none adds lost is, same.told, none, same.put, put) lasts
 
@@ -136,20 +136,20 @@ module _ (name : List ℕ → Address) (before : ℕ) (disk : Standing) (list : 
     lost = All-weaker (Contains (item.Bad 0 mid ∷ [])) (IsItem (λ line. None) 0) (λ i h. All-contains (IsItem (λ line. None) 0) (item.Bad 0 mid ∷ []) i (All-cons (IsItem (λ line. None) 0) (item.Bad 0 mid) [] refl (All-nil (IsItem (λ line. None) 0))) h) noted here;
   }
 
-  module _ (commands : ℕ → Option Command) (got : Option (List (ℕ × ℕ))) (may : MayBegin name before disk got list) (now now' : ℕ) (disk' disk'' : Standing) (leaves : LeavesAll before now disk disk') (lists : LeavesLists now now' disk' disk'' list (viewed list (opened.view + 1))) where
-    pub begun_lasts : (course : List CourseItem) (journal : List JournalEntry) → course ≡ taken → journal ≡ [] → Lasts commands name run_limits (store_of (catalogue_in name list ∷ [])) before now' disk'' course journal got got
-    begun_lasts course journal begun told = rw (begun, told) (view_lasts commands name run_limits before disk got list may (listed-numbered disk.seen list is) (opened.view + 1) above now now' disk' disk''
-        (taken_lasts commands name run_limits before disk got list may (listed-numbered disk.seen list is) now disk' leaves) leaves.later lists)
+  module _ (commands : ℕ → Option Command) (limits : Limits) (got : Option (List (ℕ × ℕ))) (may : MayBegin name before disk got list) (now now' : ℕ) (disk' disk'' : Standing) (leaves : LeavesAll before now disk disk') (lists : LeavesLists now now' disk' disk'' list (viewed list (opened.view + 1))) where
+    pub begun_lasts : (course : List CourseItem) (journal : List JournalEntry) → course ≡ taken → journal ≡ [] → Lasts commands name limits (store_of (catalogue_in name list ∷ [])) before now' disk'' course journal got got
+    begun_lasts course journal begun told = rw (begun, told) (view_lasts commands name limits before disk got list may (listed-numbered disk.seen list is) (opened.view + 1) above now now' disk' disk''
+        (taken_lasts commands name limits before disk got list may (listed-numbered disk.seen list is) now disk' leaves) leaves.later lists)
 
     pub begun_goes : (side : Side) (course : List CourseItem) → IsAlone side disk'' → LeavesList disk'' (viewed list (opened.view + 1)) → disk''.last ≤ now' → course ≡ opened_course (length list) before now'
-        → Going commands name run_limits (store_of (catalogue_in name list ∷ [])) before now' disk'' side course [] got got (viewed list (opened.view + 1))
-    begun_goes side course alone durable last begun = rw begun (view_goes commands name run_limits before disk got list may (listed-numbered disk.seen list is) (opened.view + 1) above now now' disk' disk''
-        (taken_lasts commands name run_limits before disk got list may (listed-numbered disk.seen list is) now disk' leaves) leaves.later lists side alone durable last)
+        → Going commands name limits (store_of (catalogue_in name list ∷ [])) before now' disk'' side course [] got got (viewed list (opened.view + 1))
+    begun_goes side course alone durable last begun = rw begun (view_goes commands name limits before disk got list may (listed-numbered disk.seen list is) (opened.view + 1) above now now' disk' disk''
+        (taken_lasts commands name limits before disk got list may (listed-numbered disk.seen list is) now disk' leaves) leaves.later lists side alone durable last)
 
     pub begun_lost : (line now'' : ℕ) (old new : Transcript) (got' got'' : Option (List (ℕ × ℕ))) → got' ≡ got → old.journal.entries ≡ [] → old.course ≡ taken → Adds now' now'' old new (lost_entry line now') got' got'' → Notes now' now'' old new (item.Bad 0 now' ∷ [])
-        → Lasts commands name run_limits (store_of (catalogue_in name list ∷ [])) before now'' disk'' new.course new.journal.entries got got''
-    begun_lost line now'' old new got' got'' same told begun adds notes = view_lost commands name run_limits before disk got list may (listed-numbered disk.seen list is) (opened.view + 1) above now now' disk' disk''
-        (taken_lasts commands name run_limits before disk got list may (listed-numbered disk.seen list is) now disk' leaves) leaves.later lists line now'' old new got' got'' same told begun adds notes
+        → Lasts commands name limits (store_of (catalogue_in name list ∷ [])) before now'' disk'' new.course new.journal.entries got got''
+    begun_lost line now'' old new got' got'' same told begun adds notes = view_lost commands name limits before disk got list may (listed-numbered disk.seen list is) (opened.view + 1) above now now' disk' disk''
+        (taken_lasts commands name limits before disk got list may (listed-numbered disk.seen list is) now disk' leaves) leaves.later lists line now'' old new got' got'' same told begun adds notes
 
 -- the count of a list's frames
 pub places-count : (places seen : List ℕ) (list : List (ℕ × Entry)) → HasList places seen list → length places ≡ length list

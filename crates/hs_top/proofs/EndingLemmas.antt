@@ -1,5 +1,5 @@
 -- What a run has fulfilled wherever it ends.
-use Rattle.std.proofs.Common.{◌≡◌, ℕ, zero, suc, ◌+◌, ◌-◌, ◌<◌, ◌≤◌, List, [], ◌∷◌, ◌++◌, length, take, drop, Option, Some, None, IsSome, refl, sym, ap, subst, ◌∙◌, append_assoc, arith, take-append-drop, length-append, length-take, inl, inr}
+use Rattle.std.proofs.Common.{◌≡◌, ℕ, zero, suc, ◌+◌, ◌-◌, ◌<◌, ◌≤◌, List, [], ◌∷◌, ◌++◌, length, take, drop, true, false, Option, Some, None, IsSome, refl, sym, ap, subst, ◌∙◌, append_assoc, arith, take-append-drop, length-append, length-take, inl, inr}
 use Rattle.std.specs.List.{slice_get}
 use Rattle.std.proofs.lemmas.Bool.{ne_eqb, cases_eq, false≢true, lt-ltb}
 use Rattle.std.proofs.lemmas.List.{drop-drop}
@@ -13,9 +13,10 @@ use Rattle.hs_journal.specs.Order.{IsOfLine}
 use Rattle.hs_ports.specs.Sink.{bytes_of}
 use Rattle.hs_ports.specs.Source.{before}
 use Rattle.hs_script.specs.Lines.{before_first, lines_of, line_at}
-use Rattle.hs_script.specs.Reading.{bad, reading, commands_of, commands}
+use Rattle.hs_script.specs.Reading.{reading, commands_of, commands}
 use Rattle.hs_script.specs.Text.{text}
 use Rattle.hs_top.specs.declared.status.Status.{Status}
+use Rattle.hs_top.specs.Built.{is_bad_line}
 use Rattle.hs_top.specs.Headline.{Answers, Ends, HasEnded, HasLast, IsBad, IsPrinted, Legal, complete_lines, input_limit}
 use Rattle.hs_top.specs.Lines.{HasNoFeed}
 use Rattle.hs_top.specs.Lost.{has_note}
@@ -43,16 +44,19 @@ pub within : (lines : List (List ℕ)) (n : ℕ) → IsSome (client_op (commands
 within lines zero h = absurd (false≢true h)
 within lines (suc m) h = omega arith
 
+one_line : (k l : ℕ) → who.Line k ≡ who.Line l → k ≡ l
+one_line k l same = cc
+
 -- the progress of a run is legal
 pub legal : (script : List ℕ) (name : List ℕ → Address) (limits : Limits) (entry s : Store) (n : ℕ) (entries : List JournalEntry) (moment : ℕ) → Progress (commands script) name limits entry n entries s moment → Legal (commands script) name limits entry entries
 legal script name limits entry s n entries moment progress = record {
   legal = progress.legal;
   replied = progress.replied;
   ordered = ordered (commands script) name limits entry s n entries moment progress refl;
+  asked = λ place k here.
+      let b = progress.below place here.entry here.at in
+      subst (λ (l : ℕ). IsSome (client_op (commands script l))) (one_line b.0 k (sym b.1 ∙ here.line)) b.3;
 }
-
-one_line : (k l : ℕ) → who.Line k ≡ who.Line l → k ≡ l
-one_line k l same = cc
 
 -- with answers to n lines, the last line that was begun is line n, or the one behind it where it may lack its entry
 pub answers_by : (script : List ℕ) (name : List ℕ → Address) (limits : Limits) (entry s : Store) (n line : ℕ) (entries : List JournalEntry) (moment : ℕ) (ending : Status) (got got' : Option (List (ℕ × ℕ)))
@@ -112,8 +116,8 @@ first_line (b ∷ c ∷ bs) rest some none =
     let behind = first_line (c ∷ bs) rest (omega arith) others in
     rw (ne_eqb b 10 (none 0 (omega arith) (omega arith)), behind.2) (b ∷ behind.0, behind.1, refl, omega (arith, behind.3))
 
--- a line of more than 200,000 bytes is outside the language
-pub too_long : (line : List ℕ) → 200000 < length line → reading line ≡ bad
+-- a line of more than 200,000 bytes is bad
+pub too_long : (line : List ℕ) → 200000 < length line → is_bad_line (reading line) ≡ true
 unfolding reading
 too_long line long = rw (lt-ltb 200000 (length line) long) refl
 
@@ -135,11 +139,11 @@ pub next_is : (lines : List (List ℕ)) (n : ℕ) (line : List ℕ) (more : List
 next_is lines n line more e = rw (ne_eqb (n + 1) 0 (λ same. omega arith)) (ap (slice_get lines) (omega arith) ∙ head_at lines n line more e)
 
 -- one good line more
-pub good_more : (lines : List (List ℕ)) (n : ℕ) (line : List ℕ) → line_at lines (n + 1) ≡ Some line → (reading line ≡ bad → ⊥) → ((k : ℕ) → k ≤ n → IsBad lines k → ⊥) → (k : ℕ) → k ≤ n + 1 → IsBad lines k → ⊥
+pub good_more : (lines : List (List ℕ)) (n : ℕ) (line : List ℕ) → line_at lines (n + 1) ≡ Some line → is_bad_line (reading line) ≡ false → ((k : ℕ) → k ≤ n → IsBad lines k → ⊥) → (k : ℕ) → k ≤ n + 1 → IsBad lines k → ⊥
 good_more lines n line at good before k le is = elim (cases_eq k (n + 1)) [
   | inl same ↦
       let there : line_at lines (n + 1) ≡ Some is.line = subst (λ (m : ℕ). line_at lines m ≡ Some is.line) same is.at in
       let one : is.line ≡ line = cc in
-      good (ap reading (sym one) ∙ is.outside)
+      absurd (false≢true (sym good ∙ (ap (λ (l : List ℕ). is_bad_line (reading l)) (sym one) ∙ is.outside)))
   | inr differs ↦ before k (omega arith) is
 ]

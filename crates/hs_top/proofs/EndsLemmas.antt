@@ -1,16 +1,17 @@
 -- Why a script's run ended, wherever it did.
-use Rattle.std.proofs.Common.{◌≡◌, ℕ, ◌+◌, ◌-◌, ◌<◌, ◌≤◌, Bool, false, List, ◌∷◌, ◌++◌, length, take, drop, Option, Some, None, Err, refl, sym, ap, ◌∙◌, arith, length-append, length-take, inl, inr}
+use Rattle.std.proofs.Common.{◌≡◌, ℕ, ◌+◌, ◌-◌, ◌<◌, ◌≤◌, Bool, true, false, List, ◌∷◌, ◌++◌, length, take, drop, Option, Some, None, Err, refl, sym, ap, ◌∙◌, arith, length-append, length-take, inl, inr}
 use Rattle.std.proofs.lemmas.List.{get_or-take}
 use Rattle.std.proofs.lemmas.Bool.{cases_lt}
 use Rattle.std.proofs.Math.Seq.{take-append-add}
 use Rattle.hs_ports.specs.Source.{before}
 use Rattle.hs_script.specs.Lines.{lines_of}
-use Rattle.hs_script.specs.Reading.{bad, reading}
+use Rattle.hs_script.specs.Reading.{reading}
 use Rattle.hs_top.specs.declared.status.Status.{Status}
 use Rattle.hs_top.specs.declared.status.Status.TheVariants as status
 use Rattle.hs_top.specs.declared.stop.Stop.{Stop}
 use Rattle.hs_top.specs.declared.stop.Stop.TheVariants as stop
 use Rattle.hs_top.specs.Asking.{LineEnds}
+use Rattle.hs_top.specs.Built.{is_bad_line}
 use Rattle.hs_top.specs.Ending.{status_of}
 use Rattle.hs_top.specs.Headline.{Ends, HasEnded, IsBad, complete_lines, input_limit}
 use Rattle.hs_top.specs.Lines.{HasNoFeed, Overflows, Halts}
@@ -94,7 +95,7 @@ ends_halted script n held left budget cost ended held' left' budget' served stil
 module _ (script : List ℕ) (line : List ℕ) (n : ℕ) (held : List ℕ) (left : Option (List ℕ)) (cost : ℕ) (ended : Bool)
     (next : Advanced script (before held left) cost ended n line) (few : length held ≤ cost) (good : (k : ℕ) → k ≤ n → IsBad (lines_of script) k → ⊥) where
   -- how the run ends behind some lines
-  ends_behind : (k : ℕ) (ending : Status) → k ≤ n + 1 → (n < k → reading line ≡ bad → ⊥) → (length (take (input_limit - cost) script ++ held) ≤ input_limit → HasEnded ending (lines_of script) k (take (input_limit - cost) script ++ held)) → Ends script left ending k
+  ends_behind : (k : ℕ) (ending : Status) → k ≤ n + 1 → (n < k → is_bad_line (reading line) ≡ false) → (length (take (input_limit - cost) script ++ held) ≤ input_limit → HasEnded ending (lines_of script) k (take (input_limit - cost) script ++ held)) → Ends script left ending k
   ends_behind k ending le last cause = ends_at script held left cost k ending next.left next.low next.high few good_ones (omega (arith, next.within)) cause
     where
       good_ones : (j : ℕ) → j ≤ k → IsBad (lines_of script) j → ⊥
@@ -108,7 +109,7 @@ module _ (script : List ℕ) (line : List ℕ) (n : ℕ) (held : List ℕ) (left
     where
       bad_at : k ≡ n → IsBad (lines_of script) (k + 1)
       bad_at same = rw same (record { line = line; at = next.at; outside = is.0 })
-  ends_line stop.NoMemory k is = ends_behind k status.NoMemory (omega (arith, is.2)) (λ lt. is.0) (λ le. le)
+  ends_line stop.NoMemory k is = ends_behind k status.NoMemory (omega (arith, is.2)) is.0 (λ le. le)
   ends_line stop.WriteFault k is = ends_behind k status.WriteFault (omega (arith, is.1)) (λ lt. is.0) (λ le. le)
   ends_line stop.OpsFull k is = ends_behind k status.OpsFull (omega (arith, is.1)) (λ lt. is.0) (λ le. le)
   ends_line stop.ShardLost k is = ends_behind k (status.ShardLost 0) (omega (arith, is.1)) (λ lt. is.0) (λ le. le)

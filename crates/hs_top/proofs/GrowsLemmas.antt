@@ -73,6 +73,10 @@ of_lines (e ∷ entries) h =
 pub no_note : (commands : ℕ → Option Command) (name : List ℕ → Address) (limits : Limits) (start : Store) (n : ℕ) (entries : List JournalEntry) (s : Store) (moment : ℕ) → Progress commands name limits start n entries s moment → has_note entries ≡ false
 no_note commands name limits start n entries s moment progress = of_lines entries (λ i e at. let b = progress.below i e at in (b.0, b.1))
 
+-- nor with those that were refused, where there are none
+pub none_told : (entries refused : List JournalEntry) → has_note entries ≡ false → refused ≡ [] → has_note (entries ++ refused) ≡ false
+none_told entries refused none empty = ap (λ (more : List JournalEntry). has_note (entries ++ more)) empty ∙ (ap has_note (append-nil entries) ∙ none)
+
 -- a count that rose, rose from before too
 pub risen_before : (a b c : ℕ) → a ≤ b → HasRisen b c → HasRisen a c
 risen_before a b c le risen = omega (arith, risen)

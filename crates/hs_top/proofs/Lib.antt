@@ -6,6 +6,7 @@ pub mod BusyLemmas
 pub mod CalmLemmas
 pub mod CaseLemmas
 pub mod CourseLemmas
+pub mod DigitLemmas
 pub mod KeptLemmas
 pub mod EndingLemmas
 pub mod EndsLemmas
@@ -19,6 +20,7 @@ pub mod LateLemmas
 pub mod LinesLemmas
 pub mod NoteLemmas
 pub mod OpeningLemmas
+pub mod OptionLemmas
 pub mod PassingLemmas
 pub mod ProgressLemmas
 pub mod PromiseLemmas
@@ -28,3 +30,4 @@ pub mod StartLemmas
 pub mod StopLemmas
 pub mod TellingLemmas
 pub mod TopLemmas
+pub mod WordsLemmas

@@ -109,6 +109,7 @@ module _ (script : List ℕ) (name : List ℕ → Address) (limits : Limits) (en
         legal = legal_more (commands script) name limits entry s entries (lost_entry line moment) progress.left progress.legal tt;
         replied = replied_more (commands script) name limits entry s entries (lost_entry line moment) progress.left progress.replied tt;
         ordered = ordered_note entries line moment (commands script) before.ordered (λ i e at. omega (arith, progress.until i e at));
+        asked = λ place k here. before.asked place k (was_of entries line moment place k here);
       }
 
   -- with the note that the disk was lost in line n + 1, or before any

@@ -1,5 +1,5 @@
 -- One line more of a script.
-use Rattle.std.proofs.Common.{◌≡◌, ℕ, ◌+◌, ◌-◌, ◌≤◌, Bool, true, false, List, [], ◌∷◌, length, take, drop, Option, Some, None, Err, refl, sym, ap, ◌∙◌, arith, length-append, length-drop}
+use Rattle.std.proofs.Common.{◌≡◌, ℕ, ◌+◌, ◌-◌, ◌≤◌, Bool, true, false, List, [], ◌∷◌, length, take, drop, Option, Some, None, Err, refl, sym, ap, subst, ◌∙◌, arith, length-append, length-drop}
 use Rattle.std.specs.Option.{option_map}
 use Rattle.std.proofs.lemmas.List.{drop-drop}
 use Rattle.hs_limits.specs.declared.address.Address.{Address}
@@ -16,7 +16,7 @@ use Rattle.hs_ports.specs.Fault.{HasRisen}
 use Rattle.hs_ports.specs.Sink.{bytes_of, followed}
 use Rattle.hs_ports.specs.Source.{before}
 use Rattle.hs_script.specs.Lines.{lines_of, line_at}
-use Rattle.hs_script.specs.Reading.{bad, reading, command_in, commands_of, commands}
+use Rattle.hs_script.specs.Reading.{reading, command_in, commands_of, commands}
 use Rattle.hs_script.specs.Text.{text}
 use Rattle.hs_single.specs.Serving.{Serving, IsServing, store_at}
 use Rattle.hs_top.specs.declared.run.Run.{Run}
@@ -25,10 +25,11 @@ use Rattle.hs_top.specs.declared.stop.Stop.{Stop}
 use Rattle.hs_top.specs.Ending.{Fulfils, IsScriptStop, IsUntold}
 use Rattle.hs_top.specs.Lost.{has_note}
 use Rattle.hs_top.specs.Asking.{Begins, list_behind}
-use Rattle.hs_top.specs.Headline.{IsBad, complete_lines, input_limit, run_limits}
+use Rattle.hs_top.specs.Built.{is_bad_line}
+use Rattle.hs_top.specs.Headline.{IsBad, complete_lines, input_limit}
 use Rattle.hs_top.specs.Lasting.{Going, Lasts}
 use Rattle.hs_top.specs.Reader.{Spends}
-use Rattle.hs_top.specs.Serving.{Runs, Served}
+use Rattle.hs_top.specs.Serving.{Before, Runs, Served}
 use Rattle.hs_top.proofs.EndingLemmas.{tail_at, next_is, good_more}
 use Rattle.hs_top.proofs.FrontLemmas.{text_more}
 use Rattle.hs_top.proofs.ProgressLemmas.{progress_quiet, progress_told}
@@ -128,7 +129,7 @@ module _ (script : List ℕ) (n : ℕ) (pending pending' : Option (List ℕ)) (c
       omega (arith, served.within, length-drop n (lines_of script), ap length nothing)
 
 -- one more line is read
-pub served_more : (script : List ℕ) (n n' : ℕ) (pending' : Option (List ℕ)) (cost' : ℕ) (ended' : Bool) (line : List ℕ) → ((k : ℕ) → k ≤ n → IsBad (lines_of script) k → ⊥) → Advanced script pending' cost' ended' n line → (reading line ≡ bad → ⊥) → n' ≡ n + 1
+pub served_more : (script : List ℕ) (n n' : ℕ) (pending' : Option (List ℕ)) (cost' : ℕ) (ended' : Bool) (line : List ℕ) → ((k : ℕ) → k ≤ n → IsBad (lines_of script) k → ⊥) → Advanced script pending' cost' ended' n line → is_bad_line (reading line) ≡ false → n' ≡ n + 1
     → Served script pending' cost' ended' n'
 served_more script n n' pending' cost' ended' line before next good begun = rw begun (record {
   left = next.left;
@@ -144,28 +145,33 @@ served_more script n n' pending' cost' ended' line before next good begun = rw b
 pub asked_next : (script : List ℕ) (pending' : Option (List ℕ)) (cost' : ℕ) (ended' : Bool) (n : ℕ) (line : List ℕ) → Advanced script pending' cost' ended' n line → client_op (commands script (n + 1)) ≡ client_op (command_in (reading line))
 asked_next script pending' cost' ended' n line next = ap client_op (command_next (lines_of script) n line next.at)
 
+-- what holds before a line, by limits that are those of the run
+pub before_line : (commands : ℕ → Option Command) (name : List ℕ → Address) (limits limits' : Limits) (start : Store) (before : ℕ) (got : Option (List (ℕ × ℕ))) (o : Option Op) (run : Run) (disk : Standing) (got' : Option (List (ℕ × ℕ))) (now : ℕ) {list : List (ℕ × Entry)}
+    → limits' ≡ limits → Before commands name limits start before got o run disk got' now list → Before commands name limits' start before got o run disk got' now list
+before_line commands name limits limits' start before got o run disk got' now {list} same h = subst (λ (l : Limits). Before commands name l start before got o run disk got' now list) (sym same) h
+
 -- ---- what is said for every list that a disk has
 
-abbrev pub FulfilAll : (ℕ → Option Command) → (List ℕ → Address) → Serving → List ℕ → Status → ℕ → List JournalEntry → List JournalEntry → Option (List (ℕ × ℕ)) → Option (List (ℕ × ℕ)) → Type 0
-FulfilAll commands name store seen ending line journal refused got got' =
-    (list : List (ℕ × Entry)) → IsServing name store seen list → Fulfils commands name run_limits (store_at name store list) ending line journal refused got got'
+abbrev pub FulfilAll : (ℕ → Option Command) → (List ℕ → Address) → Limits → Serving → List ℕ → Status → ℕ → List JournalEntry → List JournalEntry → Option (List (ℕ × ℕ)) → Option (List (ℕ × ℕ)) → Type 0
+FulfilAll commands name limits store seen ending line journal refused got got' =
+    (list : List (ℕ × Entry)) → IsServing name store seen list → Fulfils commands name limits (store_at name store list) ending line journal refused got got'
 
-abbrev pub LastAll : (ℕ → Option Command) → (List ℕ → Address) → Serving → Standing → ℕ → List CourseItem → Option (List (ℕ × ℕ)) → ℕ → Standing → List CourseItem → List JournalEntry → Option (List (ℕ × ℕ)) → Type 0
-LastAll commands name store disk now course first now' disk' course' journal got' =
+abbrev pub LastAll : (ℕ → Option Command) → (List ℕ → Address) → Limits → Serving → Standing → ℕ → List CourseItem → Option (List (ℕ × ℕ)) → ℕ → Standing → List CourseItem → List JournalEntry → Option (List (ℕ × ℕ)) → Type 0
+LastAll commands name limits store disk now course first now' disk' course' journal got' =
     (before : ℕ) (got : Option (List (ℕ × ℕ))) (list : List (ℕ × Entry)) → IsServing name store (disk.seen store.log.side) list
-    → Going commands name run_limits (store_at name store list) before now disk store.log.side course [] got first list
-    → Lasts commands name run_limits (store_at name store list) before now' disk' course' journal got got'
+    → Going commands name limits (store_at name store list) before now disk store.log.side course [] got first list
+    → Lasts commands name limits (store_at name store list) before now' disk' course' journal got got'
 
-abbrev pub RunAll : (ℕ → Option Command) → (List ℕ → Address) → Serving → Standing → ℕ → List CourseItem → Option (List (ℕ × ℕ)) → Run → Standing → Option (List (ℕ × ℕ)) → ℕ → Type 0
-RunAll commands name store disk now course first run disk' got' now' =
+abbrev pub RunAll : (ℕ → Option Command) → (List ℕ → Address) → Limits → Serving → Standing → ℕ → List CourseItem → Option (List (ℕ × ℕ)) → Run → Standing → Option (List (ℕ × ℕ)) → ℕ → Type 0
+RunAll commands name limits store disk now course first run disk' got' now' =
     (before : ℕ) (got : Option (List (ℕ × ℕ))) (list : List (ℕ × Entry)) → IsServing name store (disk.seen store.log.side) list
-    → Runs (Going commands name run_limits (store_at name store list) before now disk store.log.side course [] got first list) commands name run_limits (store_at name store list) before got first run disk' got' now'
+    → Runs (Going commands name limits (store_at name store list) before now disk store.log.side course [] got first list) commands name limits (store_at name store list) before got first run disk' got' now'
 
 abbrev pub SaidAll : (List ℕ → Address) → Serving → List ℕ → Stop → List JournalEntry → Type 0
 SaidAll name store seen halt journal = (list : List (ℕ × Entry)) → IsServing name store seen list → IsScriptStop halt journal
 
 abbrev pub NoteAll : (List ℕ → Address) → Serving → List ℕ → List JournalEntry → ℕ → ℕ → Type 0
-NoteAll name store seen journal faults faults' = (list : List (ℕ × Entry)) → IsServing name store seen list → has_note journal ≡ true → HasRisen faults faults'
+NoteAll name store seen entries faults faults' = (list : List (ℕ × Entry)) → IsServing name store seen list → has_note entries ≡ true → HasRisen faults faults'
 
 abbrev pub UntoldAll : (List ℕ → Address) → Serving → List ℕ → Stop → List JournalEntry → Type 0
 UntoldAll name store seen halt journal = (list : List (ℕ × Entry)) → IsServing name store seen list → IsUntold (Err halt) journal

@@ -36,7 +36,7 @@ use Rattle.hs_top.specs.Asking.{BeginsNot, LineHalts, LineEnds}
 use Rattle.hs_top.specs.Course.{IsItem}
 use Rattle.hs_top.specs.Ending.{Fulfils, IsScriptStop, status_of}
 use Rattle.hs_top.specs.Entry.{counted, entry_store, only_shape, start_of}
-use Rattle.hs_top.specs.Headline.{Ends, HasEnded, IsBad, run_limits}
+use Rattle.hs_top.specs.Headline.{Ends, HasEnded, IsBad}
 use Rattle.hs_top.specs.Lasting.{Lasts}
 use Rattle.hs_top.specs.Lines.{Halts}
 use Rattle.hs_top.specs.Lost.{has_note, lost_entry}
@@ -47,7 +47,7 @@ use Rattle.hs_top.proofs.EndingLemmas.{answers_by}
 use Rattle.hs_top.proofs.EntryLemmas.{entry_taken, may_taken, taken_is}
 use Rattle.hs_top.proofs.FrontLemmas.{front_more, text_more, whole_front}
 use Rattle.hs_top.proofs.LateLemmas.{followed_none}
-use Rattle.hs_top.proofs.NoteLemmas.{answers_lost, note_more}
+use Rattle.hs_top.proofs.NoteLemmas.{answers_lost, legal_note, note_more}
 use Rattle.hs_top.proofs.ProgressLemmas.{progress_none}
 use Rattle.hs_top.proofs.StopLemmas.{stops_by}
 
@@ -116,9 +116,9 @@ module _ (name : List ℕ → Address) (ending : Status) (before : ℕ) (disk : 
   pub taken_may : (got : Option (List (ℕ × ℕ))) → MayStop name ending course before (disk ∷ []) got → MayBegin name before disk got list
   taken_may got may = may_taken name (counted ending before (disk ∷ []) course) before disk got list (ap (λ (c : List CourseItem). is_taken c before 0) counts ∙ counts_taken) listed may.sound may.one may.none
 
-  module _ (commands : ℕ → Option Command) (now : ℕ) (disk' : Standing) (journal : List JournalEntry) (got got' : Option (List (ℕ × ℕ))) (lasts : Lasts commands name run_limits (store_of (catalogue_in name list ∷ [])) before now disk' course journal got got') where
-    pub taken_stops : Stops commands name run_limits only_shape (start_of name ending before (disk ∷ []) course) before now (disk' ∷ []) (counted ending before (disk ∷ []) course) journal got got'
-    taken_stops = rw (taken_start, counts) (stops_by commands name run_limits (store_of (catalogue_in name list ∷ [])) before now disk' course journal got got' lasts)
+  module _ (commands : ℕ → Option Command) (limits : Limits) (now : ℕ) (disk' : Standing) (journal : List JournalEntry) (got got' : Option (List (ℕ × ℕ))) (lasts : Lasts commands name limits (store_of (catalogue_in name list ∷ [])) before now disk' course journal got got') where
+    pub taken_stops : Stops commands name limits only_shape (start_of name ending before (disk ∷ []) course) before now (disk' ∷ []) (counted ending before (disk ∷ []) course) journal got got'
+    taken_stops = rw (taken_start, counts) (stops_by commands name limits (store_of (catalogue_in name list ∷ [])) before now disk' course journal got got' lasts)
 
     pub taken_good : IsGoodUntold (counted ending before (disk ∷ []) course) journal before now
     taken_good = rw counts (λ taken m low high fits none. lasts.good m low high fits none)
@@ -161,34 +161,44 @@ module _ (name : List ℕ → Address) (before mid : ℕ) (course : List CourseI
 cons_none : {X : Type 0} (x : X) (xs : List X) → x ∷ xs ≡ [] → ⊥
 cons_none x xs e = cc e
 
-module _ (script : List ℕ) (name : List ℕ → Address) (start : Store) (old new : Transcript) (before now : ℕ) (got got' : Option (List (ℕ × ℕ)))
-    (told : old.journal.entries ≡ []) (none : old.refused ≡ []) (zeroth : old.line ≡ 0) (limit : old.journal.limit ≡ run_limits.ops) where
+module _ (script : List ℕ) (name : List ℕ → Address) (limits : Limits) (start : Store) (old new : Transcript) (before now : ℕ) (got got' : Option (List (ℕ × ℕ)))
+    (told : old.journal.entries ≡ []) (none : old.refused ≡ []) (zeroth : old.line ≡ 0) (limit : old.journal.limit ≡ limits.ops) where
   nothing_put : got' ≡ got → bytes_of got' ≡ followed (bytes_of got) (text [])
   nothing_put same = ap bytes_of same ∙ sym (followed_none (bytes_of got))
 
   note_entries : (moment : ℕ) → new.journal.entries ≡ old.journal.entries ++ lost_entry old.line moment ∷ [] → new.journal.entries ≡ lost_entry 0 moment ∷ []
   note_entries moment h = h ∙ (ap (λ (js : List JournalEntry). js ++ lost_entry old.line moment ∷ []) told ∙ ap (λ (n : ℕ). lost_entry n moment ∷ []) zeroth)
 
-  pub fulfils_not : (halt : Stop) → OpensNot halt old new before now got got' → Fulfils (commands script) name run_limits start (status_of (Err halt) 0) 0 new.journal.entries new.refused got got'
-  fulfils_not (stop.WrongShape found) h = rw (h.told, told, h.refused, none) (record {
-    answers = answers_by script name run_limits start start 0 0 [] now (status.WrongShape 0 found) got got' (progress_none (commands script) name run_limits start now) (omega arith) (omega arith) (omega arith) (λ same has. absurd (omega arith)) (nothing_put h.put);
+  one_refused : (moment : ℕ) → new.refused ≡ old.refused ++ lost_entry old.line moment ∷ [] → new.refused ≡ lost_entry 0 moment ∷ []
+  one_refused moment h = h ∙ (ap (λ (js : List JournalEntry). js ++ lost_entry old.line moment ∷ []) none ∙ ap (λ (n : ℕ). lost_entry n moment ∷ []) zeroth)
+
+  pub fulfils_not : (halt : Stop) → OpensNot halt old new before now got got' → Fulfils (commands script) name limits start (status_of (Err halt) 0) 0 new.journal.entries new.refused got got'
+  fulfils_not (stop.WrongShape found) h = rw (h.0.told, told, h.0.refused, none) (record {
+    answers = answers_by script name limits start start 0 0 [] now (status.WrongShape 0 found) got got' (progress_none (commands script) name limits start now) (omega arith) (omega arith) (omega arith) (λ same has. absurd (omega arith)) (nothing_put h.0.put);
     refuses = refl;
   })
   fulfils_not stop.NoMemory h = rw (h.told, told, h.refused, none) (record {
-    answers = answers_by script name run_limits start start 0 0 [] now status.NoMemory got got' (progress_none (commands script) name run_limits start now) (omega arith) (omega arith) (omega arith) (λ same has. has) (whole_front (bytes_of got) (bytes_of got') (text []) (nothing_put h.put));
+    answers = answers_by script name limits start start 0 0 [] now status.NoMemory got got' (progress_none (commands script) name limits start now) (omega arith) (omega arith) (omega arith) (λ same has. has) (whole_front (bytes_of got) (bytes_of got') (text []) (nothing_put h.put));
     refuses = refl;
   })
   fulfils_not stop.ShardLost (moment, on, later, h) = rw (note_entries moment h.told, h.refused, none) (record {
-    answers = answers_lost script name run_limits start start 0 0 [] before moment (progress_none (commands script) name run_limits start before) on (status.ShardLost 0) got got' (omega arith) (omega arith) (omega arith)
+    answers = answers_lost script name limits start start 0 0 [] before moment (progress_none (commands script) name limits start before) on (status.ShardLost 0) got got' (omega arith) (omega arith) (omega arith)
         (λ same. absurd (omega arith)) (text_more (bytes_of got) (bytes_of got) (bytes_of got') [] (lost_entry 0 moment ∷ []) (lost_entry 0 moment) (sym (followed_none (bytes_of got))) (subst (λ (n : ℕ). bytes_of got' ≡ followed (bytes_of got) (entry_text (lost_entry n moment))) zeroth h.put) refl);
     refuses = refl;
   })
   fulfils_not stop.WriteFault (moment, on, later, h) = rw (note_entries moment h.told, h.refused, none) (record {
-    answers = answers_lost script name run_limits start start 0 0 [] before moment (progress_none (commands script) name run_limits start before) on status.WriteFault got got' (omega arith) (omega arith) (omega arith)
+    answers = answers_lost script name limits start start 0 0 [] before moment (progress_none (commands script) name limits start before) on status.WriteFault got got' (omega arith) (omega arith) (omega arith)
         (λ same. absurd (omega arith)) (front_more (bytes_of got) (bytes_of got) (bytes_of got') [] (lost_entry 0 moment) (sym (followed_none (bytes_of got))) (rw zeroth at h.put));
     refuses = refl;
   })
-  fulfils_not stop.OpsFull (moment, on, later, h) = absurd (omega (arith, h.full, limit, ap (λ (js : List JournalEntry). length js) told))
+  fulfils_not stop.OpsFull (moment, on, later, h) = rw (h.told, told, one_refused moment h.refused) (record {
+    answers = answers_by script name limits start start 0 0 [] now status.OpsFull got got' (progress_none (commands script) name limits start now) (omega arith) (omega arith) (omega arith) (λ same has. has) (nothing_put h.put);
+    refuses = record {
+      next = record { entry = lost_entry 0 moment; only = refl; told = inr refl };
+      above = omega (arith, h.full, limit, ap (λ (js : List JournalEntry). length js) told);
+      answers = legal_note script name limits start start 0 0 [] before moment (progress_none (commands script) name limits start before) on;
+    };
+  })
   fulfils_not stop.BadLine h = absurd h
   fulfils_not stop.ReadFault h = absurd h
   fulfils_not stop.InputFull h = absurd h
@@ -231,18 +241,18 @@ module _ (script : List ℕ) (name : List ℕ → Address) (start : Store) (old 
   note_not stop.ReadFault h = absurd h
   note_not stop.InputFull h = absurd h
 
-  pub aside_not : (halt : Stop) → OpensNot halt old new before now got got' → IsSetAside (status_of (Err halt) 0) new.journal.entries
+  pub aside_not : (halt : Stop) → OpensNot halt old new before now got got' → IsSetAside (status_of (Err halt) 0) (new.journal.entries ++ new.refused)
   aside_not (stop.WrongShape found) h = tt
   aside_not stop.NoMemory h = tt
-  aside_not stop.ShardLost (moment, on, later, h) = ap has_note (note_entries moment h.told)
-  aside_not stop.WriteFault (moment, on, later, h) = ap has_note (note_entries moment h.told)
-  aside_not stop.OpsFull (moment, on, later, h) = absurd (omega (arith, h.full, limit, ap (λ (js : List JournalEntry). length js) told))
+  aside_not stop.ShardLost (moment, on, later, h) = ap (λ (js : List JournalEntry). has_note (js ++ new.refused)) (note_entries moment h.told)
+  aside_not stop.WriteFault (moment, on, later, h) = ap (λ (js : List JournalEntry). has_note (js ++ new.refused)) (note_entries moment h.told)
+  aside_not stop.OpsFull (moment, on, later, h) = ap (λ (js : List JournalEntry). has_note (js ++ new.refused)) (h.told ∙ told) ∙ ap has_note (one_refused moment h.refused)
   aside_not stop.BadLine h = absurd h
   aside_not stop.ReadFault h = absurd h
   aside_not stop.InputFull h = absurd h
 
-  pub shape_not : (halt : Stop) (seen : Side → List ℕ) → OpensNot halt old new before now got got' → IsShapeStop halt seen → IsShapeEnd (status_of (Err halt) 0) new.journal.entries seen
-  shape_not (stop.WrongShape found) seen h is = (refl, h.told ∙ told, is)
+  pub shape_not : (halt : Stop) (seen : Side → List ℕ) → OpensNot halt old new before now got got' → IsShapeStop halt seen → IsShapeEnd (status_of (Err halt) 0) new.journal.entries new.course seen
+  shape_not (stop.WrongShape found) seen h is = (refl, h.0.told ∙ told, h.1, is)
   shape_not stop.NoMemory seen h is = tt
   shape_not stop.ShardLost seen h is = tt
   shape_not stop.WriteFault seen h is = tt

@@ -1,5 +1,5 @@
 -- What one line does to a run. list: the list on the disk before it; disk and disk': how the disk stands before and after.
-use Rattle.std.specs.Prelude.{◌≡◌, ◌⊎◌, ℕ, ◌+◌, ◌≤◌, List, ◌++◌, Option, Some, None, IsSome, All}
+use Rattle.std.specs.Prelude.{◌≡◌, ◌⊎◌, ℕ, ◌+◌, ◌<◌, ◌≤◌, true, false, List, ◌++◌, Option, Some, None, IsSome, All}
 use Rattle.hs_limits.specs.declared.address.Address.{Address}
 use Rattle.hs_limits.specs.declared.limits.Limits.{Limits}
 use Rattle.hs_model.specs.declared.course.CourseItem.{CourseItem}
@@ -11,11 +11,12 @@ use Rattle.hs_journal.specs.Events.{addressed, client_op}
 use Rattle.hs_journal.specs.Order.{IsPrompt}
 use Rattle.hs_entry.specs.declared.entry.Entry.{Entry}
 use Rattle.hs_ports.specs.Disk.{Standing}
-use Rattle.hs_script.specs.Reading.{Reading, bad, command_in}
+use Rattle.hs_script.specs.Reading.{Reading, command_in}
 use Rattle.hs_single.specs.Serving.{Serving, IsServing, list_after, store_at}
 use Rattle.hs_top.specs.declared.run.Run.{Run}
 use Rattle.hs_top.specs.declared.stop.Stop.{Stop}
 use Rattle.hs_top.specs.declared.stop.Stop.TheVariants as stop
+use Rattle.hs_top.specs.Built.{is_bad_line}
 use Rattle.hs_top.specs.Entering.{IsAbove, IsSame, Tells, TellsFront}
 use Rattle.hs_top.specs.Lost.{lost_entry}
 use Rattle.hs_top.specs.Progress.{IsAnswer}
@@ -109,7 +110,7 @@ IsAskStop stop.ShardLost = Unit {0}
 IsAskStop stop.NoMemory = Unit {0}
 IsAskStop other = ⊥
 
--- why a line was not done: it is outside the language, and is not begun; or as what it asks
+-- why a line was not done: it is bad, and is not begun; or as what it asks
 abbrev pub LineHalts : Stop → (List ℕ → Address) → Limits → ℕ → Reading → Run → Run → List (ℕ × Entry) → Option (List (ℕ × ℕ)) → Option (List (ℕ × ℕ)) → ℕ → ℕ → Type 0
 LineHalts stop.BadLine name limits line said old new list got got' moment moment' = IsSame old.told new.told got got'
 LineHalts stop.NoMemory name limits line said old new list got got' moment moment' = IsSame old.told new.told got got'
@@ -117,11 +118,11 @@ LineHalts halt name limits line said old new list got got' moment moment' = Begi
 
 -- and which line is the last that was begun then
 abbrev pub LineEnds : Stop → Reading → ℕ → ℕ → Type 0
-LineEnds stop.BadLine said line line' = (said ≡ bad) × (line' ≡ line)
-LineEnds stop.NoMemory said line line' = (said ≡ bad → ⊥) × (line ≤ line') × (line' ≤ line + 1)
-LineEnds stop.WriteFault said line line' = (said ≡ bad → ⊥) × (line' ≡ line + 1)
-LineEnds stop.OpsFull said line line' = (said ≡ bad → ⊥) × (line' ≡ line + 1)
-LineEnds stop.ShardLost said line line' = (said ≡ bad → ⊥) × (line' ≡ line + 1)
+LineEnds stop.BadLine said line line' = (is_bad_line said ≡ true) × (line' ≡ line)
+LineEnds stop.NoMemory said line line' = (line < line' → is_bad_line said ≡ false) × (line ≤ line') × (line' ≤ line + 1)
+LineEnds stop.WriteFault said line line' = (is_bad_line said ≡ false) × (line' ≡ line + 1)
+LineEnds stop.OpsFull said line line' = (is_bad_line said ≡ false) × (line' ≡ line + 1)
+LineEnds stop.ShardLost said line line' = (is_bad_line said ≡ false) × (line' ≡ line + 1)
 LineEnds other said line line' = ⊥
 
 -- ---- the course

@@ -3,6 +3,7 @@ use Rattle.std.specs.Prelude.{◌≡◌, ℕ, ◌+◌, ⊤, true, false, List, [
 use Rattle.hs_limits.specs.declared.address.Address.{Address}
 use Rattle.hs_limits.specs.declared.limits.Limits.{Limits}
 use Rattle.hs_model.specs.declared.command.Command.{Command}
+use Rattle.hs_model.specs.declared.course.CourseItem.{CourseItem}
 use Rattle.hs_model.specs.Store.{Store}
 use Rattle.hs_journal.specs.declared.entry.JournalEntry.{JournalEntry}
 use Rattle.hs_top.specs.declared.status.Status.{Status}
@@ -41,12 +42,13 @@ IsUntold other journal = ⊤
 -- what is promised of a script's answers
 pub record Fulfils (commands : ℕ → Option Command) (name : List ℕ → Address) (limits : Limits) (entry : Store) (ending : Status) (line : ℕ) (journal refused : List JournalEntry) (got got' : Option (List (ℕ × ℕ))) : Type 0 where
   pub answers : Answers commands name limits entry ending line journal got got'
-  pub refuses : Refuses ending commands name limits entry journal refused
+  pub refuses : Refuses ending commands name limits entry line journal refused
 
 -- nothing was read, answered or put
-pub record IsUntouched (entries refused : List JournalEntry) (line : ℕ) (left left' : Option (List ℕ)) (got got' : Option (List (ℕ × ℕ))) (moment moment' : ℕ) : Type 0 where
+pub record IsUntouched (entries refused : List JournalEntry) (course : List CourseItem) (line : ℕ) (left left' : Option (List ℕ)) (got got' : Option (List (ℕ × ℕ))) (moment moment' : ℕ) : Type 0 where
   pub nothing : entries ≡ []
   pub none_refused : refused ≡ []
+  pub no_course : course ≡ []
   pub no_line : line ≡ 0
   pub unread : left' ≡ left
   pub unput : got' ≡ got

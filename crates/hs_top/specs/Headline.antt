@@ -1,10 +1,9 @@
 -- What the whole program promises, in the words of the plain store.
-use Rattle.std.specs.Prelude.{◌≡◌, ℕ, ◌+◌, ◌*◌, ◌<◌, ◌≤◌, Bool, true, false, ◌==◌, List, [], ◌++◌, length, take, Option, Some, None, IsSome, Contains, count_by}
+use Rattle.std.specs.Prelude.{◌≡◌, ◌⊎◌, ℕ, ◌+◌, ◌*◌, ◌<◌, ◌≤◌, Bool, true, false, ◌==◌, List, [], ◌∷◌, ◌++◌, length, take, Option, Some, None, IsSome, Contains, count_by}
 use Rattle.std.specs.Option.{option_map_or}
 use Rattle.hs_limits.specs.declared.address.Address.{Address}
 use Rattle.hs_limits.specs.declared.address.Held.{Held}
 use Rattle.hs_limits.specs.declared.limits.Limits.{Limits}
-use Rattle.hs_limits.specs.Limits.{greatest_limits}
 use Rattle.hs_model.specs.declared.command.Command.{Command}
 use Rattle.hs_model.specs.declared.op.Op.{Op}
 use Rattle.hs_model.specs.Run.{Event, IsLegal, run}
@@ -19,20 +18,17 @@ use Rattle.hs_journal.specs.Order.{IsAt, IsOfLine, IsOrdered, IsPrompt}
 use Rattle.hs_ports.specs.Sink.{bytes_of, followed}
 use Rattle.hs_ports.specs.Source.{before}
 use Rattle.hs_script.specs.Lines.{lines_of, line_at}
-use Rattle.hs_script.specs.Reading.{bad, reading}
+use Rattle.hs_script.specs.Reading.{reading}
 use Rattle.hs_script.specs.Text.{text}
 use Rattle.hs_top.specs.declared.status.Status.{Status}
 use Rattle.hs_top.specs.declared.status.Status.TheVariants as status
+use Rattle.hs_top.specs.Built.{is_bad_line}
 use Rattle.hs_top.specs.Lost.{has_note, lost_entry}
 use Rattle.hs_top.specs.Words.{shape_in}
 
 -- the words are in the command language, and there is a disk for each peer
 abbrev pub is_run : List (List ℕ) → ℕ → Bool
 is_run words disks = option_map_or (λ shape. disks == shape.shards * shape.copies) (shape_in words) false
-
--- the limits of a script's run: a journal of 64 entries for now, and else the greatest
-abbrev pub run_limits : Limits
-run_limits = record greatest_limits { ops = 64 }
 
 -- how many bytes a script may have
 abbrev pub input_limit : ℕ
@@ -48,6 +44,8 @@ pub record Legal (commands : ℕ → Option Command) (name : List ℕ → Addres
   pub replied : IsAnswered commands name limits entry journal
   -- the entries stand in the order of a journal
   pub ordered : IsOrdered commands journal
+  -- an entry of a line is of one on which a client asks
+  pub asked : (place n : ℕ) → IsOfLine journal place n → IsSome (client_op (commands n))
 
 -- the last line that was begun has its entry: but not where memory was wanting or the journal full; and where a disk was lost, only if it is answered in its own event
 abbrev pub HasLast : Status → Bool → Option Op → Type 0
@@ -99,18 +97,25 @@ KeepsAllAlong limits entry events = (count : ℕ) → KeepsAll (run limits entry
 
 -- ---- the causes of the statuses
 
--- a line of a script is outside the language
+-- a line of a script is outside the language, or not built yet
 pub record IsBad (lines : List (List ℕ)) (n : ℕ) : Type 0 where
   pub line : List ℕ
   pub at : line_at lines n ≡ Some line
-  pub outside : reading line ≡ bad
+  pub outside : is_bad_line (reading line) ≡ true
 
 -- how many lines of some bytes are complete
 abbrev pub complete_lines : List ℕ → ℕ
 complete_lines bytes = count_by (λ byte. byte == 10) bytes
 
+-- an event has one entry: the answer to the line that was begun last, or the note that the disk was lost
+pub record IsNext (line : ℕ) (entries : List JournalEntry) : Type 0 where
+  pub entry : JournalEntry
+  pub only : entries ≡ entry ∷ []
+  pub told : (entry.who ≡ who.Line line) ⊎ (entry ≡ lost_entry line entry.moment)
+
 -- the entries of the next event would take the journal above its limit, and would be legal
-pub record IsRefused (commands : ℕ → Option Command) (name : List ℕ → Address) (limits : Limits) (entry : Store) (journal refused : List JournalEntry) : Type 0 where
+pub record IsRefused (commands : ℕ → Option Command) (name : List ℕ → Address) (limits : Limits) (entry : Store) (line : ℕ) (journal refused : List JournalEntry) : Type 0 where
+  pub next : IsNext line refused
   pub above : limits.ops < length (journal ++ refused)
   pub answers : Legal commands name limits entry (journal ++ refused)
 
@@ -124,9 +129,9 @@ HasEnded status.InputFull lines line taken = (line ≡ complete_lines (take inpu
 HasEnded other lines line taken = length taken ≤ input_limit
 
 -- the entries that were refused: those of the next event where the journal was full, and else none
-abbrev pub Refuses : Status → (ℕ → Option Command) → (List ℕ → Address) → Limits → Store → List JournalEntry → List JournalEntry → Type 0
-Refuses status.OpsFull commands name limits entry journal refused = IsRefused commands name limits entry journal refused
-Refuses other commands name limits entry journal refused = refused ≡ []
+abbrev pub Refuses : Status → (ℕ → Option Command) → (List ℕ → Address) → Limits → Store → ℕ → List JournalEntry → List JournalEntry → Type 0
+Refuses status.OpsFull commands name limits entry line journal refused = IsRefused commands name limits entry line journal refused
+Refuses other commands name limits entry line journal refused = refused ≡ []
 
 -- script: its bytes; left: what the source has left of it at the end
 pub record Ends (script : List ℕ) (left : Option (List ℕ)) (ending : Status) (line : ℕ) : Type 0 where

@@ -1,4 +1,5 @@
 pub mod Asking
+pub mod Built
 pub mod Course
 pub mod Ending
 pub mod Entering

@@ -1,6 +1,7 @@
 -- What opening the store of a run does. before and now: the moments before and after; disk and disk': how the disk stands then.
 use Rattle.std.specs.Prelude.{◌≡◌, ◌⊎◌, ℕ, ◌+◌, ◌≤◌, ⊤, List, [], ◌∷◌, ◌++◌, length, Option, Some, None, Result, Err, All}
 use Rattle.hs_limits.specs.declared.address.Address.{Address}
+use Rattle.hs_limits.specs.declared.limits.Limits.{Limits}
 use Rattle.hs_model.specs.declared.command.Command.{Command}
 use Rattle.hs_model.specs.declared.course.CourseItem.{CourseItem}
 use Rattle.hs_model.specs.declared.course.CourseItem.TheVariants as item
@@ -21,7 +22,6 @@ use Rattle.hs_top.specs.declared.transcript.Transcript.{Transcript}
 use Rattle.hs_side.specs.declared.header.Header.{Header}
 use Rattle.hs_top.specs.Course.{IsItem}
 use Rattle.hs_top.specs.Entering.{IsAbove, IsSame, Tells, TellsFront}
-use Rattle.hs_top.specs.Headline.{run_limits}
 use Rattle.hs_top.specs.Lasting.{Going}
 use Rattle.hs_top.specs.Lost.{lost_entry}
 use Rattle.hs_top.specs.Stops.{got_by}
@@ -49,12 +49,12 @@ pub record Opens (name : List ℕ → Address) (before now : ℕ) (course : List
   pub serves : IsServing name store (disk'.seen store.log.side) (viewed list view)
   pub sessions : store.plain.sessions ≡ []
   pub taken : course ≡ opened_course (length list) before now
-  pub going : (commands : ℕ → Option Command) → MayBegin name before disk got list
-      → Going commands name run_limits (store_of (catalogue_in name list ∷ [])) before now disk' store.log.side course [] got got (viewed list view)
+  pub going : (commands : ℕ → Option Command) (limits : Limits) → MayBegin name before disk got list
+      → Going commands name limits (store_of (catalogue_in name list ∷ [])) before now disk' store.log.side course [] got got (viewed list view)
 
 -- why it was not opened, and what was told of that
 abbrev pub OpensNot : Stop → Transcript → Transcript → ℕ → ℕ → Option (List (ℕ × ℕ)) → Option (List (ℕ × ℕ)) → Type 0
-OpensNot (stop.WrongShape found) old new before now got got' = IsSame old new got got'
+OpensNot (stop.WrongShape found) old new before now got got' = IsSame old new got got' × (new.course ≡ [])
 OpensNot stop.NoMemory old new before now got got' = IsSame old new got got'
 OpensNot stop.ShardLost old new before now got got' = (moment : ℕ) × (before ≤ moment) × (moment ≤ now) × Tells old new (lost_entry old.line moment) got got'
 OpensNot stop.WriteFault old new before now got got' = (moment : ℕ) × (before ≤ moment) × (moment ≤ now) × TellsFront old new (lost_entry old.line moment) got got'

@@ -1,6 +1,7 @@
 -- What is promised of a run of one shard on one disk, beside its answers. disks: as they are at entry; seen: what is read of the disk then.
-use Rattle.std.specs.Prelude.{◌≡◌, ◌⊎◌, ℕ, ◌-◌, ◌^◌, ◌<◌, ◌≤◌, ⊤, true, false, List, [], ◌∷◌, length, slice_index_or, Option, Some, All}
+use Rattle.std.specs.Prelude.{◌≡◌, ◌⊎◌, ℕ, ◌-◌, ◌^◌, ◌<◌, ◌≤◌, ⊤, true, false, List, [], ◌∷◌, ◌++◌, length, slice_index_or, Option, Some, All}
 use Rattle.hs_limits.specs.declared.address.Address.{Address}
+use Rattle.hs_limits.specs.declared.limits.Limits.{Limits}
 use Rattle.hs_model.specs.declared.command.Command.{Command}
 use Rattle.hs_model.specs.declared.course.CourseItem.{CourseItem}
 use Rattle.hs_model.specs.declared.course.CourseItem.TheVariants as item
@@ -21,7 +22,7 @@ use Rattle.hs_top.specs.declared.status.Status.TheVariants as status
 use Rattle.hs_top.specs.Course.{IsItem}
 use Rattle.hs_top.specs.Ending.{Fulfils}
 use Rattle.hs_top.specs.Entry.{IsSoundAtEntry, OneListAtEntry, counted, only_shape, start_of}
-use Rattle.hs_top.specs.Headline.{KeepsAllAlong, run_limits}
+use Rattle.hs_top.specs.Headline.{KeepsAllAlong}
 use Rattle.hs_top.specs.Lost.{has_note}
 use Rattle.hs_top.specs.Opens.{IsLossCause, IsUnwritten}
 use Rattle.hs_top.specs.Stops.{NoneAhead, Stops, below}
@@ -52,11 +53,11 @@ pub record Follows (commands : ℕ → Option Command) (line before : ℕ) (list
 abbrev pub IsCourse : (ℕ → Option Command) → ℕ → ℕ → Option (List (ℕ × Entry)) → List CourseItem → Type 0
 IsCourse commands line before list course = (course ≡ []) ⊎ Follows commands line before list course
 
--- the causes of that: another store's disk, want of memory, or a loss that is told
+-- the causes of that: another store's disk, want of memory, or a loss among these entries
 abbrev pub IsSetAside : Status → List JournalEntry → Type 0
-IsSetAside (status.WrongShape peer found) journal = ⊤
-IsSetAside status.NoMemory journal = ⊤
-IsSetAside other journal = has_note journal ≡ true
+IsSetAside (status.WrongShape peer found) entries = ⊤
+IsSetAside status.NoMemory entries = ⊤
+IsSetAside other entries = has_note entries ≡ true
 
 -- ---- the causes of two statuses
 
@@ -70,9 +71,9 @@ IsLostEnd status.InputFull journal = has_note journal ≡ false
 IsLostEnd other journal = ⊤
 
 -- peer 0 has the disk of another store only where it is refused as such, and nothing is told then
-abbrev pub IsShapeEnd : Status → List JournalEntry → (Side → List ℕ) → Type 0
-IsShapeEnd (status.WrongShape peer found) journal seen = (peer ≡ 0) × (journal ≡ []) × (refusal_in seen ≡ Some (single.WrongShape found))
-IsShapeEnd other journal seen = ⊤
+abbrev pub IsShapeEnd : Status → List JournalEntry → List CourseItem → (Side → List ℕ) → Type 0
+IsShapeEnd (status.WrongShape peer found) journal course seen = (peer ≡ 0) × (journal ≡ []) × (course ≡ []) × (refusal_in seen ≡ Some (single.WrongShape found))
+IsShapeEnd other journal course seen = ⊤
 
 -- and where it is, nothing else comes but want of memory, or a fault of the disk
 abbrev pub IsShapeFound : Status → Header → ℕ → ℕ → Type 0
@@ -90,20 +91,20 @@ abbrev pub count_at : List ℕ → ℕ → ℕ
 count_at counts peer = slice_index_or counts peer 0
 
 -- before and now: the moments at entry and at the end; disks and disks', counts and counts': the disks and their counts of faults then; got and got': what the sink had got
-pub record Promises (commands : ℕ → Option Command) (name : List ℕ → Address) (ending : Status) (line : ℕ) (journal refused : List JournalEntry) (course : List CourseItem) (before now : ℕ) (disks disks' : List Standing) (counts counts' : List ℕ) (got got' : Option (List (ℕ × ℕ))) : Type 0 where
+pub record Promises (commands : ℕ → Option Command) (name : List ℕ → Address) (limits : Limits) (ending : Status) (line : ℕ) (journal refused : List JournalEntry) (course : List CourseItem) (before now : ℕ) (disks disks' : List Standing) (counts counts' : List ℕ) (got got' : Option (List (ℕ × ℕ))) : Type 0 where
   -- clause 1, and what was refused
-  pub fulfils : Fulfils commands name run_limits (start_of name ending before disks course) ending line journal refused got got'
+  pub fulfils : Fulfils commands name limits (start_of name ending before disks course) ending line journal refused got got'
   -- clause 2: nothing is lost, in every store along the run
-  pub keeps : IsSoundAtEntry name only_shape (counted ending before disks course) before disks → KeepsAllAlong run_limits (start_of name ending before disks course) (events_of commands name run_limits (start_of name ending before disks course) journal)
+  pub keeps : IsSoundAtEntry name only_shape (counted ending before disks course) before disks → KeepsAllAlong limits (start_of name ending before disks course) (events_of commands name limits (start_of name ending before disks course) journal)
   -- clause 3
-  pub stops : MayStop name ending course before disks got → Stops commands name run_limits only_shape (start_of name ending before disks course) before now disks' (counted ending before disks course) journal got got'
+  pub stops : MayStop name ending course before disks got → Stops commands name limits only_shape (start_of name ending before disks course) before now disks' (counted ending before disks course) journal got got'
   pub good : MayStop name ending course before disks got → IsGoodUntold (counted ending before disks course) journal before now
   -- the course
   pub follows : IsCourse commands line before (list_in (disk_at disks 0).seen) course
-  pub aside : course ≡ [] → IsSetAside ending journal
-  -- the causes of a loss, and of a disk that is refused
-  pub noted : has_note journal ≡ true → IsLossCause (count_at counts 0) (count_at counts' 0) (disk_at disks 0).seen
+  pub aside : course ≡ [] → IsSetAside ending (journal ++ refused)
+  -- the causes of a loss that is told or refused, and of a disk that is refused
+  pub noted : has_note (journal ++ refused) ≡ true → IsLossCause (count_at counts 0) (count_at counts' 0) (disk_at disks 0).seen
   pub lost : IsLostEnd ending journal
-  pub shape : IsShapeEnd ending journal (disk_at disks 0).seen
+  pub shape : IsShapeEnd ending journal course (disk_at disks 0).seen
   pub other_shape : (found : Header) → refusal_in (disk_at disks 0).seen ≡ Some (single.WrongShape found) → IsShapeFound ending found (count_at counts 0) (count_at counts' 0)
   pub unwritten : LeavesOther ending before now (disk_at disks 0) (disk_at disks' 0)

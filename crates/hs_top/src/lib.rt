@@ -1,8 +1,10 @@
 //! The top call: the words, the script's loop, and what the whole program promises.
 #![tactic(auto)]
 
+mod built;
 mod laws;
 mod opening;
+mod options;
 mod outcome;
 mod reader;
 mod run;
@@ -18,7 +20,7 @@ pub use laws::a_run_may_begin;
 pub use outcome::Outcome;
 pub use status::{Status, TopFault, fault_line};
 pub use top::{hydra, hydra_alone};
-pub use words::{is_load, shape_of};
+pub use words::{is_load, limits_of, shape_of};
 
 #[cfg(test)]
 mod tests;

@@ -1,7 +1,8 @@
 //! Opening the store of a run.
-ghost use Rattle.std.specs.Prelude.{◌≡◌, ◌≤◌, ◌∷◌, [], true, ℕ, List, Option, Some, Err, IfErr, IfOk, OnErr, OnOk, length};
+ghost use Rattle.std.specs.Prelude.{◌≡◌, ◌≤◌, ◌∷◌, ◌++◌, [], true, ℕ, List, Option, Some, Err, IfErr, IfOk, OnErr, OnOk, length};
 ghost use Rattle.hs_entry.specs.declared.entry.Entry.{Entry};
 ghost use Rattle.hs_fold.specs.Opened.{store_of};
+ghost use Rattle.hs_limits.specs.declared.limits.Limits.{Limits};
 ghost use Rattle.hs_model.specs.declared.command.Command.{Command};
 ghost use Rattle.hs_model.specs.declared.course.CourseItem.TheVariants as item;
 ghost use Rattle.hs_ports.specs.Sink.{bytes_of};
@@ -11,7 +12,6 @@ ghost use Rattle.hs_single.specs.Opening.{refusal_in};
 ghost use Rattle.hs_single.specs.Serving.{IsReady, catalogue_in};
 ghost use Rattle.hs_single.specs.declared.fault.SingleFault.TheVariants as single;
 ghost use Rattle.hs_top.specs.Faults.{IsCalmStop, SinkCause};
-ghost use Rattle.hs_top.specs.Headline.{run_limits};
 ghost use Rattle.hs_top.specs.Lasting.{Lasts, Prints};
 ghost use Rattle.hs_top.specs.Lost.{has_note};
 ghost use Rattle.hs_top.specs.Opens.{IsCutShort, IsLossCause, IsShapeStop, IsShapeTold, LeavesUnwritten, MayBegin, Opens, OpensNot, TakenCourse};
@@ -51,6 +51,7 @@ pub(crate) fn open_store<A: Addresser, K: Sink, D: Disk>(
     watch: &mut Watch,
 ) -> Result<Single, Stop>
     requires journal { told.old.journal.entries ≡ [] }
+    requires refused { told.old.refused ≡ [] }
     requires course { told.old.course ≡ [] }
 
     // The store, where the disk tells.
@@ -72,8 +73,8 @@ pub(crate) fn open_store<A: Addresser, K: Sink, D: Disk>(
         → IsShapeTold result found (D.faults disk.old) (D.faults disk.new) }
     ensures unwritten { D.tells → IfErr result (λ stop. LeavesUnwritten stop watch.old watch.new
         (D.stands disk.old) (D.stands disk.new)) }
-    ensures noted { D.tells → OnErr result (has_note told.new.journal.entries ≡ true
-        → IsLossCause (D.faults disk.old) (D.faults disk.new) (D.stands disk.old).seen) }
+    ensures noted { D.tells → OnErr result
+        (has_note (told.new.journal.entries ++ told.new.refused) ≡ true → IsLossCause (D.faults disk.old) (D.faults disk.new) (D.stands disk.old).seen) }
 
     // What holds of every stop then, where the disk tells.
     ensures course { D.tells → OnErr result (IsCutShort watch.old
@@ -81,20 +82,22 @@ pub(crate) fn open_store<A: Addresser, K: Sink, D: Disk>(
     ensures prints { ((m : ℕ) → watch.old ≤ m → got_by m (K.got sink.old) ≡ K.got sink.old)
         → OnErr result (Prints watch.old watch.new told.new.journal.entries (K.got sink.old)
         (K.got sink.new)) }
-    ensures memory { D.tells → (commands : ℕ → Option Command) (list : List (ℕ × Entry))
+    ensures memory { D.tells → (commands : ℕ → Option Command) (limits : Limits)
+        (list : List (ℕ × Entry))
         → list_in (D.stands disk.old).seen ≡ Some list
         → MayBegin (A.name naming.now) watch.old (D.stands disk.old) (K.got sink.old) list
         → result ≡ Err Stop.NoMemory → told.new.course ≡ []
-        → Lasts commands (A.name naming.now) run_limits
+        → Lasts commands (A.name naming.now) limits
         (store_of (catalogue_in (A.name naming.now) list ∷ [])) watch.old watch.new
         (D.stands disk.new)
         (item.Good 0 watch.old ∷ item.Took 0 (length list) watch.old ∷ [])
         told.new.journal.entries (K.got sink.old) (K.got sink.new) }
-    ensures lasts { D.tells → (commands : ℕ → Option Command) (list : List (ℕ × Entry))
+    ensures lasts { D.tells → (commands : ℕ → Option Command) (limits : Limits)
+        (list : List (ℕ × Entry))
         → list_in (D.stands disk.old).seen ≡ Some list
         → MayBegin (A.name naming.now) watch.old (D.stands disk.old) (K.got sink.old) list
         → OnErr result (TakenCourse watch.old (list_in (D.stands disk.old).seen) told.new.course
-        → Lasts commands (A.name naming.now) run_limits
+        → Lasts commands (A.name naming.now) limits
         (store_of (catalogue_in (A.name naming.now) list ∷ [])) watch.old watch.new
         (D.stands disk.new) told.new.course told.new.journal.entries (K.got sink.old)
         (K.got sink.new)) }

@@ -1,11 +1,11 @@
 //! A run of a script over its store, and what one line does to it.
-ghost use Rattle.std.specs.Prelude.{◌≡◌, ◌+◌, ◌<◌, ◌^◌, ◌≤◌, ◌∷◌, ◌++◌, [], ℕ, List, Option, Some, true, nat_lt, IfOk, OnOk, IfErr, OnErr, IsErrOf, IsOkUnless, IfSome};
-ghost use Rattle.hs_model.specs.Built.{IsBuilt};
+ghost use Rattle.std.specs.Prelude.{◌≡◌, ◌+◌, ◌<◌, ◌^◌, ◌≤◌, ◌∷◌, ◌++◌, [], ℕ, List, Option, Some, true, false, nat_lt, IfOk, OnOk, IfErr, OnErr, IsErrOf, IsOkUnless, IfSome};
+ghost use Rattle.hs_limits.specs.Limits.{IsLimits};
 ghost use Rattle.hs_model.specs.Store.{Store};
-ghost use Rattle.hs_script.specs.Built.{IsBare};
-ghost use Rattle.hs_top.specs.Headline.{run_limits};
+ghost use Rattle.hs_top.specs.Built.{is_bad_line, is_built_op};
 ghost use Rattle.hs_top.specs.Naming.{IsNamedAs};
 
+use crate::built::is_built;
 use crate::stop::Stop;
 use crate::transcript::Transcript;
 use hs_block::{Addresser, write_spelling};
@@ -17,21 +17,13 @@ use hs_script::{ScriptFault, read_line};
 use hs_single::{Single, SingleFault};
 use std::alloc::Global;
 
-/// A run: what it has told so far, and its store.
+/// A run: its limits, what it has told so far, and its store.
 #[derive(Drop)]
 pub(crate) struct Run {
     pub(crate) alloc: Global,
+    pub(crate) limits: Limits,
     pub(crate) told: Transcript,
     pub(crate) store: Single,
-}
-
-/// The limits of a run.
-pub(crate) fn limits() -> Limits
-    ensures { result ≡ run_limits }
-{
-    let mut limits = Limits::greatest();
-    limits.ops = 64;
-    limits
 }
 
 /// An operation as it is judged, and the spelling of its block, where it has one.
@@ -43,8 +35,7 @@ struct Named {
 
 /// The operation with the address of its block, where it has one.
 fn name_block<A: Addresser>(alloc: Global, naming: &A, op: Op) -> Result<Named, Stop>
-    requires built { IsBuilt op }
-    requires bare { IsBare op }
+    requires built { is_built_op op ≡ true }
     ensures ok { IfOk result (λ found. IsNamedAs (A.name naming.now) op found.op
         found.spelling.items) }
     ensures err { IsOkUnless result Stop.NoMemory }
@@ -88,7 +79,7 @@ impl Run {
     ghost use Rattle.hs_limits.specs.declared.address.Address.{Address};
     ghost use Rattle.hs_model.specs.declared.command.Command.{Command};
     ghost use Rattle.hs_model.specs.declared.op.Op.{Op};
-    ghost use Rattle.hs_script.specs.Reading.{bad, command_in, reading};
+    ghost use Rattle.hs_script.specs.Reading.{command_in, reading};
     ghost use Rattle.hs_single.specs.Images.{IsAlone};
     ghost use Rattle.hs_single.specs.Serving.{IsReady, IsServing, IsSpelled};
     ghost use Rattle.hs_top.specs.Asking.{AddsItems, Asks, AsksNot, Begins, IsAskStop, LineEnds, LineHalts, list_behind};
@@ -108,6 +99,7 @@ impl Run {
         sink: &mut K,
         watch: &mut Watch,
     ) -> Result<(), Stop>
+        requires bounded { IsLimits self.old.limits }
         requires room { self.old.told.line < 2 ^ 63 }
         requires ready { IsReady D.tells self.old.store
             (D.size disk.old self.old.store.log.side) (D.stands disk.old) }
@@ -115,37 +107,37 @@ impl Run {
         // Where the disk tells: what was answered, or why not.
         ensures begins { D.tells → (list : List (ℕ × Entry)) → IsServing (A.name naming.now)
             self.old.store ((D.stands disk.old).seen self.old.store.log.side) list
-            → OnOk result (Begins (A.name naming.now) run_limits (self.old.told.line + 1)
+            → OnOk result (Begins (A.name naming.now) self.old.limits (self.old.told.line + 1)
             (client_op (command_in (reading bytes.now))) self.old self.new list
             (D.stands disk.old) (D.stands disk.new)
             (K.got sink.old) (K.got sink.new) watch.old watch.new) }
         ensures halted { D.tells → (list : List (ℕ × Entry)) → IsServing (A.name naming.now)
             self.old.store ((D.stands disk.old).seen self.old.store.log.side) list
-            → IfErr result (λ stop. LineHalts stop (A.name naming.now) run_limits
+            → IfErr result (λ stop. LineHalts stop (A.name naming.now) self.old.limits
             (self.old.told.line + 1) (reading bytes.now) self.old self.new list
             (K.got sink.old) (K.got sink.new) watch.old watch.new) }
 
         // And what holds of every stop.
         ensures goes { D.tells → (commands : ℕ → Option Command) (start : Store) (before : ℕ)
             (got : Option (List (ℕ × ℕ))) (list : List (ℕ × Entry))
-            → Before commands (A.name naming.now) run_limits start before got
+            → Before commands (A.name naming.now) self.old.limits start before got
             (client_op (command_in (reading bytes.now))) self.old (D.stands disk.old)
             (K.got sink.old) watch.old list
-            → OnOk result (Going commands (A.name naming.now) run_limits start before watch.new
+            → OnOk result (Going commands (A.name naming.now) self.old.limits start before watch.new
             (D.stands disk.new) self.new.store.log.side self.new.told.course
-            self.new.told.journal.entries got (K.got sink.new) (list_behind (A.name naming.now) run_limits (self.old.told.line + 1)
+            self.new.told.journal.entries got (K.got sink.new) (list_behind (A.name naming.now) self.old.limits (self.old.told.line + 1)
             self.old.store list (client_op (command_in (reading bytes.now))))) }
         ensures lasts { D.tells → (commands : ℕ → Option Command) (start : Store) (before : ℕ)
             (got : Option (List (ℕ × ℕ))) (list : List (ℕ × Entry))
-            → Before commands (A.name naming.now) run_limits start before got
+            → Before commands (A.name naming.now) self.old.limits start before got
             (client_op (command_in (reading bytes.now))) self.old (D.stands disk.old)
             (K.got sink.old) watch.old list
-            → OnErr result (Lasts commands (A.name naming.now) run_limits start before watch.new
+            → OnErr result (Lasts commands (A.name naming.now) self.old.limits start before watch.new
             (D.stands disk.new) self.new.told.course self.new.told.journal.entries got
             (K.got sink.new)) }
 
         // Whatever the disk tells.
-        ensures good { OnOk result (reading bytes.now ≡ bad → ⊥) }
+        ensures good { OnOk result (is_bad_line (reading bytes.now) ≡ false) }
         ensures line { OnOk result (self.new.told.line ≡ self.old.told.line + 1) }
         ensures ends { IfErr result (λ stop. LineEnds stop (reading bytes.now)
             self.old.told.line self.new.told.line) }
@@ -153,13 +145,15 @@ impl Run {
         ensures ready { OnOk result (IsReady D.tells self.new.store
             (D.size disk.new self.new.store.log.side) (D.stands disk.new)) }
         ensures limit { self.new.told.journal.limit ≡ self.old.told.journal.limit }
+        ensures limits { self.new.limits ≡ self.old.limits }
         ensures course { AddsItems (self.old.told.line + 1) self.new.told.line
             (client_op (command_in (reading bytes.now))) self.old.told.course
             self.new.told.course }
         ensures noted { D.tells → (list : List (ℕ × Entry)) → IsServing (A.name naming.now)
             self.old.store ((D.stands disk.old).seen self.old.store.log.side) list
-            → IsNoted (has_note self.old.told.journal.entries)
-            (has_note self.new.told.journal.entries) (D.faults disk.old) (D.faults disk.new) }
+            → IsNoted (has_note (self.old.told.journal.entries ++ self.old.told.refused))
+            (has_note (self.new.told.journal.entries ++ self.new.told.refused))
+            (D.faults disk.old) (D.faults disk.new) }
         ensures calm { OnOk result (D.faults disk.new ≡ D.faults disk.old) }
         ensures calm_bad { IsErrOf result Stop.BadLine
             → D.faults disk.new ≡ D.faults disk.old }
@@ -171,17 +165,20 @@ impl Run {
             Err(ScriptFault::BadLine) => return Err(Stop::BadLine),
             Err(ScriptFault::NoMemory) => return Err(Stop::NoMemory),
         };
-        match read {
-            Some(Command::Client(op)) => self.ask(op, naming, disk, sink, watch),
-            Some(Command::Settle) => {
+        let Some(command) = read else {
+            self.told.line += 1;
+            return Ok(());
+        };
+        if !is_built(&command) {
+            return Err(Stop::BadLine);
+        }
+        match command {
+            Command::Client(op) => self.ask(op, naming, disk, sink, watch),
+            Command::Settle => {
                 self.told.line += 1;
                 Ok(())
             }
-            None => {
-                self.told.line += 1;
-                Ok(())
-            }
-            Some(_) => unreachable!(),
+            _ => unreachable!(),
         }
     }
 
@@ -194,34 +191,34 @@ impl Run {
         sink: &mut K,
         watch: &mut Watch,
     ) -> Result<(), Stop>
-        requires built { IsBuilt op }
-        requires bare { IsBare op }
+        requires built { is_built_op op ≡ true }
+        requires bounded { IsLimits self.old.limits }
         requires room { self.old.told.line < 2 ^ 63 }
         requires ready { IsReady D.tells self.old.store
             (D.size disk.old self.old.store.log.side) (D.stands disk.old) }
 
         ensures asks { D.tells → (list : List (ℕ × Entry)) → IsServing (A.name naming.now)
             self.old.store ((D.stands disk.old).seen self.old.store.log.side) list
-            → OnOk result (Asks (A.name naming.now) run_limits (self.old.told.line + 1) op
+            → OnOk result (Asks (A.name naming.now) self.old.limits (self.old.told.line + 1) op
             self.old self.new list (D.stands disk.new) (K.got sink.old) (K.got sink.new) watch.old watch.new) }
         ensures halted { D.tells → (list : List (ℕ × Entry)) → IsServing (A.name naming.now)
             self.old.store ((D.stands disk.old).seen self.old.store.log.side) list
-            → IfErr result (λ stop. AsksNot stop (A.name naming.now) run_limits
+            → IfErr result (λ stop. AsksNot stop (A.name naming.now) self.old.limits
             (self.old.told.line + 1) op self.old self.new list (K.got sink.old) (K.got sink.new) watch.old watch.new) }
 
         ensures goes { D.tells → (commands : ℕ → Option Command) (start : Store) (before : ℕ)
             (got : Option (List (ℕ × ℕ))) (list : List (ℕ × Entry))
-            → Before commands (A.name naming.now) run_limits start before got (Some op) self.old
+            → Before commands (A.name naming.now) self.old.limits start before got (Some op) self.old
             (D.stands disk.old) (K.got sink.old) watch.old list
-            → OnOk result (Going commands (A.name naming.now) run_limits start before watch.new
+            → OnOk result (Going commands (A.name naming.now) self.old.limits start before watch.new
             (D.stands disk.new) self.new.store.log.side self.new.told.course
-            self.new.told.journal.entries got (K.got sink.new) (list_behind (A.name naming.now) run_limits (self.old.told.line + 1)
+            self.new.told.journal.entries got (K.got sink.new) (list_behind (A.name naming.now) self.old.limits (self.old.told.line + 1)
             self.old.store list (Some op))) }
         ensures lasts { D.tells → (commands : ℕ → Option Command) (start : Store) (before : ℕ)
             (got : Option (List (ℕ × ℕ))) (list : List (ℕ × Entry))
-            → Before commands (A.name naming.now) run_limits start before got (Some op) self.old
+            → Before commands (A.name naming.now) self.old.limits start before got (Some op) self.old
             (D.stands disk.old) (K.got sink.old) watch.old list
-            → OnErr result (Lasts commands (A.name naming.now) run_limits start before watch.new
+            → OnErr result (Lasts commands (A.name naming.now) self.old.limits start before watch.new
             (D.stands disk.new) self.new.told.course self.new.told.journal.entries got
             (K.got sink.new)) }
 
@@ -230,12 +227,14 @@ impl Run {
         ensures ready { OnOk result (IsReady D.tells self.new.store
             (D.size disk.new self.new.store.log.side) (D.stands disk.new)) }
         ensures limit { self.new.told.journal.limit ≡ self.old.told.journal.limit }
+        ensures limits { self.new.limits ≡ self.old.limits }
         ensures course { AddsItems (self.old.told.line + 1) self.new.told.line (Some op)
             self.old.told.course self.new.told.course }
         ensures noted { D.tells → (list : List (ℕ × Entry)) → IsServing (A.name naming.now)
             self.old.store ((D.stands disk.old).seen self.old.store.log.side) list
-            → IsNoted (has_note self.old.told.journal.entries)
-            (has_note self.new.told.journal.entries) (D.faults disk.old) (D.faults disk.new) }
+            → IsNoted (has_note (self.old.told.journal.entries ++ self.old.told.refused))
+            (has_note (self.new.told.journal.entries ++ self.new.told.refused))
+            (D.faults disk.old) (D.faults disk.new) }
         ensures calm { OnOk result (D.faults disk.new ≡ D.faults disk.old) }
         ensures later { D.faults disk.old ≤ D.faults disk.new }
         ensures cause { SinkCause (K.faults sink.old) (K.faults sink.new) result }
@@ -259,6 +258,7 @@ impl Run {
         sink: &mut K,
         watch: &mut Watch,
     ) -> Result<(), Stop>
+        requires bounded { IsLimits self.old.limits }
         requires served { IsServed op }
         requires spelled { IsSpelled op spelling.items }
         requires ready { IsReady D.tells self.old.store
@@ -267,12 +267,12 @@ impl Run {
         ensures asks { D.tells → (name : List ℕ → Address) (o : Op) (list : List (ℕ × Entry))
             → IsNamedAs name o op spelling.items → IsServing name self.old.store
             ((D.stands disk.old).seen self.old.store.log.side) list
-            → OnOk result (Asks name run_limits self.old.told.line o self.old self.new list
+            → OnOk result (Asks name self.old.limits self.old.told.line o self.old self.new list
             (D.stands disk.new) (K.got sink.old) (K.got sink.new) watch.old watch.new) }
         ensures halted { D.tells → (name : List ℕ → Address) (o : Op) (list : List (ℕ × Entry))
             → IsNamedAs name o op spelling.items → IsServing name self.old.store
             ((D.stands disk.old).seen self.old.store.log.side) list
-            → IfErr result (λ stop. AsksNot stop name run_limits self.old.told.line o self.old
+            → IfErr result (λ stop. AsksNot stop name self.old.limits self.old.told.line o self.old
             self.new list (K.got sink.old) (K.got sink.new) watch.old watch.new) }
 
         ensures passes { D.tells → (D.stands disk.old).last ≤ watch.old
@@ -280,7 +280,7 @@ impl Run {
             → (name : List ℕ → Address) (o : Op) (list : List (ℕ × Entry))
             → IsNamedAs name o op spelling.items → IsServing name self.old.store
             ((D.stands disk.old).seen self.old.store.log.side) list
-            → OnOk result (PassesWhole name run_limits self.old.told.line o watch.old watch.new
+            → OnOk result (PassesWhole name self.old.limits self.old.told.line o watch.old watch.new
             self.old self.new (D.stands disk.old) (D.stands disk.new) list (K.got sink.old)
             (K.got sink.new)) }
         ensures passes_not { D.tells → (D.stands disk.old).last ≤ watch.old
@@ -288,7 +288,7 @@ impl Run {
             → (name : List ℕ → Address) (o : Op) (list : List (ℕ × Entry))
             → IsNamedAs name o op spelling.items → IsServing name self.old.store
             ((D.stands disk.old).seen self.old.store.log.side) list
-            → OnErr result (Passes name run_limits self.old.told.line o watch.old watch.new
+            → OnErr result (Passes name self.old.limits self.old.told.line o watch.old watch.new
             self.old self.new (D.stands disk.old) (D.stands disk.new) list (K.got sink.old)
             (K.got sink.new)) }
 
@@ -297,13 +297,15 @@ impl Run {
         ensures ready { OnOk result (IsReady D.tells self.new.store
             (D.size disk.new self.new.store.log.side) (D.stands disk.new)) }
         ensures limit { self.new.told.journal.limit ≡ self.old.told.journal.limit }
+        ensures limits { self.new.limits ≡ self.old.limits }
         ensures course { AddsItems self.old.told.line self.new.told.line (Some op)
             self.old.told.course self.new.told.course }
         ensures noted { D.tells → (name : List ℕ → Address) (list : List (ℕ × Entry))
             → IsServing name self.old.store
             ((D.stands disk.old).seen self.old.store.log.side) list
-            → IsNoted (has_note self.old.told.journal.entries)
-            (has_note self.new.told.journal.entries) (D.faults disk.old) (D.faults disk.new) }
+            → IsNoted (has_note (self.old.told.journal.entries ++ self.old.told.refused))
+            (has_note (self.new.told.journal.entries ++ self.new.told.refused))
+            (D.faults disk.old) (D.faults disk.new) }
         ensures calm { OnOk result (D.faults disk.new ≡ D.faults disk.old) }
         ensures later { D.faults disk.old ≤ D.faults disk.new }
         ensures cause { SinkCause (K.faults sink.old) (K.faults sink.new) result }
@@ -311,7 +313,7 @@ impl Run {
         let before = self.store.last();
         match self
             .store
-            .ask(limits(), self.told.line, op, spelling, disk, watch)
+            .ask(self.limits, self.told.line, op, spelling, disk, watch)
         {
             Ok(answer) => self.conclude(answer, before, sink, watch),
             Err(fault) => match fault {
@@ -344,6 +346,7 @@ impl Run {
         ensures store { self.new.store ≡ self.old.store }
         ensures line { self.new.told.line ≡ self.old.told.line }
         ensures limit { self.new.told.journal.limit ≡ self.old.told.journal.limit }
+        ensures limits { self.new.limits ≡ self.old.limits }
         ensures cause { SinkCause (K.faults sink.old) (K.faults sink.new) result }
     {
         let last = self.store.last();

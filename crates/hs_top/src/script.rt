@@ -1,5 +1,6 @@
 //! The loop over the lines of a script.
-ghost use Rattle.std.specs.Prelude.{◌≡◌, ◌+◌, ◌<◌, ◌^◌, ◌≤◌, true, false, [], ℕ, List, Option, IfErr, IfSome};
+ghost use Rattle.std.specs.Prelude.{◌≡◌, ◌+◌, ◌<◌, ◌^◌, ◌≤◌, ◌++◌, true, false, [], ℕ, List, Option, IfErr, IfSome};
+ghost use Rattle.hs_limits.specs.Limits.{IsLimits};
 ghost use Rattle.hs_entry.specs.declared.entry.Entry.{Entry};
 ghost use Rattle.hs_script.specs.Reading.{commands};
 ghost use Rattle.hs_single.specs.Serving.{IsReady, IsServing, store_at};
@@ -8,7 +9,7 @@ ghost use Rattle.hs_ports.specs.Fault.{HasRisen};
 ghost use Rattle.hs_top.specs.Course.{GrowsBy};
 ghost use Rattle.hs_top.specs.Faults.{IsCalmStop};
 ghost use Rattle.hs_top.specs.Lost.{has_note};
-ghost use Rattle.hs_top.specs.Headline.{Ends, input_limit, run_limits};
+ghost use Rattle.hs_top.specs.Headline.{Ends, input_limit};
 ghost use Rattle.hs_top.specs.Lasting.{Going, Lasts};
 ghost use Rattle.hs_top.specs.Reader.{held_of, cost};
 ghost use Rattle.hs_top.specs.Serving.{StopCause};
@@ -30,7 +31,8 @@ pub(crate) fn serve<A: Addresser, S: Source, K: Sink, D: Disk>(
     watch: &mut Watch,
 ) -> Result<(), Stop>
     requires journal { run.old.told.journal.entries ≡ [] }
-    requires limit { run.old.told.journal.limit ≡ run_limits.ops }
+    requires bounded { IsLimits run.old.limits }
+    requires limit { run.old.told.journal.limit ≡ run.old.limits.ops }
     requires refused { run.old.told.refused ≡ [] }
     requires line { run.old.told.line ≡ 0 }
     requires held { held_of reader.old ≡ [] }
@@ -43,7 +45,7 @@ pub(crate) fn serve<A: Addresser, S: Source, K: Sink, D: Disk>(
     ensures fulfils { D.tells → IfSome (S.left source.old) (λ script. (list : List (ℕ × Entry))
         → IsServing (A.name naming.now) run.old.store
         ((D.stands disk.old).seen run.old.store.log.side) list
-        → Fulfils (commands script) (A.name naming.now) run_limits
+        → Fulfils (commands script) (A.name naming.now) run.old.limits
         (store_at (A.name naming.now) run.old.store list) (status_of result run.new.told.line)
         run.new.told.line run.new.told.journal.entries run.new.told.refused (K.got sink.old)
         (K.got sink.new)) }
@@ -53,10 +55,10 @@ pub(crate) fn serve<A: Addresser, S: Source, K: Sink, D: Disk>(
         (got : Option (List (ℕ × ℕ))) (list : List (ℕ × Entry))
         → IsServing (A.name naming.now) run.old.store
         ((D.stands disk.old).seen run.old.store.log.side) list
-        → Going (commands script) (A.name naming.now) run_limits
+        → Going (commands script) (A.name naming.now) run.old.limits
         (store_at (A.name naming.now) run.old.store list) before watch.old (D.stands disk.old)
         run.old.store.log.side run.old.told.course [] got (K.got sink.old) list
-        → Lasts (commands script) (A.name naming.now) run_limits
+        → Lasts (commands script) (A.name naming.now) run.old.limits
         (store_at (A.name naming.now) run.old.store list) before watch.new (D.stands disk.new)
         run.new.told.course run.new.told.journal.entries got (K.got sink.new)) }
 
@@ -67,7 +69,7 @@ pub(crate) fn serve<A: Addresser, S: Source, K: Sink, D: Disk>(
     ensures noted { D.tells → IfSome (S.left source.old) (λ script. (list : List (ℕ × Entry))
         → IsServing (A.name naming.now) run.old.store
         ((D.stands disk.old).seen run.old.store.log.side) list
-        → has_note run.new.told.journal.entries ≡ true
+        → has_note (run.new.told.journal.entries ++ run.new.told.refused) ≡ true
         → HasRisen (D.faults disk.old) (D.faults disk.new)) }
     ensures said { D.tells → IfSome (S.left source.old) (λ script. (list : List (ℕ × Entry))
         → IsServing (A.name naming.now) run.old.store

@@ -1,23 +1,24 @@
 //! The top call.
 ghost use Rattle.std.specs.Prelude.{◌≡◌, ◌<◌, ◌^◌, ◌≤◌, ◌∷◌, false, true, [], map, string_bytes, vec_len, IfSome};
+ghost use Rattle.hs_limits.specs.Limits.{IsLimits};
 ghost use Rattle.hs_ports.specs.Fault.{HasRisen};
 ghost use Rattle.hs_script.specs.Reading.{commands};
 ghost use Rattle.hs_top.specs.Ending.{IsCalm, IsUntouched, status_of};
 ghost use Rattle.hs_top.specs.Headline.{Ends, is_run};
 ghost use Rattle.hs_top.specs.Promise.{Promises};
-ghost use Rattle.hs_top.specs.Words.{is_load};
+ghost use Rattle.hs_top.specs.Words.{is_load, run_limits};
 
 use crate::opening::open_store;
 use crate::reader::Reader;
-use crate::run::{Run, limits};
+use crate::run::Run;
 use crate::script::serve;
 use crate::stop::Stop;
 use crate::transcript::Transcript;
-use crate::words::{is_load, shape_of};
+use crate::words::{is_load, limits_of};
 use crate::{Outcome, Status};
 use hs_block::Addresser;
 use hs_journal::Journal;
-use hs_limits::ListOf;
+use hs_limits::{Limits, ListOf};
 use hs_ports::{Disk, Sink, Source, Watch};
 use hs_single::Single;
 use std::alloc::Global;
@@ -88,17 +89,19 @@ fn nothing(alloc: Global, status: Status) -> Outcome
     }
 }
 
-/// Runs a script over the store of a disk.
+/// Runs a script over the store of a disk, within these limits.
 fn script<A: Addresser, S: Source, K: Sink, D: Disk>(
     alloc: Global,
+    limits: Limits,
     naming: &A,
     source: &mut S,
     sink: &mut K,
     disk: &mut D,
     watch: &mut Watch,
 ) -> Outcome
+    requires bounded { IsLimits limits }
     ensures promises { D.tells → IfSome (S.left source.old) (λ text. Promises (commands text)
-        (A.name naming.now) result.status result.line result.journal.entries result.refused
+        (A.name naming.now) limits result.status result.line result.journal.entries result.refused
         result.course watch.old watch.new (D.stands disk.old ∷ []) (D.stands disk.new ∷ [])
         (D.faults disk.old ∷ []) (D.faults disk.new ∷ []) (K.got sink.old) (K.got sink.new)) }
     ensures ends { IfSome (S.left source.old) (λ text.
@@ -113,24 +116,30 @@ fn script<A: Addresser, S: Source, K: Sink, D: Disk>(
     ensures sink_later { K.faults sink.old ≤ K.faults sink.new }
     ensures disk_later { D.faults disk.old ≤ D.faults disk.new }
 {
-    let mut told = Transcript::new(alloc, limits().ops);
+    let mut told = Transcript::new(alloc, limits.ops);
     let store = match open_store(alloc, &mut told, naming, disk, sink, watch) {
         Ok(store) => store,
         Err(stop) => return outcome(told, Err(stop)),
     };
-    let mut run = Run { alloc, told, store };
+    let mut run = Run {
+        alloc,
+        limits,
+        told,
+        store,
+    };
     let mut reader = Reader::new(alloc, INPUT_MOST);
     let ended = serve(&mut run, &mut reader, naming, source, disk, sink, watch);
     let Run {
         alloc: _,
+        limits: _,
         told,
         store: _,
     } = run;
     outcome(told, ended)
 }
 
-/// Does every command but `load`, and waits for nobody. So far that is `script DIR 1 1`. Other words
-/// are a faulty command line.
+/// Does every command but `load`, and waits for nobody. So far that is `script DIR 1 1` with the
+/// options of `limits_of`. Other words are a faulty command line.
 pub fn hydra_alone<A: Addresser, S: Source, K: Sink, D: Disk + Drop>(
     alloc: Global,
     words: &[String],
@@ -147,7 +156,7 @@ pub fn hydra_alone<A: Addresser, S: Source, K: Sink, D: Disk + Drop>(
     ensures promises { D.tells
         → is_run (map (λ word. string_bytes word) words.now) (vec_len disks.old) ≡ true
         → IfSome (S.left source.old) (λ text. Promises (commands text) (A.name naming.now)
-        result.status result.line result.journal.entries result.refused result.course watch.old
+        (run_limits (map (λ word. string_bytes word) words.now)) result.status result.line result.journal.entries result.refused result.course watch.old
         watch.new (map (λ disk. D.stands disk) disks.old.items)
         (map (λ disk. D.stands disk) disks.new.items) (map (λ disk. D.faults disk) disks.old.items)
         (map (λ disk. D.faults disk) disks.new.items) (K.got sink.old) (K.got sink.new)) }
@@ -169,7 +178,7 @@ pub fn hydra_alone<A: Addresser, S: Source, K: Sink, D: Disk + Drop>(
 
     // What stays.
     ensures untouched { result.status ≡ Status.Usage → IsUntouched
-        result.journal.entries result.refused result.line
+        result.journal.entries result.refused result.course result.line
         (S.left source.old) (S.left source.new) (K.got sink.old) (K.got sink.new)
         watch.old watch.new }
     ensures disks { result.status ≡ Status.Usage → disks.new.items ≡ disks.old.items }
@@ -177,11 +186,11 @@ pub fn hydra_alone<A: Addresser, S: Source, K: Sink, D: Disk + Drop>(
     ensures source_later { S.faults source.old ≤ S.faults source.new }
     ensures sink_later { K.faults sink.old ≤ K.faults sink.new }
 {
-    if shape_of(words).is_none() {
+    let Some(limits) = limits_of(words) else {
         return nothing(alloc, Status::Usage);
-    }
+    };
     match disks.as_mut_slice() {
-        [disk] => script(alloc, naming, source, sink, disk, watch),
+        [disk] => script(alloc, limits, naming, source, sink, disk, watch),
         _ => nothing(alloc, Status::Usage),
     }
 }
@@ -208,7 +217,7 @@ pub fn hydra<
     ensures promises { D.tells
         → is_run (map (λ word. string_bytes word) words.now) (vec_len disks.old) ≡ true
         → IfSome (S.left source.old) (λ text. Promises (commands text) (A.name naming.now)
-        result.status result.line result.journal.entries result.refused result.course watch.old
+        (run_limits (map (λ word. string_bytes word) words.now)) result.status result.line result.journal.entries result.refused result.course watch.old
         watch.new (map (λ disk. D.stands disk) disks.old.items)
         (map (λ disk. D.stands disk) disks.new.items) (map (λ disk. D.faults disk) disks.old.items)
         (map (λ disk. D.faults disk) disks.new.items) (K.got sink.old) (K.got sink.new)) }
@@ -230,7 +239,7 @@ pub fn hydra<
 
     // What stays.
     ensures untouched { result.status ≡ Status.Usage → IsUntouched
-        result.journal.entries result.refused result.line
+        result.journal.entries result.refused result.course result.line
         (S.left source.old) (S.left source.new) (K.got sink.old) (K.got sink.new)
         watch.old watch.new }
     ensures disks { result.status ≡ Status.Usage → disks.new.items ≡ disks.old.items }

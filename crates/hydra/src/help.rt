@@ -12,15 +12,25 @@ usage: hydra COMMAND DIR G R [options]
 A store keeps blocks of bytes, equal blocks once, each under an address that is
 made of its bytes; a session is given a handle for each block that it writes.
 
-One command is built so far, with G and R both 1 and no options:
+One command is built so far, with G and R both 1:
 
-  hydra script DIR 1 1
+  hydra script DIR 1 1 [options]
 
 It reads a script from standard input and prints the answers to standard output.
 The blocks are kept in DIR, which is made if absent, in the files peer0.side0 and
 peer0.side1. What a line did is on the disk before it is answered, and a later
 run finds what an earlier one left, wherever that one stopped; sessions end with
 their run. One run at a time has a DIR: another is told so on standard error.
+
+An option is a name and a number, and lowers a limit of the run: each at most
+once, in any order, with a number from 1 to the greatest, which is the limit
+where the option is not given:
+
+  --ops N       answers of the run; the greatest is 1048576
+  --blocks N    blocks of the store; 16384
+  --roots N     roots of the store; 4096
+  --sessions N  sessions that are open; 64
+  --handles N   handles that a session holds; 4096
 
 The lines of a script, each ended by a line feed:
 
@@ -55,6 +65,6 @@ Exit statuses, each but 0 with a line on standard error:
    6  the output could not be written
    7  out of memory
    8  the disk is of another store; nothing was written to it
-  10  the journal of the run is full: so far it takes 64 answers
+  10  the run has as many answers as --ops allows, and one more was due
   13  the input is too long
 ";

@@ -1,7 +1,6 @@
 use Rattle.std.proofs.Common.{◌≡◌, inl, inr, Some, None, Err, refl, sym, ap, subst, ◌∙◌, arith, ◌+◌, ◌++◌}
 use Rattle.hs_single.specs.declared.fault.SingleFault.{SingleFault}
 use Rattle.hs_single.specs.Serving.{IsServing}
-use Rattle.hs_top.specs.Headline.{run_limits}
 use Rattle.hs_top.specs.Opens.{viewed}
 use Rattle.hs_top.proofs.AnswerLemmas.{outside_disk}
 use Rattle.hs_top.proofs.BeginningLemmas.{began_with, begun_goes, begun_lasts, begun_lost, course_is, halted_by, lasts_lost, loss_cause, opened_is, places-count, shape_by, sink_by, taken_by, unwritten_by}
@@ -14,7 +13,7 @@ use Rattle.hs_top.proofs.opening.open_store.Goals as goal
 -- ---- it was not opened
 
 pub returns-in-NoMemory-clause-memory : goal.returns-in-NoMemory-clause-memory
-returns-in-NoMemory-clause-memory g c = λ told commands list is may e none. rw c.requires.journal (taken_lasts commands _ run_limits _ _ _ list may (listed-numbered (g.D.Disk.stands c.args.disk.now).seen list is) c.open.new.watch _ (c.open.ensures.any_moment told may.last))
+returns-in-NoMemory-clause-memory g c = λ told commands limits list is may e none. rw c.requires.journal (taken_lasts commands _ limits _ _ _ list may (listed-numbered (g.D.Disk.stands c.args.disk.now).seen list is) c.open.new.watch _ (c.open.ensures.any_moment told may.last))
 
 pub returns-in_default-clause-noted : goal.returns-in_default-clause-noted
 returns-in_default-clause-noted g c = λ told is. loss_cause c.in-Err.fault _ _ _ (c.in-Err.ensures.refused told) (λ disk. c.in-Err.ensures.cause.disk (ap Err disk)) c.in_default.not-NoMemory c.in_default.not-WrongShape
@@ -26,21 +25,21 @@ pub returns-in_default-clause-calm_halt : goal.returns-in_default-clause-calm_ha
 returns-in_default-clause-calm_halt g c = calm_lost c.lose.result _ _ _ _ _ _ _ c.lose.ensures.lost
 
 pub returns-in_default-clause-memory : goal.returns-in_default-clause-memory
-returns-in_default-clause-memory g c = λ told commands list is may e none. lasts_lost commands _ _ _ c.open.new.watch _ _ _ _ _ _ _ _ _ c.lose.result c.requires.journal refl c.lose.ensures.adds c.lose.ensures.lost (cc e)
-    (taken_lasts commands _ run_limits _ _ _ list may (listed-numbered (g.D.Disk.stands c.args.disk.now).seen list is) c.open.new.watch _ (c.open.ensures.any_moment told may.last))
+returns-in_default-clause-memory g c = λ told commands limits list is may e none. lasts_lost commands _ limits _ _ c.open.new.watch _ _ _ _ _ _ _ _ _ c.lose.result c.requires.journal refl c.lose.ensures.adds c.lose.ensures.lost (cc e)
+    (taken_lasts commands _ limits _ _ _ list may (listed-numbered (g.D.Disk.stands c.args.disk.now).seen list is) c.open.new.watch _ (c.open.ensures.any_moment told may.last))
 
 pub returns-in_err-told-clause-memory : goal.returns-in_err-told-clause-memory
-returns-in_err-told-clause-memory g c = λ told commands list is may e none. rw c.requires.journal (taken_lasts commands _ run_limits _ _ _ list may (listed-numbered (g.D.Disk.stands c.args.disk.now).seen list is) c.open.new.watch _ (c.open.ensures.any_moment told may.last))
+returns-in_err-told-clause-memory g c = λ told commands limits list is may e none. rw c.requires.journal (taken_lasts commands _ limits _ _ _ list may (listed-numbered (g.D.Disk.stands c.args.disk.now).seen list is) c.open.new.watch _ (c.open.ensures.any_moment told may.last))
 
 -- ---- its view was not begun
 
 pub returns-in-NoMemory-fault-clause-lasts : goal.returns-in-NoMemory-fault-clause-lasts
-returns-in-NoMemory-fault-clause-lasts g c = λ told commands list is may t.
+returns-in-NoMemory-fault-clause-lasts g c = λ told commands limits list is may t.
     let opened = c.in-Ok.ensures.value told in
     let leaves = c.open.ensures.any_moment told may.last in
     let lists = c.begin.ensures.any_moment told leaves.last (c.in-Ok.ensures.alone told) list (c.in-Ok.ensures.listed told list is) in
     let begun = course_is (g.A.Addresser.name c.args.naming.now) c.args.watch.now (g.D.Disk.stands c.args.disk.now) list is c.in-Ok.loaded opened _ _ _ c.in_ok-told.ensures c.now-moment.ensures.value c.last.ensures in
-    begun_lasts (g.A.Addresser.name c.args.naming.now) c.args.watch.now (g.D.Disk.stands c.args.disk.now) list is c.in-Ok.loaded opened commands _ may _ _ _ _ leaves lists _ _ begun c.requires.journal
+    begun_lasts (g.A.Addresser.name c.args.naming.now) c.args.watch.now (g.D.Disk.stands c.args.disk.now) list is c.in-Ok.loaded opened commands limits _ may _ _ _ _ leaves lists _ _ begun c.requires.journal
 
 pub returns-in_default-fault : goal.returns-in_default-fault
 returns-in_default-fault g c = record {
@@ -61,13 +60,13 @@ returns-in_default-fault g c = record {
       let begun = course_is (g.A.Addresser.name c.args.naming.now) c.args.watch.now (g.D.Disk.stands c.args.disk.now) opened.entries opened.listed c.in-Ok.loaded opened _ _ _ c.in_ok-told.ensures c.now-moment.ensures.value c.last.ensures in
       inr (taken_by (g.A.Addresser.name c.args.naming.now) c.args.watch.now (g.D.Disk.stands c.args.disk.now) opened.entries opened.listed c.in-Ok.loaded opened _ _ _ (c.lose_good.ensures.notes.course ∙ ap (λ items. items ++ c.lose_good.ensures.notes.noted) begun) c.lose_good.ensures.notes.here);
   prints = λ put. prints_lost _ c.begin.new.watch _ _ _ _ _ _ _ put refl c.requires.journal (omega (arith, c.open.ensures.ticks, c.begin.ensures.ticks)) c.lose_good.ensures.adds;
-  memory = λ told commands list is may e none. absurd (began_with _ _ _ _ _ c.lose_good.ensures.notes.course c.in_ok-told.ensures none);
-  lasts = λ told commands list is may t.
+  memory = λ told commands limits list is may e none. absurd (began_with _ _ _ _ _ c.lose_good.ensures.notes.course c.in_ok-told.ensures none);
+  lasts = λ told commands limits list is may t.
       let opened = c.in-Ok.ensures.value told in
       let leaves = c.open.ensures.any_moment told may.last in
       let lists = c.begin.ensures.any_moment told leaves.last (c.in-Ok.ensures.alone told) list (c.in-Ok.ensures.listed told list is) in
       let begun = course_is (g.A.Addresser.name c.args.naming.now) c.args.watch.now (g.D.Disk.stands c.args.disk.now) list is c.in-Ok.loaded opened _ _ _ c.in_ok-told.ensures c.now-moment.ensures.value c.last.ensures in
-      begun_lost (g.A.Addresser.name c.args.naming.now) c.args.watch.now (g.D.Disk.stands c.args.disk.now) list is c.in-Ok.loaded opened commands _ may _ _ _ _ leaves lists _ _ _ _ _ _ refl c.requires.journal begun c.lose_good.ensures.adds c.lose_good.ensures.notes;
+      begun_lost (g.A.Addresser.name c.args.naming.now) c.args.watch.now (g.D.Disk.stands c.args.disk.now) list is c.in-Ok.loaded opened commands limits _ may _ _ _ _ leaves lists _ _ _ _ _ _ refl c.requires.journal begun c.lose_good.ensures.adds c.lose_good.ensures.notes;
   line = c.lose_good.ensures.line;
   limit = c.lose_good.ensures.limit;
   ticks = omega (arith, c.open.ensures.ticks, c.begin.ensures.ticks, c.lose_good.ensures.adds.put.later);
@@ -79,12 +78,12 @@ returns-in_default-fault g c = record {
     none_is x e = cc e
 
 pub returns-in_err-note-clause-lasts : goal.returns-in_err-note-clause-lasts
-returns-in_err-note-clause-lasts g c = λ told commands list is may. an_err c.from_residual-in_err-note.result _ (λ t.
+returns-in_err-note-clause-lasts g c = λ told commands limits list is may. an_err c.from_residual-in_err-note.result _ (λ t.
     let opened = c.in-Ok.ensures.value told in
     let leaves = c.open.ensures.any_moment told may.last in
     let lists = c.begin.ensures.any_moment told leaves.last (c.in-Ok.ensures.alone told) list (c.in-Ok.ensures.listed told list is) in
     let begun = course_is (g.A.Addresser.name c.args.naming.now) c.args.watch.now (g.D.Disk.stands c.args.disk.now) list is c.in-Ok.loaded opened _ _ _ c.in_ok-told.ensures c.now-moment.ensures.value c.last.ensures in
-    begun_lasts (g.A.Addresser.name c.args.naming.now) c.args.watch.now (g.D.Disk.stands c.args.disk.now) list is c.in-Ok.loaded opened commands _ may _ _ _ _ leaves lists _ _ (c.in_err-note.ensures.none ∙ begun) (ap (λ journal. journal.entries) c.note.ensures.journal ∙ c.requires.journal))
+    begun_lasts (g.A.Addresser.name c.args.naming.now) c.args.watch.now (g.D.Disk.stands c.args.disk.now) list is c.in-Ok.loaded opened commands limits _ may _ _ _ _ leaves lists _ _ (c.in_err-note.ensures.none ∙ begun) (ap (λ journal. journal.entries) c.note.ensures.journal ∙ c.requires.journal))
 
 -- ---- it was opened
 
@@ -103,9 +102,9 @@ returns-clause-opened g c = λ told.
       serves = subst (λ side. IsServing (g.A.Addresser.name c.args.naming.now) c.begin.new.self ((g.D.Disk.stands c.begin.new.disk).seen side) (viewed opened.entries (c.in-Ok.loaded.view + 1))) (sym c.in-Ok-begin.ensures.side) serving;
       sessions = ap (λ plain. plain.sessions) c.begin.ensures.plain ∙ c.in-Ok.ensures.sessions;
       taken = course;
-      going = λ commands may.
+      going = λ commands limits may.
           let leaves = c.open.ensures.any_moment told may.last in
           let lists = c.begin.ensures.any_moment told leaves.last alone opened.entries has in
-          begun_goes (g.A.Addresser.name c.args.naming.now) c.args.watch.now (g.D.Disk.stands c.args.disk.now) opened.entries opened.listed c.in-Ok.loaded opened commands _ may _ _ _ _ leaves lists _ _
+          begun_goes (g.A.Addresser.name c.args.naming.now) c.args.watch.now (g.D.Disk.stands c.args.disk.now) opened.entries opened.listed c.in-Ok.loaded opened commands limits _ may _ _ _ _ leaves lists _ _
           (c.in-Ok-begin.ensures.alone told leaves.last alone) (c.in-Ok-begin.ensures.durable told leaves.last alone opened.entries has) lists.last course;
     }

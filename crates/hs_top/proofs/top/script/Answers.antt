@@ -13,16 +13,16 @@ pub returns-in-Err-clause-promises : goal.returns-in-Err-clause-promises
 returns-in-Err-clause-promises g c = λ told. if_any _ _ (λ text is.
     let e = c.in-Err.ensures in
     let zero = e.line ∙ c.new-told.ensures.line in
-    promises_as _ _ _ _ _ _ _ _ _ _ _ _ _ _ _ _ _ _ _ _ (c.outcome.ensures.status ∙ ap (status_of (Err c.in-Err.stop)) zero) (c.outcome.ensures.line ∙ zero) c.outcome.ensures.journal c.outcome.ensures.refused c.outcome.ensures.course
-    (promises_not text _ c.new-told.result c.open_store.new.told _ _ _ _ _ _ _ _ c.new-told.ensures.journal c.new-told.ensures.refused c.new-told.ensures.line (c.new-told.ensures.limit ∙ ap (λ limits. limits.ops) c.limits.ensures)
-    c.in-Err.stop e.halted (e.course told) e.prints (λ asks list listed may same none. e.memory told asks list listed may (ap Err same) none) (e.lasts told) (e.noted told) (e.shape told) (e.only_shape told) (e.unwritten told)))
+    promises_as _ _ _ _ _ _ _ _ _ _ _ _ _ _ _ _ _ _ _ _ _ (c.outcome.ensures.status ∙ ap (status_of (Err c.in-Err.stop)) zero) (c.outcome.ensures.line ∙ zero) c.outcome.ensures.journal c.outcome.ensures.refused c.outcome.ensures.course
+    (promises_not text _ c.args.limits c.new-told.result c.open_store.new.told _ _ _ _ _ _ _ _ c.new-told.ensures.journal c.new-told.ensures.refused c.new-told.ensures.line c.new-told.ensures.limit
+    c.in-Err.stop e.halted (e.course told) e.prints (λ asks limits list listed may same none. e.memory told asks limits list listed may (ap Err same) none) (e.lasts told) (e.noted told) (e.shape told) (e.only_shape told) (e.unwritten told)))
 
 pub returns-in-Err-clause-ends : goal.returns-in-Err-clause-ends
 returns-in-Err-clause-ends g c = if_any _ _ (λ text is.
     let e = c.in-Err.ensures in
     let zero = e.line ∙ c.new-told.ensures.line in
     ends_as text _ _ _ _ is (c.outcome.ensures.status ∙ ap (status_of (Err c.in-Err.stop)) zero) (c.outcome.ensures.line ∙ zero)
-    (ends_not text (g.A.Addresser.name c.args.naming.now) (empty_store 1) c.new-told.result c.open_store.new.told _ _ _ _ c.new-told.ensures.journal c.new-told.ensures.refused c.new-told.ensures.line (c.new-told.ensures.limit ∙ ap (λ limits. limits.ops) c.limits.ensures) c.in-Err.stop e.halted))
+    (ends_not text (g.A.Addresser.name c.args.naming.now) c.args.limits (empty_store 1) c.new-told.result c.open_store.new.told _ _ _ _ c.new-told.ensures.journal c.new-told.ensures.refused c.new-told.ensures.line c.new-told.ensures.limit c.in-Err.stop e.halted))
 
 pub returns-in-Err-clause-calm : goal.returns-in-Err-clause-calm
 returns-in-Err-clause-calm g c =
@@ -36,8 +36,8 @@ pub returns-clause-promises : goal.returns-clause-promises
 returns-clause-promises g c = λ told.
     let o = c.in-Ok.ensures in
     let s = c.serve-ended.ensures in
-    if_told _ _ _ (promises_served _ _ _ _ _ _ _ c.in-Ok.store _ _ _ _ _ _ _ _ _ _ _ c.serve-ended.result _ o.put (o.opened told) s.course o.later s.later (o.only_shape told) (s.fulfils told) (s.lasts told) (s.noted told) (s.said told) (s.untold told))
-    (λ text p. promises_as _ _ _ _ _ _ _ _ _ _ _ _ _ _ _ _ _ _ _ _ c.outcome-2.ensures.status c.outcome-2.ensures.line c.outcome-2.ensures.journal c.outcome-2.ensures.refused c.outcome-2.ensures.course p)
+    if_told _ _ _ (promises_served _ _ c.args.limits _ _ _ _ _ c.in-Ok.store _ _ _ _ _ _ _ _ _ _ _ c.serve-ended.result _ o.put (o.opened told) s.course o.later s.later (o.only_shape told) (s.fulfils told) (s.lasts told) (s.noted told) (s.said told) (s.untold told))
+    (λ text p. promises_as _ _ _ _ _ _ _ _ _ _ _ _ _ _ _ _ _ _ _ _ _ c.outcome-2.ensures.status c.outcome-2.ensures.line c.outcome-2.ensures.journal c.outcome-2.ensures.refused c.outcome-2.ensures.course p)
 
 pub returns-clause-calm : goal.returns-clause-calm
 returns-clause-calm g c = calm_as _ _ _ _ c.outcome-2.ensures.status (calm_end c.serve-ended.result _ _ _ _ c.in-Ok.ensures.calm c.serve-ended.ensures.calm)

@@ -1,4 +1,4 @@
-use Rattle.std.proofs.Common.{◌≡◌, ◌∙◌, ap, subst}
+use Rattle.std.proofs.Common.{◌≡◌, ◌≤◌, ◌∙◌, ap, arith, subst}
 use Rattle.hs_fold.specs.Prefix.{IsNumbered}
 use Rattle.hs_side.specs.Standing.{Kept}
 use Rattle.hs_single.specs.Images.{IsAlone}
@@ -11,13 +11,14 @@ use Rattle.hs_single.proofs.NumberedLemmas.{log-numbered}
 use Rattle.hs_single.proofs.single.Single.ask.Goals as goal
 
 pub returns-in-Err-clause-any_moment : goal.returns-in-Err-clause-any_moment
-returns-in-Err-clause-any_moment g c = λ told last alone name entries serves named low.
+returns-in-Err-clause-any_moment g c = λ told last alone name entries serves named.
     rw (c.judge.ensures.same told)
     (no-lists c.args.self.now.log.side entries _ last (g.met.D.Disk.since told c.args.disk.now) alone (has-list c.args.self.now.log.places _ entries serves.list))
 
 pub returns-in-Ok-log_deed-clause-answered : goal.returns-in-Ok-log_deed-clause-answered
-returns-in-Ok-log_deed-clause-answered g c = λ told name entries serves named low.
+returns-in-Ok-log_deed-clause-answered g c = λ told name entries serves named.
     let a = c.args in
+    let low : a.limits.blocks ≤ 16384 = omega (arith, c.requires.bounded) in
     let seen = (g.D.Disk.stands a.disk.now).seen a.self.now.log.side in
     let later = (g.D.Disk.stands c.log_deed.new.disk).seen a.self.now.log.side in
     let judged = c.in-Ok.ensures.answered told name entries serves in
@@ -30,8 +31,9 @@ returns-in-Ok-log_deed-clause-answered g c = λ told name entries serves named l
     answered name a.limits a.line a.op a.spelling.items a.self.now entries c.requires.served named c.requires.spelled low seen serves c.in-Ok.answer c.judge.new.self.plain c.log_deed.new.self later judged c.log_deed.ensures.plain numbers list numbered
 
 pub returns-in-Ok-log_deed-clause-any_moment : goal.returns-in-Ok-log_deed-clause-any_moment
-returns-in-Ok-log_deed-clause-any_moment g c = λ told last alone name entries serves named low.
+returns-in-Ok-log_deed-clause-any_moment g c = λ told last alone name entries serves named.
     let a = c.args in
+    let low : a.limits.blocks ≤ 16384 = omega (arith, c.requires.bounded) in
     let seen = (g.D.Disk.stands a.disk.now).seen a.self.now.log.side in
     let judged = c.in-Ok.ensures.answered told name entries serves in
     let moments = rw (c.judge.ensures.same told, c.judge.ensures.log, c.judge.ensures.numbers) at (c.log_deed.ensures.any_moment told) in
@@ -39,8 +41,9 @@ returns-in-Ok-log_deed-clause-any_moment g c = λ told last alone name entries s
     rw after at (moments last alone entries serves.list)
 
 pub returns-in-Err-log_deed-clause-any_moment : goal.returns-in-Err-log_deed-clause-any_moment
-returns-in-Err-log_deed-clause-any_moment g c = λ told last alone name entries serves named low.
+returns-in-Err-log_deed-clause-any_moment g c = λ told last alone name entries serves named.
     let a = c.args in
+    let low : a.limits.blocks ≤ 16384 = omega (arith, c.requires.bounded) in
     let seen = (g.D.Disk.stands a.disk.now).seen a.self.now.log.side in
     let judged = c.in-Ok.ensures.answered told name entries serves in
     let moments = rw (c.judge.ensures.same told, c.judge.ensures.log, c.judge.ensures.numbers) at (c.log_deed.ensures.any_moment told) in
@@ -48,8 +51,9 @@ returns-in-Err-log_deed-clause-any_moment g c = λ told last alone name entries 
     rw after at (moments last alone entries serves.list)
 
 pub returns-in-Ok-log_deed-clause-durable : goal.returns-in-Ok-log_deed-clause-durable
-returns-in-Ok-log_deed-clause-durable g c = λ told last alone name entries serves named low.
+returns-in-Ok-log_deed-clause-durable g c = λ told last alone name entries serves named.
     let a = c.args in
+    let low : a.limits.blocks ≤ 16384 = omega (arith, c.requires.bounded) in
     let seen = (g.D.Disk.stands a.disk.now).seen a.self.now.log.side in
     let disk = g.D.Disk.stands c.log_deed.new.disk in
     let judged = c.in-Ok.ensures.answered told name entries serves in
