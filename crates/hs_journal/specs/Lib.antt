@@ -1,3 +1,4 @@
 pub mod Told
 pub mod Events
 pub mod Order
+pub mod Notes
