@@ -4,6 +4,7 @@ use Rattle.std.specs.Prelude.{◌≡◌, ℕ, Bool, ◌&&◌, if◌then◌else�
 use Rattle.std.specs.List.{list_all}
 use Rattle.hs_limits.specs.declared.address.Address.{Address}
 use Rattle.hs_limits.specs.declared.limits.Limits.{Limits}
+use Rattle.hs_limits.specs.declared.spelling.TheConstants.{MOST_POINTERS, MOST_BYTES}
 use Rattle.hs_limits.specs.Block.{Block, spell}
 use Rattle.hs_model.specs.declared.command.Command.{Command}
 use Rattle.hs_model.specs.declared.command.Command.TheVariants as command
@@ -29,7 +30,7 @@ client_op other = None
 
 -- whether a write has a block: each handle is held, and the block is within its bounds
 abbrev pub has_block : Store → List ℕ → List ℕ → List ℕ → Bool
-has_block s name payload handles = (list_all (λ handle. is_some (held_at s name handle)) handles && nat_le (length handles) 64) && nat_le (length payload) 65536
+has_block s name payload handles = (list_all (λ handle. is_some (held_at s name handle)) handles && nat_le (length handles) MOST_POINTERS) && nat_le (length payload) MOST_BYTES
 
 -- the address that a naming gives for a block's spelling
 abbrev pub address_of : (List ℕ → Address) → Block → Address
