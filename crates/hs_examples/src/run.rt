@@ -1,5 +1,6 @@
 //! A run over ports in memory, which tell all.
 ghost use Rattle.std.specs.Prelude.{◌≡◌, ◌∷◌, [], codes, map, string_bytes, IfOk, OnErr, Some};
+ghost use Rattle.hs_limits.specs.Limits.{greatest_limits};
 ghost use Rattle.hs_ports.specs.Memory.{faults_of, stands_of};
 ghost use Rattle.hs_script.specs.Reading.{commands};
 ghost use Rattle.hs_top.specs.Promise.{MayStop, Promises};
@@ -20,6 +21,7 @@ pub struct Ran {
 /// Runs the script of a source, with the words `script d 1 1`, over a disk and a sink in memory.
 /// These ports tell all, so what is promised of a run stands here without a premise. An error is
 /// want of memory before the run: nothing was read or put, and the disk is given up.
+#[tactic(auto, unfolding(hs_top::specs::Words::limits_by))]
 pub fn run_in_memory<A: Addresser>(
     alloc: Global,
     naming: &A,
@@ -29,7 +31,7 @@ pub fn run_in_memory<A: Addresser>(
     watch: &mut Watch,
 ) -> Result<Ran, AllocError>
     ensures promises { IfOk result (λ ran. Promises (commands source.old.left)
-        (A.name naming.now) ran.outcome.status ran.outcome.line ran.outcome.journal.entries
+        (A.name naming.now) greatest_limits ran.outcome.status ran.outcome.line ran.outcome.journal.entries
         ran.outcome.refused ran.outcome.course watch.old watch.new (stands_of disk ∷ [])
         (stands_of ran.disk ∷ []) (faults_of disk ∷ []) (faults_of ran.disk ∷ [])
         (Some sink.old.got) (Some sink.new.got)) }

@@ -2,9 +2,11 @@
 //! docs/FORMATS.md.
 use crate::harness::{MISSION, Trial, disk_of, plain, run};
 use hs_block::{ShaNames, TailNames};
+use hs_journal::Who;
 use hs_ports::{ListSink, ListSource, Watch};
 use hs_side::Header;
-use hs_top::{Status, fault_line, hydra, shape_of};
+use hs_top::{Outcome, Status, fault_line, hydra, limits_of, shape_of};
+use std::alloc::AllocError;
 use std::test::Fail;
 
 const OTHER: Header = Header {
@@ -133,17 +135,79 @@ fn failing_ports_have_their_status(rt: HostRuntime) -> Result<(), Fail> {
     Ok(())
 }
 
-#[test]
-fn the_journal_takes_64_entries(rt: HostRuntime) -> Result<(), Fail> {
-    let mut script = Vec::new(rt.alloc());
-    for _ in 0..65 {
-        script.extend_from_slice(b"open a\n".as_slice())?;
+/// What a run with these words, parted by spaces, prints of a script, and how it ends.
+fn run_by_words(
+    rt: &HostRuntime,
+    text: &str,
+    script: &[u8],
+) -> Result<(Vec<u8>, Outcome), AllocError> {
+    let alloc = rt.alloc();
+    let mut words = Vec::new(alloc);
+    for word in text.split(' ') {
+        words.push(String::from_str(alloc, word)?)?;
     }
-    let seen = run(rt.alloc(), &ShaNames, &plain(script.as_slice()))?;
-    assert_eq!(rt; seen.outcome.status, Status::OpsFull);
-    assert_eq!(rt; seen.outcome.journal.entries().len(), 64);
-    assert_eq!(rt; seen.outcome.refused.len(), 1);
-    assert_eq!(rt; seen.outcome.line, 65);
+    let mut source = ListSource::new(alloc, Vec::from_slice(alloc, script)?, Vec::new(alloc));
+    let mut sink = ListSink::new(alloc, Vec::new(alloc));
+    let mut disks = vec![in alloc; disk_of(alloc, &[], &[])?]?;
+    let mut watch = Watch::new();
+    let outcome = hydra(
+        alloc,
+        rt,
+        words.as_slice(),
+        &ShaNames,
+        &mut source,
+        &mut sink,
+        &mut disks,
+        &mut watch,
+    );
+    Ok((Vec::from_slice(alloc, sink.bytes())?, outcome))
+}
+
+#[test]
+fn options_lower_the_limits(rt: HostRuntime) -> Result<(), Fail> {
+    for (options, script, text, status) in [
+        (
+            "--ops 3",
+            "open a\nopen b\nopen c\nopen d",
+            "1 ok\n2 ok\n3 ok\n",
+            Status::OpsFull,
+        ),
+        (
+            "--sessions 1",
+            "open a\nopen b\n",
+            "1 ok\n2 no sessionsfull 1\n",
+            Status::Done,
+        ),
+        (
+            "--handles 1 --blocks 1",
+            "open a\nwrite a 61\nwrite a 62\n",
+            "1 ok\n2 new h0 e1\n3 no handlesfull 1\n",
+            Status::Done,
+        ),
+        (
+            "--blocks 1 --roots 4096",
+            "open a\nwrite a 61\nwrite a 62\n",
+            "1 ok\n2 new h0 e1\n3 no shardfull 1\n",
+            Status::Done,
+        ),
+    ] {
+        let words = format!(in rt.alloc(); "script d 1 1 {options}")?;
+        let (found, outcome) = run_by_words(&rt, words.as_str(), script.as_bytes())?;
+        assert_eq!(rt; found.as_slice(), text.as_bytes(), "{options}");
+        assert_eq!(rt; outcome.status, status, "{options}");
+    }
+    Ok(())
+}
+
+#[test]
+fn a_full_journal_tells_what_it_refused(rt: HostRuntime) -> Result<(), Fail> {
+    let script = b"open a\nopen b\nsettle\nopen c\n".as_slice();
+    let (text, outcome) = run_by_words(&rt, "script d 1 1 --ops 2", script)?;
+    assert_eq!(rt; text.as_slice(), b"1 ok\n2 ok\n".as_slice());
+    assert_eq!(rt; outcome.journal.entries().len(), 2);
+    assert_eq!(rt; outcome.refused.len(), 1);
+    assert_eq!(rt; outcome.refused[0].who, Who::Line(4));
+    assert_eq!(rt; outcome.line, 4);
     Ok(())
 }
 
@@ -155,7 +219,16 @@ fn words_outside_the_language_are_a_faulty_command_line(rt: HostRuntime) -> Resu
         ("script d 3 1", false),
         ("script d 1 01", false),
         ("script d 1", false),
-        ("script d 1 1 --ops 3", false),
+        ("script d 1 1 --ops 3", true),
+        ("script d 1 1 --ops 1048576 --handles 4096", true),
+        ("script d 1 1 --ops 1048577", false),
+        ("script d 1 1 --ops 3 --ops 3", false),
+        ("script d 1 1 --ops", false),
+        ("script d 1 1 --ops 0", false),
+        ("script d 1 1 --ops +3", false),
+        ("script d 1 1 --ops=3", false),
+        ("script d 1 1 --pool 16", false),
+        ("script --ops 3 d 1 1", false),
         ("audit d 1 1", false),
         ("load d 1 1", false),
         ("", false),
@@ -165,20 +238,8 @@ fn words_outside_the_language_are_a_faulty_command_line(rt: HostRuntime) -> Resu
             words.push(String::from_str(rt.alloc(), word)?)?;
         }
         assert_eq!(rt; shape_of(words.as_slice()).is_some(), fits, "{text}");
-        let mut source = ListSource::new(rt.alloc(), Vec::new(rt.alloc()), Vec::new(rt.alloc()));
-        let mut sink = ListSink::new(rt.alloc(), Vec::new(rt.alloc()));
-        let mut disks = vec![in rt.alloc(); disk_of(rt.alloc(), &[], &[])?]?;
-        let mut watch = Watch::new();
-        let outcome = hydra(
-            rt.alloc(),
-            &rt,
-            words.as_slice(),
-            &ShaNames,
-            &mut source,
-            &mut sink,
-            &mut disks,
-            &mut watch,
-        );
+        assert_eq!(rt; limits_of(words.as_slice()).is_some(), fits, "{text}");
+        let (_, outcome) = run_by_words(&rt, text, &[])?;
         let want = if fits { Status::Done } else { Status::Usage };
         assert_eq!(rt; outcome.status, want, "{text}");
     }
