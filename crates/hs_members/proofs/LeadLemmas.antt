@@ -7,12 +7,12 @@ use Rattle.std.specs.Option.{IfSome, MatchOption, option_map}
 use Rattle.hs_limits.specs.declared.limits.PeerStatus.{PeerStatus}
 use Rattle.hs_limits.specs.declared.limits.PeerStatus.TheVariants.{Good, Joining, Down}
 use Rattle.hs_limits.specs.Shape.{peer_of}
-use Rattle.hs_members.specs.Members.{Members, IsLead, good_lengths, has_good, is_good, lead_by, longer, longest, status}
+use Rattle.hs_members.specs.Members.{Members, IsLead, good_lengths, has_good, is_good_status, lead_by, longer, longest, status}
 
 -- the good peers from this copy on, with the lengths of their lists
 abbrev pub good_from : ℕ → List ℕ → Members → ℕ → List (ℕ × ℕ)
 good_from shard lengths m copy =
-    filter (λ x. is_good (status x.0 m)) (enumerate_from (peer_of m.shape shard copy) (drop copy lengths))
+    filter (λ x. is_good_status (status x.0 m)) (enumerate_from (peer_of m.shape shard copy) (drop copy lengths))
 
 -- those of the peers from n on that pass the test, with their lengths
 abbrev pub passing : (ℕ → Bool) → ℕ → List ℕ → List (ℕ × ℕ)
@@ -107,27 +107,27 @@ longest_is_judged p n (x ∷ xs) = go (p n) refl (longest_is_judged p (n + 1) xs
     go true e h = rw e (added p n x xs _ e h)
     go false e h = rw e (skipped p n x xs _ e h)
 
-is_good_only : (s : PeerStatus) → is_good s ≡ true → s ≡ Good
-is_good_only Good e = refl
-is_good_only Joining e = cc
-is_good_only Down e = cc
+good_only : (s : PeerStatus) → is_good_status s ≡ true → s ≡ Good
+good_only Good e = refl
+good_only Joining e = cc
+good_only Down e = cc
 
 -- the lead has the longest list
 pub lead_is_lead : (shard : ℕ) (lengths : List ℕ) (m : Members) (best : ℕ × ℕ) → length lengths ≡ m.shape.copies → longest (good_lengths shard lengths m) ≡ Some best → IsLead shard lengths m best.0
 lead_is_lead shard lengths m best l e =
-    let h : IsBest (λ peer. is_good (status peer m)) (peer_of m.shape shard 0) lengths best = rw e at (longest_is_judged (λ peer. is_good (status peer m)) (peer_of m.shape shard 0) lengths) in
+    let h : IsBest (λ peer. is_good_status (status peer m)) (peer_of m.shape shard 0) lengths best = rw e at (longest_is_judged (λ peer. is_good_status (status peer m)) (peer_of m.shape shard 0) lengths) in
     record {
       copy = h.place;
       home = (omega (arith, h.within), omega (arith, h.number));
-      good = is_good_only _ h.passes;
-      longest = λ other within good. omega (arith, h.long, h.longest other (peer_of m.shape shard other) (omega arith) (omega arith) (ap is_good good));
-      lowest = λ other below good. omega (arith, h.long, h.lowest other (peer_of m.shape shard other) (omega arith) (omega arith) (ap is_good good));
+      good = good_only _ h.passes;
+      longest = λ other within good. omega (arith, h.long, h.longest other (peer_of m.shape shard other) (omega arith) (omega arith) (ap is_good_status good));
+      lowest = λ other below good. omega (arith, h.long, h.lowest other (peer_of m.shape shard other) (omega arith) (omega arith) (ap is_good_status good));
     }
 
 -- it is there where a peer is good
 pub lead_is_found : (shard : ℕ) (lengths : List ℕ) (m : Members) → length lengths ≡ m.shape.copies → is_some (longest (good_lengths shard lengths m)) ≡ has_good shard m
 lead_is_found shard lengths m l =
-    found_where_any (λ peer. is_good (status peer m)) (peer_of m.shape shard 0) lengths ∙ ap (λ n. list_any (λ peer. is_good (status peer m)) (range_with_len (peer_of m.shape shard 0) n)) l
+    found_where_any (λ peer. is_good_status (status peer m)) (peer_of m.shape shard 0) lengths ∙ ap (λ n. list_any (λ peer. is_good_status (status peer m)) (range_with_len (peer_of m.shape shard 0) n)) l
 
 -- what `lead_by` gives is the lead, and is there where a peer is good
 pub lead_by_found : (shard : ℕ) (lengths : List ℕ) (m : Members) (lead : Option ℕ) → length lengths ≡ m.shape.copies → lead ≡ lead_by shard lengths m → is_some lead ≡ has_good shard m

@@ -21,10 +21,10 @@ pub record IsMembers (m : Members) : Type 0 where
 
 -- ---- peers and shards
 
-abbrev pub is_good : PeerStatus → Bool
-is_good Good = true
-is_good Joining = false
-is_good Down = false
+abbrev pub is_good_status : PeerStatus → Bool
+is_good_status Good = true
+is_good_status Joining = false
+is_good_status Down = false
 
 abbrev pub is_joining : PeerStatus → Bool
 is_joining Good = false
@@ -72,7 +72,7 @@ members_at shape views good = record {
 
 -- whether a new status makes a peer good that was not, or the other way round
 abbrev pub changes_good : PeerStatus → PeerStatus → Bool
-changes_good old new = if is_good new then not (is_good old) else is_good old
+changes_good old new = if is_good_status new then not (is_good_status old) else is_good_status old
 
 -- another status; the view of the peer's shard rises by one where the shard's good peers change
 abbrev pub become : ℕ → PeerStatus → Members → Members
@@ -85,7 +85,7 @@ become peer new m =
 
 -- whether a shard has a good peer
 abbrev pub has_good : ℕ → Members → Bool
-has_good shard m = list_any (λ peer. is_good (status peer m)) (peers_of m.shape shard)
+has_good shard m = list_any (λ peer. is_good_status (status peer m)) (peers_of m.shape shard)
 
 -- ---- the lead
 
@@ -101,7 +101,7 @@ longest (x ∷ xs) = Some (longer x (longest xs))
 
 -- the good peers of a shard with the lengths of their lists, where these are the lengths at its copies, in order
 abbrev pub good_lengths : ℕ → List ℕ → Members → List (ℕ × ℕ)
-good_lengths shard lengths m = filter (λ x. is_good (status x.0 m)) (enumerate_from (peer_of m.shape shard 0) lengths)
+good_lengths shard lengths m = filter (λ x. is_good_status (status x.0 m)) (enumerate_from (peer_of m.shape shard 0) lengths)
 
 -- the lead of a shard: its good peer with the longest list, of equals the lowest
 abbrev pub lead_by : ℕ → List ℕ → Members → Option ℕ

@@ -3,7 +3,7 @@ ghost use Rattle.std.specs.Prelude.{◌≡◌, ◌≢◌, ◌*◌, ◌<◌, ◌^
 ghost use Rattle.hs_limits.specs.declared.limits.PeerStatus.TheVariants as is;
 ghost use Rattle.hs_limits.specs.Shape.{IsShape};
 ghost use Rattle.hs_members.specs.declared.fault.MemberFault.TheVariants as fault;
-ghost use Rattle.hs_members.specs.Members.{IsLead, IsMembers, IsPeer, IsShard, become, has_good, home_of, is_down, is_good, lead_by, longer, members_at, status, view_of};
+ghost use Rattle.hs_members.specs.Members.{IsLead, IsMembers, IsPeer, IsShard, become, has_good, home_of, is_down, is_good_status, lead_by, longer, members_at, status, view_of};
 
 use crate::MemberFault;
 use hs_limits::{PeerStatus, Shape, peer_of};
@@ -173,7 +173,7 @@ impl Members {
 
     fn is_good(&self, peer: u8) -> bool
         requires { IsPeer self.now.shape peer }
-        ensures { result ≡ is_good (status peer self.now) }
+        ensures { result ≡ is_good_status (status peer self.now) }
     {
         self.status(peer) == PeerStatus::Good
     }
