@@ -3,7 +3,7 @@ use Rattle.std.proofs.Common.{◌≡◌, ℕ, ◌+◌, ◌-◌, ◌*◌, ◌<◌
 use Rattle.std.specs.List.{fold}
 use Rattle.std.proofs.lemmas.List.Sums.{fold_more, fold-append}
 use Rattle.std.proofs.lemmas.List.{take-append-drop}
-use Rattle.hs_script.specs.Reading.{value_of}
+use Rattle.hs_script.specs.Parts.{value_of}
 
 -- one digit more
 pub value_more : (digits : List ℕ) (i d : ℕ) → i < length digits → value_of (take (i + 1) digits) ≡ value_of (take i digits) * 10 + (get_or digits i d - 48)

@@ -1,12 +1,13 @@
 -- The words of a line.
-use Rattle.std.proofs.Common.{◌≡◌, ℕ, ◌+◌, ◌-◌, ◌<◌, ◌≤◌, ◌==◌, suc, Bool, true, false, not, cond, nat_lt, List, [], ◌∷◌, Some, None, length, take, drop, refl, sym, ap, ◌∙◌, arith}
-use Rattle.std.specs.List.{slice_split, onto_first, position, position_or_len}
-use Rattle.std.proofs.lemmas.Bool.Decides.{nat_tests}
-use Rattle.std.proofs.lemmas.List.{take_all, length-drop}
-use Rattle.std.proofs.lemmas.Option.{cond_some}
+use Rattle.std.proofs.Common.{◌≡◌, ℕ, ◌+◌, ◌<◌, ◌≤◌, ◌==◌, suc, Bool, true, false, not, cond, List, [], ◌∷◌, Some, None, length, take, drop, slice_index, refl, sym, ap, ◌∙◌, arith}
+use Rattle.std.specs.List.{slice_split, onto_first, position_or_len}
+use Rattle.std.proofs.lemmas.List.{drop_more}
+use Rattle.std.proofs.lemmas.List.Sums.{position_or_len_is}
 use Rattle.std.proofs.lemmas.List.Splits.{slice_split_first}
+use Rattle.memchr.specs.Find.{IsFirstByte, is_byte}
+use Rattle.hs_script.specs.Giving.{more_words}
 use Rattle.hs_script.specs.Lines.{words_of, before_first as before_piece}
-use Rattle.hs_script.specs.Reading.{command_of, bad}
+use Rattle.hs_script.specs.Reading.{no_word, only}
 
 -- a byte before pieces, in std's words
 before_onto : (byte : ℕ) (pieces : List (List ℕ)) → before_piece byte pieces ≡ onto_first byte pieces
@@ -35,24 +36,31 @@ first_word line h =
     let p : ℕ = position_or_len (λ byte. byte == 32) line in
     words_split line ∙ slice_split_first (λ byte. byte == 32) line 0 h ∙ ap (λ ws. take p line ∷ ws) (sym (words_split (drop (p + 1) line)))
 
--- where a place is found and where not
-unparted : (place len : ℕ) → cond (nat_lt place len) (Some place) None ≡ None → len ≤ place
-unparted place len e = grind (arith, nat_tests)
+-- a test that does not pass fails
+fails : (b : Bool) → (b ≡ true → ⊥) → b ≡ false
+fails true h = absurd (h refl)
+fails false h = refl
 
-parted : (place len end : ℕ) → cond (nat_lt place len) (Some place) None ≡ Some end → (place < len) × (place ≡ end)
-parted place len end e =
-    let found = cond_some (nat_lt place len) place end e in
-    (grind (arith, nat_tests), found.1)
+-- the place of the first space, or the line's length
+place_none : (line : List ℕ) → IsFirstByte (is_byte 32) line None → position_or_len (λ byte. byte == 32) line ≡ length line
+place_none line none =
+    position_or_len_is (λ byte. byte == 32) line (length line) 0 (omega arith) (λ k below. fails (slice_index line k == 32) (none k (omega arith) below)) (λ past. absurd (omega (arith, past)))
+
+place_found : (line : List ℕ) (end : ℕ) → IsFirstByte (is_byte 32) line (Some end) → position_or_len (λ byte. byte == 32) line ≡ end
+place_found line end found =
+    position_or_len_is (λ byte. byte == 32) line end 0 (omega (arith, found.0.high)) (λ k below. fails (slice_index line k == 32) (found.0.before k (omega arith) below)) (λ within. found.1)
 
 -- the words where no space is found, and where one is
-pub words_unparted : (line : List ℕ) → position (λ byte. byte == 32) line ≡ None → words_of line ≡ line ∷ []
-words_unparted line e = one_word line (unparted (position_or_len (λ byte. byte == 32) line) (length line) e)
+pub words_unparted : (line : List ℕ) → IsFirstByte (is_byte 32) line None → words_of line ≡ line ∷ []
+words_unparted line none = one_word line (omega (arith, place_none line none))
 
-pub words_parted : (line : List ℕ) (end : ℕ) → position (λ byte. byte == 32) line ≡ Some end → words_of line ≡ take end line ∷ words_of (take (length line - (end + 1)) (drop (end + 1) line))
-words_parted line end e =
-    let found = parted (position_or_len (λ byte. byte == 32) line) (length line) end e in
-    let rest = take_all (length line - (end + 1)) (drop (end + 1) line) (omega (arith, length-drop (end + 1) line)) in
-    rw rest (rw found.1 at (first_word line found.0))
+pub words_parted : (line : List ℕ) (end : ℕ) → IsFirstByte (is_byte 32) line (Some end) → words_of line ≡ take end line ∷ more_words (drop end line)
+words_parted line end found =
+    let place = place_found line end found in
+    let rest = drop_more line end 0 found.0.high in
+    rw rest (rw place at (first_word line (omega (arith, place, found.0.high))))
+
+-- ---- words behind a word
 
 -- a byte before pieces leaves a piece
 before_some : (byte : ℕ) (pieces : List (List ℕ)) → before_piece byte pieces ≡ [] → ⊥
@@ -69,11 +77,22 @@ words_some (byte ∷ line) h = some_of (byte == 32) h
     some_of true h = cc h
     some_of false h = before_some byte (words_of line) h
 
--- a line of more than three words is bad
-bad_by : (first second third : List ℕ) (more : List (List ℕ)) → (more ≡ [] → ⊥) → command_of (first ∷ second ∷ third ∷ more) ≡ bad
-unfolding command_of
-bad_by first second third [] some = absurd (some refl)
-bad_by first second third (word ∷ more) some = refl
+-- what stands behind a word has a word, where it is something
+more_some : (rest : List ℕ) → 0 < length rest → more_words rest ≡ [] → ⊥
+more_some [] some h = absurd (omega arith)
+more_some (space ∷ line) some h = words_some line h
 
-pub four_words : (first second third rest : List ℕ) → command_of (first ∷ second ∷ third ∷ words_of rest) ≡ bad
-four_words first second third rest = bad_by first second third (words_of rest) (words_some rest)
+no_word_some : (words : List (List ℕ)) → (words ≡ [] → ⊥) → no_word words ≡ None
+no_word_some [] some = absurd (some refl)
+no_word_some (word ∷ words) some = refl
+
+pub no_word_more : (rest : List ℕ) → 0 < length rest → no_word (more_words rest) ≡ None
+no_word_more rest some = no_word_some (more_words rest) (more_some rest some)
+
+-- a word and others are not one alone
+only_some : (word : List ℕ) (words : List (List ℕ)) → (words ≡ [] → ⊥) → only (λ (w : List ℕ). Some w) (word ∷ words) ≡ None
+only_some word [] some = absurd (some refl)
+only_some word (next ∷ words) some = refl
+
+pub only_more : (words : List (List ℕ)) (word rest : List ℕ) → words ≡ word ∷ more_words rest → 0 < length rest → None ≡ only (λ (w : List ℕ). Some w) words
+only_more words word rest e some = rw e (sym (only_some word (more_words rest) (more_some rest some)))

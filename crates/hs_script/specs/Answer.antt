@@ -1,16 +1,9 @@
 -- What the reader answers.
-use Rattle.std.specs.Prelude.{◌≡◌, ℕ, List, [], Option, Some, None, Result, Ok, Err}
+use Rattle.std.specs.Prelude.{◌≡◌, Option, Some, None, Result, Ok, Err}
 use Rattle.hs_model.specs.declared.command.Command.{Command}
 use Rattle.hs_script.specs.declared.fault.ScriptFault.{ScriptFault}
 use Rattle.hs_script.specs.declared.fault.ScriptFault.TheVariants.{BadLine, NoMemory}
-use Rattle.hs_script.specs.Built.{IsBuiltCommand}
-use Rattle.hs_script.specs.Lines.{words_of}
 use Rattle.hs_script.specs.Reading.{Reading, bad, blank, says}
-
--- the words behind the first
-abbrev pub more_words : Option (List ℕ) → List (List ℕ)
-more_words None = []
-more_words (Some rest) = words_of rest
 
 -- the line says a command
 abbrev pub IsSaid : Reading → Type 0
@@ -23,13 +16,13 @@ abbrev pub IsFaultOf : ScriptFault → Reading → Type 0
 IsFaultOf BadLine reading = reading ≡ bad
 IsFaultOf NoMemory reading = IsSaid reading
 
--- a command that is read is the one that is said, of the lines that are built
+-- a command that is read is the one that is said
 abbrev pub ReadsCommand : Result Command ScriptFault → Reading → Type 0
-ReadsCommand (Ok c) reading = (reading ≡ says c) × IsBuiltCommand c
+ReadsCommand (Ok c) reading = reading ≡ says c
 ReadsCommand (Err fault) reading = IsFaultOf fault reading
 
 -- so for a whole line, which may say nothing
 abbrev pub Reads : Result (Option Command) ScriptFault → Reading → Type 0
 Reads (Ok None) reading = reading ≡ blank
-Reads (Ok (Some c)) reading = ReadsCommand (Ok c) reading
+Reads (Ok (Some c)) reading = reading ≡ says c
 Reads (Err fault) reading = IsFaultOf fault reading

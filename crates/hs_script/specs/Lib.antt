@@ -1,7 +1,8 @@
 pub mod Lines
+pub mod Parts
 pub mod Reading
 pub mod Text
-pub mod Refusal
-pub mod Built
+pub mod Replies
+pub mod Giving
 pub mod Answer
 pub use Rattle.hex.specs.Hex

@@ -1,13 +1,12 @@
 -- What a line of a script says.
-use Rattle.std.specs.Prelude.{ℕ, ◌+◌, ◌-◌, ◌*◌, Bool, false, not, ◌==◌, ◌&&◌, if◌then◌else◌, List, [], ◌∷◌, length, Option, Some, None, bytes_eq, codes, fold, nat_le, nat_lt}
-use Rattle.std.specs.List.{list_all}
-use Rattle.std.specs.Result.{result_ok}
-use Rattle.hex.specs.Hex.{decode_of}
-use Rattle.hs_limits.specs.Name.{is_name}
+use Rattle.std.specs.Prelude.{ℕ, ◌==◌, if◌then◌else◌, List, [], ◌∷◌, length, Option, Some, None, bytes_eq, codes, nat_lt}
+use Rattle.std.specs.Option.{option_zip}
 use Rattle.hs_model.specs.declared.command.Command.{Command}
 use Rattle.hs_model.specs.declared.command.Command.TheVariants as command
 use Rattle.hs_model.specs.declared.op.Op.TheVariants as op
+use Rattle.hs_script.specs.declared.read.TheConstants.{LONGEST_LINE}
 use Rattle.hs_script.specs.Lines.{lines_of, line_at, words_of}
+use Rattle.hs_script.specs.Parts.{name_of, key_of, peer_number, message_number, handle_of, handles_of, payload_of}
 
 -- a line is outside the language, or blank or a comment, or says a command
 pub data Reading : Type 0 where
@@ -15,86 +14,75 @@ pub data Reading : Type 0 where
   blank : Reading
   says : Command → Reading
 
--- what a word gives where it gives something, and a bad line where it does not
+-- the command of what some words give, and a bad line where they give nothing
 abbrev pub says_by : {A : Type 0} → (A → Command) → Option A → Reading
 says_by f None = bad
 says_by f (Some x) = says (f x)
 
--- ---- numbers
+-- ---- the words behind a verb
 
--- one of 0-9
-abbrev pub is_digit : ℕ → Bool
-is_digit b = nat_le 48 b && nat_le b 57
+-- there are none
+abbrev pub no_word : List (List ℕ) → Option (Unit {0})
+no_word [] = Some tt
+no_word words = None
 
--- whether the first digit is a zero before others
-abbrev pub has_leading_zero : List ℕ → Bool
-has_leading_zero (first ∷ second ∷ rest) = first == 48
-has_leading_zero other = false
+-- there is one, and it gives this
+abbrev pub only : {A : Type 0} → (List ℕ → Option A) → List (List ℕ) → Option A
+only part (word ∷ []) = part word
+only part words = None
 
--- the value of decimal digits
-abbrev pub value_of : List ℕ → ℕ
-value_of digits = fold (λ n d. n * 10 + (d - 48)) 0 digits
+-- the first gives this, and those behind it give that
+abbrev pub leading : {A B : Type 0} → (List ℕ → Option A) → (List (List ℕ) → Option B) → List (List ℕ) → Option (A × B)
+leading part parts [] = None
+leading part parts (word ∷ words) = option_zip (part word) (parts words)
 
--- a decimal number below a limit: digits without a sign or a leading zero
-unfoldable pub number_below : ℕ → List ℕ → Option ℕ
-number_below limit digits =
-    if ((not (length digits == 0) && list_all is_digit digits) && not (has_leading_zero digits)) && nat_lt (value_of digits) limit then Some (value_of digits) else None
+-- ---- the table of lines: each verb, and what the words behind it say
 
--- a handle: the letter h and a number below 2^32
-abbrev pub handle_of : List ℕ → Option ℕ
-handle_of [] = None
-handle_of (letter ∷ digits) = if letter == 104 then number_below 4294967296 digits else None
+-- the lines that drive the store
+unfoldable pub driving_line : List ℕ → List (List ℕ) → Reading
+driving_line verb words =
+    if bytes_eq verb (codes "settle") then says_by (λ none. command.Settle) (no_word words)
+    else if bytes_eq verb (codes "turn") then says_by (λ peer. command.Turn peer) (only peer_number words)
+    else if bytes_eq verb (codes "nudge") then says_by (λ peer. command.Nudge peer) (only peer_number words)
+    else if bytes_eq verb (codes "deliver") then says_by (λ k. command.Deliver k) (only message_number words)
+    else if bytes_eq verb (codes "lose") then says_by (λ k. command.Lose k) (only message_number words)
+    else if bytes_eq verb (codes "repeat") then says_by (λ k. command.Repeat k) (only message_number words)
+    else if bytes_eq verb (codes "fail") then says_by (λ peer. command.Fail peer) (only peer_number words)
+    else if bytes_eq verb (codes "start") then says_by (λ peer. command.Start peer) (only peer_number words)
+    else if bytes_eq verb (codes "reclaim") then says_by (λ peer. command.Reclaim peer) (only peer_number words)
+    else bad
 
--- ---- data
+-- the lines on which a client asks, and then the others
+unfoldable pub line_of : List ℕ → List (List ℕ) → Reading
+line_of verb words =
+    if bytes_eq verb (codes "open") then says_by (λ s. command.Client (op.Open s)) (only name_of words)
+    else if bytes_eq verb (codes "close") then says_by (λ s. command.Client (op.Close s)) (only name_of words)
+    else if bytes_eq verb (codes "write") then says_by (λ p. command.Client (op.Write p.0 p.1.0 p.1.1 None)) (leading name_of (leading payload_of handles_of) words)
+    else if bytes_eq verb (codes "read") then says_by (λ p. command.Client (op.Read p.0 p.1)) (leading name_of (only handle_of) words)
+    else if bytes_eq verb (codes "look") then says_by (λ p. command.Client (op.Look p.0 p.1)) (leading name_of (only key_of) words)
+    else if bytes_eq verb (codes "root") then says_by (λ p. command.Client (op.Root p.0 p.1.0 p.1.1)) (leading name_of (leading key_of (only handle_of)) words)
+    else if bytes_eq verb (codes "drop") then says_by (λ key. command.Client (op.Drop key)) (only key_of words)
+    else if bytes_eq verb (codes "forget") then says_by (λ p. command.Client (op.Forget p.0 p.1)) (leading name_of (only handle_of) words)
+    else if bytes_eq verb (codes "name") then says_by (λ p. command.Client (op.Name p.0 p.1)) (leading name_of (only handle_of) words)
+    else if bytes_eq verb (codes "delete") then says_by (λ none. command.Client op.Delete) (no_word words)
+    else if bytes_eq verb (codes "stat") then says_by (λ none. command.Client op.Stat) (no_word words)
+    else driving_line verb words
 
--- hexadecimal digits of either case, two for each byte
-abbrev pub decoded : List ℕ → Option (List ℕ)
-decoded text = if length text == 0 then None else result_ok (decode_of text)
+-- the command of a line's words: its verb is the first
+abbrev pub command_of : List (List ℕ) → Reading
+command_of [] = bad
+command_of (verb ∷ words) = line_of verb words
 
--- the data of a write: a dash for none, or digits for 1 to 65,536 bytes
-abbrev pub within_bound : Option (List ℕ) → Option (List ℕ)
-within_bound None = None
-within_bound (Some payload) = if nat_le (length payload) 65536 then Some payload else None
-
-abbrev pub payload_of : List ℕ → Option (List ℕ)
-payload_of text = if bytes_eq text (codes "-") then Some [] else within_bound (decoded text)
-
--- ---- commands
-
--- the name of a session
-abbrev pub name_of : List ℕ → Option (List ℕ)
-name_of word = if is_name word then Some word else None
-
--- `open S`
-abbrev pub open_line : List ℕ → Reading
-open_line s = says_by (λ name. command.Client (op.Open name)) (name_of s)
-
--- `write S HEX`
-abbrev pub write_line : Option (List ℕ) → Option (List ℕ) → Reading
-write_line None payload = bad
-write_line (Some name) payload = says_by (λ bytes. command.Client (op.Write name bytes [] None)) payload
-
--- `read S hN`
-abbrev pub read_line : Option (List ℕ) → Option ℕ → Reading
-read_line None handle = bad
-read_line (Some name) handle = says_by (λ n. command.Client (op.Read name n)) handle
-
--- the command of a line's words
-unfoldable pub command_of : List (List ℕ) → Reading
-command_of (verb ∷ []) = if bytes_eq verb (codes "settle") then says command.Settle else if bytes_eq verb (codes "stat") then says (command.Client op.Stat) else bad
-command_of (verb ∷ s ∷ []) = if bytes_eq verb (codes "open") then open_line s else bad
-command_of (verb ∷ s ∷ word ∷ []) =
-    if bytes_eq verb (codes "write") then write_line (name_of s) (payload_of word) else if bytes_eq verb (codes "read") then read_line (name_of s) (handle_of word) else bad
-command_of other = bad
+-- ---- a line
 
 -- an empty line and one that begins with # say nothing
 abbrev pub reading_of : List ℕ → Reading
 reading_of [] = blank
 reading_of (first ∷ rest) = if first == 35 then blank else command_of (words_of (first ∷ rest))
 
--- a line of more than 200,000 bytes is outside the language, whatever it says
+-- a line of more bytes than the longest is outside the language, whatever it says
 unfoldable pub reading : List ℕ → Reading
-reading line = if nat_lt 200000 (length line) then bad else reading_of line
+reading line = if nat_lt LONGEST_LINE (length line) then bad else reading_of line
 
 -- ---- scripts
 

@@ -1,9 +1,14 @@
 //! A script's lines as commands, and a journal's entries as lines.
 #![tactic(auto)]
 
+mod data;
+mod digits;
 mod fault;
+mod handles;
+mod longer;
 mod name;
 mod number;
+mod parts;
 mod payload;
 mod print;
 mod put;
@@ -12,7 +17,7 @@ mod words;
 
 pub use fault::ScriptFault;
 pub use print::print_entry;
-pub use read::read_line;
+pub use read::{LONGEST_LINE, read_line};
 
 #[cfg(test)]
 mod tests;

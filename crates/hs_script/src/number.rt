@@ -1,27 +1,48 @@
 //! Numbers in decimal digits.
-ghost use Rattle.std.specs.Prelude.{◌≡◌, Some, None, if◌then◌else◌, nat_lt};
+ghost use Rattle.std.specs.Prelude.{◌≡◌, ◌+◌, ◌-◌, ◌*◌, ◌<◌, ◌≤◌, Some, None, if◌then◌else◌, nat_lt, IfSome};
 ghost use Rattle.std.specs.List.{list_all};
-ghost use Rattle.hs_script.specs.Reading.{handle_of, number_below, is_digit, has_leading_zero, value_of};
+ghost use Rattle.hs_script.specs.Parts.{handle_of, message_number, number_below, peer_number, is_digit, has_leading_zero, value_of};
 
 /// The handle that a word names: the letter h and a number.
 pub(crate) fn handle_of(word: &[u8]) -> Option<u32>
     ensures { result ≡ handle_of word.now }
 {
     match word {
-        [b'h', digits @ ..] => number_of(digits),
+        [b'h', digits @ ..] => match number_up_to(u64::from(u32::MAX), digits) {
+            Some(number) => Some(number as u32),
+            None => None,
+        },
         _ => None,
     }
 }
 
-/// The number below 2^32 that the digits write. None where they write none.
-#[tactic(auto, unfolding(crate::specs::Reading::number_below))]
-fn number_of(digits: &[u8]) -> Option<u32>
-    ensures { result ≡ number_below 4294967296 digits.now }
+/// The number of a peer that a word is.
+pub(crate) fn peer_number(word: &[u8]) -> Option<u8>
+    ensures { result ≡ peer_number word.now }
+{
+    match number_up_to(u64::from(u8::MAX), word) {
+        Some(number) => Some(number as u8),
+        None => None,
+    }
+}
+
+/// The number of a message that a word is.
+pub(crate) fn message_number(word: &[u8]) -> Option<u64>
+    ensures { result ≡ message_number word.now }
+{
+    number_up_to(u64::MAX, word)
+}
+
+/// The number that the digits write, where they write one that is not above `most`.
+#[tactic(auto, unfolding(crate::specs::Parts::number_below))]
+fn number_up_to(most: u64, digits: &[u8]) -> Option<u64>
+    ensures value { result ≡ number_below (most + 1) digits.now }
+    ensures bound { IfSome result (λ number. number ≤ most) }
 {
     if digits.is_empty() || !are_digits(digits) || has_leading_zero(digits) {
         return None;
     }
-    value_of(digits)
+    value_up_to(most, digits)
 }
 
 /// Whether each byte is a digit.
@@ -48,18 +69,31 @@ fn has_leading_zero(digits: &[u8]) -> bool
     }
 }
 
-/// The value of the digits, where it is below 2^32. It stops at the first digit that makes it more.
+/// The value of the digits, where it is not above `most`. It stops at the first digit that makes it
+/// more.
 #[tactic(auto, using(crate::proofs::NumberLemmas::value_more, crate::proofs::NumberLemmas::value_grows))]
-fn value_of(digits: &[u8]) -> Option<u32>
-    ensures { result ≡ (if nat_lt (value_of digits.now) 4294967296
+fn value_up_to(most: u64, digits: &[u8]) -> Option<u64>
+    ensures value { result ≡ (if nat_lt (value_of digits.now) (most + 1)
         then Some (value_of digits.now) else None) }
+    ensures bound { IfSome result (λ value. value ≤ most) }
 {
     let mut value = 0;
     for digit in digits {
-        value = value * 10 + u64::from(digit.saturating_sub(b'0'));
-        if value > 4_294_967_295 {
-            return None;
+        match more_value(most, value, *digit) {
+            Some(more) => value = more,
+            None => return None,
         }
     }
-    Some(value as u32)
+    Some(value)
+}
+
+/// The value with one digit more, where it is not above `most`.
+fn more_value(most: u64, value: u64, digit: u8) -> Option<u64>
+    ensures value { result ≡ (if nat_lt (value * 10 + (digit - 48)) (most + 1)
+        then Some (value * 10 + (digit - 48)) else None) }
+{
+    let more = value
+        .checked_mul(10)?
+        .checked_add(u64::from(digit.saturating_sub(b'0')))?;
+    if more > most { None } else { Some(more) }
 }

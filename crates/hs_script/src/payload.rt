@@ -1,59 +1,53 @@
 //! The data of a write.
-ghost use Rattle.std.specs.Prelude.{◌≡◌, Some, is_some, IfOk, IsSome};
-ghost use Rattle.std.specs.List.{list_all};
-ghost use Rattle.hex.specs.Hex.{is_hex_digit};
-ghost use Rattle.hs_script.specs.Reading.{payload_of, decoded, within_bound};
+ghost use Rattle.std.specs.Prelude.{◌≡◌, ◌<◌, ◌%◌, length};
+ghost use Rattle.hs_script.specs.Giving.{Gives, IsFaultIn};
+ghost use Rattle.hs_script.specs.Parts.{decoded, payload_of};
 
+use crate::ScriptFault;
+use crate::digits::{are_hex_digits, decode};
 use hs_limits::ListOf;
-use std::alloc::{AllocError, Global};
+use std::alloc::Global;
 
-/// Whether the word gives data. It takes no memory.
-pub(crate) fn is_payload(word: &[u8]) -> bool
-    ensures { result ≡ is_some (payload_of word.now) }
-{
-    word == b"-".as_slice() || is_data(word)
-}
-
-/// Whether the word is hexadecimal digits for 1 to 65,536 bytes.
-#[tactic(auto, using(crate::proofs::PayloadLemmas::data_digits, crate::proofs::PayloadLemmas::data_none, crate::proofs::PayloadLemmas::data_long, crate::proofs::PayloadLemmas::data_odd))]
-fn is_data(word: &[u8]) -> bool
-    ensures { result ≡ is_some (within_bound (decoded word.now)) }
-{
-    if word.is_empty() {
-        return false;
-    }
-    if word.len() > 131_072 || word.len() % 2 == 1 {
-        return false;
-    }
-    are_hex_digits(word)
-}
-
-/// Whether each byte is a hexadecimal digit.
-fn are_hex_digits(bytes: &[u8]) -> bool
-    ensures { result ≡ list_all is_hex_digit bytes.now }
-{
-    bytes.iter().all(|byte| is_hex_digit(*byte))
-}
-
-/// Whether the byte is a hexadecimal digit.
-fn is_hex_digit(byte: u8) -> bool
-    ensures { result ≡ is_hex_digit byte }
-{
-    (byte >= b'A' && byte <= b'F')
-        || (byte >= b'a' && byte <= b'f')
-        || (byte >= b'0' && byte <= b'9')
-}
-
-/// The data that the word gives. Since it gives some, only memory can be wanting.
-pub(crate) fn payload_of(alloc: Global, word: &[u8]) -> Result<ListOf<u8>, AllocError>
-    requires { IsSome (payload_of word.now) }
-    ensures { IfOk result (λ payload. payload_of word.now ≡ Some payload) }
+/// The data that the word gives. The digits are tested and decoded in one pass.
+pub(crate) fn payload_of(alloc: Global, word: &[u8]) -> Result<ListOf<u8>, ScriptFault>
+    ensures { Gives (λ payload. payload) result (payload_of word.now) }
 {
     if word == b"-".as_slice() {
         return Ok(ListOf::new(alloc));
     }
-    match hex::decode(alloc, word) {
-        Ok(bytes) => Ok(ListOf::from_vec(bytes)),
-        Err(_) => Err(AllocError),
+    data_of(alloc, word)
+}
+
+/// The data that the word's digits give.
+#[tactic(auto, using(crate::proofs::PayloadLemmas::odd_gives_none, crate::proofs::PayloadLemmas::pairs_give, crate::proofs::PayloadLemmas::pairs_give_none))]
+fn data_of(alloc: Global, word: &[u8]) -> Result<ListOf<u8>, ScriptFault>
+    ensures { Gives (λ payload. payload) result (decoded word.now) }
+{
+    if word.is_empty() || word.len() % 2 == 1 {
+        return Err(ScriptFault::BadLine);
+    }
+    match vec![in alloc; 0; word.len() / 2] {
+        Ok(mut bytes) => {
+            if decode(word, bytes.as_mut_slice()) {
+                Ok(ListOf::from_vec(bytes))
+            } else {
+                Err(ScriptFault::BadLine)
+            }
+        }
+        Err(_) => Err(fault_without_memory(word)),
+    }
+}
+
+/// Why digits were not decoded where memory is wanting: they are none, or memory is.
+#[tactic(auto, using(crate::proofs::PayloadLemmas::digits_give, crate::proofs::PayloadLemmas::others_give_none))]
+fn fault_without_memory(word: &[u8]) -> ScriptFault
+    requires some { 0 < length word.now }
+    requires even { length word.now % 2 ≡ 0 }
+    ensures { IsFaultIn result (decoded word.now) }
+{
+    if are_hex_digits(word) {
+        ScriptFault::NoMemory
+    } else {
+        ScriptFault::BadLine
     }
 }

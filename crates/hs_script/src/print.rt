@@ -2,19 +2,36 @@
 ghost use Rattle.std.specs.Prelude.{◌≡◌, ◌++◌, IsTrue, OnOk, OnErr, IsOkUnless};
 ghost use Rattle.std.specs.Fmt.{decimal};
 ghost use Rattle.hs_journal.specs.declared.entry.Who.{Who};
-ghost use Rattle.hs_script.specs.Refusal.{is_refusal};
-ghost use Rattle.hs_script.specs.Text.{entry_text, who_text, reply_text, shard_text};
+ghost use Rattle.hs_script.specs.Replies.{is_refusal, is_short};
+ghost use Rattle.hs_script.specs.Text.{entry_text, reply_text, shard_text};
 
 use crate::ScriptFault;
-use crate::put::{put_address, put_bytes, put_named, put_stat};
+use crate::data::print_read;
+use crate::put::{put_address, put_named, put_stat, put_who};
 use hs_journal::{JournalEntry, Who};
 use hs_model::Reply;
 use std::io;
 use std::io::Write;
 
-/// Puts the line of an entry at the end of `out`. An error leaves `out` as it was: the line is made
-/// apart.
+/// Puts the line of an entry at the end of `out`. An error leaves `out` as it was. The data of a read
+/// are printed from where they lie.
+#[tactic(auto, unfolding(crate::specs::Text::entry_text))]
 pub fn print_entry(entry: &JournalEntry, out: &mut Vec<u8>) -> Result<(), ScriptFault>
+    ensures ok { OnOk result (out.new.items ≡ out.old.items ++ entry_text entry.now) }
+    ensures err { IsOkUnless result ScriptFault.NoMemory }
+    ensures same { OnErr result (out.new.items ≡ out.old.items) }
+{
+    match &entry.reply {
+        Reply::Bytes { bytes, handles } => {
+            print_read(entry.who, bytes.as_slice(), handles.as_slice(), out)
+        }
+        _ => print_short(entry, out),
+    }
+}
+
+/// Puts the line of an entry without data at the end of `out`. It is made apart.
+fn print_short(entry: &JournalEntry, out: &mut Vec<u8>) -> Result<(), ScriptFault>
+    requires { IsTrue (is_short entry.now.reply) }
     ensures ok { OnOk result (out.new.items ≡ out.old.items ++ entry_text entry.now) }
     ensures err { IsOkUnless result ScriptFault.NoMemory }
     ensures same { OnErr result (out.new.items ≡ out.old.items) }
@@ -32,6 +49,7 @@ pub fn print_entry(entry: &JournalEntry, out: &mut Vec<u8>) -> Result<(), Script
 /// Puts the line of an entry at the end of `out`.
 #[tactic(auto, unfolding(crate::specs::Text::entry_text))]
 fn put_entry(entry: &JournalEntry, out: &mut Vec<u8>) -> io::Result<()>
+    requires { IsTrue (is_short entry.now.reply) }
     ensures { OnOk result (out.new.items ≡ out.old.items ++ entry_text entry.now) }
 {
     put_who(entry.who, out)?;
@@ -40,26 +58,15 @@ fn put_entry(entry: &JournalEntry, out: &mut Vec<u8>) -> io::Result<()>
     write!(out, "\n")
 }
 
-/// Puts the number of the line at the end of `out`, or a dash.
-fn put_who(who: Who, out: &mut Vec<u8>) -> io::Result<()>
-    ensures { OnOk result (out.new.items ≡ out.old.items ++ who_text who) }
-{
-    match who {
-        Who::Line(number) => write!(out, "{number}"),
-        Who::Shard(_) => write!(out, "-"),
-        Who::Store => write!(out, "-"),
-    }
-}
-
-/// Puts a reply at the end of `out`.
+/// Puts a reply without data at the end of `out`.
 fn put_reply(who: Who, reply: &Reply, out: &mut Vec<u8>) -> io::Result<()>
+    requires { IsTrue (is_short reply.now) }
     ensures { OnOk result (out.new.items ≡ out.old.items ++ reply_text who reply.now) }
 {
     match reply {
         Reply::Ok => write!(out, "ok"),
         Reply::New { handle, epoch } => write!(out, "new h{handle} e{epoch}"),
         Reply::Dup { handle, epoch } => write!(out, "dup h{handle} e{epoch}"),
-        Reply::Bytes { bytes, handles } => put_bytes(bytes.as_slice(), handles.as_slice(), out),
         Reply::Held { handle, epoch } => write!(out, "held h{handle} e{epoch}"),
         Reply::Name { address } => put_address(address, out),
         Reply::Stat {

@@ -1,14 +1,26 @@
-//! The longer replies.
+//! Parts of lines.
 ghost use Rattle.std.specs.Prelude.{◌≡◌, ◌∷◌, ◌++◌, codes, OnOk};
 ghost use Rattle.std.specs.Fmt.{decimal};
 ghost use Rattle.std.specs.List.{flat_map};
 ghost use Rattle.hex.specs.Hex.{encode_lower};
-ghost use Rattle.hs_script.specs.Text.{data_text, handles_text, list_text};
+ghost use Rattle.hs_script.specs.Text.{list_text, who_text};
 
 use hs_block::print_address;
+use hs_journal::Who;
 use hs_limits::Address;
 use std::io;
 use std::io::Write;
+
+/// Puts the number of the line at the end of `out`, or a dash.
+pub(crate) fn put_who(who: Who, out: &mut Vec<u8>) -> io::Result<()>
+    ensures { OnOk result (out.new.items ≡ out.old.items ++ who_text who) }
+{
+    match who {
+        Who::Line(number) => write!(out, "{number}"),
+        Who::Shard(_) => write!(out, "-"),
+        Who::Store => write!(out, "-"),
+    }
+}
 
 /// Puts a text and a name or key at the end of `out`.
 pub(crate) fn put_named(text: &str, name: &[u8], out: &mut Vec<u8>) -> io::Result<()>
@@ -16,45 +28,6 @@ pub(crate) fn put_named(text: &str, name: &[u8], out: &mut Vec<u8>) -> io::Resul
 {
     write!(out, "{text}")?;
     out.extend_from_slice(name)?;
-    Ok(())
-}
-
-/// Puts `bytes` at the end of `out`, with data and handles.
-pub(crate) fn put_bytes(bytes: &[u8], handles: &[u32], out: &mut Vec<u8>) -> io::Result<()>
-    ensures { OnOk result (out.new.items ≡ out.old.items ++
-        (codes "bytes " ++ (data_text bytes.now ++ handles_text handles.now))) }
-{
-    write!(out, "bytes ")?;
-    put_data(bytes, out)?;
-    put_handles(handles, out)
-}
-
-/// Puts data at the end of `out` in hexadecimal digits, or a dash.
-fn put_data(bytes: &[u8], out: &mut Vec<u8>) -> io::Result<()>
-    ensures { OnOk result (out.new.items ≡ out.old.items ++ data_text bytes.now) }
-{
-    match bytes {
-        [] => write!(out, "-"),
-        [_, ..] => put_hex(bytes, out),
-    }
-}
-
-/// Puts bytes at the end of `out` in hexadecimal digits.
-fn put_hex(bytes: &[u8], out: &mut Vec<u8>) -> io::Result<()>
-    ensures { OnOk result (out.new.items ≡ out.old.items ++ encode_lower bytes.now) }
-{
-    let digits = hex::encode(*out.allocator(), bytes)?;
-    out.extend_from_slice(digits.as_bytes())?;
-    Ok(())
-}
-
-/// Puts handles at the end of `out`, each behind a space.
-fn put_handles(handles: &[u32], out: &mut Vec<u8>) -> io::Result<()>
-    ensures { OnOk result (out.new.items ≡ out.old.items ++ handles_text handles.now) }
-{
-    for handle in handles {
-        write!(out, " h{handle}")?;
-    }
     Ok(())
 }
 

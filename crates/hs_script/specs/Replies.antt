@@ -1,5 +1,5 @@
--- The replies that refuse their line.
-use Rattle.std.specs.Prelude.{Bool, true, false}
+-- Kinds of replies. No public clause cites these.
+use Rattle.std.specs.Prelude.{ℕ, Bool, true, false, List, [], ◌∷◌, codes}
 use Rattle.hs_model.specs.declared.reply.Reply.{Reply}
 use Rattle.hs_model.specs.declared.reply.Reply.TheVariants as reply
 
@@ -19,3 +19,13 @@ is_refusal (reply.Done epoch) = false
 is_refusal (reply.Down peer line) = false
 is_refusal (reply.Visits epoch count) = false
 is_refusal refusal = true
+
+-- a reply without data
+abbrev pub is_short : Reply → Bool
+is_short (reply.Bytes bytes handles) = false
+is_short other = true
+
+-- the dash that stands for no data
+abbrev pub dash_of : List ℕ → List ℕ
+dash_of [] = codes "-"
+dash_of (b ∷ bs) = []
