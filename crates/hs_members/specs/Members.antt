@@ -21,6 +21,7 @@ pub record IsMembers (m : Members) : Type 0 where
 
 -- ---- peers and shards
 
+-- whether a status is Good, Joining or Down
 abbrev pub is_good_status : PeerStatus → Bool
 is_good_status Good = true
 is_good_status Joining = false
@@ -56,6 +57,7 @@ IsShard shape shard = shard < shape.shards
 
 -- ---- views and statuses
 
+-- the status of a peer, and the view of a shard
 abbrev pub status : ℕ → Members → PeerStatus
 status peer m = slice_index_or m.statuses peer Down
 

@@ -1,0 +1,15 @@
+//! The pool of messages under way between the peers.
+#![tactic(auto)]
+
+mod fault;
+mod inboxes;
+mod message;
+mod numbers;
+mod pool;
+
+pub use fault::PostFault;
+pub use message::Message;
+pub use pool::Pool;
+
+#[cfg(test)]
+mod tests;
