@@ -1,0 +1,2 @@
+pub mod ChooseLemmas
+mod Examples

@@ -1,0 +1,9 @@
+//! Which of several logs a shard is opened with.
+#![tactic(auto)]
+
+mod greatest;
+
+pub use greatest::choose;
+
+#[cfg(test)]
+mod tests;
