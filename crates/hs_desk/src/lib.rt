@@ -1,0 +1,17 @@
+//! What a peer is given to do and reports, what is noted of it, and why a core has ended.
+#![tactic(auto)]
+
+mod done;
+mod fault;
+mod job;
+mod slip;
+mod token;
+
+pub use done::Done;
+pub use fault::CoreFault;
+pub use job::{Job, Next, Work};
+pub use slip::Slip;
+pub use token::Token;
+
+#[cfg(test)]
+mod tests;
