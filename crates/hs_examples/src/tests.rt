@@ -6,8 +6,10 @@ use hs_journal::Who;
 use hs_ports::{ListSink, ListSource, Watch};
 use hs_side::Header;
 use hs_top::{Outcome, Status, fault_line, hydra, limits_of, shape_of};
-use std::alloc::AllocError;
+use std::alloc::{AllocError, Global};
+use std::sync::Wait;
 use std::test::Fail;
+use std::thread::Threads;
 
 const OTHER: Header = Header {
     shards: 2,
@@ -136,12 +138,12 @@ fn failing_ports_have_their_status(rt: HostRuntime) -> Result<(), Fail> {
 }
 
 /// What a run with these words, parted by spaces, prints of a script, and how it ends.
-fn run_by_words(
-    rt: &HostRuntime,
+fn run_by_words<H: Threads + Wait + Sync>(
+    alloc: Global,
+    rt: &H,
     text: &str,
     script: &[u8],
 ) -> Result<(Vec<u8>, Outcome), AllocError> {
-    let alloc = rt.alloc();
     let mut words = Vec::new(alloc);
     for word in text.split(' ') {
         words.push(String::from_str(alloc, word)?)?;
@@ -192,7 +194,7 @@ fn options_lower_the_limits(rt: HostRuntime) -> Result<(), Fail> {
         ),
     ] {
         let words = format!(in rt.alloc(); "script d 1 1 {options}")?;
-        let (found, outcome) = run_by_words(&rt, words.as_str(), script.as_bytes())?;
+        let (found, outcome) = run_by_words(rt.alloc(), &rt, words.as_str(), script.as_bytes())?;
         assert_eq!(rt; found.as_slice(), text.as_bytes(), "{options}");
         assert_eq!(rt; outcome.status, status, "{options}");
     }
@@ -202,11 +204,13 @@ fn options_lower_the_limits(rt: HostRuntime) -> Result<(), Fail> {
 #[test]
 fn a_full_journal_tells_what_it_refused(rt: HostRuntime) -> Result<(), Fail> {
     let script = b"open a\nopen b\nsettle\nopen c\n".as_slice();
-    let (text, outcome) = run_by_words(&rt, "script d 1 1 --ops 2", script)?;
+    let (text, outcome) = run_by_words(rt.alloc(), &rt, "script d 1 1 --ops 2", script)?;
     assert_eq!(rt; text.as_slice(), b"1 ok\n2 ok\n".as_slice());
     assert_eq!(rt; outcome.journal.entries().len(), 2);
-    assert_eq!(rt; outcome.refused.len(), 1);
-    assert_eq!(rt; outcome.refused[0].who, Who::Line(4));
+    match outcome.refused.as_slice() {
+        [entry] => assert_eq!(rt; entry.who, Who::Line(4)),
+        _ => assert!(rt; false),
+    }
     assert_eq!(rt; outcome.line, 4);
     Ok(())
 }
@@ -239,7 +243,7 @@ fn words_outside_the_language_are_a_faulty_command_line(rt: HostRuntime) -> Resu
         }
         assert_eq!(rt; shape_of(words.as_slice()).is_some(), fits, "{text}");
         assert_eq!(rt; limits_of(words.as_slice()).is_some(), fits, "{text}");
-        let (_, outcome) = run_by_words(&rt, text, &[])?;
+        let (_, outcome) = run_by_words(rt.alloc(), &rt, text, &[])?;
         let want = if fits { Status::Done } else { Status::Usage };
         assert_eq!(rt; outcome.status, want, "{text}");
     }

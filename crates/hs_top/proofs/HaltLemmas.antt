@@ -122,7 +122,7 @@ module _ (script : List ℕ) (name : List ℕ → Address) (limits : Limits) (en
       rw (begun, asks.above.told, one) (record {
         answers = answers_by script name limits entry (store_at name old.store list) n (n + 1) so_far moment status.OpsFull got0 got' progress fits (omega arith) (omega arith) (λ same has. has) (ap bytes_of asks.above.put ∙ put);
         refuses = record {
-          next = record { entry = asks.entry; only = refl; told = elim asks.told [ | inl answer ↦ inl answer.line | inr loss ↦ inr loss.lost ] };
+          next = record { entry = asks.entry; only = refl; told = elim asks.told [ inl answer ↦ inl answer.line | inr loss ↦ inr loss.lost ] };
           above = omega (arith, asks.above.full, limit, length-append so_far (asks.entry ∷ []));
           answers = elim asks.told [
             | inl answer ↦

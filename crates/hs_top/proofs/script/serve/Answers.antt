@@ -89,7 +89,7 @@ returns-in-Err-begin-clause-fulfils g c = λ told. if_both _ _ (λ script. Fulfi
     let run = r 0 None list serves in
     let ends = rw c.line.ensures at c.in-Err-begin.ensures.ends in
     let halted = subst (λ (limits : Limits). LineHalts c.in-Err-begin.stop (g.A.Addresser.name c.args.naming.now) limits (c.serving.run.told.line + 1) (reading (line_of c.advance.new.self)) c.serving.run c.begin.new.self run.list (g.K.Sink.got c.serving.sink) (g.K.Sink.got c.begin.new.sink) c.serving.watch c.begin.new.watch)
-        c.serving.invariant.limits (rw c.line.ensures at (c.in-Err-begin.ensures.halted told run.list run.serves)) in
+    c.serving.invariant.limits (rw c.line.ensures at (c.in-Err-begin.ensures.halted told run.list run.serves)) in
     fulfils_line script _ c.args.run.now.limits _ c.serving.run c.begin.new.self run.list _ _ _ _ _ _ run.progress run.fits c.serving.invariant.limit run.refused run.put (asked_next script _ _ _ _ _ next) c.in-Err-begin.stop halted ends)
 
 pub returns-in-Err-begin-clause-lasts : goal.returns-in-Err-begin-clause-lasts
@@ -156,7 +156,7 @@ serving-preserved g c =
           let run = r before got list serves in
           let says = asked_next script _ _ _ _ _ next in
           let begins = subst (λ (limits : Limits). Begins (g.A.Addresser.name c.args.naming.now) limits (c.serving.run.told.line + 1) (client_op (command_in (reading (line_of c.advance.new.self)))) c.serving.run c.begin.new.self run.list (g.D.Disk.stands c.serving.disk) (g.D.Disk.stands c.begin.new.disk) (g.K.Sink.got c.serving.sink) (g.K.Sink.got c.begin.new.sink) c.serving.watch c.begin.new.watch)
-              c.serving.invariant.limits (rw c.line.ensures at (e.begins told run.list run.serves)) in
+          c.serving.invariant.limits (rw c.line.ensures at (e.begins told run.list run.serves)) in
           let start = store_at (g.A.Addresser.name c.args.naming.now) c.args.run.now.store list in
           runs_more (commands script) _ c.args.run.now.limits _ before got _ c.serving.run c.begin.new.self _ _ _ _ _ _ _ _ run says begins e.line c.serving.invariant.limit
           (λ asked. subst (λ (limits : Limits). Going (commands script) (g.A.Addresser.name c.args.naming.now) limits start before c.begin.new.watch (g.D.Disk.stands c.begin.new.disk) c.begin.new.self.store.log.side c.begin.new.self.told.course c.begin.new.self.told.journal.entries got (g.K.Sink.got c.begin.new.sink) (list_behind (g.A.Addresser.name c.args.naming.now) limits (c.serving.run.told.line + 1) c.serving.run.store run.list (client_op (command_in (reading (line_of c.advance.new.self))))))
