@@ -5,7 +5,7 @@ use Rattle.std.specs.Result.{OkIff}
 use Rattle.std.specs.Str.Parse.{ParsesUnsigned}
 use Rattle.std.proofs.lemmas.Bool.{cases_lt, le-leb, leb-true, lt-leb, le-ltb, lt-ltb, ne_eqb}
 use Rattle.std.proofs.lemmas.Str.Parse.{IsDigitsTest, IsNumeralModel, numerals_by_fold, parse_plain}
-use Rattle.hs_script.specs.Reading.{has_leading_zero, is_digit, number_below, value_of}
+use Rattle.hs_script.specs.Parts.{has_leading_zero, is_digit, number_below, value_of}
 use Rattle.hs_top.specs.Words.{above_zero, number_to}
 
 -- ---- what makes a number

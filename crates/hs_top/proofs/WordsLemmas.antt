@@ -2,7 +2,7 @@
 use Rattle.std.proofs.Common.{◌≡◌, List, ◌∷◌, ◌++◌, [], ℕ, Some, None, refl}
 use Rattle.std.specs.Prelude.{codes}
 use Rattle.hs_limits.specs.Limits.{greatest_limits}
-use Rattle.hs_script.specs.Reading.{number_below}
+use Rattle.hs_script.specs.Parts.{number_below}
 use Rattle.hs_top.specs.Words.{limits_by, limits_in, shape_in}
 
 -- the words of a script with these options

@@ -5,7 +5,7 @@ use Rattle.std.specs.Option.{option_map, unwrap_or}
 use Rattle.hs_limits.specs.declared.limits.Limits.{Limits}
 use Rattle.hs_limits.specs.declared.shape.Shape.{Shape}
 use Rattle.hs_limits.specs.Limits.{greatest_limits}
-use Rattle.hs_script.specs.Reading.{number_below}
+use Rattle.hs_script.specs.Parts.{number_below}
 
 -- ---- the options of a script: each lowers one of the limits
 
