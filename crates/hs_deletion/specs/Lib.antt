@@ -1,0 +1,13 @@
+pub mod Reached
+pub mod Records
+pub mod Machine
+pub mod Rounds
+pub mod Steps
+pub mod Anchors
+pub mod Counts
+pub mod History
+pub mod Promises
+pub mod Clocks
+pub mod Invariants
+pub mod Catalogue
+pub mod Following
