@@ -90,11 +90,13 @@ fn bad_input_has_its_status(rt: HostRuntime) -> Result<(), Fail> {
 
 #[test]
 fn long_lines_are_bad(rt: HostRuntime) -> Result<(), Fail> {
-    // The length of a comment behind its #, the digits of a write, and whether the line is bad.
+    // The length of a comment behind its #, the digits of a write, and how the run ends. Data that
+    // are too long for a block are no bad line: they are refused.
     for (comment, digits, status) in [
         (199_999, 131_072, Status::Done),
         (200_000, 2, Status::BadLine { line: 2 }),
-        (1, 131_074, Status::BadLine { line: 3 }),
+        (1, 131_074, Status::Done),
+        (1, 200_000, Status::BadLine { line: 3 }),
     ] {
         let mut script = Vec::from_slice(rt.alloc(), b"open a\n#".as_slice())?;
         for _ in 0..comment {
