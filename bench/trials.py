@@ -11,7 +11,7 @@ import sys
 import tempfile
 import time
 
-# A run has at most 64 answers, and the first is that of `open`.
+# How many blocks a run is asked about.
 MOST = 60
 
 
