@@ -14,13 +14,12 @@ use Rattle.hs_deletion.specs.History.{MayEnter}
 use Rattle.hs_deletion.specs.Promises.{HasNoWrongZero, IsAtTheLast, HasEachZero}
 use Rattle.hs_deletion.specs.Clocks.{label_of, IsRunning, AreClocksRight}
 use Rattle.hs_deletion.specs.Invariants.{IsBlockRight, IsRootRight, AreRaisedReached, IsNear, HasSupport, AreReachedSupported, AreReachedPresent, HasNoMissedZero, IsRight}
-use Rattle.hs_deletion.proofs.SumLemmas.{set_at_self, set_at_other}
 use Rattle.hs_deletion.proofs.TestLemmas.{begins_tells, root_begins_tells}
 use Rattle.hs_deletion.proofs.RoundLemmas.{member_of_pointers_where, member_of_addresses_where}
 use Rattle.hs_deletion.proofs.ClockLemmas.{beside, near, running_of, raised_was_sent}
 use Rattle.hs_deletion.proofs.SentLemmas.{new_round, other_rounds, totals_stay, labels_stay, clocks_sent}
 use Rattle.hs_deletion.proofs.ReachLemmas.{not_before_less, reached_earlier}
-use Rattle.hs_deletion.proofs.StepLemmas.{each_block, each_root, other_before, distinct_changed, homes_changed, founded_changed, reached_before, reached_after, there_after, supported_after}
+use Rattle.hs_deletion.proofs.StepLemmas.{state_here, state_there, epoch_more, each_block, each_root, other_before, distinct_changed, homes_changed, founded_changed, reached_before, reached_after, there_after, supported_after}
 use Rattle.hs_deletion.proofs.EnterLemmas.{epoch_of, stepped, new, round_of, change_of, root_change_of, idle, changed, keeps, no_zero_here, entered_is, root_entered_is, completed_same, counts_entered}
 
 module _ (layout : Layout) (m : Machine) (right : IsRight layout m) (g : ℕ) (may : MayEnter layout m g) where
@@ -56,15 +55,6 @@ module _ (layout : Layout) (m : Machine) (right : IsRight layout m) (g : ℕ) (m
       (record { unswept = omega (arith, may.is_swept); ahead = omega (arith, sent_level); of_epoch = (idle layout m right g may).of_epoch; of_round = (idle layout m right g may).of_round })
       (λ h lh o. (right.clocks g may.within).come h lh)
 
-  here_is : (k : ℕ) → k ≡ g → n.states k ≡ t
-  here_is k e = rw e (set_at_self g t m.states)
-
-  there_is : (k : ℕ) → k ≢ g → n.states k ≡ m.states k
-  there_is k o = set_at_other g t m.states k o
-
-  epoch_more : (k : ℕ) → (m.states k).epoch ≤ (n.states k).epoch
-  epoch_more k = elim (cases_eq k g) [ inl e ↦ rw (here_is k e, e) (omega arith) | inr o ↦ rw (there_is k o) (omega arith) ]
-
   forth : (run : ℕ) (a : Address) → IsReachedIn m run a → IsReachedIn n run a
   forth run = reached_after m n change root_change (changed layout m right g may) run (keeps layout m right g may run)
 
@@ -79,8 +69,8 @@ module _ (layout : Layout) (m : Machine) (right : IsRight layout m) (g : ℕ) (m
 
   blocks : (b : BlockRecord) → Member b n.blocks → IsBlockRight (n.states (layout.home b.address)) b
   blocks = each (λ b. IsBlockRight (n.states (layout.home b.address)) b) (λ b k. elim (is b k) [
-    | inl h ↦ rw (h.1, here_is (layout.home b.address) h.0) (one b (rw h.0 at (right.blocks b k)) (no_zero_here layout m right g may b k h.0))
-    | inr o ↦ rw (o.1, there_is (layout.home b.address) o.0) (right.blocks b k)
+    | inl h ↦ rw (h.1, state_here g t m.states (layout.home b.address) h.0) (one b (rw h.0 at (right.blocks b k)) (no_zero_here layout m right g may b k h.0))
+    | inr o ↦ rw (o.1, state_there g t m.states (layout.home b.address) o.0) (right.blocks b k)
   ])
     where
       one : (b : BlockRecord) → IsBlockRight (m.states g) b → ¬ (b.zero ≡ true) → IsBlockRight t (record b { counted = true })
@@ -98,8 +88,8 @@ module _ (layout : Layout) (m : Machine) (right : IsRight layout m) (g : ℕ) (m
 
   roots : (r : RootRecord) → Member r n.roots → IsRootRight (n.states r.home) r
   roots = each_root m n change root_change (changed layout m right g may) (λ r. IsRootRight (n.states r.home) r) (λ r k. elim (root_entered_is layout m right g may r k) [
-    | inl h ↦ rw (h.1, here_is r.home h.0) (one r (subst (λ (h : ℕ). IsRootRight (m.states h) r) h.0 (right.roots r k)))
-    | inr o ↦ rw (o.1, there_is r.home o.0) (right.roots r k)
+    | inl h ↦ rw (h.1, state_here g t m.states r.home h.0) (one r (subst (λ (h : ℕ). IsRootRight (m.states h) r) h.0 (right.roots r k)))
+    | inr o ↦ rw (o.1, state_there g t m.states r.home o.0) (right.roots r k)
   ])
     where
       one : (r : RootRecord) → IsRootRight (m.states g) r → IsRootRight t (record r { counted = true })
@@ -148,24 +138,24 @@ module _ (layout : Layout) (m : Machine) (right : IsRight layout m) (g : ℕ) (m
 
       from : (k ≡ (m.states g).sent) ⊎ (k ≢ (m.states g).sent) → (h ≡ g) ⊎ (h ≢ g) → Member a ((m.states h).rounds k).raises ⊎ ((k ≡ (m.states g).sent) × Member a round.raises)
       from (inl e) (inl q) = inr (e, rw (q, e, new_round layout m.states right.clocks g may.within round t refl refl) at up)
-      from (inl e) (inr o) = inl (rw (there_is h o) at up)
+      from (inl e) (inr o) = inl (rw (state_there g t m.states h o) at up)
       from (inr d) q = inl (rw (other_rounds layout m.states right.clocks g may.within round t refl refl h k d) at up)
 
   no_wrong_zero : HasNoWrongZero layout n
   no_wrong_zero = each (λ b. b.zero ≡ true → IsReachedIn n (n.states (layout.home b.address)).epoch b.address → b.mark ≡ (n.states (layout.home b.address)).epoch) (λ b k. elim (is b k) [
     | inl h ↦ rw (h.1) (λ z r. absurd (no_zero_here layout m right g may b k h.0 z))
-    | inr o ↦ rw (o.1, there_is (layout.home b.address) o.0) (λ z r. right.no_wrong_zero b k z (back (m.states (layout.home b.address)).epoch b.address r))
+    | inr o ↦ rw (o.1, state_there g t m.states (layout.home b.address) o.0) (λ z r. right.no_wrong_zero b k z (back (m.states (layout.home b.address)).epoch b.address r))
   ])
 
   anchored : AreReachedPresent layout n
   anchored h a lh r =
-      let old : IsReachedIn m (m.states h).epoch a = reached_earlier m (m.states h).epoch (n.states h).epoch (epoch_more h) a (back (n.states h).epoch a r) in
+      let old : IsReachedIn m (m.states h).epoch a = reached_earlier m (m.states h).epoch (n.states h).epoch (epoch_more g t m.states (omega arith) h) a (back (n.states h).epoch a r) in
       there_after m n change root_change (changed layout m right g may) (m.states h).epoch (keeps layout m right g may (m.states h).epoch) a old (right.anchored h a lh old)
 
   searched : HasNoMissedZero layout n
   searched = each (λ b. (n.states (layout.home b.address)).swept < (n.states (layout.home b.address)).epoch → 1 ≤ (n.states (layout.home b.address)).round → b.counted ≡ true → b.zero ≡ false → b.mark + 2 ≤ (n.states (layout.home b.address)).epoch → 1 ≤ b.count) (λ b k. elim (is b k) [
-    | inl h ↦ rw (h.1, here_is (layout.home b.address) h.0) (λ run l c f o. absurd (omega (arith, l)))
-    | inr o ↦ rw (o.1, there_is (layout.home b.address) o.0) (right.searched b k)
+    | inl h ↦ rw (h.1, state_here g t m.states (layout.home b.address) h.0) (λ run l c f o. absurd (omega (arith, l)))
+    | inr o ↦ rw (o.1, state_there g t m.states (layout.home b.address) o.0) (right.searched b k)
   ])
 
   supported : AreReachedSupported layout n
@@ -175,21 +165,21 @@ module _ (layout : Layout) (m : Machine) (right : IsRight layout m) (g : ℕ) (m
   ]
     where
       old_or_top : (run ≡ now + 1) ⊎ (run ≢ now + 1) → IsNear layout m run ⊎ ((h : ℕ) → h < layout.shards → (n.states h).epoch < run)
-      old_or_top (inl e) = inr (λ h lh. elim (cases_eq h g) [ inl q ↦ rw (here_is h q) (omega (arith, e)) | inr o ↦ rw (there_is h o) (omega (arith, e, near layout m.states right.clocks h g lh may.within)) ])
+      old_or_top (inl e) = inr (λ h lh. elim (cases_eq h g) [ inl q ↦ rw (state_here g t m.states h q) (omega (arith, e)) | inr o ↦ rw (state_there g t m.states h o) (omega (arith, e, near layout m.states right.clocks h g lh may.within)) ])
       old_or_top (inr o) = inl (record {
         near = λ h lh. elim (cases_eq h g) [
-          | inl q ↦ (let x : run ≤ now + 1 = rw (here_is h q) at (range.near h lh) in rw q (omega (arith, o, x)))
-          | inr p ↦ rw (there_is h p) at (range.near h lh)
+          | inl q ↦ (let x : run ≤ now + 1 = rw (state_here g t m.states h q) at (range.near h lh) in rw q (omega (arith, o, x)))
+          | inr p ↦ rw (state_there g t m.states h p) at (range.near h lh)
         ];
         some = range.some;
         within = range.within;
-        low = omega (arith, range.low, epoch_more range.some);
+        low = omega (arith, range.low, epoch_more g t m.states (omega arith) range.some);
       })
 
       solid : (b : BlockRecord) → Member b m.blocks → IsReachedIn m run b.address → (b.zero ≡ true → (m.states (layout.home b.address)).epoch ≢ run) → (change b).zero ≡ true → (n.states (layout.home b.address)).epoch ≢ run
       solid b k r s = elim (is b k) [
         | inl h ↦ rw (h.1) (λ z. absurd (no_zero_here layout m right g may b k h.0 z))
-        | inr o ↦ rw (o.1, there_is (layout.home b.address) o.0) s
+        | inr o ↦ rw (o.1, state_there g t m.states (layout.home b.address) o.0) s
       ]
 
       -- above all epochs everything is old
@@ -203,40 +193,40 @@ module _ (layout : Layout) (m : Machine) (right : IsRight layout m) (g : ℕ) (m
 
   exact_zero : HasEachZero layout n
   exact_zero k last b stands away = elim (cases_eq k g) [
-    | inl q ↦ (let l : 1 ≤ t.round = rw (here_is k q) at last.late in absurd (omega (arith, l)))
+    | inl q ↦ (let l : 1 ≤ t.round = rw (state_here g t m.states k q) at last.late in absurd (omega (arith, l)))
     | inr o ↦ other o
   ]
     where
       other : k ≢ g → (b.zero ≡ true) × (b.mark < (n.states k).epoch)
-      other o = rw (there_is k o) (right.exact_zero k was b (other_before layout g (entered now) m n root_change (changed layout m right g may) b stands (λ q. o (sym away.of_shard ∙ q))) (record {
+      other o = rw (state_there g t m.states k o) (right.exact_zero k was b (other_before layout g (entered now) m n root_change (changed layout m right g may) b stands (λ q. o (sym away.of_shard ∙ q))) (record {
         of_shard = away.of_shard;
-        older = rw (there_is k o) at away.older;
-        unreached = λ r. away.unreached (rw (there_is k o) (forth (m.states k).epoch b.address r));
+        older = rw (state_there g t m.states k o) at away.older;
+        unreached = λ r. away.unreached (rw (state_there g t m.states k o) (forth (m.states k).epoch b.address r));
       }))
         where
           sent_there : (h : ℕ) → h < layout.shards → (m.states k).completed < (n.states h).sent
-          sent_there h lh = rw (there_is k o) at (last.sent h lh)
+          sent_there h lh = rw (state_there g t m.states k o) at (last.sent h lh)
 
           run : IsRunning layout m.states (m.states k)
-          run = running_of layout m.states right.clocks k last.within (rw (there_is k o) at (sent_there k last.within))
+          run = running_of layout m.states right.clocks k last.within (rw (state_there g t m.states k o) at (sent_there k last.within))
 
           late : 1 ≤ (m.states k).round
-          late = rw (there_is k o) at last.late
+          late = rw (state_there g t m.states k o) at last.late
 
           -- the row isn't the one that begins now
           before : (m.states k).completed < (m.states g).sent
           before = elim (beside layout m.states right.clocks k g last.within may.within) [
             | inl b ↦ absurd (omega (arith, b.2, run.of_round, (idle layout m right g may).of_round, late))
             | inr (inl b) ↦ omega (arith, b.0, sent_level)
-            | inr (inr b) ↦ (let x : (m.states k).completed < (m.states g).sent + 1 = rw (here_is g refl) at (sent_there g may.within) in absurd (omega (arith, b.0, x, sent_level)))
+            | inr (inr b) ↦ (let x : (m.states k).completed < (m.states g).sent + 1 = rw (state_here g t m.states g refl) at (sent_there g may.within) in absurd (omega (arith, b.0, x, sent_level)))
           ]
 
           was : IsAtTheLast layout m k
           was = record {
             within = last.within;
             late = late;
-            sent = λ h lh. elim (cases_eq h g) [ inl q ↦ rw q before | inr p ↦ rw (there_is h p) at (sent_there h lh) ];
-            none = let x : total_in layout n.states (m.states k).completed ≡ 0 = rw (there_is k o) at last.none in omega (arith, x, totals_stay layout m.states right.clocks g may.within round t refl refl (m.states k).completed (omega (arith, before)));
+            sent = λ h lh. elim (cases_eq h g) [ inl q ↦ rw q before | inr p ↦ rw (state_there g t m.states h p) at (sent_there h lh) ];
+            none = let x : total_in layout n.states (m.states k).completed ≡ 0 = rw (state_there g t m.states k o) at last.none in omega (arith, x, totals_stay layout m.states right.clocks g may.within round t refl refl (m.states k).completed (omega (arith, before)));
           }
 
   pub right_entered : IsRight layout n

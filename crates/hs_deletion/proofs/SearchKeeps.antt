@@ -14,13 +14,12 @@ use Rattle.hs_deletion.specs.History.{MayComplete}
 use Rattle.hs_deletion.specs.Promises.{HasNoWrongZero, IsAtTheLast, HasEachZero}
 use Rattle.hs_deletion.specs.Clocks.{label_of, IsRunning, AreClocksRight}
 use Rattle.hs_deletion.specs.Invariants.{IsFounded, IsZeroRight, IsBlockRight, IsRootRight, AreRaisedReached, IsNear, AreReachedSupported, AreReachedPresent, HasNoMissedZero, IsRight}
-use Rattle.hs_deletion.proofs.SumLemmas.{set_at_self, set_at_other}
 use Rattle.hs_deletion.proofs.TestLemmas.{unreleased_counts}
 use Rattle.hs_deletion.proofs.RoundLemmas.{pointers_where_none, addresses_where_none}
 use Rattle.hs_deletion.proofs.ClockLemmas.{running_of, epoch_of_row, raised_was_sent}
 use Rattle.hs_deletion.proofs.SentLemmas.{new_round, other_rounds, totals_stay, labels_stay, clocks_sent}
 use Rattle.hs_deletion.proofs.WayLemmas.{raised_late}
-use Rattle.hs_deletion.proofs.StepLemmas.{each_block, distinct_changed, homes_changed, founded_changed, reached_before, reached_after, there_after, supported_after}
+use Rattle.hs_deletion.proofs.StepLemmas.{state_here, state_there, epoch_same, completed_more, each_block, distinct_changed, homes_changed, founded_changed, reached_before, reached_after, there_after, supported_after}
 use Rattle.hs_deletion.proofs.SearchLemmas.{epoch_of, row, stepped, new, round_of, change_of, goes, count, level_all, run, next_row, changed, keeps, IsNewZero, found, new_zero_unreached}
 use Rattle.hs_deletion.proofs.SearchCounts.{counts_searched}
 use Rattle.hs_deletion.proofs.LastLemmas.{all_running, zero_at_the_last}
@@ -71,15 +70,6 @@ module _ (layout : Layout) (m : Machine) (right : IsRight layout m) (g : ℕ) (m
   label_before : (k : ℕ) → k ≤ (m.states g).sent → label_of layout n.states k ≡ label_of layout m.states k
   label_before = labels_stay layout m.states right.clocks g may.within round t refl refl
 
-  here_is : (k : ℕ) → k ≡ g → n.states k ≡ t
-  here_is k e = rw e (set_at_self g t m.states)
-
-  there_is : (k : ℕ) → k ≢ g → n.states k ≡ m.states k
-  there_is k o = set_at_other g t m.states k o
-
-  epoch_same : (k : ℕ) → (n.states k).epoch ≡ (m.states k).epoch
-  epoch_same k = elim (cases_eq k g) [ inl e ↦ rw (here_is k e, e) refl | inr o ↦ rw (there_is k o) refl ]
-
   forth : (run : ℕ) → now ≤ run → (a : Address) → IsReachedIn m run a → IsReachedIn n run a
   forth run le = reached_after m n change (λ r. r) (changed layout m right g may more) run (keeps layout m right g may more run le)
 
@@ -102,9 +92,9 @@ module _ (layout : Layout) (m : Machine) (right : IsRight layout m) (g : ℕ) (m
 
   blocks : (b : BlockRecord) → Member b n.blocks → IsBlockRight (n.states (layout.home b.address)) b
   blocks = each (λ b. IsBlockRight (n.states (layout.home b.address)) b) (λ b k. elim (is b) [
-    | inl o ↦ rw (o.1, there_is (layout.home b.address) o.0) (right.blocks b k)
-    | inr (inl z) ↦ rw (z.1, here_is (layout.home b.address) z.0.here) (new_one b (rw z.0.here at (right.blocks b k)) z.0)
-    | inr (inr h) ↦ rw (h.2, here_is (layout.home b.address) h.0) (old_one b (rw h.0 at (right.blocks b k)) (zero_stays b k h.0))
+    | inl o ↦ rw (o.1, state_there g t m.states (layout.home b.address) o.0) (right.blocks b k)
+    | inr (inl z) ↦ rw (z.1, state_here g t m.states (layout.home b.address) z.0.here) (new_one b (rw z.0.here at (right.blocks b k)) z.0)
+    | inr (inr h) ↦ rw (h.2, state_here g t m.states (layout.home b.address) h.0) (old_one b (rw h.0 at (right.blocks b k)) (zero_stays b k h.0))
   ])
     where
       new_one : (b : BlockRecord) → IsBlockRight (m.states g) b → IsNewZero layout m right g may more b → IsBlockRight t (record b { count = fresh b; zero = true })
@@ -134,8 +124,8 @@ module _ (layout : Layout) (m : Machine) (right : IsRight layout m) (g : ℕ) (m
   roots r k =
       let old = member_of_filter (λ r. not (goes layout m right g may more r)) r m.roots k in
       elim (cases_eq r.home g) [
-        | inr o ↦ rw (there_is r.home o) (right.roots r old.0)
-        | inl e ↦ rw (here_is r.home e) (kept (subst (λ (h : ℕ). IsRootRight (m.states h) r) e (right.roots r old.0)) (not-true _ old.1) e)
+        | inr o ↦ rw (state_there g t m.states r.home o) (right.roots r old.0)
+        | inl e ↦ rw (state_here g t m.states r.home e) (kept (subst (λ (h : ℕ). IsRootRight (m.states h) r) e (right.roots r old.0)) (not-true _ old.1) e)
       ]
     where
       kept : IsRootRight (m.states g) r → goes layout m right g may more r ≡ false → r.home ≡ g → IsRootRight t r
@@ -155,13 +145,10 @@ module _ (layout : Layout) (m : Machine) (right : IsRight layout m) (g : ℕ) (m
           second true b p f = f
           second false b p f = cc
 
-  completed_more : (k : ℕ) → (m.states k).completed ≤ (n.states k).completed
-  completed_more k = elim (cases_eq k g) [ inl e ↦ rw (here_is k e, e) (omega arith) | inr o ↦ rw (there_is k o) (omega arith) ]
-
   raised : AreRaisedReached layout n
   raised h k a lh up le =
       let old : Member a ((m.states h).rounds k).raises = was (cases_eq k (m.states g).sent) (cases_eq h g) in
-      let le' : (m.states (layout.home a)).completed ≤ k = omega (arith, le, completed_more (layout.home a)) in
+      let le' : (m.states (layout.home a)).completed ≤ k = omega (arith, le, completed_more g t m.states (omega arith) (layout.home a)) in
       let low : now ≤ (label_of layout m.states k).epoch = omega (arith, epoch_of_row layout m.states right.clocks (layout.home a) k (layout.within a) le', (levels (layout.home a) (layout.within a)).0) in
       rw (label_before k (sent_before old)) (forth (label_of layout m.states k).epoch low a (right.raised h k a lh old le'))
     where
@@ -170,7 +157,7 @@ module _ (layout : Layout) (m : Machine) (right : IsRight layout m) (g : ℕ) (m
 
       was : (k ≡ (m.states g).sent) ⊎ (k ≢ (m.states g).sent) → (h ≡ g) ⊎ (h ≢ g) → Member a ((m.states h).rounds k).raises
       was (inl e) (inl q) = absurd (none (rw (q, e, new_round layout m.states right.clocks g may.within round t refl refl) at up))
-      was (inl e) (inr o) = rw (there_is h o) at up
+      was (inl e) (inr o) = rw (state_there g t m.states h o) at up
       was (inr d) q = rw (other_rounds layout m.states right.clocks g may.within round t refl refl h k d) at up
 
       sent_before : Member a ((m.states h).rounds k).raises → k ≤ (m.states g).sent
@@ -178,35 +165,35 @@ module _ (layout : Layout) (m : Machine) (right : IsRight layout m) (g : ℕ) (m
 
   no_wrong_zero : HasNoWrongZero layout n
   no_wrong_zero = each (λ b. b.zero ≡ true → IsReachedIn n (n.states (layout.home b.address)).epoch b.address → b.mark ≡ (n.states (layout.home b.address)).epoch) (λ b k. elim (is b) [
-    | inl o ↦ rw (o.1, there_is (layout.home b.address) o.0) (λ z r. right.no_wrong_zero b k z (back (m.states (layout.home b.address)).epoch b.address r))
-    | inr (inl z) ↦ rw (z.1, here_is (layout.home b.address) z.0.here) (λ e r. absurd (new_zero_unreached layout m right g may more b k z.0 (back now b.address r)))
-    | inr (inr h) ↦ rw (h.2, here_is (layout.home b.address) h.0) (λ e r. let old = rw h.0 at (right.no_wrong_zero b k e) in old (back now b.address r))
+    | inl o ↦ rw (o.1, state_there g t m.states (layout.home b.address) o.0) (λ z r. right.no_wrong_zero b k z (back (m.states (layout.home b.address)).epoch b.address r))
+    | inr (inl z) ↦ rw (z.1, state_here g t m.states (layout.home b.address) z.0.here) (λ e r. absurd (new_zero_unreached layout m right g may more b k z.0 (back now b.address r)))
+    | inr (inr h) ↦ rw (h.2, state_here g t m.states (layout.home b.address) h.0) (λ e r. let old = rw h.0 at (right.no_wrong_zero b k e) in old (back now b.address r))
   ])
 
   anchored : AreReachedPresent layout n
   anchored h a lh r =
-      let old : IsReachedIn m (m.states h).epoch a = rw (epoch_same h) at (back (n.states h).epoch a r) in
+      let old : IsReachedIn m (m.states h).epoch a = rw (epoch_same g t m.states refl h) at (back (n.states h).epoch a r) in
       there_after m n change (λ r. r) (changed layout m right g may more) (m.states h).epoch (keeps layout m right g may more (m.states h).epoch (omega (arith, (levels h lh).0))) a old (right.anchored h a lh old)
 
   searched : HasNoMissedZero layout n
   searched = each (λ b. (n.states (layout.home b.address)).swept < (n.states (layout.home b.address)).epoch → 1 ≤ (n.states (layout.home b.address)).round → b.counted ≡ true → b.zero ≡ false → b.mark + 2 ≤ (n.states (layout.home b.address)).epoch → 1 ≤ b.count) (λ b k. elim (is b) [
-    | inl o ↦ rw (o.1, there_is (layout.home b.address) o.0) (right.searched b k)
-    | inr (inl z) ↦ rw (z.1, here_is (layout.home b.address) z.0.here) (λ run late c f o. cc)
-    | inr (inr h) ↦ rw (h.2, here_is (layout.home b.address) h.0) (λ run late c f o. h.1 c f o)
+    | inl o ↦ rw (o.1, state_there g t m.states (layout.home b.address) o.0) (right.searched b k)
+    | inr (inl z) ↦ rw (z.1, state_here g t m.states (layout.home b.address) z.0.here) (λ run late c f o. cc)
+    | inr (inr h) ↦ rw (h.2, state_here g t m.states (layout.home b.address) h.0) (λ run late c f o. h.1 c f o)
   ])
 
   supported : AreReachedSupported layout n
   supported run range a r =
-      let old_range : IsNear layout m run = record { near = λ h lh. omega (arith, range.near h lh, epoch_same h); some = range.some; within = range.within; low = omega (arith, range.low, epoch_same range.some) } in
+      let old_range : IsNear layout m run = record { near = λ h lh. omega (arith, range.near h lh, epoch_same g t m.states refl h); some = range.some; within = range.within; low = omega (arith, range.low, epoch_same g t m.states refl range.some) } in
       let le : now ≤ run = omega (arith, old_range.low, (levels range.some range.within).0) in
       let old = back run a r in
       supported_after m n change (λ r. r) (changed layout m right g may more) run (keeps layout m right g may more run le) layout solid a old (right.supported run old_range a old)
     where
       solid : (b : BlockRecord) → Member b m.blocks → IsReachedIn m run b.address → (b.zero ≡ true → (m.states (layout.home b.address)).epoch ≢ run) → (change b).zero ≡ true → (n.states (layout.home b.address)).epoch ≢ run
       solid b k r s = elim (is b) [
-        | inl o ↦ rw (o.1, there_is (layout.home b.address) o.0) s
-        | inr (inl z) ↦ rw (z.1, here_is (layout.home b.address) z.0.here) (λ e q. new_zero_unreached layout m right g may more b k z.0 (rw (← q) at r))
-        | inr (inr h) ↦ rw (h.2, here_is (layout.home b.address) h.0) (rw h.0 at s)
+        | inl o ↦ rw (o.1, state_there g t m.states (layout.home b.address) o.0) s
+        | inr (inl z) ↦ rw (z.1, state_here g t m.states (layout.home b.address) z.0.here) (λ e q. new_zero_unreached layout m right g may more b k z.0 (rw (← q) at r))
+        | inr (inr h) ↦ rw (h.2, state_here g t m.states (layout.home b.address) h.0) (rw h.0 at s)
       ]
 
   counts_after : AreCountsRight layout n
@@ -223,10 +210,10 @@ module _ (layout : Layout) (m : Machine) (right : IsRight layout m) (g : ℕ) (m
       run_k = running_of layout n.states clocks k last.within (last.sent k last.within)
 
       g_completed : (n.states g).completed ≡ next + 1
-      g_completed = rw (here_is g refl) refl
+      g_completed = rw (state_here g t m.states g refl) refl
 
       g_sent : (n.states g).sent ≡ next + 1 + 1
-      g_sent = rw (here_is g refl) (omega (arith, running.ahead))
+      g_sent = rw (state_here g t m.states g refl) (omega (arith, running.ahead))
 
       upper : (n.states k).completed ≤ next + 1
       upper = omega (arith, last.sent g may.within, g_sent)
@@ -246,7 +233,7 @@ module _ (layout : Layout) (m : Machine) (right : IsRight layout m) (g : ℕ) (m
       each_one : (h : ℕ) → h < layout.shards → ((n.states h).completed ≡ next + 1) × ((n.states h).sent ≡ next + 1 + 1)
       each_one h lh =
           let low : next + 1 < (n.states h).sent = omega (arith, mine, last.sent h lh) in
-          let high : (n.states h).completed ≤ next + 1 = elim (cases_eq h g) [ inl q ↦ rw (here_is h q) (omega arith) | inr o ↦ rw (there_is h o) (omega (arith, (right.clocks h lh).come g may.within, running.ahead)) ] in
+          let high : (n.states h).completed ≤ next + 1 = elim (cases_eq h g) [ inl q ↦ rw (state_here g t m.states h q) (omega arith) | inr o ↦ rw (state_there g t m.states h o) (omega (arith, (right.clocks h lh).come g may.within, running.ahead)) ] in
           let r = running_of layout n.states clocks h lh (omega (arith, low, high)) in
           (omega (arith, r.ahead, low, high), omega (arith, r.ahead, low, high))
 

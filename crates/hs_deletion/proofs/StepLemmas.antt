@@ -1,13 +1,14 @@
 -- A step that changes blocks and roots one by one, in nothing by which they are reached.
-use Rattle.std.proofs.Common.{◌≡◌, ◌≢◌, ℕ, ◌-◌, ◌<◌, Bool, true, false, ◌⊎◌, inl, inr, refl, sym, ◌∙◌, ap, subst, arith, if◌then◌else◌}
-use Rattle.std.proofs.lemmas.Bool.{eqb-true, eqb-false}
+use Rattle.std.proofs.Common.{◌≡◌, ◌≢◌, ℕ, ◌-◌, ◌≤◌, ◌<◌, Bool, true, false, ◌⊎◌, inl, inr, refl, sym, ◌∙◌, ap, subst, arith, if◌then◌else◌}
+use Rattle.std.proofs.lemmas.Bool.{eqb-true, eqb-false, cases_eq}
 use Rattle.hs_limits.specs.declared.address.Address.{Address}
 use Rattle.hs_deletion.specs.Reached.{Member}
 use Rattle.hs_deletion.specs.Records.{BlockRecord, RootRecord, change_if}
-use Rattle.hs_deletion.specs.Machine.{Layout, Machine, is_at, is_root_at}
+use Rattle.hs_deletion.specs.Machine.{Layout, Machine, is_at, is_root_at, ShardState, set_at}
 use Rattle.hs_deletion.specs.Anchors.{IsThere, PointsTo, NotBefore, IsReachedIn}
 use Rattle.hs_deletion.specs.Promises.{IsSameBlock}
 use Rattle.hs_deletion.specs.Invariants.{IsFounded, HasSupport}
+use Rattle.hs_deletion.proofs.SumLemmas.{set_at_self, set_at_other}
 use Rattle.hs_deletion.proofs.FoundedLemmas.{founded_fewer}
 use Rattle.hs_deletion.proofs.ReachLemmas.{IsRootLike, reached_covered}
 
@@ -27,6 +28,24 @@ changed_at layout g f b = elim (change_if_cases (is_at layout g) f b) [ inl p �
 
 pub root_changed_at : (g : ℕ) (f : RootRecord → RootRecord) (r : RootRecord) → ((r.home ≡ g) × (change_if (is_root_at g) f r ≡ f r)) ⊎ ((r.home ≢ g) × (change_if (is_root_at g) f r ≡ r))
 root_changed_at g f r = elim (change_if_cases (is_root_at g) f r) [ inl p ↦ inl (eqb-true r.home g p.0, p.1) | inr p ↦ inr (eqb-false r.home g p.0, p.1) ]
+
+-- ---- the states of all shards, where one is set
+
+module _ (g : ℕ) (t : ShardState) (s : ℕ → ShardState) where
+  pub state_here : (k : ℕ) → k ≡ g → set_at g t s k ≡ t
+  state_here k e = rw e (set_at_self g t s)
+
+  pub state_there : (k : ℕ) → k ≢ g → set_at g t s k ≡ s k
+  state_there k o = set_at_other g t s k o
+
+  pub epoch_same : t.epoch ≡ (s g).epoch → (k : ℕ) → (set_at g t s k).epoch ≡ (s k).epoch
+  epoch_same e k = elim (cases_eq k g) [ inl q ↦ rw (q, set_at_self g t s) e | inr o ↦ rw (set_at_other g t s k o) refl ]
+
+  pub epoch_more : (s g).epoch ≤ t.epoch → (k : ℕ) → (s k).epoch ≤ (set_at g t s k).epoch
+  epoch_more l k = elim (cases_eq k g) [ inl q ↦ rw (q, set_at_self g t s) l | inr o ↦ rw (set_at_other g t s k o) (omega arith) ]
+
+  pub completed_more : (s g).completed ≤ t.completed → (k : ℕ) → (s k).completed ≤ (set_at g t s k).completed
+  completed_more l k = elim (cases_eq k g) [ inl q ↦ rw (q, set_at_self g t s) l | inr o ↦ rw (set_at_other g t s k o) (omega arith) ]
 
 -- ---- the same block, and the same root
 
