@@ -1,19 +1,9 @@
-//! Worked examples, run on the top call over sources, sinks and disks in memory.
+//! A run over ports in memory, of which all is promised without a premise.
 #![tactic(auto)]
 
 mod run;
 
 pub use run::{Ran, run_in_memory};
 
-#[cfg(test)]
-mod course;
-#[cfg(test)]
-mod disks;
-#[cfg(test)]
-mod harness;
-#[cfg(test)]
-mod logs;
-#[cfg(test)]
-mod stops;
 #[cfg(test)]
 mod tests;
