@@ -22,7 +22,7 @@ pub fn judge_runs(
     let Some(each) = first.given.each else {
         return judge_once(alloc, budget, passes, None, report);
     };
-    for call in each.first..=each.last {
+    for call in each.first..each.last.saturating_add(1) {
         report.note.clear();
         write!(report.note, ", where call {call} of {} fails", each.peer)?;
         report.known.call = call;
