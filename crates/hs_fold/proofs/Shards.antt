@@ -1,0 +1,16 @@
+pub mod BlockLemmas
+pub mod DeedLemmas
+pub mod FrontLemmas
+pub mod KeepLemmas
+pub mod LastLemmas
+pub mod LawfulLemmas
+pub mod LegalLemmas
+pub mod ListLemmas
+pub mod MineLemmas
+pub mod PlaceLemmas
+pub mod RootLemmas
+pub mod SoundLemmas
+pub mod StayLemmas
+pub mod StoreLemmas
+pub mod UnrootedLemmas
+pub mod WaitLemmas
