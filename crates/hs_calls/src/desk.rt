@@ -1,5 +1,5 @@
-//! What no clause says: that the table of reports is the one meant.
-use crate::{Done, Job};
+//! Reports and the jobs that they answer.
+use hs_desk::{Done, Job};
 use std::test::Fail;
 
 #[test]

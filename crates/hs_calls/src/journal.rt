@@ -1,5 +1,5 @@
-//! What no clause says: that a journal with room takes an entry.
-use crate::{Journal, JournalEntry, JournalFault, Who};
+//! A journal that fills up.
+use hs_journal::{Journal, JournalEntry, JournalFault, Who};
 use hs_model::{Deed, Reply};
 use std::test::Fail;
 

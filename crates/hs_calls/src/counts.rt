@@ -1,5 +1,5 @@
-//! What no clause says: that an address is placed where there is memory.
-use crate::Counts;
+//! Counts of an address.
+use hs_counts::Counts;
 use hs_limits::{Address, Delta};
 use std::test::Fail;
 

@@ -1,5 +1,5 @@
-//! What no clause says: that each call succeeds where there is room and memory.
-use crate::{RootFault, RootSet};
+//! A root and its records.
+use hs_roots::{RootFault, RootSet};
 use hs_limits::{Address, Key, ListOf};
 use std::alloc::{AllocError, Global};
 use std::test::Fail;

@@ -1,5 +1,5 @@
-//! What no clause says: that a mark is set where there is memory.
-use crate::Marks;
+//! Marks of an address.
+use hs_marks::Marks;
 use hs_limits::Address;
 use std::test::Fail;
 

@@ -1,5 +1,5 @@
-//! What no clause says: that the calls succeed, along a worked example.
-use crate::{MemberFault, Members, home_of};
+//! A peer that fails, starts and joins.
+use hs_members::{MemberFault, Members, home_of};
 use hs_limits::{PeerStatus, Shape};
 use std::test::Fail;
 

@@ -1,5 +1,5 @@
-//! What no clause says: that the calls succeed where there is memory.
-use crate::{Message, Pool, PostFault};
+//! Messages on their way.
+use hs_post::{Message, Pool, PostFault};
 use hs_entry::Entry;
 use hs_limits::ListOf;
 use std::alloc::Global;

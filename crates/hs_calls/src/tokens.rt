@@ -1,5 +1,5 @@
-//! What no clause says: that each call succeeds where there is room and memory.
-use crate::{SeatFault, Sessions};
+//! A session and its handles.
+use hs_tokens::{SeatFault, Sessions};
 use hs_limits::{Address, Held, Limits, ListOf, Name};
 use std::alloc::{AllocError, Global};
 use std::test::Fail;

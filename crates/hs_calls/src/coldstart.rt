@@ -1,5 +1,5 @@
-//! What no clause says: that the definition is the one meant, at a worked example.
-use crate::choose;
+//! The choice among lists.
+use hs_coldstart::choose;
 use hs_entry::Rank;
 
 #[test]
