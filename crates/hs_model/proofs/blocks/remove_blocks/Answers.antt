@@ -3,7 +3,7 @@ use Rattle.std.proofs.lemmas.Map.Made.{filter_same_pairs}
 use Rattle.hs_limits.specs.declared.address.Address.{Address}
 use Rattle.hs_model.specs.declared.store.StoredBlock.{StoredBlock}
 use Rattle.hs_model.specs.Swept.{removes}
-use Rattle.hs_model.proofs.memory_store.sweep.remove_blocks.Goals as goal
+use Rattle.hs_model.proofs.blocks.remove_blocks.Goals as goal
 
 pub returns : goal.returns
 returns c =
