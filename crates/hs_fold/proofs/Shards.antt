@@ -1,12 +1,15 @@
 pub mod BlockLemmas
 pub mod DeedLemmas
+pub mod Examples
 pub mod FrontLemmas
+pub mod ImageLemmas
 pub mod KeepLemmas
 pub mod LastLemmas
 pub mod LawfulLemmas
 pub mod LegalLemmas
 pub mod ListLemmas
 pub mod MineLemmas
+pub mod PendingLemmas
 pub mod PlaceLemmas
 pub mod RootLemmas
 pub mod SoundLemmas

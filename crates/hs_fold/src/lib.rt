@@ -4,6 +4,7 @@
 mod change;
 mod fronts;
 mod histories;
+mod images;
 mod keeping;
 mod lines;
 mod numbered;
@@ -20,7 +21,10 @@ mod waiting;
 
 pub use change::{entries_change_the_store, lists_change_the_store};
 pub use fronts::fronts_are_prefixes;
-pub use histories::{catalogues_are_of_their_shards, histories_change_the_store, shards_see_their_own};
+pub use histories::{
+    catalogues_are_of_their_shards, histories_change_the_store, shards_see_their_own,
+};
+pub use images::empty_disks_are_blank;
 pub use keeping::blocks_were_stored;
 pub use lines::logged_entries_name_their_line;
 pub use numbered::numbered_lists_part;

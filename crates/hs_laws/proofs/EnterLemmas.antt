@@ -117,6 +117,10 @@ not-true : (b : Bool) → (b ≡ true → ⊥) → not b ≡ true
 not-true true f = absurd (f refl)
 not-true false f = refl
 
+-- whether a root stays is read of the epochs alone
+pub stays-epochs : (s t : Store) (root : Root) → s.epochs ≡ t.epochs → stays s root ≡ stays t root
+stays-epochs s t root same = ap (λ epochs. stays (record s { epochs = epochs }) root) same
+
 -- a root on which something rests that may still be used stays, and stands no less
 root-stays : (s : Store) (shard epoch : ℕ) (root : Root) → 0 < length s.epochs → least_epoch (enter s shard) ≤ epoch + 1 → nat_le epoch (stands_in s root) ≡ true → (stays (record s { epochs = slice_set s.epochs shard (slice_index s.epochs shard + 1) }) root ≡ true) × (nat_le epoch (stands_in (enter s shard) root) ≡ true)
 root-stays s shard epoch root h l t = go root.dropped refl t

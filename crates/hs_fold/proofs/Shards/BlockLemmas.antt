@@ -1,6 +1,5 @@
 -- Blocks of several shards by address.
-use Rattle.std.proofs.Common.{◌≡◌, ◌≢◌, ◌⊎◌, inl, inr, ℕ, ◌+◌, ◌<◌, ◌≤◌, ◌==◌, List, [], ◌∷◌, ◌++◌, length, map, Bool, true, false, cond, Option, Some, None, refl, sym, ap, ◌∙◌, subst, arith, Ordering, Less, Equal, Greater, is_eq, count_by}
-use Rattle.std.proofs.lemmas.List.Sums.{sum_by-cons}
+use Rattle.std.proofs.Common.{◌≡◌, ◌≢◌, ℕ, ◌+◌, ◌<◌, ◌≤◌, ◌==◌, List, [], ◌∷◌, ◌++◌, length, Bool, true, false, cond, Option, Some, None, refl, sym, ap, ◌∙◌, subst, arith, Ordering, Less, Equal, Greater, is_eq}
 use Rattle.std.proofs.lemmas.Map.Keys.{sorted_head, sorted_tail}
 use Rattle.std.specs.Ordering.{match_ordering, ordering_reverse}
 use Rattle.std.specs.Cmp.{IsTotalOrder}
@@ -19,7 +18,7 @@ use Rattle.std.proofs.lemmas.Bool.{eq-eqb, ne_eqb}
 use Rattle.hs_fold.specs.Catalogue.{Present}
 use Rattle.hs_fold.specs.Opened.{both}
 use Rattle.hs_fold.specs.Shards.Catalogue.{Catalogue}
-use Rattle.hs_fold.specs.Shards.Mine.{IsMine, AreMine}
+use Rattle.hs_fold.specs.Shards.Mine.{AreMine}
 use Rattle.hs_fold.specs.Shards.Opened.{all_present}
 
 -- ---- two keys come in either order

@@ -1,5 +1,5 @@
 -- What histories of all shards do, one entry after another.
-use Rattle.std.proofs.Common.{◌≡◌, ◌≢◌, inl, inr, ℕ, zero, suc, ◌+◌, ◌<◌, ◌==◌, Bool, true, false, cond, List, [], ◌∷◌, ◌++◌, length, Option, Some, None, refl, sym, ap, ◌∙◌, subst, arith}
+use Rattle.std.proofs.Common.{◌≡◌, inl, inr, ℕ, zero, suc, ◌+◌, ◌<◌, cond, List, [], ◌∷◌, ◌++◌, length, Option, Some, None, refl, sym, ap, ◌∙◌, subst, arith}
 use Rattle.std.proofs.lemmas.Bool.{cases_eq, eq-eqb, ne_eqb}
 use Rattle.std.specs.Prelude.{slice_set}
 use Rattle.std.specs.List.{AllByRecursion}
@@ -10,7 +10,7 @@ use Rattle.hs_fold.specs.Catalogue.{Shard}
 use Rattle.hs_fold.specs.Lawful.{Deed, list_at, shard_at}
 use Rattle.hs_fold.specs.Shards.Catalogue.{Catalogue, empty_catalogue, apply, apply_all, catalogue_of}
 use Rattle.hs_fold.specs.Shards.Fits.{catalogue_at}
-use Rattle.hs_fold.specs.Shards.Happening.{Happening, happen, happen_all, happen_by, happening_of, and_then}
+use Rattle.hs_fold.specs.Shards.Happening.{Happening, happen_all, happen_by, happening_of, and_then}
 use Rattle.hs_fold.specs.Shards.History.{applied, follow, follow_all, happenings_along, entries_of}
 use Rattle.hs_fold.specs.Shards.Mine.{IsMine, AreMine}
 use Rattle.hs_fold.specs.Shards.Opened.{store_of, catalogues}
@@ -33,7 +33,7 @@ zero-left k = omega arith
 pub deed-mine : (set : Setting) (deed : Deed) (cs : List Catalogue) → length cs ≡ set.shape.shards → deed.shard < set.shape.shards → AreMine set.shape.shards 0 cs → AreMine set.shape.shards 0 (follow set cs deed)
 deed-mine set deed cs all low = on-place (λ ds k. AreMine n 0 ds → AreMine n 0 (slice_set ds k (apply (shard_at set.name n k) (catalogue_at ds k) (deed.number, deed.entry)))) n go cs deed.shard all low
   where
-    abbrev n : ℕ
+    n : ℕ
     n = set.shape.shards
 
     go : (front back : List Catalogue) (c : Catalogue) → length front + (1 + length back) ≡ n → AreMine n 0 (front ++ c ∷ back)
@@ -54,7 +54,7 @@ pub deed-step : (set : Setting) (deed : Deed) (cs : List Catalogue) → length c
     → store_of (follow set cs deed) ≡ happen_by (store_of cs) (happening_of (shard_in set deed.shard) (catalogue_at cs deed.shard) deed.entry)
 deed-step set deed cs all low = on-place (λ ds k. AreMine n 0 ds → store_of (slice_set ds k (apply (shard_at set.name n k) (catalogue_at ds k) (deed.number, deed.entry))) ≡ happen_by (store_of ds) (happening_of (shard_at set.name n k) (catalogue_at ds k) deed.entry)) n go cs deed.shard all low
   where
-    abbrev n : ℕ
+    n : ℕ
     n = set.shape.shards
 
     go : (front back : List Catalogue) (c : Catalogue) → length front + (1 + length back) ≡ n → AreMine n 0 (front ++ c ∷ back)
@@ -146,10 +146,10 @@ pub whole-follows : (set : Setting) (lists : List Parted) (deeds : List Deed) �
     → follow_all set (catalogues set 0 (done_lists lists)) deeds ≡ catalogues set 0 (whole_lists lists)
 whole-follows set lists deeds count of behind = same-each (follow_all set done deeds) whole lengths each
   where
-    abbrev done : List Catalogue
+    done : List Catalogue
     done = catalogues set 0 (done_lists lists)
 
-    abbrev whole : List Catalogue
+    whole : List Catalogue
     whole = catalogues set 0 (whole_lists lists)
 
     all : length done ≡ set.shape.shards

@@ -1,5 +1,5 @@
 -- Of numbered lists a prefix is a front.
-use Rattle.std.proofs.Common.{◌≡◌, ℕ, ◌+◌, ◌≤◌, inl, inr, List, [], ◌∷◌, ◌++◌, length, false, refl, sym, ap, ◌∙◌, subst, arith, length-append}
+use Rattle.std.proofs.Common.{◌≡◌, ℕ, ◌+◌, ◌≤◌, inl, inr, [], ◌∷◌, ◌++◌, length, false, sym, ap, ◌∙◌, subst, arith, length-append}
 use Rattle.hs_model.proofs.Members.{Member, contains_from_member, member_from_contains}
 use Rattle.hs_entry.specs.declared.entry.Entry.{Entry}
 use Rattle.hs_entry.specs.Entries.{is_of_base, IsPrefix}

@@ -1,6 +1,5 @@
 -- Changes keep a store valid, and what rests on something does still.
-use Rattle.std.proofs.Common.{◌≡◌, ◌⊎◌, inl, inr, ℕ, ◌+◌, ◌≤◌, ◌&&◌, Bool, true, false, cond, List, [], ◌∷◌, Option, Some, None, is_none, refl, sym, ap, ◌∙◌, subst, arith, nat_le}
-use Rattle.std.proofs.lemmas.Bool.{and_parts}
+use Rattle.std.proofs.Common.{◌≡◌, inl, inr, ℕ, ◌+◌, ◌&&◌, Bool, true, false, cond, List, Option, Some, None, is_none, refl, sym, ap, ◌∙◌, subst, arith, nat_le}
 use Rattle.std.specs.BTreeMap.{insert_entry}
 use Rattle.hs_limits.specs.declared.address.Address.{Address}
 use Rattle.hs_limits.specs.Block.{Block}
@@ -19,7 +18,7 @@ use Rattle.hs_laws.proofs.PromiseLemmas.{anchored_from_held, least-epoch_at}
 use Rattle.hs_laws.proofs.RootKeeps.{retained_is, rooted_valid, dropped_valid, place-keeps, place-has, without-keeps}
 use Rattle.hs_laws.proofs.ValidLemmas.{starts-root, starts-given, starts-each, Reaches-more, Valid}
 use Rattle.hs_laws.proofs.WriteKeeps.{MayWrite, with_block_valid, still_reached}
-use Rattle.hs_fold.specs.Shards.Change.{Change, stores, gives, keeps, drops, is_usable, is_usable_key, may_keep, change}
+use Rattle.hs_fold.specs.Shards.Change.{Change, stores, gives, keeps, drops, is_usable, is_usable_key, change}
 
 -- what rests on something does still
 abbrev pub Onward : Store → Store → Type 0

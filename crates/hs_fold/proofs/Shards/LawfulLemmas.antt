@@ -1,11 +1,11 @@
 -- What waits of all shards comes lawfully behind what took effect.
-use Rattle.std.proofs.Common.{◌≡◌, ◌≢◌, ℕ, zero, suc, ◌+◌, ◌<◌, ◌≤◌, ◌==◌, Bool, true, false, cond, List, [], ◌∷◌, ◌++◌, length, get_or, refl, sym, ap, ◌∙◌, subst, arith}
+use Rattle.std.proofs.Common.{◌≡◌, ◌≢◌, ℕ, zero, suc, ◌+◌, ◌<◌, ◌≤◌, ◌==◌, Bool, true, false, cond, List, [], ◌∷◌, ◌++◌, length, refl, sym, ap, ◌∙◌, subst, arith}
 use Rattle.std.proofs.lemmas.Bool.{eq-eqb, ne_eqb}
 use Rattle.std.proofs.lemmas.Grind.{common_steps}
 use Rattle.std.proofs.lemmas.List.{append-nil}
-use Rattle.std.proofs.lemmas.List.Elements.{All-get_or, All-from_get_or, All-from_recursion, recursion_from_All, All-append}
+use Rattle.std.proofs.lemmas.List.Elements.{All-get_or, All-from_get_or, All-from_recursion, recursion_from_All}
 use Rattle.std.specs.List.{AllByRecursion}
-use Rattle.std.specs.Prelude.{All, AllPairs}
+use Rattle.std.specs.Prelude.{AllPairs}
 use Rattle.hs_laws.proofs.ValidLemmas.{Valid}
 use Rattle.hs_entry.specs.declared.entry.Entry.{Entry}
 use Rattle.hs_fold.specs.Lawful.{Deed, Ascends, list_at}
@@ -15,11 +15,11 @@ use Rattle.hs_fold.specs.Shards.Fits.{MayCome}
 use Rattle.hs_fold.specs.Shards.History.{follow, follow_all, entries_of, FitAll, AreLawful, no_entries}
 use Rattle.hs_fold.specs.Shards.Mine.{AreMine}
 use Rattle.hs_fold.specs.Shards.Opened.{store_of, catalogues}
-use Rattle.hs_fold.specs.Shards.Parted.{Parted, back_at, done_lists, whole_lists, NamesUpTo, MayWait, MayAllWait}
+use Rattle.hs_fold.specs.Shards.Parted.{Parted, back_at, done_lists, whole_lists, NamesUpTo, MayAllWait}
 use Rattle.hs_fold.specs.Shards.Setting.{Numbered, Setting}
 use Rattle.hs_fold.proofs.Shards.DeedLemmas.{AreOf, deed-mine, length-follow, AreBehind, whole-follows, length-catalogues, length-done}
 use Rattle.hs_fold.proofs.Shards.KeepLemmas.{Onward}
-use Rattle.hs_fold.proofs.Shards.LastLemmas.{Between, all-between, last-goes_on}
+use Rattle.hs_fold.proofs.Shards.LastLemmas.{Between, last-goes_on}
 use Rattle.hs_fold.proofs.Shards.ListLemmas.{lists-mine}
 use Rattle.hs_fold.proofs.Shards.WaitLemmas.{deed-keeps, may-still, is-other}
 
@@ -122,11 +122,11 @@ entries-other k g differs (e ∷ es) = ap (λ b. cond b (e ∷ entries_of k (dee
 
 entries-append : (k : ℕ) (one more : List Deed) → entries_of k (one ++ more) ≡ entries_of k one ++ entries_of k more
 entries-append k [] more = refl
-entries-append k (d ∷ one) more = go (d.shard == k)
+entries-append k (d ∷ one) more = go (entries-append k one more) (d.shard == k)
   where
-    go : (b : Bool) → cond b ((d.number, d.entry) ∷ entries_of k (one ++ more)) (entries_of k (one ++ more)) ≡ cond b ((d.number, d.entry) ∷ entries_of k one) (entries_of k one) ++ entries_of k more
-    go true = ap (λ rest. (d.number, d.entry) ∷ rest) (entries-append k one more)
-    go false = entries-append k one more
+    go : entries_of k (one ++ more) ≡ entries_of k one ++ entries_of k more → (b : Bool) → cond b ((d.number, d.entry) ∷ entries_of k (one ++ more)) (entries_of k (one ++ more)) ≡ cond b ((d.number, d.entry) ∷ entries_of k one) (entries_of k one) ++ entries_of k more
+    go ih true = ap (λ rest. (d.number, d.entry) ∷ rest) ih
+    go ih false = ih
 
 -- none of an earlier shard
 entries-none : (k g : ℕ) → k < g → (lists : List Parted) → entries_of k (behind_deeds g lists) ≡ []
@@ -182,8 +182,12 @@ list-waits set front cs g n (e ∷ es) low l goes w =
 lists-wait : (set : Setting) (front : ℕ → ℕ) (cs : List Catalogue) (g : ℕ) (lists : List Parted) → g + length lists ≡ set.shape.shards
     → ((k : ℕ) → k < length lists → front (g + k) ≡ last_of (list_at (done_lists lists) k)) → MayAllWait cs g lists → AllWait set front cs (behind_deeds g lists)
 lists-wait set front cs g [] count f w = tt
-lists-wait set front cs g (x ∷ lists) count f w = each-append (Waits set front cs) (deeds_of g x.back) (behind_deeds (g + 1) lists) here rest
+lists-wait set front cs g (x ∷ lists) count f w =
+    each-append (Waits set front cs) (deeds_of g x.back) (behind_deeds (g + 1) lists) here (lists-wait set front cs (g + 1) lists (omega (arith, count)) (λ k low. ap front (shift g k) ∙ f (suc k) (omega (arith, low))) w.1)
   where
+    shift : (a b : ℕ) → a + 1 + b ≡ a + suc b
+    shift a b = omega arith
+
     at : front g ≡ last_of x.done
     at = ap front (zero-right g) ∙ f 0 (omega arith)
       where
@@ -195,12 +199,6 @@ lists-wait set front cs g (x ∷ lists) count f w = each-append (Waits set front
 
     here : AllWait set front cs (deeds_of g x.back)
     here = list-waits set front cs g (last_of x.done) x.back (omega (arith, count)) (omega (arith, at)) w.0.0 facts
-
-    rest : AllWait set front cs (behind_deeds (g + 1) lists)
-    rest = lists-wait set front cs (g + 1) lists (omega (arith, count)) (λ k low. ap front (shift g k) ∙ f (suc k) (omega (arith, low))) w.1
-      where
-        shift : (a b : ℕ) → a + 1 + b ≡ a + suc b
-        shift a b = omega arith
 
 -- ---- its numbers
 
@@ -224,8 +222,7 @@ deeds-pairs : (g n : ℕ) (es : Numbered) → GoOn n es → PairsBy Ascends (dee
 deeds-pairs g n [] goes = tt
 deeds-pairs g n (e ∷ es) goes =
     let number : e.0 ≡ n + 1 = goes.0 in
-    let first : Deed = record { shard = g; number = e.0; entry = e.1 } in
-    (
+    let first : Deed = record { shard = g; number = e.0; entry = e.1 } in (
       each-from (λ (d : Deed). Between (n + 1) (n + 1 + length es) d.number) (Ascends first) (deeds_of g es) (λ d b same. let up = b.above in omega (arith, number, up)) (numbers-of g (n + 1) (n + 1) (n + 1 + length es) es (omega arith) (omega arith) goes.2),
       deeds-pairs g (n + 1) es goes.2,
     )
@@ -245,8 +242,12 @@ last-rises (x ∷ lists) goes (suc k) = last-rises lists goes.1 k
 behind-within : (high : ℕ → ℕ) (g : ℕ) (lists : List Parted) → ((k : ℕ) → k < length lists → last_of (list_at (whole_lists lists) k) ≤ high (g + k)) → AllGoOn lists
     → AllByRecursion (λ (d : Deed). d.number ≤ high d.shard) (behind_deeds g lists)
 behind-within high g [] f goes = tt
-behind-within high g (x ∷ lists) f goes = each-append (λ (d : Deed). d.number ≤ high d.shard) (deeds_of g x.back) (behind_deeds (g + 1) lists) here rest
+behind-within high g (x ∷ lists) f goes = each-append (λ (d : Deed). d.number ≤ high d.shard) (deeds_of g x.back) (behind_deeds (g + 1) lists) here
+    (behind-within high (g + 1) lists (λ k low. subst (λ m. last_of (list_at (whole_lists lists) k) ≤ high m) (shift g k) (f (suc k) (omega (arith, low)))) goes.1)
   where
+    shift : (a b : ℕ) → a + suc b ≡ a + 1 + b
+    shift a b = omega arith
+
     last : last_of (x.done ++ x.back) ≡ last_of x.done + length x.back
     last = last-goes_on x.done x.back goes.0
 
@@ -265,12 +266,6 @@ behind-within high g (x ∷ lists) f goes = each-append (λ (d : Deed). d.number
 
     here : AllByRecursion (λ (d : Deed). d.number ≤ high d.shard) (deeds_of g x.back)
     here = numbered x.back (last_of x.done) (omega (arith, last, top)) goes.0
-
-    rest : AllByRecursion (λ (d : Deed). d.number ≤ high d.shard) (behind_deeds (g + 1) lists)
-    rest = behind-within high (g + 1) lists (λ k low. subst (λ m. last_of (list_at (whole_lists lists) k) ≤ high m) (shift g k) (f (suc k) (omega (arith, low)))) goes.1
-      where
-        shift : (a b : ℕ) → a + suc b ≡ a + 1 + b
-        shift a b = omega arith
 
 -- ---- all of it
 

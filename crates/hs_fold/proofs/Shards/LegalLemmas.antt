@@ -1,5 +1,5 @@
 -- What happens by entries so far is changes alone, which are always legal.
-use Rattle.std.proofs.Common.{◌≡◌, ℕ, ◌+◌, ◌==◌, ◌&&◌, List, [], ◌∷◌, ◌++◌, Bool, true, false, cond, Option, Some, None, is_none, Result, Ok, Err}
+use Rattle.std.proofs.Common.{ℕ, ◌+◌, ◌==◌, ◌&&◌, List, [], ◌∷◌, ◌++◌, Bool, true, false, cond, Option, Some, None, is_none, Result, Ok, Err}
 use Rattle.hs_limits.specs.declared.address.Address.{Address}
 use Rattle.hs_limits.specs.declared.spelling.SpellingFault.{SpellingFault}
 use Rattle.hs_limits.specs.Block.{Block}
@@ -11,7 +11,7 @@ use Rattle.hs_entry.specs.declared.entry.Entry.TheVariants as kind
 use Rattle.hs_fold.specs.Catalogue.{Present, Shard}
 use Rattle.hs_fold.specs.Shards.Catalogue.{Catalogue, present_at, apply, catalogue_of}
 use Rattle.hs_fold.specs.Shards.Change.{Change, stores, gives, keeps, drops}
-use Rattle.hs_fold.specs.Shards.Happening.{Happening, changes, enters, sweeps, happen, AreLegal, block_happens, mark_happens, key_happens, happening_of, and_then, happens, happenings}
+use Rattle.hs_fold.specs.Shards.Happening.{Happening, changes, enters, sweeps, happen, AreLegal, block_happens, mark_happens, happening_of, and_then, happens, happenings}
 use Rattle.hs_fold.specs.Shards.Parted.{Parted, behind_happenings}
 use Rattle.hs_fold.specs.Shards.Setting.{Numbered, Setting, shard_in}
 

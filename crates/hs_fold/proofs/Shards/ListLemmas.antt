@@ -1,5 +1,5 @@
 -- What lists of entries of several shards change.
-use Rattle.std.proofs.Common.{◌≡◌, ℕ, zero, suc, ◌+◌, List, [], ◌∷◌, ◌++◌, length, Option, Some, None, refl, sym, ap, ◌∙◌, subst, arith}
+use Rattle.std.proofs.Common.{◌≡◌, ℕ, suc, ◌+◌, List, [], ◌∷◌, ◌++◌, length, Option, Some, None, refl, sym, ap, ◌∙◌, subst, arith}
 use Rattle.hs_limits.specs.declared.address.Address.{Address}
 use Rattle.hs_model.specs.Store.{Store}
 use Rattle.hs_entry.specs.declared.entry.Entry.{Entry}
@@ -83,7 +83,7 @@ behind-step set front (x ∷ lists) count h =
     go (behind-step set front' lists count' mine')
     ∙ sym (happen-append (store_of (front ++ catalogues set (length front) (done_lists (x ∷ lists)))) (happenings (happens at settled x.back)) (behind_happenings set (length front + 1) lists))
   where
-    abbrev n : ℕ
+    n : ℕ
     n = set.shape.shards
 
     at : Shard

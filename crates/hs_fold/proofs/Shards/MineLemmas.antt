@@ -1,12 +1,10 @@
 -- Each entry keeps a catalogue's parts of its shard and in order.
-use Rattle.std.proofs.Common.{◌≡◌, inl, inr, ℕ, suc, arith, ◌+◌, ◌==◌, ◌&&◌, List, [], ◌∷◌, ◌++◌, length, Bool, true, false, cond, Option, Some, None, is_none, Result, Ok, Err, refl, sym, ap, ◌∙◌, subst, find}
-use Rattle.std.proofs.lemmas.Bool.{and_parts}
+use Rattle.std.proofs.Common.{◌≡◌, inl, inr, ℕ, suc, arith, ◌+◌, ◌==◌, ◌&&◌, List, [], ◌∷◌, ◌++◌, length, Bool, true, false, cond, Option, Some, None, is_none, Result, Ok, Err, refl, sym, ap, ◌∙◌, subst}
 use Rattle.std.proofs.lemmas.Bool.Decides.{nat_tests}
 use Rattle.std.proofs.lemmas.Map.{keys-set_value}
-use Rattle.std.specs.BTreeMap.{is_at, insert_entry}
+use Rattle.std.specs.BTreeMap.{is_at}
 use Rattle.std.specs.List.{AllByRecursion}
 use Rattle.std.specs.List.Sorted.{IsStrictlySortedBy}
-use Rattle.std.specs.Map.{keys_of}
 use Rattle.hs_limits.specs.declared.address.Address.{Address}
 use Rattle.hs_limits.specs.declared.spelling.SpellingFault.{SpellingFault}
 use Rattle.hs_limits.specs.Block.{Block}
@@ -20,7 +18,7 @@ use Rattle.hs_model.proofs.Members.{Member}
 use Rattle.hs_entry.specs.declared.entry.Entry.{Entry}
 use Rattle.hs_entry.specs.declared.entry.Entry.TheVariants as kind
 use Rattle.hs_fold.specs.Catalogue.{Present, Shard, fresh_present}
-use Rattle.hs_fold.specs.Shards.Catalogue.{Catalogue, empty_catalogue, present_at, is_fresh, has_room, is_stored, with_present, store_block, is_marked, marked, give_block, retained_in, is_rooted, keep_root, drop_key, apply, apply_all}
+use Rattle.hs_fold.specs.Shards.Catalogue.{Catalogue, empty_catalogue, present_at, is_fresh, has_room, with_present, store_block, is_marked, marked, give_block, retained_in, keep_root, drop_key, apply, apply_all}
 use Rattle.hs_fold.specs.Shards.Mine.{IsRising, IsMine, AreMine}
 
 -- the laws of the plain store say the order of roots in the same words

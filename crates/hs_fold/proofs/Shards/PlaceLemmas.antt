@@ -2,10 +2,8 @@
 use Rattle.std.proofs.Common.{◌≡◌, ◌≢◌, ℕ, zero, suc, ◌+◌, ◌<◌, List, [], ◌∷◌, ◌++◌, length, refl, sym, ap, ◌∙◌, subst, arith}
 use Rattle.std.proofs.lemmas.Grind.{common_steps}
 use Rattle.std.specs.Prelude.{slice_set}
-use Rattle.hs_fold.specs.Shards.Catalogue.{Catalogue, empty_catalogue}
+use Rattle.hs_fold.specs.Shards.Catalogue.{Catalogue}
 use Rattle.hs_fold.specs.Shards.Fits.{catalogue_at}
-use Rattle.hs_fold.specs.Shards.Mine.{AreMine}
-use Rattle.hs_fold.proofs.Shards.MineLemmas.{mine-set}
 
 pub at-place : (front back : List Catalogue) (c : Catalogue) → catalogue_at (front ++ c ∷ back) (length front) ≡ c
 at-place [] back c = refl

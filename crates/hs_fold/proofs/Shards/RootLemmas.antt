@@ -1,23 +1,16 @@
 -- Roots of several shards in their order.
-use Rattle.std.proofs.Common.{◌≡◌, ◌≢◌, ◌⊎◌, inl, inr, ℕ, ◌+◌, ◌<◌, ◌≤◌, ◌==◌, ◌&&◌, List, [], ◌∷◌, ◌++◌, length, Bool, true, false, cond, Option, Some, None, is_none, refl, sym, ap, ◌∙◌, subst, arith, Ordering, Less, Equal, Greater, is_gt, is_eq, find, bytes_eq, nat_cmp, count_by}
-use Rattle.std.proofs.lemmas.Bool.{and_parts, eq-eqb, ne_eqb}
-use Rattle.std.proofs.lemmas.Cmp.{nat_cmp_total, then_total, on_total, upto}
+use Rattle.std.proofs.Common.{◌≡◌, ℕ, ◌+◌, List, [], ◌∷◌, Bool, true, false, cond, Option, Some, None, refl, sym, ap, ◌∙◌, arith, Ordering, Less, Equal, Greater, is_gt, is_eq, find, nat_cmp, count_by}
+use Rattle.std.proofs.lemmas.Cmp.{upto}
 use Rattle.std.proofs.lemmas.List.Sums.{sum_by-cons}
 use Rattle.std.proofs.lemmas.Map.Text.{is_eq-slice_cmp}
 use Rattle.std.proofs.lemmas.Slice.Eq.{bytes_eq-Decides}
-use Rattle.std.specs.Cmp.{IsTotalOrder}
-use Rattle.std.specs.Cmp.Lexicographic.{on_texts, slice_cmp}
 use Rattle.std.specs.List.{AllByRecursion}
 use Rattle.std.specs.Ordering.{ordering_reverse, ordering_then}
-use Rattle.hs_limits.specs.declared.address.Address.{Address}
-use Rattle.hs_limits.specs.Shape.{shard_of_key}
-use Rattle.hs_model.specs.Store.{Root, root_cmp, text_cmp, address_cmp, dropped_cmp, place_root, without_first, is_retained}
+use Rattle.hs_model.specs.Store.{Root, root_cmp, text_cmp, address_cmp, dropped_cmp, place_root, without_first}
 use Rattle.hs_model.proofs.Members.{same_from}
 use Rattle.hs_laws.proofs.InsertLemmas.{compare}
-use Rattle.hs_laws.proofs.OrderLemmas.{Before, Rising, place-rising, dropped_total, root_total, before-flips, before-all, place-all}
-use Rattle.hs_fold.specs.Shards.Catalogue.{Catalogue}
-use Rattle.hs_fold.specs.Shards.Mine.{IsMine, AreMine}
-use Rattle.hs_fold.specs.Shards.Opened.{both_roots, all_roots}
+use Rattle.hs_laws.proofs.OrderLemmas.{Before, Rising, place-rising, root_total, before-flips, before-all, place-all}
+use Rattle.hs_fold.specs.Shards.Opened.{both_roots}
 
 abbrev pub gt : Root → Root → Bool
 gt x y = is_gt (root_cmp x y)

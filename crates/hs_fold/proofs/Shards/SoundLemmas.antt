@@ -1,15 +1,14 @@
 -- Sound lists stay sound.
 use Rattle.std.proofs.Common.{◌≡◌, ℕ, zero, suc, ◌+◌, ◌<◌, ◌≤◌, List, [], ◌∷◌, length, map, refl, sym, ap, ◌∙◌, subst, arith}
 use Rattle.std.proofs.lemmas.List.Elements.{All-cons, All-nil, All-head, All-tail}
-use Rattle.std.specs.Prelude.{All, AllPairs, replicate}
+use Rattle.std.specs.Prelude.{All, replicate}
 use Rattle.hs_laws.proofs.PromiseLemmas.{empty_valid}
 use Rattle.hs_laws.proofs.ValidLemmas.{valid_from_is, is_from_valid}
 use Rattle.hs_laws.specs.Valid.{IsValid}
-use Rattle.hs_model.specs.Store.{Store, empty_store}
+use Rattle.hs_model.specs.Store.{empty_store}
 use Rattle.hs_fold.specs.Lawful.{list_at}
 use Rattle.hs_fold.specs.Prefix.{last_of}
 use Rattle.hs_fold.specs.Shards.Catalogue.{Catalogue, empty_catalogue, catalogue_of}
-use Rattle.hs_fold.specs.Shards.History.{no_entries}
 use Rattle.hs_fold.specs.Shards.Opened.{all_present, all_roots, store_of, catalogues}
 use Rattle.hs_fold.specs.Shards.Parted.{Parted, done_lists, whole_lists, MayAllWait}
 use Rattle.hs_fold.specs.Shards.Setting.{Numbered, Setting, shard_in}

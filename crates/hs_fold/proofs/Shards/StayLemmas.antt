@@ -1,13 +1,12 @@
 -- What an entry leaves of a shard's catalogue: its epoch, and each block that was there.
-use Rattle.std.proofs.Common.{◌≡◌, ◌≢◌, ℕ, ◌+◌, ◌==◌, ◌&&◌, List, Bool, true, false, cond, Option, Some, None, is_none, Result, Ok, Err, refl, sym, ap, ◌∙◌, subst}
+use Rattle.std.proofs.Common.{◌≡◌, ◌≢◌, ℕ, ◌==◌, List, Bool, true, false, cond, Option, Some, None, Result, Ok, Err, refl, sym, ap, ◌∙◌}
 use Rattle.std.specs.BTreeMap.{insert_entry, is_at}
 use Rattle.std.specs.Map.{lookup, set_value}
 use Rattle.hs_limits.specs.declared.address.Address.{Address}
 use Rattle.hs_limits.specs.declared.spelling.SpellingFault.{SpellingFault}
 use Rattle.hs_limits.specs.Block.{Block}
 use Rattle.hs_limits.specs.Reading.{read_block}
-use Rattle.hs_limits.specs.Shape.{shard_of, shard_of_key}
-use Rattle.hs_model.specs.declared.store.StoredBlock.{StoredBlock}
+use Rattle.hs_limits.specs.Shape.{shard_of_key}
 use Rattle.hs_model.specs.Judge.{drop_root, roots_with}
 use Rattle.hs_model.specs.Reach.{is_same}
 use Rattle.hs_model.specs.Store.{address_cmp}
@@ -18,7 +17,7 @@ use Rattle.hs_laws.proofs.OrderLemmas.{address_total}
 use Rattle.hs_entry.specs.declared.entry.Entry.{Entry}
 use Rattle.hs_entry.specs.declared.entry.Entry.TheVariants as kind
 use Rattle.hs_fold.specs.Catalogue.{Present, Shard, fresh_present}
-use Rattle.hs_fold.specs.Shards.Catalogue.{Catalogue, present_at, is_fresh, has_room, is_stored, with_present, store_block, is_marked, marked, give_block, retained_in, is_rooted, keep_root, drop_key, apply}
+use Rattle.hs_fold.specs.Shards.Catalogue.{Catalogue, present_at, is_stored, with_present, store_block, is_marked, marked, give_block, retained_in, is_rooted, keep_root, drop_key, apply}
 use Rattle.hs_fold.specs.Shards.Mine.{IsMine}
 
 module _ (at : Shard) (c : Catalogue) where

@@ -14,7 +14,6 @@ use Rattle.std.specs.Option.{option_map}
 use Rattle.hs_limits.specs.declared.address.Address.{Address}
 use Rattle.hs_limits.specs.declared.spelling.SpellingFault.{SpellingFault}
 use Rattle.hs_limits.specs.Block.{Block}
-use Rattle.hs_limits.specs.declared.limits.Limits.{Limits}
 use Rattle.hs_limits.specs.Limits.{greatest_limits}
 use Rattle.hs_limits.specs.Reading.{read_block}
 use Rattle.hs_limits.specs.Shape.{shard_of, shard_of_key}
@@ -24,7 +23,7 @@ use Rattle.hs_model.specs.declared.store.StoredBlock.{StoredBlock}
 use Rattle.hs_model.specs.Judge.{drop_root, roots_with}
 use Rattle.hs_model.specs.Refusals.{shard_full, key_taken, roots_full, keeps_other, refused_when}
 use Rattle.hs_model.specs.Store.{Store, Root, address_cmp, block_at, epoch_at, shard_at, blocks_in, with_block, blocks_with, retained_at, roots_in, root_epoch, is_retained, place_root, without_first, with_roots}
-use Rattle.hs_model.proofs.MapLemmas.{map-insert_entry, map-set_value, insert-present}
+use Rattle.hs_model.proofs.MapLemmas.{map-insert_entry, insert-present}
 use Rattle.hs_laws.proofs.OrderLemmas.{address_total, Rising, insert-sorted, none-sorted}
 use Rattle.hs_model.specs.Reach.{is_same}
 use Rattle.hs_model.proofs.Members.{same_from, at_is_same}
@@ -36,9 +35,9 @@ use Rattle.hs_fold.proofs.Shards.RootLemmas.{both-place, place-both, both-rising
 use Rattle.hs_fold.specs.Catalogue.{Present, Shard, fresh_present}
 use Rattle.hs_fold.specs.Lawful.{shard_at as shard_in}
 use Rattle.hs_fold.specs.Opened.{both}
-use Rattle.hs_fold.specs.Shards.Catalogue.{Catalogue, present_at, is_fresh, has_room, with_present, store_block, is_marked, marked, give_block, retained_in, retained_count, takes_root, is_rooted, keep_root, drop_key, apply, apply_all}
-use Rattle.hs_fold.specs.Shards.Change.{Change, stores, gives, keeps, drops, is_usable, is_usable_key, may_keep, change}
-use Rattle.hs_fold.specs.Shards.Happening.{happen_all, happen_by, block_happens, mark_happens, key_happens, happening_of, and_then, happens, happenings}
+use Rattle.hs_fold.specs.Shards.Catalogue.{Catalogue, present_at, is_fresh, has_room, with_present, store_block, is_marked, marked, give_block, retained_in, retained_count, takes_root, keep_root, drop_key, apply}
+use Rattle.hs_fold.specs.Shards.Change.{stores, gives, keeps, drops, is_usable, may_keep, change}
+use Rattle.hs_fold.specs.Shards.Happening.{changes, happen_by, block_happens, mark_happens, key_happens, happening_of}
 use Rattle.hs_fold.specs.Shards.Mine.{IsMine, AreMine}
 use Rattle.hs_fold.specs.Shards.Opened.{all_present, all_roots, both_roots, store_of}
 

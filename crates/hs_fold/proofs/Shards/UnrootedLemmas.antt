@@ -1,16 +1,14 @@
 -- Without its roots a catalogue is what the text for one shard says of its list.
-use Rattle.std.proofs.Common.{◌≡◌, ℕ, ◌+◌, ◌≤◌, ◌==◌, List, [], ◌∷◌, length, map, Bool, true, false, cond, Option, Some, None, Result, Ok, Err, refl, sym, ap, ◌∙◌, subst}
+use Rattle.std.proofs.Common.{◌≡◌, ℕ, ◌+◌, ◌≤◌, ◌==◌, List, [], ◌∷◌, length, map, Bool, true, false, cond, Option, None, Result, Ok, Err, refl, sym, ap, ◌∙◌, subst}
 use Rattle.std.proofs.lemmas.List.Elements.{All-head, All-tail}
 use Rattle.std.specs.Prelude.{All}
 use Rattle.hs_limits.specs.declared.address.Address.{Address}
-use Rattle.hs_limits.specs.declared.shape.Shape.{Shape}
 use Rattle.hs_limits.specs.declared.spelling.SpellingFault.{SpellingFault}
 use Rattle.hs_limits.specs.Block.{Block}
-use Rattle.hs_limits.specs.Limits.{greatest_limits}
 use Rattle.hs_limits.specs.Reading.{read_block}
 use Rattle.hs_limits.specs.Shape.{shard_of_key}
 use Rattle.hs_model.specs.Judge.{drop_root, roots_with}
-use Rattle.hs_model.specs.Store.{Store, Root, with_roots}
+use Rattle.hs_model.specs.Store.{with_roots}
 use Rattle.hs_entry.specs.declared.entry.Entry.{Entry}
 use Rattle.hs_entry.specs.declared.entry.Entry.TheVariants as kind
 use Rattle.hs_fold.specs.Catalogue.{Present, Shard, fresh_present}

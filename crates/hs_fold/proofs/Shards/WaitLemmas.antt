@@ -1,5 +1,5 @@
 -- Entries that may come keep a store valid, and stay so behind any other entry.
-use Rattle.std.proofs.Common.{◌≡◌, ◌≢◌, inl, inr, ℕ, ◌+◌, ◌<◌, ◌≤◌, ◌==◌, ◌&&◌, List, [], ◌∷◌, ◌++◌, length, Bool, true, false, cond, Option, Some, None, is_none, Result, Ok, Err, refl, sym, ap, ◌∙◌, subst, arith, nat_le}
+use Rattle.std.proofs.Common.{◌≡◌, ◌≢◌, inl, inr, ℕ, ◌+◌, ◌<◌, ◌==◌, ◌&&◌, List, ◌∷◌, ◌++◌, length, Bool, true, false, cond, Option, Some, None, is_none, Result, Ok, Err, refl, sym, ap, ◌∙◌, subst, arith, nat_le}
 use Rattle.std.proofs.lemmas.Bool.{cases_eq}
 use Rattle.std.proofs.lemmas.Bool.Decides.{nat_tests}
 use Rattle.std.specs.Prelude.{slice_set}
@@ -9,8 +9,8 @@ use Rattle.hs_limits.specs.declared.spelling.SpellingFault.{SpellingFault}
 use Rattle.hs_limits.specs.Block.{Block}
 use Rattle.hs_limits.specs.Reading.{read_block}
 use Rattle.hs_limits.specs.Shape.{shard_of, shard_of_key}
-use Rattle.hs_model.specs.Store.{Store, block_at, root_epoch}
-use Rattle.hs_model.proofs.Members.{Member, contains_from_member, member_from_contains}
+use Rattle.hs_model.specs.Store.{Store, root_epoch}
+use Rattle.hs_model.proofs.Members.{contains_from_member, member_from_contains}
 use Rattle.hs_model.proofs.ReachLemmas.{reached_from_is, is_from_reached}
 use Rattle.hs_laws.specs.Valid.{rests_on}
 use Rattle.hs_laws.proofs.ValidLemmas.{Valid}
@@ -19,7 +19,7 @@ use Rattle.hs_entry.specs.declared.entry.Entry.TheVariants as kind
 use Rattle.hs_fold.specs.Catalogue.{Present, Shard}
 use Rattle.hs_fold.specs.Lawful.{Deed, shard_at}
 use Rattle.hs_fold.specs.Shards.Catalogue.{Catalogue, present_at, is_fresh, apply}
-use Rattle.hs_fold.specs.Shards.Change.{Change, stores, gives, keeps, drops, is_usable, is_usable_key}
+use Rattle.hs_fold.specs.Shards.Change.{stores, gives, keeps, drops}
 use Rattle.hs_fold.specs.Shards.Fits.{catalogue_at, EachRests, BlockRests, MarkRests, RootRests, MayCome}
 use Rattle.hs_fold.specs.Shards.Happening.{Happening, changes, enters, sweeps, happen_by, block_happens, mark_happens, key_happens, happening_of}
 use Rattle.hs_fold.specs.Shards.History.{applied, follow}
@@ -81,9 +81,9 @@ module _ (front back : List Catalogue) (c : Catalogue) (mine : AreMine (all_shar
       go : (p : Bool) → (shard_of at.shards a == at.shard) ≡ p → (found : Option Present) → present_at c a ≡ found → cond (p && is_none found) (Some (changes (stores least a block))) None ≡ Some one → AllowedBy s one
       go true here None none h =
           let of : shard_of at.shards a ≡ at.shard = same-is (shard_of at.shards a) at.shard here in
-          subst (λ x. AllowedBy s x) (inside (changes (stores least a block)) one h)
-          ( block-is front back c mine a of ∙ ap (λ f. option_map (λ (k : Present). k.stored) f) none
-          , λ usable. rest-on s least block.pointers (rests (sym (usable-is front back c mine a of least) ∙ usable) block is)
+          subst (λ x. AllowedBy s x) (inside (changes (stores least a block)) one h) (
+            block-is front back c mine a of ∙ ap (λ f. option_map (λ (k : Present). k.stored) f) none,
+            λ usable. rest-on s least block.pointers (rests (sym (usable-is front back c mine a of least) ∙ usable) block is),
           )
       go true here (Some x) found h = cc h
       go false here found none h = cc h
@@ -95,10 +95,10 @@ module _ (front back : List Catalogue) (c : Catalogue) (mine : AreMine (all_shar
       go : (t : Bool) → (kept.number == number) ≡ t → cond t (Some (changes (gives least a))) None ≡ Some one → AllowedBy s one
       go true same h =
           let here : shard_of at.shards a ≡ at.shard = found-mine at.shards at.shard c.blocks a kept own.blocks is in
-          subst (λ x. AllowedBy s x) (inside (changes (gives least a)) one h)
-          ( kept.stored
-          , block-is front back c mine a here ∙ ap (λ f. option_map (λ (k : Present). k.stored) f) is
-          , λ usable. rest-on s least kept.stored.pointers (rests (sym (usable-is front back c mine a here least) ∙ usable) kept is (same-is kept.number number same))
+          subst (λ x. AllowedBy s x) (inside (changes (gives least a)) one h) (
+            kept.stored,
+            block-is front back c mine a here ∙ ap (λ f. option_map (λ (k : Present). k.stored) f) is,
+            λ usable. rest-on s least kept.stored.pointers (rests (sym (usable-is front back c mine a here least) ∙ usable) kept is (same-is kept.number number same)),
           )
       go false same h = cc h
 
@@ -147,7 +147,7 @@ module _ (front back : List Catalogue) (c : Catalogue) (mine : AreMine (all_shar
 pub deed-keeps : (set : Setting) (deed : Deed) (cs : List Catalogue) → length cs ≡ set.shape.shards → deed.shard < set.shape.shards → AreMine set.shape.shards 0 cs → Valid (store_of cs) → MayCome cs deed.shard deed.entry → Kept (store_of cs) (store_of (follow set cs deed))
 deed-keeps set deed cs all low = on-place (λ ds k. AreMine n 0 ds → Valid (store_of ds) → MayCome ds k deed.entry → Kept (store_of ds) (store_of (slice_set ds k (apply (shard_at set.name n k) (catalogue_at ds k) (deed.number, deed.entry))))) n go cs deed.shard all low
   where
-    abbrev n : ℕ
+    n : ℕ
     n = set.shape.shards
 
     go : (front back : List Catalogue) (c : Catalogue) → length front + (1 + length back) ≡ n → AreMine n 0 (front ++ c ∷ back) → Valid (store_of (front ++ c ∷ back)) → MayCome (front ++ c ∷ back) (length front) deed.entry

@@ -1,5 +1,5 @@
 -- What an operation does to the plain store that no session asks for any more.
-use Rattle.std.specs.Prelude.{ℕ, ◌+◌, Bool, ◌&&◌, if◌then◌else◌, List, Option, Some, None, is_none, nat_le}
+use Rattle.std.specs.Prelude.{ℕ, ◌+◌, Bool, ◌&&◌, if◌then◌else◌, List, None, is_none, nat_le}
 use Rattle.std.specs.BTreeMap.{insert_entry}
 use Rattle.hs_limits.specs.declared.address.Address.{Address}
 use Rattle.hs_limits.specs.Block.{Block}

@@ -1,8 +1,7 @@
 -- The plain store of some catalogues, one for each shard, and that at which lists open.
 use Rattle.std.specs.Prelude.{ℕ, List, [], ◌∷◌, ◌+◌, map}
-use Rattle.std.specs.BTreeMap.{insert_entry}
 use Rattle.hs_limits.specs.declared.address.Address.{Address}
-use Rattle.hs_model.specs.Store.{Root, Store, address_cmp, place_root}
+use Rattle.hs_model.specs.Store.{Root, Store, place_root}
 use Rattle.hs_fold.specs.Catalogue.{Present}
 use Rattle.hs_fold.specs.Opened.{both, chosen_each}
 use Rattle.hs_fold.specs.Shards.Catalogue.{Catalogue, catalogue_of}

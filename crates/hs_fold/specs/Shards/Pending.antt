@@ -1,10 +1,13 @@
 -- The entries of the lists that count which have not taken effect, and what they do.
-use Rattle.std.specs.Prelude.{ℕ, ◌+◌, List, [], ◌∷◌, ◌++◌, Option, Some, None}
+use Rattle.std.specs.Prelude.{ℕ, ◌+◌, List, [], ◌∷◌, ◌++◌, Option, Some}
+use Rattle.hs_limits.specs.declared.limits.Limits.{Limits}
+use Rattle.hs_model.specs.Run.{Event, IsLegal, run}
+use Rattle.hs_model.specs.Store.{Store}
 use Rattle.hs_entry.specs.declared.entry.Entry.{Entry}
 use Rattle.hs_fold.specs.Catalogue.{Shard}
 use Rattle.hs_fold.specs.Pending.{asked_by, behind, up_to}
 use Rattle.hs_fold.specs.Shards.Catalogue.{catalogue_of}
-use Rattle.hs_fold.specs.Shards.Happening.{Happening, happens}
+use Rattle.hs_fold.specs.Shards.Happening.{AreLegal, Happening, happens}
 use Rattle.hs_fold.specs.Shards.Setting.{Numbered, Setting, shard_in}
 
 -- of one list, those behind a number, each with what happens by it
@@ -25,3 +28,8 @@ with_line asked happened lines = lines
 abbrev pub changing_lines : List (Entry × Option Happening) → List ℕ
 changing_lines [] = []
 changing_lines (e ∷ es) = with_line (asked_by e.0) e.1 (changing_lines es)
+
+-- the events of a run from a store and then what happens by what is pending are one legal run
+pub record AreOneRun (limits : Limits) (entry : Store) (events : List Event) (more : List Happening) : Type 0 where
+  pub events_legal : IsLegal limits entry events
+  pub more_legal : AreLegal (run limits entry events) more

@@ -1,5 +1,5 @@
 -- When a list of entries is a prefix of another.
-use Rattle.std.specs.Prelude.{◌≡◌, ℕ, ◌≤◌, false, List, [], ◌∷◌, Contains, fold}
+use Rattle.std.specs.Prelude.{◌≡◌, ℕ, ◌≤◌, false, Contains, fold}
 use Rattle.hs_entry.specs.declared.entry.Entry.{Entry}
 use Rattle.hs_entry.specs.declared.entry.Entry.TheVariants as kind
 use Rattle.hs_entry.specs.Entries.{is_of_base}

@@ -1,5 +1,5 @@
 -- Which lists a run may begin with.
-use Rattle.std.specs.Prelude.{◌≡◌, ℕ, ◌≤◌, List, [], ◌∷◌, length, All, AllPairs}
+use Rattle.std.specs.Prelude.{ℕ, ◌≤◌, List, [], ◌∷◌, length, All, AllPairs}
 use Rattle.hs_limits.specs.Limits.{greatest_limits}
 use Rattle.hs_laws.specs.Valid.{IsValid}
 use Rattle.hs_entry.specs.declared.entry.Entry.{Entry}

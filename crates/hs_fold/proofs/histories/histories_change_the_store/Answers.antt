@@ -1,3 +1,4 @@
+use Rattle.std.proofs.Common.{◌<◌}
 use Rattle.std.proofs.lemmas.List.Elements.{recursion_from_All}
 use Rattle.hs_fold.proofs.Shards.DeedLemmas.{deed-step, deeds-step}
 use Rattle.hs_fold.proofs.histories.histories_change_the_store.Goals as goal
