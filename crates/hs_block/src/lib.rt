@@ -5,8 +5,6 @@ mod block;
 mod fault;
 mod names;
 mod print;
-#[cfg(test)]
-mod tests;
 
 pub use block::{Block, no_spelling_begins_another, write_spelling};
 pub use fault::BlockFault;

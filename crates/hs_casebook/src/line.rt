@@ -1,4 +1,6 @@
 //! The lines of a file of cases.
+ghost use Rattle.std.specs.Prelude.{◌≡◌, ◌++◌};
+
 use std::alloc::{AllocError, Global};
 
 /// A line of a file that says something: its number, from 1, its first word, and what stands behind
@@ -50,7 +52,9 @@ pub fn split_word(line: &[u8]) -> (&[u8], &[u8]) {
 }
 
 /// The lines of the first case, which begins with the first line, and those of the others.
-pub fn split_case(lines: &[CaseLine]) -> (&[CaseLine], &[CaseLine]) {
+pub fn split_case(lines: &[CaseLine]) -> (&[CaseLine], &[CaseLine])
+    ensures whole { lines.now ≡ result.0.now ++ result.1.now }
+{
     let behind = lines
         .iter()
         .skip(1)

@@ -1,4 +1,6 @@
 //! Numbers in decimal digits.
+ghost use Rattle.std.specs.Prelude.{◌≤◌, IfOk};
+
 use crate::CaseFault;
 use crate::line::split_word;
 use std::alloc::Global;
@@ -39,7 +41,9 @@ pub fn small_of(word: &[u8]) -> Result<u8, CaseFault> {
 }
 
 /// The first and the last number of a word `A..B`, or one number twice.
-pub fn range_of(word: &[u8]) -> Result<(u64, u64), CaseFault> {
+pub fn range_of(word: &[u8]) -> Result<(u64, u64), CaseFault>
+    ensures ordered { IfOk result (λ range. range.0 ≤ range.1) }
+{
     let (first, last) = match word.iter().position(|byte| *byte == b'.') {
         None => (word, word),
         Some(end) => match &word[end..] {

@@ -1,7 +1,7 @@
 //! A case of any kind.
 use crate::runs::judge_runs;
 use hs_casebook::{Budget, CaseFault, CaseLine, Malformed, Names, passes_of, plain_of};
-use hs_compare::{Report, judge_pairs, judge_plain};
+use hs_compare::{Report, judge_calls, judge_pairs, judge_plain};
 use std::alloc::Global;
 use std::io;
 
@@ -30,6 +30,7 @@ pub fn judge_case(
             Ok(None) => Ok(()),
             Err(malformed) => report.malformed(malformed),
         },
+        b"disk" => judge_calls(alloc, budget, names, lines, report),
         _ => judge_pairs(alloc, budget, names, lines, report),
     }
 }

@@ -5,5 +5,3 @@ mod greatest;
 
 pub use greatest::choose;
 
-#[cfg(test)]
-mod tests;

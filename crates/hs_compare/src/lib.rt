@@ -2,6 +2,7 @@
 #![tactic(auto)]
 
 mod asked;
+mod calls;
 mod difference;
 mod fits;
 mod options;
@@ -14,6 +15,7 @@ mod show_entry;
 mod show_line;
 mod show_side;
 
+pub use calls::judge_calls;
 pub use options::{Options, options_of};
 pub use pairs::judge_pairs;
 pub use plain::judge_plain;

@@ -12,6 +12,23 @@ use hs_casebook::{
 use std::alloc::Global;
 use std::io;
 
+/// What answers the first line of a pair.
+pub trait Answers {
+    /// Puts what comes of a line, or answers why the line can't be read.
+    fn put_answer(
+        &mut self,
+        alloc: Global,
+        budget: &mut Budget,
+        names: &Names,
+        asked: &CaseLine,
+        out: &mut Vec<u8>,
+    ) -> io::Result<Result<(), CaseFault>>;
+}
+
+/// What reading gives: no line knows of another.
+#[derive(Clone, Copy)]
+struct Reading;
+
 /// Judges lines that stand in pairs: what is read, and `gives` with what has to come of it.
 pub fn judge_pairs(
     alloc: Global,
@@ -20,10 +37,22 @@ pub fn judge_pairs(
     lines: &[CaseLine],
     report: &mut Report,
 ) -> io::Result<()> {
+    judge_answers(alloc, budget, names, &mut Reading, lines, report)
+}
+
+/// Judges lines that stand in pairs: one that is answered, and `gives` with what has to come of it.
+pub fn judge_answers<A: Answers>(
+    alloc: Global,
+    budget: &mut Budget,
+    names: &Names,
+    answers: &mut A,
+    lines: &[CaseLine],
+    report: &mut Report,
+) -> io::Result<()> {
     for pair in lines.chunks(2) {
         match pair {
             [asked, wanted] if wanted.word.as_slice() == b"gives".as_slice() => {
-                judge_pair(alloc, budget, names, asked, wanted, report)?;
+                judge_pair(alloc, budget, names, answers, asked, wanted, report)?;
             }
             [first, ..] => report.malformed(unknown(first))?,
             [] => {}
@@ -41,16 +70,17 @@ fn unknown(line: &CaseLine) -> Malformed {
 }
 
 /// Judges one pair.
-fn judge_pair(
+fn judge_pair<A: Answers>(
     alloc: Global,
     budget: &mut Budget,
     names: &Names,
+    answers: &mut A,
     asked: &CaseLine,
     wanted: &CaseLine,
     report: &mut Report,
 ) -> io::Result<()> {
     let mut came = Vec::new(alloc);
-    if let Err(fault) = put_read(alloc, budget, names, asked, &mut came)? {
+    if let Err(fault) = answers.put_answer(alloc, budget, names, asked, &mut came)? {
         return report.malformed(Malformed {
             at: asked.at,
             fault,
@@ -65,27 +95,29 @@ fn judge_pair(
     }
 }
 
-/// Puts what reading gives, or answers why the line can't be read.
-fn put_read(
-    alloc: Global,
-    budget: &mut Budget,
-    names: &Names,
-    asked: &CaseLine,
-    out: &mut Vec<u8>,
-) -> io::Result<Result<(), CaseFault>> {
-    let bytes = match bytes_read(alloc, budget, names, asked) {
-        Ok(bytes) => bytes,
-        Err(fault) => return Ok(Err(fault)),
-    };
-    match asked.word.as_slice() {
-        b"block" => put_block(alloc, &bytes, out)?,
-        b"entry" => put_entry(alloc, &bytes, out)?,
-        b"side" => put_opened(alloc, &bytes, out)?,
-        b"line" => put_said(alloc, &bytes, out)?,
-        b"address" => return put_address(alloc, asked, &bytes, out),
-        _ => return Ok(Err(CaseFault::UnknownWord)),
+impl Answers for Reading {
+    fn put_answer(
+        &mut self,
+        alloc: Global,
+        budget: &mut Budget,
+        names: &Names,
+        asked: &CaseLine,
+        out: &mut Vec<u8>,
+    ) -> io::Result<Result<(), CaseFault>> {
+        let bytes = match bytes_read(alloc, budget, names, asked) {
+            Ok(bytes) => bytes,
+            Err(fault) => return Ok(Err(fault)),
+        };
+        match asked.word.as_slice() {
+            b"block" => put_block(alloc, &bytes, out)?,
+            b"entry" => put_entry(alloc, &bytes, out)?,
+            b"side" => put_opened(alloc, &bytes, out)?,
+            b"line" => put_said(alloc, &bytes, out)?,
+            b"address" => return put_address(alloc, asked, &bytes, out),
+            _ => return Ok(Err(CaseFault::UnknownWord)),
+        }
+        Ok(Ok(()))
     }
-    Ok(Ok(()))
 }
 
 /// The bytes that are read: a line as its text, others as their words say.

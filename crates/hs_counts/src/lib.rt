@@ -7,5 +7,3 @@ mod fault;
 pub use counts::Counts;
 pub use fault::CountFault;
 
-#[cfg(test)]
-mod tests;

@@ -13,5 +13,3 @@ pub use job::{Job, Next, Work};
 pub use slip::Slip;
 pub use token::Token;
 
-#[cfg(test)]
-mod tests;

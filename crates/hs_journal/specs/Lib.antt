@@ -1,4 +1,3 @@
 pub mod Told
 pub mod Events
 pub mod Order
-pub mod Notes

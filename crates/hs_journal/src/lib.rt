@@ -9,5 +9,3 @@ pub use entry::{JournalEntry, Who};
 pub use fault::JournalFault;
 pub use journal::Journal;
 
-#[cfg(test)]
-mod tests;

@@ -7,5 +7,3 @@ mod marks;
 pub use fault::MarkFault;
 pub use marks::Marks;
 
-#[cfg(test)]
-mod tests;

@@ -7,5 +7,3 @@ mod members;
 pub use fault::MemberFault;
 pub use members::{Members, home_of};
 
-#[cfg(test)]
-mod tests;

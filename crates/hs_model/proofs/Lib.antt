@@ -9,6 +9,8 @@ pub mod AcyclicLemmas
 pub mod FirstLemmas
 pub mod HoldLemmas
 pub mod JudgeLemmas
+pub mod PlaceLemmas
+pub mod CountLemmas
 pub mod RootLemmas
 pub mod RefusalLemmas
 pub mod FilledLemmas

@@ -35,9 +35,9 @@ less-all cmp o k x [] l h = tt
 less-all cmp o k x (y ∷ ks) l h = (o.trans k x y l h.0, less-all cmp o k x ks l h.1)
 
 module _ {K V : Type 0} where
-  none-at : (cmp : K → K → Ordering) (k : K) (es : List (K × V)) → AllByRecursion (λ y. cmp k y ≡ Less) (keys_of es) → lookup (is_at (cmp k)) es ≡ None
-  none-at cmp k [] h = refl
-  none-at cmp k (x ∷ es) h = rw h.0 (none-at cmp k es h.1)
+  pub lookup-below : (cmp : K → K → Ordering) (k : K) (es : List (K × V)) → AllByRecursion (λ y. cmp k y ≡ Less) (keys_of es) → lookup (is_at (cmp k)) es ≡ None
+  lookup-below cmp k [] h = refl
+  lookup-below cmp k (x ∷ es) h = rw h.0 (lookup-below cmp k es h.1)
 
   -- a key that is there gets the value
   pub insert-present : (cmp : K → K → Ordering) → IsTotalOrder cmp → (es : List (K × V)) (k : K) (v w : V) → IsStrictlySortedBy cmp (keys_of es) → lookup (is_at (cmp k)) es ≡ Some v → insert_entry cmp es k w ≡ set_value (is_at (cmp k)) es w
@@ -47,7 +47,7 @@ module _ {K V : Type 0} where
       go : (lookup (is_at (cmp k)) es ≡ Some v → insert_entry cmp es k w ≡ set_value (is_at (cmp k)) es w)
           → (r : Ordering) → cmp k x.0 ≡ r → cond (is_eq r) (Some x.1) (lookup (is_at (cmp k)) es) ≡ Some v
           → match_ordering r ((k, w) ∷ x ∷ es) ((x.0, w) ∷ es) (x ∷ insert_entry cmp es k w) ≡ cond (is_eq r) ((x.0, w) ∷ es) (x ∷ set_value (is_at (cmp k)) es w)
-      go ih Less e h = let none = none-at cmp k es (less-all cmp o k x.0 (keys_of es) e (sorted_head cmp x.0 (keys_of es) d)) in cc (none, h)
+      go ih Less e h = let none = lookup-below cmp k es (less-all cmp o k x.0 (keys_of es) e (sorted_head cmp x.0 (keys_of es) d)) in cc (none, h)
       go ih Equal e h = refl
       go ih Greater e h = ap (λ rest. x ∷ rest) (ih h)
 

@@ -1,6 +1,7 @@
 -- What a sweep removes, by what was seen from its anchors.
-use Rattle.std.proofs.Common.{◌≡◌, ℕ, ◌+◌, List, ◌++◌, Bool, true, false, not, refl, sym, ap, ◌∙◌, map, filter, length, nat_le, slice_index, slice_set}
+use Rattle.std.proofs.Common.{◌≡◌, ℕ, ◌+◌, List, ◌++◌, Bool, true, false, not, ◌||◌, refl, sym, ap, ◌∙◌, map, filter, length, nat_le, slice_index, slice_set}
 use Rattle.std.proofs.lemmas.Bool.{false≢true}
+use Rattle.std.proofs.lemmas.List.Folds.{list_any-append}
 use Rattle.std.specs.List.{IsDistinct}
 use Rattle.std.specs.Map.{keys_of}
 use Rattle.hs_limits.specs.declared.address.Address.{Address}
@@ -16,6 +17,7 @@ use Rattle.hs_model.specs.Plain.{entry_of, root_of, plain_of}
 use Rattle.hs_model.specs.Reach.{is_same, is_among, IsReached, reached_from, counts_in, anchors, is_swept, unreachable}
 use Rattle.hs_model.specs.Store.{Store, Root}
 use Rattle.hs_model.specs.Swept.{removes}
+use Rattle.hs_model.proofs.Members.{contains_from_member, member_from_contains, among_from_member, member_from_among}
 use Rattle.hs_model.proofs.ReachLemmas.{listed_is, is_listed}
 use Rattle.hs_model.proofs.SetLemmas.{filter_of_map, filter_same}
 
@@ -42,9 +44,27 @@ unreachable_is s run seen list d l h e =
 
 -- ---- the same of a store in memory
 
-pub anchors_of_parts : (s : Store) (run : ℕ) (roots : List PlainRoot) (rooted given all : List Address) → map root_of roots ≡ s.roots → rooted ≡ map (λ (root : PlainRoot). root.address) (filter (λ (root : PlainRoot). counts_in run (root_of root)) roots) → given ≡ map (λ (e : Address × ℕ). e.0) (filter (λ (e : Address × ℕ). nat_le run (e.1 + 1)) s.given) → all ≡ rooted ++ given → all ≡ anchors s run
-anchors_of_parts s run roots rooted given all same r g e =
-    e ∙ rw (r, g, ← same) (rw (filter_of_map (λ (root : Root). root.address) (counts_in run) root_of roots))
+-- the anchors are among those of its two parts
+pub anchors_of_parts : (s : Store) (run : ℕ) (rooted given all : List Address) → ((a : Address) → is_among rooted a ≡ is_among (map (λ (root : Root). root.address) (filter (counts_in run) s.roots)) a) → given ≡ map (λ (e : Address × ℕ). e.0) (filter (λ (e : Address × ℕ). nat_le run (e.1 + 1)) s.given) → all ≡ rooted ++ given → (a : Address) → is_among all a ≡ is_among (anchors s run) a
+anchors_of_parts s run rooted given all r g e a =
+    let roots : List Address = map (λ (root : Root). root.address) (filter (counts_in run) s.roots) in
+    let gifts : List Address = map (λ (e : Address × ℕ). e.0) (filter (λ (e : Address × ℕ). nat_le run (e.1 + 1)) s.given) in
+    ap (λ (z : List Address). is_among z a) (e ∙ ap (λ (z : List Address). rooted ++ z) g)
+    ∙ list_any-append (is_same a) rooted gifts
+    ∙ ap (λ z. z || is_among gifts a) (r a)
+    ∙ sym (list_any-append (is_same a) roots gifts)
+
+-- what is reached hangs on what is among the anchors alone
+reached_alike : (s : Store) (xs ys : List Address) → ((a : Address) → is_among xs a ≡ is_among ys a) → (b : Address) → IsReached s xs b → IsReached s ys b
+reached_alike s xs ys same b r = record {
+  start = r.start;
+  path = r.path;
+  anchored = contains_from_member r.start ys (member_from_among r.start ys (sym (same r.start) ∙ among_from_member r.start xs (member_from_contains r.start xs r.anchored)));
+  leads = r.leads;
+}
+
+pub listed_alike : (s : Store) (xs ys seen : List Address) → ((a : Address) → is_among xs a ≡ is_among ys a) → IsListOf seen (IsReached s xs) → IsListOf seen (IsReached s ys)
+listed_alike s xs ys seen same h a = (λ t. reached_alike s xs ys same a ((h a).0 t), λ r. (h a).1 (reached_alike s ys xs (λ b. sym (same b)) a r))
 
 store_is : (s t : Store) → s.blocks ≡ t.blocks → s.given ≡ t.given → s.roots ≡ t.roots → s.epochs ≡ t.epochs → s.swept ≡ t.swept → s.sessions ≡ t.sessions → s ≡ t
 store_is s t b g r e w n = λ i. record { blocks = b i; given = g i; roots = r i; epochs = e i; swept = w i; sessions = n i }

@@ -6,6 +6,7 @@ pub mod Peel
 pub mod Pointing
 pub mod Swept
 pub mod RootWords
+pub mod Counted
 pub mod Hollow
 pub mod Inner
 pub mod Refusals

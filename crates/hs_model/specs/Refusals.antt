@@ -4,6 +4,7 @@ use Rattle.std.specs.Cmp.Lexicographic.{pointwise}
 use Rattle.hs_limits.specs.declared.address.Address.{Address}
 use Rattle.hs_limits.specs.declared.address.Held.{Held}
 use Rattle.hs_limits.specs.declared.limits.Limits.{Limits}
+use Rattle.hs_limits.specs.declared.spelling.TheConstants.{MOST_POINTERS, MOST_BYTES}
 use Rattle.hs_limits.specs.Block.{Block}
 use Rattle.hs_limits.specs.Shape.{shard_of_key}
 use Rattle.hs_model.specs.declared.reply.Reply.{Reply}
@@ -77,11 +78,11 @@ stale s name now handles = stale_in (session_at s name) now handles
 
 -- more data bytes than a block takes
 abbrev pub too_long : List ℕ → Option Reply
-too_long payload = refused_when (nat_lt 65536 (length payload)) (reply.TooLong (length payload))
+too_long payload = refused_when (nat_lt MOST_BYTES (length payload)) (reply.TooLong (length payload))
 
 -- more pointers than a block takes
 abbrev pub too_many : List ℕ → Option Reply
-too_many handles = refused_when (nat_lt 64 (length handles)) (reply.TooMany (length handles))
+too_many handles = refused_when (nat_lt MOST_POINTERS (length handles)) (reply.TooMany (length handles))
 
 -- whether a stored block is this one
 abbrev pub is_block : StoredBlock → Block → Bool

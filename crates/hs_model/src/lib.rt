@@ -2,6 +2,7 @@
 #![tactic(auto)]
 
 mod answer;
+mod blocks;
 mod command;
 mod course;
 mod deed;
@@ -26,6 +27,3 @@ pub use plain::{PlainBlock, PlainRoot, PlainStore};
 pub use reply::Reply;
 pub use slow::{peel, reached, unreachable};
 pub use store::StoredBlock;
-
-#[cfg(test)]
-mod tests;

@@ -19,18 +19,21 @@ mod stat;
 mod sweep;
 mod write;
 
+use crate::blocks::Blocks;
 use crate::roots::Roots;
 use crate::seat::Seat;
-use crate::{Answer, ModelFault, Op, StoredBlock};
+use crate::{Answer, ModelFault, Op};
 use hs_limits::{Address, Held, Key, Limits, Name, Shape, shard_of, shard_of_key};
 use std::alloc::Global;
 use std::collections::BTreeMap;
 use std::marker::Model;
 
-/// A store that keeps everything in memory, in ordered maps.
+/// A store that keeps everything in memory, in ordered maps. Blocks and retained roots are counted
+/// by shard as they come and go: no operation goes over all of them, or over all sessions. Delete
+/// goes over the roots that were dropped.
 #[derive(Drop)]
 pub struct MemoryStore {
-    blocks: BTreeMap<Address, StoredBlock>,
+    blocks: Blocks,
     given: BTreeMap<Address, u64>,
     roots: Roots,
     epochs: Vec<u64>,
@@ -50,7 +53,7 @@ impl Model for MemoryStore {
     ghost view = { λ a. record {
       blocks = a.blocks.entries;
       given = a.given.entries;
-      roots = a.roots;
+      roots = a.roots.roots;
       epochs = a.epochs.items;
       swept = a.swept.items;
       sessions = a.sessions.entries;
@@ -60,6 +63,8 @@ impl Model for MemoryStore {
       shape : IsShape a.shape;
       epochs : length a.epochs.items ≡ a.shape.shards;
       swept : length a.swept.items ≡ a.shape.shards;
+      blocks : a.blocks.shards ≡ a.shape.shards;
+      roots : a.roots.shards ≡ a.shape.shards;
     } };
 }
 
@@ -71,9 +76,9 @@ impl MemoryStore {
     {
         let shards = usize::from(shape.shards);
         Ok(MemoryStore {
-            blocks: BTreeMap::new(alloc),
+            blocks: Blocks::new(alloc, shape)?,
             given: BTreeMap::new(alloc),
-            roots: Roots::new(alloc),
+            roots: Roots::new(alloc, shape)?,
             epochs: vec![in alloc; 1; shards]?,
             swept: vec![in alloc; 1; shards]?,
             sessions: BTreeMap::new(alloc),

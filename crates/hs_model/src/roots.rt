@@ -1,137 +1,177 @@
-//! The retention roots of the plain store, in their order.
-ghost use Rattle.std.specs.Prelude.{◌≡◌, ◌+◌, ◌==◌, ◌&&◌, [], map, filter, find, count_by, position, is_none, nat_le, OnOk};
-ghost use Rattle.std.specs.Option.{option_map};
-ghost use Rattle.std.specs.List.{list_all, prefix_len};
-ghost use Rattle.std.specs.Ordering.{is_gt};
+//! The retention roots of the plain store, with the number of retained ones in each shard.
+ghost use Rattle.std.specs.Prelude.{◌≡◌, ◌+◌, ◌==◌, ◌&&◌, ◌<◌, [], map, filter, count_by, is_none, nat_le, IfOk, OnOk};
+ghost use Rattle.std.specs.List.{list_all};
 ghost use Rattle.hs_limits.specs.Shape.{IsShape, shard_of_key};
-ghost use Rattle.hs_model.specs.Plain.{root_of};
-ghost use Rattle.hs_model.specs.RootWords.{retained_address, dropping, stays_in};
-ghost use Rattle.hs_model.specs.Store.{root_cmp, dropped_cmp, is_retained, place_root};
+ghost use Rattle.hs_limits.specs.declared.address.Address.{Address};
+ghost use Rattle.hs_model.specs.Reach.{counts_in, is_among};
+ghost use Rattle.hs_model.specs.RootWords.{retained_address, keeping, dropping, stays_in, gone_root};
 
-use crate::{ModelFault, PlainRoot};
+use crate::ModelFault;
+use crate::slow::is_since;
 use hs_limits::{Address, Key, Shape, shard_of_key};
 use std::alloc::Global;
-use std::cmp::Ordering;
+use std::collections::BTreeMap;
 use std::marker::Model;
 
-/// Roots in the order of key, epoch of the drop, and address. Look-ups go over the list.
+/// A root that was dropped, in this epoch of its shard.
+#[derive(Drop)]
+struct DroppedRoot {
+    key: Key,
+    address: Address,
+    epoch: u64,
+}
+
+/// What keys retain, how many keys of each shard do, and the roots that were dropped, in the order in
+/// which they were. No call looks a dropped root up: those that need one go over all of them.
 #[derive(Drop)]
 pub(crate) struct Roots {
-    items: Vec<PlainRoot>,
+    kept: BTreeMap<Key, Address>,
+    counts: Vec<usize>,
+    gone: Vec<DroppedRoot>,
+    shape: Shape,
+    alloc: Global,
 }
 
 impl Model for Roots {
-    ghost use Rattle.std.specs.Prelude.{List, map};
-    ghost use Rattle.hs_model.specs.Plain.{root_of};
-    ghost use Rattle.hs_model.specs.Store.{Root};
+    ghost use Rattle.std.specs.Prelude.{◌≡◌, ◌==◌, length, count_by};
+    ghost use Rattle.std.specs.List.Sorted.{IsStrictlySortedBy};
+    ghost use Rattle.std.specs.Map.{keys_of};
+    ghost use Rattle.hs_limits.specs.Shape.{IsShape, shard_of_key};
+    ghost use Rattle.hs_model.specs.Counted.{CountedRoots, AreCounts};
+    ghost use Rattle.hs_model.specs.RootWords.{roots_of};
+    ghost use Rattle.hs_model.specs.Store.{text_cmp};
 
-    ghost Value = { List Root };
+    ghost Value = { CountedRoots };
 
-    ghost view = { λ a. map root_of a.items.items };
+    ghost view = { λ a. record { shards = a.shape.shards; roots = roots_of a.kept.entries a.gone.items } };
+
+    ghost invariant = { λ a. record {
+      shape : IsShape a.shape;
+      shards : length a.counts.items ≡ a.shape.shards;
+      ascending : IsStrictlySortedBy text_cmp (keys_of a.kept.entries);
+      counts : AreCounts a.counts.items (λ shard. count_by (λ e. shard_of_key a.shape.shards e.0 == shard) a.kept.entries);
+    } };
 }
 
 impl Roots {
-    /// No roots. It takes no memory.
-    pub(crate) fn new(alloc: Global) -> Roots
-        ensures { result ≡ [] }
+    /// No roots.
+    pub(crate) fn new(alloc: Global, shape: Shape) -> Result<Roots, ModelFault>
+        requires { IsShape shape }
+        ensures { IfOk result (λ roots. roots ≡ record { shards = shape.shards; roots = [] }) }
     {
-        Roots {
-            items: Vec::new(alloc),
-        }
-    }
-
-    /// The roots in their order.
-    pub(crate) fn as_slice(&self) -> &[PlainRoot]
-        ensures { map root_of result.now ≡ self.now }
-    {
-        self.items.as_slice()
+        Ok(Roots {
+            kept: BTreeMap::new(alloc),
+            counts: vec![in alloc; 0; usize::from(shape.shards)]?,
+            gone: Vec::new(alloc),
+            shape,
+            alloc,
+        })
     }
 
     /// The address that a key retains.
     pub(crate) fn retained(&self, key: &Key) -> Option<Address>
-        ensures { result ≡ retained_address self.now key.now }
+        ensures { result ≡ retained_address self.now.roots key.now }
     {
-        retained(key, self.items.as_slice())
+        self.kept.get(key).copied()
     }
 
     /// How many roots are retained.
     pub(crate) fn retained_count(&self) -> usize
-        ensures { result ≡ count_by (λ root. is_none root.dropped) self.now }
+        ensures { result ≡ count_by (λ root. is_none root.dropped) self.now.roots }
     {
-        self.items
-            .iter()
-            .filter(|root| root.dropped.is_none())
-            .count()
+        self.kept.len()
     }
 
     /// How many roots are retained in a shard.
-    pub(crate) fn retained_in(&self, shape: Shape, shard: u8) -> usize
-        requires { IsShape shape }
-        ensures { result ≡ count_by
-            (λ root. is_none root.dropped && shard_of_key shape.shards root.key == shard) self.now }
+    pub(crate) fn retained_in(&self, shard: u8) -> usize
+        requires { shard < self.now.shards }
+        ensures { let shards = self.now.shards in
+            result ≡ count_by (λ root. is_none root.dropped && shard_of_key shards root.key == shard)
+            self.now.roots }
     {
-        self.items
-            .iter()
-            .filter(|root| is_in(root, shape, shard))
-            .count()
+        self.counts[usize::from(shard)]
     }
 
-    /// Adds a root at its place.
-    pub(crate) fn place(&mut self, root: PlainRoot) -> Result<(), ModelFault>
-        ensures { OnOk result (self.new ≡ place_root (root_of root) self.old) }
+    /// A key retains an address, unless it retains one already. Without memory the roots stay as
+    /// they were.
+    pub(crate) fn keep(&mut self, key: Key, address: Address) -> Result<(), ModelFault>
+        ensures roots { OnOk result (self.new.roots ≡ keeping self.old.roots key address) }
+        ensures shards { self.new.shards ≡ self.old.shards }
     {
-        let place = place_of(&root, self.items.as_slice());
-        self.items.insert(place, root)?;
+        if self.kept.contains_key(&key) {
+            return Ok(());
+        }
+        let shard = usize::from(shard_of_key(&key, self.shape));
+        let Some(count) = self.counts[shard].checked_add(1) else {
+            return Err(ModelFault::NoMemory);
+        };
+        self.kept.insert(key, address)?;
+        self.counts[shard] = count;
         Ok(())
     }
 
-    /// Drops the retained root of a key in an epoch, if there is one.
+    /// Drops the retained root of a key in an epoch, if there is one. Without memory the roots stay
+    /// as they were.
     pub(crate) fn drop_key(&mut self, key: &Key, epoch: u64) -> Result<(), ModelFault>
-        ensures { OnOk result (self.new ≡ dropping self.old key.now epoch) }
+        ensures roots { OnOk result (self.new.roots ≡ dropping self.old.roots key.now epoch) }
+        ensures shards { self.new.shards ≡ self.old.shards }
     {
-        let Some(place) = retained_place(key, self.items.as_slice()) else {
+        let Some(address) = self.kept.get(key).copied() else {
             return Ok(());
         };
-        let PlainRoot { key, address, .. } = self.items.remove(place);
-        self.place(PlainRoot {
-            key,
+        self.gone.push(DroppedRoot {
+            key: key.copy(self.alloc)?,
             address,
-            dropped: Some(epoch),
-        })
+            epoch,
+        })?;
+        self.kept.remove(key);
+        let shard = usize::from(shard_of_key(key, self.shape));
+        self.counts[shard] -= 1;
+        Ok(())
     }
 
-    /// Gives up the roots that count in no epoch any more.
+    /// Gives up the roots that count in no epoch any more. It goes over all that were dropped.
     pub(crate) fn keep_counting(&mut self, epochs: &[u64])
-        ensures { self.new ≡ filter (stays_in epochs.now) self.old }
+        ensures roots { self.new.roots ≡ filter (stays_in epochs.now) self.old.roots }
+        ensures shards { self.new.shards ≡ self.old.shards }
     {
-        self.items.retain(|root| stays_in(epochs, root));
+        self.gone.retain(|root| !are_past(root.epoch, epochs));
+    }
+
+    /// The addresses of the roots that count in an epoch's run, in no order. It goes over all roots.
+    pub(crate) fn counting(&self, epoch: u64) -> Result<Vec<Address>, ModelFault>
+        ensures { IfOk result (λ found. (a : Address) → is_among found.items a
+            ≡ is_among (map (λ root. root.address) (filter (counts_in epoch) self.now.roots)) a) }
+    {
+        let mut found = kept_addresses(self.alloc, &self.kept)?;
+        let gone = gone_addresses(self.alloc, self.gone.as_slice(), epoch)?;
+        found.extend_from_slice(gone.as_slice())?;
+        Ok(found)
     }
 }
 
-/// Whether a root is retained under a key.
-fn is_retained(key: &Key, root: &PlainRoot) -> bool
-    ensures { result ≡ is_retained key.now (root_of root.now) }
+/// The addresses that keys retain.
+fn kept_addresses(alloc: Global, kept: &BTreeMap<Key, Address>) -> Result<Vec<Address>, ModelFault>
+    ensures { IfOk result (λ found. found.items ≡ map (λ e. e.1) kept.now.entries) }
 {
-    root.dropped.is_none() && root.key == *key
+    Ok(kept.iter().map(|(_, address)| *address).collect(alloc)?)
 }
 
-/// Whether a root is retained in a shard.
-fn is_in(root: &PlainRoot, shape: Shape, shard: u8) -> bool
-    requires { IsShape shape }
-    ensures { result ≡ (is_none root.now.dropped
-        && shard_of_key shape.shards root.now.key == shard) }
+/// The addresses of the dropped roots that count in an epoch's run.
+fn gone_addresses(
+    alloc: Global,
+    gone: &[DroppedRoot],
+    epoch: u64,
+) -> Result<Vec<Address>, ModelFault>
+    ensures { IfOk result (λ found. found.items
+        ≡ map (λ root. root.address) (filter (λ root. nat_le epoch (root.epoch + 1)) gone.now)) }
 {
-    root.dropped.is_none() && shard_of_key(&root.key, shape) == shard
-}
-
-/// Whether a root stays where the shards are in these epochs.
-fn stays_in(epochs: &[u64], root: &PlainRoot) -> bool
-    ensures { result ≡ stays_in epochs.now (root_of root.now) }
-{
-    match root.dropped {
-        None => true,
-        Some(dropped) => !are_past(dropped, epochs),
-    }
+    Ok(
+        gone.iter()
+            .filter(|root| is_since(epoch, root.epoch))
+            .map(|root| root.address)
+            .collect(alloc)?,
+    )
 }
 
 /// Whether each shard's epoch is the second after another or later.
@@ -146,55 +186,4 @@ fn is_past(epoch: u64, now: u64) -> bool
     ensures { result ≡ nat_le (epoch + 2) now }
 {
     epoch < now.saturating_sub(1)
-}
-
-/// The address of the root that is retained under a key.
-fn retained(key: &Key, roots: &[PlainRoot]) -> Option<Address>
-    ensures { result ≡ option_map (λ root. root.address)
-        (find (λ root. is_retained key.now (root_of root)) roots.now) }
-{
-    roots
-        .iter()
-        .find(|root| is_retained(key, root))
-        .map(|root| root.address)
-}
-
-/// The place of a root among others: behind those that it comes after.
-fn place_of(root: &PlainRoot, roots: &[PlainRoot]) -> usize
-    ensures { result
-        ≡ prefix_len (λ other. is_gt (root_cmp (root_of root.now) (root_of other))) roots.now }
-{
-    roots
-        .iter()
-        .take_while(|other| is_after(root, other))
-        .count()
-}
-
-/// The place of the root that is retained under a key.
-fn retained_place(key: &Key, roots: &[PlainRoot]) -> Option<usize>
-    ensures { result ≡ position (λ root. is_retained key.now (root_of root)) roots.now }
-{
-    roots.iter().position(|root| is_retained(key, root))
-}
-
-/// Whether a root comes after another.
-fn is_after(root: &PlainRoot, other: &PlainRoot) -> bool
-    ensures { result ≡ is_gt (root_cmp (root_of root.now) (root_of other.now)) }
-{
-    let keys = root.key.cmp(&other.key);
-    let dropped = dropped_cmp(root.dropped, other.dropped);
-    let addresses = root.address.cmp(&other.address);
-    keys.then(dropped.then(addresses)) == Ordering::Greater
-}
-
-/// A root that is not dropped comes after those that are.
-fn dropped_cmp(dropped: Option<u64>, other: Option<u64>) -> Ordering
-    ensures { result ≡ dropped_cmp dropped other }
-{
-    match (dropped, other) {
-        (None, None) => Ordering::Equal,
-        (None, Some(_)) => Ordering::Greater,
-        (Some(_), None) => Ordering::Less,
-        (Some(epoch), Some(other)) => epoch.cmp(&other),
-    }
 }

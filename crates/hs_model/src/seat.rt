@@ -6,7 +6,7 @@ ghost use Rattle.hs_model.specs.Refusals.{first, too_long, too_many, handles_ful
 ghost use Rattle.hs_model.specs.Store.{new_session, holding, holding_all, held_in, helds_of};
 
 use crate::{ModelFault, Reply};
-use hs_limits::{Address, Held, Limits, ListOf};
+use hs_limits::{Address, Held, Limits, ListOf, MOST_BYTES, MOST_POINTERS};
 use std::alloc::Global;
 use std::collections::BTreeMap;
 use std::marker::Model;
@@ -115,12 +115,12 @@ impl Seat {
             ∷ stale_in (Some self.now) now handles.now
             ∷ []) }
     {
-        if payload.len() > 65_536 {
+        if payload.len() > MOST_BYTES {
             return Some(Reply::TooLong {
                 found: payload.len() as u64,
             });
         }
-        if handles.len() > 64 {
+        if handles.len() > MOST_POINTERS {
             return Some(Reply::TooMany {
                 found: handles.len() as u64,
             });

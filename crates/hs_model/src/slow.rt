@@ -8,4 +8,4 @@ pub use peeling::peel;
 pub(crate) use pointing::{Pointing, has, reach};
 pub use reaching::reached;
 pub use unreached::unreachable;
-pub(crate) use unreached::{Run, is_since, removes, rooted};
+pub(crate) use unreached::{Run, is_since, removes};

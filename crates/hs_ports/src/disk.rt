@@ -1,6 +1,6 @@
 //! A disk of two sides of bytes, and what a crash may leave on it at each moment.
 ghost use Rattle.std.specs.Prelude.{◌≡◌, ◌<◌, ◌≤◌, ◌+◌, ◌^◌, ◌++◌, ℕ, length, take, drop, max, IfOk, IfErr, OnOk, OnErr};
-ghost use Rattle.hs_ports.specs.Fault.{HasCause};
+ghost use Rattle.hs_ports.specs.Fault.{IsCausedBy, IsSteady};
 ghost use Rattle.hs_ports.specs.Watch.{Ticks};
 ghost use Rattle.hs_ports.specs.Disk.{Standing, IsImage, HasRead, IsBetween, Torn, Clipped, Happens, Untouched, other_side, overwritten, written, shortened, settled};
 
@@ -38,8 +38,8 @@ pub trait Disk {
         ensures same { tells → stands self.new ≡ stands self.old }
 
         ensures not_memory { IfErr result (λ fault. fault ≡ PortFault.Failed) }
-        ensures calm { OnOk result (faults self.new ≡ faults self.old) }
-        ensures cause { HasCause (faults self.old) (faults self.new) result };
+        ensures calm { IsSteady (faults self.old) (faults self.new) result }
+        ensures cause { IsCausedBy PortFault.Failed (faults self.old) (faults self.new) result };
 
     /// Appends to `into` at most `max` bytes of a side from the place `at` on, and answers how
     /// many: at least one below the length, and 0 at or past it. A read that fails appends none.
@@ -61,8 +61,8 @@ pub trait Disk {
         ensures same_size { (s : Side) → size self.new s ≡ size self.old s }
         ensures same { tells → stands self.new ≡ stands self.old }
 
-        ensures calm { OnOk result (faults self.new ≡ faults self.old) }
-        ensures cause { HasCause (faults self.old) (faults self.new) result };
+        ensures calm { IsSteady (faults self.old) (faults self.new) result }
+        ensures cause { IsCausedBy PortFault.Failed (faults self.old) (faults self.new) result };
 
     /// Raises the watch, and writes over what is there and past the end. Until a sync, a crash may
     /// leave any bytes in the range. After a fault a read too may give any bytes there, and the
@@ -98,8 +98,8 @@ pub trait Disk {
         ensures same { tells → Untouched (other_side side) (stands self.old) (stands self.new) }
 
         ensures not_memory { IfErr result (λ fault. fault ≡ PortFault.Failed) }
-        ensures calm { OnOk result (faults self.new ≡ faults self.old) }
-        ensures cause { HasCause (faults self.old) (faults self.new) result };
+        ensures calm { IsSteady (faults self.old) (faults self.new) result }
+        ensures cause { IsCausedBy PortFault.Failed (faults self.old) (faults self.new) result };
 
     /// Raises the watch, and cuts a side to a length. Until a sync, a crash may leave any bytes
     /// past it, and a length between. After a fault so may a read.
@@ -127,8 +127,8 @@ pub trait Disk {
         ensures same { tells → Untouched (other_side side) (stands self.old) (stands self.new) }
 
         ensures not_memory { IfErr result (λ fault. fault ≡ PortFault.Failed) }
-        ensures calm { OnOk result (faults self.new ≡ faults self.old) }
-        ensures cause { HasCause (faults self.old) (faults self.new) result };
+        ensures calm { IsSteady (faults self.old) (faults self.new) result }
+        ensures cause { IsCausedBy PortFault.Failed (faults self.old) (faults self.new) result };
 
     /// Raises the watch, and puts a side on the medium: after Ok a crash leaves what a read gives.
     fn sync(&mut self, watch: &mut Watch, side: Side) -> Result<(), PortFault>
@@ -148,8 +148,8 @@ pub trait Disk {
         ensures same { tells → Untouched (other_side side) (stands self.old) (stands self.new) }
 
         ensures not_memory { IfErr result (λ fault. fault ≡ PortFault.Failed) }
-        ensures calm { OnOk result (faults self.new ≡ faults self.old) }
-        ensures cause { HasCause (faults self.old) (faults self.new) result };
+        ensures calm { IsSteady (faults self.old) (faults self.new) result }
+        ensures cause { IsCausedBy PortFault.Failed (faults self.old) (faults self.new) result };
 
     /// A length fits a u64.
     ghost fits: { (disk : Self) (side : Side) → size disk side < 2 ^ 64 };

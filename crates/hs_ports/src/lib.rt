@@ -27,5 +27,3 @@ pub use source::Source;
 pub use tear::Tear;
 pub use watch::Watch;
 
-#[cfg(test)]
-mod tests;

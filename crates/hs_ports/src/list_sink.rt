@@ -1,7 +1,7 @@
 //! A sink in memory, which can be told to fail.
 ghost use Rattle.std.specs.Prelude.{◌≡◌, [], length, map, IsTrue, Some, OnOk, OnErr, IfOk, IfErr};
 ghost use Rattle.std.specs.List.{zip};
-ghost use Rattle.hs_ports.specs.Fault.{HasCause};
+ghost use Rattle.hs_ports.specs.Fault.{IsCausedBy, IsSteady};
 ghost use Rattle.hs_ports.specs.Schedule.{next_call, fails_at};
 ghost use Rattle.hs_ports.specs.Sink.{Put};
 ghost use Rattle.hs_ports.specs.Watch.{Ticks};
@@ -109,7 +109,8 @@ impl Sink for ListSink {
         ensures kept { OnErr result (self.new.got ≡ self.old.got) }
         ensures not_memory { IfErr result (λ fault. fault ≡ PortFault.Failed) }
         ensures later { Ticks watch.old watch.new }
-        ensures cause { HasCause self.old.faults self.new.faults result }
+        ensures calm { IsSteady self.old.faults self.new.faults result }
+        ensures cause { IsCausedBy PortFault.Failed self.old.faults self.new.faults result }
 
         // It fails at the calls that it was told, and its count rises only where it fails.
         ensures exact { IsTrue (fails_at self.old.fails (next_call self.old.calls)) →

@@ -1,6 +1,6 @@
 //! A source in memory, which can be told to fail.
 ghost use Rattle.std.specs.Prelude.{◌≡◌, ◌<◌, ◌≤◌, ◌+◌, length, drop, ◌↔◌, false, IsTrue, IsErrOf, IfOk, OnErr, Some};
-ghost use Rattle.hs_ports.specs.Fault.{HasCause};
+ghost use Rattle.hs_ports.specs.Fault.{IsCausedBy, IsSteady};
 ghost use Rattle.hs_ports.specs.Schedule.{next_call, fails_at};
 ghost use Rattle.hs_ports.specs.Source.{Took, Untaken};
 
@@ -85,7 +85,8 @@ impl Source for ListSource {
             Took (Some self.old.left) into.old.items (Some self.new.left) into.new.items max n) }
         ensures untaken { OnErr result (
             Untaken (Some self.old.left) into.old.items (Some self.new.left) into.new.items) }
-        ensures cause { HasCause self.old.faults self.new.faults result }
+        ensures calm { IsSteady self.old.faults self.new.faults result }
+        ensures cause { IsCausedBy PortFault.Failed self.old.faults self.new.faults result }
 
         // It fails exactly at the calls that it was told.
         ensures exact { IsErrOf result PortFault.Failed ↔

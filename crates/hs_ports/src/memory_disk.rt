@@ -4,7 +4,7 @@ ghost use Rattle.std.specs.Prelude.{IfOk, IfErr, OnOk, OnErr, IsTrue, IsErrOf};
 ghost use Rattle.hs_ports.specs.declared.disk.Side.{Side};
 ghost use Rattle.hs_ports.specs.Disk.{HasRead, IsImage, IsBetween, Torn, Clipped, Happens, Untouched};
 ghost use Rattle.hs_ports.specs.Disk.{other_side, overwritten, written, shortened, settled};
-ghost use Rattle.hs_ports.specs.Fault.{HasCause};
+ghost use Rattle.hs_ports.specs.Fault.{IsCausedBy, IsSteady};
 ghost use Rattle.hs_ports.specs.Schedule.{next_call, fails_at};
 ghost use Rattle.hs_ports.specs.Watch.{Ticks};
 
@@ -111,8 +111,8 @@ impl Disk for MemoryDisk {
         ensures same { stands_of self.new ≡ stands_of self.old }
 
         ensures not_memory { IfErr result (λ fault. fault ≡ PortFault.Failed) }
-        ensures calm { OnOk result (faults_of self.new ≡ faults_of self.old) }
-        ensures cause { HasCause (faults_of self.old) (faults_of self.new) result }
+        ensures calm { IsSteady (faults_of self.old) (faults_of self.new) result }
+        ensures cause { IsCausedBy PortFault.Failed (faults_of self.old) (faults_of self.new) result }
 
         // It fails exactly at the calls that it was told.
         ensures exact { IsErrOf result PortFault.Failed ↔
@@ -144,8 +144,8 @@ impl Disk for MemoryDisk {
         ensures same_size { (s : Side) → size_of self.new s ≡ size_of self.old s }
         ensures same { stands_of self.new ≡ stands_of self.old }
 
-        ensures calm { OnOk result (faults_of self.new ≡ faults_of self.old) }
-        ensures cause { HasCause (faults_of self.old) (faults_of self.new) result }
+        ensures calm { IsSteady (faults_of self.old) (faults_of self.new) result }
+        ensures cause { IsCausedBy PortFault.Failed (faults_of self.old) (faults_of self.new) result }
 
         // It fails exactly at the calls that it was told.
         ensures exact { IsErrOf result PortFault.Failed ↔
@@ -194,8 +194,8 @@ impl Disk for MemoryDisk {
         ensures same { Untouched (other_side side) (stands_of self.old) (stands_of self.new) }
 
         ensures not_memory { IfErr result (λ fault. fault ≡ PortFault.Failed) }
-        ensures calm { OnOk result (faults_of self.new ≡ faults_of self.old) }
-        ensures cause { HasCause (faults_of self.old) (faults_of self.new) result }
+        ensures calm { IsSteady (faults_of self.old) (faults_of self.new) result }
+        ensures cause { IsCausedBy PortFault.Failed (faults_of self.old) (faults_of self.new) result }
 
         // It fails at the calls that it was told.
         ensures exact { IsTrue (fails_at (fails_of self.old) (next_call (calls_of self.old))) →
@@ -234,8 +234,8 @@ impl Disk for MemoryDisk {
         ensures same { Untouched (other_side side) (stands_of self.old) (stands_of self.new) }
 
         ensures not_memory { IfErr result (λ fault. fault ≡ PortFault.Failed) }
-        ensures calm { OnOk result (faults_of self.new ≡ faults_of self.old) }
-        ensures cause { HasCause (faults_of self.old) (faults_of self.new) result }
+        ensures calm { IsSteady (faults_of self.old) (faults_of self.new) result }
+        ensures cause { IsCausedBy PortFault.Failed (faults_of self.old) (faults_of self.new) result }
 
         // It fails at the calls that it was told.
         ensures exact { IsTrue (fails_at (fails_of self.old) (next_call (calls_of self.old))) →
@@ -265,8 +265,8 @@ impl Disk for MemoryDisk {
         ensures same { Untouched (other_side side) (stands_of self.old) (stands_of self.new) }
 
         ensures not_memory { IfErr result (λ fault. fault ≡ PortFault.Failed) }
-        ensures calm { OnOk result (faults_of self.new ≡ faults_of self.old) }
-        ensures cause { HasCause (faults_of self.old) (faults_of self.new) result }
+        ensures calm { IsSteady (faults_of self.old) (faults_of self.new) result }
+        ensures cause { IsCausedBy PortFault.Failed (faults_of self.old) (faults_of self.new) result }
 
         // It fails at the calls that it was told.
         ensures exact { IsTrue (fails_at (fails_of self.old) (next_call (calls_of self.old))) →

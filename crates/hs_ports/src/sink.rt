@@ -1,6 +1,6 @@
 //! A sink of bytes, as the command line writes to one.
 ghost use Rattle.std.specs.Prelude.{◌≡◌, ℕ, List, Option, IfOk, IfErr, OnErr};
-ghost use Rattle.hs_ports.specs.Fault.{HasCause};
+ghost use Rattle.hs_ports.specs.Fault.{IsCausedBy, IsSteady};
 ghost use Rattle.hs_ports.specs.Sink.{Put};
 ghost use Rattle.hs_ports.specs.Watch.{Ticks};
 
@@ -22,5 +22,6 @@ pub trait Sink {
         ensures kept { OnErr result (got self.new ≡ got self.old) }
         ensures not_memory { IfErr result (λ fault. fault ≡ PortFault.Failed) }
         ensures later { Ticks watch.old watch.new }
-        ensures cause { HasCause (faults self.old) (faults self.new) result };
+        ensures calm { IsSteady (faults self.old) (faults self.new) result }
+        ensures cause { IsCausedBy PortFault.Failed (faults self.old) (faults self.new) result };
 }

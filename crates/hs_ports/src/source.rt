@@ -1,6 +1,6 @@
 //! A source of bytes, as the command line reads one.
 ghost use Rattle.std.specs.Prelude.{◌<◌, ℕ, List, Option, IfOk, OnErr};
-ghost use Rattle.hs_ports.specs.Fault.{HasCause};
+ghost use Rattle.hs_ports.specs.Fault.{IsCausedBy, IsSteady};
 ghost use Rattle.hs_ports.specs.Source.{Took, Untaken};
 
 use crate::PortFault;
@@ -21,5 +21,6 @@ pub trait Source {
             Took (left self.old) into.old.items (left self.new) into.new.items max n) }
         ensures untaken { OnErr result (
             Untaken (left self.old) into.old.items (left self.new) into.new.items) }
-        ensures cause { HasCause (faults self.old) (faults self.new) result };
+        ensures calm { IsSteady (faults self.old) (faults self.new) result }
+        ensures cause { IsCausedBy PortFault.Failed (faults self.old) (faults self.new) result };
 }

@@ -11,5 +11,3 @@ pub use fault::PostFault;
 pub use message::Message;
 pub use pool::Pool;
 
-#[cfg(test)]
-mod tests;

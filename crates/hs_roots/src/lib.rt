@@ -9,5 +9,3 @@ pub use fault::RootFault;
 pub use root::RootRecord;
 pub use root_set::RootSet;
 
-#[cfg(test)]
-mod tests;

@@ -19,5 +19,3 @@ pub use fault::ScriptFault;
 pub use print::print_entry;
 pub use read::{LONGEST_LINE, read_line};
 
-#[cfg(test)]
-mod tests;

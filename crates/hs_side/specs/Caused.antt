@@ -1,15 +1,14 @@
 -- What a count of the disk's faults says of an answer.
 use Rattle.std.specs.Prelude.{◌≡◌, ℕ, ◌≤◌, ⊤, Result, Ok, Err, IsErrOf}
-use Rattle.hs_ports.specs.Fault.{HasRisen}
+use Rattle.hs_ports.specs.Fault.{IsCausedBy}
 use Rattle.hs_ports.specs.declared.fault.PortFault.{PortFault}
 use Rattle.hs_ports.specs.declared.fault.PortFault.TheVariants as port
 use Rattle.hs_side.specs.declared.fault.SideFault.{SideFault}
 use Rattle.hs_side.specs.declared.fault.SideFault.TheVariants.{NotALog, Disk, NoMemory}
 
 -- the count never falls, and `Disk` is answered only where it rose in this call
-pub record IsCaused {T : Type 0} (before now : ℕ) (result : Result T SideFault) : Type 0 where
-  pub later : before ≤ now
-  pub disk : IsErrOf result Disk → HasRisen before now
+abbrev pub IsCaused : {T : Type 0} → ℕ → ℕ → Result T SideFault → Type 0
+IsCaused before now result = IsCausedBy Disk before now result
 
 -- Ok, and that the side is no log, are answered only where the count stands: a call that failed is told first
 abbrev pub IsCalm : {T : Type 0} → ℕ → ℕ → Result T SideFault → Type 0

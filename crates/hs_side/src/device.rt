@@ -1,7 +1,7 @@
 //! Calls on a side of a disk, each with its sync where it has one.
 ghost use Rattle.hs_ports.specs.declared.disk.Side.{Side};
 ghost use Rattle.std.specs.Prelude.{◌≡◌, ◌<◌, ◌≤◌, ◌+◌, ℕ, length, max, take, OnOk, OnErr, IfErr};
-ghost use Rattle.hs_ports.specs.Fault.{HasCause};
+ghost use Rattle.hs_ports.specs.Fault.{IsCausedBy};
 ghost use Rattle.hs_ports.specs.Disk.{IsImage, Untouched, other_side, overwritten, written, shortened, settled};
 ghost use Rattle.hs_ports.specs.Watch.{Ticks};
 ghost use Rattle.hs_ports.specs.Moments.{EachMoment};
@@ -23,7 +23,7 @@ pub(crate) fn settle<D: Disk>(disk: &mut D, watch: &mut Watch, side: Side) -> Re
     ensures not_memory { IfErr result (λ fault. fault ≡ PortFault.Failed) }
     ensures calm { OnOk result (D.faults disk.new ≡ D.faults disk.old) }
     ensures ticks { watch.old ≤ watch.new }
-    ensures cause { HasCause (D.faults disk.old) (D.faults disk.new) result }
+    ensures cause { IsCausedBy PortFault.Failed (D.faults disk.old) (D.faults disk.new) result }
 {
     disk.sync(watch, side)
 }
@@ -52,7 +52,7 @@ pub(crate) fn put<D: Disk>(
     ensures not_memory { IfErr result (λ fault. fault ≡ PortFault.Failed) }
     ensures calm { OnOk result (D.faults disk.new ≡ D.faults disk.old) }
     ensures ticks { watch.old ≤ watch.new }
-    ensures cause { HasCause (D.faults disk.old) (D.faults disk.new) result }
+    ensures cause { IsCausedBy PortFault.Failed (D.faults disk.old) (D.faults disk.new) result }
 {
     disk.write_at(watch, side, at, bytes)
 }
@@ -81,7 +81,7 @@ pub(crate) fn put_and_settle<D: Disk>(
     ensures not_memory { IfErr result (λ fault. fault ≡ PortFault.Failed) }
     ensures calm { OnOk result (D.faults disk.new ≡ D.faults disk.old) }
     ensures ticks { watch.old ≤ watch.new }
-    ensures cause { HasCause (D.faults disk.old) (D.faults disk.new) result }
+    ensures cause { IsCausedBy PortFault.Failed (D.faults disk.old) (D.faults disk.new) result }
 {
     put(disk, watch, side, at, bytes)?;
     settle(disk, watch, side)
@@ -109,7 +109,7 @@ pub(crate) fn cut_and_settle<D: Disk>(
     ensures not_memory { IfErr result (λ fault. fault ≡ PortFault.Failed) }
     ensures calm { OnOk result (D.faults disk.new ≡ D.faults disk.old) }
     ensures ticks { watch.old ≤ watch.new }
-    ensures cause { HasCause (D.faults disk.old) (D.faults disk.new) result }
+    ensures cause { IsCausedBy PortFault.Failed (D.faults disk.old) (D.faults disk.new) result }
 {
     disk.cut(watch, side, len)?;
     settle(disk, watch, side)

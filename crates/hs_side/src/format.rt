@@ -2,7 +2,7 @@
 ghost use Rattle.hs_ports.specs.declared.disk.Side.{Side};
 ghost use Rattle.std.specs.Prelude.{◌≡◌, ◌<◌, ◌≤◌, ◌+◌, ◌^◌, [], ◌∷◌, ◌++◌, ℕ, true, false, length, take, drop, None, Some, IsTrue, IfOk, OnOk, IfErr};
 ghost use Rattle.hs_ports.specs.Disk.{byte_at, other_side, settled};
-ghost use Rattle.hs_ports.specs.Fault.{HasCause};
+ghost use Rattle.hs_ports.specs.Fault.{IsCausedBy};
 ghost use Rattle.hs_ports.specs.Moments.{EachMoment};
 ghost use Rattle.hs_side.specs.Caused.{IsCalm, IsCaused, IsOutside};
 ghost use Rattle.hs_side.specs.Giving.{GivesEmpty, IsBlankEverywhere};
@@ -106,7 +106,7 @@ fn trim<D: Disk>(disk: &mut D, watch: &mut Watch, side: Side) -> Result<(), Port
     ensures not_memory { IfErr result (λ fault. fault ≡ PortFault.Failed) }
     ensures calm { OnOk result (D.faults disk.new ≡ D.faults disk.old) }
     ensures ticks { watch.old ≤ watch.new }
-    ensures cause { HasCause (D.faults disk.old) (D.faults disk.new) result }
+    ensures cause { IsCausedBy PortFault.Failed (D.faults disk.old) (D.faults disk.new) result }
 {
     cut_and_settle(disk, watch, side, 1)
 }
@@ -200,7 +200,7 @@ fn write_head<D: Disk>(
     ensures not_memory { IfErr result (λ fault. fault ≡ PortFault.Failed) }
     ensures calm { OnOk result (D.faults disk.new ≡ D.faults disk.old) }
     ensures ticks { watch.old ≤ watch.new }
-    ensures cause { HasCause (D.faults disk.old) (D.faults disk.new) result }
+    ensures cause { IsCausedBy PortFault.Failed (D.faults disk.old) (D.faults disk.new) result }
 {
     put_and_settle(disk, watch, side, 1, &head_of(header, generation))
 }
@@ -232,7 +232,7 @@ fn open_gate<D: Disk>(
     ensures not_memory { IfErr result (λ fault. fault ≡ PortFault.Failed) }
     ensures calm { OnOk result (D.faults disk.new ≡ D.faults disk.old) }
     ensures ticks { watch.old ≤ watch.new }
-    ensures cause { HasCause (D.faults disk.old) (D.faults disk.new) result }
+    ensures cause { IsCausedBy PortFault.Failed (D.faults disk.old) (D.faults disk.new) result }
 {
     put_and_settle(disk, watch, side, 0, &[0xa5])
 }

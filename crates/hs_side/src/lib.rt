@@ -21,5 +21,3 @@ pub use header::Header;
 pub use laws::a_log_is_read_exactly_where_it_is_spelled;
 pub use log::SideLog;
 
-#[cfg(test)]
-mod tests;

@@ -2,7 +2,7 @@
 ghost use Rattle.hs_ports.specs.declared.disk.Side.{Side};
 ghost use Rattle.std.specs.Prelude.{◌≡◌, ◌<◌, ◌≤◌, ◌+◌, ◌++◌, length, take, drop, IfOk, OnOk};
 ghost use Rattle.hs_ports.specs.Disk.{byte_at};
-ghost use Rattle.hs_ports.specs.Fault.{HasCause};
+ghost use Rattle.hs_ports.specs.Fault.{IsCausedBy};
 
 use hs_ports::{Disk, PortFault, Side};
 
@@ -24,7 +24,7 @@ pub(crate) fn fill<D: Disk>(
     ensures same { D.tells → D.stands disk.new ≡ D.stands disk.old }
 
     ensures calm { OnOk result (D.faults disk.new ≡ D.faults disk.old) }
-    ensures cause { HasCause (D.faults disk.old) (D.faults disk.new) result }
+    ensures cause { IsCausedBy PortFault.Failed (D.faults disk.old) (D.faults disk.new) result }
 {
     let mut got = 0;
     'pieces: while got < n {
@@ -49,7 +49,7 @@ pub(crate) fn gate_at<D: Disk>(
     ensures same { D.tells → D.stands disk.new ≡ D.stands disk.old }
 
     ensures calm { OnOk result (D.faults disk.new ≡ D.faults disk.old) }
-    ensures cause { HasCause (D.faults disk.old) (D.faults disk.new) result }
+    ensures cause { IsCausedBy PortFault.Failed (D.faults disk.old) (D.faults disk.new) result }
 {
     held.clear();
     fill(disk, side, at, 1, held)?;

@@ -1,15 +1,14 @@
 -- What a count of the disk's faults says of an answer.
 use Rattle.std.specs.Prelude.{◌≡◌, ℕ, ◌≤◌, ⊤, Result, Ok, Err, IsErrOf}
-use Rattle.hs_ports.specs.Fault.{HasRisen}
+use Rattle.hs_ports.specs.Fault.{IsCausedBy}
 use Rattle.hs_side.specs.declared.fault.SideFault.{SideFault}
 use Rattle.hs_side.specs.declared.fault.SideFault.TheVariants as side
 use Rattle.hs_single.specs.declared.fault.SingleFault.{SingleFault}
 use Rattle.hs_single.specs.declared.fault.SingleFault.TheVariants.{NotALog, WrongShape, Disk, NoMemory}
 
 -- the count never falls, and `Disk` is answered only where it rose in this call
-pub record IsCaused {T : Type 0} (before now : ℕ) (result : Result T SingleFault) : Type 0 where
-  pub later : before ≤ now
-  pub disk : IsErrOf result Disk → HasRisen before now
+abbrev pub IsCaused : {T : Type 0} → ℕ → ℕ → Result T SingleFault → Type 0
+IsCaused before now result = IsCausedBy Disk before now result
 
 -- Ok, and that the disk is no log or is of another store, are answered only where the count stands: a call that failed is told first
 abbrev pub IsCalm : {T : Type 0} → ℕ → ℕ → Result T SingleFault → Type 0

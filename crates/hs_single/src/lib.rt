@@ -20,5 +20,3 @@ pub use load::Loaded;
 pub use places::places_are_numbered;
 pub use single::Single;
 
-#[cfg(test)]
-mod tests;

@@ -8,5 +8,3 @@ mod sessions;
 pub use fault::SeatFault;
 pub use sessions::Sessions;
 
-#[cfg(test)]
-mod tests;

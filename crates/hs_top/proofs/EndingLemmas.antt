@@ -12,6 +12,7 @@ use Rattle.hs_journal.specs.Events.{client_op}
 use Rattle.hs_journal.specs.Order.{IsOfLine}
 use Rattle.hs_ports.specs.Sink.{bytes_of}
 use Rattle.hs_ports.specs.Source.{before}
+use Rattle.hs_script.specs.declared.read.TheConstants.{LONGEST_LINE}
 use Rattle.hs_script.specs.Lines.{before_first, lines_of, line_at}
 use Rattle.hs_script.specs.Reading.{reading, commands_of, commands}
 use Rattle.hs_script.specs.Text.{text}
@@ -117,9 +118,9 @@ first_line (b ∷ c ∷ bs) rest some none =
     rw (ne_eqb b 10 (none 0 (omega arith) (omega arith)), behind.2) (b ∷ behind.0, behind.1, refl, omega (arith, behind.3))
 
 -- a line of more than 200,000 bytes is bad
-pub too_long : (line : List ℕ) → 200000 < length line → is_bad_line (reading line) ≡ true
+pub too_long : (line : List ℕ) → LONGEST_LINE < length line → is_bad_line (reading line) ≡ true
 unfolding reading
-too_long line long = rw (lt-ltb 200000 (length line) long) refl
+too_long line long = rw (lt-ltb LONGEST_LINE (length line) long) refl
 
 -- ---- the end of a run
 

@@ -4,6 +4,7 @@ use Rattle.std.proofs.lemmas.List.{get_or-take}
 use Rattle.std.proofs.lemmas.Bool.{cases_lt}
 use Rattle.std.proofs.Math.Seq.{take-append-add}
 use Rattle.hs_ports.specs.Source.{before}
+use Rattle.hs_script.specs.declared.read.TheConstants.{LONGEST_LINE}
 use Rattle.hs_script.specs.Lines.{lines_of}
 use Rattle.hs_script.specs.Reading.{reading}
 use Rattle.hs_top.specs.declared.status.Status.{Status}
@@ -56,7 +57,7 @@ module _ (script : List ℕ) (n : ℕ) (held : List ℕ) (left : Option (List �
   moved stream = stream ∙ served.left
 
   -- the next line is too long
-  long_is_bad : (rest : Option (List ℕ)) → before held' rest ≡ Some (drop (input_limit - (budget + length held)) script) → HasNoFeed held' 0 (length held') → 200000 < length held' → IsBad (lines_of script) (n + 1)
+  long_is_bad : (rest : Option (List ℕ)) → before held' rest ≡ Some (drop (input_limit - (budget + length held)) script) → HasNoFeed held' 0 (length held') → LONGEST_LINE < length held' → IsBad (lines_of script) (n + 1)
   long_is_bad None pending no_feed long = absurd cc
   long_is_bad (Some rest) pending no_feed long =
       let same : drop (input_limit - (budget + length held)) script ≡ held' ++ rest = cc in

@@ -1,6 +1,7 @@
 -- How lines are read from a source.
 use Rattle.std.specs.Prelude.{◌≡◌, ◌≢◌, ℕ, ◌+◌, ◌-◌, ◌<◌, ◌≤◌, Bool, true, false, List, length, Option, Some, None, slice_index}
 use Rattle.hs_ports.specs.Source.{before, IsEnded}
+use Rattle.hs_script.specs.declared.read.TheConstants.{LONGEST_LINE}
 use Rattle.hs_top.specs.declared.stop.Stop.{Stop}
 use Rattle.hs_top.specs.declared.stop.Stop.TheVariants as stop
 
@@ -49,6 +50,6 @@ Stuck other left held budget left' held' budget' = ⊥
 abbrev pub Halts : Stop → Option (List ℕ) → List ℕ → ℕ → Option (List ℕ) → List ℕ → ℕ → Type 0
 Halts stop.ReadFault left held budget left' held' budget' = Moves left held budget left' held' budget' × HasNoFeed held' 0 (length held')
 Halts stop.NoMemory left held budget left' held' budget' = Moves left held budget left' held' budget'
-Halts stop.BadLine left held budget left' held' budget' = Moves left held budget left' held' budget' × HasNoFeed held' 0 (length held') × (200000 < length held')
+Halts stop.BadLine left held budget left' held' budget' = Moves left held budget left' held' budget' × HasNoFeed held' 0 (length held') × (LONGEST_LINE < length held')
 Halts stop.InputFull left held budget left' held' budget' = Overflows left held budget left' held' budget' × HasNoFeed held' 0 (length held' - 1)
 Halts other left held budget left' held' budget' = ⊥

@@ -22,5 +22,3 @@ pub use status::{Status, TopFault, fault_line};
 pub use top::{hydra, hydra_alone};
 pub use words::{is_load, limits_of, shape_of};
 
-#[cfg(test)]
-mod tests;

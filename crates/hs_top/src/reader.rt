@@ -5,13 +5,11 @@ ghost use Rattle.hs_top.specs.Lines.{HasNoFeed, IsFeedAt, Fills, Stuck, Gathers,
 
 use crate::stop::Stop;
 use hs_ports::{PortFault, Source};
+use hs_script::LONGEST_LINE;
 use std::alloc::Global;
 
 /// How many bytes are asked of the source at once.
 const CHUNK: u64 = 65_536;
-
-/// The greatest length of a line.
-const LINE_MOST: usize = 200_000;
 
 /// The place of the first line feed at or after `from`.
 fn feed_from(bytes: &[u8], from: usize) -> Option<usize>
@@ -69,7 +67,7 @@ fn gather<S: Source>(
 {
     'gathering: loop {
         let from = buffer.len();
-        if from > LINE_MOST {
+        if from > LONGEST_LINE {
             return Err(Stop::BadLine);
         }
         if !fill(source, buffer, budget)? {

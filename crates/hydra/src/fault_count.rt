@@ -1,6 +1,6 @@
 //! How often a device has failed.
 ghost use Rattle.std.specs.Prelude.{◌≡◌, OnOk};
-ghost use Rattle.hs_ports.specs.Fault.{HasCause};
+ghost use Rattle.hs_ports.specs.Fault.{IsCausedBy, IsSteady};
 
 use hs_ports::PortFault;
 
@@ -21,8 +21,8 @@ impl FaultCount {
     /// Hands an answer on, and counts it where it is `Failed`.
     pub fn counted<T>(&mut self, answer: Result<T, PortFault>) -> Result<T, PortFault>
         ensures value { result ≡ answer }
-        ensures calm { OnOk result (self.new.faults ≡ self.old.faults) }
-        ensures cause { HasCause self.old.faults self.new.faults result }
+        ensures calm { IsSteady self.old.faults self.new.faults result }
+        ensures cause { IsCausedBy PortFault.Failed self.old.faults self.new.faults result }
     {
         if let Err(PortFault::Failed) = &answer {
             self.faults = self.faults.saturating_add(1);

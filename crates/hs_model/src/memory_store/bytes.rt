@@ -25,22 +25,20 @@ impl MemoryStore {
     pub fn fill(&mut self, address: &Address, bytes: ListOf<u8>)
         ensures { self.new ≡ filled self.old address.now bytes }
     {
-        if let Some(stored) = self.blocks.get_mut(address) {
-            stored.bytes = bytes;
-        }
+        self.blocks.fill(address, bytes);
     }
 
     /// Whether a block is present. It takes no memory.
     pub fn is_present(&self, address: &Address) -> bool
         ensures { result ≡ is_some (block_at self.now address.now) }
     {
-        self.blocks.contains_key(address)
+        self.blocks.as_map().contains_key(address)
     }
 
     /// How many blocks are present. It takes no memory.
     pub fn block_count(&self) -> usize
         ensures { result ≡ length self.now.blocks }
     {
-        self.blocks.len()
+        self.blocks.as_map().len()
     }
 }

@@ -58,7 +58,7 @@ impl MemoryStore {
     fn pointer_count(&self, address: &Address) -> usize
         ensures { result ≡ length (pointers_of (block_at self.now address.now)) }
     {
-        let Some(stored) = self.blocks.get(address) else {
+        let Some(stored) = self.blocks.as_map().get(address) else {
             return 0;
         };
         stored.pointers.len()
@@ -90,7 +90,7 @@ impl MemoryStore {
     fn bytes_at(&self, address: &Address) -> Result<ListOf<u8>, ModelFault>
         ensures { IfOk result (λ bytes. bytes ≡ bytes_of (block_at self.now address.now)) }
     {
-        let Some(stored) = self.blocks.get(address) else {
+        let Some(stored) = self.blocks.as_map().get(address) else {
             return Ok(ListOf::new(self.alloc));
         };
         Ok(stored.bytes.copy(self.alloc)?)
@@ -100,7 +100,7 @@ impl MemoryStore {
     fn pointers_at(&self, address: &Address) -> Result<ListOf<Address>, ModelFault>
         ensures { IfOk result (λ pointers. pointers ≡ pointers_of (block_at self.now address.now)) }
     {
-        let Some(stored) = self.blocks.get(address) else {
+        let Some(stored) = self.blocks.as_map().get(address) else {
             return Ok(ListOf::new(self.alloc));
         };
         Ok(stored.pointers.copy(self.alloc)?)

@@ -7,7 +7,7 @@ ghost use Rattle.hs_model.specs.Refusals.{first, no_session, no_handle, stale, k
 ghost use Rattle.hs_model.specs.Store.{roots_in, root_epoch};
 
 use super::MemoryStore;
-use crate::{Answer, Asked, Deed, ModelFault, PlainRoot, Reply};
+use crate::{Answer, Asked, Deed, ModelFault, Reply};
 use hs_limits::{Address, Key, Limits, Name, shard_of_key};
 
 impl MemoryStore {
@@ -99,7 +99,7 @@ impl MemoryStore {
             (roots_in self.now (shard_of_key (length self.now.epochs) key.now)) }
     {
         let shard = shard_of_key(key, self.shape);
-        self.roots.retained_in(self.shape, shard) >= limit as usize
+        self.roots.retained_in(shard) >= limit as usize
     }
 
     /// Does what putting a root does that is not refused.
@@ -108,13 +108,7 @@ impl MemoryStore {
         ensures deed { IfOk result (λ answer. answer.deed ≡ (rooted self.old key address).deed) }
         ensures store { OnOk result (self.new ≡ (rooted self.old key address).store) }
     {
-        if self.roots.retained(&key).is_none() {
-            self.roots.place(PlainRoot {
-                key: key.copy(self.alloc)?,
-                address,
-                dropped: None,
-            })?;
-        }
+        self.roots.keep(key.copy(self.alloc)?, address)?;
         Ok(Answer {
             reply: Reply::Ok,
             deed: Deed::Rooted { key, address },

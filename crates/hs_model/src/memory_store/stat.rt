@@ -23,7 +23,7 @@ impl MemoryStore {
         };
         Ok(Answer {
             reply: Reply::Stat {
-                blocks: self.blocks.len() as u64,
+                blocks: self.blocks.as_map().len() as u64,
                 roots: self.roots.retained_count() as u64,
                 sessions,
                 epochs: ListOf::from_vec(Vec::from_slice(self.alloc, self.epochs.as_slice())?),

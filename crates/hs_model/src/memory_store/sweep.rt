@@ -1,22 +1,21 @@
 //! Sweeping an epoch of the plain store.
-ghost use Rattle.std.specs.Prelude.{◌≡◌, ◌+◌, ◌<◌, length, map, filter, not, nat_le, IsTrue, IfOk, OnOk};
+ghost use Rattle.std.specs.Prelude.{◌≡◌, ◌+◌, ◌<◌, length, map, filter, nat_le, IsTrue, IfOk, OnOk};
 ghost use Rattle.std.specs.List.Sorted.{IsStrictlySortedBy};
 ghost use Rattle.std.specs.Map.{keys_of};
-ghost use Rattle.hs_limits.specs.Shape.{IsShape};
+ghost use Rattle.hs_limits.specs.declared.address.Address.{Address};
 ghost use Rattle.hs_limits.specs.declared.limits.Limits.{Limits};
 ghost use Rattle.hs_model.specs.Inner.{may_sweep, sweep};
 ghost use Rattle.hs_model.specs.Pointing.{pointers_in};
 ghost use Rattle.hs_model.specs.Reach.{anchors, is_among};
 ghost use Rattle.hs_model.specs.Run.{step, sweeps};
 ghost use Rattle.hs_model.specs.Store.{address_cmp};
-ghost use Rattle.hs_model.specs.Swept.{removes};
 
 use super::MemoryStore;
-use crate::slow::{Pointing, Run, is_since, reach, removes, rooted};
+use crate::slow::{Pointing, Run, is_since, reach};
 use crate::{Answer, Deed, ModelFault, Reply, StoredBlock};
 use hs_limits::Address;
 use std::alloc::Global;
-use std::collections::{BTreeMap, BTreeSet};
+use std::collections::BTreeMap;
 
 impl MemoryStore {
     /// Whether there is such a shard, and it may sweep its epoch.
@@ -55,9 +54,9 @@ impl MemoryStore {
         ensures store { OnOk result (self.new ≡ sweep self.old shard) }
     {
         let epoch = self.epochs[usize::from(shard)];
-        let before = self.blocks.len();
+        let before = self.block_count();
         self.remove(shard)?;
-        let Ok(removed) = u32::try_from(before - self.blocks.len()) else {
+        let Ok(removed) = u32::try_from(before - self.block_count()) else {
             return Err(ModelFault::NoMemory);
         };
         Ok(Answer {
@@ -73,24 +72,25 @@ impl MemoryStore {
     {
         let epoch = self.epochs[usize::from(shard)];
         let from = self.anchors(epoch)?;
-        let left = pointing(self.alloc, &self.blocks)?;
+        let left = pointing(self.alloc, self.blocks.as_map())?;
         let seen = reach(self.alloc, left, from.as_slice())?;
         let run = Run {
             shape: self.shape,
             epoch,
             shard,
         };
-        remove_blocks(&mut self.blocks, run, &seen);
-        remove_given(&mut self.given, &self.blocks);
+        self.blocks.sweep(run, &seen);
+        remove_given(&mut self.given, self.blocks.as_map());
         self.swept[usize::from(shard)] = epoch;
         Ok(())
     }
 
-    /// The anchors of an epoch's run.
+    /// The anchors of an epoch's run, in no order.
     fn anchors(&self, epoch: u64) -> Result<Vec<Address>, ModelFault>
-        ensures { IfOk result (λ found. found.items ≡ anchors self.now epoch) }
+        ensures { IfOk result (λ found. (a : Address)
+            → is_among found.items a ≡ is_among (anchors self.now epoch) a) }
     {
-        let mut anchors = rooted(self.alloc, self.roots.as_slice(), epoch)?;
+        let mut anchors = self.roots.counting(epoch)?;
         let given = given(self.alloc, &self.given, epoch)?;
         anchors.extend_from_slice(given.as_slice())?;
         Ok(anchors)
@@ -126,15 +126,6 @@ fn pointing(alloc: Global, blocks: &BTreeMap<Address, StoredBlock>) -> Result<Po
         pointing.insert(*address, stored.pointers.copy(alloc)?)?;
     }
     Ok(pointing)
-}
-
-/// Removes the blocks that a sweep removes, where these were seen from its anchors.
-fn remove_blocks(blocks: &mut BTreeMap<Address, StoredBlock>, run: Run, seen: &BTreeSet<Address>)
-    requires { IsShape run.shape }
-    ensures { blocks.new.entries
-        ≡ filter (λ e. not (removes run seen.now.keys e.0 e.1.born)) blocks.old.entries }
-{
-    blocks.retain(|address, stored| !removes(run, seen, address, stored.born));
 }
 
 /// Removes what was given where no block is present.

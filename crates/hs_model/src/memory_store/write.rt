@@ -1,20 +1,16 @@
 //! Writing a block into the plain store.
-ghost use Rattle.std.specs.Prelude.{◌≡◌, ◌==◌, ◌∷◌, [], map, count_by, IfOk, OnOk, is_some, nat_le};
-ghost use Rattle.std.specs.BTreeMap.{is_at};
-ghost use Rattle.std.specs.Map.{lookup};
+ghost use Rattle.std.specs.Prelude.{◌≡◌, ◌∷◌, [], map, IfOk, OnOk, is_some, nat_le};
 ghost use Rattle.hs_limits.specs.Block.{Block};
-ghost use Rattle.hs_limits.specs.Shape.{IsShape, shard_of};
 ghost use Rattle.hs_model.specs.declared.op.Op.TheVariants.{Write};
 ghost use Rattle.hs_model.specs.declared.op.Op.{Op};
 ghost use Rattle.hs_model.specs.Checked.{IsChecked};
 ghost use Rattle.hs_model.specs.Judge.{judge, refusals, address_of, given_address, wrote, written_reply, written_deed};
 ghost use Rattle.hs_model.specs.Refusals.{first, collision, shard_full, is_block, no_session, too_long, too_many, no_handle, handles_full, stale};
-ghost use Rattle.hs_model.specs.Store.{session_at, block_at, blocks_in, shard_at, epoch_at, next_of, hold_all, with_block, blocks_with, block_of, address_cmp};
+ghost use Rattle.hs_model.specs.Store.{session_at, block_at, blocks_in, shard_at, epoch_at, next_of, hold_all, with_block};
 
 use super::{MemoryStore, nothing};
 use crate::{Answer, Asked, Deed, ModelFault, Reply, StoredBlock};
-use hs_limits::{Address, Held, Limits, ListOf, Name, Shape, shard_of};
-use std::collections::BTreeMap;
+use hs_limits::{Address, Held, Limits, ListOf, Name, shard_of};
 
 /// Whether a write is taken: its refusal, or else the addresses that its handles stand for.
 #[derive(Drop)]
@@ -134,7 +130,7 @@ impl MemoryStore {
             ∷ shard_full limits self.now address.now
             ∷ []) }
     {
-        if let Some(stored) = self.blocks.get(address) {
+        if let Some(stored) = self.blocks.as_map().get(address) {
             if is_block(stored, pointers, bytes) {
                 return None;
             }
@@ -149,15 +145,11 @@ impl MemoryStore {
     }
 
     /// Whether as many blocks as the limit are present in the shard of an address.
-    /// The blocks are counted only where the whole store has that many.
     fn is_shard_full(&self, limit: u32, address: &Address) -> bool
         ensures { result ≡ nat_le limit (blocks_in self.now (shard_at self.now address.now)) }
     {
-        if self.blocks.len() < limit as usize {
-            return false;
-        }
         let shard = shard_of(address, self.shape);
-        blocks_in(&self.blocks, self.shape, shard) >= limit as usize
+        self.blocks.count_in(shard) >= limit as usize
     }
 
     /// Does what a write does that is not refused.
@@ -199,7 +191,7 @@ impl MemoryStore {
             bytes,
             born,
         };
-        let present = add_block(&mut self.blocks, address, stored)?;
+        let present = self.blocks.add(address, stored)?;
         self.given.insert(address, born)?;
         Ok(present)
     }
@@ -228,37 +220,6 @@ fn is_block(stored: &StoredBlock, pointers: &[Address], bytes: &[u8]) -> bool
     ensures { result ≡ is_block stored.now (record { pointers = pointers.now; bytes = bytes.now }) }
 {
     stored.pointers.as_slice() == pointers && stored.bytes.as_slice() == bytes
-}
-
-/// How many blocks are present in a shard.
-fn blocks_in(blocks: &BTreeMap<Address, StoredBlock>, shape: Shape, shard: u8) -> usize
-    requires { IsShape shape }
-    ensures { result ≡ count_by (λ e. shard_of shape.shards e.0 == shard) blocks.now.entries }
-{
-    blocks
-        .iter()
-        .filter(|(address, _)| shard_of(address, shape) == shard)
-        .count()
-}
-
-/// Adds a block, unless one of this address is there.
-fn add_block(
-    blocks: &mut BTreeMap<Address, StoredBlock>,
-    address: Address,
-    stored: StoredBlock,
-) -> Result<bool, ModelFault>
-    ensures present { let found = lookup (is_at (address_cmp address)) blocks.old.entries in
-        IfOk result (λ present. present ≡ is_some found) }
-    ensures blocks { let found = lookup (is_at (address_cmp address)) blocks.old.entries in
-        let block = block_of stored in
-        OnOk result (blocks.new.entries
-        ≡ blocks_with found blocks.old.entries address block stored.born) }
-{
-    if blocks.contains_key(&address) {
-        return Ok(true);
-    }
-    blocks.insert(address, stored)?;
-    Ok(false)
 }
 
 /// The answer to a write that was taken.

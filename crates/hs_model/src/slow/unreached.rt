@@ -81,11 +81,7 @@ fn anchors(alloc: Global, store: &PlainStore, epoch: u64) -> Result<Vec<Address>
 }
 
 /// The addresses of the roots that count in an epoch's run.
-pub(crate) fn rooted(
-    alloc: Global,
-    roots: &[PlainRoot],
-    epoch: u64,
-) -> Result<Vec<Address>, ModelFault>
+fn rooted(alloc: Global, roots: &[PlainRoot], epoch: u64) -> Result<Vec<Address>, ModelFault>
     ensures { IfOk result (λ found. found.items
         ≡ map (λ root. root.address) (filter (λ root. counts_in epoch (root_of root)) roots.now)) }
 {

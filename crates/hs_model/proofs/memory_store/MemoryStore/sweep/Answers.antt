@@ -1,4 +1,4 @@
-use Rattle.std.proofs.Common.{◌∙◌, ap, arith, length, not, slice_index}
+use Rattle.std.proofs.Common.{ap, arith, length, not, slice_index}
 use Rattle.hs_limits.specs.declared.address.Address.{Address}
 use Rattle.hs_model.specs.declared.store.StoredBlock.{StoredBlock}
 use Rattle.hs_model.specs.Reach.{is_swept}
@@ -9,6 +9,5 @@ use Rattle.hs_model.proofs.memory_store.MemoryStore.sweep.Goals as goal
 pub overflow_sub-before : goal.overflow_sub-before
 overflow_sub-before c =
     let s = c.args.self.now in
-    let before = ap (λ (z : Store). length z.blocks) c.self.view_is in
-    let after = ap (λ (z : Store). length z.blocks) (c.self-2.view_is ∙ c.in_ok-remove.ensures) in
-    omega (arith, before, after, c.len.ensures.len, c.len-before.ensures.len, filter_le (λ (e : Address × StoredBlock). not (is_swept s (slice_index s.epochs c.args.shard) c.args.shard e)) s.blocks)
+    let after = ap (λ (z : Store). length z.blocks) c.in_ok-remove.ensures in
+    omega (arith, after, c.block_count.ensures, c.block_count-before.ensures, filter_le (λ (e : Address × StoredBlock). not (is_swept s (slice_index s.epochs c.args.shard) c.args.shard e)) s.blocks)

@@ -53,5 +53,5 @@ returns g c =
           no-lists c.args.self.now.log.side entries _ last (g.met.D.Disk.since told c.args.disk.now) alone (has-list c.args.self.now.log.places _ entries list);
       ticks = omega arith;
       calm = refl;
-      cause = record { later = omega arith; disk = λ e. cc e };
+      cause = record { later = omega arith; failed = λ e. cc e };
     }
