@@ -1,5 +1,6 @@
 pub mod EntryLemmas
 mod PartLemmas
+pub mod PlainLemmas
 pub mod DeltaLemmas
 mod GotLemmas
 mod KindLemmas
