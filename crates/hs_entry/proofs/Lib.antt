@@ -1,4 +1,8 @@
 pub mod EntryLemmas
+mod PartLemmas
+pub mod PlainLemmas
+pub mod DeltaLemmas
+mod GotLemmas
 mod KindLemmas
 mod ListLemmas
 pub mod ShortLemmas

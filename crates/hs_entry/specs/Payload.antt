@@ -1,5 +1,5 @@
 -- The payload of an entry: its one spelling.
-use Rattle.std.specs.Prelude.{ℕ, ◌≤◌, ⊤, List, [], ◌∷◌, ◌++◌, length}
+use Rattle.std.specs.Prelude.{ℕ, Bool, true, false, List, [], ◌∷◌, ◌++◌, length}
 use Rattle.std.specs.List.{flat_map}
 use Rattle.std.specs.Int.{w32, w64, to_be_bytes}
 use Rattle.hs_limits.specs.declared.delta.Delta.{Delta}
@@ -56,8 +56,16 @@ fields_of (KeptRound way other epoch round total deltas) = way ∷ other ∷ eig
 abbrev pub payload : ℕ → Entry → List ℕ
 payload number entry = kind_of entry ∷ eight number ++ fields_of entry
 
--- no more deltas than a payload may have
-abbrev pub HasPayload : Entry → Type 0
-HasPayload (Got sender epoch round total deltas) = length deltas ≤ 16665
-HasPayload (KeptRound way other epoch round total deltas) = length deltas ≤ 16665
-HasPayload entry = ⊤
+-- the entries whose payload runs to its end
+abbrev pub runs_on : Entry → Bool
+runs_on (View view) = false
+runs_on (Block op least bytes) = true
+runs_on (Mark op least block address) = false
+runs_on (Root op held address key) = false
+runs_on (Drop op key) = false
+runs_on (Enter op epoch) = false
+runs_on (Got sender epoch round total deltas) = false
+runs_on (Base view epoch swept round frames) = false
+runs_on (KeptBlock born mark flags count bytes) = true
+runs_on (KeptRoot created dropped counted address key) = false
+runs_on (KeptRound way other epoch round total deltas) = false

@@ -5,17 +5,17 @@ mod copy;
 mod entry;
 mod fault;
 mod field;
-mod frame;
+mod laws;
 mod list;
+mod parts;
 mod rank;
 mod reading;
 mod same;
-#[cfg(test)]
-mod tests;
 mod writing;
 
 pub use entry::Entry;
 pub use fault::EntryFault;
+pub use laws::no_payload_begins_another;
 pub use list::EntryList;
 pub use rank::Rank;
 pub use reading::read_entry;

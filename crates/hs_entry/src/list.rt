@@ -2,7 +2,6 @@
 ghost use Rattle.std.specs.Prelude.{◌≡◌, ◌↔◌, ◌∷◌, ◌++◌, [], length, take, IsTrue, OnOk, OnErr, IsOkUnless};
 ghost use Rattle.hs_entry.specs.Entries.{rank_after, rank_of, Follows, IsPrefix};
 
-use crate::same::same;
 use crate::{Entry, EntryFault, Rank};
 use hs_limits::ListOf;
 use std::alloc::Global;
@@ -112,5 +111,5 @@ fn begins(all: &[(u64, Entry)], front: &[(u64, Entry)]) -> bool
 fn same_frame(a: &(u64, Entry), b: &(u64, Entry)) -> bool
     ensures { IsTrue result ↔ (a.now ≡ b.now) }
 {
-    a.0 == b.0 && same(&a.1, &b.1)
+    a.0 == b.0 && a.1.is_same(&b.1)
 }

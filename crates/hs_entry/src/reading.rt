@@ -1,18 +1,16 @@
 //! Reading entries from their payloads.
-ghost use Rattle.std.specs.Prelude.{◌≡◌, ℕ, ◌^◌, ◌<◌, length, Ok, IfOk};
-ghost use Rattle.std.specs.Int.{w64};
-ghost use Rattle.hs_limits.specs.Fields.{byte_at, bytes_at, number_at};
+ghost use Rattle.std.specs.Prelude.{◌≡◌, ℕ, ◌^◌, ◌<◌, Ok, IfOk};
 ghost use Rattle.hs_entry.specs.declared.entry.Entry.{Entry};
-ghost use Rattle.hs_entry.specs.declared.fault.EntryFault.TheVariants.{Short};
 ghost use Rattle.hs_entry.specs.Payload.{payload};
-ghost use Rattle.hs_entry.specs.Reading.{IsReadable, IsReading, is_epoch, is_kind, view_at, block_at, mark_at, fields_at, entry_at};
+ghost use Rattle.hs_entry.specs.Reading.{IsReadable, IsReading, is_kind, view_at, block_at, mark_at, root_at, drop_at, enter_at, got_at, fields_at, entry_at};
 
+use crate::parts::{address_at, deltas_of, epoch_at, key_at, key_of, u8_at, u32_at, u64_at};
 use crate::{Entry, EntryFault};
-use hs_limits::{Address, ListOf, spelt};
+use hs_limits::{ListOf, spelt};
 use std::alloc::Global;
 
 /// The number and the entry that the bytes spell, all of them. It copies the bytes of a block.
-/// Kinds other than View, Block and Mark are no kinds here.
+/// A Base and the kept frames are no kinds here.
 pub fn read_entry(alloc: Global, bytes: &[u8]) -> Result<(u64, Entry), EntryFault>
     // What is read is within the bounds, and spelled so.
     ensures found { IfOk result (λ x.
@@ -44,14 +42,7 @@ fn entry_of(alloc: Global, bytes: &[u8]) -> Result<(u64, Entry), EntryFault>
 fn is_kind(kind: u8) -> bool
     ensures { result ≡ is_kind kind }
 {
-    kind >= 1 && kind <= 3
-}
-
-/// Whether this is an epoch.
-fn is_epoch(n: u64) -> bool
-    ensures { result ≡ is_epoch n }
-{
-    n >= 1 && n < 0x1_0000_0000_0000
+    kind >= 1 && kind <= 7
 }
 
 /// The fields of an entry of this kind, in an input of `whole` bytes.
@@ -63,6 +54,10 @@ fn fields_of(alloc: Global, kind: u8, whole: u64, bytes: &[u8]) -> Result<Entry,
         1 => view_of(whole, bytes),
         2 => block_of(alloc, whole, bytes),
         3 => mark_of(whole, bytes),
+        4 => root_of(alloc, whole, bytes),
+        5 => drop_of(alloc, whole, bytes),
+        6 => enter_of(whole, bytes),
+        7 => got_of(alloc, whole, bytes),
         _ => Err(EntryFault::BadKind { found: kind }),
     }
 }
@@ -86,10 +81,7 @@ fn block_of(alloc: Global, whole: u64, bytes: &[u8]) -> Result<Entry, EntryFault
     ensures { IsReading (λ x. x) result (block_at whole bytes.now) }
 {
     let (op, rest) = u64_at(whole, bytes)?;
-    let (least, rest) = u64_at(whole, rest)?;
-    if !is_epoch(least) {
-        return Err(EntryFault::BadField { at: 17 });
-    }
+    let (least, rest) = epoch_at(whole, 17, rest)?;
     if !spelt(rest) {
         return Err(EntryFault::BadField { at: 25 });
     }
@@ -102,10 +94,7 @@ fn mark_of(whole: u64, bytes: &[u8]) -> Result<Entry, EntryFault>
     ensures { IsReading (λ x. x) result (mark_at whole bytes.now) }
 {
     let (op, rest) = u64_at(whole, bytes)?;
-    let (least, rest) = u64_at(whole, rest)?;
-    if !is_epoch(least) {
-        return Err(EntryFault::BadField { at: 17 });
-    }
+    let (least, rest) = epoch_at(whole, 17, rest)?;
     let (block, rest) = u64_at(whole, rest)?;
     let (address, rest) = address_at(whole, rest)?;
     if !rest.is_empty() {
@@ -119,45 +108,78 @@ fn mark_of(whole: u64, bytes: &[u8]) -> Result<Entry, EntryFault>
     })
 }
 
-/// The first byte of what is left of an input of `whole` bytes, and what stands behind it.
-fn u8_at(whole: u64, bytes: &[u8]) -> Result<(u8, &[u8]), EntryFault>
-    ensures { IsReading (λ x. (x.0, x.1.now)) result (byte_at (Short whole) bytes.now) }
+#[tactic(auto, unfolding(crate::specs::Reading::root_at))]
+fn root_of(alloc: Global, whole: u64, bytes: &[u8]) -> Result<Entry, EntryFault>
+    ensures { IsReading (λ x. x) result (root_at whole bytes.now) }
 {
-    match bytes {
-        [] => Err(EntryFault::Short { at: whole }),
-        [first, rest @ ..] => Ok((*first, rest)),
+    let (op, rest) = u64_at(whole, bytes)?;
+    let (held, rest) = epoch_at(whole, 17, rest)?;
+    let (address, rest) = address_at(whole, rest)?;
+    let (key, rest) = key_at(whole, 57, rest)?;
+    if !rest.is_empty() {
+        return Err(EntryFault::Trailing {
+            at: 58 + key.len() as u64,
+        });
     }
+    let key = key_of(alloc, key)?;
+    Ok(Entry::Root {
+        op,
+        held,
+        address,
+        key,
+    })
 }
 
-/// So many bytes of what is left of an input of `whole` bytes, and what stands behind them.
-fn split(whole: u64, bytes: &[u8], n: usize) -> Result<(&[u8], &[u8]), EntryFault>
-    ensures exact { IsReading (λ x. (x.0.now, x.1.now)) result
-        (bytes_at (Short whole) n bytes.now) }
-    ensures len { IfOk result (λ x. length x.0.now ≡ n) }
+#[tactic(auto, unfolding(crate::specs::Reading::drop_at))]
+fn drop_of(alloc: Global, whole: u64, bytes: &[u8]) -> Result<Entry, EntryFault>
+    ensures { IsReading (λ x. x) result (drop_at whole bytes.now) }
 {
-    if bytes.len() < n {
-        return Err(EntryFault::Short { at: whole });
+    let (op, rest) = u64_at(whole, bytes)?;
+    let (key, rest) = key_at(whole, 17, rest)?;
+    if !rest.is_empty() {
+        return Err(EntryFault::Trailing {
+            at: 18 + key.len() as u64,
+        });
     }
-    Ok(bytes.split_at(n))
+    let key = key_of(alloc, key)?;
+    Ok(Entry::Drop { op, key })
 }
 
-/// The number of eight bytes that comes next.
-fn u64_at(whole: u64, bytes: &[u8]) -> Result<(u64, &[u8]), EntryFault>
-    ensures { IsReading (λ x. (x.0, x.1.now)) result (number_at (Short whole) w64 bytes.now) }
+#[tactic(auto, unfolding(crate::specs::Reading::enter_at))]
+fn enter_of(whole: u64, bytes: &[u8]) -> Result<Entry, EntryFault>
+    ensures { IsReading (λ x. x) result (enter_at whole bytes.now) }
 {
-    let (field, rest) = split(whole, bytes, 8)?;
-    let number = u64::from_be_bytes([
-        field[0], field[1], field[2], field[3], field[4], field[5], field[6], field[7],
-    ]);
-    Ok((number, rest))
+    let (op, rest) = u64_at(whole, bytes)?;
+    let (epoch, rest) = epoch_at(whole, 17, rest)?;
+    if !rest.is_empty() {
+        return Err(EntryFault::Trailing { at: 25 });
+    }
+    Ok(Entry::Enter { op, epoch })
 }
 
-/// The address that comes next.
-fn address_at(whole: u64, bytes: &[u8]) -> Result<(Address, &[u8]), EntryFault>
-    ensures { IsReading (λ x. (x.0.0, x.1.now)) result (bytes_at (Short whole) 32 bytes.now) }
+#[tactic(auto, unfolding(crate::specs::Reading::got_at))]
+fn got_of(alloc: Global, whole: u64, bytes: &[u8]) -> Result<Entry, EntryFault>
+    ensures { IsReading (λ x. x) result (got_at whole bytes.now) }
 {
-    let (field, rest) = split(whole, bytes, 32)?;
-    let mut address = Address([0; 32]);
-    address.0.copy_from_slice(field);
-    Ok((address, rest))
+    let (sender, rest) = u8_at(whole, bytes)?;
+    let (epoch, rest) = epoch_at(whole, 10, rest)?;
+    let (round, rest) = u32_at(whole, rest)?;
+    let (total, rest) = u32_at(whole, rest)?;
+    let (count, rest) = u32_at(whole, rest)?;
+    if count > 16665 {
+        return Err(EntryFault::BadField { at: 26 });
+    }
+    let (deltas, rest) = deltas_of(alloc, whole, count, rest)?;
+    if !rest.is_empty() {
+        return Err(EntryFault::Trailing {
+            at: 30 + 36 * count as u64,
+        });
+    }
+    Ok(Entry::Got {
+        sender,
+        epoch,
+        round,
+        total,
+        deltas,
+    })
 }

@@ -1,17 +1,18 @@
 //! The one spelling of an entry.
 ghost use Rattle.std.specs.Prelude.{◌≡◌, ◌≤◌, ◌++◌, length, OnOk, OnErr, IsOkUnless};
 ghost use Rattle.hs_entry.specs.declared.entry.Entry.TheVariants as kinds;
-ghost use Rattle.hs_entry.specs.Payload.{payload, HasPayload};
+ghost use Rattle.hs_entry.specs.Payload.{payload};
+ghost use Rattle.hs_entry.specs.Reading.{IsReadable};
 
 use crate::field::{begin, put, put_deltas, put_eight, put_four, put_key};
-use crate::frame::write_frame;
 use crate::{Entry, EntryFault};
 use hs_limits::{Address, Delta, Key};
 use std::alloc::AllocError;
 
-/// Puts the payload of this entry at the end of `out`. An error leaves `out` as it was.
+/// Puts the payload of this entry at the end of `out`, where it is one that `read_entry` takes. An
+/// error leaves `out` as it was.
 pub fn write_entry(number: u64, entry: &Entry, out: &mut Vec<u8>) -> Result<(), EntryFault>
-    requires { HasPayload entry.now }
+    requires { IsReadable entry.now }
     ensures ok { OnOk result (out.new.items ≡ out.old.items ++ payload number entry.now) }
     ensures err { IsOkUnless result EntryFault.NoMemory }
     ensures same { OnErr result (out.new.items ≡ out.old.items) }
@@ -54,7 +55,7 @@ pub fn write_entry(number: u64, entry: &Entry, out: &mut Vec<u8>) -> Result<(), 
             deltas.as_slice(),
             out,
         )?,
-        _ => write_frame(number, entry, out)?,
+        _ => unreachable!(),
     }
     Ok(())
 }

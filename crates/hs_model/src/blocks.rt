@@ -34,7 +34,8 @@ impl Model for Blocks {
     ghost invariant = { λ a. record {
       shape : IsShape a.shape;
       shards : length a.counts.items ≡ a.shape.shards;
-      counts : AreCounts a.counts.items (λ shard. count_by (λ e. shard_of a.shape.shards e.0 == shard) a.items.entries);
+      counts : AreCounts a.counts.items
+          (λ shard. count_by (λ e. shard_of a.shape.shards e.0 == shard) a.items.entries);
     } };
 }
 

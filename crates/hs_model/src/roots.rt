@@ -21,8 +21,8 @@ struct DroppedRoot {
     epoch: u64,
 }
 
-/// What keys retain, how many keys of each shard do, and the roots that were dropped, in the order in
-/// which they were. No call looks a dropped root up: those that need one go over all of them.
+/// What keys retain, how many keys of each shard do, and the roots that were dropped, as they came.
+/// No call looks a dropped root up: those that need one go over all of them.
 #[derive(Drop)]
 pub(crate) struct Roots {
     kept: BTreeMap<Key, Address>,
@@ -49,7 +49,8 @@ impl Model for Roots {
       shape : IsShape a.shape;
       shards : length a.counts.items ≡ a.shape.shards;
       ascending : IsStrictlySortedBy text_cmp (keys_of a.kept.entries);
-      counts : AreCounts a.counts.items (λ shard. count_by (λ e. shard_of_key a.shape.shards e.0 == shard) a.kept.entries);
+      counts : AreCounts a.counts.items
+          (λ shard. count_by (λ e. shard_of_key a.shape.shards e.0 == shard) a.kept.entries);
     } };
 }
 

@@ -62,10 +62,10 @@ after_readable : (follow : Follow) (number : ℕ) (entry : Entry) → IsReadable
 after_readable follow number (View view) fits = refl
 after_readable follow number (Block op least bytes) fits = refl
 after_readable follow number (Mark op least block address) fits = refl
-after_readable follow number (Root op held address key) fits = absurd fits
-after_readable follow number (Drop op key) fits = absurd fits
-after_readable follow number (Enter op epoch) fits = absurd fits
-after_readable follow number (Got sender epoch round total deltas) fits = absurd fits
+after_readable follow number (Root op held address key) fits = refl
+after_readable follow number (Drop op key) fits = refl
+after_readable follow number (Enter op epoch) fits = refl
+after_readable follow number (Got sender epoch round total deltas) fits = refl
 after_readable follow number (Base view epoch swept round frames) fits = absurd fits
 after_readable follow number (KeptBlock born mark flags count bytes) fits = absurd fits
 after_readable follow number (KeptRoot created dropped counted address key) fits = absurd fits

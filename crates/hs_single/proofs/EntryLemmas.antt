@@ -58,10 +58,10 @@ readable-ordinary : (entry : Entry) → IsReadable entry → is_of_base entry �
 readable-ordinary (kind.View view) r = refl
 readable-ordinary (kind.Block op least bytes) r = refl
 readable-ordinary (kind.Mark op least block address) r = refl
-readable-ordinary (kind.Root op held address key) r = absurd r
-readable-ordinary (kind.Drop op key) r = absurd r
-readable-ordinary (kind.Enter op epoch) r = absurd r
-readable-ordinary (kind.Got sender epoch round total deltas) r = absurd r
+readable-ordinary (kind.Root op held address key) r = refl
+readable-ordinary (kind.Drop op key) r = refl
+readable-ordinary (kind.Enter op epoch) r = refl
+readable-ordinary (kind.Got sender epoch round total deltas) r = refl
 readable-ordinary (kind.Base view epoch swept round frames) r = absurd r
 readable-ordinary (kind.KeptBlock born mark flags count bytes) r = absurd r
 readable-ordinary (kind.KeptRoot created dropped counted address key) r = absurd r

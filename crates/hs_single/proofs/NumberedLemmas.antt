@@ -1,77 +1,21 @@
 -- The entries of a log that is read have numbers that go on by one from 1.
 use Rattle.std.proofs.Common.{◌≡◌, ℕ, zero, suc, ◌+◌, ◌==◌, ◌&&◌, List, [], ◌∷◌, length, map, take, drop, Bool, true, false, Option, Some, None, Result, Ok, Err, refl, ap, ◌∙◌, sym, subst, arith, nat_le, is_ok, if◌then◌else◌}
-use Rattle.std.specs.Int.{w64}
 use Rattle.std.proofs.lemmas.Bool.Decides.{nat_tests}
-use Rattle.hs_limits.specs.Fields.{◌>>=◌, check, byte_at, bytes_at, number_at}
-use Rattle.hs_limits.specs.Reading.{read_block}
-use Rattle.hs_limits.proofs.FieldLemmas.{bind_ok, check_ok}
+use Rattle.hs_limits.specs.Fields.{◌>>=◌, check}
 use Rattle.hs_entry.specs.declared.entry.Entry.{Entry}
 use Rattle.hs_entry.specs.declared.entry.Entry.TheVariants as kind
-use Rattle.hs_entry.specs.declared.fault.EntryFault.{EntryFault}
-use Rattle.hs_entry.specs.declared.fault.EntryFault.TheVariants as why
 use Rattle.hs_entry.specs.Entries.{is_of_base}
-use Rattle.hs_entry.specs.Reading.{is_epoch, is_kind, view_at, block_at, mark_at, fields_at, entry_at}
 use Rattle.hs_fold.specs.Prefix.{GoOn, IsNumbered}
 use Rattle.hs_side.specs.Follow.{Follow, start, after, after_entry, only_if, may_end}
 use Rattle.hs_side.specs.Reading.{Log, Frame, Found, entry_of, frames, with_frames, payload_at, found_in, is_open, is_blank, head_of, log_of}
 use Rattle.hs_side.proofs.ReadLemmas.{found_read}
+use Rattle.hs_entry.proofs.PlainLemmas.{entry_plain}
 
 abbrev given : {A E : Type 0} → A → Result A E
 given x = Ok x
 
 ok_is : {A E : Type 0} {x y : A} → given {E = E} x ≡ given y → x ≡ y
 ok_is e = cc e
-
--- ---- no entry that is read is a Base or kept behind one
-
-view-plain : (whole : ℕ) (bytes : List ℕ) (entry : Entry) → view_at whole bytes ≡ Ok entry → is_of_base entry ≡ false
-unfolding view_at
-view-plain whole bytes entry e =
-    let view = bind_ok (number_at (why.Short whole) w64 bytes) (λ view. check (nat_le 1 view.0) (why.BadField 9) >>= λ valid. check (length view.1 == 0) (why.Trailing 17) >>= λ ended. Ok (kind.View view.0)) entry e in
-    let valid = check_ok (nat_le 1 view.0.0) (why.BadField 9) (check (length view.0.1 == 0) (why.Trailing 17) >>= λ ended. Ok (kind.View view.0.0)) entry view.2 in
-    let ended = check_ok (length view.0.1 == 0) (why.Trailing 17) (Ok (kind.View view.0.0)) entry valid.1 in
-    ap (λ x. is_of_base x) (sym (ok_is {E = EntryFault} {x = kind.View view.0.0} {y = entry} ended.1))
-
-block-plain : (whole : ℕ) (bytes : List ℕ) (entry : Entry) → block_at whole bytes ≡ Ok entry → is_of_base entry ≡ false
-unfolding block_at
-block-plain whole bytes entry e =
-    let op = bind_ok (number_at (why.Short whole) w64 bytes) (λ op. number_at (why.Short whole) w64 op.1 >>= λ least. check (is_epoch least.0) (why.BadField 17) >>= λ valid. check (is_ok (read_block least.1)) (why.BadField 25) >>= λ spelling. Ok (kind.Block op.0 least.0 least.1)) entry e in
-    let least = bind_ok (number_at (why.Short whole) w64 op.0.1) (λ least. check (is_epoch least.0) (why.BadField 17) >>= λ valid. check (is_ok (read_block least.1)) (why.BadField 25) >>= λ spelling. Ok (kind.Block op.0.0 least.0 least.1)) entry op.2 in
-    let valid = check_ok (is_epoch least.0.0) (why.BadField 17) (check (is_ok (read_block least.0.1)) (why.BadField 25) >>= λ spelling. Ok (kind.Block op.0.0 least.0.0 least.0.1)) entry least.2 in
-    let spelling = check_ok (is_ok (read_block least.0.1)) (why.BadField 25) (Ok (kind.Block op.0.0 least.0.0 least.0.1)) entry valid.1 in
-    ap (λ x. is_of_base x) (sym (ok_is {E = EntryFault} {x = kind.Block op.0.0 least.0.0 least.0.1} {y = entry} spelling.1))
-
-mark-plain : (whole : ℕ) (bytes : List ℕ) (entry : Entry) → mark_at whole bytes ≡ Ok entry → is_of_base entry ≡ false
-unfolding mark_at
-mark-plain whole bytes entry e =
-    let op = bind_ok (number_at (why.Short whole) w64 bytes) (λ op. number_at (why.Short whole) w64 op.1 >>= λ least. check (is_epoch least.0) (why.BadField 17) >>= λ valid. number_at (why.Short whole) w64 least.1 >>= λ block. bytes_at (why.Short whole) 32 block.1 >>= λ address. check (length address.1 == 0) (why.Trailing 65) >>= λ ended. Ok (kind.Mark op.0 least.0 block.0 (record { 0 = address.0 }))) entry e in
-    let least = bind_ok (number_at (why.Short whole) w64 op.0.1) (λ least. check (is_epoch least.0) (why.BadField 17) >>= λ valid. number_at (why.Short whole) w64 least.1 >>= λ block. bytes_at (why.Short whole) 32 block.1 >>= λ address. check (length address.1 == 0) (why.Trailing 65) >>= λ ended. Ok (kind.Mark op.0.0 least.0 block.0 (record { 0 = address.0 }))) entry op.2 in
-    let valid = check_ok (is_epoch least.0.0) (why.BadField 17) (number_at (why.Short whole) w64 least.0.1 >>= λ block. bytes_at (why.Short whole) 32 block.1 >>= λ address. check (length address.1 == 0) (why.Trailing 65) >>= λ ended. Ok (kind.Mark op.0.0 least.0.0 block.0 (record { 0 = address.0 }))) entry least.2 in
-    let block = bind_ok (number_at (why.Short whole) w64 least.0.1) (λ block. bytes_at (why.Short whole) 32 block.1 >>= λ address. check (length address.1 == 0) (why.Trailing 65) >>= λ ended. Ok (kind.Mark op.0.0 least.0.0 block.0 (record { 0 = address.0 }))) entry valid.1 in
-    let address = bind_ok (bytes_at (why.Short whole) 32 block.0.1) (λ address. check (length address.1 == 0) (why.Trailing 65) >>= λ ended. Ok (kind.Mark op.0.0 least.0.0 block.0.0 (record { 0 = address.0 }))) entry block.2 in
-    let ended = check_ok (length address.0.1 == 0) (why.Trailing 65) (Ok (kind.Mark op.0.0 least.0.0 block.0.0 (record { 0 = address.0.0 }))) entry address.2 in
-    ap (λ x. is_of_base x) (sym (ok_is {E = EntryFault} {x = kind.Mark op.0.0 least.0.0 block.0.0 (record { 0 = address.0.0 })} {y = entry} ended.1))
-
-fields-plain : (n whole : ℕ) (bytes : List ℕ) (entry : Entry) → fields_at n whole bytes ≡ Ok entry → is_of_base entry ≡ false
-unfolding fields_at
-fields-plain n whole bytes entry e = go (n == 1) (n == 2) (n == 3) e
-  where
-    go : (a b c : Bool) → (if a then view_at whole bytes else if b then block_at whole bytes else if c then mark_at whole bytes else Err (why.BadKind n)) ≡ Ok entry → is_of_base entry ≡ false
-    go true b c e = view-plain whole bytes entry e
-    go false true c e = block-plain whole bytes entry e
-    go false false true e = mark-plain whole bytes entry e
-    go false false false e = cc e
-
-pub entry-plain : (bytes : List ℕ) (number : ℕ) (entry : Entry) → entry_at bytes ≡ Ok (number, entry) → is_of_base entry ≡ false
-unfolding entry_at
-entry-plain bytes number entry e =
-    let whole : ℕ = length bytes in
-    let b1 = bind_ok (byte_at (why.Short whole) bytes) (λ kind. check (is_kind kind.0) (why.BadKind kind.0) >>= λ known. number_at (why.Short whole) w64 kind.1 >>= λ number. fields_at kind.0 whole number.1 >>= λ entry. Ok (number.0, entry)) (number, entry) e in
-    let c1 = check_ok (is_kind b1.0.0) (why.BadKind b1.0.0) (number_at (why.Short whole) w64 b1.0.1 >>= λ number. fields_at b1.0.0 whole number.1 >>= λ entry. Ok (number.0, entry)) (number, entry) b1.2 in
-    let b2 = bind_ok (number_at (why.Short whole) w64 b1.0.1) (λ number. fields_at b1.0.0 whole number.1 >>= λ entry. Ok (number.0, entry)) (number, entry) c1.1 in
-    let b3 = bind_ok (fields_at b1.0.0 whole b2.0.1) (λ entry. Ok (b2.0.0, entry)) (number, entry) b2.2 in
-    let same : b3.0 ≡ entry = ap (λ (x : ℕ × Entry). x.1) (ok_is {E = EntryFault} {x = (b2.0.0, b3.0)} {y = (number, entry)} b3.2) in
-    fields-plain b1.0.0 whole b2.0.1 entry (b3.1 ∙ ap (λ x. Ok x) same)
 
 -- ---- each comes behind the last
 
@@ -112,7 +56,7 @@ one-more : (follow : Follow) (at : ℕ) (found : Found) (payload : List ℕ) (mo
     → (record { place = at; number = found.number; entry = found.entry }) ∷ more ≡ fs → GoOn follow.last (map entry_of fs)
 one-more follow at found payload more fs e g is =
     let read = found_read follow payload found e in
-    let plain : is_of_base found.entry ≡ false = entry-plain payload found.number found.entry read.0 in
+    let plain : is_of_base found.entry ≡ false = entry_plain payload found.number found.entry read.0 in
     let next : Next follow found.follow found.number = plain-next follow found.follow found.number found.entry plain read.1 in
     subst (λ (xs : List Frame). GoOn follow.last (map entry_of xs)) is
     (next.number_is, plain, subst (λ n. GoOn n (map entry_of more)) (next.last ∙ next.number_is) g)

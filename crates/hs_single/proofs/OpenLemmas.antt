@@ -11,7 +11,7 @@ use Rattle.hs_entry.specs.declared.entry.Entry.{Entry}
 use Rattle.hs_fold.specs.Prefix.{IsNumbered}
 use Rattle.hs_side.specs.Current.{current, generation_in, later_side, list_in}
 use Rattle.hs_side.specs.Opening.{Shows, head_in, places_in}
-use Rattle.hs_side.specs.Reading.{Log, is_blank, log_of, entry_of, listed}
+use Rattle.hs_side.specs.Reading.{Log, is_blank, log_of, entry_of, entries_of, listed}
 use Rattle.hs_side.specs.Standing.{Kept}
 use Rattle.hs_single.specs.declared.fault.SingleFault.{SingleFault}
 use Rattle.hs_single.specs.declared.fault.SingleFault.TheVariants.{NotALog, WrongShape, Disk, NoMemory}
@@ -19,7 +19,7 @@ use Rattle.hs_single.specs.declared.load.Loaded.{Loaded}
 use Rattle.hs_single.specs.Caused.{IsOutside}
 use Rattle.hs_single.specs.Images.{IsAlone, LeavesList}
 use Rattle.hs_single.specs.Lists.{HasList}
-use Rattle.hs_single.specs.Opening.{HasOpened, LeavesAll, IsOpen, IsRefusal}
+use Rattle.hs_single.specs.Opening.{HasOpened, LeavesAll, IsOpen, IsRefusal, refused_list}
 use Rattle.hs_single.specs.Serving.{IsNumberedSide, IsServing, Holds, catalogue_in}
 use Rattle.hs_single.proofs.ImageLemmas.{Since, two-sides, current-same, list-same}
 use Rattle.hs_single.proofs.ListLemmas.{list-places}
@@ -189,9 +189,22 @@ module _ (name : List ℕ → Address) (seen : Side → List ℕ) (log : Kept) (
             zero = λ none. cc (sym none ∙ head_is (Some found) e);
           }
 
-  pub open-outside : (result : Result Loaded SingleFault) → ((entries : List (ℕ × Entry)) → HasList log.places bytes entries → IsNumbered entries → IfErr result IsOutside) → (log.places ≡ [] → IfErr result IsOutside)
-      → (refusal : Option SingleFault) → IfErr result (λ fault. IsRefusal fault refusal)
-  open-outside result told blank refusal = go content refl
+  -- why the list is refused is why the log is
+  list-refused : (l : Log) → content ≡ Some l → refused_list log.places (map entry_of l.frames) ≡ refused_list (places_in content) (entries_of content)
+  list-refused l e = rw (shows.places, e) refl
+
+  pub open-accepted : (result : Result Loaded SingleFault) → ((entries : List (ℕ × Entry)) → HasList log.places bytes entries → IsNumbered entries → OnOk result (refused_list log.places entries ≡ None))
+      → (refusal : Option SingleFault) → refusal ≡ refused_list (places_in content) (entries_of content) → OnOk result (refusal ≡ None)
+  open-accepted (Err fault) told refusal is = tt
+  open-accepted (Ok loaded) told refusal is = go content refl
+    where
+      go : (c : Option Log) → content ≡ c → refusal ≡ None
+      go None e = is ∙ ap (λ c. refused_list (places_in c) (entries_of c)) e
+      go (Some l) e = is ∙ sym (list-refused l e) ∙ told (map entry_of l.frames) (has-some l e) (numbered l e)
+
+  pub open-outside : (result : Result Loaded SingleFault) → ((entries : List (ℕ × Entry)) → HasList log.places bytes entries → IsNumbered entries → IfErr result (λ fault. IsRefusal fault (refused_list log.places entries))) → (log.places ≡ [] → IfErr result IsOutside)
+      → (refusal : Option SingleFault) → refusal ≡ refused_list (places_in content) (entries_of content) → IfErr result (λ fault. IsRefusal fault refusal)
+  open-outside result told blank refusal is = go content refl
     where
       why : (fault : SingleFault) → IsOutside fault → IsRefusal fault refusal
       why (NotALog at) o = absurd o
@@ -205,7 +218,7 @@ module _ (name : List ℕ → Address) (seen : Side → List ℕ) (log : Kept) (
 
       go : (c : Option Log) → content ≡ c → IfErr result (λ fault. IsRefusal fault refusal)
       go None e = out result (blank (shows.places ∙ ap (λ x. places_in x) e))
-      go (Some l) e = out result (told (map entry_of l.frames) (has-some l e) (numbered l e))
+      go (Some l) e = subst (λ r. IfErr result (λ fault. IsRefusal fault r)) (list-refused l e ∙ sym is) (told (map entry_of l.frames) (has-some l e) (numbered l e))
 
 -- ---- what begin asks for, in the words of the disk afterwards
 

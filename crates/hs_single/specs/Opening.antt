@@ -1,14 +1,17 @@
 -- What opening the store of a disk answers.
-use Rattle.std.specs.Prelude.{◌≡◌, ℕ, ◌-◌, ◌^◌, ◌<◌, ◌≤◌, ⊤, Bool, ◌==◌, ◌&&◌, if◌then◌else◌, List, [], length, Option, None, Some, IsSome, Result, Ok, Err}
+use Rattle.std.specs.Prelude.{◌≡◌, ℕ, ◌-◌, ◌^◌, ◌<◌, ◌≤◌, ⊤, Bool, true, false, ◌==◌, ◌&&◌, if◌then◌else◌, List, [], ◌∷◌, length, Option, None, Some, IsSome, Result, Ok, Err}
+use Rattle.std.specs.Option.{option_map}
 use Rattle.hs_limits.specs.declared.address.Address.{Address}
 use Rattle.hs_ports.specs.declared.disk.Side.{Side}
 use Rattle.hs_ports.specs.declared.disk.Side.TheVariants.{Zero}
 use Rattle.hs_ports.specs.Disk.{Standing, IsImage}
 use Rattle.hs_entry.specs.declared.entry.Entry.{Entry}
+use Rattle.hs_entry.specs.declared.entry.Entry.TheVariants as kind
 use Rattle.hs_fold.specs.Prefix.{IsNumbered}
 use Rattle.hs_side.specs.declared.header.Header.{Header}
 use Rattle.hs_side.specs.Current.{current, header_in, list_in}
-use Rattle.hs_side.specs.Reading.{Log, log_of}
+use Rattle.hs_side.specs.Opening.{places_in}
+use Rattle.hs_side.specs.Reading.{Log, log_of, entries_of}
 use Rattle.hs_side.specs.Standing.{Kept}
 use Rattle.hs_single.specs.declared.fault.SingleFault.{SingleFault}
 use Rattle.hs_single.specs.declared.fault.SingleFault.TheVariants.{NotALog, WrongShape, Disk, NoMemory}
@@ -26,11 +29,35 @@ refused_head (Err at) = Some (NotALog at)
 refused_head (Ok None) = None
 refused_head (Ok (Some header)) = if is_own header then None else Some (WrongShape header)
 
--- and where the head is not refused, the first place that is wrong behind it
+-- the kinds of entries that this store writes
+abbrev pub is_own_kind : Entry → Bool
+is_own_kind (kind.View view) = true
+is_own_kind (kind.Block op least bytes) = true
+is_own_kind (kind.Mark op least block address) = true
+is_own_kind (kind.Root op held address key) = false
+is_own_kind (kind.Drop op key) = false
+is_own_kind (kind.Enter op epoch) = false
+is_own_kind (kind.Got sender epoch round total deltas) = false
+is_own_kind (kind.Base view epoch swept round frames) = false
+is_own_kind (kind.KeptBlock born mark flags count bytes) = false
+is_own_kind (kind.KeptRoot created dropped counted address key) = false
+is_own_kind (kind.KeptRound way other epoch round total deltas) = false
+
+-- the first of these places whose entry is of another kind
+abbrev pub other_kind : List ℕ → List (ℕ × Entry) → Option ℕ
+other_kind [] entries = None
+other_kind (at ∷ places) [] = None
+other_kind (at ∷ places) (x ∷ entries) = if is_own_kind x.1 then other_kind places entries else Some at
+
+-- why a list in frames at these places is refused
+abbrev pub refused_list : List ℕ → List (ℕ × Entry) → Option SingleFault
+refused_list places entries = option_map (λ at. NotALog at) (other_kind places entries)
+
+-- and where the head is not refused, the first place that is wrong behind it, or else the first frame of another kind
 abbrev pub refused_log : Option SingleFault → Result (Option Log) ℕ → Option SingleFault
 refused_log (Some fault) read = Some fault
 refused_log None (Err at) = Some (NotALog at)
-refused_log None (Ok log) = None
+refused_log None (Ok log) = refused_list (places_in log) (entries_of log)
 
 -- why a disk is refused
 abbrev pub refusal_in : (Side → List ℕ) → Option SingleFault

@@ -1,5 +1,5 @@
 //! From a list on a disk to the store in memory.
-ghost use Rattle.std.specs.Prelude.{◌≡◌, ◌+◌, ◌<◌, ◌∷◌, ◌++◌, [], ℕ, List, length, take, Ok, IfOk, IfErr, OnOk};
+ghost use Rattle.std.specs.Prelude.{◌≡◌, ◌+◌, ◌<◌, ◌∷◌, ◌++◌, [], ℕ, List, length, take, None, Ok, IfOk, IfErr, OnOk};
 ghost use Rattle.hs_limits.specs.declared.address.Address.{Address};
 ghost use Rattle.hs_model.specs.Store.{empty_store};
 ghost use Rattle.hs_ports.specs.declared.disk.Side.{Side};
@@ -9,6 +9,7 @@ ghost use Rattle.hs_fold.specs.Prefix.{IsNumbered};
 ghost use Rattle.hs_side.specs.Standing.{Stands};
 ghost use Rattle.hs_single.specs.Caused.{IsCalm, IsCaused, IsOutside};
 ghost use Rattle.hs_single.specs.Lists.{HasList};
+ghost use Rattle.hs_single.specs.Opening.{is_own_kind, refused_list, IsRefusal};
 ghost use Rattle.hs_single.specs.Serving.{catalogue_in, IsServing};
 
 use crate::{Single, SingleFault};
@@ -31,7 +32,8 @@ pub struct Loaded {
 impl Single {
     /// The store of the list of a log that was opened. It reads each frame, and writes nothing.
     /// Where what is read is no entry of its number, the side is no log any more; a disk that
-    /// tells its contents never gives that.
+    /// tells its contents never gives that. Nor is it where an entry is of a kind that this store
+    /// does not write.
     pub(crate) fn load<A: Addresser, D: Disk>(
         alloc: Global,
         naming: &A,
@@ -55,9 +57,13 @@ impl Single {
         ensures log { IfOk result (λ loaded. loaded.store.log ≡ log) }
         ensures sessions { IfOk result (λ loaded. loaded.store.plain.sessions ≡ []) }
 
+        // A log with an entry of a kind that this store does not write is none of its own.
+        ensures accepted { D.tells → (entries : List (ℕ × Entry))
+            → HasList log.places ((D.stands disk.old).seen log.side) entries → IsNumbered entries
+            → OnOk result (refused_list log.places entries ≡ None) }
         ensures refused { D.tells → (entries : List (ℕ × Entry))
             → HasList log.places ((D.stands disk.old).seen log.side) entries → IsNumbered entries
-            → IfErr result IsOutside }
+            → IfErr result (λ fault. IsRefusal fault (refused_list log.places entries)) }
         ensures refused_blank { log.places ≡ [] → IfErr result IsOutside }
 
         ensures same { D.tells → D.stands disk.new ≡ D.stands disk.old }
@@ -73,6 +79,11 @@ impl Single {
                 Ok(entry) => entry,
                 Err(fault) => return Err(fault),
             };
+            if !is_own_kind(&entry) {
+                return Err(SingleFault::NotALog {
+                    at: store.log.places()[index],
+                });
+            }
             view = view_after(view, &entry);
             store.adopt(naming, index as u64 + 1, &entry)?;
         }
@@ -137,6 +148,16 @@ fn entry_in(alloc: Global, number: u64, place: u64, payload: &[u8]) -> Result<En
         Err(EntryFault::NoMemory) => Err(SingleFault::NoMemory),
         _ => Err(SingleFault::NotALog { at: place }),
     }
+}
+
+/// Whether this store writes entries of this kind.
+fn is_own_kind(entry: &Entry) -> bool
+    ensures { result ≡ is_own_kind entry.now }
+{
+    matches!(
+        entry,
+        Entry::View { .. } | Entry::Block { .. } | Entry::Mark { .. }
+    )
 }
 
 /// The view behind one entry more.

@@ -3,4 +3,4 @@ use Rattle.std.proofs.Common.{◌≡◌, take}
 use Rattle.hs_entry.proofs.same.same_deltas.Given as goal
 
 abbrev pub invariant-loop-k : goal.invariant-loop-k
-invariant-loop-k l = take l.k l.a ≡ take l.k l.b
+invariant-loop-k l = take l.k l.b ≡ take l.k l.a

@@ -1,4 +1,4 @@
-use Rattle.std.proofs.Common.{◌≡◌, ◌-◌, ◌∙◌, List, [], ◌∷◌, ◌++◌, sym, ap, Some, refl}
+use Rattle.std.proofs.Common.{◌≡◌, ◌-◌, ◌∙◌, List, [], ◌∷◌, ◌++◌, sym, ap, Some, refl, rules}
 use Rattle.std.proofs.lemmas.List.{length-set}
 use Rattle.std.specs.BTreeMap.{is_at}
 use Rattle.std.specs.Map.{lookup}
@@ -31,7 +31,7 @@ invariant_of-self-2 c =
     record {
       shape = c.self.invariant.shape;
       shards = length-set counts c.from-shard.result (c.index_mut.result.now - 1) ∙ c.self.invariant.shards;
-      ascending = c.remove.ensures.ordered;
+      ascending = search rules;
       counts = counts-removed (shard_of_key c.self.inside.shape.shards) (is_at (text_cmp c.args.key.now)) c.self.inside.kept.entries c.remove.new.self.entries c.args.key.now c.in-Some.address counts c.from-shard.result c.index_mut.result.now (key_from_at c.args.key.now) found c.self.invariant.counts place below c.index_mut.ensures.value c.remove.ensures.entries;
     }
 
