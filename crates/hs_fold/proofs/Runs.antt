@@ -1,1 +1,6 @@
+pub mod DeedLemmas
 pub mod Examples
+pub mod OwnLemmas
+pub mod PlainLemmas
+pub mod PruneLemmas
+pub mod StepLemmas

@@ -1,17 +1,16 @@
 -- What deletion runs make of lists: undelete, a dropped root, what was lost and repeated, two shards in different epochs, and lists that make no sense.
-use Rattle.std.proofs.Common.{◌≡◌, ℕ, ◌-◌, Bool, true, false, List, [], ◌∷◌, ◌++◌, length, map, replicate, slice_index, Option, Some, None, refl}
+use Rattle.std.proofs.Common.{◌≡◌, ℕ, ◌-◌, Bool, true, false, List, [], ◌∷◌, ◌++◌, length, map, replicate, slice_index, refl}
 use Rattle.hs_limits.specs.declared.address.Address.{Address}
 use Rattle.hs_limits.specs.declared.delta.Delta.{Delta}
 use Rattle.hs_limits.specs.Block.{Block, spell}
 use Rattle.hs_limits.specs.Limits.{greatest_limits}
 use Rattle.hs_limits.specs.Reading.{read_block, block_at, addresses}
-use Rattle.hs_entry.specs.declared.entry.Entry.{Entry}
 use Rattle.hs_entry.specs.declared.entry.Entry.TheVariants as kind
-use Rattle.hs_fold.specs.Shards.Change.{stores, gives, keeps, drops}
-use Rattle.hs_fold.specs.Shards.Happening.{Happening, changes, enters, sweeps, happenings}
+use Rattle.hs_fold.specs.Shards.Change.{stores, gives}
+use Rattle.hs_fold.specs.Shards.Happening.{changes, enters, sweeps, happenings}
 use Rattle.hs_fold.specs.Shards.Setting.{Numbered, Setting, shard_in}
-use Rattle.hs_fold.specs.Runs.Catalogue.{apply_all, catalogue_of}
-use Rattle.hs_fold.specs.Runs.Facts.{Facts, RootFacts, Told, SentRound, Catalogue, empty_catalogue}
+use Rattle.hs_fold.specs.Runs.Catalogue.{catalogue_of}
+use Rattle.hs_fold.specs.Runs.Facts.{Facts, Told, SentRound, Catalogue, empty_catalogue}
 use Rattle.hs_fold.specs.Runs.Happening.{happens}
 use Rattle.hs_fold.specs.Runs.Opened.{catalogues, store_of}
 

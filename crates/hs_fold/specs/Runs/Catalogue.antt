@@ -1,5 +1,5 @@
 -- What a shard's list of entries amounts to, of all kinds but those of reclaiming.
-use Rattle.std.specs.Prelude.{ℕ, List, [], ◌∷◌}
+use Rattle.std.specs.Prelude.{ℕ, [], ◌∷◌}
 use Rattle.hs_limits.specs.Reading.{read_block}
 use Rattle.hs_entry.specs.declared.entry.Entry.{Entry}
 use Rattle.hs_entry.specs.declared.entry.Entry.TheVariants as kind
@@ -7,7 +7,7 @@ use Rattle.hs_fold.specs.Catalogue.{Shard}
 use Rattle.hs_fold.specs.Runs.Clients.{store_block, give_block, keep_root, drop_key}
 use Rattle.hs_fold.specs.Runs.Facts.{Catalogue, empty_catalogue}
 use Rattle.hs_fold.specs.Runs.Rounds.{enter, get_round}
-use Rattle.hs_fold.specs.Shards.Setting.{Numbered, Setting, shard_in}
+use Rattle.hs_fold.specs.Shards.Setting.{Numbered}
 
 -- one entry more
 abbrev pub apply : Shard → Catalogue → ℕ × Entry → Catalogue

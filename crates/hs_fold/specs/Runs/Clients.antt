@@ -1,5 +1,5 @@
 -- What clients' entries do to a catalogue: a new block and a new root do not count yet.
-use Rattle.std.specs.Prelude.{ℕ, Bool, false, ◌==◌, ◌&&◌, ◌++◌, if◌then◌else◌, List, [], ◌∷◌, map, Option, Some, None, is_none, Result, Ok, Err}
+use Rattle.std.specs.Prelude.{ℕ, false, ◌==◌, ◌&&◌, ◌++◌, if◌then◌else◌, List, [], ◌∷◌, map, Option, Some, None, is_none, Result, Ok, Err}
 use Rattle.std.specs.BTreeMap.{insert_entry, is_at}
 use Rattle.std.specs.Map.{set_value}
 use Rattle.std.specs.Option.{option_map}
@@ -7,7 +7,7 @@ use Rattle.hs_limits.specs.declared.address.Address.{Address}
 use Rattle.hs_limits.specs.declared.spelling.SpellingFault.{SpellingFault}
 use Rattle.hs_limits.specs.Block.{Block}
 use Rattle.hs_limits.specs.Shape.{shard_of_key}
-use Rattle.hs_model.specs.Store.{Root, address_cmp, is_retained}
+use Rattle.hs_model.specs.Store.{address_cmp, is_retained}
 use Rattle.hs_fold.specs.Catalogue.{Present, Shard, fresh_present}
 use Rattle.hs_fold.specs.Shards.Catalogue.{is_stored, is_marked, is_rooted, retained_in}
 use Rattle.hs_fold.specs.Runs.Facts.{Facts, RootFacts, Catalogue, facts_at, plain}

@@ -1,5 +1,5 @@
 -- What an entry of any kind rests on when it comes.
-use Rattle.std.specs.Prelude.{◌≡◌, ℕ, true, List, Contains, IsTrue, slice_index_or, map}
+use Rattle.std.specs.Prelude.{◌≡◌, ℕ, List, Contains, IsTrue, slice_index_or}
 use Rattle.hs_model.specs.Inner.{may_enter}
 use Rattle.hs_entry.specs.declared.entry.Entry.{Entry}
 use Rattle.hs_entry.specs.declared.entry.Entry.TheVariants as kind

@@ -10,6 +10,12 @@ use Rattle.hs_fold.specs.Runs.Catalogue.{apply}
 use Rattle.hs_fold.specs.Runs.Facts.{Catalogue, GotRound, plain}
 use Rattle.hs_fold.specs.Runs.Rounds.{may_enter, is_accepted, log_got, ends_last}
 
+-- an entry of no epoch and no round
+abbrev pub IsClients : Entry → Type 0
+IsClients (kind.Enter op epoch) = ⊥
+IsClients (kind.Got sender epoch round total deltas) = ⊥
+IsClients other = Unit {0}
+
 -- a Got that is taken ends a last round: by itself, or behind a round that it completes
 abbrev pub ends_run : ℕ → Catalogue → GotRound → Bool
 ends_run shards c g = is_accepted shards c g.sender g.epoch g.round && ends_last shards (length (log_got g c).got + 1) (log_got g c)

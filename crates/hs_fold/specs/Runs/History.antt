@@ -1,5 +1,5 @@
 -- Entries of all shards and all kinds, one after another, and which of these histories are lawful.
-use Rattle.std.specs.Prelude.{◌≡◌, ℕ, ◌<◌, ◌≤◌, List, [], ◌∷◌, slice_set, replicate, All, AllPairs}
+use Rattle.std.specs.Prelude.{◌≡◌, ◌<◌, ◌≤◌, List, [], ◌∷◌, slice_set, replicate, All, AllPairs}
 use Rattle.hs_fold.specs.Lawful.{Deed, Ascends, list_at}
 use Rattle.hs_fold.specs.Prefix.{last_of}
 use Rattle.hs_fold.specs.Shards.Setting.{Numbered, Setting, shard_in}

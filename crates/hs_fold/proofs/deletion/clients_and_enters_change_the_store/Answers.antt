@@ -1,0 +1,8 @@
+use Rattle.hs_fold.proofs.Runs.DeedLemmas.{deed-client, deed-enter}
+use Rattle.hs_fold.proofs.deletion.clients_and_enters_change_the_store.Goals as goal
+
+pub returns-clause-client : goal.returns-clause-client
+returns-clause-client c = λ set cs deed all low own clients. deed-client set deed cs all low own clients
+
+pub returns-clause-enter : goal.returns-clause-enter
+returns-clause-enter c = λ set cs shard number op epoch all low own unfinished. deed-enter set shard number op epoch cs all low own unfinished

@@ -1,0 +1,52 @@
+//! Lists of all kinds, with deletion runs.
+ghost use Rattle.std.specs.Prelude.{◌≡◌, ◌<◌, ℕ, List, false, length};
+ghost use Rattle.hs_entry.specs.declared.entry.Entry.{Entry};
+ghost use Rattle.hs_entry.specs.declared.entry.Entry.TheVariants as kind;
+ghost use Rattle.hs_fold.specs.Catalogue.{Shard};
+ghost use Rattle.hs_fold.specs.Lawful.{Deed};
+ghost use Rattle.hs_fold.specs.Runs.Catalogue.{apply};
+ghost use Rattle.hs_fold.specs.Runs.Facts.{Catalogue, plain, roots_of};
+ghost use Rattle.hs_fold.specs.Runs.Fits.{catalogue_at};
+ghost use Rattle.hs_fold.specs.Runs.Happening.{IsClients, happening_of};
+ghost use Rattle.hs_fold.specs.Runs.History.{follow};
+ghost use Rattle.hs_fold.specs.Runs.Opened.{catalogues, store_of};
+ghost use Rattle.hs_fold.specs.Runs.Own.{AreOwn, IsOwn, OneRetained};
+ghost use Rattle.hs_fold.specs.Runs.Rounds.{enter_epoch, is_complete};
+ghost use Rattle.hs_fold.specs.Shards.Catalogue.{apply as plain_apply};
+ghost use Rattle.hs_fold.specs.Shards.Happening.{happen_by};
+ghost use Rattle.hs_fold.specs.Shards.Setting.{Numbered, Setting, shard_in};
+
+/// What lists of all kinds amount to is of its shard, in order, and retains no key twice; each entry
+/// keeps it so, also where it makes no sense.
+pub fn runs_keep_catalogues_own()
+    ensures lists { (set : Setting) (lists : List Numbered) →
+        AreOwn set.shape.shards 0 (catalogues set 0 lists) }
+    ensures kept { (at : Shard) (c : Catalogue) (number : ℕ) (entry : Entry) →
+        IsOwn at.shards at.shard c → IsOwn at.shards at.shard (apply at c (number, entry)) }
+{}
+
+/// A client's entry does to a catalogue what it does without deletion.
+pub fn clients_see_no_runs()
+    ensures plain { (at : Shard) (c : Catalogue) (number : ℕ) (entry : Entry) →
+        OneRetained (roots_of c.roots) → IsClients entry →
+        plain (apply at c (number, entry)) ≡ plain_apply at (plain c) (number, entry) }
+{}
+
+/// A client's entry changes the store of all shards as what happens by it says, and so does an Enter
+/// whose round 0 has not come from every shard yet. What a Got does is no law of lists alone.
+pub fn clients_and_enters_change_the_store()
+    ensures client { (set : Setting) (cs : List Catalogue) (deed : Deed)
+        → length cs ≡ set.shape.shards → deed.shard < set.shape.shards
+        → AreOwn set.shape.shards 0 cs → IsClients deed.entry →
+        store_of (follow set cs deed) ≡ happen_by (store_of cs)
+        (happening_of (shard_in set deed.shard) (catalogue_at cs deed.shard) deed.entry) }
+    ensures enter { (set : Setting) (cs : List Catalogue) (shard number op epoch : ℕ)
+        → length cs ≡ set.shape.shards → shard < set.shape.shards → AreOwn set.shape.shards 0 cs
+        → is_complete set.shape.shards (enter_epoch (catalogue_at cs shard)) ≡ false →
+        store_of (follow set cs (record {
+          shard = shard;
+          number = number;
+          entry = kind.Enter op epoch;
+        })) ≡ happen_by (store_of cs)
+        (happening_of (shard_in set shard) (catalogue_at cs shard) (kind.Enter op epoch)) }
+{}
