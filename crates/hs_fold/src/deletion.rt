@@ -1,17 +1,19 @@
 //! Lists of all kinds, with deletion runs.
-ghost use Rattle.std.specs.Prelude.{◌≡◌, ◌<◌, ℕ, List, false, length};
+ghost use Rattle.std.specs.Prelude.{◌≡◌, ◌<◌, ◌≤◌, ◌^◌, ℕ, All, List, false, length};
+ghost use Rattle.hs_limits.specs.Limits.{greatest_limits};
 ghost use Rattle.hs_entry.specs.declared.entry.Entry.{Entry};
 ghost use Rattle.hs_entry.specs.declared.entry.Entry.TheVariants as kind;
 ghost use Rattle.hs_fold.specs.Catalogue.{Shard};
 ghost use Rattle.hs_fold.specs.Lawful.{Deed};
-ghost use Rattle.hs_fold.specs.Runs.Catalogue.{apply};
-ghost use Rattle.hs_fold.specs.Runs.Facts.{Catalogue, plain, roots_of};
+ghost use Rattle.hs_fold.specs.Runs.Catalogue.{apply, catalogue_of};
+ghost use Rattle.hs_fold.specs.Runs.Facts.{Catalogue, Told, plain, roots_of};
 ghost use Rattle.hs_fold.specs.Runs.Fits.{catalogue_at};
 ghost use Rattle.hs_fold.specs.Runs.Happening.{IsClients, happening_of};
 ghost use Rattle.hs_fold.specs.Runs.History.{follow};
 ghost use Rattle.hs_fold.specs.Runs.Opened.{catalogues, store_of};
 ghost use Rattle.hs_fold.specs.Runs.Own.{AreOwn, IsOwn, OneRetained};
-ghost use Rattle.hs_fold.specs.Runs.Rounds.{enter_epoch, is_complete};
+ghost use Rattle.hs_fold.specs.Runs.Rounds.{advanced, enter_epoch, is_complete};
+ghost use Rattle.hs_fold.specs.Runs.Told.{told_to};
 ghost use Rattle.hs_fold.specs.Shards.Catalogue.{apply as plain_apply};
 ghost use Rattle.hs_fold.specs.Shards.Happening.{happen_by};
 ghost use Rattle.hs_fold.specs.Shards.Setting.{Numbered, Setting, shard_in};
@@ -49,4 +51,15 @@ pub fn clients_and_enters_change_the_store()
           entry = kind.Enter op epoch;
         })) ≡ happen_by (store_of cs)
         (happening_of (shard_in set shard) (catalogue_at cs shard) (kind.Enter op epoch)) }
+{}
+
+/// Rounds end one after another as long as the open one is complete. A round tells a shard of no more
+/// addresses than a shard takes blocks, and no count leaves 32 bits, whatever lists hold.
+pub fn rounds_stay_within_bounds()
+    ensures ended { (shards : ℕ) (c : Catalogue) → 0 < shards →
+        is_complete shards (advanced shards c) ≡ false }
+    ensures told { (shards shard : ℕ) (told : Told) →
+        length (told_to shards shard told).deltas ≤ greatest_limits.blocks }
+    ensures counts { (at : Shard) (list : Numbered) →
+        All (λ e. e.1.count < 2 ^ 32) (catalogue_of at list).blocks }
 {}
