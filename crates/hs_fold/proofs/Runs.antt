@@ -1,8 +1,10 @@
+pub mod BlankLemmas
 pub mod DeedLemmas
 pub mod Examples
 pub mod OwnLemmas
 pub mod PlainLemmas
 pub mod PruneLemmas
+pub mod RoomLemmas
 pub mod RoundLemmas
 pub mod SmallLemmas
 pub mod StepLemmas

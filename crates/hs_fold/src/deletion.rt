@@ -54,12 +54,15 @@ pub fn clients_and_enters_change_the_store()
 {}
 
 /// Rounds end one after another as long as the open one is complete. A round tells a shard of no more
-/// addresses than a shard takes blocks, and no count leaves 32 bits, whatever lists hold.
+/// addresses than a shard takes blocks, a shard has no more blocks than that, and no count leaves
+/// 32 bits, whatever lists hold.
 pub fn rounds_stay_within_bounds()
     ensures ended { (shards : ℕ) (c : Catalogue) → 0 < shards →
         is_complete shards (advanced shards c) ≡ false }
     ensures told { (shards shard : ℕ) (told : Told) →
         length (told_to shards shard told).deltas ≤ greatest_limits.blocks }
+    ensures blocks { (at : Shard) (list : Numbered) →
+        length (catalogue_of at list).blocks ≤ greatest_limits.blocks }
     ensures counts { (at : Shard) (list : Numbered) →
         All (λ e. e.1.count < 2 ^ 32) (catalogue_of at list).blocks }
 {}

@@ -158,9 +158,9 @@ abbrev odd : Numbered
 odd = (1, kind.View 1) ∷ (2, kind.Got 0 2 0 0 []) ∷ (3, kind.Enter 0 2) ∷ (4, kind.Got 1 2 0 0 []) ∷ (5, kind.Got 0 2 1 0 [])
     ∷ (6, kind.Block 30 1 (spell (record { pointers = a 98 ∷ []; bytes = 99 ∷ [] }))) ∷ (7, kind.Got 0 3 0 0 []) ∷ []
 
-apart : map (λ c. c.epoch) (catalogues (of 2) 0 (even ∷ odd ∷ [])) ++ map (λ c. c.swept) (catalogues (of 2) 0 (even ∷ odd ∷ [])) ≡ 3 ∷ 2 ∷ 2 ∷ 1 ∷ []
+epochs_apart : map (λ c. c.epoch) (catalogues (of 2) 0 (even ∷ odd ∷ [])) ++ map (λ c. c.swept) (catalogues (of 2) 0 (even ∷ odd ∷ [])) ≡ 3 ∷ 2 ∷ 2 ∷ 1 ∷ []
 unfolding read_block block_at addresses
-apart = refl
+epochs_apart = refl
 
 -- then it sweeps and enters, with what waited
 joined : happenings (happens (shard_in (of 2) 1) (catalogue_of (shard_in (of 2) 1) odd) ((8, kind.Got 1 2 1 0 []) ∷ (9, kind.Enter 0 3) ∷ (10, kind.Got 1 3 0 0 (delta 98 1 ∷ [])) ∷ [])) ≡ sweeps 1 ∷ enters 1 ∷ []

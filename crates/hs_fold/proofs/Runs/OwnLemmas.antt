@@ -18,7 +18,7 @@ use Rattle.hs_limits.specs.Reading.{read_block}
 use Rattle.hs_fold.proofs.Shards.MineLemmas.{apply-mine, empty-mine, to-rising}
 use Rattle.hs_fold.proofs.Shards.RootLemmas.{both-rising, both-each}
 use Rattle.hs_fold.proofs.Runs.PlainLemmas.{apply-plain, same_key}
-use Rattle.hs_fold.proofs.Runs.StepLemmas.{same-each, same-kept}
+use Rattle.hs_fold.proofs.Runs.StepLemmas.{counted-present, counted-root, same-each, same-kept}
 use Rattle.hs_fold.specs.Catalogue.{Present, Shard, fresh_present}
 use Rattle.hs_fold.specs.Runs.Catalogue.{apply, apply_all}
 use Rattle.hs_fold.specs.Runs.Opened.{catalogues}
@@ -27,7 +27,7 @@ use Rattle.hs_fold.specs.Runs.Clients.{keep_root, drop_key, new_facts, marked, s
 use Rattle.hs_fold.specs.Runs.Facts.{roots_of, Facts, RootFacts, GotRound, Catalogue, empty_catalogue, plain, facts_at}
 use Rattle.hs_fold.specs.Runs.Happening.{IsClients}
 use Rattle.hs_fold.specs.Runs.Own.{OneRetained, IsOwn, AreOwn}
-use Rattle.hs_fold.specs.Runs.Rounds.{enter_epoch, count_block, count_root, is_new, is_new_root, search, is_new_zero, find_zero, is_released, sweep, spare, is_gone, moved_by, open_deltas, settled, is_last, is_complete, end_round, advance, advanced, is_accepted, log_got, get_round, may_enter, enter}
+use Rattle.hs_fold.specs.Runs.Rounds.{enter_epoch, count_block, count_root, search, is_new_zero, find_zero, is_released, sweep, spare, is_gone, moved_by, open_deltas, settled, is_last, is_complete, end_round, advance, advanced, is_accepted, log_got, get_round, may_enter, enter}
 use Rattle.hs_fold.specs.Shards.Catalogue.{is_rooted, retained_in, is_stored, is_marked}
 use Rattle.hs_fold.specs.Shards.Mine.{IsMine, IsRising}
 use Rattle.hs_fold.specs.Shards.Opened.{both_roots}
@@ -165,20 +165,6 @@ module _ (at : Shard) (c : Catalogue) (h : IsOwn at.shards at.shard c) where
 
   abbrev IsHereRoot : Root → Type 0
   IsHereRoot r = shard_of_key at.shards r.key ≡ at.shard
-
-  counted-present : (epoch : ℕ) (f : Facts) → (count_block epoch f).present ≡ f.present
-  counted-present epoch f = go (is_new epoch f)
-    where
-      go : (b : Bool) → (cond b (record f { counted = true }) f).present ≡ f.present
-      go true = refl
-      go false = refl
-
-  counted-root : (epoch : ℕ) (k : RootFacts) → (count_root epoch k).root ≡ k.root
-  counted-root epoch k = go (is_new_root epoch k)
-    where
-      go : (b : Bool) → (cond b (record k { counted = true }) k).root ≡ k.root
-      go true = refl
-      go false = refl
 
   pub enter-own : IsOwn at.shards at.shard (enter_epoch c)
   enter-own =

@@ -10,7 +10,7 @@ use Rattle.hs_fold.specs.Runs.Facts.{GotRound, Told, Catalogue}
 use Rattle.hs_fold.specs.Runs.Rounds.{is_from, is_older, open_got, is_running, is_complete, is_last, settled, search, sweep, end_round, advance, advanced}
 use Rattle.hs_fold.specs.Runs.Told.{told_to}
 
-no-more : {X : Type 0} (test : X → Bool) (xs : List X) → length (filter test xs) ≤ length xs
+pub no-more : {X : Type 0} (test : X → Bool) (xs : List X) → length (filter test xs) ≤ length xs
 no-more test [] = omega arith
 no-more test (x ∷ xs) = go (test x) (no-more test xs)
   where

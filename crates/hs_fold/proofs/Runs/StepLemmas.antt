@@ -54,6 +54,20 @@ pub same-kept : (f : RootFacts → RootFacts) → ((k : RootFacts) → (f k).roo
 same-kept f h [] = refl
 same-kept f h (k ∷ ks) = rw (h k, same-kept f h ks) refl
 
+pub counted-present : (epoch : ℕ) (f : Facts) → (count_block epoch f).present ≡ f.present
+counted-present epoch f = go (is_new epoch f)
+  where
+    go : (b : Bool) → (cond b (record f { counted = true }) f).present ≡ f.present
+    go true = refl
+    go false = refl
+
+pub counted-root : (epoch : ℕ) (k : RootFacts) → (count_root epoch k).root ≡ k.root
+counted-root epoch k = go (is_new_root epoch k)
+  where
+    go : (b : Bool) → (cond b (record k { counted = true }) k).root ≡ k.root
+    go true = refl
+    go false = refl
+
 module _ (front back : List Plain) (c : Catalogue) (mine : AreMine (all_shards front back) 0 (front ++ plain c ∷ back)) where
   abbrev s : Store
   s = listed (front ++ plain c ∷ back)
@@ -87,20 +101,6 @@ module _ (front back : List Plain) (c : Catalogue) (mine : AreMine (all_shards f
       ∙ ap (λ one. happen_by (pruned s) one) (sym (client-happens at c entry u))
 
   -- Enter
-  counted-present : (epoch : ℕ) (f : Facts) → (count_block epoch f).present ≡ f.present
-  counted-present epoch f = go (is_new epoch f)
-    where
-      go : (b : Bool) → (cond b (record f { counted = true }) f).present ≡ f.present
-      go true = refl
-      go false = refl
-
-  counted-root : (epoch : ℕ) (k : RootFacts) → (count_root epoch k).root ≡ k.root
-  counted-root epoch k = go (is_new_root epoch k)
-    where
-      go : (b : Bool) → (cond b (record k { counted = true }) k).root ≡ k.root
-      go true = refl
-      go false = refl
-
   pub enter-step : pruned (to (enter_epoch c)) ≡ enter (pruned s) g
   enter-step = ap pruned whole ∙ enter-pruned s g some
     where
