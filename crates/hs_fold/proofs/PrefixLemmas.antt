@@ -24,7 +24,7 @@ after rank number (kind.KeptBlock born mark flags count bytes) f = cc f
 after rank number (kind.KeptRoot created dropped counted address key) f = cc f
 after rank number (kind.KeptRound way other epoch round total deltas) f = cc f
 
-folded : (rank : Rank) (es : List (ℕ × Entry)) → GoOn rank.number es → (fold (λ (r : Rank) (x : ℕ × Entry). rank_after r x.0 x.1) rank es).number ≡ rank.number + length es
+pub folded : (rank : Rank) (es : List (ℕ × Entry)) → GoOn rank.number es → (fold (λ (r : Rank) (x : ℕ × Entry). rank_after r x.0 x.1) rank es).number ≡ rank.number + length es
 folded rank [] g = omega arith
 folded rank (e ∷ es) g =
     let next : Rank = rank_after rank e.0 e.1 in
@@ -44,14 +44,14 @@ low-gone n [] g k a m = elim m [ ]
 low-gone n (e ∷ es) g k a (inl h) = let at : k ≡ n + 1 = ap (λ x. x.0) h ∙ g.0 in omega (arith, at)
 low-gone n (e ∷ es) g k a (inr m) = let more : n + 1 < k = low-gone (n + 1) es g.2 k a m in omega (arith, more)
 
-one-each : (n : ℕ) (es : List (ℕ × Entry)) → GoOn n es → (k : ℕ) (a b : Entry) → Member (k, a) es → Member (k, b) es → a ≡ b
+pub one-each : (n : ℕ) (es : List (ℕ × Entry)) → GoOn n es → (k : ℕ) (a b : Entry) → Member (k, a) es → Member (k, b) es → a ≡ b
 one-each n [] g k a b p q = elim p [ ]
 one-each n (e ∷ es) g k a b (inl p) (inl q) = ap (λ x. x.1) (p ∙ sym q)
 one-each n (e ∷ es) g k a b (inl p) (inr q) = let at : k ≡ n + 1 = ap (λ x. x.0) p ∙ g.0 in let more : n + 1 < k = low-gone (n + 1) es g.2 k b q in absurd (omega (arith, at, more))
 one-each n (e ∷ es) g k a b (inr p) (inl q) = let at : k ≡ n + 1 = ap (λ x. x.0) q ∙ g.0 in let more : n + 1 < k = low-gone (n + 1) es g.2 k a p in absurd (omega (arith, at, more))
 one-each n (e ∷ es) g k a b (inr p) (inr q) = one-each (n + 1) es g.2 k a b p q
 
-in-front : (front rest : List (ℕ × Entry)) (e : ℕ × Entry) → Member e front → Member e (front ++ rest)
+pub in-front : (front rest : List (ℕ × Entry)) (e : ℕ × Entry) → Member e front → Member e (front ++ rest)
 in-front [] rest e m = elim m [ ]
 in-front (x ∷ front) rest e (inl h) = inl h
 in-front (x ∷ front) rest e (inr m) = inr (in-front front rest e m)
@@ -83,7 +83,7 @@ prefix-list at front rest f g = record {
 abbrev Agrees : List (ℕ × Entry) → List (ℕ × Entry) → Type 0
 Agrees front all = (number : ℕ) (a b : Entry) → Member (number, a) front → Member (number, b) all → a ≡ b
 
-list-prefix : (n : ℕ) (front all : List (ℕ × Entry)) → GoOn n front → GoOn n all → length front ≤ length all → Agrees front all → IsPrefix front all
+pub list-prefix : (n : ℕ) (front all : List (ℕ × Entry)) → GoOn n front → GoOn n all → length front ≤ length all → Agrees front all → IsPrefix front all
 list-prefix n [] all f g h same = (all, refl)
 list-prefix n (x ∷ front) [] f g h same = absurd (omega (arith, h))
 list-prefix n (x ∷ front) (y ∷ all) f g h same =

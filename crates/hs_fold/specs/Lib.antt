@@ -8,3 +8,4 @@ pub mod Lawful
 pub mod Order
 pub mod Prefix
 pub mod Served
+pub mod Shards

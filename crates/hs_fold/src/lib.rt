@@ -2,6 +2,9 @@
 #![tactic(auto)]
 
 mod change;
+mod fronts;
+mod histories;
+mod images;
 mod keeping;
 mod lines;
 mod numbered;
@@ -11,8 +14,17 @@ mod prefix;
 mod served;
 mod sessions;
 mod sound;
+mod soundness;
+mod standing;
+mod unrooted;
+mod waiting;
 
 pub use change::{entries_change_the_store, lists_change_the_store};
+pub use fronts::fronts_are_prefixes;
+pub use histories::{
+    catalogues_are_of_their_shards, histories_change_the_store, shards_see_their_own,
+};
+pub use images::empty_disks_are_blank;
 pub use keeping::blocks_were_stored;
 pub use lines::logged_entries_name_their_line;
 pub use numbered::numbered_lists_part;
@@ -22,3 +34,7 @@ pub use prefix::a_front_is_a_prefix;
 pub use served::served_operations_are_logged;
 pub use sessions::changes_leave_sessions;
 pub use sound::sound_lists_stay_sound;
+pub use soundness::lists_stay_sound;
+pub use standing::lists_stand_at_what_is_behind;
+pub use unrooted::the_older_text_leaves_out_roots;
+pub use waiting::{waiting_entries_may_still_come, waiting_lists_are_lawful};

@@ -117,6 +117,10 @@ not-true : (b : Bool) → (b ≡ true → ⊥) → not b ≡ true
 not-true true f = absurd (f refl)
 not-true false f = refl
 
+-- whether a root stays is read of the epochs alone
+pub stays-epochs : (s t : Store) (root : Root) → s.epochs ≡ t.epochs → stays s root ≡ stays t root
+stays-epochs s t root same = ap (λ epochs. stays (record s { epochs = epochs }) root) same
+
 -- a root on which something rests that may still be used stays, and stands no less
 root-stays : (s : Store) (shard epoch : ℕ) (root : Root) → 0 < length s.epochs → least_epoch (enter s shard) ≤ epoch + 1 → nat_le epoch (stands_in s root) ≡ true → (stays (record s { epochs = slice_set s.epochs shard (slice_index s.epochs shard + 1) }) root ≡ true) × (nat_le epoch (stands_in (enter s shard) root) ≡ true)
 root-stays s shard epoch root h l t = go root.dropped refl t
@@ -125,7 +129,7 @@ root-stays s shard epoch root h l t = go root.dropped refl t
     go None e u = (rw e, rw e (nat_le-true epoch (root_epoch (enter s shard) root.key) (omega (arith, nat_le_from epoch (root_epoch s root.key) u, enter-root_epoch s shard root.key))))
     go (Some d) e u = (rw e (not-true (none_below (enter s shard) (d + 2)) (λ b. omega (arith, l, nat_le_from epoch d u, least_from_none_below (enter s shard) (d + 2) (rw (enter-length s shard) h) b))), rw e u)
 
-enter-rests : (s : Store) (shard epoch : ℕ) → 0 < length s.epochs → least_epoch (enter s shard) ≤ epoch + 1 → (a : Address) → Member a (rests_on s epoch) → Member a (rests_on (enter s shard) epoch)
+pub enter-rests : (s : Store) (shard epoch : ℕ) → 0 < length s.epochs → least_epoch (enter s shard) ≤ epoch + 1 → (a : Address) → Member a (rests_on s epoch) → Member a (rests_on (enter s shard) epoch)
 enter-rests s shard epoch h l a m =
     let t = enter s shard in
     starts-each (λ a. Member a (rests_on t epoch)) (λ root. nat_le epoch (stands_in s root)) (λ e. nat_le epoch e.1) s.roots s.given (λ root n u. let k = root-stays s shard epoch root h l u in starts-root (λ root. nat_le epoch (stands_in t root)) (λ e. nat_le epoch e.1) t.roots s.given root (member-filter (stays (record s { epochs = slice_set s.epochs shard (slice_index s.epochs shard + 1) })) root s.roots n k.0) k.1) (λ e n u. starts-given (λ root. nat_le epoch (stands_in t root)) (λ e. nat_le epoch e.1) t.roots s.given e n u) a m

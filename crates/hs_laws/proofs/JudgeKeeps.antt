@@ -96,7 +96,7 @@ anchored_handle s v name handle now l u =
 
 -- ---- the block that is there is the block that is written
 
-least-root_epoch : (s : Store) (key : List ℕ) → 0 < length s.epochs → least_epoch s ≤ root_epoch s key
+pub least-root_epoch : (s : Store) (key : List ℕ) → 0 < length s.epochs → least_epoch s ≤ root_epoch s key
 least-root_epoch s key h = least_epoch-at s (shard_of_key (length s.epochs) key) (mod-lt (slice_index key (length key - 1)) h)
 
 same_pointers : (ps qs : List Address) → pointwise (λ p q. bytes_eq p.0 q.0) ps qs ≡ true → ps ≡ qs

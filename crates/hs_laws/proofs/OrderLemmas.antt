@@ -30,7 +30,7 @@ unfolding IsStrictlySortedBy
 none-sorted c = tt
 
 module _ {K V : Type 0} where
-  insert-all : (c : K → K → Ordering) (P : K → Type 0) (es : List (K × V)) (k : K) (v : V) → P k → AllByRecursion P (keys_of es) → AllByRecursion P (keys_of (insert_entry c es k v))
+  pub insert-all : (c : K → K → Ordering) (P : K → Type 0) (es : List (K × V)) (k : K) (v : V) → P k → AllByRecursion P (keys_of es) → AllByRecursion P (keys_of (insert_entry c es k v))
   insert-all c P [] k v p h = (p, tt)
   insert-all c P (e ∷ es) k v p h = go (insert-all c P es k v p h.1) (c k e.0)
     where
@@ -82,7 +82,7 @@ module _ {K V : Type 0} where
 
 -- ---- roots
 
-dropped_total : IsTotalOrder dropped_cmp
+pub dropped_total : IsTotalOrder dropped_cmp
 dropped_total = record { antisymm = anti; trans = trans; congr = congr }
   where
     anti : (x y : Option ℕ) → dropped_cmp x y ≡ ordering_reverse (dropped_cmp y x)
@@ -106,10 +106,10 @@ dropped_total = record { antisymm = anti; trans = trans; congr = congr }
     congr (Some x) (Some y) None h = refl
     congr (Some x) (Some y) (Some z) h = nat_cmp_total.congr x y z h
 
-root_total : IsTotalOrder root_cmp
+pub root_total : IsTotalOrder root_cmp
 root_total = then_total (on_texts (λ (r : Root). r.key)) (then_total (on_total (λ (r : Root). r.dropped) dropped_total) (on_texts (λ (r : Root). r.address.0)))
 
-abbrev Before : Root → Root → Type 0
+abbrev pub Before : Root → Root → Type 0
 Before x y = is_gt (root_cmp x y) ≡ false
 
 abbrev pub Rising : List Root → Type 0
@@ -135,11 +135,11 @@ pub rising_from_pairs : (rs : List Root) → ((i j : ℕ) (d : Root) → i < j �
 rising_from_pairs [] f = tt
 rising_from_pairs (r ∷ rs) f = (all_from_at (Before r) rs (λ d j l. f 0 (suc j) d (omega arith) (grind (arith, common_steps, l))), rising_from_pairs rs (λ i j d l m. f (suc i) (suc j) d (omega (arith, l)) (grind (arith, common_steps, m))))
 
-before-all : (x y : Root) (rs : List Root) → Before x y → AllByRecursion (Before y) rs → AllByRecursion (Before x) rs
+pub before-all : (x y : Root) (rs : List Root) → Before x y → AllByRecursion (Before y) rs → AllByRecursion (Before x) rs
 before-all x y [] b h = tt
 before-all x y (r ∷ rs) b h = (upto root_total x y r b h.0, before-all x y rs b h.1)
 
-before-flips : (x y : Root) → is_gt (root_cmp x y) ≡ true → Before y x
+pub before-flips : (x y : Root) → is_gt (root_cmp x y) ≡ true → Before y x
 before-flips x y h = go (root_cmp x y) refl h
   where
     go : (o : Ordering) → root_cmp x y ≡ o → is_gt o ≡ true → is_gt (root_cmp y x) ≡ false
@@ -147,7 +147,7 @@ before-flips x y h = go (root_cmp x y) refl h
     go Equal e t = cc t
     go Greater e t = ap (λ o. is_gt o) (root_total.antisymm y x ∙ ap (λ o. ordering_reverse o) e)
 
-place-all : (P : Root → Type 0) (root : Root) (rs : List Root) → P root → AllByRecursion P rs → AllByRecursion P (place_root root rs)
+pub place-all : (P : Root → Type 0) (root : Root) (rs : List Root) → P root → AllByRecursion P rs → AllByRecursion P (place_root root rs)
 place-all P root [] p h = (p, tt)
 place-all P root (r ∷ rs) p h = go (place-all P root rs p h.1) (is_gt (root_cmp root r))
   where
@@ -163,7 +163,7 @@ place-rising root (r ∷ rs) h = go (place-rising root rs h.1) (is_gt (root_cmp 
     go ih true e = (place-all (Before r) root rs (before-flips root r e) h.0, ih)
     go ih false e = ((e, before-all root r rs e h.0), h)
 
-without-all : (P : Root → Type 0) (test : Root → Bool) (rs : List Root) → AllByRecursion P rs → AllByRecursion P (without_first test rs)
+pub without-all : (P : Root → Type 0) (test : Root → Bool) (rs : List Root) → AllByRecursion P rs → AllByRecursion P (without_first test rs)
 without-all P test [] h = tt
 without-all P test (r ∷ rs) h = go (without-all P test rs h.1) (test r)
   where
@@ -179,7 +179,7 @@ without-rising test (r ∷ rs) h = go (without-rising test rs h.1) (test r)
     go ih true = h.1
     go ih false = (without-all (Before r) test rs h.0, ih)
 
-kept-all : (P : Root → Type 0) (p : Root → Bool) (rs : List Root) → AllByRecursion P rs → AllByRecursion P (filter p rs)
+pub kept-all : (P : Root → Type 0) (p : Root → Bool) (rs : List Root) → AllByRecursion P rs → AllByRecursion P (filter p rs)
 kept-all P p [] h = tt
 kept-all P p (r ∷ rs) h = go (kept-all P p rs h.1) (p r)
   where

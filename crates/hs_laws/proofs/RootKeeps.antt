@@ -51,7 +51,7 @@ member_of_without test (r ∷ roots) x n = go (member_of_without test roots x) (
     go ih false (inl e) = inl e
     go ih false (inr k) = inr (ih k)
 
-without-keeps : (test : Root → Bool) (roots : List Root) (x : Root) → Member x roots → Member x (without_first test roots) ⊎ (find test roots ≡ Some x)
+pub without-keeps : (test : Root → Bool) (roots : List Root) (x : Root) → Member x roots → Member x (without_first test roots) ⊎ (find test roots ≡ Some x)
 without-keeps test [] x n = elim n [ ]
 without-keeps test (r ∷ roots) x n = go (without-keeps test roots x) (test r) n
   where

@@ -110,7 +110,7 @@ module _ (s : Store) (v : Valid s) (shard : ℕ) (m : MaySweep s shard) where
           let found = member_from_some (sweep s shard).blocks e.0 present in
           among_kept e.0 found.0 found.1
 
-  still_reached : (epoch : ℕ) → least_epoch s ≤ epoch + 1 → (a : Address) → Reaches s.blocks (rests_on s epoch) a → Reaches (sweep s shard).blocks (rests_on (sweep s shard) epoch) a
+  pub still_reached : (epoch : ℕ) → least_epoch s ≤ epoch + 1 → (a : Address) → Reaches s.blocks (rests_on s epoch) a → Reaches (sweep s shard).blocks (rests_on (sweep s shard) epoch) a
   still_reached epoch l a r =
       Reached-each (λ b. Reaches (sweep s shard).blocks (rests_on (sweep s shard) epoch) b) (λ a n. start (sweep-rests epoch l a n)) (λ a b q i p. onward i (subst (λ f. Member b (pointers_of f)) (sym (is_kept a (anchored_from_held s epoch (least_epoch s) a l q))) p)) a r
 

@@ -138,7 +138,7 @@ module _ (s : Store) (v : Valid s) (a : Address) (block : Block) (m : MayWrite s
           let until : e.1 ≤ now = subst (λ z. e.1 ≤ epoch_at s z) h (v.given.now e k) in
           subst (λ z. Member z (rests_on after epoch)) (sym h) (starts-given (λ root. nat_le epoch (stands_in s root)) (λ e. nat_le epoch e.1) s.roots after.given (a, now) gift_here (nat_le-true epoch now (omega (arith, until, nat_le_from epoch e.1 t))))
 
-  still_reached : (epoch : ℕ) (b : Address) → Reaches s.blocks (rests_on s epoch) b → Reaches after.blocks (rests_on after epoch) b
+  pub still_reached : (epoch : ℕ) (b : Address) → Reaches s.blocks (rests_on s epoch) b → Reaches after.blocks (rests_on after epoch) b
   still_reached epoch b r = Reached-each (λ b. Reaches after.blocks (rests_on after epoch) b) (λ b n. start (rests_after epoch b n)) (λ b c q i p. onward i (points_after b c p)) b r
 
   pub written_rests : Reaches after.blocks (rests_on after now) a
