@@ -50,10 +50,10 @@ impl EntryList {
         ensures { result ≡ rank_of self.now }
     {
         let start = Rank { view: 0, number: 0 };
-        self.entries.as_slice().iter().fold(
-            start,
-            |rank, (number, entry)| rank.after(*number, entry),
-        )
+        self.entries
+            .as_slice()
+            .iter()
+            .fold(start, |rank, (number, entry)| rank.after(*number, entry))
     }
 
     /// Whether the other list begins with this one, frame by frame. It takes no memory.

@@ -111,11 +111,7 @@ impl SideLog {
 }
 
 /// Reads a side, all of which is on the medium.
-fn read_log<D: Disk>(
-    alloc: Global,
-    disk: &mut D,
-    side: Side,
-) -> Result<(SideLog, Rank), SideFault>
+fn read_log<D: Disk>(alloc: Global, disk: &mut D, side: Side) -> Result<(SideLog, Rank), SideFault>
     ensures exact { D.tells → OpensRanked result (log_of ((D.stands disk.old).seen side)) }
     ensures has { D.tells → IfOk result (λ x. HasBytes 0xa5 x.0
         ((D.stands disk.old).seen side) (settled ((D.stands disk.old).seen side))) }

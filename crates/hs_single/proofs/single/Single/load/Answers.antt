@@ -26,8 +26,8 @@ frames-preserved g c =
     let low : index < length c.args.log.places = omega (arith, c.frames-test.true, before.count) in
     let more : g.D.Disk.tells → (entries : List (ℕ × Entry)) → HasList c.args.log.places ((g.D.Disk.stands c.args.disk.now).seen c.args.log.side) entries → IsNumbered entries → take (index + 1) entries ≡ take index entries ++ (index + 1, c.in-Ok.entry) ∷ [] =
     λ told entries has numbered.
-        c.in-Ok.ensures.value told entries (subst (λ (k : Kept). HasList k.places ((g.D.Disk.stands c.frames.disk).seen k.side) entries) (sym before.log)
-          (subst (λ (d : Standing). HasList c.args.log.places (d.seen c.args.log.side) entries) (sym (before.same told)) has)) numbered in
+    c.in-Ok.ensures.value told entries (subst (λ (k : Kept). HasList k.places ((g.D.Disk.stands c.frames.disk).seen k.side) entries) (sym before.log)
+    (subst (λ (d : Standing). HasList c.args.log.places (d.seen c.args.log.side) entries) (sym (before.same told)) has)) numbered in
     record {
       log = c.adopt.ensures.log ∙ before.log;
       sessions = c.in_ok-adopt.ensures.sessions ∙ before.sessions;
