@@ -1,6 +1,6 @@
 //! Marks of an address.
-use hs_marks::Marks;
 use hs_limits::Address;
+use hs_marks::Marks;
 use std::test::Fail;
 
 #[test]

@@ -1,6 +1,6 @@
 //! A peer that fails, starts and joins.
-use hs_members::{MemberFault, Members, home_of};
 use hs_limits::{PeerStatus, Shape};
+use hs_members::{MemberFault, Members, home_of};
 use std::test::Fail;
 
 #[test]

@@ -1,7 +1,7 @@
 //! Messages on their way.
-use hs_post::{Message, Pool, PostFault};
 use hs_entry::Entry;
 use hs_limits::ListOf;
+use hs_post::{Message, Pool, PostFault};
 use std::alloc::Global;
 use std::test::Fail;
 

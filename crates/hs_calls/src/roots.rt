@@ -1,6 +1,6 @@
 //! A root and its records.
-use hs_roots::{RootFault, RootSet};
 use hs_limits::{Address, Key, ListOf};
+use hs_roots::{RootFault, RootSet};
 use std::alloc::{AllocError, Global};
 use std::test::Fail;
 

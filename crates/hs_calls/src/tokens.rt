@@ -1,6 +1,6 @@
 //! A session and its handles.
-use hs_tokens::{SeatFault, Sessions};
 use hs_limits::{Address, Held, Limits, ListOf, Name};
+use hs_tokens::{SeatFault, Sessions};
 use std::alloc::{AllocError, Global};
 use std::test::Fail;
 

@@ -4,4 +4,3 @@
 mod greatest;
 
 pub use greatest::choose;
-

@@ -223,12 +223,7 @@ fn write<D: Disk>(
 
 /// Cuts to a length, where it is not behind the end. It asks for the length first, which is a call
 /// too.
-fn cut<D: Disk>(
-    disk: &mut D,
-    watch: &mut Watch,
-    side: Side,
-    length: u64,
-) -> Result<(), PortFault> {
+fn cut<D: Disk>(disk: &mut D, watch: &mut Watch, side: Side, length: u64) -> Result<(), PortFault> {
     let most = disk.len(side)?;
     disk.cut(watch, side, length.min(most))
 }

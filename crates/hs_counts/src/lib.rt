@@ -6,4 +6,3 @@ mod fault;
 
 pub use counts::Counts;
 pub use fault::CountFault;
-

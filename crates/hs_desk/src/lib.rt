@@ -12,4 +12,3 @@ pub use fault::CoreFault;
 pub use job::{Job, Next, Work};
 pub use slip::Slip;
 pub use token::Token;
-

@@ -6,3 +6,4 @@ mod GotLemmas
 mod KindLemmas
 mod ListLemmas
 pub mod ShortLemmas
+pub mod RankLemmas

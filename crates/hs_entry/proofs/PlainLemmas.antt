@@ -67,11 +67,11 @@ unfolding fields_at
 fields_plain kind whole bytes =
     either (eqb kind 1) _ _ (view_plain whole bytes)
     (either (eqb kind 2) _ _ (block_plain whole bytes)
-      (either (eqb kind 3) _ _ (mark_plain whole bytes)
-        (either (eqb kind 4) _ _ (root_plain whole bytes)
-          (either (eqb kind 5) _ _ (drop_plain whole bytes)
-            (either (eqb kind 6) _ _ (enter_plain whole bytes)
-              (either (eqb kind 7) _ _ (got_plain whole bytes) (stops _)))))))
+    (either (eqb kind 3) _ _ (mark_plain whole bytes)
+    (either (eqb kind 4) _ _ (root_plain whole bytes)
+    (either (eqb kind 5) _ _ (drop_plain whole bytes)
+    (either (eqb kind 6) _ _ (enter_plain whole bytes)
+    (either (eqb kind 7) _ _ (got_plain whole bytes) (stops _)))))))
 
 pub entry_plain : (bytes : List ℕ) (number : ℕ) (entry : Entry) → entry_at bytes ≡ Ok (number, entry) → is_of_base entry ≡ false
 unfolding entry_at

@@ -16,6 +16,20 @@ abbrev pub is_of_base : Entry → Bool
 is_of_base (Base view epoch swept round frames) = true
 is_of_base entry = is_kept entry
 
+-- the view behind an entry: a View or a Base sets it
+abbrev pub view_after : ℕ → Entry → ℕ
+view_after before (View view) = view
+view_after before (Base view epoch swept round frames) = view
+view_after before (Block op least bytes) = before
+view_after before (Mark op least block address) = before
+view_after before (Root op held address key) = before
+view_after before (Drop op key) = before
+view_after before (Enter op epoch) = before
+view_after before (Got sender epoch round total deltas) = before
+view_after before (KeptBlock born mark flags count bytes) = before
+view_after before (KeptRoot created dropped counted address key) = before
+view_after before (KeptRound way other epoch round total deltas) = before
+
 -- the rank behind one frame more: a View or a Base sets the view, and a kept frame is no entry
 abbrev pub rank_after : Rank → ℕ → Entry → Rank
 rank_after rank number (View view) = record { view = view; number = number }

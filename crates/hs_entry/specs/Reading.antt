@@ -15,6 +15,8 @@ use Rattle.hs_entry.specs.declared.entry.Entry.{Entry}
 use Rattle.hs_entry.specs.declared.entry.Entry.TheVariants.{View, Block, Mark, Root, Drop, Enter, Got, Base, KeptBlock, KeptRoot, KeptRound}
 use Rattle.hs_entry.specs.declared.fault.EntryFault.{EntryFault}
 use Rattle.hs_entry.specs.declared.fault.EntryFault.TheVariants.{Short, BadKind, BadField, Trailing, NoMemory}
+use Rattle.hs_entry.specs.declared.rank.Rank.{Rank}
+use Rattle.hs_entry.specs.Entries.{view_after}
 
 -- the kinds that are read
 abbrev pub is_kind : ℕ → Bool
@@ -177,6 +179,14 @@ entry_at bytes = do
   number ← number_at (Short (length bytes)) w64 kind.1
   entry ← fields_at kind.0 (length bytes) number.1
   Ok (number.0, entry)
+
+-- of what was read, the view and the rank behind it
+abbrev pub view_read : ℕ → Result Entry EntryFault → Result ℕ EntryFault
+view_read before read = read >>= λ entry. Ok (view_after before entry)
+
+abbrev pub rank_read : Rank → Result (ℕ × Entry) EntryFault → Result Rank EntryFault
+rank_read before read =
+    read >>= λ x. Ok (record { view = view_after before.view x.1; number = x.0 })
 
 -- what a function returned, seen by view, is what reading gives, unless memory ran out
 abbrev pub Fails : {Y : Type 0} → EntryFault → Result Y EntryFault → Type 0

@@ -18,5 +18,5 @@ pub use fault::EntryFault;
 pub use laws::no_payload_begins_another;
 pub use list::EntryList;
 pub use rank::Rank;
-pub use reading::read_entry;
+pub use reading::{read_entry, read_rank};
 pub use writing::write_entry;

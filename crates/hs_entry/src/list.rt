@@ -1,6 +1,6 @@
 //! Lists of entries.
 ghost use Rattle.std.specs.Prelude.{◌≡◌, ◌↔◌, ◌∷◌, ◌++◌, [], length, take, IsTrue, OnOk, OnErr, IsOkUnless};
-ghost use Rattle.hs_entry.specs.Entries.{rank_after, rank_of, Follows, IsPrefix};
+ghost use Rattle.hs_entry.specs.Entries.{rank_of, Follows, IsPrefix};
 
 use crate::{Entry, EntryFault, Rank};
 use hs_limits::ListOf;
@@ -50,10 +50,10 @@ impl EntryList {
         ensures { result ≡ rank_of self.now }
     {
         let start = Rank { view: 0, number: 0 };
-        self.entries.as_slice().iter().fold(
-            start,
-            |rank, (number, entry)| rank_after(rank, *number, entry),
-        )
+        self.entries
+            .as_slice()
+            .iter()
+            .fold(start, |rank, (number, entry)| rank.after(*number, entry))
     }
 
     /// Whether the other list begins with this one, frame by frame. It takes no memory.
@@ -68,27 +68,6 @@ impl EntryList {
         ensures { result ≡ length self.now }
     {
         self.entries.len() as u64
-    }
-}
-
-/// The rank behind one frame more.
-fn rank_after(rank: Rank, number: u64, entry: &Entry) -> Rank
-    ensures { result ≡ rank_after rank number entry.now }
-{
-    match entry {
-        Entry::View { view } => Rank {
-            view: *view,
-            number,
-        },
-        Entry::Base { view, .. } => Rank {
-            view: *view,
-            number,
-        },
-        Entry::KeptBlock { .. } | Entry::KeptRoot { .. } | Entry::KeptRound { .. } => rank,
-        _ => Rank {
-            view: rank.view,
-            number,
-        },
     }
 }
 

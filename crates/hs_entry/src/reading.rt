@@ -1,11 +1,13 @@
 //! Reading entries from their payloads.
 ghost use Rattle.std.specs.Prelude.{◌≡◌, ℕ, ◌^◌, ◌<◌, Ok, IfOk};
 ghost use Rattle.hs_entry.specs.declared.entry.Entry.{Entry};
+ghost use Rattle.hs_entry.specs.declared.entry.Entry.TheVariants as kinds;
+ghost use Rattle.hs_entry.specs.Entries.{view_after};
 ghost use Rattle.hs_entry.specs.Payload.{payload};
-ghost use Rattle.hs_entry.specs.Reading.{IsReadable, IsReading, is_kind, view_at, block_at, mark_at, root_at, drop_at, enter_at, got_at, fields_at, entry_at};
+ghost use Rattle.hs_entry.specs.Reading.{IsReadable, IsReading, is_kind, view_at, block_at, mark_at, root_at, drop_at, enter_at, got_at, fields_at, entry_at, view_read, rank_read};
 
 use crate::parts::{address_at, deltas_of, epoch_at, key_at, key_of, u8_at, u32_at, u64_at};
-use crate::{Entry, EntryFault};
+use crate::{Entry, EntryFault, Rank};
 use hs_limits::{ListOf, spelt};
 use std::alloc::Global;
 
@@ -22,6 +24,51 @@ pub fn read_entry(alloc: Global, bytes: &[u8]) -> Result<(u64, Entry), EntryFaul
     ensures exact { IsReading (λ x. x) result (entry_at bytes.now) }
 {
     entry_of(alloc, bytes)
+}
+
+/// The rank behind the entry that the bytes spell, where `before` is the rank without it. It reads
+/// what `read_entry` reads, and copies no block.
+#[tactic(auto, unfolding(crate::specs::Reading::entry_at))]
+pub fn read_rank(alloc: Global, before: Rank, bytes: &[u8]) -> Result<Rank, EntryFault>
+    ensures { IsReading (λ x. x) result (rank_read before (entry_at bytes.now)) }
+{
+    let whole = bytes.len() as u64;
+    let (kind, rest) = u8_at(whole, bytes)?;
+    if !is_kind(kind) {
+        return Err(EntryFault::BadKind { found: kind });
+    }
+    let (number, fields) = u64_at(whole, rest)?;
+    let view = view_in(alloc, before.view, kind, whole, fields)?;
+    Ok(Rank { view, number })
+}
+
+/// The view behind the entry of these fields, where `before` is the view without it.
+#[tactic(auto, unfolding(crate::specs::Reading::fields_at))]
+fn view_in(
+    alloc: Global,
+    before: u64,
+    kind: u8,
+    whole: u64,
+    bytes: &[u8],
+) -> Result<u64, EntryFault>
+    ensures { IsReading (λ x. x) result (view_read before (fields_at kind whole bytes.now)) }
+{
+    if kind == 2 {
+        block_in(whole, bytes)?;
+        return Ok(before);
+    }
+    let entry = fields_of(alloc, kind, whole, bytes)?;
+    Ok(view_after(before, &entry))
+}
+
+/// The view behind an entry.
+pub(crate) fn view_after(before: u64, entry: &Entry) -> u64
+    ensures { result ≡ view_after before entry.now }
+{
+    match entry {
+        Entry::View { view } | Entry::Base { view, .. } => *view,
+        _ => before,
+    }
 }
 
 #[tactic(auto, unfolding(crate::specs::Reading::entry_at))]
@@ -76,16 +123,24 @@ fn view_of(whole: u64, bytes: &[u8]) -> Result<Entry, EntryFault>
     Ok(Entry::View { view })
 }
 
+/// The fields of a Block, without a copy of its bytes.
 #[tactic(auto, unfolding(crate::specs::Reading::block_at))]
-fn block_of(alloc: Global, whole: u64, bytes: &[u8]) -> Result<Entry, EntryFault>
-    ensures { IsReading (λ x. x) result (block_at whole bytes.now) }
+fn block_in(whole: u64, bytes: &[u8]) -> Result<(u64, u64, &[u8]), EntryFault>
+    ensures { IsReading (λ x. kinds.Block x.0 x.1 x.2.now) result (block_at whole bytes.now) }
 {
     let (op, rest) = u64_at(whole, bytes)?;
     let (least, rest) = epoch_at(whole, 17, rest)?;
     if !spelt(rest) {
         return Err(EntryFault::BadField { at: 25 });
     }
-    let bytes = ListOf::from_vec(Vec::from_slice(alloc, rest)?);
+    Ok((op, least, rest))
+}
+
+fn block_of(alloc: Global, whole: u64, bytes: &[u8]) -> Result<Entry, EntryFault>
+    ensures { IsReading (λ x. x) result (block_at whole bytes.now) }
+{
+    let (op, least, bytes) = block_in(whole, bytes)?;
+    let bytes = ListOf::from_vec(Vec::from_slice(alloc, bytes)?);
     Ok(Entry::Block { op, least, bytes })
 }
 

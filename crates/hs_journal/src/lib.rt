@@ -8,4 +8,3 @@ mod journal;
 pub use entry::{JournalEntry, Who};
 pub use fault::JournalFault;
 pub use journal::Journal;
-

@@ -18,4 +18,3 @@ pub use list::ListOf;
 pub use name::{Name, is_name};
 pub use shape::{Shape, peer_of, shard_of, shard_of_key};
 pub use spelling::{MOST_BYTES, MOST_POINTERS, SpellingFault, parts_of, spelt};
-

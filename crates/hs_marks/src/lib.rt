@@ -6,4 +6,3 @@ mod marks;
 
 pub use fault::MarkFault;
 pub use marks::Marks;
-

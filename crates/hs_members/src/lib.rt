@@ -6,4 +6,3 @@ mod members;
 
 pub use fault::MemberFault;
 pub use members::{Members, home_of};
-

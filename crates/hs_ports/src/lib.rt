@@ -26,4 +26,3 @@ pub use sink::Sink;
 pub use source::Source;
 pub use tear::Tear;
 pub use watch::Watch;
-

@@ -10,4 +10,3 @@ mod pool;
 pub use fault::PostFault;
 pub use message::Message;
 pub use pool::Pool;
-

@@ -8,4 +8,3 @@ mod root_set;
 pub use fault::RootFault;
 pub use root::RootRecord;
 pub use root_set::RootSet;
-

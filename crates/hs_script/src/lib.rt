@@ -18,4 +18,3 @@ mod words;
 pub use fault::ScriptFault;
 pub use print::print_entry;
 pub use read::{LONGEST_LINE, read_line};
-

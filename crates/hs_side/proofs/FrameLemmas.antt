@@ -1,5 +1,5 @@
 -- One frame of a side: the tests of the code are those of the reading.
-use Rattle.std.proofs.Common.{◌≡◌, ◌∙◌, ℕ, ◌+◌, ◌<◌, ◌≤◌, ◌&&◌, Bool, true, false, cond, eqb, ltb, List, ◌∷◌, ◌++◌, length, take, drop, None, Some, Ok, Err, IfOk, IfErr, refl, ap, sym, arith, append_assoc, length-drop, take-append-drop}
+use Rattle.std.proofs.Common.{◌≡◌, ◌∙◌, ℕ, ◌+◌, ◌<◌, ◌≤◌, ◌&&◌, Bool, true, false, cond, eqb, ltb, List, ◌∷◌, ◌++◌, length, take, drop, None, Some, Result, Ok, Err, IfOk, IfErr, refl, ap, sym, arith, append_assoc, length-drop, take-append-drop}
 use Rattle.std.specs.Int.{w32, to_be_bytes}
 use Rattle.std.proofs.lemmas.Bool.{le-ltb, lt-ltb}
 use Rattle.std.proofs.lemmas.List.{drop-drop, length-take-le}
@@ -7,7 +7,13 @@ use Rattle.hs_entry.specs.declared.entry.Entry.{Entry}
 use Rattle.hs_entry.specs.declared.entry.Entry.TheVariants.{View, Block, Mark, Root, Drop, Enter, Got, Base, KeptBlock, KeptRoot, KeptRound}
 use Rattle.hs_entry.specs.declared.fault.EntryFault.{EntryFault}
 use Rattle.hs_entry.specs.declared.fault.EntryFault.TheVariants as entry_fault
-use Rattle.hs_entry.specs.Reading.{entry_at, IsReadable, Fails}
+use Rattle.hs_entry.specs.declared.rank.Rank.{Rank}
+use Rattle.hs_entry.specs.Entries.{is_of_base, rank_after, view_after}
+use Rattle.hs_entry.specs.Reading.{entry_at, Fails}
+use Rattle.hs_entry.proofs.PlainLemmas.{entry_plain}
+use Rattle.hs_entry.proofs.RankLemmas.{rank_plain}
+use Rattle.hs_limits.specs.Fields.{◌>>=◌}
+use Rattle.hs_limits.proofs.FieldLemmas.{bind_ok, ok_is}
 use Rattle.hs_side.specs.declared.fault.SideFault.{SideFault}
 use Rattle.hs_side.specs.declared.fault.SideFault.TheVariants.{NotALog, Disk, NoMemory}
 use Rattle.hs_side.specs.Follow.{Follow, after, after_entry, only_if}
@@ -58,48 +64,67 @@ found_entry : (follow : Follow) (payload : List ℕ) (number : ℕ) (entry : Ent
 unfolding found_in
 found_entry follow payload number entry read = rw read refl
 
-after_readable : (follow : Follow) (number : ℕ) (entry : Entry) → IsReadable entry → after follow number entry ≡ after_entry follow number
-after_readable follow number (View view) fits = refl
-after_readable follow number (Block op least bytes) fits = refl
-after_readable follow number (Mark op least block address) fits = refl
-after_readable follow number (Root op held address key) fits = refl
-after_readable follow number (Drop op key) fits = refl
-after_readable follow number (Enter op epoch) fits = refl
-after_readable follow number (Got sender epoch round total deltas) fits = refl
-after_readable follow number (Base view epoch swept round frames) fits = absurd fits
-after_readable follow number (KeptBlock born mark flags count bytes) fits = absurd fits
-after_readable follow number (KeptRoot created dropped counted address key) fits = absurd fits
-after_readable follow number (KeptRound way other epoch round total deltas) fits = absurd fits
+after_plain : (follow : Follow) (number : ℕ) (entry : Entry) → is_of_base entry ≡ false → after follow number entry ≡ after_entry follow number
+after_plain follow number (View view) f = refl
+after_plain follow number (Block op least bytes) f = refl
+after_plain follow number (Mark op least block address) f = refl
+after_plain follow number (Root op held address key) f = refl
+after_plain follow number (Drop op key) f = refl
+after_plain follow number (Enter op epoch) f = refl
+after_plain follow number (Got sender epoch round total deltas) f = refl
+after_plain follow number (Base view epoch swept round frames) f = absurd cc
+after_plain follow number (KeptBlock born mark flags count bytes) f = absurd cc
+after_plain follow number (KeptRoot created dropped counted address key) f = absurd cc
+after_plain follow number (KeptRound way other epoch round total deltas) f = absurd cc
 
 -- an entry that is read comes next exactly where its number is one above the last
-pub next_read : (last number : ℕ) (payload : List ℕ) (entry : Entry) → IsReadable entry → entry_at payload ≡ Ok (number, entry) → IsNext (cond (eqb number (last + 1)) (Some number) None) last payload
-next_read last number payload entry fits read = go (eqb number (last + 1)) refl
+next_of : (last rank : Rank) (payload : List ℕ) (number : ℕ) (entry : Entry) → is_of_base entry ≡ false → entry_at payload ≡ Ok (number, entry) → rank.number ≡ number → rank ≡ rank_after last number entry
+    → IsNext (cond (eqb rank.number (last.number + 1)) (Some rank) None) last payload
+next_of last rank payload number entry plain read named ranked = go (eqb rank.number (last.number + 1)) refl
   where
     found : (follow : Follow) → found_in follow payload ≡ found_by number entry (after_entry follow number)
-    found follow = found_entry follow payload number entry read ∙ ap (found_by number entry) (after_readable follow number entry fits)
+    found follow = found_entry follow payload number entry read ∙ ap (found_by number entry) (after_plain follow number entry plain)
 
-    tests : (follow : Follow) (b : Bool) → IsPlain follow last → eqb number (last + 1) ≡ b → (eqb follow.owed 0 && eqb number (follow.last + 1)) ≡ b
-    tests follow b plain is = rw (plain.owed, plain.ends, is) refl
+    tests : (follow : Follow) (b : Bool) → IsPlain follow last.number → eqb rank.number (last.number + 1) ≡ b → (eqb follow.owed 0 && eqb number (follow.last + 1)) ≡ b
+    tests follow b is e = rw (is.owed, is.ends, ← named, e) refl
 
-    go : (b : Bool) → eqb number (last + 1) ≡ b → IsNext (cond b (Some number) None) last payload
-    go true is = λ follow plain. record {
+    go : (b : Bool) → eqb rank.number (last.number + 1) ≡ b → IsNext (cond b (Some rank) None) last payload
+    go true e = λ follow is. record {
       found = record { number = number; entry = entry; follow = record follow { first = false; last = number } };
-      comes = found follow ∙ ap (λ (t : Bool). found_by number entry (only_if t (record follow { first = false; last = number }))) (tests follow true plain is);
-      plain = record { owed = plain.owed; ends = refl };
+      comes = found follow ∙ ap (λ (t : Bool). found_by number entry (only_if t (record follow { first = false; last = number }))) (tests follow true is e);
+      plain = record { owed = is.owed; ends = sym named };
+      ranked = ranked;
     }
-    go false is = λ follow plain. found follow ∙ ap (λ (t : Bool). found_by number entry (only_if t (record follow { first = false; last = number }))) (tests follow false plain is)
+    go false e = λ follow is. found follow ∙ ap (λ (t : Bool). found_by number entry (only_if t (record follow { first = false; last = number }))) (tests follow false is e)
+
+abbrev with_entry : Rank → ℕ × Entry → Rank
+with_entry last x = record { view = view_after last.view x.1; number = x.0 }
+
+pub next_read : (last rank : Rank) (payload : List ℕ) → (entry_at payload >>= λ x. Ok (with_entry last x)) ≡ Ok rank → IsNext (cond (eqb rank.number (last.number + 1)) (Some rank) None) last payload
+next_read last rank payload read =
+    let b = bind_ok (entry_at payload) (λ x. Ok (with_entry last x)) rank read in
+    let is : with_entry last b.0 ≡ rank = ok_is {E = EntryFault} (with_entry last b.0) rank b.2 in
+    let plain : is_of_base b.0.1 ≡ false = entry_plain payload b.0.0 b.0.1 b.1 in
+    next_of last rank payload b.0.0 b.0.1 plain b.1 (ap (λ (r : Rank). r.number) (sym is)) (sym is ∙ sym (rank_plain last b.0.0 b.0.1 plain))
 
 found_refused : (follow : Follow) (payload : List ℕ) (fault : EntryFault) → entry_at payload ≡ Err fault → found_in follow payload ≡ None
 unfolding found_in
 found_refused follow payload fault refused = rw refused refl
 
 -- a payload that is refused comes nowhere
-pub next_refused : (last : ℕ) (payload : List ℕ) (fault : EntryFault) → Fails fault (entry_at payload) → IfOk (refusal fault) (λ number. IsNext number last payload)
-next_refused last payload entry_fault.NoMemory e = tt
-next_refused last payload (entry_fault.Short at) e = λ follow plain. found_refused follow payload _ e
-next_refused last payload (entry_fault.BadKind kind) e = λ follow plain. found_refused follow payload _ e
-next_refused last payload (entry_fault.BadField at) e = λ follow plain. found_refused follow payload _ e
-next_refused last payload (entry_fault.Trailing at) e = λ follow plain. found_refused follow payload _ e
+nowhere : {X : Type 0} (last : Rank) (payload : List ℕ) (view : ℕ × Entry → X) (fault : EntryFault) → (entry_at payload >>= λ x. Ok (view x)) ≡ Err fault → IsNext None last payload
+nowhere last payload view fault e = λ follow plain. found_refused follow payload fault (was (entry_at payload) e)
+  where
+    was : (read : Result (ℕ × Entry) EntryFault) → (read >>= λ x. Ok (view x)) ≡ Err fault → read ≡ Err fault
+    was (Ok x) k = absurd cc
+    was (Err other) k = ap (λ (f : EntryFault). Err f) (cc k)
+
+pub next_refused : {X : Type 0} (last : Rank) (payload : List ℕ) (view : ℕ × Entry → X) (fault : EntryFault) → Fails fault (entry_at payload >>= λ x. Ok (view x)) → IfOk (refusal fault) (λ rank. IsNext rank last payload)
+next_refused last payload view entry_fault.NoMemory e = tt
+next_refused last payload view (entry_fault.Short at) e = nowhere last payload view _ e
+next_refused last payload view (entry_fault.BadKind kind) e = nowhere last payload view _ e
+next_refused last payload view (entry_fault.BadField at) e = nowhere last payload view _ e
+next_refused last payload view (entry_fault.Trailing at) e = nowhere last payload view _ e
 
 pub memory_alone : (fault : EntryFault) → IfErr (refusal fault) (λ fault. fault ≡ NoMemory)
 memory_alone entry_fault.NoMemory = refl
@@ -119,13 +144,13 @@ unfolding frames
 frames_bad_entry at follow gate bytes payload opens read none = rw (opens, read, none) refl
 
 -- a payload that is not read
-pub frame_err : (fault : SideFault) (at last : ℕ) (seen held : List ℕ) → IsPayload (Err fault) at seen held → IsFrame (Err fault) at last seen held
+pub frame_err : (fault : SideFault) (at : ℕ) (last : Rank) (seen held : List ℕ) → IsPayload (Err fault) at seen held → IsFrame (Err fault) at last seen held
 frame_err (NotALog place) at last seen held e = (e.0, λ follow plain gate opens. frames_bad_payload at follow gate (drop (at + 1) seen) opens e.1)
 frame_err Disk at last seen held e = tt
 frame_err NoMemory at last seen held e = tt
 
 -- one whose entry doesn't come there
-pub frame_none : (at last : ℕ) (seen held payload : List ℕ) → length held ≤ 600000 → payload ≡ held → drop (at + 1) seen ≡ body held ++ drop (at + 5 + length held) seen → IsNext None last payload → IsFrame (Err (NotALog at)) at last seen held
+pub frame_none : (at : ℕ) (last : Rank) (seen held payload : List ℕ) → length held ≤ 600000 → payload ≡ held → drop (at + 1) seen ≡ body held ++ drop (at + 5 + length held) seen → IsNext None last payload → IsFrame (Err (NotALog at)) at last seen held
 frame_none at last seen held payload short is spelled next =
     let read : payload_at (drop (at + 1) seen) ≡ Some held = ap payload_at spelled ∙ payload_again held (drop (at + 5 + length held) seen) short in
     (refl, λ follow plain gate opens. frames_bad_entry at follow gate (drop (at + 1) seen) held opens read (ap (found_in follow) (sym is) ∙ next follow plain))

@@ -1,11 +1,13 @@
 -- What opening a side answers.
 use Rattle.std.specs.Prelude.{◌≡◌, ℕ, ◌+◌, ⊤, List, [], ◌++◌, drop, map, Option, None, Some, Result, Ok, Err}
 use Rattle.std.specs.List.{Contains}
+use Rattle.hs_entry.specs.declared.rank.Rank.{Rank}
+use Rattle.hs_entry.specs.Entries.{rank_of}
 use Rattle.hs_entry.specs.Reading.{entry_at}
 use Rattle.hs_side.specs.declared.header.Header.{Header}
 use Rattle.hs_side.specs.declared.fault.SideFault.{SideFault}
 use Rattle.hs_side.specs.declared.fault.SideFault.TheVariants.{NotALog, Disk, NoMemory}
-use Rattle.hs_side.specs.Reading.{Frame, payload_at, Log, log_of}
+use Rattle.hs_side.specs.Reading.{Frame, payload_at, Log, log_of, entries_of}
 use Rattle.hs_side.specs.Standing.{Kept}
 
 -- the header and the generation of a log
@@ -30,6 +32,15 @@ Opens (Ok log) read = (content : Option Log) × (read ≡ Ok content) × Shows l
 Opens (Err (NotALog at)) read = read ≡ Err at
 Opens (Err Disk) read = ⊤
 Opens (Err NoMemory) read = ⊤
+
+-- the same with the rank of the entries that were read
+abbrev pub OpensRanked : Result (Kept × Rank) SideFault → Result (Option Log) ℕ → Type 0
+OpensRanked (Ok x) read =
+    (content : Option Log) × (read ≡ Ok content) × Shows x.0 content
+    × (x.1 ≡ rank_of (entries_of content))
+OpensRanked (Err (NotALog at)) read = read ≡ Err at
+OpensRanked (Err Disk) read = ⊤
+OpensRanked (Err NoMemory) read = ⊤
 
 -- what stands behind old is the payload of the frame at a place, and that of its entry
 pub record ReadsAt (seen : List ℕ) (place : ℕ) (old new : List ℕ) : Type 0 where

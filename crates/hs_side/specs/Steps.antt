@@ -2,6 +2,8 @@
 use Rattle.std.specs.Prelude.{◌≡◌, ℕ, ◌+◌, ◌^◌, ◌<◌, ◌≤◌, ⊤, Bool, true, false, List, ◌∷◌, ◌++◌, length, take, drop, map, Option, None, Some, Result, Ok, Err}
 use Rattle.hs_ports.specs.Disk.{byte_at}
 use Rattle.hs_entry.specs.declared.fault.EntryFault.{EntryFault}
+use Rattle.hs_entry.specs.declared.rank.Rank.{Rank}
+use Rattle.hs_entry.specs.Entries.{rank_after, rank_of}
 use Rattle.hs_entry.specs.declared.fault.EntryFault.TheVariants as entry_fault
 use Rattle.hs_side.specs.declared.header.Header.{Header}
 use Rattle.hs_side.specs.declared.fault.SideFault.{SideFault}
@@ -50,36 +52,38 @@ pub record IsPlain (follow : Follow) (last : ℕ) : Type 0 where
   pub owed : follow.owed ≡ 0
   pub ends : follow.last ≡ last
 
--- the entry of a payload that may come behind this number, and its own
-pub record Comes (follow : Follow) (payload : List ℕ) (number : ℕ) : Type 0 where
+-- the entry of a payload that may come behind this rank, and the rank with it
+pub record Comes (follow : Follow) (payload : List ℕ) (last rank : Rank) : Type 0 where
   pub found : Found
   pub comes : found_in follow payload ≡ Some found
-  pub plain : IsPlain found.follow number
+  pub plain : IsPlain found.follow rank.number
+  pub ranked : rank ≡ rank_after last found.number found.entry
 
--- the number of a payload's entry, None where it may not come behind this one
-abbrev pub IsNext : Option ℕ → ℕ → List ℕ → Type 0
-IsNext None last payload = (follow : Follow) → IsPlain follow last → found_in follow payload ≡ None
-IsNext (Some number) last payload =
-    (follow : Follow) → IsPlain follow last → Comes follow payload number
+-- the rank with a payload's entry, None where it may not come behind this one
+abbrev pub IsNext : Option Rank → Rank → List ℕ → Type 0
+IsNext None last payload =
+    (follow : Follow) → IsPlain follow last.number → found_in follow payload ≡ None
+IsNext (Some rank) last payload =
+    (follow : Follow) → IsPlain follow last.number → Comes follow payload last rank
 
 -- what a payload that is not read is: no entry, unless memory ran out
-abbrev pub refusal : EntryFault → Result (Option ℕ) SideFault
+abbrev pub refusal : EntryFault → Result (Option Rank) SideFault
 refusal entry_fault.NoMemory = Err NoMemory
 refusal fault = Ok None
 
--- the frame at a place, whose gate is open, behind frames with this last number
-abbrev pub IsFrame : Result ℕ SideFault → ℕ → ℕ → List ℕ → List ℕ → Type 0
-IsFrame (Ok number) at last seen held =
+-- the frame at a place, whose gate is open, behind frames of this rank
+abbrev pub IsFrame : Result Rank SideFault → ℕ → Rank → List ℕ → List ℕ → Type 0
+IsFrame (Ok rank) at last seen held =
     (drop (at + 1) seen ≡ body held ++ drop (at + 5 + length held) seen)
-    × ((follow : Follow) → IsPlain follow last → Comes follow held number)
+    × ((follow : Follow) → IsPlain follow last.number → Comes follow held last rank)
 IsFrame (Err (NotALog place)) at last seen held =
-    (place ≡ at) × ((follow : Follow) → IsPlain follow last → (gate : ℕ) → is_open gate ≡ true
+    (place ≡ at) × ((follow : Follow) → IsPlain follow last.number → (gate : ℕ) → is_open gate ≡ true
     → frames at follow 0 (gate ∷ drop (at + 1) seen) ≡ Err at)
 IsFrame (Err Disk) at last seen held = ⊤
 IsFrame (Err NoMemory) at last seen held = ⊤
 
--- the frames of a side up to a place
-pub record Scanned (seen : List ℕ) (at last : ℕ) (places : List ℕ) : Type 0 where
+-- the frames of a side up to a place, and their rank
+pub record Scanned (seen : List ℕ) (at : ℕ) (last : Rank) (places : List ℕ) : Type 0 where
   pub found : List Frame
   pub follow : Follow
   pub bytes : List ℕ
@@ -88,18 +92,24 @@ pub record Scanned (seen : List ℕ) (at last : ℕ) (places : List ℕ) : Type 
   pub end : at ≡ 17 + length bytes
   pub places_are : places ≡ map (λ frame. frame.place) found
   pub before : followed start (map entry_of found) ≡ Some follow
-  pub plain : IsPlain follow last
+  pub plain : IsPlain follow last.number
+  pub ranked : rank_of (map entry_of found) ≡ last
 
 -- all frames of a side, and the gate behind them is closed
-pub record Ended (seen : List ℕ) (at : ℕ) (places : List ℕ) : Type 0 where
-  pub last : ℕ
+pub record Ended (seen : List ℕ) (at : ℕ) (last : Rank) (places : List ℕ) : Type 0 where
   pub scanned : Scanned seen at last places
   pub inside : at < length seen
   pub closed : is_open (byte_at seen at) ≡ false
 
--- the places of the frames and the place behind them, or the first place that is wrong
-abbrev pub IsScan : {X : Type 0} → (X → List ℕ × ℕ) → Result X SideFault → List ℕ → Type 0
-IsScan view (Ok x) seen = Ended seen (view x).1 (view x).0
+-- what reading the frames tells: their places, the place behind them, and their rank
+pub record Scan : Type 0 where
+  pub places : List ℕ
+  pub end : ℕ
+  pub rank : Rank
+
+-- that, or the first place that is wrong
+abbrev pub IsScan : {X : Type 0} → (X → Scan) → Result X SideFault → List ℕ → Type 0
+IsScan view (Ok x) seen = Ended seen (view x).end (view x).rank (view x).places
 IsScan view (Err (NotALog at)) seen = log_of seen ≡ Err at
 IsScan view (Err Disk) seen = ⊤
 IsScan view (Err NoMemory) seen = ⊤

@@ -8,7 +8,7 @@ ghost use Rattle.hs_side.specs.Steps.{IsGate, IsPayload, IsNext, IsFrame, refusa
 use crate::SideFault;
 use crate::format::is_open;
 use crate::reading::{fill, gate_at};
-use hs_entry::{EntryFault, read_entry};
+use hs_entry::{EntryFault, Rank, read_rank};
 use hs_ports::{Disk, Side};
 use std::alloc::Global;
 
@@ -86,21 +86,21 @@ pub(crate) fn read_payload<D: Disk>(
     Ok(())
 }
 
-/// The number of the entry that a payload is, where it is one that may come behind an ordinary
-/// entry with the number `last`, or first where that is 0. Only ordinary entries are read so far.
-fn next_number(alloc: Global, last: u64, payload: &[u8]) -> Result<Option<u64>, SideFault>
-    ensures exact { IfOk result (λ number. IsNext number last payload.now) }
+/// The rank with the entry that a payload is, where it is one that may come behind ordinary entries
+/// of the rank `last`, or first where its number is 0. Only ordinary entries are read so far.
+fn next_rank(alloc: Global, last: Rank, payload: &[u8]) -> Result<Option<Rank>, SideFault>
+    ensures exact { IfOk result (λ rank. IsNext rank last payload.now) }
     ensures memory { IfErr result (λ fault. fault ≡ SideFault.NoMemory) }
 {
-    let (number, _) = match read_entry(alloc, payload) {
-        Ok(read) => read,
+    let rank = match read_rank(alloc, last, payload) {
+        Ok(rank) => rank,
         Err(fault) => return refused(fault),
     };
-    Ok(follows(last, number))
+    Ok(follows(last.number, rank))
 }
 
 /// What a payload that is not read is: no entry, unless memory ran out.
-fn refused(fault: EntryFault) -> Result<Option<u64>, SideFault>
+fn refused(fault: EntryFault) -> Result<Option<Rank>, SideFault>
     ensures { result ≡ refusal fault }
 {
     match fault {
@@ -109,28 +109,28 @@ fn refused(fault: EntryFault) -> Result<Option<u64>, SideFault>
     }
 }
 
-/// This number, where it is one above the last.
-fn follows(last: u64, number: u64) -> Option<u64>
-    ensures { result ≡ (if number == last + 1 then Some number else None) }
+/// This rank, where its number is one above the last.
+fn follows(last: u64, rank: Rank) -> Option<Rank>
+    ensures { result ≡ (if rank.number == last + 1 then Some rank else None) }
 {
-    if number > 0 && number - 1 == last {
-        Some(number)
+    if rank.number > 0 && rank.number - 1 == last {
+        Some(rank)
     } else {
         None
     }
 }
 
-/// Reads the frame at a place whose gate is open, behind an ordinary entry with the number `last`
-/// or at first, where that is 0. Its payload is put into `held`; its number is the answer.
+/// Reads the frame at a place whose gate is open, behind ordinary entries of the rank `last`, or at
+/// first, where its number is 0. Its payload is put into `held`; the rank with it is the answer.
 pub(crate) fn read_frame<D: Disk>(
     alloc: Global,
     disk: &mut D,
     side: Side,
     size: u64,
     at: u64,
-    last: u64,
+    last: Rank,
     held: &mut Vec<u8>,
-) -> Result<u64, SideFault>
+) -> Result<Rank, SideFault>
     requires size { size ≡ D.size disk.old side }
     requires inside { at < size }
 
@@ -148,8 +148,8 @@ pub(crate) fn read_frame<D: Disk>(
         Ok(()) => {}
         Err(fault) => return Err(fault),
     }
-    match next_number(alloc, last, held) {
-        Ok(Some(number)) => Ok(number),
+    match next_rank(alloc, last, held) {
+        Ok(Some(rank)) => Ok(rank),
         Ok(None) => Err(SideFault::NotALog { at }),
         Err(fault) => Err(fault),
     }

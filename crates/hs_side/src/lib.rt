@@ -20,4 +20,3 @@ pub use glance::later_side;
 pub use header::Header;
 pub use laws::a_log_is_read_exactly_where_it_is_spelled;
 pub use log::SideLog;
-

@@ -9,7 +9,7 @@ use Rattle.hs_ports.proofs.Images.{settled_only}
 use Rattle.hs_ports.specs.Moments.{EachMoment}
 use Rattle.hs_entry.specs.declared.entry.Entry.{Entry}
 use Rattle.hs_fold.specs.Prefix.{IsNumbered}
-use Rattle.hs_side.specs.Current.{current, generation_in, later_side, list_in}
+use Rattle.hs_side.specs.Current.{current, generation_in, header_in, later_side, list_in}
 use Rattle.hs_side.specs.Opening.{Shows, head_in, places_in}
 use Rattle.hs_side.specs.Reading.{Log, is_blank, log_of, entry_of, entries_of, listed}
 use Rattle.hs_side.specs.Standing.{Kept}
@@ -19,7 +19,7 @@ use Rattle.hs_single.specs.declared.load.Loaded.{Loaded}
 use Rattle.hs_single.specs.Caused.{IsOutside}
 use Rattle.hs_single.specs.Images.{IsAlone, LeavesList}
 use Rattle.hs_single.specs.Lists.{HasList}
-use Rattle.hs_single.specs.Opening.{HasOpened, LeavesAll, IsOpen, IsRefusal, refused_list}
+use Rattle.hs_single.specs.Opening.{HasOpened, LeavesAll, IsOpen, IsRefusal, refused_head, refused_list, refused_log, refusal_in}
 use Rattle.hs_single.specs.Serving.{IsNumberedSide, IsServing, Holds, catalogue_in}
 use Rattle.hs_single.proofs.ImageLemmas.{Since, two-sides, current-same, list-same}
 use Rattle.hs_single.proofs.ListLemmas.{list-places}
@@ -128,6 +128,10 @@ zero-side seen blank = go (current seen) refl blank
     go : (s : Side) → current seen ≡ s → is_blank (seen s) ≡ true → current seen ≡ Zero
     go Zero e b = e
     go One e b = ap (λ g. later_side (generation_in (seen Zero)) g) (none b) ∙ first (generation_in (seen Zero))
+
+-- why a disk is refused whose head is its own, and whose current side is a log or blank
+pub refusal-is : (seen : Side → List ℕ) (content : Option Log) → refused_head (header_in (seen (current seen))) ≡ None → log_of (seen (current seen)) ≡ Ok content → refusal_in seen ≡ refused_list (places_in content) (entries_of content)
+refusal-is seen content head read = ap (λ h. refused_log h (log_of (seen (current seen)))) head ∙ ap (λ r. refused_log None r) read
 
 -- ---- what is open
 

@@ -1,8 +1,8 @@
 //! One entry more on the disk.
 ghost use Rattle.std.specs.Prelude.{◌≡◌, ◌≤◌, ◌∷◌, ◌++◌, [], length, ℕ, List, None, Ok, IsSome, OnOk, IfErr};
 ghost use Rattle.hs_entry.specs.declared.entry.Entry.{Entry};
-ghost use Rattle.hs_entry.specs.Payload.{payload, HasPayload};
-ghost use Rattle.hs_entry.specs.Reading.{entry_at};
+ghost use Rattle.hs_entry.specs.Payload.{payload};
+ghost use Rattle.hs_entry.specs.Reading.{IsReadable, entry_at};
 ghost use Rattle.hs_side.specs.declared.frame.TheConstants.{MOST_PAYLOAD};
 ghost use Rattle.hs_side.specs.Standing.{Stands, MayCome};
 ghost use Rattle.hs_single.specs.Caused.{IsCalm, IsCaused, IsOutside};
@@ -25,7 +25,7 @@ impl Single {
         requires stands { Stands D.tells self.old.log (D.size disk.old self.old.log.side) (D.stands disk.old) }
         requires holds { IsSome self.old.log.head }
         requires sealed { self.old.log.waiting ≡ None }
-        requires payload { HasPayload entry.now }
+        requires readable { IsReadable entry.now }
         requires short { length (payload number entry.now) ≤ MOST_PAYLOAD }
         requires reads { entry_at (payload number entry.now) ≡ Ok (number, entry.now) }
         requires comes { D.tells → MayCome ((D.stands disk.old).seen self.old.log.side) (payload number entry.now) }

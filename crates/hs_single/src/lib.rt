@@ -19,4 +19,3 @@ pub use fault::SingleFault;
 pub use load::Loaded;
 pub use places::places_are_numbered;
 pub use single::Single;
-

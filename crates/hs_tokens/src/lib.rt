@@ -7,4 +7,3 @@ mod sessions;
 
 pub use fault::SeatFault;
 pub use sessions::Sessions;
-

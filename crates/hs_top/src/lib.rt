@@ -21,4 +21,3 @@ pub use outcome::Outcome;
 pub use status::{Status, TopFault, fault_line};
 pub use top::{hydra, hydra_alone};
 pub use words::{is_load, limits_of, shape_of};
-

@@ -1,6 +1,6 @@
 use Rattle.std.proofs.Common.{◌≡◌, ◌∙◌, length, sym, subst, refl, List, ℕ, Ok, Err, vec_len, arith}
 use Rattle.hs_ports.specs.Disk.{Standing}
-use Rattle.hs_side.specs.Steps.{IsGate, IsFrame}
+use Rattle.hs_side.specs.Steps.{IsGate, IsFrame, Scan}
 use Rattle.hs_side.proofs.ScanLemmas.{headed, scan_start, scan_more, scan_gate, scan_frame}
 use Rattle.hs_side.proofs.open.read_frames.Goals as goal
 
@@ -19,7 +19,7 @@ returns-in-Err-clause-exact g c told =
     let before = c.frames.invariant in
     let head = c.requires.head told in
     let gate = subst (λ (d : Standing). IsGate (Err c.in-Err.fault) c.frames.at (d.seen c.args.side)) (before.same told) (c.in-Err.ensures.exact told) in
-    scan_gate {X = List ℕ × ℕ} (λ x. x) c.in-Err.fault seen c.frames.at c.frames.last c.frames.places.items head.0 (headed seen head.0 head.1) (before.scanned told) gate
+    scan_gate {X = Scan} (λ x. x) c.in-Err.fault seen c.frames.at c.frames.last c.frames.places.items head.0 (headed seen head.0 head.1) (before.scanned told) gate
 
 pub returns-in-Err-read_frame-clause-exact : goal.returns-in-Err-read_frame-clause-exact
 returns-in-Err-read_frame-clause-exact g c told =
@@ -30,7 +30,7 @@ returns-in-Err-read_frame-clause-exact g c told =
     let same = c.open_at.ensures.same told ∙ before.same told in
     let held = c.read_frame.new.held.items in
     let frame = subst (λ (d : Standing). IsFrame (Err c.in-Err-read_frame.fault) c.frames.at c.frames.last (d.seen c.args.side) held) same (c.in-Err-read_frame.ensures.exact told) in
-    scan_frame {X = List ℕ × ℕ} (λ x. x) c.in-Err-read_frame.fault seen c.frames.at c.frames.last c.frames.places.items held head.0 (headed seen head.0 head.1) (before.scanned told) gate.0 (gate.1 ∙ c.if-not-opens.false) frame
+    scan_frame {X = Scan} (λ x. x) c.in-Err-read_frame.fault seen c.frames.at c.frames.last c.frames.places.items held head.0 (headed seen head.0 head.1) (before.scanned told) gate.0 (gate.1 ∙ c.if-not-opens.false) frame
 
 pub frames-preserved : goal.frames-preserved
 frames-preserved g c =
@@ -45,8 +45,8 @@ frames-preserved g c =
           let seen = (g.D.Disk.stands c.args.disk.now).seen c.args.side in
           let gate = subst (λ (d : Standing). IsGate (Ok c.in-Ok.opens) c.frames.at (d.seen c.args.side)) (before.same told) (c.in-Ok.ensures.exact told) in
           let same = c.open_at.ensures.same told ∙ before.same told in
-          let frame = subst (λ (d : Standing). IsFrame (Ok c.in-Ok-read_frame.number) c.frames.at c.frames.last (d.seen c.args.side) held) same (c.in-Ok-read_frame.ensures.exact told) in
-          let more = scan_more seen c.frames.at c.frames.last c.in-Ok-read_frame.number c.frames.places.items held (before.scanned told) gate.0 (gate.1 ∙ c.if-not-opens.false) c.in-Ok-read_frame.ensures.short frame in
+          let frame = subst (λ (d : Standing). IsFrame (Ok c.in-Ok-read_frame.rank) c.frames.at c.frames.last (d.seen c.args.side) held) same (c.in-Ok-read_frame.ensures.exact told) in
+          let more = scan_more seen c.frames.at c.frames.last c.in-Ok-read_frame.rank c.frames.places.items held (before.scanned told) gate.0 (gate.1 ∙ c.if-not-opens.false) c.in-Ok-read_frame.ensures.short frame in
           let vec = c.read_frame.new.held in
           let long : vec_len vec ≡ length vec.items = omega (arith, vec.ok.0) in
           rw (c.in_ok-push.ensures.items, c.len.ensures, long) more;

@@ -25,9 +25,9 @@ returns-clause-exact g c told =
     let x = c.in-Ok-Some.head in
     let head = subst (λ (d : Standing). IsHeadOf (Ok (Some x)) (d.seen c.args.side)) same (rw c.in-Ok-Some.field-0-is at (c.in-Ok-Some.ensures.exact told)) in
     let both = c.read_head.ensures.same told ∙ same in
-    let ended = subst (λ (d : Standing). Ended (d.seen c.args.side) c.in-Ok.scan.1 c.in-Ok.scan.0.items) both (c.in-Ok.ensures.exact told) in
+    let ended = subst (λ (d : Standing). Ended (d.seen c.args.side) c.in-Ok.scan.1 c.in-Ok.scan.2 c.in-Ok.scan.0.items) both (c.in-Ok.ensures.exact told) in
     let log : Kept = record { side = c.args.side; head = Some x; places = c.in-Ok.scan.0.items; end = c.in-Ok.scan.1; waiting = None } in
-    opens_log seen log x refl refl (ended_has seen log x (headed seen x head) refl ended)
+    opens_log seen log c.in-Ok.scan.2 x refl refl ended (headed seen x head)
 
 pub returns-clause-has : goal.returns-clause-has
 returns-clause-has g c told =
@@ -36,6 +36,6 @@ returns-clause-has g c told =
     let x = c.in-Ok-Some.head in
     let head = subst (λ (d : Standing). IsHeadOf (Ok (Some x)) (d.seen c.args.side)) same (rw c.in-Ok-Some.field-0-is at (c.in-Ok-Some.ensures.exact told)) in
     let both = c.read_head.ensures.same told ∙ same in
-    let ended = subst (λ (d : Standing). Ended (d.seen c.args.side) c.in-Ok.scan.1 c.in-Ok.scan.0.items) both (c.in-Ok.ensures.exact told) in
+    let ended = subst (λ (d : Standing). Ended (d.seen c.args.side) c.in-Ok.scan.1 c.in-Ok.scan.2 c.in-Ok.scan.0.items) both (c.in-Ok.ensures.exact told) in
     let log : Kept = record { side = c.args.side; head = Some x; places = c.in-Ok.scan.0.items; end = c.in-Ok.scan.1; waiting = None } in
-    ended_has seen log x (headed seen x head) refl ended
+    ended_has seen log c.in-Ok.scan.2 x (headed seen x head) refl ended

@@ -1,10 +1,10 @@
 use Rattle.std.proofs.Common.{◌≡◌, ◌∙◌, ap, sym, refl, subst}
 use Rattle.hs_ports.specs.Disk.{Standing}
-use Rattle.hs_side.specs.Current.{current}
+use Rattle.hs_side.specs.Current.{current, header_in}
 use Rattle.hs_side.specs.Reading.{log_of}
 use Rattle.hs_single.specs.Images.{IsAlone}
-use Rattle.hs_single.specs.Opening.{refusal_in}
-use Rattle.hs_single.proofs.OpenLemmas.{leaves-if, open-alone, open-calls, open-leaves, opened-alone, open-listed, open-numbered, open-seen, open-settled, open-value, open-outside}
+use Rattle.hs_single.specs.Opening.{refused_head, refusal_in}
+use Rattle.hs_single.proofs.OpenLemmas.{leaves-if, open-alone, open-calls, open-leaves, opened-alone, open-listed, open-numbered, open-seen, open-settled, open-value, refusal-is, open-accepted, open-outside}
 use Rattle.hs_single.proofs.single.Single.open.Goals as goal
 
 pub returns-in_err-log-clause-any_moment : goal.returns-in_err-log-clause-any_moment
@@ -66,6 +66,20 @@ returns-clause-refused g c = λ told.
     let exact = c.in_ok-log.ensures.exact told in
     open-outside (g.A.Addresser.name c.args.naming.now) seen c.in_ok-log.log exact.0 (ap (λ b. log_of b) (sym bytes) ∙ exact.1) exact.2 c.load.result
     (rw there at (c.load.ensures.refused told)) c.load.ensures.refused_blank (refusal_in seen)
+    (refusal-is seen exact.0 (ap (λ b. refused_head (header_in b)) (sym (c.current_side.ensures.same told c.in-Ok.side ∙ ap (λ s. seen s) side)) ∙ c.in-Ok-check_head.ensures.value told) (ap (λ b. log_of b) (sym bytes) ∙ exact.1))
+
+pub returns-clause-accepted : goal.returns-clause-accepted
+returns-clause-accepted g c = λ told.
+    let seen = (g.D.Disk.stands c.args.disk.now).seen in
+    let side : c.in-Ok.side ≡ current seen = c.in-Ok.ensures.value told in
+    let bytes : (g.D.Disk.stands c.check_head.new.disk).seen c.in-Ok.side ≡ seen (current seen) =
+    ap (λ (d : Standing). d.seen c.in-Ok.side) (c.check_head.ensures.same told) ∙ c.current_side.ensures.same told c.in-Ok.side ∙ ap (λ s. seen s) side in
+    let there : (g.D.Disk.stands c.open.new.disk).seen c.in_ok-log.log.side ≡ seen (current seen) =
+    ap (λ s. (g.D.Disk.stands c.open.new.disk).seen s) c.in_ok-log.ensures.side ∙ c.open.ensures.same told ∙ bytes in
+    let exact = c.in_ok-log.ensures.exact told in
+    open-accepted (g.A.Addresser.name c.args.naming.now) seen c.in_ok-log.log exact.0 (ap (λ b. log_of b) (sym bytes) ∙ exact.1) exact.2 c.load.result
+    (rw there at (c.load.ensures.accepted told)) (refusal_in seen)
+    (refusal-is seen exact.0 (ap (λ b. refused_head (header_in b)) (sym (c.current_side.ensures.same told c.in-Ok.side ∙ ap (λ s. seen s) side)) ∙ c.in-Ok-check_head.ensures.value told) (ap (λ b. log_of b) (sym bytes) ∙ exact.1))
 
 pub returns-clause-same : goal.returns-clause-same
 returns-clause-same g c = λ told.
