@@ -6,13 +6,13 @@ ghost use Rattle.hs_entry.specs.declared.entry.Entry.TheVariants as kind;
 ghost use Rattle.hs_fold.specs.Catalogue.{Shard};
 ghost use Rattle.hs_fold.specs.Lawful.{Deed};
 ghost use Rattle.hs_fold.specs.Runs.Catalogue.{apply, catalogue_of};
-ghost use Rattle.hs_fold.specs.Runs.Facts.{Catalogue, Told, plain, roots_of};
+ghost use Rattle.hs_fold.specs.Runs.Facts.{GotRound, Catalogue, Told, plain, roots_of};
 ghost use Rattle.hs_fold.specs.Runs.Fits.{catalogue_at};
 ghost use Rattle.hs_fold.specs.Runs.Happening.{IsClients, happening_of};
 ghost use Rattle.hs_fold.specs.Runs.History.{follow};
 ghost use Rattle.hs_fold.specs.Runs.Opened.{catalogues, store_of};
 ghost use Rattle.hs_fold.specs.Runs.Own.{AreOwn, IsOwn, OneRetained};
-ghost use Rattle.hs_fold.specs.Runs.Rounds.{advanced, enter_epoch, is_complete};
+ghost use Rattle.hs_fold.specs.Runs.Rounds.{log_got, advanced, enter_epoch, is_complete};
 ghost use Rattle.hs_fold.specs.Runs.Told.{told_to};
 ghost use Rattle.hs_fold.specs.Shards.Catalogue.{apply as plain_apply};
 ghost use Rattle.hs_fold.specs.Shards.Happening.{happen_by};
@@ -35,7 +35,8 @@ pub fn clients_see_no_runs()
 {}
 
 /// A client's entry changes the store of all shards as what happens by it says, and so does an Enter
-/// whose round 0 has not come from every shard yet. What a Got does is no law of lists alone.
+/// whose round 0 has not come from every shard yet, and a Got that completes no round: it does
+/// nothing. What the end of a round does is no law of lists alone.
 pub fn clients_and_enters_change_the_store()
     ensures client { (set : Setting) (cs : List Catalogue) (deed : Deed)
         → length cs ≡ set.shape.shards → deed.shard < set.shape.shards
@@ -51,6 +52,12 @@ pub fn clients_and_enters_change_the_store()
           entry = kind.Enter op epoch;
         })) ≡ happen_by (store_of cs)
         (happening_of (shard_in set shard) (catalogue_at cs shard) (kind.Enter op epoch)) }
+    ensures got { (set : Setting) (cs : List Catalogue) (shard number : ℕ) (x : GotRound)
+        → length cs ≡ set.shape.shards → shard < set.shape.shards
+        → is_complete set.shape.shards (log_got x (catalogue_at cs shard)) ≡ false →
+        let got = kind.Got x.sender x.epoch x.round x.told.total x.told.deltas in
+        store_of (follow set cs (record { shard = shard; number = number; entry = got }))
+        ≡ happen_by (store_of cs) (happening_of (shard_in set shard) (catalogue_at cs shard) got) }
 {}
 
 /// Rounds end one after another as long as the open one is complete. A round tells a shard of no more

@@ -1,5 +1,5 @@
 -- What an entry of one shard does to the plain store of all, with deletion.
-use Rattle.std.proofs.Common.{◌≡◌, ℕ, suc, ◌+◌, ◌<◌, Bool, true, false, cond, List, [], ◌∷◌, ◌++◌, length, map, Some, None, refl, sym, ap, ◌∙◌, subst, arith}
+use Rattle.std.proofs.Common.{◌≡◌, ℕ, suc, ◌+◌, ◌&&◌, ◌||◌, ◌<◌, Bool, true, false, cond, List, [], ◌∷◌, ◌++◌, length, map, Some, None, refl, sym, ap, ◌∙◌, subst, arith}
 use Rattle.std.specs.Prelude.{slice_set}
 use Rattle.hs_limits.specs.declared.address.Address.{Address}
 use Rattle.hs_entry.specs.declared.entry.Entry.{Entry}
@@ -7,18 +7,18 @@ use Rattle.hs_entry.specs.declared.entry.Entry.TheVariants as kind
 use Rattle.hs_fold.specs.Catalogue.{Shard}
 use Rattle.hs_fold.specs.Lawful.{Deed, shard_at}
 use Rattle.hs_fold.specs.Shards.Catalogue.{Catalogue as Plain}
-use Rattle.hs_fold.specs.Shards.Happening.{happen_by, enters}
+use Rattle.hs_fold.specs.Shards.Happening.{happen_by, enters, sweeps}
 use Rattle.hs_fold.specs.Shards.Mine.{AreMine}
 use Rattle.hs_fold.specs.Shards.Opened.{store_of as listed}
 use Rattle.hs_fold.specs.Shards.Setting.{Setting, shard_in}
 use Rattle.hs_fold.specs.Runs.Catalogue.{apply}
-use Rattle.hs_fold.specs.Runs.Facts.{Catalogue, empty_catalogue, plain, roots_of}
+use Rattle.hs_fold.specs.Runs.Facts.{GotRound, Catalogue, empty_catalogue, plain, roots_of}
 use Rattle.hs_fold.specs.Runs.Fits.{catalogue_at}
 use Rattle.hs_fold.specs.Runs.Happening.{IsClients, happening_of}
 use Rattle.hs_fold.specs.Runs.History.{follow}
 use Rattle.hs_fold.specs.Runs.Opened.{pruned, store_of}
 use Rattle.hs_fold.specs.Runs.Own.{OneRetained, AreOwn}
-use Rattle.hs_fold.specs.Runs.Rounds.{is_complete, end_round, advance, advanced, may_enter, enter_epoch}
+use Rattle.hs_fold.specs.Runs.Rounds.{is_accepted, is_last, ends_last, log_got, get_round, is_complete, end_round, advance, advanced, may_enter, enter_epoch}
 use Rattle.hs_fold.specs.Runs.Rounds.{enter as enter_here}
 use Rattle.hs_fold.proofs.Runs.StepLemmas.{client-step, enter-step}
 use Rattle.hs_fold.proofs.Shards.PlaceLemmas.{at-place, set-place, on-place}
@@ -67,6 +67,21 @@ enter-at name n g front back c op epoch all place mine unfinished = go (may_ente
     go : (b : Bool) → pruned (listed (front ++ plain (cond b (advanced n (enter_epoch c)) c) ∷ back)) ≡ happen_by (pruned (listed (front ++ plain c ∷ back))) (cond b (Some (enters g)) None)
     go true = ap (λ d. pruned (listed (front ++ plain d ∷ back))) (stays-open n (enter_epoch c) unfinished) ∙ entered
     go false = refl
+
+-- ---- a Got that completes no round
+
+stays-unfinished : (n : ℕ) (c : Catalogue) → is_complete n c ≡ false → ends_last n (length c.got + 1) c ≡ false
+stays-unfinished n c e = ap (λ turns. ends_last n turns c) (plus-one (length c.got)) ∙ ap (λ b. b && (is_last n c || ends_last n (length c.got) (end_round n c))) e
+
+got-at : (name : List ℕ → Address) (n g : ℕ) (front back : List Plain) (c : Catalogue) (x : GotRound) → is_complete n (log_got x c) ≡ false
+    → pruned (listed (front ++ plain (get_round n x c) ∷ back))
+    ≡ happen_by (pruned (listed (front ++ plain c ∷ back))) (happening_of (shard_at name n g) c (kind.Got x.sender x.epoch x.round x.told.total x.told.deltas))
+got-at name n g front back c x unfinished = go (is_accepted n c x.sender x.epoch x.round) (ends_last n (length (log_got x c).got + 1) (log_got x c)) (stays-unfinished n (log_got x c) unfinished)
+  where
+    go : (b d : Bool) → d ≡ false → pruned (listed (front ++ plain (cond b (advanced n (log_got x c)) c) ∷ back)) ≡ happen_by (pruned (listed (front ++ plain c ∷ back))) (cond (b && d) (Some (sweeps g)) None)
+    go b true e = cc e
+    go true false e = ap (λ d. pruned (listed (front ++ plain d ∷ back))) (stays-open n (log_got x c) unfinished)
+    go false false e = refl
 
 -- ---- a shard of any number
 
@@ -120,3 +135,28 @@ deed-enter set shard number op epoch cs all low own unfinished = on-place (λ ds
         ∙ enter-at set.name n (length front) (map plain front) (map plain back) c op epoch (count-plain n front back count) (length-plain front) (mine-plain n front back c h) still
         ∙ ap (λ s. happen_by s (happening_of at c (kind.Enter op epoch))) (sym (by-plain front back c c))
         ∙ ap (λ x. happen_by (store_of (front ++ c ∷ back)) (happening_of at x (kind.Enter op epoch))) (sym (at-place empty_catalogue front back c))
+
+pub deed-got : (set : Setting) (shard number : ℕ) (x : GotRound) (cs : List Catalogue) → length cs ≡ set.shape.shards → shard < set.shape.shards → is_complete set.shape.shards (log_got x (catalogue_at cs shard)) ≡ false
+    → store_of (follow set cs (record { shard = shard; number = number; entry = kind.Got x.sender x.epoch x.round x.told.total x.told.deltas }))
+    ≡ happen_by (store_of cs) (happening_of (shard_in set shard) (catalogue_at cs shard) (kind.Got x.sender x.epoch x.round x.told.total x.told.deltas))
+deed-got set shard number x cs all low unfinished = on-place (λ ds k. is_complete n (log_got x (catalogue_at ds k)) ≡ false → store_of (slice_set ds k (get_round n x (catalogue_at ds k))) ≡ happen_by (store_of ds) (happening_of (shard_at set.name n k) (catalogue_at ds k) got)) n go cs shard all low unfinished
+  where
+    n : ℕ
+    n = set.shape.shards
+
+    got : Entry
+    got = kind.Got x.sender x.epoch x.round x.told.total x.told.deltas
+
+    go : (front back : List Catalogue) (c : Catalogue) → length front + (1 + length back) ≡ n → is_complete n (log_got x (catalogue_at (front ++ c ∷ back) (length front))) ≡ false
+        → store_of (slice_set (front ++ c ∷ back) (length front) (get_round n x (catalogue_at (front ++ c ∷ back) (length front))))
+        ≡ happen_by (store_of (front ++ c ∷ back)) (happening_of (shard_at set.name n (length front)) (catalogue_at (front ++ c ∷ back) (length front)) got)
+    go front back c count e =
+        let at : Shard = shard_at set.name n (length front) in
+        let d : Catalogue = get_round n x c in
+        let still : is_complete n (log_got x c) ≡ false = ap (λ y. is_complete n (log_got x y)) (sym (at-place empty_catalogue front back c)) ∙ e in
+        ap (λ y. store_of (slice_set (front ++ c ∷ back) (length front) (get_round n x y))) (at-place empty_catalogue front back c)
+        ∙ ap store_of (set-place front back c d)
+        ∙ by-plain front back c d
+        ∙ got-at set.name n (length front) (map plain front) (map plain back) c x still
+        ∙ ap (λ s. happen_by s (happening_of at c got)) (sym (by-plain front back c c))
+        ∙ ap (λ y. happen_by (store_of (front ++ c ∷ back)) (happening_of at y got)) (sym (at-place empty_catalogue front back c))
