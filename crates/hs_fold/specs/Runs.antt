@@ -2,6 +2,7 @@
 pub mod Catalogue
 pub mod Clients
 pub mod Counts
+pub mod Ends
 pub mod Facts
 pub mod Fits
 pub mod Happening

@@ -1,18 +1,20 @@
 //! Lists of all kinds, with deletion runs.
-ghost use Rattle.std.specs.Prelude.{◌≡◌, ◌<◌, ◌≤◌, ◌^◌, ℕ, All, List, false, length};
+ghost use Rattle.std.specs.Prelude.{◌≡◌, ◌<◌, ◌≤◌, ◌^◌, ℕ, All, List, false, length, slice_set, true};
 ghost use Rattle.hs_limits.specs.Limits.{greatest_limits};
+ghost use Rattle.hs_model.specs.Inner.{sweep};
 ghost use Rattle.hs_entry.specs.declared.entry.Entry.{Entry};
 ghost use Rattle.hs_entry.specs.declared.entry.Entry.TheVariants as kind;
 ghost use Rattle.hs_fold.specs.Catalogue.{Shard};
 ghost use Rattle.hs_fold.specs.Lawful.{Deed};
 ghost use Rattle.hs_fold.specs.Runs.Catalogue.{apply, catalogue_of};
+ghost use Rattle.hs_fold.specs.Runs.Ends.{ReleasesLate, TakesTheUnreached};
 ghost use Rattle.hs_fold.specs.Runs.Facts.{GotRound, Catalogue, Told, plain, roots_of};
 ghost use Rattle.hs_fold.specs.Runs.Fits.{catalogue_at};
 ghost use Rattle.hs_fold.specs.Runs.Happening.{IsClients, happening_of};
 ghost use Rattle.hs_fold.specs.Runs.History.{follow};
 ghost use Rattle.hs_fold.specs.Runs.Opened.{catalogues, store_of};
 ghost use Rattle.hs_fold.specs.Runs.Own.{AreOwn, IsOwn, OneRetained};
-ghost use Rattle.hs_fold.specs.Runs.Rounds.{log_got, advanced, enter_epoch, is_complete};
+ghost use Rattle.hs_fold.specs.Runs.Rounds.{end_round, is_last, log_got, advanced, enter_epoch, is_complete};
 ghost use Rattle.hs_fold.specs.Runs.Told.{told_to};
 ghost use Rattle.hs_fold.specs.Shards.Catalogue.{apply as plain_apply};
 ghost use Rattle.hs_fold.specs.Shards.Happening.{happen_by};
@@ -58,6 +60,22 @@ pub fn clients_and_enters_change_the_store()
         let got = kind.Got x.sender x.epoch x.round x.told.total x.told.deltas in
         store_of (follow set cs (record { shard = shard; number = number; entry = got }))
         ≡ happen_by (store_of cs) (happening_of (shard_in set shard) (catalogue_at cs shard) got) }
+{}
+
+/// The end of a round that isn't the last of its run does nothing, where the roots that it releases
+/// count in no epoch any more; that of the last is the shard's sweep, where the zero blocks that go
+/// are those that the plain store's sweep takes. That this is so is no law of lists alone.
+pub fn ends_of_rounds_change_the_store()
+    ensures search { (set : Setting) (cs : List Catalogue) (shard : ℕ)
+        → length cs ≡ set.shape.shards → shard < set.shape.shards → AreOwn set.shape.shards 0 cs
+        → is_last set.shape.shards (catalogue_at cs shard) ≡ false → ReleasesLate cs shard →
+        store_of (slice_set cs shard (end_round set.shape.shards (catalogue_at cs shard)))
+        ≡ store_of cs }
+    ensures sweep { (set : Setting) (cs : List Catalogue) (shard : ℕ)
+        → length cs ≡ set.shape.shards → shard < set.shape.shards → AreOwn set.shape.shards 0 cs
+        → is_last set.shape.shards (catalogue_at cs shard) ≡ true → TakesTheUnreached cs shard →
+        store_of (slice_set cs shard (end_round set.shape.shards (catalogue_at cs shard)))
+        ≡ sweep (store_of cs) shard }
 {}
 
 /// Rounds end one after another as long as the open one is complete. A round tells a shard of no more

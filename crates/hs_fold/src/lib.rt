@@ -22,8 +22,8 @@ mod waiting;
 
 pub use change::{entries_change_the_store, lists_change_the_store};
 pub use deletion::{
-    clients_and_enters_change_the_store, clients_see_no_runs, rounds_stay_within_bounds,
-    runs_keep_catalogues_own,
+    clients_and_enters_change_the_store, clients_see_no_runs, ends_of_rounds_change_the_store,
+    rounds_stay_within_bounds, runs_keep_catalogues_own,
 };
 pub use fronts::fronts_are_prefixes;
 pub use histories::{

@@ -28,11 +28,11 @@ own-mine : (n g : ℕ) (cs : List Catalogue) → AreOwn n g cs → AreMine n g (
 own-mine n g [] h = tt
 own-mine n g (c ∷ cs) h = (h.0.mine, own-mine n (g + 1) cs h.1)
 
-plain-place : (front back : List Catalogue) (c : Catalogue) → map plain (front ++ c ∷ back) ≡ map plain front ++ plain c ∷ map plain back
+pub plain-place : (front back : List Catalogue) (c : Catalogue) → map plain (front ++ c ∷ back) ≡ map plain front ++ plain c ∷ map plain back
 plain-place [] back c = refl
 plain-place (x ∷ front) back c = ap (λ rest. plain x ∷ rest) (plain-place front back c)
 
-length-plain : (cs : List Catalogue) → length (map plain cs) ≡ length cs
+pub length-plain : (cs : List Catalogue) → length (map plain cs) ≡ length cs
 length-plain [] = refl
 length-plain (c ∷ cs) = ap (λ n. suc n) (length-plain cs)
 
@@ -86,13 +86,13 @@ got-at name n g front back c x unfinished = go (is_accepted n c x.sender x.epoch
 -- ---- a shard of any number
 
 -- what holds of the plain catalogues holds of the stores
-by-plain : (front back : List Catalogue) (c d : Catalogue) → store_of (front ++ d ∷ back) ≡ pruned (listed (map plain front ++ plain d ∷ map plain back))
+pub by-plain : (front back : List Catalogue) (c d : Catalogue) → store_of (front ++ d ∷ back) ≡ pruned (listed (map plain front ++ plain d ∷ map plain back))
 by-plain front back c d = ap (λ cs. pruned (listed cs)) (plain-place front back d)
 
-count-plain : (n : ℕ) (front back : List Catalogue) → length front + (1 + length back) ≡ n → all_shards (map plain front) (map plain back) ≡ n
+pub count-plain : (n : ℕ) (front back : List Catalogue) → length front + (1 + length back) ≡ n → all_shards (map plain front) (map plain back) ≡ n
 count-plain n front back count = let f = length-plain front in let b = length-plain back in omega (arith, f, b, count)
 
-mine-plain : (n : ℕ) (front back : List Catalogue) (c : Catalogue) → AreOwn n 0 (front ++ c ∷ back) → AreMine n 0 (map plain front ++ plain c ∷ map plain back)
+pub mine-plain : (n : ℕ) (front back : List Catalogue) (c : Catalogue) → AreOwn n 0 (front ++ c ∷ back) → AreMine n 0 (map plain front ++ plain c ∷ map plain back)
 mine-plain n front back c own = subst (λ cs. AreMine n 0 cs) (plain-place front back c) (own-mine n 0 (front ++ c ∷ back) own)
 
 pub deed-client : (set : Setting) (deed : Deed) (cs : List Catalogue) → length cs ≡ set.shape.shards → deed.shard < set.shape.shards → AreOwn set.shape.shards 0 cs → IsClients deed.entry

@@ -18,7 +18,7 @@ use Rattle.hs_limits.specs.Reading.{read_block}
 use Rattle.hs_fold.proofs.Shards.MineLemmas.{apply-mine, empty-mine, to-rising}
 use Rattle.hs_fold.proofs.Shards.RootLemmas.{both-rising, both-each}
 use Rattle.hs_fold.proofs.Runs.PlainLemmas.{apply-plain, same_key}
-use Rattle.hs_fold.proofs.Runs.StepLemmas.{counted-present, counted-root, same-each, same-kept}
+use Rattle.hs_fold.proofs.Runs.StepLemmas.{counted-present, counted-root, same-each, same-kept, spared-present, zero-present}
 use Rattle.hs_fold.specs.Catalogue.{Present, Shard, fresh_present}
 use Rattle.hs_fold.specs.Runs.Catalogue.{apply, apply_all}
 use Rattle.hs_fold.specs.Runs.Opened.{catalogues}
@@ -27,7 +27,7 @@ use Rattle.hs_fold.specs.Runs.Clients.{keep_root, drop_key, new_facts, marked, s
 use Rattle.hs_fold.specs.Runs.Facts.{roots_of, Facts, RootFacts, GotRound, Catalogue, empty_catalogue, plain, facts_at}
 use Rattle.hs_fold.specs.Runs.Happening.{IsClients}
 use Rattle.hs_fold.specs.Runs.Own.{OneRetained, IsOwn, AreOwn}
-use Rattle.hs_fold.specs.Runs.Rounds.{enter_epoch, count_block, count_root, search, is_new_zero, find_zero, is_released, sweep, spare, is_gone, moved_by, open_deltas, settled, is_last, is_complete, end_round, advance, advanced, is_accepted, log_got, get_round, may_enter, enter}
+use Rattle.hs_fold.specs.Runs.Rounds.{enter_epoch, count_block, count_root, search, find_zero, is_released, sweep, spare, is_gone, moved_by, open_deltas, settled, is_last, is_complete, end_round, advance, advanced, is_accepted, log_got, get_round, may_enter, enter}
 use Rattle.hs_fold.specs.Shards.Catalogue.{is_rooted, retained_in, is_stored, is_marked}
 use Rattle.hs_fold.specs.Shards.Mine.{IsMine, IsRising}
 use Rattle.hs_fold.specs.Shards.Opened.{both_roots}
@@ -180,13 +180,6 @@ module _ (at : Shard) (c : Catalogue) (h : IsOwn at.shards at.shard c) where
         once = subst OneRetained (sym roots) h.once;
       }
 
-  zero-present : (epoch : ℕ) (f : Facts) → (find_zero epoch f).present ≡ f.present
-  zero-present epoch f = go (is_new_zero epoch f)
-    where
-      go : (b : Bool) → (cond b (record f { zero = true }) f).present ≡ f.present
-      go true = refl
-      go false = refl
-
   pub search-own : IsOwn at.shards at.shard (search c)
   search-own =
       let blocks = same-each (find_zero c.epoch) (zero-present c.epoch) c.blocks in
@@ -201,13 +194,6 @@ module _ (at : Shard) (c : Catalogue) (h : IsOwn at.shards at.shard c) where
         };
         once = filter-once (λ k. not (is_released c k)) c.roots h.once;
       }
-
-  spared-present : (f : Facts) → (spare f).present ≡ f.present
-  spared-present f = go f.zero
-    where
-      go : (b : Bool) → (cond b (record f { counted = false; zero = false }) f).present ≡ f.present
-      go true = refl
-      go false = refl
 
   left-keys : (test : Address × Facts → Bool) (es : List (Address × Facts)) → keys_of (map {B = Address × Present} (λ (e : Address × Facts). (e.0, e.1.present)) es) ≡ keys_of es
   left-keys test [] = refl

@@ -20,7 +20,7 @@ use Rattle.hs_fold.proofs.Shards.LegalLemmas.{MayBeChange, one-changes}
 use Rattle.hs_fold.specs.Runs.Catalogue.{apply}
 use Rattle.hs_fold.specs.Runs.Facts.{roots_of, Facts, RootFacts, Catalogue, plain, each_block}
 use Rattle.hs_fold.specs.Runs.Opened.{pruned}
-use Rattle.hs_fold.specs.Runs.Rounds.{enter_epoch, count_block, count_root, is_new, is_new_root}
+use Rattle.hs_fold.specs.Runs.Rounds.{enter_epoch, count_block, count_root, is_new, is_new_root, is_new_zero, find_zero, spare}
 use Rattle.hs_fold.specs.Shards.Catalogue.{Catalogue as Plain}
 use Rattle.hs_fold.specs.Shards.Mine.{AreMine}
 use Rattle.hs_fold.specs.Shards.Opened.{both_roots, all_present, all_roots, store_of as listed}
@@ -65,6 +65,20 @@ pub counted-root : (epoch : ℕ) (k : RootFacts) → (count_root epoch k).root �
 counted-root epoch k = go (is_new_root epoch k)
   where
     go : (b : Bool) → (cond b (record k { counted = true }) k).root ≡ k.root
+    go true = refl
+    go false = refl
+
+pub zero-present : (epoch : ℕ) (f : Facts) → (find_zero epoch f).present ≡ f.present
+zero-present epoch f = go (is_new_zero epoch f)
+  where
+    go : (b : Bool) → (cond b (record f { zero = true }) f).present ≡ f.present
+    go true = refl
+    go false = refl
+
+pub spared-present : (f : Facts) → (spare f).present ≡ f.present
+spared-present f = go f.zero
+  where
+    go : (b : Bool) → (cond b (record f { counted = false; zero = false }) f).present ≡ f.present
     go true = refl
     go false = refl
 

@@ -179,11 +179,11 @@ none-refused : (test : Bool) (refusal : Reply) → is_none (refused_when test re
 none-refused true refusal = refl
 none-refused false refusal = refl
 
-both-sorted : (es others : List (Address × Present)) → IsStrictlySortedBy address_cmp (keys_of others) → IsStrictlySortedBy address_cmp (keys_of (both es others))
+pub both-sorted : (es others : List (Address × Present)) → IsStrictlySortedBy address_cmp (keys_of others) → IsStrictlySortedBy address_cmp (keys_of (both es others))
 both-sorted [] others d = d
 both-sorted (e ∷ es) others d = insert-sorted address_cmp address_total (both es others) e.0 e.1 (both-sorted es others d)
 
-all-sorted : (cs : List Catalogue) → IsStrictlySortedBy address_cmp (keys_of (all_present cs))
+pub all-sorted : (cs : List Catalogue) → IsStrictlySortedBy address_cmp (keys_of (all_present cs))
 all-sorted [] = none-sorted address_cmp
 all-sorted (c ∷ cs) = both-sorted c.blocks (all_present cs) (all-sorted cs)
 
@@ -234,10 +234,10 @@ module _ (front back : List Catalogue) (c : Catalogue) (mine : AreMine (all_shar
   pub own : IsMine n g c
   own = parts.0
 
-  blocks-front : NoBlock n g front
+  pub blocks-front : NoBlock n g front
   blocks-front = no_block_before n g 0 front (c ∷ back) (omega arith) mine
 
-  blocks-back : NoBlock n g back
+  pub blocks-back : NoBlock n g back
   blocks-back = no_block_later n g (g + 1) back (omega arith) parts.1
 
   roots-front : NoRoot n g front
@@ -246,7 +246,7 @@ module _ (front back : List Catalogue) (c : Catalogue) (mine : AreMine (all_shar
   roots-back : NoRoot n g back
   roots-back = no_root_later n g (g + 1) back (omega arith) parts.1
 
-  shards-is : length s.epochs ≡ n
+  pub shards-is : length s.epochs ≡ n
   shards-is = length-front (λ (d : Catalogue). d.epoch) front back c
 
   epochs-is : (d : Catalogue) → d.epoch ≡ c.epoch → (to d).epochs ≡ s.epochs
