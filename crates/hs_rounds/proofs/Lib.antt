@@ -1,0 +1,3 @@
+mod Examples
+pub mod EachLemmas
+pub mod PlaceLemmas
