@@ -1,3 +1,4 @@
 mod Examples
 pub mod EachLemmas
 pub mod PlaceLemmas
+pub mod RunLemmas

@@ -5,7 +5,7 @@ use Rattle.std.specs.Map.{lookup}
 use Rattle.std.specs.declared.cmp.Ordering.{Ordering}
 use Rattle.std.specs.Option.{option_and_then, option_map, option_map_or}
 use Rattle.std.specs.Ordering.{nat_cmp, ordering_then}
-use Rattle.std.specs.Prelude.{◌≡◌, ℕ, ◌+◌, ◌<◌, ◌≤◌, IsSome, length, ◌==◌, ◌&&◌, ◌||◌, Bool, true, false, not, List, [], ◌∷◌, map, filter, find, take, Option, Some, None, is_none, is_some, nat_le, nat_lt, slice_get, if◌then◌else◌}
+use Rattle.std.specs.Prelude.{◌≡◌, ℕ, ◌+◌, ◌-◌, ◌++◌, ◌<◌, ◌≤◌, IsSome, length, ◌==◌, ◌&&◌, ◌||◌, Bool, true, false, not, List, [], ◌∷◌, map, filter, find, take, drop, Option, Some, None, is_none, is_some, nat_le, nat_lt, slice_get, if◌then◌else◌}
 use Rattle.hs_limits.specs.declared.delta.Delta.{Delta}
 use Rattle.hs_limits.specs.declared.shape.Shape.{Shape}
 use Rattle.hs_limits.specs.Shape.{IsShape}
@@ -101,6 +101,10 @@ is_kept place run = (nat_lt place.from run.shape.shards && not (is_past place ru
 abbrev pub got : Place → RoundBody → Run → Run
 got place told run = if is_kept place run then record run { gots = insert_entry place_cmp run.gots place told } else run
 
+-- a list with the last so many items at this place
+abbrev pub moved : {A : Type 0} → ℕ → ℕ → List A → List A
+moved at more xs = take at xs ++ drop (length (drop at xs) - more) (drop at xs) ++ take (length (drop at xs) - more) (drop at xs)
+
 -- what a run keeps to: what came is from shards, and of the open round or later ones; no more than two rounds are kept as sent
 pub record IsRun (run : Run) : Type 0 where
   pub shape : IsShape run.shape
@@ -110,13 +114,21 @@ pub record IsRun (run : Run) : Type 0 where
 
 -- ---- rounds are sent
 
--- what a round tells each shard
+-- what a round tells a shard, and what it tells each of so many
+abbrev pub body_for : ℕ → ℕ → List Delta → ℕ → RoundBody
+body_for shards total deltas to = record { total = total; deltas = changes_for shards deltas to }
+
 abbrev pub bodies_for : ℕ → ℕ → List Delta → List RoundBody
-bodies_for shards total deltas = map (λ to. record { total = total; deltas = changes_for shards deltas to }) (range_with_len 0 shards)
+bodies_for shards total deltas = map (body_for shards total deltas) (range_with_len 0 shards)
 
 -- without what came for earlier rounds
 abbrev pub from_round : ℕ → ℕ → GotList → GotList
 from_round epoch round gots = filter (λ e. not (is_before epoch round e.0)) gots
+
+-- whether the first is of an earlier round
+abbrev pub starts_before : ℕ → ℕ → GotList → Bool
+starts_before epoch round [] = false
+starts_before epoch round (e ∷ es) = is_before epoch round e.0
 
 -- a round is opened and sent
 abbrev pub open_at : ℕ → ℕ → ℕ → List Delta → Run → Run

@@ -1,8 +1,9 @@
 //! The Gots of the open round and of later ones.
-ghost use Rattle.std.specs.Prelude.{[], ◌≡◌, ◌<◌, ◌^◌, IfOk, OnErr, OnOk, length};
-ghost use Rattle.std.specs.BTreeMap.{insert_entry};
+ghost use Rattle.std.specs.Prelude.{[], ◌≡◌, ◌<◌, ◌^◌, IfOk, OnErr, OnOk, Some, cond, drop, false, length};
+ghost use Rattle.std.specs.BTreeMap.{insert_entry, is_at};
 ghost use Rattle.std.specs.Option.{option_copied};
-ghost use Rattle.hs_rounds.specs.Rounds.{body_at, changes_in, changes_of, from_round, have_told, have_told_zero, is_before, is_zero_total, place_cmp};
+ghost use Rattle.hs_rounds.specs.declared.place.Place.{Place};
+ghost use Rattle.hs_rounds.specs.Rounds.{body_at, changes_in, changes_of, from_round, have_told, have_told_zero, is_before, is_zero_total, place_cmp, starts_before};
 
 use crate::{Place, RoundBody};
 use hs_limits::Delta;
@@ -44,6 +45,8 @@ impl Gots {
     /// Puts a Got at its place. Without memory nothing changes.
     pub(crate) fn insert(&mut self, place: Place, told: RoundBody) -> Result<(), AllocError>
         ensures ok { OnOk result (self.new ≡ insert_entry place_cmp self.old place told) }
+        ensures found { OnOk result ((other : Place) → body_at other self.new
+            ≡ cond (is_at (place_cmp place) other) (Some told) (body_at other self.old)) }
         ensures same { OnErr result (self.new ≡ self.old) }
     {
         match self.bodies.insert(place, told) {
@@ -57,7 +60,7 @@ impl Gots {
         ensures { self.new ≡ from_round epoch round self.old }
     {
         while self.starts_before(epoch, round) {
-            self.bodies.pop_first();
+            self.forget_first();
         }
     }
 
@@ -106,8 +109,18 @@ impl Gots {
         count
     }
 
-    /// Whether the first Got is of an earlier round.
-    fn starts_before(&self, epoch: u64, round: u64) -> bool {
+    /// Forgets the first Got. It takes no memory.
+    fn forget_first(&mut self)
+        ensures { self.new ≡ drop 1 self.old }
+    {
+        self.bodies.pop_first();
+    }
+
+    /// Whether the first Got is of an earlier round; if not, none is. It takes no memory.
+    fn starts_before(&self, epoch: u64, round: u64) -> bool
+        ensures value { result ≡ starts_before epoch round self.now }
+        ensures none { result ≡ false → from_round epoch round self.now ≡ self.now }
+    {
         match self.bodies.first_key_value() {
             Some((first, _)) => is_before(*first, epoch, round),
             None => false,

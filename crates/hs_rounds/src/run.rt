@@ -1,10 +1,11 @@
 //! The rounds of a deletion run, as one shard sends and gets them.
-ghost use Rattle.std.specs.Prelude.{◌≡◌, ◌<◌, ◌≤◌, ◌+◌, ◌^◌, IfSome, IsOk, IsOkUnless, IsTrue, OnErr, OnOk, Some, false, length, true};
-ghost use Rattle.std.specs.Option.{option_copied, option_map_or};
+ghost use Rattle.std.specs.Prelude.{◌≡◌, ◌<◌, ◌≤◌, ◌+◌, ◌==◌, ◌&&◌, find, IsOk, IsOkUnless, IsTrue, OnErr, OnOk, Some, false, length, true};
+ghost use Rattle.std.specs.Option.{option_copied};
+ghost use Rattle.std.specs.Vec.{vec_len};
 ghost use Rattle.hs_limits.specs.Shape.{IsShape};
 ghost use Rattle.hs_rounds.specs.declared.fault.RunFault.TheVariants.{NoMemory};
 ghost use Rattle.hs_rounds.specs.Changes.{AreChanges};
-ghost use Rattle.hs_rounds.specs.Rounds.{body, complete, empty_run, enter, finish, go_on, got, is_kept, is_last, is_open, is_past, open_at, outgoing, received, sent_back};
+ghost use Rattle.hs_rounds.specs.Rounds.{body, complete, empty_run, enter, finish, go_on, got, is_kept, is_last, is_open, is_past, moved, open_at, outgoing, received, sent_back};
 
 use crate::gots::{Gots, is_before};
 use crate::sending::bodies_for;
@@ -183,10 +184,7 @@ impl Run {
     pub fn outgoing(&self, epoch: u64, round: u32, to: u8) -> Option<&RoundBody>
         ensures { option_copied result ≡ outgoing epoch round to self.now }
     {
-        let sent = self
-            .sent
-            .iter()
-            .find(|sent| sent.epoch == epoch && sent.round == round)?;
+        let sent = self.sent_round(epoch, round)?;
         sent.bodies.as_slice().get(usize::from(to))
     }
 
@@ -212,6 +210,16 @@ impl Run {
         ensures { option_copied result ≡ body from epoch round self.now }
     {
         self.gots.get(Place { epoch, round, from })
+    }
+
+    /// A round that was sent, where it is one of the last two.
+    fn sent_round(&self, epoch: u64, round: u32) -> Option<&SentRound>
+        ensures { option_copied result
+            ≡ find (λ sent. sent.epoch == epoch && sent.round == round) self.now.sent }
+    {
+        self.sent
+            .iter()
+            .find(|sent| sent.epoch == epoch && sent.round == round)
     }
 
     /// Whether a Got is kept.
@@ -257,7 +265,7 @@ impl Run {
             self.arrived.truncate(end);
             return Err(RunFault::NoMemory);
         }
-        self.arrived[before..].rotate_right(more);
+        move_last(&mut self.arrived, before, more);
         Ok(())
     }
 
@@ -288,4 +296,12 @@ impl Run {
         self.opened = Some((epoch, round));
         Ok(())
     }
+}
+
+/// Moves the last so many changes to a place.
+fn move_last(changes: &mut Vec<Delta>, at: usize, more: usize)
+    requires { at + more ≤ vec_len changes.old }
+    ensures { changes.new.items ≡ moved at more changes.old.items }
+{
+    changes[at..].rotate_right(more);
 }

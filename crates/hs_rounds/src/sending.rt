@@ -1,6 +1,6 @@
 //! Rounds that were sent.
-ghost use Rattle.std.specs.Prelude.{◌≡◌, IfOk};
-ghost use Rattle.hs_limits.specs.Shape.{IsShape};
+ghost use Rattle.std.specs.Prelude.{◌≡◌, ◌==◌, IfOk, filter};
+ghost use Rattle.hs_limits.specs.Shape.{IsShape, shard_of};
 ghost use Rattle.hs_rounds.specs.Changes.{changes_for};
 ghost use Rattle.hs_rounds.specs.Rounds.{bodies_for};
 
@@ -45,11 +45,25 @@ fn changes_for(
     ensures { IfOk result (λ changes. changes ≡ changes_for shape.shards deltas.now to) }
 {
     let most = Limits::greatest().blocks as usize;
-    let mut changes: Vec<Delta> = deltas
+    let mut changes = all_for(alloc, shape, deltas, to)?;
+    changes.truncate(most);
+    Ok(ListOf::from_vec(changes))
+}
+
+/// The changes of a shard's blocks.
+fn all_for(
+    alloc: Global,
+    shape: Shape,
+    deltas: &[Delta],
+    to: u8,
+) -> Result<Vec<Delta>, AllocError>
+    requires { IsShape shape }
+    ensures { IfOk result (λ changes. changes.items
+        ≡ filter (λ delta. shard_of shape.shards delta.address == to) deltas.now) }
+{
+    deltas
         .iter()
         .filter(|delta| shard_of(&delta.address, shape) == to)
         .copied()
-        .collect(alloc)?;
-    changes.truncate(most);
-    Ok(ListOf::from_vec(changes))
+        .collect(alloc)
 }

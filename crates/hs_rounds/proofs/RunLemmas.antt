@@ -1,0 +1,139 @@
+-- What a run keeps to, behind each call.
+use Rattle.std.proofs.Common.{◌≡◌, ◌≢◌, ℕ, ◌+◌, ◌-◌, ◌<◌, ◌≤◌, Bool, true, false, cond, List, [], ◌∷◌, ◌++◌, length, take, drop, Option, Some, None, ap, sym, ◌∙◌, refl, subst, arith}
+use Rattle.std.proofs.lemmas.Bool.{and_from, and_parts, both_ways, cases_Bool, eq-eqb, eqb-true, ltb-true, not-true}
+use Rattle.std.specs.BTreeMap.{is_at}
+use Rattle.std.specs.Option.{IsSome, option_map_or}
+use Rattle.std.specs.Prelude.{is_none, ◌==◌, ◌&&◌}
+use Rattle.hs_limits.specs.declared.delta.Delta.{Delta}
+use Rattle.hs_rounds.specs.declared.body.RoundBody.{RoundBody}
+use Rattle.hs_rounds.specs.declared.place.Place.{Place}
+use Rattle.hs_rounds.specs.declared.sending.SentRound.{SentRound}
+use Rattle.hs_rounds.specs.Rounds.{GotList, IsRun, Run, body_at, changes_in, changes_of, from_round, is_before, is_kept, is_open, is_past, moved, place_cmp, received, told_by}
+use Rattle.hs_rounds.proofs.EachLemmas.{each_below, each_same, put_in_turn}
+use Rattle.hs_rounds.proofs.PlaceLemmas.{found_from, gone_before, same_place, tied_place}
+
+-- what is found behind a round was found before
+found_after : (epoch round : ℕ) (gots : GotList) (q : Place) → IsSome (body_at q (from_round epoch round gots)) → (is_before epoch round q ≡ false) × IsSome (body_at q gots)
+found_after epoch round gots q found = go (is_before epoch round q) refl
+  where
+    go : (b : Bool) → is_before epoch round q ≡ b → (is_before epoch round q ≡ false) × IsSome (body_at q gots)
+    go true e = let none : IsSome {T = RoundBody} None = subst IsSome (gone_before epoch round gots q e) found in cc
+    go false e = (e, subst IsSome (found_from epoch round gots q e) found)
+
+-- a round that is opened
+pub opened_is_run : (run : Run) (epoch round : ℕ) (sent : List SentRound) → IsRun run → length sent ≤ 2
+    → IsRun (record run { opened = Some (epoch, round); gots = from_round epoch round run.gots; sent = sent })
+opened_is_run run epoch round sent valid two = record {
+  shape = valid.shape;
+  shard = valid.shard;
+  found = λ q found. let was : (is_before epoch round q ≡ false) × IsSome (body_at q run.gots) = found_after epoch round run.gots q found in ((valid.found q was.1).0, was.0);
+  sent = two;
+}
+
+-- a run that is over
+pub finished_is_run : (run : Run) (epoch round : ℕ) → IsRun run → IsRun (record run { opened = None; gots = from_round epoch round run.gots })
+finished_is_run run epoch round valid = record {
+  shape = valid.shape;
+  shard = valid.shard;
+  found = λ q found. ((valid.found q (found_after epoch round run.gots q found).1).0, refl);
+  sent = valid.sent;
+}
+
+-- these have one more
+abbrev pub HasGot : Place → RoundBody → GotList → GotList → Type 0
+HasGot place told old new = (q : Place) → body_at q new ≡ cond (is_at (place_cmp place) q) (Some told) (body_at q old)
+
+-- a Got that is kept
+pub got_is_run : (run : Run) (place : Place) (told : RoundBody) (new : GotList) → IsRun run → is_kept place run ≡ true → HasGot place told run.gots new
+    → IsRun (record run { gots = new })
+got_is_run run place told new valid kept has = record {
+  shape = valid.shape;
+  shard = valid.shard;
+  found = λ q found. go q found (is_at (place_cmp place) q) refl;
+  sent = valid.sent;
+}
+  where
+    fits : (place.from < run.shape.shards) × (is_past place run ≡ false)
+    fits = let both : _ = and_parts _ _ kept in let first : _ = and_parts _ _ both.0 in (ltb-true _ _ first.0, not-true _ first.1)
+    go : (q : Place) → IsSome (body_at q new) → (b : Bool) → is_at (place_cmp place) q ≡ b → (q.from < run.shape.shards) × (is_past q run ≡ false)
+    go q found true e = subst (λ p. (p.from < run.shape.shards) × (is_past p run ≡ false)) (same_place place q e) fits
+    go q found false e = let was : body_at q new ≡ body_at q run.gots = rw e at (has q) in valid.found q (subst IsSome was found)
+
+-- ---- the changes that came
+
+-- a round that is opened has what came for it
+pub received_opened : (shards epoch round : ℕ) (gots : GotList) → changes_of shards epoch round gots ≡ changes_of shards epoch round (from_round epoch round gots)
+received_opened shards epoch round gots =
+    each_same (λ from. changes_in (told_by epoch round gots from)) (λ from. changes_in (told_by epoch round (from_round epoch round gots) from)) 0 shards
+      (λ i low high. ap changes_in (sym (found_from epoch round gots (record { epoch = epoch; round = round; from = i }) (own i))))
+  where
+    own : (i : ℕ) → is_before epoch round (record { epoch = epoch; round = round; from = i }) ≡ false
+    own i = grind arith
+
+-- a Got of another round makes no difference to the open one
+pub received_elsewhere : (run : Run) (place : Place) (told : RoundBody) (new : GotList) → is_open place run ≡ false → HasGot place told run.gots new
+    → received (record run { gots = new }) ≡ received run
+received_elsewhere run place told new apart has = go run.opened refl
+  where
+    go : (o : Option (ℕ × ℕ)) → run.opened ≡ o → received (record run { gots = new }) ≡ received run
+    go None e = rw e refl
+    go (Some at) e = rw e (each_same (λ from. changes_in (told_by at.0 at.1 new from)) (λ from. changes_in (told_by at.0 at.1 run.gots from)) 0 run.shape.shards (λ i low high. ap changes_in (same i)))
+      where
+        here : ℕ → Place
+        here i = record { epoch = at.0; round = at.1; from = i }
+        same : (i : ℕ) → told_by at.0 at.1 new i ≡ told_by at.0 at.1 run.gots i
+        same i = go_same (is_at (place_cmp place) (here i)) refl
+          where
+            go_same : (b : Bool) → is_at (place_cmp place) (here i) ≡ b → told_by at.0 at.1 new i ≡ told_by at.0 at.1 run.gots i
+            go_same false f = rw f at (has (here i))
+            go_same true f = let open_here : is_open (here i) run ≡ true = rw e (and_from (at.0 == at.0) (at.1 == at.1) (eq-eqb at.0 at.0 refl) (eq-eqb at.1 at.1 refl)) in absurd (both_ways (is_open place run) apart (ap (λ p. is_open p run) (same_place place (here i) f) ∙ open_here))
+
+none_there : (o : Option RoundBody) → is_none o ≡ true → o ≡ None
+none_there None e = refl
+none_there (Some told) e = cc
+
+-- the open round is that of a place
+opened_at : (place : Place) (o : Option (ℕ × ℕ)) → option_map_or (λ at. place.epoch == at.0 && place.round == at.1) o false ≡ true → o ≡ Some (place.epoch, place.round)
+opened_at place None e = cc
+opened_at place (Some at) e =
+    let is : (place.epoch == at.0 ≡ true) × (place.round == at.1 ≡ true) = and_parts _ _ e in
+    let epochs : at.0 ≡ place.epoch = sym (eqb-true _ _ is.0) in
+    let rounds : at.1 ≡ place.round = sym (eqb-true _ _ is.1) in
+    λ i. Some (epochs i, rounds i)
+
+-- a Got of the open round has its changes behind those of lower senders
+pub received_here : (run : Run) (place : Place) (told : RoundBody) (new : GotList) → is_kept place run ≡ true → is_open place run ≡ true → HasGot place told run.gots new
+    → moved (length (changes_of place.from place.epoch place.round run.gots)) (length told.deltas) (received run ++ told.deltas) ≡ received (record run { gots = new })
+received_here run place told new kept opened has =
+    rw (opened_at place run.opened opened)
+      (subst (λ deltas. moved (length (changes_of place.from place.epoch place.round run.gots)) (length deltas) (changes_of run.shape.shards place.epoch place.round run.gots ++ deltas)
+          ≡ changes_of run.shape.shards place.epoch place.round new)
+        here (put_in_turn f g place.from run.shape.shards below none others))
+  where
+    f : ℕ → List Delta
+    f from = changes_in (told_by place.epoch place.round run.gots from)
+    g : ℕ → List Delta
+    g from = changes_in (told_by place.epoch place.round new from)
+    below : place.from < run.shape.shards
+    below = ltb-true _ _ (and_parts _ _ (and_parts _ _ kept).0).0
+    none : f place.from ≡ []
+    none = ap changes_in (none_there (body_at place run.gots) (and_parts _ _ kept).1)
+    here : g place.from ≡ told.deltas
+    here = ap changes_in (has place ∙ rw (tied_place place) refl)
+    others : (i : ℕ) → i ≢ place.from → g i ≡ f i
+    others i apart = go (is_at (place_cmp place) at) refl
+      where
+        at : Place
+        at = record { epoch = place.epoch; round = place.round; from = i }
+        go : (b : Bool) → is_at (place_cmp place) at ≡ b → g i ≡ f i
+        go false e = ap changes_in (rw e at (has at))
+        go true e = absurd (apart (sym (ap (λ p. p.from) (same_place place at e))))
+
+-- there are no more below a sender than came
+pub below_received : (run : Run) (place : Place) → is_kept place run ≡ true → is_open place run ≡ true
+    → length (changes_of place.from place.epoch place.round run.gots) ≤ length (received run)
+below_received run place kept opened =
+    rw (opened_at place run.opened opened) (each_below (λ from. changes_in (told_by place.epoch place.round run.gots from)) place.from run.shape.shards (omega (arith, below)))
+  where
+    below : place.from < run.shape.shards
+    below = ltb-true _ _ (and_parts _ _ (and_parts _ _ kept).0).0
