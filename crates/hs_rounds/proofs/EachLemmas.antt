@@ -41,12 +41,12 @@ module _ {A : Type 0} where
 -- ---- one sender's items come last, and are moved to their place
 
 -- the items behind the two others go between them
-moved_between : {A : Type 0} (front back more : List A) → moved (length front) (length more) ((front ++ back) ++ more) ≡ front ++ more ++ back
+moved_between : {A : Type 0} (front back more : List A) → moved (length front) (length more) ((front ++ back) ++ more) ≡ front ++ (more ++ back)
 moved_between front back more =
     let tail : drop (length front) ((front ++ back) ++ more) ≡ back ++ more = ap (drop (length front)) (append_assoc front back more) ∙ drop-append_seam front (back ++ more) in
     let head : take (length front) ((front ++ back) ++ more) ≡ front = ap (take (length front)) (append_assoc front back more) ∙ take-append_seam front (back ++ more) in
     let stays : length (back ++ more) - length more ≡ length back = omega (arith, length-append back more) in
-    rw (tail, head, stays) (ap₂ (λ a b. front ++ a ++ b) (drop-append_seam back more) (take-append_seam back more))
+    rw (tail, head, stays) (ap₂ (λ a b. front ++ (a ++ b)) (drop-append_seam back more) (take-append_seam back more))
 
 -- where a sender had none, and its items stand behind those of all, they are moved to their place
 pub put_in_turn : {A : Type 0} (f g : ℕ → List A) (s n : ℕ) → s < n → f s ≡ [] → ((i : ℕ) → i ≢ s → g i ≡ f i)
@@ -56,10 +56,10 @@ put_in_turn {A = A} f g s n below none others = go (n - (s + 1)) (omega (arith, 
     go : (m : ℕ) → n ≡ s + (1 + m) → moved (length (each f 0 s)) (length (g s)) (each f 0 n ++ g s) ≡ each g 0 n
     go m e =
         let at : 0 + s ≡ s = omega arith in
-        let parts : (h : ℕ → List A) → each h 0 n ≡ each h 0 s ++ h s ++ each h (s + 1) m = λ h. ap (each h 0) e ∙ each_parts h 0 s (1 + m) ∙ ap (λ k. each h 0 s ++ each h k (1 + m)) at ∙ ap (λ rest. each h 0 s ++ rest) (each_first h s m) in
+        let parts : (h : ℕ → List A) → each h 0 n ≡ each h 0 s ++ (h s ++ each h (s + 1) m) = λ h. ap (each h 0) e ∙ each_parts h 0 s (1 + m) ∙ ap (λ k. each h 0 s ++ each h k (1 + m)) at ∙ ap (λ rest. each h 0 s ++ rest) (each_first h s m) in
         let before : each g 0 s ≡ each f 0 s = each_same g f 0 s (λ i low high. others i (λ same. absurd (omega (arith, same, high)))) in
         let behind : each g (s + 1) m ≡ each f (s + 1) m = each_same g f (s + 1) m (λ i low high. others i (λ same. absurd (omega (arith, same, low)))) in
-        let all : each f 0 n ≡ each f 0 s ++ each f (s + 1) m = parts f ∙ ap (λ here. each f 0 s ++ here ++ each f (s + 1) m) none in
+        let all : each f 0 n ≡ each f 0 s ++ each f (s + 1) m = parts f ∙ ap (λ here. each f 0 s ++ (here ++ each f (s + 1) m)) none in
         ap (λ xs. moved (length (each f 0 s)) (length (g s)) (xs ++ g s)) all
         ∙ moved_between (each f 0 s) (each f (s + 1) m) (g s)
-        ∙ sym (parts g ∙ ap₂ (λ a b. a ++ g s ++ b) before behind)
+        ∙ sym (parts g ∙ ap₂ (λ a b. a ++ (g s ++ b)) before behind)

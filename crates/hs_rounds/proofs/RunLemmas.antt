@@ -3,7 +3,7 @@ use Rattle.std.proofs.Common.{◌≡◌, ◌≢◌, ℕ, ◌+◌, ◌-◌, ◌<�
 use Rattle.std.proofs.lemmas.Bool.{and_from, and_parts, both_ways, cases_Bool, eq-eqb, eqb-true, ltb-true, not-true}
 use Rattle.std.specs.BTreeMap.{is_at}
 use Rattle.std.specs.Option.{IsSome, option_map_or}
-use Rattle.std.specs.Prelude.{is_none, ◌==◌, ◌&&◌}
+use Rattle.std.specs.Prelude.{is_none, nat_lt, not, ◌==◌, ◌&&◌}
 use Rattle.hs_limits.specs.declared.delta.Delta.{Delta}
 use Rattle.hs_rounds.specs.declared.body.RoundBody.{RoundBody}
 use Rattle.hs_rounds.specs.declared.place.Place.{Place}
@@ -88,6 +88,20 @@ received_elsewhere run place told new apart has = go run.opened refl
             go_same false f = rw f at (has (here i))
             go_same true f = let open_here : is_open (here i) run ≡ true = rw e (and_from (at.0 == at.0) (at.1 == at.1) (eq-eqb at.0 at.0 refl) (eq-eqb at.1 at.1 refl)) in absurd (both_ways (is_open place run) apart (ap (λ p. is_open p run) (same_place place (here i) f) ∙ open_here))
 
+-- what is said of a Got that is kept
+kept_parts : (run : Run) (place : Place) → is_kept place run ≡ true
+    → (nat_lt place.from run.shape.shards ≡ true) × (not (is_past place run) ≡ true) × (is_none (body_at place run.gots) ≡ true)
+kept_parts run place kept =
+    let both : (nat_lt place.from run.shape.shards && not (is_past place run) ≡ true) × (is_none (body_at place run.gots) ≡ true) = and_parts _ _ kept in
+    let first : (nat_lt place.from run.shape.shards ≡ true) × (not (is_past place run) ≡ true) = and_parts _ _ both.0 in
+    (first.0, first.1, both.1)
+
+sender_below : (run : Run) (place : Place) → is_kept place run ≡ true → place.from < run.shape.shards
+sender_below run place kept = ltb-true _ _ (kept_parts run place kept).0
+
+none_kept : (run : Run) (place : Place) → is_kept place run ≡ true → is_none (body_at place run.gots) ≡ true
+none_kept run place kept = (kept_parts run place kept).2
+
 none_there : (o : Option RoundBody) → is_none o ≡ true → o ≡ None
 none_there None e = refl
 none_there (Some told) e = cc
@@ -115,11 +129,11 @@ received_here run place told new kept opened has =
     g : ℕ → List Delta
     g from = changes_in (told_by place.epoch place.round new from)
     below : place.from < run.shape.shards
-    below = ltb-true _ _ (and_parts _ _ (and_parts _ _ kept).0).0
+    below = sender_below run place kept
     none : f place.from ≡ []
-    none = ap changes_in (none_there (body_at place run.gots) (and_parts _ _ kept).1)
+    none = ap changes_in (none_there (body_at place run.gots) (none_kept run place kept))
     here : g place.from ≡ told.deltas
-    here = ap changes_in (has place ∙ rw (tied_place place) refl)
+    here = let found : body_at place new ≡ Some told = rw (tied_place place) at (has place) in ap changes_in found
     others : (i : ℕ) → i ≢ place.from → g i ≡ f i
     others i apart = go (is_at (place_cmp place) at) refl
       where
@@ -136,4 +150,4 @@ below_received run place kept opened =
     rw (opened_at place run.opened opened) (each_below (λ from. changes_in (told_by place.epoch place.round run.gots from)) place.from run.shape.shards (omega (arith, below)))
   where
     below : place.from < run.shape.shards
-    below = ltb-true _ _ (and_parts _ _ (and_parts _ _ kept).0).0
+    below = sender_below run place kept

@@ -103,7 +103,7 @@ got place told run = if is_kept place run then record run { gots = insert_entry 
 
 -- a list with the last so many items at this place
 abbrev pub moved : {A : Type 0} → ℕ → ℕ → List A → List A
-moved at more xs = take at xs ++ drop (length (drop at xs) - more) (drop at xs) ++ take (length (drop at xs) - more) (drop at xs)
+moved at more xs = take at xs ++ (drop (length (drop at xs) - more) (drop at xs) ++ take (length (drop at xs) - more) (drop at xs))
 
 -- what a run keeps to: what came is from shards, and of the open round or later ones; no more than two rounds are kept as sent
 pub record IsRun (run : Run) : Type 0 where
