@@ -2,3 +2,4 @@ mod Examples
 pub mod EachLemmas
 pub mod PlaceLemmas
 pub mod RunLemmas
+pub mod SentLemmas

@@ -2,32 +2,41 @@
 use Rattle.std.proofs.Common.{◌≡◌, ◌≢◌, ℕ, ◌+◌, ◌-◌, ◌<◌, ◌≤◌, Bool, true, false, cond, List, [], ◌∷◌, ◌++◌, length, take, drop, Option, Some, None, ap, sym, ◌∙◌, refl, subst, arith}
 use Rattle.std.proofs.lemmas.Bool.{and_from, and_parts, both_ways, cases_Bool, eq-eqb, eqb-true, ltb-true, not-true}
 use Rattle.std.specs.BTreeMap.{is_at}
-use Rattle.std.specs.Option.{IsSome, option_map_or}
-use Rattle.std.specs.Prelude.{is_none, nat_lt, not, ◌==◌, ◌&&◌}
+use Rattle.std.specs.Option.{IfSome, option_map_or}
+use Rattle.std.specs.Prelude.{All, is_none, nat_lt, not, ◌==◌, ◌&&◌}
 use Rattle.hs_limits.specs.declared.delta.Delta.{Delta}
 use Rattle.hs_rounds.specs.declared.body.RoundBody.{RoundBody}
 use Rattle.hs_rounds.specs.declared.place.Place.{Place}
 use Rattle.hs_rounds.specs.declared.sending.SentRound.{SentRound}
-use Rattle.hs_rounds.specs.Rounds.{GotList, IsRun, Run, body_at, changes_in, changes_of, from_round, is_before, is_kept, is_open, is_past, moved, place_cmp, received, told_by}
+use Rattle.hs_rounds.specs.Changes.{AreChanges}
+use Rattle.hs_rounds.specs.Rounds.{GotList, IsGot, IsRun, IsSent, Run, body_at, changes_in, changes_of, from_round, is_before, is_kept, is_open, is_past, moved, place_cmp, received, told_by}
 use Rattle.hs_rounds.proofs.EachLemmas.{each_below, each_same, put_in_turn}
 use Rattle.hs_rounds.proofs.PlaceLemmas.{found_from, gone_before, same_place, tied_place}
 
--- what is found behind a round was found before
-found_after : (epoch round : ℕ) (gots : GotList) (q : Place) → IsSome (body_at q (from_round epoch round gots)) → (is_before epoch round q ≡ false) × IsSome (body_at q gots)
-found_after epoch round gots q found = go (is_before epoch round q) refl
+some_weaker : {A : Type 0} (P Q : A → Type 0) (o : Option A) → ((x : A) → P x → Q x) → IfSome o P → IfSome o Q
+some_weaker P Q None h was = was
+some_weaker P Q (Some x) h was = h x was
+
+-- what stands behind a round stood there before
+gots_from : (epoch round : ℕ) (gots : GotList) (P Q : Place → RoundBody → Type 0) → ((q : Place) → IfSome (body_at q gots) (P q))
+    → ((q : Place) → is_before epoch round q ≡ false → (told : RoundBody) → P q told → Q q told)
+    → (q : Place) → IfSome (body_at q (from_round epoch round gots)) (Q q)
+gots_from epoch round gots P Q all weaker q = go (is_before epoch round q) refl
   where
-    go : (b : Bool) → is_before epoch round q ≡ b → (is_before epoch round q ≡ false) × IsSome (body_at q gots)
-    go true e = let none : IsSome {T = RoundBody} None = subst IsSome (gone_before epoch round gots q e) found in cc
-    go false e = (e, subst IsSome (found_from epoch round gots q e) found)
+    go : (b : Bool) → is_before epoch round q ≡ b → IfSome (body_at q (from_round epoch round gots)) (Q q)
+    go true e = subst (λ o. IfSome o (Q q)) (sym (gone_before epoch round gots q e)) tt
+    go false e = subst (λ o. IfSome o (Q q)) (sym (found_from epoch round gots q e)) (some_weaker (P q) (Q q) (body_at q gots) (weaker q e) (all q))
 
 -- a round that is opened
-pub opened_is_run : (run : Run) (epoch round : ℕ) (sent : List SentRound) → IsRun run → length sent ≤ 2
+pub opened_is_run : (run : Run) (epoch round : ℕ) (sent : List SentRound) → IsRun run → All (IsSent run.shape.shards) sent → length sent ≤ 2
     → IsRun (record run { opened = Some (epoch, round); gots = from_round epoch round run.gots; sent = sent })
-opened_is_run run epoch round sent valid two = record {
+opened_is_run run epoch round sent valid tells two = record {
   shape = valid.shape;
   shard = valid.shard;
-  found = λ q found. let was : (is_before epoch round q ≡ false) × IsSome (body_at q run.gots) = found_after epoch round run.gots q found in ((valid.found q was.1).0, was.0);
-  sent = two;
+  gots = gots_from epoch round run.gots (IsGot run) (IsGot (record run { opened = Some (epoch, round); gots = from_round epoch round run.gots; sent = sent })) valid.gots
+    (λ q after told was. record { sender = was.sender; due = after; changes = was.changes });
+  sent = tells;
+  two = two;
 }
 
 -- a run that is over
@@ -35,29 +44,49 @@ pub finished_is_run : (run : Run) (epoch round : ℕ) → IsRun run → IsRun (r
 finished_is_run run epoch round valid = record {
   shape = valid.shape;
   shard = valid.shard;
-  found = λ q found. ((valid.found q (found_after epoch round run.gots q found).1).0, refl);
+  gots = gots_from epoch round run.gots (IsGot run) (IsGot (record run { opened = None; gots = from_round epoch round run.gots })) valid.gots
+    (λ q after told was. record { sender = was.sender; due = refl; changes = was.changes });
   sent = valid.sent;
+  two = valid.two;
 }
 
 -- these have one more
 abbrev pub HasGot : Place → RoundBody → GotList → GotList → Type 0
 HasGot place told old new = (q : Place) → body_at q new ≡ cond (is_at (place_cmp place) q) (Some told) (body_at q old)
 
+-- what is said of a Got that is kept
+kept_parts : (run : Run) (place : Place) → is_kept place run ≡ true
+    → (nat_lt place.from run.shape.shards ≡ true) × (not (is_past place run) ≡ true) × (is_none (body_at place run.gots) ≡ true)
+kept_parts run place kept =
+    let both : (nat_lt place.from run.shape.shards && not (is_past place run) ≡ true) × (is_none (body_at place run.gots) ≡ true) = and_parts _ _ kept in
+    let first : (nat_lt place.from run.shape.shards ≡ true) × (not (is_past place run) ≡ true) = and_parts _ _ both.0 in
+    (first.0, first.1, both.1)
+
+sender_below : (run : Run) (place : Place) → is_kept place run ≡ true → place.from < run.shape.shards
+sender_below run place kept = ltb-true _ _ (kept_parts run place kept).0
+
+none_kept : (run : Run) (place : Place) → is_kept place run ≡ true → is_none (body_at place run.gots) ≡ true
+none_kept run place kept = (kept_parts run place kept).2
+
 -- a Got that is kept
-pub got_is_run : (run : Run) (place : Place) (told : RoundBody) (new : GotList) → IsRun run → is_kept place run ≡ true → HasGot place told run.gots new
+pub got_is_run : (run : Run) (place : Place) (told : RoundBody) (new : GotList) → IsRun run → is_kept place run ≡ true → AreChanges told.deltas → HasGot place told run.gots new
     → IsRun (record run { gots = new })
-got_is_run run place told new valid kept has = record {
+got_is_run run place told new valid kept changes has = record {
   shape = valid.shape;
   shard = valid.shard;
-  found = λ q found. go q found (is_at (place_cmp place) q) refl;
+  gots = λ q. go q (is_at (place_cmp place) q) refl;
   sent = valid.sent;
+  two = valid.two;
 }
   where
-    fits : (place.from < run.shape.shards) × (is_past place run ≡ false)
-    fits = let both : _ = and_parts _ _ kept in let first : _ = and_parts _ _ both.0 in (ltb-true _ _ first.0, not-true _ first.1)
-    go : (q : Place) → IsSome (body_at q new) → (b : Bool) → is_at (place_cmp place) q ≡ b → (q.from < run.shape.shards) × (is_past q run ≡ false)
-    go q found true e = subst (λ p. (p.from < run.shape.shards) × (is_past p run ≡ false)) (same_place place q e) fits
-    go q found false e = let was : body_at q new ≡ body_at q run.gots = rw e at (has q) in valid.found q (subst IsSome was found)
+    this : IsGot (record run { gots = new }) place told
+    this = record { sender = sender_below run place kept; due = not-true (is_past place run) (kept_parts run place kept).1; changes = changes }
+    go : (q : Place) → (b : Bool) → is_at (place_cmp place) q ≡ b → IfSome (body_at q new) (IsGot (record run { gots = new }) q)
+    go q true e = let found : body_at q new ≡ Some told = rw e at (has q) in
+      subst (λ o. IfSome o (IsGot (record run { gots = new }) q)) (sym found) (subst (λ p. IsGot (record run { gots = new }) p told) (same_place place q e) this)
+    go q false e = let was : body_at q new ≡ body_at q run.gots = rw e at (has q) in
+      subst (λ o. IfSome o (IsGot (record run { gots = new }) q)) (sym was)
+        (some_weaker (IsGot run q) (IsGot (record run { gots = new }) q) (body_at q run.gots) (λ body h. record { sender = h.sender; due = h.due; changes = h.changes }) (valid.gots q))
 
 -- ---- the changes that came
 
@@ -87,20 +116,6 @@ received_elsewhere run place told new apart has = go run.opened refl
             go_same : (b : Bool) → is_at (place_cmp place) (here i) ≡ b → told_by at.0 at.1 new i ≡ told_by at.0 at.1 run.gots i
             go_same false f = rw f at (has (here i))
             go_same true f = let open_here : is_open (here i) run ≡ true = rw e (and_from (at.0 == at.0) (at.1 == at.1) (eq-eqb at.0 at.0 refl) (eq-eqb at.1 at.1 refl)) in absurd (both_ways (is_open place run) apart (ap (λ p. is_open p run) (same_place place (here i) f) ∙ open_here))
-
--- what is said of a Got that is kept
-kept_parts : (run : Run) (place : Place) → is_kept place run ≡ true
-    → (nat_lt place.from run.shape.shards ≡ true) × (not (is_past place run) ≡ true) × (is_none (body_at place run.gots) ≡ true)
-kept_parts run place kept =
-    let both : (nat_lt place.from run.shape.shards && not (is_past place run) ≡ true) × (is_none (body_at place run.gots) ≡ true) = and_parts _ _ kept in
-    let first : (nat_lt place.from run.shape.shards ≡ true) × (not (is_past place run) ≡ true) = and_parts _ _ both.0 in
-    (first.0, first.1, both.1)
-
-sender_below : (run : Run) (place : Place) → is_kept place run ≡ true → place.from < run.shape.shards
-sender_below run place kept = ltb-true _ _ (kept_parts run place kept).0
-
-none_kept : (run : Run) (place : Place) → is_kept place run ≡ true → is_none (body_at place run.gots) ≡ true
-none_kept run place kept = (kept_parts run place kept).2
 
 none_there : (o : Option RoundBody) → is_none o ≡ true → o ≡ None
 none_there None e = refl

@@ -9,7 +9,7 @@ use Rattle.hs_limits.specs.Shape.{shard_of}
 
 -- each address once, ascending by its bytes, with an amount of at least 1
 pub record AreChanges (deltas : List Delta) : Type 0 where
-  pub ascend : IsStrictlySortedBy (slice_cmp nat_cmp) (map (λ delta. delta.address.0) deltas)
+  pub ascend : IsStrictlySortedBy (λ a b. slice_cmp nat_cmp a.0 b.0) (map (λ delta. delta.address) deltas)
   pub some : All (λ delta. 1 ≤ delta.amount) deltas
 
 -- those of a shard's blocks, where there are so many shards: of the lowest addresses, as many as a shard may have blocks

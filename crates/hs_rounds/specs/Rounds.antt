@@ -1,18 +1,19 @@
 -- One shard's side of the rounds of a deletion run.
 use Rattle.std.specs.BTreeMap.{insert_entry, is_at}
-use Rattle.std.specs.List.{flat_map, list_all, range_with_len}
+use Rattle.std.specs.List.{flat_map, list_all, list_any, range_with_len}
 use Rattle.std.specs.Map.{lookup}
 use Rattle.std.specs.declared.cmp.Ordering.{Ordering}
 use Rattle.std.specs.Option.{option_and_then, option_map, option_map_or}
 use Rattle.std.specs.Ordering.{nat_cmp, ordering_then}
-use Rattle.std.specs.Prelude.{◌≡◌, ℕ, ◌+◌, ◌-◌, ◌++◌, ◌<◌, ◌≤◌, IsSome, length, ◌==◌, ◌&&◌, ◌||◌, Bool, true, false, not, List, [], ◌∷◌, map, filter, find, take, drop, Option, Some, None, is_none, is_some, nat_le, nat_lt, slice_get, if◌then◌else◌}
+use Rattle.std.specs.Prelude.{◌≡◌, ℕ, ◌+◌, ◌-◌, ◌++◌, ◌<◌, ◌≤◌, All, IfSome, length, ◌==◌, ◌&&◌, ◌||◌, Bool, true, false, not, List, [], ◌∷◌, map, filter, find, take, drop, Option, Some, None, is_none, is_some, nat_le, nat_lt, slice_get, if◌then◌else◌}
 use Rattle.hs_limits.specs.declared.delta.Delta.{Delta}
 use Rattle.hs_limits.specs.declared.shape.Shape.{Shape}
+use Rattle.hs_limits.specs.Limits.{greatest_limits}
 use Rattle.hs_limits.specs.Shape.{IsShape}
 use Rattle.hs_rounds.specs.declared.body.RoundBody.{RoundBody}
 use Rattle.hs_rounds.specs.declared.place.Place.{Place}
 use Rattle.hs_rounds.specs.declared.sending.SentRound.{SentRound}
-use Rattle.hs_rounds.specs.Changes.{changes_for}
+use Rattle.hs_rounds.specs.Changes.{AreChanges, changes_for}
 
 -- what came, by epoch, round and sender
 abbrev pub GotList : Type 0
@@ -105,12 +106,29 @@ got place told run = if is_kept place run then record run { gots = insert_entry 
 abbrev pub moved : {A : Type 0} → ℕ → ℕ → List A → List A
 moved at more xs = take at xs ++ (drop (length (drop at xs) - more) (drop at xs) ++ take (length (drop at xs) - more) (drop at xs))
 
--- what a run keeps to: what came is from shards, and of the open round or later ones; no more than two rounds are kept as sent
+-- what is kept of a sender: it is a shard, and the round is the open one or a later one
+pub record IsGot (run : Run) (place : Place) (told : RoundBody) : Type 0 where
+  pub sender : place.from < run.shape.shards
+  pub due : is_past place run ≡ false
+  pub changes : AreChanges told.deltas
+
+-- what a shard is told: changes, no more than it may have blocks
+pub record IsTold (told : RoundBody) : Type 0 where
+  pub changes : AreChanges told.deltas
+  pub few : length told.deltas ≤ greatest_limits.blocks
+
+-- a round that was sent tells each shard something
+pub record IsSent (shards : ℕ) (sent : SentRound) : Type 0 where
+  pub bodies : length sent.bodies ≡ shards
+  pub told : All IsTold sent.bodies
+
+-- what a run keeps to
 pub record IsRun (run : Run) : Type 0 where
   pub shape : IsShape run.shape
   pub shard : run.shard < run.shape.shards
-  pub found : (place : Place) → IsSome (body_at place run.gots) → (place.from < run.shape.shards) × (is_past place run ≡ false)
-  pub sent : length run.sent ≤ 2
+  pub gots : (place : Place) → IfSome (body_at place run.gots) (IsGot run place)
+  pub sent : All (IsSent run.shape.shards) run.sent
+  pub two : length run.sent ≤ 2
 
 -- ---- rounds are sent
 
@@ -160,9 +178,15 @@ finish run = after run.opened
 
 -- ---- what was sent
 
--- what a round told a shard, where it is one of the last two
+-- whether a round is one of the last two, and what it told a shard
+abbrev pub is_round : ℕ → ℕ → SentRound → Bool
+is_round epoch round sent = sent.epoch == epoch && sent.round == round
+
+abbrev pub was_sent : ℕ → ℕ → Run → Bool
+was_sent epoch round run = list_any (is_round epoch round) run.sent
+
 abbrev pub outgoing : ℕ → ℕ → ℕ → Run → Option RoundBody
-outgoing epoch round to run = option_and_then (λ s. slice_get s.bodies to) (find (λ s. s.epoch == epoch && s.round == round) run.sent)
+outgoing epoch round to run = option_and_then (λ s. slice_get s.bodies to) (find (is_round epoch round) run.sent)
 
 -- epoch and number of the round sent last, or so many before it
 abbrev pub sent_back : ℕ → Run → Option (ℕ × ℕ)

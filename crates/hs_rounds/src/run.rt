@@ -1,11 +1,11 @@
 //! The rounds of a deletion run, as one shard sends and gets them.
-ghost use Rattle.std.specs.Prelude.{◌≡◌, ◌<◌, ◌≤◌, ◌+◌, ◌==◌, ◌&&◌, find, IsOk, IsOkUnless, IsTrue, OnErr, OnOk, Some, false, length, true};
+ghost use Rattle.std.specs.Prelude.{◌≡◌, ◌<◌, ◌≤◌, ◌+◌, find, IfSome, is_some, IsOk, IsOkUnless, IsTrue, OnErr, OnOk, Some, false, length, true};
 ghost use Rattle.std.specs.Option.{option_copied};
 ghost use Rattle.std.specs.Vec.{vec_len};
 ghost use Rattle.hs_limits.specs.Shape.{IsShape};
 ghost use Rattle.hs_rounds.specs.declared.fault.RunFault.TheVariants.{NoMemory};
 ghost use Rattle.hs_rounds.specs.Changes.{AreChanges};
-ghost use Rattle.hs_rounds.specs.Rounds.{body, complete, empty_run, enter, finish, go_on, got, is_kept, is_last, is_open, is_past, moved, open_at, outgoing, received, sent_back};
+ghost use Rattle.hs_rounds.specs.Rounds.{IsGot, IsSent, IsTold, body, complete, empty_run, enter, finish, go_on, got, is_kept, is_last, is_open, is_past, is_round, moved, open_at, outgoing, received, sent_back, was_sent};
 
 use crate::gots::{Gots, is_before};
 use crate::sending::bodies_for;
@@ -182,7 +182,9 @@ impl Run {
     /// What a round told a shard. None exactly where it is not one of the last two that were sent,
     /// or there is no such shard. It takes no memory.
     pub fn outgoing(&self, epoch: u64, round: u32, to: u8) -> Option<&RoundBody>
-        ensures { option_copied result ≡ outgoing epoch round to self.now }
+        ensures value { option_copied result ≡ outgoing epoch round to self.now }
+        ensures found { to < self.now.shape.shards → is_some result ≡ was_sent epoch round self.now }
+        ensures told { IfSome result (λ told. IsTold told.now) }
     {
         let sent = self.sent_round(epoch, round)?;
         sent.bodies.as_slice().get(usize::from(to))
@@ -207,15 +209,18 @@ impl Run {
     /// What came from a sender for a round that is open or waits. None exactly where there is none.
     /// It takes no memory.
     pub fn body(&self, from: u8, epoch: u64, round: u32) -> Option<&RoundBody>
-        ensures { option_copied result ≡ body from epoch round self.now }
+        ensures value { option_copied result ≡ body from epoch round self.now }
+        ensures kept { IfSome result (λ told.
+            IsGot self.now (record { epoch = epoch; round = round; from = from }) told.now) }
     {
         self.gots.get(Place { epoch, round, from })
     }
 
     /// A round that was sent, where it is one of the last two.
     fn sent_round(&self, epoch: u64, round: u32) -> Option<&SentRound>
-        ensures { option_copied result
-            ≡ find (λ sent. sent.epoch == epoch && sent.round == round) self.now.sent }
+        ensures value { option_copied result ≡ find (is_round epoch round) self.now.sent }
+        ensures found { is_some result ≡ was_sent epoch round self.now }
+        ensures sent { IfSome result (λ sent. IsSent self.now.shape.shards sent.now) }
     {
         self.sent
             .iter()
@@ -252,6 +257,7 @@ impl Run {
     /// Keeps a Got of the open round.
     fn got_open(&mut self, place: Place, told: RoundBody) -> Result<(), RunFault>
         requires kept { IsTrue (is_kept place self.old) }
+        requires changes { AreChanges told.deltas }
         requires opened { IsTrue (is_open place self.old) }
         ensures ok { OnOk result (self.new ≡ got place told self.old) }
         ensures only { IsOkUnless result NoMemory }
@@ -277,6 +283,7 @@ impl Run {
         total: u32,
         deltas: &[Delta],
     ) -> Result<(), RunFault>
+        requires { AreChanges deltas.now }
         ensures ok { OnOk result (self.new ≡ open_at epoch round total deltas.now self.old) }
         ensures only { IsOkUnless result NoMemory }
         ensures same { OnErr result (self.new ≡ self.old) }

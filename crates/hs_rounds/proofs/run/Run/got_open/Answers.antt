@@ -35,5 +35,5 @@ invariant_of-self-2 c =
     let items : c.extend_from_slice.new.self.items ≡ received run ++ c.args.told.deltas = c.in_ok-extend_from_slice.ensures.items ∙ ap₂ (λ old more. old ++ more) c.self.invariant.1 c.as_slice.ensures in
     let moves : c.move_last.new.changes.items ≡ moved (length (changes_of c.args.place.from c.args.place.epoch c.args.place.round c.self.inside.gots)) (length c.args.told.deltas) (received run ++ c.args.told.deltas) =
         c.move_last.ensures ∙ rw (c.count_below-before.ensures, more, items) refl in
-    (got_is_run run c.args.place c.args.told c.insert.new.self c.self.invariant.0 kept has,
+    (got_is_run run c.args.place c.args.told c.insert.new.self c.self.invariant.0 kept c.requires.changes has,
      moves ∙ received_here run c.args.place c.args.told c.insert.new.self kept opened has)
