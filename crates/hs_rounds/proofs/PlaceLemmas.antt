@@ -1,18 +1,16 @@
 -- Places in their order, and what stands at them.
-use Rattle.std.proofs.Common.{◌≡◌, ◌≢◌, ℕ, suc, [], ◌∷◌, length, drop,  ◌<◌, ◌≤◌, Bool, true, false, cond, List, Option, Some, None, ap, sym, ◌∙◌, refl, subst, arith}
+use Rattle.std.proofs.Common.{◌≡◌, ℕ, suc, [], ◌∷◌, length, drop, ◌<◌, true, false, None, ap, sym, ◌∙◌, refl, arith}
 use Rattle.std.proofs.lemmas.Cmp.{nat_cmp_total, tied_itself}
 use Rattle.std.proofs.lemmas.Map.Entries.{lookup-filter-keys}
 use Rattle.std.proofs.lemmas.Map.Lookups.{exact_unsigned}
-use Rattle.std.proofs.lemmas.Map.Views.{tells_apart}
 use Rattle.std.specs.BTreeMap.{is_at}
 use Rattle.std.specs.BTreeMap.Range.{IsLeBy}
 use Rattle.std.specs.Cmp.{ranks}
 use Rattle.std.specs.Map.{keys_of}
 use Rattle.std.specs.Ordering.{is_eq, is_gt, nat_cmp, ordering_then}
-use Rattle.std.specs.Prelude.{All, nat_lt, not, ◌||◌, ◌&&◌, ◌==◌}
+use Rattle.std.specs.Prelude.{All, not}
 use Rattle.std.specs.declared.cmp.Ordering.{Ordering}
 use Rattle.std.specs.declared.cmp.Ordering.TheVariants.{Less, Equal, Greater}
-use Rattle.hs_rounds.specs.declared.body.RoundBody.{RoundBody}
 use Rattle.hs_rounds.specs.declared.place.Place.{Place}
 use Rattle.hs_rounds.specs.Rounds.{GotList, body_at, from_round, is_before, place_cmp, starts_before}
 

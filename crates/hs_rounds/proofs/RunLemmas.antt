@@ -1,6 +1,6 @@
 -- What a run keeps to, behind each call.
-use Rattle.std.proofs.Common.{◌≡◌, ◌≢◌, ℕ, ◌+◌, ◌-◌, ◌<◌, ◌≤◌, Bool, true, false, cond, List, [], ◌∷◌, ◌++◌, length, take, drop, Option, Some, None, ap, sym, ◌∙◌, refl, subst, arith}
-use Rattle.std.proofs.lemmas.Bool.{and_from, and_parts, both_ways, cases_Bool, eq-eqb, eqb-true, ltb-true, not-true}
+use Rattle.std.proofs.Common.{◌≡◌, ◌≢◌, ℕ, ◌<◌, ◌≤◌, Bool, true, false, cond, List, [], ◌++◌, length, Option, Some, None, ap, sym, ◌∙◌, refl, subst, arith}
+use Rattle.std.proofs.lemmas.Bool.{and_from, and_parts, both_ways, eq-eqb, eqb-true, ltb-true, not-true}
 use Rattle.std.specs.BTreeMap.{is_at}
 use Rattle.std.specs.Option.{IfSome, option_map_or}
 use Rattle.std.specs.Prelude.{All, is_none, nat_lt, not, ◌==◌, ◌&&◌}
@@ -34,7 +34,7 @@ opened_is_run run epoch round sent valid tells two = record {
   shape = valid.shape;
   shard = valid.shard;
   gots = gots_from epoch round run.gots (IsGot run) (IsGot (record run { opened = Some (epoch, round); gots = from_round epoch round run.gots; sent = sent })) valid.gots
-    (λ q after told was. record { sender = was.sender; due = after; changes = was.changes });
+      (λ q after told was. record { sender = was.sender; due = after; changes = was.changes });
   sent = tells;
   two = two;
 }
@@ -45,7 +45,7 @@ finished_is_run run epoch round valid = record {
   shape = valid.shape;
   shard = valid.shard;
   gots = gots_from epoch round run.gots (IsGot run) (IsGot (record run { opened = None; gots = from_round epoch round run.gots })) valid.gots
-    (λ q after told was. record { sender = was.sender; due = refl; changes = was.changes });
+      (λ q after told was. record { sender = was.sender; due = refl; changes = was.changes });
   sent = valid.sent;
   two = valid.two;
 }
@@ -81,11 +81,12 @@ got_is_run run place told new valid kept changes has = record {
   where
     this : IsGot (record run { gots = new }) place told
     this = record { sender = sender_below run place kept; due = not-true (is_past place run) (kept_parts run place kept).1; changes = changes }
+
     go : (q : Place) → (b : Bool) → is_at (place_cmp place) q ≡ b → IfSome (body_at q new) (IsGot (record run { gots = new }) q)
     go q true e = let found : body_at q new ≡ Some told = rw e at (has q) in
-      subst (λ o. IfSome o (IsGot (record run { gots = new }) q)) (sym found) (subst (λ p. IsGot (record run { gots = new }) p told) (same_place place q e) this)
+        subst (λ o. IfSome o (IsGot (record run { gots = new }) q)) (sym found) (subst (λ p. IsGot (record run { gots = new }) p told) (same_place place q e) this)
     go q false e = let was : body_at q new ≡ body_at q run.gots = rw e at (has q) in
-      subst (λ o. IfSome o (IsGot (record run { gots = new }) q)) (sym was)
+        subst (λ o. IfSome o (IsGot (record run { gots = new }) q)) (sym was)
         (some_weaker (IsGot run q) (IsGot (record run { gots = new }) q) (body_at q run.gots) (λ body h. record { sender = h.sender; due = h.due; changes = h.changes }) (valid.gots q))
 
 -- ---- the changes that came
@@ -94,7 +95,7 @@ got_is_run run place told new valid kept changes has = record {
 pub received_opened : (shards epoch round : ℕ) (gots : GotList) → changes_of shards epoch round gots ≡ changes_of shards epoch round (from_round epoch round gots)
 received_opened shards epoch round gots =
     each_same (λ from. changes_in (told_by epoch round gots from)) (λ from. changes_in (told_by epoch round (from_round epoch round gots) from)) 0 shards
-      (λ i low high. ap changes_in (sym (found_from epoch round gots (record { epoch = epoch; round = round; from = i }) (own i))))
+    (λ i low high. ap changes_in (sym (found_from epoch round gots (record { epoch = epoch; round = round; from = i }) (own i))))
   where
     own : (i : ℕ) → is_before epoch round (record { epoch = epoch; round = round; from = i }) ≡ false
     own i = grind arith
@@ -110,6 +111,7 @@ received_elsewhere run place told new apart has = go run.opened refl
       where
         here : ℕ → Place
         here i = record { epoch = at.0; round = at.1; from = i }
+
         same : (i : ℕ) → told_by at.0 at.1 new i ≡ told_by at.0 at.1 run.gots i
         same i = go_same (is_at (place_cmp place) (here i)) refl
           where
@@ -135,25 +137,31 @@ pub received_here : (run : Run) (place : Place) (told : RoundBody) (new : GotLis
     → moved (length (changes_of place.from place.epoch place.round run.gots)) (length told.deltas) (received run ++ told.deltas) ≡ received (record run { gots = new })
 received_here run place told new kept opened has =
     rw (opened_at place run.opened opened)
-      (subst (λ deltas. moved (length (changes_of place.from place.epoch place.round run.gots)) (length deltas) (changes_of run.shape.shards place.epoch place.round run.gots ++ deltas)
-          ≡ changes_of run.shape.shards place.epoch place.round new)
-        here (put_in_turn f g place.from run.shape.shards below none others))
+    (subst (λ deltas. moved (length (changes_of place.from place.epoch place.round run.gots)) (length deltas) (changes_of run.shape.shards place.epoch place.round run.gots ++ deltas)
+    ≡ changes_of run.shape.shards place.epoch place.round new)
+    here (put_in_turn f g place.from run.shape.shards below none others))
   where
     f : ℕ → List Delta
     f from = changes_in (told_by place.epoch place.round run.gots from)
+
     g : ℕ → List Delta
     g from = changes_in (told_by place.epoch place.round new from)
+
     below : place.from < run.shape.shards
     below = sender_below run place kept
+
     none : f place.from ≡ []
     none = ap changes_in (none_there (body_at place run.gots) (none_kept run place kept))
+
     here : g place.from ≡ told.deltas
     here = let found : body_at place new ≡ Some told = rw (tied_place place) at (has place) in ap changes_in found
+
     others : (i : ℕ) → i ≢ place.from → g i ≡ f i
     others i apart = go (is_at (place_cmp place) at) refl
       where
         at : Place
         at = record { epoch = place.epoch; round = place.round; from = i }
+
         go : (b : Bool) → is_at (place_cmp place) at ≡ b → g i ≡ f i
         go false e = ap changes_in (rw e at (has at))
         go true e = absurd (apart (sym (ap (λ p. p.from) (same_place place at e))))

@@ -1,23 +1,19 @@
 -- What a round tells each shard.
-use Rattle.std.proofs.Common.{◌≡◌, ℕ, ◌<◌, ◌≤◌, Bool, true, false, cond, List, [], ◌∷◌, length, get_or, map, take, filter, zero, suc, Option, Some, None, ap, sym, ◌∙◌, refl, subst, arith, length-take}
-use Rattle.std.proofs.lemmas.List.Elements.{All-cons, All-filter, All-get_or, All-head, All-map, All-tail, All-take}
+use Rattle.std.proofs.Common.{◌≡◌, ℕ, ◌≤◌, Bool, true, false, List, [], ◌∷◌, get_or, map, take, filter, zero, suc, refl, arith, length-take}
+use Rattle.std.proofs.lemmas.List.Elements.{All-filter, All-map, All-take}
 use Rattle.std.proofs.lemmas.List.FromFn.{length-map-range_with_len}
-use Rattle.std.proofs.lemmas.Option.{slice_get-get_or}
-use Rattle.std.specs.List.{AllByRecursion, list_any, range_with_len}
+use Rattle.std.specs.List.{AllByRecursion, range_with_len}
 use Rattle.std.specs.List.Sorted.{IsStrictlySortedBy}
 use Rattle.std.specs.Cmp.Lexicographic.{slice_cmp}
-use Rattle.std.specs.Option.{IfSome}
 use Rattle.std.specs.Ordering.{nat_cmp}
-use Rattle.std.specs.Prelude.{All, ◌==◌, find, is_some, slice_get}
+use Rattle.std.specs.Prelude.{◌==◌}
 use Rattle.std.specs.declared.cmp.Ordering.{Ordering}
 use Rattle.std.specs.declared.cmp.Ordering.TheVariants.{Less}
 use Rattle.hs_limits.specs.declared.address.Address.{Address}
 use Rattle.hs_limits.specs.declared.delta.Delta.{Delta}
 use Rattle.hs_limits.specs.Limits.{greatest_limits}
 use Rattle.hs_limits.specs.Shape.{shard_of}
-use Rattle.hs_rounds.specs.declared.body.RoundBody.{RoundBody}
-use Rattle.hs_rounds.specs.declared.sending.SentRound.{SentRound}
-use Rattle.hs_rounds.specs.Changes.{AreChanges, changes_for}
+use Rattle.hs_rounds.specs.Changes.{AreChanges}
 use Rattle.hs_rounds.specs.Rounds.{IsSent, IsTold, bodies_for, body_for}
 
 module _ {K X : Type 0} (cmp : K → K → Ordering) (key : X → K) where
@@ -71,22 +67,3 @@ sent_to_each shards epoch round total deltas are = record {
   bodies = length-map-range_with_len (body_for shards total deltas) 0 shards;
   told = All-map IsTold (body_for shards total deltas) (range_with_len 0 shards) (λ i d below. told_are_changes shards total deltas (get_or (range_with_len 0 shards) i d) are);
 }
-
--- ---- looking for a round
-
-module _ {X : Type 0} (p : X → Bool) (P : X → Type 0) where
-  pub found_holds : (xs : List X) → All P xs → IfSome (find p xs) P
-  found_holds [] all = tt
-  found_holds (x ∷ xs) all = go (p x) refl (found_holds xs (All-tail P x xs all))
-    where
-      go : (b : Bool) → p x ≡ b → IfSome (find p xs) P → IfSome (find p (x ∷ xs)) P
-      go true e rest = rw e (All-head P x xs all)
-      go false e rest = rw e rest
-
-  pub found_where_any : (xs : List X) → is_some (find p xs) ≡ list_any p xs
-  found_where_any [] = refl
-  found_where_any (x ∷ xs) = go (p x) refl (found_where_any xs)
-    where
-      go : (b : Bool) → p x ≡ b → is_some (find p xs) ≡ list_any p xs → is_some (find p (x ∷ xs)) ≡ list_any p (x ∷ xs)
-      go true e rest = rw e refl
-      go false e rest = rw e rest

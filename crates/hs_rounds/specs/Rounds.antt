@@ -1,11 +1,11 @@
 -- One shard's side of the rounds of a deletion run.
 use Rattle.std.specs.BTreeMap.{insert_entry, is_at}
-use Rattle.std.specs.List.{flat_map, list_all, list_any, range_with_len}
+use Rattle.std.specs.List.{flat_map, list_all, range_with_len}
 use Rattle.std.specs.Map.{lookup}
 use Rattle.std.specs.declared.cmp.Ordering.{Ordering}
 use Rattle.std.specs.Option.{option_and_then, option_map, option_map_or}
 use Rattle.std.specs.Ordering.{nat_cmp, ordering_then}
-use Rattle.std.specs.Prelude.{◌≡◌, ℕ, ◌+◌, ◌-◌, ◌++◌, ◌<◌, ◌≤◌, All, IfSome, length, ◌==◌, ◌&&◌, ◌||◌, Bool, true, false, not, List, [], ◌∷◌, map, filter, find, take, drop, Option, Some, None, is_none, is_some, nat_le, nat_lt, slice_get, if◌then◌else◌}
+use Rattle.std.specs.Prelude.{◌≡◌, ℕ, ◌+◌, ◌-◌, ◌++◌, ◌<◌, ◌≤◌, All, IfSome, length, ◌==◌, ◌&&◌, ◌||◌, Bool, false, not, List, [], ◌∷◌, map, filter, find, take, drop, Option, Some, None, is_none, is_some, nat_le, nat_lt, slice_get, if◌then◌else◌}
 use Rattle.hs_limits.specs.declared.delta.Delta.{Delta}
 use Rattle.hs_limits.specs.declared.shape.Shape.{Shape}
 use Rattle.hs_limits.specs.Limits.{greatest_limits}
@@ -183,7 +183,7 @@ abbrev pub is_round : ℕ → ℕ → SentRound → Bool
 is_round epoch round sent = sent.epoch == epoch && sent.round == round
 
 abbrev pub was_sent : ℕ → ℕ → Run → Bool
-was_sent epoch round run = list_any (is_round epoch round) run.sent
+was_sent epoch round run = is_some (find (is_round epoch round) run.sent)
 
 abbrev pub outgoing : ℕ → ℕ → ℕ → Run → Option RoundBody
 outgoing epoch round to run = option_and_then (λ s. slice_get s.bodies to) (find (is_round epoch round) run.sent)

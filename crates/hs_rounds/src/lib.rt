@@ -13,4 +13,3 @@ pub use fault::RunFault;
 pub use place::Place;
 pub use run::Run;
 pub use sending::SentRound;
-

@@ -70,8 +70,8 @@ impl Run {
         }
     }
 
-    /// Opens round 0 of an epoch and sends these increments for it; a run that was open is given up.
-    /// The only fault is NoMemory, and it changes nothing.
+    /// Opens round 0 of an epoch and sends these increments for it; a run that was open is given
+    /// up. The only fault is NoMemory, and it changes nothing.
     pub fn enter(&mut self, epoch: u64, increments: Vec<Delta>) -> Result<(), RunFault>
         requires { AreChanges increments.items }
         ensures ok { OnOk result (self.new ≡ enter epoch increments.items self.old) }
@@ -97,8 +97,8 @@ impl Run {
             (record { epoch = epoch; round = round; from = from })
             (record { total = total; deltas = deltas.items })
             self.old) }
-        ensures again { is_kept (record { epoch = epoch; round = round; from = from }) self.old ≡ false
-            → IsOk result }
+        ensures again { is_kept (record { epoch = epoch; round = round; from = from })
+            self.old ≡ false → IsOk result }
         ensures only { IsOkUnless result NoMemory }
         ensures same { OnErr result (self.new ≡ self.old) }
     {
@@ -183,7 +183,8 @@ impl Run {
     /// or there is no such shard. It takes no memory.
     pub fn outgoing(&self, epoch: u64, round: u32, to: u8) -> Option<&RoundBody>
         ensures value { option_copied result ≡ outgoing epoch round to self.now }
-        ensures found { to < self.now.shape.shards → is_some result ≡ was_sent epoch round self.now }
+        ensures found { to < self.now.shape.shards
+            → is_some result ≡ was_sent epoch round self.now }
         ensures told { IfSome result (λ told. IsTold told.now) }
     {
         let sent = self.sent_round(epoch, round)?;
@@ -219,7 +220,6 @@ impl Run {
     /// A round that was sent, where it is one of the last two.
     fn sent_round(&self, epoch: u64, round: u32) -> Option<&SentRound>
         ensures value { option_copied result ≡ find (is_round epoch round) self.now.sent }
-        ensures found { is_some result ≡ was_sent epoch round self.now }
         ensures sent { IfSome result (λ sent. IsSent self.now.shape.shards sent.now) }
     {
         self.sent

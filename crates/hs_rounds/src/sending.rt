@@ -51,12 +51,7 @@ fn changes_for(
 }
 
 /// The changes of a shard's blocks.
-fn all_for(
-    alloc: Global,
-    shape: Shape,
-    deltas: &[Delta],
-    to: u8,
-) -> Result<Vec<Delta>, AllocError>
+fn all_for(alloc: Global, shape: Shape, deltas: &[Delta], to: u8) -> Result<Vec<Delta>, AllocError>
     requires { IsShape shape }
     ensures { IfOk result (λ changes. changes.items
         ≡ filter (λ delta. shard_of shape.shards delta.address == to) deltas.now) }

@@ -1,4 +1,4 @@
-use Rattle.std.proofs.Common.{ap, ap₂, sym, ◌∙◌, ◌++◌, length}
+use Rattle.std.proofs.Common.{ap, ap₂, sym, ◌∙◌, ◌++◌}
 use Rattle.hs_rounds.specs.Rounds.{changes_in, told_by}
 use Rattle.hs_rounds.proofs.EachLemmas.{each_more}
 use Rattle.hs_rounds.proofs.gots.Gots.changes.Goals as goal

@@ -1,4 +1,4 @@
-use Rattle.std.proofs.Common.{◌≡◌, ◌+◌, ◌-◌, ◌≤◌, ◌++◌, true, false, length, ap, ap₂, sym, ◌∙◌, subst, refl, Result, Ok, Err, OnOk, arith, length-append}
+use Rattle.std.proofs.Common.{◌≡◌, ◌-◌, ◌++◌, true, false, length, ap, ap₂, sym, ◌∙◌, subst, refl, Result, Ok, Err, OnOk, arith}
 use Rattle.std.specs.Result.{is_err}
 use Rattle.hs_rounds.specs.Rounds.{Run, changes_of, is_kept, is_open, moved, received}
 use Rattle.hs_rounds.proofs.RunLemmas.{HasGot, below_received, got_is_run, received_here}
@@ -34,6 +34,7 @@ invariant_of-self-2 c =
     let more : c.len.result - c.len-end.result ≡ length c.args.told.deltas = let told : length c.as_slice.result.now ≡ length c.args.told.deltas = ap length c.as_slice.ensures in omega (arith, told, c.len.ensures, c.len-end.ensures, c.in_ok-extend_from_slice.ensures.len) in
     let items : c.extend_from_slice.new.self.items ≡ received run ++ c.args.told.deltas = c.in_ok-extend_from_slice.ensures.items ∙ ap₂ (λ old more. old ++ more) c.self.invariant.1 c.as_slice.ensures in
     let moves : c.move_last.new.changes.items ≡ moved (length (changes_of c.args.place.from c.args.place.epoch c.args.place.round c.self.inside.gots)) (length c.args.told.deltas) (received run ++ c.args.told.deltas) =
-        c.move_last.ensures ∙ rw (c.count_below-before.ensures, more, items) refl in
-    (got_is_run run c.args.place c.args.told c.insert.new.self c.self.invariant.0 kept c.requires.changes has,
-     moves ∙ received_here run c.args.place c.args.told c.insert.new.self kept opened has)
+    c.move_last.ensures ∙ rw (c.count_below-before.ensures, more, items) refl in (
+      got_is_run run c.args.place c.args.told c.insert.new.self c.self.invariant.0 kept c.requires.changes has,
+      moves ∙ received_here run c.args.place c.args.told c.insert.new.self kept opened has,
+    )
