@@ -1,0 +1,3 @@
+pub mod Changes
+pub mod Rounds
+pub use Rattle.hs_limits.specs.Shape
