@@ -2,7 +2,7 @@
 use Rattle.std.proofs.Common.{◌≡◌, ◌≢◌, ℕ, zero, suc, ◌+◌, ◌-◌, ◌<◌, ◌≤◌, List, [], ◌++◌, length, take, drop, ap, ap₂, sym, ◌∙◌, refl, arith, append_assoc, append-nil, length-append}
 use Rattle.std.proofs.Math.Seq.{drop-append_seam, take-append_seam}
 use Rattle.std.specs.List.{flat_map, range_with_len}
-use Rattle.hs_rounds.specs.Rounds.{moved}
+use Rattle.hs_rounds.specs.Steps.{moved}
 
 module _ {A : Type 0} where
   abbrev pub each : (ℕ → List A) → ℕ → ℕ → List A

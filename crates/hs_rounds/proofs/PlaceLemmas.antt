@@ -12,7 +12,8 @@ use Rattle.std.specs.Prelude.{All, not}
 use Rattle.std.specs.declared.cmp.Ordering.{Ordering}
 use Rattle.std.specs.declared.cmp.Ordering.TheVariants.{Less, Equal, Greater}
 use Rattle.hs_rounds.specs.declared.place.Place.{Place}
-use Rattle.hs_rounds.specs.Rounds.{GotList, body_at, from_round, is_before, place_cmp, starts_before}
+use Rattle.hs_rounds.specs.Rounds.{GotList, body_at, from_round, is_before, place_cmp}
+use Rattle.hs_rounds.specs.Steps.{starts_before}
 
 first_equal : (o p : Ordering) → ordering_then o p ≡ Equal → o ≡ Equal
 first_equal Less p e = cc

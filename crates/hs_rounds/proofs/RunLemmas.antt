@@ -9,7 +9,8 @@ use Rattle.hs_rounds.specs.declared.body.RoundBody.{RoundBody}
 use Rattle.hs_rounds.specs.declared.place.Place.{Place}
 use Rattle.hs_rounds.specs.declared.sending.SentRound.{SentRound}
 use Rattle.hs_rounds.specs.Changes.{AreChanges}
-use Rattle.hs_rounds.specs.Rounds.{GotList, IsGot, IsRun, IsSent, Run, body_at, changes_in, changes_of, from_round, is_before, is_kept, is_open, is_past, moved, place_cmp, received, told_by}
+use Rattle.hs_rounds.specs.Rounds.{GotList, IsGot, IsRun, IsSent, Run, body_at, changes_in, changes_of, from_round, is_before, is_kept, is_past, place_cmp, received, told_by}
+use Rattle.hs_rounds.specs.Steps.{is_open, moved}
 use Rattle.hs_rounds.proofs.EachLemmas.{each_below, each_same, put_in_turn}
 use Rattle.hs_rounds.proofs.PlaceLemmas.{found_from, gone_before, same_place, tied_place}
 

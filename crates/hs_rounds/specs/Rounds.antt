@@ -5,7 +5,7 @@ use Rattle.std.specs.Map.{lookup}
 use Rattle.std.specs.declared.cmp.Ordering.{Ordering}
 use Rattle.std.specs.Option.{option_and_then, option_map, option_map_or}
 use Rattle.std.specs.Ordering.{nat_cmp, ordering_then}
-use Rattle.std.specs.Prelude.{◌≡◌, ℕ, ◌+◌, ◌-◌, ◌++◌, ◌<◌, ◌≤◌, All, IfSome, length, ◌==◌, ◌&&◌, ◌||◌, Bool, false, not, List, [], ◌∷◌, map, filter, find, take, drop, Option, Some, None, is_none, is_some, nat_le, nat_lt, slice_get, if◌then◌else◌}
+use Rattle.std.specs.Prelude.{◌≡◌, ℕ, ◌+◌, ◌<◌, ◌≤◌, All, IfSome, length, ◌==◌, ◌&&◌, ◌||◌, Bool, false, not, List, [], ◌∷◌, map, filter, find, take, Option, Some, None, is_none, is_some, nat_le, nat_lt, slice_get, if◌then◌else◌}
 use Rattle.hs_limits.specs.declared.delta.Delta.{Delta}
 use Rattle.hs_limits.specs.declared.shape.Shape.{Shape}
 use Rattle.hs_limits.specs.Limits.{greatest_limits}
@@ -41,13 +41,13 @@ place_cmp a b = ordering_then (nat_cmp a.epoch b.epoch) (ordering_then (nat_cmp 
 abbrev pub body_at : Place → GotList → Option RoundBody
 body_at place gots = lookup (is_at (place_cmp place)) gots
 
--- what came from a sender for a round
-abbrev pub body : ℕ → ℕ → ℕ → Run → Option RoundBody
-body from epoch round run = body_at (record { epoch = epoch; round = round; from = from }) run.gots
-
 -- what a sender told for a round
 abbrev pub told_by : ℕ → ℕ → GotList → ℕ → Option RoundBody
 told_by epoch round gots from = body_at (record { epoch = epoch; round = round; from = from }) gots
+
+-- the same in a run
+abbrev pub body : ℕ → ℕ → ℕ → Run → Option RoundBody
+body from epoch round run = told_by epoch round run.gots from
 
 -- each of so many senders has told for a round
 abbrev pub have_told : ℕ → ℕ → ℕ → GotList → Bool
@@ -87,10 +87,7 @@ received run = option_map_or (λ at. changes_of run.shape.shards at.0 at.1 run.g
 abbrev pub is_before : ℕ → ℕ → Place → Bool
 is_before epoch round place = nat_lt place.epoch epoch || place.epoch == epoch && nat_lt place.round round
 
--- whether a place is of the open round, and whether it is of an earlier one
-abbrev pub is_open : Place → Run → Bool
-is_open place run = option_map_or (λ at. place.epoch == at.0 && place.round == at.1) run.opened false
-
+-- whether a place is of an earlier round than the open one
 abbrev pub is_past : Place → Run → Bool
 is_past place run = option_map_or (λ at. is_before at.0 at.1 place) run.opened false
 
@@ -101,10 +98,6 @@ is_kept place run = (nat_lt place.from run.shape.shards && not (is_past place ru
 -- one that is kept has its place, and another changes nothing
 abbrev pub got : Place → RoundBody → Run → Run
 got place told run = if is_kept place run then record run { gots = insert_entry place_cmp run.gots place told } else run
-
--- a list with the last so many items at this place
-abbrev pub moved : {A : Type 0} → ℕ → ℕ → List A → List A
-moved at more xs = take at xs ++ (drop (length (drop at xs) - more) (drop at xs) ++ take (length (drop at xs) - more) (drop at xs))
 
 -- what is kept of a sender: it is a shard, and the round is the open one or a later one
 pub record IsGot (run : Run) (place : Place) (told : RoundBody) : Type 0 where
@@ -142,11 +135,6 @@ bodies_for shards total deltas = map (body_for shards total deltas) (range_with_
 -- without what came for earlier rounds
 abbrev pub from_round : ℕ → ℕ → GotList → GotList
 from_round epoch round gots = filter (λ e. not (is_before epoch round e.0)) gots
-
--- whether the first is of an earlier round
-abbrev pub starts_before : ℕ → ℕ → GotList → Bool
-starts_before epoch round [] = false
-starts_before epoch round (e ∷ es) = is_before epoch round e.0
 
 -- a round is opened and sent
 abbrev pub open_at : ℕ → ℕ → ℕ → List Delta → Run → Run

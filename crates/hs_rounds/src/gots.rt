@@ -3,7 +3,8 @@ ghost use Rattle.std.specs.Prelude.{[], ◌≡◌, ◌<◌, ◌^◌, IfOk, OnErr
 ghost use Rattle.std.specs.BTreeMap.{insert_entry, is_at};
 ghost use Rattle.std.specs.Option.{option_copied};
 ghost use Rattle.hs_rounds.specs.declared.place.Place.{Place};
-ghost use Rattle.hs_rounds.specs.Rounds.{body_at, changes_in, changes_of, from_round, have_told, have_told_zero, is_before, is_zero_total, place_cmp, starts_before};
+ghost use Rattle.hs_rounds.specs.Rounds.{body_at, changes_in, changes_of, from_round, have_told, have_told_zero, is_before, is_zero_total, place_cmp};
+ghost use Rattle.hs_rounds.specs.Steps.{starts_before};
 
 use crate::{Place, RoundBody};
 use hs_limits::Delta;

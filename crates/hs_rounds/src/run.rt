@@ -5,7 +5,8 @@ ghost use Rattle.std.specs.Vec.{vec_len};
 ghost use Rattle.hs_limits.specs.Shape.{IsShape};
 ghost use Rattle.hs_rounds.specs.declared.fault.RunFault.TheVariants.{NoMemory};
 ghost use Rattle.hs_rounds.specs.Changes.{AreChanges};
-ghost use Rattle.hs_rounds.specs.Rounds.{IsGot, IsSent, IsTold, body, complete, empty_run, enter, finish, go_on, got, is_kept, is_last, is_open, is_past, is_round, moved, open_at, outgoing, received, sent_back, was_sent};
+ghost use Rattle.hs_rounds.specs.Rounds.{IsGot, IsSent, IsTold, body, complete, empty_run, enter, finish, go_on, got, is_kept, is_last, is_past, is_round, open_at, outgoing, received, sent_back, was_sent};
+ghost use Rattle.hs_rounds.specs.Steps.{is_open, moved};
 
 use crate::gots::{Gots, is_before};
 use crate::sending::bodies_for;

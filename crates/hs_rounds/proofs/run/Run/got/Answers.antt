@@ -2,7 +2,8 @@ use Rattle.std.proofs.Common.{◌≡◌, true, false, sym, ◌∙◌, subst}
 use Rattle.hs_rounds.specs.declared.body.RoundBody.{RoundBody}
 use Rattle.hs_rounds.specs.declared.place.Place.{Place}
 use Rattle.hs_rounds.specs.Changes.{AreChanges}
-use Rattle.hs_rounds.specs.Rounds.{Run, is_kept, is_open}
+use Rattle.hs_rounds.specs.Rounds.{Run, is_kept}
+use Rattle.hs_rounds.specs.Steps.{is_open}
 use Rattle.hs_rounds.proofs.RunLemmas.{got_is_run, received_elsewhere}
 use Rattle.hs_rounds.proofs.run.Run.got.Goals as goal
 

@@ -1,6 +1,7 @@
 use Rattle.std.proofs.Common.{◌≡◌, ◌-◌, ◌++◌, true, false, length, ap, ap₂, sym, ◌∙◌, subst, refl, Result, Ok, Err, OnOk, arith}
 use Rattle.std.specs.Result.{is_err}
-use Rattle.hs_rounds.specs.Rounds.{Run, changes_of, is_kept, is_open, moved, received}
+use Rattle.hs_rounds.specs.Rounds.{Run, changes_of, is_kept, received}
+use Rattle.hs_rounds.specs.Steps.{is_open, moved}
 use Rattle.hs_rounds.proofs.RunLemmas.{HasGot, below_received, got_is_run, received_here}
 use Rattle.hs_rounds.proofs.run.Run.got_open.Goals as goal
 
