@@ -69,7 +69,7 @@ once : committed (take_committed (on_have 1 1 2 sealed_by_both)) ≡ None
 once = refl
 
 -- a Copy of another view, of a number ahead, or a second time is dropped; a Have of another view is
-copies_dropped : map (λ x. takes 1 x.0 x.1 written) ((1, 2) ∷ (2, 2) ∷ (0, 2) ∷ (1, 3) ∷ (1, 1) ∷ []) ≡ true ∷ false ∷ false ∷ false ∷ false ∷ []
+copies_dropped : map {A = ℕ × ℕ} (λ x. takes 1 x.0 x.1 written) ((1, 2) ∷ (2, 2) ∷ (0, 2) ∷ (1, 3) ∷ (1, 1) ∷ []) ≡ true ∷ false ∷ false ∷ false ∷ false ∷ []
 copies_dropped = refl
 
 haves_dropped : (on_have 1 2 2 sealed_by_both ≡ sealed_by_both) × (on_have 1 0 2 sealed_by_both ≡ sealed_by_both)

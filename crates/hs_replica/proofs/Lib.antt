@@ -1,2 +1,4 @@
 mod Examples
 mod RunLemmas
+mod SendLemmas
+mod TellLemmas

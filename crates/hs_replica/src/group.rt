@@ -1,5 +1,5 @@
 //! The copies of one shard's list.
-ghost use Rattle.std.specs.Prelude.{◌≡◌, ◌+◌, ◌-◌, ◌*◌, ◌≤◌, ◌<◌, length, map, IfOk, OnErr, OnOk, if◌then◌else◌};
+ghost use Rattle.std.specs.Prelude.{◌≡◌, ◌+◌, ◌-◌, ◌*◌, ◌≤◌, ◌<◌, length, map, IfOk, IfSome, OnErr, OnOk, if◌then◌else◌};
 ghost use Rattle.hs_limits.specs.Shape.{IsShape};
 ghost use Rattle.hs_members.specs.Members.{IsShard};
 ghost use Rattle.hs_post.specs.declared.message.Message.TheVariants.{Copy};
@@ -144,10 +144,7 @@ impl Group {
         let lead = self.lead();
         self.send_have(pool, lead, peer, number)?;
         let index = self.index_of(peer);
-        self.copies[index].sealed = number;
-        if is_peer(peer, lead) {
-            self.copies[index].known = self.copies[index].known.max(number);
-        }
+        self.copies[index].seal(number, is_peer(peer, lead));
         Ok(())
     }
 
@@ -167,6 +164,7 @@ impl Group {
     /// sealed, what stood above its list is gone, every other good peer is sent what stands above
     /// its own, and a View is proposed. Without memory, or where there is no next number, the group
     /// is to be given up.
+    #[tactic(auto, using(crate::proofs::SendLemmas::send_append))]
     pub fn on_view(&mut self, pool: &mut Pool, members: &Members) -> Result<(), GroupFault>
         requires { members.now.shape ≡ self.old.shape }
         ensures ok { OnOk result (self.new ≡ on_view members.now self.old) }
@@ -199,8 +197,7 @@ impl Group {
         ensures { self.new ≡ on_emptied peer self.old }
     {
         let index = self.index_of(peer);
-        self.copies[index].stamps.clear();
-        self.copies[index].sealed = 0;
+        self.copies[index].clear();
     }
 
     /// A joining peer got the lead's entry of this number, sealed.
@@ -214,9 +211,7 @@ impl Group {
             None => 0,
         };
         let index = self.index_of(peer);
-        self.copies[index].stamps.push(view)?;
-        self.copies[index].sealed = number;
-        Ok(())
+        self.copies[index].copy_one(view, number)
     }
 
     /// How far every good peer is known to have sealed; 0 where none is good. It takes no memory.
@@ -275,7 +270,8 @@ impl Group {
 
     /// The good peer with the longest list, of equals the lowest.
     fn lead(&self) -> Option<u8>
-        ensures { result ≡ lead self.now }
+        ensures value { result ≡ lead self.now }
+        ensures home { IfSome result (IsHome self.now) }
     {
         lead_of(peer_of(self.shard, 0, self.shape), self.copies.as_slice())
     }
@@ -318,7 +314,7 @@ impl Group {
 
     /// The lead's list has an entry more.
     fn lead_takes(&mut self, leads: Option<u8>, entry: &Entry) -> Result<(), GroupFault>
-        requires { leads ≡ lead self.old }
+        requires { IfSome leads (IsHome self.old) }
         ensures ok { OnOk result (self.new ≡ lead_takes leads entry.now self.old) }
     {
         match leads {
@@ -355,6 +351,7 @@ impl Group {
     }
 
     /// Sends every good peer but the lead the entries from there on.
+    #[tactic(auto, using(crate::proofs::SendLemmas::send_append))]
     fn send_since(&self, pool: &mut Pool, since: Since) -> Result<(), GroupFault>
         ensures { OnOk result (pool.new ≡ send_all (copies_since since self.now) pool.old) }
     {
@@ -373,6 +370,7 @@ impl Group {
     }
 
     /// Sends a peer Copies of the entries that wait whose number is above this one.
+    #[tactic(auto, using(crate::proofs::SendLemmas::none_above, crate::proofs::SendLemmas::some_above))]
     fn send_above(&self, pool: &mut Pool, to: u8, above: u64) -> Result<(), GroupFault>
         ensures { OnOk result (pool.new ≡ send_all (copies_above to above self.now) pool.old) }
     {
@@ -460,16 +458,16 @@ fn copy_at(alloc: Global, view: u64, len: u64, good: bool) -> Result<Replica, Gr
 }
 
 /// Each copy is good as the members say, and of a good one is known all that it has sealed.
+#[tactic(auto, using(crate::proofs::TellLemmas::tell_next, crate::proofs::TellLemmas::all_told))]
 fn tell_copies(copies: &mut Vec<Replica>, first: u8, members: &Members)
-    requires { first + length copies.old.items ≤ members.now.shape.shards * members.now.shape.copies }
-    ensures { copies.new.items ≡ tell_from members.now first copies.old.items }
+    requires shape { IsShape members.now.shape }
+    requires peers { first + length copies.old.items ≤ members.now.shape.shards * members.now.shape.copies }
+    ensures told { copies.new.items ≡ tell_from members.now first copies.old.items }
+    ensures len { length copies.new.items ≡ length copies.old.items }
 {
     for index in 0..copies.len() {
         let good = members.status(first + index as u8) == PeerStatus::Good;
-        copies[index].good = good;
-        if good {
-            copies[index].known = copies[index].sealed;
-        }
+        copies[index].tell(good);
     }
 }
 
