@@ -189,14 +189,13 @@ on_have peer view sealed group =
 
 -- ---- a new view
 
--- a copy is good as the members say; of a good one is known all that it has sealed
-abbrev pub tell : Members → ℕ × Replica → Replica
-tell members x =
-    let good : Bool = is_good_status (status x.0 members) in
-    record x.1 { good = good; known = if good then x.1.sealed else x.1.known }
+-- a copy is good or not from now on; of a good one is known all that it has sealed
+abbrev pub tell : Bool → Replica → Replica
+tell good copy = record copy { good = good; known = if good then copy.sealed else copy.known }
 
+-- these copies, the first of which is this peer's, are good as the members say
 abbrev pub tell_from : Members → ℕ → List Replica → List Replica
-tell_from members peer copies = map (tell members) (enumerate_from peer copies)
+tell_from members peer copies = map (λ x. tell (is_good_status (status x.0 members)) x.1) (enumerate_from peer copies)
 
 abbrev pub told : Members → Group → Group
 told members group = record group {

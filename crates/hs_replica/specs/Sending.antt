@@ -1,8 +1,8 @@
 -- From where on the other good peers are sent entries.
 use Rattle.std.specs.Prelude.{ℕ, List, length, flat_map}
 use Rattle.hs_post.specs.declared.message.Message.{Message}
-use Rattle.hs_replica.specs.declared.group.Since.{Since}
-use Rattle.hs_replica.specs.declared.group.Since.TheVariants.{Length, Known}
+use Rattle.hs_replica.specs.declared.sending.Since.{Since}
+use Rattle.hs_replica.specs.declared.sending.Since.TheVariants.{Length, Known}
 use Rattle.hs_replica.specs.declared.replica.Replica.{Replica}
 use Rattle.hs_replica.specs.Group.{Group, copies_above, others}
 

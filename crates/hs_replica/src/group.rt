@@ -1,14 +1,14 @@
 //! The copies of one shard's list.
 ghost use Rattle.std.specs.Prelude.{◌≡◌, ◌+◌, ◌-◌, ◌*◌, ◌≤◌, ◌<◌, length, map, IfOk, IfSome, OnErr, OnOk, if◌then◌else◌};
 ghost use Rattle.hs_limits.specs.Shape.{IsShape};
-ghost use Rattle.hs_members.specs.Members.{IsShard};
+ghost use Rattle.hs_members.specs.Members.{IsPeer, IsShard, is_good_status, status};
 ghost use Rattle.hs_post.specs.declared.message.Message.TheVariants.{Copy};
 ghost use Rattle.hs_replica.specs.Group.{IsHome, commit_front, committed, copies_above, copy_of, first_peer, have, last_number, lead, lead_takes, length_of, new_group, no_copy, on_append, on_copied, on_emptied, on_have, on_sealed, on_view, others_from, proposal, propose, renew, resend, send_all, take_committed, take_entry, takes, tell_from, view_after, view_messages, whole_copy};
 ghost use Rattle.hs_replica.specs.Sending.{copies_since};
 
 use crate::GroupFault;
 use crate::replica::{Replica, lead_of, least_known};
-use crate::sending::{Sender, is_peer, send_copies};
+use crate::sending::{Sender, Since, above, is_peer, send_copies};
 use crate::stamps::Stamps;
 use crate::waiting::Waiting;
 use hs_entry::Entry;
@@ -53,15 +53,6 @@ impl Model for Group {
       front = a.front;
       waiting = a.waiting;
     }) };
-}
-
-/// From where on a peer is sent entries.
-#[derive(Clone, Copy, Debug)]
-enum Since {
-    /// Those above its list.
-    Length,
-    /// Those above what the lead knows it to have sealed.
-    Known,
 }
 
 impl Group {
@@ -359,11 +350,7 @@ impl Group {
         for index in 0..self.copies.len() {
             let to = peer_of(self.shard, index as u8, self.shape);
             if self.copies[index].good && !is_peer(to, lead) {
-                let above = match since {
-                    Since::Length => self.copies[index].stamps.len(),
-                    Since::Known => self.copies[index].known,
-                };
-                self.send_above(pool, to, above)?;
+                self.send_above(pool, to, above(since, &self.copies[index]))?;
             }
         }
         Ok(())
@@ -466,9 +453,16 @@ fn tell_copies(copies: &mut Vec<Replica>, first: u8, members: &Members)
     ensures len { length copies.new.items ≡ length copies.old.items }
 {
     for index in 0..copies.len() {
-        let good = members.status(first + index as u8) == PeerStatus::Good;
-        copies[index].tell(good);
+        copies[index].tell(is_good(members, first + index as u8));
     }
+}
+
+/// Whether a peer is good.
+fn is_good(members: &Members, peer: u8) -> bool
+    requires { IsPeer members.now.shape peer }
+    ensures { result ≡ is_good_status (status peer members.now) }
+{
+    members.status(peer) == PeerStatus::Good
 }
 
 /// The view of an entry behind one of this view.

@@ -2,7 +2,7 @@
 ghost use Rattle.std.specs.Option.{option_map};
 ghost use Rattle.std.specs.Prelude.{◌≡◌, ◌+◌, ◌∷◌, ◌++◌, ◌<◌, ◌≤◌, ◌^◌, [], length, max, if◌then◌else◌, IfSome, OnErr, OnOk};
 ghost use Rattle.hs_members.specs.Members.{longer, longest};
-ghost use Rattle.hs_replica.specs.Group.{good_from, least_known, lower};
+ghost use Rattle.hs_replica.specs.Group.{good_from, least_known, lower, tell};
 
 use crate::GroupFault;
 use crate::stamps::Stamps;
@@ -33,10 +33,7 @@ impl Replica {
 
     /// A new view began, in which it is good or not: of a good one is known all that it has sealed.
     pub(crate) fn tell(&mut self, good: bool)
-        ensures { self.new ≡ record self.old {
-          good = good;
-          known = if good then self.old.sealed else self.old.known;
-        } }
+        ensures { self.new ≡ tell good self.old }
     {
         self.good = good;
         if good {

@@ -4,8 +4,10 @@ ghost use Rattle.std.specs.Option.{option_map_or};
 ghost use Rattle.std.specs.Prelude.{◌≡◌, ◌+◌, ◌≤◌, ◌<◌, ◌^◌, ◌==◌, length, map, false, OnOk};
 ghost use Rattle.hs_post.specs.declared.message.Message.TheVariants.{Copy};
 ghost use Rattle.hs_replica.specs.Group.{is_peer, send_all};
+ghost use Rattle.hs_replica.specs.Sending.{above};
 
 use crate::GroupFault;
+use crate::replica::Replica;
 use hs_entry::Entry;
 use hs_post::{Message, Pool};
 use std::alloc::Global;
@@ -17,6 +19,25 @@ pub(crate) fn is_peer(peer: u8, lead: Option<u8>) -> bool
     match lead {
         Some(lead) => lead == peer,
         None => false,
+    }
+}
+
+/// From where on a peer is sent entries.
+#[derive(Clone, Copy, Debug)]
+pub(crate) enum Since {
+    /// Those above its list.
+    Length,
+    /// Those above what the lead knows it to have sealed.
+    Known,
+}
+
+/// The number above which a peer is sent entries.
+pub(crate) fn above(since: Since, copy: &Replica) -> u64
+    ensures { result ≡ above since copy.now }
+{
+    match since {
+        Since::Length => copy.stamps.len(),
+        Since::Known => copy.known,
     }
 }
 
