@@ -1,12 +1,15 @@
 -- Sending messages one after another.
-use Rattle.std.proofs.Common.{◌≡◌, ℕ, zero, suc, ◌+◌, ◌-◌, ◌≤◌, List, [], ◌∷◌, ◌++◌, arith, refl, drop, length, map, ap, sym, ◌∙◌}
-use Rattle.std.proofs.lemmas.List.{drop_all}
+use Rattle.std.proofs.Common.{◌≡◌, ℕ, zero, suc, ◌+◌, ◌-◌, ◌<◌, ◌≤◌, Bool, true, false, not, ◌&&◌, Option, List, [], ◌∷◌, ◌++◌, arith, refl, drop, length, map, flat_map, slice_index_or, ap, sym, ◌∙◌}
+use Rattle.std.proofs.lemmas.List.{drop_all, drop_more}
 use Rattle.std.proofs.lemmas.List.FromFn.{length-enumerate_from}
 use Rattle.std.specs.List.{enumerate_from}
 use Rattle.hs_post.specs.declared.message.Message.{Message}
 use Rattle.hs_post.specs.declared.message.Message.TheVariants.{Copy}
 use Rattle.hs_post.specs.Pool.{Pool, send}
-use Rattle.hs_replica.specs.Group.{Group, copies_above, send_all}
+use Rattle.hs_replica.specs.declared.replica.Replica.{Replica}
+use Rattle.hs_replica.specs.declared.sending.Since.{Since}
+use Rattle.hs_replica.specs.Group.{Group, copies_above, is_peer, no_copy, others_from, send_all}
+use Rattle.hs_replica.specs.Sending.{above, send_if_other}
 
 pub send_append : (xs ys : List Message) (pool : Pool) → send_all (xs ++ ys) pool ≡ send_all ys (send_all xs pool)
 send_append [] ys pool = refl
@@ -27,3 +30,23 @@ none_above to above group l = ap (map (λ e. Copy group.shard to group.view e.0 
 pub some_above : (to above : ℕ) (group : Group) → copies_above to above group
     ≡ map (λ e. Copy group.shard to group.view e.0 e.1) (enumerate_from (group.front + 1 + (above - group.front)) (drop (above - group.front) group.waiting))
 some_above to above group = ap (map (λ e. Copy group.shard to group.view e.0 e.1)) (drop_enumerate (above - group.front) (group.front + 1) group.waiting)
+
+-- what the copies from this one on are sent: what this one is sent, and then what the others are
+pub since_next : (group : Group) (since : Since) (lead : Option ℕ) (peer i : ℕ) (cs : List Replica) (pool : Pool) → i < length cs
+    → send_all (flat_map (λ x. copies_above x.0 (above since x.1) group) (others_from lead (peer + i) (drop i cs))) pool
+    ≡ send_all (flat_map (λ x. copies_above x.0 (above since x.1) group) (others_from lead (peer + (i + 1)) (drop (i + 1) cs)))
+        (send_if_other group since lead (peer + i) (slice_index_or cs i no_copy) pool)
+since_next group since lead peer i cs pool l =
+    let next : peer + (i + 1) ≡ peer + i + 1 = omega arith in
+    rw (next, drop_more cs i no_copy l) (first (peer + i) (slice_index_or cs i no_copy) (drop (i + 1) cs))
+  where
+    first : (p : ℕ) (c : Replica) (rest : List Replica)
+        → send_all (flat_map (λ x. copies_above x.0 (above since x.1) group) (others_from lead p (c ∷ rest))) pool
+        ≡ send_all (flat_map (λ x. copies_above x.0 (above since x.1) group) (others_from lead (p + 1) rest)) (send_if_other group since lead p c pool)
+    first p c rest = go (c.good && not (is_peer p lead)) refl
+      where
+        go : (b : Bool) → (c.good && not (is_peer p lead)) ≡ b
+            → send_all (flat_map (λ x. copies_above x.0 (above since x.1) group) (others_from lead p (c ∷ rest))) pool
+            ≡ send_all (flat_map (λ x. copies_above x.0 (above since x.1) group) (others_from lead (p + 1) rest)) (send_if_other group since lead p c pool)
+        go true e = rw e (send_append (copies_above p (above since c) group) (flat_map (λ x. copies_above x.0 (above since x.1) group) (others_from lead (p + 1) rest)) pool)
+        go false e = rw e refl

@@ -1,10 +1,10 @@
 //! The copies of one shard's list.
-ghost use Rattle.std.specs.Prelude.{◌≡◌, ◌+◌, ◌-◌, ◌*◌, ◌≤◌, ◌<◌, length, map, IfOk, IfSome, OnErr, OnOk, if◌then◌else◌};
+ghost use Rattle.std.specs.Prelude.{◌≡◌, ◌+◌, ◌-◌, ◌*◌, ◌≤◌, ◌<◌, length, map, IfOk, IfSome, OnErr, OnOk, if◌then◌else◌, slice_index_or};
 ghost use Rattle.hs_limits.specs.Shape.{IsShape};
 ghost use Rattle.hs_members.specs.Members.{IsPeer, IsShard, is_good_status, status};
 ghost use Rattle.hs_post.specs.declared.message.Message.TheVariants.{Copy};
 ghost use Rattle.hs_replica.specs.Group.{IsHome, commit_front, committed, copies_above, copy_of, first_peer, have, last_number, lead, lead_takes, length_of, new_group, no_copy, on_append, on_copied, on_emptied, on_have, on_sealed, on_view, others_from, proposal, propose, renew, resend, send_all, take_committed, take_entry, takes, tell_from, view_after, view_messages, whole_copy};
-ghost use Rattle.hs_replica.specs.Sending.{copies_since};
+ghost use Rattle.hs_replica.specs.Sending.{copies_since, send_if_other};
 
 use crate::GroupFault;
 use crate::replica::{Replica, lead_of, least_known};
@@ -342,18 +342,36 @@ impl Group {
     }
 
     /// Sends every good peer but the lead the entries from there on.
-    #[tactic(auto, using(crate::proofs::SendLemmas::send_append))]
     fn send_since(&self, pool: &mut Pool, since: Since) -> Result<(), GroupFault>
         ensures { OnOk result (pool.new ≡ send_all (copies_since since self.now) pool.old) }
     {
         let lead = self.lead();
         for index in 0..self.copies.len() {
-            let to = peer_of(self.shard, index as u8, self.shape);
-            if self.copies[index].good && !is_peer(to, lead) {
-                self.send_above(pool, to, above(since, &self.copies[index]))?;
-            }
+            self.send_one_since(pool, since, lead, index)?;
         }
         Ok(())
+    }
+
+    /// Sends the peer of a copy the entries from there on, if it is good and not the lead.
+    fn send_one_since(
+        &self,
+        pool: &mut Pool,
+        since: Since,
+        leads: Option<u8>,
+        index: usize,
+    ) -> Result<(), GroupFault>
+        requires { index < length self.now.copies }
+        ensures { OnOk result (pool.new
+            ≡ send_if_other self.now since leads (first_peer self.now + index)
+                (slice_index_or self.now.copies index no_copy) pool.old) }
+    {
+        let copy = &self.copies[index];
+        let to = peer_of(self.shard, index as u8, self.shape);
+        if copy.good && !is_peer(to, leads) {
+            self.send_above(pool, to, above(since, copy))
+        } else {
+            Ok(())
+        }
     }
 
     /// Sends a peer Copies of the entries that wait whose number is above this one.
