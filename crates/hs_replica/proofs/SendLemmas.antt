@@ -3,12 +3,14 @@ use Rattle.std.proofs.Common.{◌≡◌, ℕ, zero, suc, ◌+◌, ◌-◌, ◌<�
 use Rattle.std.proofs.lemmas.List.{drop_all, drop_more}
 use Rattle.std.proofs.lemmas.List.FromFn.{length-enumerate_from}
 use Rattle.std.specs.List.{enumerate_from}
+use Rattle.hs_entry.specs.declared.entry.Entry.TheVariants.{View}
+use Rattle.hs_members.specs.Members.{Members, view_of}
 use Rattle.hs_post.specs.declared.message.Message.{Message}
 use Rattle.hs_post.specs.declared.message.Message.TheVariants.{Copy}
 use Rattle.hs_post.specs.Pool.{Pool, send}
 use Rattle.hs_replica.specs.declared.replica.Replica.{Replica}
 use Rattle.hs_replica.specs.declared.sending.Since.{Since}
-use Rattle.hs_replica.specs.Group.{Group, copies_above, is_peer, no_copy, others_from, send_all}
+use Rattle.hs_replica.specs.Group.{Group, copies_above, is_peer, no_copy, others_from, proposal, renew, renewal, send_all, view_messages}
 use Rattle.hs_replica.specs.Sending.{above, send_if_other}
 
 pub send_append : (xs ys : List Message) (pool : Pool) → send_all (xs ++ ys) pool ≡ send_all ys (send_all xs pool)
@@ -50,3 +52,11 @@ since_next group since lead peer i cs pool l =
             ≡ send_all (flat_map (λ x. copies_above x.0 (above since x.1) group) (others_from lead (p + 1) rest)) (send_if_other group since lead p c pool)
         go true e = rw e (send_append (copies_above p (above since c) group) (flat_map (λ x. copies_above x.0 (above since x.1) group) (others_from lead (p + 1) rest)) pool)
         go false e = rw e refl
+
+-- a new view: what the others lack is sent first, and then the View
+pub view_sent : (members : Members) (old new : Group) (before between after : Pool) (view : ℕ) → new ≡ renew members old → view ≡ view_of old.shard members
+    → between ≡ send_all (renewal new) before → after ≡ send_all (proposal (View view) new) between → after ≡ send_all (view_messages members old) before
+view_sent members old new before between after view n v b a =
+    a ∙ (ap (send_all (proposal (View view) new)) b
+    ∙ (sym (send_append (renewal new) (proposal (View view) new) before)
+    ∙ rw (n, v) refl))

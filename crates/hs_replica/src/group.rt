@@ -155,7 +155,6 @@ impl Group {
     /// sealed, what stood above its list is gone, every other good peer is sent what stands above
     /// its own, and a View is proposed. Without memory, or where there is no next number, the group
     /// is to be given up.
-    #[tactic(auto, using(crate::proofs::SendLemmas::send_append))]
     pub fn on_view(&mut self, pool: &mut Pool, members: &Members) -> Result<(), GroupFault>
         requires { members.now.shape ≡ self.old.shape }
         ensures ok { OnOk result (self.new ≡ on_view members.now self.old) }
