@@ -37,7 +37,7 @@ some_above to above group = ap (map (λ e. Copy group.shard to group.view e.0 e.
 pub since_next : (group : Group) (since : Since) (lead : Option ℕ) (peer i : ℕ) (cs : List Replica) (pool : Pool) → i < length cs
     → send_all (flat_map (λ x. copies_above x.0 (above since x.1) group) (others_from lead (peer + i) (drop i cs))) pool
     ≡ send_all (flat_map (λ x. copies_above x.0 (above since x.1) group) (others_from lead (peer + (i + 1)) (drop (i + 1) cs)))
-        (send_if_other group since lead (peer + i) (slice_index_or cs i no_copy) pool)
+    (send_if_other group since lead (peer + i) (slice_index_or cs i no_copy) pool)
 since_next group since lead peer i cs pool l =
     let next : peer + (i + 1) ≡ peer + i + 1 = omega arith in
     rw (next, drop_more cs i no_copy l) (first (peer + i) (slice_index_or cs i no_copy) (drop (i + 1) cs))

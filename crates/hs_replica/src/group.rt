@@ -1,5 +1,6 @@
 //! The copies of one shard's list.
 ghost use Rattle.std.specs.Prelude.{◌≡◌, ◌+◌, ◌-◌, ◌*◌, ◌≤◌, ◌<◌, length, map, IfOk, IfSome, OnErr, OnOk, if◌then◌else◌, slice_index_or};
+ghost use Rattle.hs_entry.specs.declared.entry.Entry.TheVariants.{View};
 ghost use Rattle.hs_limits.specs.Shape.{IsShape};
 ghost use Rattle.hs_members.specs.Members.{IsPeer, IsShard, is_good_status, status};
 ghost use Rattle.hs_post.specs.declared.message.Message.TheVariants.{Copy};
@@ -162,8 +163,7 @@ impl Group {
     {
         self.renew(members);
         self.send_since(pool, Since::Length)?;
-        let view = self.view;
-        self.propose(pool, Entry::View { view })?;
+        self.propose_view(pool)?;
         Ok(())
     }
 
@@ -197,7 +197,9 @@ impl Group {
         ensures same { OnErr result (self.new ≡ self.old) }
     {
         let view = match self.lead() {
-            Some(lead) => self.copies[self.index_of(lead)].stamps.get(number.saturating_sub(1)),
+            Some(lead) => self.copies[self.index_of(lead)]
+                .stamps
+                .get(number.saturating_sub(1)),
             None => 0,
         };
         let index = self.index_of(peer);
@@ -257,6 +259,16 @@ impl Group {
     }
 
     // ---- parts
+
+    /// Proposes the View of the shard's view.
+    fn propose_view(&mut self, pool: &mut Pool) -> Result<(), GroupFault>
+        ensures ok { OnOk result (self.new ≡ propose (View self.old.view) self.old) }
+        ensures sends { OnOk result (pool.new ≡ send_all (proposal (View self.old.view) self.old) pool.old) }
+    {
+        let view = self.view;
+        self.propose(pool, Entry::View { view })?;
+        Ok(())
+    }
 
     /// The good peer with the longest list, of equals the lowest.
     fn lead(&self) -> Option<u8>
@@ -323,7 +335,7 @@ impl Group {
     ) -> Result<(), GroupFault>
         ensures { OnOk result (pool.new ≡ send_all
             (map (λ x. Copy self.now.shard x.0 self.now.view number entry.now)
-                (others_from leads (first_peer self.now) self.now.copies)) pool.old) }
+            (others_from leads (first_peer self.now) self.now.copies)) pool.old) }
     {
         for index in 0..self.copies.len() {
             let to = peer_of(self.shard, index as u8, self.shape);
@@ -362,7 +374,7 @@ impl Group {
         requires { index < length self.now.copies }
         ensures { OnOk result (pool.new
             ≡ send_if_other self.now since leads (first_peer self.now + index)
-                (slice_index_or self.now.copies index no_copy) pool.old) }
+            (slice_index_or self.now.copies index no_copy) pool.old) }
     {
         let copy = &self.copies[index];
         let to = peer_of(self.shard, index as u8, self.shape);
@@ -388,7 +400,14 @@ impl Group {
             view: self.view,
         };
         let first = self.front + 1 + skipped as u64;
-        send_copies(self.alloc, pool, sender, to, first, entries.split_at(skipped).1)
+        send_copies(
+            self.alloc,
+            pool,
+            sender,
+            to,
+            first,
+            entries.split_at(skipped).1,
+        )
     }
 
     /// Sends the lead a Have of a peer, unless it is the lead.
@@ -423,22 +442,22 @@ impl Group {
         ensures { self.new ≡ renew members.now self.old }
     {
         self.view = members.view(self.shard);
-        tell_copies(&mut self.copies, peer_of(self.shard, 0, self.shape), members);
+        tell_copies(
+            &mut self.copies,
+            peer_of(self.shard, 0, self.shape),
+            members,
+        );
         let length = match self.lead() {
             Some(lead) => self.length(lead),
             None => 0,
         };
-        self.waiting.truncate(length.saturating_sub(self.front) as usize);
+        self.waiting
+            .truncate(length.saturating_sub(self.front) as usize);
     }
 }
 
 /// Copies that have so many entries of this view where `good` says so, and else none.
-fn copies_of(
-    alloc: Global,
-    view: u64,
-    len: u64,
-    good: &[bool],
-) -> Result<Vec<Replica>, GroupFault>
+fn copies_of(alloc: Global, view: u64, len: u64, good: &[bool]) -> Result<Vec<Replica>, GroupFault>
     ensures { IfOk result (λ copies. copies.items ≡ map (λ b. if b then whole_copy view len else no_copy) good.now) }
 {
     let mut copies = Vec::new(alloc);

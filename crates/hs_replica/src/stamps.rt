@@ -66,7 +66,11 @@ impl Stamps {
         ensures { result ≡ last_view self.now }
     {
         let count = self.runs.len();
-        if count == 0 { 0 } else { self.runs[count - 1].view }
+        if count == 0 {
+            0
+        } else {
+            self.runs[count - 1].view
+        }
     }
 
     /// The view of the entry behind so many, 0 where there is none. It takes no memory.
@@ -111,7 +115,11 @@ fn view_at(runs: &[Run], index: u64) -> u64
     ensures { result ≡ slice_index_or (expand 0 runs.now) index 0 }
 {
     let place = runs.partition_point(|run| run.end <= index);
-    if place < runs.len() { runs[place].view } else { 0 }
+    if place < runs.len() {
+        runs[place].view
+    } else {
+        0
+    }
 }
 
 /// One entry more of this view, after which the list ends there.
