@@ -1,3 +1,4 @@
+pub mod Front
 pub mod Group
 pub mod Runs
 pub mod Sending

@@ -3,6 +3,7 @@
 
 mod fault;
 mod group;
+mod laws;
 mod replica;
 mod sending;
 mod stamps;
@@ -10,3 +11,4 @@ mod waiting;
 
 pub use fault::GroupFault;
 pub use group::Group;
+pub use laws::the_front_never_falls;
