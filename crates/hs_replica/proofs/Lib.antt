@@ -1,0 +1,5 @@
+mod Examples
+mod FrontLemmas
+mod RunLemmas
+mod SendLemmas
+mod TellLemmas

@@ -1,0 +1,14 @@
+//! The copies of one shard's list: who has which entries, what all have sealed, and new views.
+#![tactic(auto)]
+
+mod fault;
+mod group;
+mod laws;
+mod replica;
+mod sending;
+mod stamps;
+mod waiting;
+
+pub use fault::GroupFault;
+pub use group::Group;
+pub use laws::the_front_never_falls;
