@@ -12,7 +12,7 @@ use Rattle.hs_fold.specs.Shards.Setting.{Numbered, Setting, shard_in}
 use Rattle.hs_fold.specs.Runs.Catalogue.{catalogue_of}
 use Rattle.hs_rounds.specs.declared.body.RoundBody.{RoundBody}
 use Rattle.hs_rounds.specs.declared.sending.SentRound.{SentRound}
-use Rattle.hs_fold.specs.Runs.Facts.{Facts, RootFacts, Catalogue, empty_catalogue}
+use Rattle.hs_fold.specs.Runs.Facts.{Facts, Catalogue, empty_catalogue}
 use Rattle.hs_fold.specs.Runs.Happening.{happens}
 use Rattle.hs_fold.specs.Runs.Opened.{catalogues, store_of}
 

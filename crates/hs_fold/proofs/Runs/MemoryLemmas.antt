@@ -1,14 +1,13 @@
 -- A shard's run as it is kept in memory goes as its fold does.
-use Rattle.std.proofs.Common.{◌≡◌, ℕ, ◌+◌, ◌<◌, ◌≤◌, ◌==◌, ◌&&◌, ◌||◌, Bool, true, false, cond, not, List, Option, Some, None, is_none, nat_le, nat_lt, refl, sym, ap, ◌∙◌, arith}
+use Rattle.std.proofs.Common.{◌≡◌, ℕ, ◌+◌, ◌==◌, ◌&&◌, ◌||◌, Bool, true, false, cond, Option, Some, None, is_none, nat_lt, refl, sym, ap, ◌∙◌, arith}
 use Rattle.std.proofs.lemmas.Bool.{and_parts}
 use Rattle.std.proofs.lemmas.Bool.Decides.{nat_tests}
 use Rattle.std.specs.BTreeMap.{insert_entry}
 use Rattle.std.specs.Option.{option_map_or}
-use Rattle.hs_limits.specs.declared.delta.Delta.{Delta}
 use Rattle.hs_limits.specs.declared.shape.Shape.{Shape}
 use Rattle.hs_rounds.specs.declared.body.RoundBody.{RoundBody}
 use Rattle.hs_rounds.specs.declared.place.Place.{Place}
-use Rattle.hs_rounds.specs.Rounds.{Run, place_cmp, body_at, have_told, have_told_zero, changes_of, is_before, is_past, is_kept, got, go_on, finish, complete, received, from_round}
+use Rattle.hs_rounds.specs.Rounds.{Run, place_cmp, body_at, have_told, is_before, is_past, is_kept, got, go_on, finish, complete, received}
 use Rattle.hs_rounds.specs.Rounds.{enter as enter_run, is_last as is_last_run}
 use Rattle.hs_fold.specs.Runs.Facts.{Catalogue}
 use Rattle.hs_fold.specs.Runs.Rounds.{first_deltas, next_total, next_deltas, is_running, is_due, is_accepted, is_complete, is_last, open_deltas, enter_epoch, search, sweep, log_got, run_of}

@@ -1,5 +1,5 @@
 -- How often addresses are named, as a round tells it.
-use Rattle.std.specs.Prelude.{ℕ, ◌+◌, ◌-◌, Bool, ◌==◌, ◌++◌, if◌then◌else◌, List, [], ◌∷◌, length, map, filter, take, drop, unwrap_or}
+use Rattle.std.specs.Prelude.{ℕ, ◌+◌, Bool, ◌++◌, if◌then◌else◌, List, [], ◌∷◌, map, unwrap_or}
 use Rattle.std.specs.BTreeMap.{insert_entry, is_at}
 use Rattle.std.specs.Map.{lookup}
 use Rattle.hs_limits.specs.declared.address.Address.{Address}
