@@ -5,6 +5,7 @@ pub mod EndLemmas
 pub mod Examples
 pub mod FilterLemmas
 pub mod KeyLemmas
+pub mod MemoryLemmas
 pub mod OwnLemmas
 pub mod PlainLemmas
 pub mod PruneLemmas

@@ -1,21 +1,24 @@
 //! Lists of all kinds, with deletion runs.
 ghost use Rattle.std.specs.Prelude.{◌≡◌, ◌<◌, ◌≤◌, ◌^◌, ℕ, All, List, false, length, slice_set, true};
+ghost use Rattle.hs_limits.specs.declared.delta.Delta.{Delta};
 ghost use Rattle.hs_limits.specs.Limits.{greatest_limits};
 ghost use Rattle.hs_model.specs.Inner.{sweep};
 ghost use Rattle.hs_entry.specs.declared.entry.Entry.{Entry};
 ghost use Rattle.hs_entry.specs.declared.entry.Entry.TheVariants as kind;
+ghost use Rattle.hs_rounds.specs.declared.body.RoundBody.{RoundBody};
+ghost use Rattle.hs_rounds.specs.declared.place.Place.{Place};
+ghost use Rattle.hs_rounds.specs.Rounds.{body_for};
 ghost use Rattle.hs_fold.specs.Catalogue.{Shard};
 ghost use Rattle.hs_fold.specs.Lawful.{Deed};
 ghost use Rattle.hs_fold.specs.Runs.Catalogue.{apply, catalogue_of};
 ghost use Rattle.hs_fold.specs.Runs.Ends.{ReleasesLate, TakesTheUnreached};
-ghost use Rattle.hs_fold.specs.Runs.Facts.{GotRound, Catalogue, Told, plain, roots_of};
+ghost use Rattle.hs_fold.specs.Runs.Facts.{Catalogue, plain, roots_of};
 ghost use Rattle.hs_fold.specs.Runs.Fits.{catalogue_at};
 ghost use Rattle.hs_fold.specs.Runs.Happening.{IsClients, happening_of};
 ghost use Rattle.hs_fold.specs.Runs.History.{follow};
 ghost use Rattle.hs_fold.specs.Runs.Opened.{catalogues, store_of};
 ghost use Rattle.hs_fold.specs.Runs.Own.{AreOwn, IsOwn, OneRetained};
 ghost use Rattle.hs_fold.specs.Runs.Rounds.{end_round, is_last, log_got, advanced, enter_epoch, is_complete};
-ghost use Rattle.hs_fold.specs.Runs.Told.{told_to};
 ghost use Rattle.hs_fold.specs.Shards.Catalogue.{apply as plain_apply};
 ghost use Rattle.hs_fold.specs.Shards.Happening.{happen_by};
 ghost use Rattle.hs_fold.specs.Shards.Setting.{Numbered, Setting, shard_in};
@@ -47,17 +50,19 @@ pub fn clients_and_enters_change_the_store()
         (happening_of (shard_in set deed.shard) (catalogue_at cs deed.shard) deed.entry) }
     ensures enter { (set : Setting) (cs : List Catalogue) (shard number op epoch : ℕ)
         → length cs ≡ set.shape.shards → shard < set.shape.shards → AreOwn set.shape.shards 0 cs
-        → is_complete set.shape.shards (enter_epoch (catalogue_at cs shard)) ≡ false →
+        → is_complete set.shape.shards
+        (enter_epoch set.shape.shards (catalogue_at cs shard)) ≡ false →
         store_of (follow set cs (record {
           shard = shard;
           number = number;
           entry = kind.Enter op epoch;
         })) ≡ happen_by (store_of cs)
         (happening_of (shard_in set shard) (catalogue_at cs shard) (kind.Enter op epoch)) }
-    ensures got { (set : Setting) (cs : List Catalogue) (shard number : ℕ) (x : GotRound)
+    ensures got { (set : Setting) (cs : List Catalogue) (shard number : ℕ)
+        (place : Place) (told : RoundBody)
         → length cs ≡ set.shape.shards → shard < set.shape.shards
-        → is_complete set.shape.shards (log_got x (catalogue_at cs shard)) ≡ false →
-        let got = kind.Got x.sender x.epoch x.round x.told.total x.told.deltas in
+        → is_complete set.shape.shards (log_got place told (catalogue_at cs shard)) ≡ false →
+        let got = kind.Got place.from place.epoch place.round told.total told.deltas in
         store_of (follow set cs (record { shard = shard; number = number; entry = got }))
         ≡ happen_by (store_of cs) (happening_of (shard_in set shard) (catalogue_at cs shard) got) }
 {}
@@ -84,8 +89,8 @@ pub fn ends_of_rounds_change_the_store()
 pub fn rounds_stay_within_bounds()
     ensures ended { (shards : ℕ) (c : Catalogue) → 0 < shards →
         is_complete shards (advanced shards c) ≡ false }
-    ensures told { (shards shard : ℕ) (told : Told) →
-        length (told_to shards shard told).deltas ≤ greatest_limits.blocks }
+    ensures told { (shards total to : ℕ) (deltas : List Delta) →
+        length (body_for shards total deltas to).deltas ≤ greatest_limits.blocks }
     ensures blocks { (at : Shard) (list : Numbered) →
         length (catalogue_of at list).blocks ≤ greatest_limits.blocks }
     ensures counts { (at : Shard) (list : Numbered) →

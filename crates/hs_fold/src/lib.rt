@@ -8,6 +8,7 @@ mod histories;
 mod images;
 mod keeping;
 mod lines;
+mod memory;
 mod numbered;
 mod one_list;
 mod order;
@@ -32,6 +33,7 @@ pub use histories::{
 pub use images::empty_disks_are_blank;
 pub use keeping::blocks_were_stored;
 pub use lines::logged_entries_name_their_line;
+pub use memory::runs_go_as_in_memory;
 pub use numbered::numbered_lists_part;
 pub use one_list::one_list_opens;
 pub use order::catalogues_stay_in_order;

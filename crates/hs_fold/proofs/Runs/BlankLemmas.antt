@@ -46,7 +46,7 @@ blank-sound set some =
       valid = subst (λ s. IsValid s) (sym (ap store_of same ∙ blank-with_runs n)) (is_from_valid (empty_store n) (empty_valid n some));
       room = subst (λ cs. All HasRoom cs) (sym same) (each-blank HasRoom (record { blocks = omega arith; records = omega arith }) n);
       counted = subst (λ cs. All (AreCounted cs) cs) (sym same) (each-blank (AreCounted (replicate n empty_catalogue)) (λ i d low. absurd (omega (arith, low))) n);
-      sent = λ shard low. subst (λ cs. AreSent n cs shard) (sym same) (no-gots n shard);
+      sent = λ shard low. subst (λ cs. AreSent cs shard) (sym same) (no-gots n shard);
       lawful = record {
         history = [];
         ascends = λ i j d h k. absurd (omega (arith, k));
@@ -57,6 +57,6 @@ blank-sound set some =
       views = blank-views n;
     }
   where
-    no-gots : (n shard : ℕ) → AreSent n (replicate n empty_catalogue) shard
-    no-gots n shard = subst (λ (c : Catalogue). All (λ g. HasSent n (catalogue_at (replicate n empty_catalogue) g.sender).sent shard g.epoch g.round g.told) c.got) (sym (blank-at n shard))
-        (All-nil (λ g. HasSent n (catalogue_at (replicate n empty_catalogue) g.sender).sent shard g.epoch g.round g.told))
+    no-gots : (n shard : ℕ) → AreSent (replicate n empty_catalogue) shard
+    no-gots n shard = subst (λ (c : Catalogue). All (λ g. HasSent (catalogue_at (replicate n empty_catalogue) g.0.from).sent shard g.0.epoch g.0.round g.1) c.got) (sym (blank-at n shard))
+        (All-nil (λ g. HasSent (catalogue_at (replicate n empty_catalogue) g.0.from).sent shard g.0.epoch g.0.round g.1))

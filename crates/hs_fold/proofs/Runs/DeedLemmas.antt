@@ -12,11 +12,13 @@ use Rattle.hs_fold.specs.Shards.Mine.{AreMine}
 use Rattle.hs_fold.specs.Shards.Opened.{store_of as listed}
 use Rattle.hs_fold.specs.Shards.Setting.{Setting, shard_in}
 use Rattle.hs_fold.specs.Runs.Catalogue.{apply}
-use Rattle.hs_fold.specs.Runs.Facts.{GotRound, Catalogue, empty_catalogue, plain, roots_of}
+use Rattle.hs_fold.specs.Runs.Facts.{Catalogue, empty_catalogue, plain, roots_of}
 use Rattle.hs_fold.specs.Runs.Fits.{catalogue_at}
 use Rattle.hs_fold.specs.Runs.Happening.{IsClients, happening_of}
 use Rattle.hs_fold.specs.Runs.History.{follow}
 use Rattle.hs_fold.specs.Runs.Opened.{pruned, store_of}
+use Rattle.hs_rounds.specs.declared.body.RoundBody.{RoundBody}
+use Rattle.hs_rounds.specs.declared.place.Place.{Place}
 use Rattle.hs_fold.specs.Runs.Own.{OneRetained, AreOwn}
 use Rattle.hs_fold.specs.Runs.Rounds.{is_accepted, is_last, ends_last, log_got, get_round, is_complete, end_round, advance, advanced, may_enter, enter_epoch}
 use Rattle.hs_fold.specs.Runs.Rounds.{enter as enter_here}
@@ -56,16 +58,16 @@ plus-one k = omega arith
 stays-open : (n : ℕ) (c : Catalogue) → is_complete n c ≡ false → advanced n c ≡ c
 stays-open n c e = ap (λ turns. advance n turns c) (plus-one (length c.got)) ∙ ap (λ b. cond b (advance n (length c.got) (end_round n c)) c) e
 
-enter-at : (name : List ℕ → Address) (n g : ℕ) (front back : List Plain) (c : Catalogue) (op epoch : ℕ) → all_shards front back ≡ n → length front ≡ g → AreMine n 0 (front ++ plain c ∷ back) → is_complete n (enter_epoch c) ≡ false
+enter-at : (name : List ℕ → Address) (n g : ℕ) (front back : List Plain) (c : Catalogue) (op epoch : ℕ) → all_shards front back ≡ n → length front ≡ g → AreMine n 0 (front ++ plain c ∷ back) → is_complete n (enter_epoch n c) ≡ false
     → pruned (listed (front ++ plain (enter_here n epoch c) ∷ back)) ≡ happen_by (pruned (listed (front ++ plain c ∷ back))) (happening_of (shard_at name n g) c (kind.Enter op epoch))
-enter-at name n g front back c op epoch all place mine unfinished = go (may_enter c epoch)
+enter-at name n g front back c op epoch all at_place mine unfinished = go (may_enter c epoch)
   where
-    entered : pruned (listed (front ++ plain (enter_epoch c) ∷ back)) ≡ happen_by (pruned (listed (front ++ plain c ∷ back))) (Some (enters g))
-    entered = subst (λ k. pruned (listed (front ++ plain (enter_epoch c) ∷ back)) ≡ happen_by (pruned (listed (front ++ plain c ∷ back))) (Some (enters k))) place
-        (enter-step front back c (subst (λ m. AreMine m 0 (front ++ plain c ∷ back)) (sym all) mine))
+    entered : pruned (listed (front ++ plain (enter_epoch n c) ∷ back)) ≡ happen_by (pruned (listed (front ++ plain c ∷ back))) (Some (enters g))
+    entered = subst (λ k. pruned (listed (front ++ plain (enter_epoch n c) ∷ back)) ≡ happen_by (pruned (listed (front ++ plain c ∷ back))) (Some (enters k))) at_place
+        (enter-step front back c (subst (λ m. AreMine m 0 (front ++ plain c ∷ back)) (sym all) mine) n)
 
-    go : (b : Bool) → pruned (listed (front ++ plain (cond b (advanced n (enter_epoch c)) c) ∷ back)) ≡ happen_by (pruned (listed (front ++ plain c ∷ back))) (cond b (Some (enters g)) None)
-    go true = ap (λ d. pruned (listed (front ++ plain d ∷ back))) (stays-open n (enter_epoch c) unfinished) ∙ entered
+    go : (b : Bool) → pruned (listed (front ++ plain (cond b (advanced n (enter_epoch n c)) c) ∷ back)) ≡ happen_by (pruned (listed (front ++ plain c ∷ back))) (cond b (Some (enters g)) None)
+    go true = ap (λ d. pruned (listed (front ++ plain d ∷ back))) (stays-open n (enter_epoch n c) unfinished) ∙ entered
     go false = refl
 
 -- ---- a Got that completes no round
@@ -73,14 +75,14 @@ enter-at name n g front back c op epoch all place mine unfinished = go (may_ente
 stays-unfinished : (n : ℕ) (c : Catalogue) → is_complete n c ≡ false → ends_last n (length c.got + 1) c ≡ false
 stays-unfinished n c e = ap (λ turns. ends_last n turns c) (plus-one (length c.got)) ∙ ap (λ b. b && (is_last n c || ends_last n (length c.got) (end_round n c))) e
 
-got-at : (name : List ℕ → Address) (n g : ℕ) (front back : List Plain) (c : Catalogue) (x : GotRound) → is_complete n (log_got x c) ≡ false
-    → pruned (listed (front ++ plain (get_round n x c) ∷ back))
-    ≡ happen_by (pruned (listed (front ++ plain c ∷ back))) (happening_of (shard_at name n g) c (kind.Got x.sender x.epoch x.round x.told.total x.told.deltas))
-got-at name n g front back c x unfinished = go (is_accepted n c x.sender x.epoch x.round) (ends_last n (length (log_got x c).got + 1) (log_got x c)) (stays-unfinished n (log_got x c) unfinished)
+got-at : (name : List ℕ → Address) (n g : ℕ) (front back : List Plain) (c : Catalogue) (place : Place) (told : RoundBody) → is_complete n (log_got place told c) ≡ false
+    → pruned (listed (front ++ plain (get_round n place told c) ∷ back))
+    ≡ happen_by (pruned (listed (front ++ plain c ∷ back))) (happening_of (shard_at name n g) c (kind.Got place.from place.epoch place.round told.total told.deltas))
+got-at name n g front back c place told unfinished = go (is_accepted n c place) (ends_last n (length (log_got place told c).got + 1) (log_got place told c)) (stays-unfinished n (log_got place told c) unfinished)
   where
-    go : (b d : Bool) → d ≡ false → pruned (listed (front ++ plain (cond b (advanced n (log_got x c)) c) ∷ back)) ≡ happen_by (pruned (listed (front ++ plain c ∷ back))) (cond (b && d) (Some (sweeps g)) None)
+    go : (b d : Bool) → d ≡ false → pruned (listed (front ++ plain (cond b (advanced n (log_got place told c)) c) ∷ back)) ≡ happen_by (pruned (listed (front ++ plain c ∷ back))) (cond (b && d) (Some (sweeps g)) None)
     go b true e = cc e
-    go true false e = ap (λ d. pruned (listed (front ++ plain d ∷ back))) (stays-open n (log_got x c) unfinished)
+    go true false e = ap (λ d. pruned (listed (front ++ plain d ∷ back))) (stays-open n (log_got place told c) unfinished)
     go false false e = refl
 
 -- ---- a shard of any number
@@ -115,20 +117,20 @@ deed-client set deed cs all low own u = on-place (λ ds k. AreOwn n 0 ds → sto
         ∙ ap (λ s. happen_by s (happening_of at c deed.entry)) (sym (by-plain front back c c))
         ∙ ap (λ x. happen_by (store_of (front ++ c ∷ back)) (happening_of at x deed.entry)) (sym (at-place empty_catalogue front back c))
 
-pub deed-enter : (set : Setting) (shard number op epoch : ℕ) (cs : List Catalogue) → length cs ≡ set.shape.shards → shard < set.shape.shards → AreOwn set.shape.shards 0 cs → is_complete set.shape.shards (enter_epoch (catalogue_at cs shard)) ≡ false
+pub deed-enter : (set : Setting) (shard number op epoch : ℕ) (cs : List Catalogue) → length cs ≡ set.shape.shards → shard < set.shape.shards → AreOwn set.shape.shards 0 cs → is_complete set.shape.shards (enter_epoch set.shape.shards (catalogue_at cs shard)) ≡ false
     → store_of (follow set cs (record { shard = shard; number = number; entry = kind.Enter op epoch })) ≡ happen_by (store_of cs) (happening_of (shard_in set shard) (catalogue_at cs shard) (kind.Enter op epoch))
-deed-enter set shard number op epoch cs all low own unfinished = on-place (λ ds k. AreOwn n 0 ds → is_complete n (enter_epoch (catalogue_at ds k)) ≡ false → store_of (slice_set ds k (enter_here n epoch (catalogue_at ds k))) ≡ happen_by (store_of ds) (happening_of (shard_at set.name n k) (catalogue_at ds k) (kind.Enter op epoch))) n go cs shard all low own unfinished
+deed-enter set shard number op epoch cs all low own unfinished = on-place (λ ds k. AreOwn n 0 ds → is_complete n (enter_epoch n (catalogue_at ds k)) ≡ false → store_of (slice_set ds k (enter_here n epoch (catalogue_at ds k))) ≡ happen_by (store_of ds) (happening_of (shard_at set.name n k) (catalogue_at ds k) (kind.Enter op epoch))) n go cs shard all low own unfinished
   where
     n : ℕ
     n = set.shape.shards
 
-    go : (front back : List Catalogue) (c : Catalogue) → length front + (1 + length back) ≡ n → AreOwn n 0 (front ++ c ∷ back) → is_complete n (enter_epoch (catalogue_at (front ++ c ∷ back) (length front))) ≡ false
+    go : (front back : List Catalogue) (c : Catalogue) → length front + (1 + length back) ≡ n → AreOwn n 0 (front ++ c ∷ back) → is_complete n (enter_epoch n (catalogue_at (front ++ c ∷ back) (length front))) ≡ false
         → store_of (slice_set (front ++ c ∷ back) (length front) (enter_here n epoch (catalogue_at (front ++ c ∷ back) (length front))))
         ≡ happen_by (store_of (front ++ c ∷ back)) (happening_of (shard_at set.name n (length front)) (catalogue_at (front ++ c ∷ back) (length front)) (kind.Enter op epoch))
     go front back c count h e =
         let at : Shard = shard_at set.name n (length front) in
         let d : Catalogue = enter_here n epoch c in
-        let still : is_complete n (enter_epoch c) ≡ false = ap (λ x. is_complete n (enter_epoch x)) (sym (at-place empty_catalogue front back c)) ∙ e in
+        let still : is_complete n (enter_epoch n c) ≡ false = ap (λ x. is_complete n (enter_epoch n x)) (sym (at-place empty_catalogue front back c)) ∙ e in
         ap (λ x. store_of (slice_set (front ++ c ∷ back) (length front) (enter_here n epoch x))) (at-place empty_catalogue front back c)
         ∙ ap store_of (set-place front back c d)
         ∙ by-plain front back c d
@@ -136,27 +138,27 @@ deed-enter set shard number op epoch cs all low own unfinished = on-place (λ ds
         ∙ ap (λ s. happen_by s (happening_of at c (kind.Enter op epoch))) (sym (by-plain front back c c))
         ∙ ap (λ x. happen_by (store_of (front ++ c ∷ back)) (happening_of at x (kind.Enter op epoch))) (sym (at-place empty_catalogue front back c))
 
-pub deed-got : (set : Setting) (shard number : ℕ) (x : GotRound) (cs : List Catalogue) → length cs ≡ set.shape.shards → shard < set.shape.shards → is_complete set.shape.shards (log_got x (catalogue_at cs shard)) ≡ false
-    → store_of (follow set cs (record { shard = shard; number = number; entry = kind.Got x.sender x.epoch x.round x.told.total x.told.deltas }))
-    ≡ happen_by (store_of cs) (happening_of (shard_in set shard) (catalogue_at cs shard) (kind.Got x.sender x.epoch x.round x.told.total x.told.deltas))
-deed-got set shard number x cs all low unfinished = on-place (λ ds k. is_complete n (log_got x (catalogue_at ds k)) ≡ false → store_of (slice_set ds k (get_round n x (catalogue_at ds k))) ≡ happen_by (store_of ds) (happening_of (shard_at set.name n k) (catalogue_at ds k) got)) n go cs shard all low unfinished
+pub deed-got : (set : Setting) (shard number : ℕ) (place : Place) (told : RoundBody) (cs : List Catalogue) → length cs ≡ set.shape.shards → shard < set.shape.shards → is_complete set.shape.shards (log_got place told (catalogue_at cs shard)) ≡ false
+    → store_of (follow set cs (record { shard = shard; number = number; entry = kind.Got place.from place.epoch place.round told.total told.deltas }))
+    ≡ happen_by (store_of cs) (happening_of (shard_in set shard) (catalogue_at cs shard) (kind.Got place.from place.epoch place.round told.total told.deltas))
+deed-got set shard number place told cs all low unfinished = on-place (λ ds k. is_complete n (log_got place told (catalogue_at ds k)) ≡ false → store_of (slice_set ds k (get_round n place told (catalogue_at ds k))) ≡ happen_by (store_of ds) (happening_of (shard_at set.name n k) (catalogue_at ds k) got)) n go cs shard all low unfinished
   where
     n : ℕ
     n = set.shape.shards
 
     got : Entry
-    got = kind.Got x.sender x.epoch x.round x.told.total x.told.deltas
+    got = kind.Got place.from place.epoch place.round told.total told.deltas
 
-    go : (front back : List Catalogue) (c : Catalogue) → length front + (1 + length back) ≡ n → is_complete n (log_got x (catalogue_at (front ++ c ∷ back) (length front))) ≡ false
-        → store_of (slice_set (front ++ c ∷ back) (length front) (get_round n x (catalogue_at (front ++ c ∷ back) (length front))))
+    go : (front back : List Catalogue) (c : Catalogue) → length front + (1 + length back) ≡ n → is_complete n (log_got place told (catalogue_at (front ++ c ∷ back) (length front))) ≡ false
+        → store_of (slice_set (front ++ c ∷ back) (length front) (get_round n place told (catalogue_at (front ++ c ∷ back) (length front))))
         ≡ happen_by (store_of (front ++ c ∷ back)) (happening_of (shard_at set.name n (length front)) (catalogue_at (front ++ c ∷ back) (length front)) got)
     go front back c count e =
         let at : Shard = shard_at set.name n (length front) in
-        let d : Catalogue = get_round n x c in
-        let still : is_complete n (log_got x c) ≡ false = ap (λ y. is_complete n (log_got x y)) (sym (at-place empty_catalogue front back c)) ∙ e in
-        ap (λ y. store_of (slice_set (front ++ c ∷ back) (length front) (get_round n x y))) (at-place empty_catalogue front back c)
+        let d : Catalogue = get_round n place told c in
+        let still : is_complete n (log_got place told c) ≡ false = ap (λ y. is_complete n (log_got place told y)) (sym (at-place empty_catalogue front back c)) ∙ e in
+        ap (λ y. store_of (slice_set (front ++ c ∷ back) (length front) (get_round n place told y))) (at-place empty_catalogue front back c)
         ∙ ap store_of (set-place front back c d)
         ∙ by-plain front back c d
-        ∙ got-at set.name n (length front) (map plain front) (map plain back) c x still
+        ∙ got-at set.name n (length front) (map plain front) (map plain back) c place told still
         ∙ ap (λ s. happen_by s (happening_of at c got)) (sym (by-plain front back c c))
         ∙ ap (λ y. happen_by (store_of (front ++ c ∷ back)) (happening_of at y got)) (sym (at-place empty_catalogue front back c))

@@ -41,10 +41,10 @@ module _ (n : ℕ) (front back : List Catalogue) (c : Catalogue) (count : length
   mine-here = subst (λ m. AreMine m 0 (map plain front ++ plain d ∷ map plain back)) (sym (count-plain n front back count))
       (subst (λ (x : Plain). AreMine n 0 (map plain front ++ x ∷ map plain back)) (sym (settled-plain n c)) (mine-plain n front back c own))
 
-  search-here : Released (front ++ c ∷ back) c → store_of (front ++ search d ∷ back) ≡ store_of (front ++ c ∷ back)
+  search-here : Released (front ++ c ∷ back) c → store_of (front ++ search n d ∷ back) ≡ store_of (front ++ c ∷ back)
   search-here h =
-      by-plain front back c (search d)
-      ∙ search-step (map plain front) (map plain back) d mine-here (λ r m e. ap (λ (cs : List Plain). stays (listed cs) r.root) moved-plain ∙ h r m e)
+      by-plain front back c (search n d)
+      ∙ search-step (map plain front) (map plain back) d mine-here n (λ r m e. ap (λ (cs : List Plain). stays (listed cs) r.root) moved-plain ∙ h r m e)
       ∙ ap (λ (cs : List Plain). pruned (listed cs)) moved-plain
 
   gone-here : Gone (front ++ c ∷ back) (length front) c → (e : Address × Facts) → Member e d.blocks
@@ -80,7 +80,7 @@ end-searches set shard cs all low own more released = on-place (λ ds k. AreOwn 
         let last-here : is_last n c ≡ false = ap (λ x. is_last n x) (sym is) ∙ last in
         ap (λ x. store_of (slice_set (front ++ c ∷ back) (length front) (end_round n x))) is
         ∙ ap store_of (set-place front back c (end_round n c))
-        ∙ ap (λ b. store_of (front ++ cond b (sweep (settled n c)) (search (settled n c)) ∷ back)) last-here
+        ∙ ap (λ b. store_of (front ++ cond b (sweep (settled n c)) (search n (settled n c)) ∷ back)) last-here
         ∙ search-here n front back c count h (subst (λ x. Released (front ++ c ∷ back) x) is out)
 
 pub end-sweeps : (set : Setting) (shard : ℕ) (cs : List Catalogue) → length cs ≡ set.shape.shards → shard < set.shape.shards → AreOwn set.shape.shards 0 cs → is_last set.shape.shards (catalogue_at cs shard) ≡ true → Gone cs shard (catalogue_at cs shard)
@@ -97,5 +97,5 @@ end-sweeps set shard cs all low own last gone = on-place (λ ds k. AreOwn n 0 ds
         let last-here : is_last n c ≡ true = ap (λ x. is_last n x) (sym is) ∙ e in
         ap (λ x. store_of (slice_set (front ++ c ∷ back) (length front) (end_round n x))) is
         ∙ ap store_of (set-place front back c (end_round n c))
-        ∙ ap (λ b. store_of (front ++ cond b (sweep (settled n c)) (search (settled n c)) ∷ back)) last-here
+        ∙ ap (λ b. store_of (front ++ cond b (sweep (settled n c)) (search n (settled n c)) ∷ back)) last-here
         ∙ sweep-here n front back c count h (subst (λ x. Gone (front ++ c ∷ back) (length front) x) is out)

@@ -111,11 +111,11 @@ module _ (front back : List Plain) (c : Catalogue) (mine : AreMine (all_shards f
   g = length front
 
   -- a round that isn't the last: nothing, where what the run lets go of counts in no epoch any more
-  pub search-step : ((k : RootFacts) → Member k c.roots → is_released c k ≡ true → stays s k.root ≡ false) → pruned (to (search c)) ≡ pruned s
-  search-step h = λ i. record { blocks = stored_of (present i); given = marks_of (present i); roots = roots i; epochs = epochs i; swept = swept i; sessions = [] }
+  pub search-step : (shards : ℕ) → ((k : RootFacts) → Member k c.roots → is_released c k ≡ true → stays s k.root ≡ false) → pruned (to (search shards c)) ≡ pruned s
+  search-step shards h = λ i. record { blocks = stored_of (present i); given = marks_of (present i); roots = roots i; epochs = epochs i; swept = swept i; sessions = [] }
     where
       d : Plain
-      d = plain (search c)
+      d = plain (search shards c)
 
       present : all_present (front ++ d ∷ back) ≡ all_present (front ++ plain c ∷ back)
       present = same-all-present front back (plain c) d (same-each (find_zero c.epoch) (zero-present c.epoch) c.blocks)
@@ -132,7 +132,7 @@ module _ (front back : List Plain) (c : Catalogue) (mine : AreMine (all_shards f
           ∙ ap (λ rs. both_roots rs []) (filter-gone (stays s) (is_released c) c.roots h)
           ∙ sym (filter-both (stays s) (map (λ (k : RootFacts). k.root) c.roots) [] tt)
 
-      roots : (pruned (to (search c))).roots ≡ (pruned s).roots
+      roots : (pruned (to (search shards c))).roots ≡ (pruned s).roots
       roots = ap (λ es. filter (stays_in es) (all_roots (front ++ d ∷ back))) epochs ∙ filter-all (stays s) front back (plain c) d of_shard
 
   -- whether the plain store's sweep leaves a block

@@ -10,7 +10,9 @@ use Rattle.hs_fold.specs.Shards.Change.{stores, gives}
 use Rattle.hs_fold.specs.Shards.Happening.{changes, enters, sweeps, happenings}
 use Rattle.hs_fold.specs.Shards.Setting.{Numbered, Setting, shard_in}
 use Rattle.hs_fold.specs.Runs.Catalogue.{catalogue_of}
-use Rattle.hs_fold.specs.Runs.Facts.{Facts, Told, SentRound, Catalogue, empty_catalogue}
+use Rattle.hs_rounds.specs.declared.body.RoundBody.{RoundBody}
+use Rattle.hs_rounds.specs.declared.sending.SentRound.{SentRound}
+use Rattle.hs_fold.specs.Runs.Facts.{Facts, Catalogue, empty_catalogue}
 use Rattle.hs_fold.specs.Runs.Happening.{happens}
 use Rattle.hs_fold.specs.Runs.Opened.{catalogues, store_of}
 
@@ -50,10 +52,9 @@ is byte counted zero count = record { byte = byte; counted = counted; zero = zer
 abbrev states : Catalogue → List State
 states c = map state c.blocks
 
-abbrev told_last : List SentRound → List Told
+abbrev told_last : List SentRound → List RoundBody
 told_last [] = []
-told_last (s ∷ []) = s.told ∷ []
-told_last (s ∷ t ∷ rest) = told_last (t ∷ rest)
+told_last (s ∷ rest) = s.bodies
 
 -- ---- undelete: write a 63 / write a 70 h0 / delete / delete / .. / write a 63 / write a 70 h2 / .. / delete / delete
 
@@ -128,9 +129,9 @@ released : catalogue_of (shard_in (of 1) 0) (dropped ++ then_released) ≡ recor
   epoch = 3;
   swept = 3;
   view = 1;
-  round = 3;
+  round = 0;
   got = [];
-  sent = record { epoch = 3; round = 2; told = record { total = 1; deltas = [] } } ∷ record { epoch = 3; round = 3; told = record { total = 0; deltas = [] } } ∷ [];
+  sent = record { epoch = 3; round = 3; bodies = record { total = 0; deltas = [] } ∷ [] } ∷ record { epoch = 3; round = 2; bodies = record { total = 1; deltas = [] } ∷ [] } ∷ [];
 }
 unfolding read_block block_at addresses
 released = refl

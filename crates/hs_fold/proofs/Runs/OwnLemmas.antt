@@ -24,9 +24,11 @@ use Rattle.hs_fold.specs.Runs.Catalogue.{apply, apply_all}
 use Rattle.hs_fold.specs.Runs.Opened.{catalogues}
 use Rattle.hs_fold.specs.Shards.Setting.{Numbered, Setting, shard_in}
 use Rattle.hs_fold.specs.Runs.Clients.{keep_root, drop_key, new_facts, marked, store_block, give_block, end_retention, new_root}
-use Rattle.hs_fold.specs.Runs.Facts.{roots_of, Facts, RootFacts, GotRound, Catalogue, empty_catalogue, plain, facts_at}
+use Rattle.hs_fold.specs.Runs.Facts.{roots_of, Facts, RootFacts, Catalogue, empty_catalogue, plain, facts_at}
 use Rattle.hs_fold.specs.Runs.Happening.{IsClients}
 use Rattle.hs_fold.specs.Runs.Own.{OneRetained, IsOwn, AreOwn}
+use Rattle.hs_rounds.specs.declared.body.RoundBody.{RoundBody}
+use Rattle.hs_rounds.specs.declared.place.Place.{Place}
 use Rattle.hs_fold.specs.Runs.Rounds.{enter_epoch, count_block, count_root, search, find_zero, is_released, sweep, spare, is_gone, moved_by, open_deltas, settled, is_last, is_complete, end_round, advance, advanced, is_accepted, log_got, get_round, may_enter, enter}
 use Rattle.hs_fold.specs.Shards.Catalogue.{is_rooted, retained_in, is_stored, is_marked}
 use Rattle.hs_fold.specs.Shards.Mine.{IsMine, IsRising}
@@ -166,8 +168,8 @@ module _ (at : Shard) (c : Catalogue) (h : IsOwn at.shards at.shard c) where
   abbrev IsHereRoot : Root → Type 0
   IsHereRoot r = shard_of_key at.shards r.key ≡ at.shard
 
-  pub enter-own : IsOwn at.shards at.shard (enter_epoch c)
-  enter-own =
+  pub enter-own : (k : ℕ) → IsOwn at.shards at.shard (enter_epoch k c)
+  enter-own k =
       let blocks = same-each (count_block (c.epoch + 1)) (counted-present (c.epoch + 1)) c.blocks in
       let roots = same-kept (count_root (c.epoch + 1)) (counted-root (c.epoch + 1)) c.roots in
       record {
@@ -180,8 +182,8 @@ module _ (at : Shard) (c : Catalogue) (h : IsOwn at.shards at.shard c) where
         once = subst OneRetained (sym roots) h.once;
       }
 
-  pub search-own : IsOwn at.shards at.shard (search c)
-  search-own =
+  pub search-own : (k : ℕ) → IsOwn at.shards at.shard (search k c)
+  search-own k =
       let blocks = same-each (find_zero c.epoch) (zero-present c.epoch) c.blocks in
       let left : List Root = roots_of (filter (λ k. not (is_released c k)) c.roots) in
       let kept = keep-one (λ k. not (is_released c k)) IsHereRoot c.roots (unboth IsHereRoot (roots_of c.roots) h.mine.roots) in
@@ -238,9 +240,9 @@ settled-own at n c h = record { mine = subst (λ d. IsMine at.shards at.shard d)
 end-own : (at : Shard) (n : ℕ) (c : Catalogue) → IsOwn at.shards at.shard c → IsOwn at.shards at.shard (end_round n c)
 end-own at n c h = go (is_last n c)
   where
-    go : (b : Bool) → IsOwn at.shards at.shard (cond b (sweep (settled n c)) (search (settled n c)))
+    go : (b : Bool) → IsOwn at.shards at.shard (cond b (sweep (settled n c)) (search n (settled n c)))
     go true = sweep-own at (settled n c) (settled-own at n c h)
-    go false = search-own at (settled n c) (settled-own at n c h)
+    go false = search-own at (settled n c) (settled-own at n c h) n
 
 advance-own : (at : Shard) (n turns : ℕ) (c : Catalogue) → IsOwn at.shards at.shard c → IsOwn at.shards at.shard (advance n turns c)
 advance-own at n zero c h = h
@@ -250,21 +252,21 @@ advance-own at n (suc turns) c h = go (is_complete n c) (advance-own at n turns 
     go true k = k
     go false k = h
 
-got-own : (at : Shard) (c : Catalogue) → IsOwn at.shards at.shard c → (x : GotRound) → IsOwn at.shards at.shard (get_round at.shards x c)
-got-own at c h x = go (is_accepted at.shards c x.sender x.epoch x.round)
+got-own : (at : Shard) (c : Catalogue) → IsOwn at.shards at.shard c → (place : Place) (told : RoundBody) → IsOwn at.shards at.shard (get_round at.shards place told c)
+got-own at c h place told = go (is_accepted at.shards c place)
   where
-    logged : IsOwn at.shards at.shard (log_got x c)
+    logged : IsOwn at.shards at.shard (log_got place told c)
     logged = record { mine = h.mine; once = h.once }
 
-    go : (b : Bool) → IsOwn at.shards at.shard (cond b (advanced at.shards (log_got x c)) c)
-    go true = advance-own at at.shards (length (log_got x c).got + 1) (log_got x c) logged
+    go : (b : Bool) → IsOwn at.shards at.shard (cond b (advanced at.shards (log_got place told c)) c)
+    go true = advance-own at at.shards (length (log_got place told c).got + 1) (log_got place told c) logged
     go false = h
 
 entered-own : (at : Shard) (c : Catalogue) → IsOwn at.shards at.shard c → (epoch : ℕ) → IsOwn at.shards at.shard (enter at.shards epoch c)
 entered-own at c h epoch = go (may_enter c epoch)
   where
-    go : (b : Bool) → IsOwn at.shards at.shard (cond b (advanced at.shards (enter_epoch c)) c)
-    go true = advance-own at at.shards (length (enter_epoch c).got + 1) (enter_epoch c) (enter-own at c h)
+    go : (b : Bool) → IsOwn at.shards at.shard (cond b (advanced at.shards (enter_epoch at.shards c)) c)
+    go true = advance-own at at.shards (length (enter_epoch at.shards c).got + 1) (enter_epoch at.shards c) (enter-own at c h at.shards)
     go false = h
 
 -- any entry
@@ -275,7 +277,7 @@ apply-own at c h number (kind.Mark op least block address) = client-own at c h n
 apply-own at c h number (kind.Root op held address key) = client-own at c h number (kind.Root op held address key) tt
 apply-own at c h number (kind.Drop op key) = client-own at c h number (kind.Drop op key) tt
 apply-own at c h number (kind.Enter op epoch) = entered-own at c h epoch
-apply-own at c h number (kind.Got sender epoch round total deltas) = got-own at c h (record { sender = sender; epoch = epoch; round = round; told = record { total = total; deltas = deltas } })
+apply-own at c h number (kind.Got sender epoch round total deltas) = got-own at c h (record { epoch = epoch; round = round; from = sender }) (record { total = total; deltas = deltas })
 apply-own at c h number (kind.Base view epoch swept round frames) = h
 apply-own at c h number (kind.KeptBlock born mark flags count bytes) = h
 apply-own at c h number (kind.KeptRoot created dropped counted address key) = h

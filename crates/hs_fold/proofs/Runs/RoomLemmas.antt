@@ -18,7 +18,9 @@ use Rattle.hs_fold.specs.Shards.Catalogue.{present_at, is_fresh, has_room, is_ma
 use Rattle.hs_fold.specs.Shards.Setting.{Numbered}
 use Rattle.hs_fold.specs.Runs.Catalogue.{apply, apply_all, catalogue_of}
 use Rattle.hs_fold.specs.Runs.Clients.{new_facts, store_block, remark, marked, give_block, new_root, keep_root, end_retention, drop_key}
-use Rattle.hs_fold.specs.Runs.Facts.{Facts, GotRound, Catalogue, empty_catalogue, facts_at, plain}
+use Rattle.hs_fold.specs.Runs.Facts.{Facts, Catalogue, empty_catalogue, facts_at, plain}
+use Rattle.hs_rounds.specs.declared.body.RoundBody.{RoundBody}
+use Rattle.hs_rounds.specs.declared.place.Place.{Place}
 use Rattle.hs_fold.specs.Runs.Rounds.{count_block, may_enter, enter_epoch, enter, moved_by, open_deltas, settled, find_zero, search, is_gone, spare, sweep, is_last, is_complete, end_round, advance, advanced, is_accepted, log_got, get_round}
 use Rattle.hs_fold.proofs.Runs.RoundLemmas.{no-more}
 
@@ -91,7 +93,7 @@ end-fits n c h = go (is_last n c)
     low : Fits (settled n c).blocks
     low = settled-fits n c h
 
-    go : (b : Bool) → Fits (cond b (sweep (settled n c)) (search (settled n c))).blocks
+    go : (b : Bool) → Fits (cond b (sweep (settled n c)) (search n (settled n c))).blocks
     go true = mapped-fits (λ (e : Address × Facts). (e.0, spare e.1)) (filter (λ e. not (is_gone c.epoch e.1)) (settled n c).blocks)
         (let less = no-more (λ (e : Address × Facts). not (is_gone c.epoch e.1)) (settled n c).blocks in omega (arith, less, low))
     go false = mapped-fits (λ (e : Address × Facts). (e.0, find_zero c.epoch e.1)) (settled n c).blocks low
@@ -104,18 +106,18 @@ advance-fits n (suc turns) c h = go (is_complete n c) (advance-fits n turns (end
     go true k = k
     go false k = h
 
-got-fits : (n : ℕ) (x : GotRound) (c : Catalogue) → Fits c.blocks → Fits (get_round n x c).blocks
-got-fits n x c h = go (is_accepted n c x.sender x.epoch x.round)
+got-fits : (n : ℕ) (place : Place) (told : RoundBody) (c : Catalogue) → Fits c.blocks → Fits (get_round n place told c).blocks
+got-fits n place told c h = go (is_accepted n c place)
   where
-    go : (b : Bool) → Fits (cond b (advanced n (log_got x c)) c).blocks
-    go true = advance-fits n (length (log_got x c).got + 1) (log_got x c) h
+    go : (b : Bool) → Fits (cond b (advanced n (log_got place told c)) c).blocks
+    go true = advance-fits n (length (log_got place told c).got + 1) (log_got place told c) h
     go false = h
 
 enter-fits : (n epoch : ℕ) (c : Catalogue) → Fits c.blocks → Fits (enter n epoch c).blocks
 enter-fits n epoch c h = go (may_enter c epoch)
   where
-    go : (b : Bool) → Fits (cond b (advanced n (enter_epoch c)) c).blocks
-    go true = advance-fits n (length (enter_epoch c).got + 1) (enter_epoch c) (mapped-fits (λ (e : Address × Facts). (e.0, count_block (c.epoch + 1) e.1)) c.blocks h)
+    go : (b : Bool) → Fits (cond b (advanced n (enter_epoch n c)) c).blocks
+    go true = advance-fits n (length (enter_epoch n c).got + 1) (enter_epoch n c) (mapped-fits (λ (e : Address × Facts). (e.0, count_block (c.epoch + 1) e.1)) c.blocks h)
     go false = h
 
 -- ---- any entry
@@ -127,7 +129,7 @@ apply-fits at c number (kind.Mark op least block a) h = give-fits c least block 
 apply-fits at c number (kind.Root op held a key) h = root-fits at c held a key h
 apply-fits at c number (kind.Drop op key) h = drop-fits at c key h
 apply-fits at c number (kind.Enter op epoch) h = enter-fits at.shards epoch c h
-apply-fits at c number (kind.Got sender epoch round total deltas) h = got-fits at.shards (record { sender = sender; epoch = epoch; round = round; told = record { total = total; deltas = deltas } }) c h
+apply-fits at c number (kind.Got sender epoch round total deltas) h = got-fits at.shards (record { epoch = epoch; round = round; from = sender }) (record { total = total; deltas = deltas }) c h
 apply-fits at c number (kind.Base view epoch swept round frames) h = h
 apply-fits at c number (kind.KeptBlock born mark flags count bytes) h = h
 apply-fits at c number (kind.KeptRoot created dropped counted address key) h = h

@@ -22,7 +22,9 @@ use Rattle.hs_fold.specs.Shards.Catalogue.{is_stored, is_marked, is_rooted, reta
 use Rattle.hs_fold.specs.Shards.Setting.{Numbered}
 use Rattle.hs_fold.specs.Runs.Catalogue.{apply, apply_all, catalogue_of}
 use Rattle.hs_fold.specs.Runs.Clients.{new_facts, store_block, remark, marked, give_block, new_root, keep_root, end_retention, drop_key}
-use Rattle.hs_fold.specs.Runs.Facts.{Facts, GotRound, Catalogue, empty_catalogue, facts_at, plain}
+use Rattle.hs_fold.specs.Runs.Facts.{Facts, Catalogue, empty_catalogue, facts_at, plain}
+use Rattle.hs_rounds.specs.declared.body.RoundBody.{RoundBody}
+use Rattle.hs_rounds.specs.declared.place.Place.{Place}
 use Rattle.hs_fold.specs.Runs.Rounds.{is_new, count_block, may_enter, enter_epoch, enter, moved, moved_by, open_deltas, settled, is_new_zero, find_zero, search, is_gone, spare, sweep, is_last, is_complete, end_round, advance, advanced, is_accepted, log_got, get_round}
 
 abbrev pub Small : ℕ → Type 0
@@ -144,7 +146,7 @@ end-small n c h = go (is_last n c)
     low : AllSmall (settled n c).blocks
     low = settled-small n c h
 
-    go : (b : Bool) → AllSmall (cond b (sweep (settled n c)) (search (settled n c))).blocks
+    go : (b : Bool) → AllSmall (cond b (sweep (settled n c)) (search n (settled n c))).blocks
     go true = each-small spare spare-count (filter (λ e. not (is_gone c.epoch e.1)) (settled n c).blocks) (left-small (λ e. not (is_gone c.epoch e.1)) (settled n c).blocks low)
     go false = each-small (find_zero c.epoch) (zero-count c.epoch) (settled n c).blocks low
 
@@ -156,18 +158,18 @@ advance-small n (suc turns) c h = go (is_complete n c) (advance-small n turns (e
     go true k = k
     go false k = h
 
-got-small : (n : ℕ) (x : GotRound) (c : Catalogue) → AllSmall c.blocks → AllSmall (get_round n x c).blocks
-got-small n x c h = go (is_accepted n c x.sender x.epoch x.round)
+got-small : (n : ℕ) (place : Place) (told : RoundBody) (c : Catalogue) → AllSmall c.blocks → AllSmall (get_round n place told c).blocks
+got-small n place told c h = go (is_accepted n c place)
   where
-    go : (b : Bool) → AllSmall (cond b (advanced n (log_got x c)) c).blocks
-    go true = advance-small n (length (log_got x c).got + 1) (log_got x c) h
+    go : (b : Bool) → AllSmall (cond b (advanced n (log_got place told c)) c).blocks
+    go true = advance-small n (length (log_got place told c).got + 1) (log_got place told c) h
     go false = h
 
 enter-small : (n epoch : ℕ) (c : Catalogue) → AllSmall c.blocks → AllSmall (enter n epoch c).blocks
 enter-small n epoch c h = go (may_enter c epoch)
   where
-    go : (b : Bool) → AllSmall (cond b (advanced n (enter_epoch c)) c).blocks
-    go true = advance-small n (length (enter_epoch c).got + 1) (enter_epoch c) (each-small (count_block (c.epoch + 1)) (counted-count (c.epoch + 1)) c.blocks h)
+    go : (b : Bool) → AllSmall (cond b (advanced n (enter_epoch n c)) c).blocks
+    go true = advance-small n (length (enter_epoch n c).got + 1) (enter_epoch n c) (each-small (count_block (c.epoch + 1)) (counted-count (c.epoch + 1)) c.blocks h)
     go false = h
 
 -- ---- any entry
@@ -179,7 +181,7 @@ apply-small at c number (kind.Mark op least block a) h = give-small c least bloc
 apply-small at c number (kind.Root op held a key) h = root-small at c held a key h
 apply-small at c number (kind.Drop op key) h = drop-small at c key h
 apply-small at c number (kind.Enter op epoch) h = enter-small at.shards epoch c h
-apply-small at c number (kind.Got sender epoch round total deltas) h = got-small at.shards (record { sender = sender; epoch = epoch; round = round; told = record { total = total; deltas = deltas } }) c h
+apply-small at c number (kind.Got sender epoch round total deltas) h = got-small at.shards (record { epoch = epoch; round = round; from = sender }) (record { total = total; deltas = deltas }) c h
 apply-small at c number (kind.Base view epoch swept round frames) h = h
 apply-small at c number (kind.KeptBlock born mark flags count bytes) h = h
 apply-small at c number (kind.KeptRoot created dropped counted address key) h = h

@@ -115,11 +115,11 @@ module _ (front back : List Plain) (c : Catalogue) (mine : AreMine (all_shards f
       ∙ ap (λ one. happen_by (pruned s) one) (sym (client-happens at c entry u))
 
   -- Enter
-  pub enter-step : pruned (to (enter_epoch c)) ≡ enter (pruned s) g
-  enter-step = ap pruned whole ∙ enter-pruned s g some
+  pub enter-step : (k : ℕ) → pruned (to (enter_epoch k c)) ≡ enter (pruned s) g
+  enter-step k = ap pruned whole ∙ enter-pruned s g some
     where
       d : Plain
-      d = plain (enter_epoch c)
+      d = plain (enter_epoch k c)
 
       present : all_present (front ++ d ∷ back) ≡ all_present (front ++ plain c ∷ back)
       present = same-all-present front back (plain c) d (same-each (count_block (c.epoch + 1)) (counted-present (c.epoch + 1)) c.blocks)
@@ -128,10 +128,10 @@ module _ (front back : List Plain) (c : Catalogue) (mine : AreMine (all_shards f
       roots = same-roots front back (plain c) d (ap (λ rs. both_roots rs []) (same-kept (count_root (c.epoch + 1)) (counted-root (c.epoch + 1)) c.roots))
 
       epochs : map (λ (x : Plain). x.epoch) (front ++ d ∷ back) ≡ slice_set s.epochs g (slice_index s.epochs g + 1)
-      epochs = set-front (λ (x : Plain). x.epoch) front back (plain c) d ∙ ap (λ k. slice_set s.epochs g (k + 1)) (sym (at-front (λ (x : Plain). x.epoch) front back (plain c)))
+      epochs = set-front (λ (x : Plain). x.epoch) front back (plain c) d ∙ ap (λ e. slice_set s.epochs g (e + 1)) (sym (at-front (λ (x : Plain). x.epoch) front back (plain c)))
 
       swept : map (λ (x : Plain). x.swept) (front ++ d ∷ back) ≡ s.swept
       swept = map-front (λ (x : Plain). x.swept) front back (plain c) d refl
 
-      whole : to (enter_epoch c) ≡ record s { epochs = slice_set s.epochs g (slice_index s.epochs g + 1) }
+      whole : to (enter_epoch k c) ≡ record s { epochs = slice_set s.epochs g (slice_index s.epochs g + 1) }
       whole = λ i. record { blocks = stored_of (present i); given = marks_of (present i); roots = roots i; epochs = epochs i; swept = swept i; sessions = [] }

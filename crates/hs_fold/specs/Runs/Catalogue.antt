@@ -18,7 +18,7 @@ apply at c (number, kind.Root op held address key) = keep_root at c held address
 apply at c (number, kind.Drop op key) = drop_key at c key
 apply at c (number, kind.Enter op epoch) = enter at.shards epoch c
 apply at c (number, kind.Got sender epoch round total deltas) =
-    get_round at.shards (record { sender = sender; epoch = epoch; round = round; told = record { total = total; deltas = deltas } }) c
+    get_round at.shards (record { epoch = epoch; round = round; from = sender }) (record { total = total; deltas = deltas }) c
 apply at c (number, kind.Base view epoch swept round frames) = c
 apply at c (number, kind.KeptBlock born mark flags count bytes) = c
 apply at c (number, kind.KeptRoot created dropped counted address key) = c

@@ -3,7 +3,8 @@ use Rattle.std.specs.Prelude.{◌≡◌, ℕ, ◌+◌, Bool, not, ◌==◌, ◌&
 use Rattle.hs_limits.specs.declared.address.Address.{Address}
 use Rattle.hs_limits.specs.declared.delta.Delta.{Delta}
 use Rattle.hs_model.specs.Reach.{is_same}
-use Rattle.hs_fold.specs.Runs.Facts.{Facts, RootFacts, SentRound, Catalogue}
+use Rattle.hs_rounds.specs.declared.sending.SentRound.{SentRound}
+use Rattle.hs_fold.specs.Runs.Facts.{Facts, RootFacts, Catalogue}
 use Rattle.hs_fold.specs.Runs.Rounds.{is_running}
 use Rattle.hs_fold.specs.Runs.Told.{pointers_of, addresses_of}
 
@@ -19,6 +20,10 @@ abbrev pub indegree : Address → List Catalogue → ℕ
 indegree a [] = 0
 indegree a (c ∷ cs) = count_by (is_same a) (pointers_of counts_block c.blocks ++ addresses_of counts_root c.roots) + indegree a cs
 
+-- the deltas of a round, of all shards
+abbrev pub deltas_of : SentRound → List Delta
+deltas_of s = flat_map (λ body. body.deltas) s.bodies
+
 -- how much some deltas tell for an address
 abbrev pub amount_at : Address → List Delta → ℕ
 amount_at a [] = 0
@@ -30,10 +35,10 @@ is_unapplied c s = nat_lt c.epoch s.epoch || is_running c && (s.epoch == c.epoch
 
 -- what was sent for an address and is not applied by its shard: by rounds 0, and by the others
 abbrev pub raised : Address → Catalogue → List Catalogue → ℕ
-raised a c cs = amount_at a (flat_map (λ sender. flat_map (λ s. s.told.deltas) (filter (λ s. is_unapplied c s && s.round == 0) sender.sent)) cs)
+raised a c cs = amount_at a (flat_map (λ sender. flat_map deltas_of (filter (λ s. is_unapplied c s && s.round == 0) sender.sent)) cs)
 
 abbrev pub lowered : Address → Catalogue → List Catalogue → ℕ
-lowered a c cs = amount_at a (flat_map (λ sender. flat_map (λ s. s.told.deltas) (filter (λ s. is_unapplied c s && nat_lt 0 s.round) sender.sent)) cs)
+lowered a c cs = amount_at a (flat_map (λ sender. flat_map deltas_of (filter (λ s. is_unapplied c s && nat_lt 0 s.round) sender.sent)) cs)
 
 -- a counter is how often its address is named, less what is on the way to raise it, and with what is on the way to lower it
 abbrev pub AreCounted : List Catalogue → Catalogue → Type 0

@@ -4,8 +4,9 @@ use Rattle.std.specs.BTreeMap.{is_at}
 use Rattle.std.specs.Map.{lookup}
 use Rattle.std.specs.Prelude.{Option}
 use Rattle.hs_limits.specs.declared.address.Address.{Address}
-use Rattle.hs_limits.specs.declared.delta.Delta.{Delta}
 use Rattle.hs_model.specs.Store.{Root, address_cmp}
+use Rattle.hs_rounds.specs.declared.sending.SentRound.{SentRound}
+use Rattle.hs_rounds.specs.Rounds.{GotList}
 use Rattle.hs_fold.specs.Catalogue.{Present}
 use Rattle.hs_fold.specs.Shards.Catalogue.{Catalogue as PlainCatalogue}
 use Rattle.hs_fold.specs.Shards.Opened.{both_roots}
@@ -23,26 +24,8 @@ pub record RootFacts : Type 0 where
   pub created : ℕ
   pub counted : Bool
 
--- what a round tells: its total, and how much of each address
-pub record Told : Type 0 where
-  pub total : ℕ
-  pub deltas : List Delta
-
--- a round that came from a sender
-pub record GotRound : Type 0 where
-  pub sender : ℕ
-  pub epoch : ℕ
-  pub round : ℕ
-  pub told : Told
-
--- a round that was sent
-pub record SentRound : Type 0 where
-  pub epoch : ℕ
-  pub round : ℕ
-  pub told : Told
-
--- blocks by address; roots in the order in which they were put; round: the open one, where the epoch is not swept;
--- got: what came for it and what waits; sent: the last two rounds, the older first
+-- blocks by address; roots in the order in which they were put; round: the open one where the epoch is not swept, and else 0;
+-- got: what came for it and what waits; sent: the last two rounds, the last one first
 pub record Catalogue : Type 0 where
   pub blocks : List (Address × Facts)
   pub roots : List RootFacts
@@ -50,7 +33,7 @@ pub record Catalogue : Type 0 where
   pub swept : ℕ
   pub view : ℕ
   pub round : ℕ
-  pub got : List GotRound
+  pub got : GotList
   pub sent : List SentRound
 
 -- before the first entry

@@ -7,7 +7,9 @@ use Rattle.hs_fold.specs.Shards.Happening.{Happening, enters, sweeps}
 use Rattle.hs_fold.specs.Shards.Happening.{happening_of as plain_happening}
 use Rattle.hs_fold.specs.Shards.Setting.{Numbered}
 use Rattle.hs_fold.specs.Runs.Catalogue.{apply}
-use Rattle.hs_fold.specs.Runs.Facts.{Catalogue, GotRound, plain}
+use Rattle.hs_rounds.specs.declared.body.RoundBody.{RoundBody}
+use Rattle.hs_rounds.specs.declared.place.Place.{Place}
+use Rattle.hs_fold.specs.Runs.Facts.{Catalogue, plain}
 use Rattle.hs_fold.specs.Runs.Rounds.{may_enter, is_accepted, log_got, ends_last}
 
 -- an entry of no epoch and no round
@@ -17,14 +19,14 @@ IsClients (kind.Got sender epoch round total deltas) = ⊥
 IsClients other = Unit {0}
 
 -- a Got that is taken ends a last round: by itself, or behind a round that it completes
-abbrev pub ends_run : ℕ → Catalogue → GotRound → Bool
-ends_run shards c g = is_accepted shards c g.sender g.epoch g.round && ends_last shards (length (log_got g c).got + 1) (log_got g c)
+abbrev pub ends_run : ℕ → Catalogue → Place → RoundBody → Bool
+ends_run shards c place told = is_accepted shards c place && ends_last shards (length (log_got place told c).got + 1) (log_got place told c)
 
 -- an Enter that changes something is an enter, a Got that ends a last round a sweep; a client's entry is what it is without deletion
 abbrev pub happening_of : Shard → Catalogue → Entry → Option Happening
 happening_of at c (kind.Enter op epoch) = if may_enter c epoch then Some (enters at.shard) else None
 happening_of at c (kind.Got sender epoch round total deltas) =
-    if ends_run at.shards c (record { sender = sender; epoch = epoch; round = round; told = record { total = total; deltas = deltas } }) then Some (sweeps at.shard) else None
+    if ends_run at.shards c (record { epoch = epoch; round = round; from = sender }) (record { total = total; deltas = deltas }) then Some (sweeps at.shard) else None
 happening_of at c (kind.View view) = None
 happening_of at c (kind.Block op least bytes) = plain_happening at (plain c) (kind.Block op least bytes)
 happening_of at c (kind.Mark op least block address) = plain_happening at (plain c) (kind.Mark op least block address)

@@ -25,7 +25,7 @@ abbrev pub FitAll : Setting → List Catalogue → List Deed → Type 0
 FitAll set cs [] = Unit {0}
 FitAll set cs (deed ∷ deeds) =
     (deed.shard < set.shape.shards)
-    × ((applied set cs deed ≡ catalogue_at cs deed.shard → ⊥) → MayCome set.shape.shards cs deed.shard deed.entry)
+    × ((applied set cs deed ≡ catalogue_at cs deed.shard → ⊥) → MayCome cs deed.shard deed.entry)
     × FitAll set (follow set cs deed) deeds
 
 -- before the first entry

@@ -1,13 +1,18 @@
 -- The rounds of a deletion run at one shard.
-use Rattle.std.specs.Prelude.{ℕ, ◌+◌, ◌-◌, ◌^◌, Bool, true, false, not, ◌==◌, ◌&&◌, ◌||◌, ◌++◌, if◌then◌else◌, List, [], ◌∷◌, length, Option, is_none, is_some, nat_le, nat_lt, map, filter, find, count_by, flat_map}
-use Rattle.std.specs.List.{list_all, range_with_len}
+use Rattle.std.specs.Prelude.{ℕ, ◌+◌, ◌-◌, ◌^◌, Bool, true, false, not, ◌==◌, ◌&&◌, ◌||◌, ◌++◌, if◌then◌else◌, List, [], ◌∷◌, length, Some, None, is_none, nat_le, nat_lt, map, filter, take, count_by}
+use Rattle.std.specs.BTreeMap.{insert_entry}
 use Rattle.std.specs.Option.{option_map_or}
 use Rattle.std.proofs.Common.{zero, suc}
 use Rattle.hs_limits.specs.declared.address.Address.{Address}
 use Rattle.hs_limits.specs.declared.delta.Delta.{Delta}
+use Rattle.hs_limits.specs.declared.shape.Shape.{Shape}
 use Rattle.hs_model.specs.Reach.{is_same}
-use Rattle.hs_fold.specs.Runs.Facts.{Facts, RootFacts, Told, GotRound, Catalogue, each_block}
-use Rattle.hs_fold.specs.Runs.Told.{tally, pointers_of, addresses_of, sends}
+use Rattle.hs_rounds.specs.declared.body.RoundBody.{RoundBody}
+use Rattle.hs_rounds.specs.declared.place.Place.{Place}
+use Rattle.hs_rounds.specs.declared.sending.SentRound.{SentRound}
+use Rattle.hs_rounds.specs.Rounds.{Run, place_cmp, body_at, have_told, have_told_zero, changes_of, bodies_for, from_round}
+use Rattle.hs_fold.specs.Runs.Facts.{Facts, RootFacts, Catalogue, each_block}
+use Rattle.hs_fold.specs.Runs.Told.{tally, pointers_of, addresses_of}
 
 -- ---- Enter: what is older than the epoch counts, and round 0 raises what it names
 
@@ -23,37 +28,30 @@ count_block epoch f = if is_new epoch f then record f { counted = true } else f
 abbrev pub count_root : ℕ → RootFacts → RootFacts
 count_root epoch r = if is_new_root epoch r then record r { counted = true } else r
 
-abbrev pub first_told : ℕ → Catalogue → Told
-first_told epoch c = record { total = 0; deltas = tally (pointers_of (is_new epoch) c.blocks ++ addresses_of (is_new_root epoch) c.roots) }
+abbrev pub first_deltas : ℕ → Catalogue → List Delta
+first_deltas epoch c = tally (pointers_of (is_new epoch) c.blocks ++ addresses_of (is_new_root epoch) c.roots)
+
+-- a round tells each of so many shards its part; the last two rounds are kept
+abbrev pub sends : ℕ → ℕ → ℕ → ℕ → List Delta → List SentRound → List SentRound
+sends shards epoch round total deltas sent = take 2 (record { epoch = epoch; round = round; bodies = bodies_for shards total deltas } ∷ sent)
 
 -- an Enter is for the next epoch, once the shard's is swept
 abbrev pub may_enter : Catalogue → ℕ → Bool
 may_enter c epoch = epoch == c.epoch + 1 && c.swept == c.epoch
 
--- a Got of an earlier epoch or round
-abbrev pub is_older : ℕ → ℕ → GotRound → Bool
-is_older epoch round g = nat_lt g.epoch epoch || g.epoch == epoch && nat_lt g.round round
-
-abbrev pub enter_epoch : Catalogue → Catalogue
-enter_epoch c =
+abbrev pub enter_epoch : ℕ → Catalogue → Catalogue
+enter_epoch shards c =
     let epoch : ℕ = c.epoch + 1 in
     record c {
       blocks = each_block (count_block epoch) c.blocks;
       roots = map (count_root epoch) c.roots;
       epoch = epoch;
       round = 0;
-      got = filter (λ g. not (is_older epoch 0 g)) c.got;
-      sent = sends epoch 0 (first_told epoch c) c.sent;
+      got = from_round epoch 0 c.got;
+      sent = sends shards epoch 0 0 (first_deltas epoch c) c.sent;
     }
 
 -- ---- what came
-
--- a sender's round
-abbrev pub is_from : ℕ → ℕ → ℕ → GotRound → Bool
-is_from sender epoch round g = sender == g.sender && (epoch == g.epoch && round == g.round)
-
-abbrev pub got_at : List GotRound → ℕ → ℕ → ℕ → Option GotRound
-got_at got sender epoch round = find (is_from sender epoch round) got
 
 -- a round is open until the epoch is swept
 abbrev pub is_running : Catalogue → Bool
@@ -64,20 +62,16 @@ abbrev pub is_due : Catalogue → ℕ → ℕ → Bool
 is_due c epoch round = is_running c && (epoch == c.epoch && (round == c.round || round == c.round + 1)) || epoch == c.epoch + 1 && round == 0
 
 -- it is taken where its sender is there and it did not come before
-abbrev pub is_accepted : ℕ → Catalogue → ℕ → ℕ → ℕ → Bool
-is_accepted shards c sender epoch round = nat_lt sender shards && (is_none (got_at c.got sender epoch round) && is_due c epoch round)
-
--- what a sender told in the open round
-abbrev pub open_got : Catalogue → ℕ → Option GotRound
-open_got c sender = got_at c.got sender c.epoch c.round
+abbrev pub is_accepted : ℕ → Catalogue → Place → Bool
+is_accepted shards c place = nat_lt place.from shards && (is_none (body_at place c.got) && is_due c place.epoch place.round)
 
 -- the open round has come from every shard
 abbrev pub is_complete : ℕ → Catalogue → Bool
-is_complete shards c = is_running c && list_all (λ h. is_some (open_got c h)) (range_with_len 0 shards)
+is_complete shards c = is_running c && have_told shards c.epoch c.round c.got
 
 -- a round of 1 or more in which all totals are 0
 abbrev pub is_last : ℕ → Catalogue → Bool
-is_last shards c = nat_le 1 c.round && list_all (λ h. option_map_or (λ g. g.told.total == 0) (open_got c h) true) (range_with_len 0 shards)
+is_last shards c = nat_le 1 c.round && have_told_zero shards c.epoch c.round c.got
 
 -- ---- the end of a round: its deltas move the counts
 
@@ -93,7 +87,7 @@ moved_by round a (d ∷ ds) count = moved_by round a ds (if is_same d.address a 
 
 -- those of the open round, by sender
 abbrev pub open_deltas : ℕ → Catalogue → List Delta
-open_deltas shards c = flat_map (λ h. option_map_or (λ g. g.told.deltas) (open_got c h) []) (range_with_len 0 shards)
+open_deltas shards c = changes_of shards c.epoch c.round c.got
 
 abbrev pub settled : ℕ → Catalogue → Catalogue
 settled shards c = record c { blocks = map (λ e. (e.0, record e.1 { count = moved_by c.round e.0 (open_deltas shards c) e.1.count })) c.blocks }
@@ -111,19 +105,19 @@ find_zero epoch f = if is_new_zero epoch f then record f { zero = true } else f
 abbrev pub is_released : Catalogue → RootFacts → Bool
 is_released c r = c.round == 0 && (r.counted && option_map_or (λ d. nat_le (d + 2) c.epoch) r.root.dropped false)
 
-abbrev pub next_told : Catalogue → Told
-next_told c = record {
-  total = count_by (λ e. is_new_zero c.epoch e.1) c.blocks + count_by (is_released c) c.roots;
-  deltas = tally (pointers_of (is_new_zero c.epoch) c.blocks ++ addresses_of (is_released c) c.roots);
-}
+abbrev pub next_total : Catalogue → ℕ
+next_total c = count_by (λ e. is_new_zero c.epoch e.1) c.blocks + count_by (is_released c) c.roots
 
-abbrev pub search : Catalogue → Catalogue
-search c = record c {
+abbrev pub next_deltas : Catalogue → List Delta
+next_deltas c = tally (pointers_of (is_new_zero c.epoch) c.blocks ++ addresses_of (is_released c) c.roots)
+
+abbrev pub search : ℕ → Catalogue → Catalogue
+search shards c = record c {
   blocks = each_block (find_zero c.epoch) c.blocks;
   roots = filter (λ r. not (is_released c r)) c.roots;
   round = c.round + 1;
-  got = filter (λ g. not (is_older c.epoch (c.round + 1) g)) c.got;
-  sent = sends c.epoch (c.round + 1) (next_told c) c.sent;
+  got = from_round c.epoch (c.round + 1) c.got;
+  sent = sends shards c.epoch (c.round + 1) (next_total c) (next_deltas c) c.sent;
 }
 
 -- ---- the last round: the sweep
@@ -140,13 +134,14 @@ abbrev pub sweep : Catalogue → Catalogue
 sweep c = record c {
   blocks = each_block spare (filter (λ e. not (is_gone c.epoch e.1)) c.blocks);
   swept = c.epoch;
-  got = filter (λ g. not (is_older c.epoch (c.round + 1) g)) c.got;
+  round = 0;
+  got = from_round c.epoch (c.round + 1) c.got;
 }
 
 -- ---- one round after another
 
 abbrev pub end_round : ℕ → Catalogue → Catalogue
-end_round shards c = if is_last shards c then sweep (settled shards c) else search (settled shards c)
+end_round shards c = if is_last shards c then sweep (settled shards c) else search shards (settled shards c)
 
 -- rounds end while the open one is complete: on sound lists one at most, and no more than there are Gots
 abbrev pub advance : ℕ → ℕ → Catalogue → Catalogue
@@ -162,12 +157,17 @@ ends_last shards zero c = false
 ends_last shards (suc turns) c = is_complete shards c && (is_last shards c || ends_last shards turns (end_round shards c))
 
 -- a Got is kept, and ends what it completes
-abbrev pub log_got : GotRound → Catalogue → Catalogue
-log_got g c = record c { got = g ∷ c.got }
+abbrev pub log_got : Place → RoundBody → Catalogue → Catalogue
+log_got place told c = record c { got = insert_entry place_cmp c.got place told }
 
-abbrev pub get_round : ℕ → GotRound → Catalogue → Catalogue
-get_round shards g c = if is_accepted shards c g.sender g.epoch g.round then advanced shards (log_got g c) else c
+abbrev pub get_round : ℕ → Place → RoundBody → Catalogue → Catalogue
+get_round shards place told c = if is_accepted shards c place then advanced shards (log_got place told c) else c
 
 -- an Enter, too, ends what came for its round 0 before
 abbrev pub enter : ℕ → ℕ → Catalogue → Catalogue
-enter shards epoch c = if may_enter c epoch then advanced shards (enter_epoch c) else c
+enter shards epoch c = if may_enter c epoch then advanced shards (enter_epoch shards c) else c
+
+-- ---- the run of a shard, as it is kept in memory
+
+abbrev pub run_of : Shape → ℕ → Catalogue → Run
+run_of shape shard c = record { shape = shape; shard = shard; opened = if is_running c then Some (c.epoch, c.round) else None; gots = c.got; sent = c.sent }

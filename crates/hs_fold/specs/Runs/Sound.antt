@@ -16,14 +16,14 @@ pub record HasRoom (c : Catalogue) : Type 0 where
   pub records : length c.roots ≤ most_records
 
 -- each Got that waits or is of the open round is what its sender's fold has sent last or last but one
-abbrev pub AreSent : ℕ → List Catalogue → ℕ → Type 0
-AreSent shards cs shard = All (λ g. HasSent shards (catalogue_at cs g.sender).sent shard g.epoch g.round g.told) (catalogue_at cs shard).got
+abbrev pub AreSent : List Catalogue → ℕ → Type 0
+AreSent cs shard = All (λ g. HasSent (catalogue_at cs g.0.from).sent shard g.0.epoch g.0.round g.1) (catalogue_at cs shard).got
 
 -- lists that a run may begin with, one for each shard
 pub record AreSound (set : Setting) (lists : List Numbered) : Type 0 where
   pub valid : IsValid (store_of (catalogues set 0 lists))
   pub room : All HasRoom (catalogues set 0 lists)
   pub counted : All (AreCounted (catalogues set 0 lists)) (catalogues set 0 lists)
-  pub sent : (shard : ℕ) → shard < set.shape.shards → AreSent set.shape.shards (catalogues set 0 lists) shard
+  pub sent : (shard : ℕ) → shard < set.shape.shards → AreSent (catalogues set 0 lists) shard
   pub lawful : AreLawful set lists (catalogues set 0 lists)
   pub views : All HasRisingViews lists

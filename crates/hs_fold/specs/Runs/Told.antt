@@ -1,13 +1,11 @@
--- What a round tells: how often each address is named.
-use Rattle.std.specs.Prelude.{ℕ, ◌+◌, ◌-◌, Bool, ◌==◌, ◌++◌, if◌then◌else◌, List, [], ◌∷◌, length, map, filter, take, drop, unwrap_or}
+-- How often addresses are named, as a round tells it.
+use Rattle.std.specs.Prelude.{ℕ, ◌+◌, Bool, ◌++◌, if◌then◌else◌, List, [], ◌∷◌, map, unwrap_or}
 use Rattle.std.specs.BTreeMap.{insert_entry, is_at}
 use Rattle.std.specs.Map.{lookup}
 use Rattle.hs_limits.specs.declared.address.Address.{Address}
 use Rattle.hs_limits.specs.declared.delta.Delta.{Delta}
-use Rattle.hs_limits.specs.Limits.{greatest_limits}
-use Rattle.hs_limits.specs.Shape.{shard_of}
 use Rattle.hs_model.specs.Store.{address_cmp}
-use Rattle.hs_fold.specs.Runs.Facts.{Facts, RootFacts, Told, SentRound}
+use Rattle.hs_fold.specs.Runs.Facts.{Facts, RootFacts}
 
 -- an address counted once more
 abbrev pub one_more : List (Address × ℕ) → Address → List (Address × ℕ)
@@ -31,14 +29,3 @@ pointers_of test (e ∷ es) = (if test e.1 then e.1.present.stored.pointers else
 abbrev pub addresses_of : (RootFacts → Bool) → List RootFacts → List Address
 addresses_of test [] = []
 addresses_of test (r ∷ rs) = (if test r then r.root.address ∷ [] else []) ++ addresses_of test rs
-
--- what a round tells one shard: the deltas of its addresses, of the lowest so many as a shard takes blocks
-abbrev pub told_to : ℕ → ℕ → Told → Told
-told_to shards shard told = record {
-  total = told.total;
-  deltas = take greatest_limits.blocks (filter (λ d. shard_of shards d.address == shard) told.deltas);
-}
-
--- the last round that was sent, and one more
-abbrev pub sends : ℕ → ℕ → Told → List SentRound → List SentRound
-sends epoch round told sent = drop (length sent - 1) sent ++ record { epoch = epoch; round = round; told = told } ∷ []

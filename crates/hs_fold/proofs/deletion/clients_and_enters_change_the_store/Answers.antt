@@ -8,4 +8,4 @@ pub returns-clause-enter : goal.returns-clause-enter
 returns-clause-enter c = λ set cs shard number op epoch all low own unfinished. deed-enter set shard number op epoch cs all low own unfinished
 
 pub returns-clause-got : goal.returns-clause-got
-returns-clause-got c = λ set cs shard number x all low unfinished. deed-got set shard number x cs all low unfinished
+returns-clause-got c = λ set cs shard number place told all low unfinished. deed-got set shard number place told cs all low unfinished

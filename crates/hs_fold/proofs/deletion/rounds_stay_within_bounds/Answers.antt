@@ -10,7 +10,7 @@ pub returns-clause-ended : goal.returns-clause-ended
 returns-clause-ended c = λ shards k some. all-ended shards k some
 
 pub returns-clause-told : goal.returns-clause-told
-returns-clause-told c = λ shards shard told. told-few shards shard told
+returns-clause-told c = λ shards total to deltas. told-few shards total deltas to
 
 pub returns-clause-blocks : goal.returns-clause-blocks
 returns-clause-blocks c = λ at list. list-fits at list
