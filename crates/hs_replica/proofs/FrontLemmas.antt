@@ -141,8 +141,8 @@ pub view_front : (members : Members) (group : Group) → IsGroup group → HaveS
 view_front members group valid h =
     let same : commit_front (on_view members group) ≡ commit_front (renew members group) = proposed_front (View (view_of group.shard members)) (renew members group) in
     rw same (low_front (commit_front group) (least_known (tell_from members (first_peer group) group.copies))
-      (one_found members (first_peer group) (h.peer - first_peer group) h.peer group.copies (omega (arith, h.some.home.0)) (omega (arith, valid.copies, h.some.home.0, h.some.home.1)) h.some.good)
-      (all_low members (first_peer group) (commit_front group) group.copies (λ i p e l t. all i p e l t)))
+    (one_found members (first_peer group) (h.peer - first_peer group) h.peer group.copies (omega (arith, h.some.home.0)) (omega (arith, valid.copies, h.some.home.0, h.some.home.1)) h.some.good)
+    (all_low members (first_peer group) (commit_front group) group.copies (λ i p e l t. all i p e l t)))
   where
     all : (i p : ℕ) → p ≡ first_peer group + i → i < length group.copies → is_good_status (status p members) ≡ true
         → commit_front group ≤ (slice_index_or group.copies i no_copy).sealed

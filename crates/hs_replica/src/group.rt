@@ -1,19 +1,20 @@
 //! The copies of one shard's list.
-ghost use Rattle.std.specs.Prelude.{◌≡◌, ◌+◌, ◌-◌, ◌*◌, ◌≤◌, ◌<◌, length, map, IfOk, IfSome, OnErr, OnOk, if◌then◌else◌, slice_index_or};
+ghost use Rattle.std.specs.Prelude.{◌≡◌, ◌+◌, ◌-◌, ◌<◌, length, map, IfOk, IfSome, OnErr, OnOk, slice_index_or};
 ghost use Rattle.hs_entry.specs.declared.entry.Entry.TheVariants.{View};
 ghost use Rattle.hs_limits.specs.Shape.{IsShape};
-ghost use Rattle.hs_members.specs.Members.{IsPeer, IsShard, is_good_status, status};
+ghost use Rattle.hs_members.specs.Members.{IsShard};
 ghost use Rattle.hs_post.specs.declared.message.Message.TheVariants.{Copy};
-ghost use Rattle.hs_replica.specs.Group.{IsHome, commit_front, committed, copies_above, copy_of, first_peer, have, last_number, lead, lead_takes, length_of, new_group, no_copy, on_append, on_copied, on_emptied, on_have, on_sealed, on_view, others_from, proposal, propose, renew, resend, send_all, take_committed, take_entry, takes, tell_from, view_after, view_messages, whole_copy};
+ghost use Rattle.hs_replica.specs.Group.{IsHome, commit_front, committed, copies_above, copy_of, first_peer, have, last_number, lead, lead_takes, length_of, new_group, no_copy, on_append, on_copied, on_emptied, on_have, on_sealed, on_view, others_from, proposal, propose, renew, resend, send_all, take_committed, take_entry, takes, view_messages};
 ghost use Rattle.hs_replica.specs.Sending.{copies_since, send_if_other};
 
 use crate::GroupFault;
+use crate::copies::{copies_of, tell_copies};
 use crate::replica::{Replica, lead_of, least_known};
 use crate::sending::{Sender, Since, above, is_peer, send_copies};
-use crate::stamps::Stamps;
+use crate::stamps::view_after;
 use crate::waiting::Waiting;
 use hs_entry::Entry;
-use hs_limits::{PeerStatus, Shape, peer_of};
+use hs_limits::{Shape, peer_of};
 use hs_members::Members;
 use hs_post::{Message, Pool};
 use std::alloc::Global;
@@ -453,69 +454,5 @@ impl Group {
         };
         self.waiting
             .truncate(length.saturating_sub(self.front) as usize);
-    }
-}
-
-/// Copies that have so many entries of this view where `good` says so, and else none.
-fn copies_of(alloc: Global, view: u64, len: u64, good: &[bool]) -> Result<Vec<Replica>, GroupFault>
-    ensures { IfOk result (λ copies. copies.items ≡ map (λ b. if b then whole_copy view len else no_copy) good.now) }
-{
-    let mut copies = Vec::new(alloc);
-    for good in good.iter() {
-        copies.push(copy_at(alloc, view, len, *good)?)?;
-    }
-    Ok(copies)
-}
-
-/// A copy that has so many entries of this view where it is good, and else none.
-fn copy_at(alloc: Global, view: u64, len: u64, good: bool) -> Result<Replica, GroupFault>
-    ensures { IfOk result (λ copy. copy ≡ (if good then whole_copy view len else no_copy)) }
-{
-    let count = if good { len } else { 0 };
-    Ok(Replica {
-        good,
-        stamps: Stamps::all_of(alloc, view, count)?,
-        sealed: count,
-        known: count,
-    })
-}
-
-/// Each copy is good as the members say, and of a good one is known all that it has sealed.
-#[tactic(auto, using(crate::proofs::TellLemmas::tell_next, crate::proofs::TellLemmas::all_told))]
-fn tell_copies(copies: &mut Vec<Replica>, first: u8, members: &Members)
-    requires shape { IsShape members.now.shape }
-    requires peers { first + length copies.old.items ≤ members.now.shape.shards * members.now.shape.copies }
-    ensures told { copies.new.items ≡ tell_from members.now first copies.old.items }
-    ensures len { length copies.new.items ≡ length copies.old.items }
-{
-    for index in 0..copies.len() {
-        copies[index].tell(is_good(members, first + index as u8));
-    }
-}
-
-/// Whether a peer is good.
-fn is_good(members: &Members, peer: u8) -> bool
-    requires { IsPeer members.now.shape peer }
-    ensures { result ≡ is_good_status (status peer members.now) }
-{
-    members.status(peer) == PeerStatus::Good
-}
-
-/// The view of an entry behind one of this view.
-fn view_after(before: u64, entry: &Entry) -> u64
-    ensures { result ≡ view_after before entry.now }
-{
-    match entry {
-        Entry::View { view } => *view,
-        Entry::Base { view, .. } => *view,
-        Entry::Block { .. }
-        | Entry::Mark { .. }
-        | Entry::Root { .. }
-        | Entry::Drop { .. }
-        | Entry::Enter { .. }
-        | Entry::Got { .. }
-        | Entry::KeptBlock { .. }
-        | Entry::KeptRoot { .. }
-        | Entry::KeptRound { .. } => before,
     }
 }

@@ -1,6 +1,7 @@
 //! The copies of one shard's list: who has which entries, what all have sealed, and new views.
 #![tactic(auto)]
 
+mod copies;
 mod fault;
 mod group;
 mod laws;

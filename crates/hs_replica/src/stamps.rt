@@ -1,9 +1,10 @@
 //! The views of a list's entries, as runs of one view.
 ghost use Rattle.std.specs.Prelude.{◌≡◌, ◌+◌, ◌∷◌, ◌++◌, [], length, replicate, slice_index_or, IfOk, OnOk, OnErr};
-ghost use Rattle.hs_replica.specs.Group.{last_view};
+ghost use Rattle.hs_replica.specs.Group.{last_view, view_after};
 ghost use Rattle.hs_replica.specs.Runs.{AreRuns, end_of, expand};
 
 use crate::GroupFault;
+use hs_entry::Entry;
 use std::alloc::Global;
 use std::marker::Model;
 
@@ -138,5 +139,24 @@ fn add(runs: &mut Vec<Run>, view: u64, end: u64) -> Result<(), GroupFault>
     } else {
         runs.push(Run { view, end })?;
         Ok(())
+    }
+}
+
+/// The view of an entry behind one of this view.
+pub(crate) fn view_after(before: u64, entry: &Entry) -> u64
+    ensures { result ≡ view_after before entry.now }
+{
+    match entry {
+        Entry::View { view } => *view,
+        Entry::Base { view, .. } => *view,
+        Entry::Block { .. }
+        | Entry::Mark { .. }
+        | Entry::Root { .. }
+        | Entry::Drop { .. }
+        | Entry::Enter { .. }
+        | Entry::Got { .. }
+        | Entry::KeptBlock { .. }
+        | Entry::KeptRoot { .. }
+        | Entry::KeptRound { .. } => before,
     }
 }

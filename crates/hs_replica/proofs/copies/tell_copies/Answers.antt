@@ -1,6 +1,6 @@
 use Rattle.std.proofs.Common.{rules, arith, ◌∙◌}
 use Rattle.hs_replica.proofs.TellLemmas.{tell_next}
-use Rattle.hs_replica.proofs.group.tell_copies.Goals as goal
+use Rattle.hs_replica.proofs.copies.tell_copies.Goals as goal
 
 pub loop-index-preserved : goal.loop-index-preserved
 loop-index-preserved c = record {

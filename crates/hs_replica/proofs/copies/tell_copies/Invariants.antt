@@ -1,7 +1,7 @@
 use Rattle.std.proofs.Common.{◌≡◌, length}
 use Rattle.hs_replica.proofs.TellLemmas.{told_behind}
 use Rattle.hs_replica.specs.Group.{tell_from}
-use Rattle.hs_replica.proofs.group.tell_copies.Given as goal
+use Rattle.hs_replica.proofs.copies.tell_copies.Given as goal
 
 -- telling those that are left leads to what telling all leads to
 abbrev pub invariant-loop-index : goal.invariant-loop-index
