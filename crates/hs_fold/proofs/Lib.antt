@@ -7,6 +7,7 @@ pub mod OneListLemmas
 pub mod OrderLemmas
 pub mod PrefixLemmas
 pub mod ServedLemmas
+pub mod Runs
 pub mod Shards
 pub mod SessionLemmas
 pub mod SoundLemmas

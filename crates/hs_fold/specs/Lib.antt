@@ -8,4 +8,5 @@ pub mod Lawful
 pub mod Order
 pub mod Prefix
 pub mod Served
+pub mod Runs
 pub mod Shards

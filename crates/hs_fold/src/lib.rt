@@ -2,6 +2,7 @@
 #![tactic(auto)]
 
 mod change;
+mod deletion;
 mod fronts;
 mod histories;
 mod images;
@@ -20,6 +21,10 @@ mod unrooted;
 mod waiting;
 
 pub use change::{entries_change_the_store, lists_change_the_store};
+pub use deletion::{
+    clients_and_enters_change_the_store, clients_see_no_runs, ends_of_rounds_change_the_store,
+    rounds_stay_within_bounds, runs_keep_catalogues_own,
+};
 pub use fronts::fronts_are_prefixes;
 pub use histories::{
     catalogues_are_of_their_shards, histories_change_the_store, shards_see_their_own,

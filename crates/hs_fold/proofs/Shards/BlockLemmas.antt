@@ -117,7 +117,7 @@ either (Some v) other = Some v
 look : Address → List (Address × Present) → Option Present
 look a es = lookup (is_at (address_cmp a)) es
 
-both-look : (es others : List (Address × Present)) (a : Address) → lookup (is_at (address_cmp a)) (both es others) ≡ either (lookup (is_at (address_cmp a)) es) (lookup (is_at (address_cmp a)) others)
+pub both-look : (es others : List (Address × Present)) (a : Address) → lookup (is_at (address_cmp a)) (both es others) ≡ either (lookup (is_at (address_cmp a)) es) (lookup (is_at (address_cmp a)) others)
 both-look [] others a = refl
 both-look (x ∷ es) others a = go (both-look es others a) (is_same a x.0) refl
   where
@@ -182,12 +182,12 @@ counted-insert test (x ∷ es) a k none = go (counted-insert test es a k) (addre
     go ih Equal e n = cc n
     go ih Greater e n = let more = ih n in omega (arith, more)
 
-look-above : (es : List (Address × Present)) (a : Address) → AllByRecursion (λ y. address_cmp a y ≡ Less) (keys_of es) → lookup (is_at (address_cmp a)) es ≡ None
+pub look-above : (es : List (Address × Present)) (a : Address) → AllByRecursion (λ y. address_cmp a y ≡ Less) (keys_of es) → lookup (is_at (address_cmp a)) es ≡ None
 look-above [] a h = refl
 look-above (x ∷ es) a h = rw h.0 (look-above es a h.1)
 
 -- what both count is the sum, where no key stands in both
-abbrev Apart : List (Address × Present) → List (Address × Present) → Type 0
+abbrev pub Apart : List (Address × Present) → List (Address × Present) → Type 0
 Apart [] others = Unit {0}
 Apart (e ∷ es) others = (lookup (is_at (address_cmp e.0)) others ≡ None) × Apart es others
 
@@ -213,7 +213,7 @@ pub no_block_before : (shards shard from : ℕ) (front rest : List Catalogue) �
 no_block_before shards shard from [] rest low h = tt
 no_block_before shards shard from (c ∷ front) rest low h = (none_of_mine shards from shard c.blocks (λ same. omega (arith, low, same)) h.0.blocks, no_block_before shards shard (from + 1) front rest (omega (arith, low)) h.1)
 
-apart-mine : (shards shard : ℕ) (es : List (Address × Present)) (cs : List Catalogue) → AllByRecursion (λ a. shard_of shards a ≡ shard) (keys_of es) → NoBlock shards shard cs → Apart es (all_present cs)
+pub apart-mine : (shards shard : ℕ) (es : List (Address × Present)) (cs : List Catalogue) → AllByRecursion (λ a. shard_of shards a ≡ shard) (keys_of es) → NoBlock shards shard cs → Apart es (all_present cs)
 apart-mine shards shard [] cs h none = tt
 apart-mine shards shard (e ∷ es) cs h none = (nothing-look shards shard cs e.0 h.0 none, apart-mine shards shard es cs h.1 none)
 

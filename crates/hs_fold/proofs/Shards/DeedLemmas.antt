@@ -42,7 +42,7 @@ deed-mine set deed cs all low = on-place (λ ds k. AreMine n 0 ds → AreMine n 
         let d : Catalogue = apply (shard_at set.name n (length front)) c (deed.number, deed.entry) in
         let here : IsMine n (length front) c = subst (λ k. IsMine n k c) (zero-left (length front)) (mine-there n 0 front back c mine) in
         let there : IsMine n (0 + length front) d = subst (λ k. IsMine n k d) (sym (zero-left (length front))) (apply-mine (shard_at set.name n (length front)) c here deed.number deed.entry) in
-        subst (λ ds. AreMine n 0 ds) (sym (ap (λ x. slice_set (front ++ c ∷ back) (length front) (apply (shard_at set.name n (length front)) x (deed.number, deed.entry))) (at-place front back c) ∙ set-place front back c d)) (mine-set n 0 front back c d mine there)
+        subst (λ ds. AreMine n 0 ds) (sym (ap (λ x. slice_set (front ++ c ∷ back) (length front) (apply (shard_at set.name n (length front)) x (deed.number, deed.entry))) (at-place empty_catalogue front back c) ∙ set-place front back c d)) (mine-set n 0 front back c d mine there)
 
 -- an entry of a shard between others, whatever is said of the number of shards
 entry-at : (name : List ℕ → Address) (n : ℕ) (front back : List Catalogue) (c : Catalogue) (number : ℕ) (entry : Entry) → all_shards front back ≡ n → AreMine n 0 (front ++ c ∷ back)
@@ -62,10 +62,10 @@ deed-step set deed cs all low = on-place (λ ds k. AreMine n 0 ds → store_of (
         ≡ happen_by (store_of (front ++ c ∷ back)) (happening_of (shard_at set.name n (length front)) (catalogue_at (front ++ c ∷ back) (length front)) deed.entry)
     go front back c count mine =
         let at : Shard = shard_at set.name n (length front) in
-        ap (λ x. store_of (slice_set (front ++ c ∷ back) (length front) (apply at x (deed.number, deed.entry)))) (at-place front back c)
+        ap (λ x. store_of (slice_set (front ++ c ∷ back) (length front) (apply at x (deed.number, deed.entry)))) (at-place empty_catalogue front back c)
         ∙ ap store_of (set-place front back c (apply at c (deed.number, deed.entry)))
         ∙ entry-at set.name n front back c deed.number deed.entry count mine
-        ∙ ap (λ x. happen_by (store_of (front ++ c ∷ back)) (happening_of at x deed.entry)) (sym (at-place front back c))
+        ∙ ap (λ x. happen_by (store_of (front ++ c ∷ back)) (happening_of at x deed.entry)) (sym (at-place empty_catalogue front back c))
 
 -- ---- some, one after another
 
@@ -100,11 +100,11 @@ fold-at set [] cs k all of = refl
 fold-at set (deed ∷ deeds) cs k all of = fold-at set deeds (follow set cs deed) k (length-follow set cs deed ∙ all) of.1 ∙ elim (cases_eq deed.shard k) [
   | inl same ↦
       let here : catalogue_at (follow set cs deed) k ≡ apply (shard_in set k) (catalogue_at cs k) (deed.number, deed.entry) =
-      subst (λ m. catalogue_at (follow set cs deed) m ≡ apply (shard_in set m) (catalogue_at cs m) (deed.number, deed.entry)) same (same-at cs deed.shard (applied set cs deed) (omega (arith, all, of.0))) in
+      subst (λ m. catalogue_at (follow set cs deed) m ≡ apply (shard_in set m) (catalogue_at cs m) (deed.number, deed.entry)) same (same-at empty_catalogue cs deed.shard (applied set cs deed) (omega (arith, all, of.0))) in
       ap (λ c. apply_all (shard_in set k) c (entries_of k deeds)) here
       ∙ ap (λ b. apply_all (shard_in set k) (catalogue_at cs k) (cond b ((deed.number, deed.entry) ∷ entries_of k deeds) (entries_of k deeds))) (sym (eq-eqb deed.shard k same))
   | inr differs ↦
-      ap (λ c. apply_all (shard_in set k) c (entries_of k deeds)) (other-at cs deed.shard k (applied set cs deed) (λ same. differs (sym same)))
+      ap (λ c. apply_all (shard_in set k) c (entries_of k deeds)) (other-at empty_catalogue cs deed.shard k (applied set cs deed) (λ same. differs (sym same)))
       ∙ ap (λ b. apply_all (shard_in set k) (catalogue_at cs k) (cond b ((deed.number, deed.entry) ∷ entries_of k deeds) (entries_of k deeds))) (sym (ne_eqb deed.shard k differs))
 ]
 
@@ -144,7 +144,7 @@ AreBehind lists deeds = (k : ℕ) → k < length lists → entries_of k deeds �
 
 pub whole-follows : (set : Setting) (lists : List Parted) (deeds : List Deed) → length lists ≡ set.shape.shards → AreOf set.shape.shards deeds → AreBehind lists deeds
     → follow_all set (catalogues set 0 (done_lists lists)) deeds ≡ catalogues set 0 (whole_lists lists)
-whole-follows set lists deeds count of behind = same-each (follow_all set done deeds) whole lengths each
+whole-follows set lists deeds count of behind = same-each empty_catalogue (follow_all set done deeds) whole lengths each
   where
     done : List Catalogue
     done = catalogues set 0 (done_lists lists)

@@ -15,12 +15,12 @@ use Rattle.hs_fold.specs.Shards.Happening.{Happening, changes, enters, sweeps, h
 use Rattle.hs_fold.specs.Shards.Parted.{Parted, behind_happenings}
 use Rattle.hs_fold.specs.Shards.Setting.{Numbered, Setting, shard_in}
 
-abbrev IsChange : Happening → Type 0
+abbrev pub IsChange : Happening → Type 0
 IsChange (changes one) = Unit {0}
 IsChange (enters shard) = ⊥
 IsChange (sweeps shard) = ⊥
 
-abbrev MayBeChange : Option Happening → Type 0
+abbrev pub MayBeChange : Option Happening → Type 0
 MayBeChange None = Unit {0}
 MayBeChange (Some one) = IsChange one
 
@@ -40,7 +40,7 @@ mark-changes : (found : Option Present) (least number : ℕ) (a : Address) → M
 mark-changes None least number a = tt
 mark-changes (Some kept) least number a = if-change (kept.number == number) (gives least a)
 
-one-changes : (at : Shard) (c : Catalogue) (entry : Entry) → MayBeChange (happening_of at c entry)
+pub one-changes : (at : Shard) (c : Catalogue) (entry : Entry) → MayBeChange (happening_of at c entry)
 one-changes at c (kind.View view) = tt
 one-changes at c (kind.Block op least bytes) = block-changes at c least (at.name bytes) (read_block bytes)
 one-changes at c (kind.Mark op least block a) = mark-changes (present_at c a) least block a

@@ -26,7 +26,7 @@ pub from-rising : (rs : List Root) → IsRising rs → Rising rs
 from-rising [] h = tt
 from-rising (r ∷ rs) h = (h.0, from-rising rs h.1)
 
-to-rising : (rs : List Root) → Rising rs → IsRising rs
+pub to-rising : (rs : List Root) → Rising rs → IsRising rs
 to-rising [] h = tt
 to-rising (r ∷ rs) h = (h.0, to-rising rs h.1)
 

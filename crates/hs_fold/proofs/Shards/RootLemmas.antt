@@ -112,11 +112,11 @@ module _ (test : Root → Bool) where
   abbrev pub NonePass : List Root → Type 0
   NonePass rs = AllByRecursion (λ r. test r ≡ false) rs
 
-  place-first : (r : Root) (ys : List Root) → AllByRecursion (Before r) ys → place_root r ys ≡ r ∷ ys
+  pub place-first : (r : Root) (ys : List Root) → AllByRecursion (Before r) ys → place_root r ys ≡ r ∷ ys
   place-first r [] h = refl
   place-first r (y ∷ ys) h = rw h.0 refl
 
-  without-place : (ys : List Root) (r : Root) → Rising ys → test r ≡ false → without_first test (place_root r ys) ≡ place_root r (without_first test ys)
+  pub without-place : (ys : List Root) (r : Root) → Rising ys → test r ≡ false → without_first test (place_root r ys) ≡ place_root r (without_first test ys)
   without-place [] r h e = rw e refl
   without-place (y ∷ ys) r h e = go (without-place ys r h.1 e) (gt r y) (test y) refl refl
     where
@@ -127,7 +127,7 @@ module _ (test : Root → Bool) where
       go ih false true g k = rw (e, k) (sym (place-first r ys (before-all r y ys g h.0)))
       go ih false false g k = rw (e, k, g) refl
 
-  without-placed : (ys : List Root) (r : Root) → AllByRecursion (λ y. test y ≡ true → gt r y ≡ false) ys → test r ≡ true → without_first test (place_root r ys) ≡ ys
+  pub without-placed : (ys : List Root) (r : Root) → AllByRecursion (λ y. test y ≡ true → gt r y ≡ false) ys → test r ≡ true → without_first test (place_root r ys) ≡ ys
   without-placed [] r h e = rw e refl
   without-placed (y ∷ ys) r h e = go (without-placed ys r h.1 e) (gt r y) (test y) refl refl
     where
@@ -136,7 +136,7 @@ module _ (test : Root → Bool) where
       go ih true false g k = rw k (ap (λ rest. y ∷ rest) ih)
       go ih false t g k = rw e refl
 
-  find-place : (ys : List Root) (r : Root) → test r ≡ false → find test (place_root r ys) ≡ find test ys
+  pub find-place : (ys : List Root) (r : Root) → test r ≡ false → find test (place_root r ys) ≡ find test ys
   find-place [] r e = rw e refl
   find-place (y ∷ ys) r e = go (find-place ys r e) (gt r y)
     where
@@ -144,7 +144,7 @@ module _ (test : Root → Bool) where
       go ih true = ap (λ found. cond (test y) (Some y) found) ih
       go ih false = rw e refl
 
-  find-placed : (ys : List Root) (r : Root) → AllByRecursion (λ y. test y ≡ true → gt r y ≡ false) ys → test r ≡ true → find test (place_root r ys) ≡ Some r
+  pub find-placed : (ys : List Root) (r : Root) → AllByRecursion (λ y. test y ≡ true → gt r y ≡ false) ys → test r ≡ true → find test (place_root r ys) ≡ Some r
   find-placed [] r h e = rw e refl
   find-placed (y ∷ ys) r h e = go (find-placed ys r h.1 e) (gt r y) (test y) refl refl
     where

@@ -60,7 +60,7 @@ ones : (f : Catalogue → ℕ) → f empty_catalogue ≡ 1 → (n : ℕ) → map
 ones f e zero = refl
 ones f e (suc n) = let rest = ones f e n in λ i. e i ∷ rest i
 
-blank-store : (n : ℕ) → store_of (replicate n empty_catalogue) ≡ empty_store n
+pub blank-store : (n : ℕ) → store_of (replicate n empty_catalogue) ≡ empty_store n
 blank-store n =
     let present = blank-present n in
     let roots = blank-roots n in
@@ -78,7 +78,7 @@ blank-store n =
 no-views : HasRisingViews []
 no-views i j d l m = absurd (omega (arith, m))
 
-blank-views : (n : ℕ) → All HasRisingViews (blank_lists n)
+pub blank-views : (n : ℕ) → All HasRisingViews (blank_lists n)
 blank-views zero = All-nil HasRisingViews
 blank-views (suc n) = All-cons HasRisingViews [] (blank_lists n) no-views (blank-views n)
 

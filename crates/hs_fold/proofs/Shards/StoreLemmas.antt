@@ -47,12 +47,12 @@ pub at-front : {X : Type 0} (f : X → ℕ) (front back : List X) (c : X) → sl
 at-front f [] back c = refl
 at-front f (x ∷ front) back c = at-front f front back c
 
-length-front : {X : Type 0} (f : X → ℕ) (front back : List X) (c : X) → length (map f (front ++ c ∷ back)) ≡ length front + (1 + length back)
+pub length-front : {X : Type 0} (f : X → ℕ) (front back : List X) (c : X) → length (map f (front ++ c ∷ back)) ≡ length front + (1 + length back)
 length-front f [] [] c = refl
 length-front f [] (b ∷ back) c = let rest = length-front f [] back b in omega (arith, rest)
 length-front f (x ∷ front) back c = let rest = length-front f front back c in omega (arith, rest)
 
-map-front : {X : Type 0} (f : X → ℕ) (front back : List X) (c d : X) → f d ≡ f c → map f (front ++ d ∷ back) ≡ map f (front ++ c ∷ back)
+pub map-front : {X : Type 0} (f : X → ℕ) (front back : List X) (c d : X) → f d ≡ f c → map f (front ++ d ∷ back) ≡ map f (front ++ c ∷ back)
 map-front f [] back c d e = ap (λ n. n ∷ map f back) e
 map-front f (x ∷ front) back c d e = ap (λ rest. f x ∷ rest) (map-front f front back c d e)
 
@@ -92,7 +92,7 @@ all-none-pass : (shards shard : ℕ) (key : List ℕ) (cs : List Catalogue) → 
 all-none-pass shards shard key [] mine h = tt
 all-none-pass shards shard key (c ∷ cs) mine h = both-each (λ r. is_retained key r ≡ false) c.roots (all_roots cs) (none-pass shards shard key c.roots mine h.0) (all-none-pass shards shard key cs mine h.1)
 
-all-rising : (cs : List Catalogue) → Rising (all_roots cs)
+pub all-rising : (cs : List Catalogue) → Rising (all_roots cs)
 all-rising [] = tt
 all-rising (c ∷ cs) = both-rising c.roots (all_roots cs) (all-rising cs)
 
@@ -112,7 +112,7 @@ place-roots : (front back : List Catalogue) (c d : Catalogue) (root : Root) → 
 place-roots [] back c d root e = ap (λ rs. both_roots rs (all_roots back)) e ∙ both-place c.roots (all_roots back) root
 place-roots (x ∷ front) back c d root e = ap (λ rest. both_roots x.roots rest) (place-roots front back c d root e) ∙ place-both x.roots (all_roots (front ++ c ∷ back)) root
 
-same-roots : (front back : List Catalogue) (c d : Catalogue) → d.roots ≡ c.roots → all_roots (front ++ d ∷ back) ≡ all_roots (front ++ c ∷ back)
+pub same-roots : (front back : List Catalogue) (c d : Catalogue) → d.roots ≡ c.roots → all_roots (front ++ d ∷ back) ≡ all_roots (front ++ c ∷ back)
 same-roots [] back c d e = ap (λ rs. both_roots rs (all_roots back)) e
 same-roots (x ∷ front) back c d e = ap (λ rest. both_roots x.roots rest) (same-roots front back c d e)
 
@@ -179,11 +179,11 @@ none-refused : (test : Bool) (refusal : Reply) → is_none (refused_when test re
 none-refused true refusal = refl
 none-refused false refusal = refl
 
-both-sorted : (es others : List (Address × Present)) → IsStrictlySortedBy address_cmp (keys_of others) → IsStrictlySortedBy address_cmp (keys_of (both es others))
+pub both-sorted : (es others : List (Address × Present)) → IsStrictlySortedBy address_cmp (keys_of others) → IsStrictlySortedBy address_cmp (keys_of (both es others))
 both-sorted [] others d = d
 both-sorted (e ∷ es) others d = insert-sorted address_cmp address_total (both es others) e.0 e.1 (both-sorted es others d)
 
-all-sorted : (cs : List Catalogue) → IsStrictlySortedBy address_cmp (keys_of (all_present cs))
+pub all-sorted : (cs : List Catalogue) → IsStrictlySortedBy address_cmp (keys_of (all_present cs))
 all-sorted [] = none-sorted address_cmp
 all-sorted (c ∷ cs) = both-sorted c.blocks (all_present cs) (all-sorted cs)
 
@@ -231,13 +231,13 @@ module _ (front back : List Catalogue) (c : Catalogue) (mine : AreMine (all_shar
       zero-left : (k : ℕ) → 0 + k ≡ k
       zero-left k = omega arith
 
-  own : IsMine n g c
+  pub own : IsMine n g c
   own = parts.0
 
-  blocks-front : NoBlock n g front
+  pub blocks-front : NoBlock n g front
   blocks-front = no_block_before n g 0 front (c ∷ back) (omega arith) mine
 
-  blocks-back : NoBlock n g back
+  pub blocks-back : NoBlock n g back
   blocks-back = no_block_later n g (g + 1) back (omega arith) parts.1
 
   roots-front : NoRoot n g front
@@ -246,7 +246,7 @@ module _ (front back : List Catalogue) (c : Catalogue) (mine : AreMine (all_shar
   roots-back : NoRoot n g back
   roots-back = no_root_later n g (g + 1) back (omega arith) parts.1
 
-  shards-is : length s.epochs ≡ n
+  pub shards-is : length s.epochs ≡ n
   shards-is = length-front (λ (d : Catalogue). d.epoch) front back c
 
   epochs-is : (d : Catalogue) → d.epoch ≡ c.epoch → (to d).epochs ≡ s.epochs

@@ -18,7 +18,7 @@ use Rattle.hs_entry.specs.declared.entry.Entry.{Entry}
 use Rattle.hs_entry.specs.declared.entry.Entry.TheVariants as kind
 use Rattle.hs_fold.specs.Catalogue.{Present, Shard}
 use Rattle.hs_fold.specs.Lawful.{Deed, shard_at}
-use Rattle.hs_fold.specs.Shards.Catalogue.{Catalogue, present_at, is_fresh, apply}
+use Rattle.hs_fold.specs.Shards.Catalogue.{empty_catalogue, Catalogue, present_at, is_fresh, apply}
 use Rattle.hs_fold.specs.Shards.Change.{stores, gives, keeps, drops}
 use Rattle.hs_fold.specs.Shards.Fits.{catalogue_at, EachRests, BlockRests, MarkRests, RootRests, MayCome}
 use Rattle.hs_fold.specs.Shards.Happening.{Happening, changes, enters, sweeps, happen_by, block_happens, mark_happens, key_happens, happening_of}
@@ -122,9 +122,9 @@ module _ (front back : List Catalogue) (c : Catalogue) (mine : AreMine (all_shar
   -- an entry that may come is allowed
   allowed : (entry : Entry) → MayCome cs (length front) entry → (one : Happening) → happening_of at c entry ≡ Some one → AllowedBy s one
   allowed (kind.View view) may one e = cc e
-  allowed (kind.Block op least bytes) may one e = may-block least bytes (name bytes) (subst (λ d. BlockRests s d least bytes) (at-place front back c) may) (read_block bytes) refl one e
-  allowed (kind.Mark op least number a) may one e = may-mark least number a (subst (λ d. MarkRests s d least number a) (at-place front back c) may) (present_at c a) refl one e
-  allowed (kind.Root op held a key) may one e = may-root held a key (subst (λ d. RootRests s d held a) (at-place front back c) may) one e
+  allowed (kind.Block op least bytes) may one e = may-block least bytes (name bytes) (subst (λ d. BlockRests s d least bytes) (at-place empty_catalogue front back c) may) (read_block bytes) refl one e
+  allowed (kind.Mark op least number a) may one e = may-mark least number a (subst (λ d. MarkRests s d least number a) (at-place empty_catalogue front back c) may) (present_at c a) refl one e
+  allowed (kind.Root op held a key) may one e = may-root held a key (subst (λ d. RootRests s d held a) (at-place empty_catalogue front back c) may) one e
   allowed (kind.Drop op key) may one e = may-drop key one e
   allowed (kind.Enter op epoch) may one e = cc e
   allowed (kind.Got sender epoch round total deltas) may one e = cc e
@@ -154,7 +154,7 @@ deed-keeps set deed cs all low = on-place (λ ds k. AreMine n 0 ds → Valid (st
         → Kept (store_of (front ++ c ∷ back)) (store_of (slice_set (front ++ c ∷ back) (length front) (apply (shard_at set.name n (length front)) (catalogue_at (front ++ c ∷ back) (length front)) (deed.number, deed.entry))))
     go front back c count mine v may =
         let kept = subst (λ m. AreMine m 0 (front ++ c ∷ back) → Kept (store_of (front ++ c ∷ back)) (store_of (front ++ apply (shard_at set.name m (length front)) c (deed.number, deed.entry) ∷ back))) count (λ h. entry-keeps front back c h set.name v deed.number deed.entry may) mine in
-        subst (λ ds. Kept (store_of (front ++ c ∷ back)) (store_of ds)) (sym (ap (λ x. slice_set (front ++ c ∷ back) (length front) (apply (shard_at set.name n (length front)) x (deed.number, deed.entry))) (at-place front back c) ∙ set-place front back c (apply (shard_at set.name n (length front)) c (deed.number, deed.entry)))) kept
+        subst (λ ds. Kept (store_of (front ++ c ∷ back)) (store_of ds)) (sym (ap (λ x. slice_set (front ++ c ∷ back) (length front) (apply (shard_at set.name n (length front)) x (deed.number, deed.entry))) (at-place empty_catalogue front back c) ∙ set-place front back c (apply (shard_at set.name n (length front)) c (deed.number, deed.entry)))) kept
 
 -- ---- what else may come may still
 
@@ -163,13 +163,13 @@ module _ (set : Setting) (deed : Deed) (cs : List Catalogue) (all : length cs �
   ds = follow set cs deed
 
   own-at : IsMine set.shape.shards deed.shard (catalogue_at cs deed.shard)
-  own-at = on-place (λ es k. AreMine set.shape.shards 0 es → IsMine set.shape.shards k (catalogue_at es k)) set.shape.shards (λ front back c count h. subst (λ x. IsMine set.shape.shards (length front) x) (sym (at-place front back c)) (subst (λ k. IsMine set.shape.shards k c) (zero-left (length front)) (mine-there set.shape.shards 0 front back c h))) cs deed.shard all low mine
+  own-at = on-place (λ es k. AreMine set.shape.shards 0 es → IsMine set.shape.shards k (catalogue_at es k)) set.shape.shards (λ front back c count h. subst (λ x. IsMine set.shape.shards (length front) x) (sym (at-place empty_catalogue front back c)) (subst (λ k. IsMine set.shape.shards k c) (zero-left (length front)) (mine-there set.shape.shards 0 front back c h))) cs deed.shard all low mine
     where
       zero-left : (k : ℕ) → 0 + k ≡ k
       zero-left k = omega arith
 
   now-at : catalogue_at ds deed.shard ≡ applied set cs deed
-  now-at = same-at cs deed.shard (applied set cs deed) (omega (arith, all, low))
+  now-at = same-at empty_catalogue cs deed.shard (applied set cs deed) (omega (arith, all, low))
 
   epoch-at : (k : ℕ) → (catalogue_at ds k).epoch ≡ (catalogue_at cs k).epoch
   epoch-at k = elim (cases_eq k deed.shard) [
@@ -177,7 +177,7 @@ module _ (set : Setting) (deed : Deed) (cs : List Catalogue) (all : length cs �
         ap (λ j. (catalogue_at ds j).epoch) same ∙ ap (λ (x : Catalogue). x.epoch) now-at
         ∙ epoch-stays (shard_at set.name set.shape.shards deed.shard) (catalogue_at cs deed.shard) deed.number deed.entry
         ∙ ap (λ j. (catalogue_at cs j).epoch) (sym same)
-    | inr differs ↦ ap (λ (x : Catalogue). x.epoch) (other-at cs deed.shard k (applied set cs deed) differs)
+    | inr differs ↦ ap (λ (x : Catalogue). x.epoch) (other-at empty_catalogue cs deed.shard k (applied set cs deed) differs)
   ]
 
   fresh-at : (k least : ℕ) → is_fresh (catalogue_at ds k) least ≡ true → is_fresh (catalogue_at cs k) least ≡ true
@@ -195,7 +195,7 @@ module _ (set : Setting) (deed : Deed) (cs : List Catalogue) (all : length cs �
         let before : present_at (catalogue_at cs k) a ≡ Some was.old = ap (λ j. present_at (catalogue_at cs j) a) same ∙ was.found in
         onward-rests (store_of cs) (store_of ds) on least kept.stored.pointers (subst (λ x. EachRests (store_of cs) least x.pointers) was.stored (rests (fresh-at k least fresh) was.old before (was.numbered ∙ numbered)))
     | inr other ↦
-        let before : present_at (catalogue_at cs k) a ≡ Some kept = ap (λ d. present_at d a) (sym (other-at cs deed.shard k (applied set cs deed) other)) ∙ found in
+        let before : present_at (catalogue_at cs k) a ≡ Some kept = ap (λ d. present_at d a) (sym (other-at empty_catalogue cs deed.shard k (applied set cs deed) other)) ∙ found in
         onward-rests (store_of cs) (store_of ds) on least kept.stored.pointers (rests (fresh-at k least fresh) kept before numbered)
   ]
 

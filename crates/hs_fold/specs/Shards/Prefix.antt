@@ -3,10 +3,8 @@ use Rattle.std.specs.Prelude.{◌≡◌, ℕ, ◌≤◌, false, Contains, fold}
 use Rattle.hs_entry.specs.declared.entry.Entry.{Entry}
 use Rattle.hs_entry.specs.declared.entry.Entry.TheVariants as kind
 use Rattle.hs_entry.specs.Entries.{is_of_base}
-use Rattle.hs_fold.specs.Catalogue.{Shard}
 use Rattle.hs_fold.specs.Pending.{up_to}
 use Rattle.hs_fold.specs.Prefix.{last_of}
-use Rattle.hs_fold.specs.Shards.Catalogue.{catalogue_of}
 use Rattle.hs_fold.specs.Shards.Setting.{Numbered}
 
 -- the number of the last Base behind a frame more
@@ -26,7 +24,7 @@ pub record AreKept (front all : Numbered) (number : ℕ) (a b : Entry) : Type 0 
   pub ordinary_in_all : is_of_base b ≡ false
 
 -- it ends no later; both have the same entry under each number that both keep as an ordinary one; and what it amounts to is what the other does up to its end, where the other one's Base is not behind that
-pub record IsListPrefix (at : Shard) (front all : Numbered) : Type 0 where
+pub record IsListPrefix {X : Type 0} (amounts_to : Numbered → X) (front all : Numbered) : Type 0 where
   pub shorter : last_of front ≤ last_of all
   pub same : (number : ℕ) (a b : Entry) → AreKept front all number a b → a ≡ b
-  pub amounts : base_of all ≤ last_of front → catalogue_of at front ≡ catalogue_of at (up_to (last_of front) all)
+  pub amounts : base_of all ≤ last_of front → amounts_to front ≡ amounts_to (up_to (last_of front) all)

@@ -16,7 +16,7 @@ pub returns-in-NoMemory-clause-memory : goal.returns-in-NoMemory-clause-memory
 returns-in-NoMemory-clause-memory g c = λ told commands limits list is may e none. rw c.requires.journal (taken_lasts commands _ limits _ _ _ list may (listed-numbered (g.D.Disk.stands c.args.disk.now).seen list is) c.open.new.watch _ (c.open.ensures.any_moment told may.last))
 
 pub returns-in_default-clause-noted : goal.returns-in_default-clause-noted
-returns-in_default-clause-noted g c = λ told is. loss_cause c.in-Err.fault _ _ _ (c.in-Err.ensures.refused told) (λ disk. c.in-Err.ensures.cause.disk (ap Err disk)) c.in_default.not-NoMemory c.in_default.not-WrongShape
+returns-in_default-clause-noted g c = λ told is. loss_cause c.in-Err.fault _ _ _ (c.in-Err.ensures.refused told) (λ disk. c.in-Err.ensures.cause.failed (ap Err disk)) c.in_default.not-NoMemory c.in_default.not-WrongShape
 
 pub returns-in_default-clause-prints : goal.returns-in_default-clause-prints
 returns-in_default-clause-prints g c = λ put. prints_lost _ c.open.new.watch _ _ _ _ _ _ _ put refl c.requires.journal c.open.ensures.ticks c.lose.ensures.adds
@@ -54,7 +54,7 @@ returns-in_default-fault g c = record {
   shape = λ told. shape_by c.lose_good.result _ _ _ _ _ _ c.lose_good.ensures.lost;
   only_shape = λ told found is. absurd (none_is _ (sym (c.in-Ok.ensures.accepted told) ∙ is));
   unwritten = λ told. unwritten_by c.lose_good.result _ _ _ _ _ _ _ _ _ c.lose_good.ensures.lost;
-  noted = λ told is. inl (risen_before _ _ _ c.in-Ok.ensures.cause.later (c.in-Err-begin.ensures.cause.disk (ap Err (outside_disk c.in-Err-begin.fault c.in-Err-begin.ensures.refused c.in_default-fault.not-NoMemory))));
+  noted = λ told is. inl (risen_before _ _ _ c.in-Ok.ensures.cause.later (c.in-Err-begin.ensures.cause.failed (ap Err (outside_disk c.in-Err-begin.fault c.in-Err-begin.ensures.refused c.in_default-fault.not-NoMemory))));
   course = λ told.
       let opened = c.in-Ok.ensures.value told in
       let begun = course_is (g.A.Addresser.name c.args.naming.now) c.args.watch.now (g.D.Disk.stands c.args.disk.now) opened.entries opened.listed c.in-Ok.loaded opened _ _ _ c.in_ok-told.ensures c.now-moment.ensures.value c.last.ensures in

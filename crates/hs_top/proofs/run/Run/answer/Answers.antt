@@ -76,4 +76,4 @@ pub returns-in_default-clause-course : goal.returns-in_default-clause-course
 returns-in_default-clause-course g c = bad_by _ _ _ _ _ _ _ _ c.lose_good.ensures.notes
 
 pub returns-in_default-clause-noted : goal.returns-in_default-clause-noted
-returns-in_default-clause-noted g c = λ told name list serves is. inr (c.in-Err.ensures.cause.disk (ap Err (outside_disk c.in-Err.fault (c.in-Err.ensures.refused told name list serves) c.in_default.not-NoMemory)))
+returns-in_default-clause-noted g c = λ told name list serves is. inr (c.in-Err.ensures.cause.failed (ap Err (outside_disk c.in-Err.fault (c.in-Err.ensures.refused told name list serves) c.in_default.not-NoMemory)))

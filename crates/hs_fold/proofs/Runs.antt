@@ -1,0 +1,14 @@
+pub mod BlankLemmas
+pub mod DeedLemmas
+pub mod EndDeedLemmas
+pub mod EndLemmas
+pub mod Examples
+pub mod FilterLemmas
+pub mod KeyLemmas
+pub mod OwnLemmas
+pub mod PlainLemmas
+pub mod PruneLemmas
+pub mod RoomLemmas
+pub mod RoundLemmas
+pub mod SmallLemmas
+pub mod StepLemmas

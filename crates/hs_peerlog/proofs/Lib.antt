@@ -1,0 +1,9 @@
+mod EntryLemmas
+mod ImageLemmas
+mod ListLemmas
+mod MakeLemmas
+mod NumberedLemmas
+mod OpenLemmas
+mod PlaceLemmas
+mod SoleLemmas
+mod StayLemmas

@@ -1,0 +1,53 @@
+use Rattle.std.proofs.Common.{◌≡◌, ◌∙◌, ◌+◌, ap, sym, refl, subst, None, Some, IsSome, is_some, true}
+use Rattle.hs_side.specs.Standing.{Kept}
+use Rattle.hs_peerlog.specs.Images.{IsSole}
+use Rattle.hs_peerlog.specs.Lists.{Keeping, last_of, with_waiting}
+use Rattle.hs_peerlog.proofs.ListLemmas.{some-waits, sealed, sealed-is, seal-leaves, seal-sole, seal-only}
+use Rattle.hs_peerlog.proofs.log.PeerLog.seal.Goals as goal
+
+pub returns-in_err-seal-clause-any_moment : goal.returns-in_err-seal-clause-any_moment
+returns-in_err-seal-clause-any_moment g c = λ told last list entry has.
+    let view : c.self.inside.log ≡ c.args.self.now.log = ap (λ (k : Keeping). k.log) c.self.view_is in
+    seal-leaves c.args.self.now.log.places list has.kept.listed last (g.met.D.Disk.since told c.args.disk.now) has.sole (g.met.D.Disk.stays told c.args.disk.now c.args.self.now.log.side)
+    c.args.self.now.log.end (record { place = c.args.self.now.log.end; number = last_of list + 1; entry = entry }) has.kept.waits.opens (rw view at (c.seal.ensures.any_moment told last))
+
+pub returns-clause-any_moment : goal.returns-clause-any_moment
+returns-clause-any_moment g c = λ told last list entry has.
+    let view : c.self.inside.log ≡ c.args.self.now.log = ap (λ (k : Keeping). k.log) c.self.view_is in
+    seal-leaves c.args.self.now.log.places list has.kept.listed last (g.met.D.Disk.since told c.args.disk.now) has.sole (g.met.D.Disk.stays told c.args.disk.now c.args.self.now.log.side)
+    c.args.self.now.log.end (record { place = c.args.self.now.log.end; number = last_of list + 1; entry = entry }) has.kept.waits.opens (rw view at (c.seal.ensures.any_moment told last))
+
+pub returns-clause-ready : goal.returns-clause-ready
+returns-clause-ready g c =
+    let view : c.self.inside.log ≡ c.args.self.now.log = ap (λ (k : Keeping). k.log) c.self.view_is in
+    let waits : c.args.self.now.waits ≡ Some c.in-Some.rank = ap (λ (k : Keeping). k.waits) (sym c.self.view_is) ∙ c.in-Some.is in
+    let is = sealed-is c.args.self.now.log c.seal.new.self (sym c.requires.ready.waits ∙ ap (λ o. is_some o) waits) (rw view at c.in_ok-seal.ensures.value) in
+    record {
+      stands = c.in_ok-seal.ensures.stands;
+      begun = subst (λ h. IsSome h) (sym is.head) c.requires.ready.begun;
+      waits = ap (λ o. is_some o) (sym is.rests);
+      told = λ told.
+          let some = c.requires.ready.told told in
+          let kept = some-waits c.args.self.now _ some c.requires.waits in
+          record {
+            list = with_waiting some.list kept.entry;
+            waiting = None;
+            kept = sealed c.args.self.now _ (g.D.Disk.stands c.args.disk.now).seen (g.D.Disk.stands c.seal.new.disk).seen some.list kept.entry kept.kept is (rw view at (c.in_ok-seal.ensures.written told)) waits refl;
+          };
+    }
+
+pub returns-clause-list : goal.returns-clause-list
+returns-clause-list g c = λ told last list entry has.
+    let view : c.self.inside.log ≡ c.args.self.now.log = ap (λ (k : Keeping). k.log) c.self.view_is in
+    let waits : c.args.self.now.waits ≡ Some c.in-Some.rank = ap (λ (k : Keeping). k.waits) (sym c.self.view_is) ∙ c.in-Some.is in
+    let is = sealed-is c.args.self.now.log c.seal.new.self (sym c.requires.ready.waits ∙ ap (λ o. is_some o) waits) (rw view at c.in_ok-seal.ensures.value) in
+    let since = g.met.D.Disk.since told c.args.disk.now in
+    let stays = g.met.D.Disk.stays told c.args.disk.now c.args.self.now.log.side in
+    let run = rw view at (c.seal.ensures.any_moment told last) in
+    record {
+      kept = sealed c.args.self.now _ (g.D.Disk.stands c.args.disk.now).seen (g.D.Disk.stands c.seal.new.disk).seen list entry has.kept is (rw view at (c.in_ok-seal.ensures.written told)) waits refl;
+      sole = subst (λ s. IsSole s (g.D.Disk.stands c.seal.new.disk)) (sym is.side)
+          (seal-sole c.args.self.now.log.places list has.kept.listed last since has.sole stays c.args.self.now.log.end (record { place = c.args.self.now.log.end; number = last_of list + 1; entry = entry }) has.kept.waits.opens run);
+      leaves = seal-only c.args.self.now.log.places list has.kept.listed last since has.sole stays c.args.self.now.log.end (record { place = c.args.self.now.log.end; number = last_of list + 1; entry = entry }) has.kept.waits.opens run
+          (rw view at (c.in_ok-seal.ensures.durable told));
+    }

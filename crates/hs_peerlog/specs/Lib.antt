@@ -1,0 +1,5 @@
+pub mod Caused
+pub mod Images
+pub mod Lists
+pub mod Opening
+pub mod Views

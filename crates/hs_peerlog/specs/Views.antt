@@ -1,0 +1,21 @@
+-- A disk that is only read.
+use Rattle.std.specs.Prelude.{◌≡◌, ℕ, List, Some}
+use Rattle.hs_ports.specs.declared.disk.Side.{Side}
+use Rattle.hs_entry.specs.declared.entry.Entry.{Entry}
+use Rattle.hs_entry.specs.declared.rank.Rank.{Rank}
+use Rattle.hs_entry.specs.Entries.{rank_of}
+use Rattle.hs_side.specs.Current.{list_in}
+use Rattle.hs_side.specs.Standing.{Kept}
+use Rattle.hs_peerlog.specs.Lists.{HasFrames, IsNumbered}
+
+-- what a value of a view keeps: its current side's log, and the rank of its list
+pub record Viewing : Type 0 where
+  pub log : Kept
+  pub rank : Rank
+
+-- the view has the list that the disk gives, of two blank sides the empty one
+pub record HasView (viewing : Viewing) (seen : Side → List ℕ) (list : List (ℕ × Entry)) : Type 0 where
+  pub listed : list_in seen ≡ Some list
+  pub frames : HasFrames viewing.log.places (seen viewing.log.side) list
+  pub numbered : IsNumbered list
+  pub rank : viewing.rank ≡ rank_of list

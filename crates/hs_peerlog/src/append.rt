@@ -1,0 +1,56 @@
+//! An entry more, which is not sealed yet.
+ghost use Rattle.std.specs.Prelude.{◌≡◌, ◌≤◌, ◌+◌, ℕ, List, None, Some, OnOk, IfErr, IsErrOf};
+ghost use Rattle.hs_entry.specs.declared.entry.Entry.{Entry};
+ghost use Rattle.hs_entry.specs.Reading.{IsReadable};
+ghost use Rattle.hs_peerlog.specs.Caused.{IsCalm, IsCaused, IsOutside};
+ghost use Rattle.hs_peerlog.specs.Images.{Is, LeavesEach};
+ghost use Rattle.hs_peerlog.specs.Lists.{HasLog, IsReady};
+
+use crate::{LogFault, PeerLog};
+use hs_entry::{Entry, write_entry};
+use hs_ports::{Disk, Watch};
+
+impl PeerLog {
+    /// Puts an entry behind the others, with its gate closed: it is none of the list until `seal`.
+    /// It does not sync. Without memory nothing changes. After `Disk` the log must be recovered
+    /// again.
+    pub fn append<D: Disk>(
+        &mut self,
+        disk: &mut D,
+        watch: &mut Watch,
+        number: u64,
+        entry: &Entry,
+    ) -> Result<(), LogFault>
+        requires ready { IsReady D.tells self.old (D.size disk.old self.old.log.side)
+            (D.stands disk.old) }
+        requires next { number ≡ self.old.rank.number + 1 }
+        requires readable { IsReadable entry.now }
+        requires none { self.old.waits ≡ None }
+
+        ensures ready { OnOk result (IsReady D.tells self.new
+            (D.size disk.new self.new.log.side) (D.stands disk.new)) }
+        ensures list { D.tells → (D.stands disk.old).last ≤ watch.old → (list : List (ℕ × Entry))
+            → HasLog self.old (D.stands disk.old) list None
+            → OnOk result (HasLog self.new (D.stands disk.new) list (Some entry.now)) }
+
+        ensures refused { IfErr result IsOutside }
+        ensures kept { IsErrOf result LogFault.NoMemory → self.new ≡ self.old }
+
+        // What a crash leaves at each moment: the list before.
+        ensures any_moment { D.tells → (D.stands disk.old).last ≤ watch.old
+            → (list : List (ℕ × Entry)) → HasLog self.old (D.stands disk.old) list None
+            → LeavesEach watch.old watch.new (D.stands disk.old) (D.stands disk.new) (Is list) }
+        ensures ticks { watch.old ≤ watch.new }
+        ensures calm { IsCalm (D.faults disk.old) (D.faults disk.new) result }
+        ensures cause { IsCaused (D.faults disk.old) (D.faults disk.new) result }
+    {
+        self.payload.clear();
+        match write_entry(number, entry, &mut self.payload) {
+            Ok(()) => {}
+            Err(_) => return Err(LogFault::NoMemory),
+        }
+        self.log.append(disk, watch, &self.payload)?;
+        self.waits = Some(self.rank.after(number, entry));
+        Ok(())
+    }
+}

@@ -1,0 +1,37 @@
+//! Why a peer's log can't go on.
+ghost use Rattle.std.specs.Prelude.{◌≡◌};
+ghost use Rattle.hs_peerlog.specs.declared.fault.LogFault.TheVariants.{NoMemory};
+ghost use Rattle.hs_peerlog.specs.Caused.{of_side};
+
+use hs_side::{Header, SideFault};
+use std::alloc::{AllocError, AllocFailed};
+use thiserror::Error;
+
+/// Why a peer's log can't go on.
+#[derive(Clone, Copy, Debug, PartialEq, Eq, Error)]
+pub enum LogFault {
+    /// The current side is no log: the first place that is wrong.
+    #[error("the disk is no log, from byte {at} on")]
+    NotALog { at: u64 },
+    /// The disk is of a store of another shape, or of another peer.
+    #[error("the disk is of another store")]
+    WrongShape { found: Header },
+    /// The disk failed.
+    #[error("the disk failed")]
+    Disk,
+    /// There was not enough memory.
+    #[error("out of memory")]
+    NoMemory,
+}
+
+impl From<SideFault> for LogFault {
+    ghost from_gives = { λ side fault. fault ≡ of_side side };
+
+    fn from(side: SideFault) -> LogFault {
+        match side {
+            SideFault::NotALog { at } => LogFault::NotALog { at },
+            SideFault::Disk => LogFault::Disk,
+            SideFault::NoMemory => LogFault::NoMemory,
+        }
+    }
+}

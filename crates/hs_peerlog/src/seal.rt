@@ -1,0 +1,48 @@
+//! The entry that waits becomes one of the list.
+ghost use Rattle.std.specs.Prelude.{◌≡◌, ◌≤◌, ℕ, List, None, Some, IsSome, IfSome, OnOk, IfErr};
+ghost use Rattle.hs_entry.specs.declared.entry.Entry.{Entry};
+ghost use Rattle.hs_peerlog.specs.Caused.{IsCalm, IsCaused};
+ghost use Rattle.hs_peerlog.specs.Images.{IsOne, LeavesEach};
+ghost use Rattle.hs_peerlog.specs.Lists.{with_waiting, HasLog, IsReady};
+
+use crate::{LogFault, PeerLog};
+use hs_ports::{Disk, Watch};
+
+impl PeerLog {
+    /// Seals the entry that waits: puts its frame on the medium, opens its gate, and puts that on
+    /// the medium. After Ok no crash takes it away. It takes no memory. After `Disk` the log must be
+    /// recovered again.
+    pub fn seal<D: Disk>(&mut self, disk: &mut D, watch: &mut Watch) -> Result<(), LogFault>
+        requires ready { IsReady D.tells self.old (D.size disk.old self.old.log.side)
+            (D.stands disk.old) }
+        requires waits { IsSome self.old.waits }
+
+        ensures ready { OnOk result (IsReady D.tells self.new
+            (D.size disk.new self.new.log.side) (D.stands disk.new)) }
+        ensures rank { OnOk result (IfSome self.old.waits (λ rank. self.new.rank ≡ rank)) }
+        ensures sealed { OnOk result (self.new.waits ≡ None) }
+        ensures list { D.tells → (D.stands disk.old).last ≤ watch.old → (list : List (ℕ × Entry))
+            → (entry : Entry) → HasLog self.old (D.stands disk.old) list (Some entry)
+            → OnOk result (HasLog self.new (D.stands disk.new) (with_waiting list entry) None) }
+
+        ensures refused { IfErr result (λ fault. fault ≡ LogFault.Disk) }
+
+        // What a crash leaves at each moment: the list before, or the list with the entry.
+        ensures any_moment { D.tells → (D.stands disk.old).last ≤ watch.old
+            → (list : List (ℕ × Entry)) → (entry : Entry)
+            → HasLog self.old (D.stands disk.old) list (Some entry)
+            → LeavesEach watch.old watch.new (D.stands disk.old) (D.stands disk.new)
+            (IsOne list (with_waiting list entry)) }
+        ensures ticks { watch.old ≤ watch.new }
+        ensures calm { IsCalm (D.faults disk.old) (D.faults disk.new) result }
+        ensures cause { IsCaused (D.faults disk.old) (D.faults disk.new) result }
+    {
+        let Some(rank) = self.waits else {
+            unreachable!()
+        };
+        self.log.seal(disk, watch)?;
+        self.rank = rank;
+        self.waits = None;
+        Ok(())
+    }
+}

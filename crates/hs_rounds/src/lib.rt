@@ -1,0 +1,15 @@
+//! One shard's side of the rounds of a deletion run.
+#![tactic(auto)]
+
+mod body;
+mod fault;
+mod gots;
+mod place;
+mod run;
+mod sending;
+
+pub use body::RoundBody;
+pub use fault::RunFault;
+pub use place::Place;
+pub use run::Run;
+pub use sending::SentRound;
