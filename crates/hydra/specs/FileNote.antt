@@ -1,26 +1,23 @@
 -- What the program says of a file that failed.
-use Rattle.std.specs.Prelude.{ℕ, if◌then◌else◌, List, [], ◌++◌, Option, Some, None, codes, decimal, slice_get, string_bytes}
-use Rattle.std.specs.List.{position}
+use Rattle.std.specs.Prelude.{ℕ, ◌+◌, if◌then◌else◌, List, [], ◌∷◌, ◌++◌, Option, Some, None, codes, decimal, string_bytes}
 use Rattle.std.specs.declared.fs.File.{File}
 use Rattle.hs_ports.specs.declared.disk.Side.{Side}
 use Rattle.hs_ports.specs.declared.disk.Side.TheVariants.{Zero, One}
-use Rattle.hydra.specs.SideFault.{deed_words, fault_in, is_faulty, is_of_folder}
+use Rattle.hydra.specs.SideFault.{deed_words, fault_in, is_of_folder}
 use Rattle.hydra.specs.declared.file_disk.FileDisk.{FileDisk}
 use Rattle.hydra.specs.declared.file_fault.Deed.{Deed}
 use Rattle.hydra.specs.declared.file_fault.FileFault.{FileFault}
 use Rattle.hydra.specs.declared.notes.FileNote.{FileNote}
 
--- the number of the first disk that has a fault
-abbrev pub faulty_peer : List (FileDisk File) → Option ℕ
-faulty_peer disks = position (λ disk. is_faulty disk.zero.fault disk.one.fault) disks
+-- a fault with the number of its disk, and else a later one
+abbrev pub fault_or : ℕ → Option FileFault → Option (ℕ × FileFault) → Option (ℕ × FileFault)
+fault_or peer None later = later
+fault_or peer (Some fault) later = Some (peer, fault)
 
--- the first fault of the disk of a number
-abbrev pub fault_of : Option (FileDisk File) → Option FileFault
-fault_of None = None
-fault_of (Some disk) = fault_in disk.zero.fault disk.one.fault
-
-abbrev pub fault_at : List (FileDisk File) → ℕ → Option FileFault
-fault_at disks peer = fault_of (slice_get disks peer)
+-- the first fault of the first disk that has one, where the disks are numbered from this on
+abbrev pub first_fault : ℕ → List (FileDisk File) → Option (ℕ × FileFault)
+first_fault peer [] = None
+first_fault peer (disk ∷ disks) = fault_or peer (fault_in disk.zero.fault disk.one.fault) (first_fault (peer + 1) disks)
 
 -- the digit of a side
 abbrev pub side_digit : Side → List ℕ

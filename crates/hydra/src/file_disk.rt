@@ -102,13 +102,6 @@ impl<F: Read + Write + Seek + OpenFile + Drop> FileDisk<F> {
         }
     }
 
-    /// Whether one of its calls failed, and is told.
-    pub fn is_faulty(&self) -> bool
-        ensures { result ≡ is_faulty self.now.zero.fault self.now.one.fault }
-    {
-        self.fault().is_some()
-    }
-
     /// Says that there is no folder, where a file of it was not found.
     pub fn blame_folder(&mut self, made: io::Error)
         ensures zero { self.new.zero.len ≡ self.old.zero.len }

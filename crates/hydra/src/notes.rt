@@ -1,7 +1,8 @@
 //! What the program tells of a file that failed, before the line of the status.
-ghost use Rattle.std.specs.Prelude.{◌≡◌, ◌<◌, ◌++◌, None, Some, IfOk, IfSome, IsNone, OnOk, length, string_bytes};
+ghost use Rattle.std.specs.Prelude.{◌≡◌, ◌++◌, IfOk, OnOk, string_bytes};
 ghost use Rattle.std.specs.Io.KnownBytes.{Appends};
-ghost use Rattle.hydra.specs.FileNote.{failed_text, fault_at, faulty_peer, file_text, place_text, side_digit};
+ghost use Rattle.std.specs.Option.{option_map};
+ghost use Rattle.hydra.specs.FileNote.{failed_text, file_text, first_fault, place_text, side_digit};
 ghost use Rattle.hydra.specs.SideFault.{deed_words};
 
 use crate::file_disk::FileDisk;
@@ -22,30 +23,36 @@ pub struct FileNote {
 
 /// The first fault of the first disk that has one.
 pub fn note_of(alloc: Global, disks: &[FileDisk<File>]) -> Result<Option<FileNote>, AllocError>
-    ensures none { IfOk result (λ note. IsNone note → faulty_peer disks.now ≡ None) }
-    ensures found { IfOk result (λ note. IfSome note (λ n.
-        (faulty_peer disks.now ≡ Some n.peer) × (fault_at disks.now n.peer ≡ Some n.failed))) }
+    ensures found { IfOk result (λ note.
+        option_map (λ n. (n.peer, n.failed)) note ≡ first_fault 0 disks.now) }
 {
-    let Some(peer) = faulty_peer(disks) else {
-        return Ok(None);
-    };
-    let Some(failed) = disks[peer].fault() else {
-        return Ok(None);
-    };
-    let reason = format!(in alloc; "{}", failed.fault.reason)?;
-    Ok(Some(FileNote {
-        peer,
-        failed,
-        reason,
-    }))
+    match first_fault(disks) {
+        Some((peer, failed)) => {
+            let reason = format!(in alloc; "{}", failed.fault.reason)?;
+            Ok(Some(FileNote {
+                peer,
+                failed,
+                reason,
+            }))
+        }
+        None => Ok(None),
+    }
 }
 
-// The number of the first disk that has a fault.
-fn faulty_peer(disks: &[FileDisk<File>]) -> Option<usize>
-    ensures value { result ≡ faulty_peer disks.now }
-    ensures bound { IfSome result (λ peer. peer < length disks.now) }
+// The first fault of the first disk that has one, with the number of that disk.
+fn first_fault(disks: &[FileDisk<File>]) -> Option<(usize, FileFault)>
+    ensures { result ≡ first_fault 0 disks.now }
 {
-    disks.iter().position(|disk| disk.is_faulty())
+    let mut peer = 0;
+    let mut rest = disks;
+    'disks: while let [disk, more @ ..] = rest {
+        if let Some(failed) = disk.fault() {
+            return Some((peer, failed));
+        }
+        peer += 1;
+        rest = more;
+    }
+    None
 }
 
 /// Writes the line that a file failed, where one did.
@@ -80,13 +87,7 @@ fn put_file(line: &mut Vec<u8>, dir: &str, note: &FileNote) -> io::Result<()>
 }
 
 // Puts the name of the folder at the end of `line`, or of a file in it.
-fn put_place(
-    line: &mut Vec<u8>,
-    dir: &str,
-    peer: usize,
-    side: Side,
-    deed: Deed,
-) -> io::Result<()>
+fn put_place(line: &mut Vec<u8>, dir: &str, peer: usize, side: Side, deed: Deed) -> io::Result<()>
     ensures ok { OnOk result (line.new.items ≡
         line.old.items ++ place_text dir.now peer side deed) }
 {
