@@ -14,7 +14,7 @@ abbrev pub is_later_copies : List ℕ → Bool
 is_later_copies word = bytes_eq word (codes "2") || (bytes_eq word (codes "3") || bytes_eq word (codes "4"))
 
 -- an option that a later step serves
-abbrev pub later_option : List (List ℕ) → Option Later
+unfoldable pub later_option : List (List ℕ) → Option Later
 later_option words =
     if list_any (λ word. bytes_eq word (codes "--pool")) words then Some later.Pool
     else if list_any (λ word. bytes_eq word (codes "--epochs")) words then Some later.Epochs

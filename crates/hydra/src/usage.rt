@@ -89,6 +89,7 @@ fn is_later_copies(word: &[u8]) -> bool
 }
 
 // The option among these words that a later step serves.
+#[tactic(auto, unfolding(crate::specs::Usage::later_option))]
 fn later_option(words: &[String]) -> Option<Later>
     ensures { result ≡ later_option (map (λ word. string_bytes word) words.now) }
 {
@@ -108,5 +109,12 @@ fn has_word(words: &[String], wanted: &[u8]) -> bool
     ensures { result ≡ list_any (λ word. bytes_eq word wanted.now)
         (map (λ word. string_bytes word) words.now) }
 {
-    words.iter().any(|word| word.as_bytes() == wanted)
+    let mut rest = words;
+    'words: while let [word, more @ ..] = rest {
+        if word.as_bytes() == wanted {
+            return true;
+        }
+        rest = more;
+    }
+    false
 }
