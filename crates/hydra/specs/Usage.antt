@@ -21,15 +21,19 @@ later_option words =
     else if list_any (λ word. bytes_eq word (codes "--visits")) words then Some later.Visits
     else None
 
--- the first part of the words that a later step serves: the command, or more shards, copies or options of a script
-abbrev pub later_in : List (List ℕ) → Option Later
-later_in (command ∷ dir ∷ shards ∷ copies ∷ options) =
+-- the first of these that a later step serves: the command, or more shards, more copies or an option of a script
+unfoldable pub later_part : List ℕ → List ℕ → List ℕ → List (List ℕ) → Option Later
+later_part command shards copies options =
     if bytes_eq command (codes "load") then Some later.Load
     else if bytes_eq command (codes "audit") then Some later.Audit
     else if not (bytes_eq command (codes "script")) then None
     else if is_later_shards shards then Some later.Shards
     else if is_later_copies copies then Some later.Copies
     else later_option options
+
+-- the first part of the words that a later step serves
+abbrev pub later_in : List (List ℕ) → Option Later
+later_in (command ∷ dir ∷ shards ∷ copies ∷ options) = later_part command shards copies options
 later_in other = None
 
 -- the line on standard error of words outside the language

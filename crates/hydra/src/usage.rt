@@ -2,7 +2,7 @@
 ghost use Rattle.std.specs.Prelude.{◌≡◌, OnOk, bytes_eq, map, string_bytes};
 ghost use Rattle.std.specs.Io.KnownBytes.{Appends};
 ghost use Rattle.std.specs.List.{list_any};
-ghost use Rattle.hydra.specs.Usage.{is_later_copies, is_later_shards, later_in, later_option, later_text, usage_text};
+ghost use Rattle.hydra.specs.Usage.{is_later_copies, is_later_shards, later_in, later_option, later_part, later_text, usage_text};
 
 use hs_top::shape_of;
 use std::io;
@@ -55,22 +55,34 @@ fn later_of(words: &[String]) -> Option<Later>
     ensures { result ≡ later_in (map (λ word. string_bytes word) words.now) }
 {
     match words {
-        [command, _, shards, copies, options @ ..] => {
-            if command.as_bytes() == b"load".as_slice() {
-                Some(Later::Load)
-            } else if command.as_bytes() == b"audit".as_slice() {
-                Some(Later::Audit)
-            } else if command.as_bytes() != b"script".as_slice() {
-                None
-            } else if is_later_shards(shards.as_bytes()) {
-                Some(Later::Shards)
-            } else if is_later_copies(copies.as_bytes()) {
-                Some(Later::Copies)
-            } else {
-                later_option(options)
-            }
-        }
+        [command, _, shards, copies, options @ ..] => later_part(
+            command.as_bytes(),
+            shards.as_bytes(),
+            copies.as_bytes(),
+            options,
+        ),
         _ => None,
+    }
+}
+
+// The same of the words by their place.
+#[tactic(auto, unfolding(crate::specs::Usage::later_part))]
+fn later_part(command: &[u8], shards: &[u8], copies: &[u8], options: &[String]) -> Option<Later>
+    ensures { result ≡ later_part command.now shards.now copies.now
+        (map (λ word. string_bytes word) options.now) }
+{
+    if command == b"load".as_slice() {
+        Some(Later::Load)
+    } else if command == b"audit".as_slice() {
+        Some(Later::Audit)
+    } else if command != b"script".as_slice() {
+        None
+    } else if is_later_shards(shards) {
+        Some(Later::Shards)
+    } else if is_later_copies(copies) {
+        Some(Later::Copies)
+    } else {
+        later_option(options)
     }
 }
 
