@@ -1,2 +1,6 @@
+pub mod BadLine
 pub mod CommandLine
+pub mod FileNote
+pub mod SideFault
 pub mod Taken
+pub mod Usage

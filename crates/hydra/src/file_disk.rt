@@ -1,8 +1,10 @@
 //! A pair of files as a disk.
-ghost use Rattle.std.specs.Prelude.{◌≡◌, false, IfNone};
+ghost use Rattle.std.specs.Prelude.{◌≡◌, false, Some, IfNone};
 ghost use Rattle.hs_ports.specs.MemoryDisk.{untold, of_side};
+ghost use Rattle.hydra.specs.SideFault.{fault_in, is_faulty};
 
 use crate::fault_count::FaultCount;
+use crate::file_fault::{Deed, FileFault, SideFault};
 use crate::side_file::SideFile;
 use hs_ports::{Disk, PortFault, Side, Watch};
 use std::alloc::Global;
@@ -15,8 +17,8 @@ use std::{fs, io};
 /// lengths of the files, which nobody else is to change meanwhile.
 #[derive(Drop)]
 pub struct FileDisk<F> {
-    zero: SideFile<F>,
-    one: SideFile<F>,
+    pub zero: SideFile<F>,
+    pub one: SideFile<F>,
     count: FaultCount,
     /// Whether there are no files since another run has them.
     pub is_taken: bool,
@@ -31,17 +33,19 @@ impl<F: Read + Write + Seek + OpenFile + Drop> FileDisk<F> {
         ensures faults { ⟦<FileDisk<F> as Disk>⟧.faults result ≡ 0 }
         ensures taken { result.is_taken ≡ false }
     {
-        if let Some((zero, one)) = files {
-            if let (Ok(zero_data), Ok(one_data)) = (zero.metadata(), one.metadata()) {
-                return FileDisk {
-                    zero: SideFile::new(zero, zero_data.len()),
-                    one: SideFile::new(one, one_data.len()),
-                    count: FaultCount::new(),
-                    is_taken: false,
-                };
-            }
+        let Some((zero, one)) = files else {
+            return FileDisk::absent(false);
+        };
+        match (zero.metadata(), one.metadata()) {
+            (Ok(zero_data), Ok(one_data)) => FileDisk {
+                zero: SideFile::new(zero, zero_data.len()),
+                one: SideFile::new(one, one_data.len()),
+                count: FaultCount::new(),
+                is_taken: false,
+            },
+            (Err(reason), _) => FileDisk::failed(Side::Zero, Deed::Open, reason),
+            (_, Err(reason)) => FileDisk::failed(Side::One, Deed::Open, reason),
         }
-        FileDisk::absent(false)
     }
 
     /// A disk without files, whose calls all fail.
@@ -52,10 +56,66 @@ impl<F: Read + Write + Seek + OpenFile + Drop> FileDisk<F> {
         ensures taken { result.is_taken ≡ is_taken }
     {
         FileDisk {
-            zero: SideFile::absent(),
-            one: SideFile::absent(),
+            zero: SideFile::absent(None),
+            one: SideFile::absent(None),
             count: FaultCount::new(),
             is_taken,
+        }
+    }
+
+    /// A disk without files, since this failed at the file of a side.
+    fn failed(side: Side, deed: Deed, reason: io::Error) -> FileDisk<F>
+        ensures zero { ⟦<FileDisk<F> as Disk>⟧.size result Side.Zero ≡ 0 }
+        ensures one { ⟦<FileDisk<F> as Disk>⟧.size result Side.One ≡ 0 }
+        ensures faults { ⟦<FileDisk<F> as Disk>⟧.faults result ≡ 0 }
+        ensures taken { result.is_taken ≡ false }
+        ensures fault { fault_in result.zero.fault result.one.fault
+            ≡ Some (record { side = side; fault = record { deed = deed; reason = reason } }) }
+    {
+        let fault = SideFault { deed, reason };
+        let (zero, one) = match side {
+            Side::Zero => (Some(fault), None),
+            Side::One => (None, Some(fault)),
+        };
+        FileDisk {
+            zero: SideFile::absent(zero),
+            one: SideFile::absent(one),
+            count: FaultCount::new(),
+            is_taken: false,
+        }
+    }
+
+    /// The first of its calls that failed: of side zero, and else of side one.
+    pub fn fault(&self) -> Option<FileFault>
+        ensures { result ≡ fault_in self.now.zero.fault self.now.one.fault }
+    {
+        match (self.zero.fault, self.one.fault) {
+            (Some(fault), _) => Some(FileFault {
+                side: Side::Zero,
+                fault,
+            }),
+            (None, Some(fault)) => Some(FileFault {
+                side: Side::One,
+                fault,
+            }),
+            (None, None) => None,
+        }
+    }
+
+    /// Says that there is no folder, where a file of it was not found.
+    pub fn blame_folder(&mut self, made: io::Error)
+        ensures zero { self.new.zero.len ≡ self.old.zero.len }
+        ensures taken { self.new.is_taken ≡ self.old.is_taken }
+        ensures fault { is_faulty self.new.zero.fault self.new.one.fault
+            ≡ is_faulty self.old.zero.fault self.old.one.fault }
+    {
+        if let Some(fault) = self.zero.fault {
+            if fault.reason.kind() == io::ErrorKind::NotFound {
+                self.zero.fault = Some(SideFault {
+                    deed: Deed::Make,
+                    reason: made,
+                });
+            }
         }
     }
 
@@ -78,25 +138,32 @@ pub fn open_disk<R: Files<File = File>>(
 ) -> FileDisk<File> {
     // A file that is opened while a standard stream is closed gets that stream's number, and
     // would be read as input or written as output. These three take such numbers meanwhile.
-    let held = (fs::open(rt, "/"), fs::open(rt, "/"), fs::open(rt, "/"));
-    let (Ok(_), Ok(_), Ok(_)) = &held else {
-        return FileDisk::absent(false);
+    let held = match hold_three(rt) {
+        Ok(held) => held,
+        Err(reason) => return FileDisk::failed(Side::Zero, Deed::Open, reason),
     };
-    let Ok(zero) = open_side(rt, alloc, dir, peer, 0) else {
-        return FileDisk::absent(false);
+    let zero = match open_side(rt, alloc, dir, peer, 0) {
+        Ok(zero) => zero,
+        Err(reason) => return FileDisk::failed(Side::Zero, Deed::Open, reason),
     };
     // The lock comes before the lengths are read: until then another run may change them.
     match zero.try_lock() {
         Ok(()) => {}
         Err(TryLockError::WouldBlock) => return FileDisk::absent(true),
-        Err(TryLockError::Error(_)) => return FileDisk::absent(false),
+        Err(TryLockError::Error(reason)) => {
+            return FileDisk::failed(Side::Zero, Deed::Lock, reason);
+        }
     }
     let one = open_side(rt, alloc, dir, peer, 1);
     drop(held);
     match one {
         Ok(one) => FileDisk::new(Some((zero, one))),
-        Err(_) => FileDisk::absent(false),
+        Err(reason) => FileDisk::failed(Side::One, Deed::Open, reason),
     }
+}
+
+fn hold_three<R: Files<File = File>>(rt: &R) -> io::Result<(File, File, File)> {
+    Ok((fs::open(rt, "/")?, fs::open(rt, "/")?, fs::open(rt, "/")?))
 }
 
 fn open_side<R: Files<File = File>>(

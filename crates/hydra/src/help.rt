@@ -54,7 +54,9 @@ no for a refusal. A script, and beside it what is printed on a new DIR:
   read a h0       4 bytes 6162
   settle
 
-Exit statuses, each but 0 with a line on standard error:
+Exit statuses. Each but 0 has its line on standard error, and before it may stand
+another: the file that failed and why, which word is not served yet, or what is
+wrong with the line of a script.
 
    0  the script was read to its end
    2  the words are not those of a command
@@ -67,4 +69,12 @@ Exit statuses, each but 0 with a line on standard error:
    8  the disk is of another store; nothing was written to it
   10  the run has as many answers as --ops allows, and one more was due
   13  the input is too long
+ 126  of the launcher bin/hydra: the program could not be proved or built
+ 127  of the launcher: the command rt of the Rattle kit is not on the path
+ 130  of the launcher: the building was interrupted
+
+A damaged disk: a log has no checksum. A bit that flips in a block's data is found
+only where the block is compared with one that is written; until then reads give
+the changed data. One in a gate hides what is behind it. Copies of a shard and the
+scrub are the answer to that, from the steps on that build them.
 ";

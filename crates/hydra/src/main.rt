@@ -1,14 +1,18 @@
 //! The program: it runs a store by a script from standard input.
 #![tactic(auto)]
 
+mod bad_line;
 mod command_line;
 mod fault_count;
 mod file_disk;
+mod file_fault;
 mod help;
+mod notes;
 mod retry;
 mod run;
 mod side_file;
 mod streams;
+mod usage;
 
 use std::process::ExitCode;
 

@@ -7,10 +7,13 @@ ghost use Rattle.hs_top.specs.Words.{shape_in};
 ghost use Rattle.hydra.specs.CommandLine.{IsFaulty, peers_in};
 ghost use Rattle.hydra.specs.Taken.{taken_text};
 
+use crate::bad_line::{BadCause, first_cause, tell_cause};
 use crate::command_line::{Request, request_of, words_of};
 use crate::file_disk::{FileDisk, open_disk};
 use crate::help::{HELP, VERSION};
+use crate::notes::{note_of, tell_file};
 use crate::streams::{ReaderSource, WriterSink};
+use crate::usage::tell_usage;
 use hs_block::ShaNames;
 use hs_ports::Watch;
 use hs_top::{Status, fault_line, shape_of};
@@ -33,7 +36,10 @@ where
 {
     match words_of(rt) {
         Ok(words) => answer(rt, &words, input, output, errors),
-        Err(error) if error.kind() == ErrorKind::InvalidData => Status::Usage,
+        Err(error) if error.kind() == ErrorKind::InvalidData => {
+            let _ = tell_usage(errors, &[]);
+            Status::Usage
+        }
         Err(_) => Status::NoMemory,
     }
 }
@@ -88,6 +94,7 @@ where
     let Ok(mut disks) = disks_of(rt, alloc, words) else {
         return Status::NoMemory;
     };
+    let _ = tell_usage(errors, words);
     let _ = tell_taken(errors, &disks);
     let mut sink = WriterSink::new(output);
     let mut watch = Watch::new();
@@ -101,7 +108,30 @@ where
         &mut disks,
         &mut watch,
     );
+    if let Ok(note) = note_of(alloc, &disks) {
+        let _ = tell_file(alloc, errors, dir_of(words), &note);
+    }
+    let _ = tell_cause(errors, cause_of_end(&outcome.status, &source));
     outcome.status
+}
+
+// What is wrong with the line at which the script ended, where it ended at a bad one.
+fn cause_of_end<I: Read + Drop>(status: &Status, source: &ReaderSource<I>) -> Option<BadCause> {
+    match status {
+        Status::BadLine { .. } => match source.last_bytes() {
+            Ok((bytes, is_cut)) => first_cause(&bytes, is_cut),
+            Err(_) => None,
+        },
+        _ => None,
+    }
+}
+
+// The folder that the words name.
+fn dir_of(words: &[String]) -> &str {
+    match words {
+        [_, dir, ..] => dir.as_str(),
+        _ => "",
+    }
 }
 
 /// The disks of the peers under the folder that the words name, which is made where it is absent;
@@ -119,21 +149,21 @@ pub fn disks_of<R: Files<File = File>>(
 {
     match (words, shape_of(words)) {
         ([_, dir, ..], Some(shape)) => {
-            // Where it can't be made, the files can't be opened.
-            let _ = fs::create_dir_all(rt, dir.as_str());
+            let made = fs::create_dir_all(rt, dir.as_str()).err();
             let peers = usize::from(shape.shards) * usize::from(shape.copies);
-            open_disks(rt, alloc, dir.as_str(), peers)
+            open_disks(rt, alloc, dir.as_str(), made, peers)
         }
         _ => Ok(Vec::new(alloc)),
     }
 }
 
-// The disks of this many peers under a folder. Where another run has one, it counts as having all:
-// else each of two runs might go on with a part of them.
+// The disks of this many peers under a folder, with why it could not be made. Where another run has
+// one, it counts as having all: else each of two runs might go on with a part of them.
 fn open_disks<R: Files<File = File>>(
     rt: &R,
     alloc: Global,
     dir: &str,
+    made: Option<io::Error>,
     peers: usize,
 ) -> Result<Vec<FileDisk<File>>, AllocError>
     ensures count { IfOk result (λ disks. vec_len disks ≡ peers) }
@@ -143,9 +173,12 @@ fn open_disks<R: Files<File = File>>(
 {
     let mut disks = Vec::new(alloc);
     for peer in 0..peers {
-        let disk = open_disk(rt, alloc, dir, peer);
+        let mut disk = open_disk(rt, alloc, dir, peer);
         if disk.is_taken {
             return taken_disks(alloc, peers);
+        }
+        if let Some(reason) = made {
+            disk.blame_folder(reason);
         }
         disks.push(disk)?;
     }

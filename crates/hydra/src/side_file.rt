@@ -1,7 +1,9 @@
 //! One side of a disk: a file and its length.
-ghost use Rattle.std.specs.Prelude.{◌≡◌, ◌+◌, ◌<◌, ◌≤◌, ◌^◌, IfOk, IfErr, OnOk, OnErr, IsNone, length, max};
+ghost use Rattle.std.specs.Prelude.{◌≡◌, ◌+◌, ◌<◌, ◌≤◌, ◌^◌, Some, IfOk, IfErr, IfSome, OnOk, OnErr, IsNone, IsSome, length, max};
 ghost use Rattle.hs_ports.specs.Disk.{HasRead, IsBetween};
+ghost use Rattle.hydra.specs.SideFault.{Keeps, Tells};
 
+use crate::file_fault::{Deed, SideFault, note};
 use crate::retry::{read_some, write_some};
 use hs_ports::PortFault;
 use std::fs::OpenFile;
@@ -16,6 +18,8 @@ const PIECE: usize = 65536;
 pub struct SideFile<F> {
     pub file: Option<F>,
     pub len: u64,
+    /// The first call that failed.
+    pub fault: Option<SideFault>,
     ghost fits: { len < 2 ^ 64 },
 }
 
@@ -27,15 +31,21 @@ impl<F: Read + Write + Seek + OpenFile> SideFile<F> {
         SideFile {
             file: Some(file),
             len,
+            fault: None,
         }
     }
 
-    /// No file.
-    pub fn absent() -> SideFile<F>
+    /// No file, and the fault for which there is none.
+    pub fn absent(fault: Option<SideFault>) -> SideFile<F>
         ensures file { IsNone result.file }
         ensures value { result.len ≡ 0 }
+        ensures fault { result.fault ≡ fault }
     {
-        SideFile { file: None, len: 0 }
+        SideFile {
+            file: None,
+            len: 0,
+            fault,
+        }
     }
 
     /// The length.
@@ -58,9 +68,11 @@ impl<F: Read + Write + Seek + OpenFile> SideFile<F> {
         ensures untaken { OnErr result (into.new.items ≡ into.old.items) }
         ensures same { self.new.len ≡ self.old.len }
         ensures absent { IsNone self.old.file → result ≡ Err PortFault.Failed }
+        ensures told { IsSome self.old.file → Tells result self.new.fault }
+        ensures kept { Keeps self.old.fault self.new.fault }
     {
         match &mut self.file {
-            Some(file) => read_from(file, self.len, at, max, into),
+            Some(file) => read_from(file, &mut self.fault, self.len, at, max, into),
             None => Err(PortFault::Failed),
         }
     }
@@ -73,11 +85,18 @@ impl<F: Read + Write + Seek + OpenFile> SideFile<F> {
             (max self.old.len (at + length bytes.now)) self.new.len) }
         ensures not_memory { IfErr result (λ fault. fault ≡ PortFault.Failed) }
         ensures absent { IsNone self.old.file → result ≡ Err PortFault.Failed }
+        ensures told { IsSome self.old.file → Tells result self.new.fault }
+        ensures kept { Keeps self.old.fault self.new.fault }
     {
         let fits = at.checked_add(bytes.len() as u64).is_some();
         match &mut self.file {
-            Some(file) if fits => {
-                let done = write_from(file, at, bytes);
+            Some(_) if !fits => {
+                let reason = io::ErrorKind::FileTooLarge.into();
+                note(&mut self.fault, Deed::Write, reason);
+                Err(PortFault::Failed)
+            }
+            Some(file) => {
+                let done = write_from(file, &mut self.fault, at, bytes);
                 self.len = self.len.max(at + done as u64);
                 if done == bytes.len() {
                     Ok(())
@@ -85,7 +104,7 @@ impl<F: Read + Write + Seek + OpenFile> SideFile<F> {
                     Err(PortFault::Failed)
                 }
             }
-            _ => Err(PortFault::Failed),
+            None => Err(PortFault::Failed),
         }
     }
 
@@ -95,34 +114,49 @@ impl<F: Read + Write + Seek + OpenFile> SideFile<F> {
         ensures same { OnErr result (self.new.len ≡ self.old.len) }
         ensures not_memory { IfErr result (λ fault. fault ≡ PortFault.Failed) }
         ensures absent { IsNone self.old.file → result ≡ Err PortFault.Failed }
+        ensures told { IsSome self.old.file → Tells result self.new.fault }
+        ensures kept { Keeps self.old.fault self.new.fault }
     {
-        let done = match &self.file {
-            Some(file) => file.set_len(len).is_ok(),
-            None => false,
-        };
-        if !done {
+        let Some(file) = &self.file else {
             return Err(PortFault::Failed);
+        };
+        match file.set_len(len) {
+            Ok(()) => {
+                self.len = len;
+                Ok(())
+            }
+            Err(reason) => {
+                note(&mut self.fault, Deed::Cut, reason);
+                Err(PortFault::Failed)
+            }
         }
-        self.len = len;
-        Ok(())
     }
 
     /// Puts the file on the medium.
-    pub fn sync(&self) -> Result<(), PortFault>
+    pub fn sync(&mut self) -> Result<(), PortFault>
+        ensures same { self.new.len ≡ self.old.len }
         ensures not_memory { IfErr result (λ fault. fault ≡ PortFault.Failed) }
-        ensures absent { IsNone self.now.file → result ≡ Err PortFault.Failed }
+        ensures absent { IsNone self.old.file → result ≡ Err PortFault.Failed }
+        ensures told { IsSome self.old.file → Tells result self.new.fault }
+        ensures kept { Keeps self.old.fault self.new.fault }
     {
-        let done = match &self.file {
-            Some(file) => file.sync_all().is_ok(),
-            None => false,
+        let Some(file) = &self.file else {
+            return Err(PortFault::Failed);
         };
-        if done { Ok(()) } else { Err(PortFault::Failed) }
+        match file.sync_all() {
+            Ok(()) => Ok(()),
+            Err(reason) => {
+                note(&mut self.fault, Deed::Sync, reason);
+                Err(PortFault::Failed)
+            }
+        }
     }
 }
 
 // Appends a piece of a file of this length from a place on, or nothing.
 fn read_from<F: Read + Seek>(
     file: &mut F,
+    fault: &mut Option<SideFault>,
     len: u64,
     at: u64,
     max: usize,
@@ -131,6 +165,8 @@ fn read_from<F: Read + Seek>(
     requires { 0 < max }
     ensures found { IfOk result (λ n. HasRead len at max into.old.items into.new.items n) }
     ensures untaken { OnErr result (into.new.items ≡ into.old.items) }
+    ensures told { Tells result fault.new }
+    ensures kept { Keeps fault.old fault.new }
 {
     if at >= len {
         return Ok(0);
@@ -145,8 +181,9 @@ fn read_from<F: Read + Seek>(
             into.truncate(start + n);
             Ok(n)
         }
-        Err(_) => {
+        Err(reason) => {
             into.truncate(start);
+            note(fault, Deed::Read, reason);
             Err(PortFault::Failed)
         }
     }
@@ -166,17 +203,28 @@ fn read_piece<F: Read + Seek>(file: &mut F, at: u64, piece: &mut [u8]) -> io::Re
 }
 
 // Writes from a place on, and says how many bytes the file took: all, unless it failed.
-fn write_from<F: Write + Seek>(file: &mut F, at: u64, bytes: &[u8]) -> usize
+fn write_from<F: Write + Seek>(
+    file: &mut F,
+    fault: &mut Option<SideFault>,
+    at: u64,
+    bytes: &[u8],
+) -> usize
     ensures within { result ≤ length bytes.now }
+    ensures told { result < length bytes.now → IsSome fault.new }
+    ensures kept { Keeps fault.old fault.new }
 {
-    if file.seek(SeekFrom::Start(at)).is_err() {
+    if let Err(reason) = file.seek(SeekFrom::Start(at)) {
+        note(fault, Deed::Write, reason);
         return 0;
     }
     let mut done = 0;
     'pieces: while done < bytes.len() {
         match write_some(file, &bytes[done..]) {
             Ok(n) => done += n,
-            Err(_) => break 'pieces,
+            Err(reason) => {
+                note(fault, Deed::Write, reason);
+                return done;
+            }
         }
     }
     done

@@ -1,5 +1,5 @@
 //! A reader as a source, and a writer as a sink.
-ghost use Rattle.std.specs.Prelude.{◌≡◌, ◌<◌, ◌≤◌, IfOk, IfErr, OnErr, None, drop, length, take};
+ghost use Rattle.std.specs.Prelude.{◌≡◌, ◌+◌, ◌<◌, ◌≤◌, IfOk, IfErr, OnErr, None, drop, length, take};
 ghost use Rattle.std.specs.Io.KnownBytes.{Appends, Consumes, IsAtEnd, Keeps};
 ghost use Rattle.hs_ports.specs.Source.{Took};
 
@@ -12,13 +12,19 @@ use std::io::{Read, Write};
 /// The most bytes that one call reads.
 const PIECE: usize = 65536;
 
-/// A reader as a source, which doesn't tell its bytes.
+/// How many of the last bytes are kept: more than a line has, and what may be taken behind it.
+const KEPT: usize = 5 * PIECE;
+
+/// A reader as a source, which doesn't tell its bytes. What it reads it reads into a ring, so that
+/// the last bytes are there where a line of them is bad.
 #[derive(Drop)]
 pub struct ReaderSource<R> {
     reader: R,
-    piece: Vec<u8>,
+    ring: Vec<u8>,
+    at: usize,
+    is_round: bool,
     count: FaultCount,
-    ghost some: { 0 < length piece.items },
+    ghost some: { at < length ring.items },
 }
 
 impl<R: Read + Drop> ReaderSource<R> {
@@ -29,9 +35,21 @@ impl<R: Read + Drop> ReaderSource<R> {
     {
         Ok(ReaderSource {
             reader,
-            piece: vec![in alloc; 0u8; PIECE]?,
+            ring: vec![in alloc; 0u8; KEPT]?,
+            at: 0,
+            is_round: false,
             count: FaultCount::new(),
         })
+    }
+
+    /// The last bytes that were read, in their order, and whether there were others before them.
+    pub fn last_bytes(&self) -> Result<(Vec<u8>, bool), AllocError> {
+        let mut bytes = Vec::with_capacity(*self.ring.allocator(), self.ring.len())?;
+        if self.is_round {
+            bytes.extend_from_slice(&self.ring[self.at..])?;
+        }
+        bytes.extend_from_slice(&self.ring[..self.at])?;
+        Ok((bytes, self.is_round))
     }
 
     /// How often it has failed; at `u64::MAX` the count stands still.
@@ -42,25 +60,27 @@ impl<R: Read + Drop> ReaderSource<R> {
     }
 }
 
-// Reads up to `max` bytes through the piece, and appends what it got, or nothing.
+// Reads up to `max` bytes into the ring from a place on, and appends what it got, or nothing.
 fn take_through<R: Read>(
     reader: &mut R,
-    piece: &mut Vec<u8>,
+    ring: &mut Vec<u8>,
+    at: usize,
     max: usize,
     into: &mut Vec<u8>,
 ) -> Result<usize, PortFault>
-    requires piece { 0 < length piece.old.items }
+    requires place { at < length ring.old.items }
     requires max { 0 < max }
     ensures taken { IfOk result (λ n. Took None into.old.items None into.new.items max n) }
+    ensures within { IfOk result (λ n. at + n ≤ length ring.old.items) }
     ensures given { IfOk result (λ n. Consumes (R.remaining reader.old) (R.remaining reader.new)
         (drop (length into.old.items) into.new.items)) }
     ensures ended { IfOk result (λ n. n ≡ 0 → IsAtEnd (R.remaining reader.new)) }
     ensures untaken { OnErr result (into.new.items ≡ into.old.items) }
     ensures kept { OnErr result (Keeps (R.remaining reader.old) (R.remaining reader.new)) }
-    ensures same_size { length piece.new.items ≡ length piece.old.items }
+    ensures same_size { length ring.new.items ≡ length ring.old.items }
 {
-    let most = max.min(piece.len());
-    take_piece(reader, &mut piece[..most], into)
+    let most = max.min(PIECE).min(ring.len() - at);
+    take_piece(reader, &mut ring[at..at + most], into)
 }
 
 // Reads into the piece, and appends what it got, or nothing.
@@ -99,7 +119,14 @@ impl<R: Read> Source for ReaderSource<R> {
     ghost faults = { λ s. s.count.faults };
 
     fn take(&mut self, max: usize, into: &mut Vec<u8>) -> Result<usize, PortFault> {
-        let answer = take_through(&mut self.reader, &mut self.piece, max, into);
+        let answer = take_through(&mut self.reader, &mut self.ring, self.at, max, into);
+        if let Ok(n) = answer {
+            self.at += n;
+            if self.at == self.ring.len() {
+                self.at = 0;
+                self.is_round = true;
+            }
+        }
         self.count.counted(answer)
     }
 }

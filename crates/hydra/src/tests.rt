@@ -2,6 +2,7 @@
 //! interrupted in one call.
 ghost use Rattle.std.specs.Prelude.{◌<◌};
 
+use crate::bad_line::{BadCause, first_cause};
 use crate::file_disk::{FileDisk, open_disk};
 use crate::run::{disks_of, tell_taken};
 use crate::streams::{ReaderSource, WriterSink};
@@ -284,5 +285,34 @@ fn each_call_of_a_disk_without_files_fails(rt: HostRuntime) -> Result<(), Fail> 
     assert_eq!(rt; sync(&mut disk, &mut watch, side), Err(PortFault::Failed));
     assert_eq!(rt; disk.faults(), 4);
     assert_eq!(rt; watch.now(), 2);
+    Ok(())
+}
+
+#[test]
+fn the_first_bad_line_has_a_cause(rt: HostRuntime) -> Result<(), Fail> {
+    for (lines, want) in [
+        (
+            b"\n# a\r\nopen a\nwrite a 6a\nwrite a -\nread a h0\nstat\nsettle".as_slice(),
+            None,
+        ),
+        (b"opne a\nsettle a", Some(BadCause::Verb)),
+        (b"close a\n", Some(BadCause::LaterVerb)),
+        (b"write a 61 h0", Some(BadCause::LaterPointers)),
+        (b"settle\r\n", Some(BadCause::Return)),
+        (b"open  a\n", Some(BadCause::Space)),
+        (b"open A\n", Some(BadCause::Session)),
+        (b"open\n", Some(BadCause::FewWords)),
+        (b"stat a\n", Some(BadCause::ManyWords)),
+        (b"read a h00\n", Some(BadCause::Handle)),
+        (b"read a h4294967296\n", Some(BadCause::Handle)),
+        (b"write a 6g\n", Some(BadCause::Digit)),
+        (b"write a 616\n", Some(BadCause::OddDigits)),
+    ] {
+        assert_eq!(rt; first_cause(lines, false), want);
+    }
+    assert_eq!(rt;
+        first_cause(b"ead a h0\nstat 1", true),
+        Some(BadCause::ManyWords)
+    );
     Ok(())
 }
