@@ -2,7 +2,7 @@
 use Rattle.std.proofs.Common.{◌≡◌, ℕ, ◌+◌, ◌-◌, ◌≤◌, ◌<◌, Bool, true, false, List, [], ◌∷◌, ◌++◌, length, take, drop, arith, refl, sym, ◌∙◌, ap, ◌==◌}
 use Rattle.std.proofs.Math.Seq.{take-add}
 use Rattle.std.proofs.lemmas.Bool.Decides.{nat_tests}
-use Rattle.std.proofs.lemmas.List.{take-append-le, take_all}
+use Rattle.std.proofs.lemmas.List.{length-append, take-append-le, take_all}
 use Rattle.std.specs.Option.{IfSome}
 use Rattle.std.specs.Prelude.{nat_lt}
 use Rattle.hs_entry.specs.declared.entry.Entry.{Entry}
@@ -41,7 +41,7 @@ step_nearer lead_sealed r = go r.empty refl (nat_lt r.len lead_sealed) refl
 
     go : (b : Bool) → r.empty ≡ b → (c : Bool) → nat_lt r.len lead_sealed ≡ c
         → IfSome (next_job lead_sealed r) (λ step. steps_left lead_sealed (counted step r) + 1 ≡ steps_left lead_sealed r)
-    go true due c e = rw due refl
+    go true due c e = rw due (omega arith)
     go false done true below = rw (done, below) (one_less below)
     go false done false level = rw (done, level) tt
 
@@ -54,7 +54,7 @@ other_lead_follows from lead other list r h l e = record {
 
 pub longer_lead_follows : (lead more list : List Entry) (r : Rejoin) → Follows lead list r → Follows (lead ++ more) list r
 longer_lead_follows lead more list r h = record {
-  within = λ f. grind (arith, h.within f);
+  within = λ f. rw (length-append lead more) (omega (arith, h.within f));
   same = λ f. h.same f ∙ sym (take-append-le r.len lead more (h.within f));
 }
 

@@ -6,14 +6,13 @@ use Rattle.hs_desk.specs.declared.job.Job.TheVariants as job
 use Rattle.hs_entry.specs.declared.entry.Entry.{Entry}
 use Rattle.hs_entry.specs.declared.entry.Entry.TheVariants as kind
 use Rattle.hs_rejoin.specs.Course.{after_step, counted}
-use Rattle.hs_rejoin.specs.Rejoin.{Rejoin, copied, emptied, follow, is_level, new_rejoin, next_job}
+use Rattle.hs_rejoin.specs.Rejoin.{Rejoin, follow, is_level, new_rejoin, next_job}
 
--- the first of these steps, where the lead has sealed so many entries and each step is reported as done
+-- what is left once a step is reported, if there is one
 abbrev report : Option Job → Rejoin → Rejoin
-report (Some job.Reset) r = emptied r
-report (Some (job.Copy from number)) r = copied number r
-report other r = r
+report step r = option_map_or (λ step. counted step r) step r
 
+-- the first n steps, where the lead has sealed so many entries, and what they leave
 abbrev steps : ℕ → ℕ → Rejoin → List (Option Job)
 steps zero lead_sealed r = []
 steps (suc n) lead_sealed r = next_job lead_sealed r ∷ steps n lead_sealed (report (next_job lead_sealed r) r)

@@ -7,7 +7,7 @@ ghost use Rattle.hs_rejoin.specs.Rejoin.{Rejoin, follow, is_level, new_rejoin, n
 /// A joining peer's list is the lead's when it is level: from its beginning on, through each step, as
 /// the lead's list grows, and as another peer leads that has the same first entries. Each step leaves
 /// one step less to do.
-#[tactic(auto, using(crate::proofs::CourseLemmas::new_follows, crate::proofs::CourseLemmas::step_follows, crate::proofs::CourseLemmas::step_nearer, crate::proofs::CourseLemmas::longer_lead_follows, crate::proofs::CourseLemmas::other_lead_follows, crate::proofs::CourseLemmas::level_is_lead))]
+#[tactic(auto, using(crate::proofs::CourseLemmas::new_follows, crate::proofs::CourseLemmas::step_nearer, crate::proofs::CourseLemmas::other_lead_follows))]
 pub fn the_copied_list_is_the_leads()
     ensures begins { (from : ℕ) (lead list : List Entry) → Follows lead list (new_rejoin from) }
     ensures step { (lead_sealed : ℕ) (lead list : List Entry) (r : Rejoin) → lead_sealed ≤ length lead
