@@ -185,3 +185,8 @@ module _ {before now : ℕ} {side : Side} {old new : Standing} (places : List �
         let here : image side ≡ opened end (old.seen side) = settled_only (opened end (old.seen side)) (image side) (subst (λ l. IsImage l (image side)) loose (left.sides side)) in
         list-there side image (opened end (old.seen side)) here (seal-sole image left)
         ∙ has-list (places ++ frame.place ∷ []) (opened end (old.seen side)) more (more-list places (old.seen side) (opened end (old.seen side)) list frame has opens)
+
+-- a log that is empty
+pub empty-kept : (keeping : Keeping) (seen : List ℕ) → HasList keeping.log.places seen [] → keeping.rank ≡ record { view = 0; number = 0 } → keeping.waits ≡ None → IsKept keeping seen [] None
+unfolding rank_of
+empty-kept keeping seen has rank waits = record { listed = has; numbered = tt; rank = rank; waits = waits }

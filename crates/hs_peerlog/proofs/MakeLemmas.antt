@@ -33,10 +33,10 @@ blank-side tells log size disk s told e =
     has.blank
 
 -- an empty log has the empty list
-pub formatted : (log : Kept) (seen : List ℕ) (header : Header) → log.places ≡ [] → seen ≡ spelled 165 header 1 [] 0 [] → HasList log.places seen []
-formatted log seen header places written = record {
-  log = record { header = header; generation = 1; frames = [] };
-  read = ap (λ bytes. log_of bytes) written ∙ empty_log header 1 (omega arith);
+pub formatted : (log : Kept) (seen : List ℕ) (header : Header) (generation : ℕ) → generation < 2 ^ 64 → log.places ≡ [] → seen ≡ spelled 165 header generation [] 0 [] → HasList log.places seen []
+formatted log seen header generation fits places written = record {
+  log = record { header = header; generation = generation; frames = [] };
+  read = ap (λ bytes. log_of bytes) written ∙ empty_log header generation fits;
   listed = refl;
   placed = places;
 }

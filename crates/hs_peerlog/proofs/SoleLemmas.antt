@@ -11,17 +11,17 @@ use Rattle.hs_peerlog.proofs.ImageLemmas.{two-sides, same-current, list-there, S
 use Rattle.hs_peerlog.specs.Images.{IsStanding, GivesList, LeavesEach, IsSole}
 
 -- one content for a side, another for the other
-abbrev beside : Side → List ℕ → List ℕ → (Side → List ℕ)
+abbrev pub beside : Side → List ℕ → List ℕ → (Side → List ℕ)
 beside Zero here there Zero = here
 beside Zero here there One = there
 beside One here there Zero = there
 beside One here there One = here
 
-beside-here : (side : Side) (here there : List ℕ) → beside side here there side ≡ here
+pub beside-here : (side : Side) (here there : List ℕ) → beside side here there side ≡ here
 beside-here Zero here there = refl
 beside-here One here there = refl
 
-beside-there : (side : Side) (here there : List ℕ) → beside side here there (other_side side) ≡ there
+pub beside-there : (side : Side) (here there : List ℕ) → beside side here there (other_side side) ≡ there
 beside-there Zero here there = refl
 beside-there One here there = refl
 

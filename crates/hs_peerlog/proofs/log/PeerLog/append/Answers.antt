@@ -7,10 +7,10 @@ use Rattle.hs_entry.proofs.EntryLemmas.{entry_again}
 use Rattle.hs_entry.proofs.ShortLemmas.{payload-short}
 use Rattle.hs_side.specs.Standing.{Kept, MayCome}
 use Rattle.hs_peerlog.specs.Images.{Is, IsSole}
-use Rattle.hs_peerlog.specs.Lists.{Keeping}
+use Rattle.hs_peerlog.specs.Lists.{IsBlankBeside, Keeping}
 use Rattle.hs_peerlog.proofs.EntryLemmas.{last-length, may-come, readable-ordinary}
 use Rattle.hs_peerlog.proofs.ListLemmas.{none-waits, appended, append-leaves, append-sole, append-only}
-use Rattle.hs_peerlog.proofs.StayLemmas.{stays}
+use Rattle.hs_peerlog.proofs.StayLemmas.{beside-stays, stays}
 use Rattle.hs_peerlog.proofs.log.PeerLog.append.Goals as goal
 
 pub returns-in-Err-clause-any_moment : goal.returns-in-Err-clause-any_moment
@@ -81,4 +81,5 @@ returns-clause-list g c = λ told last list has.
           (readable-ordinary c.args.entry.now c.requires.readable) c.requires.next value rank waits (rw view at (c.in_ok-append.ensures.same told)) (rw view at (c.in_ok-append.ensures.later told c.args.number c.args.entry.now read));
       sole = subst (λ s. IsSole s (g.D.Disk.stands c.append.new.disk)) (sym (ap (λ (k : Kept). k.side) value)) (append-sole c.args.self.now.log.places list has.kept.listed last since has.sole stays run);
       leaves = append-only c.args.self.now.log.places list has.kept.listed last since has.sole stays run;
+      beside = subst (λ s. IsBlankBeside s (g.D.Disk.stands c.append.new.disk)) (sym (ap (λ (k : Kept). k.side) value)) (beside-stays c.args.self.now.log.side (g.D.Disk.stands c.args.disk.now) (g.D.Disk.stands c.append.new.disk) run.other has.beside);
     }
