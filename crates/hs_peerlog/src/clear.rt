@@ -52,7 +52,6 @@ impl PeerLog {
             log,
             rank: Rank { view: 0, number: 0 },
             waits: None,
-            payload: Vec::new(alloc),
         })
     }
 }

@@ -2,6 +2,7 @@
 ghost use Rattle.std.specs.Prelude.{◌≡◌, ◌≤◌, ◌+◌, [], ◌∷◌, ◌++◌, length, None, Some, IsSome, OnOk, IfErr, IsErrOf};
 ghost use Rattle.hs_ports.specs.Disk.{other_side, overwritten};
 ghost use Rattle.hs_ports.specs.Moments.{EachMoment};
+ghost use Rattle.hs_ports.specs.Watch.{next_moment};
 ghost use Rattle.hs_entry.specs.Payload.{payload};
 ghost use Rattle.hs_entry.specs.Reading.{IsReadable};
 ghost use Rattle.hs_side.specs.Caused.{IsCalm, IsCaused, IsOutside};
@@ -61,6 +62,8 @@ impl SideLog {
         ensures any_moment { D.tells → (D.stands disk.old).last ≤ watch.old →
             EachMoment watch.old watch.new self.old.side (D.stands disk.old) (D.stands disk.new)
             (GivesSame ((D.stands disk.old).seen self.old.side)) }
+        // It costs one call that changes the disk: no sync.
+        ensures cost { OnOk result (watch.new ≡ next_moment watch.old) }
         ensures ticks { watch.old ≤ watch.new }
         ensures calm { IsCalm (D.faults disk.old) (D.faults disk.new) result }
         ensures cause { IsCaused (D.faults disk.old) (D.faults disk.new) result }

@@ -2,6 +2,7 @@
 ghost use Rattle.std.specs.Prelude.{◌≡◌, ◌≤◌, ◌+◌, [], ◌∷◌, ◌++◌, ℕ, None, Some, IsSome, IfSome, OnOk, IfErr, vec_len, vec_capacity};
 ghost use Rattle.hs_ports.specs.Disk.{other_side, settled};
 ghost use Rattle.hs_ports.specs.Moments.{EachMoment};
+ghost use Rattle.hs_ports.specs.Watch.{next_moment};
 ghost use Rattle.hs_entry.specs.declared.entry.Entry.{Entry};
 ghost use Rattle.hs_side.specs.Caused.{IsCalm, IsCaused};
 ghost use Rattle.hs_side.specs.Giving.{GivesEither};
@@ -132,6 +133,9 @@ impl SideLog {
             EachMoment watch.old watch.new self.old.side (D.stands disk.old) (D.stands disk.new)
             (GivesEither ((D.stands disk.old).seen self.old.side)
             (opened self.old.end ((D.stands disk.old).seen self.old.side))) }
+        // It costs three calls that change the disk: a sync, the write of a byte, a sync.
+        ensures cost { OnOk result (watch.new
+            ≡ next_moment (next_moment (next_moment watch.old))) }
         ensures ticks { watch.old ≤ watch.new }
         ensures calm { IsCalm (D.faults disk.old) (D.faults disk.new) result }
         ensures cause { IsCaused (D.faults disk.old) (D.faults disk.new) result }
