@@ -10,7 +10,6 @@ use Rattle.hs_entry.specs.declared.fault.EntryFault.TheVariants as entry_fault
 use Rattle.hs_entry.specs.declared.rank.Rank.{Rank}
 use Rattle.hs_entry.specs.Entries.{is_of_base, rank_after, view_after}
 use Rattle.hs_entry.specs.Reading.{entry_at, Fails}
-use Rattle.hs_entry.proofs.PartLemmas.{both_true}
 use Rattle.hs_entry.proofs.PlainLemmas.{entry_plain}
 use Rattle.hs_entry.proofs.RankLemmas.{rank_plain}
 use Rattle.hs_limits.specs.Fields.{◌>>=◌}
@@ -78,6 +77,10 @@ after_plain follow number (KeptBlock born mark flags count bytes) f = absurd cc
 after_plain follow number (KeptRoot created dropped counted address key) f = absurd cc
 after_plain follow number (KeptRound way other epoch round total deltas) f = absurd cc
 
+first_true : (a b : Bool) → (a && b) ≡ true → a ≡ true
+first_true true b e = refl
+first_true false b e = absurd cc
+
 -- behind an entry that is read a log may end: no kept frame is owed there
 pub read_ends : (follow next : Follow) (payload : List ℕ) (number : ℕ) (entry : Entry) → entry_at payload ≡ Ok (number, entry) → after follow number entry ≡ Some next → may_end next ≡ true
 read_ends follow next payload number entry read comes = go (eqb follow.owed 0 && eqb number (follow.last + 1)) refl
@@ -91,7 +94,7 @@ read_ends follow next payload number entry read comes = go (eqb follow.owed 0 &&
     go : (b : Bool) → (eqb follow.owed 0 && eqb number (follow.last + 1)) ≡ b → may_end next ≡ true
     go true e =
         let is : new ≡ next = some_is _ _ (ap (λ (t : Bool). only_if t new) (sym e) ∙ came) in
-        ap (λ (f : Follow). eqb f.owed 0) (sym is) ∙ (both_true (eqb follow.owed 0) (eqb number (follow.last + 1)) e).0
+        ap (λ (f : Follow). eqb f.owed 0) (sym is) ∙ first_true (eqb follow.owed 0) (eqb number (follow.last + 1)) e
     go false e = absurd (cc (sym (ap (λ (t : Bool). only_if t new) (sym e) ∙ came)))
 
 -- an entry that is read comes next exactly where its number is one above the last

@@ -3,7 +3,6 @@ pub mod BlankLemmas
 pub mod CrashLemmas
 pub mod FrameLemmas
 pub mod HeadLemmas
-mod LayLemmas
 pub mod PlaceLemmas
 pub mod ReadLemmas
 pub mod ScanLemmas
