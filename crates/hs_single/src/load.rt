@@ -105,6 +105,7 @@ impl Single {
             log,
             plain: MemoryStore::new(alloc, shape)?,
             numbers: BTreeMap::new(alloc),
+            payload: Vec::new(alloc),
         })
     }
 
