@@ -104,7 +104,7 @@ each-weaker run p = record {
 
 -- ---- the other side is closed
 
-module _ {before now : ℕ} (side : Side) {a b : Standing} (list : List (ℕ × Entry)) (sole : IsSole side a) (leaves : LeavesOnly a list) (stays : (s : Side) → IsImage (a.loose s) (a.seen s)) where
+module _ (side : Side) {a : Standing} (list : List (ℕ × Entry)) (sole : IsSole side a) (leaves : LeavesOnly a list) (stays : (s : Side) → IsImage (a.loose s) (a.seen s)) where
   -- this content of the side in use, beside what is read of the other
   mixed-left : (content : List ℕ) → IsImage (a.loose side) content → IsStanding a (beside side content (a.seen (other_side side)))
   mixed-left content left = record { sides = λ s. elim (two-sides side s) [
@@ -135,8 +135,8 @@ module _ {before now : ℕ} (side : Side) {a b : Standing} (list : List (ℕ × 
     holds = refl;
   }
 
-  pub other-closed : EachMoment before now (other_side side) a b (GivesClosed (a.loose (other_side side))) → a.last ≤ before → Since a → LeavesEach before now a b (Is list)
-  other-closed run last since = one-each (Is list) run last since (λ image g left. closed-gives image g (subst (λ s. IsImage (a.loose s) (image s)) (twice side) left))
+  pub other-closed : {before now : ℕ} {b : Standing} → EachMoment before now (other_side side) a b (GivesClosed (a.loose (other_side side))) → a.last ≤ before → Since a → LeavesEach before now a b (Is list)
+  other-closed {before} {now} {b} run last since = one-each (Is list) run last since (λ image g left. closed-gives image g (subst (λ s. IsImage (a.loose s) (image s)) (twice side) left))
 
 -- then it is blank, whatever a crash leaves
 pub closed-beside : (side : Side) (a b : Standing) → IsBlankBeside side a → (is_blank (a.seen (other_side side)) ≡ true → b ≡ a) → (is_blank (a.seen (other_side side)) ≡ false → IsBlankEverywhere (b.loose (other_side side))) → IsBlankEverywhere (b.loose (other_side side))

@@ -36,8 +36,11 @@ new_seen log payload seen = overwritten (log.end + 1) (body payload ++ 0 ∷ [])
 abbrev pub new_loose : Kept → List ℕ → Loose → Loose
 new_loose log payload loose = written (log.end + 1) (length (body payload ++ 0 ∷ [])) loose
 
+abbrev pub log_with : Kept → ℕ → Kept
+log_with log len = record log { waiting = Some (log.end + 5 + len) }
+
 abbrev pub new_log : Kept → List ℕ → Kept
-new_log log payload = record log { waiting = Some (log.end + 5 + length payload) }
+new_log log payload = log_with log (length payload)
 
 pub record Appended (log : Kept) (payload seen : List ℕ) (loose : Loose) : Type 0 where
   pub has : HasBytes 165 (new_log log payload) (new_seen log payload seen) (new_loose log payload loose)

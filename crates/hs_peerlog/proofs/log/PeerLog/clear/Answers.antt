@@ -4,6 +4,9 @@ use Rattle.hs_side.specs.Standing.{Kept}
 use Rattle.hs_peerlog.proofs.ListLemmas.{empty-kept}
 use Rattle.hs_peerlog.proofs.log.PeerLog.clear.Goals as goal
 
+pub write_empty-requires : goal.write_empty-requires
+write_empty-requires g c = λ told. c.in_ok-close_both.ensures.gone told Zero
+
 pub returns-clause-ready : goal.returns-clause-ready
 returns-clause-ready g c = record {
   stands = c.in-Ok.ensures.stands;

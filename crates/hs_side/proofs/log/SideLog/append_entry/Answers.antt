@@ -2,7 +2,7 @@ use Rattle.std.proofs.Common.{◌∙◌, List, ℕ, ap}
 use Rattle.hs_entry.specs.Payload.{payload}
 use Rattle.hs_entry.proofs.EntryLemmas.{entry_again}
 use Rattle.hs_side.specs.Standing.{Kept}
-use Rattle.hs_side.proofs.AppendLemmas.{append_stays, append_moments, append_stands, append_same, append_later, entry_may, new_log}
+use Rattle.hs_side.proofs.AppendLemmas.{append_stays, append_moments, append_stands, append_same, append_later, entry_may, log_with, new_log}
 use Rattle.hs_side.proofs.log.SideLog.append_entry.Goals as goal
 
 pub returns-in_err-reserve-clause-any_moment : goal.returns-in_err-reserve-clause-any_moment
@@ -45,7 +45,8 @@ returns-clause-stands g c =
     append_stands g.D.Disk.tells _ c.args.self.now _ (λ side. g.D.Disk.size disk side) (g.D.Disk.size c.put.new.disk here) (g.D.Disk.stands disk) (g.D.Disk.stands c.put.new.disk) (payload c.args.number c.args.entry.now) c.deref.result.now
     (entry_may g.D.Disk.tells c.args.self.now _ (g.D.Disk.stands disk) c.args.number c.args.entry.now r.stands r.holds r.sealed r.readable r.comes) c.self.view_is (c.deref.ensures.value ∙ c.in-Ok.ensures.value)
     (record { grown = c.in_ok-put.ensures.size; seen = c.in_ok-put.ensures.seen; loose = c.put.ensures.loose })
-    (ap (λ (places : List ℕ). new_log (record { side = here; head = c.self.inside.head; places = places; end = c.self.inside.end; waiting = c.self.inside.waiting }) (payload c.args.number c.args.entry.now)) c.reserve.ensures.items
+    (ap (λ (n : ℕ). log_with (record { side = here; head = c.self.inside.head; places = c.reserve.new.self.items; end = c.self.inside.end; waiting = c.self.inside.waiting }) n) c.in-Ok.ensures.len
+    ∙ ap (λ (places : List ℕ). new_log (record { side = here; head = c.self.inside.head; places = places; end = c.self.inside.end; waiting = c.self.inside.waiting }) (payload c.args.number c.args.entry.now)) c.reserve.ensures.items
     ∙ ap (λ (log : Kept). new_log log (payload c.args.number c.args.entry.now)) c.self.view_is)
 
 pub returns-clause-same : goal.returns-clause-same
