@@ -1,5 +1,5 @@
 -- What a crash leaves of a side while its byte 0 is closed.
-use Rattle.std.proofs.Common.{◌≡◌, ◌∙◌, ◌⊎◌, inl, inr, ℕ, ◌<◌, ◌≤◌, true, false, List, [], ◌∷◌, length, refl, ap, sym, subst, arith}
+use Rattle.std.proofs.Common.{◌≡◌, ◌∙◌, ◌⊎◌, inl, inr, ℕ, ◌<◌, ◌≤◌, true, false, List, [], ◌∷◌, length, ap, sym, subst, arith}
 use Rattle.std.proofs.lemmas.Bool.{cases_eq, false≢true}
 use Rattle.hs_ports.specs.declared.disk.Side.{Side}
 use Rattle.hs_ports.specs.Disk.{Standing, Loose, IsImage, IsOutside, byte_at, overwritten, settled, written}

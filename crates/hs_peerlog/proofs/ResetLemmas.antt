@@ -1,6 +1,5 @@
 -- What a crash leaves while a log is emptied: one side is closed after the other, and an empty log is written.
-use Rattle.std.proofs.Common.{◌≡◌, ◌∙◌, ◌⊎◌, inl, inr, ℕ, ◌-◌, ◌^◌, ◌<◌, ◌≤◌, Bool, true, false, List, [], Option, Some, None, Result, Ok, Err, OnOk, refl, ap, sym, subst, arith}
-use Rattle.std.proofs.lemmas.Bool.{false≢true}
+use Rattle.std.proofs.Common.{◌≡◌, ◌∙◌, ◌⊎◌, inl, inr, ℕ, ◌^◌, ◌<◌, ◌≤◌, Bool, true, false, List, [], Option, Some, None, Result, Ok, Err, OnOk, refl, ap, sym, subst, arith}
 use Rattle.hs_ports.specs.declared.disk.Side.{Side}
 use Rattle.hs_ports.specs.declared.disk.Side.TheVariants.{Zero, One}
 use Rattle.hs_ports.specs.Disk.{Standing, IsImage, Untouched, other_side, settled}
@@ -10,7 +9,7 @@ use Rattle.hs_entry.specs.declared.entry.Entry.{Entry}
 use Rattle.hs_side.specs.declared.header.Header.{Header}
 use Rattle.hs_side.specs.Current.{current, generation_in, later_side, list_in}
 use Rattle.hs_side.specs.Giving.{GivesEmpty, IsBlankEverywhere}
-use Rattle.hs_side.specs.Reading.{generation_of, is_blank, list_of, listed, log_of}
+use Rattle.hs_side.specs.Reading.{is_blank, list_of, listed, log_of}
 use Rattle.hs_side.specs.Spelling.{spelled}
 use Rattle.hs_side.proofs.BlankLemmas.{blank_log, empty_log}
 use Rattle.hs_peerlog.specs.Images.{GivesClosed, Is, IsOne, IsSole, IsStanding, GivesList, LeavesEach, LeavesOnly}
@@ -61,7 +60,7 @@ beside-blank One seen image is same none = go (generation_in (seen One)) refl
 -- ---- the moments of calls on one side
 
 module _ {before now : ℕ} {side : Side} {old new : Standing} {P : List ℕ → Type 0} (Q : List (ℕ × Entry) → Type 0) (run : EachMoment before now side old new P) (last : old.last ≤ before) (since : Since old)
-  (gives : (image : Side → List ℕ) → P (image side) → IsImage (old.loose (other_side side)) (image (other_side side)) → GivesList Q image) where
+    (gives : (image : Side → List ℕ) → P (image side) → IsImage (old.loose (other_side side)) (image (other_side side)) → GivesList Q image) where
   pub one-each : LeavesEach before now old new Q
   one-each = record {
     later = run.later;
@@ -107,10 +106,12 @@ each-weaker run p = record {
 module _ (side : Side) {a : Standing} (list : List (ℕ × Entry)) (sole : IsSole side a) (leaves : LeavesOnly a list) (stays : (s : Side) → IsImage (a.loose s) (a.seen s)) where
   -- this content of the side in use, beside what is read of the other
   mixed-left : (content : List ℕ) → IsImage (a.loose side) content → IsStanding a (beside side content (a.seen (other_side side)))
-  mixed-left content left = record { sides = λ s. elim (two-sides side s) [
-    | inl e ↦ subst (λ x. IsImage (a.loose x) (beside side content (a.seen (other_side side)) x)) e (subst (λ c. IsImage (a.loose side) c) (sym (beside-here side content (a.seen (other_side side)))) left)
-    | inr e ↦ subst (λ x. IsImage (a.loose x) (beside side content (a.seen (other_side side)) x)) e (subst (λ c. IsImage (a.loose (other_side side)) c) (sym (beside-there side content (a.seen (other_side side)))) (stays (other_side side)))
-  ] }
+  mixed-left content left = record {
+    sides = λ s. elim (two-sides side s) [
+      | inl e ↦ subst (λ x. IsImage (a.loose x) (beside side content (a.seen (other_side side)) x)) e (subst (λ c. IsImage (a.loose side) c) (sym (beside-here side content (a.seen (other_side side)))) left)
+      | inr e ↦ subst (λ x. IsImage (a.loose x) (beside side content (a.seen (other_side side)) x)) e (subst (λ c. IsImage (a.loose (other_side side)) c) (sym (beside-there side content (a.seen (other_side side)))) (stays (other_side side)))
+    ];
+  }
 
   -- each content of the side in use gives the list
   pub side-list : (content : List ℕ) → IsImage (a.loose side) content → list_of content ≡ Some list

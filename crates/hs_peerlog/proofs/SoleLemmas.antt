@@ -1,11 +1,11 @@
 -- Calls on the side in use, where it is current whatever a crash leaves.
-use Rattle.std.proofs.Common.{◌≡◌, ◌∙◌, ◌⊎◌, inl, inr, ℕ, ◌-◌, ◌^◌, ◌<◌, ◌≤◌, List, Option, Some, refl, ap, sym, subst, arith}
+use Rattle.std.proofs.Common.{◌≡◌, ◌∙◌, inl, inr, ℕ, ◌≤◌, List, Some, refl, ap, sym, subst, arith}
 use Rattle.hs_ports.specs.declared.disk.Side.{Side}
 use Rattle.hs_ports.specs.declared.disk.Side.TheVariants.{Zero, One}
 use Rattle.hs_ports.specs.Disk.{Standing, IsImage, other_side}
 use Rattle.hs_ports.specs.Moments.{EachMoment}
 use Rattle.hs_entry.specs.declared.entry.Entry.{Entry}
-use Rattle.hs_side.specs.Current.{current, generation_in, list_in}
+use Rattle.hs_side.specs.Current.{current, generation_in}
 use Rattle.hs_side.specs.Reading.{list_of}
 use Rattle.hs_peerlog.proofs.ImageLemmas.{two-sides, same-current, list-there, Since}
 use Rattle.hs_peerlog.specs.Images.{IsStanding, GivesList, LeavesEach, IsSole}

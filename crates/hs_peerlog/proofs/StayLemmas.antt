@@ -1,14 +1,14 @@
 -- Calls that leave all as it is, and calls after them.
-use Rattle.std.proofs.Common.{◌≡◌, ◌∙◌, ◌⊎◌, inl, inr, true, ℕ, ◌-◌, ◌^◌, ◌<◌, ◌≤◌, List, Option, Some, refl, ap, sym, subst, arith}
+use Rattle.std.proofs.Common.{◌≡◌, ◌∙◌, ◌⊎◌, inl, inr, true, ℕ, ◌<◌, ◌≤◌, List, Some, refl, ap, sym, subst, arith}
 use Rattle.hs_ports.specs.declared.disk.Side.{Side}
-use Rattle.hs_ports.specs.Disk.{Standing, IsImage, Untouched, other_side, settled}
+use Rattle.hs_ports.specs.Disk.{Standing, IsImage, Untouched, other_side}
 use Rattle.hs_ports.proofs.Images.{settled_only}
 use Rattle.hs_entry.specs.declared.entry.Entry.{Entry}
-use Rattle.hs_side.specs.Current.{current, list_in}
+use Rattle.hs_side.specs.Current.{list_in}
 use Rattle.hs_side.specs.Giving.{IsBlankEverywhere}
 use Rattle.hs_side.specs.Reading.{is_blank, list_of}
 use Rattle.hs_peerlog.specs.Lists.{IsBlankBeside}
-use Rattle.hs_peerlog.specs.Images.{Is, IsAlone, IsSole, IsStanding, GivesList, LeavesAll, LeavesEach, LeavesOnly}
+use Rattle.hs_peerlog.specs.Images.{IsAlone, IsSole, LeavesAll, LeavesEach, LeavesOnly}
 use Rattle.hs_peerlog.proofs.ImageLemmas.{Since, current-same, image-is, list-same, list-there}
 
 -- nothing was called

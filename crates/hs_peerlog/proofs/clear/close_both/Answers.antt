@@ -1,4 +1,4 @@
-use Rattle.std.proofs.Common.{◌≡◌, ◌∙◌, ap, sym}
+use Rattle.std.proofs.Common.{◌∙◌, ap}
 use Rattle.hs_ports.specs.declared.disk.Side.TheVariants.{Zero, One}
 use Rattle.hs_ports.specs.Disk.{settled}
 use Rattle.hs_side.specs.Giving.{IsBlankEverywhere}

@@ -1,6 +1,5 @@
 use Rattle.std.proofs.Common.{◌≡◌, ◌≤◌, false, sym, subst}
-use Rattle.hs_ports.specs.Disk.{IsImage, Standing, written}
-use Rattle.hs_ports.specs.Moments.{EachMoment}
+use Rattle.hs_ports.specs.Disk.{Standing}
 use Rattle.hs_side.specs.Reading.{is_blank}
 use Rattle.hs_peerlog.proofs.CloseLemmas.{close_writes}
 use Rattle.hs_peerlog.proofs.close.close.Goals as goal

@@ -1,6 +1,5 @@
-use Rattle.std.proofs.Common.{◌≡◌, ◌∙◌, ap, sym, subst, []}
+use Rattle.std.proofs.Common.{◌≡◌, ap, sym, subst, []}
 use Rattle.hs_ports.specs.declared.disk.Side.{Side}
-use Rattle.hs_side.specs.Giving.{IsBlankEverywhere}
 use Rattle.hs_side.specs.Standing.{Kept}
 use Rattle.hs_peerlog.specs.Images.{IsSole}
 use Rattle.hs_peerlog.specs.Lists.{HasList, IsBlankBeside}

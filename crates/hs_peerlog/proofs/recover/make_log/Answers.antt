@@ -1,10 +1,8 @@
-use Rattle.std.proofs.Common.{◌≡◌, ◌∙◌, arith, refl, ap, sym, subst, [], None, IsSome}
-use Rattle.hs_ports.specs.declared.disk.Side.{Side}
-use Rattle.hs_side.specs.Standing.{Kept, Stands}
-use Rattle.hs_side.specs.Spelling.{spelled}
+use Rattle.std.proofs.Common.{◌≡◌, ◌∙◌, arith, refl, ap, sym, subst, None}
+use Rattle.hs_side.specs.Standing.{Kept}
 use Rattle.hs_peerlog.specs.Images.{Is}
 use Rattle.hs_peerlog.specs.Lists.{HasList}
-use Rattle.hs_peerlog.proofs.MakeLemmas.{none-if, some-if, blank-side, first-alone, first-each, formatted, opened-list}
+use Rattle.hs_peerlog.proofs.MakeLemmas.{none-if, blank-side, first-each, formatted, opened-list}
 use Rattle.hs_peerlog.proofs.StayLemmas.{stays, alone-leaves}
 use Rattle.hs_peerlog.proofs.recover.make_log.Goals as goal
 

@@ -1,13 +1,13 @@
-use Rattle.std.proofs.Common.{◌≡◌, ◌∙◌, ◌+◌, length, ap, sym, refl, subst, None, Some, IsSome, is_some}
+use Rattle.std.proofs.Common.{◌≡◌, ◌∙◌, ◌+◌, length, ap, sym, subst, Some, IsSome, is_some}
 use Rattle.hs_entry.specs.declared.rank.Rank.{Rank}
 use Rattle.hs_entry.specs.Entries.{rank_after}
 use Rattle.hs_entry.specs.Payload.{payload}
 use Rattle.hs_side.specs.Standing.{Kept, MayCome}
-use Rattle.hs_peerlog.specs.Images.{Is, IsSole}
+use Rattle.hs_peerlog.specs.Images.{IsSole}
 use Rattle.hs_peerlog.specs.Lists.{IsBlankBeside, Keeping}
 use Rattle.hs_peerlog.proofs.EntryLemmas.{last-length, may-come, readable-ordinary}
 use Rattle.hs_peerlog.proofs.ListLemmas.{none-waits, appended, append-leaves, append-sole, append-only}
-use Rattle.hs_peerlog.proofs.StayLemmas.{beside-stays, stays}
+use Rattle.hs_peerlog.proofs.StayLemmas.{beside-stays}
 use Rattle.hs_peerlog.proofs.log.PeerLog.append.Goals as goal
 
 pub append_entry-requires-clause-comes : goal.append_entry-requires-clause-comes

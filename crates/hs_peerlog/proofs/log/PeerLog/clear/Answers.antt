@@ -1,4 +1,4 @@
-use Rattle.std.proofs.Common.{◌≡◌, ap, sym, refl, subst, [], None, IsSome, is_some}
+use Rattle.std.proofs.Common.{ap, sym, refl, subst, [], None, IsSome, is_some}
 use Rattle.hs_ports.specs.declared.disk.Side.TheVariants.{Zero, One}
 use Rattle.hs_side.specs.Standing.{Kept}
 use Rattle.hs_peerlog.proofs.ListLemmas.{empty-kept}

@@ -1,5 +1,4 @@
 use Rattle.std.proofs.Common.{◌≡◌, ◌∙◌, ap, sym, refl, subst}
-use Rattle.hs_ports.specs.declared.disk.Side.{Side}
 use Rattle.hs_entry.specs.Entries.{rank_of}
 use Rattle.hs_peerlog.specs.Images.{Is, IsSole}
 use Rattle.hs_peerlog.specs.Lists.{HasList, IsBlankBeside, IsNumbered}

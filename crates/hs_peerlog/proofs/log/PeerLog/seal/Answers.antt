@@ -1,5 +1,4 @@
-use Rattle.std.proofs.Common.{◌≡◌, ◌∙◌, ◌+◌, ap, sym, refl, subst, None, Some, IsSome, is_some, true}
-use Rattle.hs_side.specs.Standing.{Kept}
+use Rattle.std.proofs.Common.{◌≡◌, ◌∙◌, ◌+◌, ap, sym, refl, subst, None, Some, IsSome, is_some}
 use Rattle.hs_peerlog.specs.Images.{IsSole}
 use Rattle.hs_peerlog.specs.Lists.{IsBlankBeside, Keeping, last_of, with_waiting}
 use Rattle.hs_peerlog.proofs.ListLemmas.{some-waits, sealed, sealed-is, seal-leaves, seal-sole, seal-only}
