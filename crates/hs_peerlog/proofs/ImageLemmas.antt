@@ -1,5 +1,5 @@
 -- Which side of an image is current, and its list.
-use Rattle.std.proofs.Common.{◌≡◌, ◌∙◌, ◌⊎◌, inl, inr, ℕ, ◌<◌, ◌≤◌, Bool, true, false, cond, List, [], ◌∷◌, ◌++◌, length, take, drop, Option, Some, None, Result, Ok, refl, ap, sym, subst, arith, if◌then◌else◌}
+use Rattle.std.proofs.Common.{◌≡◌, ◌∙◌, ◌⊎◌, inl, inr, ℕ, ◌<◌, Bool, true, false, cond, List, [], ◌∷◌, ◌++◌, take, drop, Option, Some, None, Result, Ok, refl, ap, sym, subst, arith, if◌then◌else◌}
 use Rattle.std.proofs.lemmas.List.{drop-take, take-take}
 use Rattle.std.specs.Int.{w64, from_be_bytes}
 use Rattle.hs_ports.specs.declared.disk.Side.{Side}
@@ -8,7 +8,6 @@ use Rattle.hs_ports.specs.Disk.{Standing, IsImage, other_side, settled}
 use Rattle.hs_ports.proofs.Images.{settled_only}
 use Rattle.hs_limits.specs.Fields.{◌>>=◌}
 use Rattle.hs_limits.proofs.FieldLemmas.{bind_ok}
-use Rattle.hs_entry.specs.declared.entry.Entry.{Entry}
 use Rattle.hs_side.specs.declared.header.Header.{Header}
 use Rattle.hs_side.specs.Follow.{start}
 use Rattle.hs_side.specs.Current.{current, generation_in, later_side, list_in}

@@ -1,3 +1,4 @@
+mod CloseLemmas
 mod EntryLemmas
 mod ImageLemmas
 mod ListLemmas
@@ -5,5 +6,6 @@ mod MakeLemmas
 mod NumberedLemmas
 mod OpenLemmas
 mod PlaceLemmas
+mod ResetLemmas
 mod SoleLemmas
 mod StayLemmas

@@ -1,5 +1,5 @@
 -- Which list a side has before and after an entry is appended and sealed.
-use Rattle.std.proofs.Common.{◌≡◌, ◌∙◌, ◌⊎◌, inl, inr, ℕ, ◌+◌, ◌-◌, ◌^◌, ◌<◌, ◌≤◌, false, List, [], ◌∷◌, ◌++◌, length, map, Option, Some, None, IsSome, IfSome, is_some, true, refl, ap, sym, subst, arith}
+use Rattle.std.proofs.Common.{◌≡◌, ◌∙◌, inl, inr, ℕ, ◌+◌, ◌≤◌, false, List, [], ◌∷◌, ◌++◌, length, Option, Some, None, IsSome, IfSome, is_some, true, refl, ap, sym, subst, arith}
 use Rattle.std.proofs.lemmas.List.{length-map, map-append}
 use Rattle.hs_ports.specs.declared.disk.Side.{Side}
 use Rattle.hs_ports.specs.Disk.{Standing, IsImage, settled}
@@ -10,11 +10,10 @@ use Rattle.hs_entry.specs.declared.rank.Rank.{Rank}
 use Rattle.hs_entry.specs.Entries.{is_of_base, rank_after, rank_of}
 use Rattle.hs_entry.proofs.RankLemmas.{rank_more}
 use Rattle.hs_side.specs.Giving.{GivesSame, GivesEither}
-use Rattle.hs_side.specs.Current.{current, generation_in, list_in}
 use Rattle.hs_side.specs.Reading.{Frame, log_of, entry_of, listed, list_of, with_frame}
 use Rattle.hs_side.specs.Standing.{Kept, opened}
-use Rattle.hs_peerlog.specs.Images.{Is, IsOne, IsSole, IsStanding, LeavesEach, LeavesOnly}
-use Rattle.hs_peerlog.specs.Lists.{HasList, IsNumbered, IsKept, IsWaiting, KeepsSome, Keeping, last_of, with_waiting}
+use Rattle.hs_peerlog.specs.Images.{Is, IsOne, IsSole, LeavesEach, LeavesOnly}
+use Rattle.hs_peerlog.specs.Lists.{HasList, IsNumbered, IsKept, KeepsSome, Keeping, last_of, with_waiting}
 use Rattle.hs_peerlog.proofs.EntryLemmas.{more-numbered, last-length}
 use Rattle.hs_peerlog.proofs.ImageLemmas.{Since, frame-generation, list-there, same-generation}
 use Rattle.hs_peerlog.proofs.SoleLemmas.{Gives, one-sole, sole-after}
@@ -185,3 +184,8 @@ module _ {before now : ℕ} {side : Side} {old new : Standing} (places : List �
         let here : image side ≡ opened end (old.seen side) = settled_only (opened end (old.seen side)) (image side) (subst (λ l. IsImage l (image side)) loose (left.sides side)) in
         list-there side image (opened end (old.seen side)) here (seal-sole image left)
         ∙ has-list (places ++ frame.place ∷ []) (opened end (old.seen side)) more (more-list places (old.seen side) (opened end (old.seen side)) list frame has opens)
+
+-- a log that is empty
+pub empty-kept : (keeping : Keeping) (seen : List ℕ) → HasList keeping.log.places seen [] → keeping.rank ≡ record { view = 0; number = 0 } → keeping.waits ≡ None → IsKept keeping seen [] None
+unfolding rank_of
+empty-kept keeping seen has rank waits = record { listed = has; numbered = tt; rank = rank; waits = waits }

@@ -1,21 +1,21 @@
 -- The log that a blank side gets.
-use Rattle.std.proofs.Common.{◌≡◌, ◌∙◌, ◌⊎◌, inl, inr, ℕ, ◌-◌, ◌^◌, ◌<◌, ◌≤◌, List, [], Option, Some, None, IfSome, IsSome, MatchOption, is_some, true, false, refl, ap, sym, subst, arith}
+use Rattle.std.proofs.Common.{◌≡◌, ◌∙◌, inl, inr, ℕ, ◌^◌, ◌<◌, ◌≤◌, List, [], Option, Some, None, IfSome, IsSome, MatchOption, is_some, true, false, refl, ap, sym, subst, arith}
 use Rattle.hs_ports.specs.declared.disk.Side.{Side}
 use Rattle.hs_ports.specs.Disk.{Standing, IsImage, other_side, settled}
 use Rattle.hs_ports.specs.Moments.{EachMoment}
 use Rattle.hs_ports.proofs.Images.{settled_only}
 use Rattle.hs_entry.specs.declared.entry.Entry.{Entry}
 use Rattle.hs_side.specs.declared.header.Header.{Header}
-use Rattle.hs_side.specs.Current.{current, list_in}
+use Rattle.hs_side.specs.Current.{current}
 use Rattle.hs_side.specs.Giving.{GivesEmpty}
 use Rattle.hs_side.specs.Reading.{is_blank, log_of, listed, list_of}
 use Rattle.hs_side.specs.Spelling.{spelled}
 use Rattle.hs_side.specs.Standing.{Kept, Stands, HasLog, HasNone}
 use Rattle.hs_side.proofs.BlankLemmas.{empty_log, blank_log}
-use Rattle.hs_peerlog.specs.Images.{Is, IsAlone, IsStanding, GivesList, LeavesEach, LeavesOnly}
+use Rattle.hs_peerlog.specs.Images.{Is, IsAlone, GivesList, LeavesEach}
 use Rattle.hs_peerlog.specs.Lists.{HasFrames, HasList}
 use Rattle.hs_peerlog.specs.Opening.{HasOpened}
-use Rattle.hs_peerlog.proofs.ImageLemmas.{Since, StaysCurrent, first-current, list-there, two-sides}
+use Rattle.hs_peerlog.proofs.ImageLemmas.{Since, first-current, list-there, two-sides}
 use Rattle.hs_peerlog.proofs.ListLemmas.{has-list}
 
 pub none-if : (head : Option (Header × ℕ)) (generation : Option ℕ) → IfSome head (λ x. generation ≡ Some x.1) → is_some generation ≡ false → head ≡ None
@@ -33,10 +33,10 @@ blank-side tells log size disk s told e =
     has.blank
 
 -- an empty log has the empty list
-pub formatted : (log : Kept) (seen : List ℕ) (header : Header) → log.places ≡ [] → seen ≡ spelled 165 header 1 [] 0 [] → HasList log.places seen []
-formatted log seen header places written = record {
-  log = record { header = header; generation = 1; frames = [] };
-  read = ap (λ bytes. log_of bytes) written ∙ empty_log header 1 (omega arith);
+pub formatted : (log : Kept) (seen : List ℕ) (header : Header) (generation : ℕ) → generation < 2 ^ 64 → log.places ≡ [] → seen ≡ spelled 165 header generation [] 0 [] → HasList log.places seen []
+formatted log seen header generation fits places written = record {
+  log = record { header = header; generation = generation; frames = [] };
+  read = ap (λ bytes. log_of bytes) written ∙ empty_log header generation fits;
   listed = refl;
   placed = places;
 }

@@ -1,5 +1,5 @@
 -- Opening leaves all as it is.
-use Rattle.std.proofs.Common.{◌≡◌, ◌∙◌, ◌⊎◌, inl, inr, true, ℕ, ◌<◌, ◌≤◌, List, [], length, map, Option, Some, None, Result, Ok, Err, IfOk, IfErr, OnOk, IsSome, refl, ap, sym, subst, arith}
+use Rattle.std.proofs.Common.{◌≡◌, ◌∙◌, ◌⊎◌, inl, inr, true, ℕ, ◌<◌, ◌≤◌, List, [], map, Option, Some, None, Ok, IsSome, refl, ap, sym, subst, arith}
 use Rattle.hs_limits.specs.declared.shape.Shape.{Shape}
 use Rattle.hs_ports.specs.declared.disk.Side.{Side}
 use Rattle.hs_ports.specs.declared.disk.Side.TheVariants.{Zero, One}
@@ -8,13 +8,11 @@ use Rattle.hs_ports.specs.Moments.{EachMoment}
 use Rattle.hs_entry.specs.declared.entry.Entry.{Entry}
 use Rattle.hs_entry.specs.declared.rank.Rank.{Rank}
 use Rattle.hs_entry.specs.Entries.{rank_of}
-use Rattle.hs_side.specs.declared.header.Header.{Header}
 use Rattle.hs_side.specs.Current.{current, generation_in, header_in, later_side, list_in}
-use Rattle.hs_side.specs.Opening.{Shows, head_in, places_in}
+use Rattle.hs_side.specs.Opening.{Shows}
 use Rattle.hs_side.specs.Reading.{Log, is_blank, log_of, entry_of, entries_of, listed}
 use Rattle.hs_side.specs.Standing.{Kept}
 use Rattle.hs_peerlog.specs.Images.{IsAlone, LeavesAll}
-use Rattle.hs_peerlog.specs.Lists.{HasList, IsNumbered}
 use Rattle.hs_peerlog.specs.Opening.{HasOpened, IsOpened, refused_head, refused_log, refusal_in}
 use Rattle.hs_peerlog.proofs.ImageLemmas.{Since, two-sides, current-same}
 use Rattle.hs_peerlog.proofs.NumberedLemmas.{log-blank, log-numbered}

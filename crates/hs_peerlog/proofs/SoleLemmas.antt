@@ -1,27 +1,27 @@
 -- Calls on the side in use, where it is current whatever a crash leaves.
-use Rattle.std.proofs.Common.{◌≡◌, ◌∙◌, ◌⊎◌, inl, inr, ℕ, ◌-◌, ◌^◌, ◌<◌, ◌≤◌, List, Option, Some, refl, ap, sym, subst, arith}
+use Rattle.std.proofs.Common.{◌≡◌, ◌∙◌, inl, inr, ℕ, ◌≤◌, List, Some, refl, ap, sym, subst, arith}
 use Rattle.hs_ports.specs.declared.disk.Side.{Side}
 use Rattle.hs_ports.specs.declared.disk.Side.TheVariants.{Zero, One}
 use Rattle.hs_ports.specs.Disk.{Standing, IsImage, other_side}
 use Rattle.hs_ports.specs.Moments.{EachMoment}
 use Rattle.hs_entry.specs.declared.entry.Entry.{Entry}
-use Rattle.hs_side.specs.Current.{current, generation_in, list_in}
+use Rattle.hs_side.specs.Current.{current, generation_in}
 use Rattle.hs_side.specs.Reading.{list_of}
 use Rattle.hs_peerlog.proofs.ImageLemmas.{two-sides, same-current, list-there, Since}
 use Rattle.hs_peerlog.specs.Images.{IsStanding, GivesList, LeavesEach, IsSole}
 
 -- one content for a side, another for the other
-abbrev beside : Side → List ℕ → List ℕ → (Side → List ℕ)
+abbrev pub beside : Side → List ℕ → List ℕ → (Side → List ℕ)
 beside Zero here there Zero = here
 beside Zero here there One = there
 beside One here there Zero = there
 beside One here there One = here
 
-beside-here : (side : Side) (here there : List ℕ) → beside side here there side ≡ here
+pub beside-here : (side : Side) (here there : List ℕ) → beside side here there side ≡ here
 beside-here Zero here there = refl
 beside-here One here there = refl
 
-beside-there : (side : Side) (here there : List ℕ) → beside side here there (other_side side) ≡ there
+pub beside-there : (side : Side) (here there : List ℕ) → beside side here there (other_side side) ≡ there
 beside-there Zero here there = refl
 beside-there One here there = refl
 

@@ -1,11 +1,14 @@
 -- Calls that leave all as it is, and calls after them.
-use Rattle.std.proofs.Common.{◌≡◌, ◌∙◌, ◌⊎◌, inl, inr, ℕ, ◌-◌, ◌^◌, ◌<◌, ◌≤◌, List, Option, Some, refl, ap, sym, subst, arith}
+use Rattle.std.proofs.Common.{◌≡◌, ◌∙◌, ◌⊎◌, inl, inr, true, ℕ, ◌<◌, ◌≤◌, List, Some, refl, ap, sym, subst, arith}
 use Rattle.hs_ports.specs.declared.disk.Side.{Side}
-use Rattle.hs_ports.specs.Disk.{Standing, IsImage, settled}
+use Rattle.hs_ports.specs.Disk.{Standing, IsImage, Untouched, other_side}
+use Rattle.hs_ports.proofs.Images.{settled_only}
 use Rattle.hs_entry.specs.declared.entry.Entry.{Entry}
-use Rattle.hs_side.specs.Current.{current, list_in}
-use Rattle.hs_side.specs.Reading.{list_of}
-use Rattle.hs_peerlog.specs.Images.{Is, IsAlone, IsSole, IsStanding, GivesList, LeavesAll, LeavesEach, LeavesOnly}
+use Rattle.hs_side.specs.Current.{list_in}
+use Rattle.hs_side.specs.Giving.{IsBlankEverywhere}
+use Rattle.hs_side.specs.Reading.{is_blank, list_of}
+use Rattle.hs_peerlog.specs.Lists.{IsBlankBeside}
+use Rattle.hs_peerlog.specs.Images.{IsAlone, IsSole, LeavesAll, LeavesEach, LeavesOnly}
 use Rattle.hs_peerlog.proofs.ImageLemmas.{Since, current-same, image-is, list-same, list-there}
 
 -- nothing was called
@@ -59,3 +62,12 @@ alone-leaves side disk list alone listed image left =
 -- what a read gives is one of the images
 pub seen-list : (disk : Standing) (list : List (ℕ × Entry)) → ((side : Side) → IsImage (disk.loose side) (disk.seen side)) → LeavesOnly disk list → list_in disk.seen ≡ Some list
 seen-list disk list stays leaves = leaves disk.seen (record { sides = stays })
+
+-- where the other side reads as blank it is, whatever a crash leaves
+pub alone-beside : (side : Side) (disk : Standing) → IsAlone side disk → IsBlankBeside side disk
+alone-beside side disk alone blank content image =
+    subst (λ c. is_blank c ≡ true) (sym (settled_only (disk.seen (other_side side)) content (subst (λ l. IsImage l content) (alone.settled (other_side side)) image))) blank
+
+pub beside-stays : (side : Side) (old new : Standing) → Untouched (other_side side) old new → IsBlankBeside side old → IsBlankBeside side new
+beside-stays side old new other beside blank =
+    subst (λ l. IsBlankEverywhere l) (sym other.loose) (beside (ap (λ c. is_blank c) (sym other.seen) ∙ blank))

@@ -1,6 +1,8 @@
 -- What a count of the disk's faults says of an answer.
 use Rattle.std.specs.Prelude.{◌≡◌, ℕ, ⊤, Result, Ok, Err}
 use Rattle.hs_ports.specs.Fault.{IsCausedBy}
+use Rattle.hs_ports.specs.declared.fault.PortFault.{PortFault}
+use Rattle.hs_ports.specs.declared.fault.PortFault.TheVariants as port
 use Rattle.hs_side.specs.declared.fault.SideFault.{SideFault}
 use Rattle.hs_side.specs.declared.fault.SideFault.TheVariants as side
 use Rattle.hs_peerlog.specs.declared.fault.LogFault.{LogFault}
@@ -23,6 +25,11 @@ abbrev pub of_side : SideFault → LogFault
 of_side (side.NotALog at) = NotALog at
 of_side side.Disk = Disk
 of_side side.NoMemory = NoMemory
+
+-- and where its disk has this one
+abbrev pub of_port : PortFault → LogFault
+of_port port.Failed = Disk
+of_port port.NoMemory = NoMemory
 
 -- the disk failed, or memory ran out
 abbrev pub IsOutside : LogFault → Type 0

@@ -1,9 +1,10 @@
 -- What a crash leaves of a whole disk, as lists.
-use Rattle.std.specs.Prelude.{◌≡◌, ◌⊎◌, ℕ, ◌-◌, ◌^◌, ◌<◌, ◌≤◌, List, Some}
+use Rattle.std.specs.Prelude.{◌≡◌, ◌⊎◌, ℕ, ◌-◌, ◌^◌, ◌<◌, ◌≤◌, true, List, Some}
 use Rattle.hs_ports.specs.declared.disk.Side.{Side}
-use Rattle.hs_ports.specs.Disk.{Standing, IsImage, settled}
+use Rattle.hs_ports.specs.Disk.{Loose, Standing, IsImage, settled}
 use Rattle.hs_entry.specs.declared.entry.Entry.{Entry}
 use Rattle.hs_side.specs.Current.{current, list_in}
+use Rattle.hs_side.specs.Reading.{is_blank}
 
 -- both sides as a crash may leave them from now on
 pub record IsStanding (disk : Standing) (image : Side → List ℕ) : Type 0 where
@@ -62,3 +63,7 @@ pub record LeavesAll (before now : ℕ) (old new : Standing) : Type 0 where
       → (content : List ℕ) → IsImage (new.past m side) content → IsImage (old.loose side) content
   pub standing : (side : Side) (content : List ℕ)
       → IsImage (new.loose side) content → IsImage (old.loose side) content
+
+-- blank, or what a crash could leave before
+pub record GivesClosed (loose : Loose) (content : List ℕ) : Type 0 where
+  pub one : (is_blank content ≡ true) ⊎ IsImage loose content

@@ -1,10 +1,12 @@
 -- A peer's log as a list.
-use Rattle.std.specs.Prelude.{◌≡◌, ◌⊎◌, ℕ, ◌+◌, ◌==◌, false, List, [], ◌∷◌, ◌++◌, map, Option, None, Some, MatchOption, IsSome, is_some, Ok, if◌then◌else◌}
-use Rattle.hs_ports.specs.Disk.{Standing}
+use Rattle.std.specs.Prelude.{◌≡◌, ◌⊎◌, ℕ, ◌+◌, ◌==◌, true, false, List, [], ◌∷◌, ◌++◌, map, Option, None, Some, MatchOption, IsSome, is_some, Ok, if◌then◌else◌}
+use Rattle.hs_ports.specs.declared.disk.Side.{Side}
+use Rattle.hs_ports.specs.Disk.{Standing, other_side}
 use Rattle.hs_entry.specs.declared.entry.Entry.{Entry}
 use Rattle.hs_entry.specs.declared.rank.Rank.{Rank}
 use Rattle.hs_entry.specs.Entries.{is_of_base, rank_after, rank_of}
-use Rattle.hs_side.specs.Reading.{Log, log_of, entry_of, with_frame}
+use Rattle.hs_side.specs.Giving.{IsBlankEverywhere}
+use Rattle.hs_side.specs.Reading.{Log, is_blank, log_of, entry_of, with_frame}
 use Rattle.hs_side.specs.Standing.{Kept, Stands, opened}
 use Rattle.hs_peerlog.specs.Images.{IsSole, LeavesOnly}
 
@@ -79,9 +81,16 @@ pub record IsReady (tells : Type 0) (keeping : Keeping) (size : ℕ) (disk : Sta
   pub waits : is_some keeping.waits ≡ is_some keeping.log.waiting
   pub told : tells → KeepsSome keeping (disk.seen keeping.log.side)
 
+-- where the other side reads as blank, whatever a crash leaves of it is blank
+abbrev pub IsBlankBeside : Side → Standing → Type 0
+IsBlankBeside side disk =
+    is_blank (disk.seen (other_side side)) ≡ true
+    → IsBlankEverywhere (disk.loose (other_side side))
+
 -- the log has this list on the disk, and this entry waits; whatever a crash leaves has just the list
 pub record HasLog (keeping : Keeping) (disk : Standing) (list : List (ℕ × Entry))
     (waiting : Option Entry) : Type 0 where
   pub kept : IsKept keeping (disk.seen keeping.log.side) list waiting
   pub sole : IsSole keeping.log.side disk
   pub leaves : LeavesOnly disk list
+  pub beside : IsBlankBeside keeping.log.side disk

@@ -1,5 +1,6 @@
 //! An entry more, which is not sealed yet.
 ghost use Rattle.std.specs.Prelude.{◌≡◌, ◌≤◌, ◌+◌, ℕ, List, None, Some, OnOk, IfErr, IsErrOf};
+ghost use Rattle.hs_ports.specs.Watch.{next_moment};
 ghost use Rattle.hs_entry.specs.declared.entry.Entry.{Entry};
 ghost use Rattle.hs_entry.specs.Reading.{IsReadable};
 ghost use Rattle.hs_peerlog.specs.Caused.{IsCalm, IsCaused, IsOutside};
@@ -7,7 +8,7 @@ ghost use Rattle.hs_peerlog.specs.Images.{Is, LeavesEach};
 ghost use Rattle.hs_peerlog.specs.Lists.{HasLog, IsReady};
 
 use crate::{LogFault, PeerLog};
-use hs_entry::{Entry, write_entry};
+use hs_entry::Entry;
 use hs_ports::{Disk, Watch};
 
 impl PeerLog {
@@ -40,16 +41,13 @@ impl PeerLog {
         ensures any_moment { D.tells → (D.stands disk.old).last ≤ watch.old
             → (list : List (ℕ × Entry)) → HasLog self.old (D.stands disk.old) list None
             → LeavesEach watch.old watch.new (D.stands disk.old) (D.stands disk.new) (Is list) }
+        // It costs one call that changes the disk: no sync.
+        ensures cost { OnOk result (watch.new ≡ next_moment watch.old) }
         ensures ticks { watch.old ≤ watch.new }
         ensures calm { IsCalm (D.faults disk.old) (D.faults disk.new) result }
         ensures cause { IsCaused (D.faults disk.old) (D.faults disk.new) result }
     {
-        self.payload.clear();
-        match write_entry(number, entry, &mut self.payload) {
-            Ok(()) => {}
-            Err(_) => return Err(LogFault::NoMemory),
-        }
-        self.log.append(disk, watch, &self.payload)?;
+        self.log.append_entry(disk, watch, number, entry)?;
         self.waits = Some(self.rank.after(number, entry));
         Ok(())
     }

@@ -1,10 +1,9 @@
 //! Why a peer's log can't go on.
 ghost use Rattle.std.specs.Prelude.{◌≡◌};
-ghost use Rattle.hs_peerlog.specs.declared.fault.LogFault.TheVariants.{NoMemory};
-ghost use Rattle.hs_peerlog.specs.Caused.{of_side};
+ghost use Rattle.hs_peerlog.specs.Caused.{of_port, of_side};
 
+use hs_ports::PortFault;
 use hs_side::{Header, SideFault};
-use std::alloc::{AllocError, AllocFailed};
 use thiserror::Error;
 
 /// Why a peer's log can't go on.
@@ -32,6 +31,17 @@ impl From<SideFault> for LogFault {
             SideFault::NotALog { at } => LogFault::NotALog { at },
             SideFault::Disk => LogFault::Disk,
             SideFault::NoMemory => LogFault::NoMemory,
+        }
+    }
+}
+
+impl From<PortFault> for LogFault {
+    ghost from_gives = { λ port fault. fault ≡ of_port port };
+
+    fn from(port: PortFault) -> LogFault {
+        match port {
+            PortFault::Failed => LogFault::Disk,
+            PortFault::NoMemory => LogFault::NoMemory,
         }
     }
 }

@@ -2,11 +2,15 @@
 #![tactic(auto)]
 
 mod append;
+mod clear;
+mod close;
+mod empty;
 mod fault;
 mod log;
 mod opening;
 mod read;
 mod recover;
+mod reset;
 mod seal;
 mod view;
 

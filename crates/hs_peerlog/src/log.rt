@@ -15,7 +15,6 @@ pub struct PeerLog {
     pub(crate) log: SideLog,
     pub(crate) rank: Rank,
     pub(crate) waits: Option<Rank>,
-    pub(crate) payload: Vec<u8>,
 }
 
 impl Model for PeerLog {

@@ -67,7 +67,6 @@ impl PeerLog {
             log,
             rank,
             waits: None,
-            payload: Vec::new(alloc),
         })
     }
 }

@@ -1,5 +1,6 @@
 //! The entry that waits becomes one of the list.
 ghost use Rattle.std.specs.Prelude.{◌≡◌, ◌≤◌, ℕ, List, None, Some, IsSome, IfSome, OnOk, IfErr};
+ghost use Rattle.hs_ports.specs.Watch.{next_moment};
 ghost use Rattle.hs_entry.specs.declared.entry.Entry.{Entry};
 ghost use Rattle.hs_peerlog.specs.Caused.{IsCalm, IsCaused};
 ghost use Rattle.hs_peerlog.specs.Images.{IsOne, LeavesEach};
@@ -33,6 +34,9 @@ impl PeerLog {
             → HasLog self.old (D.stands disk.old) list (Some entry)
             → LeavesEach watch.old watch.new (D.stands disk.old) (D.stands disk.new)
             (IsOne list (with_waiting list entry)) }
+        // It costs three calls that change the disk, two of them syncs.
+        ensures cost { OnOk result (watch.new
+            ≡ next_moment (next_moment (next_moment watch.old))) }
         ensures ticks { watch.old ≤ watch.new }
         ensures calm { IsCalm (D.faults disk.old) (D.faults disk.new) result }
         ensures cause { IsCaused (D.faults disk.old) (D.faults disk.new) result }

@@ -6,7 +6,9 @@ use Rattle.hs_ports.proofs.MomentLemmas.{begun, weaker}
 use Rattle.hs_ports.specs.Disk.{Loose, IsImage, Standing, settled, written, overwritten}
 use Rattle.hs_entry.specs.declared.entry.Entry.{Entry}
 use Rattle.hs_entry.specs.declared.fault.EntryFault.{EntryFault}
-use Rattle.hs_entry.specs.Reading.{entry_at}
+use Rattle.hs_entry.specs.Payload.{payload}
+use Rattle.hs_entry.specs.Reading.{IsReadable, entry_at}
+use Rattle.hs_entry.proofs.ShortLemmas.{payload-short}
 use Rattle.hs_side.specs.declared.header.Header.{Header}
 use Rattle.hs_side.specs.Giving.{GivesSame}
 use Rattle.hs_side.specs.Reading.{log_of, with_frame}
@@ -34,8 +36,11 @@ new_seen log payload seen = overwritten (log.end + 1) (body payload ++ 0 ∷ [])
 abbrev pub new_loose : Kept → List ℕ → Loose → Loose
 new_loose log payload loose = written (log.end + 1) (length (body payload ++ 0 ∷ [])) loose
 
+abbrev pub log_with : Kept → ℕ → Kept
+log_with log len = record log { waiting = Some (log.end + 5 + len) }
+
 abbrev pub new_log : Kept → List ℕ → Kept
-new_log log payload = record log { waiting = Some (log.end + 5 + length payload) }
+new_log log payload = log_with log (length payload)
 
 pub record Appended (log : Kept) (payload seen : List ℕ) (loose : Loose) : Type 0 where
   pub has : HasBytes 165 (new_log log payload) (new_seen log payload seen) (new_loose log payload loose)
@@ -84,6 +89,12 @@ pub record MayAppend (T : Type 0) (log : Kept) (size : ℕ) (disk : Standing) (p
   pub sealed : log.waiting ≡ None
   pub short : length payload ≤ 600000
   pub comes : T → MayCome (disk.seen log.side) payload
+
+-- so of the payload of an entry
+pub entry_may : (T : Type 0) (log : Kept) (size : ℕ) (disk : Standing) (number : ℕ) (entry : Entry) → Stands T log size disk → IsSome log.head → log.waiting ≡ None → IsReadable entry
+    → (T → MayCome (disk.seen log.side) (payload number entry)) → MayAppend T log size disk (payload number entry)
+entry_may T log size disk number entry stands holds sealed readable comes =
+    record { stands = stands; holds = holds; sealed = sealed; short = payload-short number entry readable; comes = comes }
 
 -- what is said of it where the disk tells
 pub told_of : (T : Type 0) (log : Kept) (size : ℕ) (disk : Standing) (payload : List ℕ) → MayAppend T log size disk payload → T → Appended log payload (disk.seen log.side) (disk.loose log.side)

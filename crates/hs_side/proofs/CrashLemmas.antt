@@ -10,6 +10,7 @@ use Rattle.hs_side.specs.Follow.{Follow, start, after, followed}
 use Rattle.hs_side.specs.Reading.{is_open, Frame, entry_of, log_of, with_frame, listed, list_of}
 use Rattle.hs_side.specs.Spelling.{head, body, frame}
 use Rattle.hs_side.specs.Standing.{Kept, Waits, MayCome, IsFirm, HasLog, opened}
+use Rattle.hs_side.proofs.FrameLemmas.{read_ends}
 use Rattle.hs_side.proofs.ReadLemmas.{Front_more, log_closed, length-body, found_read, found_again, some_is}
 
 -- two contents that agree below a place have the same front
@@ -158,7 +159,7 @@ module _ (header : Header) (generation : ℕ) (log : Kept) (seen : List ℕ) (lo
           behind = refl;
           short = short;
           readable = found_again has.follow come.next payload come.number come.entry come.read comes;
-          ends = λ opens. come.ends;
+          ends = λ opens. read_ends has.follow come.next payload come.number come.entry come.read comes;
         };
       }
 

@@ -16,10 +16,10 @@ use Rattle.hs_limits.specs.Fields.{◌>>=◌}
 use Rattle.hs_limits.proofs.FieldLemmas.{bind_ok, ok_is}
 use Rattle.hs_side.specs.declared.fault.SideFault.{SideFault}
 use Rattle.hs_side.specs.declared.fault.SideFault.TheVariants.{NotALog, Disk, NoMemory}
-use Rattle.hs_side.specs.Follow.{Follow, after, after_entry, only_if}
+use Rattle.hs_side.specs.Follow.{Follow, after, after_entry, may_end, only_if}
 use Rattle.hs_side.specs.Reading.{is_open, length_at, payload_at, found_by, found_in, frames}
 use Rattle.hs_side.specs.Spelling.{body}
-use Rattle.hs_side.proofs.ReadLemmas.{payload_again}
+use Rattle.hs_side.proofs.ReadLemmas.{payload_again, some_is}
 use Rattle.hs_side.specs.Steps.{IsPlain, IsNext, IsPayload, IsFrame, refusal}
 
 -- ---- the payload
@@ -76,6 +76,26 @@ after_plain follow number (Base view epoch swept round frames) f = absurd cc
 after_plain follow number (KeptBlock born mark flags count bytes) f = absurd cc
 after_plain follow number (KeptRoot created dropped counted address key) f = absurd cc
 after_plain follow number (KeptRound way other epoch round total deltas) f = absurd cc
+
+first_true : (a b : Bool) → (a && b) ≡ true → a ≡ true
+first_true true b e = refl
+first_true false b e = absurd cc
+
+-- behind an entry that is read a log may end: no kept frame is owed there
+pub read_ends : (follow next : Follow) (payload : List ℕ) (number : ℕ) (entry : Entry) → entry_at payload ≡ Ok (number, entry) → after follow number entry ≡ Some next → may_end next ≡ true
+read_ends follow next payload number entry read comes = go (eqb follow.owed 0 && eqb number (follow.last + 1)) refl
+  where
+    new : Follow
+    new = record follow { first = false; last = number }
+
+    came : after_entry follow number ≡ Some next
+    came = sym (after_plain follow number entry (entry_plain payload number entry read)) ∙ comes
+
+    go : (b : Bool) → (eqb follow.owed 0 && eqb number (follow.last + 1)) ≡ b → may_end next ≡ true
+    go true e =
+        let is : new ≡ next = some_is _ _ (ap (λ (t : Bool). only_if t new) (sym e) ∙ came) in
+        ap (λ (f : Follow). eqb f.owed 0) (sym is) ∙ first_true (eqb follow.owed 0) (eqb number (follow.last + 1)) e
+    go false e = absurd (cc (sym (ap (λ (t : Bool). only_if t new) (sym e) ∙ came)))
 
 -- an entry that is read comes next exactly where its number is one above the last
 next_of : (last rank : Rank) (payload : List ℕ) (number : ℕ) (entry : Entry) → is_of_base entry ≡ false → entry_at payload ≡ Ok (number, entry) → rank.number ≡ number → rank ≡ rank_after last number entry

@@ -14,7 +14,7 @@ use Rattle.hs_side.specs.declared.fault.SideFault.TheVariants.{NotALog, Disk, No
 use Rattle.hs_side.specs.Follow.{Follow, start, followed}
 use Rattle.hs_side.specs.Reading.{is_open, is_blank, head_of, Frame, entry_of, frames, with_frames, Log, log_of}
 use Rattle.hs_side.specs.Spelling.{head, body, frame}
-use Rattle.hs_side.specs.Opening.{Opens, OpensRanked}
+use Rattle.hs_side.specs.Opening.{OpensRanked}
 use Rattle.hs_side.specs.Standing.{Kept, HasLog, HasBytes}
 use Rattle.hs_side.proofs.BlankLemmas.{blank_log}
 use Rattle.hs_side.specs.Steps.{IsHeadOf, IsGate, Comes, IsFrame, Scanned, Ended, Scan, IsScan}

@@ -26,8 +26,7 @@ pub record Kept : Type 0 where
 abbrev pub opened : ℕ → List ℕ → List ℕ
 opened at bytes = overwritten at (0xa5 ∷ []) bytes
 
--- the payload is that of an entry which may come behind those that the side gives, and the log may
--- end behind it
+-- the payload is that of an entry which may come behind those that the side gives
 pub record MayCome (bytes payload : List ℕ) : Type 0 where
   pub entries : List (ℕ × Entry)
   pub follow : Follow
@@ -38,7 +37,6 @@ pub record MayCome (bytes payload : List ℕ) : Type 0 where
   pub before : followed start entries ≡ Some follow
   pub read : entry_at payload ≡ Ok (number, entry)
   pub comes : after follow number entry ≡ Some next
-  pub ends : may_end next ≡ true
 
 -- these bytes, of which the first has place 17, have this frame
 pub record Framed (bytes : List ℕ) (placed : Frame) : Type 0 where

@@ -3,7 +3,7 @@ ghost use Rattle.hs_ports.specs.declared.disk.Side.{Side};
 ghost use Rattle.std.specs.Prelude.{◌≡◌, ◌<◌, ◌≤◌, ◌+◌, ℕ, length, max, take, OnOk, OnErr, IfErr};
 ghost use Rattle.hs_ports.specs.Fault.{IsCausedBy};
 ghost use Rattle.hs_ports.specs.Disk.{IsImage, Untouched, other_side, overwritten, written, shortened, settled};
-ghost use Rattle.hs_ports.specs.Watch.{Ticks};
+ghost use Rattle.hs_ports.specs.Watch.{Ticks, next_moment};
 ghost use Rattle.hs_ports.specs.Moments.{EachMoment};
 
 use hs_ports::{Disk, PortFault, Side, Watch};
@@ -22,6 +22,7 @@ pub(crate) fn settle<D: Disk>(disk: &mut D, watch: &mut Watch, side: Side) -> Re
         (IsImage ((D.stands disk.old).loose side)) }
     ensures not_memory { IfErr result (λ fault. fault ≡ PortFault.Failed) }
     ensures calm { OnOk result (D.faults disk.new ≡ D.faults disk.old) }
+    ensures cost { OnOk result (watch.new ≡ next_moment watch.old) }
     ensures ticks { watch.old ≤ watch.new }
     ensures cause { IsCausedBy PortFault.Failed (D.faults disk.old) (D.faults disk.new) result }
 {
@@ -51,6 +52,7 @@ pub(crate) fn put<D: Disk>(
         (IsImage (written at (length bytes.now) ((D.stands disk.old).loose side))) }
     ensures not_memory { IfErr result (λ fault. fault ≡ PortFault.Failed) }
     ensures calm { OnOk result (D.faults disk.new ≡ D.faults disk.old) }
+    ensures cost { OnOk result (watch.new ≡ next_moment watch.old) }
     ensures ticks { watch.old ≤ watch.new }
     ensures cause { IsCausedBy PortFault.Failed (D.faults disk.old) (D.faults disk.new) result }
 {
@@ -80,6 +82,7 @@ pub(crate) fn put_and_settle<D: Disk>(
         (IsImage (written at (length bytes.now) ((D.stands disk.old).loose side))) }
     ensures not_memory { IfErr result (λ fault. fault ≡ PortFault.Failed) }
     ensures calm { OnOk result (D.faults disk.new ≡ D.faults disk.old) }
+    ensures cost { OnOk result (watch.new ≡ next_moment (next_moment watch.old)) }
     ensures ticks { watch.old ≤ watch.new }
     ensures cause { IsCausedBy PortFault.Failed (D.faults disk.old) (D.faults disk.new) result }
 {

@@ -67,6 +67,7 @@ impl SideLog {
             places: Vec::new(alloc),
             end: 17,
             waiting: None,
+            frame: Vec::new(alloc),
         })
     }
 }

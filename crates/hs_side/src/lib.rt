@@ -1,6 +1,8 @@
 //! One side of a disk as a log of sealed frames, which survives a stop anywhere.
 #![tactic(auto)]
 
+mod append;
+mod append_entry;
 mod device;
 mod fault;
 mod format;
@@ -9,6 +11,7 @@ mod glance;
 mod head;
 mod header;
 mod laws;
+mod lay;
 mod log;
 mod open;
 mod read;

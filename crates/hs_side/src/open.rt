@@ -106,6 +106,7 @@ impl SideLog {
             places: Vec::new(alloc),
             end: 0,
             waiting: None,
+            frame: Vec::new(alloc),
         }
     }
 }
@@ -142,6 +143,7 @@ fn read_log<D: Disk>(alloc: Global, disk: &mut D, side: Side) -> Result<(SideLog
         places,
         end,
         waiting: None,
+        frame: Vec::new(alloc),
     };
     Ok((log, rank))
 }

@@ -85,7 +85,6 @@ may-come places seen entries number entry list numbered is low r =
       before = all.1;
       read = reads-again number entry low r;
       comes = ap (λ n. after all.0 n entry) is ∙ one.1;
-      ends = ap (λ n. n == 0) one.2.none;
     }
 
 -- ---- one entry more is numbered

@@ -1,9 +1,8 @@
-use Rattle.std.proofs.Common.{◌≡◌, ◌∙◌, ap, sym, refl, subst}
+use Rattle.std.proofs.Common.{◌≡◌, ◌∙◌, ap, sym, refl}
 use Rattle.hs_ports.specs.Disk.{Standing}
-use Rattle.hs_side.specs.Current.{current, header_in}
+use Rattle.hs_side.specs.Current.{current}
 use Rattle.hs_side.specs.Reading.{log_of}
-use Rattle.hs_peerlog.specs.Opening.{refused_head}
-use Rattle.hs_peerlog.proofs.OpenLemmas.{open-calls, open-seen, open-settled, open-value, refusal-is}
+use Rattle.hs_peerlog.proofs.OpenLemmas.{open-calls, open-value}
 use Rattle.hs_peerlog.proofs.opening.open_current.Goals as goal
 
 pub returns-in_err-opened-clause-any_moment : goal.returns-in_err-opened-clause-any_moment

@@ -1,4 +1,4 @@
-use Rattle.std.proofs.Common.{◌≡◌, ◌∙◌, ◌+◌, ◌-◌, ◌<◌, ◌++◌, ℕ, Option, None, Some, Ok, length, slice_index, ap, sym, refl, subst, arith}
+use Rattle.std.proofs.Common.{◌≡◌, ◌∙◌, ◌+◌, ◌-◌, ℕ, Ok, slice_index, ap, sym, arith}
 use Rattle.hs_entry.specs.Reading.{entry_at}
 use Rattle.hs_side.specs.Opening.{ReadsAt}
 use Rattle.hs_peerlog.specs.Lists.{numbered_entry}

@@ -1,4 +1,4 @@
-use Rattle.std.proofs.Common.{◌≡◌, ◌-◌, slice_index, subst, Contains}
+use Rattle.std.proofs.Common.{◌-◌, slice_index, subst, Contains}
 use Rattle.std.proofs.lemmas.List.Elements.{Contains-get_or}
 use Rattle.hs_peerlog.proofs.read.place_of.Goals as goal
 

@@ -1,4 +1,4 @@
-use Rattle.std.proofs.Common.{◌≡◌, ◌∙◌, length, sym, subst, refl, List, ℕ, Ok, Err, vec_len, arith}
+use Rattle.std.proofs.Common.{◌≡◌, ◌∙◌, length, sym, subst, refl, Ok, Err, vec_len, arith}
 use Rattle.hs_ports.specs.Disk.{Standing}
 use Rattle.hs_side.specs.Steps.{IsGate, IsFrame, Scan}
 use Rattle.hs_side.proofs.ScanLemmas.{headed, scan_start, scan_more, scan_gate, scan_frame}

@@ -1,58 +1,42 @@
-use Rattle.std.proofs.Common.{◌≡◌, ◌∙◌, ◌+◌, ◌≤◌, ◌++◌, length, ap, sym, refl, subst, None, Some, IsSome, is_some, Ok}
+use Rattle.std.proofs.Common.{◌≡◌, ◌∙◌, ◌+◌, length, ap, sym, subst, Some, IsSome, is_some}
 use Rattle.hs_entry.specs.declared.rank.Rank.{Rank}
 use Rattle.hs_entry.specs.Entries.{rank_after}
 use Rattle.hs_entry.specs.Payload.{payload}
-use Rattle.hs_entry.specs.Reading.{entry_at}
-use Rattle.hs_entry.proofs.EntryLemmas.{entry_again}
-use Rattle.hs_entry.proofs.ShortLemmas.{payload-short}
 use Rattle.hs_side.specs.Standing.{Kept, MayCome}
-use Rattle.hs_peerlog.specs.Images.{Is, IsSole}
-use Rattle.hs_peerlog.specs.Lists.{Keeping}
+use Rattle.hs_peerlog.specs.Images.{IsSole}
+use Rattle.hs_peerlog.specs.Lists.{IsBlankBeside, Keeping}
 use Rattle.hs_peerlog.proofs.EntryLemmas.{last-length, may-come, readable-ordinary}
 use Rattle.hs_peerlog.proofs.ListLemmas.{none-waits, appended, append-leaves, append-sole, append-only}
-use Rattle.hs_peerlog.proofs.StayLemmas.{stays}
+use Rattle.hs_peerlog.proofs.StayLemmas.{beside-stays}
 use Rattle.hs_peerlog.proofs.log.PeerLog.append.Goals as goal
 
-pub returns-in-Err-clause-any_moment : goal.returns-in-Err-clause-any_moment
-returns-in-Err-clause-any_moment g c = λ told last list has.
-    stays (g.D.Disk.stands c.args.disk.now) c.args.watch.now list (Is list) last (g.met.D.Disk.since told c.args.disk.now) has.leaves refl
-
-pub append-requires-clause-short : goal.append-requires-clause-short
-append-requires-clause-short g c =
-    let bytes : c.deref.result.now ≡ payload c.args.number c.args.entry.now = c.deref.ensures.value ∙ c.in-Ok.ensures.ok ∙ ap (λ xs. xs ++ payload c.args.number c.args.entry.now) c.clear.ensures.items in
-    subst (λ xs. length xs ≤ 600000) (sym bytes) (payload-short c.args.number c.args.entry.now c.requires.readable)
-
-pub append-requires-clause-comes : goal.append-requires-clause-comes
-append-requires-clause-comes g c = λ told.
-    let bytes : c.deref.result.now ≡ payload c.args.number c.args.entry.now = c.deref.ensures.value ∙ c.in-Ok.ensures.ok ∙ ap (λ xs. xs ++ payload c.args.number c.args.entry.now) c.clear.ensures.items in
+pub append_entry-requires-clause-comes : goal.append_entry-requires-clause-comes
+append_entry-requires-clause-comes g c = λ told.
     let view : c.self.inside.log ≡ c.args.self.now.log = ap (λ (k : Keeping). k.log) c.self.view_is in
     let some = c.requires.ready.told told in
     let kept = none-waits c.args.self.now _ some c.requires.none in
     let number : c.args.number ≡ length some.list + 1 = c.requires.next ∙ ap (λ (r : Rank). r.number + 1) kept.rank ∙ ap (λ n. n + 1) (last-length some.list kept.numbered) in
     let comes = may-come c.args.self.now.log.places _ some.list c.args.number c.args.entry.now kept.listed kept.numbered number c.ranges.number.fits c.requires.readable in
-    subst (λ xs. MayCome ((g.D.Disk.stands c.args.disk.now).seen c.self.inside.log.side) xs) (sym bytes)
-    (subst (λ (k : Kept). MayCome ((g.D.Disk.stands c.args.disk.now).seen k.side) (payload c.args.number c.args.entry.now)) (sym view) comes)
+    subst (λ (k : Kept). MayCome ((g.D.Disk.stands c.args.disk.now).seen k.side) (payload c.args.number c.args.entry.now)) (sym view) comes
 
-pub returns-in_err-append-clause-any_moment : goal.returns-in_err-append-clause-any_moment
-returns-in_err-append-clause-any_moment g c = λ told last list has.
+pub returns-in_err-append_entry-clause-any_moment : goal.returns-in_err-append_entry-clause-any_moment
+returns-in_err-append_entry-clause-any_moment g c = λ told last list has.
     let view : c.self.inside.log ≡ c.args.self.now.log = ap (λ (k : Keeping). k.log) c.self.view_is in
-    append-leaves c.args.self.now.log.places list has.kept.listed last (g.met.D.Disk.since told c.args.disk.now) has.sole (g.met.D.Disk.stays told c.args.disk.now c.args.self.now.log.side) (rw view at (c.append.ensures.any_moment told last))
+    append-leaves c.args.self.now.log.places list has.kept.listed last (g.met.D.Disk.since told c.args.disk.now) has.sole (g.met.D.Disk.stays told c.args.disk.now c.args.self.now.log.side) (rw view at (c.append_entry.ensures.any_moment told last))
 
 pub returns-clause-any_moment : goal.returns-clause-any_moment
 returns-clause-any_moment g c = λ told last list has.
     let view : c.self.inside.log ≡ c.args.self.now.log = ap (λ (k : Keeping). k.log) c.self.view_is in
-    append-leaves c.args.self.now.log.places list has.kept.listed last (g.met.D.Disk.since told c.args.disk.now) has.sole (g.met.D.Disk.stays told c.args.disk.now c.args.self.now.log.side) (rw view at (c.append.ensures.any_moment told last))
+    append-leaves c.args.self.now.log.places list has.kept.listed last (g.met.D.Disk.since told c.args.disk.now) has.sole (g.met.D.Disk.stays told c.args.disk.now c.args.self.now.log.side) (rw view at (c.append_entry.ensures.any_moment told last))
 
 pub returns-clause-ready : goal.returns-clause-ready
 returns-clause-ready g c =
-    let bytes : c.deref.result.now ≡ payload c.args.number c.args.entry.now = c.deref.ensures.value ∙ c.in-Ok.ensures.ok ∙ ap (λ xs. xs ++ payload c.args.number c.args.entry.now) c.clear.ensures.items in
-    let read : entry_at c.deref.result.now ≡ Ok (c.args.number, c.args.entry.now) = ap (λ xs. entry_at xs) bytes ∙ entry_again c.args.number c.args.entry.now c.ranges.number.fits c.requires.readable in
     let view : c.self.inside.log ≡ c.args.self.now.log = ap (λ (k : Keeping). k.log) c.self.view_is in
-    let value = rw view at c.in_ok-append.ensures.value in
+    let value = rw view at c.in_ok-append_entry.ensures.value in
     let rank : c.self.inside.rank ≡ c.args.self.now.rank = ap (λ (k : Keeping). k.rank) c.self.view_is in
     let waits = ap (λ r. Some r) (c.after.ensures ∙ ap (λ r. rank_after r c.args.number c.args.entry.now) rank) in
     record {
-      stands = c.in_ok-append.ensures.stands;
+      stands = c.in_ok-append_entry.ensures.stands;
       begun = subst (λ (k : Kept). IsSome k.head) (sym value) c.requires.ready.begun;
       waits = sym (ap (λ (k : Kept). is_some k.waiting) value);
       told = λ told.
@@ -60,25 +44,24 @@ returns-clause-ready g c =
           record {
             list = some.list;
             waiting = Some c.args.entry.now;
-            kept = appended c.args.self.now _ (g.D.Disk.stands c.args.disk.now).seen (g.D.Disk.stands c.append.new.disk).seen _ c.args.number some.list c.args.entry.now (none-waits c.args.self.now _ some c.requires.none)
-                (readable-ordinary c.args.entry.now c.requires.readable) c.requires.next value rank waits (rw view at (c.in_ok-append.ensures.same told)) (rw view at (c.in_ok-append.ensures.later told c.args.number c.args.entry.now read));
+            kept = appended c.args.self.now _ (g.D.Disk.stands c.args.disk.now).seen (g.D.Disk.stands c.append_entry.new.disk).seen _ c.args.number some.list c.args.entry.now (none-waits c.args.self.now _ some c.requires.none)
+                (readable-ordinary c.args.entry.now c.requires.readable) c.requires.next value rank waits (rw view at (c.in_ok-append_entry.ensures.same told)) (rw view at (c.in_ok-append_entry.ensures.later told));
           };
     }
 
 pub returns-clause-list : goal.returns-clause-list
 returns-clause-list g c = λ told last list has.
-    let bytes : c.deref.result.now ≡ payload c.args.number c.args.entry.now = c.deref.ensures.value ∙ c.in-Ok.ensures.ok ∙ ap (λ xs. xs ++ payload c.args.number c.args.entry.now) c.clear.ensures.items in
-    let read : entry_at c.deref.result.now ≡ Ok (c.args.number, c.args.entry.now) = ap (λ xs. entry_at xs) bytes ∙ entry_again c.args.number c.args.entry.now c.ranges.number.fits c.requires.readable in
     let view : c.self.inside.log ≡ c.args.self.now.log = ap (λ (k : Keeping). k.log) c.self.view_is in
-    let value = rw view at c.in_ok-append.ensures.value in
+    let value = rw view at c.in_ok-append_entry.ensures.value in
     let rank : c.self.inside.rank ≡ c.args.self.now.rank = ap (λ (k : Keeping). k.rank) c.self.view_is in
     let waits = ap (λ r. Some r) (c.after.ensures ∙ ap (λ r. rank_after r c.args.number c.args.entry.now) rank) in
     let since = g.met.D.Disk.since told c.args.disk.now in
     let stays = g.met.D.Disk.stays told c.args.disk.now c.args.self.now.log.side in
-    let run = rw view at (c.append.ensures.any_moment told last) in
+    let run = rw view at (c.append_entry.ensures.any_moment told last) in
     record {
-      kept = appended c.args.self.now _ (g.D.Disk.stands c.args.disk.now).seen (g.D.Disk.stands c.append.new.disk).seen _ c.args.number list c.args.entry.now has.kept
-          (readable-ordinary c.args.entry.now c.requires.readable) c.requires.next value rank waits (rw view at (c.in_ok-append.ensures.same told)) (rw view at (c.in_ok-append.ensures.later told c.args.number c.args.entry.now read));
-      sole = subst (λ s. IsSole s (g.D.Disk.stands c.append.new.disk)) (sym (ap (λ (k : Kept). k.side) value)) (append-sole c.args.self.now.log.places list has.kept.listed last since has.sole stays run);
+      kept = appended c.args.self.now _ (g.D.Disk.stands c.args.disk.now).seen (g.D.Disk.stands c.append_entry.new.disk).seen _ c.args.number list c.args.entry.now has.kept
+          (readable-ordinary c.args.entry.now c.requires.readable) c.requires.next value rank waits (rw view at (c.in_ok-append_entry.ensures.same told)) (rw view at (c.in_ok-append_entry.ensures.later told));
+      sole = subst (λ s. IsSole s (g.D.Disk.stands c.append_entry.new.disk)) (sym (ap (λ (k : Kept). k.side) value)) (append-sole c.args.self.now.log.places list has.kept.listed last since has.sole stays run);
       leaves = append-only c.args.self.now.log.places list has.kept.listed last since has.sole stays run;
+      beside = subst (λ s. IsBlankBeside s (g.D.Disk.stands c.append_entry.new.disk)) (sym (ap (λ (k : Kept). k.side) value)) (beside-stays c.args.self.now.log.side (g.D.Disk.stands c.args.disk.now) (g.D.Disk.stands c.append_entry.new.disk) run.other has.beside);
     }

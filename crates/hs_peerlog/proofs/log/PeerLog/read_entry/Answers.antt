@@ -1,6 +1,5 @@
-use Rattle.std.proofs.Common.{◌≡◌, ap, inl, subst}
-use Rattle.hs_side.specs.Standing.{Kept}
-use Rattle.hs_peerlog.specs.Lists.{HasFrames, Keeping}
+use Rattle.std.proofs.Common.{◌≡◌, ap, inl}
+use Rattle.hs_peerlog.specs.Lists.{Keeping}
 use Rattle.hs_peerlog.proofs.log.PeerLog.read_entry.Goals as goal
 
 pub returns-clause-found : goal.returns-clause-found

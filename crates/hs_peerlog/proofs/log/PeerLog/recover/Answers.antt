@@ -1,12 +1,11 @@
 use Rattle.std.proofs.Common.{◌≡◌, ◌∙◌, ap, sym, refl, subst}
-use Rattle.hs_ports.specs.declared.disk.Side.{Side}
 use Rattle.hs_entry.specs.Entries.{rank_of}
 use Rattle.hs_peerlog.specs.Images.{Is, IsSole}
-use Rattle.hs_peerlog.specs.Lists.{HasList, IsNumbered}
+use Rattle.hs_peerlog.specs.Lists.{HasList, IsBlankBeside, IsNumbered}
 use Rattle.hs_peerlog.specs.Opening.{HasOpened}
 use Rattle.hs_peerlog.proofs.ListLemmas.{has-list}
 use Rattle.hs_peerlog.proofs.OpenLemmas.{one-list, open-alone, opened-here}
-use Rattle.hs_peerlog.proofs.StayLemmas.{all-each, then-each, alone-sole, alone-leaves, seen-list}
+use Rattle.hs_peerlog.proofs.StayLemmas.{all-each, then-each, alone-beside, alone-sole, alone-leaves, seen-list}
 use Rattle.hs_peerlog.proofs.log.PeerLog.recover.Goals as goal
 
 pub returns-in-Err-clause-any_moment : goal.returns-in-Err-clause-any_moment
@@ -60,4 +59,5 @@ returns-clause-list g c = λ told last list listed.
       };
       sole = subst (λ s. IsSole s now) (sym side) (alone-sole c.in-Ok.opened.0.side now rests);
       leaves = alone-leaves c.in-Ok.opened.0.side now list rests (has-list made.places (now.seen c.in-Ok.opened.0.side) list has);
+      beside = subst (λ s. IsBlankBeside s now) (sym side) (alone-beside c.in-Ok.opened.0.side now rests);
     }

@@ -1,8 +1,8 @@
-use Rattle.std.proofs.Common.{◌≡◌, ◌∙◌, ◌+◌, ap, sym, refl, subst, None, Some, IsSome, is_some, true}
-use Rattle.hs_side.specs.Standing.{Kept}
+use Rattle.std.proofs.Common.{◌≡◌, ◌∙◌, ◌+◌, ap, sym, refl, subst, None, Some, IsSome, is_some}
 use Rattle.hs_peerlog.specs.Images.{IsSole}
-use Rattle.hs_peerlog.specs.Lists.{Keeping, last_of, with_waiting}
+use Rattle.hs_peerlog.specs.Lists.{IsBlankBeside, Keeping, last_of, with_waiting}
 use Rattle.hs_peerlog.proofs.ListLemmas.{some-waits, sealed, sealed-is, seal-leaves, seal-sole, seal-only}
+use Rattle.hs_peerlog.proofs.StayLemmas.{beside-stays}
 use Rattle.hs_peerlog.proofs.log.PeerLog.seal.Goals as goal
 
 pub returns-in_err-seal-clause-any_moment : goal.returns-in_err-seal-clause-any_moment
@@ -50,4 +50,5 @@ returns-clause-list g c = λ told last list entry has.
           (seal-sole c.args.self.now.log.places list has.kept.listed last since has.sole stays c.args.self.now.log.end (record { place = c.args.self.now.log.end; number = last_of list + 1; entry = entry }) has.kept.waits.opens run);
       leaves = seal-only c.args.self.now.log.places list has.kept.listed last since has.sole stays c.args.self.now.log.end (record { place = c.args.self.now.log.end; number = last_of list + 1; entry = entry }) has.kept.waits.opens run
           (rw view at (c.in_ok-seal.ensures.durable told));
+      beside = subst (λ s. IsBlankBeside s (g.D.Disk.stands c.seal.new.disk)) (sym is.side) (beside-stays c.args.self.now.log.side (g.D.Disk.stands c.args.disk.now) (g.D.Disk.stands c.seal.new.disk) run.other has.beside);
     }

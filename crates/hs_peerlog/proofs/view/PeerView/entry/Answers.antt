@@ -1,5 +1,4 @@
 use Rattle.std.proofs.Common.{◌≡◌, ap}
-use Rattle.hs_side.specs.Standing.{Kept}
 use Rattle.hs_peerlog.specs.Views.{Viewing}
 use Rattle.hs_peerlog.proofs.view.PeerView.entry.Goals as goal
 

@@ -1,4 +1,4 @@
-use Rattle.std.proofs.Common.{◌≡◌, ◌∙◌, ap, sym, subst}
+use Rattle.std.proofs.Common.{◌∙◌, ap, subst}
 use Rattle.hs_entry.specs.Entries.{rank_of}
 use Rattle.hs_peerlog.specs.Lists.{IsNumbered}
 use Rattle.hs_peerlog.specs.Opening.{HasOpened}

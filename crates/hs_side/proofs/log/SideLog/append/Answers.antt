@@ -11,8 +11,8 @@ returns-in_err-reserve-clause-any_moment g c told last =
     append_stays g.D.Disk.tells c.args.watch.now c.args.self.now size (g.D.Disk.stands disk) c.args.payload.now (record { stands = r.stands; holds = r.holds; sealed = r.sealed; short = r.short; comes = r.comes }) told last
     (g.met.D.Disk.since told disk c.args.self.now.side)
 
-pub returns-in_err-written-clause-any_moment : goal.returns-in_err-written-clause-any_moment
-returns-in_err-written-clause-any_moment g c told last =
+pub returns-in_err-lay_payload-clause-any_moment : goal.returns-in_err-lay_payload-clause-any_moment
+returns-in_err-lay_payload-clause-any_moment g c told last =
     let r = c.requires in
     let disk = c.args.disk.now in
     let size = g.D.Disk.size disk c.args.self.now.side in
@@ -25,7 +25,7 @@ returns-in_err-put-clause-any_moment g c told last =
     let disk = c.args.disk.now in
     let size = g.D.Disk.size disk c.args.self.now.side in
     append_moments g.D.Disk.tells c.args.watch.now c.put.new.watch _ c.args.self.now size (g.D.Disk.stands disk) (g.D.Disk.stands c.put.new.disk) c.args.payload.now c.deref.result.now
-    (record { stands = r.stands; holds = r.holds; sealed = r.sealed; short = r.short; comes = r.comes }) c.self.view_is (c.deref.ensures.value ∙ c.in_ok-written.ensures) told (c.put.ensures.any_moment told last)
+    (record { stands = r.stands; holds = r.holds; sealed = r.sealed; short = r.short; comes = r.comes }) c.self.view_is (c.deref.ensures.value ∙ c.in_ok-lay_payload.ensures) told (c.put.ensures.any_moment told last)
 
 pub returns-clause-any_moment : goal.returns-clause-any_moment
 returns-clause-any_moment g c told last =
@@ -33,7 +33,7 @@ returns-clause-any_moment g c told last =
     let disk = c.args.disk.now in
     let size = g.D.Disk.size disk c.args.self.now.side in
     append_moments g.D.Disk.tells c.args.watch.now c.put.new.watch _ c.args.self.now size (g.D.Disk.stands disk) (g.D.Disk.stands c.put.new.disk) c.args.payload.now c.deref.result.now
-    (record { stands = r.stands; holds = r.holds; sealed = r.sealed; short = r.short; comes = r.comes }) c.self.view_is (c.deref.ensures.value ∙ c.in_ok-written.ensures) told (c.put.ensures.any_moment told last)
+    (record { stands = r.stands; holds = r.holds; sealed = r.sealed; short = r.short; comes = r.comes }) c.self.view_is (c.deref.ensures.value ∙ c.in_ok-lay_payload.ensures) told (c.put.ensures.any_moment told last)
 
 pub returns-clause-stands : goal.returns-clause-stands
 returns-clause-stands g c =
@@ -41,7 +41,7 @@ returns-clause-stands g c =
     let disk = c.args.disk.now in
     let here = c.self.inside.side in
     append_stands g.D.Disk.tells _ c.args.self.now _ (λ side. g.D.Disk.size disk side) (g.D.Disk.size c.put.new.disk here) (g.D.Disk.stands disk) (g.D.Disk.stands c.put.new.disk) c.args.payload.now c.deref.result.now
-    (record { stands = r.stands; holds = r.holds; sealed = r.sealed; short = r.short; comes = r.comes }) c.self.view_is (c.deref.ensures.value ∙ c.in_ok-written.ensures)
+    (record { stands = r.stands; holds = r.holds; sealed = r.sealed; short = r.short; comes = r.comes }) c.self.view_is (c.deref.ensures.value ∙ c.in_ok-lay_payload.ensures)
     (record { grown = c.in_ok-put.ensures.size; seen = c.in_ok-put.ensures.seen; loose = c.put.ensures.loose })
     (ap (λ (places : List ℕ). new_log (record { side = here; head = c.self.inside.head; places = places; end = c.self.inside.end; waiting = c.self.inside.waiting }) c.args.payload.now) c.reserve.ensures.items
     ∙ ap (λ (log : Kept). new_log log c.args.payload.now) c.self.view_is)
@@ -52,7 +52,7 @@ returns-clause-same g c told =
     let disk = c.args.disk.now in
     let here = c.self.inside.side in
     append_same g.D.Disk.tells _ c.args.self.now (λ side. g.D.Disk.size disk side) (g.D.Disk.size c.put.new.disk here) (g.D.Disk.stands disk) (g.D.Disk.stands c.put.new.disk) c.args.payload.now c.deref.result.now
-    (record { stands = r.stands; holds = r.holds; sealed = r.sealed; short = r.short; comes = r.comes }) c.self.view_is (c.deref.ensures.value ∙ c.in_ok-written.ensures)
+    (record { stands = r.stands; holds = r.holds; sealed = r.sealed; short = r.short; comes = r.comes }) c.self.view_is (c.deref.ensures.value ∙ c.in_ok-lay_payload.ensures)
     (record { grown = c.in_ok-put.ensures.size; seen = c.in_ok-put.ensures.seen; loose = c.put.ensures.loose }) told
 
 pub returns-clause-later : goal.returns-clause-later
@@ -61,5 +61,5 @@ returns-clause-later g c told number entry read =
     let disk = c.args.disk.now in
     let here = c.self.inside.side in
     append_later g.D.Disk.tells _ c.args.self.now (λ side. g.D.Disk.size disk side) (g.D.Disk.size c.put.new.disk here) (g.D.Disk.stands disk) (g.D.Disk.stands c.put.new.disk) c.args.payload.now c.deref.result.now
-    (record { stands = r.stands; holds = r.holds; sealed = r.sealed; short = r.short; comes = r.comes }) c.self.view_is (c.deref.ensures.value ∙ c.in_ok-written.ensures)
+    (record { stands = r.stands; holds = r.holds; sealed = r.sealed; short = r.short; comes = r.comes }) c.self.view_is (c.deref.ensures.value ∙ c.in_ok-lay_payload.ensures)
     (record { grown = c.in_ok-put.ensures.size; seen = c.in_ok-put.ensures.seen; loose = c.put.ensures.loose }) told number entry read

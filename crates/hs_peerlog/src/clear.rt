@@ -1,0 +1,76 @@
+//! An empty log on a disk, whatever was on it.
+ghost use Rattle.std.specs.Prelude.{◌≡◌, ◌≤◌, [], None, IfOk, IfErr, OnOk};
+ghost use Rattle.hs_ports.specs.declared.disk.Side.{Side};
+ghost use Rattle.hs_side.specs.Giving.{IsBlankEverywhere};
+ghost use Rattle.hs_peerlog.specs.Caused.{IsCalm, IsCaused, IsOutside};
+ghost use Rattle.hs_peerlog.specs.Lists.{HasLog, IsReady};
+
+use crate::close::{close, settle};
+use crate::empty::write_empty;
+use crate::{LogFault, PeerLog};
+use hs_entry::Rank;
+use hs_limits::Shape;
+use hs_ports::{Disk, Side, Watch};
+use hs_side::Header;
+use std::alloc::Global;
+
+impl PeerLog {
+    /// Makes a disk whose log can't be recovered an empty one: closes both sides, puts both on the
+    /// medium, and writes an empty log on side zero. Of its moments nothing is said: its disk counts
+    /// as blank.
+    pub fn clear<D: Disk>(
+        alloc: Global,
+        disk: &mut D,
+        watch: &mut Watch,
+        shape: Shape,
+        peer: u8,
+    ) -> Result<PeerLog, LogFault>
+        ensures ready { IfOk result (λ log. IsReady D.tells log
+            (D.size disk.new log.log.side) (D.stands disk.new)) }
+        ensures sealed { IfOk result (λ log. log.waits ≡ None) }
+        ensures list { D.tells → (D.stands disk.old).last ≤ watch.old
+            → IfOk result (λ log. HasLog log (D.stands disk.new) [] None) }
+
+        ensures refused { IfErr result IsOutside }
+
+        ensures ticks { watch.old ≤ watch.new }
+        ensures calm { IsCalm (D.faults disk.old) (D.faults disk.new) result }
+        ensures cause { IsCaused (D.faults disk.old) (D.faults disk.new) result }
+    {
+        close_both(alloc, disk, watch)?;
+        let header = Header {
+            shards: shape.shards,
+            copies: shape.copies,
+            peer,
+        };
+        let log = match write_empty(alloc, disk, watch, Side::Zero, header, 1) {
+            Ok(log) => log,
+            Err(fault) => return Err(fault),
+        };
+        Ok(PeerLog {
+            alloc,
+            log,
+            rank: Rank { view: 0, number: 0 },
+            waits: None,
+        })
+    }
+}
+
+/// Closes both sides, and puts both on the medium: both are blank then, whatever a crash leaves.
+fn close_both<D: Disk>(alloc: Global, disk: &mut D, watch: &mut Watch) -> Result<(), LogFault>
+    ensures gone { D.tells → OnOk result ((side : Side)
+        → IsBlankEverywhere ((D.stands disk.new).loose side)) }
+    ensures refused { IfErr result IsOutside }
+
+    ensures last { D.tells → (D.stands disk.old).last ≤ watch.old
+        → OnOk result ((D.stands disk.new).last ≤ watch.new) }
+    ensures ticks { watch.old ≤ watch.new }
+    ensures calm { IsCalm (D.faults disk.old) (D.faults disk.new) result }
+    ensures cause { IsCaused (D.faults disk.old) (D.faults disk.new) result }
+{
+    close(alloc, disk, watch, Side::Zero)?;
+    close(alloc, disk, watch, Side::One)?;
+    settle(disk, watch, Side::Zero)?;
+    settle(disk, watch, Side::One)?;
+    Ok(())
+}

@@ -1,0 +1,119 @@
+//! The steps that empty a log.
+ghost use Rattle.std.specs.Prelude.{◌≡◌, ◌≤◌, [], ℕ, List, None, Some, false, OnOk, IfOk, IfErr};
+ghost use Rattle.hs_ports.specs.Disk.{Untouched, other_side};
+ghost use Rattle.hs_entry.specs.declared.entry.Entry.{Entry};
+ghost use Rattle.hs_side.specs.Giving.{IsBlankEverywhere};
+ghost use Rattle.hs_side.specs.Reading.{is_blank};
+ghost use Rattle.hs_side.specs.Standing.{Stands};
+ghost use Rattle.hs_peerlog.specs.Caused.{IsCalm, IsCaused, IsOutside};
+ghost use Rattle.hs_peerlog.specs.Images.{Is, IsOne, IsSole, LeavesEach, LeavesOnly};
+ghost use Rattle.hs_peerlog.specs.Lists.{HasList, IsBlankBeside};
+
+use crate::LogFault;
+use crate::close::close;
+use hs_ports::{Disk, Side, Watch};
+use hs_side::{Header, SideLog};
+use std::alloc::Global;
+
+/// The other side.
+fn other_side(side: Side) -> Side
+    ensures { result ≡ other_side side }
+{
+    match side {
+        Side::Zero => Side::One,
+        Side::One => Side::Zero,
+    }
+}
+
+/// Closes the side beside this one: it is blank then.
+pub(crate) fn close_other<D: Disk>(
+    alloc: Global,
+    disk: &mut D,
+    watch: &mut Watch,
+    side: Side,
+) -> Result<(), LogFault>
+    ensures gone { D.tells → IsBlankBeside side (D.stands disk.old)
+        → OnOk result (IsBlankEverywhere ((D.stands disk.new).loose (other_side side))) }
+    ensures refused { IfErr result IsOutside }
+    ensures other { D.tells → Untouched side (D.stands disk.old) (D.stands disk.new) }
+
+    ensures any_moment { D.tells → (D.stands disk.old).last ≤ watch.old
+        → (list : List (ℕ × Entry)) → IsSole side (D.stands disk.old)
+        → LeavesOnly (D.stands disk.old) list
+        → LeavesEach watch.old watch.new (D.stands disk.old) (D.stands disk.new) (Is list) }
+    ensures ticks { watch.old ≤ watch.new }
+    ensures calm { IsCalm (D.faults disk.old) (D.faults disk.new) result }
+    ensures cause { IsCaused (D.faults disk.old) (D.faults disk.new) result }
+{
+    close(alloc, disk, watch, other_side(side))
+}
+
+/// Closes this side, beside a blank one.
+pub(crate) fn close_own<D: Disk>(
+    alloc: Global,
+    disk: &mut D,
+    watch: &mut Watch,
+    side: Side,
+) -> Result<(), LogFault>
+    ensures closed { D.tells → is_blank ((D.stands disk.old).seen side) ≡ false
+        → OnOk result (IsBlankEverywhere ((D.stands disk.new).loose side)) }
+    ensures refused { IfErr result IsOutside }
+    ensures other { D.tells →
+        Untouched (other_side side) (D.stands disk.old) (D.stands disk.new) }
+
+    ensures any_moment { D.tells → (D.stands disk.old).last ≤ watch.old
+        → (list : List (ℕ × Entry)) → LeavesOnly (D.stands disk.old) list
+        → IsBlankEverywhere ((D.stands disk.old).loose (other_side side))
+        → LeavesEach watch.old watch.new (D.stands disk.old) (D.stands disk.new)
+        (IsOne list []) }
+    ensures ticks { watch.old ≤ watch.new }
+    ensures calm { IsCalm (D.faults disk.old) (D.faults disk.new) result }
+    ensures cause { IsCaused (D.faults disk.old) (D.faults disk.new) result }
+{
+    close(alloc, disk, watch, side)
+}
+
+/// Writes an empty log on this side, beside a blank one.
+pub(crate) fn write_empty<D: Disk>(
+    alloc: Global,
+    disk: &mut D,
+    watch: &mut Watch,
+    side: Side,
+    header: Header,
+    generation: u64,
+) -> Result<SideLog, LogFault>
+    requires { D.tells → IsBlankEverywhere ((D.stands disk.old).loose side) }
+
+    ensures value { IfOk result (λ log. log ≡ record {
+      side = side;
+      head = Some (header, generation);
+      places = [];
+      end = 17;
+      waiting = None;
+    }) }
+    ensures stands { IfOk result (λ log. Stands D.tells log
+        (D.size disk.new log.side) (D.stands disk.new)) }
+    ensures list { D.tells → IfOk result (λ log.
+        HasList log.places ((D.stands disk.new).seen log.side) []) }
+    ensures sole { D.tells → (D.stands disk.old).last ≤ watch.old
+        → IsBlankEverywhere ((D.stands disk.old).loose (other_side side))
+        → IfOk result (λ log. IsSole log.side (D.stands disk.new)) }
+    ensures leaves { D.tells → (D.stands disk.old).last ≤ watch.old
+        → IsBlankEverywhere ((D.stands disk.old).loose (other_side side))
+        → OnOk result (LeavesOnly (D.stands disk.new) []) }
+    ensures beside { D.tells → (D.stands disk.old).last ≤ watch.old
+        → IsBlankEverywhere ((D.stands disk.old).loose (other_side side))
+        → IfOk result (λ log. IsBlankBeside log.side (D.stands disk.new)) }
+
+    ensures refused { IfErr result IsOutside }
+
+    ensures any_moment { D.tells → (D.stands disk.old).last ≤ watch.old
+        → IsBlankEverywhere ((D.stands disk.old).loose (other_side side))
+        → LeavesEach watch.old watch.new (D.stands disk.old) (D.stands disk.new) (Is []) }
+    ensures ticks { watch.old ≤ watch.new }
+    ensures calm { IsCalm (D.faults disk.old) (D.faults disk.new) result }
+    ensures cause { IsCaused (D.faults disk.old) (D.faults disk.new) result }
+{
+    let log = SideLog::format(alloc, disk, watch, side, header, generation)?;
+    Ok(log)
+}
