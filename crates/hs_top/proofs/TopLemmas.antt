@@ -36,7 +36,7 @@ use Rattle.hs_top.specs.declared.transcript.Transcript.{Transcript}
 use Rattle.hs_top.specs.Asking.{BeginsNot, LineHalts, LineEnds}
 use Rattle.hs_top.specs.Course.{IsItem}
 use Rattle.hs_top.specs.Ending.{Fulfils, IsScriptStop, status_of}
-use Rattle.hs_top.specs.Entry.{counted, entry_store, only_shape, start_of}
+use Rattle.hs_top.specs.Entry.{counted, entry_store, only_set, start_of}
 use Rattle.hs_top.specs.Headline.{Ends, HasEnded, IsBad}
 use Rattle.hs_top.specs.Lasting.{Lasts}
 use Rattle.hs_top.specs.Lines.{Halts}

@@ -37,7 +37,7 @@ Rootless [] = Unit {0}
 Rootless (c ∷ cs) = (c.roots ≡ []) × Rootless cs
 
 -- with no roots again
-pub rooted : Unrooted → Catalogue
+abbrev pub rooted : Unrooted → Catalogue
 rooted u = record { blocks = u.blocks; roots = []; epoch = u.epoch; swept = u.swept; view = u.view }
 
 rooted-same : (c : Catalogue) → c.roots ≡ [] → c ≡ rooted (unrooted c)
@@ -151,13 +151,13 @@ root-still at u number (kind.View view) e = cc e
 root-still at u number (kind.Block op least bytes) e = cc e
 root-still at u number (kind.Mark op least block a) e = cc e
 root-still at u number (kind.Root op held a key) e = refl
-root-still at u number (kind.Drop op key) e = cc e
-root-still at u number (kind.Enter op epoch) e = cc e
-root-still at u number (kind.Got sender epoch round total deltas) e = cc e
-root-still at u number (kind.Base view epoch swept round frames) e = cc e
-root-still at u number (kind.KeptBlock born mark flags count bytes) e = cc e
-root-still at u number (kind.KeptRoot created dropped counted address key) e = cc e
-root-still at u number (kind.KeptRound way other epoch round total deltas) e = cc e
+root-still at u number (kind.Drop op key) e = refl
+root-still at u number (kind.Enter op epoch) e = refl
+root-still at u number (kind.Got sender epoch round total deltas) e = refl
+root-still at u number (kind.Base view epoch swept round frames) e = refl
+root-still at u number (kind.KeptBlock born mark flags count bytes) e = refl
+root-still at u number (kind.KeptRoot created dropped counted address key) e = refl
+root-still at u number (kind.KeptRound way other epoch round total deltas) e = refl
 
 -- ---- what an entry rests on
 
@@ -270,29 +270,41 @@ module _ (set : Setting) where
   follow-same : (cs : List Catalogue) (d : Deed) → length cs ≡ n → follow_unrooted set.name (map unrooted cs) d ≡ map unrooted (follow set cs d)
   follow-same cs d all = ap (λ u. slice_set (map unrooted cs) d.shard u) (applied-same cs d all) ∙ sym (map-set unrooted cs d.shard (applied set cs d))
 
+  -- an entry that does nothing in that text is left out
+  newer-still : (cs : List Catalogue) (d : Deed) (ds : List Deed) → puts_root d.entry ≡ true → FitAllUnrooted set.name (map unrooted cs) (d ∷ ds)
+      → (FitAllUnrooted set.name (map unrooted cs) ds → Newer set cs ds (unrooted_deeds ds)) → Newer set cs (d ∷ ds) (unrooted_deeds ds)
+  newer-still cs d ds e f more =
+      let still : follow_unrooted set.name (map unrooted cs) d ≡ map unrooted cs = ap (λ u. slice_set (map unrooted cs) d.shard u) (root-still (shard_at set.name (length (map unrooted cs)) d.shard) (unrooted_at (map unrooted cs) d.shard) d.number d.entry e) ∙ set-get_or (map unrooted cs) d.shard empty_unrooted in
+      let rest = more (subst (λ us. FitAllUnrooted set.name us ds) still f.2) in
+      record { fits = rest.fits; same = rest.same ∙ ap (λ us. follow_all_unrooted set.name us ds) (sym still); none = rest.none }
+
+  -- every other stays
+  newer-step : (cs : List Catalogue) (d : Deed) (ds : List Deed) → length cs ≡ n → Rootless cs → puts_root d.entry ≡ false → FitAllUnrooted set.name (map unrooted cs) (d ∷ ds)
+      → (Rootless (follow set cs d) → FitAllUnrooted set.name (map unrooted (follow set cs d)) ds → Newer set (follow set cs d) ds (unrooted_deeds ds)) → Newer set cs (d ∷ ds) (d ∷ unrooted_deeds ds)
+  newer-step cs d ds all r e f more =
+      let next = follow-same cs d all in
+      let none = rootless-at cs d.shard r in
+      let none' = none-apply (shard_in set d.shard) (catalogue_at cs d.shard) none d.number d.entry e in
+      let rest = more (rootless-set cs d.shard (applied set cs d) r none') (subst (λ us. FitAllUnrooted set.name us ds) next f.2) in
+      record {
+        fits = (
+          subst (λ k. d.shard < k) (length-map cs unrooted ∙ all) f.0,
+          (λ changed. may-newer cs d.shard d.entry r e (f.1 (λ same. changed (rooted-same (applied set cs d) none' ∙ ap rooted (sym (applied-same cs d all) ∙ same ∙ at-same cs d.shard) ∙ sym (rooted-same (catalogue_at cs d.shard) none))))),
+          rest.fits,
+        );
+        same = rest.same ∙ ap (λ us. follow_all_unrooted set.name us ds) (sym next);
+        none = rest.none;
+      }
+
   pub newer : (deeds : List Deed) (cs : List Catalogue) → length cs ≡ n → Rootless cs → FitAllUnrooted set.name (map unrooted cs) deeds → Newer set cs deeds (unrooted_deeds deeds)
   newer [] cs all r f = record { fits = tt; same = refl; none = r }
-  newer (d ∷ ds) cs all r f = by-root (puts_root d.entry) refl
+  newer (d ∷ ds) cs all r f = by-root (puts_root d.entry) refl (λ g. newer ds cs all r g) (λ r' g. newer ds (follow set cs d) (length-follow set cs d ∙ all) r' g)
     where
-      by-root : (b : Bool) → puts_root d.entry ≡ b → Newer set cs (d ∷ ds) (cond b (unrooted_deeds ds) (d ∷ unrooted_deeds ds))
-      by-root true e =
-          let still : follow_unrooted set.name (map unrooted cs) d ≡ map unrooted cs = ap (λ u. slice_set (map unrooted cs) d.shard u) (root-still (shard_at set.name (length (map unrooted cs)) d.shard) (unrooted_at (map unrooted cs) d.shard) d.number d.entry e) ∙ set-get_or (map unrooted cs) d.shard empty_unrooted in
-          let rest = newer ds cs all r (subst (λ us. FitAllUnrooted set.name us ds) still f.2) in
-          record { fits = rest.fits; same = rest.same ∙ ap (λ us. follow_all_unrooted set.name us ds) (sym still); none = rest.none }
-      by-root false e =
-          let next = follow-same cs d all in
-          let none = rootless-at cs d.shard r in
-          let none' = none-apply (shard_in set d.shard) (catalogue_at cs d.shard) none d.number d.entry e in
-          let rest = newer ds (follow set cs d) (length-follow set cs d ∙ all) (rootless-set cs d.shard (applied set cs d) r none') (subst (λ us. FitAllUnrooted set.name us ds) next f.2) in
-          record {
-            fits = (
-              subst (λ k. d.shard < k) (length-map cs unrooted ∙ all) f.0,
-              (λ changed. may-newer cs d.shard d.entry r e (f.1 (λ same. changed (rooted-same (applied set cs d) none' ∙ ap rooted (sym (applied-same cs d all) ∙ same ∙ at-same cs d.shard) ∙ sym (rooted-same (catalogue_at cs d.shard) none))))),
-              rest.fits,
-            );
-            same = rest.same ∙ ap (λ us. follow_all_unrooted set.name us ds) (sym next);
-            none = rest.none;
-          }
+      by-root : (b : Bool) → puts_root d.entry ≡ b → (FitAllUnrooted set.name (map unrooted cs) ds → Newer set cs ds (unrooted_deeds ds))
+          → (Rootless (follow set cs d) → FitAllUnrooted set.name (map unrooted (follow set cs d)) ds → Newer set (follow set cs d) ds (unrooted_deeds ds))
+          → Newer set cs (d ∷ ds) (cond b (unrooted_deeds ds) (d ∷ unrooted_deeds ds))
+      by-root true e still step = newer-still cs d ds e f still
+      by-root false e still step = newer-step cs d ds all r e f step
 
   pub older : (deeds : List Deed) (cs : List Catalogue) → length cs ≡ n → FitAll set cs deeds → Rootless (follow_all set cs deeds) → Older set cs deeds
   older [] cs all f r = record { none = r; fits = tt; same = refl }

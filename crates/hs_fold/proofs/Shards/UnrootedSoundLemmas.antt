@@ -29,25 +29,19 @@ use Rattle.hs_fold.proofs.Shards.UnrootedViewLemmas.{all-views-newer, all-views-
 
 each-left : (P : Deed → Type 0) (ds : List Deed) → AllByRecursion P ds → AllByRecursion P (unrooted_deeds ds)
 each-left P [] h = tt
-each-left P (d ∷ ds) h = go (puts_root d.entry)
+each-left P (d ∷ ds) h = go (puts_root d.entry) (each-left P ds h.1)
   where
-    rest : AllByRecursion P (unrooted_deeds ds)
-    rest = each-left P ds h.1
-
-    go : (b : Bool) → AllByRecursion P (cond b (unrooted_deeds ds) (d ∷ unrooted_deeds ds))
-    go true = rest
-    go false = (h.0, rest)
+    go : (b : Bool) → AllByRecursion P (unrooted_deeds ds) → AllByRecursion P (cond b (unrooted_deeds ds) (d ∷ unrooted_deeds ds))
+    go true rest = rest
+    go false rest = (h.0, rest)
 
 pairs-left : (R : Deed → Deed → Type 0) (ds : List Deed) → PairsBy R ds → PairsBy R (unrooted_deeds ds)
 pairs-left R [] h = tt
-pairs-left R (d ∷ ds) h = go (puts_root d.entry)
+pairs-left R (d ∷ ds) h = go (puts_root d.entry) (pairs-left R ds h.1)
   where
-    rest : PairsBy R (unrooted_deeds ds)
-    rest = pairs-left R ds h.1
-
-    go : (b : Bool) → PairsBy R (cond b (unrooted_deeds ds) (d ∷ unrooted_deeds ds))
-    go true = rest
-    go false = (each-left (R d) ds h.0, rest)
+    go : (b : Bool) → PairsBy R (unrooted_deeds ds) → PairsBy R (cond b (unrooted_deeds ds) (d ∷ unrooted_deeds ds))
+    go true rest = rest
+    go false rest = (each-left (R d) ds h.0, rest)
 
 -- ---- catalogues of lists that put no root
 
