@@ -2,7 +2,6 @@ pub mod BlockLemmas
 pub mod DeedLemmas
 pub mod Examples
 pub mod FrontLemmas
-pub mod ImageLemmas
 pub mod KeepLemmas
 pub mod LastLemmas
 pub mod LawfulLemmas

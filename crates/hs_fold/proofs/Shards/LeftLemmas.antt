@@ -1,7 +1,6 @@
 -- What happens by entries so far leaves the sessions.
-use Rattle.std.proofs.Common.{◌≡◌, ℕ, List, [], ◌∷◌, Bool, true, false, cond, None, refl, ap, ◌∙◌}
+use Rattle.std.proofs.Common.{◌≡◌, List, [], ◌∷◌, Bool, true, false, cond, None, refl, ap, ◌∙◌}
 use Rattle.std.specs.BTreeMap.{insert_entry}
-use Rattle.hs_limits.specs.declared.address.Address.{Address}
 use Rattle.hs_model.specs.Judge.{roots_with}
 use Rattle.hs_model.specs.Store.{Store, address_cmp, epoch_at, retained_at, with_block, with_roots, reborn}
 use Rattle.hs_fold.specs.Shards.Change.{Change, stores, gives, keeps, drops, is_usable, may_store, may_keep, change}

@@ -3,7 +3,7 @@ use Rattle.std.proofs.Common.{◌≡◌, ℕ, zero, suc, ◌+◌, ◌≤◌, Boo
 use Rattle.std.proofs.lemmas.List.{length-map}
 use Rattle.std.proofs.lemmas.List.Elements.{All-cons, All-nil, All-head, All-tail, All-from_recursion, recursion_from_All}
 use Rattle.std.specs.List.{AllByRecursion}
-use Rattle.std.specs.Prelude.{All, AllPairs, replicate}
+use Rattle.std.specs.Prelude.{All, replicate}
 use Rattle.hs_limits.specs.declared.address.Address.{Address}
 use Rattle.hs_laws.specs.Valid.{IsValid}
 use Rattle.hs_fold.specs.Catalogue.{Catalogue as Unrooted, empty_catalogue as empty_unrooted}
@@ -11,7 +11,7 @@ use Rattle.hs_fold.specs.Lawful.{Deed, Ascends, list_at, shard_at}
 use Rattle.hs_fold.specs.Lawful.{AreLawful as LawfulUnrooted, AreSound as SoundUnrooted, FitAll as FitAllUnrooted, follow_all as follow_all_unrooted}
 use Rattle.hs_fold.specs.Opened.{catalogues as all_unrooted, store_of as store_unrooted_of}
 use Rattle.hs_fold.specs.Prefix.{IsNumbered, last_of}
-use Rattle.hs_fold.specs.Shards.Catalogue.{Catalogue, empty_catalogue, catalogue_of}
+use Rattle.hs_fold.specs.Shards.Catalogue.{Catalogue, empty_catalogue}
 use Rattle.hs_fold.specs.Shards.History.{AreLawful, follow_all, no_entries}
 use Rattle.hs_fold.specs.Shards.Opened.{catalogues, store_of}
 use Rattle.hs_fold.specs.Shards.Setting.{Numbered, Setting, shard_in}
