@@ -47,11 +47,12 @@ own_rootless (kind.KeptRound way other epoch round total deltas) own = refl
 
 frames_rootless : (frames : List Frame) → other_kind (map (λ placed. placed.place) frames) (map entry_of frames) ≡ None → PutsNoRoot (map entry_of frames)
 frames_rootless [] none = All-nil (λ e. puts_root e.1 ≡ false)
-frames_rootless (frame ∷ frames) none = go (is_own_kind (entry_of frame).1) refl none
+frames_rootless (frame ∷ frames) none = go (is_own_kind (entry_of frame).1) refl (λ rest. frames_rootless frames rest) none
   where
-    go : (b : Bool) → is_own_kind (entry_of frame).1 ≡ b → cond b (other_kind (map (λ placed. placed.place) frames) (map entry_of frames)) (Some frame.place) ≡ None → PutsNoRoot (map entry_of (frame ∷ frames))
-    go true own none = All-cons (λ e. puts_root e.1 ≡ false) (entry_of frame) (map entry_of frames) (own_rootless (entry_of frame).1 own) (frames_rootless frames none)
-    go false own none = cc none
+    go : (b : Bool) → is_own_kind (entry_of frame).1 ≡ b → (other_kind (map (λ placed. placed.place) frames) (map entry_of frames) ≡ None → PutsNoRoot (map entry_of frames))
+        → cond b (other_kind (map (λ placed. placed.place) frames) (map entry_of frames)) (Some frame.place) ≡ None → PutsNoRoot (map entry_of (frame ∷ frames))
+    go true own rest none = All-cons (λ e. puts_root e.1 ≡ false) (entry_of frame) (map entry_of frames) (own_rootless (entry_of frame).1 own) (rest none)
+    go false own rest none = cc none
 
 -- so does the list of a disk that is not refused
 pub accepted_rootless : (seen : Side → List ℕ) (list : Numbered) → refusal_in seen ≡ None → list_in seen ≡ Some list → PutsNoRoot list
