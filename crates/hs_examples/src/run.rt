@@ -3,6 +3,7 @@ ghost use Rattle.std.specs.Prelude.{◌≡◌, ◌∷◌, [], codes, map, string
 ghost use Rattle.hs_limits.specs.Limits.{greatest_limits};
 ghost use Rattle.hs_ports.specs.Memory.{faults_of, stands_of};
 ghost use Rattle.hs_script.specs.Reading.{commands};
+ghost use Rattle.hs_top.specs.Entry.{only_set};
 ghost use Rattle.hs_top.specs.Promise.{MayStop, Promises};
 ghost use Rattle.hs_top.specs.Rest.{IsAtRest};
 
@@ -38,7 +39,8 @@ pub fn run_in_memory<A: Addresser>(
 
     // On a blank disk, with nothing put yet, the premises of clauses 2 and 3 hold too.
     ensures may { IsAtRest (λ side. []) watch.old (stands_of disk) → sink.old.got ≡ []
-        → IfOk result (λ ran. MayStop (A.name naming.now) ran.outcome.status ran.outcome.course
+        → IfOk result (λ ran. MayStop (only_set (A.name naming.now) greatest_limits)
+        ran.outcome.status ran.outcome.course
         watch.old (stands_of disk ∷ []) (Some sink.old.got)) }
 
     ensures unread { OnErr result (source.new ≡ source.old) }

@@ -2,10 +2,10 @@ pub mod BlockLemmas
 pub mod DeedLemmas
 pub mod Examples
 pub mod FrontLemmas
-pub mod ImageLemmas
 pub mod KeepLemmas
 pub mod LastLemmas
 pub mod LawfulLemmas
+pub mod LeftLemmas
 pub mod LegalLemmas
 pub mod ListLemmas
 pub mod MineLemmas
@@ -15,5 +15,8 @@ pub mod RootLemmas
 pub mod SoundLemmas
 pub mod StayLemmas
 pub mod StoreLemmas
+pub mod UnrootedDeedLemmas
 pub mod UnrootedLemmas
+pub mod UnrootedSoundLemmas
+pub mod UnrootedViewLemmas
 pub mod WaitLemmas

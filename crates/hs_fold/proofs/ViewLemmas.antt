@@ -13,7 +13,7 @@ use Rattle.hs_fold.proofs.StepLemmas.{all-steps}
 abbrev pub NoneBelow : ℕ → List (ℕ × Entry) → Type 0
 NoneBelow view es = (number later : ℕ) → Member (number, kind.View later) es → view ≤ later
 
-abbrev Rising : List (ℕ × Entry) → Type 0
+abbrev pub Rising : List (ℕ × Entry) → Type 0
 Rising [] = Unit {0}
 Rising (e ∷ es) = ((view : ℕ) → e.1 ≡ kind.View view → NoneBelow view es) × Rising es
 
@@ -22,14 +22,14 @@ split e [] m = elim m [ ]
 split e (x ∷ es) (inl same) = ([], es, λ i. sym same i ∷ es)
 split e (x ∷ es) (inr m) = let s = split e es m in (x ∷ s.0, s.1, ap (λ rest. x ∷ rest) s.2)
 
-rising_from_views : (es : List (ℕ × Entry)) → HasRisingViews es → Rising es
+pub rising_from_views : (es : List (ℕ × Entry)) → HasRisingViews es → Rising es
 rising_from_views [] h = tt
 rising_from_views (e ∷ es) h = (
   λ view same number later m. let s = split (number, kind.View later) es m in h [] s.0 s.1 e.0 number view later (λ i. (e.0, same i) ∷ s.2 i),
   rising_from_views es (λ before between after m n v w eq. h (e ∷ before) between after m n v w (λ i. e ∷ eq i)),
 )
 
-views_from_rising : (es before between after : List (ℕ × Entry)) (m n v w : ℕ) → Rising es → es ≡ before ++ (m, kind.View v) ∷ between ++ (n, kind.View w) ∷ after → v ≤ w
+pub views_from_rising : (es before between after : List (ℕ × Entry)) (m n v w : ℕ) → Rising es → es ≡ before ++ (m, kind.View v) ∷ between ++ (n, kind.View w) ∷ after → v ≤ w
 views_from_rising [] [] between after m n v w r e = cc e
 views_from_rising [] (b ∷ before) between after m n v w r e = cc e
 views_from_rising (x ∷ es) [] between after m n v w r e =

@@ -1,5 +1,5 @@
 -- The course of a run: which peers were good when, which lines were begun, and how far each shard's list took effect.
-use Rattle.std.specs.Prelude.{ℕ, Bool, true, false, ◌==◌, ◌&&◌, ◌||◌, if◌then◌else◌, List, [], ◌∷◌, ◌<◌, Contains, nat_lt}
+use Rattle.std.specs.Prelude.{ℕ, Bool, true, false, ◌==◌, ◌&&◌, if◌then◌else◌, List, [], ◌∷◌, ◌<◌, Contains, nat_lt}
 use Rattle.hs_model.specs.declared.course.CourseItem.{CourseItem}
 use Rattle.hs_model.specs.declared.course.CourseItem.TheVariants as item
 
@@ -16,16 +16,6 @@ good_from good (i ∷ items) moment peer = good_from (good_after good moment pee
 
 abbrev pub is_good : List CourseItem → ℕ → ℕ → Bool
 is_good course moment peer = good_from false course moment peer
-
--- whether an item is the Good of this peer at this moment
-abbrev pub takes : ℕ → ℕ → CourseItem → Bool
-takes moment peer (item.Good p m) = p == peer && m == moment
-takes moment peer other = false
-
--- whether a peer's Good begins the course: it has the moment at entry
-abbrev pub is_taken : List CourseItem → ℕ → ℕ → Bool
-is_taken [] moment peer = false
-is_taken (i ∷ items) moment peer = takes moment peer i || is_taken items moment peer
 
 -- the number behind one item more
 abbrev pub taken_after : ℕ → ℕ → ℕ → CourseItem → ℕ

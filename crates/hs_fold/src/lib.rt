@@ -5,7 +5,6 @@ mod change;
 mod deletion;
 mod fronts;
 mod histories;
-mod images;
 mod keeping;
 mod lines;
 mod memory;
@@ -30,7 +29,6 @@ pub use fronts::fronts_are_prefixes;
 pub use histories::{
     catalogues_are_of_their_shards, histories_change_the_store, shards_see_their_own,
 };
-pub use images::empty_disks_are_blank;
 pub use keeping::blocks_were_stored;
 pub use lines::logged_entries_name_their_line;
 pub use memory::runs_go_as_in_memory;

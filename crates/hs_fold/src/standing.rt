@@ -1,6 +1,6 @@
 //! Lists stand at what is pending on what took effect.
 ghost use Rattle.std.specs.Prelude.{◌≡◌, ◌<◌, ℕ, List, All, length};
-ghost use Rattle.hs_model.specs.Store.{Store};
+ghost use Rattle.hs_model.specs.Store.{Store, reborn};
 ghost use Rattle.hs_fold.specs.Lawful.{Deed, list_at};
 ghost use Rattle.hs_fold.specs.Prefix.{IsNumbered};
 ghost use Rattle.hs_fold.specs.Shards.Happening.{AreLegal, happen_all, happenings};
@@ -30,4 +30,8 @@ pub fn lists_stand_at_what_is_behind()
     // so far no inner event is among it
     ensures legal { (set : Setting) (lists : List Parted) (s : Store) →
         AreLegal s (behind_happenings set 0 lists) }
+    // and it leaves the sessions: a stop behind it leaves what it makes of what a stop before it leaves
+    ensures left { (set : Setting) (lists : List Parted) (s : Store) →
+        reborn (happen_all s (behind_happenings set 0 lists))
+        ≡ happen_all (reborn s) (behind_happenings set 0 lists) }
 {}

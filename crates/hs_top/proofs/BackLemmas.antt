@@ -19,11 +19,13 @@ use Rattle.hs_fold.specs.Lawful.{AreSound}
 use Rattle.hs_fold.specs.Pending.{asked_by}
 use Rattle.hs_fold.specs.Prefix.{IsNumbered}
 use Rattle.hs_fold.specs.Served.{IsNamed, IsServed, logged, with_logged}
-use Rattle.hs_fold.proofs.LineLemmas.{of_line}
+use Rattle.hs_fold.specs.Shards.Unrooted.{PutsNoRoot}
+use Rattle.hs_fold.proofs.LineLemmas.{no_root, of_line}
 use Rattle.hs_fold.proofs.NumberedLemmas.{numbered-more}
 use Rattle.hs_fold.proofs.SoundLemmas.{sound-logged}
 use Rattle.hs_single.specs.Serving.{Serving, catalogue_in, list_after, store_at}
 use Rattle.hs_top.specs.Stops.{IsAwaited, IsPending, IsUnasked}
+use Rattle.hs_top.proofs.RootlessLemmas.{push_rootless}
 
 -- what is behind a list, asked for by a line
 pub record Behind (line : ℕ) (list list' : List (ℕ × Entry)) : Type 0 where
@@ -31,6 +33,7 @@ pub record Behind (line : ℕ) (list list' : List (ℕ × Entry)) : Type 0 where
   pub split : list' ≡ list ++ back
   pub few : length back ≤ 1
   pub numbered : IsNumbered list'
+  pub rootless : PutsNoRoot list → PutsNoRoot list'
   pub asked : All (λ e. asked_by e.1 ≡ Some line) back
 
 behind_by : (c : Catalogue) (line : ℕ) (o : Op) (d : Deed) (list : List (ℕ × Entry)) → IsNumbered list → (found : Option Entry) → logged c line o d ≡ found → Behind line list (with_logged list (length list + 1) found)
@@ -39,6 +42,7 @@ behind_by c line o d list numbered None is = record {
   split = sym (append-nil list);
   few = omega arith;
   numbered = numbered;
+  rootless = λ f. f;
   asked = All-nil (λ e. asked_by e.1 ≡ Some line);
 }
 behind_by c line o d list numbered (Some entry) is =
@@ -48,6 +52,7 @@ behind_by c line o d list numbered (Some entry) is =
       split = refl;
       few = omega arith;
       numbered = numbered-more list entry numbered said.1;
+      rootless = λ f. push_rootless list (length list + 1) entry f (no_root c line o d entry is);
       asked = All-cons (λ e. asked_by e.1 ≡ Some line) (length list + 1, entry) [] said.0 (All-nil (λ e. asked_by e.1 ≡ Some line));
     }
 

@@ -2,7 +2,6 @@
 use Rattle.std.proofs.Common.{◌≡◌, inl, inr, ℕ, ◌+◌, ◌≤◌, List, [], ◌∷◌, ◌++◌, length, Option, Some, None, Result, Err, refl, sym, ap, subst, ◌∙◌, arith, length-append}
 use Rattle.std.specs.Prelude.{All}
 use Rattle.std.specs.List.{Contains}
-use Rattle.std.proofs.lemmas.Bool.{cases_lt}
 use Rattle.std.proofs.lemmas.List.{length-map}
 use Rattle.std.proofs.lemmas.List.Elements.{All-nil, All-cons, All-contains, All-weaker}
 use Rattle.hs_limits.specs.declared.address.Address.{Address}
@@ -32,12 +31,13 @@ use Rattle.hs_top.specs.declared.stop.Stop.{Stop}
 use Rattle.hs_top.specs.declared.stop.Stop.TheVariants as stop
 use Rattle.hs_top.specs.declared.transcript.Transcript.{Transcript}
 use Rattle.hs_top.specs.Course.{IsItem}
-use Rattle.hs_top.specs.Entering.{Adds, IsLost, IsSame, Notes}
+use Rattle.hs_top.specs.Entering.{Adds, IsLost, Notes}
 use Rattle.hs_top.specs.Faults.{LossCause, SinkCause}
 use Rattle.hs_top.specs.Lasting.{Going, Lasts}
 use Rattle.hs_top.specs.Lost.{lost_entry}
 use Rattle.hs_top.specs.Opens.{IsLossCause, IsShapeStop, LeavesUnwritten, MayBegin, OpensNot, TakenCourse, opened_course, viewed}
 use Rattle.hs_top.proofs.OpeningLemmas.{listed-numbered, taken_lasts, view_goes, view_lasts, view_lost}
+use Rattle.hs_top.proofs.RootlessLemmas.{accepted_rootless}
 
 some_is : {x y : List (ℕ × Entry)} → Some x ≡ Some y → x ≡ y
 some_is e = cc e
@@ -49,29 +49,6 @@ loss_cause (single.NotALog at) faults faults' seen refusal risen memory shape = 
 loss_cause (single.WrongShape found) faults faults' seen refusal risen memory shape = absurd (shape found refl)
 loss_cause single.Disk faults faults' seen refusal risen memory shape = inl (risen refl)
 loss_cause single.NoMemory faults faults' seen refusal risen memory shape = absurd (memory refl)
-
--- ---- a loss that was not told, since memory was wanting
-
-module _ (mid now : ℕ) (old new : Transcript) (entry : JournalEntry) (got got' : Option (List (ℕ × ℕ))) (halt : Stop) (none : old.journal.entries ≡ []) (adds : Adds mid now old new entry got got') (lost : IsLost halt old new entry got got') (is : halt ≡ stop.NoMemory) where
-  pub same_lost : IsSame old new got got'
-  same_lost = subst (λ (s : Stop). IsLost s old new entry got got') is lost
-
-  -- then no time went on
-  pub still_lost : now ≡ mid
-  still_lost = elim (cases_lt mid now) [
-    | inl lt ↦ absurd (none_is (sym (adds.whole lt) ∙ (sym (ap (λ (js : List JournalEntry). js ++ adds.more) none) ∙ (sym adds.added ∙ (same_lost.told ∙ none)))))
-    | inr le ↦ omega (arith, adds.put.later)
-  ]
-    where
-      none_is : entry ∷ [] ≡ [] → ⊥
-      none_is e = cc e
-
-pub lasts_lost : (commands : ℕ → Option Command) (name : List ℕ → Address) (limits : Limits) (start : Store) (before mid now : ℕ) (old new : Transcript) (line : ℕ) (disk : Standing) (course : List CourseItem) (got got' got'' : Option (List (ℕ × ℕ))) (halt : Stop)
-    → old.journal.entries ≡ [] → got' ≡ got → Adds mid now old new (lost_entry line mid) got' got'' → IsLost halt old new (lost_entry line mid) got' got'' → halt ≡ stop.NoMemory
-    → Lasts commands name limits start before mid disk course [] got got → Lasts commands name limits start before now disk course new.journal.entries got got''
-lasts_lost commands name limits start before mid now old new line disk course got got' got'' halt none put adds lost is lasts =
-    let same = same_lost mid now old new (lost_entry line mid) got' got'' halt none adds lost is in
-    rw (still_lost mid now old new (lost_entry line mid) got' got'' halt none adds lost is, same.told, none, same.put, put) lasts
 
 -- ---- a loss behind the log that was taken
 
@@ -127,10 +104,11 @@ module _ (name : List ℕ → Address) (before : ℕ) (disk : Standing) (list : 
   pub course_is : (course : List CourseItem) (moment last : ℕ) → course ≡ item.Good 0 moment ∷ item.Took 0 last moment ∷ [] → moment ≡ before → last ≡ length opened.store.log.places → course ≡ taken
   course_is course moment last begun at count = begun ∙ (ap (λ (m : ℕ). item.Good 0 m ∷ item.Took 0 last m ∷ []) at ∙ ap (λ (n : ℕ). item.Good 0 before ∷ item.Took 0 n before ∷ []) (count ∙ (is_open.count ∙ ap length list_is)))
 
-  pub taken_by : (course noted : List CourseItem) (mid : ℕ) → course ≡ taken ++ noted → All (Contains (item.Bad 0 mid ∷ [])) noted → TakenCourse before (list_in disk.seen) course
-  taken_by course noted mid added here = record {
+  pub taken_by : refusal_in disk.seen ≡ None → (course noted : List CourseItem) (mid : ℕ) → course ≡ taken ++ noted → All (Contains (item.Bad 0 mid ∷ [])) noted → TakenCourse before (list_in disk.seen) course
+  taken_by accepted course noted mid added here = record {
     entries = list;
     listed = is;
+    rootless = accepted_rootless disk.seen list accepted is;
     rest = noted;
     begins = added;
     lost = All-weaker (Contains (item.Bad 0 mid ∷ [])) (IsItem (λ line. None) 0) (λ i h. All-contains (IsItem (λ line. None) 0) (item.Bad 0 mid ∷ []) i (All-cons (IsItem (λ line. None) 0) (item.Bad 0 mid) [] refl (All-nil (IsItem (λ line. None) 0))) h) noted here;

@@ -1,72 +1,57 @@
 -- Of the store at entry, where there is one disk.
-use Rattle.std.proofs.Common.{◌≡◌, ℕ, ◌==◌, ◌||◌, Bool, true, false, cond, List, [], ◌∷◌, Option, Some, unwrap_or, ap, subst, ◌∙◌, arith}
-use Rattle.std.proofs.lemmas.Bool.{false≢true}
-use Rattle.std.proofs.lemmas.Bool.Decides.{nat_tests}
+use Rattle.std.proofs.Common.{◌≡◌, ℕ, Bool, true, cond, List, [], ◌∷◌, Option, Some, unwrap_or, ap, subst, ◌∙◌}
 use Rattle.hs_limits.specs.declared.address.Address.{Address}
-use Rattle.hs_limits.specs.declared.shape.Shape.{Shape}
+use Rattle.hs_limits.specs.declared.limits.Limits.{Limits}
 use Rattle.hs_model.specs.declared.course.CourseItem.{CourseItem}
-use Rattle.hs_model.specs.declared.course.CourseItem.TheVariants as item
 use Rattle.hs_laws.specs.Valid.{IsValid}
-use Rattle.hs_entry.specs.declared.entry.Entry.{Entry}
 use Rattle.hs_ports.specs.Disk.{Standing}
 use Rattle.hs_side.specs.Current.{list_in}
-use Rattle.hs_fold.specs.Good.{is_good, is_taken}
-use Rattle.hs_fold.specs.Lawful.{AreSound}
-use Rattle.hs_fold.specs.Opened.{catalogues, chosen_each, opened, store_of}
-use Rattle.hs_fold.proofs.OneListLemmas.{one-chosen, one-opened}
+use Rattle.hs_fold.specs.Opened.{chosen_each}
+use Rattle.hs_fold.specs.Opened.{store_of as store_unrooted_of}
+use Rattle.hs_fold.specs.Shards.Course.{begins}
+use Rattle.hs_fold.specs.Shards.Opened.{catalogues, opened, store_of}
+use Rattle.hs_fold.specs.Shards.Setting.{Numbered, Setting}
+use Rattle.hs_fold.specs.Shards.Sound.{AreSound}
+use Rattle.hs_fold.specs.Shards.Unrooted.{PutsNoRoot}
+use Rattle.hs_fold.proofs.OneListLemmas.{one-chosen}
 use Rattle.hs_single.specs.Serving.{catalogue_in}
-use Rattle.hs_top.specs.Entry.{entry_lists, entry_store, list_or_none, IsSoundAtEntry, OneListAtEntry}
+use Rattle.hs_top.specs.Entry.{entry_lists, entry_store, list_or_none, only_set, IsSoundAtEntry, OneListAtEntry}
 use Rattle.hs_top.specs.Opens.{MayBegin}
 use Rattle.hs_top.specs.Stops.{NoneAhead}
+use Rattle.hs_top.proofs.RootlessLemmas.{older_sound, older_store}
 
--- one shard of one copy
-abbrev pub only : Shape
-only = record { shards = 1; copies = 1 }
+-- the store at entry is valid where the lists are sound
+pub valid_at : (set : Setting) (course : List CourseItem) (disk : Standing) → IsSoundAtEntry set course (disk ∷ []) → IsValid (entry_store set course (disk ∷ []))
+valid_at set course disk sound = sound.valid
 
--- ---- the list of the disk at entry
+-- ---- the disk's log was taken
 
--- it is read of a disk that was taken
-lists_taken : (course : List CourseItem) (before : ℕ) (disk : Standing) (list : List (ℕ × Entry)) → is_taken course before 0 ≡ true → list_in disk.seen ≡ Some list → entry_lists course before 0 (disk ∷ []) ≡ list ∷ []
-lists_taken course before disk list taken listed = ap (λ (b : Bool). cond b (list_or_none disk.seen) [] ∷ []) taken ∙ ap (λ (o : Option (List (ℕ × Entry))). unwrap_or o [] ∷ []) listed
+module _ (name : List ℕ → Address) (limits : Limits) (course : List CourseItem) (disk : Standing) (list : Numbered) (taken : begins 1 course 0 ≡ true) (listed : list_in disk.seen ≡ Some list) where
+  abbrev set : Setting
+  set = only_set name limits
 
--- and one that was set aside counts as blank
-lists_not : (course : List CourseItem) (before : ℕ) (disk : Standing) → is_taken course before 0 ≡ false → entry_lists course before 0 (disk ∷ []) ≡ [] ∷ []
-lists_not course before disk taken = ap (λ (b : Bool). cond b (list_or_none disk.seen) [] ∷ []) taken
+  -- the list is read of it
+  lists_taken : entry_lists 1 course 0 (disk ∷ []) ≡ list ∷ []
+  lists_taken = ap (λ (b : Bool). cond b (list_or_none disk.seen) [] ∷ []) taken ∙ ap (λ (o : Option Numbered). unwrap_or o [] ∷ []) listed
 
--- ---- the store at entry
+  lists_chosen : chosen_each 1 1 (entry_lists 1 course 0 (disk ∷ [])) ≡ list ∷ []
+  lists_chosen = ap (λ (lists : List Numbered). chosen_each 1 1 lists) lists_taken ∙ one-chosen list
 
-pub entry_taken : (name : List ℕ → Address) (course : List CourseItem) (before : ℕ) (disk : Standing) (list : List (ℕ × Entry)) → is_taken course before 0 ≡ true → list_in disk.seen ≡ Some list → entry_store name only course before (disk ∷ []) ≡ store_of (catalogue_in name list ∷ [])
-entry_taken name course before disk list taken listed = ap (λ (lists : List (List (ℕ × Entry))). opened name only lists) (lists_taken course before disk list taken listed) ∙ one-opened name list
+  pub entry_listed : entry_store set course (disk ∷ []) ≡ store_of (catalogues set 0 (list ∷ []))
+  entry_listed = ap (λ (lists : List Numbered). store_of (catalogues set 0 lists)) lists_chosen
 
-pub entry_not : (name : List ℕ → Address) (course : List CourseItem) (before : ℕ) (disk : Standing) → is_taken course before 0 ≡ false → entry_store name only course before (disk ∷ []) ≡ store_of (catalogue_in name [] ∷ [])
-entry_not name course before disk taken = ap (λ (lists : List (List (ℕ × Entry))). opened name only lists) (lists_not course before disk taken) ∙ one-opened name []
+  pub sound_listed : IsSoundAtEntry set course (disk ∷ []) → AreSound set (list ∷ [])
+  sound_listed sound = subst (λ (lists : List Numbered). AreSound set lists) lists_chosen sound
 
--- ---- what may be asked of it
+  -- and puts no root
+  pub entry_taken : PutsNoRoot list → entry_store set course (disk ∷ []) ≡ store_unrooted_of (catalogue_in name list ∷ [])
+  entry_taken f = entry_listed ∙ older_store name limits list f
 
-pub sound_taken : (name : List ℕ → Address) (course : List CourseItem) (before : ℕ) (disk : Standing) (list : List (ℕ × Entry)) → is_taken course before 0 ≡ true → list_in disk.seen ≡ Some list → IsSoundAtEntry name only course before (disk ∷ []) → AreSound name (list ∷ []) (catalogue_in name list ∷ [])
-sound_taken name course before disk list taken listed sound =
-    subst (λ (lists : List (List (ℕ × Entry))). AreSound name lists (catalogues name 1 0 lists)) (ap (λ (lists : List (List (ℕ × Entry))). chosen_each 1 1 lists) (lists_taken course before disk list taken listed) ∙ one-chosen list) sound
-
-pub valid_at : (name : List ℕ → Address) (course : List CourseItem) (before : ℕ) (disk : Standing) → IsSoundAtEntry name only course before (disk ∷ []) → IsValid (entry_store name only course before (disk ∷ []))
-valid_at name course before disk sound = sound.valid
-
-pub may_taken : (name : List ℕ → Address) (course : List CourseItem) (before : ℕ) (disk : Standing) (got : Option (List (ℕ × ℕ))) (list : List (ℕ × Entry)) → is_taken course before 0 ≡ true → list_in disk.seen ≡ Some list → IsSoundAtEntry name only course before (disk ∷ []) → OneListAtEntry course before (disk ∷ []) → NoneAhead before (disk ∷ []) got → MayBegin name before disk got list
-may_taken name course before disk got list taken listed sound one ahead = record {
-  one = λ image images. one 0 taken image images ∙ listed;
-  sound = sound_taken name course before disk list taken listed sound;
-  last = ahead.called 0;
-  put = ahead.put;
-}
-
--- ---- the course
-
--- a course that begins with the Good of entry
-pub taken_is : (before : ℕ) (rest : List CourseItem) → is_taken (item.Good 0 before ∷ rest) before 0 ≡ true
-taken_is before rest = ap (λ (b : Bool). b || is_taken rest before 0) (same before)
-  where
-    same : (n : ℕ) → (n == n) ≡ true
-    same n = grind (arith, nat_tests)
-
--- in an empty course no peer is good
-pub not_good : (course : List CourseItem) (m : ℕ) → course ≡ [] → is_good course m 0 ≡ true → ⊥
-not_good course m none good = false≢true (subst (λ (items : List CourseItem). is_good items m 0 ≡ true) none good)
+  pub may_taken : (before : ℕ) (got : Option (List (ℕ × ℕ))) → PutsNoRoot list → IsSoundAtEntry set course (disk ∷ []) → OneListAtEntry 1 course (disk ∷ []) → NoneAhead before (disk ∷ []) got → MayBegin name before disk got list
+  may_taken before got f sound one ahead = record {
+    one = λ image images. one 0 taken image images ∙ listed;
+    sound = older_sound name limits list f (sound_listed sound);
+    rootless = f;
+    last = ahead.called 0;
+    put = ahead.put;
+  }

@@ -25,6 +25,7 @@ use Rattle.hs_fold.specs.Lawful.{AreSound}
 use Rattle.hs_fold.specs.Opened.{store_of}
 use Rattle.hs_fold.specs.Pending.{asked_by}
 use Rattle.hs_fold.specs.Prefix.{IsNumbered}
+use Rattle.hs_fold.specs.Shards.Unrooted.{PutsNoRoot}
 use Rattle.hs_script.specs.Text.{text}
 use Rattle.hs_single.specs.Serving.{catalogue_in}
 use Rattle.hs_top.specs.Course.{moment_of}
@@ -70,6 +71,7 @@ module _ (commands : ℕ → Option Command) (course items : List CourseItem) (j
     split = gives.split;
     few = gives.few;
     numbered = gives.numbered;
+    rootless = gives.rootless;
     sound = gives.sound;
     taken = taken_later course items m 0 late ∙ gives.taken;
     legal = rw (below_later m journal more later) gives.legal;
@@ -80,16 +82,17 @@ module _ (commands : ℕ → Option Command) (course items : List CourseItem) (j
 -- nothing was asked of a journal's entries below a moment above them all
 module _ (commands : ℕ → Option Command) (name : List ℕ → Address) (limits : Limits) (start : Store) where
   -- so much took effect, and the rest is behind it
-  pub gives_at : (course : List CourseItem) (journal : List JournalEntry) (m : ℕ) (done back : List (ℕ × Entry)) → All (λ e. e.moment < m) journal → IsNumbered (done ++ back) → AreSound name ((done ++ back) ∷ []) (catalogue_in name (done ++ back) ∷ [])
+  pub gives_at : (course : List CourseItem) (journal : List JournalEntry) (m : ℕ) (done back : List (ℕ × Entry)) → All (λ e. e.moment < m) journal → IsNumbered (done ++ back) → PutsNoRoot (done ++ back) → AreSound name ((done ++ back) ∷ []) (catalogue_in name (done ++ back) ∷ [])
       → length back ≤ 1 → taken_below course m 0 ≡ length done → IsLegal limits start (events_of commands name limits start journal)
       → reborn (store_after commands name limits start journal) ≡ store_of (catalogue_in name done ∷ []) → All (λ e. IsPending commands course journal m e.1) back
       → Gives commands name limits start course journal m (done ++ back)
-  gives_at course journal m done back above numbered sound few taken legal store pending = record {
+  gives_at course journal m done back above numbered rootless sound few taken legal store pending = record {
     done = done;
     back = back;
     split = refl;
     few = few;
     numbered = numbered;
+    rootless = rootless;
     sound = sound;
     taken = taken;
     legal = rw (below_all m journal above) legal;

@@ -24,9 +24,11 @@ pub mod OptionLemmas
 pub mod PassingLemmas
 pub mod ProgressLemmas
 pub mod PromiseLemmas
+pub mod RootlessLemmas
 pub mod ServingLemmas
 pub mod SpendsLemmas
 pub mod StartLemmas
+pub mod StayedLemmas
 pub mod StopLemmas
 pub mod TellingLemmas
 pub mod TopLemmas

@@ -21,6 +21,7 @@ use Rattle.hs_fold.specs.Good.{is_good, taken_below}
 use Rattle.hs_fold.specs.Lawful.{AreSound}
 use Rattle.hs_fold.specs.Opened.{store_of}
 use Rattle.hs_fold.specs.Prefix.{IsNumbered}
+use Rattle.hs_fold.specs.Shards.Unrooted.{PutsNoRoot}
 use Rattle.hs_fold.proofs.NumberedLemmas.{numbered-more}
 use Rattle.hs_fold.proofs.SoundLemmas.{sound-view}
 use Rattle.hs_script.specs.Text.{text}
@@ -41,6 +42,7 @@ use Rattle.hs_top.proofs.FrontLemmas.{front_more}
 use Rattle.hs_top.proofs.LastingLemmas.{gives_at, lasts_more}
 use Rattle.hs_top.proofs.LateLemmas.{followed_none, front_none}
 use Rattle.hs_top.proofs.PassingLemmas.{entries_late, items_late}
+use Rattle.hs_top.proofs.RootlessLemmas.{push_rootless}
 
 -- ---- the list of a disk
 
@@ -101,7 +103,7 @@ module _ (commands : ℕ → Option Command) (name : List ℕ → Address) (limi
   gives_list m low image read = record {
     list = list ++ [];
     read = read ∙ ap (λ (l : List (ℕ × Entry)). Some l) (sym (append-nil list));
-    gives = gives_at commands name limits start taken [] m list [] (All-nil (λ e. e.moment < m)) (subst (λ (l : List (ℕ × Entry)). IsNumbered l) (sym (append-nil list)) numbered)
+    gives = gives_at commands name limits start taken [] m list [] (All-nil (λ e. e.moment < m)) (subst (λ (l : List (ℕ × Entry)). IsNumbered l) (sym (append-nil list)) numbered) (subst (λ (l : List (ℕ × Entry)). PutsNoRoot l) (sym (append-nil list)) may.rootless)
         (subst (λ (l : List (ℕ × Entry)). AreSound name (l ∷ []) (catalogue_in name l ∷ [])) (sym (append-nil list)) may.sound) (omega arith) (taken_all m low) tt refl (All-nil (λ e. IsPending commands taken [] m e.1));
   }
 
@@ -120,6 +122,9 @@ module _ (commands : ℕ → Option Command) (name : List ℕ → Address) (limi
     numbered' : IsNumbered (viewed list view)
     numbered' = numbered-more list (kind.View view) numbered refl
 
+    rootless' : PutsNoRoot (viewed list view)
+    rootless' = push_rootless list (length list + 1) (kind.View view) may.rootless refl
+
     -- while its view begins
     pub view_lasts : Lasts commands name limits start before now' disk'' taken [] got got
     view_lasts = lasts_more commands name limits start before now now' disk' disk'' taken [] [] [] got got got lasts leaves.earlier (All-nil (λ i. now ≤ moment_of i)) (All-nil (λ e. now ≤ e.moment)) (λ m le fits. refl)
@@ -128,7 +133,7 @@ module _ (commands : ℕ → Option Command) (name : List ℕ → Address) (limi
           | inr second ↦ record {
             list = viewed list view;
             read = second;
-            gives = gives_at commands name limits start taken [] m list ((length list + 1, kind.View view) ∷ []) (All-nil (λ e. e.moment < m)) numbered' sound' (omega arith) (taken_all m (omega arith)) tt refl
+            gives = gives_at commands name limits start taken [] m list ((length list + 1, kind.View view) ∷ []) (All-nil (λ e. e.moment < m)) numbered' rootless' sound' (omega arith) (taken_all m (omega arith)) tt refl
                 (All-cons (λ e. IsPending commands taken [] m e.1) (length list + 1, kind.View view) [] tt (All-nil (λ e. IsPending commands taken [] m e.1)));
           }
         ])
@@ -146,6 +151,7 @@ module _ (commands : ℕ → Option Command) (name : List ℕ → Address) (limi
           last = last;
           valid = may.sound.valid;
           sound = sound';
+          rootless = rootless';
           good = λ m lt. good_took taken (length list + 1) now' m ∙ good_taken m (omega arith);
           taken = λ m lt. taken_took taken (length list + 1) now' m lt ∙ sym (length-append list ((length list + 1, kind.View view) ∷ []));
           alone = alone;

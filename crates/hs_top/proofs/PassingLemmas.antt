@@ -31,6 +31,7 @@ use Rattle.hs_fold.specs.Lawful.{AreSound}
 use Rattle.hs_fold.specs.Opened.{store_of}
 use Rattle.hs_fold.specs.Pending.{asked_by}
 use Rattle.hs_fold.specs.Prefix.{IsNumbered}
+use Rattle.hs_fold.specs.Shards.Unrooted.{PutsNoRoot}
 use Rattle.hs_script.specs.Text.{entry_text, text}
 use Rattle.hs_single.specs.Images.{GivesOne, IsAlone, LeavesList, LeavesLists}
 use Rattle.hs_single.specs.Serving.{catalogue_in, list_after, store_at}
@@ -117,6 +118,9 @@ module _ (commands : ℕ → Option Command) (name : List ℕ → Address) (limi
     sound' : AreSound name (list' ∷ []) (catalogue_in name list' ∷ [])
     sound' = subst (λ (l : List (ℕ × Entry)). AreSound name (l ∷ []) (catalogue_in name l ∷ [])) list-is (sound_after name limits line asked old.store list b.serves.numbered is.served is.named low b.going.sound valid)
 
+    rootless' : PutsNoRoot list'
+    rootless' = more.rootless b.going.rootless
+
     -- the line is awaited as soon as it was begun
     awaited : (m : ℕ) → now < m → IsAwaited commands (old.told.course ++ item.Begun line now ∷ []) journal m line
     awaited m lt = record {
@@ -140,13 +144,13 @@ module _ (commands : ℕ → Option Command) (name : List ℕ → Address) (limi
       | inl first ↦ record {
         list = list ++ [];
         read = first ∙ ap (λ (l : List (ℕ × Entry)). Some l) (sym (append-nil list));
-        gives = gives_at commands name limits start _ journal m list [] (until m lt) (subst (λ (l : List (ℕ × Entry)). IsNumbered l) (sym (append-nil list)) b.serves.numbered)
+        gives = gives_at commands name limits start _ journal m list [] (until m lt) (subst (λ (l : List (ℕ × Entry)). IsNumbered l) (sym (append-nil list)) b.serves.numbered) (subst (λ (l : List (ℕ × Entry)). PutsNoRoot l) (sym (append-nil list)) b.going.rootless)
             (subst (λ (l : List (ℕ × Entry)). AreSound name (l ∷ []) (catalogue_in name l ∷ [])) (sym (append-nil list)) b.going.sound) (omega arith) (taken_here m lt) b.progress.legal store_here (All-nil (λ e. IsPending commands (old.told.course ++ item.Begun line now ∷ []) journal m e.1));
       }
       | inr second ↦ record {
         list = list ++ more.back;
         read = second ∙ ap (λ (l : List (ℕ × Entry)). Some l) more.split;
-        gives = gives_at commands name limits start _ journal m list more.back (until m lt) (subst (λ (l : List (ℕ × Entry)). IsNumbered l) more.split more.numbered)
+        gives = gives_at commands name limits start _ journal m list more.back (until m lt) (subst (λ (l : List (ℕ × Entry)). IsNumbered l) more.split more.numbered) (subst (λ (l : List (ℕ × Entry)). PutsNoRoot l) more.split rootless')
             (subst (λ (l : List (ℕ × Entry)). AreSound name (l ∷ []) (catalogue_in name l ∷ [])) more.split sound') more.few (taken_here m lt) b.progress.legal store_here
             (All-weaker (λ e. asked_by e.1 ≡ Some line) (λ e. IsPending commands (old.told.course ++ item.Begun line now ∷ []) journal m e.1) (λ e h. pending_by commands _ journal m line e.1 (awaited m lt) h) more.back more.asked);
       }
@@ -237,7 +241,7 @@ module _ (commands : ℕ → Option Command) (name : List ℕ → Address) (limi
           record {
             list = list' ++ [];
             read = durable image (λ side. subst (λ l. IsImage l (image side)) (since side m (omega arith)) (left.sides side)) ∙ ap (λ (l : List (ℕ × Entry)). Some l) (sym (append-nil list'));
-            gives = gives_at commands name limits start _ (journal ++ entry ∷ []) m list' [] (above' m lt) (subst (λ (l : List (ℕ × Entry)). IsNumbered l) (sym (append-nil list')) more.numbered)
+            gives = gives_at commands name limits start _ (journal ++ entry ∷ []) m list' [] (above' m lt) (subst (λ (l : List (ℕ × Entry)). IsNumbered l) (sym (append-nil list')) more.numbered) (subst (λ (l : List (ℕ × Entry)). PutsNoRoot l) (sym (append-nil list')) rootless')
                 (subst (λ (l : List (ℕ × Entry)). AreSound name (l ∷ []) (catalogue_in name l ∷ [])) (sym (append-nil list')) sound') (omega arith) (taken' m lt) progress'.legal
                 (ap reborn (progress'.left ∙ sym stored)) (All-nil (λ e. IsPending commands (course ++ took_items (length list) (length list') mid) (journal ++ entry ∷ []) m e.1));
           }
@@ -265,6 +269,7 @@ module _ (commands : ℕ → Option Command) (name : List ℕ → Address) (limi
             last = omega arith;
             valid = b.going.valid;
             sound = sound';
+            rootless = rootless';
             good = λ m lt. rw (whole.course, begun) (good' m (omega arith));
             taken = λ m lt. rw (whole.course, begun) (taken' m (omega arith));
             alone = alone;

@@ -18,7 +18,7 @@ use Rattle.hs_side.specs.Current.{list_in}
 use Rattle.hs_side.specs.declared.header.Header.{Header}
 use Rattle.hs_fold.specs.Opened.{store_of}
 use Rattle.hs_single.specs.declared.fault.SingleFault.TheVariants as single
-use Rattle.hs_single.specs.Opening.{refusal_in}
+use Rattle.hs_single.specs.Opening.{refusal_in, LeavesAll}
 use Rattle.hs_single.specs.Serving.{Serving, IsServing, catalogue_in, store_at}
 use Rattle.hs_top.specs.declared.status.Status.{Status}
 use Rattle.hs_top.specs.declared.status.Status.TheVariants as status
@@ -27,7 +27,8 @@ use Rattle.hs_top.specs.declared.stop.Stop.TheVariants as stop
 use Rattle.hs_top.specs.declared.transcript.Transcript.{Transcript}
 use Rattle.hs_top.specs.Course.{GrowsBy, IsItem}
 use Rattle.hs_top.specs.Ending.{Fulfils, IsScriptStop, IsUntold, status_of}
-use Rattle.hs_top.specs.Entry.{IsSoundAtEntry, OneListAtEntry, counted, entry_store, only_shape, start_of, taken_course}
+use Rattle.hs_top.specs.Entry.{IsSoundAtEntry, OneListAtEntry, counted, entry_store, only_set, start_of, taken_course}
+use Rattle.hs_top.specs.Entering.{IsSame}
 use Rattle.hs_top.specs.Headline.{Ends, KeepsAllAlong}
 use Rattle.hs_top.specs.Lasting.{Going, Lasts, Prints}
 use Rattle.hs_top.specs.Lost.{has_note}
@@ -35,19 +36,20 @@ use Rattle.hs_top.specs.Opens.{IsCutShort, IsLossCause, IsShapeStop, IsShapeTold
 use Rattle.hs_top.specs.Promise.{IsGoodUntold, IsLostEnd, IsShapeEnd, IsShapeFound, LeavesOther, MayStop, Promises}
 use Rattle.hs_top.specs.Stops.{Stops, got_by}
 use Rattle.hs_top.proofs.CaseLemmas.{err_at, if_any, if_at}
-use Rattle.hs_top.proofs.EntryLemmas.{valid_at}
+use Rattle.hs_top.proofs.EntryLemmas.{entry_listed, sound_listed, valid_at}
 use Rattle.hs_top.proofs.KeptLemmas.{kept_along}
 use Rattle.hs_top.proofs.GrowsLemmas.{risen_before}
+use Rattle.hs_top.proofs.StayedLemmas.{stayed_good, stayed_stops}
 use Rattle.hs_top.proofs.TopLemmas.{aside_not, fulfils_not, note_not, opened_aside, opened_begins, opened_follows, opened_start, shape_not, taken_good, taken_may, taken_stops, view_store}
 
 -- ---- clause 2 follows from clause 1
 
 keeps_by : (asks : ℕ → Option Command) (name : List ℕ → Address) (limits : Limits) (ending : Status) (line : ℕ) (journal refused : List JournalEntry) (course : List CourseItem) (before : ℕ) (disk : Standing) (got got' : Option (List (ℕ × ℕ)))
-    → Fulfils asks name limits (start_of name ending before (disk ∷ []) course) ending line journal refused got got' → IsSoundAtEntry name only_shape (counted ending before (disk ∷ []) course) before (disk ∷ [])
-    → KeepsAllAlong limits (start_of name ending before (disk ∷ []) course) (events_of asks name limits (start_of name ending before (disk ∷ []) course) journal)
+    → Fulfils asks name limits (start_of (only_set name limits) ending before (disk ∷ []) course) ending line journal refused got got' → IsSoundAtEntry (only_set name limits) (counted ending before (disk ∷ []) course) (disk ∷ [])
+    → KeepsAllAlong limits (start_of (only_set name limits) ending before (disk ∷ []) course) (events_of asks name limits (start_of (only_set name limits) ending before (disk ∷ []) course) journal)
 keeps_by asks name limits ending line journal refused course before disk got got' fulfils sound =
-    kept_along limits (start_of name ending before (disk ∷ []) course) (events_of asks name limits (start_of name ending before (disk ∷ []) course) journal)
-    (valid_at name (counted ending before (disk ∷ []) course) before disk sound) fulfils.answers.answers.legal
+    kept_along limits (start_of (only_set name limits) ending before (disk ∷ []) course) (events_of asks name limits (start_of (only_set name limits) ending before (disk ∷ []) course) journal)
+    (valid_at (only_set name limits) (counted ending before (disk ∷ []) course) disk sound) fulfils.answers.answers.legal
 
 -- ---- by what stopped it
 
@@ -119,7 +121,7 @@ is_memory (stop.WrongShape found) moment disks = inr refl
 
 -- ---- no log was taken: then no image counts
 
-untaken_stops : (asks : ℕ → Option Command) (name : List ℕ → Address) (limits : Limits) (start : _) (before now : ℕ) (disk : Standing) (journal : List JournalEntry) (got got' : Option (List (ℕ × ℕ))) → Prints before now journal got got' → Stops asks name limits only_shape start before now (disk ∷ []) [] journal got got'
+untaken_stops : (asks : ℕ → Option Command) (name : List ℕ → Address) (limits : Limits) (start : _) (before now : ℕ) (disk : Standing) (journal : List JournalEntry) (got got' : Option (List (ℕ × ℕ))) → Prints before now journal got got' → Stops asks (only_set name limits) start before now (disk ∷ []) [] journal got got'
 untaken_stops asks name limits start before now disk journal got got' prints = record {
   reopened = λ m low high fits images good. absurd (false≢true (good.shards 0 (omega arith)).2.good);
   printed = prints;
@@ -131,8 +133,7 @@ module _ (script : List ℕ) (name : List ℕ → Address) (limits : Limits) (ol
     (told : old.journal.entries ≡ []) (none : old.refused ≡ []) (zeroth : old.line ≡ 0) (limit : old.journal.limit ≡ limits.ops)
     (halt : Stop) (halted : OpensNot halt old new before now got got') (cut : IsCutShort before (list_in disk.seen) new.course)
     (prints : ((m : ℕ) → before ≤ m → got_by m got ≡ got) → Prints before now new.journal.entries got got')
-    (memory : (asks : ℕ → Option Command) (limits : Limits) (list : List (ℕ × Entry)) → list_in disk.seen ≡ Some list → MayBegin name before disk got list → halt ≡ stop.NoMemory → new.course ≡ []
-    → Lasts asks name limits (store_of (catalogue_in name list ∷ [])) before now disk' (item.Good 0 before ∷ item.Took 0 (length list) before ∷ []) new.journal.entries got got')
+    (memory : disk.last ≤ before → halt ≡ stop.NoMemory → new.course ≡ [] → LeavesAll before now disk disk')
     (lasts : (asks : ℕ → Option Command) (limits : Limits) (list : List (ℕ × Entry)) → list_in disk.seen ≡ Some list → MayBegin name before disk got list → TakenCourse before (list_in disk.seen) new.course
     → Lasts asks name limits (store_of (catalogue_in name list ∷ [])) before now disk' new.course new.journal.entries got got')
     (noted : has_note (new.journal.entries ++ new.refused) ≡ true → IsLossCause faults faults' disk.seen) (shape : IsShapeStop halt disk.seen)
@@ -144,48 +145,47 @@ module _ (script : List ℕ) (name : List ℕ → Address) (limits : Limits) (ol
   counting course = counted ending before (disk ∷ []) course
 
   abbrev Stopped : List CourseItem → Type 0
-  Stopped course = Stops (commands script) name limits only_shape (entry_store name only_shape course before (disk ∷ [])) before now (disk' ∷ []) course new.journal.entries got got' × IsGoodUntold course new.journal.entries before now
+  Stopped course = Stops (commands script) (only_set name limits) (entry_store (only_set name limits) course (disk ∷ [])) before now (disk' ∷ []) course new.journal.entries got got' × IsGoodUntold course new.journal.entries before now
 
   untaken : Prints before now new.journal.entries got got' → Stopped []
   untaken printed = (untaken_stops (commands script) name limits _ before now disk' new.journal.entries got got' printed, λ taken m low high fits without. absurd (false≢true taken))
 
-  -- memory was wanting: as for a log that was taken
-  wanting : (list : Option (List (ℕ × Entry))) → list_in disk.seen ≡ list → halt ≡ stop.NoMemory → new.course ≡ [] → MayStop name status.NoMemory [] before (disk ∷ []) got → Stopped (taken_course list before)
+  -- memory was wanting: then nothing was written
+  wanting : (list : Option (List (ℕ × Entry))) → list_in disk.seen ≡ list → halt ≡ stop.NoMemory → new.course ≡ [] → MayStop (only_set name limits) status.NoMemory [] before (disk ∷ []) got → Stopped (taken_course list before)
   wanting None listed is empty may = untaken (prints may.none.put)
   wanting (Some list) listed is empty may =
       let course : List CourseItem = item.Good 0 before ∷ item.Took 0 (length list) before ∷ [] in
       let here : counted status.NoMemory before (disk ∷ []) [] ≡ course = ap (λ (l : Option (List (ℕ × Entry))). taken_course l before) listed in
-      let may' : MayStop name status.Done course before (disk ∷ []) got = record {
-        sound = subst (λ (c : List CourseItem). IsSoundAtEntry name only_shape c before (disk ∷ [])) here may.sound;
-        one = subst (λ (c : List CourseItem). OneListAtEntry c before (disk ∷ [])) here may.one;
-        none = may.none;
-      } in
-      let lasting = memory (commands script) limits list listed (taken_may name status.Done before disk course [] list listed refl got may') is empty in (
-        taken_stops name status.Done before disk course [] list listed refl (commands script) limits now disk' new.journal.entries got got' lasting,
-        taken_good name status.Done before disk course [] list listed refl (commands script) limits now disk' new.journal.entries got got' lasting,
+      let sound : IsSoundAtEntry (only_set name limits) course (disk ∷ []) = subst (λ (c : List CourseItem). IsSoundAtEntry (only_set name limits) c (disk ∷ [])) here may.sound in
+      let one : OneListAtEntry 1 course (disk ∷ []) = subst (λ (c : List CourseItem). OneListAtEntry 1 c (disk ∷ [])) here may.one in
+      let same : IsSame old new got got' = subst (λ (h : Stop). OpensNot h old new before now got got') is halted in
+      let nothing : new.journal.entries ≡ [] = same.told ∙ told in (
+        rw (nothing, entry_listed name limits course disk list refl listed) (stayed_stops (commands script) name limits before now disk disk' list listed got got' (memory (may.none.called 0) is empty)
+        (sound_listed name limits course disk list refl listed sound) (λ image images. one 0 refl image images ∙ listed) may.none.put same.put),
+        rw nothing (stayed_good (commands script) name limits before now disk disk' list listed),
       )
 
-  stopped : MayStop name ending new.course before (disk ∷ []) got → Stopped (counting new.course)
+  stopped : MayStop (only_set name limits) ending new.course before (disk ∷ []) got → Stopped (counting new.course)
   stopped may = elim cut [
     | inl empty ↦ elim (is_memory halt before (disk ∷ [])) [
       | inl is ↦
           let here : counting new.course ≡ counted status.NoMemory before (disk ∷ []) [] = ap (λ (h : Stop). counted (status_of (Err h) 0) before (disk ∷ []) new.course) is ∙ ap (counted status.NoMemory before (disk ∷ [])) empty in
           subst Stopped (sym here) (wanting (list_in disk.seen) refl is empty (record {
-            sound = subst (λ (c : List CourseItem). IsSoundAtEntry name only_shape c before (disk ∷ [])) here may.sound;
-            one = subst (λ (c : List CourseItem). OneListAtEntry c before (disk ∷ [])) here may.one;
+            sound = subst (λ (c : List CourseItem). IsSoundAtEntry (only_set name limits) c (disk ∷ [])) here may.sound;
+            one = subst (λ (c : List CourseItem). OneListAtEntry 1 c (disk ∷ [])) here may.one;
             none = may.none;
           }))
       | inr other ↦ subst Stopped (sym (ap counting empty ∙ other)) (untaken (prints may.none.put))
     ]
     | inr taken ↦
-        let lasting = lasts (commands script) limits taken.entries taken.listed (taken_may name ending before disk new.course taken.rest taken.entries taken.listed taken.begins got may) taken in (
-          taken_stops name ending before disk new.course taken.rest taken.entries taken.listed taken.begins (commands script) limits now disk' new.journal.entries got got' lasting,
-          taken_good name ending before disk new.course taken.rest taken.entries taken.listed taken.begins (commands script) limits now disk' new.journal.entries got got' lasting,
+        let lasting = lasts (commands script) limits taken.entries taken.listed (taken_may name limits ending before disk new.course taken.rest taken.entries taken.listed taken.rootless taken.begins got may) taken in (
+          taken_stops name limits ending before disk new.course taken.rest taken.entries taken.listed taken.rootless taken.begins (commands script) now disk' new.journal.entries got got' lasting,
+          taken_good name limits ending before disk new.course taken.rest taken.entries taken.listed taken.rootless taken.begins (commands script) now disk' new.journal.entries got got' lasting,
         )
   ]
 
-  answered : Fulfils (commands script) name limits (start_of name ending before (disk ∷ []) new.course) ending 0 new.journal.entries new.refused got got'
-  answered = fulfils_not script name limits (start_of name ending before (disk ∷ []) new.course) old new before now got got' told none zeroth limit halt halted
+  answered : Fulfils (commands script) name limits (start_of (only_set name limits) ending before (disk ∷ []) new.course) ending 0 new.journal.entries new.refused got got'
+  answered = fulfils_not script name limits (start_of (only_set name limits) ending before (disk ∷ []) new.course) old new before now got got' told none zeroth limit halt halted
 
   pub promises_not : Promises (commands script) name limits ending 0 new.journal.entries new.refused new.course before now (disk ∷ []) (disk' ∷ []) (faults ∷ []) (faults' ∷ []) got got'
   promises_not = record {
@@ -197,10 +197,10 @@ module _ (script : List ℕ) (name : List ℕ → Address) (limits : Limits) (ol
       | inl empty ↦ inl empty
       | inr taken ↦ inr (record { entries = taken.entries; listed = taken.listed; rest = taken.rest; begins = taken.begins; items = All-weaker (IsItem (λ line. None) 0) (IsItem (commands script) 0) (λ i h. item_of i h) taken.rest taken.lost })
     ];
-    aside = λ empty. aside_not script name limits (start_of name ending before (disk ∷ []) new.course) old new before now got got' told none zeroth limit halt halted;
+    aside = λ empty. aside_not script name limits (start_of (only_set name limits) ending before (disk ∷ []) new.course) old new before now got got' told none zeroth limit halt halted;
     noted = noted;
-    lost = note_not script name limits (start_of name ending before (disk ∷ []) new.course) old new before now got got' told none zeroth limit halt halted;
-    shape = shape_not script name limits (start_of name ending before (disk ∷ []) new.course) old new before now got got' told none zeroth limit halt disk.seen halted shape;
+    lost = note_not script name limits (start_of (only_set name limits) ending before (disk ∷ []) new.course) old new before now got got' told none zeroth limit halt halted;
+    shape = shape_not script name limits (start_of (only_set name limits) ending before (disk ∷ []) new.course) old new before now got got' told none zeroth limit halt disk.seen halted shape;
     other_shape = λ header is. found_not halt header faults faults' (found header is);
     unwritten = unwritten_not halt before now disk disk' unwritten;
   }
@@ -247,20 +247,20 @@ module _ (script : List ℕ) (name : List ℕ → Address) (limits : Limits) (be
   same_store : store_at name store list' ≡ store_of (catalogue_in name opens.list ∷ [])
   same_store = view_store name before mid course store disk disk' got opens
 
-  lasting : MayStop name (status_of r line) course' before (disk ∷ []) got → Lasts (commands script) name limits (store_of (catalogue_in name opens.list ∷ [])) before now disk'' course' journal got got''
+  lasting : MayStop (only_set name limits) (status_of r line) course' before (disk ∷ []) got → Lasts (commands script) name limits (store_of (catalogue_in name opens.list ∷ [])) before now disk'' course' journal got got''
   lasting may =
-      let going = opens.going (commands script) limits (taken_may name (status_of r line) before disk course' (item.Took 0 (length opens.list + 1) mid ∷ grows.noted) opens.list opens.listed begins got may) in
+      let going = opens.going (commands script) limits (taken_may name limits (status_of r line) before disk course' (item.Took 0 (length opens.list + 1) mid ∷ grows.noted) opens.list opens.listed opens.rootless begins got may) in
       rw same_store at (lasts list' opens.serves (rw (same_store, same) going))
 
-  answered' : Fulfils (commands script) name limits (start_of name (status_of r line) before (disk ∷ []) course') (status_of r line) line journal refused got got''
-  answered' = rw (sym (opened_start name before mid course store disk disk' got opens course' grows.noted grows.added (status_of r line))) (rw same at (fulfils list' opens.serves))
+  answered' : Fulfils (commands script) name limits (start_of (only_set name limits) (status_of r line) before (disk ∷ []) course') (status_of r line) line journal refused got got''
+  answered' = rw (sym (opened_start name before mid course store disk disk' got opens course' grows.noted grows.added limits (status_of r line))) (rw same at (fulfils list' opens.serves))
 
   pub promises_on : Promises (commands script) name limits (status_of r line) line journal refused course' before now (disk ∷ []) (disk'' ∷ []) (faults ∷ []) (faults'' ∷ []) got got''
   promises_on = record {
     fulfils = answered';
     keeps = keeps_by (commands script) name limits (status_of r line) line journal refused course' before disk got got'' answered';
-    stops = λ may. taken_stops name (status_of r line) before disk course' (item.Took 0 (length opens.list + 1) mid ∷ grows.noted) opens.list opens.listed begins (commands script) limits now disk'' journal got got'' (lasting may);
-    good = λ may. taken_good name (status_of r line) before disk course' (item.Took 0 (length opens.list + 1) mid ∷ grows.noted) opens.list opens.listed begins (commands script) limits now disk'' journal got got'' (lasting may);
+    stops = λ may. taken_stops name limits (status_of r line) before disk course' (item.Took 0 (length opens.list + 1) mid ∷ grows.noted) opens.list opens.listed opens.rootless begins (commands script) now disk'' journal got got'' (lasting may);
+    good = λ may. taken_good name limits (status_of r line) before disk course' (item.Took 0 (length opens.list + 1) mid ∷ grows.noted) opens.list opens.listed opens.rootless begins (commands script) now disk'' journal got got'' (lasting may);
     follows = opened_follows name before mid course store disk disk' got opens course' grows.noted grows.added (commands script) line grows.items;
     aside = opened_aside name before mid course store disk disk' got opens course' grows.noted grows.added (status_of r line) (journal ++ refused);
     noted = λ is. inl (risen_before faults faults' faults'' later (noted list' opens.serves is));

@@ -21,9 +21,10 @@ use Rattle.hs_script.specs.Reading.{command_in, commands, reading}
 use Rattle.hs_script.specs.Text.{entry_text, text}
 use Rattle.hs_side.specs.Current.{list_in}
 use Rattle.hs_fold.specs.Catalogue.{empty_catalogue}
-use Rattle.hs_fold.specs.Good.{is_taken}
 use Rattle.hs_fold.specs.Opened.{store_of}
 use Rattle.hs_fold.specs.Served.{only_shard, store_with}
+use Rattle.hs_fold.specs.Shards.Course.{begins as is_begun_by}
+use Rattle.hs_fold.specs.Shards.Unrooted.{PutsNoRoot}
 use Rattle.hs_fold.proofs.ServedLemmas.{append-apply}
 use Rattle.hs_single.specs.Serving.{Serving, catalogue_in, store_at}
 use Rattle.hs_top.specs.declared.run.Run.{Run}
@@ -35,7 +36,7 @@ use Rattle.hs_top.specs.declared.transcript.Transcript.{Transcript}
 use Rattle.hs_top.specs.Asking.{BeginsNot, LineHalts, LineEnds}
 use Rattle.hs_top.specs.Course.{IsItem}
 use Rattle.hs_top.specs.Ending.{Fulfils, IsScriptStop, status_of}
-use Rattle.hs_top.specs.Entry.{counted, entry_store, only_shape, start_of}
+use Rattle.hs_top.specs.Entry.{counted, entry_store, only_set, start_of}
 use Rattle.hs_top.specs.Headline.{Ends, HasEnded, IsBad}
 use Rattle.hs_top.specs.Lasting.{Lasts}
 use Rattle.hs_top.specs.Lines.{Halts}
@@ -44,7 +45,7 @@ use Rattle.hs_top.specs.Opens.{IsShapeStop, MayBegin, Opens, OpensNot, viewed}
 use Rattle.hs_top.specs.Promise.{IsCourse, IsGoodUntold, IsLostEnd, IsSetAside, IsShapeEnd, MayStop}
 use Rattle.hs_top.specs.Stops.{Stops}
 use Rattle.hs_top.proofs.EndingLemmas.{answers_by}
-use Rattle.hs_top.proofs.EntryLemmas.{entry_taken, may_taken, taken_is}
+use Rattle.hs_top.proofs.EntryLemmas.{entry_taken, may_taken}
 use Rattle.hs_top.proofs.FrontLemmas.{front_more, text_more, whole_front}
 use Rattle.hs_top.proofs.LateLemmas.{followed_none}
 use Rattle.hs_top.proofs.NoteLemmas.{answers_lost, legal_note, note_more}
@@ -103,21 +104,21 @@ counted_is ending moment disks course i items e = subst (λ (c : List CourseItem
 
 -- ---- a log that was taken
 
-module _ (name : List ℕ → Address) (ending : Status) (before : ℕ) (disk : Standing) (course rest : List CourseItem) (list : List (ℕ × Entry)) (listed : list_in disk.seen ≡ Some list) (begins : course ≡ item.Good 0 before ∷ item.Took 0 (length list) before ∷ rest) where
+module _ (name : List ℕ → Address) (limits : Limits) (ending : Status) (before : ℕ) (disk : Standing) (course rest : List CourseItem) (list : List (ℕ × Entry)) (listed : list_in disk.seen ≡ Some list) (rootless : PutsNoRoot list) (begins : course ≡ item.Good 0 before ∷ item.Took 0 (length list) before ∷ rest) where
   pub counts : counted ending before (disk ∷ []) course ≡ course
   counts = counted_is ending before (disk ∷ []) course (item.Good 0 before) (item.Took 0 (length list) before ∷ rest) begins
 
-  pub counts_taken : is_taken course before 0 ≡ true
-  counts_taken = subst (λ (c : List CourseItem). is_taken c before 0 ≡ true) (sym begins) (taken_is before (item.Took 0 (length list) before ∷ rest))
+  pub counts_taken : is_begun_by 1 course 0 ≡ true
+  counts_taken = subst (λ (c : List CourseItem). is_begun_by 1 c 0 ≡ true) (sym begins) refl
 
-  pub taken_start : start_of name ending before (disk ∷ []) course ≡ store_of (catalogue_in name list ∷ [])
-  taken_start = ap (λ (c : List CourseItem). entry_store name only_shape c before (disk ∷ [])) counts ∙ entry_taken name course before disk list counts_taken listed
+  pub taken_start : start_of (only_set name limits) ending before (disk ∷ []) course ≡ store_of (catalogue_in name list ∷ [])
+  taken_start = ap (λ (c : List CourseItem). entry_store (only_set name limits) c (disk ∷ [])) counts ∙ entry_taken name limits course disk list counts_taken listed rootless
 
-  pub taken_may : (got : Option (List (ℕ × ℕ))) → MayStop name ending course before (disk ∷ []) got → MayBegin name before disk got list
-  taken_may got may = may_taken name (counted ending before (disk ∷ []) course) before disk got list (ap (λ (c : List CourseItem). is_taken c before 0) counts ∙ counts_taken) listed may.sound may.one may.none
+  pub taken_may : (got : Option (List (ℕ × ℕ))) → MayStop (only_set name limits) ending course before (disk ∷ []) got → MayBegin name before disk got list
+  taken_may got may = may_taken name limits (counted ending before (disk ∷ []) course) disk list (ap (λ (c : List CourseItem). is_begun_by 1 c 0) counts ∙ counts_taken) listed before got rootless may.sound may.one may.none
 
-  module _ (commands : ℕ → Option Command) (limits : Limits) (now : ℕ) (disk' : Standing) (journal : List JournalEntry) (got got' : Option (List (ℕ × ℕ))) (lasts : Lasts commands name limits (store_of (catalogue_in name list ∷ [])) before now disk' course journal got got') where
-    pub taken_stops : Stops commands name limits only_shape (start_of name ending before (disk ∷ []) course) before now (disk' ∷ []) (counted ending before (disk ∷ []) course) journal got got'
+  module _ (commands : ℕ → Option Command) (now : ℕ) (disk' : Standing) (journal : List JournalEntry) (got got' : Option (List (ℕ × ℕ))) (lasts : Lasts commands name limits (store_of (catalogue_in name list ∷ [])) before now disk' course journal got got') where
+    pub taken_stops : Stops commands (only_set name limits) (start_of (only_set name limits) ending before (disk ∷ []) course) before now (disk' ∷ []) (counted ending before (disk ∷ []) course) journal got got'
     taken_stops = rw (taken_start, counts) (stops_by commands name limits (store_of (catalogue_in name list ∷ [])) before now disk' course journal got got' lasts)
 
     pub taken_good : IsGoodUntold (counted ending before (disk ∷ []) course) journal before now
@@ -138,8 +139,8 @@ module _ (name : List ℕ → Address) (before mid : ℕ) (course : List CourseI
     pub opened_begins : course' ≡ item.Good 0 before ∷ item.Took 0 (length opens.list) before ∷ item.Took 0 (length opens.list + 1) mid ∷ noted
     opened_begins = grown ∙ ap (λ (items : List CourseItem). items ++ noted) opens.taken
 
-    pub opened_start : (ending : Status) → store_at name store list' ≡ start_of name ending before (disk ∷ []) course'
-    opened_start ending = view_store ∙ sym (taken_start name ending before disk course' (item.Took 0 (length opens.list + 1) mid ∷ noted) opens.list opens.listed opened_begins)
+    pub opened_start : (limits : Limits) (ending : Status) → store_at name store list' ≡ start_of (only_set name limits) ending before (disk ∷ []) course'
+    opened_start limits ending = view_store ∙ sym (taken_start name limits ending before disk course' (item.Took 0 (length opens.list + 1) mid ∷ noted) opens.list opens.listed opens.rootless opened_begins)
 
     pub opened_follows : (asks : ℕ → Option Command) (line : ℕ) → All (IsItem asks line) noted → IsCourse asks line before (list_in disk.seen) course'
     opened_follows asks line items = inr (record {

@@ -19,6 +19,7 @@ use Rattle.hs_fold.specs.Images.{IsLeft}
 use Rattle.hs_fold.specs.Lawful.{AreSound}
 use Rattle.hs_fold.specs.Opened.{store_of}
 use Rattle.hs_fold.specs.Prefix.{IsNumbered}
+use Rattle.hs_fold.specs.Shards.Unrooted.{PutsNoRoot}
 use Rattle.hs_script.specs.Text.{text}
 use Rattle.hs_single.specs.Images.{IsAlone, LeavesList}
 use Rattle.hs_single.specs.Serving.{catalogue_in}
@@ -33,6 +34,7 @@ pub record Gives (commands : ℕ → Option Command) (name : List ℕ → Addres
   pub split : list ≡ done ++ back
   pub few : length back ≤ 1
   pub numbered : IsNumbered list
+  pub rootless : PutsNoRoot list
   pub sound : AreSound name (list ∷ []) (catalogue_in name list ∷ [])
   pub taken : taken_below course moment 0 ≡ length done
   pub legal : IsLegal limits start (events_of commands name limits start (below moment journal))
@@ -64,6 +66,7 @@ pub record Going (commands : ℕ → Option Command) (name : List ℕ → Addres
   pub last : disk.last ≤ now
   pub valid : IsValid start
   pub sound : AreSound name (list ∷ []) (catalogue_in name list ∷ [])
+  pub rootless : PutsNoRoot list
   pub good : (m : ℕ) → now < m → is_good course m 0 ≡ true
   pub taken : (m : ℕ) → now < m → taken_below course m 0 ≡ length list
   pub alone : IsAlone side disk

@@ -13,6 +13,7 @@ use Rattle.hs_ports.specs.Fault.{HasRisen}
 use Rattle.hs_side.specs.Current.{list_in}
 use Rattle.hs_fold.specs.Lawful.{AreSound}
 use Rattle.hs_fold.specs.Opened.{store_of}
+use Rattle.hs_fold.specs.Shards.Unrooted.{PutsNoRoot}
 use Rattle.hs_single.specs.declared.fault.SingleFault.TheVariants as single
 use Rattle.hs_single.specs.Opening.{refusal_in, LeavesAll}
 use Rattle.hs_single.specs.Serving.{Serving, IsServing, catalogue_in}
@@ -30,10 +31,11 @@ use Rattle.hs_top.specs.Stops.{got_by}
 abbrev pub viewed : List (ℕ × Entry) → ℕ → List (ℕ × Entry)
 viewed list view = list ++ (length list + 1, kind.View view) ∷ []
 
--- what clause 3 asks of a disk and a sink at entry: one list, which is sound, in each image; and no call ahead
+-- what clause 3 asks of a disk and a sink at entry: one list, which is sound and puts no root, in each image; and no call ahead
 pub record MayBegin (name : List ℕ → Address) (before : ℕ) (disk : Standing) (got : Option (List (ℕ × ℕ))) (list : List (ℕ × Entry)) : Type 0 where
   pub one : (image : Side → List ℕ) → ((side : Side) → IsImage (disk.loose side) (image side)) → list_in image ≡ Some list
   pub sound : AreSound name (list ∷ []) (catalogue_in name list ∷ [])
+  pub rootless : PutsNoRoot list
   pub last : disk.last ≤ before
   pub put : (m : ℕ) → before ≤ m → got_by m got ≡ got
 
@@ -46,6 +48,7 @@ pub record Opens (name : List ℕ → Address) (before now : ℕ) (course : List
   pub list : List (ℕ × Entry)
   pub view : ℕ
   pub listed : list_in disk.seen ≡ Some list
+  pub rootless : PutsNoRoot list
   pub serves : IsServing name store (disk'.seen store.log.side) (viewed list view)
   pub sessions : store.plain.sessions ≡ []
   pub taken : course ≡ opened_course (length list) before now
@@ -65,6 +68,7 @@ OpensNot other old new before now got got' = ⊥
 pub record TakenCourse (before : ℕ) (list : Option (List (ℕ × Entry))) (course : List CourseItem) : Type 0 where
   pub entries : List (ℕ × Entry)
   pub listed : list ≡ Some entries
+  pub rootless : PutsNoRoot entries
   pub rest : List CourseItem
   pub begins : course ≡ item.Good 0 before ∷ item.Took 0 (length entries) before ∷ rest
   pub lost : All (λ i. IsItem (λ line. None) 0 i) rest

@@ -1,5 +1,5 @@
 //! Opening the store of a run.
-ghost use Rattle.std.specs.Prelude.{◌≡◌, ◌≤◌, ◌∷◌, ◌++◌, [], true, ℕ, List, Option, Some, Err, IfErr, IfOk, OnErr, OnOk, length};
+ghost use Rattle.std.specs.Prelude.{◌≡◌, ◌≤◌, ◌∷◌, ◌++◌, [], true, ℕ, List, Option, Some, Err, IfErr, IfOk, OnErr, OnOk};
 ghost use Rattle.hs_entry.specs.declared.entry.Entry.{Entry};
 ghost use Rattle.hs_fold.specs.Opened.{store_of};
 ghost use Rattle.hs_limits.specs.declared.limits.Limits.{Limits};
@@ -8,7 +8,7 @@ ghost use Rattle.hs_model.specs.declared.course.CourseItem.TheVariants as item;
 ghost use Rattle.hs_ports.specs.Sink.{bytes_of};
 ghost use Rattle.hs_side.specs.Current.{list_in};
 ghost use Rattle.hs_side.specs.declared.header.Header.{Header};
-ghost use Rattle.hs_single.specs.Opening.{refusal_in};
+ghost use Rattle.hs_single.specs.Opening.{refusal_in, LeavesAll};
 ghost use Rattle.hs_single.specs.Serving.{IsReady, catalogue_in};
 ghost use Rattle.hs_single.specs.declared.fault.SingleFault.TheVariants as single;
 ghost use Rattle.hs_top.specs.Faults.{IsCalmStop, SinkCause};
@@ -82,16 +82,9 @@ pub(crate) fn open_store<A: Addresser, K: Sink, D: Disk>(
     ensures prints { ((m : ℕ) → watch.old ≤ m → got_by m (K.got sink.old) ≡ K.got sink.old)
         → OnErr result (Prints watch.old watch.new told.new.journal.entries (K.got sink.old)
         (K.got sink.new)) }
-    ensures memory { D.tells → (commands : ℕ → Option Command) (limits : Limits)
-        (list : List (ℕ × Entry))
-        → list_in (D.stands disk.old).seen ≡ Some list
-        → MayBegin (A.name naming.now) watch.old (D.stands disk.old) (K.got sink.old) list
+    ensures memory { D.tells → (D.stands disk.old).last ≤ watch.old
         → result ≡ Err Stop.NoMemory → told.new.course ≡ []
-        → Lasts commands (A.name naming.now) limits
-        (store_of (catalogue_in (A.name naming.now) list ∷ [])) watch.old watch.new
-        (D.stands disk.new)
-        (item.Good 0 watch.old ∷ item.Took 0 (length list) watch.old ∷ [])
-        told.new.journal.entries (K.got sink.old) (K.got sink.new) }
+        → LeavesAll watch.old watch.new (D.stands disk.old) (D.stands disk.new) }
     ensures lasts { D.tells → (commands : ℕ → Option Command) (limits : Limits)
         (list : List (ℕ × Entry))
         → list_in (D.stands disk.old).seen ≡ Some list

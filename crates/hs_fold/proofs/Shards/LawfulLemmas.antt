@@ -29,22 +29,22 @@ each-append : {X : Type 0} (P : X → Type 0) (xs ys : List X) → AllByRecursio
 each-append P [] ys h k = k
 each-append P (x ∷ xs) ys h k = (h.0, each-append P xs ys h.1 k)
 
-each-from : {X : Type 0} (P Q : X → Type 0) (xs : List X) → ((x : X) → P x → Q x) → AllByRecursion P xs → AllByRecursion Q xs
+pub each-from : {X : Type 0} (P Q : X → Type 0) (xs : List X) → ((x : X) → P x → Q x) → AllByRecursion P xs → AllByRecursion Q xs
 each-from P Q [] f h = tt
 each-from P Q (x ∷ xs) f h = (f x h.0, each-from P Q xs f h.1)
 
-abbrev PairsBy : {X : Type 0} → (X → X → Type 0) → List X → Type 0
+abbrev pub PairsBy : {X : Type 0} → (X → X → Type 0) → List X → Type 0
 PairsBy R [] = Unit {0}
 PairsBy R (x ∷ xs) = AllByRecursion (R x) xs × PairsBy R xs
 
-pairs-from : {X : Type 0} (R : X → X → Type 0) (xs : List X) → AllPairs R xs → PairsBy R xs
+pub pairs-from : {X : Type 0} (R : X → X → Type 0) (xs : List X) → AllPairs R xs → PairsBy R xs
 pairs-from R [] f = tt
 pairs-from R (x ∷ xs) f = (
   recursion_from_All (R x) xs (All-from_get_or (R x) xs x (λ j l. f 0 (suc j) x (omega arith) (grind (arith, common_steps, l)))),
   pairs-from R xs (λ i j d l m. f (suc i) (suc j) d (omega (arith, l)) (grind (arith, common_steps, m))),
 )
 
-pairs-to : {X : Type 0} (R : X → X → Type 0) (xs : List X) → PairsBy R xs → AllPairs R xs
+pub pairs-to : {X : Type 0} (R : X → X → Type 0) (xs : List X) → PairsBy R xs → AllPairs R xs
 pairs-to R [] h i j d l m = absurd (omega (arith, m))
 pairs-to R (x ∷ xs) h i zero d l m = absurd (omega (arith, l))
 pairs-to R (x ∷ xs) h zero (suc j) d l m = All-get_or (R x) xs j d (grind (arith, common_steps, m)) (All-from_recursion (R x) xs h.0)

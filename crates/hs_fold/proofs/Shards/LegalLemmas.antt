@@ -24,7 +24,7 @@ abbrev pub MayBeChange : Option Happening → Type 0
 MayBeChange None = Unit {0}
 MayBeChange (Some one) = IsChange one
 
-abbrev AllChanges : List Happening → Type 0
+abbrev pub AllChanges : List Happening → Type 0
 AllChanges [] = Unit {0}
 AllChanges (one ∷ rest) = IsChange one × AllChanges rest
 
@@ -65,7 +65,7 @@ append-changes : (xs ys : List Happening) → AllChanges xs → AllChanges ys �
 append-changes [] ys h k = k
 append-changes (x ∷ xs) ys h k = (h.0, append-changes xs ys h.1 k)
 
-behind-changes : (set : Setting) (g : ℕ) (lists : List Parted) → AllChanges (behind_happenings set g lists)
+pub behind-changes : (set : Setting) (g : ℕ) (lists : List Parted) → AllChanges (behind_happenings set g lists)
 behind-changes set g [] = tt
 behind-changes set g (x ∷ lists) = append-changes (happenings (happens (shard_in set g) (catalogue_of (shard_in set g) x.done) x.back)) (behind_happenings set (g + 1) lists)
     (list-changes (shard_in set g) (catalogue_of (shard_in set g) x.done) x.back) (behind-changes set (g + 1) lists)

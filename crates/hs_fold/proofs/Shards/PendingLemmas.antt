@@ -20,7 +20,7 @@ happenings-append (x ∷ xs) ys = go (happenings-append xs ys) x.1
     go ih None = ih
     go ih (Some one) = ap (λ rest. one ∷ rest) ih
 
-one-pending : (at : Shard) (front : ℕ) (x : Parted) → IsNumbered (x.done ++ x.back) → front ≡ length x.done → pending_of at front (x.done ++ x.back) ≡ happens at (catalogue_of at x.done) x.back
+pub one-pending : (at : Shard) (front : ℕ) (x : Parted) → IsNumbered (x.done ++ x.back) → front ≡ length x.done → pending_of at front (x.done ++ x.back) ≡ happens at (catalogue_of at x.done) x.back
 one-pending at front x numbered same =
     ap (λ n. pending_of at n (x.done ++ x.back)) same
     ∙ ap (λ es. happens at (catalogue_of at es) (behind (length x.done) (x.done ++ x.back))) (numbered-up_to x.done x.back numbered)

@@ -18,7 +18,7 @@ use Rattle.hs_fold.proofs.Shards.UnrootedLemmas.{blocks-fit}
 
 -- ---- room
 
-rooms : (set : Setting) (g : ℕ) (lists : List Numbered) → All (λ (c : Catalogue). length c.roots ≤ most_records) (catalogues set g lists) → All HasRoom (catalogues set g lists)
+pub rooms : (set : Setting) (g : ℕ) (lists : List Numbered) → All (λ (c : Catalogue). length c.roots ≤ most_records) (catalogues set g lists) → All HasRoom (catalogues set g lists)
 rooms set g [] f = All-nil HasRoom
 rooms set g (list ∷ lists) f =
     let rest = All-tail (λ (c : Catalogue). length c.roots ≤ most_records) (catalogue_of (shard_in set g) list) (catalogues set (g + 1) lists) f in

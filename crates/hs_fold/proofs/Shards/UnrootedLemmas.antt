@@ -62,7 +62,7 @@ module _ (at : Shard) (c : Catalogue) where
       go true = refl
       go false = refl
 
-  unrooted-apply : (number : ℕ) (entry : Entry) → unrooted (apply at c (number, entry)) ≡ apply_unrooted at (unrooted c) (number, entry)
+  pub unrooted-apply : (number : ℕ) (entry : Entry) → unrooted (apply at c (number, entry)) ≡ apply_unrooted at (unrooted c) (number, entry)
   unrooted-apply number (kind.View view) = refl
   unrooted-apply number (kind.Block op least bytes) = unrooted-block number least (at.name bytes) (read_block bytes)
   unrooted-apply number (kind.Mark op least block a) = unrooted-mark least block a
@@ -100,7 +100,7 @@ same-swept : (cs : List Catalogue) → map (λ (d : Unrooted). d.swept) (map unr
 same-swept [] = refl
 same-swept (c ∷ cs) = ap (λ rest. c.swept ∷ rest) (same-swept cs)
 
-unrooted-store : (cs : List Catalogue) → with_roots (store_of cs) [] ≡ store_unrooted_of (map unrooted cs)
+pub unrooted-store : (cs : List Catalogue) → with_roots (store_of cs) [] ≡ store_unrooted_of (map unrooted cs)
 unrooted-store cs =
     let present = unrooted-present cs in
     let epochs = same-epochs cs in
@@ -114,7 +114,7 @@ unrooted-store cs =
       sessions = [];
     }
 
-unrooted-catalogues : (set : Setting) (g : ℕ) (lists : List Numbered) → map unrooted (catalogues set g lists) ≡ all_unrooted set.name set.shape.shards g lists
+pub unrooted-catalogues : (set : Setting) (g : ℕ) (lists : List Numbered) → map unrooted (catalogues set g lists) ≡ all_unrooted set.name set.shape.shards g lists
 unrooted-catalogues set g [] = refl
 unrooted-catalogues set g (list ∷ lists) =
     let first = unrooted-list (shard_in set g) list in
@@ -152,7 +152,7 @@ module _ (at : Shard) (c : Catalogue) (none : c.roots ≡ []) where
       go true = none
       go false = none
 
-  none-apply : (number : ℕ) (entry : Entry) → puts_root entry ≡ false → (apply at c (number, entry)).roots ≡ []
+  pub none-apply : (number : ℕ) (entry : Entry) → puts_root entry ≡ false → (apply at c (number, entry)).roots ≡ []
   none-apply number (kind.View view) f = none
   none-apply number (kind.Block op least bytes) f = block-none number least (at.name bytes) (read_block bytes)
   none-apply number (kind.Mark op least block a) f = mark-none least block a
@@ -165,7 +165,7 @@ module _ (at : Shard) (c : Catalogue) (none : c.roots ≡ []) where
   none-apply number (kind.KeptRoot created dropped counted address key) f = none
   none-apply number (kind.KeptRound way other epoch round total deltas) f = none
 
-none-all : (at : Shard) (c : Catalogue) (es : Numbered) → c.roots ≡ [] → PutsNoRoot es → (apply_all at c es).roots ≡ []
+pub none-all : (at : Shard) (c : Catalogue) (es : Numbered) → c.roots ≡ [] → PutsNoRoot es → (apply_all at c es).roots ≡ []
 none-all at c [] none f = none
 none-all at c (e ∷ es) none f = none-all at (apply at c e) es (none-apply at c none e.0 e.1 (All-head (λ x. puts_root x.1 ≡ false) e es f)) (All-tail (λ x. puts_root x.1 ≡ false) e es f)
 

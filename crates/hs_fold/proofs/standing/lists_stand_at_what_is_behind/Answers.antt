@@ -1,6 +1,7 @@
 use Rattle.std.proofs.Common.{◌≡◌, ℕ, ◌+◌, ◌<◌, ap, ◌∙◌, arith}
 use Rattle.std.proofs.lemmas.List.Elements.{recursion_from_All}
 use Rattle.hs_fold.proofs.Shards.DeedLemmas.{whole-stands}
+use Rattle.hs_fold.proofs.Shards.LeftLemmas.{behind-left}
 use Rattle.hs_fold.proofs.Shards.LegalLemmas.{behind-legal}
 use Rattle.hs_fold.proofs.Shards.ListLemmas.{behind-all}
 use Rattle.hs_fold.proofs.Shards.PendingLemmas.{all-pending}
@@ -20,3 +21,6 @@ returns-clause-pending c = λ set lists front f. all-pending set front 0 lists (
 
 pub returns-clause-legal : goal.returns-clause-legal
 returns-clause-legal c = λ set lists s. behind-legal s set lists
+
+pub returns-clause-left : goal.returns-clause-left
+returns-clause-left c = λ set lists s. behind-left s set lists

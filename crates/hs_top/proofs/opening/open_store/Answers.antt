@@ -1,19 +1,22 @@
-use Rattle.std.proofs.Common.{◌≡◌, inl, inr, Some, None, Err, refl, sym, ap, subst, ◌∙◌, arith, ◌+◌, ◌++◌}
+use Rattle.std.proofs.Common.{◌≡◌, inl, inr, Some, None, Err, refl, sym, ap, subst, ◌∙◌, arith, ◌+◌, ◌++◌, []}
+use Rattle.std.proofs.lemmas.List.Elements.{All-nil}
 use Rattle.hs_single.specs.declared.fault.SingleFault.{SingleFault}
 use Rattle.hs_single.specs.Serving.{IsServing}
 use Rattle.hs_top.specs.Opens.{viewed}
 use Rattle.hs_top.proofs.AnswerLemmas.{outside_disk}
-use Rattle.hs_top.proofs.BeginningLemmas.{began_with, begun_goes, begun_lasts, begun_lost, course_is, halted_by, lasts_lost, loss_cause, opened_is, places-count, shape_by, sink_by, taken_by, unwritten_by}
+use Rattle.hs_top.proofs.BeginningLemmas.{began_with, begun_goes, begun_lasts, begun_lost, course_is, halted_by, loss_cause, opened_is, places-count, shape_by, sink_by, taken_by, unwritten_by}
 use Rattle.hs_top.proofs.CalmLemmas.{calm_lost}
 use Rattle.hs_top.proofs.CaseLemmas.{an_err}
 use Rattle.hs_top.proofs.GrowsLemmas.{risen_before}
-use Rattle.hs_top.proofs.OpeningLemmas.{listed-numbered, prints_lost, taken_lasts}
+use Rattle.hs_top.proofs.OpeningLemmas.{prints_lost}
+use Rattle.hs_top.proofs.RootlessLemmas.{accepted_rootless}
+use Rattle.hs_top.proofs.StayedLemmas.{leaves_later}
 use Rattle.hs_top.proofs.opening.open_store.Goals as goal
 
 -- ---- it was not opened
 
 pub returns-in-NoMemory-clause-memory : goal.returns-in-NoMemory-clause-memory
-returns-in-NoMemory-clause-memory g c = λ told commands limits list is may e none. rw c.requires.journal (taken_lasts commands _ limits _ _ _ list may (listed-numbered (g.D.Disk.stands c.args.disk.now).seen list is) c.open.new.watch _ (c.open.ensures.any_moment told may.last))
+returns-in-NoMemory-clause-memory g c = λ told low e none. c.open.ensures.any_moment told low
 
 pub returns-in_default-clause-noted : goal.returns-in_default-clause-noted
 returns-in_default-clause-noted g c = λ told is. loss_cause c.in-Err.fault _ _ _ (c.in-Err.ensures.refused told) (λ disk. c.in-Err.ensures.cause.failed (ap Err disk)) c.in_default.not-NoMemory c.in_default.not-WrongShape
@@ -25,13 +28,18 @@ pub returns-in_default-clause-calm_halt : goal.returns-in_default-clause-calm_ha
 returns-in_default-clause-calm_halt g c = calm_lost c.lose.result _ _ _ _ _ _ _ c.lose.ensures.lost
 
 pub returns-in_default-clause-memory : goal.returns-in_default-clause-memory
-returns-in_default-clause-memory g c = λ told commands limits list is may e none. lasts_lost commands _ limits _ _ c.open.new.watch _ _ _ _ _ _ _ _ _ c.lose.result c.requires.journal refl c.lose.ensures.adds c.lose.ensures.lost (cc e)
-    (taken_lasts commands _ limits _ _ _ list may (listed-numbered (g.D.Disk.stands c.args.disk.now).seen list is) c.open.new.watch _ (c.open.ensures.any_moment told may.last))
+returns-in_default-clause-memory g c = λ told low e none. leaves_later _ c.open.new.watch _ _ _ (c.open.ensures.any_moment told low) c.lose.ensures.adds.put.later
 
 pub returns-in_err-told-clause-memory : goal.returns-in_err-told-clause-memory
-returns-in_err-told-clause-memory g c = λ told commands limits list is may e none. rw c.requires.journal (taken_lasts commands _ limits _ _ _ list may (listed-numbered (g.D.Disk.stands c.args.disk.now).seen list is) c.open.new.watch _ (c.open.ensures.any_moment told may.last))
+returns-in_err-told-clause-memory g c = λ told low e none. c.open.ensures.any_moment told low
 
 -- ---- its view was not begun
+
+pub returns-in-NoMemory-fault-clause-course : goal.returns-in-NoMemory-fault-clause-course
+returns-in-NoMemory-fault-clause-course g c = λ told.
+    let opened = c.in-Ok.ensures.value told in
+    let begun = course_is (g.A.Addresser.name c.args.naming.now) c.args.watch.now (g.D.Disk.stands c.args.disk.now) opened.entries opened.listed c.in-Ok.loaded opened _ _ _ c.in_ok-told.ensures c.now-moment.ensures.value c.last.ensures in
+    inr (taken_by (g.A.Addresser.name c.args.naming.now) c.args.watch.now (g.D.Disk.stands c.args.disk.now) opened.entries opened.listed c.in-Ok.loaded opened (c.in-Ok.ensures.accepted told) _ [] 0 begun (All-nil _))
 
 pub returns-in-NoMemory-fault-clause-lasts : goal.returns-in-NoMemory-fault-clause-lasts
 returns-in-NoMemory-fault-clause-lasts g c = λ told commands limits list is may t.
@@ -58,9 +66,9 @@ returns-in_default-fault g c = record {
   course = λ told.
       let opened = c.in-Ok.ensures.value told in
       let begun = course_is (g.A.Addresser.name c.args.naming.now) c.args.watch.now (g.D.Disk.stands c.args.disk.now) opened.entries opened.listed c.in-Ok.loaded opened _ _ _ c.in_ok-told.ensures c.now-moment.ensures.value c.last.ensures in
-      inr (taken_by (g.A.Addresser.name c.args.naming.now) c.args.watch.now (g.D.Disk.stands c.args.disk.now) opened.entries opened.listed c.in-Ok.loaded opened _ _ _ (c.lose_good.ensures.notes.course ∙ ap (λ items. items ++ c.lose_good.ensures.notes.noted) begun) c.lose_good.ensures.notes.here);
+      inr (taken_by (g.A.Addresser.name c.args.naming.now) c.args.watch.now (g.D.Disk.stands c.args.disk.now) opened.entries opened.listed c.in-Ok.loaded opened (c.in-Ok.ensures.accepted told) _ _ _ (c.lose_good.ensures.notes.course ∙ ap (λ items. items ++ c.lose_good.ensures.notes.noted) begun) c.lose_good.ensures.notes.here);
   prints = λ put. prints_lost _ c.begin.new.watch _ _ _ _ _ _ _ put refl c.requires.journal (omega (arith, c.open.ensures.ticks, c.begin.ensures.ticks)) c.lose_good.ensures.adds;
-  memory = λ told commands limits list is may e none. absurd (began_with _ _ _ _ _ c.lose_good.ensures.notes.course c.in_ok-told.ensures none);
+  memory = λ told low e none. absurd (began_with _ _ _ _ _ c.lose_good.ensures.notes.course c.in_ok-told.ensures none);
   lasts = λ told commands limits list is may t.
       let opened = c.in-Ok.ensures.value told in
       let leaves = c.open.ensures.any_moment told may.last in
@@ -76,6 +84,12 @@ returns-in_default-fault g c = record {
   where
     none_is : (x : SingleFault) → None ≡ Some x → ⊥
     none_is x e = cc e
+
+pub returns-in_err-note-clause-course : goal.returns-in_err-note-clause-course
+returns-in_err-note-clause-course g c = λ told. an_err c.from_residual-in_err-note.result _ (
+    let opened = c.in-Ok.ensures.value told in
+    let begun = course_is (g.A.Addresser.name c.args.naming.now) c.args.watch.now (g.D.Disk.stands c.args.disk.now) opened.entries opened.listed c.in-Ok.loaded opened _ _ _ c.in_ok-told.ensures c.now-moment.ensures.value c.last.ensures in
+    inr (taken_by (g.A.Addresser.name c.args.naming.now) c.args.watch.now (g.D.Disk.stands c.args.disk.now) opened.entries opened.listed c.in-Ok.loaded opened (c.in-Ok.ensures.accepted told) _ [] 0 (c.in_err-note.ensures.none ∙ begun) (All-nil _)))
 
 pub returns-in_err-note-clause-lasts : goal.returns-in_err-note-clause-lasts
 returns-in_err-note-clause-lasts g c = λ told commands limits list is may. an_err c.from_residual-in_err-note.result _ (λ t.
@@ -99,6 +113,7 @@ returns-clause-opened g c = λ told.
       list = opened.entries;
       view = c.in-Ok.loaded.view + 1;
       listed = opened.listed;
+      rootless = accepted_rootless (g.D.Disk.stands c.args.disk.now).seen opened.entries (c.in-Ok.ensures.accepted told) opened.listed;
       serves = subst (λ side. IsServing (g.A.Addresser.name c.args.naming.now) c.begin.new.self ((g.D.Disk.stands c.begin.new.disk).seen side) (viewed opened.entries (c.in-Ok.loaded.view + 1))) (sym c.in-Ok-begin.ensures.side) serving;
       sessions = ap (λ plain. plain.sessions) c.begin.ensures.plain ∙ c.in-Ok.ensures.sessions;
       taken = course;

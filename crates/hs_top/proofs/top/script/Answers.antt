@@ -15,7 +15,7 @@ returns-in-Err-clause-promises g c = λ told. if_any _ _ (λ text is.
     let zero = e.line ∙ c.new-told.ensures.line in
     promises_as _ _ _ _ _ _ _ _ _ _ _ _ _ _ _ _ _ _ _ _ _ (c.outcome.ensures.status ∙ ap (status_of (Err c.in-Err.stop)) zero) (c.outcome.ensures.line ∙ zero) c.outcome.ensures.journal c.outcome.ensures.refused c.outcome.ensures.course
     (promises_not text _ c.args.limits c.new-told.result c.open_store.new.told _ _ _ _ _ _ _ _ c.new-told.ensures.journal c.new-told.ensures.refused c.new-told.ensures.line c.new-told.ensures.limit
-    c.in-Err.stop e.halted (e.course told) e.prints (λ asks limits list listed may same none. e.memory told asks limits list listed may (ap Err same) none) (e.lasts told) (e.noted told) (e.shape told) (e.only_shape told) (e.unwritten told)))
+    c.in-Err.stop e.halted (e.course told) e.prints (λ low same none. e.memory told low (ap Err same) none) (e.lasts told) (e.noted told) (e.shape told) (e.only_shape told) (e.unwritten told)))
 
 pub returns-in-Err-clause-ends : goal.returns-in-Err-clause-ends
 returns-in-Err-clause-ends g c = if_any _ _ (λ text is.
