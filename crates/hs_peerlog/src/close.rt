@@ -41,8 +41,8 @@ pub(crate) fn close<D: Disk>(
     if !begun {
         return Ok(());
     }
-    let done = write_gate(disk, watch, side)?;
-    Ok(done)
+    write_gate(disk, watch, side)?;
+    Ok(())
 }
 
 /// Whether a side is not blank.

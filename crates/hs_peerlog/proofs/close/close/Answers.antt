@@ -4,8 +4,8 @@ use Rattle.hs_side.specs.Reading.{is_blank}
 use Rattle.hs_peerlog.proofs.CloseLemmas.{close_writes}
 use Rattle.hs_peerlog.proofs.close.close.Goals as goal
 
-pub returns-in_err-done-clause-any_moment : goal.returns-in_err-done-clause-any_moment
-returns-in_err-done-clause-any_moment g c = λ told last.
+pub returns-in_err-write_gate-clause-any_moment : goal.returns-in_err-write_gate-clause-any_moment
+returns-in_err-write_gate-clause-any_moment g c = λ told last.
     let old = g.D.Disk.stands c.args.disk.now in
     let mid = g.D.Disk.stands c.is_begun.new.disk in
     let same : mid ≡ old = c.is_begun.ensures.same told in
