@@ -7,6 +7,7 @@ pub mod CalmLemmas
 pub mod CaseLemmas
 pub mod CourseLemmas
 pub mod DigitLemmas
+pub mod FeedLemmas
 pub mod KeptLemmas
 pub mod EndingLemmas
 pub mod EndsLemmas

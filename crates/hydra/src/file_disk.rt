@@ -9,7 +9,7 @@ use crate::side_file::SideFile;
 use hs_ports::{Disk, PortFault, Side, Watch};
 use std::alloc::Global;
 use std::fs::{File, OpenFile, OpenOptions, TryLockError};
-use std::io::{Read, Seek, Write};
+use std::os::unix::fs::FileExt;
 use std::rt::Files;
 use std::{fs, io};
 
@@ -24,7 +24,7 @@ pub struct FileDisk<F> {
     pub is_taken: bool,
 }
 
-impl<F: Read + Write + Seek + OpenFile + Drop> FileDisk<F> {
+impl<F: FileExt + OpenFile + Drop> FileDisk<F> {
     /// The disk of these files; one whose calls all fail where there are none, or where a length
     /// can't be had.
     pub fn new(files: Option<(F, F)>) -> FileDisk<F>
@@ -179,7 +179,7 @@ fn open_side<R: Files<File = File>>(
     options.open(rt, path.as_str())
 }
 
-impl<F: Read + Write + Seek + OpenFile> Disk for FileDisk<F> {
+impl<F: FileExt + OpenFile> Disk for FileDisk<F> {
     ghost use Rattle.std.proofs.Common.{rules};
 
     ghost tells = { ⊥ };

@@ -4,6 +4,7 @@ ghost use Rattle.std.specs.Io.KnownBytes.{Appends, Consumes, IsAtEnd, Keeps};
 
 use std::io;
 use std::io::{ErrorKind, Read, Write};
+use std::os::unix::fs::FileExt;
 
 /// Reads into the front of `piece`, and says how many bytes; 0 is the end, or an empty piece.
 pub fn read_some<R: Read>(reader: &mut R, piece: &mut [u8]) -> io::Result<usize>
@@ -36,6 +37,44 @@ pub fn write_some<W: Write>(writer: &mut W, piece: &[u8]) -> io::Result<usize>
 {
     'tries: for _ in 0..u64::MAX {
         match writer.write(piece) {
+            Ok(0) => return Err(ErrorKind::WriteZero.into()),
+            Ok(n) => return Ok(n),
+            Err(error) => {
+                if error.kind() != ErrorKind::Interrupted {
+                    return Err(error);
+                }
+            }
+        }
+    }
+    Err(ErrorKind::TimedOut.into())
+}
+
+/// Reads from a place of a file on into the front of `piece`, by one call of the system, and says
+/// how many bytes; 0 is the end, or an empty piece.
+pub fn read_some_at<F: FileExt>(file: &F, piece: &mut [u8], at: u64) -> io::Result<usize>
+    ensures { IfOk result (λ n. n ≤ length piece.new) }
+{
+    'tries: for _ in 0..u64::MAX {
+        match file.read_at(piece, at) {
+            Ok(n) => return Ok(n),
+            Err(error) => {
+                if error.kind() != ErrorKind::Interrupted {
+                    return Err(error);
+                }
+            }
+        }
+    }
+    Err(ErrorKind::TimedOut.into())
+}
+
+/// Writes a front of `piece` from a place of a file on, by one call of the system, and says how many
+/// bytes; a write that takes nothing is an error.
+pub fn write_some_at<F: FileExt>(file: &F, piece: &[u8], at: u64) -> io::Result<usize>
+    ensures some { IfOk result (λ n. 0 < n) }
+    ensures within { IfOk result (λ n. n ≤ length piece.now) }
+{
+    'tries: for _ in 0..u64::MAX {
+        match file.write_at(piece, at) {
             Ok(0) => return Err(ErrorKind::WriteZero.into()),
             Ok(n) => return Ok(n),
             Err(error) => {

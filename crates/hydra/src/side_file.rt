@@ -4,11 +4,11 @@ ghost use Rattle.hs_ports.specs.Disk.{HasRead, IsBetween};
 ghost use Rattle.hydra.specs.SideFault.{Keeps, Tells};
 
 use crate::file_fault::{Deed, SideFault, note};
-use crate::retry::{read_some, write_some};
+use crate::retry::{read_some_at, write_some_at};
 use hs_ports::PortFault;
 use std::fs::OpenFile;
 use std::io;
-use std::io::{Read, Seek, SeekFrom, Write};
+use std::os::unix::fs::FileExt;
 
 /// The most bytes that one call reads.
 const PIECE: usize = 65536;
@@ -23,7 +23,7 @@ pub struct SideFile<F> {
     ghost fits: { len < 2 ^ 64 },
 }
 
-impl<F: Read + Write + Seek + OpenFile> SideFile<F> {
+impl<F: FileExt + OpenFile> SideFile<F> {
     /// A file of this length.
     pub fn new(file: F, len: u64) -> SideFile<F>
         ensures value { result.len ≡ len }
@@ -71,7 +71,7 @@ impl<F: Read + Write + Seek + OpenFile> SideFile<F> {
         ensures told { IsSome self.old.file → Tells result self.new.fault }
         ensures kept { Keeps self.old.fault self.new.fault }
     {
-        match &mut self.file {
+        match &self.file {
             Some(file) => read_from(file, &mut self.fault, self.len, at, max, into),
             None => Err(PortFault::Failed),
         }
@@ -89,7 +89,7 @@ impl<F: Read + Write + Seek + OpenFile> SideFile<F> {
         ensures kept { Keeps self.old.fault self.new.fault }
     {
         let fits = at.checked_add(bytes.len() as u64).is_some();
-        match &mut self.file {
+        match &self.file {
             Some(_) if !fits => {
                 let reason = io::ErrorKind::FileTooLarge.into();
                 note(&mut self.fault, Deed::Write, reason);
@@ -154,8 +154,8 @@ impl<F: Read + Write + Seek + OpenFile> SideFile<F> {
 }
 
 // Appends a piece of a file of this length from a place on, or nothing.
-fn read_from<F: Read + Seek>(
-    file: &mut F,
+fn read_from<F: FileExt>(
+    file: &F,
     fault: &mut Option<SideFault>,
     len: u64,
     at: u64,
@@ -189,13 +189,12 @@ fn read_from<F: Read + Seek>(
     }
 }
 
-// Reads a front of the piece, and at least one byte.
-fn read_piece<F: Read + Seek>(file: &mut F, at: u64, piece: &mut [u8]) -> io::Result<usize>
+// Reads a front of the piece, and at least one byte, by one call.
+fn read_piece<F: FileExt>(file: &F, at: u64, piece: &mut [u8]) -> io::Result<usize>
     ensures some { IfOk result (λ n. 0 < n) }
     ensures within { IfOk result (λ n. n ≤ length piece.new) }
 {
-    file.seek(SeekFrom::Start(at))?;
-    let n = read_some(file, piece)?;
+    let n = read_some_at(file, piece, at)?;
     if n == 0 {
         return Err(io::ErrorKind::UnexpectedEof.into());
     }
@@ -203,23 +202,20 @@ fn read_piece<F: Read + Seek>(file: &mut F, at: u64, piece: &mut [u8]) -> io::Re
 }
 
 // Writes from a place on, and says how many bytes the file took: all, unless it failed.
-fn write_from<F: Write + Seek>(
-    file: &mut F,
+fn write_from<F: FileExt>(
+    file: &F,
     fault: &mut Option<SideFault>,
     at: u64,
     bytes: &[u8],
 ) -> usize
+    requires { at + length bytes.now < 2 ^ 64 }
     ensures within { result ≤ length bytes.now }
     ensures told { result < length bytes.now → IsSome fault.new }
     ensures kept { Keeps fault.old fault.new }
 {
-    if let Err(reason) = file.seek(SeekFrom::Start(at)) {
-        note(fault, Deed::Write, reason);
-        return 0;
-    }
     let mut done = 0;
     'pieces: while done < bytes.len() {
-        match write_some(file, &bytes[done..]) {
+        match write_some_at(file, &bytes[done..], at + done as u64) {
             Ok(n) => done += n,
             Err(reason) => {
                 note(fault, Deed::Write, reason);

@@ -1,5 +1,5 @@
 //! A reader as a source, and a writer as a sink.
-ghost use Rattle.std.specs.Prelude.{◌≡◌, ◌+◌, ◌<◌, ◌≤◌, IfOk, IfErr, OnErr, None, drop, length, take};
+ghost use Rattle.std.specs.Prelude.{◌≡◌, ◌+◌, ◌<◌, ◌≤◌, IsTrue, IfOk, IfErr, OnErr, None, drop, length, take};
 ghost use Rattle.std.specs.Io.KnownBytes.{Appends, Consumes, IsAtEnd, Keeps};
 ghost use Rattle.hs_ports.specs.Source.{Took};
 
@@ -14,6 +14,10 @@ const PIECE: usize = 65536;
 
 /// How many of the last bytes are kept: more than a line has, and what may be taken behind it.
 const KEPT: usize = 5 * PIECE;
+
+/// How many are kept at first. The room for them grows as they come, so that a short script needs
+/// little of it.
+const FIRST_KEPT: usize = 4096;
 
 /// A reader as a source, which doesn't tell its bytes. What it reads it reads into a ring, so that
 /// the last bytes are there where a line of them is bad.
@@ -35,7 +39,7 @@ impl<R: Read + Drop> ReaderSource<R> {
     {
         Ok(ReaderSource {
             reader,
-            ring: vec![in alloc; 0u8; KEPT]?,
+            ring: vec![in alloc; 0u8; FIRST_KEPT]?,
             at: 0,
             is_round: false,
             count: FaultCount::new(),
@@ -58,6 +62,16 @@ impl<R: Read + Drop> ReaderSource<R> {
     {
         self.count.faults
     }
+}
+
+// Gives a ring more room, where it has not all yet and there is memory for it.
+fn grow(ring: &mut Vec<u8>) -> bool
+    requires { 0 < length ring.old.items }
+    ensures grown { IsTrue result → length ring.old.items < length ring.new.items }
+    ensures kept { length ring.old.items ≤ length ring.new.items }
+{
+    let size = ring.len();
+    size < KEPT && ring.resize((2 * size).min(KEPT), 0).is_ok()
 }
 
 // Reads up to `max` bytes into the ring from a place on, and appends what it got, or nothing.
@@ -122,7 +136,7 @@ impl<R: Read> Source for ReaderSource<R> {
         let answer = take_through(&mut self.reader, &mut self.ring, self.at, max, into);
         if let Ok(n) = answer {
             self.at += n;
-            if self.at == self.ring.len() {
+            if self.at == self.ring.len() && (self.is_round || !grow(&mut self.ring)) {
                 self.at = 0;
                 self.is_round = true;
             }

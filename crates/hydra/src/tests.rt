@@ -7,8 +7,10 @@ use crate::file_disk::{FileDisk, open_disk};
 use crate::run::{disks_of, tell_taken};
 use crate::streams::{ReaderSource, WriterSink};
 use hs_ports::{Disk, PortFault, Side, Sink, Source, Watch};
+use std::cell::Cell;
 use std::fs::{Metadata, OpenFile};
-use std::io::{Cursor, ErrorKind, Read, Seek, SeekFrom, Write};
+use std::io::{ErrorKind, Read, Write};
+use std::os::unix::fs::FileExt;
 use std::test::Fail;
 use std::{env, fs, io, process};
 
@@ -61,14 +63,41 @@ impl<T: Write> Write for Faulty<T> {
     }
 }
 
-impl<T: Seek> Seek for Faulty<T> {
-    fn seek(&mut self, to: SeekFrom) -> io::Result<u64> {
-        self.inner.seek(to)
+/// An empty file, whose length can't be set, and which takes at most two bytes a call. One write,
+/// counted from 1, answers an error.
+#[derive(Drop)]
+struct FaultyFile {
+    calls: Cell<u64>,
+    at: u64,
+    kind: ErrorKind,
+}
+
+impl FaultyFile {
+    fn new(at: u64, kind: ErrorKind) -> FaultyFile {
+        FaultyFile {
+            calls: Cell::new(0),
+            at,
+            kind,
+        }
     }
 }
 
-/// An empty file, whose length can't be set.
-impl<T> OpenFile for Faulty<T> {
+impl FileExt for FaultyFile {
+    fn read_at(&self, _buf: &mut [u8], _offset: u64) -> io::Result<usize> {
+        Ok(0)
+    }
+
+    fn write_at(&self, buf: &[u8], _offset: u64) -> io::Result<usize> {
+        self.calls.set(self.calls.get().saturating_add(1));
+        if self.calls.get() == self.at {
+            Err(self.kind.into())
+        } else {
+            Ok(buf.len().min(2))
+        }
+    }
+}
+
+impl OpenFile for FaultyFile {
     fn metadata(&self) -> io::Result<Metadata> {
         Ok(Metadata::of_file(0))
     }
@@ -145,6 +174,25 @@ fn a_reader_goes_on_after_a_fault(rt: HostRuntime) -> Result<(), Fail> {
         assert_eq!(rt; into.as_slice(), b"abc".as_slice());
         assert_eq!(rt; source.faults(), faults);
     }
+    Ok(())
+}
+
+#[test]
+fn the_last_bytes_are_kept_while_their_room_grows(rt: HostRuntime) -> Result<(), Fail> {
+    let alloc = rt.alloc();
+    let mut text = Vec::new(alloc);
+    for number in 0..9000u64 {
+        text.push((number % 251) as u8)?;
+    }
+    let mut source = ReaderSource::new(alloc, text.as_slice())?;
+    let mut into = Vec::new(alloc);
+    for want in [Ok(4096), Ok(4096), Ok(808), Ok(0)] {
+        assert_eq!(rt; take(&mut source, 9000, &mut into), want);
+    }
+    assert_eq!(rt; into, text);
+    let (bytes, is_cut) = source.last_bytes()?;
+    assert_eq!(rt; bytes, text);
+    assert_eq!(rt; is_cut, false);
     Ok(())
 }
 
@@ -250,13 +298,12 @@ fn a_folder_is_made_and_one_run_has_it(rt: HostRuntime) -> Result<(), Fail> {
 
 #[test]
 fn a_write_that_fails_leaves_a_length_between(rt: HostRuntime) -> Result<(), Fail> {
-    let alloc = rt.alloc();
     for (kind, want, len, faults) in [
         (ErrorKind::Other, Err(PortFault::Failed), 4, 1),
         (ErrorKind::Interrupted, Ok(()), 6, 0),
     ] {
-        let zero = Faulty::new(Cursor::new(Vec::new(alloc)), 3, kind);
-        let one = Faulty::new(Cursor::new(Vec::new(alloc)), 3, kind);
+        let zero = FaultyFile::new(3, kind);
+        let one = FaultyFile::new(3, kind);
         let mut watch = Watch::new();
         let mut disk = FileDisk::new(Some((zero, one)));
         let done = append(&mut disk, &mut watch, Side::Zero, b"abcdef");
