@@ -8,6 +8,7 @@ pub mod CaseLemmas
 pub mod CountLemmas
 pub mod CourseLemmas
 pub mod DigitLemmas
+pub mod FeedLemmas
 pub mod KeptLemmas
 pub mod EndingLemmas
 pub mod EndsLemmas

@@ -6,7 +6,9 @@ ghost use Rattle.hs_top.specs.Lines.{HasNoFeed, IsFeedAt, Fills, Stuck, Gathers,
 use crate::stop::Stop;
 use hs_ports::{PortFault, Source};
 use hs_script::LONGEST_LINE;
+use memchr::memchr;
 use std::alloc::Global;
+use std::mem;
 
 /// How many bytes are asked of the source at once.
 const CHUNK: u64 = 65_536;
@@ -17,12 +19,10 @@ fn feed_from(bytes: &[u8], from: usize) -> Option<usize>
     ensures found { IfSome result (IsFeedAt bytes.now from) }
     ensures none { IfNone result (HasNoFeed bytes.now from (length bytes.now)) }
 {
-    for at in from..bytes.len() {
-        if bytes[at] == b'\n' {
-            return Some(at);
-        }
+    match memchr(b'\n', &bytes[from..]) {
+        Some(at) => Some(from + at),
+        None => None,
     }
-    None
 }
 
 /// Takes a piece of the source. False at the end of the input. `budget` is how many bytes may still
@@ -80,11 +80,12 @@ fn gather<S: Source>(
     }
 }
 
-/// What was taken of a source and not yet read, with the current line in front of it.
+/// What was taken of a source and not yet read, with the current line in front of it. The room that
+/// the buffer and its spare have grown to is kept, so that each byte is moved once at most.
 #[derive(Drop)]
 pub(crate) struct Reader {
-    alloc: Global,
     buffer: Vec<u8>,
+    spare: Vec<u8>,
     start: usize,
     end: usize,
     rest: usize,
@@ -114,8 +115,8 @@ impl Reader {
         ensures cost { cost result ≡ budget }
     {
         Reader {
-            alloc,
             buffer: Vec::new(alloc),
+            spare: Vec::new(alloc),
             start: 0,
             end: 0,
             rest: 0,
@@ -188,11 +189,12 @@ impl Reader {
         ensures err { IsOkUnless result Stop.NoMemory }
         ensures kept { OnErr result (held_of self.new ≡ held_of self.old) }
     {
-        let held = Vec::from_slice(self.alloc, &self.buffer[self.rest..])?;
+        self.spare.clear();
+        self.spare.extend_from_slice(&self.buffer[self.rest..])?;
         self.start = 0;
         self.end = 0;
         self.rest = 0;
-        self.buffer = held;
+        mem::swap(&mut self.buffer, &mut self.spare);
         Ok(())
     }
 }
