@@ -9,7 +9,7 @@ use Rattle.hs_side.specs.Current.{list_in}
 use Rattle.hs_fold.specs.Opened.{chosen_each}
 use Rattle.hs_fold.specs.Opened.{store_of as store_unrooted_of}
 use Rattle.hs_fold.specs.Shards.Course.{begins}
-use Rattle.hs_fold.specs.Shards.Opened.{catalogues, opened, store_of}
+use Rattle.hs_fold.specs.Shards.Opened.{catalogues, store_of}
 use Rattle.hs_fold.specs.Shards.Setting.{Numbered, Setting}
 use Rattle.hs_fold.specs.Shards.Sound.{AreSound}
 use Rattle.hs_fold.specs.Shards.Unrooted.{PutsNoRoot}

@@ -5,6 +5,7 @@ pub mod BeginningLemmas
 pub mod BusyLemmas
 pub mod CalmLemmas
 pub mod CaseLemmas
+pub mod CountLemmas
 pub mod CourseLemmas
 pub mod DigitLemmas
 pub mod FeedLemmas

@@ -161,7 +161,7 @@ module _ (script : List ℕ) (name : List ℕ → Address) (limits : Limits) (ol
       let same : IsSame old new got got' = subst (λ (h : Stop). OpensNot h old new before now got got') is halted in
       let nothing : new.journal.entries ≡ [] = same.told ∙ told in (
         rw (nothing, entry_listed name limits course disk list refl listed) (stayed_stops (commands script) name limits before now disk disk' list listed got got' (memory (may.none.called 0) is empty)
-        (sound_listed name limits course disk list refl listed sound) (λ image images. one 0 refl image images ∙ listed) may.none.put same.put),
+            (sound_listed name limits course disk list refl listed sound) (λ image images. one 0 refl image images ∙ listed) may.none.put same.put),
         rw nothing (stayed_good (commands script) name limits before now disk disk' list listed),
       )
 

@@ -1,5 +1,5 @@
 -- A list that puts no root, by the text for one shard and by that for any number.
-use Rattle.std.proofs.Common.{◌≡◌, ℕ, Bool, true, false, cond, List, [], ◌∷◌, ◌++◌, length, map, Option, Some, None, Result, Ok, Err, refl, subst}
+use Rattle.std.proofs.Common.{◌≡◌, ℕ, Bool, true, false, cond, List, [], ◌∷◌, ◌++◌, map, Option, Some, None, Result, Ok, Err, refl, subst}
 use Rattle.std.specs.Prelude.{All}
 use Rattle.std.specs.Option.{option_map}
 use Rattle.std.proofs.lemmas.List.Elements.{All-cons, All-nil, All-push}
@@ -9,7 +9,6 @@ use Rattle.hs_entry.specs.declared.entry.Entry.{Entry}
 use Rattle.hs_entry.specs.declared.entry.Entry.TheVariants as kind
 use Rattle.hs_ports.specs.declared.disk.Side.{Side}
 use Rattle.hs_side.specs.Current.{current, header_in, list_in}
-use Rattle.hs_side.specs.declared.header.Header.{Header}
 use Rattle.hs_side.specs.Reading.{Frame, Log, entry_of, listed, log_of}
 use Rattle.hs_fold.specs.Lawful.{AreSound as SoundUnrooted}
 use Rattle.hs_fold.specs.Opened.{store_of as store_unrooted_of}

@@ -1,5 +1,5 @@
 -- What is said of every stop where nothing was written, whatever list the disk has.
-use Rattle.std.proofs.Common.{◌≡◌, ℕ, ◌-◌, ◌^◌, ◌<◌, ◌≤◌, Bool, true, false, cond, List, [], ◌∷◌, ◌++◌, length, Option, Some, refl, sym, ap, subst, ◌∙◌, arith}
+use Rattle.std.proofs.Common.{◌≡◌, ℕ, ◌<◌, ◌≤◌, Bool, true, false, cond, List, [], ◌∷◌, length, Option, Some, refl, sym, ap, subst, arith}
 use Rattle.std.proofs.lemmas.Bool.{lt-ltb}
 use Rattle.std.proofs.lemmas.List.{append-nil}
 use Rattle.std.proofs.lemmas.List.Elements.{All-nil}
@@ -12,14 +12,14 @@ use Rattle.hs_model.specs.Store.{Store}
 use Rattle.hs_ports.specs.Disk.{IsImage, Standing}
 use Rattle.hs_side.specs.Current.{list_in}
 use Rattle.hs_fold.specs.Prefix.{IsNumbered}
-use Rattle.hs_fold.specs.Shards.Images.{Image, IsGoodImage}
+use Rattle.hs_fold.specs.Shards.Images.{Image}
 use Rattle.hs_fold.specs.Shards.Opened.{catalogues, store_of}
 use Rattle.hs_fold.specs.Shards.Setting.{Numbered, Setting}
 use Rattle.hs_fold.specs.Shards.Sound.{AreSound}
 use Rattle.hs_single.specs.Opening.{LeavesAll}
 use Rattle.hs_top.specs.Entry.{only_set}
 use Rattle.hs_top.specs.Promise.{IsGoodUntold}
-use Rattle.hs_top.specs.Stops.{got_by, stop_at, IsPending, Reopened, Reopens, Stops}
+use Rattle.hs_top.specs.Stops.{got_by, IsPending, Reopened, Reopens, Stops}
 use Rattle.hs_top.proofs.CourseLemmas.{taken_took}
 use Rattle.hs_top.proofs.OpeningLemmas.{listed-numbered, prints_none}
 use Rattle.hs_top.proofs.StopLemmas.{by_image, list_reopens, parts_reopen}

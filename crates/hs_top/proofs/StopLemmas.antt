@@ -1,5 +1,5 @@
 -- What one list leaves at each stop is what several disks of one shard of one copy leave.
-use Rattle.std.proofs.Common.{◌≡◌, ℕ, ◌+◌, ◌*◌, ◌-◌, ◌^◌, ◌<◌, ◌≤◌, false, List, [], ◌∷◌, ◌++◌, length, Option, Some, None, IsSome, unwrap_or, refl, sym, ap, subst, ◌∙◌, arith}
+use Rattle.std.proofs.Common.{◌≡◌, ℕ, ◌+◌, ◌*◌, ◌<◌, ◌≤◌, false, List, [], ◌∷◌, ◌++◌, length, Option, Some, None, IsSome, unwrap_or, refl, sym, ap, subst, ◌∙◌, arith}
 use Rattle.std.specs.Prelude.{All, AllPairs, ◌≢◌}
 use Rattle.std.proofs.lemmas.List.{append-nil}
 use Rattle.std.proofs.lemmas.List.Elements.{All-cons, All-nil, All-head, All-tail}
@@ -11,7 +11,6 @@ use Rattle.hs_model.specs.Run.{IsLegal, run}
 use Rattle.hs_model.specs.Store.{Store, reborn}
 use Rattle.hs_journal.specs.declared.entry.JournalEntry.{JournalEntry}
 use Rattle.hs_entry.specs.declared.entry.Entry.{Entry}
-use Rattle.hs_ports.specs.declared.disk.Side.{Side}
 use Rattle.hs_ports.specs.Disk.{Standing}
 use Rattle.hs_side.specs.Current.{list_in}
 use Rattle.hs_fold.specs.Catalogue.{Shard}
@@ -35,7 +34,7 @@ use Rattle.hs_fold.proofs.Shards.ListLemmas.{behind-all}
 use Rattle.hs_fold.proofs.Shards.PendingLemmas.{one-pending}
 use Rattle.hs_top.specs.Entry.{only_set, only_shape}
 use Rattle.hs_top.specs.Lasting.{Gives, HasGiven, Lasts}
-use Rattle.hs_top.specs.Stops.{below, events_below, pending_at, stop_at, IsPending, Reopened, Reopens, Stops}
+use Rattle.hs_top.specs.Stops.{events_below, pending_at, stop_at, IsPending, Reopened, Reopens, Stops}
 use Rattle.hs_top.proofs.RootlessLemmas.{newer_sound, older_store}
 
 -- ---- some entries, each with what happens by it

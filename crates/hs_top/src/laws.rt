@@ -1,5 +1,7 @@
-//! On which disks a run may begin.
-ghost use Rattle.std.specs.Prelude.{◌≡◌, ◌-◌, ◌^◌, ◌<◌, ◌≤◌, ◌∷◌, [], ℕ, List, Option, Some};
+//! On which disks a run may begin, and which images count of a run on one disk.
+ghost use Rattle.std.specs.Prelude.{◌≡◌, ◌-◌, ◌^◌, ◌<◌, ◌≤◌, ◌∷◌, [], true, ℕ, List, Option, Some};
+ghost use Rattle.hs_fold.specs.Good.{is_good};
+ghost use Rattle.hs_fold.specs.Images.{IsLeft};
 ghost use Rattle.hs_fold.specs.Shards.Images.{AreGoodImages};
 ghost use Rattle.hs_journal.specs.declared.entry.JournalEntry.{JournalEntry};
 ghost use Rattle.hs_limits.specs.declared.address.Address.{Address};
@@ -31,4 +33,13 @@ pub fn a_run_may_begin()
         → (ending : Status) (course : List CourseItem) (moment : ℕ) (disk : Standing)
         → IsAtRest image moment disk
         → MayStop (only_set name limits) ending course moment (disk ∷ []) (Some []) }
+{}
+
+/// Of one shard on one disk an image counts where the disk is good and may have left it: what else is
+/// asked of images that count holds by itself then.
+pub fn one_image_counts()
+    ensures counts { (name : List ℕ → Address) (limits : Limits) (course : List CourseItem)
+        (moment : ℕ) (disk : Standing) (image : Side → List ℕ) → is_good course moment 0 ≡ true
+        → IsLeft disk moment image → AreGoodImages only_shape (stop_at (only_set name limits) course
+        moment (disk ∷ [])) (image ∷ []) }
 {}

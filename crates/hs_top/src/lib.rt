@@ -16,7 +16,7 @@ mod top;
 mod transcript;
 mod words;
 
-pub use laws::a_run_may_begin;
+pub use laws::{a_run_may_begin, one_image_counts};
 pub use outcome::Outcome;
 pub use status::{Status, TopFault, fault_line};
 pub use top::{hydra, hydra_alone};
