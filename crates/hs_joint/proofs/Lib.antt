@@ -1,0 +1,9 @@
+pub mod SameLists
+pub mod AmountLemmas
+pub mod GotLookups
+pub mod LikeLemmas
+pub mod EndLikeLemmas
+pub mod TellLemmas
+pub mod KeyLemmas
+pub mod ListedLemmas
+pub mod ReachedLemmas
