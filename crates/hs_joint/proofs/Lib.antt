@@ -7,3 +7,6 @@ pub mod TellLemmas
 pub mod KeyLemmas
 pub mod ListedLemmas
 pub mod ReachedLemmas
+pub mod FewLemmas
+pub mod BoundLemmas
+pub mod CutLemmas
