@@ -132,7 +132,7 @@ few_drop at c key h = go (shard_of_key at.shards key == at.shard)
 few_settled : (n : ℕ) (c : Catalogue) → HaveFew c → HaveFew (settled n c)
 few_settled n c h = few_each (λ e. (e.0, record e.1 { count = moved_by c.round e.0 (open_deltas n c) e.1.count })) (λ e. refl) c.blocks h
 
-few_end : (n : ℕ) (c : Catalogue) → HaveFew c → HaveFew (end_round n c)
+pub few_end : (n : ℕ) (c : Catalogue) → HaveFew c → HaveFew (end_round n c)
 few_end n c h = go (is_last n c)
   where
     low : HaveFew (settled n c)

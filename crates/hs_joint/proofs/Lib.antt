@@ -10,3 +10,6 @@ pub mod ReachedLemmas
 pub mod FewLemmas
 pub mod BoundLemmas
 pub mod CutLemmas
+pub mod StandLemmas
+pub mod SendLemmas
+pub mod EndLemmas

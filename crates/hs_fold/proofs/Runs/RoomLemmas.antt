@@ -87,7 +87,7 @@ drop-fits at c key h = go (shard_of_key at.shards key == at.shard)
 settled-fits : (n : ℕ) (c : Catalogue) → Fits c.blocks → Fits (settled n c).blocks
 settled-fits n c h = mapped-fits (λ (e : Address × Facts). (e.0, record e.1 { count = moved_by c.round e.0 (open_deltas n c) e.1.count })) c.blocks h
 
-end-fits : (n : ℕ) (c : Catalogue) → Fits c.blocks → Fits (end_round n c).blocks
+pub end-fits : (n : ℕ) (c : Catalogue) → Fits c.blocks → Fits (end_round n c).blocks
 end-fits n c h = go (is_last n c)
   where
     low : Fits (settled n c).blocks
