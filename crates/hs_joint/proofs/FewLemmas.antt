@@ -77,13 +77,13 @@ few_read bytes block e =
 
 -- ---- what is kept
 
-abbrev HasFew : Address × Facts → Type 0
+abbrev pub HasFew : Address × Facts → Type 0
 HasFew e = length e.1.present.stored.pointers ≤ 64
 
 abbrev pub HaveFew : Catalogue → Type 0
 HaveFew c = (e : Address × Facts) → Member e c.blocks → length e.1.present.stored.pointers ≤ 64
 
-few_each : (f : Address × Facts → Address × Facts) → ((e : Address × Facts) → (f e).1.present ≡ e.1.present) → (es : List (Address × Facts)) → ((e : Address × Facts) → Member e es → HasFew e) → (e : Address × Facts) → Member e (map f es) → HasFew e
+pub few_each : (f : Address × Facts → Address × Facts) → ((e : Address × Facts) → (f e).1.present ≡ e.1.present) → (es : List (Address × Facts)) → ((e : Address × Facts) → Member e es → HasFew e) → (e : Address × Facts) → Member e (map f es) → HasFew e
 few_each f same es h e m =
     let o = member_of_map f e es m in
     subst (λ (x : Address × Facts). HasFew x) (sym o.2) (subst (λ (p : Present). length p.stored.pointers ≤ 64) (sym (same o.0)) (h o.0 o.1))

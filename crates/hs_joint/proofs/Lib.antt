@@ -13,3 +13,4 @@ pub mod CutLemmas
 pub mod StandLemmas
 pub mod SendLemmas
 pub mod EndLemmas
+pub mod EnterLemmas
