@@ -13,6 +13,7 @@ use Rattle.hs_limits.specs.declared.spelling.SpellingFault.{SpellingFault}
 use Rattle.hs_limits.specs.Block.{Block}
 use Rattle.hs_limits.specs.Reading.{read_block}
 use Rattle.hs_limits.specs.Shape.{shard_of, shard_of_key}
+use Rattle.hs_model.specs.Refusals.{keeps_other}
 use Rattle.hs_model.specs.Store.{address_cmp}
 use Rattle.hs_model.proofs.Members.{Member, contains_from_member}
 use Rattle.hs_model.proofs.ReachLemmas.{reached_from_is}
@@ -27,7 +28,7 @@ use Rattle.hs_deletion.specs.Records.{BlockRecord}
 use Rattle.hs_deletion.specs.Anchors.{IsThere, IsReachedIn}
 use Rattle.hs_deletion.specs.Catalogue.{ShardCatalogue, stored_in, marked_in, rooted_in, unrooted_in}
 use Rattle.hs_deletion.specs.Following.{IsFollowing}
-use Rattle.hs_deletion.specs.History.{IsMade, after_effect}
+use Rattle.hs_deletion.specs.History.{IsMade, MayStore, MayGive, after_effect}
 use Rattle.hs_deletion.specs.History.Effect.{Stores, Gives, Puts, Drops}
 use Rattle.hs_deletion.specs.Invariants.{IsRight}
 use Rattle.hs_deletion.proofs.FollowClients.{store_elsewhere, store_follows, mark_elsewhere, mark_follows, root_elsewhere, root_follows, drop_elsewhere, drop_follows}
@@ -50,9 +51,10 @@ use Rattle.hs_fold.proofs.Runs.KeyLemmas.{one-entry}
 use Rattle.hs_fold.proofs.Runs.RoomLemmas.{apply-fits}
 use Rattle.hs_fold.proofs.Shards.StoreLemmas.{found-mine}
 use Rattle.hs_joint.specs.Joined.{IsSentSo}
-use Rattle.hs_joint.specs.Seen.{layout_of, seen_block, seen_root, seen, all_seen}
+use Rattle.hs_joint.specs.Seen.{layout_of, seen_block, seen_root, seen_round, seen, all_seen}
 use Rattle.hs_joint.proofs.BoundLemmas.{IsBounded, bounded_stored, bounded_given}
 use Rattle.hs_joint.proofs.FewLemmas.{few_apply}
+use Rattle.hs_joint.proofs.KeyLemmas.{found-entry}
 use Rattle.hs_joint.proofs.LikeLemmas.{IsLike, follow_like, seen_insert, seen_mark, seen_drop}
 use Rattle.hs_joint.proofs.ReachedLemmas.{here_at, rests_there}
 use Rattle.hs_joint.proofs.SameLists.{same_as, same_last}
@@ -232,7 +234,7 @@ module _ (set : Setting) (some : 0 < set.shape.shards) (cs : List Catalogue) (m 
   absent_here a h none p =
       let e = here_entry p.block p.stands (ap (λ x. shard_of n x) p.here ∙ h) in
       let same : e.0.0 ≡ a = sym (ap (λ (b : BlockRecord). b.address) e.2) ∙ p.here in
-      let found : lookup (is_at (address_cmp e.0.0)) c.blocks ≡ Some e.0.1 = Rattle.hs_joint.proofs.KeyLemmas.found-entry c.blocks ordered e.0 e.1 in
+      let found : lookup (is_at (address_cmp e.0.0)) c.blocks ≡ Some e.0.1 = found-entry c.blocks ordered e.0 e.1 in
       let found' : lookup (is_at (address_cmp a)) c.blocks ≡ Some e.0.1 = subst (λ (x : Address). lookup (is_at (address_cmp x)) c.blocks ≡ Some e.0.1) same found in
       cc (none, found')
 
@@ -249,7 +251,7 @@ module _ (set : Setting) (some : 0 < set.shape.shards) (cs : List Catalogue) (m 
           let h : shard_of n a ≡ g = eqb-true (shard_of n a) g r.0 in
           let none = none_facts a (none-there (present_at (plain c) a) r.1) in
           let d : Catalogue = record c { blocks = insert_entry address_cmp c.blocks a (new_facts (fresh_present c.epoch number block)) } in
-          let may = record { absent = absent_here a h none; backed = λ x k. subst (λ j. IsReachedIn m (m.states j).epoch x) (sym h) (backed least q.1 block.pointers (ready q.1 block refl) x k) } in
+          let may : MayStore L m a block.pointers = record { absent = absent_here a h none; backed = λ x k. subst (λ j. IsReachedIn m (m.states j).epoch x) (sym h) (backed least q.1 block.pointers (ready q.1 block refl) x k) } in
           record {
             later = after_effect L (Stores a block.pointers) m;
             made = made_after L m (Stores a block.pointers) st.joined.followed.made may;
@@ -286,7 +288,7 @@ module _ (set : Setting) (some : 0 < set.shape.shards) (cs : List Catalogue) (m 
           let fresh = both.1 in
           let h = here f e in
           let d : Catalogue = record c { blocks = marked c.epoch (Some f) c.blocks a } in
-          let may = λ b k here p i. (
+          let may : MayGive L m a = λ b k here p i. (
             let w = here_entry b k (ap (λ x. shard_of n x) here ∙ h) in
             let key : w.0.0 ≡ a = sym (ap (λ (y : BlockRecord). y.address) w.2) ∙ here in
             let is : w.0 ≡ (a, f) = one-entry c.blocks ordered w.0 w.1 (a, f) (member_from_found c.blocks a f e) key in
@@ -324,8 +326,8 @@ module _ (set : Setting) (some : 0 < set.shape.shards) (cs : List Catalogue) (m 
       go false e u = nothing_new
       go true e false = nothing_new
       go true e true =
-          let p = and_parts ((shard_of_key n key == g && is_fresh (plain c) held) && not (Rattle.hs_model.specs.Refusals.keeps_other (retained_in (plain c) key) a)) (takes_root (plain c).roots (retained_in (plain c) key)) e in
-          let q = and_parts (shard_of_key n key == g && is_fresh (plain c) held) (not (Rattle.hs_model.specs.Refusals.keeps_other (retained_in (plain c) key) a)) p.0 in
+          let p = and_parts ((shard_of_key n key == g && is_fresh (plain c) held) && not (keeps_other (retained_in (plain c) key) a)) (takes_root (plain c).roots (retained_in (plain c) key)) e in
+          let q = and_parts (shard_of_key n key == g && is_fresh (plain c) held) (not (keeps_other (retained_in (plain c) key) a)) p.0 in
           let fresh = (and_parts (shard_of_key n key == g) (is_fresh (plain c) held) q.0).1 in
           let d : Catalogue = record c { roots = c.roots ++ new_root c.epoch a key ∷ [] } in
           let low : c.epoch ≤ held + 1 = nat_le_from c.epoch (held + 1) fresh in
@@ -406,7 +408,7 @@ module _ (set : Setting) (some : 0 < set.shape.shards) (cs : List Catalogue) (m 
       record {
         later = f.later;
         standing = record {
-          joined = join_on set some cs m st g lg d f.later f.made f.step f.follows (apply-own at c own number entry) (subst (λ xs. IsSentSo L f.later g xs) (sym f.sent) (λ kept among to told tells. f.step.sent to g kept.epoch kept.round (Rattle.hs_joint.specs.Seen.seen_round kept.round told) (st.joined.sent g lg kept among to told tells)));
+          joined = join_on set some cs m st g lg d f.later f.made f.step f.follows (apply-own at c own number entry) (subst (λ xs. IsSentSo L f.later g xs) (sym f.sent) (λ kept among to told tells. f.step.sent to g kept.epoch kept.round (seen_round kept.round told) (st.joined.sent g lg kept among to told tells)));
           bounded = f.bounded;
           room = room_on set some cs m st g lg d f.later (apply-fits at c number entry (st.room g lg));
           few = few_on set some cs m st g lg d f.later (few_apply at c number entry (st.few g lg));

@@ -8,7 +8,7 @@ use Rattle.std.specs.Ordering.{match_ordering}
 use Rattle.hs_rounds.specs.declared.body.RoundBody.{RoundBody}
 use Rattle.hs_rounds.specs.declared.place.Place.{Place}
 use Rattle.hs_rounds.specs.Rounds.{GotList, place_cmp, body_at, told_by, is_before, from_round}
-use Rattle.hs_rounds.proofs.PlaceLemmas.{same_place, found_from, gone_before}
+use Rattle.hs_rounds.proofs.PlaceLemmas.{same_place, tied_place, found_from, gone_before}
 
 -- what stands at a place is what was logged there, or stood there before
 pub logged_or_old : (gots : GotList) (p q : Place) (told body : RoundBody) → body_at q (insert_entry place_cmp gots p told) ≡ Some body → ((q ≡ p) × (told ≡ body)) ⊎ (body_at q gots ≡ Some body)
@@ -36,6 +36,16 @@ logged_or_old (x ∷ gots) p q told body e = go (place_cmp p x.0) refl (logged_o
     go Less o ih e = first (is_at (place_cmp q) p) refl e
     go Equal o ih e = here (same_place p x.0 (ap is_eq o)) (is_at (place_cmp q) x.0) refl e
     go Greater o ih e = later ih (is_at (place_cmp q) x.0) e
+
+-- what was logged stands at its place
+pub logged_here : (gots : GotList) (p : Place) (told : RoundBody) → body_at p (insert_entry place_cmp gots p told) ≡ Some told
+logged_here [] p told = rw (tied_place p) refl
+logged_here (x ∷ gots) p told = go (place_cmp p x.0) refl (logged_here gots p told)
+  where
+    go : (o : Ordering) → place_cmp p x.0 ≡ o → body_at p (insert_entry place_cmp gots p told) ≡ Some told → body_at p (match_ordering o ((p, told) ∷ x ∷ gots) ((x.0, told) ∷ gots) (x ∷ insert_entry place_cmp gots p told)) ≡ Some told
+    go Less o ih = rw (tied_place p) refl
+    go Equal o ih = (let at : is_at (place_cmp p) x.0 ≡ true = ap is_eq o in rw at refl)
+    go Greater o ih = (let off : is_at (place_cmp p) x.0 ≡ false = ap is_eq o in rw off ih)
 
 -- what is not forgotten stood there before
 pub kept_is_old : (epoch round : ℕ) (gots : GotList) (q : Place) (body : RoundBody) → body_at q (from_round epoch round gots) ≡ Some body → body_at q gots ≡ Some body

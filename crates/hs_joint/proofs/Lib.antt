@@ -14,3 +14,7 @@ pub mod StandLemmas
 pub mod SendLemmas
 pub mod EndLemmas
 pub mod EnterLemmas
+pub mod ClientLemmas
+pub mod GotLemmas
+pub mod AllowLemmas
+pub mod DeedLemmas
