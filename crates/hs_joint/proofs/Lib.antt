@@ -18,3 +18,4 @@ pub mod ClientLemmas
 pub mod GotLemmas
 pub mod AllowLemmas
 pub mod DeedLemmas
+pub mod HistoryLemmas
