@@ -24,6 +24,7 @@ use Rattle.hs_laws.specs.Valid.{rests_on}
 use Rattle.hs_entry.specs.declared.entry.Entry.{Entry}
 use Rattle.hs_entry.specs.declared.entry.Entry.TheVariants as kind
 use Rattle.hs_deletion.specs.Machine.{Layout, ShardState, Machine}
+use Rattle.hs_deletion.specs.Clocks.{label_of}
 use Rattle.hs_deletion.specs.Records.{BlockRecord}
 use Rattle.hs_deletion.specs.Anchors.{IsThere, IsReachedIn}
 use Rattle.hs_deletion.specs.Catalogue.{ShardCatalogue, stored_in, marked_in, rooted_in, unrooted_in}
@@ -50,7 +51,7 @@ use Rattle.hs_fold.proofs.Runs.OwnLemmas.{apply-own}
 use Rattle.hs_fold.proofs.Runs.KeyLemmas.{one-entry}
 use Rattle.hs_fold.proofs.Runs.RoomLemmas.{apply-fits}
 use Rattle.hs_fold.proofs.Shards.StoreLemmas.{found-mine}
-use Rattle.hs_joint.specs.Joined.{IsSentSo}
+use Rattle.hs_joint.specs.Joined.{IsSentSo, KeepsTheLast}
 use Rattle.hs_joint.specs.Seen.{layout_of, seen_block, seen_root, seen_round, seen, all_seen}
 use Rattle.hs_joint.proofs.BoundLemmas.{IsBounded, bounded_stored, bounded_given}
 use Rattle.hs_joint.proofs.FewLemmas.{few_apply}
@@ -59,7 +60,7 @@ use Rattle.hs_joint.proofs.LikeLemmas.{IsLike, follow_like, seen_insert, seen_ma
 use Rattle.hs_joint.proofs.ReachedLemmas.{here_at, rests_there}
 use Rattle.hs_joint.proofs.SameLists.{same_as, same_last}
 use Rattle.hs_joint.proofs.SendLemmas.{ordered_keys}
-use Rattle.hs_joint.proofs.StandLemmas.{IsStanding, GoesOn, right, own_here, join_on, room_on, few_on, nothing_done}
+use Rattle.hs_joint.proofs.StandLemmas.{IsStanding, GoesOn, right, own_here, join_on, room_on, few_on, nothing_done, same_rows}
 
 -- an entry that is given again as it is
 set_as_it_is : {V : Type 0} (test : Address → Bool) (es : List (Address × V)) (v : V) → lookup test es ≡ Some v → set_value test es v ≡ es
@@ -213,9 +214,10 @@ module _ (set : Setting) (some : 0 < set.shape.shards) (cs : List Catalogue) (m 
     pub follows : IsFollowing L later g (seen g d)
     pub bounded : IsBounded L later
     pub sent : d.sent ≡ c.sent
+    pub states : later.states ≡ m.states
 
   nothing_new : IsFollowed c
-  nothing_new = record { later = m; made = st.joined.followed.made; step = nothing_done set some cs m st g; follows = follows; bounded = st.bounded; sent = refl }
+  nothing_new = record { later = m; made = st.joined.followed.made; step = nothing_done set some cs m st g; follows = follows; bounded = st.bounded; sent = refl; states = refl }
 
   -- ---- Block
 
@@ -268,6 +270,7 @@ module _ (set : Setting) (some : 0 < set.shape.shards) (cs : List Catalogue) (m 
               (store_follows L m g a block.pointers h C follows);
             bounded = bounded_stored L m R st.bounded a block.pointers may;
             sent = refl;
+            states = refl;
           }
 
   -- ---- Mark
@@ -311,6 +314,7 @@ module _ (set : Setting) (some : 0 < set.shape.shards) (cs : List Catalogue) (m 
               (mark_follows L m g a h C follows);
             bounded = bounded_given L m R st.bounded a;
             sent = refl;
+            states = refl;
           }
 
       go : (found : Option Facts) → facts_at c a ≡ found → IsFollowed (cond (is_marked (plain c) least number (option_map (λ f. f.present) found)) (record c { blocks = marked c.epoch found c.blocks a }) c)
@@ -349,6 +353,7 @@ module _ (set : Setting) (some : 0 < set.shape.shards) (cs : List Catalogue) (m 
               (root_follows L m g key (a ∷ []) C follows);
             bounded = st.bounded;
             sent = refl;
+            states = refl;
           }
 
   drop_goes : (key : List ℕ) → IsFollowed (drop_key at c key)
@@ -374,6 +379,7 @@ module _ (set : Setting) (some : 0 < set.shape.shards) (cs : List Catalogue) (m 
               (drop_follows L m g key C follows);
             bounded = st.bounded;
             sent = refl;
+            states = refl;
           }
 
   view_goes : (view : ℕ) → IsFollowed (record c { view = view })
@@ -384,6 +390,7 @@ module _ (set : Setting) (some : 0 < set.shape.shards) (cs : List Catalogue) (m 
     follows = record { blocks = follows.blocks; roots = follows.roots; epoch = follows.epoch; swept = follows.swept; round = follows.round; got = follows.got };
     bounded = st.bounded;
     sent = refl;
+    states = refl;
   }
 
   -- ---- any entry
@@ -408,10 +415,12 @@ module _ (set : Setting) (some : 0 < set.shape.shards) (cs : List Catalogue) (m 
       record {
         later = f.later;
         standing = record {
-          joined = join_on set some cs m st g lg d f.later f.made f.step f.follows (apply-own at c own number entry) (subst (λ xs. IsSentSo L f.later g xs) (sym f.sent) (λ kept among to told tells. f.step.sent to g kept.epoch kept.round (seen_round kept.round told) (st.joined.sent g lg kept among to told tells)));
+          joined = join_on set some cs m st g lg d f.later f.made f.step f.follows (apply-own at c own number entry) (subst (λ xs. IsSentSo L f.later g xs) (sym f.sent) (λ kept among to told tells. f.step.sent to g kept.epoch kept.round (seen_round kept.round told) (st.joined.sent g lg kept among to told tells))) (λ row l. ap (λ s. label_of L s row) f.states) (subst (λ xs. KeepsTheLast L f.later g xs) (sym f.sent) (same_rows L m f.later g c.sent (ap (λ (s : ℕ → ShardState). (s g).sent) f.states) (λ row l. ap (λ s. label_of L s row) f.states) (st.joined.last g lg)));
           bounded = f.bounded;
           room = room_on set some cs m st g lg d f.later (apply-fits at c number entry (st.room g lg));
           few = few_on set some cs m st g lg d f.later (few_apply at c number entry (st.few g lg));
         };
         moves = f.step.sent;
+        sends = inl (f.sent, ap (λ (s : ℕ → ShardState). (s g).sent) f.states);
+        states = f.step.states;
       }

@@ -1,5 +1,5 @@
 -- An entry of a lawful history: what it does in the plain store and in the machine.
-use Rattle.std.proofs.Common.{◌≡◌, ◌⊎◌, inl, inr, ℕ, zero, suc, ◌+◌, ◌<◌, ◌≤◌, ◌==◌, ◌&&◌, List, [], ◌∷◌, length, Bool, true, false, cond, Option, Some, None, refl, sym, ap, ◌∙◌, subst, arith, slice_set}
+use Rattle.std.proofs.Common.{◌≡◌, ◌≢◌, ◌⊎◌, inl, inr, ℕ, zero, suc, ◌+◌, ◌<◌, ◌≤◌, ◌==◌, ◌&&◌, List, [], ◌∷◌, length, Bool, true, false, cond, Option, Some, None, refl, sym, ap, ◌∙◌, subst, arith, slice_set}
 use Rattle.std.proofs.lemmas.Bool.{and_parts, eqb-true, ltb-true}
 use Rattle.std.proofs.lemmas.Grind.{common_steps}
 use Rattle.std.proofs.lemmas.List.Elements.{recursion_from_All}
@@ -37,7 +37,7 @@ use Rattle.hs_joint.proofs.AllowLemmas.{KeepsFresh, AllowedBy, inside, happens_k
 use Rattle.hs_joint.proofs.ClientLemmas.{comes_or_not, client_goes}
 use Rattle.hs_joint.proofs.EnterLemmas.{enter_fits, enter_open, entered_goes}
 use Rattle.hs_joint.proofs.GotLemmas.{stays_open, advanced_epoch, got_differs, GotGoes, got_goes}
-use Rattle.hs_joint.proofs.StandLemmas.{IsStanding, GoesOn, was_sent, set_same}
+use Rattle.hs_joint.proofs.StandLemmas.{IsStanding, SendsOn, GoesOn, was_sent, set_same}
 
 -- the records of each shard
 pub few_at : (P : Catalogue → Type 0) (cs : List Catalogue) → AllByRecursion P cs → (k : ℕ) → k < length cs → P (catalogue_at cs k)
@@ -49,6 +49,8 @@ pub record Arrives (set : Setting) (some : 0 < set.shape.shards) (cs : List Cata
   pub later : Machine
   pub standing : IsStanding set some (follow set cs deed) later
   pub moves : (to sender epoch round : ℕ) (body : Round) → IsSent (layout_of set.shape.shards some) m.states to sender epoch round body → IsSent (layout_of set.shape.shards some) later.states to sender epoch round body
+  pub sends : SendsOn (catalogue_at cs deed.shard).sent (applied set cs deed).sent (m.states deed.shard).sent (later.states deed.shard).sent
+  pub states : (k : ℕ) → k ≢ deed.shard → later.states k ≡ m.states k
   pub store : store_of (follow set cs deed) ≡ happen_by (store_of cs) (happening_by set cs deed)
   pub allowed : MayHappenBy (store_of cs) (happening_by set cs deed)
   pub keeps : Valid (store_of cs) → KeepsFresh (store_of cs) (store_of (follow set cs deed))
@@ -84,6 +86,8 @@ module _ (set : Setting) (some : 0 < set.shape.shards) (cs : List Catalogue) (m 
         later = m;
         standing = subst (λ ds. IsStanding set some ds m) (sym is) st;
         moves = λ to sender epoch round body i. i;
+        sends = inl (ap (λ (x : Catalogue). x.sent) e, refl);
+        states = λ k o. refl;
         store = store;
         allowed = allowed;
         keeps = λ v. subst (λ ds. KeepsFresh s (store_of ds)) (sym is) (v, λ least l a r. r);
@@ -94,6 +98,8 @@ module _ (set : Setting) (some : 0 < set.shape.shards) (cs : List Catalogue) (m 
     later = goes.later;
     standing = goes.standing;
     moves = goes.moves;
+    sends = goes.sends;
+    states = goes.states;
     store = store;
     allowed = may_by s (happening_by set cs (deed entry)) may;
     keeps = λ v. subst (λ t. KeepsFresh s t) (sym store) (happens_keep s v (happening_by set cs (deed entry)) may);

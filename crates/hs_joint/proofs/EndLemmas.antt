@@ -15,8 +15,8 @@ use Rattle.hs_rounds.specs.declared.body.RoundBody.{RoundBody}
 use Rattle.hs_rounds.specs.declared.sending.SentRound.{SentRound}
 use Rattle.hs_rounds.specs.Rounds.{told_by, have_told, from_round, body_for, bodies_for}
 use Rattle.hs_deletion.specs.Machine.{Layout, Round, ShardState, Machine, set_at}
-use Rattle.hs_deletion.specs.Rounds.{times, total_in, raised_in, lowered_in}
-use Rattle.hs_deletion.specs.Steps.{after_search, after_sweep, state_searched, state_swept}
+use Rattle.hs_deletion.specs.Rounds.{times, next_round, total_in, raised_in, lowered_in}
+use Rattle.hs_deletion.specs.Steps.{blocks_at, roots_at, recounted_at, after_search, after_sweep, state_searched, state_swept}
 use Rattle.hs_deletion.specs.Clocks.{label_of, IsRunning}
 use Rattle.hs_deletion.specs.Counts.{raised_on_way}
 use Rattle.hs_deletion.specs.Catalogue.{ShardCatalogue, sends_next}
@@ -31,6 +31,7 @@ use Rattle.hs_deletion.proofs.LabelLemmas.{last_tells, not_last_tells, label_ris
 use Rattle.hs_deletion.proofs.ClockLemmas.{unswept_of}
 use Rattle.hs_deletion.proofs.SumLemmas.{set_at_self, set_at_other}
 use Rattle.hs_deletion.proofs.RoundLemmas.{times_member}
+use Rattle.hs_deletion.proofs.SentLemmas.{labels_stay, labels_same}
 use Rattle.hs_deletion.proofs.WayLemmas.{lowered_last, raised_late}
 use Rattle.hs_deletion.proofs.OpenLemmas.{running, round_is, may_complete, raised_same, lowered_same, last_same}
 use Rattle.hs_deletion.proofs.FollowLemmas.{IsStepAt}
@@ -59,7 +60,7 @@ use Rattle.hs_joint.proofs.GotLookups.{kept_is_old}
 use Rattle.hs_joint.proofs.LikeLemmas.{IsWithin, raised_open, lowered_open, follow_like, complete_seen, last_seen, told_each}
 use Rattle.hs_joint.proofs.ReachedLemmas.{there_at, here_at, released_goes, gone_is}
 use Rattle.hs_joint.proofs.SendLemmas.{told_whole}
-use Rattle.hs_joint.proofs.StandLemmas.{own_set, IsStanding, GoesOn, right, own_here, set_here, set_there, follow_on, join_on, room_on, few_on}
+use Rattle.hs_joint.proofs.StandLemmas.{own_set, same_rows, more_rows, IsStanding, GoesOn, right, own_here, set_here, set_there, follow_on, join_on, room_on, few_on}
 use Rattle.hs_joint.proofs.TellLemmas.{next_named, next_told, next_total_told}
 
 -- a member of what is kept of a list
@@ -185,14 +186,24 @@ module _ (set : Setting) (some : 0 < set.shape.shards) (cs : List Catalogue) (m 
           step
           (follow_like L (after_sweep L g m) g (seen g d) _ (sweep_like n g c (λ e k. untold e k parts.0 parts.1)) (sweep_follows L m R g lg C follows done))
           (subst (λ x. IsOwn n g x) sweeps_to own_end)
-          (λ kept among to told tells. step.sent to g kept.epoch kept.round (seen_round kept.round told) (st.joined.sent g lg kept among to told tells));
+          (λ kept among to told tells. step.sent to g kept.epoch kept.round (seen_round kept.round told) (st.joined.sent g lg kept among to told tells))
+          (λ row l. labels row)
+          (same_rows L m (after_sweep L g m) g c.sent sent_same (λ row l. labels row) (st.joined.last g lg));
         bounded = bounded_swept L m R st.bounded g (at_the_last L m g may over_there);
         room = room_on set some cs m st g lg d (after_sweep L g m) (subst (λ x. length x.blocks ≤ 16384) sweeps_to room_end);
         few = few_on set some cs m st g lg d (after_sweep L g m) (subst (λ x. HaveFew x) sweeps_to (few_end n c (st.few g lg)));
       };
       moves = step.sent;
+      sends = inl (refl, sent_same);
+      states = step.states;
     }
       where
+        labels : (row : ℕ) → label_of L (after_sweep L g m).states row ≡ label_of L m.states row
+        labels row = labels_same L m.states R.clocks g lg (state_swept (m.states g)) refl refl row
+
+        sent_same : ((after_sweep L g m).states g).sent ≡ (m.states g).sent
+        sent_same = ap (λ (x : ShardState). x.sent) (set_at_self g (state_swept (m.states g)) m.states)
+
         room_end : length (end_round n c).blocks ≤ 16384
         room_end = end-fits n c (st.room g lg)
 
@@ -309,14 +320,33 @@ module _ (set : Setting) (some : 0 < set.shape.shards) (cs : List Catalogue) (m 
     searched_goes = record {
       later = searched_m;
       standing = record {
-        joined = join_on set some cs m st g lg s searched_m made_search step_search follows_search own_search (λ kept among to told tells. kept_sent kept (member_from_contains kept s.sent among) to told tells);
+        joined = join_on set some cs m st g lg s searched_m made_search step_search follows_search own_search (λ kept among to told tells. kept_sent kept (member_from_contains kept s.sent among) to told tells)
+          (λ row l. labels row l)
+          (more_rows L m searched_m g c.sent new_kept sent_more (λ row l. labels row (omega (arith, l))) new_epoch new_round_is (st.joined.last g lg));
         bounded = bounded_searched L m R st.bounded g may more;
         room = room_search;
         few = few_on set some cs m st g lg s searched_m (subst (λ x. HaveFew x) searches_to (few_end n c (st.few g lg)));
       };
       moves = step_search.sent;
+      sends = inr (new_kept, refl, sent_more);
+      states = step_search.states;
     }
       where
+        new_kept : SentRound
+        new_kept = record { epoch = c.epoch; round = c.round + 1; bodies = bodies_for n (next_total (settled n c)) (next_deltas (settled n c)) }
+
+        sent_more : (searched_m.states g).sent ≡ (m.states g).sent + 1
+        sent_more = ap (λ (x : ShardState). x.sent) state_search
+
+        labels : (row : ℕ) → row ≤ (m.states g).sent → label_of L searched_m.states row ≡ label_of L m.states row
+        labels row l = labels_stay L m.states R.clocks g lg (next_round (m.states g).round (m.states g).epoch (map (recounted_at L g m) (blocks_at L g m.blocks)) (roots_at g m.roots)) (state_searched L g m) refl refl row l
+
+        new_epoch : (label_of L searched_m.states (m.states g).sent).epoch ≡ c.epoch
+        new_epoch = (let i = sent_there 0 in subst (λ j. (label_of L searched_m.states j).epoch ≡ c.epoch) (row_sent 0) i.of_epoch)
+
+        new_round_is : (label_of L searched_m.states (m.states g).sent).round ≡ c.round + 1
+        new_round_is = (let i = sent_there 0 in subst (λ j. (label_of L searched_m.states j).round ≡ c.round + 1) (row_sent 0) i.of_round)
+
         kept_sent : (kept : SentRound) → Member kept s.sent → (to : ℕ) (told : RoundBody) → slice_get kept.bodies to ≡ Some told → IsSent L searched_m.states to g kept.epoch kept.round (seen_round kept.round told)
         kept_sent kept (inl e) to told tells = rw e (new_sent to told (ap (λ (x : SentRound). slice_get x.bodies to) (sym e) ∙ tells))
         kept_sent kept (inr k) to told tells = step_search.sent to g kept.epoch kept.round (seen_round kept.round told) (st.joined.sent g lg kept (contains_from_member kept c.sent (taken 1 kept c.sent k)) to told tells)

@@ -15,9 +15,9 @@ use Rattle.hs_rounds.specs.declared.body.RoundBody.{RoundBody}
 use Rattle.hs_rounds.specs.declared.sending.SentRound.{SentRound}
 use Rattle.hs_rounds.specs.Rounds.{told_by, have_told, from_round, body_for, bodies_for}
 use Rattle.hs_deletion.specs.Machine.{Layout, ShardState, Machine, sum_below}
-use Rattle.hs_deletion.specs.Rounds.{times}
+use Rattle.hs_deletion.specs.Rounds.{times, first_round}
 use Rattle.hs_deletion.specs.Counts.{block_weight, root_weight, indegree}
-use Rattle.hs_deletion.specs.Steps.{after_enter, state_entered}
+use Rattle.hs_deletion.specs.Steps.{blocks_at, roots_at, after_enter, state_entered}
 use Rattle.hs_deletion.specs.Clocks.{label_of, IsIdle}
 use Rattle.hs_deletion.specs.Catalogue.{ShardCatalogue, sends_first}
 use Rattle.hs_deletion.specs.Following.{IsSent, IsFollowing, AreFollowing, named_at, named_in}
@@ -29,6 +29,7 @@ use Rattle.hs_deletion.proofs.LabelLemmas.{label_tells}
 use Rattle.hs_deletion.proofs.ClockLemmas.{unswept_of, idle_of, epoch_of_sent}
 use Rattle.hs_deletion.proofs.SumLemmas.{set_at_self, set_at_other}
 use Rattle.hs_deletion.proofs.RoundLemmas.{times_member}
+use Rattle.hs_deletion.proofs.SentLemmas.{labels_stay}
 use Rattle.hs_deletion.proofs.FollowCounts.{named_is}
 use Rattle.hs_deletion.proofs.FollowLemmas.{IsStepAt}
 use Rattle.hs_deletion.proofs.FollowShards.{enter_elsewhere, enter_follows, enter_sends}
@@ -55,7 +56,7 @@ use Rattle.hs_joint.proofs.GotLookups.{kept_is_old}
 use Rattle.hs_joint.proofs.LikeLemmas.{follow_like, enter_like, told_each}
 use Rattle.hs_joint.proofs.ListedLemmas.{epoch-at, epochs-length}
 use Rattle.hs_joint.proofs.SendLemmas.{told_whole}
-use Rattle.hs_joint.proofs.StandLemmas.{own_set, IsStanding, GoesOn, right, own_here, set_here, set_there, follow_on, join_on, room_on, few_on}
+use Rattle.hs_joint.proofs.StandLemmas.{own_set, more_rows, IsStanding, GoesOn, right, own_here, set_here, set_there, follow_on, join_on, room_on, few_on}
 use Rattle.hs_joint.proofs.TellLemmas.{first_named, first_told}
 
 pub swept-at : (cs : List Catalogue) (k : ℕ) → k < length cs → slice_index (map (λ (p : Plain). p.swept) (map plain cs)) k ≡ (catalogue_at cs k).swept
@@ -255,10 +256,29 @@ module _ (set : Setting) (some : 0 < set.shape.shards) (cs : List Catalogue) (m 
       entered_goes = record {
         later = entered_m;
         standing = record {
-          joined = join_on set some cs m st g lg d entered_m made step follows_later own_later (λ kept among to told tells. kept_sent kept (member_from_contains kept d.sent among) to told tells);
+          joined = join_on set some cs m st g lg d entered_m made step follows_later own_later (λ kept among to told tells. kept_sent kept (member_from_contains kept d.sent among) to told tells)
+            (λ row l. labels row l)
+            (more_rows L m entered_m g c.sent new_kept sent_more (λ row l. labels row (omega (arith, l))) new_epoch new_round_is (st.joined.last g lg));
           bounded = bounded_entered L m R st.bounded g may named_low;
           room = room_later;
           few = few_later;
         };
         moves = step.sent;
+        sends = inr (new_kept, refl, sent_more);
+        states = step.states;
       }
+        where
+          new_kept : SentRound
+          new_kept = record { epoch = c.epoch + 1; round = 0; bodies = bodies_for n 0 (first_deltas (c.epoch + 1) c) }
+
+          sent_more : (entered_m.states g).sent ≡ (m.states g).sent + 1
+          sent_more = ap (λ (x : ShardState). x.sent) state_later
+
+          labels : (row : ℕ) → row ≤ (m.states g).sent → label_of L entered_m.states row ≡ label_of L m.states row
+          labels row l = labels_stay L m.states R.clocks g lg (first_round ((m.states g).epoch + 1) (blocks_at L g m.blocks) (roots_at g m.roots)) (state_entered L g m) refl refl row l
+
+          new_epoch : (label_of L entered_m.states (m.states g).sent).epoch ≡ c.epoch + 1
+          new_epoch = (let i = sent_there 0 in subst (λ j. (label_of L entered_m.states j).epoch ≡ c.epoch + 1) (row_sent 0) i.of_epoch)
+
+          new_round_is : (label_of L entered_m.states (m.states g).sent).round ≡ 0
+          new_round_is = (let i = sent_there 0 in subst (λ j. (label_of L entered_m.states j).round ≡ 0) (row_sent 0) i.of_round)

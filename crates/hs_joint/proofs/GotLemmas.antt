@@ -35,7 +35,7 @@ use Rattle.hs_joint.proofs.GotLookups.{logged_here}
 use Rattle.hs_joint.proofs.LikeLemmas.{logged_follows}
 use Rattle.hs_joint.proofs.ListedLemmas.{epoch-at}
 use Rattle.hs_joint.proofs.ReachedLemmas.{least_high}
-use Rattle.hs_joint.proofs.StandLemmas.{IsStanding, GoesOn, right, own_here, set_here, join_on, room_on, few_on, nothing_done, set_twice, set_same}
+use Rattle.hs_joint.proofs.StandLemmas.{IsStanding, SendsOn, GoesOn, right, own_here, set_here, join_on, room_on, few_on, nothing_done, set_twice, set_same}
 
 -- ---- rounds end one after another, but here one at most
 
@@ -168,7 +168,7 @@ module _ (set : Setting) (some : 0 < set.shape.shards) (cs : List Catalogue) (m 
   module _ (sent : IsSent L m.states g place.from place.epoch place.round (seen_round place.round told)) where
     logged_standing : IsStanding set some ds m
     logged_standing = record {
-      joined = join_on set some cs m st g lg D m st.joined.followed.made (nothing_done set some cs m st g) (logged_follows g c L m (st.joined.followed.each g lg) place told sent) (let o = own_here set some cs m st g lg in record { mine = o.mine; once = o.once }) (λ kept among to body tells. st.joined.sent g lg kept among to body tells);
+      joined = join_on set some cs m st g lg D m st.joined.followed.made (nothing_done set some cs m st g) (logged_follows g c L m (st.joined.followed.each g lg) place told sent) (let o = own_here set some cs m st g lg in record { mine = o.mine; once = o.once }) (λ kept among to body tells. st.joined.sent g lg kept among to body tells) (λ row l. refl) (st.joined.last g lg);
       bounded = st.bounded;
       room = room_on set some cs m st g lg D m (st.room g lg);
       few = few_on set some cs m st g lg D m (st.few g lg);
@@ -187,7 +187,7 @@ module _ (set : Setting) (some : 0 < set.shape.shards) (cs : List Catalogue) (m 
 
     -- it waits, or another one is missing
     waits : is_complete n D ≡ false → GoesOn set some cs m g D
-    waits e = record { later = m; standing = logged_standing; moves = λ to sender epoch round body i. i }
+    waits e = record { later = m; standing = logged_standing; moves = λ to sender epoch round body i. i; sends = inl (refl, refl); states = λ k o. refl }
 
     module _ (whole : is_complete n D ≡ true) where
       whole_there : is_complete n (catalogue_at ds g) ≡ true
@@ -200,7 +200,7 @@ module _ (set : Setting) (some : 0 < set.shape.shards) (cs : List Catalogue) (m 
       place_end = ap (λ x. slice_set ds g (end_round n x)) here ∙ set_twice cs g D (end_round n D)
 
       ended : GoesOn set some ds m g (end_round n (catalogue_at ds g)) → GoesOn set some cs m g (end_round n D)
-      ended go = record { later = go.later; standing = subst (λ xs. IsStanding set some xs go.later) place_end go.standing; moves = go.moves }
+      ended go = record { later = go.later; standing = subst (λ xs. IsStanding set some xs go.later) place_end go.standing; moves = go.moves; sends = subst (λ x. SendsOn x.sent (end_round n D).sent (m.states g).sent (go.later.states g).sent) here (subst (λ x. SendsOn (catalogue_at ds g).sent (end_round n x).sent (m.states g).sent (go.later.states g).sent) here go.sends); states = go.states }
 
       -- the last round of a run: the shard sweeps, which the plain store allows
       module _ (over : is_last n D ≡ true) where

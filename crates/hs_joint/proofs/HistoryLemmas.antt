@@ -18,7 +18,7 @@ use Rattle.hs_fold.specs.Runs.Own.{AreOwn}
 use Rattle.hs_fold.proofs.Runs.BlankLemmas.{blank-sound}
 use Rattle.hs_fold.proofs.Runs.OwnLemmas.{empty-own}
 use Rattle.hs_joint.specs.Along.{KeepFewRecords, EachDoesItsPart}
-use Rattle.hs_joint.specs.Joined.{IsSentSo}
+use Rattle.hs_joint.specs.Joined.{IsSentSo, KeepsTheLast}
 use Rattle.hs_joint.specs.Seen.{layout_of, seen}
 use Rattle.hs_joint.proofs.BoundLemmas.{bounded_empty}
 use Rattle.hs_joint.proofs.DeedLemmas.{arrives}
@@ -55,6 +55,7 @@ empty_standing set some = record {
     own = empty_own n 0 n;
     followed = record { made = made_empty L; each = λ k lk. subst (λ c. IsFollowing L empty_machine k (seen k c)) (sym (empty_at n k)) (blank k) };
     sent = λ k lk. subst (λ c. IsSentSo L empty_machine k c.sent) (sym (empty_at n k)) (λ kept among to told tells. elim (member_from_contains kept [] among) [ ]);
+    last = λ k lk. subst (λ c. KeepsTheLast L empty_machine k c.sent) (sym (empty_at n k)) (record { rows = λ place kept e. cc e; there = λ place two low. absurd (omega (arith, low)) });
   };
   bounded = bounded_empty L;
   room = λ k lk. subst (λ c. length c.blocks ≤ 16384) (sym (empty_at n k)) (omega arith);
