@@ -2,6 +2,7 @@
 use Rattle.std.proofs.Common.{◌≡◌, ◌≢◌, ◌⊎◌, inl, inr, ℕ, zero, suc, ◌+◌, ◌-◌, ◌<◌, ◌≤◌, ◌^◌, ◌==◌, ◌&&◌, List, [], ◌∷◌, ◌++◌, length, map, filter, take, Bool, true, false, cond, if◌then◌else◌, not, Option, Some, None, is_some, refl, sym, ap, ◌∙◌, subst, arith, nat_le, nat_lt, slice_index, slice_set}
 use Rattle.std.proofs.lemmas.Bool.{and_parts, eqb-true, cases_eq}
 use Rattle.std.proofs.lemmas.Bool.Decides.{nat_tests}
+use Rattle.std.proofs.lemmas.List.Elements.{All-from_recursion}
 use Rattle.std.specs.Prelude.{Contains, slice_get}
 use Rattle.std.specs.Map.{keys_of}
 use Rattle.std.specs.Option.{option_map, option_map_or}
@@ -39,27 +40,30 @@ use Rattle.hs_deletion.proofs.FollowShards.{search_elsewhere, search_follows, se
 use Rattle.hs_deletion.proofs.HistoryKeeps.{right_made, made_after, at_the_last}
 use Rattle.hs_deletion.proofs.SearchCounts.{fits}
 use Rattle.hs_fold.specs.Lawful.{shard_at}
+use Rattle.hs_fold.specs.Runs.Counts.{amount_at}
 use Rattle.hs_fold.specs.Runs.Facts.{Facts, RootFacts, Catalogue, empty_catalogue}
 use Rattle.hs_fold.specs.Runs.Fits.{catalogue_at}
 use Rattle.hs_fold.specs.Runs.Opened.{store_of}
 use Rattle.hs_fold.specs.Runs.Own.{IsOwn, AreOwn}
-use Rattle.hs_fold.specs.Runs.Rounds.{is_running, is_complete, is_last, settled, search, sweep, end_round, next_deltas, next_total, is_released, is_gone, is_new_zero, sends}
+use Rattle.hs_fold.specs.Runs.Rounds.{is_running, is_complete, is_last, open_deltas, settled, search, sweep, end_round, next_deltas, next_total, is_released, is_gone, is_new_zero, sends}
 use Rattle.hs_fold.specs.Runs.Told.{tally, pointers_of, addresses_of}
 use Rattle.hs_fold.specs.Shards.Setting.{Setting}
 use Rattle.hs_fold.proofs.Runs.EndDeedLemmas.{Released, Gone, end-searches, end-sweeps}
 use Rattle.hs_fold.proofs.Runs.OwnLemmas.{end-own}
 use Rattle.hs_fold.proofs.Runs.RoomLemmas.{end-fits}
+use Rattle.hs_fold.proofs.Runs.SmallLemmas.{by-each}
 use Rattle.hs_fold.proofs.Shards.PlaceLemmas.{length-set}
 use Rattle.hs_joint.specs.Joined.{IsSentSo}
+use Rattle.hs_joint.specs.Numbers.{TellsAll, CountsTakeAll}
 use Rattle.hs_joint.specs.Seen.{layout_of, seen_block, seen_root, seen_round, repeated, seen, all_seen}
 use Rattle.hs_joint.proofs.BoundLemmas.{most, IsBounded, bounded_searched, bounded_swept}
 use Rattle.hs_joint.proofs.CutLemmas.{body_told, times_told, raised_there, lowered_there}
 use Rattle.hs_joint.proofs.EndLikeLemmas.{search_like, IsUntold, sweep_like}
 use Rattle.hs_joint.proofs.FewLemmas.{HaveFew, few_end}
 use Rattle.hs_joint.proofs.GotLookups.{kept_is_old}
-use Rattle.hs_joint.proofs.LikeLemmas.{IsWithin, raised_open, lowered_open, follow_like, complete_seen, last_seen, told_each}
+use Rattle.hs_joint.proofs.LikeLemmas.{IsWithin, open_sums, raised_open, lowered_open, follow_like, complete_seen, last_seen, told_each}
 use Rattle.hs_joint.proofs.ReachedLemmas.{there_at, here_at, released_goes, gone_is}
-use Rattle.hs_joint.proofs.SendLemmas.{told_whole}
+use Rattle.hs_joint.proofs.SendLemmas.{told_whole, part_whole}
 use Rattle.hs_joint.proofs.StandLemmas.{own_set, same_rows, more_rows, IsStanding, GoesOn, right, own_here, set_here, set_there, follow_on, join_on, room_on, few_on}
 use Rattle.hs_joint.proofs.TellLemmas.{next_named, next_told, next_total_told}
 
@@ -316,6 +320,9 @@ module _ (set : Setting) (some : 0 < set.shape.shards) (cs : List Catalogue) (m 
             (next_total_told n g c within)
             (sent_there to))
 
+    pub next_whole : TellsAll n (next_deltas (settled n c))
+    next_whole to lt = part_whole n some (slice_set cs g s) (length-set cs g s ∙ st.joined.each) own_all searched_m follow_search to lt (room_search to lt) named (λ x k q. named_there x k)
+
     pub searched_goes : GoesOn set some cs m g s
     searched_goes = record {
       later = searched_m;
@@ -371,6 +378,27 @@ module _ (set : Setting) (some : 0 < set.shape.shards) (cs : List Catalogue) (m 
             go (Some d) e =
                 let old : nat_le (d + 2) c.epoch ≡ true = rw e at p.1 in
                 released_goes n some cs st.joined.each st.joined.own m st.joined.followed.each R g lg may first r.root d e (grind (arith, nat_tests, old))
+
+  -- ---- counts take all that is told
+
+  pub takes_all : CountsTakeAll n c
+  takes_all = record {
+    raised = λ first. All-from_recursion (λ (e : Address × Facts). e.1.count + amount_at e.0 (open_deltas n c) < 2 ^ 32) c.blocks (by-each (λ (e : Address × Facts). e.1.count + amount_at e.0 (open_deltas n c) < 2 ^ 32) c.blocks (λ e k. (
+      let up : raised_open g c n e.0 ≡ amount_at e.0 (open_deltas n c) = (open_sums g c n e.0 true (grind (arith, nat_tests, first))).0 in
+      let low = above e k in
+      omega (arith, up, low)
+    )));
+    lowered = λ late. All-from_recursion (λ (e : Address × Facts). amount_at e.0 (open_deltas n c) ≤ e.1.count) c.blocks (by-each (λ (e : Address × Facts). amount_at e.0 (open_deltas n c) ≤ e.1.count) c.blocks (λ e k. (
+      let sums = open_sums g c n e.0 false (grind (arith, nat_tests, late)) in
+      let up : raised_open g c n e.0 ≡ 0 = sums.0 in
+      let down : lowered_open g c n e.0 ≡ amount_at e.0 (open_deltas n c) = sums.1 in
+      below_by e k up down (is_last n c) refl
+    )));
+  }
+    where
+      below_by : (e : Address × Facts) → Member e c.blocks → raised_open g c n e.0 ≡ 0 → lowered_open g c n e.0 ≡ amount_at e.0 (open_deltas n c) → (b : Bool) → is_last n c ≡ b → amount_at e.0 (open_deltas n c) ≤ e.1.count
+      below_by e k up down true q = (let p = last_tells (m.states g).round (total_in L m.states row) (sym last_is ∙ q) in let none = (untold e k p.0 p.1).lowered in omega (arith, none, down))
+      below_by e k up down false q = (let low = (within_more e k (not_last_tells (m.states g).round (total_in L m.states row) (sym last_is ∙ q))).below in omega (arith, low, up, down))
 
   -- ---- one round at most ends
 

@@ -47,6 +47,7 @@ use Rattle.hs_fold.proofs.Runs.OwnLemmas.{enter-own}
 use Rattle.hs_fold.proofs.Runs.StepLemmas.{counted-present}
 use Rattle.hs_fold.proofs.Shards.PlaceLemmas.{length-set}
 use Rattle.hs_joint.specs.Joined.{IsSentSo}
+use Rattle.hs_joint.specs.Numbers.{TellsAll}
 use Rattle.hs_joint.specs.Seen.{layout_of, seen_block, seen_root, seen_round, repeated, seen, all_seen}
 use Rattle.hs_joint.proofs.BoundLemmas.{most, IsBounded, bounded_entered, blocks_low, roots_low, sum_low}
 use Rattle.hs_joint.proofs.CutLemmas.{body_told, raised_there}
@@ -55,7 +56,7 @@ use Rattle.hs_joint.proofs.FewLemmas.{HaveFew, few_each}
 use Rattle.hs_joint.proofs.GotLookups.{kept_is_old}
 use Rattle.hs_joint.proofs.LikeLemmas.{follow_like, enter_like, told_each}
 use Rattle.hs_joint.proofs.ListedLemmas.{epoch-at, epochs-length}
-use Rattle.hs_joint.proofs.SendLemmas.{told_whole}
+use Rattle.hs_joint.proofs.SendLemmas.{told_whole, part_whole}
 use Rattle.hs_joint.proofs.StandLemmas.{own_set, more_rows, IsStanding, GoesOn, right, own_here, set_here, set_there, follow_on, join_on, room_on, few_on}
 use Rattle.hs_joint.proofs.TellLemmas.{first_named, first_told}
 
@@ -230,6 +231,9 @@ module _ (set : Setting) (some : 0 < set.shape.shards) (cs : List Catalogue) (m 
             (λ a e. refl)
             refl
             (sent_there to))
+
+    pub first_whole : TellsAll n (first_deltas (c.epoch + 1) c)
+    first_whole to lt = part_whole n some (slice_set cs g d) (length-set cs g d ∙ st.joined.each) own_all entered_m follow_later to lt (room_later to lt) named (λ x k q. named_there x k)
 
     kept_sent : (kept : SentRound) → Member kept d.sent → (to : ℕ) (told : RoundBody) → slice_get kept.bodies to ≡ Some told → IsSent L entered_m.states to g kept.epoch kept.round (seen_round kept.round told)
     kept_sent kept (inl e) to told tells = rw e (new_sent to told (ap (λ (x : SentRound). slice_get x.bodies to) (sym e) ∙ tells))

@@ -26,10 +26,11 @@ use Rattle.hs_fold.specs.Runs.Fits.{catalogue_at}
 use Rattle.hs_fold.specs.Shards.Catalogue.{Catalogue as Plain}
 use Rattle.hs_fold.specs.Shards.Opened.{store_of as listed}
 use Rattle.hs_fold.specs.Runs.Opened.{pruned, store_of}
-use Rattle.hs_fold.specs.Runs.Rounds.{is_running, is_accepted, is_due, is_complete, is_last, settled, search, sweep, end_round, advance, advanced, ends_last, log_got, get_round}
+use Rattle.hs_fold.specs.Runs.Rounds.{is_running, is_accepted, is_due, is_complete, is_last, next_deltas, settled, search, sweep, end_round, advance, advanced, ends_last, log_got, get_round}
 use Rattle.hs_fold.specs.Runs.Happening.{ends_run}
+use Rattle.hs_joint.specs.Numbers.{TellsAll, CountsTakeAll}
 use Rattle.hs_joint.specs.Seen.{layout_of, seen_round, seen}
-use Rattle.hs_joint.proofs.EndLemmas.{may, last_is, sweeps_to, swept_goes, swept_store, searches_to, searched_goes, searched_store, ends_once}
+use Rattle.hs_joint.proofs.EndLemmas.{may, last_is, sweeps_to, swept_goes, swept_store, searches_to, searched_goes, searched_store, next_whole, takes_all, ends_once}
 use Rattle.hs_joint.proofs.EnterLemmas.{swept-at}
 use Rattle.hs_joint.proofs.GotLookups.{logged_here}
 use Rattle.hs_joint.proofs.LikeLemmas.{logged_follows}
@@ -201,6 +202,10 @@ module _ (set : Setting) (some : 0 < set.shape.shards) (cs : List Catalogue) (m 
 
       ended : GoesOn set some ds m g (end_round n (catalogue_at ds g)) → GoesOn set some cs m g (end_round n D)
       ended go = record { later = go.later; standing = subst (λ xs. IsStanding set some xs go.later) place_end go.standing; moves = go.moves; sends = subst (λ x. SendsOn x.sent (end_round n D).sent (m.states g).sent (go.later.states g).sent) here (subst (λ x. SendsOn (catalogue_at ds g).sent (end_round n x).sent (m.states g).sent (go.later.states g).sent) here go.sends); states = go.states }
+
+      pub got_loses_nothing : CountsTakeAll n D × (is_last n D ≡ false → TellsAll n (next_deltas (settled n D)))
+      got_loses_nothing = subst (λ x. CountsTakeAll n x × (is_last n x ≡ false → TellsAll n (next_deltas (settled n x)))) here
+          (takes_all set some ds m logged_standing g lg whole_there, λ goes. next_whole set some ds m logged_standing g lg whole_there goes)
 
       -- the last round of a run: the shard sweeps, which the plain store allows
       module _ (over : is_last n D ≡ true) where

@@ -19,3 +19,4 @@ pub mod GotLemmas
 pub mod AllowLemmas
 pub mod DeedLemmas
 pub mod HistoryLemmas
+pub mod NumberLemmas

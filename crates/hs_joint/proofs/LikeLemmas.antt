@@ -248,7 +248,7 @@ module _ (shard : ℕ) (c : Catalogue) where
   sum_zero : (n : ℕ) → sum_below n (λ h. 0) ≡ 0
   sum_zero n = sum_below_none n (λ h. 0) (λ h l. refl)
 
-  open_sums : (n : ℕ) (a : Address) (b : Bool) → (c.round == 0) ≡ b → (raised_open n a ≡ (if b then amount_at a (open_deltas n c) else 0)) × (lowered_open n a ≡ (if b then 0 else amount_at a (open_deltas n c)))
+  pub open_sums : (n : ℕ) (a : Address) (b : Bool) → (c.round == 0) ≡ b → (raised_open n a ≡ (if b then amount_at a (open_deltas n c) else 0)) × (lowered_open n a ≡ (if b then 0 else amount_at a (open_deltas n c)))
   open_sums n a true e = (
     sum_below_same n (λ h. times a (open_round C h).raises) (λ h. amount_at a (changes_in (told_for h))) (λ h l. (open_amount h a).0 ∙ rw e refl) ∙ sym (amount_each a (λ h. changes_in (told_for h)) n),
     sum_below_same n (λ h. times a (open_round C h).lowers) (λ h. 0) (λ h l. (open_amount h a).1 ∙ rw e refl) ∙ sum_zero n,
