@@ -96,20 +96,20 @@ module _ (layout : Layout) (m : Machine) (right : IsRight layout m) (bounded : I
         let sg = same_completed g in
         elim (beside layout entered_m.states entered_right.clocks g h may.within (layout.within a)) [
           | inl p ↦ (
-            let row : (label_of layout entered_m.states (entered_m.states h).completed).round ≡ 0 = omega (arith, p.2, first) in
-            let one = lowered_first layout entered_m.states entered_right.clocks (entered_m.states h).completed a row in
-            let two = lowered_unsent layout entered_m.states entered_right.clocks ((entered_m.states h).completed + 1) a (λ k lk. (let u = unsent k lk in let same = p.0 in omega (arith, u, same, sg))) in
-            omega (arith, one, two)
-          )
+              let row : (label_of layout entered_m.states (entered_m.states h).completed).round ≡ 0 = omega (arith, p.2, first) in
+              let one = lowered_first layout entered_m.states entered_right.clocks (entered_m.states h).completed a row in
+              let two = lowered_unsent layout entered_m.states entered_right.clocks ((entered_m.states h).completed + 1) a (λ k lk. (let u = unsent k lk in let same = p.0 in omega (arith, u, same, sg))) in
+              omega (arith, one, two)
+              )
           | inr (inl p) ↦ absurd (omega (arith, p.0, come, sh, sg, level))
           | inr (inr p) ↦ (
-            let next : (entered_m.states g).completed ≡ (entered_m.states h).completed + 1 = p.0 in
-            let two = lowered_first layout entered_m.states entered_right.clocks ((entered_m.states h).completed + 1) a (subst (λ k. (label_of layout entered_m.states k).round ≡ 0) next first) in
-            elim p.1 [
-              | inl q ↦ (let one = lowered_last layout entered_m.states entered_right.clocks (entered_m.states h).completed a q.1 in omega (arith, one, two))
-              | inr q ↦ absurd (omega (arith, q.2, first))
-            ]
-          )
+              let next : (entered_m.states g).completed ≡ (entered_m.states h).completed + 1 = p.0 in
+              let two = lowered_first layout entered_m.states entered_right.clocks ((entered_m.states h).completed + 1) a (subst (λ k. (label_of layout entered_m.states k).round ≡ 0) next first) in
+              elim p.1 [
+                | inl q ↦ (let one = lowered_last layout entered_m.states entered_right.clocks (entered_m.states h).completed a q.1 in omega (arith, one, two))
+                | inr q ↦ absurd (omega (arith, q.2, first))
+              ]
+              )
         ]
 
     pub bounded_entered : ((a : Address) → indegree entered_m a ≤ most) → IsBounded layout entered_m
@@ -169,17 +169,17 @@ module _ (layout : Layout) (m : Machine) (right : IsRight layout m) (bounded : I
     less : (a : Address) → raised_on_way layout swept_m a ≤ raised_on_way layout m a
     less a = elim (cases_eq (layout.home a) g) [
       | inl e ↦ (
-        let one = raised_same layout m.states right.clocks g last.within (state_swept (m.states g)) refl refl ((m.states g).completed + 1) a in
-        let two = raised_same layout m.states right.clocks g last.within (state_swept (m.states g)) refl refl ((m.states g).completed + 1 + 1) a in
-        let none = raised_unsent layout m.states right.clocks ((m.states g).completed + 1 + 1) a (λ k lk. omega (arith, sent_near layout m.states right.clocks g k last.within lk)) in
-        rw (e, set_at_self g (state_swept (m.states g)) m.states) (omega (arith, one, two, none))
-      )
+          let one = raised_same layout m.states right.clocks g last.within (state_swept (m.states g)) refl refl ((m.states g).completed + 1) a in
+          let two = raised_same layout m.states right.clocks g last.within (state_swept (m.states g)) refl refl ((m.states g).completed + 1 + 1) a in
+          let none = raised_unsent layout m.states right.clocks ((m.states g).completed + 1 + 1) a (λ k lk. omega (arith, sent_near layout m.states right.clocks g k last.within lk)) in
+          rw (e, set_at_self g (state_swept (m.states g)) m.states) (omega (arith, one, two, none))
+          )
       | inr o ↦ (
-        let k : ℕ = (m.states (layout.home a)).completed in
-        let one = raised_same layout m.states right.clocks g last.within (state_swept (m.states g)) refl refl k a in
-        let two = raised_same layout m.states right.clocks g last.within (state_swept (m.states g)) refl refl (k + 1) a in
-        rw (set_at_other g (state_swept (m.states g)) m.states (layout.home a) o) (omega (arith, one, two))
-      )
+          let k : ℕ = (m.states (layout.home a)).completed in
+          let one = raised_same layout m.states right.clocks g last.within (state_swept (m.states g)) refl refl k a in
+          let two = raised_same layout m.states right.clocks g last.within (state_swept (m.states g)) refl refl (k + 1) a in
+          rw (set_at_other g (state_swept (m.states g)) m.states (layout.home a) o) (omega (arith, one, two))
+          )
     ]
 
     pub bounded_swept : IsBounded layout swept_m

@@ -133,16 +133,16 @@ comes_or_not at cs g number (kind.Mark op least block a) u fit = go (facts_at (c
     one f e false fit = inl refl
     one f e true fit = elim (cases_eq f.present.mark (catalogue_at cs g).epoch) [
       | inl same ↦ inl (
-        let is : remark (catalogue_at cs g).epoch f ≡ f = λ i. record f { present = record f.present { mark = sym same i } } in
-        ap (λ (bs : List (Address × Facts)). record (catalogue_at cs g) { blocks = bs }) (ap (λ (x : Facts). set_value (is_at (address_cmp a)) (catalogue_at cs g).blocks x) is ∙ set_as_it_is (is_at (address_cmp a)) (catalogue_at cs g).blocks f e)
-      )
+          let is : remark (catalogue_at cs g).epoch f ≡ f = λ i. record f { present = record f.present { mark = sym same i } } in
+          ap (λ (bs : List (Address × Facts)). record (catalogue_at cs g) { blocks = bs }) (ap (λ (x : Facts). set_value (is_at (address_cmp a)) (catalogue_at cs g).blocks x) is ∙ set_as_it_is (is_at (address_cmp a)) (catalogue_at cs g).blocks f e)
+          )
       | inr other ↦ inr (fit (λ same. (
-        let now = set_look (is_at (address_cmp a)) (catalogue_at cs g).blocks f (remark (catalogue_at cs g).epoch f) e in
-        let moved = ap (λ (x : Catalogue). lookup (is_at (address_cmp a)) x.blocks) same in
-        let is : Some (remark (catalogue_at cs g).epoch f) ≡ Some f = sym now ∙ moved ∙ e in
-        let inside : remark (catalogue_at cs g).epoch f ≡ f = cc is in
-        other (sym (ap (λ (x : Facts). x.present.mark) inside))
-      )))
+          let now = set_look (is_at (address_cmp a)) (catalogue_at cs g).blocks f (remark (catalogue_at cs g).epoch f) e in
+          let moved = ap (λ (x : Catalogue). lookup (is_at (address_cmp a)) x.blocks) same in
+          let is : Some (remark (catalogue_at cs g).epoch f) ≡ Some f = sym now ∙ moved ∙ e in
+          let inside : remark (catalogue_at cs g).epoch f ≡ f = cc is in
+          other (sym (ap (λ (x : Facts). x.present.mark) inside))
+          )))
     ]
 
     go : (found : Option Facts) → facts_at (catalogue_at cs g) a ≡ found → ((cond (is_marked (plain (catalogue_at cs g)) least block (option_map (λ f. f.present) found)) (record (catalogue_at cs g) { blocks = marked (catalogue_at cs g).epoch found (catalogue_at cs g).blocks a }) (catalogue_at cs g) ≡ catalogue_at cs g → ⊥) → MayCome cs g (kind.Mark op least block a))
@@ -158,11 +158,11 @@ comes_or_not at cs g number (kind.Root op held a key) u fit = go (is_rooted at (
         → (cond b (record (catalogue_at cs g) { roots = (catalogue_at cs g).roots ++ new_root (catalogue_at cs g).epoch a key ∷ [] }) (catalogue_at cs g) ≡ catalogue_at cs g) ⊎ MayCome cs g (kind.Root op held a key)
     go false f = inl refl
     go true f = inr (f (λ same. (
-      let long = length-append (catalogue_at cs g).roots (new_root (catalogue_at cs g).epoch a key ∷ []) in
-      let short : length ((catalogue_at cs g).roots ++ new_root (catalogue_at cs g).epoch a key ∷ []) ≡ length (catalogue_at cs g).roots = ap (λ (x : Catalogue). length x.roots) same in
-      let one : length (new_root (catalogue_at cs g).epoch a key ∷ []) ≡ 1 = refl in
-      omega (arith, long, short, one)
-    )))
+        let long = length-append (catalogue_at cs g).roots (new_root (catalogue_at cs g).epoch a key ∷ []) in
+        let short : length ((catalogue_at cs g).roots ++ new_root (catalogue_at cs g).epoch a key ∷ []) ≡ length (catalogue_at cs g).roots = ap (λ (x : Catalogue). length x.roots) same in
+        let one : length (new_root (catalogue_at cs g).epoch a key ∷ []) ≡ 1 = refl in
+        omega (arith, long, short, one)
+        )))
 
 -- ---- the machine
 
@@ -259,15 +259,15 @@ module _ (set : Setting) (some : 0 < set.shape.shards) (cs : List Catalogue) (m 
             made = made_after L m (Stores a block.pointers) st.joined.followed.made may;
             step = store_elsewhere L m g a block.pointers h;
             follows = follow_like L (after_effect L (Stores a block.pointers) m) g (seen g d) (stored_in a block.pointers C)
-              (record {
-                blocks = seen_insert c.blocks a (new_facts (fresh_present c.epoch number block)) none;
-                roots = same_as C.roots C.roots refl;
-                epoch = refl;
-                swept = refl;
-                round = λ l. refl;
-                got = λ sender epoch round body k. k;
-              })
-              (store_follows L m g a block.pointers h C follows);
+                (record {
+                  blocks = seen_insert c.blocks a (new_facts (fresh_present c.epoch number block)) none;
+                  roots = same_as C.roots C.roots refl;
+                  epoch = refl;
+                  swept = refl;
+                  round = λ l. refl;
+                  got = λ sender epoch round body k. k;
+                })
+                (store_follows L m g a block.pointers h C follows);
             bounded = bounded_stored L m R st.bounded a block.pointers may;
             sent = refl;
             states = refl;
@@ -292,26 +292,26 @@ module _ (set : Setting) (some : 0 < set.shape.shards) (cs : List Catalogue) (m 
           let h = here f e in
           let d : Catalogue = record c { blocks = marked c.epoch (Some f) c.blocks a } in
           let may : MayGive L m a = λ b k here p i. (
-            let w = here_entry b k (ap (λ x. shard_of n x) here ∙ h) in
-            let key : w.0.0 ≡ a = sym (ap (λ (y : BlockRecord). y.address) w.2) ∙ here in
-            let is : w.0 ≡ (a, f) = one-entry c.blocks ordered w.0 w.1 (a, f) (member_from_found c.blocks a f e) key in
-            let i' : Member p f.present.stored.pointers = subst (λ (y : Address × Facts). Member p y.1.present.stored.pointers) is (subst (λ (y : BlockRecord). Member p y.pointers) w.2 i) in
-            subst (λ j. IsReachedIn m (m.states j).epoch p) (sym h) (backed least fresh f.present.stored.pointers (rests fresh f.present (present_is f e) (eqb-true f.present.number number both.0)) p i')
+          let w = here_entry b k (ap (λ x. shard_of n x) here ∙ h) in
+          let key : w.0.0 ≡ a = sym (ap (λ (y : BlockRecord). y.address) w.2) ∙ here in
+          let is : w.0 ≡ (a, f) = one-entry c.blocks ordered w.0 w.1 (a, f) (member_from_found c.blocks a f e) key in
+          let i' : Member p f.present.stored.pointers = subst (λ (y : Address × Facts). Member p y.1.present.stored.pointers) is (subst (λ (y : BlockRecord). Member p y.pointers) w.2 i) in
+          subst (λ j. IsReachedIn m (m.states j).epoch p) (sym h) (backed least fresh f.present.stored.pointers (rests fresh f.present (present_is f e) (eqb-true f.present.number number both.0)) p i')
           ) in
           record {
             later = after_effect L (Gives a) m;
             made = made_after L m (Gives a) st.joined.followed.made may;
             step = mark_elsewhere L m g a h;
             follows = follow_like L (after_effect L (Gives a) m) g (seen g d) (marked_in a C)
-              (record {
-                blocks = same_as (seen g d).blocks (marked_in a C).blocks (seen_mark a c.epoch f c.blocks ordered e);
-                roots = same_as C.roots C.roots refl;
-                epoch = refl;
-                swept = refl;
-                round = λ l. refl;
-                got = λ sender epoch round body k. k;
-              })
-              (mark_follows L m g a h C follows);
+                (record {
+                  blocks = same_as (seen g d).blocks (marked_in a C).blocks (seen_mark a c.epoch f c.blocks ordered e);
+                  roots = same_as C.roots C.roots refl;
+                  epoch = refl;
+                  swept = refl;
+                  round = λ l. refl;
+                  got = λ sender epoch round body k. k;
+                })
+                (mark_follows L m g a h C follows);
             bounded = bounded_given L m R st.bounded a;
             sent = refl;
             states = refl;
@@ -342,15 +342,15 @@ module _ (set : Setting) (some : 0 < set.shape.shards) (cs : List Catalogue) (m 
             made = made_after L m (Puts g key (a ∷ [])) st.joined.followed.made (lg, λ x k. elim k [ inl same ↦ subst (λ y. IsReachedIn m (m.states g).epoch y) (sym same) is_there | inr z ↦ elim z [ ] ]);
             step = root_elsewhere L m g key (a ∷ []);
             follows = follow_like L (after_effect L (Puts g key (a ∷ [])) m) g (seen g d) (rooted_in g key (a ∷ []) C)
-              (record {
-                blocks = same_as C.blocks C.blocks refl;
-                roots = same_last (seen_root g) c.roots (new_root c.epoch a key);
-                epoch = refl;
-                swept = refl;
-                round = λ l. refl;
-                got = λ sender epoch round body k. k;
-              })
-              (root_follows L m g key (a ∷ []) C follows);
+                (record {
+                  blocks = same_as C.blocks C.blocks refl;
+                  roots = same_last (seen_root g) c.roots (new_root c.epoch a key);
+                  epoch = refl;
+                  swept = refl;
+                  round = λ l. refl;
+                  got = λ sender epoch round body k. k;
+                })
+                (root_follows L m g key (a ∷ []) C follows);
             bounded = st.bounded;
             sent = refl;
             states = refl;
@@ -368,15 +368,15 @@ module _ (set : Setting) (some : 0 < set.shape.shards) (cs : List Catalogue) (m 
             made = made_after L m (Drops g key) st.joined.followed.made lg;
             step = drop_elsewhere L m g key;
             follows = follow_like L (after_effect L (Drops g key) m) g (seen g d) (unrooted_in key C)
-              (record {
-                blocks = same_as C.blocks C.blocks refl;
-                roots = same_as (seen g d).roots (unrooted_in key C).roots (seen_drop key c.epoch g c.roots);
-                epoch = refl;
-                swept = refl;
-                round = λ l. refl;
-                got = λ sender epoch round body k. k;
-              })
-              (drop_follows L m g key C follows);
+                (record {
+                  blocks = same_as C.blocks C.blocks refl;
+                  roots = same_as (seen g d).roots (unrooted_in key C).roots (seen_drop key c.epoch g c.roots);
+                  epoch = refl;
+                  swept = refl;
+                  round = λ l. refl;
+                  got = λ sender epoch round body k. k;
+                })
+                (drop_follows L m g key C follows);
             bounded = st.bounded;
             sent = refl;
             states = refl;

@@ -93,11 +93,11 @@ module _ (n to : ℕ) (xs keys : List Address) (ordered : IsStrictlySortedBy add
   pub few_told : length (filter (own n to) (tally xs)) ≤ length keys
   few_told =
       let low = no_more_keys (keys_of (filter test (counted_up xs))) keys (filter-sorted address_cmp test (counted_up xs) (counted_sorted xs)) ordered (λ a m. (
-        let o = key_of (filter test (counted_up xs)) a m in
-        let f = member_of_filter test o.0 (counted_up xs) o.1 in
-        let named : Member a xs = subst (λ x. Member x xs) o.2 (counted_named xs o.0 f.0) in
-        let at : shard_of n a ≡ to = ap (λ x. shard_of n x) (sym o.2) ∙ eqb-true (shard_of n o.0.0) to f.1 in
-        among a named at
+      let o = key_of (filter test (counted_up xs)) a m in
+      let f = member_of_filter test o.0 (counted_up xs) o.1 in
+      let named : Member a xs = subst (λ x. Member x xs) o.2 (counted_named xs o.0 f.0) in
+      let at : shard_of n a ≡ to = ap (λ x. shard_of n x) (sym o.2) ∙ eqb-true (shard_of n o.0.0) to f.1 in
+      among a named at
       )) in
       omega (arith, part_length, low)
 
@@ -124,15 +124,15 @@ module _ (layout : Layout) (m : Machine) (right : IsRight layout m) (g : ℕ) (l
   raised_there some = elim (there_or_not m.blocks a) [
     | inl there ↦ there
     | inr none ↦ (
-      let u = (absent_is_unnamed layout m right a none).raised in
-      let zero_at : (j : ℕ) → sum_below layout.shards (λ shard. times a ((m.states shard).rounds j).raises) ≡ 0 → times a ((m.states g).rounds j).raises ≡ 0 = λ j e. none_of_sum_below layout.shards (λ shard. times a ((m.states shard).rounds j).raises) e g lg in
-      let both : (x y : ℕ) → x + y ≡ 0 → (x ≡ 0) × (y ≡ 0) = λ x y e. (omega (arith, e), omega (arith, e)) in
-      let parts = both (sum_below layout.shards (λ shard. times a ((m.states shard).rounds k).raises)) (sum_below layout.shards (λ shard. times a ((m.states shard).rounds (k + 1)).raises)) u in
-      elim two [
-        | inl e ↦ (let z = zero_at k parts.0 in let s : 0 < times a ((m.states g).rounds k).raises = subst (λ j. 0 < times a ((m.states g).rounds j).raises) e some in absurd (omega (arith, z, s)))
-        | inr e ↦ (let z = zero_at (k + 1) parts.1 in let s : 0 < times a ((m.states g).rounds (k + 1)).raises = subst (λ j. 0 < times a ((m.states g).rounds j).raises) e some in absurd (omega (arith, z, s)))
-      ]
-    )
+        let u = (absent_is_unnamed layout m right a none).raised in
+        let zero_at : (j : ℕ) → sum_below layout.shards (λ shard. times a ((m.states shard).rounds j).raises) ≡ 0 → times a ((m.states g).rounds j).raises ≡ 0 = λ j e. none_of_sum_below layout.shards (λ shard. times a ((m.states shard).rounds j).raises) e g lg in
+        let both : (x y : ℕ) → x + y ≡ 0 → (x ≡ 0) × (y ≡ 0) = λ x y e. (omega (arith, e), omega (arith, e)) in
+        let parts = both (sum_below layout.shards (λ shard. times a ((m.states shard).rounds k).raises)) (sum_below layout.shards (λ shard. times a ((m.states shard).rounds (k + 1)).raises)) u in
+        elim two [
+          | inl e ↦ (let z = zero_at k parts.0 in let s : 0 < times a ((m.states g).rounds k).raises = subst (λ j. 0 < times a ((m.states g).rounds j).raises) e some in absurd (omega (arith, z, s)))
+          | inr e ↦ (let z = zero_at (k + 1) parts.1 in let s : 0 < times a ((m.states g).rounds (k + 1)).raises = subst (λ j. 0 < times a ((m.states g).rounds j).raises) e some in absurd (omega (arith, z, s)))
+        ]
+        )
   ]
 
   pub lowered_there : 0 < times a ((m.states g).rounds row).lowers → IsThere m.blocks a
@@ -140,13 +140,13 @@ module _ (layout : Layout) (m : Machine) (right : IsRight layout m) (g : ℕ) (l
   lowered_there some = elim (there_or_not m.blocks a) [
     | inl there ↦ there
     | inr none ↦ (
-      let u = (absent_is_unnamed layout m right a none).lowered in
-      let zero_at : (j : ℕ) → sum_below layout.shards (λ shard. times a ((m.states shard).rounds j).lowers) ≡ 0 → times a ((m.states g).rounds j).lowers ≡ 0 = λ j e. none_of_sum_below layout.shards (λ shard. times a ((m.states shard).rounds j).lowers) e g lg in
-      let both : (x y : ℕ) → x + y ≡ 0 → (x ≡ 0) × (y ≡ 0) = λ x y e. (omega (arith, e), omega (arith, e)) in
-      let parts = both (sum_below layout.shards (λ shard. times a ((m.states shard).rounds k).lowers)) (sum_below layout.shards (λ shard. times a ((m.states shard).rounds (k + 1)).lowers)) u in
-      elim two [
-        | inl e ↦ (let z = zero_at k parts.0 in let s : 0 < times a ((m.states g).rounds k).lowers = subst (λ j. 0 < times a ((m.states g).rounds j).lowers) e some in absurd (omega (arith, z, s)))
-        | inr e ↦ (let z = zero_at (k + 1) parts.1 in let s : 0 < times a ((m.states g).rounds (k + 1)).lowers = subst (λ j. 0 < times a ((m.states g).rounds j).lowers) e some in absurd (omega (arith, z, s)))
-      ]
-    )
+        let u = (absent_is_unnamed layout m right a none).lowered in
+        let zero_at : (j : ℕ) → sum_below layout.shards (λ shard. times a ((m.states shard).rounds j).lowers) ≡ 0 → times a ((m.states g).rounds j).lowers ≡ 0 = λ j e. none_of_sum_below layout.shards (λ shard. times a ((m.states shard).rounds j).lowers) e g lg in
+        let both : (x y : ℕ) → x + y ≡ 0 → (x ≡ 0) × (y ≡ 0) = λ x y e. (omega (arith, e), omega (arith, e)) in
+        let parts = both (sum_below layout.shards (λ shard. times a ((m.states shard).rounds k).lowers)) (sum_below layout.shards (λ shard. times a ((m.states shard).rounds (k + 1)).lowers)) u in
+        elim two [
+          | inl e ↦ (let z = zero_at k parts.0 in let s : 0 < times a ((m.states g).rounds k).lowers = subst (λ j. 0 < times a ((m.states g).rounds j).lowers) e some in absurd (omega (arith, z, s)))
+          | inr e ↦ (let z = zero_at (k + 1) parts.1 in let s : 0 < times a ((m.states g).rounds (k + 1)).lowers = subst (λ j. 0 < times a ((m.states g).rounds j).lowers) e some in absurd (omega (arith, z, s)))
+        ]
+        )
   ]

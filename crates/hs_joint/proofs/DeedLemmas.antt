@@ -151,18 +151,18 @@ module _ (set : Setting) (some : 0 < set.shape.shards) (cs : List Catalogue) (m 
           let is : enter_here n epoch c ≡ enter_epoch n c = ap (λ b. cond b (advanced n (enter_epoch n c)) c) e ∙ open_round in
           let happens : happening_by set cs (deed (kind.Enter op epoch)) ≡ Some (enters g) = ap (λ b. cond b (Some (enters g)) None) e in
           let may = fit (λ same. (
-            let one : (enter_here n epoch c).epoch ≡ c.epoch + 1 = ap (λ (x : Catalogue). x.epoch) is in
-            let two : (enter_here n epoch c).epoch ≡ c.epoch = ap (λ (x : Catalogue). x.epoch) same in
-            omega (arith, one, two)
+          let one : (enter_here n epoch c).epoch ≡ c.epoch + 1 = ap (λ (x : Catalogue). x.epoch) is in
+          let two : (enter_here n epoch c).epoch ≡ c.epoch = ap (λ (x : Catalogue). x.epoch) same in
+          omega (arith, one, two)
           )) in
           let few : AllByRecursion (λ (x : Catalogue). length x.roots ≤ 16777216) (slice_set cs g (enter_epoch n c)) = subst (λ x. AllByRecursion (λ (y : Catalogue). length y.roots ≤ 16777216) (slice_set cs g x)) is (recursion_from_All (λ (x : Catalogue). length x.roots ≤ 16777216) (slice_set cs g (enter_here n epoch c)) records) in
           let each : (k : ℕ) → k < n → length (catalogue_at (slice_set cs g (enter_epoch n c)) k).roots ≤ 16777216 = λ k lk. few_at (λ (x : Catalogue). length x.roots ≤ 16777216) (slice_set cs g (enter_epoch n c)) few k (
-            let same_length = length-set cs g (enter_epoch n c) in
-            let whole = st.joined.each in
-            omega (arith, lk, same_length, whole)
+          let same_length = length-set cs g (enter_epoch n c) in
+          let whole = st.joined.each in
+          omega (arith, lk, same_length, whole)
           ) in
           goes_on (kind.Enter op epoch) (subst (λ x. GoesOn set some cs m g x) (sym is) (entered_goes set some cs m st g lg (enter_fits set some cs m st g lg may) shards each)) store
-            (λ one q. (let it : enters g ≡ one = inside (enters g) one (sym happens ∙ q) in subst (λ x. AllowedBy s x) it may))
+          (λ one q. (let it : enters g ≡ one = inside (enters g) one (sym happens ∙ q) in subst (λ x. AllowedBy s x) it may))
 
   -- ---- Got
 

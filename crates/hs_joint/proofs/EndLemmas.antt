@@ -186,13 +186,13 @@ module _ (set : Setting) (some : 0 < set.shape.shards) (cs : List Catalogue) (m 
       later = after_sweep L g m;
       standing = record {
         joined = join_on set some cs m st g lg d (after_sweep L g m)
-          (subst (λ x. IsMade L x) (ap (λ b. if b then after_sweep L g m else after_search L g m) over_there) (made_after L m (Completes g) made may))
-          step
-          (follow_like L (after_sweep L g m) g (seen g d) _ (sweep_like n g c (λ e k. untold e k parts.0 parts.1)) (sweep_follows L m R g lg C follows done))
-          (subst (λ x. IsOwn n g x) sweeps_to own_end)
-          (λ kept among to told tells. step.sent to g kept.epoch kept.round (seen_round kept.round told) (st.joined.sent g lg kept among to told tells))
-          (λ row l. labels row)
-          (same_rows L m (after_sweep L g m) g c.sent sent_same (λ row l. labels row) (st.joined.last g lg));
+            (subst (λ x. IsMade L x) (ap (λ b. if b then after_sweep L g m else after_search L g m) over_there) (made_after L m (Completes g) made may))
+            step
+            (follow_like L (after_sweep L g m) g (seen g d) _ (sweep_like n g c (λ e k. untold e k parts.0 parts.1)) (sweep_follows L m R g lg C follows done))
+            (subst (λ x. IsOwn n g x) sweeps_to own_end)
+            (λ kept among to told tells. step.sent to g kept.epoch kept.round (seen_round kept.round told) (st.joined.sent g lg kept among to told tells))
+            (λ row l. labels row)
+            (same_rows L m (after_sweep L g m) g c.sent sent_same (λ row l. labels row) (st.joined.last g lg));
         bounded = bounded_swept L m R st.bounded g (at_the_last L m g may over_there);
         room = room_on set some cs m st g lg d (after_sweep L g m) (subst (λ x. length x.blocks ≤ 16384) sweeps_to room_end);
         few = few_on set some cs m st g lg d (after_sweep L g m) (subst (λ x. HaveFew x) sweeps_to (few_end n c (st.few g lg)));
@@ -314,11 +314,11 @@ module _ (set : Setting) (some : 0 < set.shape.shards) (cs : List Catalogue) (m 
     new_sent to told tells =
         let b = body_told n (next_total (settled n c)) (next_deltas (settled n c)) to told tells in
         subst (λ x. IsSent L searched_m.states to g c.epoch (c.round + 1) (seen_round (c.round + 1) x)) b.1
-          (resent L searched_m.states to g c.epoch (c.round + 1) (sends_next n C) (seen_round (c.round + 1) (body_for n (next_total (settled n c)) (next_deltas (settled n c)) to))
-            (λ a e. rw positive refl)
-            (λ a e. rw positive (told_whole n some (slice_set cs g s) (length-set cs g s ∙ st.joined.each) own_all searched_m follow_search to b.0 (room_search to b.0) named (λ x k q. named_there x k) a e ∙ next_told n g c within a))
-            (next_total_told n g c within)
-            (sent_there to))
+        (resent L searched_m.states to g c.epoch (c.round + 1) (sends_next n C) (seen_round (c.round + 1) (body_for n (next_total (settled n c)) (next_deltas (settled n c)) to))
+        (λ a e. rw positive refl)
+        (λ a e. rw positive (told_whole n some (slice_set cs g s) (length-set cs g s ∙ st.joined.each) own_all searched_m follow_search to b.0 (room_search to b.0) named (λ x k q. named_there x k) a e ∙ next_told n g c within a))
+        (next_total_told n g c within)
+        (sent_there to))
 
     pub next_whole : TellsAll n (next_deltas (settled n c))
     next_whole to lt = part_whole n some (slice_set cs g s) (length-set cs g s ∙ st.joined.each) own_all searched_m follow_search to lt (room_search to lt) named (λ x k q. named_there x k)
@@ -328,8 +328,8 @@ module _ (set : Setting) (some : 0 < set.shape.shards) (cs : List Catalogue) (m 
       later = searched_m;
       standing = record {
         joined = join_on set some cs m st g lg s searched_m made_search step_search follows_search own_search (λ kept among to told tells. kept_sent kept (member_from_contains kept s.sent among) to told tells)
-          (λ row l. labels row l)
-          (more_rows L m searched_m g c.sent new_kept sent_more (λ row l. labels row (omega (arith, l))) new_epoch new_round_is (st.joined.last g lg));
+            (λ row l. labels row l)
+            (more_rows L m searched_m g c.sent new_kept sent_more (λ row l. labels row (omega (arith, l))) new_epoch new_round_is (st.joined.last g lg));
         bounded = bounded_searched L m R st.bounded g may more;
         room = room_search;
         few = few_on set some cs m st g lg s searched_m (subst (λ x. HaveFew x) searches_to (few_end n c (st.few g lg)));
@@ -384,16 +384,16 @@ module _ (set : Setting) (some : 0 < set.shape.shards) (cs : List Catalogue) (m 
   pub takes_all : CountsTakeAll n c
   takes_all = record {
     raised = λ first. All-from_recursion (λ (e : Address × Facts). e.1.count + amount_at e.0 (open_deltas n c) < 2 ^ 32) c.blocks (by-each (λ (e : Address × Facts). e.1.count + amount_at e.0 (open_deltas n c) < 2 ^ 32) c.blocks (λ e k. (
-      let up : raised_open g c n e.0 ≡ amount_at e.0 (open_deltas n c) = (open_sums g c n e.0 true (grind (arith, nat_tests, first))).0 in
-      let low = above e k in
-      omega (arith, up, low)
-    )));
+        let up : raised_open g c n e.0 ≡ amount_at e.0 (open_deltas n c) = (open_sums g c n e.0 true (grind (arith, nat_tests, first))).0 in
+        let low = above e k in
+        omega (arith, up, low)
+        )));
     lowered = λ late. All-from_recursion (λ (e : Address × Facts). amount_at e.0 (open_deltas n c) ≤ e.1.count) c.blocks (by-each (λ (e : Address × Facts). amount_at e.0 (open_deltas n c) ≤ e.1.count) c.blocks (λ e k. (
-      let sums = open_sums g c n e.0 false (grind (arith, nat_tests, late)) in
-      let up : raised_open g c n e.0 ≡ 0 = sums.0 in
-      let down : lowered_open g c n e.0 ≡ amount_at e.0 (open_deltas n c) = sums.1 in
-      below_by e k up down (is_last n c) refl
-    )));
+        let sums = open_sums g c n e.0 false (grind (arith, nat_tests, late)) in
+        let up : raised_open g c n e.0 ≡ 0 = sums.0 in
+        let down : lowered_open g c n e.0 ≡ amount_at e.0 (open_deltas n c) = sums.1 in
+        below_by e k up down (is_last n c) refl
+        )));
   }
     where
       below_by : (e : Address × Facts) → Member e c.blocks → raised_open g c n e.0 ≡ 0 → lowered_open g c n e.0 ≡ amount_at e.0 (open_deltas n c) → (b : Bool) → is_last n c ≡ b → amount_at e.0 (open_deltas n c) ≤ e.1.count

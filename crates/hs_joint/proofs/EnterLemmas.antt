@@ -98,20 +98,20 @@ module _ (set : Setting) (some : 0 < set.shape.shards) (cs : List Catalogue) (m 
       record {
         within = lg;
         is_swept = (
-          let a = swept-at cs g (omega (arith, lg, each)) in
-          let s1 = may.swept in
-          let e = follows.epoch in
-          let w = follows.swept in
-          omega (arith, a, here, e, w, s1)
-        );
+            let a = swept-at cs g (omega (arith, lg, each)) in
+            let s1 = may.swept in
+            let e = follows.epoch in
+            let w = follows.swept in
+            omega (arith, a, here, e, w, s1)
+            );
         lowest = λ h l. (
-          let d = epoch-at cs h (omega (arith, l, each)) in
-          let low = least_epoch-at (store_of cs) h (rw (epochs-length cs, each) l) in
-          let e = follows.epoch in
-          let f = (st.joined.followed.each h l).epoch in
-          let s2 = may.least in
-          omega (arith, here, d, low, e, f, s2)
-        );
+            let d = epoch-at cs h (omega (arith, l, each)) in
+            let low = least_epoch-at (store_of cs) h (rw (epochs-length cs, each) l) in
+            let e = follows.epoch in
+            let f = (st.joined.followed.each h l).epoch in
+            let s2 = may.least in
+            omega (arith, here, d, low, e, f, s2)
+            );
       }
 
   -- its round 0 has not come from the shard itself
@@ -226,11 +226,11 @@ module _ (set : Setting) (some : 0 < set.shape.shards) (cs : List Catalogue) (m 
     new_sent to told tells =
         let b = body_told n 0 (first_deltas (c.epoch + 1) c) to told tells in
         subst (λ x. IsSent L entered_m.states to g (c.epoch + 1) 0 (seen_round 0 x)) b.1
-          (resent L entered_m.states to g (c.epoch + 1) 0 (sends_first C) (seen_round 0 (body_for n 0 (first_deltas (c.epoch + 1) c) to))
-            (λ a e. told_whole n some (slice_set cs g d) (length-set cs g d ∙ st.joined.each) own_all entered_m follow_later to b.0 (room_later to b.0) named (λ x k q. named_there x k) a e ∙ first_told n g c a)
-            (λ a e. refl)
-            refl
-            (sent_there to))
+        (resent L entered_m.states to g (c.epoch + 1) 0 (sends_first C) (seen_round 0 (body_for n 0 (first_deltas (c.epoch + 1) c) to))
+        (λ a e. told_whole n some (slice_set cs g d) (length-set cs g d ∙ st.joined.each) own_all entered_m follow_later to b.0 (room_later to b.0) named (λ x k q. named_there x k) a e ∙ first_told n g c a)
+        (λ a e. refl)
+        refl
+        (sent_there to))
 
     pub first_whole : TellsAll n (first_deltas (c.epoch + 1) c)
     first_whole to lt = part_whole n some (slice_set cs g d) (length-set cs g d ∙ st.joined.each) own_all entered_m follow_later to lt (room_later to lt) named (λ x k q. named_there x k)
@@ -246,12 +246,12 @@ module _ (set : Setting) (some : 0 < set.shape.shards) (cs : List Catalogue) (m 
       named_low a =
           let is = named_is L entered_m right_later (all_seen (slice_set cs g d)) follow_later a in
           let low = sum_low n 17825792 (λ k. named_at a (all_seen (slice_set cs g d) k)) (λ k lk. (
-            let x = catalogue_at (slice_set cs g d) k in
-            let b = blocks_low a (catalogue_at (slice_set cs g d) k).blocks (few_later k lk) in
-            let r = roots_low a k (catalogue_at (slice_set cs g d) k).roots in
-            let room = room_later k lk in
-            let some_records = records k lk in
-            omega (arith, b, r, room, some_records)
+          let x = catalogue_at (slice_set cs g d) k in
+          let b = blocks_low a (catalogue_at (slice_set cs g d) k).blocks (few_later k lk) in
+          let r = roots_low a k (catalogue_at (slice_set cs g d) k).roots in
+          let room = room_later k lk in
+          let some_records = records k lk in
+          omega (arith, b, r, room, some_records)
           )) in
           let whole : named_in L (all_seen (slice_set cs g d)) a ≤ n * 17825792 = low in
           omega (arith, is, whole, few_shards)
@@ -261,8 +261,8 @@ module _ (set : Setting) (some : 0 < set.shape.shards) (cs : List Catalogue) (m 
         later = entered_m;
         standing = record {
           joined = join_on set some cs m st g lg d entered_m made step follows_later own_later (λ kept among to told tells. kept_sent kept (member_from_contains kept d.sent among) to told tells)
-            (λ row l. labels row l)
-            (more_rows L m entered_m g c.sent new_kept sent_more (λ row l. labels row (omega (arith, l))) new_epoch new_round_is (st.joined.last g lg));
+              (λ row l. labels row l)
+              (more_rows L m entered_m g c.sent new_kept sent_more (λ row l. labels row (omega (arith, l))) new_epoch new_round_is (st.joined.last g lg));
           bounded = bounded_entered L m R st.bounded g may named_low;
           room = room_later;
           few = few_later;

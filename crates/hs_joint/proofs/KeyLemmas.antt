@@ -49,23 +49,23 @@ no_more_keys [] ys dx dy h = omega arith
 no_more_keys (x ∷ xs) [] dx dy h = elim (h x (inl refl)) [ ]
 no_more_keys (x ∷ xs) (y ∷ ys) dx dy h = elim (same_or_not x y) [
   | inl e ↦ (
-    let rest = no_more_keys xs ys (sorted_tail address_cmp x xs dx) (sorted_tail address_cmp y ys dy) (λ a m. elim (h a (inr m)) [ inl q ↦ absurd (less_differs x a (above_first (λ k. address_cmp x k ≡ Less) xs (sorted_head address_cmp x xs dx) a m) (e ∙ sym q)) | inr k ↦ k ]) in
-    omega (arith, rest)
-  )
+      let rest = no_more_keys xs ys (sorted_tail address_cmp x xs dx) (sorted_tail address_cmp y ys dy) (λ a m. elim (h a (inr m)) [ inl q ↦ absurd (less_differs x a (above_first (λ k. address_cmp x k ≡ Less) xs (sorted_head address_cmp x xs dx) a m) (e ∙ sym q)) | inr k ↦ k ]) in
+      omega (arith, rest)
+      )
   | inr o ↦ (
-    let there : Member x ys = elim (h x (inl refl)) [ inl q ↦ absurd (o q) | inr k ↦ k ] in
-    let low : address_cmp y x ≡ Less = above_first (λ k. address_cmp y k ≡ Less) ys (sorted_head address_cmp y ys dy) x there in
-    let rest = no_more_keys (x ∷ xs) ys dx (sorted_tail address_cmp y ys dy) (λ a m. elim m [
-      | inl q ↦ subst (λ k. Member k ys) (sym q) there
-      | inr k ↦ elim (h a (inr k)) [
-        | inl q ↦ (
-          let up : address_cmp x a ≡ Less = above_first (λ j. address_cmp x j ≡ Less) xs (sorted_head address_cmp x xs dx) a k in
-          absurd (less_differs y a (address_total.trans y x a low up) (sym q))
-        )
-        | inr j ↦ j
-      ]
-    ]) in
-    let long : length (x ∷ xs) ≤ length ys = rest in
-    omega (arith, long)
-  )
+      let there : Member x ys = elim (h x (inl refl)) [ inl q ↦ absurd (o q) | inr k ↦ k ] in
+      let low : address_cmp y x ≡ Less = above_first (λ k. address_cmp y k ≡ Less) ys (sorted_head address_cmp y ys dy) x there in
+      let rest = no_more_keys (x ∷ xs) ys dx (sorted_tail address_cmp y ys dy) (λ a m. elim m [
+        | inl q ↦ subst (λ k. Member k ys) (sym q) there
+        | inr k ↦ elim (h a (inr k)) [
+          | inl q ↦ (
+              let up : address_cmp x a ≡ Less = above_first (λ j. address_cmp x j ≡ Less) xs (sorted_head address_cmp x xs dx) a k in
+              absurd (less_differs y a (address_total.trans y x a low up) (sym q))
+              )
+          | inr j ↦ j
+        ]
+      ]) in
+      let long : length (x ∷ xs) ≤ length ys = rest in
+      omega (arith, long)
+      )
 ]

@@ -166,10 +166,10 @@ module _ (shard : ℕ) (c : Catalogue) where
           go None q e = cc e
           go (Some b) q e = elim (logged_or_old c.got place (record { epoch = epoch; round = round; from = sender }) told b q) [
             | inl p ↦ (
-              let is : seen_round round told ≡ body = ap (seen_round round) p.1 ∙ cc e in
-              subst (λ (x : Round). IsSent layout m.states shard sender epoch round x) is
+                let is : seen_round round told ≡ body = ap (seen_round round) p.1 ∙ cc e in
+                subst (λ (x : Round). IsSent layout m.states shard sender epoch round x) is
                 (subst (λ (x : Place). IsSent layout m.states shard x.from x.epoch x.round (seen_round x.round told)) (sym p.0) sent)
-            )
+                )
             | inr p ↦ f.got sender epoch round body (ap (option_map (seen_round round)) p ∙ e)
           ]
 

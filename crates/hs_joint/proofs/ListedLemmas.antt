@@ -28,17 +28,17 @@ same-pair e x p = λ i. (p.0 i, p.1 i)
 both-in : (es others : List (Address × Present)) (e : Address × Present) → Member e (both es others) → Member e es ⊎ Member e others
 both-in [] others e m = inr m
 both-in (x ∷ es) others e m = elim (insert-key (both es others) x.0 x.1 e m) [
-    | inl p ↦ inl (inl (same-pair e x p))
-    | inr q ↦ elim (both-in es others e q) [ inl k ↦ inl (inr k) | inr k ↦ inr k ]
-  ]
+  | inl p ↦ inl (inl (same-pair e x p))
+  | inr q ↦ elim (both-in es others e q) [ inl k ↦ inl (inr k) | inr k ↦ inr k ]
+]
 
 both-has : (es others : List (Address × Present)) (e : Address × Present) → IsStrictlySortedBy address_cmp (keys_of es) → Member e es → Member e (both es others)
 both-has [] others e d m = elim m [ ]
 both-has (x ∷ es) others e d (inl q) = subst (λ (y : Address × Present). Member y (insert_entry address_cmp (both es others) x.0 x.1)) (sym q) (insert-has (both es others) x.0 x.1)
 both-has (x ∷ es) others e d (inr m) = elim (member-insert (both es others) x.0 x.1 e (both-has es others e (sorted_tail address_cmp x.0 (keys_of es) d) m)) [
-    | inl k ↦ k
-    | inr q ↦ (let is : e ≡ x = one-entry (x ∷ es) d e (inr m) x (inl refl) q in subst (λ (y : Address × Present). Member y (insert_entry address_cmp (both es others) x.0 x.1)) (sym is) (insert-has (both es others) x.0 x.1))
-  ]
+  | inl k ↦ k
+  | inr q ↦ (let is : e ≡ x = one-entry (x ∷ es) d e (inr m) x (inl refl) q in subst (λ (y : Address × Present). Member y (insert_entry address_cmp (both es others) x.0 x.1)) (sym is) (insert-has (both es others) x.0 x.1))
+]
 
 both-other : (es others : List (Address × Present)) (e : Address × Present) → AllByRecursion (λ k. e.0 ≢ k) (keys_of es) → Member e others → Member e (both es others)
 both-other [] others e h m = m
@@ -63,12 +63,12 @@ pub record IsBlock (cs : List Catalogue) (e : Address × Present) : Type 0 where
 pub in-present : (cs : List Catalogue) (e : Address × Present) → Member e (all_present (map plain cs)) → IsBlock cs e
 in-present [] e m = elim m [ ]
 in-present (c ∷ cs) e m = elim (both-in (plain c).blocks (all_present (map plain cs)) e m) [
-    | inl k ↦ (
+  | inl k ↦ (
       let o = member_of_map (λ (x : Address × Facts). (x.0, x.1.present)) e c.blocks k in
       record { shard = 0; within = grind (arith, common_steps); facts = o.0.1; kept = subst (λ a. Member (a, o.0.1) c.blocks) (sym (ap (λ (x : Address × Present). x.0) o.2)) o.1; same = sym (ap (λ (x : Address × Present). x.1) o.2) }
-    )
-    | inr k ↦ (let b = in-present cs e k in record { shard = suc b.shard; within = grind (arith, common_steps, b.within); facts = b.facts; kept = b.kept; same = b.same })
-  ]
+      )
+  | inr k ↦ (let b = in-present cs e k in record { shard = suc b.shard; within = grind (arith, common_steps, b.within); facts = b.facts; kept = b.kept; same = b.same })
+]
 
 pub block-shard : (shards from : ℕ) (cs : List Catalogue) → AreOwn shards from cs → (k : ℕ) → k < length cs → (e : Address × Facts) → Member e (catalogue_at cs k).blocks → shard_of shards e.0 ≡ from + k
 block-shard shards from [] own k l e m = absurd (omega (arith, l))
@@ -138,12 +138,12 @@ pub record IsRoot (cs : List Catalogue) (r : Root) : Type 0 where
 pub in-roots : (cs : List Catalogue) (r : Root) → Member r (all_roots (map plain cs)) → IsRoot cs r
 in-roots [] r m = elim m [ ]
 in-roots (c ∷ cs) r m = elim (roots-in (plain c).roots (all_roots (map plain cs)) r m) [
-    | inl k ↦ elim (roots-in (map (λ (x : RootFacts). x.root) c.roots) [] r k) [
-      | inl q ↦ (let o = member_of_map (λ (x : RootFacts). x.root) r c.roots q in record { shard = 0; within = grind (arith, common_steps); record_ = o.0; kept = o.1; same = sym o.2 })
-      | inr q ↦ elim q [ ]
-    ]
-    | inr k ↦ (let b = in-roots cs r k in record { shard = suc b.shard; within = grind (arith, common_steps, b.within); record_ = b.record_; kept = b.kept; same = b.same })
+  | inl k ↦ elim (roots-in (map (λ (x : RootFacts). x.root) c.roots) [] r k) [
+    | inl q ↦ (let o = member_of_map (λ (x : RootFacts). x.root) r c.roots q in record { shard = 0; within = grind (arith, common_steps); record_ = o.0; kept = o.1; same = sym o.2 })
+    | inr q ↦ elim q [ ]
   ]
+  | inr k ↦ (let b = in-roots cs r k in record { shard = suc b.shard; within = grind (arith, common_steps, b.within); record_ = b.record_; kept = b.kept; same = b.same })
+]
 
 pub out-roots : (cs : List Catalogue) (k : ℕ) → k < length cs → (x : RootFacts) → Member x (catalogue_at cs k).roots → Member x.root (all_roots (map plain cs))
 out-roots [] k l x m = absurd (omega (arith, l))

@@ -116,14 +116,14 @@ module _ (n : ℕ) (some : 0 < n) (cs : List Catalogue) (each : length cs ≡ n)
       first : (a : Address) → Member a (rests_on t least) → IsGivenSince m.blocks (run - 1) a ⊎ IsRootedSince m.roots (run - 1) a
       first a k = starts-each (λ a. IsGivenSince m.blocks (run - 1) a ⊎ IsRootedSince m.roots (run - 1) a) (λ (r : Root). nat_le least (stands_in t r)) (λ (e : Address × ℕ). nat_le least e.1) t.roots t.given
           (λ r q e. (
-            let w = there_root r (member_of_filter (stays s) r s.roots q).0 in
-            inr (record { root = seen_root w.0 w.1; kept = w.2; to = inl (ap (λ (x : Root). x.address) (sym w.3)); counts = subst (λ (x : Root). NotBefore (run - 1) x.dropped) (sym w.3) (since r.dropped (root_epoch t r.key) e) })
+          let w = there_root r (member_of_filter (stays s) r s.roots q).0 in
+          inr (record { root = seen_root w.0 w.1; kept = w.2; to = inl (ap (λ (x : Root). x.address) (sym w.3)); counts = subst (λ (x : Root). NotBefore (run - 1) x.dropped) (sym w.3) (since r.dropped (root_epoch t r.key) e) })
           ))
           (λ e q u. (
-            let o = member_of_map (λ (x : Address × Present). (x.0, x.1.mark)) e (all_present (map plain cs)) q in
-            let b = there_block o.0.0 o.0.1 o.1 in
-            let mark : b.0.present.mark ≡ e.1 = ap (λ (p : Present). p.mark) b.2 ∙ sym (ap (λ (x : Address × ℕ). x.1) o.2) in
-            inl (record { block = seen_block (o.0.0, b.0); stands = b.1; here = ap (λ (x : Address × ℕ). x.0) (sym o.2); since = omega (arith, nat_le_from least e.1 u, mark, l) })
+          let o = member_of_map (λ (x : Address × Present). (x.0, x.1.mark)) e (all_present (map plain cs)) q in
+          let b = there_block o.0.0 o.0.1 o.1 in
+          let mark : b.0.present.mark ≡ e.1 = ap (λ (p : Present). p.mark) b.2 ∙ sym (ap (λ (x : Address × ℕ). x.1) o.2) in
+          inl (record { block = seen_block (o.0.0, b.0); stands = b.1; here = ap (λ (x : Address × ℕ). x.0) (sym o.2); since = omega (arith, nat_le_from least e.1 u, mark, l) })
           ))
           a k
 
@@ -135,14 +135,14 @@ module _ (n : ℕ) (some : 0 < n) (cs : List Catalogue) (each : length cs ≡ n)
     there_start : (a : Address) → Member a (anchors t run) → IsGivenSince m.blocks (run - 1) a ⊎ IsRootedSince m.roots (run - 1) a
     there_start a k = starts-each (λ a. IsGivenSince m.blocks (run - 1) a ⊎ IsRootedSince m.roots (run - 1) a) (counts_in run) (λ (e : Address × ℕ). nat_le run (e.1 + 1)) t.roots t.given
         (λ r q e. (
-          let w = there_root r (member_of_filter (stays s) r s.roots q).0 in
-          inr (record { root = seen_root w.0 w.1; kept = w.2; to = inl (ap (λ (x : Root). x.address) (sym w.3)); counts = counts_here w.1.root.dropped (subst (λ (x : Root). counts_in run x ≡ true) (sym w.3) e) })
+        let w = there_root r (member_of_filter (stays s) r s.roots q).0 in
+        inr (record { root = seen_root w.0 w.1; kept = w.2; to = inl (ap (λ (x : Root). x.address) (sym w.3)); counts = counts_here w.1.root.dropped (subst (λ (x : Root). counts_in run x ≡ true) (sym w.3) e) })
         ))
         (λ e q u. (
-          let o = member_of_map (λ (x : Address × Present). (x.0, x.1.mark)) e (all_present (map plain cs)) q in
-          let b = there_block o.0.0 o.0.1 o.1 in
-          let mark : b.0.present.mark ≡ e.1 = ap (λ (p : Present). p.mark) b.2 ∙ sym (ap (λ (x : Address × ℕ). x.1) o.2) in
-          inl (record { block = seen_block (o.0.0, b.0); stands = b.1; here = ap (λ (x : Address × ℕ). x.0) (sym o.2); since = omega (arith, nat_le_from run (e.1 + 1) u, mark) })
+        let o = member_of_map (λ (x : Address × Present). (x.0, x.1.mark)) e (all_present (map plain cs)) q in
+        let b = there_block o.0.0 o.0.1 o.1 in
+        let mark : b.0.present.mark ≡ e.1 = ap (λ (p : Present). p.mark) b.2 ∙ sym (ap (λ (x : Address × ℕ). x.1) o.2) in
+        inl (record { block = seen_block (o.0.0, b.0); stands = b.1; here = ap (λ (x : Address × ℕ). x.0) (sym o.2); since = omega (arith, nat_le_from run (e.1 + 1) u, mark) })
         ))
         a k
 
@@ -170,8 +170,8 @@ module _ (n : ℕ) (some : 0 < n) (cs : List Catalogue) (each : length cs ≡ n)
         let mark : g.block.mark ≡ h.entry.1.present.mark = ap (λ (b : BlockRecord). b.mark) h.same in
         let is : h.entry.0 ≡ a = sym (ap (λ (b : BlockRecord). b.address) h.same) ∙ g.here in
         subst (λ (x : Address). Member x (anchors t run)) is
-          (starts-given (counts_in run) (λ (e : Address × ℕ). nat_le run (e.1 + 1)) t.roots t.given (h.entry.0, h.entry.1.present.mark)
-            (member-map (λ (x : Address × Present). (x.0, x.1.mark)) (h.entry.0, h.entry.1.present) (all_present (map plain cs)) h.present) (nat_le-true run (h.entry.1.present.mark + 1) (omega (arith, g.since, mark))))
+        (starts-given (counts_in run) (λ (e : Address × ℕ). nat_le run (e.1 + 1)) t.roots t.given (h.entry.0, h.entry.1.present.mark)
+        (member-map (λ (x : Address × Present). (x.0, x.1.mark)) (h.entry.0, h.entry.1.present) (all_present (map plain cs)) h.present) (nat_le-true run (h.entry.1.present.mark + 1) (omega (arith, g.since, mark))))
 
     back_root : ((r : RootRecord) → Member r m.roots → r.home < n) → (a : Address) → IsRootedSince m.roots (run - 1) a → Member a (anchors t run)
     back_root hr a g =
@@ -181,7 +181,7 @@ module _ (n : ℕ) (some : 0 < n) (cs : List Catalogue) (each : length cs ≡ n)
         let is : o.0.root.address ≡ a = elim to [ inl e ↦ sym e | inr e ↦ elim e [ ] ] in
         let st = stays_here o.0.root (subst (λ d. NotBefore (run - 1) d) dropped g.counts) in
         subst (λ (x : Address). Member x (anchors t run)) is
-          (starts-root (counts_in run) (λ (e : Address × ℕ). nat_le run (e.1 + 1)) t.roots t.given o.0.root (member-filter (stays s) o.0.root s.roots o.1 st.0) st.1)
+        (starts-root (counts_in run) (λ (e : Address × ℕ). nat_le run (e.1 + 1)) t.roots t.given o.0.root (member-filter (stays s) o.0.root s.roots o.1 st.0) st.1)
 
     pub back : ((r : RootRecord) → Member r m.roots → r.home < n) → (a : Address) → IsReachedIn m run a → Reaches t.blocks (anchors t run) a
     back hr a r = Reached-each (λ a. Reaches t.blocks (anchors t run) a)

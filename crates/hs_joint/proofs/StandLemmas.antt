@@ -63,11 +63,11 @@ set_twice (x ∷ cs) (suc k) c d = ap (λ rest. x ∷ rest) (set_twice cs k c d)
 pub same_rows : (layout : Layout) (m later : Machine) (h : ℕ) (xs : List SentRound) → (later.states h).sent ≡ (m.states h).sent → ((row : ℕ) → row < (m.states h).sent → label_of layout later.states row ≡ label_of layout m.states row) → KeepsTheLast layout m h xs → KeepsTheLast layout later h xs
 same_rows layout m later h xs same labels keeps = record {
   rows = λ place kept e. (
-    let r = keeps.rows place kept e in
-    let back = r.back in
-    let l = labels r.row (omega (arith, back)) in
-    record { row = r.row; back = omega (arith, back, same); epoch = rw l r.epoch; round = rw l r.round }
-  );
+      let r = keeps.rows place kept e in
+      let back = r.back in
+      let l = labels r.row (omega (arith, back)) in
+      record { row = r.row; back = omega (arith, back, same); epoch = rw l r.epoch; round = rw l r.round }
+      );
   there = λ place two low. keeps.there place two (omega (arith, low, same));
 }
 
@@ -86,9 +86,9 @@ more_rows layout m later h xs new more labels epoch round keeps = record { rows 
 
     place_row : (place : ℕ) (kept : SentRound) → slice_get (take 2 (new ∷ xs)) place ≡ Some kept → IsOfRow layout later.states (later.states h).sent place kept
     place_row zero kept e = (
-      let is : new ≡ kept = cc e in
-      record { row = (m.states h).sent; back = omega (arith, more); epoch = epoch ∙ ap (λ (x : SentRound). x.epoch) is; round = round ∙ ap (λ (x : SentRound). x.round) is }
-    )
+        let is : new ≡ kept = cc e in
+        record { row = (m.states h).sent; back = omega (arith, more); epoch = epoch ∙ ap (λ (x : SentRound). x.epoch) is; round = round ∙ ap (λ (x : SentRound). x.round) is }
+        )
     place_row (suc place) kept e =
         let at = second xs place kept e in
         let r = keeps.rows 0 kept at.1 in
