@@ -1,5 +1,5 @@
 -- What a client's entry does that may come keeps the plain store valid, and so does what a shard does by itself.
-use Rattle.std.proofs.Common.{◌≡◌, inl, inr, ℕ, ◌+◌, ◌<◌, ◌≤◌, ◌==◌, ◌&&◌, List, [], ◌∷◌, ◌++◌, length, map, Bool, true, false, cond, Option, Some, None, is_none, Result, Ok, Err, refl, sym, ap, ◌∙◌, subst, nat_le}
+use Rattle.std.proofs.Common.{◌≡◌, ℕ, ◌+◌, ◌<◌, ◌≤◌, ◌==◌, ◌&&◌, List, ◌∷◌, ◌++◌, length, map, Bool, true, false, cond, Option, Some, None, is_none, Result, Ok, Err, refl, sym, ap, ◌∙◌, subst, nat_le}
 use Rattle.std.proofs.lemmas.Bool.{eqb-true}
 use Rattle.std.specs.Option.{option_map}
 use Rattle.hs_limits.specs.declared.address.Address.{Address}
@@ -7,9 +7,9 @@ use Rattle.hs_limits.specs.declared.spelling.SpellingFault.{SpellingFault}
 use Rattle.hs_limits.specs.Block.{Block}
 use Rattle.hs_limits.specs.Reading.{read_block}
 use Rattle.hs_limits.specs.Shape.{shard_of, shard_of_key}
-use Rattle.hs_model.specs.Inner.{enter, sweep}
+use Rattle.hs_model.specs.Inner.{enter}
 use Rattle.hs_model.specs.Store.{Store, block_at, root_epoch}
-use Rattle.hs_model.proofs.Members.{Member, contains_from_member}
+use Rattle.hs_model.proofs.Members.{contains_from_member}
 use Rattle.hs_model.proofs.ReachLemmas.{Reaches, reached_from_is}
 use Rattle.hs_model.proofs.ReachLemmas.Reached.{start}
 use Rattle.hs_laws.specs.Valid.{least_epoch, rests_on}
@@ -22,7 +22,7 @@ use Rattle.hs_fold.specs.Catalogue.{Present, Shard}
 use Rattle.hs_fold.specs.Lawful.{shard_at}
 use Rattle.hs_fold.specs.Shards.Catalogue.{present_at}
 use Rattle.hs_fold.specs.Shards.Catalogue.{Catalogue as Plain}
-use Rattle.hs_fold.specs.Shards.Change.{change, stores, gives, keeps, drops, is_usable}
+use Rattle.hs_fold.specs.Shards.Change.{stores, gives, keeps, drops, is_usable}
 use Rattle.hs_fold.specs.Shards.Fits.{EachRests, BlockRests, MarkRests, RootRests}
 use Rattle.hs_fold.specs.Shards.Happening.{Happening, changes, enters, sweeps, happen, MayHappen, happen_by, block_happens, mark_happens, key_happens}
 use Rattle.hs_fold.specs.Shards.Mine.{AreMine}

@@ -6,8 +6,8 @@ use Rattle.std.proofs.lemmas.List.Sums.{sum_by-cons, count_by-le-length}
 use Rattle.hs_limits.specs.declared.address.Address.{Address}
 use Rattle.hs_model.specs.Reach.{is_same}
 use Rattle.hs_model.proofs.Members.{Member, member_of_map, member_of_filter}
-use Rattle.hs_deletion.specs.Records.{BlockRecord, RootRecord, change_if, given_in, new_block, spared, renewed, is_removed}
-use Rattle.hs_deletion.specs.Machine.{Layout, ShardState, Machine, empty_machine, set_at, sum_below, is_at}
+use Rattle.hs_deletion.specs.Records.{BlockRecord, change_if, given_in, spared, renewed, is_removed}
+use Rattle.hs_deletion.specs.Machine.{Layout, ShardState, Machine, empty_machine, sum_below, is_at}
 use Rattle.hs_deletion.specs.Rounds.{times, raised_in, lowered_in, total_in}
 use Rattle.hs_deletion.specs.Clocks.{label_of, IsRunning}
 use Rattle.hs_deletion.specs.Counts.{block_weight, root_weight, indegree, raised_on_way, lowered_on_way}
@@ -17,14 +17,13 @@ use Rattle.hs_deletion.specs.Promises.{IsAtTheLast}
 use Rattle.hs_deletion.specs.Steps.{after_store, after_mark, after_enter, after_search, after_sweep, state_entered, state_swept}
 use Rattle.hs_deletion.proofs.SumLemmas.{set_at_self, set_at_other}
 use Rattle.hs_deletion.proofs.RoundLemmas.{times_none}
-use Rattle.hs_deletion.proofs.WayLemmas.{lowered_first, raised_late, lowered_last, raised_unsent, lowered_unsent, raised_sent, raised_same}
+use Rattle.hs_deletion.proofs.WayLemmas.{lowered_first, lowered_last, raised_unsent, lowered_unsent, raised_sent, raised_same}
 use Rattle.hs_deletion.proofs.ClockLemmas.{beside, sent_near, unswept_of}
 use Rattle.hs_deletion.proofs.StepLemmas.{change_if_cases}
 use Rattle.hs_deletion.proofs.PromiseLemmas.{unraised}
 use Rattle.hs_deletion.proofs.EnterKeeps.{right_entered}
 use Rattle.hs_deletion.proofs.EnterLemmas.{idle, completed_same, counts_entered}
 use Rattle.hs_deletion.proofs.SearchLemmas.{run, found, round_of, change_of, new}
-use Rattle.hs_deletion.specs.Following.{HasSame}
 use Rattle.hs_joint.specs.Seen.{seen_block, seen_root}
 use Rattle.hs_fold.specs.Runs.Facts.{Facts, RootFacts}
 

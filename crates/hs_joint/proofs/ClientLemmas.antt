@@ -1,7 +1,6 @@
 -- A client's entry that may come: the machine goes on with it, and so do the catalogues.
-use Rattle.std.proofs.Common.{◌≡◌, ◌≢◌, ◌⊎◌, inl, inr, ℕ, ◌+◌, ◌<◌, ◌≤◌, ◌==◌, ◌&&◌, List, [], ◌∷◌, ◌++◌, length, map, Bool, true, false, cond, not, Option, Some, None, is_none, Result, Ok, Err, refl, sym, ap, ◌∙◌, subst, arith, slice_set}
+use Rattle.std.proofs.Common.{◌≡◌, ◌⊎◌, inl, inr, ℕ, ◌+◌, ◌<◌, ◌≤◌, ◌==◌, ◌&&◌, List, [], ◌∷◌, ◌++◌, length, map, Bool, true, false, cond, not, Option, Some, None, is_none, Result, Ok, Err, refl, sym, ap, ◌∙◌, subst, arith}
 use Rattle.std.proofs.lemmas.Bool.{and_parts, eqb-true, cases_eq}
-use Rattle.std.proofs.lemmas.Bool.Decides.{nat_tests}
 use Rattle.std.proofs.lemmas.Map.Made.{lookup-map_values}
 use Rattle.std.proofs.lemmas.List.{length-append}
 use Rattle.std.specs.BTreeMap.{insert_entry, is_at}
@@ -38,11 +37,11 @@ use Rattle.hs_deletion.proofs.HistoryKeeps.{made_after}
 use Rattle.hs_fold.specs.Catalogue.{Present, Shard, fresh_present}
 use Rattle.hs_fold.specs.Lawful.{shard_at}
 use Rattle.hs_fold.specs.Shards.Catalogue.{is_stored, is_marked, is_rooted, is_fresh, has_room, takes_root, retained_in, present_at}
-use Rattle.hs_fold.specs.Shards.Fits.{EachRests, BlockRests, MarkRests, RootRests}
+use Rattle.hs_fold.specs.Shards.Fits.{EachRests, MarkRests, RootRests}
 use Rattle.hs_fold.specs.Shards.Setting.{Setting}
 use Rattle.hs_fold.specs.Runs.Catalogue.{apply}
 use Rattle.hs_fold.specs.Runs.Clients.{new_facts, store_block, remark, marked, give_block, new_root, keep_root, end_retention, drop_key}
-use Rattle.hs_fold.specs.Runs.Facts.{Facts, RootFacts, Catalogue, plain, facts_at}
+use Rattle.hs_fold.specs.Runs.Facts.{Facts, Catalogue, plain, facts_at}
 use Rattle.hs_fold.specs.Runs.Fits.{catalogue_at, MayCome}
 use Rattle.hs_fold.specs.Runs.Happening.{IsClients}
 use Rattle.hs_fold.specs.Runs.Opened.{store_of}
@@ -52,11 +51,11 @@ use Rattle.hs_fold.proofs.Runs.KeyLemmas.{one-entry}
 use Rattle.hs_fold.proofs.Runs.RoomLemmas.{apply-fits}
 use Rattle.hs_fold.proofs.Shards.StoreLemmas.{found-mine}
 use Rattle.hs_joint.specs.Joined.{IsSentSo, KeepsTheLast}
-use Rattle.hs_joint.specs.Seen.{layout_of, seen_block, seen_root, seen_round, seen, all_seen}
+use Rattle.hs_joint.specs.Seen.{layout_of, seen_block, seen_root, seen_round, seen}
 use Rattle.hs_joint.proofs.BoundLemmas.{IsBounded, bounded_stored, bounded_given}
 use Rattle.hs_joint.proofs.FewLemmas.{few_apply}
 use Rattle.hs_joint.proofs.KeyLemmas.{found-entry}
-use Rattle.hs_joint.proofs.LikeLemmas.{IsLike, follow_like, seen_insert, seen_mark, seen_drop}
+use Rattle.hs_joint.proofs.LikeLemmas.{follow_like, seen_insert, seen_mark, seen_drop}
 use Rattle.hs_joint.proofs.ReachedLemmas.{here_at, rests_there}
 use Rattle.hs_joint.proofs.SameLists.{same_as, same_last}
 use Rattle.hs_joint.proofs.SendLemmas.{ordered_keys}

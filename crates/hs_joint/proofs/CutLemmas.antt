@@ -1,9 +1,9 @@
 -- What is told is told whole: told addresses are present and distinct, so that no round is cut.
-use Rattle.std.proofs.Common.{◌≡◌, ◌⊎◌, inl, inr, ℕ, zero, suc, ◌+◌, ◌≤◌, ◌<◌, ◌==◌, List, [], ◌∷◌, length, map, filter, take, Bool, true, false, cond, Option, Some, None, unwrap_or, if◌then◌else◌, refl, sym, ap, ◌∙◌, subst, arith, count_by}
-use Rattle.std.proofs.lemmas.Bool.{eq-eqb, eqb-true, cases_Bool}
+use Rattle.std.proofs.Common.{◌≡◌, ◌⊎◌, inl, inr, ℕ, zero, suc, ◌+◌, ◌≤◌, ◌<◌, ◌==◌, List, [], ◌∷◌, length, map, filter, Bool, true, false, cond, Option, Some, None, unwrap_or, if◌then◌else◌, refl, sym, ap, ◌∙◌, subst, arith}
+use Rattle.std.proofs.lemmas.Bool.{eq-eqb, eqb-true}
 use Rattle.std.proofs.lemmas.List.{take_all}
 use Rattle.std.proofs.lemmas.Option.{slice_get-map}
-use Rattle.std.specs.BTreeMap.{insert_entry, is_at}
+use Rattle.std.specs.BTreeMap.{is_at}
 use Rattle.std.specs.List.{range_with_len}
 use Rattle.std.specs.List.Sorted.{IsStrictlySortedBy}
 use Rattle.std.specs.Map.{lookup, keys_of}
@@ -14,7 +14,7 @@ use Rattle.hs_limits.specs.declared.delta.Delta.{Delta}
 use Rattle.hs_limits.specs.Shape.{shard_of}
 use Rattle.hs_model.specs.Reach.{is_same}
 use Rattle.hs_model.specs.Store.{address_cmp}
-use Rattle.hs_model.proofs.Members.{Member, member_of_map, member_of_filter, same_from}
+use Rattle.hs_model.proofs.Members.{Member, member_of_filter, same_from}
 use Rattle.hs_laws.proofs.InsertLemmas.{insert-key}
 use Rattle.hs_laws.proofs.OrderLemmas.{filter-sorted}
 use Rattle.hs_rounds.specs.declared.body.RoundBody.{RoundBody}

@@ -1,6 +1,6 @@
 -- An entry of a lawful history: what it does in the plain store and in the machine.
-use Rattle.std.proofs.Common.{◌≡◌, ◌≢◌, ◌⊎◌, inl, inr, ℕ, zero, suc, ◌+◌, ◌<◌, ◌≤◌, ◌==◌, ◌&&◌, List, [], ◌∷◌, length, Bool, true, false, cond, Option, Some, None, refl, sym, ap, ◌∙◌, subst, arith, slice_set}
-use Rattle.std.proofs.lemmas.Bool.{and_parts, eqb-true, ltb-true}
+use Rattle.std.proofs.Common.{◌≡◌, ◌≢◌, inl, inr, ℕ, zero, suc, ◌+◌, ◌<◌, ◌≤◌, ◌&&◌, List, [], ◌∷◌, length, Bool, true, false, cond, Option, Some, None, refl, sym, ap, ◌∙◌, subst, arith, slice_set}
+use Rattle.std.proofs.lemmas.Bool.{and_parts, ltb-true}
 use Rattle.std.proofs.lemmas.Grind.{common_steps}
 use Rattle.std.proofs.lemmas.List.Elements.{recursion_from_All}
 use Rattle.std.specs.List.{AllByRecursion}
@@ -12,21 +12,19 @@ use Rattle.hs_entry.specs.declared.entry.Entry.{Entry}
 use Rattle.hs_entry.specs.declared.entry.Entry.TheVariants as kind
 use Rattle.hs_rounds.specs.declared.body.RoundBody.{RoundBody}
 use Rattle.hs_rounds.specs.declared.place.Place.{Place}
-use Rattle.hs_rounds.specs.Rounds.{body_at}
-use Rattle.hs_deletion.specs.Machine.{Layout, Round, Machine}
+use Rattle.hs_deletion.specs.Machine.{Round, Machine}
 use Rattle.hs_deletion.specs.Following.{IsSent}
 use Rattle.hs_fold.specs.Catalogue.{Shard}
 use Rattle.hs_fold.specs.Lawful.{Deed}
-use Rattle.hs_fold.specs.Shards.Happening.{Happening, changes, enters, sweeps, MayHappen, happen_by}
+use Rattle.hs_fold.specs.Shards.Happening.{Happening, changes, enters, sweeps, happen_by}
 use Rattle.hs_fold.specs.Shards.Happening.{happening_of as plain_happening}
 use Rattle.hs_fold.specs.Shards.Setting.{Setting, shard_in}
-use Rattle.hs_fold.specs.Runs.Catalogue.{apply}
 use Rattle.hs_fold.specs.Runs.Facts.{Catalogue, plain}
 use Rattle.hs_fold.specs.Runs.Fits.{catalogue_at, MayCome}
 use Rattle.hs_fold.specs.Runs.Happening.{IsClients, ends_run, happening_of}
 use Rattle.hs_fold.specs.Runs.History.{applied, follow}
 use Rattle.hs_fold.specs.Runs.Opened.{store_of}
-use Rattle.hs_fold.specs.Runs.Rounds.{may_enter, enter_epoch, is_accepted, is_due, advanced, get_round, ends_last, log_got}
+use Rattle.hs_fold.specs.Runs.Rounds.{may_enter, enter_epoch, is_accepted, advanced, get_round, ends_last, log_got}
 use Rattle.hs_fold.specs.Runs.Rounds.{enter as enter_here}
 use Rattle.hs_fold.proofs.Runs.DeedLemmas.{deed-client, deed-enter}
 use Rattle.hs_fold.proofs.Shards.LegalLemmas.{MayBeChange, one-changes}
@@ -36,7 +34,7 @@ use Rattle.hs_joint.specs.Seen.{layout_of}
 use Rattle.hs_joint.proofs.AllowLemmas.{KeepsFresh, AllowedBy, inside, happens_keep, client_allowed, may_by}
 use Rattle.hs_joint.proofs.ClientLemmas.{comes_or_not, client_goes}
 use Rattle.hs_joint.proofs.EnterLemmas.{enter_fits, enter_open, entered_goes}
-use Rattle.hs_joint.proofs.GotLemmas.{stays_open, advanced_epoch, got_differs, GotGoes, got_goes}
+use Rattle.hs_joint.proofs.GotLemmas.{stays_open, got_differs, got_goes}
 use Rattle.hs_joint.proofs.StandLemmas.{IsStanding, SendsOn, GoesOn, was_sent, set_same}
 
 -- the records of each shard

@@ -1,29 +1,25 @@
 -- The end of a round: the machine's shard completes its row, and the plain store sweeps where it is the last.
-use Rattle.std.proofs.Common.{◌≡◌, ◌≢◌, ◌⊎◌, inl, inr, ℕ, zero, suc, ◌+◌, ◌-◌, ◌<◌, ◌≤◌, ◌^◌, ◌==◌, ◌&&◌, List, [], ◌∷◌, ◌++◌, length, map, filter, take, Bool, true, false, cond, if◌then◌else◌, not, Option, Some, None, is_some, refl, sym, ap, ◌∙◌, subst, arith, nat_le, nat_lt, slice_index, slice_set}
+use Rattle.std.proofs.Common.{◌≡◌, ◌⊎◌, inl, inr, ℕ, zero, suc, ◌+◌, ◌-◌, ◌<◌, ◌≤◌, ◌^◌, ◌==◌, ◌&&◌, List, [], ◌∷◌, ◌++◌, length, map, take, Bool, true, false, cond, if◌then◌else◌, Option, Some, None, is_some, refl, sym, ap, ◌∙◌, subst, arith, nat_le, nat_lt, slice_set}
 use Rattle.std.proofs.lemmas.Bool.{and_parts, eqb-true, cases_eq}
 use Rattle.std.proofs.lemmas.Bool.Decides.{nat_tests}
 use Rattle.std.proofs.lemmas.List.Elements.{All-from_recursion}
-use Rattle.std.specs.Prelude.{Contains, slice_get}
-use Rattle.std.specs.Map.{keys_of}
+use Rattle.std.specs.Prelude.{slice_get}
 use Rattle.std.specs.Option.{option_map, option_map_or}
 use Rattle.hs_limits.specs.declared.address.Address.{Address}
-use Rattle.hs_limits.specs.declared.delta.Delta.{Delta}
 use Rattle.hs_limits.specs.Shape.{shard_of}
 use Rattle.hs_model.specs.Inner.{stays, sweep as sweep_store}
-use Rattle.hs_model.specs.Reach.{is_swept}
-use Rattle.hs_model.proofs.Members.{Member, member_from_contains, member-map, contains_from_member}
+use Rattle.hs_model.proofs.Members.{Member, member_from_contains, contains_from_member}
 use Rattle.hs_rounds.specs.declared.body.RoundBody.{RoundBody}
 use Rattle.hs_rounds.specs.declared.sending.SentRound.{SentRound}
 use Rattle.hs_rounds.specs.Rounds.{told_by, have_told, from_round, body_for, bodies_for}
-use Rattle.hs_deletion.specs.Machine.{Layout, Round, ShardState, Machine, set_at}
+use Rattle.hs_deletion.specs.Machine.{Layout, Round, ShardState, Machine}
 use Rattle.hs_deletion.specs.Rounds.{times, next_round, total_in, raised_in, lowered_in}
 use Rattle.hs_deletion.specs.Steps.{blocks_at, roots_at, recounted_at, after_search, after_sweep, state_searched, state_swept}
 use Rattle.hs_deletion.specs.Clocks.{label_of, IsRunning}
-use Rattle.hs_deletion.specs.Counts.{raised_on_way}
 use Rattle.hs_deletion.specs.Catalogue.{ShardCatalogue, sends_next}
-use Rattle.hs_deletion.specs.Catalogue.{is_complete as is_complete_there, is_open_last}
+use Rattle.hs_deletion.specs.Catalogue.{is_complete as is_complete_there}
 use Rattle.hs_deletion.specs.Following.{IsSent, IsFollowing, AreFollowing}
-use Rattle.hs_deletion.specs.History.{MayComplete, IsMade, after_effect}
+use Rattle.hs_deletion.specs.History.{MayComplete, IsMade}
 use Rattle.hs_deletion.specs.History.{is_last as is_last_there}
 use Rattle.hs_deletion.specs.History.Effect.{Completes}
 use Rattle.hs_deletion.specs.Anchors.{IsThere}
@@ -41,30 +37,29 @@ use Rattle.hs_deletion.proofs.HistoryKeeps.{right_made, made_after, at_the_last}
 use Rattle.hs_deletion.proofs.SearchCounts.{fits}
 use Rattle.hs_fold.specs.Lawful.{shard_at}
 use Rattle.hs_fold.specs.Runs.Counts.{amount_at}
-use Rattle.hs_fold.specs.Runs.Facts.{Facts, RootFacts, Catalogue, empty_catalogue}
+use Rattle.hs_fold.specs.Runs.Facts.{Facts, Catalogue}
 use Rattle.hs_fold.specs.Runs.Fits.{catalogue_at}
 use Rattle.hs_fold.specs.Runs.Opened.{store_of}
 use Rattle.hs_fold.specs.Runs.Own.{IsOwn, AreOwn}
-use Rattle.hs_fold.specs.Runs.Rounds.{is_running, is_complete, is_last, open_deltas, settled, search, sweep, end_round, next_deltas, next_total, is_released, is_gone, is_new_zero, sends}
-use Rattle.hs_fold.specs.Runs.Told.{tally, pointers_of, addresses_of}
+use Rattle.hs_fold.specs.Runs.Rounds.{is_running, is_complete, is_last, open_deltas, settled, search, sweep, end_round, next_deltas, next_total, is_released, is_new_zero}
+use Rattle.hs_fold.specs.Runs.Told.{pointers_of, addresses_of}
 use Rattle.hs_fold.specs.Shards.Setting.{Setting}
-use Rattle.hs_fold.proofs.Runs.EndDeedLemmas.{Released, Gone, end-searches, end-sweeps}
+use Rattle.hs_fold.proofs.Runs.EndDeedLemmas.{Released, end-searches, end-sweeps}
 use Rattle.hs_fold.proofs.Runs.OwnLemmas.{end-own}
 use Rattle.hs_fold.proofs.Runs.RoomLemmas.{end-fits}
 use Rattle.hs_fold.proofs.Runs.SmallLemmas.{by-each}
 use Rattle.hs_fold.proofs.Shards.PlaceLemmas.{length-set}
-use Rattle.hs_joint.specs.Joined.{IsSentSo}
 use Rattle.hs_joint.specs.Numbers.{TellsAll, CountsTakeAll}
-use Rattle.hs_joint.specs.Seen.{layout_of, seen_block, seen_root, seen_round, repeated, seen, all_seen}
-use Rattle.hs_joint.proofs.BoundLemmas.{most, IsBounded, bounded_searched, bounded_swept}
-use Rattle.hs_joint.proofs.CutLemmas.{body_told, times_told, raised_there, lowered_there}
+use Rattle.hs_joint.specs.Seen.{layout_of, seen_block, seen_round, seen, all_seen}
+use Rattle.hs_joint.proofs.BoundLemmas.{bounded_searched, bounded_swept}
+use Rattle.hs_joint.proofs.CutLemmas.{body_told, lowered_there}
 use Rattle.hs_joint.proofs.EndLikeLemmas.{search_like, IsUntold, sweep_like}
 use Rattle.hs_joint.proofs.FewLemmas.{HaveFew, few_end}
 use Rattle.hs_joint.proofs.GotLookups.{kept_is_old}
 use Rattle.hs_joint.proofs.LikeLemmas.{IsWithin, open_sums, raised_open, lowered_open, follow_like, complete_seen, last_seen, told_each}
-use Rattle.hs_joint.proofs.ReachedLemmas.{there_at, here_at, released_goes, gone_is}
+use Rattle.hs_joint.proofs.ReachedLemmas.{there_at, released_goes, gone_is}
 use Rattle.hs_joint.proofs.SendLemmas.{told_whole, part_whole}
-use Rattle.hs_joint.proofs.StandLemmas.{own_set, same_rows, more_rows, IsStanding, GoesOn, right, own_here, set_here, set_there, follow_on, join_on, room_on, few_on}
+use Rattle.hs_joint.proofs.StandLemmas.{own_set, same_rows, more_rows, IsStanding, GoesOn, right, own_here, follow_on, join_on, room_on, few_on}
 use Rattle.hs_joint.proofs.TellLemmas.{next_named, next_told, next_total_told}
 
 -- a member of what is kept of a list

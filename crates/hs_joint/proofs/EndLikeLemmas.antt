@@ -1,12 +1,11 @@
 -- The end of a round is that of what the machine sees, where counts stay within their bounds.
-use Rattle.std.proofs.Common.{◌≡◌, inl, inr, ℕ, ◌+◌, ◌-◌, ◌<◌, List, [], ◌∷◌, map, filter, Bool, true, false, cond, not, refl, sym, ap, ◌∙◌, arith}
+use Rattle.std.proofs.Common.{◌≡◌, inl, inr, ℕ, ◌+◌, List, [], ◌∷◌, map, filter, Bool, true, false, cond, not, refl, sym, ap, ◌∙◌, arith}
 use Rattle.hs_limits.specs.declared.address.Address.{Address}
 use Rattle.hs_model.proofs.Members.{Member}
-use Rattle.hs_deletion.specs.Records.{BlockRecord, searched, is_released, is_removed, spared}
+use Rattle.hs_deletion.specs.Records.{searched, is_released, is_removed, spared}
 use Rattle.hs_deletion.specs.Catalogue.{ShardCatalogue, recounted_in, searched_in, swept_in}
-use Rattle.hs_fold.specs.Runs.Facts.{Facts, RootFacts, Catalogue, each_block}
+use Rattle.hs_fold.specs.Runs.Facts.{Facts, Catalogue, each_block}
 use Rattle.hs_fold.specs.Runs.Rounds.{settled, is_new_zero, find_zero, search, is_gone, spare, sweep}
-use Rattle.hs_fold.specs.Runs.Rounds.{is_released as is_released_here}
 use Rattle.hs_fold.proofs.Runs.EndLemmas.{filter-map}
 use Rattle.hs_joint.specs.Seen.{seen_block, seen_root, seen}
 use Rattle.hs_joint.proofs.LikeLemmas.{IsLike, IsWithin, raised_open, lowered_open, settle, count_seen, settle_seen, seen_kept}

@@ -1,22 +1,21 @@
 -- An Enter that the plain store allows: the machine's shard enters its next epoch, and no round ends by it.
-use Rattle.std.proofs.Common.{◌≡◌, ◌≢◌, ◌⊎◌, inl, inr, ℕ, zero, suc, ◌+◌, ◌<◌, ◌≤◌, ◌*◌, ◌==◌, ◌&&◌, List, [], ◌∷◌, ◌++◌, length, map, Bool, true, false, cond, Option, Some, None, is_some, refl, sym, ap, ◌∙◌, subst, arith, nat_lt, slice_index, slice_set}
+use Rattle.std.proofs.Common.{◌≡◌, inl, inr, ℕ, zero, suc, ◌+◌, ◌<◌, ◌≤◌, ◌*◌, ◌&&◌, List, [], ◌∷◌, ◌++◌, length, map, Bool, true, false, Option, Some, None, is_some, refl, sym, ap, ◌∙◌, subst, arith, nat_lt, slice_index, slice_set}
 use Rattle.std.proofs.lemmas.Bool.{cases_eq}
 use Rattle.std.proofs.lemmas.Grind.{common_steps}
-use Rattle.std.specs.Prelude.{slice_get, sum_by}
+use Rattle.std.specs.Prelude.{slice_get}
 use Rattle.std.specs.Option.{option_map}
 use Rattle.hs_limits.specs.declared.address.Address.{Address}
 use Rattle.hs_limits.specs.Shape.{shard_of}
 use Rattle.hs_model.specs.Inner.{may_enter}
-use Rattle.hs_model.specs.Store.{Store}
 use Rattle.hs_model.proofs.Members.{Member, member_from_contains, contains_from_member}
 use Rattle.hs_laws.proofs.EnterLemmas.{may_enter-gives}
 use Rattle.hs_laws.proofs.EpochLemmas.{least_epoch-at}
 use Rattle.hs_rounds.specs.declared.body.RoundBody.{RoundBody}
 use Rattle.hs_rounds.specs.declared.sending.SentRound.{SentRound}
 use Rattle.hs_rounds.specs.Rounds.{told_by, have_told, from_round, body_for, bodies_for}
-use Rattle.hs_deletion.specs.Machine.{Layout, ShardState, Machine, sum_below}
-use Rattle.hs_deletion.specs.Rounds.{times, first_round}
-use Rattle.hs_deletion.specs.Counts.{block_weight, root_weight, indegree}
+use Rattle.hs_deletion.specs.Machine.{Layout, ShardState, Machine}
+use Rattle.hs_deletion.specs.Rounds.{first_round}
+use Rattle.hs_deletion.specs.Counts.{indegree}
 use Rattle.hs_deletion.specs.Steps.{blocks_at, roots_at, after_enter, state_entered}
 use Rattle.hs_deletion.specs.Clocks.{label_of, IsIdle}
 use Rattle.hs_deletion.specs.Catalogue.{ShardCatalogue, sends_first}
@@ -37,19 +36,18 @@ use Rattle.hs_deletion.proofs.HistoryKeeps.{right_made, made_after}
 use Rattle.hs_fold.specs.Lawful.{shard_at}
 use Rattle.hs_fold.specs.Shards.Catalogue.{Catalogue as Plain}
 use Rattle.hs_fold.specs.Shards.Setting.{Setting}
-use Rattle.hs_fold.specs.Runs.Facts.{Facts, RootFacts, Catalogue, plain}
+use Rattle.hs_fold.specs.Runs.Facts.{Facts, Catalogue, plain}
 use Rattle.hs_fold.specs.Runs.Fits.{catalogue_at}
 use Rattle.hs_fold.specs.Runs.Opened.{store_of}
 use Rattle.hs_fold.specs.Runs.Own.{IsOwn, AreOwn}
 use Rattle.hs_fold.specs.Runs.Rounds.{is_complete, enter_epoch, first_deltas, is_new, is_new_root, count_block}
-use Rattle.hs_fold.specs.Runs.Told.{tally, pointers_of, addresses_of}
+use Rattle.hs_fold.specs.Runs.Told.{pointers_of, addresses_of}
 use Rattle.hs_fold.proofs.Runs.OwnLemmas.{enter-own}
 use Rattle.hs_fold.proofs.Runs.StepLemmas.{counted-present}
 use Rattle.hs_fold.proofs.Shards.PlaceLemmas.{length-set}
-use Rattle.hs_joint.specs.Joined.{IsSentSo}
 use Rattle.hs_joint.specs.Numbers.{TellsAll}
-use Rattle.hs_joint.specs.Seen.{layout_of, seen_block, seen_root, seen_round, repeated, seen, all_seen}
-use Rattle.hs_joint.proofs.BoundLemmas.{most, IsBounded, bounded_entered, blocks_low, roots_low, sum_low}
+use Rattle.hs_joint.specs.Seen.{layout_of, seen_round, seen, all_seen}
+use Rattle.hs_joint.proofs.BoundLemmas.{most, bounded_entered, blocks_low, roots_low, sum_low}
 use Rattle.hs_joint.proofs.CutLemmas.{body_told, raised_there}
 use Rattle.hs_joint.proofs.EndLemmas.{taken, resent}
 use Rattle.hs_joint.proofs.FewLemmas.{HaveFew, few_each}
@@ -57,7 +55,7 @@ use Rattle.hs_joint.proofs.GotLookups.{kept_is_old}
 use Rattle.hs_joint.proofs.LikeLemmas.{follow_like, enter_like, told_each}
 use Rattle.hs_joint.proofs.ListedLemmas.{epoch-at, epochs-length}
 use Rattle.hs_joint.proofs.SendLemmas.{told_whole, part_whole}
-use Rattle.hs_joint.proofs.StandLemmas.{own_set, more_rows, IsStanding, GoesOn, right, own_here, set_here, set_there, follow_on, join_on, room_on, few_on}
+use Rattle.hs_joint.proofs.StandLemmas.{own_set, more_rows, IsStanding, GoesOn, right, own_here, follow_on, join_on, room_on, few_on}
 use Rattle.hs_joint.proofs.TellLemmas.{first_named, first_told}
 
 pub swept-at : (cs : List Catalogue) (k : ℕ) → k < length cs → slice_index (map (λ (p : Plain). p.swept) (map plain cs)) k ≡ (catalogue_at cs k).swept

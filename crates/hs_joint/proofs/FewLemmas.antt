@@ -1,8 +1,7 @@
 -- No block of a catalogue has more pointers than a block takes, whatever its list holds.
-use Rattle.std.proofs.Common.{◌≡◌, inl, inr, ℕ, zero, suc, ◌≤◌, ◌*◌, ◌-◌, ◌+◌, ◌==◌, ◌++◌, ◌∷◌, eqb, leb, Bool, true, false, cond, ◌&&◌, not, List, [], length, map, filter, Option, Some, None, is_none, Result, Ok, Err, refl, sym, ap, ◌∙◌, subst, arith}
+use Rattle.std.proofs.Common.{◌≡◌, inl, inr, ℕ, zero, suc, ◌≤◌, ◌*◌, ◌-◌, ◌+◌, ◌==◌, ◌++◌, ◌∷◌, eqb, leb, Bool, true, false, cond, ◌&&◌, not, List, [], length, map, filter, Option, Some, None, is_none, Result, Ok, Err, refl, sym, ap, subst, arith}
 use Rattle.std.proofs.lemmas.Bool.{leb-true}
 use Rattle.std.specs.BTreeMap.{insert_entry, is_at}
-use Rattle.std.specs.Map.{set_value}
 use Rattle.std.specs.Int.{w16, w32}
 use Rattle.std.specs.Option.{option_map}
 use Rattle.hs_limits.specs.declared.address.Address.{Address}
@@ -26,7 +25,7 @@ use Rattle.hs_fold.specs.Catalogue.{Present, Shard, fresh_present}
 use Rattle.hs_fold.specs.Shards.Catalogue.{is_stored, is_marked, is_rooted, retained_in}
 use Rattle.hs_fold.specs.Runs.Catalogue.{apply}
 use Rattle.hs_fold.specs.Runs.Clients.{store_block, new_facts, marked, remark, give_block, new_root, keep_root, drop_key, end_retention}
-use Rattle.hs_fold.specs.Runs.Facts.{Facts, RootFacts, Catalogue, plain, facts_at, each_block}
+use Rattle.hs_fold.specs.Runs.Facts.{Facts, Catalogue, plain, facts_at}
 use Rattle.hs_fold.specs.Runs.Rounds.{count_block, enter_epoch, is_accepted, is_complete, is_last, moved_by, open_deltas, settled, find_zero, search, is_gone, spare, sweep, end_round, advance, advanced, log_got, get_round, may_enter}
 use Rattle.hs_fold.specs.Runs.Rounds.{enter as enter_here}
 use Rattle.hs_fold.proofs.Runs.StepLemmas.{counted-present, zero-present, spared-present}

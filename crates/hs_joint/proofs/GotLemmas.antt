@@ -1,8 +1,6 @@
 -- A Got: it is logged, and ends one round at most.
-use Rattle.std.proofs.Common.{◌≡◌, ◌⊎◌, inl, inr, ℕ, zero, suc, ◌+◌, ◌<◌, ◌≤◌, ◌==◌, ◌&&◌, ◌||◌, List, [], ◌∷◌, length, Bool, true, false, cond, Option, Some, None, is_none, refl, sym, ap, ◌∙◌, subst, arith, nat_lt, slice_index, slice_set, map}
+use Rattle.std.proofs.Common.{◌≡◌, ◌⊎◌, inl, inr, ℕ, zero, suc, ◌+◌, ◌<◌, ◌≤◌, ◌&&◌, ◌||◌, List, [], ◌∷◌, length, Bool, true, false, cond, Some, None, is_none, refl, sym, ap, ◌∙◌, subst, arith, nat_lt, slice_index, slice_set, map}
 use Rattle.std.proofs.lemmas.Bool.{and_parts, ltb-true}
-use Rattle.std.proofs.lemmas.Bool.Decides.{nat_tests}
-use Rattle.std.proofs.lemmas.Grind.{common_steps}
 use Rattle.std.specs.BTreeMap.{insert_entry}
 use Rattle.hs_model.specs.Inner.{may_sweep, none_below}
 use Rattle.hs_model.specs.Inner.{sweep as sweep_store}
@@ -10,16 +8,14 @@ use Rattle.hs_model.specs.Store.{Store}
 use Rattle.hs_laws.proofs.EpochLemmas.{none_below_from_least}
 use Rattle.hs_rounds.specs.declared.body.RoundBody.{RoundBody}
 use Rattle.hs_rounds.specs.declared.place.Place.{Place}
-use Rattle.hs_rounds.specs.Rounds.{GotList, place_cmp, body_at}
+use Rattle.hs_rounds.specs.Rounds.{place_cmp, body_at}
 use Rattle.hs_deletion.specs.Machine.{Layout, Machine}
-use Rattle.hs_deletion.specs.Following.{IsSent, IsFollowing}
-use Rattle.hs_deletion.specs.History.{MayComplete}
-use Rattle.hs_deletion.specs.History.{is_last as is_last_there}
+use Rattle.hs_deletion.specs.Following.{IsSent}
 use Rattle.hs_deletion.specs.Invariants.{IsRight}
 use Rattle.hs_deletion.specs.Promises.{IsAtTheLast}
 use Rattle.hs_deletion.proofs.HistoryKeeps.{at_the_last}
 use Rattle.hs_deletion.proofs.SweepLemmas.{level_all}
-use Rattle.hs_fold.specs.Shards.Happening.{Happening, sweeps, happen_by}
+use Rattle.hs_fold.specs.Shards.Happening.{sweeps, happen_by}
 use Rattle.hs_fold.specs.Shards.Setting.{Setting}
 use Rattle.hs_fold.specs.Runs.Facts.{Catalogue, plain}
 use Rattle.hs_fold.specs.Runs.Fits.{catalogue_at}
@@ -29,14 +25,14 @@ use Rattle.hs_fold.specs.Runs.Opened.{pruned, store_of}
 use Rattle.hs_fold.specs.Runs.Rounds.{is_running, is_accepted, is_due, is_complete, is_last, next_deltas, settled, search, sweep, end_round, advance, advanced, ends_last, log_got, get_round}
 use Rattle.hs_fold.specs.Runs.Happening.{ends_run}
 use Rattle.hs_joint.specs.Numbers.{TellsAll, CountsTakeAll}
-use Rattle.hs_joint.specs.Seen.{layout_of, seen_round, seen}
+use Rattle.hs_joint.specs.Seen.{layout_of, seen_round}
 use Rattle.hs_joint.proofs.EndLemmas.{may, last_is, sweeps_to, swept_goes, swept_store, searches_to, searched_goes, searched_store, next_whole, takes_all, ends_once}
 use Rattle.hs_joint.proofs.EnterLemmas.{swept-at}
 use Rattle.hs_joint.proofs.GotLookups.{logged_here}
 use Rattle.hs_joint.proofs.LikeLemmas.{logged_follows}
 use Rattle.hs_joint.proofs.ListedLemmas.{epoch-at}
 use Rattle.hs_joint.proofs.ReachedLemmas.{least_high}
-use Rattle.hs_joint.proofs.StandLemmas.{IsStanding, SendsOn, GoesOn, right, own_here, set_here, join_on, room_on, few_on, nothing_done, set_twice, set_same}
+use Rattle.hs_joint.proofs.StandLemmas.{IsStanding, SendsOn, GoesOn, right, own_here, set_here, join_on, room_on, few_on, nothing_done, set_twice}
 
 -- ---- rounds end one after another, but here one at most
 

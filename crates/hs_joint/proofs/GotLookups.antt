@@ -1,13 +1,12 @@
 -- What stands among Gots, where one more is logged or earlier ones are forgotten.
-use Rattle.std.proofs.Common.{◌≡◌, ◌⊎◌, inl, inr, ℕ, zero, suc, ◌+◌, ◌<◌, Bool, true, false, cond, ◌&&◌, List, [], ◌∷◌, Option, Some, None, is_some, refl, sym, ap, ◌∙◌, arith, Ordering, Less, Equal, Greater, is_eq}
+use Rattle.std.proofs.Common.{◌≡◌, ◌⊎◌, inl, inr, ℕ, zero, suc, ◌+◌, ◌<◌, Bool, true, false, cond, ◌&&◌, [], ◌∷◌, Some, None, refl, sym, ap, ◌∙◌, arith, Ordering, Less, Equal, Greater, is_eq}
 use Rattle.std.proofs.lemmas.Bool.{and_parts}
 use Rattle.std.specs.BTreeMap.{insert_entry, is_at}
 use Rattle.std.specs.List.{list_all, range_with_len}
-use Rattle.std.specs.Map.{lookup}
 use Rattle.std.specs.Ordering.{match_ordering}
 use Rattle.hs_rounds.specs.declared.body.RoundBody.{RoundBody}
 use Rattle.hs_rounds.specs.declared.place.Place.{Place}
-use Rattle.hs_rounds.specs.Rounds.{GotList, place_cmp, body_at, told_by, is_before, from_round}
+use Rattle.hs_rounds.specs.Rounds.{GotList, place_cmp, body_at, is_before, from_round}
 use Rattle.hs_rounds.proofs.PlaceLemmas.{same_place, tied_place, found_from, gone_before}
 
 -- what stands at a place is what was logged there, or stood there before

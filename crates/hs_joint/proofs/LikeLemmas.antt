@@ -1,5 +1,5 @@
 -- What entries and ends of rounds do to a catalogue is what they do to what the machine sees of it, up to the order of lists.
-use Rattle.std.proofs.Common.{Ordering, Less, Equal, Greater, ◌≡◌, ◌⊎◌, inl, inr, ℕ, zero, suc, ◌+◌, ◌-◌, ◌<◌, ◌≤◌, ◌^◌, ◌==◌, ◌&&◌, List, [], ◌∷◌, ◌++◌, map, filter, Bool, true, false, cond, if◌then◌else◌, not, Option, Some, None, is_some, refl, sym, ap, ◌∙◌, subst, arith, nat_le, nat_lt}
+use Rattle.std.proofs.Common.{Ordering, Less, Equal, Greater, ◌≡◌, inl, inr, ℕ, zero, suc, ◌+◌, ◌-◌, ◌<◌, ◌≤◌, ◌^◌, ◌==◌, ◌&&◌, List, [], ◌∷◌, map, Bool, true, false, cond, if◌then◌else◌, Option, Some, None, is_some, refl, sym, ap, ◌∙◌, subst, arith, nat_le}
 use Rattle.std.proofs.lemmas.Bool.{and_parts}
 use Rattle.std.proofs.lemmas.Bool.Decides.{nat_tests}
 use Rattle.std.proofs.lemmas.Map.Keys.{sorted_head, sorted_tail}
@@ -7,10 +7,9 @@ use Rattle.std.specs.BTreeMap.{insert_entry, is_at}
 use Rattle.std.specs.List.{AllByRecursion}
 use Rattle.std.specs.List.Sorted.{IsStrictlySortedBy}
 use Rattle.std.specs.Map.{lookup, keys_of, set_value}
-use Rattle.std.specs.Option.{option_map, option_map_or}
+use Rattle.std.specs.Option.{option_map}
 use Rattle.std.specs.Ordering.{match_ordering}
 use Rattle.hs_limits.specs.declared.address.Address.{Address}
-use Rattle.hs_limits.specs.declared.delta.Delta.{Delta}
 use Rattle.hs_model.specs.Reach.{is_same}
 use Rattle.hs_model.specs.Store.{address_cmp, is_retained}
 use Rattle.hs_model.proofs.Members.{at_is_same, same_from}
@@ -19,19 +18,18 @@ use Rattle.hs_laws.proofs.InsertLemmas.{compare}
 use Rattle.hs_rounds.specs.declared.body.RoundBody.{RoundBody}
 use Rattle.hs_rounds.specs.declared.place.Place.{Place}
 use Rattle.hs_rounds.specs.Rounds.{told_by, have_told, have_told_zero, is_zero_total, changes_in, from_round}
-use Rattle.hs_deletion.specs.Records.{BlockRecord, RootRecord, change_if, given_in, is_under, dropped_in, entered, root_entered, recounted, searched, is_released, is_removed, spared}
-use Rattle.hs_deletion.specs.Machine.{Layout, Round, Machine, empty_round, sum_below}
+use Rattle.hs_deletion.specs.Records.{BlockRecord, change_if, given_in, is_under, dropped_in, entered, root_entered}
+use Rattle.hs_deletion.specs.Machine.{Layout, Round, Machine, sum_below}
 use Rattle.hs_deletion.specs.Rounds.{times}
-use Rattle.hs_deletion.specs.Catalogue.{ShardCatalogue, all_below, open_round, entered_in, recounted_in, searched_in, swept_in}
+use Rattle.hs_deletion.specs.Catalogue.{ShardCatalogue, all_below, open_round, entered_in, recounted_in}
 use Rattle.hs_deletion.specs.Catalogue.{is_complete as is_complete_there, is_open_last}
 use Rattle.hs_deletion.specs.Following.{HasSame, IsSent, IsFollowing}
 use Rattle.hs_deletion.proofs.SumLemmas.{sum_below_same, sum_below_none, none_of_sum_below}
 use Rattle.hs_fold.specs.Runs.Clients.{remark, end_retention}
 use Rattle.hs_fold.specs.Runs.Counts.{amount_at}
 use Rattle.hs_fold.specs.Runs.Facts.{Facts, RootFacts, Catalogue, each_block}
-use Rattle.hs_fold.specs.Runs.Rounds.{is_new, is_new_root, count_block, count_root, enter_epoch, is_running, is_complete, is_last, moved_by, open_deltas, settled, is_new_zero, find_zero, search, is_gone, spare, sweep, log_got}
-use Rattle.hs_fold.specs.Runs.Rounds.{is_released as is_released_here}
-use Rattle.hs_joint.specs.Seen.{seen_block, seen_root, seen_round, repeated, seen}
+use Rattle.hs_fold.specs.Runs.Rounds.{is_new, is_new_root, count_block, count_root, enter_epoch, is_running, is_complete, is_last, moved_by, open_deltas, log_got}
+use Rattle.hs_joint.specs.Seen.{seen_block, seen_root, seen_round, seen}
 use Rattle.hs_joint.proofs.AmountLemmas.{times_repeated, amount_each, moved_first, moved_later}
 use Rattle.hs_joint.proofs.GotLookups.{logged_or_old, kept_is_old, each_of_all, all_of_each}
 use Rattle.hs_joint.proofs.SameLists.{same_as, same_then, same_swap}

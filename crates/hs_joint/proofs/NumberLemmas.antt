@@ -1,5 +1,5 @@
 -- Along a lawful history rounds lose nothing.
-use Rattle.std.proofs.Common.{◌≡◌, ℕ, ◌+◌, ◌<◌, ◌≤◌, Bool, true, false, cond, List, [], ◌∷◌, refl, sym, ap, ◌∙◌, subst, arith}
+use Rattle.std.proofs.Common.{◌≡◌, ℕ, ◌+◌, ◌<◌, ◌≤◌, true, cond, List, [], ◌∷◌, ap, ◌∙◌, arith}
 use Rattle.std.specs.Prelude.{nat_lt}
 use Rattle.std.proofs.lemmas.Bool.{and_parts, ltb-true}
 use Rattle.hs_entry.specs.declared.entry.Entry.{Entry}
@@ -12,7 +12,7 @@ use Rattle.hs_fold.specs.Shards.Setting.{Setting}
 use Rattle.hs_fold.specs.Runs.Facts.{Catalogue}
 use Rattle.hs_fold.specs.Runs.Fits.{catalogue_at}
 use Rattle.hs_fold.specs.Runs.History.{follow, FitAll}
-use Rattle.hs_fold.specs.Runs.Rounds.{may_enter, enter_epoch, advanced, is_accepted}
+use Rattle.hs_fold.specs.Runs.Rounds.{may_enter, enter_epoch, advanced}
 use Rattle.hs_fold.specs.Runs.Rounds.{enter as enter_here}
 use Rattle.hs_joint.specs.Along.{KeepFewRecords}
 use Rattle.hs_joint.specs.Numbers.{GotLosesNothing, EntryLosesNothing, EachLosesNothing}

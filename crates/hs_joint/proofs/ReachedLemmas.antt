@@ -23,7 +23,6 @@ use Rattle.hs_laws.specs.Valid.{least_epoch, rests_on, stands_in}
 use Rattle.hs_deletion.specs.Records.{BlockRecord, RootRecord}
 use Rattle.hs_deletion.specs.Machine.{Layout, Machine, is_root_at}
 use Rattle.hs_deletion.specs.Machine.{is_at as is_of}
-use Rattle.hs_deletion.specs.Steps.{blocks_at, roots_at}
 use Rattle.hs_deletion.specs.Anchors.{PointsTo, IsGivenSince, NotBefore, IsRootedSince, IsReachedIn}
 use Rattle.hs_deletion.specs.Following.{AreFollowing}
 use Rattle.hs_deletion.specs.History.{MayComplete, is_last}

@@ -8,7 +8,7 @@ use Rattle.hs_model.specs.Store.{address_cmp}
 use Rattle.hs_model.proofs.Members.{Member}
 use Rattle.hs_rounds.specs.Changes.{changes_for}
 use Rattle.hs_deletion.specs.Records.{BlockRecord}
-use Rattle.hs_deletion.specs.Machine.{Layout, Machine}
+use Rattle.hs_deletion.specs.Machine.{Machine}
 use Rattle.hs_deletion.specs.Rounds.{times}
 use Rattle.hs_deletion.specs.Anchors.{IsThere}
 use Rattle.hs_deletion.specs.Following.{AreFollowing}
@@ -17,7 +17,7 @@ use Rattle.hs_fold.specs.Runs.Facts.{Facts, Catalogue}
 use Rattle.hs_fold.specs.Runs.Fits.{catalogue_at}
 use Rattle.hs_fold.specs.Runs.Own.{IsOwn, AreOwn}
 use Rattle.hs_fold.specs.Runs.Told.{tally}
-use Rattle.hs_joint.specs.Seen.{layout_of, seen_block, repeated, all_seen}
+use Rattle.hs_joint.specs.Seen.{layout_of, repeated, all_seen}
 use Rattle.hs_joint.proofs.CutLemmas.{times_told, whole_told}
 use Rattle.hs_joint.proofs.ReachedLemmas.{here_at}
 use Rattle.hs_joint.proofs.StandLemmas.{own_at}

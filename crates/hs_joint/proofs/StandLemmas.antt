@@ -1,19 +1,18 @@
 -- Catalogues that stand beside a machine, where one shard's goes on.
-use Rattle.std.proofs.Common.{◌≡◌, ◌≢◌, ◌⊎◌, inl, inr, ℕ, zero, suc, ◌+◌, ◌<◌, ◌≤◌, List, [], ◌∷◌, length, take, Some, None, Option, refl, sym, ap, ◌∙◌, subst, arith}
+use Rattle.std.proofs.Common.{◌≡◌, ◌≢◌, ◌⊎◌, inl, inr, ℕ, zero, suc, ◌+◌, ◌<◌, ◌≤◌, List, [], ◌∷◌, length, take, Some, refl, sym, ap, ◌∙◌, subst, arith}
 use Rattle.std.proofs.lemmas.Bool.{cases_eq}
 use Rattle.std.proofs.lemmas.Grind.{common_steps}
-use Rattle.std.specs.Prelude.{Contains, slice_get, slice_set}
+use Rattle.std.specs.Prelude.{slice_get, slice_set}
 use Rattle.hs_rounds.specs.declared.body.RoundBody.{RoundBody}
 use Rattle.hs_rounds.specs.declared.sending.SentRound.{SentRound}
 use Rattle.hs_deletion.specs.Clocks.{label_of}
-use Rattle.hs_deletion.specs.Machine.{Layout, Round, ShardState, Machine, set_at}
-use Rattle.hs_deletion.specs.Catalogue.{ShardCatalogue}
+use Rattle.hs_deletion.specs.Machine.{Layout, Round, ShardState, Machine}
 use Rattle.hs_deletion.specs.Following.{IsSent, IsFollowing, AreFollowing}
 use Rattle.hs_deletion.specs.History.{IsMade}
 use Rattle.hs_deletion.specs.Invariants.{IsRight}
 use Rattle.hs_deletion.proofs.FollowLemmas.{IsStepAt, all_follow}
 use Rattle.hs_deletion.proofs.HistoryKeeps.{right_made}
-use Rattle.hs_deletion.proofs.SumLemmas.{set_at_self, set_at_other}
+use Rattle.hs_deletion.proofs.SumLemmas.{set_at_other}
 use Rattle.hs_fold.specs.Runs.Facts.{Catalogue, empty_catalogue}
 use Rattle.hs_fold.specs.Runs.Fits.{catalogue_at, HasSent}
 use Rattle.hs_fold.specs.Runs.Own.{IsOwn, AreOwn}

@@ -1,5 +1,5 @@
 -- What a catalogue sends tells for each address what the machine's shard sends.
-use Rattle.std.proofs.Common.{◌≡◌, ℕ, ◌+◌, List, [], ◌∷◌, ◌++◌, map, filter, flat_map, Bool, true, false, cond, if◌then◌else◌, Some, None, unwrap_or, refl, sym, ap, ◌∙◌, subst, arith, count_by, Less, inl, inr}
+use Rattle.std.proofs.Common.{◌≡◌, ℕ, ◌+◌, List, [], ◌∷◌, ◌++◌, map, filter, flat_map, Bool, true, false, cond, if◌then◌else◌, Some, None, unwrap_or, refl, sym, ap, ◌∙◌, subst, arith, count_by, Less}
 use Rattle.std.proofs.lemmas.Map.Keys.{sorted_head, sorted_tail}
 use Rattle.std.specs.BTreeMap.{insert_entry, is_at}
 use Rattle.std.specs.List.{AllByRecursion}
@@ -16,7 +16,7 @@ use Rattle.hs_laws.proofs.InsertLemmas.{lookup-insert_same, lookup-insert_other}
 use Rattle.hs_laws.proofs.OrderLemmas.{address_total, insert-sorted, none-sorted}
 use Rattle.hs_deletion.specs.Records.{BlockRecord, RootRecord, begins, root_begins, is_found, is_released}
 use Rattle.hs_deletion.specs.Rounds.{times, pointers_where, addresses_where}
-use Rattle.hs_deletion.specs.Catalogue.{ShardCatalogue, sends_first, recounted_in, sends_next}
+use Rattle.hs_deletion.specs.Catalogue.{ShardCatalogue, sends_first, sends_next}
 use Rattle.hs_fold.specs.Runs.Counts.{amount_at}
 use Rattle.hs_fold.specs.Runs.Facts.{Facts, RootFacts, Catalogue}
 use Rattle.hs_fold.specs.Runs.Rounds.{is_new, is_new_root, first_deltas, settled, is_new_zero, next_total, next_deltas}

@@ -1,0 +1,3 @@
+pub mod WasLemmas
+pub mod EnterStoreLemmas
+pub mod GotStayLemmas
