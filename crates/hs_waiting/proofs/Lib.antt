@@ -1,3 +1,0 @@
-pub mod WasLemmas
-pub mod EnterStoreLemmas
-pub mod GotStayLemmas
