@@ -53,11 +53,11 @@ module _ (layout : Layout) (m : Machine) (right : IsRight layout m) (g : ℕ) (l
   pub may_complete : MayComplete layout m g
   may_complete = record { within = lg; sent = λ h lh. (let s = from_each h lh in omega (arith, s.sent, row_is h lh)) }
 
-  raised_same : (a : Address) → layout.home a ≡ g → sum_below layout.shards (λ h. times a (open_round c h).raises) ≡ raised_in layout m.states (m.states g).completed a
+  pub raised_same : (a : Address) → layout.home a ≡ g → sum_below layout.shards (λ h. times a (open_round c h).raises) ≡ raised_in layout m.states (m.states g).completed a
   unfolding raised_in
   raised_same a e = sum_below_same layout.shards _ _ (λ h lh. rw (← row_is h lh) ((from_each h lh).raises a e))
 
-  lowered_same : (a : Address) → layout.home a ≡ g → sum_below layout.shards (λ h. times a (open_round c h).lowers) ≡ lowered_in layout m.states (m.states g).completed a
+  pub lowered_same : (a : Address) → layout.home a ≡ g → sum_below layout.shards (λ h. times a (open_round c h).lowers) ≡ lowered_in layout m.states (m.states g).completed a
   unfolding lowered_in
   lowered_same a e = sum_below_same layout.shards _ _ (λ h lh. rw (← row_is h lh) ((from_each h lh).lowers a e))
 

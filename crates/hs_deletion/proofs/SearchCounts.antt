@@ -86,7 +86,7 @@ module _ (layout : Layout) (m : Machine) (right : IsRight layout m) (g : ℕ) (m
       rw (here_completed (layout.home a) e) (omega (arith, h', move, up, down, indegree_less a, times_none a, raised_unsent layout m.states right.clocks ((m.states g).completed + 1 + 1) a beyond, lowered_unsent layout m.states right.clocks ((m.states g).completed + 1 + 1) a beyond))
 
   -- no count falls below 0
-  fits : (a : Address) (c : ℕ) → layout.home a ≡ g → IsCount layout m a c → lowered_in layout m.states (m.states g).completed a ≤ c + raised_in layout m.states (m.states g).completed a
+  pub fits : (a : Address) (c : ℕ) → layout.home a ≡ g → IsCount layout m a c → lowered_in layout m.states (m.states g).completed a ≤ c + raised_in layout m.states (m.states g).completed a
   fits a c e h =
       let h' : c + (raised_in layout m.states (m.states g).completed a + raised_in layout m.states ((m.states g).completed + 1) a) ≡ indegree m a + (lowered_in layout m.states (m.states g).completed a + lowered_in layout m.states ((m.states g).completed + 1) a) = rw e at h in
       omega (arith, h', raised_late layout m.states right.clocks ((m.states g).completed + 1) a (next_row layout m right g may more).0)

@@ -237,7 +237,7 @@ settled-plain n c = ap (λ bs. record (plain c) { blocks = bs }) (settled-presen
 settled-own : (at : Shard) (n : ℕ) (c : Catalogue) → IsOwn at.shards at.shard c → IsOwn at.shards at.shard (settled n c)
 settled-own at n c h = record { mine = subst (λ d. IsMine at.shards at.shard d) (sym (settled-plain n c)) h.mine; once = h.once }
 
-end-own : (at : Shard) (n : ℕ) (c : Catalogue) → IsOwn at.shards at.shard c → IsOwn at.shards at.shard (end_round n c)
+pub end-own : (at : Shard) (n : ℕ) (c : Catalogue) → IsOwn at.shards at.shard c → IsOwn at.shards at.shard (end_round n c)
 end-own at n c h = go (is_last n c)
   where
     go : (b : Bool) → IsOwn at.shards at.shard (cond b (sweep (settled n c)) (search n (settled n c)))

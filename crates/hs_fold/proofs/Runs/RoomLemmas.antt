@@ -24,7 +24,7 @@ use Rattle.hs_rounds.specs.declared.place.Place.{Place}
 use Rattle.hs_fold.specs.Runs.Rounds.{count_block, may_enter, enter_epoch, enter, moved_by, open_deltas, settled, find_zero, search, is_gone, spare, sweep, is_last, is_complete, end_round, advance, advanced, is_accepted, log_got, get_round}
 use Rattle.hs_fold.proofs.Runs.RoundLemmas.{no-more}
 
-abbrev Fits : List (Address × Facts) → Type 0
+abbrev pub Fits : List (Address × Facts) → Type 0
 Fits es = length es ≤ 16384
 
 length-mapped : {X Y : Type 0} (f : X → Y) (xs : List X) → length (map f xs) ≡ length xs
@@ -87,7 +87,7 @@ drop-fits at c key h = go (shard_of_key at.shards key == at.shard)
 settled-fits : (n : ℕ) (c : Catalogue) → Fits c.blocks → Fits (settled n c).blocks
 settled-fits n c h = mapped-fits (λ (e : Address × Facts). (e.0, record e.1 { count = moved_by c.round e.0 (open_deltas n c) e.1.count })) c.blocks h
 
-end-fits : (n : ℕ) (c : Catalogue) → Fits c.blocks → Fits (end_round n c).blocks
+pub end-fits : (n : ℕ) (c : Catalogue) → Fits c.blocks → Fits (end_round n c).blocks
 end-fits n c h = go (is_last n c)
   where
     low : Fits (settled n c).blocks
@@ -122,7 +122,7 @@ enter-fits n epoch c h = go (may_enter c epoch)
 
 -- ---- any entry
 
-apply-fits : (at : Shard) (c : Catalogue) (number : ℕ) (entry : Entry) → Fits c.blocks → Fits (apply at c (number, entry)).blocks
+pub apply-fits : (at : Shard) (c : Catalogue) (number : ℕ) (entry : Entry) → Fits c.blocks → Fits (apply at c (number, entry)).blocks
 apply-fits at c number (kind.View view) h = h
 apply-fits at c number (kind.Block op least bytes) h = store-fits at c number least (at.name bytes) (read_block bytes) h
 apply-fits at c number (kind.Mark op least block a) h = give-fits c least block a h

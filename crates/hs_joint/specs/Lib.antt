@@ -1,0 +1,4 @@
+pub mod Seen
+pub mod Joined
+pub mod Along
+pub mod Numbers
