@@ -1,8 +1,8 @@
 #!/usr/bin/env python3
 """Counts what a built hydra executes, beside the plain program bench/plain.rs: instructions, and calls of the system.
 
-Instructions are counted by valgrind's callgrind, in user space alone: the same on each run of one program, whatever else
-the machine does. It makes and removes folders of its own.
+Instructions are counted by valgrind's callgrind, in user space alone: about the same on each run of one program, whatever
+else the machine does. It makes and removes folders of its own.
 """
 import argparse
 import os
@@ -57,19 +57,23 @@ def counted(program, parent, script):
             return int(COLLECTED.search(told).group(1)), printed, side.read()
 
 
-def compare(ours, plain, parent, name, make, count):
-    """Prints a line of what many lines of one kind take."""
+def compare(programs, parent, name, make, count):
+    """Prints what many lines of one kind take in each program, and in the first one beside each other one."""
     few, many = make(0), make(count)
     totals, nets, seen = [], [], []
-    for program in (ours, plain):
+    for program in programs:
         none, all_lines = counted(program, parent, few), counted(program, parent, many)
         totals.append(all_lines[0])
         nets.append((all_lines[0] - none[0]) / count)
         seen.append(all_lines[1:])
-    if seen[0] != seen[1]:
-        sys.exit(f"{name}: the two programs print or write different bytes")
-    print(f"{count} {name}: {totals[0]:,} and {totals[1]:,} instructions, {totals[0] / totals[1]:.2f} of it; "
-          f"a line, without start and opening, {nets[0]:,.0f} and {nets[1]:,.0f}, {nets[0] / nets[1]:.2f}")
+    if any(one != seen[0] for one in seen):
+        sys.exit(f"{name}: the programs print or write different bytes")
+    print(f"{count} {name}: {beside(totals)}; a line, without start and opening: {beside(nets)}")
+
+
+def beside(numbers):
+    ours, *others = numbers
+    return f"{ours:,.0f}, " + ", ".join(f"{ours / other:.2f} of {other:,.0f}" for other in others)
 
 
 def calls_of(program, parent, folder):
@@ -97,7 +101,6 @@ def main():
     here = os.path.dirname(os.path.abspath(__file__))
     words = argparse.ArgumentParser(description=__doc__)
     words.add_argument("--program", default=os.path.join(here, "..", "crates", "hydra", "out", "hydra"))
-    words.add_argument("--plain", help="the plain program as it is built; else rustc makes it")
     words.add_argument("--memory", default="/dev/shm", help="a folder in memory")
     words.add_argument("--lines", type=int, default=60)
     asked = words.parse_args()
@@ -106,16 +109,20 @@ def main():
         sys.exit(f"{ours} is not built: bin/hydra --version builds it")
     if not shutil.which("valgrind"):
         sys.exit("there is no valgrind on the path")
+    if not shutil.which("rustc"):
+        sys.exit("there is no rustc on the path, which makes the plain program")
     with tempfile.TemporaryDirectory(dir=asked.memory) as top:
-        plain = os.path.abspath(asked.plain) if asked.plain else os.path.join(top, "plain")
-        if not asked.plain:
-            source = os.path.join(here, "plain.rs")
-            subprocess.run(["rustc", "-O", "--edition", "2021", "-o", plain, source], check=True)
+        programs = [ours]
+        for name, how in (("plain", []), ("loops", ["--cfg", "loops"])):
+            programs.append(os.path.join(top, name))
+            words = ["rustc", "-O", *how, "--edition", "2021", "-o", programs[-1], os.path.join(here, "plain.rs")]
+            subprocess.run(words, check=True)
+        print("instructions of hydra, of the plain program, and of the plain program with SHA-256 in loops:")
         for size in SIZES:
-            compare(ours, plain, top, f"writes of {size} bytes", lambda count: writes(size, count), asked.lines)
+            compare(programs, top, f"writes of {size} bytes", lambda count: writes(size, count), asked.lines)
         for size in (65536, 64):
-            compare(ours, plain, top, f"reads of {size} bytes", lambda count: reads(size, count), asked.lines)
-        compare(ours, plain, top, "lines of stat", lambda count: stats(64, count), asked.lines)
+            compare(programs, top, f"reads of {size} bytes", lambda count: reads(size, count), asked.lines)
+        compare(programs, top, "lines of stat", lambda count: stats(64, count), asked.lines)
         if shutil.which("strace"):
             opening(ours, top)
         else:

@@ -202,12 +202,7 @@ fn read_piece<F: FileExt>(file: &F, at: u64, piece: &mut [u8]) -> io::Result<usi
 }
 
 // Writes from a place on, and says how many bytes the file took: all, unless it failed.
-fn write_from<F: FileExt>(
-    file: &F,
-    fault: &mut Option<SideFault>,
-    at: u64,
-    bytes: &[u8],
-) -> usize
+fn write_from<F: FileExt>(file: &F, fault: &mut Option<SideFault>, at: u64, bytes: &[u8]) -> usize
     requires { at + length bytes.now < 2 ^ 64 }
     ensures within { result ≤ length bytes.now }
     ensures told { result < length bytes.now → IsSome fault.new }
