@@ -6,7 +6,7 @@ ghost use Rattle.hs_ops.specs.Going.{compared, data_of, is_reported, is_same_blo
 ghost use Rattle.hs_ops.specs.Refusals.{refusal_of};
 ghost use Rattle.hs_ops.specs.Speaking.{asked_block};
 
-use crate::entries::spelling;
+use crate::entries::{addresses_of, spelling};
 use crate::going::go;
 use crate::table::refusal_of;
 use crate::{OpFault, OpStep, OpView};
@@ -106,7 +106,7 @@ impl<'a> OpView<'a> {
         let Some(bytes) = report.bytes else {
             return Ok(false);
         };
-        let pointers = self.addresses(alloc, session, handles)?;
+        let pointers = addresses_of(alloc, self.sessions, session, handles)?;
         let spelled = spelling(alloc, pointers.as_slice(), payload)?;
         Ok(spelled.as_slice() == bytes && pointers.as_slice() == report.pointers)
     }

@@ -1,14 +1,16 @@
 //! The entries that operations ask for.
-ghost use Rattle.std.specs.Prelude.{◌≡◌, ◌∷◌, [], map, fold, min, IfOk};
+ghost use Rattle.std.specs.Prelude.{◌≡◌, map, IfOk};
 ghost use Rattle.hs_limits.specs.Block.{IsBlock, spell};
 ghost use Rattle.hs_model.specs.Judge.{given_address};
 ghost use Rattle.hs_ops.specs.Going.{block_entry, mark_entry, root_entry};
 ghost use Rattle.hs_ops.specs.Speaking.{asked_block, helds, least_epoch};
 
+use crate::view::found_in;
 use crate::{OpFault, OpView};
-use hs_block::{BlockFault, write_spelling};
+use hs_block::write_spelling;
 use hs_entry::Entry;
 use hs_limits::{Address, Key, LAST_EPOCH, ListOf, Name};
+use hs_tokens::Sessions;
 use std::alloc::Global;
 
 impl<'a> OpView<'a> {
@@ -26,7 +28,7 @@ impl<'a> OpView<'a> {
         ensures { IfOk result (λ entry. entry
             ≡ block_entry self.now line session.now payload.now handles.now) }
     {
-        let pointers = self.addresses(alloc, session, handles)?;
+        let pointers = addresses_of(alloc, self.sessions, session, handles)?;
         let bytes = spelling(alloc, pointers.as_slice(), payload)?;
         Ok(Entry::Block {
             op: line,
@@ -77,23 +79,6 @@ impl<'a> OpView<'a> {
         })
     }
 
-    /// The addresses that some handles stand for.
-    pub(crate) fn addresses(
-        &self,
-        alloc: Global,
-        session: &Name,
-        handles: &[u32],
-    ) -> Result<ListOf<Address>, OpFault>
-        ensures { IfOk result (λ addresses. addresses
-            ≡ map (λ held. held.address) (helds self.now.seats session.now handles.now)) }
-    {
-        let mut addresses = ListOf::new(alloc);
-        for handle in handles {
-            addresses.push(self.found(session, *handle).address)?;
-        }
-        Ok(addresses)
-    }
-
     /// The least epoch of some handles, and the last epoch where there is none.
     #[tactic(auto, unfolding(crate::specs::Speaking::least_epoch))]
     fn least_epoch(&self, session: &Name, handles: &[u32]) -> u64
@@ -105,6 +90,23 @@ impl<'a> OpView<'a> {
         }
         least
     }
+}
+
+/// The addresses that some handles of a session stand for.
+pub(crate) fn addresses_of(
+    alloc: Global,
+    sessions: &Sessions,
+    session: &Name,
+    handles: &[u32],
+) -> Result<ListOf<Address>, OpFault>
+    ensures { IfOk result (λ addresses. addresses
+        ≡ map (λ held. held.address) (helds sessions.now.seats session.now handles.now)) }
+{
+    let mut addresses = ListOf::new(alloc);
+    for handle in handles {
+        addresses.push(found_in(sessions, session, *handle).address)?;
+    }
+    Ok(addresses)
 }
 
 /// The spelling of the block of these pointers and bytes.
@@ -125,7 +127,7 @@ pub(crate) fn spelling(
 }
 
 /// The address that a write was given.
-fn given_address(address: Option<Address>) -> Address
+pub(crate) fn given_address(address: Option<Address>) -> Address
     ensures { result ≡ given_address address }
 {
     address.unwrap_or(Address([0; 32]))
