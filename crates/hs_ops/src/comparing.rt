@@ -16,7 +16,6 @@ use std::alloc::Global;
 
 /// What was reported of a block: the number of its entry, its bytes, if they are not gone, and the
 /// pointers that the catalogue has.
-#[derive(Clone, Copy)]
 pub(crate) struct Report<'a> {
     pub(crate) number: u64,
     pub(crate) bytes: Option<&'a [u8]>,
@@ -29,11 +28,11 @@ pub(crate) fn on_bytes(
     view: &OpView,
     alloc: Global,
     line: u64,
-    report: Report,
+    report: &Report,
     op: &Op,
 ) -> Result<OpStep, OpFault>
-    ensures { IfOk result (λ step. step ≡ on_bytes view.now line report.number
-        (option_map (λ bytes. bytes.now) report.bytes) report.pointers.now op.now) }
+    ensures { IfOk result (λ step. step ≡ on_bytes view.now line report.now.number
+        (option_map (λ told. told.now) report.now.bytes) report.now.pointers.now op.now) }
 {
     match refusal_of(view, alloc, op)? {
         Some(refusal) => Ok(OpStep::Answer(refusal)),
@@ -47,12 +46,12 @@ fn compared(
     view: &OpView,
     alloc: Global,
     line: u64,
-    report: Report,
+    report: &Report,
     op: &Op,
 ) -> Result<OpStep, OpFault>
     requires { refusal_of view.now op.now ≡ None }
-    ensures { IfOk result (λ step. step ≡ compared view.now line report.number
-        (option_map (λ bytes. bytes.now) report.bytes) report.pointers.now op.now) }
+    ensures { IfOk result (λ step. step ≡ compared view.now line report.now.number
+        (option_map (λ told. told.now) report.now.bytes) report.now.pointers.now op.now) }
 {
     match op {
         Op::Write {
@@ -81,9 +80,9 @@ fn compared(
 
 impl<'a> OpView<'a> {
     /// Whether the block of this entry is present, and its bytes were reported.
-    fn is_reported(&self, report: Report) -> bool
-        ensures { result ≡ is_reported self.now report.number
-            (option_map (λ bytes. bytes.now) report.bytes) }
+    fn is_reported(&self, report: &Report) -> bool
+        ensures { result ≡ is_reported self.now report.now.number
+            (option_map (λ told. told.now) report.now.bytes) }
     {
         self.present == Some(report.number) && report.bytes.is_some()
     }
@@ -96,12 +95,12 @@ impl<'a> OpView<'a> {
         session: &Name,
         payload: &[u8],
         handles: &[u32],
-        report: Report,
+        report: &Report,
     ) -> Result<bool, OpFault>
         requires { IsBlock (asked_block self.now.seats session.now payload.now handles.now) }
         ensures { IfOk result (λ same. same
             ≡ is_same_block (asked_block self.now.seats session.now payload.now handles.now)
-            (option_map (λ bytes. bytes.now) report.bytes) report.pointers.now) }
+            (option_map (λ told. told.now) report.now.bytes) report.now.pointers.now) }
     {
         let Some(bytes) = report.bytes else {
             return Ok(false);
@@ -115,7 +114,7 @@ impl<'a> OpView<'a> {
 /// The data of the block that some bytes spell, none where they spell none.
 #[tactic(auto, unfolding(crate::specs::Going::data_of))]
 fn data_of(alloc: Global, bytes: Option<&[u8]>) -> Result<ListOf<u8>, OpFault>
-    ensures { IfOk result (λ told. told ≡ data_of (option_map (λ bytes. bytes.now) bytes)) }
+    ensures { IfOk result (λ told. told ≡ data_of (option_map (λ told. told.now) bytes.entry)) }
 {
     let Some(bytes) = bytes else {
         return Ok(ListOf::new(alloc));

@@ -106,9 +106,9 @@ impl Operation {
         pointers: &[Address],
     ) -> Result<OpStep, OpFault>
         ensures step { IfOk result (λ step. step ≡ bytes_step view.now
-            (option_map (λ told. told.now) bytes) pointers.now self.old) }
+            (option_map (λ told. told.now) bytes.entry) pointers.now self.old) }
         ensures after { OnOk result (self.new ≡ after_step (bytes_step view.now
-            (option_map (λ told. told.now) bytes) pointers.now self.old) self.old) }
+            (option_map (λ told. told.now) bytes.entry) pointers.now self.old) self.old) }
         ensures same { OnErr result (self.new ≡ self.old) }
     {
         let number = wanted_number(self.stage);
@@ -117,7 +117,7 @@ impl Operation {
             bytes,
             pointers,
         };
-        let step = on_bytes(view, self.alloc, self.line, report, &self.op)?;
+        let step = on_bytes(view, self.alloc, self.line, &report, &self.op)?;
         self.stage = stage_after(&step, self.stage);
         Ok(step)
     }
