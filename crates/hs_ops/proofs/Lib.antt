@@ -1,3 +1,4 @@
+mod DeleteLemmas
 mod Examples
 mod RangeLemmas
 mod StopLemmas

@@ -115,7 +115,7 @@ impl<'a> OpView<'a> {
     }
 
     /// Shard 0 enters its next epoch.
-    #[tactic(auto, unfolding(crate::specs::Going::asked_for, crate::specs::Refusals::refusals_of))]
+    #[tactic(auto, unfolding(crate::specs::Going::asked_for), using(crate::proofs::DeleteLemmas::epoch_left))]
     fn ask_delete(&self, line: u64) -> OpStep
         requires { refusal_of self.now op.Delete ≡ None }
         ensures { result ≡ asked_for self.now line op.Delete }

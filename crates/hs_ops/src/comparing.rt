@@ -16,6 +16,7 @@ use std::alloc::Global;
 
 /// What was reported of a block: the number of its entry, its bytes, if they are not gone, and the
 /// pointers that the catalogue has.
+#[derive(Drop)]
 pub(crate) struct Report<'a> {
     pub(crate) number: u64,
     pub(crate) bytes: Option<&'a [u8]>,

@@ -11,6 +11,7 @@ use hs_tokens::Sessions;
 use std::marker::Model;
 
 /// What has taken effect, as an operation sees it. It is made for one operation and one call.
+#[derive(Drop)]
 pub struct OpView<'a> {
     pub sessions: &'a Sessions,
     /// The roots of the shard that judges; they may be left out where the operation has no key.

@@ -2,7 +2,7 @@ use Rattle.std.proofs.Common.{◌≡◌, drop, fold, min}
 use Rattle.hs_limits.specs.declared.address.Held.{Held}
 use Rattle.hs_limits.specs.declared.limits.TheConstants.{LAST_EPOCH}
 use Rattle.hs_ops.specs.Speaking.{helds}
-use Rattle.hs_ops.proofs.entries.OpView.least_epoch.Given as goal
+use Rattle.hs_ops.proofs.view.OpView.least_epoch.Given as goal
 
 -- the least so far
 abbrev pub invariant-loop-handle : goal.invariant-loop-handle

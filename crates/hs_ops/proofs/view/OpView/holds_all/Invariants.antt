@@ -1,7 +1,7 @@
 use Rattle.std.proofs.Common.{◌≡◌, drop}
 use Rattle.hs_model.specs.Refusals.{no_handle_in}
 use Rattle.hs_ops.specs.Views.{open_in}
-use Rattle.hs_ops.proofs.rows.OpView.holds_all.Given as goal
+use Rattle.hs_ops.proofs.view.OpView.holds_all.Given as goal
 
 -- the handles so far are held
 abbrev pub invariant-loop-handle : goal.invariant-loop-handle

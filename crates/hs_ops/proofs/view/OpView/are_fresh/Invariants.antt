@@ -1,7 +1,7 @@
 use Rattle.std.proofs.Common.{◌≡◌, drop}
 use Rattle.hs_model.specs.Refusals.{stale_in}
 use Rattle.hs_ops.specs.Views.{now_in, open_in}
-use Rattle.hs_ops.proofs.rows.OpView.are_fresh.Given as goal
+use Rattle.hs_ops.proofs.view.OpView.are_fresh.Given as goal
 
 -- no handle so far is stale
 abbrev pub invariant-loop-handle : goal.invariant-loop-handle
