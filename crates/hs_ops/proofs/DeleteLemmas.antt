@@ -4,7 +4,6 @@ use Rattle.std.proofs.lemmas.Bool.{leb-false}
 use Rattle.hs_model.specs.Refusals.{first, refused_when}
 use Rattle.hs_model.specs.declared.op.Op.TheVariants as op
 use Rattle.hs_model.specs.declared.reply.Reply.{Reply}
-use Rattle.hs_ops.specs.Going.{judged_in}
 use Rattle.hs_ops.specs.Refusals.{is_running, refusal_of, refusals_of}
 use Rattle.hs_ops.specs.Views.{OpView}
 

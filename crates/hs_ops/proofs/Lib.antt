@@ -1,3 +1,4 @@
+mod BlockLemmas
 mod DeleteLemmas
 mod Examples
 mod RangeLemmas

@@ -1,5 +1,6 @@
 //! What reported bytes bring.
-ghost use Rattle.std.specs.Prelude.{◌≡◌, None, IfOk};
+ghost use Rattle.std.specs.Prelude.{◌≡◌, ◌&&◌, None, bytes_eq, IfOk};
+ghost use Rattle.std.specs.Cmp.Lexicographic.{pointwise};
 ghost use Rattle.std.specs.Option.{option_map};
 ghost use Rattle.hs_limits.specs.Block.{IsBlock};
 ghost use Rattle.hs_ops.specs.Going.{compared, data_of, is_reported, is_same_block, on_bytes};
@@ -89,7 +90,7 @@ impl<'a> OpView<'a> {
     }
 
     /// Whether the bytes are those of a write's block, and the catalogue's pointers are its pointers.
-    #[tactic(auto, unfolding(crate::specs::Going::is_same_block, crate::specs::Speaking::asked_block))]
+    #[tactic(auto, unfolding(crate::specs::Going::is_same_block), using(crate::proofs::BlockLemmas::asked_is, crate::proofs::BlockLemmas::is_spelled, crate::proofs::BlockLemmas::same_is))]
     fn is_same_block(
         &self,
         alloc: Global,
@@ -108,8 +109,17 @@ impl<'a> OpView<'a> {
         };
         let pointers = addresses_of(alloc, self.sessions, session, handles)?;
         let spelled = spelling(alloc, pointers.as_slice(), payload)?;
-        Ok(spelled.as_slice() == bytes && pointers.as_slice() == report.pointers)
+        let asked = pointers.as_slice();
+        Ok(are_same(spelled.as_slice(), bytes, asked, report.pointers))
     }
+}
+
+/// Whether bytes and pointers are the same as some others.
+fn are_same(spelled: &[u8], bytes: &[u8], asked: &[Address], pointers: &[Address]) -> bool
+    ensures { result ≡ (bytes_eq spelled.now bytes.now
+        && pointwise (λ p q. bytes_eq p.0 q.0) asked.now pointers.now) }
+{
+    spelled == bytes && asked == pointers
 }
 
 /// The data of the block that some bytes spell, none where they spell none.
