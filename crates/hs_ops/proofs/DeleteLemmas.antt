@@ -1,5 +1,5 @@
 -- A deletion that is not refused has an epoch left.
-use Rattle.std.proofs.Common.{◌≡◌, ◌<◌, ℕ, Bool, true, false, List, [], ◌∷◌, Option, Some, None, slice_index, nat_le, refl}
+use Rattle.std.proofs.Common.{◌≡◌, ◌<◌, Bool, true, false, [], ◌∷◌, Option, Some, None, slice_index, nat_le, refl}
 use Rattle.std.proofs.lemmas.Bool.{leb-false}
 use Rattle.hs_model.specs.Refusals.{first, refused_when}
 use Rattle.hs_model.specs.declared.op.Op.TheVariants as op

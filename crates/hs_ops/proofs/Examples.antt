@@ -1,5 +1,5 @@
 -- What the definitions give where one session writes, reads, keeps and drops: each refusal, each entry, each wait, each answer.
-use Rattle.std.proofs.Common.{◌≡◌, ℕ, Bool, true, false, List, [], ◌∷◌, map, replicate, Option, Some, None, refl}
+use Rattle.std.proofs.Common.{◌≡◌, ℕ, true, false, List, [], ◌∷◌, map, replicate, Some, None, refl}
 use Rattle.hs_desk.specs.declared.what.What.TheVariants as what
 use Rattle.hs_entry.specs.declared.entry.Entry.TheVariants as kind
 use Rattle.hs_limits.specs.Block.{spell}
@@ -14,16 +14,14 @@ use Rattle.hs_model.specs.declared.deed.Deed.TheVariants as deed
 use Rattle.hs_model.specs.declared.op.Asked.TheVariants as asked
 use Rattle.hs_model.specs.declared.op.Op.{Op}
 use Rattle.hs_model.specs.declared.op.Op.TheVariants as op
-use Rattle.hs_model.specs.declared.reply.Reply.{Reply}
 use Rattle.hs_model.specs.declared.reply.Reply.TheVariants as reply
 use Rattle.hs_ops.specs.Answers.{deed_of, gained, seats_after}
 use Rattle.hs_ops.specs.Going.{asked_for, begin, block_entry, compared, data_of, go, is_same_block, judged_in, mark_entry, on_bytes, on_effect}
 use Rattle.hs_ops.specs.Operations.{Operation, after_step, bytes_step, effect_step, go_step, new_operation}
 use Rattle.hs_ops.specs.Refusals.{refusal_of, refusals_of}
-use Rattle.hs_ops.specs.Speaking.{asked_block, judging_shard, least_epoch, wanted_address}
+use Rattle.hs_ops.specs.Speaking.{asked_block, judging_shard, least_epoch}
 use Rattle.hs_ops.specs.Views.{OpView}
 use Rattle.hs_ops.specs.declared.operation.Stage.TheVariants as stage
-use Rattle.hs_ops.specs.declared.step.OpStep.{OpStep}
 use Rattle.hs_ops.specs.declared.step.OpStep.TheVariants.{Answer, Propose, Compare, Wait}
 use Rattle.hs_roots.specs.Roots.{new_root}
 use Rattle.hs_tokens.specs.Seats.{Seats, hold, open_session, found}
@@ -100,7 +98,7 @@ closes = refl
 
 -- a write: of a session that is not open, or is busy; with handles that it does not hold, with as many handles as the limit, with an old one; without room
 writes : map (λ v. refusal_of v (write (1 ∷ []) (1 ∷ 0 ∷ [])))
-      (record view { seats = [] } ∷ record view { busy = Some 7 } ∷ full ∷ later ∷ record view { room = false } ∷ record view { room = false; present = Some 3 } ∷ view ∷ [])
+    (record view { seats = [] } ∷ record view { busy = Some 7 } ∷ full ∷ later ∷ record view { room = false } ∷ record view { room = false; present = Some 3 } ∷ view ∷ [])
     ≡ Some (reply.NoSession a) ∷ Some (reply.Busy 7) ∷ Some (reply.HandlesFull 3) ∷ Some (reply.Stale 0 1 3) ∷ Some (reply.ShardFull 1) ∷ None ∷ None ∷ []
 unfolding refusals_of no_handle_in stale_in
 writes = refl
@@ -242,7 +240,7 @@ deeds : deed_of seats (write (65 ∷ []) (0 ∷ [])) (reply.New 2 2) ∷ deed_of
     ∷ deed_of seats (op.Read a 0) (reply.Bytes (65 ∷ []) (2 ∷ 3 ∷ [])) ∷ deed_of seats (op.Look a k) (reply.Held 2 2) ∷ deed_of seats op.Delete (reply.Run 4) ∷ []
     ≡ deed.Wrote a (address 9) (address 4 ∷ []) 2 ∷ deed.Marked a (address 9) 2 ∷ deed.Refused (asked.Write a 1 (0 ∷ []) (Some (address 9)))
     ∷ deed.ReadBlock a (address 4) 1 (2 ∷ 3 ∷ []) ∷ deed.Looked a k 2 ∷ deed.Entered 0 ∷ []
-unfolding deed_of asked_block
+unfolding deed_of
 deeds = refl
 
 -- a write holds its address in the epoch of its shard, a read each pointer in that of its handle, a look-up the root in that of the root's shard

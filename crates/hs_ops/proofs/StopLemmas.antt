@@ -1,5 +1,5 @@
 -- Checks one after another.
-use Rattle.std.proofs.Common.{◌≡◌, ℕ, ◌+◌, ◌<◌, ◌≤◌, List, [], ◌∷◌, Option, Some, None, Result, Ok, Err, get_or, drop, length, map, ◌∙◌}
+use Rattle.std.proofs.Common.{◌≡◌, ℕ, ◌+◌, ◌<◌, ◌≤◌, List, [], ◌∷◌, Option, Some, None, Result, Ok, Err, get_or, drop, length, ◌∙◌}
 use Rattle.std.specs.Prelude.{⊤, IsErrAnd}
 use Rattle.std.proofs.lemmas.List.{at_drop_more, at_drop_all}
 use Rattle.hs_model.specs.Refusals.{first, no_handle_in, no_such_handle, stale_handle, stale_in}

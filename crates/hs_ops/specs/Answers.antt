@@ -1,5 +1,4 @@
 -- What an answer did: its deed, and the sessions afterwards.
-use Rattle.std.specs.Option.{option_map}
 use Rattle.std.specs.Prelude.{ℕ, Bool, true, false, List, [], ◌∷◌, Option, Some, None, if◌then◌else◌, slice_index}
 use Rattle.hs_limits.specs.declared.address.Address.{Address}
 use Rattle.hs_limits.specs.declared.address.Held.{Held}
@@ -11,7 +10,7 @@ use Rattle.hs_model.specs.declared.op.Op.{Op}
 use Rattle.hs_model.specs.declared.op.Op.TheVariants as op
 use Rattle.hs_model.specs.declared.reply.Reply.{Reply}
 use Rattle.hs_model.specs.declared.reply.Reply.TheVariants as reply
-use Rattle.hs_ops.specs.Speaking.{asked_block}
+use Rattle.hs_ops.specs.Speaking.{asked_pointers}
 use Rattle.hs_ops.specs.Views.{OpView, kept_in, now_in}
 use Rattle.hs_roots.specs.declared.root.RootRecord.{RootRecord}
 use Rattle.hs_tokens.specs.Seats.{Seats, close_session, forget, found, hold, nothing, open_session}
@@ -51,7 +50,7 @@ abbrev pub done_deed : Seats → Op → Reply → Deed
 done_deed seats (op.Open name) r = deed.Opened name
 done_deed seats (op.Close name) r = deed.Closed name
 done_deed seats (op.Write name payload handles address) r =
-    written_deed (is_dup r) name (given_address address) (asked_block seats name payload handles).pointers (handle_in r)
+    written_deed (is_dup r) name (given_address address) (asked_pointers seats name handles) (handle_in r)
 done_deed seats (op.Read name handle) r = deed.ReadBlock name (found seats name handle).address (found seats name handle).epoch (handles_in r)
 done_deed seats (op.Look name key) r = deed.Looked name key (handle_in r)
 done_deed seats (op.Root name key handle) r = deed.Rooted key (found seats name handle).address

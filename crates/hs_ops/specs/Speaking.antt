@@ -1,5 +1,5 @@
 -- What an operation speaks of: a session, a key, a block, and the shard that judges it.
-use Rattle.std.specs.Prelude.{ℕ, List, [], Option, Some, None, fold, map, min, unwrap_or}
+use Rattle.std.specs.Prelude.{ℕ, List, Option, Some, None, fold, map, min, unwrap_or}
 use Rattle.std.specs.Option.{option_map, option_or}
 use Rattle.hs_limits.specs.Block.{Block}
 use Rattle.hs_limits.specs.Shape.{shard_of, shard_of_key}
@@ -63,9 +63,12 @@ judging_shard shards seats o =
 abbrev pub helds : Seats → List ℕ → List ℕ → List Held
 helds seats name handles = map (λ handle. found seats name handle) handles
 
--- the block that it asks for: its handles stand for the pointers
+abbrev pub asked_pointers : Seats → List ℕ → List ℕ → List Address
+asked_pointers seats name handles = map (λ held. held.address) (helds seats name handles)
+
+-- the block that it asks for
 unfoldable pub asked_block : Seats → List ℕ → List ℕ → List ℕ → Block
-asked_block seats name payload handles = record { pointers = map (λ held. held.address) (helds seats name handles); bytes = payload }
+asked_block seats name payload handles = record { pointers = asked_pointers seats name handles; bytes = payload }
 
 -- the least epoch of its handles, and the last epoch where there is none
 unfoldable pub least_epoch : List Held → ℕ

@@ -1,10 +1,10 @@
 //! What an answer did: its deed, and what its handles stand for.
-ghost use Rattle.std.specs.Prelude.{◌≡◌, ◌∷◌, [], ℕ, List, IfOk};
+ghost use Rattle.std.specs.Prelude.{◌≡◌, ◌∷◌, [], IfOk};
 ghost use Rattle.hs_model.specs.declared.deed.Deed.TheVariants.{ReadBlock};
 ghost use Rattle.hs_model.specs.Judge.{asked_of, given_address, written_deed};
 ghost use Rattle.hs_model.specs.Store.{helds_of};
 ghost use Rattle.hs_ops.specs.Answers.{deed_of, done_deed, gained, handle_in, handles_in, is_done, is_dup};
-ghost use Rattle.hs_ops.specs.Speaking.{asked_block};
+ghost use Rattle.hs_ops.specs.Speaking.{asked_pointers};
 ghost use Rattle.hs_tokens.specs.Seats.{found};
 
 use crate::entries::{addresses_of, given_address};
@@ -86,12 +86,7 @@ pub(crate) fn deed_of(
 }
 
 /// The deed of an operation that was not refused.
-fn done_deed(
-    alloc: Global,
-    sessions: &Sessions,
-    op: Op,
-    reply: &Reply,
-) -> Result<Deed, OpFault>
+fn done_deed(alloc: Global, sessions: &Sessions, op: Op, reply: &Reply) -> Result<Deed, OpFault>
     ensures { IfOk result (λ deed. deed ≡ done_deed sessions.now.seats op reply.now) }
 {
     match op {
@@ -134,9 +129,9 @@ fn write_deed(
     address: Option<Address>,
     reply: &Reply,
 ) -> Result<Deed, OpFault>
-    ensures { (payload : List ℕ) → IfOk result (λ deed. deed ≡ written_deed (is_dup reply.now)
-        session (given_address address)
-        (asked_block sessions.now.seats session payload handles).pointers (handle_in reply.now)) }
+    ensures { IfOk result (λ deed. deed ≡ written_deed (is_dup reply.now) session
+        (given_address address) (asked_pointers sessions.now.seats session handles)
+        (handle_in reply.now)) }
 {
     let address = given_address(address);
     let handle = handle_in(reply);

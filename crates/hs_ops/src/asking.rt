@@ -15,12 +15,7 @@ use std::alloc::Global;
 
 /// What an operation asks for that the view alone does not answer.
 #[tactic(auto, unfolding(crate::specs::Going::asked_for))]
-pub(crate) fn asked_for(
-    view: &OpView,
-    alloc: Global,
-    line: u64,
-    op: &Op,
-) -> Result<OpStep, OpFault>
+pub(crate) fn asked_for(view: &OpView, alloc: Global, line: u64, op: &Op) -> Result<OpStep, OpFault>
     requires { judged_in view.now op.now ≡ None }
     ensures { IfOk result (λ step. step ≡ asked_for view.now line op.now) }
 {

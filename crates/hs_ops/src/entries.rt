@@ -1,9 +1,9 @@
 //! The entries that operations ask for.
-ghost use Rattle.std.specs.Prelude.{◌≡◌, map, IfOk};
+ghost use Rattle.std.specs.Prelude.{◌≡◌, IfOk};
 ghost use Rattle.hs_limits.specs.Block.{IsBlock, spell};
 ghost use Rattle.hs_model.specs.Judge.{given_address};
 ghost use Rattle.hs_ops.specs.Going.{block_entry, mark_entry, root_entry};
-ghost use Rattle.hs_ops.specs.Speaking.{asked_block, helds, least_epoch};
+ghost use Rattle.hs_ops.specs.Speaking.{asked_block, asked_pointers, helds, least_epoch};
 
 use crate::view::found_in;
 use crate::{OpFault, OpView};
@@ -100,7 +100,7 @@ pub(crate) fn addresses_of(
     handles: &[u32],
 ) -> Result<ListOf<Address>, OpFault>
     ensures { IfOk result (λ addresses. addresses
-        ≡ map (λ held. held.address) (helds sessions.now.seats session.now handles.now)) }
+        ≡ asked_pointers sessions.now.seats session.now handles.now) }
 {
     let mut addresses = ListOf::new(alloc);
     for handle in handles {

@@ -112,13 +112,7 @@ impl<'a> OpView<'a> {
     }
 
     #[tactic(auto, unfolding(crate::specs::Refusals::refusals_of), using(crate::proofs::StopLemmas::passes, crate::proofs::StopLemmas::stops_by, crate::proofs::StopLemmas::decides))]
-    fn check_root(
-        &self,
-        alloc: Global,
-        session: &Name,
-        key: &Key,
-        handle: u32,
-    ) -> Result<(), Stop>
+    fn check_root(&self, alloc: Global, session: &Name, key: &Key, handle: u32) -> Result<(), Stop>
         ensures { Stops (refusal_of self.now (op.Root session.now key.now handle)) result }
     {
         self.is_open(alloc, session)?;

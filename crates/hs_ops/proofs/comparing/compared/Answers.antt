@@ -1,6 +1,5 @@
-use Rattle.std.proofs.Common.{◌≡◌, None, ◌∙◌, sym, ap}
+use Rattle.std.proofs.Common.{◌∙◌, sym, ap}
 use Rattle.hs_model.specs.declared.op.Op.{Op}
-use Rattle.hs_model.specs.declared.op.Op.TheVariants as op
 use Rattle.hs_ops.specs.Refusals.{refusal_of}
 use Rattle.hs_ops.proofs.BlockLemmas.{write_fits}
 use Rattle.hs_ops.proofs.comparing.compared.Goals as goal

@@ -1,4 +1,3 @@
-use Rattle.std.proofs.Common.{◌≡◌, sym}
 use Rattle.hs_ops.proofs.table.check.Goals as goal
 
 pub returns-in-Write : goal.returns-in-Write
