@@ -1,4 +1,4 @@
-//! What a peer is given to do and reports, what is noted of it, and why a core has ended.
+//! What a peer is given to do and reports, what its entries did, what is noted of it, and why a core has ended.
 #![tactic(auto)]
 
 mod done;
@@ -6,9 +6,11 @@ mod fault;
 mod job;
 mod slip;
 mod token;
+mod what;
 
 pub use done::Done;
 pub use fault::CoreFault;
 pub use job::{Job, Next, Work};
 pub use slip::Slip;
 pub use token::Token;
+pub use what::What;
