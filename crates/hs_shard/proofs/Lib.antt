@@ -1,0 +1,4 @@
+mod Examples
+pub mod FoundLemmas
+pub mod EachLemmas
+pub mod KeptLemmas
