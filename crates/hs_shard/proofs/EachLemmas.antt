@@ -1,5 +1,5 @@
 -- Some blocks at once: those that pass a test, by their addresses in order, and all in one pass.
-use Rattle.std.proofs.Common.{◌≡◌, ℕ, not, List, [], ◌∷◌, ◌++◌, Bool, true, false, cond, Option, Some, None, refl, sym, ap, subst, ◌∙◌, filter, map, Less}
+use Rattle.std.proofs.Common.{◌≡◌, ℕ, suc, ◌+◌, ◌==◌, ◌&&◌, ◌||◌, not, nat_le, nat_lt, length, count_by, List, [], ◌∷◌, ◌++◌, Bool, true, false, cond, Option, Some, None, refl, sym, ap, subst, ◌∙◌, filter, map, Less}
 use Rattle.std.proofs.lemmas.Bool.{false≢true}
 use Rattle.std.proofs.lemmas.Map.Keys.{sorted_head, sorted_tail}
 use Rattle.std.proofs.lemmas.Map.Lookups.{btree_set_from_contains, exact_bytes}
@@ -15,13 +15,9 @@ use Rattle.hs_model.proofs.SetLemmas.{address_total}
 use Rattle.hs_shard.specs.declared.facts.Facts.{Facts}
 use Rattle.hs_shard.specs.Clients.{change_at, put_facts}
 use Rattle.hs_shard.specs.Facts.{BlockList, facts_in}
-use Rattle.hs_shard.specs.Listed.{pointers_each, remove_at, remove_each, stand, stand_each}
-use Rattle.hs_shard.specs.Rounds.{each_block, pointers_of}
+use Rattle.hs_shard.specs.Listed.{is_sound, picked, pointers_each, remove_at, remove_each, stand, stand_each}
+use Rattle.hs_shard.specs.Rounds.{count_block, each_block, find_zero, is_gone, is_new, is_new_zero, pointers_of, spare, sweep_blocks}
 use Rattle.hs_shard.proofs.FoundLemmas.{AreFound, all_found, at_itself, not_above}
-
--- the addresses of the blocks that pass a test
-abbrev pub picked : (Facts → Bool) → BlockList → List Address
-picked test es = keys_of (filter (λ e. test e.1) es)
 
 -- none of some addresses is at this one
 abbrev Misses : Address → List Address → Type 0
@@ -126,3 +122,54 @@ picked_among listed test blocks (e ∷ es) found less = go (picked_among listed 
             ≡ keys_of (cond c (e ∷ filter (λ e. test e.1) es) (filter (λ e. test e.1) es))
         further true = ap (λ ks. e.0 ∷ ks) ih
         further false = ih
+
+-- ---- what the steps of a run do
+
+-- two changes that agree on sound blocks are one
+each_alike : (f g : Facts → Facts) (blocks es : BlockList) → AreFound blocks es → ((a : Address) → option_map_or is_sound (facts_in a blocks) true ≡ true) → ((x : Facts) → is_sound x ≡ true → f x ≡ g x) → each_block f es ≡ each_block g es
+each_alike f g blocks [] found sound same = refl
+each_alike f g blocks (e ∷ es) found sound same =
+    let one : is_sound e.1 ≡ true = ap (λ o. option_map_or is_sound o true) (sym found.0) ∙ sound e.0 in
+    ap (λ x. (e.0, x) ∷ each_block f es) (same e.1 one) ∙ ap (λ rest. (e.0, g e.1) ∷ rest) (each_alike f g blocks es found.1 sound same)
+
+count_alike : (epoch : ℕ) (f : Facts) → is_sound f ≡ true → cond (is_new epoch f) (stand true false f) f ≡ count_block epoch f
+count_alike epoch f sound = go f.counted refl f.zero refl sound
+  where
+    go : (c : Bool) → f.counted ≡ c → (z : Bool) → f.zero ≡ z → (c || not z) ≡ true → cond (is_new epoch f) (stand true false f) f ≡ count_block epoch f
+    go true c z zero s = ap (λ (b : Bool). cond (not b && nat_lt f.born epoch) (stand true false f) f) c ∙ ap (λ (b : Bool). cond (not b && nat_lt f.born epoch) (record f { counted = true }) f) (sym c)
+    go false c true zero s = absurd (false≢true s)
+    go false c false zero s = ap (λ (z : Bool). cond (is_new epoch f) (record f { counted = true; zero = z }) f) (sym zero)
+
+pub counted_picked : (epoch : ℕ) (blocks : BlockList) → IsStrictlySortedBy address_cmp (keys_of blocks) → ((a : Address) → option_map_or is_sound (facts_in a blocks) true ≡ true)
+    → stand_each true false (picked (is_new epoch) blocks) blocks ≡ each_block (count_block epoch) blocks
+counted_picked epoch blocks d sound =
+    stand_picked true false (is_new epoch) blocks d ∙ each_alike (λ f. cond (is_new epoch f) (stand true false f) f) (count_block epoch) blocks blocks (all_found blocks d) sound (count_alike epoch)
+
+zero_alike : (epoch : ℕ) (f : Facts) → cond (is_new_zero epoch f) (stand true true f) f ≡ find_zero epoch f
+zero_alike epoch f = go f.counted refl
+  where
+    go : (c : Bool) → f.counted ≡ c → cond (is_new_zero epoch f) (stand true true f) f ≡ find_zero epoch f
+    go true c = ap (λ (b : Bool). cond (is_new_zero epoch f) (record f { counted = b; zero = true }) f) (sym c)
+    go false c = ap (λ (b : Bool). cond (b && (not f.zero && (f.count == 0 && nat_le (f.mark + 2) epoch))) (stand true true f) f) c
+        ∙ ap (λ (b : Bool). cond (b && (not f.zero && (f.count == 0 && nat_le (f.mark + 2) epoch))) (record f { zero = true }) f) (sym c)
+
+each_same : (f g : Facts → Facts) (es : BlockList) → ((x : Facts) → f x ≡ g x) → each_block f es ≡ each_block g es
+each_same f g [] same = refl
+each_same f g (e ∷ es) same = ap (λ x. (e.0, x) ∷ each_block f es) (same e.1) ∙ ap (λ rest. (e.0, g e.1) ∷ rest) (each_same f g es same)
+
+pub zeros_picked : (epoch : ℕ) (blocks : BlockList) → IsStrictlySortedBy address_cmp (keys_of blocks) → stand_each true true (picked (is_new_zero epoch) blocks) blocks ≡ each_block (find_zero epoch) blocks
+zeros_picked epoch blocks d =
+    stand_picked true true (is_new_zero epoch) blocks d ∙ each_same (λ f. cond (is_new_zero epoch f) (stand true true f) f) (find_zero epoch) blocks (zero_alike epoch)
+
+pub spared_picked : (blocks : BlockList) → IsStrictlySortedBy address_cmp (keys_of blocks) → stand_each false false (picked (λ f. f.zero) blocks) blocks ≡ each_block spare blocks
+spared_picked blocks d = stand_picked false false (λ f. f.zero) blocks d
+
+-- as many blocks as their addresses
+pub length_picked : (test : Facts → Bool) (es : BlockList) → length (picked test es) ≡ count_by (λ e. test e.1) es
+length_picked test [] = refl
+length_picked test (e ∷ es) = go (length_picked test es) (test e.1)
+  where
+    go : length (picked test es) ≡ count_by (λ e. test e.1) es → (b : Bool)
+        → length (keys_of (cond b (e ∷ filter (λ e. test e.1) es) (filter (λ e. test e.1) es))) ≡ (cond b 1 0 + count_by (λ e. test e.1) es)
+    go ih true = ap suc ih
+    go ih false = ih

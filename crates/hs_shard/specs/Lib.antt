@@ -6,4 +6,3 @@ pub mod Rounds
 pub mod Tally
 pub use Rattle.hs_limits.specs.Shape
 pub use Rattle.hs_roots.specs.Roots
-pub use Rattle.hs_rounds.specs.Rounds as Run

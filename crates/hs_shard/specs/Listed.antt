@@ -1,5 +1,5 @@
 -- Which blocks a deletion run looks at: each kind is listed, so that no entry goes over all blocks.
-use Rattle.std.specs.Prelude.{◌≡◌, ℕ, ◌==◌, ◌≤◌, Bool, true, false, not, ◌||◌, ◌++◌, if◌then◌else◌, List, [], ◌∷◌, Option, Some, length}
+use Rattle.std.specs.Prelude.{◌≡◌, ℕ, ◌==◌, ◌≤◌, Bool, true, false, not, ◌||◌, ◌++◌, if◌then◌else◌, List, [], ◌∷◌, Option, Some, length, filter}
 use Rattle.std.specs.BTreeMap.{is_at}
 use Rattle.std.specs.BTreeSet.{contains}
 use Rattle.std.specs.List.Sorted.{IsStrictlySortedBy}
@@ -78,6 +78,10 @@ pub record AreKept (blocks : BlockList) (numbers : NumberList) (listed : Listed)
   pub numbered : AreNumbered blocks numbers
 
 -- ---- some blocks at once
+
+-- the addresses of the blocks that pass a test
+abbrev pub picked : (Facts → Bool) → BlockList → List Address
+picked test blocks = keys_of (filter (λ e. test e.1) blocks)
 
 -- whether a block counts, and whether it is a zero block
 abbrev pub stand : Bool → Bool → Facts → Facts

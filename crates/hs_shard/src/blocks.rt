@@ -1,6 +1,7 @@
 //! The present blocks of a shard: what is known of each, and which a deletion run looks at.
-ghost use Rattle.std.specs.Prelude.{[], ◌≡◌, ◌||◌, ◌+◌, ◌<◌, None, ℕ, false, true, nat_le, not, length, filter, IfOk, OnErr, OnOk};
+ghost use Rattle.std.specs.Prelude.{[], ◌≡◌, ◌||◌, ◌+◌, ◌<◌, None, ℕ, false, true, nat_le, not, length, count_by, IfOk, OnErr, OnOk};
 ghost use Rattle.std.specs.BTreeMap.{insert_entry};
+ghost use Rattle.std.specs.List.Sorted.{IsStrictlySortedBy};
 ghost use Rattle.std.specs.Map.{keys_of};
 ghost use Rattle.std.specs.Option.{option_copied, option_map, option_map_or};
 ghost use Rattle.std.specs.Ordering.{nat_cmp};
@@ -10,9 +11,9 @@ ghost use Rattle.hs_model.specs.Store.{address_cmp};
 ghost use Rattle.hs_shard.specs.declared.facts.Facts.{Facts};
 ghost use Rattle.hs_shard.specs.Clients.{change_at, give, new_facts};
 ghost use Rattle.hs_shard.specs.Facts.{facts_in, pointers_at, told_at};
-ghost use Rattle.hs_shard.specs.Listed.{address_of, pointers_each, remove_at, remove_each, stand, stand_each};
+ghost use Rattle.hs_shard.specs.Listed.{address_of, picked, pointers_each, remove_at, remove_each, stand, stand_each};
 ghost use Rattle.hs_shard.specs.Tally.{count_all};
-ghost use Rattle.hs_shard.specs.Rounds.{is_gone, is_new, is_new_zero, move_count, moved, settle};
+ghost use Rattle.hs_shard.specs.Rounds.{count_block, each_block, find_zero, gone_count, is_gone, is_new, is_new_zero, move_count, moved, pointers_of, settle, sweep_blocks};
 
 use crate::listed::{Kind, Listed, kind_as};
 use crate::tally::Tally;
@@ -163,8 +164,10 @@ impl Blocks {
 
     /// The blocks that become counted in an epoch, ascending.
     pub(crate) fn new_in(&self, epoch: u64) -> Result<Vec<Address>, AllocError>
-        ensures { IfOk result (λ addresses. addresses.items
-            ≡ keys_of (filter (λ e. is_new epoch e.1) self.now)) }
+        ensures addresses { IfOk result (λ addresses.
+            addresses.items ≡ picked (is_new epoch) self.now) }
+        ensures told { IfOk result (λ addresses.
+            pointers_each addresses.items self.now ≡ pointers_of (is_new epoch) self.now) }
     {
         self.listed
             .uncounted
@@ -176,8 +179,12 @@ impl Blocks {
 
     /// The blocks that become zero blocks in an epoch, ascending.
     pub(crate) fn new_zeros(&self, epoch: u64) -> Result<Vec<Address>, AllocError>
-        ensures { IfOk result (λ addresses. addresses.items
-            ≡ keys_of (filter (λ e. is_new_zero epoch e.1) self.now)) }
+        ensures addresses { IfOk result (λ addresses.
+            addresses.items ≡ picked (is_new_zero epoch) self.now) }
+        ensures told { IfOk result (λ addresses.
+            pointers_each addresses.items self.now ≡ pointers_of (is_new_zero epoch) self.now) }
+        ensures count { IfOk result (λ addresses. length addresses.items
+            ≡ count_by (λ e. is_new_zero epoch e.1) self.now) }
     {
         self.listed
             .idle
@@ -187,10 +194,44 @@ impl Blocks {
             .collect(self.alloc)
     }
 
+    /// The blocks that become counted in an epoch count from then on. Without memory some of them may
+    /// count.
+    pub(crate) fn count(&mut self, addresses: &[Address]) -> Result<(), AllocError>
+        ensures { OnOk result ((epoch : ℕ) → addresses.now ≡ picked (is_new epoch) self.old
+            → self.new ≡ each_block (count_block epoch) self.old) }
+    {
+        self.stand_each(addresses, true, false)
+    }
+
+    /// The blocks that become zero blocks in an epoch are zero blocks from then on. Without memory
+    /// some of them may be.
+    pub(crate) fn make_zero(&mut self, addresses: &[Address]) -> Result<(), AllocError>
+        ensures { OnOk result ((epoch : ℕ) → addresses.now ≡ picked (is_new_zero epoch) self.old
+            → self.new ≡ each_block (find_zero epoch) self.old) }
+    {
+        self.stand_each(addresses, true, true)
+    }
+
+    /// The zero blocks that no write gave in an epoch go, and the others count no more; how many go.
+    /// Without memory some may be gone, or count no more.
+    pub(crate) fn sweep(&mut self, epoch: u64) -> Result<u32, AllocError>
+        ensures blocks { OnOk result (self.new ≡ sweep_blocks epoch self.old) }
+        ensures count { IfOk result (λ count. count ≡ gone_count epoch self.old) }
+    {
+        let gone = self.gone(epoch)?;
+        let Ok(count) = u32::try_from(gone.len()) else {
+            return Err(AllocError);
+        };
+        self.remove_each(gone.as_slice());
+        let spared = self.zeros()?;
+        self.stand_each(spared.as_slice(), false, false)?;
+        Ok(count)
+    }
+
     /// The zero blocks that the sweep of an epoch removes, ascending.
-    pub(crate) fn gone(&self, epoch: u64) -> Result<Vec<Address>, AllocError>
-        ensures { IfOk result (λ addresses. addresses.items
-            ≡ keys_of (filter (λ e. is_gone epoch e.1) self.now)) }
+    fn gone(&self, epoch: u64) -> Result<Vec<Address>, AllocError>
+        ensures addresses { IfOk result (λ addresses.
+            addresses.items ≡ picked (is_gone epoch) self.now) }
     {
         self.listed
             .zeros
@@ -201,23 +242,24 @@ impl Blocks {
     }
 
     /// The zero blocks, ascending.
-    pub(crate) fn zeros(&self) -> Result<Vec<Address>, AllocError>
-        ensures { IfOk result (λ addresses. addresses.items
-            ≡ keys_of (filter (λ e. e.1.zero) self.now)) }
+    fn zeros(&self) -> Result<Vec<Address>, AllocError>
+        ensures addresses { IfOk result (λ addresses.
+            addresses.items ≡ picked (λ f. f.zero) self.now) }
     {
         self.listed.zeros.iter().copied().collect(self.alloc)
     }
 
     /// Says of some blocks whether they count and whether they are zero blocks. Without memory it may
     /// be said of some of them.
-    pub(crate) fn stand_each(
+    fn stand_each(
         &mut self,
         addresses: &[Address],
         counted: bool,
         zero: bool,
     ) -> Result<(), AllocError>
         requires { (counted || not zero) ≡ true }
-        ensures { OnOk result (self.new ≡ stand_each counted zero addresses.now self.old) }
+        ensures ok { OnOk result (self.new ≡ stand_each counted zero addresses.now self.old) }
+        ensures ordered { IsStrictlySortedBy address_cmp (keys_of self.old) }
     {
         for address in addresses {
             self.stand(address, counted, zero)?;
@@ -226,8 +268,9 @@ impl Blocks {
     }
 
     /// Takes some blocks away. It takes no memory.
-    pub(crate) fn remove_each(&mut self, addresses: &[Address])
-        ensures { self.new ≡ remove_each addresses.now self.old }
+    fn remove_each(&mut self, addresses: &[Address])
+        ensures ok { self.new ≡ remove_each addresses.now self.old }
+        ensures ordered { IsStrictlySortedBy address_cmp (keys_of self.old) }
     {
         for address in addresses {
             self.remove(address);

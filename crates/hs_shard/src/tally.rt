@@ -16,14 +16,21 @@ pub(crate) struct Tally {
 }
 
 impl Model for Tally {
-    ghost use Rattle.std.specs.Prelude.{◌≤◌, ℕ, All, List};
+    ghost use Rattle.std.specs.Prelude.{◌≤◌, ℕ, List};
+    ghost use Rattle.std.specs.List.{AllByRecursion};
+    ghost use Rattle.std.specs.List.Sorted.{IsStrictlySortedBy};
+    ghost use Rattle.std.specs.Map.{keys_of};
     ghost use Rattle.hs_limits.specs.declared.address.Address.{Address};
+    ghost use Rattle.hs_model.specs.Store.{address_cmp};
 
     ghost Value = { List (Address × ℕ) };
 
     ghost view = { λ a. a.counts.entries };
 
-    ghost invariant = { λ a. All (λ e. 1 ≤ e.1) a.counts.entries };
+    ghost invariant = { λ a. record {
+      ordered : IsStrictlySortedBy address_cmp (keys_of a.counts.entries);
+      some : AllByRecursion (λ e. 1 ≤ e.1) a.counts.entries;
+    } };
 }
 
 impl Tally {

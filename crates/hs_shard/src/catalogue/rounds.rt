@@ -100,7 +100,7 @@ impl Catalogue {
             return Err(ShardFault::NoMemory);
         };
         self.run.go_on(total, decrements)?;
-        self.blocks.stand_each(zeros.as_slice(), true, true)?;
+        self.blocks.make_zero(zeros.as_slice())?;
         let Some(next) = round.checked_add(1) else {
             return Err(ShardFault::NoMemory);
         };
@@ -116,15 +116,9 @@ impl Catalogue {
             (applied self.new effect.new ≡ swept epoch effect.old self.old) }
         ensures only { IsOkUnless result NoMemory }
     {
-        let gone = self.blocks.gone(epoch)?;
-        self.blocks.remove_each(gone.as_slice());
-        let spared = self.blocks.zeros()?;
-        self.blocks.stand_each(spared.as_slice(), false, false)?;
+        let removed = self.blocks.sweep(epoch)?;
         self.swept = epoch;
         self.run.finish();
-        let Ok(removed) = u32::try_from(gone.len()) else {
-            return Err(ShardFault::NoMemory);
-        };
         effect.removed = Some(removed);
         Ok(())
     }
@@ -138,7 +132,7 @@ impl Catalogue {
         let roots = self.roots.count_new(epoch)?;
         let increments = self.tally(blocks.as_slice(), roots.as_slice())?;
         self.run.enter(epoch, increments)?;
-        self.blocks.stand_each(blocks.as_slice(), true, false)?;
+        self.blocks.count(blocks.as_slice())?;
         self.epoch = epoch;
         Ok(())
     }
