@@ -69,7 +69,7 @@ kept_now blocks now numbers after listed then a facts kept finds lists sound few
   few = few;
   ordered = ordered;
   sound = sound_now blocks now a facts finds sound kept.sound;
-  listed = listed_now blocks now listed then a facts finds lists kept.listed;
+  lists = listed_now blocks now listed then a facts finds lists kept.lists;
   numbered = numbered;
 }
 

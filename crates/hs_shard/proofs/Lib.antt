@@ -4,4 +4,5 @@ pub mod EachLemmas
 pub mod FoundLemmas
 pub mod KeptLemmas
 pub mod ListedLemmas
+pub mod PointerLemmas
 pub mod TallyLemmas

@@ -138,16 +138,16 @@ gone_is_zero epoch f h = go f.zero (nat_lt f.mark epoch) h
 pub new_listed : (epoch : ℕ) (blocks : BlockList) (numbers : NumberList) (listed : Listed) → AreKept blocks numbers listed → IsStrictlySortedBy address_cmp listed.uncounted.keys
     → filter (λ a. option_map_or (is_new epoch) (facts_in a blocks) false) listed.uncounted.keys ≡ picked (is_new epoch) blocks
 new_listed epoch blocks numbers listed kept d =
-    set_filtered (λ f. goes_in Uncounted (kind_of f)) (is_new epoch) blocks listed.uncounted d kept.ordered (λ q. kept.listed Uncounted q) (λ f h. new_is_uncounted epoch f h)
+    set_filtered (λ f. goes_in Uncounted (kind_of f)) (is_new epoch) blocks listed.uncounted d kept.ordered (λ q. kept.lists Uncounted q) (λ f h. new_is_uncounted epoch f h)
 
 pub new_zeros_listed : (epoch : ℕ) (blocks : BlockList) (numbers : NumberList) (listed : Listed) → AreKept blocks numbers listed → IsStrictlySortedBy address_cmp listed.idle.keys
     → filter (λ a. option_map_or (is_new_zero epoch) (facts_in a blocks) false) listed.idle.keys ≡ picked (is_new_zero epoch) blocks
 new_zeros_listed epoch blocks numbers listed kept d =
-    set_filtered (λ f. goes_in Idle (kind_of f)) (is_new_zero epoch) blocks listed.idle d kept.ordered (λ q. kept.listed Idle q) (λ f h. new_zero_is_idle epoch f h)
+    set_filtered (λ f. goes_in Idle (kind_of f)) (is_new_zero epoch) blocks listed.idle d kept.ordered (λ q. kept.lists Idle q) (λ f h. new_zero_is_idle epoch f h)
 
 -- the list of zero blocks has each of them
 has_zeros : (blocks : BlockList) (numbers : NumberList) (listed : Listed) → AreKept blocks numbers listed → (q : Address) → contains address_cmp listed.zeros q ≡ option_map_or (λ f. f.zero) (facts_in q blocks) false
-has_zeros blocks numbers listed kept q = kept.listed Zero q ∙ go (facts_in q blocks) (kept.sound q)
+has_zeros blocks numbers listed kept q = kept.lists Zero q ∙ go (facts_in q blocks) (kept.sound q)
   where
     go : (o : Option Facts) → option_map_or is_sound o true ≡ true → option_map_or (λ f. goes_in Zero (kind_of f)) o false ≡ option_map_or (λ f. f.zero) o false
     go None h = refl
