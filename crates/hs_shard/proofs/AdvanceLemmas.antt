@@ -1,5 +1,5 @@
 -- Rounds that end one after another: each leaves fewer Gots, so that they come to an end.
-use Rattle.std.proofs.Common.{◌≡◌, ◌<◌, ◌≤◌, ℕ, zero, suc, ◌+◌, List, [], ◌∷◌, ◌&&◌, not, Bool, true, false, cond, Option, Some, None, refl, sym, ap, subst, ◌∙◌, filter, length, is_some, arith}
+use Rattle.std.proofs.Common.{◌≡◌, ◌<◌, ◌≤◌, ℕ, zero, suc, ◌+◌, List, [], ◌∷◌, ◌&&◌, ◌⊎◌, inl, inr, not, Bool, true, false, cond, Option, Some, None, refl, sym, ap, subst, ◌∙◌, filter, length, is_some, arith}
 use Rattle.std.proofs.lemmas.Bool.{false≢true}
 use Rattle.std.specs.BTreeMap.{is_at}
 use Rattle.hs_limits.specs.declared.delta.Delta.{Delta}
@@ -21,15 +21,15 @@ dropped epoch round (e ∷ es) = go (dropped epoch round es) (is_before epoch ro
 -- what came for a round before this one is dropped
 drops_one : (epoch round : ℕ) (p : Place) (gots : GotList) → is_before epoch round p ≡ true → is_some (body_at p gots) ≡ true → length (from_round epoch round gots) < length gots
 drops_one epoch round p [] before there = absurd (false≢true there)
-drops_one epoch round p (e ∷ es) before there = go (is_at (place_cmp p) e.0) refl (is_before epoch round e.0) refl
+drops_one epoch round p (e ∷ es) before there = go (drops_one epoch round p es before) (is_at (place_cmp p) e.0) refl (is_before epoch round e.0) refl
   where
-    go : (b : Bool) → is_at (place_cmp p) e.0 ≡ b → (c : Bool) → is_before epoch round e.0 ≡ c
+    go : (is_some (body_at p es) ≡ true → length (from_round epoch round es) < length es) → (b : Bool) → is_at (place_cmp p) e.0 ≡ b → (c : Bool) → is_before epoch round e.0 ≡ c
         → length (cond (not c) (e ∷ from_round epoch round es) (from_round epoch round es)) < suc (length es)
-    go true t true s = let le = dropped epoch round es in omega (arith, le)
-    go true t false s = absurd (false≢true (sym s ∙ ap (λ q. is_before epoch round q) (sym (same_place p e.0 t)) ∙ before))
-    go false t true s = let le = dropped epoch round es in omega (arith, le)
-    go false t false s =
-        let less : length (from_round epoch round es) < length es = drops_one epoch round p es before (ap (λ b. is_some (cond b (Some e.1) (body_at p es))) (sym t) ∙ there) in
+    go ih true t true s = let le = dropped epoch round es in omega (arith, le)
+    go ih true t false s = absurd (false≢true (sym s ∙ ap (λ q. is_before epoch round q) (sym (same_place p e.0 t)) ∙ before))
+    go ih false t true s = let le = dropped epoch round es in omega (arith, le)
+    go ih false t false s =
+        let less : length (from_round epoch round es) < length es = ih (ap (λ b. is_some (cond b (Some e.1) (body_at p es))) (sym t) ∙ there) in
         omega (arith, less)
 
 first_of : (a b : Bool) → (a && b) ≡ true → a ≡ true

@@ -49,7 +49,7 @@ found_change a q change blocks = go (facts_in a blocks) refl
   where
     go : (o : Option Facts) → facts_in a blocks ≡ o → facts_in q (put_facts a (option_map change o) blocks) ≡ cond (is_at (address_cmp a) q) (option_map change o) (facts_in q blocks)
     go None e = none_there a q blocks e (is_at (address_cmp a) q) refl
-    go (Some f) e = found_put a q (change f) blocks (subst (λ o. IsSome o) (sym e) (some refl))
+    go (Some f) e = found_put a q (change f) blocks (subst (λ o. IsSome o) (sym e) refl)
 
 -- ---- each entry is found at its key
 

@@ -16,6 +16,7 @@ ghost use Rattle.hs_shard.specs.Tally.{count_all};
 ghost use Rattle.hs_shard.specs.Rounds.{count_block, each_block, find_zero, gone_count, is_gone, is_new, is_new_zero, move_count, moved, pointers_of, settle, sweep_blocks};
 
 use crate::listed::{Kind, Listed, kind_as};
+use crate::picking::{pick_all, pick_gone, pick_new, pick_new_zeros};
 use crate::tally::Tally;
 use crate::{BlockFacts, Facts};
 use hs_limits::{Address, Delta, ListOf};
@@ -101,9 +102,7 @@ impl Blocks {
     pub(crate) fn give(&mut self, address: &Address, epoch: u64)
         ensures { self.new ≡ change_at address.now (give epoch) self.old }
     {
-        if let Some(facts) = self.known.get_mut(address) {
-            facts.mark = epoch;
-        }
+        give(&mut self.known, address, epoch);
     }
 
     /// Stores a block that does not count yet. Without memory nothing changes.
@@ -169,12 +168,7 @@ impl Blocks {
         ensures told { IfOk result (λ addresses.
             pointers_each addresses.items self.now ≡ pointers_of (is_new epoch) self.now) }
     {
-        self.listed
-            .uncounted
-            .iter()
-            .filter(|address| self.is_new(address, epoch))
-            .copied()
-            .collect(self.alloc)
+        pick_new(self.alloc, &self.listed.uncounted, &self.known, epoch)
     }
 
     /// The blocks that become zero blocks in an epoch, ascending.
@@ -186,12 +180,7 @@ impl Blocks {
         ensures count { IfOk result (λ addresses. length addresses.items
             ≡ count_by (λ e. is_new_zero epoch e.1) self.now) }
     {
-        self.listed
-            .idle
-            .iter()
-            .filter(|address| self.is_new_zero(address, epoch))
-            .copied()
-            .collect(self.alloc)
+        pick_new_zeros(self.alloc, &self.listed.idle, &self.known, epoch)
     }
 
     /// The blocks that become counted in an epoch count from then on. Without memory some of them may
@@ -233,20 +222,16 @@ impl Blocks {
         ensures addresses { IfOk result (λ addresses.
             addresses.items ≡ picked (is_gone epoch) self.now) }
     {
-        self.listed
-            .zeros
-            .iter()
-            .filter(|address| self.is_gone(address, epoch))
-            .copied()
-            .collect(self.alloc)
+        pick_gone(self.alloc, &self.listed.zeros, &self.known, epoch)
     }
 
     /// The zero blocks, ascending.
     fn zeros(&self) -> Result<Vec<Address>, AllocError>
         ensures addresses { IfOk result (λ addresses.
             addresses.items ≡ picked (λ f. f.zero) self.now) }
+        ensures ordered { IsStrictlySortedBy address_cmp (keys_of self.now) }
     {
-        self.listed.zeros.iter().copied().collect(self.alloc)
+        pick_all(self.alloc, &self.listed.zeros)
     }
 
     /// Says of some blocks whether they count and whether they are zero blocks. Without memory it may
@@ -259,7 +244,6 @@ impl Blocks {
     ) -> Result<(), AllocError>
         requires { (counted || not zero) ≡ true }
         ensures ok { OnOk result (self.new ≡ stand_each counted zero addresses.now self.old) }
-        ensures ordered { IsStrictlySortedBy address_cmp (keys_of self.old) }
     {
         for address in addresses {
             self.stand(address, counted, zero)?;
@@ -270,7 +254,6 @@ impl Blocks {
     /// Takes some blocks away. It takes no memory.
     fn remove_each(&mut self, addresses: &[Address])
         ensures ok { self.new ≡ remove_each addresses.now self.old }
-        ensures ordered { IsStrictlySortedBy address_cmp (keys_of self.old) }
     {
         for address in addresses {
             self.remove(address);
@@ -329,51 +312,13 @@ impl Blocks {
     fn remove(&mut self, address: &Address)
         ensures { self.new ≡ remove_at address.now self.old }
     {
-        if let Some(facts) = self.known.remove(address) {
-            let kind = kind_as(facts.counted, facts.zero, facts.count);
-            self.numbers.remove(&facts.number);
-            self.listed.unlist(address, kind);
-        }
+        let Some(facts) = self.known.remove(address) else {
+            return;
+        };
+        let kind = kind_as(facts.counted, facts.zero, facts.count);
+        self.numbers.remove(&facts.number);
+        self.listed.unlist(address, kind);
     }
-
-    /// Whether a block becomes counted in an epoch.
-    fn is_new(&self, address: &Address, epoch: u64) -> bool
-        ensures { result ≡ option_map_or (is_new epoch) (facts_in address.now self.now) false }
-    {
-        match self.known.get(address) {
-            Some(facts) => !facts.counted && facts.born < epoch,
-            None => false,
-        }
-    }
-
-    /// Whether a block becomes a zero block in an epoch.
-    fn is_new_zero(&self, address: &Address, epoch: u64) -> bool
-        ensures { result ≡ option_map_or (is_new_zero epoch) (facts_in address.now self.now) false }
-    {
-        match self.known.get(address) {
-            Some(facts) => {
-                facts.counted && !facts.zero && facts.count == 0 && is_past(facts.mark, epoch)
-            }
-            None => false,
-        }
-    }
-
-    /// Whether the sweep of an epoch removes a block.
-    fn is_gone(&self, address: &Address, epoch: u64) -> bool
-        ensures { result ≡ option_map_or (is_gone epoch) (facts_in address.now self.now) false }
-    {
-        match self.known.get(address) {
-            Some(facts) => facts.zero && facts.mark < epoch,
-            None => false,
-        }
-    }
-}
-
-/// Whether an epoch is the second after another or later.
-fn is_past(epoch: u64, now: u64) -> bool
-    ensures { result ≡ nat_le (epoch + 2) now }
-{
-    epoch < now.saturating_sub(1)
 }
 
 /// What a count becomes at the end of a round: round 0 raises it, the others lower it, as far as it
@@ -385,6 +330,15 @@ fn moved(round: u32, count: u32, amount: u32) -> u32
         return count.checked_add(amount).unwrap_or(count);
     }
     count.checked_sub(amount).unwrap_or(count)
+}
+
+/// Writes down that a block was given in an epoch. It takes no memory.
+fn give(known: &mut BTreeMap<Address, Facts>, address: &Address, epoch: u64)
+    ensures { known.new.entries ≡ change_at address.now (give epoch) known.old.entries }
+{
+    if let Some(facts) = known.get_mut(address) {
+        facts.mark = epoch;
+    }
 }
 
 /// Writes down whether a block counts, whether it is a zero block, and its count. It takes no memory.
