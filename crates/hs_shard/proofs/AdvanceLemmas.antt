@@ -5,10 +5,10 @@ use Rattle.std.specs.BTreeMap.{is_at}
 use Rattle.hs_limits.specs.declared.delta.Delta.{Delta}
 use Rattle.hs_limits.specs.Shape.{IsShape}
 use Rattle.hs_rounds.specs.declared.place.Place.{Place}
-use Rattle.hs_rounds.specs.Rounds.{GotList, Run, body_at, complete, finish, from_round, go_on, have_told, is_before, is_last, place_cmp, told_by}
+use Rattle.hs_rounds.specs.Rounds.{GotList, Run, body_at, complete, finish, from_round, go_on, have_told, is_before, place_cmp, told_by}
 use Rattle.hs_rounds.proofs.PlaceLemmas.{same_place}
 use Rattle.hs_shard.specs.Clients.{Applied}
-use Rattle.hs_shard.specs.Rounds.{advance, end_open, end_round, next_deltas, next_total, search, searched, settled, sweep, swept}
+use Rattle.hs_shard.specs.Rounds.{advance, end_open}
 
 dropped : (epoch round : ℕ) (gots : GotList) → length (from_round epoch round gots) ≤ length gots
 dropped epoch round [] = omega arith
@@ -61,16 +61,13 @@ gone_on_gots : (total : ℕ) (run : Run) (epoch round : ℕ) (deltas : List Delt
 gone_on_gots total run epoch round deltas opened = rw opened refl
 
 -- the end of a round leaves fewer Gots
-pub ended_fewer : (a : Applied) (epoch round : ℕ) → IsShape a.catalogue.run.shape → a.catalogue.run.opened ≡ Some (epoch, round) → complete a.catalogue.run ≡ true
-    → length (end_round epoch round a).catalogue.run.gots < length a.catalogue.run.gots
-ended_fewer a epoch round shape opened done = go (is_last a.catalogue.run)
-  where
-    less : length (from_round epoch (round + 1) a.catalogue.run.gots) < length a.catalogue.run.gots
-    less = complete_drops a.catalogue.run epoch round shape opened done
-    go : (b : Bool) → length (cond b (swept epoch a.effect (settled round a.catalogue)) (searched epoch round a.effect (settled round a.catalogue))).catalogue.run.gots < length a.catalogue.run.gots
-    go true = rw (finished_gots a.catalogue.run epoch round opened) less
-    go false =
-        rw (gone_on_gots (next_total epoch round (settled round a.catalogue)) a.catalogue.run epoch round (next_deltas epoch round (settled round a.catalogue)) opened) less
+pub finished_fewer : (run : Run) (epoch round : ℕ) → IsShape run.shape → run.opened ≡ Some (epoch, round) → complete run ≡ true → length (finish run).gots < length run.gots
+finished_fewer run epoch round shape opened done =
+    subst (λ (gots : GotList). length gots < length run.gots) (sym (finished_gots run epoch round opened)) (complete_drops run epoch round shape opened done)
+
+pub gone_on_fewer : (total : ℕ) (deltas : List Delta) (run : Run) (epoch round : ℕ) → IsShape run.shape → run.opened ≡ Some (epoch, round) → complete run ≡ true → length (go_on total deltas run).gots < length run.gots
+gone_on_fewer total deltas run epoch round shape opened done =
+    subst (λ (gots : GotList). length gots < length run.gots) (sym (gone_on_gots total run epoch round deltas opened)) (complete_drops run epoch round shape opened done)
 
 -- ---- the steps of a loop
 
@@ -80,3 +77,15 @@ advance_more turns a e = ap (λ (b : Bool). cond b (advance turns (end_open a.ca
 pub advance_done : (turns : ℕ) (a : Applied) → complete a.catalogue.run ≡ false → advance turns a ≡ a
 advance_done zero a e = refl
 advance_done (suc turns) a e = ap (λ (b : Bool). cond b (advance turns (end_open a.catalogue.run.opened a)) a) e
+
+-- so many turns are left, more than there are Gots
+abbrev pub Left : Applied → Applied → Type 0
+Left a goal = (turns : ℕ) × (length a.catalogue.run.gots < turns) × (advance turns a ≡ goal)
+
+pub advance_step : (a next goal : Applied) → Left a goal → complete a.catalogue.run ≡ true → next ≡ end_open a.catalogue.run.opened a
+    → length next.catalogue.run.gots < length a.catalogue.run.gots → Left next goal
+advance_step a next goal (zero, less, same) done e fewer = absurd (omega (arith, less))
+advance_step a next goal (suc turns, less, same) done e fewer = (turns, omega (arith, less, fewer), ap (λ x. advance turns x) e ∙ sym (advance_more turns a done) ∙ same)
+
+pub advance_over : (a goal : Applied) → Left a goal → complete a.catalogue.run ≡ false → a ≡ goal
+advance_over a goal (turns, less, same) done = sym (advance_done turns a done) ∙ same

@@ -369,3 +369,12 @@ pointers_known blocks numbers listed number a f kept at here = go (find (is_stor
 
 pub pointers_lost : {P : Type 0} (blocks : BlockList) (numbers : NumberList) (listed : Listed) (number : ℕ) (a : Address) → AreKept blocks numbers listed → address_of number numbers ≡ Some a → facts_in a blocks ≡ None → P
 pointers_lost blocks numbers listed number a kept at none = absurd (false≢true (ap (λ o. option_map_or (λ x. x.number == number) o false) (sym none) ∙ kept.numbered.present number a at))
+
+-- by the address of the number
+pub pointers_by_address : (blocks : BlockList) (numbers : NumberList) (listed : Listed) (number : ℕ) (a : Address) → AreKept blocks numbers listed → address_of number numbers ≡ Some a
+    → option_map (λ f. f.pointers) (facts_in a blocks) ≡ pointers_at number blocks
+pointers_by_address blocks numbers listed number a kept at = go (facts_in a blocks) refl
+  where
+    go : (o : Option Facts) → facts_in a blocks ≡ o → option_map (λ f. f.pointers) o ≡ pointers_at number blocks
+    go None e = pointers_lost blocks numbers listed number a kept at e
+    go (Some f) e = sym (pointers_known blocks numbers listed number a f kept at e)
