@@ -60,6 +60,7 @@ stand_picked counted zero test (e ∷ es) d = go (stand_picked counted zero test
   where
     misses : Misses e.0 (picked test es)
     misses = misses_picked test e.0 es (sorted_head address_cmp e.0 (keys_of es) d)
+
     go : stand_each counted zero (picked test es) es ≡ each_block (λ f. cond (test f) (stand counted zero f) f) es → (b : Bool) → test e.1 ≡ b
         → stand_each counted zero (keys_of (cond b (e ∷ filter (λ e. test e.1) es) (filter (λ e. test e.1) es))) (e ∷ es)
         ≡ (e.0, cond b (stand counted zero e.1) e.1) ∷ each_block (λ f. cond (test f) (stand counted zero f) f) es

@@ -88,11 +88,13 @@ numbered_changed blocks now numbers a f g old finds here same = record { kept = 
             let x_is : g ≡ x = same_some g x (sym (finds q ∙ ap (λ b. cond b (Some g) (facts_in q blocks)) t) ∙ e) in
             ap (λ y. address_of y.number numbers) (sym x_is) ∙ ap (λ n. address_of n numbers) same ∙ old.kept a f here ∙ ap (λ z. Some z) (same_at a q t)
         go false t = old.kept q x (sym (finds q ∙ ap (λ b. cond b (Some g) (facts_in q blocks)) t) ∙ e)
+
     present : (number : ℕ) (q : Address) → address_of number numbers ≡ Some q → option_map_or (λ x. x.number == number) (facts_in q now) false ≡ true
     present number q e = go (is_at (address_cmp a) q) refl
       where
         has_it : option_map_or (λ x. x.number == number) (facts_in q blocks) false ≡ true
         has_it = old.present number q e
+
         go : (b : Bool) → is_at (address_cmp a) q ≡ b → option_map_or (λ x. x.number == number) (facts_in q now) false ≡ true
         go true t =
             let there : facts_in q blocks ≡ Some f = subst (λ z. facts_in z blocks ≡ Some f) (same_at a q t) here in
@@ -166,9 +168,11 @@ numbered_stored blocks now numbers after a f old finds counts here free = record
           where
             was : address_of x.number numbers ≡ Some q
             was = old.kept q x (sym (finds q ∙ ap (λ b. cond b (Some f) (facts_in q blocks)) t) ∙ e)
+
             further : (b : Bool) → is_at (nat_cmp f.number) x.number ≡ b → address_of x.number after ≡ Some q
             further true s = Some≢None q (sym was ∙ ap (λ n. address_of n numbers) (sym (same_number f.number x.number s)) ∙ free)
             further false s = counts x.number ∙ ap (λ b. cond b (Some a) (address_of x.number numbers)) s ∙ was
+
     present : (number : ℕ) (q : Address) → address_of number after ≡ Some q → option_map_or (λ x. x.number == number) (facts_in q now) false ≡ true
     present number q e = go (is_at (nat_cmp f.number) number) refl
       where
@@ -183,6 +187,7 @@ numbered_stored blocks now numbers after a f old finds counts here free = record
           where
             was : option_map_or (λ x. x.number == number) (facts_in q blocks) false ≡ true
             was = old.present number q (sym (counts number ∙ ap (λ b. cond b (Some a) (address_of number numbers)) s) ∙ e)
+
             further : (b : Bool) → is_at (address_cmp a) q ≡ b → option_map_or (λ x. x.number == number) (facts_in q now) false ≡ true
             further true t =
                 absurd (false≢true (sym (ap (λ o. option_map_or (λ x. x.number == number) o false) (subst (λ z. facts_in z blocks ≡ None) (same_at a q t) here)) ∙ was))
@@ -202,11 +207,13 @@ numbered_removed blocks now numbers after a f old finds counts here = record { k
           where
             was : address_of x.number numbers ≡ Some q
             was = old.kept q x (sym (finds q ∙ ap (λ b. cond b None (facts_in q blocks)) t) ∙ e)
+
             further : (b : Bool) → is_at (nat_cmp f.number) x.number ≡ b → address_of x.number after ≡ Some q
             further true s =
                 let a_is : a ≡ q = same_some a q (sym (old.kept a f here) ∙ ap (λ n. address_of n numbers) (same_number f.number x.number s) ∙ was) in
                 absurd (false≢true (sym t ∙ ap (λ z. is_at (address_cmp a) z) (sym a_is) ∙ at_itself a))
             further false s = counts x.number ∙ ap (λ b. cond b None (address_of x.number numbers)) s ∙ was
+
     present : (number : ℕ) (q : Address) → address_of number after ≡ Some q → option_map_or (λ x. x.number == number) (facts_in q now) false ≡ true
     present number q e = go (is_at (nat_cmp f.number) number) refl
       where
@@ -216,6 +223,7 @@ numbered_removed blocks now numbers after a f old finds counts here = record { k
           where
             was : option_map_or (λ x. x.number == number) (facts_in q blocks) false ≡ true
             was = old.present number q (sym (counts number ∙ ap (λ b. cond b None (address_of number numbers)) s) ∙ e)
+
             further : (b : Bool) → is_at (address_cmp a) q ≡ b → option_map_or (λ x. x.number == number) (facts_in q now) false ≡ true
             further true t =
                 let there : facts_in q blocks ≡ Some f = subst (λ z. facts_in z blocks ≡ Some f) (same_at a q t) here in
@@ -256,7 +264,7 @@ kept_put a f g blocks numbers listed then kept here same sound lists =
     let few : length (put_facts a (Some g) blocks) ≤ greatest_limits.blocks = subst (λ n. n ≤ greatest_limits.blocks) (sym (length-set_value (is_at (address_cmp a)) blocks g)) kept.few in
     let ordered : IsStrictlySortedBy address_cmp (keys_of (put_facts a (Some g) blocks)) = subst (λ ks. IsStrictlySortedBy address_cmp ks) (sym (keys-set_value (is_at (address_cmp a)) blocks g)) kept.ordered in
     kept_now blocks (put_facts a (Some g) blocks) numbers numbers listed then a (Some g) kept finds lists sound few ordered
-      (numbered_changed blocks (put_facts a (Some g) blocks) numbers a f g kept.numbered finds here same)
+    (numbered_changed blocks (put_facts a (Some g) blocks) numbers a f g kept.numbered finds here same)
 
 -- a block is changed, and listed as it is then
 pub kept_changed : (a : Address) (f : Facts) (change : Facts → Facts) (blocks : BlockList) (numbers : NumberList) (listed then : Listed)
@@ -306,7 +314,7 @@ pub kept_removed : (a : Address) (f : Facts) (blocks now : BlockList) (numbers a
 kept_removed a f blocks now numbers after listed then kept here finds counts unlists fewer ordered =
     let few : length now ≤ greatest_limits.blocks = omega (arith, fewer, kept.few) in
     kept_now blocks now numbers after listed then a None kept finds (unlisted blocks listed then a f kept.lists here unlists) refl few ordered
-      (numbered_removed blocks now numbers after a f kept.numbered finds counts here)
+    (numbered_removed blocks now numbers after a f kept.numbered finds counts here)
 
 -- what was put into a list and taken out again
 pub kept_alike : (a : Address) (blocks : BlockList) (numbers after : NumberList) (listed then last : Listed)
@@ -359,6 +367,7 @@ pointers_known blocks numbers listed number a f kept at here = go (find (is_stor
   where
     is_its : (f.number == number) ≡ true
     is_its = ap (λ o. option_map_or (λ x. x.number == number) o false) (sym here) ∙ kept.numbered.present number a at
+
     go : (o : Option (Address × Facts)) → find (is_stored_by number) blocks ≡ o → option_map (λ e. e.1.pointers) o ≡ Some f.pointers
     go None e = absurd (false≢true (sym (none_stored number a f blocks e here) ∙ is_its))
     go (Some x) e =

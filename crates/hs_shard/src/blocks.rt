@@ -382,7 +382,7 @@ fn insert_both(
         ≡ cond (is_at (address_cmp address) a) (Some facts) (facts_in a known.old.entries)) }
     ensures counted { OnOk result ((number : ℕ) → address_of number numbers.new.entries
         ≡ cond (is_at (nat_cmp facts.number) number) (Some address)
-            (address_of number numbers.old.entries)) }
+        (address_of number numbers.old.entries)) }
     ensures more { OnOk result (length known.new.entries ≤ length known.old.entries + 1) }
     ensures ordered { OnOk result
         (IsStrictlySortedBy address_cmp (keys_of known.new.entries)) }

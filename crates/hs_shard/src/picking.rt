@@ -64,10 +64,7 @@ pub(crate) fn pick_gone(
 }
 
 /// All of them.
-pub(crate) fn pick_all(
-    alloc: Global,
-    list: &BTreeSet<Address>,
-) -> Result<Vec<Address>, AllocError>
+pub(crate) fn pick_all(alloc: Global, list: &BTreeSet<Address>) -> Result<Vec<Address>, AllocError>
     ensures items { IfOk result (λ picked. picked.items ≡ list.now.keys) }
     ensures ordered { IsStrictlySortedBy address_cmp list.now.keys }
 {

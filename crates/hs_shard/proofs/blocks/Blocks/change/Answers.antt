@@ -9,7 +9,7 @@ use Rattle.hs_shard.proofs.blocks.Blocks.change.Goals as goal
 pub relist-requires : goal.relist-requires
 relist-requires c =
     λ k q t. listed_at c.self.inside.known.entries c.self.inside.listed c.args.address.now (Some c.in-Some.facts.now) c.self.invariant.lists (sym c.in-Some.ensures.value) k q t
-      ∙ ap (λ kind. goes_in k kind) (sym c.kind_as-from.ensures)
+    ∙ ap (λ kind. goes_in k kind) (sym c.kind_as-from.ensures)
 
 pub invariant_of-self-2 : goal.invariant_of-self-2
 invariant_of-self-2 c =
