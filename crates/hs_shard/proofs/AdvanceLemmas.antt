@@ -1,5 +1,5 @@
 -- Rounds that end one after another: each leaves fewer Gots, so that they come to an end.
-use Rattle.std.proofs.Common.{◌≡◌, ◌<◌, ◌≤◌, ℕ, zero, suc, ◌+◌, List, [], ◌∷◌, ◌&&◌, ◌⊎◌, inl, inr, not, Bool, true, false, cond, Option, Some, None, refl, sym, ap, subst, ◌∙◌, filter, length, is_some, arith}
+use Rattle.std.proofs.Common.{◌≡◌, ◌<◌, ◌≤◌, ℕ, zero, suc, ◌+◌, List, [], ◌∷◌, ◌&&◌, ◌⊎◌, inl, inr, not, Bool, true, false, cond, Some, refl, sym, ap, subst, ◌∙◌, length, is_some, arith}
 use Rattle.std.proofs.lemmas.Bool.{false≢true}
 use Rattle.std.specs.BTreeMap.{is_at}
 use Rattle.hs_limits.specs.declared.delta.Delta.{Delta}

@@ -1,24 +1,21 @@
 -- Some blocks at once: those that pass a test, by their addresses in order, and all in one pass.
-use Rattle.std.proofs.Common.{◌≡◌, ℕ, suc, ◌+◌, ◌==◌, ◌&&◌, ◌||◌, not, nat_le, nat_lt, length, count_by, List, [], ◌∷◌, ◌++◌, Bool, true, false, cond, Option, Some, None, refl, sym, ap, subst, ◌∙◌, filter, map, Less}
+use Rattle.std.proofs.Common.{◌≡◌, ℕ, ◌+◌, ◌==◌, ◌&&◌, ◌||◌, not, nat_le, nat_lt, length, count_by, List, [], ◌∷◌, ◌++◌, Bool, true, false, cond, Option, Some, None, refl, sym, ap, ◌∙◌, filter, Less}
 use Rattle.std.proofs.lemmas.Bool.{false≢true}
 use Rattle.std.proofs.lemmas.List.Sums.{length-filter}
 use Rattle.std.proofs.lemmas.Map.Entries.{length-keys_of}
 use Rattle.std.proofs.lemmas.Map.Keys.{sorted_head, sorted_tail}
-use Rattle.std.proofs.lemmas.Map.Lookups.{btree_set_from_contains, exact_bytes}
 use Rattle.std.specs.BTreeMap.{is_at}
-use Rattle.std.specs.BTreeSet.{BTreeSet, contains}
-use Rattle.std.specs.List.{AllByRecursion, list_any}
+use Rattle.std.specs.List.{AllByRecursion}
 use Rattle.std.specs.List.Sorted.{IsStrictlySortedBy}
 use Rattle.std.specs.Map.{keys_of, set_value}
 use Rattle.std.specs.Option.{option_map, option_map_or}
 use Rattle.hs_limits.specs.declared.address.Address.{Address}
 use Rattle.hs_model.specs.Store.{address_cmp}
-use Rattle.hs_model.proofs.SetLemmas.{address_total}
 use Rattle.hs_shard.specs.declared.facts.Facts.{Facts}
 use Rattle.hs_shard.specs.Clients.{change_at, put_facts}
 use Rattle.hs_shard.specs.Facts.{BlockList, facts_in}
 use Rattle.hs_shard.specs.Listed.{is_sound, picked, pointers_each, remove_at, remove_each, stand, stand_each}
-use Rattle.hs_shard.specs.Rounds.{count_block, each_block, find_zero, is_gone, is_new, is_new_zero, pointers_of, spare, sweep_blocks}
+use Rattle.hs_shard.specs.Rounds.{count_block, each_block, find_zero, is_new, is_new_zero, pointers_of, spare}
 use Rattle.hs_shard.proofs.FoundLemmas.{AreFound, all_found, at_itself, not_above}
 
 -- none of some addresses is at this one

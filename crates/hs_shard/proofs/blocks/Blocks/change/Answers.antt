@@ -1,4 +1,4 @@
-use Rattle.std.proofs.Common.{cond, refl, sym, ap, subst, ◌∙◌, Some, Bool}
+use Rattle.std.proofs.Common.{cond, refl, sym, ap, subst, ◌∙◌, Some}
 use Rattle.std.specs.BTreeMap.{is_at}
 use Rattle.hs_model.specs.Store.{address_cmp}
 use Rattle.hs_shard.specs.declared.facts.Facts.{Facts}

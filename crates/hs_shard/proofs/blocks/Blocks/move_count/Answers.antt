@@ -1,4 +1,4 @@
-use Rattle.std.proofs.Common.{true, ap, sym, ◌∙◌}
+use Rattle.std.proofs.Common.{true, ap, ◌∙◌}
 use Rattle.std.specs.Option.{option_map_or}
 use Rattle.hs_shard.specs.Listed.{is_sound}
 use Rattle.hs_shard.proofs.blocks.Blocks.move_count.Goals as goal

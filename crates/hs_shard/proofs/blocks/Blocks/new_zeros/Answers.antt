@@ -1,10 +1,9 @@
-use Rattle.std.proofs.Common.{◌≡◌, List, ap, subst, ◌∙◌, length, count_by, filter, not, true, false}
-use Rattle.std.specs.Prelude.{IfOk}
+use Rattle.std.proofs.Common.{◌≡◌, List, ap, subst, ◌∙◌, length, count_by, true}
 use Rattle.hs_limits.specs.declared.address.Address.{Address}
-use Rattle.hs_shard.specs.Listed.{picked, pointers_each, remove_each, stand_each}
-use Rattle.hs_shard.specs.Rounds.{count_block, each_block, find_zero, gone_count, is_gone, is_new, is_new_zero, pointers_of, spare}
-use Rattle.hs_shard.proofs.EachLemmas.{counted_picked, length_picked, pointers_picked, remove_picked, spared_picked, zeros_picked}
-use Rattle.hs_shard.proofs.ListedLemmas.{gone_listed, new_listed, new_zeros_listed, zeros_listed}
+use Rattle.hs_shard.specs.Listed.{pointers_each, stand_each}
+use Rattle.hs_shard.specs.Rounds.{each_block, find_zero, is_new_zero, pointers_of}
+use Rattle.hs_shard.proofs.EachLemmas.{length_picked, pointers_picked, zeros_picked}
+use Rattle.hs_shard.proofs.ListedLemmas.{new_zeros_listed}
 use Rattle.hs_shard.proofs.OutcomeLemmas.{if_ok_map}
 use Rattle.hs_shard.proofs.blocks.Blocks.new_zeros.Goals as goal
 

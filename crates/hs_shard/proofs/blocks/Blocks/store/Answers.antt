@@ -1,5 +1,4 @@
-use Rattle.std.proofs.Common.{◌≡◌, ◌<◌, length, None, Some, refl, sym, subst, ap, ◌∙◌, arith}
-use Rattle.hs_limits.specs.declared.address.Address.{Address}
+use Rattle.std.proofs.Common.{◌≡◌, ◌<◌, length, None, refl, sym, subst, arith}
 use Rattle.hs_limits.specs.Limits.{greatest_limits}
 use Rattle.hs_shard.specs.Clients.{new_facts}
 use Rattle.hs_shard.specs.Facts.{facts_in, pointers_at}

@@ -1,10 +1,4 @@
-use Rattle.std.proofs.Common.{List, [], ◌+◌, drop, ap, sym, ◌∙◌}
-use Rattle.std.proofs.lemmas.List.{at_drop_more}
-use Rattle.std.specs.Option.{option_map_or}
-use Rattle.hs_limits.specs.declared.address.Address.{Address}
-use Rattle.hs_shard.specs.Facts.{facts_in}
-use Rattle.hs_shard.specs.Listed.{pointers_each}
-use Rattle.hs_shard.specs.Tally.{count_all}
+use Rattle.std.proofs.Common.{◌∙◌}
 use Rattle.hs_shard.proofs.TallyLemmas.{tell_more}
 use Rattle.hs_shard.proofs.blocks.Blocks.tell.Goals as goal
 

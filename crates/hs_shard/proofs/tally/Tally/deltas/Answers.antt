@@ -1,4 +1,4 @@
-use Rattle.std.proofs.Common.{◌≡◌, sym, subst}
+use Rattle.std.proofs.Common.{sym, subst}
 use Rattle.hs_rounds.specs.Changes.{AreChanges}
 use Rattle.hs_shard.proofs.OutcomeLemmas.{if_ok_map}
 use Rattle.hs_shard.proofs.TallyLemmas.{are_changes}
