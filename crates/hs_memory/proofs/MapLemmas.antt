@@ -1,5 +1,5 @@
 -- Blocks and roots as they are kept in memory, changed one by one.
-use Rattle.std.proofs.Common.{◌≡◌, ℕ, ◌+◌, ◌==◌, ◌&&◌, ◌||◌, not, nat_le, nat_lt, List, [], ◌∷◌, ◌++◌, length, map, filter, count_by, Bool, true, false, cond, Option, Some, None, refl, sym, ap, subst, ◌∙◌, Less, is_eq}
+use Rattle.std.proofs.Common.{◌≡◌, ℕ, suc, ◌+◌, ◌==◌, ◌&&◌, ◌||◌, not, nat_le, nat_lt, List, [], ◌∷◌, ◌++◌, length, map, filter, count_by, Bool, true, false, cond, Option, Some, None, refl, sym, ap, subst, ◌∙◌, Less, is_eq}
 use Rattle.std.proofs.lemmas.List.Sums.{length-filter}
 use Rattle.std.proofs.lemmas.Map.Keys.{sorted_head, sorted_tail}
 use Rattle.std.specs.BTreeMap.{is_at}
@@ -82,7 +82,7 @@ pointers_zero epoch (e ∷ es) = ap (λ rest. cond (fold_new_zero epoch e.1) e.1
 
 length_map : {X Y : Type 0} (f : X → Y) (xs : List X) → length (map f xs) ≡ length xs
 length_map f [] = refl
-length_map f (x ∷ xs) = ap (λ n. n + 1) (length_map f xs)
+length_map f (x ∷ xs) = ap suc (length_map f xs)
 
 -- as many of the mapped pass as pass when they are mapped
 count_map : {X Y : Type 0} (p : Y → Bool) (h : X → Y) (xs : List X) → count_by p (map h xs) ≡ count_by (λ x. p (h x)) xs
