@@ -80,12 +80,12 @@ pub pointers_zero : (epoch : ℕ) (es : FoldedList) → pointers_of (is_new_zero
 pointers_zero epoch [] = refl
 pointers_zero epoch (e ∷ es) = ap (λ rest. cond (fold_new_zero epoch e.1) e.1.present.stored.pointers [] ++ rest) (pointers_zero epoch es)
 
-length_map : {X Y : Type 0} (f : X → Y) (xs : List X) → length (map f xs) ≡ length xs
+pub length_map : {X Y : Type 0} (f : X → Y) (xs : List X) → length (map f xs) ≡ length xs
 length_map f [] = refl
 length_map f (x ∷ xs) = ap suc (length_map f xs)
 
 -- as many of the mapped pass as pass when they are mapped
-count_map : {X Y : Type 0} (p : Y → Bool) (h : X → Y) (xs : List X) → count_by p (map h xs) ≡ count_by (λ x. p (h x)) xs
+pub count_map : {X Y : Type 0} (p : Y → Bool) (h : X → Y) (xs : List X) → count_by p (map h xs) ≡ count_by (λ x. p (h x)) xs
 count_map p h xs = sym (length-filter p (map h xs)) ∙ ap (λ ys. length ys) (sym (map_of_filter p h xs)) ∙ length_map h (filter (λ x. p (h x)) xs) ∙ length-filter (λ x. p (h x)) xs
 
 pub zero_count_known : (epoch : ℕ) (es : FoldedList) → count_by (λ e. is_new_zero epoch e.1) (known es) ≡ count_by (λ e. fold_new_zero epoch e.1) es

@@ -103,6 +103,7 @@ module _ (name : List ℕ → Address) (shape : Shape) (shard : ℕ) where
     where
       here : settled c.round (to c) ≡ to (fold.settled shape.shards c)
       here = settled_alike c own running
+
       go : (b : Bool) → is_last_run (run_of shape shard c) ≡ b
           → (cond (is_last_run (run_of shape shard c)) (swept c.epoch effect (settled c.round (to c))) (searched c.epoch c.round effect (settled c.round (to c)))).catalogue
           ≡ to (cond b (fold.sweep (fold.settled shape.shards c)) (fold.search shape.shards (fold.settled shape.shards c)))
@@ -128,6 +129,7 @@ module _ (name : List ℕ → Address) (shape : Shape) (shard : ℕ) where
     where
       next : Applied
       next = end_open (run_of shape shard c).opened (applied (to c) effect)
+
       go : ((effect : Effect) → (advance turns (applied (to (fold.end_round shape.shards c)) effect)).catalogue ≡ to (fold.advance shape.shards turns (fold.end_round shape.shards c)))
           → (r : Bool) → fold.is_running c ≡ r → (b : Bool) → fold.is_complete shape.shards c ≡ b
           → (cond (complete (run_of shape shard c)) (advance turns next) (applied (to c) effect)).catalogue ≡ to (cond b (fold.advance shape.shards turns (fold.end_round shape.shards c)) c)
@@ -172,6 +174,7 @@ module _ (name : List ℕ → Address) (shape : Shape) (shard : ℕ) where
     where
       same : is_accepted place (to c) ≡ fold.is_accepted shape.shards c place
       same = ap (λ (due : Bool). nat_lt place.from shape.shards && (is_none (body_at place c.got) && due)) (due_alike c place)
+
       go : (b : Bool) → fold.is_accepted shape.shards c place ≡ b
           → (cond (is_accepted place (to c)) (advanced (only Nothing (log_got place told (to c)))) (only Nothing (to c))).catalogue ≡ to (cond b (fold.advanced shape.shards (fold.log_got place told c)) c)
       go false e = ap (λ b. (cond b (advanced (only Nothing (log_got place told (to c)))) (only Nothing (to c))).catalogue) (same ∙ e)
