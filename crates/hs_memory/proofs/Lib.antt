@@ -1,0 +1,5 @@
+pub mod AgreeLemmas
+pub mod ClientLemmas
+pub mod CountLemmas
+pub mod MapLemmas
+pub mod RunLemmas

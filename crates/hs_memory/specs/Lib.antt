@@ -1,0 +1,4 @@
+pub mod Forget
+pub use Rattle.hs_shard.specs.Apply
+pub use Rattle.hs_shard.specs.Facts
+pub use Rattle.hs_fold.specs.Runs

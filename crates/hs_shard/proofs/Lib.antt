@@ -1,0 +1,9 @@
+mod Examples
+pub mod AdvanceLemmas
+pub mod EachLemmas
+pub mod FoundLemmas
+pub mod KeptLemmas
+pub mod ListedLemmas
+pub mod OutcomeLemmas
+pub mod PointerLemmas
+pub mod TallyLemmas

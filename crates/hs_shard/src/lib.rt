@@ -1,0 +1,16 @@
+//! The catalogue of one shard in memory: what its entries amount to, without the blocks' data.
+#![tactic(auto)]
+
+mod blocks;
+mod catalogue;
+mod effect;
+mod facts;
+mod fault;
+mod listed;
+mod picking;
+mod tally;
+
+pub use catalogue::Catalogue;
+pub use effect::{BlockFacts, Effect, Sent};
+pub use facts::Facts;
+pub use fault::ShardFault;
