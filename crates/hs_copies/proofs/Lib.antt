@@ -1,0 +1,12 @@
+pub mod ListLemmas
+pub mod PeerLemmas
+pub mod ChangeLemmas
+pub mod EventKeeps
+pub mod ViewKeeps
+pub mod OpenedLemmas
+pub mod GrownLemmas
+pub mod LineLemmas
+pub mod ImageLemmas
+pub mod StampLemmas
+pub mod OpeningLemmas
+pub mod RunLemmas
