@@ -2,7 +2,7 @@
 use Rattle.std.proofs.Common.{◌≡◌, ◌≢◌, ℕ, zero, suc, ◌+◌, ◌≤◌, ◌<◌, List, [], ◌∷◌, ◌++◌, ◌⊎◌, inl, inr, refl, sym, arith, length, Option, Some, None, ap, ◌∙◌}
 use Rattle.std.specs.Prelude.{slice_get, take}
 use Rattle.hs_copies.specs.Lists.{Item, IsAmong, IsFront, AreBelow, Rises, IsBehind, Agree}
-use Rattle.hs_copies.specs.Machine.{Stage, Good, Clearing, Following, Down, PeerCopy, Notice, EntryNotice, SealedNotice, Copies, put_copy, item, told_copy, with_new_view, with_copy}
+use Rattle.hs_copies.specs.Machine.{Stage, Good, Clearing, Following, Down, PeerCopy, Notice, EntryNotice, SealedNotice, Copies, put_at, item, told_copy, with_new_view, with_copy}
 use Rattle.hs_copies.specs.Invariant.{reach, IsGoodCopy, IsTrue, AreFaithful}
 use Rattle.hs_copies.proofs.ListLemmas.{front_refl, front_trans, front_append, front_more, front_length, front_whole, front_both, front_step, front_left, get_more, length_append, below_prefix, below_up, below_append, rises_append, rises_prefix, behind_prefix, behind_less, behind_more, behind_cut, agree_refl, agree_sym, agree_front_of, agree_fresh, agree_end}
 use Rattle.hs_copies.proofs.PeerLemmas.{put_cases, put_self, reach_none}
@@ -37,7 +37,7 @@ module _ {X : Type 0} (s : Copies X) (r : AreFaithful s) (p : ℕ) (c : PeerCopy
   one_fits (SealedNotice from view number) f =
       (f.0, λ e. put_cases (λ k. (k.stage ≡ Good) × (number ≤ k.sealed)) p c s.peers from (λ i. let g = rw i at (f.1 e) in ((stays g.0).0, omega (arith, (stays g.0).1, g.1))) (λ i. f.1 e))
 
-  one_led : ((put_copy p c s.peers r.led.0).stage ≡ Good) × ((put_copy p c s.peers r.led.0).list ≡ s.log)
+  one_led : ((put_at p c s.peers r.led.0).stage ≡ Good) × ((put_at p c s.peers r.led.0).list ≡ s.log)
   one_led =
       put_cases (λ k. (k.stage ≡ Good) × (k.list ≡ s.log)) p c s.peers r.led.0
       (λ e. let g : (s.peers p).stage ≡ Good = rw (← e) r.led.1 in let h : (s.peers p).list ≡ s.log = rw (← e) r.led.2 in ((stays g).0, leads g h))
@@ -50,7 +50,7 @@ module _ {X : Type 0} (s : Copies X) (r : AreFaithful s) (p : ℕ) (c : PeerCopy
         risen = λ q. put_cases (λ k. Rises 0 (reach k)) p c s.peers q (λ e. one_risen) (λ e. r.risen q);
         below = λ q. put_cases (λ k. AreBelow (suc s.view) (reach k)) p c s.peers q (λ e. one_below) (λ e. r.below q);
         behind = λ q. put_cases (λ k. IsBehind (reach k) s.log) p c s.peers q (λ e. one_behind) (λ e. r.behind q);
-        agree = λ a b. put_cases (λ k. Agree (reach k) (reach (put_copy p c s.peers b))) p c s.peers a
+        agree = λ a b. put_cases (λ k. Agree (reach k) (reach (put_at p c s.peers b))) p c s.peers a
             (λ e. put_cases (λ k. Agree (reach c) (reach k)) p c s.peers b (λ e. agree_refl (reach c)) (λ e. one_agree b))
             (λ e. put_cases (λ k. Agree (reach (s.peers a)) (reach k)) p c s.peers b (λ e. agree_sym (reach c) (reach (s.peers a)) (one_agree a)) (λ e. r.agree a b));
         led = (r.led.0, one_led.0, one_led.1);
@@ -118,7 +118,7 @@ module _ {X : Type 0} (s : Copies X) (r : AreFaithful s) (lead : ℕ) (x : X) (p
         behind = λ q. put_cases (λ k. IsBehind (reach k) ((peers lead).list ++ item (suc s.view) x ∷ [])) lead c (λ a. told_copy (peers a)) q
             (λ e. rw lead_reach (behind_prefix ((peers lead).list ++ item (suc s.view) x ∷ []) ((peers lead).list ++ item (suc s.view) x ∷ []) (front_refl ((peers lead).list ++ item (suc s.view) x ∷ []))))
             (λ e. others_behind q);
-        agree = λ a b. put_cases (λ k. Agree (reach k) (reach (put_copy lead c (λ q. told_copy (peers q)) b))) lead c (λ q. told_copy (peers q)) a
+        agree = λ a b. put_cases (λ k. Agree (reach k) (reach (put_at lead c (λ q. told_copy (peers q)) b))) lead c (λ q. told_copy (peers q)) a
             (λ e. put_cases (λ k. Agree (reach c) (reach k)) lead c (λ q. told_copy (peers q)) b (λ e. agree_refl (reach c)) (λ e. rw lead_reach (lead_agree b)))
             (λ e. put_cases (λ k. Agree (reach (peers a)) (reach k)) lead c (λ q. told_copy (peers q)) b (λ e. rw lead_reach (agree_sym ((peers lead).list ++ item (suc s.view) x ∷ []) (reach (peers a)) (lead_agree a))) (λ e. rw (same a, same b) (r.agree a b)));
         led = (lead, put_self (λ k. k.stage ≡ Good) lead c (λ a. told_copy (peers a)) leads, put_self (λ k. k.list ≡ (peers lead).list ++ item (suc s.view) x ∷ []) lead c (λ a. told_copy (peers a)) refl);

@@ -2,7 +2,7 @@
 use Rattle.std.proofs.Common.{◌≡◌, ◌≢◌, ℕ, zero, suc, ◌+◌, ◌≤◌, ◌<◌, Bool, true, false, if◌then◌else◌, nat_eq, List, [], ◌∷◌, ◌++◌, ◌⊎◌, inl, inr, refl, sym, arith, length, Option, Some, None, ap, ◌∙◌}
 use Rattle.std.specs.Prelude.{slice_get, take}
 use Rattle.hs_copies.specs.Lists.{Item, IsAmong, IsFront, AreBelow, Rises, IsBehind, Agree}
-use Rattle.hs_copies.specs.Machine.{Stage, Good, Clearing, Following, Down, PeerCopy, Notice, EntryNotice, SealedNotice, Copies, CopyEvent, Propose, Send, CopyComes, Sealed, HaveComes, TakesEffect, Fail, GiveUp, Start, Cleared, Copying, Copied, Join, put_copy, item, told_copy, stage_again, begin_again, with_new_view, with_copy, MaySend, IsCommon, IsAllowed, after_event, AreAllowed, after_events}
+use Rattle.hs_copies.specs.Machine.{Stage, Good, Clearing, Following, Down, PeerCopy, Notice, EntryNotice, SealedNotice, Copies, CopyEvent, Propose, Send, CopyComes, Sealed, HaveComes, TakesEffect, Fail, GiveUp, Start, Cleared, Copying, Copied, Join, put_at, item, told_copy, stage_again, begin_again, with_new_view, with_copy, MaySend, IsCommon, IsAllowed, after_event, AreAllowed, after_events}
 use Rattle.hs_copies.specs.Invariant.{reach, IsGoodCopy, IsTrue, AreFaithful}
 use Rattle.hs_copies.proofs.ListLemmas.{front_refl, front_trans, front_append, front_more, front_length, front_whole, front_both, front_step, front_left, front_first, get_more, get_low, take_length, append_nil, length_append, below_prefix, below_up, below_append, rises_append, rises_prefix, behind_prefix, behind_less, behind_more, behind_cut, agree_refl, agree_sym, agree_front_of, agree_fresh, agree_end, common_prefix}
 use Rattle.hs_copies.proofs.PeerLemmas.{put_cases, put_self, reach_none}
@@ -49,7 +49,7 @@ module _ {X : Type 0} (s : Copies X) (r : AreFaithful s) where
           behind = λ q. put_cases (λ k. IsBehind (reach k) (s.log ++ item s.view x ∷ [])) lead c s.peers q
               (λ e. rw lead_reach (behind_prefix (s.log ++ item s.view x ∷ []) (s.log ++ item s.view x ∷ []) (front_refl (s.log ++ item s.view x ∷ []))))
               (λ e. behind_more (reach (s.peers q)) s.log (item s.view x ∷ []) (r.behind q));
-          agree = λ a b. put_cases (λ k. Agree (reach k) (reach (put_copy lead c s.peers b))) lead c s.peers a
+          agree = λ a b. put_cases (λ k. Agree (reach k) (reach (put_at lead c s.peers b))) lead c s.peers a
               (λ e. put_cases (λ k. Agree (reach c) (reach k)) lead c s.peers b (λ e. agree_refl (reach c)) (λ e. rw lead_reach (new_agree b)))
               (λ e. put_cases (λ k. Agree (reach (s.peers a)) (reach k)) lead c s.peers b (λ e. rw lead_reach (agree_sym (s.log ++ item s.view x ∷ []) (reach (s.peers a)) (new_agree a))) (λ e. r.agree a b));
           led = (lead, put_self (λ k. k.stage ≡ Good) lead c s.peers isgood, put_self (λ k. k.list ≡ s.log ++ item s.view x ∷ []) lead c s.peers refl);

@@ -2,7 +2,7 @@
 use Rattle.std.proofs.Common.{◌≡◌, ◌≢◌, ℕ, zero, suc, ◌+◌, ◌≤◌, ◌<◌, Bool, true, false, if◌then◌else◌, nat_eq, List, [], ◌∷◌, ◌++◌, ◌⊎◌, inl, inr, refl, sym, arith, length, Option, Some, None, ap, ◌∙◌}
 use Rattle.std.specs.Prelude.{slice_get, take}
 use Rattle.hs_copies.specs.Lists.{Item, IsAmong, IsFront, AreBelow, Rises, IsBehind, Agree}
-use Rattle.hs_copies.specs.Machine.{Stage, Good, Clearing, Following, Down, PeerCopy, Notice, EntryNotice, SealedNotice, Copies, CopyEvent, Propose, Send, CopyComes, Sealed, HaveComes, TakesEffect, Fail, GiveUp, Start, Cleared, Copying, Copied, Join, put_copy, item, told_copy, stage_again, begin_again, with_new_view, with_copy, MaySend, IsCommon, IsAllowed, after_event, AreAllowed, after_events}
+use Rattle.hs_copies.specs.Machine.{Stage, Good, Clearing, Following, Down, PeerCopy, Notice, EntryNotice, SealedNotice, Copies, CopyEvent, Propose, Send, CopyComes, Sealed, HaveComes, TakesEffect, Fail, GiveUp, Start, Cleared, Copying, Copied, Join, put_at, item, told_copy, stage_again, begin_again, with_new_view, with_copy, MaySend, IsCommon, IsAllowed, after_event, AreAllowed, after_events}
 use Rattle.hs_copies.specs.Invariant.{reach, IsGoodCopy, IsTrue, AreFaithful}
 use Rattle.hs_copies.specs.Lines.{IsGrown, items_added, StandsBehind}
 use Rattle.hs_copies.proofs.ListLemmas.{front_refl, front_trans, front_append, front_length, front_both, front_step, front_left, append_nil}
@@ -17,7 +17,7 @@ module _ {X : Type 0} (s : Copies X) (r : AreFaithful s) where
   same_grown : (e : CopyEvent X) (q : ℕ) → IsGrown s e q (reach (s.peers q))
   same_grown e q = inr (inl (front_refl (reach (s.peers q))))
 
-  one_grown : (e : CopyEvent X) (p : ℕ) (c : PeerCopy X) → IsFront (reach c) s.log ⊎ IsFront (reach c) (reach (s.peers p)) → (q : ℕ) → IsGrown s e q (reach (put_copy p c s.peers q))
+  one_grown : (e : CopyEvent X) (p : ℕ) (c : PeerCopy X) → IsFront (reach c) s.log ⊎ IsFront (reach c) (reach (s.peers p)) → (q : ℕ) → IsGrown s e q (reach (put_at p c s.peers q))
   one_grown e p c within q =
       put_cases (λ k. IsGrown s e q (reach k)) p c s.peers q
       (λ i. elim within [ inl k ↦ inl k | inr k ↦ inr (inl (rw i k)) ])
@@ -34,11 +34,11 @@ module _ {X : Type 0} (s : Copies X) (r : AreFaithful s) where
   begins_adding true c = refl
   begins_adding false c = refl
 
-  fail_adding : (p lead : ℕ) (again : Bool) (x : X) → IsAllowed s (Fail p lead again x) → (begin_again again (put_copy p (record (s.peers p) { stage = Down }) s.peers lead)).adding ≡ []
+  fail_adding : (p lead : ℕ) (again : Bool) (x : X) → IsAllowed s (Fail p lead again x) → (begin_again again (put_at p (record (s.peers p) { stage = Down }) s.peers lead)).adding ≡ []
   fail_adding p lead again x a =
       put_cases (λ k. (begin_again again k).adding ≡ []) p (record (s.peers p) { stage = Down }) s.peers lead (λ e. absurd (a.0 e)) (λ e. begins_adding again (s.peers lead) ∙ (r.good lead a.2).nothing)
 
-  join_adding : (p lead : ℕ) (x : X) → IsAllowed s (Join p lead x) → (put_copy p (record (s.peers p) { stage = Good }) s.peers lead).adding ≡ []
+  join_adding : (p lead : ℕ) (x : X) → IsAllowed s (Join p lead x) → (put_at p (record (s.peers p) { stage = Good }) s.peers lead).adding ≡ []
   join_adding p lead x a =
       put_cases (λ k. k.adding ≡ []) p (record (s.peers p) { stage = Good }) s.peers lead (λ e. a.1) (λ e. (r.good lead (a.3.0 e)).nothing)
 

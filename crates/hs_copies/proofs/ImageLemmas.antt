@@ -2,7 +2,7 @@
 use Rattle.std.proofs.Common.{◌≡◌, ◌≢◌, ℕ, zero, suc, ◌+◌, ◌≤◌, ◌<◌, Bool, true, false, if◌then◌else◌, nat_eq, List, [], ◌∷◌, ◌++◌, ◌⊎◌, inl, inr, refl, sym, arith, length, Option, Some, None, ap, ◌∙◌}
 use Rattle.std.specs.Prelude.{slice_get, take}
 use Rattle.hs_copies.specs.Lists.{Item, IsAmong, IsFront, IsAtMost, rank_by_stamps}
-use Rattle.hs_copies.specs.Machine.{Stage, Good, Clearing, Following, Down, PeerCopy, Notice, Copies, CopyEvent, Propose, Send, CopyComes, Sealed, HaveComes, TakesEffect, Fail, GiveUp, Start, Cleared, Copying, Copied, Join, put_copy, item, told_copy, stage_again, begin_again, with_new_view, with_copy, IsAllowed, after_event}
+use Rattle.hs_copies.specs.Machine.{Stage, Good, Clearing, Following, Down, PeerCopy, Notice, Copies, CopyEvent, Propose, Send, CopyComes, Sealed, HaveComes, TakesEffect, Fail, GiveUp, Start, Cleared, Copying, Copied, Join, put_at, item, told_copy, stage_again, begin_again, with_new_view, with_copy, IsAllowed, after_event}
 use Rattle.hs_copies.specs.Invariant.{reach, IsGoodCopy, AreFaithful}
 use Rattle.hs_copies.specs.Images.{KeepsSealed, IsFine, IsReported, AreImages, HasGreatestRank}
 use Rattle.hs_copies.proofs.ListLemmas.{front_refl, front_trans, front_append, front_more, front_length, front_both, append_nil, length_append, take_length}
@@ -37,7 +37,7 @@ fine_longer c more n l e f =
     record { front = rw (reach_none (record c { list = c.list ++ more; known = n }) e) (front_more l c.list more p); sealed = λ h. f.sealed h }
 
 module _ {X : Type 0} (s : Copies X) (r : AreFaithful s) (q : ℕ) (l : List (Item X)) (f : IsFine (s.peers q) l) where
-  one : (p : ℕ) (c : PeerCopy X) → (q ≡ p → IsFine c l) → IsFine (put_copy p c s.peers q) l
+  one : (p : ℕ) (c : PeerCopy X) → (q ≡ p → IsFine c l) → IsFine (put_at p c s.peers q) l
   one p c h = put_cases (λ k. IsFine k l) p c s.peers q h (λ e. f)
 
   get_one : (p : ℕ) → q ≡ p → IsFine (s.peers p) l
@@ -64,7 +64,7 @@ module _ {X : Type 0} (s : Copies X) (r : AreFaithful s) (q : ℕ) (l : List (It
       one p (record (s.peers p) { known = n }) (λ i. record { front = (get_one p i).front; sealed = (get_one p i).sealed })
   fine_after (TakesEffect x) a t = f
   fine_after (Fail p lead again x) a t =
-      view_fine lead x (λ k. begin_again again (put_copy p (record (s.peers p) { stage = Down }) s.peers k))
+      view_fine lead x (λ k. begin_again again (put_at p (record (s.peers p) { stage = Down }) s.peers k))
       (put_cases (λ k. (begin_again again k).adding ≡ []) p (record (s.peers p) { stage = Down }) s.peers lead (λ e. absurd (a.0 e)) (λ e. begins_adding again (s.peers lead) ∙ (r.good lead a.2).nothing))
       (put_cases (λ k. IsFine (begin_again again k) l) p (record (s.peers p) { stage = Down }) s.peers q
       (λ i. fine_begins again (record (s.peers p) { stage = Down }) l (record { front = (get_one p i).front; sealed = λ h. absurd h }))
@@ -87,7 +87,7 @@ module _ {X : Type 0} (s : Copies X) (r : AreFaithful s) (q : ℕ) (l : List (It
       one p (record (s.peers p) { list = (s.peers p).list ++ (s.peers p).adding; adding = []; sealed = length ((s.peers p).list ++ (s.peers p).adding) })
       (λ i. record { front = rw (t i, append_nil ((s.peers p).list ++ (s.peers p).adding)) (front_refl ((s.peers p).list ++ (s.peers p).adding)); sealed = λ h. omega (arith, ap (λ k. length k) (t i)) })
   fine_after (Join p lead x) a t =
-      view_fine lead x (put_copy p (record (s.peers p) { stage = Good }) s.peers)
+      view_fine lead x (put_at p (record (s.peers p) { stage = Good }) s.peers)
       (put_cases (λ k. k.adding ≡ []) p (record (s.peers p) { stage = Good }) s.peers lead (λ e. a.1) (λ e. (r.good lead (a.3.0 e)).nothing))
       (one p (record (s.peers p) { stage = Good }) (λ i. record { front = (get_one p i).front; sealed = λ h. (get_one p i).sealed (keeps_following (s.peers p).stage a.0) }))
 

@@ -10,3 +10,8 @@ pub mod ImageLemmas
 pub mod StampLemmas
 pub mod OpeningLemmas
 pub mod RunLemmas
+pub mod HomeLemmas
+pub mod StandLemmas
+pub mod SendLemmas
+pub mod CallLemmas
+pub mod StatusLemmas

@@ -3,7 +3,7 @@ use Rattle.std.proofs.Common.{◌≡◌, ◌≢◌, ℕ, zero, suc, ◌+◌, ◌
 use Rattle.hs_entry.specs.declared.rank.Rank.{Rank}
 use Rattle.std.specs.Prelude.{slice_get, take}
 use Rattle.hs_copies.specs.Lists.{Item, IsAmong, IsFront, AreBelow, Rises, IsBehind, Agree, IsAtMost, rank_by_stamps, end_view}
-use Rattle.hs_copies.specs.Machine.{Stage, Good, Clearing, Following, Down, PeerCopy, Notice, Copies, CopyEvent, Propose, Send, CopyComes, Sealed, HaveComes, TakesEffect, Fail, GiveUp, Start, Cleared, Copying, Copied, Join, put_copy, item, told_copy, with_new_view, IsAllowed, after_event, AreAllowed, after_events}
+use Rattle.hs_copies.specs.Machine.{Stage, Good, Clearing, Following, Down, PeerCopy, Notice, Copies, CopyEvent, Propose, Send, CopyComes, Sealed, HaveComes, TakesEffect, Fail, GiveUp, Start, Cleared, Copying, Copied, Join, put_at, item, told_copy, with_new_view, IsAllowed, after_event, AreAllowed, after_events}
 use Rattle.hs_copies.specs.Invariant.{reach, IsGoodCopy, AreFaithful}
 use Rattle.hs_copies.specs.Opened.{copy_with, taken_copies, opened_copies, IsRun}
 use Rattle.hs_copies.proofs.ListLemmas.{front_refl, front_trans, front_append, front_length, front_whole, front_both, front_left, below_prefix, behind_prefix, agree_up_to, behind_less, agree_refl, rises_prefix, append_nil, lineage, view_ap}

@@ -2,7 +2,7 @@
 use Rattle.std.proofs.Common.{◌≡◌, ◌≢◌, ℕ, zero, suc, ◌+◌, ◌≤◌, ◌<◌, Bool, true, false, List, [], ◌∷◌, ◌++◌, ◌⊎◌, inl, inr, refl, sym, arith, length, Option, Some, None, ap, ◌∙◌}
 use Rattle.std.specs.Prelude.{slice_get, take}
 use Rattle.hs_copies.specs.Lists.{Item, IsFront, AreBelow, Rises, IsAtMost, end_view}
-use Rattle.hs_copies.specs.Machine.{Stage, Good, PeerCopy, Copies, put_copy, item, told_copy, with_new_view}
+use Rattle.hs_copies.specs.Machine.{Stage, Good, PeerCopy, Copies, put_at, item, told_copy, with_new_view}
 use Rattle.hs_copies.specs.Invariant.{reach, AreFaithful}
 use Rattle.hs_copies.specs.Stamps.{view_told, rank_told, Ascends, AreStamped, AreStampsTold}
 use Rattle.hs_copies.specs.Opened.{copy_with, taken_copies, opened_copies}
@@ -48,7 +48,7 @@ opened_tells {X = X} tells list good lead x v a e g t =
       each = λ q. put_cases (λ k. AreStamped tells (length (stamped_alike v list)) v (reach k)) lead (record (told_copy (copy_with (stamped_alike v list) (good lead))) { list = (copy_with (stamped_alike v list) (good lead)).list ++ item (suc v) x ∷ [] }) (λ q. told_copy (copy_with (stamped_alike v list) (good q))) q
           (λ i. get_lead (good lead) g)
           (λ i. elsewhere (good q));
-      current = last_view_append v (copy_with (stamped_alike v list) (good lead)).list (item (suc v) x);
+      current = λ d. last_view_append d (copy_with (stamped_alike v list) (good lead)).list (item (suc v) x);
     }
   where
     elsewhere : (b : Bool) → AreStamped tells (length (stamped_alike v list)) v (reach (told_copy (copy_with (stamped_alike v list) b)))

@@ -2,7 +2,7 @@
 use Rattle.std.proofs.Common.{◌≡◌, ◌≢◌, ℕ, zero, suc, ◌+◌, ◌≤◌, ◌<◌, Bool, true, false, List, [], ◌∷◌, ◌++◌, ◌⊎◌, inl, inr, refl, sym, arith, length, Option, Some, None, ap, ◌∙◌}
 use Rattle.std.specs.Prelude.{slice_get}
 use Rattle.hs_copies.specs.Lists.{Item, IsFront, IsAtMost, rank_by_stamps, end_view}
-use Rattle.hs_copies.specs.Machine.{Stage, Good, Copies, CopyEvent, TakesEffect, put_copy, item, told_copy, after_event}
+use Rattle.hs_copies.specs.Machine.{Stage, Good, Copies, CopyEvent, TakesEffect, put_at, item, told_copy, after_event}
 use Rattle.hs_copies.specs.Invariant.{reach, AreFaithful}
 use Rattle.hs_copies.specs.Lines.{IsPending, AreLinesOpen, LinedCopies, LineEvent, Step, Begin, Answer, AnswerBy, IsLineAllowed, after_line_event}
 use Rattle.hs_copies.specs.Stamps.{rank_told, view_told, Ascends, TellsView, AreStampsTold}

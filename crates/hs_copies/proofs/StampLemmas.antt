@@ -2,7 +2,7 @@
 use Rattle.std.proofs.Common.{◌≡◌, ◌≢◌, ℕ, zero, suc, ◌+◌, ◌≤◌, ◌<◌, List, [], ◌∷◌, ◌++◌, ◌⊎◌, inl, inr, refl, sym, arith, length, Option, Some, None, ap, ◌∙◌}
 use Rattle.std.specs.Prelude.{slice_get, take}
 use Rattle.hs_copies.specs.Lists.{Item, IsAmong, IsFront, AreBelow, Rises, IsBehind, Agree, IsAtMost, rank_by_stamps, end_view}
-use Rattle.hs_copies.specs.Machine.{Stage, Good, Down, PeerCopy, put_copy, begin_again, Copies, CopyEvent, Propose, Send, CopyComes, Sealed, HaveComes, TakesEffect, Fail, GiveUp, Start, Cleared, Copying, Copied, Join, item, IsAllowed, after_event}
+use Rattle.hs_copies.specs.Machine.{Stage, Good, Down, PeerCopy, put_at, begin_again, Copies, CopyEvent, Propose, Send, CopyComes, Sealed, HaveComes, TakesEffect, Fail, GiveUp, Start, Cleared, Copying, Copied, Join, item, IsAllowed, after_event}
 use Rattle.hs_copies.specs.Invariant.{reach, AreFaithful}
 use Rattle.hs_copies.specs.Lines.{IsGrown, items_added, StandsBehind}
 use Rattle.hs_copies.specs.Stamps.{view_told, rank_told, Ascends, AreStamped, TellsView, AreStampsTold}
@@ -11,7 +11,7 @@ use Rattle.hs_copies.proofs.PeerLemmas.{reach_none}
 use Rattle.hs_copies.proofs.GrownLemmas.{grown}
 use Rattle.hs_copies.proofs.OpenedLemmas.{took_after, took_good, lineage_right}
 
-stamped_prefix : {X : Type 0} (tells : ℕ → X → ℕ) (n v : ℕ) (xs ys : List (Item X)) → IsFront xs ys → AreStamped tells n v ys → AreStamped tells n v xs
+pub stamped_prefix : {X : Type 0} (tells : ℕ → X → ℕ) (n v : ℕ) (xs ys : List (Item X)) → IsFront xs ys → AreStamped tells n v ys → AreStamped tells n v xs
 stamped_prefix tells n v [] ys p t = tt
 stamped_prefix tells n v (x ∷ xs) [] p t = absurd p
 stamped_prefix tells zero v (x ∷ xs) (y ∷ ys) p t =
@@ -27,6 +27,13 @@ stamped_more tells (suc n) v [] x l t e = absurd (omega arith)
 stamped_more tells zero v (y ∷ xs) x l t e = (t.0, stamped_more tells zero y.view xs x (omega arith) t.1 e)
 stamped_more tells (suc n) v (y ∷ xs) x l t e =
     (t.0, stamped_more tells n v xs x (omega arith) t.1 (rw (← t.0) e))
+
+-- the view of the last item is what it tells
+pub stamped_last : {X : Type 0} (tells : ℕ → X → ℕ) (n v : ℕ) (xs : List (Item X)) (x : Item X) → n ≤ length xs → AreStamped tells n v (xs ++ x ∷ []) → x.view ≡ tells (end_view v xs) x.what
+stamped_last tells zero v [] x l t = t.0
+stamped_last tells (suc n) v [] x l t = absurd (omega (arith, l))
+stamped_last tells zero v (y ∷ xs) x l t = stamped_last tells zero y.view xs x (omega arith) t.1
+stamped_last tells (suc n) v (y ∷ xs) x l t = rw t.0 (stamped_last tells n v xs x (omega (arith, l)) t.1)
 
 pub last_view_append : {X : Type 0} (v : ℕ) (xs : List (Item X)) (x : Item X) → end_view v (xs ++ x ∷ []) ≡ x.view
 last_view_append v [] x = refl
@@ -86,7 +93,7 @@ module _ {X : Type 0} (tells : ℕ → X → ℕ) (start : List (Item X)) (v : �
   log_reach : reach (s.peers r.led.0) ≡ s.log
   log_reach = reach_none (s.peers r.led.0) (r.good r.led.0 r.led.1).nothing ∙ r.led.2
 
-  log_tells : AreStamped tells (length start) v s.log
+  pub log_tells : AreStamped tells (length start) v s.log
   log_tells = rw (← log_reach) (k.each r.led.0)
 
   start_log : IsFront start s.log
@@ -105,7 +112,7 @@ module _ {X : Type 0} (tells : ℕ → X → ℕ) (start : List (Item X)) (v : �
 
       more : (e : CopyEvent X) → TellsView tells s e → (ys : List (Item X)) → IsFront ys s.log → StandsBehind e s ys → AreStamped tells (length start) v (ys ++ items_added e s)
       more (Propose lead x) t ys p w =
-          stamped_more tells (length start) v ys (item s.view x) (rw w (front_length start s.log start_log)) (stamped_prefix tells (length start) v ys s.log p log_tells) (rw (w, k.current, t) refl)
+          stamped_more tells (length start) v ys (item s.view x) (rw w (front_length start s.log start_log)) (stamped_prefix tells (length start) v ys s.log p log_tells) (rw (w, k.current v, t) refl)
       more (Fail a lead again x) t ys p w =
           stamped_more tells (length start) v ys (item (suc s.view) x) (omega (arith, w, front_length start s.took low)) (stamped_prefix tells (length start) v ys s.log p log_tells) (sym (t (end_view v ys)))
       more (Join a lead x) t ys p w =
@@ -121,20 +128,20 @@ module _ {X : Type 0} (tells : ℕ → X → ℕ) (start : List (Item X)) (v : �
       more (Copying a m) t ys p w = rw (append_nil ys) (stamped_prefix tells (length start) v ys s.log p log_tells)
       more (Copied a) t ys p w = rw (append_nil ys) (stamped_prefix tells (length start) v ys s.log p log_tells)
 
-  current_after : (e : CopyEvent X) → end_view v (after_event e s).log ≡ (after_event e s).view
-  current_after (Propose lead x) = last_view_append v s.log (item s.view x)
-  current_after (Fail p lead again x) = last_view_append v (begin_again again (put_copy p (record (s.peers p) { stage = Down }) s.peers lead)).list (item (suc s.view) x)
-  current_after (Join p lead x) = last_view_append v (put_copy p (record (s.peers p) { stage = Good }) s.peers lead).list (item (suc s.view) x)
-  current_after (Send m) = k.current
-  current_after (CopyComes to place x) = k.current
-  current_after (Sealed p n) = k.current
-  current_after (HaveComes p n) = k.current
-  current_after (TakesEffect x) = k.current
-  current_after (GiveUp p) = k.current
-  current_after (Start p) = k.current
-  current_after (Cleared p n) = k.current
-  current_after (Copying p more) = k.current
-  current_after (Copied p) = k.current
+  current_after : (e : CopyEvent X) (d : ℕ) → end_view d (after_event e s).log ≡ (after_event e s).view
+  current_after (Propose lead x) d = last_view_append d s.log (item s.view x)
+  current_after (Fail p lead again x) d = last_view_append d (begin_again again (put_at p (record (s.peers p) { stage = Down }) s.peers lead)).list (item (suc s.view) x)
+  current_after (Join p lead x) d = last_view_append d (put_at p (record (s.peers p) { stage = Good }) s.peers lead).list (item (suc s.view) x)
+  current_after (Send m) d = k.current d
+  current_after (CopyComes to place x) d = k.current d
+  current_after (Sealed p n) d = k.current d
+  current_after (HaveComes p n) d = k.current d
+  current_after (TakesEffect x) d = k.current d
+  current_after (GiveUp p) d = k.current d
+  current_after (Start p) d = k.current d
+  current_after (Cleared p n) d = k.current d
+  current_after (Copying p more) d = k.current d
+  current_after (Copied p) d = k.current d
 
   pub tells_after : (e : CopyEvent X) → IsAllowed s e → TellsView tells s e → AreStampsTold tells start v (after_event e s)
   tells_after e a t =
@@ -143,7 +150,7 @@ module _ {X : Type 0} (tells : ℕ → X → ℕ) (start : List (Item X)) (v : �
         ascends = k.ascends;
         ends = k.ends;
         each = λ q. grown_tells e t q (reach ((after_event e s).peers q)) (grown s r e a q);
-        current = current_after e;
+        current = λ d. current_after e d;
       }
 
   -- lineage by the ranks that the disks tell

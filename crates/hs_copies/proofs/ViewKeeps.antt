@@ -2,7 +2,7 @@
 use Rattle.std.proofs.Common.{◌≡◌, ◌≢◌, ℕ, zero, suc, ◌+◌, ◌≤◌, ◌<◌, Bool, true, false, if◌then◌else◌, nat_eq, List, [], ◌∷◌, ◌++◌, ◌⊎◌, inl, inr, refl, sym, arith, length, Option, Some, None, ap, ◌∙◌}
 use Rattle.std.specs.Prelude.{slice_get, take}
 use Rattle.hs_copies.specs.Lists.{Item, IsAmong, IsFront, AreBelow, Rises, IsBehind, Agree}
-use Rattle.hs_copies.specs.Machine.{Stage, Good, Clearing, Following, Down, PeerCopy, Notice, Copies, CopyEvent, Propose, Send, CopyComes, Sealed, HaveComes, TakesEffect, Fail, GiveUp, Start, Cleared, Copying, Copied, Join, put_copy, item, told_copy, stage_again, begin_again, with_new_view, with_copy, IsAllowed, after_event, AreAllowed, after_events}
+use Rattle.hs_copies.specs.Machine.{Stage, Good, Clearing, Following, Down, PeerCopy, Notice, Copies, CopyEvent, Propose, Send, CopyComes, Sealed, HaveComes, TakesEffect, Fail, GiveUp, Start, Cleared, Copying, Copied, Join, put_at, item, told_copy, stage_again, begin_again, with_new_view, with_copy, IsAllowed, after_event, AreAllowed, after_events}
 use Rattle.hs_copies.specs.Invariant.{reach, IsGoodCopy, IsTrue, AreFaithful}
 use Rattle.hs_copies.proofs.ListLemmas.{front_refl, front_trans, front_append, front_length, front_whole, front_both, front_left}
 use Rattle.hs_copies.proofs.PeerLemmas.{put_cases, put_self, reach_none}
@@ -55,9 +55,9 @@ module _ {X : Type 0} (s : Copies X) (r : AreFaithful s) where
     down = record (s.peers p) { stage = Down }
 
     unfoldable pub others : ℕ → PeerCopy X
-    others q = begin_again again (put_copy p (record (s.peers p) { stage = Down }) s.peers q)
+    others q = begin_again again (put_at p (record (s.peers p) { stage = Down }) s.peers q)
 
-    cases : (P : PeerCopy X → Type 0) (q : ℕ) → (q ≡ p → P (begin_again again (record (s.peers p) { stage = Down }))) → (q ≢ p → P (begin_again again (s.peers q))) → P (begin_again again (put_copy p (record (s.peers p) { stage = Down }) s.peers q))
+    cases : (P : PeerCopy X → Type 0) (q : ℕ) → (q ≡ p → P (begin_again again (record (s.peers p) { stage = Down }))) → (q ≢ p → P (begin_again again (s.peers q))) → P (begin_again again (put_at p (record (s.peers p) { stage = Down }) s.peers q))
     cases P q same other = put_cases (λ k. P (begin_again again k)) p (record (s.peers p) { stage = Down }) s.peers q same other
 
     down_good : (again : Bool) → (begin_again again (record (s.peers p) { stage = Down })).stage ≡ Good → ⊥
@@ -117,7 +117,7 @@ module _ {X : Type 0} (s : Copies X) (r : AreFaithful s) where
 
   module _ (p lead : ℕ) (x : X) (a : IsAllowed s (Join p lead x)) where
     unfoldable pub joined : ℕ → PeerCopy X
-    joined = put_copy p (record (s.peers p) { stage = Good }) s.peers
+    joined = put_at p (record (s.peers p) { stage = Good }) s.peers
 
     pub join_same : (q : ℕ) → reach (joined q) ≡ reach (s.peers q)
     unfolding joined

@@ -6,3 +6,5 @@ pub mod Images
 pub mod Stamps
 pub mod Opened
 pub mod Runs
+pub mod CoreCopies
+pub mod Standing

@@ -50,9 +50,9 @@ pub data CopyEvent (X : Type 0) : Type 0 where
   Copied : (peer : ℕ) → CopyEvent X
   Join : (peer lead : ℕ) → X → CopyEvent X
 
--- the peers with another one in this place
-abbrev pub put_copy : {X : Type 0} → ℕ → PeerCopy X → (ℕ → PeerCopy X) → ℕ → PeerCopy X
-put_copy p c peers q = if nat_eq q p then c else peers q
+-- the values by number with another one in this place
+abbrev pub put_at : {A : Type 0} → ℕ → A → (ℕ → A) → ℕ → A
+put_at p c values q = if nat_eq q p then c else values q
 
 abbrev pub item : {X : Type 0} → ℕ → X → Item X
 item v x = record { view = v; what = x }
@@ -79,12 +79,12 @@ with_new_view lead x peers s =
       view = suc s.view;
       log = (peers lead).list ++ item (suc s.view) x ∷ [];
       took = s.took;
-      peers = put_copy lead (record (told_copy (peers lead)) { list = (peers lead).list ++ item (suc s.view) x ∷ [] }) (λ q. told_copy (peers q));
+      peers = put_at lead (record (told_copy (peers lead)) { list = (peers lead).list ++ item (suc s.view) x ∷ [] }) (λ q. told_copy (peers q));
       sent = s.sent;
     }
 
 abbrev pub with_copy : {X : Type 0} → ℕ → PeerCopy X → Copies X → Copies X
-with_copy p c s = record s { peers = put_copy p c s.peers }
+with_copy p c s = record s { peers = put_at p c s.peers }
 
 -- what is sent is an entry of the lead's list, or what a good peer has sealed
 abbrev pub MaySend : {X : Type 0} → Copies X → Notice X → Type 0
@@ -121,7 +121,7 @@ abbrev pub after_event : {X : Type 0} → CopyEvent X → Copies X → Copies X
 after_event (Propose lead x) s =
     record s {
       log = s.log ++ item s.view x ∷ [];
-      peers = put_copy lead (record (s.peers lead) { list = s.log ++ item s.view x ∷ [] }) s.peers;
+      peers = put_at lead (record (s.peers lead) { list = s.log ++ item s.view x ∷ [] }) s.peers;
     }
 after_event (Send m) s = record s { sent = m ∷ s.sent }
 after_event (CopyComes to place x) s = with_copy to (record (s.peers to) { list = (s.peers to).list ++ x ∷ [] }) s
@@ -129,7 +129,7 @@ after_event (Sealed p n) s = with_copy p (record (s.peers p) { sealed = n }) s
 after_event (HaveComes p n) s = with_copy p (record (s.peers p) { known = n }) s
 after_event (TakesEffect x) s = record s { took = s.took ++ x ∷ [] }
 after_event (Fail p lead again x) s =
-    with_new_view lead x (λ q. begin_again again (put_copy p (record (s.peers p) { stage = Down }) s.peers q)) s
+    with_new_view lead x (λ q. begin_again again (put_at p (record (s.peers p) { stage = Down }) s.peers q)) s
 after_event (GiveUp p) s = with_copy p (record (s.peers p) { stage = Down }) s
 after_event (Start p) s = with_copy p (record (s.peers p) { stage = Clearing }) s
 after_event (Cleared p n) s =
@@ -137,7 +137,7 @@ after_event (Cleared p n) s =
 after_event (Copying p more) s = with_copy p (record (s.peers p) { adding = more }) s
 after_event (Copied p) s =
     with_copy p (record (s.peers p) { list = (s.peers p).list ++ (s.peers p).adding; adding = []; sealed = length ((s.peers p).list ++ (s.peers p).adding) }) s
-after_event (Join p lead x) s = with_new_view lead x (put_copy p (record (s.peers p) { stage = Good }) s.peers) s
+after_event (Join p lead x) s = with_new_view lead x (put_at p (record (s.peers p) { stage = Good }) s.peers) s
 
 -- each event was allowed when it came
 abbrev pub AreAllowed : {X : Type 0} → Copies X → List (CopyEvent X) → Type 0

@@ -38,4 +38,4 @@ pub record AreStampsTold {X : Type 0} (tells : ℕ → X → ℕ) (start : List 
   pub ascends : Ascends tells 0 start
   pub ends : view_told tells 0 start ≡ v
   pub each : (q : ℕ) → AreStamped tells (length start) v (reach (s.peers q))
-  pub current : end_view v s.log ≡ s.view
+  pub current : (d : ℕ) → end_view d s.log ≡ s.view

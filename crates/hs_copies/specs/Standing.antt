@@ -1,0 +1,86 @@
+-- Copies as the core keeps them stand for copies of the machine.
+use Rattle.std.specs.Prelude.{◌≡◌, ℕ, ◌-◌, ◌≤◌, Bool, true, false, List, [], length, map, drop}
+use Rattle.hs_entry.specs.declared.entry.Entry.{Entry}
+use Rattle.hs_limits.specs.declared.limits.PeerStatus.{PeerStatus}
+use Rattle.hs_limits.specs.declared.limits.PeerStatus.TheVariants as status
+use Rattle.hs_members.specs.Members.{IsMembers, IsShard, status as status_of, view_of}
+use Rattle.hs_post.specs.declared.message.Message.{Message}
+use Rattle.hs_post.specs.declared.message.Message.TheVariants as message
+use Rattle.hs_rejoin.specs.Rejoin.{Rejoin}
+use Rattle.hs_replica.specs.declared.replica.Replica.{Replica}
+use Rattle.hs_replica.specs.Group.{Group, IsHome, copy_of, view_after}
+use Rattle.hs_copies.specs.CoreCopies.{CoreCopies}
+use Rattle.hs_copies.specs.Invariant.{AreFaithful}
+use Rattle.hs_copies.specs.Lists.{IsAmong, Item}
+use Rattle.hs_copies.specs.Machine.{AreAllowed, Clearing, Copies, CopyEvent, Down, EntryNotice, Following, Good, Notice, PeerCopy, SealedNotice, Stage, after_events}
+use Rattle.hs_copies.specs.Stamps.{AreStampsTold}
+
+-- the stage of a peer with this status; a joining one follows the lead's list once no emptying is due
+abbrev pub stage_of : PeerStatus → Bool → Stage
+stage_of status.Good due = Good
+stage_of status.Joining true = Clearing
+stage_of status.Joining false = Following
+stage_of status.Down due = Down
+
+abbrev pub is_good_stage : Stage → Bool
+is_good_stage Good = true
+is_good_stage Clearing = false
+is_good_stage Following = false
+is_good_stage Down = false
+
+-- the views of a list's items
+abbrev pub stamps_of : List (Item Entry) → List ℕ
+stamps_of list = map (λ x. x.view) list
+
+-- a copy of the group is this one: its stamps are those of the list
+pub record IsCopyOf (r : Replica) (copy : PeerCopy Entry) : Type 0 where
+  pub good : r.good ≡ is_good_stage copy.stage
+  pub stamps : r.stamps ≡ stamps_of copy.list
+  pub sealed : r.sealed ≡ copy.sealed
+  pub known : r.good ≡ true → r.known ≡ copy.known
+
+-- the notices have a message
+abbrev pub IsSent : List (Notice Entry) → Message → Type 0
+IsSent sent (message.Copy shard to view number entry) =
+    (1 ≤ number) × ((x : Item Entry) × (x.what ≡ entry) × IsAmong (EntryNotice to view (number - 1) x) sent)
+IsSent sent (message.Have shard from to view sealed) = IsAmong (SealedNotice from view sealed) sent
+IsSent sent (message.Round from to epoch round total deltas) = Unit {0}
+
+-- no View and no Base
+abbrev pub IsPlain : Entry → Type 0
+IsPlain entry = (view : ℕ) → view_after view entry ≡ view
+
+-- the shard's own peers stand for those of the machine, and no other peer is one
+pub record ArePeers (home : ℕ → Type 0) (copy : ℕ → Replica) (status : ℕ → PeerStatus) (rejoins : ℕ → Rejoin) (peers : ℕ → PeerCopy Entry) : Type 0 where
+  pub each : (peer : ℕ) → home peer → IsCopyOf (copy peer) (peers peer)
+  pub stage : (peer : ℕ) → home peer → (peers peer).stage ≡ stage_of (status peer) (rejoins peer).empty
+  -- what a joining peer counts is the length of its list, and its last step is done
+  pub counted : (peer : ℕ) → home peer → (peers peer).stage ≡ Following → (rejoins peer).len ≡ length (peers peer).list
+  pub still : (peer : ℕ) → home peer → (peers peer).stage ≡ Following → (peers peer).adding ≡ []
+  pub elsewhere : (peer : ℕ) → (home peer → ⊥) → (peers peer).stage ≡ Down
+
+-- what the core keeps of a shard stands for these copies of the machine, which are faithful, and whose stamps are those that the entries tell
+pub record Stands (c : CoreCopies) (s : Copies Entry) : Type 0 where
+  -- the group is of a shard of the store, with a copy for each peer
+  pub shape : c.members.shape ≡ c.group.shape
+  pub members : IsMembers c.members
+  pub shard : IsShard c.group.shape c.group.shard
+  pub copies : length c.group.copies ≡ c.group.shape.copies
+  -- the view, the peers, what took effect, what waits, and what was sent
+  pub view : c.group.view ≡ s.view
+  pub of_members : view_of c.group.shard c.members ≡ s.view
+  pub peers : ArePeers (IsHome c.group) (copy_of c.group) (λ peer. status_of peer c.members) c.rejoins s.peers
+  pub front : c.group.front ≡ length s.took
+  pub waiting : c.group.waiting ≡ map (λ x. x.what) (drop (length s.took) s.log)
+  pub sent : (m : Message) → IsAmong m c.sent → IsSent s.sent m
+  -- the machine's side
+  pub faithful : AreFaithful s
+  pub begun : List (Item Entry)
+  pub begun_at : ℕ
+  pub told : AreStampsTold view_after begun begun_at s
+
+-- it goes on as events of the machine, each of which may come
+pub record Continues (c : CoreCopies) (s : Copies Entry) : Type 0 where
+  pub events : List (CopyEvent Entry)
+  pub allowed : AreAllowed s events
+  pub stands : Stands c (after_events s events)
