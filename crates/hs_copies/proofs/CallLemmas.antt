@@ -122,7 +122,7 @@ pub no_event : (c : CoreCopies) (s : Copies Entry) → Stands c s → Continues 
 no_event c s st = record { events = []; allowed = tt; stands = st }
 
 -- one event
-one_event : (c : CoreCopies) (s : Copies Entry) (e : CopyEvent Entry) → IsAllowed s e → Stands c (after_event e s) → Continues c s
+pub one_event : (c : CoreCopies) (s : Copies Entry) (e : CopyEvent Entry) → IsAllowed s e → Stands c (after_event e s) → Continues c s
 one_event c s e a st = record { events = e ∷ []; allowed = (a, tt); stands = st }
 
 -- ---- a Copy comes

@@ -15,3 +15,4 @@ pub mod StandLemmas
 pub mod SendLemmas
 pub mod CallLemmas
 pub mod StatusLemmas
+pub mod JoinLemmas
