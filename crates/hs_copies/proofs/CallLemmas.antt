@@ -46,11 +46,11 @@ module _ (c : CoreCopies) (s : Copies Entry) (st : Stands c s) (p : ℕ) (own : 
 
 -- ---- proposing
 
-propose_is : (entry : Entry) (group : Group) (l : ℕ) → lead group ≡ Some l
+pub propose_is : (entry : Entry) (group : Group) (l : ℕ) → lead group ≡ Some l
     → propose entry group ≡ record (take_entry l entry group) { waiting = group.waiting ++ entry ∷ [] }
 propose_is entry group l e = ap (λ o. record (lead_takes o entry group) { waiting = group.waiting ++ entry ∷ [] }) e
 
-get_end : {X : Type 0} (xs : List X) (x : X) → slice_get (xs ++ x ∷ []) (length xs) ≡ Some x
+pub get_end : {X : Type 0} (xs : List X) (x : X) → slice_get (xs ++ x ∷ []) (length xs) ≡ Some x
 get_end [] x = refl
 get_end (y ∷ xs) x = get_end xs x
 

@@ -16,3 +16,4 @@ pub mod SendLemmas
 pub mod CallLemmas
 pub mod StatusLemmas
 pub mod JoinLemmas
+pub mod NewViewLemmas
