@@ -17,3 +17,4 @@ pub mod CallLemmas
 pub mod StatusLemmas
 pub mod JoinLemmas
 pub mod NewViewLemmas
+pub mod FailLemmas

@@ -1,6 +1,6 @@
 -- A new view of the core's copies is a new view of the machine.
 use Rattle.std.proofs.Common.{◌≡◌, ◌≢◌, ℕ, zero, suc, ◌+◌, ◌-◌, ◌≤◌, ◌<◌, Bool, true, false, if◌then◌else◌, List, [], ◌∷◌, ◌++◌, ◌⊎◌, inl, inr, refl, sym, arith, length, Option, Some, None, ap, ◌∙◌, map, drop, take}
-use Rattle.std.proofs.lemmas.List.{drop-append-le, drop-take, length-map, length-set, length-take, map-append, take-map}
+use Rattle.std.proofs.lemmas.List.{drop-append-le, drop-take, length-drop, length-map, length-set, length-take, map-append, take-map}
 use Rattle.std.proofs.lemmas.List.FromFn.{length-enumerate_from}
 use Rattle.std.specs.List.{enumerate_from}
 use Rattle.std.specs.Option.{option_map_or}
@@ -22,7 +22,7 @@ use Rattle.hs_copies.specs.Machine.{Copies, CopyEvent, Down, Following, Good, Is
 use Rattle.hs_copies.specs.Stamps.{TellsView}
 use Rattle.hs_copies.specs.Standing.{ArePeers, Continues, IsCopyOf, Stands, is_good_stage, stage_of, stamps_of}
 use Rattle.hs_copies.proofs.CallLemmas.{get_end, propose_is}
-use Rattle.hs_copies.proofs.HomeLemmas.{change_each}
+use Rattle.hs_copies.proofs.HomeLemmas.{change_each, lead_found, set_same}
 use Rattle.hs_copies.proofs.ListLemmas.{front_length, get_more}
 use Rattle.hs_copies.proofs.PeerLemmas.{put_cases}
 use Rattle.hs_copies.proofs.SendLemmas.{Each, IsOfLog, MayTell, copies_may, each_append, each_flat_map, each_map, one_and_tell, waiting_of_log}
@@ -177,3 +177,51 @@ module _ (c : CoreCopies) (s : Copies Entry) (st : Stands c s) (m : Members) (du
         begun = st.begun; begun_at = st.begun_at;
         told = rw (← becomes) (tells_after view_after st.begun st.begun_at s st.faithful st.told e allowed tells);
       }
+
+  -- ---- what is sent
+
+  after_peers : ℕ → PeerCopy Entry
+  after_peers = (with_new_view l (View (view_of c.group.shard m)) peers s).peers
+
+  renewal_may : Each (MayTell (suc s.view) ((peers l).list ++ item (suc s.view) (View (view_of c.group.shard m)) ∷ []) after_peers) (renewal (cut m l c.group))
+  renewal_may =
+      let log : List (Item Entry) = (peers l).list ++ item (suc s.view) (View (view_of c.group.shard m)) ∷ [] in
+      let waits : Each (IsOfLog (peers l).list) (enumerate_from (c.group.front + 1) (take (length_of (told m c.group) l - c.group.front) c.group.waiting)) =
+        waiting_of_log (peers l).list c.group.front (take (length_of (told m c.group) l - c.group.front) c.group.waiting) (rw (cut_waits, st.front) refl) in
+      each_flat_map (MayTell (suc s.view) log after_peers) (λ x. copies_above x.0 (length x.1.stamps) (cut m l c.group)) (others (cut m l c.group))
+      (λ x. copies_may (cut m l c.group) (suc s.view) log after_peers rises
+        (each_more (peers l).list (item (suc s.view) (View (view_of c.group.shard m)) ∷ []) (enumerate_from (c.group.front + 1) (take (length_of (told m c.group) l - c.group.front) c.group.waiting)) waits)
+        x.0 (length x.1.stamps))
+
+  view_may : Each (MayTell (suc s.view) ((peers l).list ++ item (suc s.view) (View (view_of c.group.shard m)) ∷ []) after_peers) (proposal (View (view_of c.group.shard m)) (cut m l c.group))
+  view_may =
+      let log : List (Item Entry) = (peers l).list ++ item (suc s.view) (View (view_of c.group.shard m)) ∷ [] in
+      let long : length (take (length_of (told m c.group) l - c.group.front) c.group.waiting) ≡ length (peers l).list - length s.took =
+        ap (λ k. length k) cut_waits ∙ length-map (drop (length s.took) (peers l).list) (λ x. x.what) ∙ length-drop (length s.took) (peers l).list in
+      let n : last_number (cut m l c.group) + 1 - 1 ≡ length (peers l).list = omega (arith, st.front, long, has) in
+      each_map (MayTell (suc s.view) log after_peers) (λ x. message.Copy c.group.shard x.0 (view_of c.group.shard m) (last_number (cut m l c.group) + 1) (View (view_of c.group.shard m))) (others (cut m l c.group))
+      (λ x. (omega arith, rises, (item (suc s.view) (View (view_of c.group.shard m)), refl, rw n (get_end (peers l).list (item (suc s.view) (View (view_of c.group.shard m)))))))
+
+  pub viewed_messages : Each (MayTell (after_event e s).view (after_event e s).log (after_event e s).peers) (view_messages m c.group)
+  unfolding after_peers
+  viewed_messages =
+      rw (becomes, messages_are m c.group l leads)
+      (each_append (MayTell (suc s.view) ((peers l).list ++ item (suc s.view) (View (view_of c.group.shard m)) ∷ []) after_peers) (renewal (cut m l c.group))
+        (proposal (View (view_of c.group.shard m)) (cut m l c.group)) renewal_may view_may)
+
+  -- the core's new view is the event
+  pub new_view : Continues (record c { group = on_view m c.group; members = m; rejoins = dues; sent = view_messages m c.group ++ c.sent }) s
+  new_view =
+      rw (view_is m c.group l leads)
+      (one_and_tell (record c { group = viewed m l c.group; members = m; rejoins = dues }) s e allowed (rw becomes view_stands) (view_messages m c.group) viewed_messages)
+
+  -- there is a lead in it
+  pub still_led : (k : ℕ) × (lead (on_view m c.group) ≡ Some k)
+  still_led =
+      let g : Group = viewed m l c.group in
+      let n : length g.copies ≡ g.shape.copies = length-set (told m c.group).copies _ _ ∙ told_length m c.group ∙ st.copies in
+      let here : (copy_of g l).good ≡ true =
+        ap (λ r. r.good) (set_same (told m c.group) l (λ r. record r { stamps = stamp (View (view_of c.group.shard m)) r.stamps }) (told_length m c.group ∙ st.copies) own)
+        ∙ (is_told l own).good ∙ ap is_good_stage good in
+      let f = lead_found g l n own here in
+      (f.0, ap lead (view_is m c.group l leads) ∙ f.1)
