@@ -30,10 +30,10 @@ use Rattle.hs_copies.proofs.ViewKeeps.{after_right}
 
 -- one good peer has another copy, and all else stands as before
 module _ (c : CoreCopies) (s : Copies Entry) (st : Stands c s) (p : ℕ) (own : IsHome c.group p) (good : (s.peers p).stage ≡ Good)
-         (f : Replica → Replica) (peers2 : ℕ → PeerCopy Entry)
-         (same : (q : ℕ) → q ≢ p → peers2 q ≡ s.peers q)
-         (each : IsCopyOf (f (copy_of c.group p)) (peers2 p))
-         (stage : (peers2 p).stage ≡ Good) where
+    (f : Replica → Replica) (peers2 : ℕ → PeerCopy Entry)
+    (same : (q : ℕ) → q ≢ p → peers2 q ≡ s.peers q)
+    (each : IsCopyOf (f (copy_of c.group p)) (peers2 p))
+    (stage : (peers2 p).stage ≡ Good) where
   pub good_changes : ArePeers (IsHome c.group) (copy_of (change_copy p f c.group)) (λ q. status q c.members) c.rejoins peers2
   good_changes =
       one_changes (IsHome c.group) (copy_of c.group) (copy_of (change_copy p f c.group)) (λ q. status q c.members) (λ q. status q c.members)
@@ -91,16 +91,22 @@ module _ (c : CoreCopies) (s : Copies Entry) (st : Stands c s) (entry : Entry) (
       let new : PeerCopy Entry = record (s.peers d.peer) { list = s.log ++ item s.view entry ∷ [] } in
       let k = st.peers.each d.peer d.leads.home in
       record {
-        shape = st.shape; members = st.members; shard = st.shard;
+        shape = st.shape;
+        members = st.members;
+        shard = st.shard;
         copies = length-set c.group.copies _ _ ∙ st.copies;
-        view = st.view; of_members = st.of_members;
+        view = st.view;
+        of_members = st.of_members;
         peers = good_changes c s st d.peer d.leads.home d.good (λ x. record x { stamps = stamp entry x.stamps }) (put_at d.peer new s.peers)
-          (λ q n. put_other d.peer new s.peers q n)
-          (rw (put_here d.peer new s.peers) (record { good = k.good; stamps = new_stamps; sealed = k.sealed; known = k.known }))
-          (rw (put_here d.peer new s.peers) d.good);
-        front = st.front; waiting = proposed_waiting; sent = st.sent;
+            (λ q n. put_other d.peer new s.peers q n)
+            (rw (put_here d.peer new s.peers) (record { good = k.good; stamps = new_stamps; sealed = k.sealed; known = k.known }))
+            (rw (put_here d.peer new s.peers) d.good);
+        front = st.front;
+        waiting = proposed_waiting;
+        sent = st.sent;
         faithful = after_right s st.faithful (Propose d.peer entry) proposing;
-        begun = st.begun; begun_at = st.begun_at;
+        begun = st.begun;
+        begun_at = st.begun_at;
         told = tells_after view_after st.begun st.begun_at s st.faithful st.told (Propose d.peer entry) proposing (plain s.view);
       }
 
@@ -115,7 +121,7 @@ module _ (c : CoreCopies) (s : Copies Entry) (st : Stands c s) (entry : Entry) (
       let d = stands_lead c s st in
       rw (propose_is entry c.group d.peer d.is)
       (one_and_tell (record c { group = record (take_entry d.peer entry c.group) { waiting = c.group.waiting ++ entry ∷ [] } }) s (Propose d.peer entry) proposing
-        proposed_stands (proposal entry c.group) (proposal_may (put_at d.peer (record (s.peers d.peer) { list = s.log ++ item s.view entry ∷ [] }) s.peers)))
+      proposed_stands (proposal entry c.group) (proposal_may (put_at d.peer (record (s.peers d.peer) { list = s.log ++ item s.view entry ∷ [] }) s.peers)))
 
 -- nothing happens
 pub no_event : (c : CoreCopies) (s : Copies Entry) → Stands c s → Continues c s
@@ -128,7 +134,7 @@ one_event c s e a st = record { events = e ∷ []; allowed = (a, tt); stands = s
 -- ---- a Copy comes
 
 module _ (c : CoreCopies) (s : Copies Entry) (st : Stands c s) (p : ℕ) (own : IsHome c.group p) (good : (s.peers p).stage ≡ Good)
-         (x : Item Entry) (k : IsAmong (EntryNotice p s.view (length (s.peers p).list) x) s.sent) where
+    (x : Item Entry) (k : IsAmong (EntryNotice p s.view (length (s.peers p).list) x) s.sent) where
   coming : IsAllowed s (CopyComes p (length (s.peers p).list) x)
   coming = (good, refl, k)
 
@@ -152,7 +158,7 @@ module _ (c : CoreCopies) (s : Copies Entry) (st : Stands c s) (p : ℕ) (own : 
   last_told =
       let all = log_tells view_after st.begun st.begun_at s st.faithful st.told in
       let v = stamped_last view_after (length st.begun) st.begun_at (s.peers p).list x begun_length
-        (stamped_prefix view_after (length st.begun) st.begun_at ((s.peers p).list ++ x ∷ []) s.log longer_front all) in
+      (stamped_prefix view_after (length st.begun) st.begun_at ((s.peers p).list ++ x ∷ []) s.log longer_front all) in
       ap (λ w. view_after w x.what) (last_stamp (s.peers p).list ∙ end_view_any 0 st.begun_at (s.peers p).list no_list) ∙ sym v
 
   pub taken_stands : Stands (record c { group = take_entry p x.what c.group }) (after_event (CopyComes p (length (s.peers p).list) x) s)
@@ -160,16 +166,22 @@ module _ (c : CoreCopies) (s : Copies Entry) (st : Stands c s) (p : ℕ) (own : 
       let new : PeerCopy Entry = record (s.peers p) { list = (s.peers p).list ++ x ∷ [] } in
       let k = st.peers.each p own in
       record {
-        shape = st.shape; members = st.members; shard = st.shard;
+        shape = st.shape;
+        members = st.members;
+        shard = st.shard;
         copies = length-set c.group.copies _ _ ∙ st.copies;
-        view = st.view; of_members = st.of_members;
+        view = st.view;
+        of_members = st.of_members;
         peers = good_changes c s st p own good (λ r. record r { stamps = stamp x.what r.stamps }) (put_at p new s.peers)
-          (λ q n. put_other p new s.peers q n)
-          (rw (put_here p new s.peers) (record { good = k.good; stamps = rw (k.stamps, last_told) (sym (map-append (λ y. y.view) (s.peers p).list (x ∷ []))); sealed = k.sealed; known = k.known }))
-          (rw (put_here p new s.peers) good);
-        front = st.front; waiting = st.waiting; sent = st.sent;
+            (λ q n. put_other p new s.peers q n)
+            (rw (put_here p new s.peers) (record { good = k.good; stamps = rw (k.stamps, last_told) (sym (map-append (λ y. y.view) (s.peers p).list (x ∷ []))); sealed = k.sealed; known = k.known }))
+            (rw (put_here p new s.peers) good);
+        front = st.front;
+        waiting = st.waiting;
+        sent = st.sent;
         faithful = after_right s st.faithful (CopyComes p (length (s.peers p).list) x) coming;
-        begun = st.begun; begun_at = st.begun_at;
+        begun = st.begun;
+        begun_at = st.begun_at;
         told = tells_after view_after st.begun st.begun_at s st.faithful st.told (CopyComes p (length (s.peers p).list) x) coming tt;
       }
 
@@ -220,7 +232,7 @@ have_may group now log peers peer number v g n = go (is_peer peer (lead group))
     go false = each_map (MayTell now log peers) (λ l. message.Have group.shard peer l group.view number) (option_to_list (lead group)) (λ l. (v, g, n))
 
 module _ (c : CoreCopies) (s : Copies Entry) (st : Stands c s) (p number : ℕ) (own : IsHome c.group p) (good : (s.peers p).stage ≡ Good)
-         (low : (s.peers p).sealed ≤ number) (high : number ≤ length (s.peers p).list) where
+    (low : (s.peers p).sealed ≤ number) (high : number ≤ length (s.peers p).list) where
   sealing : IsAllowed s (Sealed p number)
   sealing = (good, low, high)
 
@@ -229,16 +241,22 @@ module _ (c : CoreCopies) (s : Copies Entry) (st : Stands c s) (p number : ℕ) 
       let new : PeerCopy Entry = record (s.peers p) { sealed = number } in
       let k = st.peers.each p own in
       record {
-        shape = st.shape; members = st.members; shard = st.shard;
+        shape = st.shape;
+        members = st.members;
+        shard = st.shard;
         copies = length-set c.group.copies _ _ ∙ st.copies;
-        view = st.view; of_members = st.of_members;
+        view = st.view;
+        of_members = st.of_members;
         peers = good_changes c s st p own good (λ r. record r { sealed = number; known = r.known }) (put_at p new s.peers)
-          (λ q n. put_other p new s.peers q n)
-          (rw (put_here p new s.peers) (record { good = k.good; stamps = k.stamps; sealed = refl; known = k.known }))
-          (rw (put_here p new s.peers) good);
-        front = st.front; waiting = st.waiting; sent = st.sent;
+            (λ q n. put_other p new s.peers q n)
+            (rw (put_here p new s.peers) (record { good = k.good; stamps = k.stamps; sealed = refl; known = k.known }))
+            (rw (put_here p new s.peers) good);
+        front = st.front;
+        waiting = st.waiting;
+        sent = st.sent;
         faithful = after_right s st.faithful (Sealed p number) sealing;
-        begun = st.begun; begun_at = st.begun_at;
+        begun = st.begun;
+        begun_at = st.begun_at;
         told = tells_after view_after st.begun st.begun_at s st.faithful st.told (Sealed p number) sealing tt;
       }
 
@@ -261,16 +279,22 @@ module _ (c : CoreCopies) (s : Copies Entry) (st : Stands c s) (p number : ℕ) 
       let f = after_right s st.faithful (Sealed p number) sealing in
       let t = tells_after view_after st.begun st.begun_at s st.faithful st.told (Sealed p number) sealing tt in
       record {
-        shape = st.shape; members = st.members; shard = st.shard;
+        shape = st.shape;
+        members = st.members;
+        shard = st.shard;
         copies = length-set c.group.copies _ _ ∙ st.copies;
-        view = st.view; of_members = st.of_members;
+        view = st.view;
+        of_members = st.of_members;
         peers = good_changes c s st p own good (λ r. record r { sealed = number; known = max r.known number }) (put_at p newer (put_at p new s.peers))
-          (λ q n. put_other p newer (put_at p new s.peers) q n ∙ put_other p new s.peers q n)
-          (rw (put_here p newer (put_at p new s.peers), put_here p new s.peers) (record { good = k.good; stamps = k.stamps; sealed = refl; known = λ e. ap (λ j. max j number) (k.known e) }))
-          (rw (put_here p newer (put_at p new s.peers), put_here p new s.peers) good);
-        front = st.front; waiting = st.waiting; sent = st.sent;
+            (λ q n. put_other p newer (put_at p new s.peers) q n ∙ put_other p new s.peers q n)
+            (rw (put_here p newer (put_at p new s.peers), put_here p new s.peers) (record { good = k.good; stamps = k.stamps; sealed = refl; known = λ e. ap (λ j. max j number) (k.known e) }))
+            (rw (put_here p newer (put_at p new s.peers), put_here p new s.peers) good);
+        front = st.front;
+        waiting = st.waiting;
+        sent = st.sent;
         faithful = after_right (after_event (Sealed p number) s) f (HaveComes p (max (s.peers p).known number)) known_too;
-        begun = st.begun; begun_at = st.begun_at;
+        begun = st.begun;
+        begun_at = st.begun_at;
         told = tells_after view_after st.begun st.begun_at (after_event (Sealed p number) s) f t (HaveComes p (max (s.peers p).known number)) known_too tt;
       }
 
@@ -284,7 +308,7 @@ module _ (c : CoreCopies) (s : Copies Entry) (st : Stands c s) (p number : ℕ) 
       go false e =
           rw (seal_if p number c.group false e)
           (one_and_tell (record c { group = change_copy p (λ r. record r { sealed = number; known = r.known }) c.group }) s (Sealed p number) sealing sealed_stands (have p number c.group)
-            (have_may c.group s.view s.log (put_at p new s.peers) p number st.view (rw (put_here p new s.peers) good) (rw (put_here p new s.peers) (omega arith))))
+          (have_may c.group s.view s.log (put_at p new s.peers) p number st.view (rw (put_here p new s.peers) good) (rw (put_here p new s.peers) (omega arith))))
       go true e =
           let none : have p number c.group ≡ [] = ap (λ t. if t then [] else map (λ l. message.Have c.group.shard p l c.group.view number) (option_to_list (lead c.group))) e in
           rw (seal_if p number c.group true e, none)
@@ -301,7 +325,7 @@ have_if : (peer view sealed : ℕ) (group : Group) (b : Bool) → hears peer vie
 have_if peer view sealed group b e = ap (λ t. if t then change_copy peer (λ c. record c { known = max c.known sealed }) group else group) e
 
 module _ (c : CoreCopies) (s : Copies Entry) (st : Stands c s) (p sealed : ℕ) (own : IsHome c.group p) (good : (s.peers p).stage ≡ Good)
-         (k : IsAmong (SealedNotice p s.view sealed) s.sent) where
+    (k : IsAmong (SealedNotice p s.view sealed) s.sent) where
   hearing : IsAllowed s (HaveComes p (max (s.peers p).known sealed))
   hearing = (omega arith, which (le_or_lt (s.peers p).known sealed))
     where
@@ -315,16 +339,22 @@ module _ (c : CoreCopies) (s : Copies Entry) (st : Stands c s) (p sealed : ℕ) 
       let new : PeerCopy Entry = record (s.peers p) { known = max (s.peers p).known sealed } in
       let k = st.peers.each p own in
       record {
-        shape = st.shape; members = st.members; shard = st.shard;
+        shape = st.shape;
+        members = st.members;
+        shard = st.shard;
         copies = length-set c.group.copies _ _ ∙ st.copies;
-        view = st.view; of_members = st.of_members;
+        view = st.view;
+        of_members = st.of_members;
         peers = good_changes c s st p own good (λ r. record r { known = max r.known sealed }) (put_at p new s.peers)
-          (λ q n. put_other p new s.peers q n)
-          (rw (put_here p new s.peers) (record { good = k.good; stamps = k.stamps; sealed = k.sealed; known = λ e. ap (λ j. max j sealed) (k.known e) }))
-          (rw (put_here p new s.peers) good);
-        front = st.front; waiting = st.waiting; sent = st.sent;
+            (λ q n. put_other p new s.peers q n)
+            (rw (put_here p new s.peers) (record { good = k.good; stamps = k.stamps; sealed = k.sealed; known = λ e. ap (λ j. max j sealed) (k.known e) }))
+            (rw (put_here p new s.peers) good);
+        front = st.front;
+        waiting = st.waiting;
+        sent = st.sent;
         faithful = after_right s st.faithful (HaveComes p (max (s.peers p).known sealed)) hearing;
-        begun = st.begun; begun_at = st.begun_at;
+        begun = st.begun;
+        begun_at = st.begun_at;
         told = tells_after view_after st.begun st.begun_at s st.faithful st.told (HaveComes p (max (s.peers p).known sealed)) hearing tt;
       }
 
@@ -397,7 +427,7 @@ first_of [] entry e = absurd (cc e)
 first_of (x ∷ rest) entry e = (x, rest, refl)
 
 module _ (c : CoreCopies) (s : Copies Entry) (st : Stands c s) (y : ℕ × Entry) (e : committed c.group ≡ Some y) (x : Item Entry) (rest : List (Item Entry))
-         (f : drop (length s.took) s.log ≡ x ∷ rest) where
+    (f : drop (length s.took) s.log ≡ x ∷ rest) where
   tells : (c.group.front < commit_front c.group) × (y.0 ≡ c.group.front + 1) × (slice_get c.group.waiting 0 ≡ Some y.1)
   tells = committed_tells c.group y e
 
@@ -418,12 +448,19 @@ module _ (c : CoreCopies) (s : Copies Entry) (st : Stands c s) (y : ℕ × Entry
   committed_stands : Stands (record c { group = record c.group { front = y.0; waiting = drop 1 c.group.waiting } }) (after_event (TakesEffect x) s)
   committed_stands =
       record {
-        shape = st.shape; members = st.members; shard = st.shard; copies = st.copies;
-        view = st.view; of_members = st.of_members; peers = st.peers;
+        shape = st.shape;
+        members = st.members;
+        shard = st.shard;
+        copies = st.copies;
+        view = st.view;
+        of_members = st.of_members;
+        peers = st.peers;
         front = omega (arith, tells.1, st.front, length-append s.took (x ∷ []));
-        waiting = rest_waits; sent = st.sent;
+        waiting = rest_waits;
+        sent = st.sent;
         faithful = after_right s st.faithful (TakesEffect x) taking;
-        begun = st.begun; begun_at = st.begun_at;
+        begun = st.begun;
+        begun_at = st.begun_at;
         told = tells_after view_after st.begun st.begun_at s st.faithful st.told (TakesEffect x) taking tt;
       }
 

@@ -22,8 +22,8 @@ use Rattle.hs_copies.proofs.ListLemmas.{front_left, front_length, front_refl}
 use Rattle.hs_copies.proofs.NewViewLemmas.{good_status, new_view, still_led, told_good, told_length, told_long}
 use Rattle.hs_copies.proofs.OpenedLemmas.{took_good}
 use Rattle.hs_copies.proofs.PeerLemmas.{put_cases, put_here}
-use Rattle.hs_copies.proofs.StandLemmas.{HasLead, good_copy, good_home, good_stage, length_is, not_good_down, not_good_following, same_or_other, stage_good, stands_lead}
-use Rattle.hs_copies.proofs.StatusLemmas.{become_here, become_members, become_other, home_peer, home_shard, view_rises}
+use Rattle.hs_copies.proofs.StandLemmas.{HasLead, and_left, and_right, good_copy, good_home, good_stage, length_is, not_good_down, not_good_following, same_or_other, stage_good, stands_lead}
+use Rattle.hs_copies.proofs.StatusLemmas.{become_here, become_members, become_other, home_peer, home_shard, other_shard, view_elsewhere, view_rises}
 
 -- ---- the peers of a shard that are good
 
@@ -95,7 +95,7 @@ good_only is.Joining due e = let wrong : false ≡ true = e in cc
 good_only is.Down due e = let wrong : false ≡ true = e in cc
 
 module _ (c : CoreCopies) (s : Copies Entry) (st : Stands c s) (p : ℕ) (own : IsHome c.group p) (was : status p c.members ≡ is.Good)
-         (left : has_good c.group.shard (become p is.Down c.members) ≡ true) where
+    (left : has_good c.group.shard (become p is.Down c.members) ≡ true) where
   m : Members
   m = become p is.Down c.members
 
@@ -129,19 +129,23 @@ module _ (c : CoreCopies) (s : Copies Entry) (st : Stands c s) (p : ℕ) (own : 
       let f = lead_found (told (become p is.Down c.members) c.group) q.0 n q.1 (told_good (become p is.Down c.members) c.group q.0 st.copies q.1 ∙ q.2) in
       let k : Leads (told (become p is.Down c.members) c.group) f.0 = f.2 in
       let g : is_good_status (status f.0 (become p is.Down c.members)) ≡ true = sym (told_good (become p is.Down c.members) c.group f.0 st.copies k.home) ∙ k.good in
-      let apart : f.0 ≢ p = λ e. (let down : is_good_status (status f.0 (become p is.Down c.members)) ≡ false = rw (e, here) refl in let wrong : true ≡ false = sym g ∙ down in cc wrong) in
-      (f.0, record {
-        chosen = f.1; leads = k; other = apart;
-        good = st.peers.stage f.0 k.home ∙ good_only (status f.0 c.members) (c.rejoins f.0).empty (ap is_good_status (sym (become_other p f.0 is.Down c.members apart)) ∙ g);
-      })
+      let apart : f.0 ≢ p = λ e. (let down : is_good_status (status f.0 (become p is.Down c.members)) ≡ false = rw (e, here) refl in let wrong : true ≡ false = sym g ∙ down in cc wrong) in (
+        f.0,
+        record {
+          chosen = f.1;
+          leads = k;
+          other = apart;
+          good = st.peers.stage f.0 k.home ∙ good_only (status f.0 c.members) (c.rejoins f.0).empty (ap is_good_status (sym (become_other p f.0 is.Down c.members apart)) ∙ g);
+        },
+      )
 
   module _ (l : ℕ) (d : HasNewLead l) where
     longest_left : (q : ℕ) → q ≢ p → (s.peers q).stage ≡ Good → length (s.peers q).list ≤ length (s.peers l).list
     longest_left q n g =
         let h = good_home c s st q g in
         let k : (copy_of (told (become p is.Down c.members) c.group) q).good ≡ true =
-          told_good (become p is.Down c.members) c.group q st.copies h ∙ ap is_good_status (become_other p q is.Down c.members n)
-          ∙ sym (good_status (status q c.members) (c.rejoins q).empty) ∙ ap is_good_stage (sym (st.peers.stage q h)) ∙ stage_good (s.peers q).stage g in
+        told_good (become p is.Down c.members) c.group q st.copies h ∙ ap is_good_status (become_other p q is.Down c.members n)
+        ∙ sym (good_status (status q c.members) (c.rejoins q).empty) ∙ ap is_good_stage (sym (st.peers.stage q h)) ∙ stage_good (s.peers q).stage g in
         omega (arith, d.leads.longest q h k, told_long (become p is.Down c.members) c.group q st.copies h, told_long (become p is.Down c.members) c.group l st.copies d.leads.home, length_is c s st q h, length_is c s st l d.leads.home)
 
     whole_left : is_peer p (lead c.group) ≡ false → length (s.peers l).list ≡ length s.log
@@ -206,7 +210,7 @@ module _ (c : CoreCopies) (s : Copies Entry) (st : Stands c s) (p : ℕ) (own : 
       left_good =
           good_stage (begin_again (is_peer p (lead c.group)) (staged p Down s.peers l)).stage
           (ap is_good_stage (stages (is_peer p (lead c.group)) dues all none l d.leads.home) ∙ good_status (status l (become p is.Down c.members)) (dues l).empty
-            ∙ sym (told_good (become p is.Down c.members) c.group l st.copies d.leads.home) ∙ d.leads.good)
+          ∙ sym (told_good (become p is.Down c.members) c.group l st.copies d.leads.home) ∙ d.leads.good)
 
       left_within : IsFront (begin_again (is_peer p (lead c.group)) (staged p Down s.peers l)).list s.log
       left_within = rw (left_list l) (st.faithful.good l d.good).prefix
@@ -227,3 +231,180 @@ module _ (c : CoreCopies) (s : Copies Entry) (st : Stands c s) (p : ℕ) (own : 
           (Fail p l (is_peer p (lead c.group)) (View (view_of c.group.shard (become p is.Down c.members))))
           failing refl (λ v. rises) st.shape (become_members p is.Down c.members st.members) rises left_list left_sealed
           (stages (is_peer p (lead c.group)) dues all none) left_counted left_still left_elsewhere d.chosen d.leads.home left_good left_within left_has
+
+pub failed : (c : CoreCopies) (s : Copies Entry) → Stands c s → (p : ℕ) → IsHome c.group p → status p c.members ≡ is.Good
+    → has_good c.group.shard (become p is.Down c.members) ≡ true → Continues (core_fail p c) s
+failed c s st p own was left = go (is_peer p (lead c.group)) refl
+  where
+    d : (l : ℕ) × HasNewLead c s st p own was left l
+    d = new_lead c s st p own was left
+
+    m : Members
+    m = become p is.Down c.members
+
+    dues : Bool → ℕ → Rejoin
+    dues true q = begin_with (lead (on_view (become p is.Down c.members) c.group)) (c.rejoins q)
+    dues false q = c.rejoins q
+
+    fail_if : (b : Bool) → is_peer p (lead c.group) ≡ b
+        → core_fail p c ≡ record c { group = on_view (become p is.Down c.members) c.group; members = become p is.Down c.members; rejoins = dues b; sent = view_messages (become p is.Down c.members) c.group ++ c.sent }
+    fail_if true e =
+        ap (λ t. if t then record (core_view (become p is.Down c.members) c) { rejoins = λ q. begin_with (lead (on_view (become p is.Down c.members) c.group)) (c.rejoins q) } else core_view (become p is.Down c.members) c) e
+    fail_if false e =
+        ap (λ t. if t then record (core_view (become p is.Down c.members) c) { rejoins = λ q. begin_with (lead (on_view (become p is.Down c.members) c.group)) (c.rejoins q) } else core_view (become p is.Down c.members) c) e
+
+    go : (b : Bool) → is_peer p (lead c.group) ≡ b → Continues (core_fail p c) s
+    go true e =
+        let blank : ℕ → Rejoin = λ q. new_rejoin p in
+        let k = led_after c s st p own was left d.0 d.1 blank (λ q t. refl) (λ q f. let wrong : true ≡ false = sym e ∙ f in absurd (cc wrong)) in
+        let due : (q : ℕ) → is_peer p (lead c.group) ≡ true → (begin_with (lead (on_view (become p is.Down c.members) c.group)) (c.rejoins q)).empty ≡ true =
+        λ q t. ap (λ o. (begin_with o (c.rejoins q)).empty) k.1 in
+        rw (fail_if true e)
+        (failed_with c s st p own was left d.0 d.1 (dues true) due (λ q f. let wrong : true ≡ false = sym e ∙ f in absurd (cc wrong)))
+    go false e =
+        rw (fail_if false e)
+        (failed_with c s st p own was left d.0 d.1 c.rejoins (λ q t. let wrong : true ≡ false = sym t ∙ e in absurd (cc wrong)) (λ q f. refl))
+
+-- ---- a joining peer is good
+
+module _ (c : CoreCopies) (s : Copies Entry) (st : Stands c s) (p : ℕ) (own : IsHome c.group p) (joins : status p c.members ≡ is.Joining)
+    (done : (c.rejoins p).empty ≡ false) (level : (c.rejoins p).len ≡ length s.log) where
+  joiner : IsPeer c.members.shape p
+  joiner = rw st.shape (home_peer c.group p st.shard own)
+
+  joiner_shard : home_of c.members.shape p ≡ c.group.shard
+  joiner_shard = rw st.shape (home_shard c.group p own)
+
+  good_now : status p (become p is.Good c.members) ≡ is.Good
+  good_now = become_here p is.Good c.members st.members joiner
+
+  follows : (s.peers p).stage ≡ Following
+  follows = st.peers.stage p own ∙ ap (λ k. stage_of k (c.rejoins p).empty) joins ∙ ap (λ b. stage_of is.Joining b) done
+
+  long : length (s.peers p).list ≡ length s.log
+  long = sym (st.peers.counted p own follows) ∙ level
+
+  joiner_front : IsFront (s.peers p).list s.log
+  joiner_front = front_left (s.peers p).list (s.peers p).adding s.log (st.faithful.following p follows).0
+
+  join_rises : view_of c.group.shard (become p is.Good c.members) ≡ suc s.view
+  join_rises = view_rises p c.group.shard is.Good c.members st.members (rw st.shape st.shard) joiner_shard (rw joins refl) ∙ ap suc st.of_members
+
+  join_stages : (q : ℕ) → IsHome c.group q → (staged p Good s.peers q).stage ≡ stage_of (status q (become p is.Good c.members)) (c.rejoins q).empty
+  join_stages q h =
+      put_cases (λ k. k.stage ≡ stage_of (status q (become p is.Good c.members)) (c.rejoins q).empty) p (record (s.peers p) { stage = Good }) s.peers q
+      (λ e. rw (e, good_now) refl)
+      (λ n. rw (become_other p q is.Good c.members n) (st.peers.stage q h))
+
+  join_counted : (q : ℕ) → IsHome c.group q → (staged p Good s.peers q).stage ≡ Following → (c.rejoins q).len ≡ length (staged p Good s.peers q).list
+  join_counted q h =
+      put_cases (λ k. k.stage ≡ Following → (c.rejoins q).len ≡ length k.list) p (record (s.peers p) { stage = Good }) s.peers q
+      (λ e f. absurd (not_good_following Good refl f)) (λ n. st.peers.counted q h)
+
+  join_still : (q : ℕ) → IsHome c.group q → (staged p Good s.peers q).stage ≡ Following → (staged p Good s.peers q).adding ≡ []
+  join_still q h =
+      put_cases (λ k. k.stage ≡ Following → k.adding ≡ []) p (record (s.peers p) { stage = Good }) s.peers q
+      (λ e f. absurd (not_good_following Good refl f)) (λ n. st.peers.still q h)
+
+  join_elsewhere : (q : ℕ) → (IsHome c.group q → ⊥) → (staged p Good s.peers q).stage ≡ Down
+  join_elsewhere q n =
+      put_cases (λ k. k.stage ≡ Down) p (record (s.peers p) { stage = Good }) s.peers q
+      (λ e. absurd (n (rw e own))) (λ i. st.peers.elsewhere q n)
+
+  record HasJoinLead (l : ℕ) : Type 0 where
+    chosen : lead (told (become p is.Good c.members) c.group) ≡ Some l
+    leads : Leads (told (become p is.Good c.members) c.group) l
+
+  join_lead : (l : ℕ) × HasJoinLead l
+  join_lead =
+      let n : length (told (become p is.Good c.members) c.group).copies ≡ c.group.shape.copies = told_length (become p is.Good c.members) c.group ∙ st.copies in
+      let f = lead_found (told (become p is.Good c.members) c.group) p n own (told_good (become p is.Good c.members) c.group p st.copies own ∙ ap is_good_status good_now) in
+      (f.0, record { chosen = f.1; leads = f.2 })
+
+  module _ (l : ℕ) (d : HasJoinLead l) where
+    good_other : l ≢ p → (s.peers l).stage ≡ Good
+    good_other n =
+        st.peers.stage l d.leads.home
+        ∙ good_only (status l c.members) (c.rejoins l).empty
+        (ap is_good_status (sym (become_other p l is.Good c.members n)) ∙ sym (told_good (become p is.Good c.members) c.group l st.copies d.leads.home) ∙ d.leads.good)
+
+    within_log : IsFront (s.peers l).list s.log
+    within_log = elim (same_or_other l p) [ inl e ↦ rw e joiner_front | inr n ↦ (st.faithful.good l (good_other n)).prefix ]
+
+    lead_whole : length (s.peers l).list ≡ length s.log
+    lead_whole =
+        let k : (copy_of (told (become p is.Good c.members) c.group) p).good ≡ true = told_good (become p is.Good c.members) c.group p st.copies own ∙ ap is_good_status good_now in
+        omega (
+          arith,
+          d.leads.longest p own k,
+          told_long (become p is.Good c.members) c.group p st.copies own,
+          told_long (become p is.Good c.members) c.group l st.copies d.leads.home,
+          length_is c s st p own,
+          length_is c s st l d.leads.home,
+          long,
+          front_length (s.peers l).list s.log within_log,
+        )
+
+    joining : IsAllowed s (Join p l (View (view_of c.group.shard (become p is.Good c.members))))
+    joining = (follows, st.peers.still p own follows, long, (good_other, lead_whole))
+
+    lead_good : (staged p Good s.peers l).stage ≡ Good
+    lead_good =
+        put_cases (λ k. k.stage ≡ Good) p (record (s.peers p) { stage = Good }) s.peers l (λ e. refl) good_other
+
+    lead_within : IsFront (staged p Good s.peers l).list s.log
+    lead_within = rw (staged_list p Good s.peers l) within_log
+
+    lead_has : length s.took ≤ length (staged p Good s.peers l).list
+    lead_has = omega (arith, ap (λ k. length k) (staged_list p Good s.peers l), lead_whole, front_length s.took s.log st.faithful.took)
+
+    joined_with : Continues (core_join p c) s
+    joined_with =
+        new_view c s st (become p is.Good c.members) c.rejoins (staged p Good s.peers) l
+        (Join p l (View (view_of c.group.shard (become p is.Good c.members))))
+        joining refl (λ v. join_rises) st.shape (become_members p is.Good c.members st.members) join_rises (staged_list p Good s.peers) (staged_sealed p Good s.peers)
+        join_stages join_counted join_still join_elsewhere d.chosen d.leads.home lead_good lead_within lead_has
+
+pub joined : (c : CoreCopies) (s : Copies Entry) → Stands c s → (p l : ℕ) → IsHome c.group p → status p c.members ≡ is.Joining
+    → lead c.group ≡ Some l → is_level (length_of c.group l) (c.rejoins p) ≡ true → Continues (core_join p c) s
+joined c s st p l own joins e level =
+    let k = stands_lead c s st in
+    let same : k.peer ≡ l = let i : Some k.peer ≡ Some l = sym k.is ∙ e in cc i in
+    let n : length_of c.group l ≡ length s.log = rw (← same) (length_is c s st k.peer k.leads.home ∙ ap (λ j. length j) k.whole) in
+    let done : (c.rejoins p).empty ≡ false = not_due (c.rejoins p).empty (and_left (not (c.rejoins p).empty) ((c.rejoins p).len == length_of c.group l) level) in
+    let long : (c.rejoins p).len ≡ length s.log = eqb-true (c.rejoins p).len (length_of c.group l) (and_right (not (c.rejoins p).empty) ((c.rejoins p).len == length_of c.group l) level) ∙ n in
+    let d = join_lead c s st p own joins done long in
+    joined_with c s st p own joins done long d.0 d.1
+  where
+    not_due : (b : Bool) → not b ≡ true → b ≡ false
+    not_due false e = refl
+    not_due true e = let wrong : false ≡ true = e in cc
+
+-- ---- another shard's peer
+
+pub elsewhere_stands : (c : CoreCopies) (s : Copies Entry) → Stands c s → (p : ℕ) (new : PeerStatus) → 0 < c.group.shape.copies → (IsHome c.group p → ⊥)
+    → Stands (record c { members = become p new c.members }) s
+elsewhere_stands c s st p new some n =
+    let apart : c.group.shard ≢ home_of c.members.shape p = λ e. other_shard c.group p some n (rw st.shape at (sym e)) in
+    record {
+      shape = st.shape;
+      members = become_members p new c.members st.members;
+      shard = st.shard;
+      copies = st.copies;
+      view = st.view;
+      of_members = view_elsewhere p c.group.shard new c.members apart ∙ st.of_members;
+      peers = record {
+        each = st.peers.each;
+        stage = λ q h. rw (become_other p q new c.members (λ e. n (rw (← e) h))) (st.peers.stage q h);
+        counted = st.peers.counted;
+        still = st.peers.still;
+        elsewhere = st.peers.elsewhere;
+      };
+      front = st.front;
+      waiting = st.waiting;
+      sent = st.sent;
+      faithful = st.faithful;
+      begun = st.begun;
+      begun_at = st.begun_at;
+      told = st.told;
+    }

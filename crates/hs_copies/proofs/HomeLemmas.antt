@@ -21,8 +21,8 @@ le_or_lt (suc a) (suc b) = elim (le_or_lt a b) [ inl k ↦ inl (omega arith) | i
 pub home_or_not : (group : Group) (peer : ℕ) → IsHome group peer ⊎ (IsHome group peer → ⊥)
 home_or_not group peer =
     elim (le_or_lt (first_peer group) peer) [
-      inl k ↦ elim (le_or_lt (suc peer) (first_peer group + group.shape.copies)) [
-        inl l ↦ inl (k, omega (arith, l))
+      | inl k ↦ elim (le_or_lt (suc peer) (first_peer group + group.shape.copies)) [
+        | inl l ↦ inl (k, omega (arith, l))
         | inr l ↦ inr (λ h. omega (arith, l, h.1))
       ]
       | inr k ↦ inr (λ h. omega (arith, k, h.0))
@@ -155,9 +155,12 @@ lead_found group q n h g = go (longest (good_from (first_peer group) group.copie
         → (l : ℕ) × (lead group ≡ Some l) × Leads group l
     go None e j = let wrong : true ≡ false = sym g ∙ j (q - first_peer group) (omega (arith, n, h.0, h.1)) in cc
     go (Some b) e j =
-        let place : b.0 - first_peer group ≡ j.place = omega (arith, j.number) in
-        (b.0, rw e refl, record {
-          home = (omega (arith, j.number), omega (arith, j.number, j.within, n));
-          good = rw place j.good;
-          longest = λ p i k. rw (place, ← j.long) (j.longest (p - first_peer group) (omega (arith, n, i.0, i.1)) k);
-        })
+        let place : b.0 - first_peer group ≡ j.place = omega (arith, j.number) in (
+          b.0,
+          rw e refl,
+          record {
+            home = (omega (arith, j.number), omega (arith, j.number, j.within, n));
+            good = rw place j.good;
+            longest = λ p i k. rw (place, ← j.long) (j.longest (p - first_peer group) (omega (arith, n, i.0, i.1)) k);
+          },
+        )

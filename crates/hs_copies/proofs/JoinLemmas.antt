@@ -57,18 +57,25 @@ module _ (c : CoreCopies) (s : Copies Entry) (st : Stands c s) (p : ℕ) (own : 
         let new : PeerCopy Entry = record (s.peers p) { stage = Down } in
         let k = st.peers.each p own in
         record {
-          shape = st.shape; members = become_members p is.Down c.members st.members; shard = st.shard; copies = st.copies;
-          view = st.view; of_members = view_stays p c.group.shard is.Down c.members no_change ∙ st.of_members;
+          shape = st.shape;
+          members = become_members p is.Down c.members st.members;
+          shard = st.shard;
+          copies = st.copies;
+          view = st.view;
+          of_members = view_stays p c.group.shard is.Down c.members no_change ∙ st.of_members;
           peers = one_changes (IsHome c.group) (copy_of c.group) (copy_of c.group) (λ q. status q c.members) (λ q. status q (become p is.Down c.members))
-            c.rejoins c.rejoins s.peers (put_at p new s.peers) p st.peers own
-            (λ q h n. refl) (λ q h n. become_other p q is.Down c.members n) (λ q n. refl) (λ q n. put_other p new s.peers q n)
-            (rw (put_here p new s.peers) (record { good = k.good ∙ joining; stamps = k.stamps; sealed = k.sealed; known = k.known }))
-            (rw (put_here p new s.peers, become_here p is.Down c.members st.members own_peer) refl)
-            (rw (put_here p new s.peers) (λ f. absurd (not_down_following Down refl f)))
-            (rw (put_here p new s.peers) (λ f. absurd (not_down_following Down refl f)));
-          front = st.front; waiting = st.waiting; sent = st.sent;
+              c.rejoins c.rejoins s.peers (put_at p new s.peers) p st.peers own
+              (λ q h n. refl) (λ q h n. become_other p q is.Down c.members n) (λ q n. refl) (λ q n. put_other p new s.peers q n)
+              (rw (put_here p new s.peers) (record { good = k.good ∙ joining; stamps = k.stamps; sealed = k.sealed; known = k.known }))
+              (rw (put_here p new s.peers, become_here p is.Down c.members st.members own_peer) refl)
+              (rw (put_here p new s.peers) (λ f. absurd (not_down_following Down refl f)))
+              (rw (put_here p new s.peers) (λ f. absurd (not_down_following Down refl f)));
+          front = st.front;
+          waiting = st.waiting;
+          sent = st.sent;
           faithful = after_right s st.faithful (GiveUp p) giving_up;
-          begun = st.begun; begun_at = st.begun_at;
+          begun = st.begun;
+          begun_at = st.begun_at;
           told = tells_after view_after st.begun st.begun_at s st.faithful st.told (GiveUp p) giving_up tt;
         }
 
@@ -95,18 +102,25 @@ module _ (c : CoreCopies) (s : Copies Entry) (st : Stands c s) (p : ℕ) (own : 
         let begun : Rejoin = begin_with (lead c.group) (c.rejoins p) in
         let due : begun.empty ≡ true = ap (λ o. (begin_with o (c.rejoins p)).empty) d.is in
         record {
-          shape = st.shape; members = become_members p is.Joining c.members st.members; shard = st.shard; copies = st.copies;
-          view = st.view; of_members = view_stays p c.group.shard is.Joining c.members no_good_change ∙ st.of_members;
+          shape = st.shape;
+          members = become_members p is.Joining c.members st.members;
+          shard = st.shard;
+          copies = st.copies;
+          view = st.view;
+          of_members = view_stays p c.group.shard is.Joining c.members no_good_change ∙ st.of_members;
           peers = one_changes (IsHome c.group) (copy_of c.group) (copy_of c.group) (λ q. status q c.members) (λ q. status q (become p is.Joining c.members))
-            c.rejoins (put_at p begun c.rejoins) s.peers (put_at p new s.peers) p st.peers own
-            (λ q h n. refl) (λ q h n. become_other p q is.Joining c.members n) (λ q n. put_other p begun c.rejoins q n) (λ q n. put_other p new s.peers q n)
-            (rw (put_here p new s.peers) (record { good = k.good ∙ ap is_good_stage down; stamps = k.stamps; sealed = k.sealed; known = k.known }))
-            (rw (put_here p new s.peers, become_here p is.Joining c.members st.members own_peer, put_here p begun c.rejoins, due) refl)
-            (rw (put_here p new s.peers) (λ f. absurd (not_clearing_following Clearing refl f)))
-            (rw (put_here p new s.peers) (λ f. absurd (not_clearing_following Clearing refl f)));
-          front = st.front; waiting = st.waiting; sent = st.sent;
+              c.rejoins (put_at p begun c.rejoins) s.peers (put_at p new s.peers) p st.peers own
+              (λ q h n. refl) (λ q h n. become_other p q is.Joining c.members n) (λ q n. put_other p begun c.rejoins q n) (λ q n. put_other p new s.peers q n)
+              (rw (put_here p new s.peers) (record { good = k.good ∙ ap is_good_stage down; stamps = k.stamps; sealed = k.sealed; known = k.known }))
+              (rw (put_here p new s.peers, become_here p is.Joining c.members st.members own_peer, put_here p begun c.rejoins, due) refl)
+              (rw (put_here p new s.peers) (λ f. absurd (not_clearing_following Clearing refl f)))
+              (rw (put_here p new s.peers) (λ f. absurd (not_clearing_following Clearing refl f)));
+          front = st.front;
+          waiting = st.waiting;
+          sent = st.sent;
           faithful = after_right s st.faithful (Start p) starting;
-          begun = st.begun; begun_at = st.begun_at;
+          begun = st.begun;
+          begun_at = st.begun_at;
           told = tells_after view_after st.begun st.begun_at s st.faithful st.told (Start p) starting tt;
         }
 
@@ -128,19 +142,26 @@ module _ (c : CoreCopies) (s : Copies Entry) (st : Stands c s) (p : ℕ) (own : 
         let k = st.peers.each p own in
         let next : Rejoin = emptied (c.rejoins p) in
         record {
-          shape = st.shape; members = st.members; shard = st.shard; copies = length-set c.group.copies _ _ ∙ st.copies;
-          view = st.view; of_members = st.of_members;
+          shape = st.shape;
+          members = st.members;
+          shard = st.shard;
+          copies = length-set c.group.copies _ _ ∙ st.copies;
+          view = st.view;
+          of_members = st.of_members;
           peers = one_changes (IsHome c.group) (copy_of c.group) (copy_of (on_emptied p c.group)) (λ q. status q c.members) (λ q. status q c.members)
-            c.rejoins (put_at p next c.rejoins) s.peers (put_at p new s.peers) p st.peers own
-            (λ q h n. set_other c.group p q (λ r. record r { stamps = []; sealed = 0 }) own h n) (λ q h n. refl) (λ q n. put_other p next c.rejoins q n) (λ q n. put_other p new s.peers q n)
-            (rw (put_here p new s.peers, set_same c.group p (λ r. record r { stamps = []; sealed = 0 }) st.copies own)
+              c.rejoins (put_at p next c.rejoins) s.peers (put_at p new s.peers) p st.peers own
+              (λ q h n. set_other c.group p q (λ r. record r { stamps = []; sealed = 0 }) own h n) (λ q h n. refl) (λ q n. put_other p next c.rejoins q n) (λ q n. put_other p new s.peers q n)
+              (rw (put_here p new s.peers, set_same c.group p (λ r. record r { stamps = []; sealed = 0 }) st.copies own)
               (record { good = k.good ∙ ap is_good_stage clearing; stamps = refl; sealed = refl; known = k.known }))
-            (rw (put_here p new s.peers, joins, put_here p next c.rejoins) refl)
-            (rw (put_here p new s.peers, put_here p next c.rejoins) (λ f. refl))
-            (rw (put_here p new s.peers) (λ f. refl));
-          front = st.front; waiting = st.waiting; sent = st.sent;
+              (rw (put_here p new s.peers, joins, put_here p next c.rejoins) refl)
+              (rw (put_here p new s.peers, put_here p next c.rejoins) (λ f. refl))
+              (rw (put_here p new s.peers) (λ f. refl));
+          front = st.front;
+          waiting = st.waiting;
+          sent = st.sent;
           faithful = after_right s st.faithful (Cleared p 0) emptying;
-          begun = st.begun; begun_at = st.begun_at;
+          begun = st.begun;
+          begun_at = st.begun_at;
           told = tells_after view_after st.begun st.begun_at s st.faithful st.told (Cleared p 0) emptying tt;
         }
 
@@ -165,8 +186,8 @@ item_at (y ∷ xs) zero l = (y, refl)
 item_at (y ∷ xs) (suc n) l = item_at xs n (omega (arith, l))
 
 module _ (c : CoreCopies) (s : Copies Entry) (st : Stands c s) (p number : ℕ) (own : IsHome c.group p) (joins : status p c.members ≡ is.Joining)
-         (done : (c.rejoins p).empty ≡ false) (next : number ≡ (c.rejoins p).len + 1)
-         (x : Item Entry) (here : slice_get s.log (length (s.peers p).list) ≡ Some x) where
+    (done : (c.rejoins p).empty ≡ false) (next : number ≡ (c.rejoins p).len + 1)
+    (x : Item Entry) (here : slice_get s.log (length (s.peers p).list) ≡ Some x) where
   pub following : (s.peers p).stage ≡ Following
   following = st.peers.stage p own ∙ ap (λ k. stage_of k (c.rejoins p).empty) joins ∙ ap (λ b. stage_of is.Joining b) done
 
@@ -227,20 +248,27 @@ module _ (c : CoreCopies) (s : Copies Entry) (st : Stands c s) (p number : ℕ) 
       let first : PeerCopy Entry = record (s.peers p) { adding = x ∷ [] } in
       let becomes_whole : put_at p newer (put_at p first s.peers) p ≡ whole = put_here p newer (put_at p first s.peers) ∙ is_whole in
       record {
-        shape = st.shape; members = st.members; shard = st.shard; copies = length-set c.group.copies _ _ ∙ st.copies;
-        view = st.view; of_members = st.of_members;
+        shape = st.shape;
+        members = st.members;
+        shard = st.shard;
+        copies = length-set c.group.copies _ _ ∙ st.copies;
+        view = st.view;
+        of_members = st.of_members;
         peers = one_changes (IsHome c.group) (copy_of c.group) (copy_of (change_copy p f c.group)) (λ q. status q c.members) (λ q. status q c.members)
-          c.rejoins (put_at p counted c.rejoins) s.peers (put_at p newer (put_at p first s.peers)) p st.peers own
-          (λ q h n. set_other c.group p q f own h n) (λ q h n. refl) (λ q n. put_other p counted c.rejoins q n)
-          (λ q n. put_other p newer (put_at p first s.peers) q n ∙ put_other p first s.peers q n)
-          (rw (becomes_whole, set_same c.group p f st.copies own)
+            c.rejoins (put_at p counted c.rejoins) s.peers (put_at p newer (put_at p first s.peers)) p st.peers own
+            (λ q h n. set_other c.group p q f own h n) (λ q h n. refl) (λ q n. put_other p counted c.rejoins q n)
+            (λ q n. put_other p newer (put_at p first s.peers) q n ∙ put_other p first s.peers q n)
+            (rw (becomes_whole, set_same c.group p f st.copies own)
             (record { good = k.good; stamps = ap (λ j. j ++ x.view ∷ []) k.stamps ∙ sym (map-append (λ y. y.view) (s.peers p).list (x ∷ [])); sealed = number_is; known = k.known }))
-          (rw (becomes_whole, joins, put_here p counted c.rejoins, done) following)
-          (rw (becomes_whole, put_here p counted c.rejoins) (λ f. number_is))
-          (rw becomes_whole (λ f. refl));
-        front = st.front; waiting = st.waiting; sent = st.sent;
+            (rw (becomes_whole, joins, put_here p counted c.rejoins, done) following)
+            (rw (becomes_whole, put_here p counted c.rejoins) (λ f. number_is))
+            (rw becomes_whole (λ f. refl));
+        front = st.front;
+        waiting = st.waiting;
+        sent = st.sent;
         faithful = after_right (after_event (Copying p (x ∷ [])) s) mid (Copied p) copy_done;
-        begun = st.begun; begun_at = st.begun_at;
+        begun = st.begun;
+        begun_at = st.begun_at;
         told = tells_after view_after st.begun st.begun_at (after_event (Copying p (x ∷ [])) s) mid mid_told (Copied p) copy_done tt;
       }
 

@@ -18,3 +18,4 @@ pub mod StatusLemmas
 pub mod JoinLemmas
 pub mod NewViewLemmas
 pub mod FailLemmas
+pub mod CoreLemmas

@@ -92,23 +92,23 @@ each_more log more [] h = tt
 each_more log more (e ∷ es) h = ((h.0.0, (h.0.1.0, h.0.1.1, get_more log more (e.0 - 1) h.0.1.0 h.0.1.2)), each_more log more es h.1)
 
 module _ (c : CoreCopies) (s : Copies Entry) (st : Stands c s) (m : Members) (dues : ℕ → Rejoin) (peers : ℕ → PeerCopy Entry) (l : ℕ) (e : CopyEvent Entry)
-         (allowed : IsAllowed s e)
-         (becomes : after_event e s ≡ with_new_view l (View (view_of c.group.shard m)) peers s)
-         (tells : TellsView view_after s e)
-         (shape : m.shape ≡ c.group.shape)
-         (valid : IsMembers m)
-         (rises : view_of c.group.shard m ≡ suc s.view)
-         (lists : (q : ℕ) → (peers q).list ≡ (s.peers q).list)
-         (seals : (q : ℕ) → (peers q).sealed ≡ (s.peers q).sealed)
-         (stages : (q : ℕ) → IsHome c.group q → (peers q).stage ≡ stage_of (status q m) (dues q).empty)
-         (counted : (q : ℕ) → IsHome c.group q → (peers q).stage ≡ Following → (dues q).len ≡ length (peers q).list)
-         (still : (q : ℕ) → IsHome c.group q → (peers q).stage ≡ Following → (peers q).adding ≡ [])
-         (elsewhere : (q : ℕ) → (IsHome c.group q → ⊥) → (peers q).stage ≡ Down)
-         (leads : lead (told m c.group) ≡ Some l)
-         (own : IsHome c.group l)
-         (good : (peers l).stage ≡ Good)
-         (within : IsFront (peers l).list s.log)
-         (has : length s.took ≤ length (peers l).list) where
+    (allowed : IsAllowed s e)
+    (becomes : after_event e s ≡ with_new_view l (View (view_of c.group.shard m)) peers s)
+    (tells : TellsView view_after s e)
+    (shape : m.shape ≡ c.group.shape)
+    (valid : IsMembers m)
+    (rises : view_of c.group.shard m ≡ suc s.view)
+    (lists : (q : ℕ) → (peers q).list ≡ (s.peers q).list)
+    (seals : (q : ℕ) → (peers q).sealed ≡ (s.peers q).sealed)
+    (stages : (q : ℕ) → IsHome c.group q → (peers q).stage ≡ stage_of (status q m) (dues q).empty)
+    (counted : (q : ℕ) → IsHome c.group q → (peers q).stage ≡ Following → (dues q).len ≡ length (peers q).list)
+    (still : (q : ℕ) → IsHome c.group q → (peers q).stage ≡ Following → (peers q).adding ≡ [])
+    (elsewhere : (q : ℕ) → (IsHome c.group q → ⊥) → (peers q).stage ≡ Down)
+    (leads : lead (told m c.group) ≡ Some l)
+    (own : IsHome c.group l)
+    (good : (peers l).stage ≡ Good)
+    (within : IsFront (peers l).list s.log)
+    (has : length s.took ≤ length (peers l).list) where
   is_told : (q : ℕ) → IsHome c.group q → IsCopyOf (copy_of (told m c.group) q) (told_copy (peers q))
   is_told q h =
       let k = st.peers.each q h in
@@ -134,9 +134,9 @@ module _ (c : CoreCopies) (s : Copies Entry) (st : Stands c s) (m : Members) (du
       let k = is_told l own in
       record {
         each = change_each (told m c.group) (λ q. told_copy (peers q)) l (λ r. record r { stamps = stamp (View (view_of c.group.shard m)) r.stamps }) top
-          (told_length m c.group ∙ st.copies) own
-          (record { good = k.good; stamps = stamps_too (copy_of (told m c.group) l).stamps k.stamps; sealed = k.sealed; known = k.known })
-          is_told;
+            (told_length m c.group ∙ st.copies) own
+            (record { good = k.good; stamps = stamps_too (copy_of (told m c.group) l).stamps k.stamps; sealed = k.sealed; known = k.known })
+            is_told;
         stage = λ q h. put_cases (λ p. p.stage ≡ stage_of (status q m) (dues q).empty) l top (λ q. told_copy (peers q)) q (λ i. rw i (stages l own)) (λ n. stages q h);
         counted = λ q h. put_cases (λ p. p.stage ≡ Following → (dues q).len ≡ length p.list) l top (λ q. told_copy (peers q)) q (λ i f. absurd (not_good_following (peers l).stage good f)) (λ n. counted q h);
         still = λ q h. put_cases (λ p. p.stage ≡ Following → p.adding ≡ []) l top (λ q. told_copy (peers q)) q (λ i f. absurd (not_good_following (peers l).stage good f)) (λ n. still q h);
@@ -154,14 +154,17 @@ module _ (c : CoreCopies) (s : Copies Entry) (st : Stands c s) (m : Members) (du
       let whole : (peers l).list ≡ take (length (peers l).list) s.log = front_take (peers l).list s.log within in
       let split : length (peers l).list ≡ length s.took + (length (peers l).list - length s.took) = omega (arith, has) in
       let part : take (length (peers l).list - length s.took) (drop (length s.took) s.log) ≡ drop (length s.took) (peers l).list =
-        sym (drop-take (length s.took) (length (peers l).list - length s.took) s.log) ∙ ap (λ k. drop (length s.took) (take k s.log)) (sym split) ∙ ap (λ k. drop (length s.took) k) (sym whole) in
+      sym (drop-take (length s.took) (length (peers l).list - length s.took) s.log) ∙ ap (λ k. drop (length s.took) (take k s.log)) (sym split) ∙ ap (λ k. drop (length s.took) k) (sym whole) in
       rw (n, st.waiting) (take-map (λ (x : Item Entry). x.what) (length (peers l).list - length s.took) (drop (length s.took) s.log) ∙ ap (λ (k : List (Item Entry)). map (λ x. x.what) k) part)
 
   view_waits : take (length_of (told m c.group) l - c.group.front) c.group.waiting ++ View (view_of c.group.shard m) ∷ []
       ≡ map (λ x. x.what) (drop (length s.took) ((peers l).list ++ item (suc s.view) (View (view_of c.group.shard m)) ∷ []))
   view_waits =
-      rw (drop-append-le (length s.took) (peers l).list (item (suc s.view) (View (view_of c.group.shard m)) ∷ []) has,
-        map-append (λ (x : Item Entry). x.what) (drop (length s.took) (peers l).list) (item (suc s.view) (View (view_of c.group.shard m)) ∷ []), cut_waits) refl
+      rw (
+        drop-append-le (length s.took) (peers l).list (item (suc s.view) (View (view_of c.group.shard m)) ∷ []) has,
+        map-append (λ (x : Item Entry). x.what) (drop (length s.took) (peers l).list) (item (suc s.view) (View (view_of c.group.shard m)) ∷ []),
+        cut_waits,
+      ) refl
 
   view_faithful : AreFaithful (with_new_view l (View (view_of c.group.shard m)) peers s)
   view_faithful = rw (← becomes) (after_right s st.faithful e allowed)
@@ -169,12 +172,19 @@ module _ (c : CoreCopies) (s : Copies Entry) (st : Stands c s) (m : Members) (du
   view_stands : Stands (record c { group = viewed m l c.group; members = m; rejoins = dues }) (with_new_view l (View (view_of c.group.shard m)) peers s)
   view_stands =
       record {
-        shape = shape; members = valid; shard = st.shard;
+        shape = shape;
+        members = valid;
+        shard = st.shard;
         copies = length-set (told m c.group).copies _ _ ∙ told_length m c.group ∙ st.copies;
-        view = rises; of_members = rises; peers = new_peers;
-        front = st.front; waiting = view_waits; sent = st.sent;
+        view = rises;
+        of_members = rises;
+        peers = new_peers;
+        front = st.front;
+        waiting = view_waits;
+        sent = st.sent;
         faithful = view_faithful;
-        begun = st.begun; begun_at = st.begun_at;
+        begun = st.begun;
+        begun_at = st.begun_at;
         told = rw (← becomes) (tells_after view_after st.begun st.begun_at s st.faithful st.told e allowed tells);
       }
 
@@ -187,17 +197,17 @@ module _ (c : CoreCopies) (s : Copies Entry) (st : Stands c s) (m : Members) (du
   renewal_may =
       let log : List (Item Entry) = (peers l).list ++ item (suc s.view) (View (view_of c.group.shard m)) ∷ [] in
       let waits : Each (IsOfLog (peers l).list) (enumerate_from (c.group.front + 1) (take (length_of (told m c.group) l - c.group.front) c.group.waiting)) =
-        waiting_of_log (peers l).list c.group.front (take (length_of (told m c.group) l - c.group.front) c.group.waiting) (rw (cut_waits, st.front) refl) in
+      waiting_of_log (peers l).list c.group.front (take (length_of (told m c.group) l - c.group.front) c.group.waiting) (rw (cut_waits, st.front) refl) in
       each_flat_map (MayTell (suc s.view) log after_peers) (λ x. copies_above x.0 (length x.1.stamps) (cut m l c.group)) (others (cut m l c.group))
       (λ x. copies_may (cut m l c.group) (suc s.view) log after_peers rises
-        (each_more (peers l).list (item (suc s.view) (View (view_of c.group.shard m)) ∷ []) (enumerate_from (c.group.front + 1) (take (length_of (told m c.group) l - c.group.front) c.group.waiting)) waits)
-        x.0 (length x.1.stamps))
+      (each_more (peers l).list (item (suc s.view) (View (view_of c.group.shard m)) ∷ []) (enumerate_from (c.group.front + 1) (take (length_of (told m c.group) l - c.group.front) c.group.waiting)) waits)
+      x.0 (length x.1.stamps))
 
   view_may : Each (MayTell (suc s.view) ((peers l).list ++ item (suc s.view) (View (view_of c.group.shard m)) ∷ []) after_peers) (proposal (View (view_of c.group.shard m)) (cut m l c.group))
   view_may =
       let log : List (Item Entry) = (peers l).list ++ item (suc s.view) (View (view_of c.group.shard m)) ∷ [] in
       let long : length (take (length_of (told m c.group) l - c.group.front) c.group.waiting) ≡ length (peers l).list - length s.took =
-        ap (λ k. length k) cut_waits ∙ length-map (drop (length s.took) (peers l).list) (λ x. x.what) ∙ length-drop (length s.took) (peers l).list in
+      ap (λ k. length k) cut_waits ∙ length-map (drop (length s.took) (peers l).list) (λ x. x.what) ∙ length-drop (length s.took) (peers l).list in
       let n : last_number (cut m l c.group) + 1 - 1 ≡ length (peers l).list = omega (arith, st.front, long, has) in
       each_map (MayTell (suc s.view) log after_peers) (λ x. message.Copy c.group.shard x.0 (view_of c.group.shard m) (last_number (cut m l c.group) + 1) (View (view_of c.group.shard m))) (others (cut m l c.group))
       (λ x. (omega arith, rises, (item (suc s.view) (View (view_of c.group.shard m)), refl, rw n (get_end (peers l).list (item (suc s.view) (View (view_of c.group.shard m)))))))
@@ -207,7 +217,7 @@ module _ (c : CoreCopies) (s : Copies Entry) (st : Stands c s) (m : Members) (du
   viewed_messages =
       rw (becomes, messages_are m c.group l leads)
       (each_append (MayTell (suc s.view) ((peers l).list ++ item (suc s.view) (View (view_of c.group.shard m)) ∷ []) after_peers) (renewal (cut m l c.group))
-        (proposal (View (view_of c.group.shard m)) (cut m l c.group)) renewal_may view_may)
+      (proposal (View (view_of c.group.shard m)) (cut m l c.group)) renewal_may view_may)
 
   -- the core's new view is the event
   pub new_view : Continues (record c { group = on_view m c.group; members = m; rejoins = dues; sent = view_messages m c.group ++ c.sent }) s
@@ -221,7 +231,7 @@ module _ (c : CoreCopies) (s : Copies Entry) (st : Stands c s) (m : Members) (du
       let g : Group = viewed m l c.group in
       let n : length g.copies ≡ g.shape.copies = length-set (told m c.group).copies _ _ ∙ told_length m c.group ∙ st.copies in
       let here : (copy_of g l).good ≡ true =
-        ap (λ r. r.good) (set_same (told m c.group) l (λ r. record r { stamps = stamp (View (view_of c.group.shard m)) r.stamps }) (told_length m c.group ∙ st.copies) own)
-        ∙ (is_told l own).good ∙ ap is_good_stage good in
+      ap (λ r. r.good) (set_same (told m c.group) l (λ r. record r { stamps = stamp (View (view_of c.group.shard m)) r.stamps }) (told_length m c.group ∙ st.copies) own)
+      ∙ (is_told l own).good ∙ ap is_good_stage good in
       let f = lead_found g l n own here in
       (f.0, ap lead (view_is m c.group l leads) ∙ f.1)

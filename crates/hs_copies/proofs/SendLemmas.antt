@@ -74,11 +74,19 @@ send_notice : (c : CoreCopies) (s : Copies Entry) → Stands c s → (m : Messag
     → Stands (record c { sent = m ∷ c.sent }) (after_event (Send notice) s)
 send_notice c s st m notice a h =
     record {
-      shape = st.shape; members = st.members; shard = st.shard; copies = st.copies;
-      view = st.view; of_members = st.of_members; peers = st.peers; front = st.front; waiting = st.waiting;
+      shape = st.shape;
+      members = st.members;
+      shard = st.shard;
+      copies = st.copies;
+      view = st.view;
+      of_members = st.of_members;
+      peers = st.peers;
+      front = st.front;
+      waiting = st.waiting;
       sent = sent_now s.sent notice c.sent m h st.sent;
       faithful = after_right s st.faithful (Send notice) a;
-      begun = st.begun; begun_at = st.begun_at;
+      begun = st.begun;
+      begun_at = st.begun_at;
       told = tells_after view_after st.begun st.begun_at s st.faithful st.told (Send notice) a tt;
     }
 
@@ -96,22 +104,45 @@ tell_one c s st (message.Copy shard to view number entry) h =
     let notice : Notice Entry = EntryNotice to view (number - 1) h.2.0 in
     let a : IsAllowed s (Send notice) = (h.1, h.2.2) in
     record {
-      events = Send notice ∷ []; allowed = (a, tt); view = refl; log = refl; peers = refl;
+      events = Send notice ∷ [];
+      allowed = (a, tt);
+      view = refl;
+      log = refl;
+      peers = refl;
       stands = send_notice c s st (message.Copy shard to view number entry) notice a (h.0, (h.2.0, h.2.1, inl refl));
     }
 tell_one c s st (message.Have shard from to view sealed) h =
     let notice : Notice Entry = SealedNotice from view sealed in
     record {
-      events = Send notice ∷ []; allowed = (h, tt); view = refl; log = refl; peers = refl;
+      events = Send notice ∷ [];
+      allowed = (h, tt);
+      view = refl;
+      log = refl;
+      peers = refl;
       stands = send_notice c s st (message.Have shard from to view sealed) notice h (inl refl);
     }
 tell_one c s st (message.Round from to epoch round total deltas) h =
     record {
-      events = []; allowed = tt; view = refl; log = refl; peers = refl;
+      events = [];
+      allowed = tt;
+      view = refl;
+      log = refl;
+      peers = refl;
       stands = record {
-        shape = st.shape; members = st.members; shard = st.shard; copies = st.copies;
-        view = st.view; of_members = st.of_members; peers = st.peers; front = st.front; waiting = st.waiting;
-        sent = of_round; faithful = st.faithful; begun = st.begun; begun_at = st.begun_at; told = st.told;
+        shape = st.shape;
+        members = st.members;
+        shard = st.shard;
+        copies = st.copies;
+        view = st.view;
+        of_members = st.of_members;
+        peers = st.peers;
+        front = st.front;
+        waiting = st.waiting;
+        sent = of_round;
+        faithful = st.faithful;
+        begun = st.begun;
+        begun_at = st.begun_at;
+        told = st.told;
       };
     }
   where

@@ -71,9 +71,12 @@ module _ (c : CoreCopies) (s : Copies Entry) (st : Stands c s) where
       let k : Leads c.group f.0 = f.2 in
       let g = good_peer f.0 k.home k.good in
       record {
-        peer = f.0; is = f.1; leads = k; good = g;
+        peer = f.0;
+        is = f.1;
+        leads = k;
+        good = g;
         whole = front_whole (s.peers f.0).list s.log (r.good f.0 g).prefix
-          (omega (arith, k.longest r.led.0 h (good_copy r.led.0 h r.led.1), length_is r.led.0 h, length_is f.0 k.home, ap (λ k. length k) r.led.2));
+            (omega (arith, k.longest r.led.0 h (good_copy r.led.0 h r.led.1), length_is r.led.0 h, length_is f.0 k.home, ap (λ k. length k) r.led.2));
       }
 
 -- ---- the last stamp
@@ -103,16 +106,16 @@ same_or_other a b = go (nat_eq a b) refl
     go false e = inr (other_peer a b e)
 
 module _ (home : ℕ → Type 0) (copy copy2 : ℕ → Replica) (status status2 : ℕ → PeerStatus) (rejoins rejoins2 : ℕ → Rejoin) (peers peers2 : ℕ → PeerCopy Entry) (p : ℕ)
-         (old : ArePeers home copy status rejoins peers)
-         (own : home p)
-         (copies : (q : ℕ) → home q → q ≢ p → copy2 q ≡ copy q)
-         (statuses : (q : ℕ) → home q → q ≢ p → status2 q ≡ status q)
-         (others : (q : ℕ) → q ≢ p → rejoins2 q ≡ rejoins q)
-         (same : (q : ℕ) → q ≢ p → peers2 q ≡ peers q)
-         (each : IsCopyOf (copy2 p) (peers2 p))
-         (stage : (peers2 p).stage ≡ stage_of (status2 p) (rejoins2 p).empty)
-         (counted : (peers2 p).stage ≡ Following → (rejoins2 p).len ≡ length (peers2 p).list)
-         (still : (peers2 p).stage ≡ Following → (peers2 p).adding ≡ []) where
+    (old : ArePeers home copy status rejoins peers)
+    (own : home p)
+    (copies : (q : ℕ) → home q → q ≢ p → copy2 q ≡ copy q)
+    (statuses : (q : ℕ) → home q → q ≢ p → status2 q ≡ status q)
+    (others : (q : ℕ) → q ≢ p → rejoins2 q ≡ rejoins q)
+    (same : (q : ℕ) → q ≢ p → peers2 q ≡ peers q)
+    (each : IsCopyOf (copy2 p) (peers2 p))
+    (stage : (peers2 p).stage ≡ stage_of (status2 p) (rejoins2 p).empty)
+    (counted : (peers2 p).stage ≡ Following → (rejoins2 p).len ≡ length (peers2 p).list)
+    (still : (peers2 p).stage ≡ Following → (peers2 p).adding ≡ []) where
   pub one_changes : ArePeers home copy2 status2 rejoins2 peers2
   one_changes =
       record {
