@@ -19,7 +19,7 @@ use Rattle.hs_copies.specs.Standing.{Continues, Stands, is_good_stage, stage_of}
 use Rattle.hs_copies.proofs.HomeLemmas.{Leads, lead_found}
 use Rattle.hs_copies.proofs.JoinLemmas.{counts, following}
 use Rattle.hs_copies.proofs.ListLemmas.{front_left, front_length, front_refl}
-use Rattle.hs_copies.proofs.NewViewLemmas.{good_status, new_view, still_led, told_good, told_length, told_long}
+use Rattle.hs_copies.proofs.NewViewLemmas.{good_status, new_view, before, led_anew, told_good, told_length, told_long}
 use Rattle.hs_copies.proofs.OpenedLemmas.{took_good}
 use Rattle.hs_copies.proofs.PeerLemmas.{put_cases, put_here}
 use Rattle.hs_copies.proofs.StandLemmas.{HasLead, and_left, and_right, good_copy, good_home, good_stage, length_is, not_good_down, not_good_following, same_or_other, stage_good, stands_lead}
@@ -227,9 +227,8 @@ module _ (c : CoreCopies) (s : Copies Entry) (st : Stands c s) (p : ℕ) (own : 
 
       led_after : (k : ℕ) × (lead (on_view (become p is.Down c.members) c.group) ≡ Some k)
       led_after =
-          still_led c s st (become p is.Down c.members) dues (λ q. begin_again (is_peer p (lead c.group)) (staged p Down s.peers q)) l
-          (Fail p l (is_peer p (lead c.group)) (View (view_of c.group.shard (become p is.Down c.members))))
-          failing refl (λ v. rises) st.shape (become_members p is.Down c.members st.members) rises left_list left_sealed
+          led_anew c s (before c s st) (become p is.Down c.members) dues (λ q. begin_again (is_peer p (lead c.group)) (staged p Down s.peers q)) l
+          st.shape (become_members p is.Down c.members st.members) rises left_list left_sealed
           (stages (is_peer p (lead c.group)) dues all none) left_counted left_still left_elsewhere d.chosen d.leads.home left_good left_within left_has
 
 pub failed : (c : CoreCopies) (s : Copies Entry) → Stands c s → (p : ℕ) → IsHome c.group p → status p c.members ≡ is.Good

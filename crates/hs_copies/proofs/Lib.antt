@@ -19,3 +19,4 @@ pub mod JoinLemmas
 pub mod NewViewLemmas
 pub mod FailLemmas
 pub mod CoreLemmas
+pub mod OpenCoreLemmas

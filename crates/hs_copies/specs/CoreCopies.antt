@@ -1,13 +1,15 @@
 -- One shard's copies as the core keeps them, and what becomes of them by the functions of the group, the members and the joining
 -- peers, as the core composes them.
 use Rattle.std.specs.Option.{option_map_or}
-use Rattle.std.specs.Prelude.{ℕ, List, ◌++◌, Option, if◌then◌else◌}
+use Rattle.std.specs.Prelude.{ℕ, ◌-◌, ◌&&◌, Bool, false, List, [], ◌++◌, Option, nat_le, slice_index_or, if◌then◌else◌}
 use Rattle.hs_entry.specs.declared.entry.Entry.{Entry}
 use Rattle.hs_limits.specs.declared.limits.PeerStatus.TheVariants as status
+use Rattle.hs_limits.specs.declared.shape.Shape.{Shape}
+use Rattle.hs_limits.specs.Shape.{peer_of}
 use Rattle.hs_members.specs.Members.{Members, become}
 use Rattle.hs_post.specs.declared.message.Message.{Message}
 use Rattle.hs_rejoin.specs.Rejoin.{Rejoin, copied, emptied, new_rejoin}
-use Rattle.hs_replica.specs.Group.{Group, have, is_peer, lead, on_append, on_copied, on_emptied, on_have, on_sealed, on_view, proposal, propose, resend, take_committed, view_messages}
+use Rattle.hs_replica.specs.Group.{Group, have, is_peer, lead, new_group, on_append, on_copied, on_emptied, on_have, on_sealed, on_view, proposal, propose, resend, take_committed, view_messages}
 use Rattle.hs_copies.specs.Machine.{put_at}
 
 -- the shard's group, all members, how far each joining peer has come, and every message that was ever sent for the shard
@@ -66,6 +68,17 @@ core_fail peer c =
 -- a joining peer is good
 abbrev pub core_join : ℕ → CoreCopies → CoreCopies
 core_join peer c = core_view (become peer status.Good c.members) c
+
+-- ---- opening
+
+-- each good peer has so many entries, the last of this view, and a view begins as these members say
+abbrev pub core_open : Shape → ℕ → ℕ → ℕ → List Bool → Members → (ℕ → Rejoin) → CoreCopies
+core_open shape shard view len good members rejoins =
+    core_view members (record { group = new_group shape shard view len good; members = members; rejoins = rejoins; sent = [] })
+
+-- the peer has a copy of the shard that is good at opening
+abbrev pub opens_good : Shape → ℕ → List Bool → ℕ → Bool
+opens_good shape shard good peer = nat_le (peer_of shape shard 0) peer && slice_index_or good (peer - peer_of shape shard 0) false
 
 -- ---- joining
 

@@ -1,9 +1,11 @@
 -- Copies as the core keeps them stand for copies of the machine.
-use Rattle.std.specs.Prelude.{◌≡◌, ℕ, ◌-◌, ◌≤◌, Bool, true, false, List, [], length, map, drop}
+use Rattle.std.specs.Prelude.{◌≡◌, ℕ, suc, ◌-◌, ◌≤◌, ◌<◌, Bool, true, false, if◌then◌else◌, List, [], length, map, drop, slice_index_or}
 use Rattle.hs_entry.specs.declared.entry.Entry.{Entry}
 use Rattle.hs_limits.specs.declared.limits.PeerStatus.{PeerStatus}
 use Rattle.hs_limits.specs.declared.limits.PeerStatus.TheVariants as status
-use Rattle.hs_members.specs.Members.{IsMembers, IsShard, status as status_of, view_of}
+use Rattle.hs_limits.specs.declared.shape.Shape.{Shape}
+use Rattle.hs_limits.specs.Shape.{peer_of}
+use Rattle.hs_members.specs.Members.{IsMembers, IsShard, Members, has_good, status as status_of, view_of}
 use Rattle.hs_post.specs.declared.message.Message.{Message}
 use Rattle.hs_post.specs.declared.message.Message.TheVariants as message
 use Rattle.hs_rejoin.specs.Rejoin.{Rejoin}
@@ -13,7 +15,7 @@ use Rattle.hs_copies.specs.CoreCopies.{CoreCopies}
 use Rattle.hs_copies.specs.Invariant.{AreFaithful}
 use Rattle.hs_copies.specs.Lists.{IsAmong, Item}
 use Rattle.hs_copies.specs.Machine.{AreAllowed, Clearing, Copies, CopyEvent, Down, EntryNotice, Following, Good, Notice, PeerCopy, SealedNotice, Stage, after_events}
-use Rattle.hs_copies.specs.Stamps.{AreStampsTold}
+use Rattle.hs_copies.specs.Stamps.{Ascends, AreStampsTold, view_told}
 
 -- the stage of a peer with this status; a joining one follows the lead's list once no emptying is due
 abbrev pub stage_of : PeerStatus → Bool → Stage
@@ -84,3 +86,14 @@ pub record Continues (c : CoreCopies) (s : Copies Entry) : Type 0 where
   pub events : List (CopyEvent Entry)
   pub allowed : AreAllowed s events
   pub stands : Stands c (after_events s events)
+
+-- a shard is opened with this log, whose views never fall, and members that say which of its peers are good, in the view after the log's
+pub record IsOpening (shape : Shape) (shard : ℕ) (log : List (Item Entry)) (good : List Bool) (m : Members) : Type 0 where
+  pub same : m.shape ≡ shape
+  pub valid : IsMembers m
+  pub within : IsShard shape shard
+  pub copies : length good ≡ shape.copies
+  pub ascends : Ascends view_after 0 log
+  pub view : view_of shard m ≡ suc (view_told view_after 0 log)
+  pub each : (copy : ℕ) → copy < shape.copies → status_of (peer_of shape shard copy) m ≡ (if slice_index_or good copy false then status.Good else status.Down)
+  pub some : has_good shard m ≡ true
