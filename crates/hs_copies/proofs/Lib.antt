@@ -20,3 +20,4 @@ pub mod NewViewLemmas
 pub mod FailLemmas
 pub mod CoreLemmas
 pub mod OpenCoreLemmas
+pub mod CoreRunLemmas

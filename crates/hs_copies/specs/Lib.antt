@@ -8,3 +8,4 @@ pub mod Opened
 pub mod Runs
 pub mod CoreCopies
 pub mod Standing
+pub mod CoreRuns
