@@ -4,11 +4,27 @@ use Rattle.std.specs.Prelude.{slice_get, take}
 use Rattle.hs_copies.specs.Lists.{Item, IsAmong, IsFront, AreBelow, Rises, IsBehind, Agree}
 use Rattle.hs_copies.specs.Machine.{Stage, Good, Clearing, Following, Down, PeerCopy, Notice, EntryNotice, SealedNotice, Copies, CopyEvent, Propose, Send, CopyComes, Sealed, HaveComes, TakesEffect, Fail, GiveUp, Start, Cleared, Copying, Copied, Join, put_at, item, told_copy, stage_again, begin_again, with_new_view, with_copy, MaySend, IsCommon, IsAllowed, after_event, AreAllowed, after_events}
 use Rattle.hs_copies.specs.Invariant.{reach, IsGoodCopy, IsTrue, AreFaithful}
-use Rattle.hs_copies.specs.Lines.{IsGrown, items_added, StandsBehind}
 use Rattle.hs_copies.proofs.ListLemmas.{front_refl, front_trans, front_append, front_length, front_both, front_step, front_left, append_nil}
 use Rattle.hs_copies.proofs.PeerLemmas.{put_cases, put_self, reach_none}
 use Rattle.hs_copies.proofs.EventKeeps.{cleared_common}
 use Rattle.hs_copies.proofs.ViewKeeps.{others, fail_same, fail_within, lead_list, joined, join_same, join_list}
+
+-- what an event adds to the lead's list
+abbrev pub items_added : {X : Type 0} → CopyEvent X → Copies X → List (Item X)
+items_added (Propose lead x) s = item s.view x ∷ []
+items_added (Fail p lead again x) s = item (suc s.view) x ∷ []
+items_added (Join p lead x) s = item (suc s.view) x ∷ []
+items_added e s = []
+
+-- a proposed entry stands behind the whole log, that of a new view behind all that took effect
+abbrev pub StandsBehind : {X : Type 0} → CopyEvent X → Copies X → List (Item X) → Type 0
+StandsBehind (Propose lead x) s ys = ys ≡ s.log
+StandsBehind e s ys = length s.took ≤ length ys
+
+-- where a peer's list comes from after an event: from its own list, or from the lead's, or from a front of the lead's with what is added
+abbrev pub IsGrown : {X : Type 0} → Copies X → CopyEvent X → ℕ → List (Item X) → Type 0
+IsGrown {X} s e q xs =
+    IsFront xs s.log ⊎ IsFront xs (reach (s.peers q)) ⊎ ((ys : List (Item X)) × IsFront ys s.log × (xs ≡ ys ++ items_added e s) × StandsBehind e s ys)
 
 took_good : {X : Type 0} (s : Copies X) (r : AreFaithful s) (p : ℕ) → (s.peers p).stage ≡ Good → IsFront s.took (s.peers p).list
 took_good s r p g = let k = r.good p g in front_both s.took (s.peers p).list s.log r.took k.prefix (omega (arith, k.front, k.told, k.held))

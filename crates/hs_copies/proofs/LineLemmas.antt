@@ -4,11 +4,11 @@ use Rattle.std.specs.Prelude.{slice_get}
 use Rattle.hs_copies.specs.Lists.{Item, IsFront, end_view}
 use Rattle.hs_copies.specs.Machine.{Good, PeerCopy, Copies, CopyEvent, Propose, Send, CopyComes, Sealed, HaveComes, TakesEffect, Fail, GiveUp, Start, Cleared, Copying, Copied, Join, IsAllowed, after_event, item}
 use Rattle.hs_copies.specs.Invariant.{reach, AreFaithful}
-use Rattle.hs_copies.specs.Lines.{IsPending, AreLinesOpen, LinedCopies, LineEvent, Step, Begin, Answer, AnswerBy, set_waits, ProposesRightly, IsLineAllowed, after_line_event, items_added, IsGrown}
+use Rattle.hs_copies.specs.Lines.{IsPending, AreLinesOpen, LinedCopies, LineEvent, Step, Begin, Answer, AnswerBy, set_waits, ProposesRightly, IsLineAllowed, after_line_event}
 use Rattle.hs_copies.proofs.ListLemmas.{front_refl, front_trans, front_append, front_length, append_nil, length_append, get_low}
 use Rattle.hs_copies.proofs.PeerLemmas.{reach_none}
 use Rattle.hs_copies.proofs.ViewKeeps.{after_right}
-use Rattle.hs_copies.proofs.GrownLemmas.{grown}
+use Rattle.hs_copies.proofs.GrownLemmas.{grown, items_added, IsGrown}
 use Rattle.hs_copies.proofs.OpenedLemmas.{settled_right}
 
 pub get_prefix : {X : Type 0} (xs ys : List X) (n : ℕ) (x : X) → IsFront xs ys → slice_get xs n ≡ Some x → slice_get ys n ≡ Some x

@@ -4,11 +4,10 @@ use Rattle.std.specs.Prelude.{slice_get, take}
 use Rattle.hs_copies.specs.Lists.{Item, IsAmong, IsFront, AreBelow, Rises, IsBehind, Agree, IsAtMost, rank_by_stamps, end_view}
 use Rattle.hs_copies.specs.Machine.{Stage, Good, Down, PeerCopy, put_at, begin_again, Copies, CopyEvent, Propose, Send, CopyComes, Sealed, HaveComes, TakesEffect, Fail, GiveUp, Start, Cleared, Copying, Copied, Join, item, IsAllowed, after_event}
 use Rattle.hs_copies.specs.Invariant.{reach, AreFaithful}
-use Rattle.hs_copies.specs.Lines.{IsGrown, items_added, StandsBehind}
 use Rattle.hs_copies.specs.Stamps.{view_told, rank_told, Ascends, AreStamped, TellsView, AreStampsTold}
 use Rattle.hs_copies.proofs.ListLemmas.{front_refl, front_trans, front_append, front_length, front_whole, front_both, view_ap, append_nil, lineage, behind_less, agree_front_of, lineage_from}
 use Rattle.hs_copies.proofs.PeerLemmas.{reach_none}
-use Rattle.hs_copies.proofs.GrownLemmas.{grown}
+use Rattle.hs_copies.proofs.GrownLemmas.{grown, IsGrown, items_added, StandsBehind}
 use Rattle.hs_copies.proofs.OpenedLemmas.{took_after, took_good, lineage_right}
 
 pub stamped_prefix : {X : Type 0} (tells : ℕ → X → ℕ) (n v : ℕ) (xs ys : List (Item X)) → IsFront xs ys → AreStamped tells n v ys → AreStamped tells n v xs

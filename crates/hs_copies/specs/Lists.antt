@@ -51,8 +51,10 @@ abbrev pub end_view : {X : Type 0} → ℕ → List (Item X) → ℕ
 end_view v [] = v
 end_view v (x ∷ xs) = end_view x.view xs
 
+-- of ranks the view counts first, and then the number
 abbrev pub IsAtMost : Rank → Rank → Type 0
 IsAtMost a b = (a.view < b.view) ⊎ ((a.view ≡ b.view) × (a.number ≤ b.number))
 
+-- the rank of a list by its stamps: the view of its last item, and its length
 abbrev pub rank_by_stamps : {X : Type 0} → List (Item X) → Rank
 rank_by_stamps xs = record { view = end_view 0 xs; number = length xs }
