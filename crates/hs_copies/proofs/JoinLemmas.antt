@@ -13,13 +13,13 @@ use Rattle.hs_replica.specs.Group.{Group, IsHome, change_copy, copy_of, lead, le
 use Rattle.hs_copies.specs.CoreCopies.{CoreCopies, begin_with, core_copied, core_empty, core_give_up, core_start}
 use Rattle.hs_copies.specs.Lists.{IsFront, Item}
 use Rattle.hs_copies.specs.Machine.{Clearing, Cleared, Copied, Copies, CopyEvent, Copying, Down, Following, GiveUp, Good, IsAllowed, PeerCopy, Stage, Start, after_event, put_at}
-use Rattle.hs_copies.specs.Standing.{ArePeers, Continues, IsCopyOf, Stands, is_good_stage, stage_of, stamps_of}
+use Rattle.hs_copies.specs.Standing.{ArePeers, Continues, IsCopyingStep, IsCopyOf, Stands, is_good_stage, stage_of, stamps_of}
 use Rattle.hs_copies.proofs.CallLemmas.{one_event}
 use Rattle.hs_copies.proofs.HomeLemmas.{set_other, set_same}
 use Rattle.hs_copies.proofs.ListLemmas.{front_left, front_step}
 use Rattle.hs_copies.proofs.PeerLemmas.{put_here, put_other}
 use Rattle.hs_copies.proofs.StampLemmas.{tells_after}
-use Rattle.hs_copies.proofs.StandLemmas.{length_is, one_changes, stands_lead}
+use Rattle.hs_copies.proofs.StandLemmas.{length_is, not_good_following, one_changes, stands_lead}
 use Rattle.hs_copies.proofs.StatusLemmas.{become_here, become_members, become_other, home_peer, home_shard, view_elsewhere, view_stays}
 use Rattle.hs_copies.proofs.ViewKeeps.{after_right}
 
@@ -278,6 +278,53 @@ module _ (c : CoreCopies) (s : Copies Entry) (st : Stands c s) (p number : ℕ) 
       rw (copied_is p number d.peer c.group d.is, stamp_is d.peer d.leads.home d.whole)
       (record { events = Copying p (x ∷ []) ∷ Copied p ∷ []; allowed = (copying, (copy_done, tt)); stands = copied_stands })
 
+  -- ---- the step is broken off
+
+  broken_off : IsAllowed (after_event (Copying p (x ∷ [])) s) (GiveUp p)
+  broken_off = rw (put_here p (record (s.peers p) { adding = x ∷ [] }) s.peers) (λ e. not_good_following (s.peers p).stage e following)
+
+  lies : PeerCopy Entry
+  lies = record (put_at p (record (s.peers p) { adding = x ∷ [] }) s.peers p) { stage = Down }
+
+  broken : PeerCopy Entry
+  broken = record (s.peers p) { adding = x ∷ []; stage = Down }
+
+  is_broken : lies ≡ broken
+  unfolding lies broken
+  is_broken = rw (put_here p (record (s.peers p) { adding = x ∷ [] }) s.peers) refl
+
+  broken_stands : Stands (core_give_up p c) (after_event (GiveUp p) (after_event (Copying p (x ∷ [])) s))
+  unfolding lies broken
+  broken_stands =
+      let k = st.peers.each p own in
+      let peer : IsPeer c.members.shape p = rw st.shape (home_peer c.group p st.shard own) in
+      let mid = after_right s st.faithful (Copying p (x ∷ [])) copying in
+      let mid_told = tells_after view_after st.begun st.begun_at s st.faithful st.told (Copying p (x ∷ [])) copying tt in
+      let first : PeerCopy Entry = record (s.peers p) { adding = x ∷ [] } in
+      let becomes_broken : put_at p lies (put_at p first s.peers) p ≡ broken = put_here p lies (put_at p first s.peers) ∙ is_broken in
+      record {
+        shape = st.shape; members = become_members p is.Down c.members st.members; shard = st.shard; copies = st.copies;
+        view = st.view; of_members = view_stays p c.group.shard is.Down c.members (rw joins refl) ∙ st.of_members;
+        peers = one_changes (IsHome c.group) (copy_of c.group) (copy_of c.group) (λ q. status q c.members) (λ q. status q (become p is.Down c.members))
+          c.rejoins c.rejoins s.peers (put_at p lies (put_at p first s.peers)) p st.peers own
+          (λ q h n. refl) (λ q h n. become_other p q is.Down c.members n) (λ q n. refl)
+          (λ q n. put_other p lies (put_at p first s.peers) q n ∙ put_other p first s.peers q n)
+          (rw becomes_broken (record { good = k.good ∙ ap is_good_stage following; stamps = k.stamps; sealed = k.sealed; known = k.known }))
+          (rw (becomes_broken, become_here p is.Down c.members st.members peer) refl)
+          (rw becomes_broken (λ f. absurd (not_down_following Down refl f)))
+          (rw becomes_broken (λ f. absurd (not_down_following Down refl f)));
+        front = st.front; waiting = st.waiting; sent = st.sent;
+        faithful = after_right (after_event (Copying p (x ∷ [])) s) mid (GiveUp p) broken_off;
+        begun = st.begun; begun_at = st.begun_at;
+        told = tells_after view_after st.begun st.begun_at (after_event (Copying p (x ∷ [])) s) mid mid_told (GiveUp p) broken_off tt;
+      }
+
+  pub under_way : IsCopyingStep c s p
+  under_way =
+      record {
+        item = x; next = here; begins = copying; breaks = broken_off; broken = broken_stands;
+      }
+
 pub copied_core : (c : CoreCopies) (s : Copies Entry) → Stands c s → (p number l : ℕ) → IsHome c.group p → status p c.members ≡ is.Joining
     → (c.rejoins p).empty ≡ false → number ≡ (c.rejoins p).len + 1 → lead c.group ≡ Some l → number ≤ length_of c.group l → Continues (core_copied p number c) s
 copied_core c s st p number l own joins done next e low =
@@ -287,3 +334,13 @@ copied_core c s st p number l own joins done next e low =
     let n : length_of c.group l ≡ length s.log = rw (← same) (length_is c s st d.peer d.leads.home ∙ ap (λ k. length k) d.whole) in
     let k = item_at s.log (length (s.peers p).list) (omega (arith, next, low, n, st.peers.counted p own f)) in
     copied_one c s st p number own joins done next k.0 k.1
+
+pub step_under_way : (c : CoreCopies) (s : Copies Entry) → Stands c s → (p number l : ℕ) → IsHome c.group p → status p c.members ≡ is.Joining
+    → (c.rejoins p).empty ≡ false → number ≡ (c.rejoins p).len + 1 → lead c.group ≡ Some l → number ≤ length_of c.group l → IsCopyingStep c s p
+step_under_way c s st p number l own joins done next e low =
+    let d = stands_lead c s st in
+    let same : d.peer ≡ l = let k : Some d.peer ≡ Some l = sym d.is ∙ e in cc k in
+    let f : (s.peers p).stage ≡ Following = st.peers.stage p own ∙ ap (λ k. stage_of k (c.rejoins p).empty) joins ∙ ap (λ b. stage_of is.Joining b) done in
+    let n : length_of c.group l ≡ length s.log = rw (← same) (length_is c s st d.peer d.leads.home ∙ ap (λ k. length k) d.whole) in
+    let k = item_at s.log (length (s.peers p).list) (omega (arith, next, low, n, st.peers.counted p own f)) in
+    under_way c s st p number own joins done next k.0 k.1

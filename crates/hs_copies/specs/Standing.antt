@@ -1,5 +1,5 @@
 -- Copies as the core keeps them stand for copies of the machine.
-use Rattle.std.specs.Prelude.{◌≡◌, ℕ, suc, ◌-◌, ◌≤◌, ◌<◌, Bool, true, false, if◌then◌else◌, List, [], length, map, drop, slice_index_or}
+use Rattle.std.specs.Prelude.{◌≡◌, ℕ, suc, ◌-◌, ◌≤◌, ◌<◌, Bool, true, false, if◌then◌else◌, List, [], ◌∷◌, Some, slice_get, length, map, drop, slice_index_or}
 use Rattle.hs_entry.specs.declared.entry.Entry.{Entry}
 use Rattle.hs_limits.specs.declared.limits.PeerStatus.{PeerStatus}
 use Rattle.hs_limits.specs.declared.limits.PeerStatus.TheVariants as status
@@ -11,10 +11,10 @@ use Rattle.hs_post.specs.declared.message.Message.TheVariants as message
 use Rattle.hs_rejoin.specs.Rejoin.{Rejoin}
 use Rattle.hs_replica.specs.declared.replica.Replica.{Replica}
 use Rattle.hs_replica.specs.Group.{Group, IsHome, copy_of, view_after}
-use Rattle.hs_copies.specs.CoreCopies.{CoreCopies}
+use Rattle.hs_copies.specs.CoreCopies.{CoreCopies, core_give_up}
 use Rattle.hs_copies.specs.Invariant.{AreFaithful}
 use Rattle.hs_copies.specs.Lists.{IsAmong, Item}
-use Rattle.hs_copies.specs.Machine.{AreAllowed, Clearing, Copies, CopyEvent, Down, EntryNotice, Following, Good, Notice, PeerCopy, SealedNotice, Stage, after_events}
+use Rattle.hs_copies.specs.Machine.{AreAllowed, Clearing, Copies, CopyEvent, Copying, Down, EntryNotice, Following, GiveUp, Good, IsAllowed, Notice, PeerCopy, SealedNotice, Stage, after_event, after_events}
 use Rattle.hs_copies.specs.Stamps.{Ascends, AreStampsTold, view_told}
 
 -- the stage of a peer with this status; a joining one follows the lead's list once no emptying is due
@@ -86,6 +86,15 @@ pub record Continues (c : CoreCopies) (s : Copies Entry) : Type 0 where
   pub events : List (CopyEvent Entry)
   pub allowed : AreAllowed s events
   pub stands : Stands c (after_events s events)
+
+-- while a copying step runs the peer's disk may have the next item of the lead's list too: the machine has it there, and where
+-- the step is broken off and the peer goes down, the core's copies stand for the machine's with it
+pub record IsCopyingStep (c : CoreCopies) (s : Copies Entry) (peer : ℕ) : Type 0 where
+  pub item : Item Entry
+  pub next : slice_get s.log (length (s.peers peer).list) ≡ Some item
+  pub begins : IsAllowed s (Copying peer (item ∷ []))
+  pub breaks : IsAllowed (after_event (Copying peer (item ∷ [])) s) (GiveUp peer)
+  pub broken : Stands (core_give_up peer c) (after_event (GiveUp peer) (after_event (Copying peer (item ∷ [])) s))
 
 -- a shard is opened with this log, whose views never fall, and members that say which of its peers are good, in the view after the log's
 pub record IsOpening (shape : Shape) (shard : ℕ) (log : List (Item Entry)) (good : List Bool) (m : Members) : Type 0 where
