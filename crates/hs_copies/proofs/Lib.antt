@@ -21,3 +21,4 @@ pub mod FailLemmas
 pub mod CoreLemmas
 pub mod OpenCoreLemmas
 pub mod CoreRunLemmas
+mod Examples
