@@ -7,23 +7,22 @@ use Rattle.std.specs.Option.{option_map, option_map_or, option_to_list}
 use Rattle.std.specs.Prelude.{slice_get, slice_index_or, ◌==◌, ◌&&◌, nat_lt}
 use Rattle.hs_entry.specs.declared.entry.Entry.{Entry}
 use Rattle.hs_members.specs.Members.{status}
-use Rattle.hs_post.specs.declared.message.Message.{Message}
 use Rattle.hs_post.specs.declared.message.Message.TheVariants as message
 use Rattle.hs_replica.specs.declared.replica.Replica.{Replica}
 use Rattle.hs_replica.specs.Group.{Group, IsHome, change_copy, commit_front, committed, copy_of, first_peer, have, hears, is_peer, last_number, last_view, lead, lead_takes, least_known, length_of, lower, no_copy, on_append, on_have, on_sealed, others, proposal, propose, resend, stamp, take_committed, take_entry, takes, view_after, copies_above}
 use Rattle.hs_copies.specs.CoreCopies.{CoreCopies, core_append, core_commit, core_have, core_nudge, core_propose, core_seal}
-use Rattle.hs_copies.specs.Invariant.{AreFaithful, reach}
-use Rattle.hs_copies.specs.Lists.{IsAmong, IsFront, Item, end_view}
-use Rattle.hs_copies.specs.Machine.{AreAllowed, Copies, CopyComes, CopyEvent, Down, EntryNotice, Following, Good, HaveComes, IsAllowed, Notice, PeerCopy, Propose, SealedNotice, Sealed, Stage, TakesEffect, after_event, after_events, item, put_at}
-use Rattle.hs_copies.specs.Standing.{ArePeers, Continues, IsCopyOf, IsPlain, IsSent, Stands, stamps_of, stage_of}
+use Rattle.hs_copies.specs.Invariant.{AreFaithful}
+use Rattle.hs_copies.specs.Lists.{IsAmong, IsFront, Item}
+use Rattle.hs_copies.specs.Machine.{Copies, CopyComes, CopyEvent, EntryNotice, Good, HaveComes, IsAllowed, PeerCopy, Propose, SealedNotice, Sealed, TakesEffect, after_event, item, put_at}
+use Rattle.hs_copies.specs.Standing.{ArePeers, Continues, IsCopyOf, IsPlain, IsSent, Stands, stamps_of}
 use Rattle.hs_copies.specs.Stamps.{view_told}
 use Rattle.hs_copies.proofs.HomeLemmas.{le_or_lt, set_other, set_same}
-use Rattle.hs_copies.proofs.ListLemmas.{front_length, front_step, front_trans, get_low}
+use Rattle.hs_copies.proofs.ListLemmas.{front_length, front_step}
 use Rattle.hs_copies.proofs.OpenedLemmas.{took_good}
-use Rattle.hs_copies.proofs.PeerLemmas.{put_here, put_other, reach_none}
+use Rattle.hs_copies.proofs.PeerLemmas.{put_here, put_other}
 use Rattle.hs_copies.proofs.SendLemmas.{Each, IsOfLog, MayTell, copies_may, each_flat_map, each_map, one_and_tell, tell_all, waiting_of_log, drop_cons}
 use Rattle.hs_copies.proofs.StampLemmas.{log_tells, stamped_last, stamped_prefix, tells_after}
-use Rattle.hs_copies.proofs.StandLemmas.{HasLead, and_left, and_right, end_view_any, good_copy, good_home, good_peer, last_stamp, length_is, not_good_down, not_good_following, one_changes, stands_lead}
+use Rattle.hs_copies.proofs.StandLemmas.{and_left, and_right, end_view_any, good_copy, good_home, good_peer, last_stamp, length_is, not_good_following, one_changes, stands_lead}
 use Rattle.hs_copies.proofs.ViewKeeps.{after_right}
 
 -- ---- a peer of the group changes

@@ -1,10 +1,9 @@
 -- What a change of one peer, and what a new view must keep.
-use Rattle.std.proofs.Common.{◌≡◌, ◌≢◌, ℕ, zero, suc, ◌+◌, ◌≤◌, ◌<◌, List, [], ◌∷◌, ◌++◌, ◌⊎◌, inl, inr, refl, sym, arith, length, Option, Some, None, ap, ◌∙◌}
-use Rattle.std.specs.Prelude.{slice_get, take}
-use Rattle.hs_copies.specs.Lists.{Item, IsAmong, IsFront, AreBelow, Rises, IsBehind, Agree}
-use Rattle.hs_copies.specs.Machine.{Stage, Good, Clearing, Following, Down, PeerCopy, Notice, EntryNotice, SealedNotice, Copies, put_at, item, told_copy, with_new_view, with_copy}
+use Rattle.std.proofs.Common.{◌≡◌, ℕ, suc, ◌≤◌, List, [], ◌∷◌, ◌++◌, ◌⊎◌, inl, inr, refl, arith, length}
+use Rattle.hs_copies.specs.Lists.{Item, IsFront, AreBelow, Rises, IsBehind, Agree}
+use Rattle.hs_copies.specs.Machine.{Stage, Good, Following, PeerCopy, Notice, EntryNotice, SealedNotice, Copies, put_at, item, told_copy, with_new_view, with_copy}
 use Rattle.hs_copies.specs.Invariant.{reach, IsGoodCopy, IsTrue, AreFaithful}
-use Rattle.hs_copies.proofs.ListLemmas.{front_refl, front_trans, front_append, front_more, front_length, front_whole, front_both, front_step, front_left, get_more, length_append, below_prefix, below_up, below_append, rises_append, rises_prefix, behind_prefix, behind_less, behind_more, behind_cut, agree_refl, agree_sym, agree_front_of, agree_fresh, agree_end}
+use Rattle.hs_copies.proofs.ListLemmas.{front_refl, front_append, front_more, front_both, length_append, below_prefix, below_up, below_append, rises_append, rises_prefix, behind_prefix, behind_less, behind_cut, agree_refl, agree_sym, agree_front_of, agree_fresh}
 use Rattle.hs_copies.proofs.PeerLemmas.{put_cases, put_self, reach_none}
 
 -- the lead's list is the reach of a peer

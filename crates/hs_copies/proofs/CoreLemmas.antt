@@ -1,5 +1,5 @@
 -- What holds of a shard's copies in the core.
-use Rattle.std.proofs.Common.{◌≡◌, ℕ, ◌≤◌, ◌-◌, true, List, [], ◌∷◌, arith, length, Option, Some, ap, sym, ◌∙◌, map, drop}
+use Rattle.std.proofs.Common.{◌≡◌, ℕ, ◌≤◌, ◌-◌, true, List, [], ◌∷◌, arith, length, Some, ap, sym, ◌∙◌, drop}
 use Rattle.std.proofs.lemmas.List.{length-drop, length-map}
 use Rattle.hs_entry.specs.declared.entry.Entry.{Entry}
 use Rattle.hs_replica.specs.Group.{IsHome, copy_of, last_number, lead, length_of}

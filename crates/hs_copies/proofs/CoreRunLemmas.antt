@@ -1,5 +1,5 @@
 -- A run of the core is a run of the machine.
-use Rattle.std.proofs.Common.{◌≡◌, ℕ, ◌≤◌, true, Bool, List, [], ◌∷◌, ◌++◌, arith, length}
+use Rattle.std.proofs.Common.{◌≡◌, ℕ, true, Bool, List, [], ◌∷◌, ◌++◌, arith, length}
 use Rattle.hs_entry.specs.declared.entry.Entry.{Entry}
 use Rattle.hs_entry.specs.declared.entry.Entry.TheVariants.{View}
 use Rattle.hs_limits.specs.declared.shape.Shape.{Shape}
@@ -53,8 +53,8 @@ all_calls (call ∷ calls) c s k m =
 pub all_from_opening : (shape : Shape) (shard : ℕ) (log : List (Item Entry)) (good : List Bool) (m : Members) (rejoins : ℕ → Rejoin) (calls : List CoreCall)
     → IsOpening shape shard log good m → MayCallAll calls (core_open shape shard (view_told view_after 0 log) (length log) good m rejoins)
     → (leads : ℕ) × (opens_good shape shard good leads ≡ true)
-      × Continues (after_calls calls (core_open shape shard (view_told view_after 0 log) (length log) good m rejoins))
-        (opened_copies (view_told view_after 0 log) (stamped_alike (view_told view_after 0 log) log) (opens_good shape shard good) leads (View (view_of shard m)))
+    × Continues (after_calls calls (core_open shape shard (view_told view_after 0 log) (length log) good m rejoins))
+    (opened_copies (view_told view_after 0 log) (stamped_alike (view_told view_after 0 log) log) (opens_good shape shard good) leads (View (view_of shard m)))
 all_from_opening shape shard log good m rejoins calls o may =
     let k = opens shape shard log good m rejoins o in
     (k.0, k.1, all_calls calls (core_open shape shard (view_told view_after 0 log) (length log) good m rejoins) _ k.2 may)

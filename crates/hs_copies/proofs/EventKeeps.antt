@@ -1,12 +1,12 @@
 -- Each event that is allowed keeps the copies right.
-use Rattle.std.proofs.Common.{◌≡◌, ◌≢◌, ℕ, zero, suc, ◌+◌, ◌≤◌, ◌<◌, Bool, true, false, if◌then◌else◌, nat_eq, List, [], ◌∷◌, ◌++◌, ◌⊎◌, inl, inr, refl, sym, arith, length, Option, Some, None, ap, ◌∙◌}
+use Rattle.std.proofs.Common.{◌≡◌, ℕ, zero, suc, ◌≤◌, List, [], ◌∷◌, ◌++◌, inl, inr, refl, arith, length, Some, ap}
 use Rattle.std.specs.Prelude.{slice_get, take}
-use Rattle.hs_copies.specs.Lists.{Item, IsAmong, IsFront, AreBelow, Rises, IsBehind, Agree}
-use Rattle.hs_copies.specs.Machine.{Stage, Good, Clearing, Following, Down, PeerCopy, Notice, EntryNotice, SealedNotice, Copies, CopyEvent, Propose, Send, CopyComes, Sealed, HaveComes, TakesEffect, Fail, GiveUp, Start, Cleared, Copying, Copied, Join, put_at, item, told_copy, stage_again, begin_again, with_new_view, with_copy, MaySend, IsCommon, IsAllowed, after_event, AreAllowed, after_events}
+use Rattle.hs_copies.specs.Lists.{Item, IsFront, AreBelow, Rises, IsBehind, Agree}
+use Rattle.hs_copies.specs.Machine.{Stage, Good, Clearing, Following, Down, PeerCopy, Notice, EntryNotice, SealedNotice, Copies, Propose, Send, CopyComes, Sealed, HaveComes, TakesEffect, GiveUp, Start, Cleared, Copying, Copied, put_at, item, MaySend, IsCommon, IsAllowed, after_event}
 use Rattle.hs_copies.specs.Invariant.{reach, IsGoodCopy, IsTrue, AreFaithful}
-use Rattle.hs_copies.proofs.ListLemmas.{front_refl, front_trans, front_append, front_more, front_length, front_whole, front_both, front_step, front_left, front_first, get_more, get_low, take_length, append_nil, length_append, below_prefix, below_up, below_append, rises_append, rises_prefix, behind_prefix, behind_less, behind_more, behind_cut, agree_refl, agree_sym, agree_front_of, agree_fresh, agree_end, common_prefix}
+use Rattle.hs_copies.proofs.ListLemmas.{front_refl, front_append, front_more, front_step, get_more, get_low, take_length, length_append, below_append, rises_append, behind_prefix, behind_less, behind_more, agree_refl, agree_sym, agree_end, common_prefix}
 use Rattle.hs_copies.proofs.PeerLemmas.{put_cases, put_self, reach_none}
-use Rattle.hs_copies.proofs.ChangeLemmas.{log_below, log_agree, one_peer, Stays, next_view}
+use Rattle.hs_copies.proofs.ChangeLemmas.{log_below, log_agree, one_peer}
 
 stage_apart : (a b : Stage) → a ≡ Good → b ≡ Following → a ≡ b → ⊥
 stage_apart a b e f g = cc (e, f, g)

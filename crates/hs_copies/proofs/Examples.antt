@@ -1,5 +1,5 @@
 -- Runs of the core that the check computes: one copy, and four of which one fails and one joins.
-use Rattle.std.proofs.Common.{◌≡◌, ℕ, zero, suc, ◌≤◌, ◌<◌, Bool, true, false, if◌then◌else◌, List, [], ◌∷◌, inl, inr, refl, arith, map}
+use Rattle.std.proofs.Common.{◌≡◌, ℕ, zero, suc, ◌<◌, true, false, if◌then◌else◌, List, [], ◌∷◌, inl, inr, refl, arith, map}
 use Rattle.std.specs.Prelude.{slice_index_or}
 use Rattle.hs_entry.specs.declared.entry.Entry.TheVariants.{Drop, View}
 use Rattle.hs_limits.specs.declared.limits.PeerStatus.TheVariants as is
@@ -82,18 +82,37 @@ first_calls =
     ∷ []
 
 first_may : MayCallAll first_calls four_opened
-first_may =
-    (((omega arith, omega arith), refl, omega arith, omega arith),
-    (((omega arith, omega arith), inl refl),
-    (((omega arith, omega arith), refl, omega arith, omega arith),
-    (((omega arith, omega arith), inl refl),
-    (((omega arith, omega arith), inr (inr (inl refl))),
-    (((omega arith, omega arith), refl, omega arith, omega arith),
-    (((omega arith, omega arith), inl refl),
-    (tt,
-    ((λ view. refl),
-    (((omega arith, omega arith), inl refl),
-    tt))))))))))
+first_may = (
+  ((omega arith, omega arith), refl, omega arith, omega arith),
+  (
+    ((omega arith, omega arith), inl refl),
+    (
+      ((omega arith, omega arith), refl, omega arith, omega arith),
+      (
+        ((omega arith, omega arith), inl refl),
+        (
+          ((omega arith, omega arith), inr (inr (inl refl))),
+          (
+            ((omega arith, omega arith), refl, omega arith, omega arith),
+            (
+              ((omega arith, omega arith), inl refl),
+              (
+                tt,
+                (
+                  (λ view. refl),
+                  (
+                    ((omega arith, omega arith), inl refl),
+                    tt,
+                  ),
+                ),
+              ),
+            ),
+          ),
+        ),
+      ),
+    ),
+  ),
+)
 
 abbrev first_state : CoreCopies
 first_state = after_calls first_calls four_opened
@@ -106,15 +125,28 @@ abbrev later_calls : List CoreCall
 later_calls = Fails 0 ∷ Starts 3 ∷ Empties 3 ∷ CopiesTo 3 1 1 ∷ CopiesTo 3 2 1 ∷ CopiesTo 3 3 1 ∷ Joins 3 1 ∷ []
 
 later_may : MayCallAll later_calls first_state
-later_may =
-    (((omega arith, omega arith), refl, refl),
-    (((omega arith, omega arith), refl),
-    (((omega arith, omega arith), refl, refl),
-    (((omega arith, omega arith), refl, refl, refl, refl, omega arith),
-    (((omega arith, omega arith), refl, refl, refl, refl, omega arith),
-    (((omega arith, omega arith), refl, refl, refl, refl, omega arith),
-    (((omega arith, omega arith), refl, refl, refl),
-    tt)))))))
+later_may = (
+  ((omega arith, omega arith), refl, refl),
+  (
+    ((omega arith, omega arith), refl),
+    (
+      ((omega arith, omega arith), refl, refl),
+      (
+        ((omega arith, omega arith), refl, refl, refl, refl, omega arith),
+        (
+          ((omega arith, omega arith), refl, refl, refl, refl, omega arith),
+          (
+            ((omega arith, omega arith), refl, refl, refl, refl, omega arith),
+            (
+              ((omega arith, omega arith), refl, refl, refl),
+              tt,
+            ),
+          ),
+        ),
+      ),
+    ),
+  ),
+)
 
 abbrev later_state : CoreCopies
 later_state = after_calls later_calls first_state

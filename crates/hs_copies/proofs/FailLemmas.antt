@@ -1,28 +1,25 @@
 -- A good peer that fails and a joining peer that is good, in the core and in the machine.
-use Rattle.std.proofs.Common.{◌≡◌, ◌≢◌, ℕ, zero, suc, ◌+◌, ◌-◌, ◌≤◌, ◌<◌, Bool, true, false, if◌then◌else◌, eqb-true, nat_eq, not, List, [], ◌∷◌, ◌++◌, ◌⊎◌, inl, inr, refl, sym, arith, length, Option, Some, None, ap, ◌∙◌}
+use Rattle.std.proofs.Common.{◌≡◌, ◌≢◌, ℕ, zero, suc, ◌+◌, ◌≤◌, ◌<◌, Bool, true, false, if◌then◌else◌, eqb-true, not, [], ◌++◌, inl, inr, refl, sym, arith, length, Some, ap, ◌∙◌}
 use Rattle.std.proofs.lemmas.Bool.Decides.{nat_tests}
 use Rattle.std.specs.List.{list_any, range_with_len}
-use Rattle.std.specs.Option.{option_map_or}
-use Rattle.std.specs.Prelude.{◌==◌, ◌&&◌, ◌||◌}
+use Rattle.std.specs.Prelude.{◌==◌}
 use Rattle.hs_entry.specs.declared.entry.Entry.{Entry}
 use Rattle.hs_entry.specs.declared.entry.Entry.TheVariants.{View}
 use Rattle.hs_limits.specs.declared.limits.PeerStatus.{PeerStatus}
 use Rattle.hs_limits.specs.declared.limits.PeerStatus.TheVariants as is
-use Rattle.hs_limits.specs.Shape.{peer_of}
-use Rattle.hs_members.specs.Members.{IsPeer, Members, become, changes_good, has_good, home_of, is_good_status, peers_of, status, view_of}
+use Rattle.hs_members.specs.Members.{IsPeer, Members, become, has_good, home_of, is_good_status, status, view_of}
 use Rattle.hs_rejoin.specs.Rejoin.{Rejoin, is_level, new_rejoin}
-use Rattle.hs_replica.specs.Group.{Group, IsHome, copy_of, first_peer, is_peer, lead, length_of, on_view, told, view_after, view_messages}
+use Rattle.hs_replica.specs.Group.{Group, IsHome, copy_of, first_peer, is_peer, lead, length_of, on_view, told, view_messages}
 use Rattle.hs_copies.specs.CoreCopies.{CoreCopies, begin_with, core_fail, core_join, core_view}
-use Rattle.hs_copies.specs.Lists.{IsFront, Item}
-use Rattle.hs_copies.specs.Machine.{Clearing, Copies, CopyEvent, Down, Fail, Following, Good, IsAllowed, Join, PeerCopy, Stage, after_event, begin_again, put_at, stage_again}
+use Rattle.hs_copies.specs.Lists.{IsFront}
+use Rattle.hs_copies.specs.Machine.{Copies, Down, Fail, Following, Good, IsAllowed, Join, PeerCopy, Stage, begin_again, put_at, stage_again}
 use Rattle.hs_copies.specs.Standing.{Continues, Stands, is_good_stage, stage_of}
 use Rattle.hs_copies.proofs.HomeLemmas.{Leads, lead_found}
-use Rattle.hs_copies.proofs.JoinLemmas.{counts, following}
-use Rattle.hs_copies.proofs.ListLemmas.{front_left, front_length, front_refl}
+use Rattle.hs_copies.proofs.ListLemmas.{front_left, front_length}
 use Rattle.hs_copies.proofs.NewViewLemmas.{good_status, new_view, before, led_anew, told_good, told_length, told_long}
 use Rattle.hs_copies.proofs.OpenedLemmas.{took_good}
-use Rattle.hs_copies.proofs.PeerLemmas.{put_cases, put_here}
-use Rattle.hs_copies.proofs.StandLemmas.{HasLead, and_left, and_right, good_copy, good_home, good_stage, length_is, not_good_down, not_good_following, same_or_other, stage_good, stands_lead}
+use Rattle.hs_copies.proofs.PeerLemmas.{put_cases}
+use Rattle.hs_copies.proofs.StandLemmas.{and_left, and_right, good_home, good_stage, length_is, not_good_following, same_or_other, stage_good, stands_lead}
 use Rattle.hs_copies.proofs.StatusLemmas.{become_here, become_members, become_other, home_peer, home_shard, other_shard, view_elsewhere, view_rises}
 
 -- ---- the peers of a shard that are good

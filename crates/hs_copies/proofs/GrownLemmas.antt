@@ -1,11 +1,11 @@
 -- Where the lists come from.
-use Rattle.std.proofs.Common.{◌≡◌, ◌≢◌, ℕ, zero, suc, ◌+◌, ◌≤◌, ◌<◌, Bool, true, false, if◌then◌else◌, nat_eq, List, [], ◌∷◌, ◌++◌, ◌⊎◌, inl, inr, refl, sym, arith, length, Option, Some, None, ap, ◌∙◌}
+use Rattle.std.proofs.Common.{◌≡◌, ℕ, suc, ◌≤◌, Bool, true, false, List, [], ◌∷◌, ◌++◌, ◌⊎◌, inl, inr, refl, arith, length, Some, ◌∙◌}
 use Rattle.std.specs.Prelude.{slice_get, take}
-use Rattle.hs_copies.specs.Lists.{Item, IsAmong, IsFront, AreBelow, Rises, IsBehind, Agree}
-use Rattle.hs_copies.specs.Machine.{Stage, Good, Clearing, Following, Down, PeerCopy, Notice, EntryNotice, SealedNotice, Copies, CopyEvent, Propose, Send, CopyComes, Sealed, HaveComes, TakesEffect, Fail, GiveUp, Start, Cleared, Copying, Copied, Join, put_at, item, told_copy, stage_again, begin_again, with_new_view, with_copy, MaySend, IsCommon, IsAllowed, after_event, AreAllowed, after_events}
-use Rattle.hs_copies.specs.Invariant.{reach, IsGoodCopy, IsTrue, AreFaithful}
-use Rattle.hs_copies.proofs.ListLemmas.{front_refl, front_trans, front_append, front_length, front_both, front_step, front_left, append_nil}
-use Rattle.hs_copies.proofs.PeerLemmas.{put_cases, put_self, reach_none}
+use Rattle.hs_copies.specs.Lists.{Item, IsFront}
+use Rattle.hs_copies.specs.Machine.{Good, Clearing, Following, Down, PeerCopy, EntryNotice, Copies, CopyEvent, Propose, Send, CopyComes, Sealed, HaveComes, TakesEffect, Fail, GiveUp, Start, Cleared, Copying, Copied, Join, put_at, item, told_copy, begin_again, with_new_view, IsAllowed, after_event}
+use Rattle.hs_copies.specs.Invariant.{reach, AreFaithful}
+use Rattle.hs_copies.proofs.ListLemmas.{front_refl, front_length, front_both, front_step}
+use Rattle.hs_copies.proofs.PeerLemmas.{put_cases, reach_none}
 use Rattle.hs_copies.proofs.EventKeeps.{cleared_common}
 use Rattle.hs_copies.proofs.ViewKeeps.{others, fail_same, fail_within, lead_list, joined, join_same, join_list}
 

@@ -1,11 +1,11 @@
 -- The images stay fine, and the one of greatest rank has all that took effect.
-use Rattle.std.proofs.Common.{◌≡◌, ◌≢◌, ℕ, zero, suc, ◌+◌, ◌≤◌, ◌<◌, Bool, true, false, if◌then◌else◌, nat_eq, List, [], ◌∷◌, ◌++◌, ◌⊎◌, inl, inr, refl, sym, arith, length, Option, Some, None, ap, ◌∙◌}
-use Rattle.std.specs.Prelude.{slice_get, take}
-use Rattle.hs_copies.specs.Lists.{Item, IsAmong, IsFront, IsAtMost, rank_by_stamps}
-use Rattle.hs_copies.specs.Machine.{Stage, Good, Clearing, Following, Down, PeerCopy, Notice, Copies, CopyEvent, Propose, Send, CopyComes, Sealed, HaveComes, TakesEffect, Fail, GiveUp, Start, Cleared, Copying, Copied, Join, put_at, item, told_copy, stage_again, begin_again, with_new_view, with_copy, IsAllowed, after_event}
-use Rattle.hs_copies.specs.Invariant.{reach, IsGoodCopy, AreFaithful}
+use Rattle.std.proofs.Common.{◌≡◌, ℕ, suc, ◌≤◌, Bool, true, false, List, [], ◌∷◌, ◌++◌, inl, inr, refl, arith, length, ap, ◌∙◌}
+use Rattle.std.specs.Prelude.{take}
+use Rattle.hs_copies.specs.Lists.{Item, IsFront}
+use Rattle.hs_copies.specs.Machine.{Stage, Good, Clearing, Following, Down, PeerCopy, Copies, CopyEvent, Propose, Send, CopyComes, Sealed, HaveComes, TakesEffect, Fail, GiveUp, Start, Cleared, Copying, Copied, Join, put_at, item, told_copy, stage_again, begin_again, with_new_view, IsAllowed, after_event}
+use Rattle.hs_copies.specs.Invariant.{reach, AreFaithful}
 use Rattle.hs_copies.specs.Images.{KeepsSealed, IsFine, IsReported, AreImages, HasGreatestRank}
-use Rattle.hs_copies.proofs.ListLemmas.{front_refl, front_trans, front_append, front_more, front_length, front_both, append_nil, length_append, take_length}
+use Rattle.hs_copies.proofs.ListLemmas.{front_refl, front_trans, front_more, front_both, append_nil, take_length}
 use Rattle.hs_copies.proofs.PeerLemmas.{put_cases, reach_none}
 use Rattle.hs_copies.proofs.OpenedLemmas.{took_good, lineage_right}
 

@@ -1,26 +1,25 @@
 -- What the core does with a joining peer is events of the machine.
-use Rattle.std.proofs.Common.{◌≡◌, ◌≢◌, ℕ, zero, suc, ◌+◌, ◌-◌, ◌≤◌, ◌<◌, Bool, true, false, if◌then◌else◌, List, [], ◌∷◌, ◌++◌, ◌⊎◌, inl, inr, refl, sym, arith, length, Option, Some, None, ap, ◌∙◌, map}
+use Rattle.std.proofs.Common.{◌≡◌, ◌≢◌, ℕ, zero, suc, ◌+◌, ◌-◌, ◌≤◌, ◌<◌, Bool, true, false, List, [], ◌∷◌, ◌++◌, refl, sym, arith, length, Some, ap, ◌∙◌}
 use Rattle.std.proofs.lemmas.List.{length-append, length-set, map-append}
 use Rattle.std.specs.Option.{option_map_or}
 use Rattle.std.specs.Prelude.{slice_get, slice_index_or}
 use Rattle.hs_entry.specs.declared.entry.Entry.{Entry}
-use Rattle.hs_limits.specs.declared.limits.PeerStatus.{PeerStatus}
 use Rattle.hs_limits.specs.declared.limits.PeerStatus.TheVariants as is
-use Rattle.hs_members.specs.Members.{IsPeer, Members, become, changes_good, home_of, is_good_status, status}
-use Rattle.hs_rejoin.specs.Rejoin.{Rejoin, copied, emptied, new_rejoin}
+use Rattle.hs_members.specs.Members.{IsPeer, become, changes_good, status}
+use Rattle.hs_rejoin.specs.Rejoin.{Rejoin, copied, emptied}
 use Rattle.hs_replica.specs.declared.replica.Replica.{Replica}
 use Rattle.hs_replica.specs.Group.{Group, IsHome, change_copy, copy_of, lead, length_of, on_copied, on_emptied, view_after}
 use Rattle.hs_copies.specs.CoreCopies.{CoreCopies, begin_with, core_copied, core_empty, core_give_up, core_start}
 use Rattle.hs_copies.specs.Lists.{IsFront, Item}
-use Rattle.hs_copies.specs.Machine.{Clearing, Cleared, Copied, Copies, CopyEvent, Copying, Down, Following, GiveUp, Good, IsAllowed, PeerCopy, Stage, Start, after_event, put_at}
-use Rattle.hs_copies.specs.Standing.{ArePeers, Continues, IsCopyingStep, IsCopyOf, Stands, is_good_stage, stage_of, stamps_of}
+use Rattle.hs_copies.specs.Machine.{Clearing, Cleared, Copied, Copies, Copying, Down, Following, GiveUp, Good, IsAllowed, PeerCopy, Stage, Start, after_event, put_at}
+use Rattle.hs_copies.specs.Standing.{Continues, IsCopyingStep, Stands, is_good_stage, stage_of, stamps_of}
 use Rattle.hs_copies.proofs.CallLemmas.{one_event}
 use Rattle.hs_copies.proofs.HomeLemmas.{set_other, set_same}
 use Rattle.hs_copies.proofs.ListLemmas.{front_left, front_step}
 use Rattle.hs_copies.proofs.PeerLemmas.{put_here, put_other}
 use Rattle.hs_copies.proofs.StampLemmas.{tells_after}
 use Rattle.hs_copies.proofs.StandLemmas.{length_is, not_good_following, one_changes, stands_lead}
-use Rattle.hs_copies.proofs.StatusLemmas.{become_here, become_members, become_other, home_peer, home_shard, view_elsewhere, view_stays}
+use Rattle.hs_copies.proofs.StatusLemmas.{become_here, become_members, become_other, home_peer, view_stays}
 use Rattle.hs_copies.proofs.ViewKeeps.{after_right}
 
 joining_not_good : (due : Bool) → is_good_stage (stage_of is.Joining due) ≡ false
@@ -303,26 +302,37 @@ module _ (c : CoreCopies) (s : Copies Entry) (st : Stands c s) (p number : ℕ) 
       let first : PeerCopy Entry = record (s.peers p) { adding = x ∷ [] } in
       let becomes_broken : put_at p lies (put_at p first s.peers) p ≡ broken = put_here p lies (put_at p first s.peers) ∙ is_broken in
       record {
-        shape = st.shape; members = become_members p is.Down c.members st.members; shard = st.shard; copies = st.copies;
-        view = st.view; of_members = view_stays p c.group.shard is.Down c.members (rw joins refl) ∙ st.of_members;
+        shape = st.shape;
+        members = become_members p is.Down c.members st.members;
+        shard = st.shard;
+        copies = st.copies;
+        view = st.view;
+        of_members = view_stays p c.group.shard is.Down c.members (rw joins refl) ∙ st.of_members;
         peers = one_changes (IsHome c.group) (copy_of c.group) (copy_of c.group) (λ q. status q c.members) (λ q. status q (become p is.Down c.members))
-          c.rejoins c.rejoins s.peers (put_at p lies (put_at p first s.peers)) p st.peers own
-          (λ q h n. refl) (λ q h n. become_other p q is.Down c.members n) (λ q n. refl)
-          (λ q n. put_other p lies (put_at p first s.peers) q n ∙ put_other p first s.peers q n)
-          (rw becomes_broken (record { good = k.good ∙ ap is_good_stage following; stamps = k.stamps; sealed = k.sealed; known = k.known }))
-          (rw (becomes_broken, become_here p is.Down c.members st.members peer) refl)
-          (rw becomes_broken (λ f. absurd (not_down_following Down refl f)))
-          (rw becomes_broken (λ f. absurd (not_down_following Down refl f)));
-        front = st.front; waiting = st.waiting; sent = st.sent;
+            c.rejoins c.rejoins s.peers (put_at p lies (put_at p first s.peers)) p st.peers own
+            (λ q h n. refl) (λ q h n. become_other p q is.Down c.members n) (λ q n. refl)
+            (λ q n. put_other p lies (put_at p first s.peers) q n ∙ put_other p first s.peers q n)
+            (rw becomes_broken (record { good = k.good ∙ ap is_good_stage following; stamps = k.stamps; sealed = k.sealed; known = k.known }))
+            (rw (becomes_broken, become_here p is.Down c.members st.members peer) refl)
+            (rw becomes_broken (λ f. absurd (not_down_following Down refl f)))
+            (rw becomes_broken (λ f. absurd (not_down_following Down refl f)));
+        front = st.front;
+        waiting = st.waiting;
+        sent = st.sent;
         faithful = after_right (after_event (Copying p (x ∷ [])) s) mid (GiveUp p) broken_off;
-        begun = st.begun; begun_at = st.begun_at;
+        begun = st.begun;
+        begun_at = st.begun_at;
         told = tells_after view_after st.begun st.begun_at (after_event (Copying p (x ∷ [])) s) mid mid_told (GiveUp p) broken_off tt;
       }
 
   pub under_way : IsCopyingStep c s p
   under_way =
       record {
-        item = x; next = here; begins = copying; breaks = broken_off; broken = broken_stands;
+        item = x;
+        next = here;
+        begins = copying;
+        breaks = broken_off;
+        broken = broken_stands;
       }
 
 pub copied_core : (c : CoreCopies) (s : Copies Entry) → Stands c s → (p number l : ℕ) → IsHome c.group p → status p c.members ≡ is.Joining

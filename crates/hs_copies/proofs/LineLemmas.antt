@@ -1,11 +1,11 @@
 -- Every pending entry of a line is of a line that waits, and no list has two of one line.
-use Rattle.std.proofs.Common.{◌≡◌, ◌≢◌, ℕ, zero, suc, ◌+◌, ◌≤◌, ◌<◌, Bool, true, false, if◌then◌else◌, nat_eq, eqb-true, List, [], ◌∷◌, ◌++◌, ◌⊎◌, inl, inr, refl, sym, arith, length, Option, Some, None, ap, ◌∙◌}
+use Rattle.std.proofs.Common.{◌≡◌, ℕ, zero, suc, ◌<◌, Bool, true, false, if◌then◌else◌, nat_eq, eqb-true, List, [], ◌∷◌, ◌++◌, ◌⊎◌, inl, inr, refl, sym, arith, length, Option, Some, ap, ◌∙◌}
 use Rattle.std.specs.Prelude.{slice_get}
 use Rattle.hs_copies.specs.Lists.{Item, IsFront, end_view}
-use Rattle.hs_copies.specs.Machine.{Good, PeerCopy, Copies, CopyEvent, Propose, Send, CopyComes, Sealed, HaveComes, TakesEffect, Fail, GiveUp, Start, Cleared, Copying, Copied, Join, IsAllowed, after_event, item}
+use Rattle.hs_copies.specs.Machine.{Copies, CopyEvent, Propose, Send, CopyComes, Sealed, HaveComes, TakesEffect, Fail, GiveUp, Start, Cleared, Copying, Copied, Join, IsAllowed, after_event, item}
 use Rattle.hs_copies.specs.Invariant.{reach, AreFaithful}
 use Rattle.hs_copies.specs.Lines.{IsPending, AreLinesOpen, LinedCopies, LineEvent, Step, Begin, Answer, AnswerBy, set_waits, ProposesRightly, IsLineAllowed, after_line_event}
-use Rattle.hs_copies.proofs.ListLemmas.{front_refl, front_trans, front_append, front_length, append_nil, length_append, get_low}
+use Rattle.hs_copies.proofs.ListLemmas.{front_refl, front_trans, front_append, append_nil, length_append}
 use Rattle.hs_copies.proofs.PeerLemmas.{reach_none}
 use Rattle.hs_copies.proofs.ViewKeeps.{after_right}
 use Rattle.hs_copies.proofs.GrownLemmas.{grown, items_added, IsGrown}

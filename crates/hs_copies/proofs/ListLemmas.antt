@@ -1,8 +1,7 @@
 -- Laws of lists of entries.
-use Rattle.std.proofs.Common.{◌≡◌, ℕ, zero, suc, ◌+◌, ◌≤◌, ◌<◌, List, [], ◌∷◌, ◌++◌, ◌⊎◌, inl, inr, refl, sym, arith, length, Option, Some, None, ap, ◌∙◌}
-use Rattle.hs_entry.specs.declared.rank.Rank.{Rank}
+use Rattle.std.proofs.Common.{◌≡◌, ℕ, zero, suc, ◌+◌, ◌≤◌, ◌<◌, List, [], ◌∷◌, ◌++◌, ◌⊎◌, inl, inr, refl, sym, arith, length, Some, ap, ◌∙◌}
 use Rattle.std.specs.Prelude.{slice_get, take}
-use Rattle.hs_copies.specs.Lists.{Item, IsAmong, IsFront, AreBelow, Rises, IsBehind, AreApart, Agree, end_view, IsAtMost, rank_by_stamps}
+use Rattle.hs_copies.specs.Lists.{Item, IsFront, AreBelow, Rises, IsBehind, AreApart, Agree, end_view, IsAtMost, rank_by_stamps}
 
 pub view_ap : {X : Type 0} (x y : Item X) → x ≡ y → x.view ≡ y.view
 view_ap {X = X} x y e = ap (λ (k : Item X). k.view) e

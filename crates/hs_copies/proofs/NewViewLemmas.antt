@@ -1,10 +1,10 @@
 -- A new view of the core's copies is a new view of the machine.
-use Rattle.std.proofs.Common.{◌≡◌, ◌≢◌, ℕ, zero, suc, ◌+◌, ◌-◌, ◌≤◌, ◌<◌, Bool, true, false, if◌then◌else◌, List, [], ◌∷◌, ◌++◌, ◌⊎◌, inl, inr, refl, sym, arith, length, Option, Some, None, ap, ◌∙◌, map, drop, take}
-use Rattle.std.proofs.lemmas.List.{drop-append-le, drop-take, length-drop, length-map, length-set, length-take, map-append, take-map}
+use Rattle.std.proofs.Common.{◌≡◌, ℕ, zero, suc, ◌+◌, ◌-◌, ◌≤◌, ◌<◌, Bool, true, false, List, [], ◌∷◌, ◌++◌, refl, sym, arith, length, Some, ap, ◌∙◌, map, drop, take}
+use Rattle.std.proofs.lemmas.List.{drop-append-le, drop-take, length-drop, length-map, length-set, map-append, take-map}
 use Rattle.std.proofs.lemmas.List.FromFn.{length-enumerate_from}
 use Rattle.std.specs.List.{enumerate_from}
 use Rattle.std.specs.Option.{option_map_or}
-use Rattle.std.specs.Prelude.{min, slice_get, slice_index_or}
+use Rattle.std.specs.Prelude.{slice_index_or}
 use Rattle.hs_entry.specs.declared.entry.Entry.{Entry}
 use Rattle.hs_entry.specs.declared.entry.Entry.TheVariants.{View}
 use Rattle.hs_limits.specs.declared.limits.PeerStatus.{PeerStatus}
@@ -15,15 +15,15 @@ use Rattle.hs_post.specs.declared.message.Message.TheVariants as message
 use Rattle.hs_rejoin.specs.Rejoin.{Rejoin}
 use Rattle.hs_replica.specs.declared.replica.Replica.{Replica}
 use Rattle.hs_replica.specs.Group.{Group, IsHome, copies_above, copy_of, first_peer, last_number, lead, length_of, no_copy, on_view, others, proposal, propose, renew, renewal, stamp, take_entry, tell, tell_from, told, view_after, view_messages}
-use Rattle.hs_copies.specs.CoreCopies.{CoreCopies, core_view}
+use Rattle.hs_copies.specs.CoreCopies.{CoreCopies}
 use Rattle.hs_copies.specs.Invariant.{AreFaithful}
 use Rattle.hs_copies.specs.Lists.{IsAmong, IsFront, Item}
-use Rattle.hs_copies.specs.Machine.{Copies, CopyEvent, Down, Following, Good, IsAllowed, PeerCopy, Stage, after_event, item, put_at, told_copy, with_new_view}
+use Rattle.hs_copies.specs.Machine.{Copies, CopyEvent, Down, Following, Good, IsAllowed, PeerCopy, after_event, item, put_at, told_copy, with_new_view}
 use Rattle.hs_copies.specs.Stamps.{AreStampsTold, TellsView}
 use Rattle.hs_copies.specs.Standing.{ArePeers, Continues, IsCopyOf, IsSent, Stands, is_good_stage, stage_of, stamps_of}
 use Rattle.hs_copies.proofs.CallLemmas.{get_end, propose_is}
 use Rattle.hs_copies.proofs.HomeLemmas.{change_each, lead_found, set_same}
-use Rattle.hs_copies.proofs.ListLemmas.{front_length, get_more}
+use Rattle.hs_copies.proofs.ListLemmas.{get_more}
 use Rattle.hs_copies.proofs.PeerLemmas.{put_cases}
 use Rattle.hs_copies.proofs.SendLemmas.{Each, IsOfLog, MayTell, copies_may, each_append, each_flat_map, each_map, one_and_tell, waiting_of_log}
 use Rattle.hs_copies.proofs.StampLemmas.{tells_after}
@@ -105,20 +105,20 @@ before c s st =
     record { shard = st.shard; copies = st.copies; each = st.peers.each; front = st.front; waiting = st.waiting; sent = st.sent }
 
 module _ (c : CoreCopies) (s : Copies Entry) (b : Before c s) (m : Members) (dues : ℕ → Rejoin) (peers : ℕ → PeerCopy Entry) (l : ℕ)
-         (shape : m.shape ≡ c.group.shape)
-         (valid : IsMembers m)
-         (rises : view_of c.group.shard m ≡ suc s.view)
-         (lists : (q : ℕ) → (peers q).list ≡ (s.peers q).list)
-         (seals : (q : ℕ) → (peers q).sealed ≡ (s.peers q).sealed)
-         (stages : (q : ℕ) → IsHome c.group q → (peers q).stage ≡ stage_of (status q m) (dues q).empty)
-         (counted : (q : ℕ) → IsHome c.group q → (peers q).stage ≡ Following → (dues q).len ≡ length (peers q).list)
-         (still : (q : ℕ) → IsHome c.group q → (peers q).stage ≡ Following → (peers q).adding ≡ [])
-         (elsewhere : (q : ℕ) → (IsHome c.group q → ⊥) → (peers q).stage ≡ Down)
-         (leads : lead (told m c.group) ≡ Some l)
-         (own : IsHome c.group l)
-         (good : (peers l).stage ≡ Good)
-         (within : IsFront (peers l).list s.log)
-         (has : length s.took ≤ length (peers l).list) where
+    (shape : m.shape ≡ c.group.shape)
+    (valid : IsMembers m)
+    (rises : view_of c.group.shard m ≡ suc s.view)
+    (lists : (q : ℕ) → (peers q).list ≡ (s.peers q).list)
+    (seals : (q : ℕ) → (peers q).sealed ≡ (s.peers q).sealed)
+    (stages : (q : ℕ) → IsHome c.group q → (peers q).stage ≡ stage_of (status q m) (dues q).empty)
+    (counted : (q : ℕ) → IsHome c.group q → (peers q).stage ≡ Following → (dues q).len ≡ length (peers q).list)
+    (still : (q : ℕ) → IsHome c.group q → (peers q).stage ≡ Following → (peers q).adding ≡ [])
+    (elsewhere : (q : ℕ) → (IsHome c.group q → ⊥) → (peers q).stage ≡ Down)
+    (leads : lead (told m c.group) ≡ Some l)
+    (own : IsHome c.group l)
+    (good : (peers l).stage ≡ Good)
+    (within : IsFront (peers l).list s.log)
+    (has : length s.took ≤ length (peers l).list) where
   is_told : (q : ℕ) → IsHome c.group q → IsCopyOf (copy_of (told m c.group) q) (told_copy (peers q))
   is_told q h =
       let k = b.each q h in
@@ -181,11 +181,20 @@ module _ (c : CoreCopies) (s : Copies Entry) (b : Before c s) (m : Members) (due
       → Stands (record c { group = viewed m l c.group; members = m; rejoins = dues }) (with_new_view l (View (view_of c.group.shard m)) peers s)
   view_stands faithful begun begun_at stamped =
       record {
-        shape = shape; members = valid; shard = b.shard;
+        shape = shape;
+        members = valid;
+        shard = b.shard;
         copies = length-set (told m c.group).copies _ _ ∙ told_length m c.group ∙ b.copies;
-        view = rises; of_members = rises; peers = new_peers;
-        front = b.front; waiting = view_waits; sent = b.sent;
-        faithful = faithful; begun = begun; begun_at = begun_at; told = stamped;
+        view = rises;
+        of_members = rises;
+        peers = new_peers;
+        front = b.front;
+        waiting = view_waits;
+        sent = b.sent;
+        faithful = faithful;
+        begun = begun;
+        begun_at = begun_at;
+        told = stamped;
       }
 
   -- ---- what is sent
@@ -217,7 +226,7 @@ module _ (c : CoreCopies) (s : Copies Entry) (b : Before c s) (m : Members) (due
   viewed_messages =
       rw (messages_are m c.group l leads)
       (each_append (MayTell (suc s.view) ((peers l).list ++ item (suc s.view) (View (view_of c.group.shard m)) ∷ []) after_peers) (renewal (cut m l c.group))
-        (proposal (View (view_of c.group.shard m)) (cut m l c.group)) renewal_may view_may)
+      (proposal (View (view_of c.group.shard m)) (cut m l c.group)) renewal_may view_may)
 
   -- there is a lead in it
   pub led_anew : (k : ℕ) × (lead (on_view m c.group) ≡ Some k)
@@ -254,8 +263,8 @@ pub new_view : (c : CoreCopies) (s : Copies Entry) → Stands c s → (m : Membe
 new_view c s st m dues peers l e allowed becomes tells shape valid rises lists seals stages counted still elsewhere leads own good within has =
     let f : AreFaithful (with_new_view l (View (view_of c.group.shard m)) peers s) = rw (← becomes) (after_right s st.faithful e allowed) in
     let t : AreStampsTold view_after st.begun st.begun_at (with_new_view l (View (view_of c.group.shard m)) peers s) =
-      rw (← becomes) (tells_after view_after st.begun st.begun_at s st.faithful st.told e allowed tells) in
+    rw (← becomes) (tells_after view_after st.begun st.begun_at s st.faithful st.told e allowed tells) in
     let k = view_stands c s (before c s st) m dues peers l shape valid rises lists seals stages counted still elsewhere leads own good within has f st.begun st.begun_at t in
     rw (view_is m c.group l leads)
     (one_and_tell (record c { group = viewed m l c.group; members = m; rejoins = dues }) s e allowed (rw becomes k) (view_messages m c.group)
-      (rw becomes (viewed_messages c s (before c s st) m dues peers l shape valid rises lists seals stages counted still elsewhere leads own good within has)))
+    (rw becomes (viewed_messages c s (before c s st) m dues peers l shape valid rises lists seals stages counted still elsewhere leads own good within has)))

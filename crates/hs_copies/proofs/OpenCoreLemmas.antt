@@ -1,25 +1,23 @@
 -- A shard as the core opens it stands for one as the machine does.
-use Rattle.std.proofs.Common.{◌≡◌, ◌≢◌, ℕ, zero, suc, ◌+◌, ◌-◌, ◌≤◌, ◌<◌, Bool, true, false, if◌then◌else◌, List, [], ◌∷◌, ◌++◌, ◌⊎◌, inl, inr, refl, sym, arith, length, Option, Some, None, ap, ◌∙◌, map, drop, leb}
-use Rattle.std.proofs.lemmas.Bool.Decides.{leb_tells, nat_tests}
+use Rattle.std.proofs.Common.{◌≡◌, ℕ, zero, suc, ◌+◌, ◌-◌, ◌≤◌, Bool, true, false, if◌then◌else◌, List, [], ◌∷◌, inl, inr, refl, sym, arith, length, Some, ap, ◌∙◌, map, drop}
+use Rattle.std.proofs.lemmas.Bool.Decides.{nat_tests}
 use Rattle.std.proofs.lemmas.List.{length-map}
 use Rattle.std.specs.Prelude.{replicate, slice_index_or, ◌&&◌, nat_le}
 use Rattle.hs_entry.specs.declared.entry.Entry.{Entry}
 use Rattle.hs_entry.specs.declared.entry.Entry.TheVariants.{View}
-use Rattle.hs_limits.specs.declared.limits.PeerStatus.{PeerStatus}
 use Rattle.hs_limits.specs.declared.limits.PeerStatus.TheVariants as is
 use Rattle.hs_limits.specs.declared.shape.Shape.{Shape}
 use Rattle.hs_limits.specs.Shape.{peer_of}
-use Rattle.hs_members.specs.Members.{Members, has_good, is_good_status, status, view_of}
-use Rattle.hs_post.specs.declared.message.Message.{Message}
+use Rattle.hs_members.specs.Members.{Members, is_good_status, status, view_of}
 use Rattle.hs_rejoin.specs.Rejoin.{Rejoin}
 use Rattle.hs_replica.specs.declared.replica.Replica.{Replica}
-use Rattle.hs_replica.specs.Group.{Group, IsHome, copy_of, first_peer, lead, new_group, no_copy, on_view, told, view_after, view_messages, whole_copy}
+use Rattle.hs_replica.specs.Group.{Group, IsHome, copy_of, lead, new_group, no_copy, told, view_after, view_messages, whole_copy}
 use Rattle.hs_copies.specs.CoreCopies.{CoreCopies, core_open, opens_good}
-use Rattle.hs_copies.specs.Lists.{IsFront, Item}
-use Rattle.hs_copies.specs.Machine.{Copies, Down, Following, Good, PeerCopy, item}
+use Rattle.hs_copies.specs.Lists.{Item}
+use Rattle.hs_copies.specs.Machine.{Copies, Down, Following, Good, PeerCopy}
 use Rattle.hs_copies.specs.Opened.{copy_with, opened_copies, stamped_alike, taken_copies}
 use Rattle.hs_copies.specs.Stamps.{view_told}
-use Rattle.hs_copies.specs.Standing.{Continues, IsCopyOf, IsOpening, Stands, is_good_stage, stage_of, stamps_of}
+use Rattle.hs_copies.specs.Standing.{Continues, IsCopyOf, IsOpening, Stands, stage_of, stamps_of}
 use Rattle.hs_copies.proofs.FailLemmas.{good_found}
 use Rattle.hs_copies.proofs.HomeLemmas.{Leads, le_or_lt, lead_found}
 use Rattle.hs_copies.proofs.ListLemmas.{front_refl}
@@ -90,7 +88,7 @@ module _ (shape : Shape) (shard : ℕ) (log : List (Item Entry)) (good : List Bo
       go true e =
           let low : peer_of shape shard 0 ≤ q = grind (arith, nat_tests) in
           elim (le_or_lt (suc q) (peer_of shape shard 0 + shape.copies)) [
-            inl k ↦ absurd (n (low, omega (arith, k)))
+            | inl k ↦ absurd (n (low, omega (arith, k)))
             | inr k ↦ past good (q - peer_of shape shard 0) (omega (arith, k, low, o.copies))
           ]
 
@@ -111,7 +109,9 @@ module _ (shape : Shape) (shard : ℕ) (log : List (Item Entry)) (good : List Bo
   opening_before : Before c s
   opening_before =
       record {
-        shard = o.within; copies = group_copies; each = each_copy;
+        shard = o.within;
+        copies = group_copies;
+        each = each_copy;
         front = sym (alike_long (view_told view_after 0 log) log);
         waiting = rw (drop_whole (stamped_alike (view_told view_after 0 log) log)) refl;
         sent = λ n k. absurd k;
@@ -171,7 +171,7 @@ module _ (shape : Shape) (shard : ℕ) (log : List (Item Entry)) (good : List Bo
         d.chosen d.leads.home (good_stage_of (opens_good shape shard good l) d.good_there)
         (rw lead_list (front_refl (stamped_alike (view_told view_after 0 log) log))) (omega (arith, ap (λ k. length k) lead_list))
         (opened_right (view_told view_after 0 log) (stamped_alike (view_told view_after 0 log) log) (opens_good shape shard good) l (View (view_of shard m))
-          (alike_rises (view_told view_after 0 log) 0 log (omega arith)) (alike_below (view_told view_after 0 log) log) d.good_there)
+        (alike_rises (view_told view_after 0 log) 0 log (omega arith)) (alike_below (view_told view_after 0 log) log) d.good_there)
         (stamped_alike (view_told view_after 0 log) log) (view_told view_after 0 log)
         (opened_tells view_after log (opens_good shape shard good) l (View (view_of shard m)) (view_told view_after 0 log) o.ascends refl d.good_there (λ w. o.view))
 
@@ -179,14 +179,14 @@ module _ (shape : Shape) (shard : ℕ) (log : List (Item Entry)) (good : List Bo
         (opened_copies (view_told view_after 0 log) (stamped_alike (view_told view_after 0 log) log) (opens_good shape shard good) l (View (view_of shard m)))
     begun_continues =
         let may = viewed_messages c s opening_before m rejoins peers l o.same o.valid o.view (λ q. refl) (λ q. refl) open_stages
-          (λ q h e. absurd (none_follows (opens_good shape shard good q) e)) (λ q h e. absurd (none_follows (opens_good shape shard good q) e)) open_elsewhere
-          d.chosen d.leads.home (good_stage_of (opens_good shape shard good l) d.good_there)
-          (rw lead_list (front_refl (stamped_alike (view_told view_after 0 log) log))) (omega (arith, ap (λ k. length k) lead_list)) in
+        (λ q h e. absurd (none_follows (opens_good shape shard good q) e)) (λ q h e. absurd (none_follows (opens_good shape shard good q) e)) open_elsewhere
+        d.chosen d.leads.home (good_stage_of (opens_good shape shard good l) d.good_there)
+        (rw lead_list (front_refl (stamped_alike (view_told view_after 0 log) log))) (omega (arith, ap (λ k. length k) lead_list)) in
         let k = tell_all (record c { group = viewed m l group }) (opened_copies (view_told view_after 0 log) (stamped_alike (view_told view_after 0 log) log) (opens_good shape shard good) l (View (view_of shard m)))
-          begun_stands (view_messages m group) may in
+        begun_stands (view_messages m group) may in
         rw (view_is m group l d.chosen) (record { events = k.events; allowed = k.allowed; stands = k.stands })
 
   pub opens : (l : ℕ) × (opens_good shape shard good l ≡ true)
       × Continues (core_open shape shard (view_told view_after 0 log) (length log) good m rejoins)
-        (opened_copies (view_told view_after 0 log) (stamped_alike (view_told view_after 0 log) log) (opens_good shape shard good) l (View (view_of shard m)))
+      (opened_copies (view_told view_after 0 log) (stamped_alike (view_told view_after 0 log) log) (opens_good shape shard good) l (View (view_of shard m)))
   opens = let d = first_lead in (d.0, d.1.good_there, begun_continues d.0 d.1)

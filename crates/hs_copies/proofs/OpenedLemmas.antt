@@ -1,14 +1,13 @@
 -- The laws, from what stays right.
-use Rattle.std.proofs.Common.{◌≡◌, ◌≢◌, ℕ, zero, suc, ◌+◌, ◌≤◌, ◌<◌, Bool, true, false, if◌then◌else◌, List, [], ◌∷◌, ◌++◌, ◌⊎◌, inl, inr, refl, sym, arith, length, Option, Some, None, ap, ◌∙◌}
-use Rattle.hs_entry.specs.declared.rank.Rank.{Rank}
+use Rattle.std.proofs.Common.{◌≡◌, ℕ, suc, ◌≤◌, Bool, true, false, List, [], ◌∷◌, ◌++◌, inl, inr, refl, arith, length, Some}
 use Rattle.std.specs.Prelude.{slice_get, take}
-use Rattle.hs_copies.specs.Lists.{Item, IsAmong, IsFront, AreBelow, Rises, IsBehind, Agree, IsAtMost, rank_by_stamps, end_view}
-use Rattle.hs_copies.specs.Machine.{Stage, Good, Clearing, Following, Down, PeerCopy, Notice, Copies, CopyEvent, Propose, Send, CopyComes, Sealed, HaveComes, TakesEffect, Fail, GiveUp, Start, Cleared, Copying, Copied, Join, put_at, item, told_copy, with_new_view, IsAllowed, after_event, AreAllowed, after_events}
+use Rattle.hs_copies.specs.Lists.{Item, IsFront, AreBelow, Rises, IsBehind, Agree, IsAtMost, rank_by_stamps, end_view}
+use Rattle.hs_copies.specs.Machine.{Good, Following, Copies, CopyEvent, Propose, Send, CopyComes, Sealed, HaveComes, TakesEffect, Fail, GiveUp, Start, Cleared, Copying, Copied, Join, after_event, after_events}
 use Rattle.hs_copies.specs.Invariant.{reach, IsGoodCopy, AreFaithful}
 use Rattle.hs_copies.specs.Opened.{copy_with, taken_copies, opened_copies, IsRun}
-use Rattle.hs_copies.proofs.ListLemmas.{front_refl, front_trans, front_append, front_length, front_whole, front_both, front_left, below_prefix, behind_prefix, agree_up_to, behind_less, agree_refl, rises_prefix, append_nil, lineage, view_ap}
+use Rattle.hs_copies.proofs.ListLemmas.{front_refl, front_trans, front_append, front_both, below_prefix, behind_prefix, agree_up_to, behind_less, agree_refl, rises_prefix, append_nil, lineage, view_ap}
 use Rattle.hs_copies.proofs.ChangeLemmas.{Stays, next_view, log_below}
-use Rattle.hs_copies.proofs.ViewKeeps.{after_right, keeps_right}
+use Rattle.hs_copies.proofs.ViewKeeps.{keeps_right}
 
 module _ {X : Type 0} (view : ℕ) (log : List (Item X)) (good : ℕ → Bool) (lead : ℕ) (x : X) (rises : Rises 0 log) (below : AreBelow (suc view) log) (leads : good lead ≡ true) where
   with_reach : (b : Bool) → IsFront (reach (copy_with log b)) log

@@ -1,15 +1,14 @@
 -- Opening chooses one list throughout, and what it opens is right.
-use Rattle.std.proofs.Common.{◌≡◌, ◌≢◌, ℕ, zero, suc, ◌+◌, ◌≤◌, ◌<◌, Bool, true, false, List, [], ◌∷◌, ◌++◌, ◌⊎◌, inl, inr, refl, sym, arith, length, Option, Some, None, ap, ◌∙◌}
-use Rattle.std.specs.Prelude.{slice_get, take}
-use Rattle.hs_copies.specs.Lists.{Item, IsFront, AreBelow, Rises, IsAtMost, end_view}
-use Rattle.hs_copies.specs.Machine.{Stage, Good, PeerCopy, Copies, put_at, item, told_copy, with_new_view}
-use Rattle.hs_copies.specs.Invariant.{reach, AreFaithful}
-use Rattle.hs_copies.specs.Stamps.{view_told, rank_told, Ascends, AreStamped, AreStampsTold}
-use Rattle.hs_copies.specs.Opened.{copy_with, taken_copies, opened_copies}
+use Rattle.std.proofs.Common.{◌≡◌, ℕ, zero, suc, ◌≤◌, Bool, true, false, List, [], ◌∷◌, ◌++◌, refl, sym, arith, length, ◌∙◌}
+use Rattle.hs_copies.specs.Lists.{Item, AreBelow, Rises, end_view}
+use Rattle.hs_copies.specs.Machine.{item, told_copy}
+use Rattle.hs_copies.specs.Invariant.{reach}
+use Rattle.hs_copies.specs.Stamps.{view_told, Ascends, AreStamped, AreStampsTold}
+use Rattle.hs_copies.specs.Opened.{copy_with, opened_copies}
 use Rattle.hs_copies.specs.Opened.{stamped_alike}
-use Rattle.hs_copies.proofs.ListLemmas.{front_refl, front_trans, front_append, front_length, front_whole, append_nil}
-use Rattle.hs_copies.proofs.PeerLemmas.{put_cases, reach_none}
-use Rattle.hs_copies.proofs.StampLemmas.{stamped_more, last_view_append, told_low}
+use Rattle.hs_copies.proofs.ListLemmas.{front_refl, append_nil}
+use Rattle.hs_copies.proofs.PeerLemmas.{put_cases}
+use Rattle.hs_copies.proofs.StampLemmas.{stamped_more, last_view_append}
 
 alike_length : {X : Type 0} (v : ℕ) (xs : List (Item X)) → length (stamped_alike v xs) ≡ length xs
 alike_length v [] = refl

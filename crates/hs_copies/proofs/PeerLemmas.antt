@@ -1,5 +1,5 @@
 -- One peer in the place of another.
-use Rattle.std.proofs.Common.{◌≡◌, ◌≢◌, ℕ, Bool, true, false, if◌then◌else◌, nat_eq, eqb-true, refl, arith, List, [], ◌∷◌, ◌++◌, ◌∙◌, ap}
+use Rattle.std.proofs.Common.{◌≡◌, ◌≢◌, ℕ, Bool, true, false, if◌then◌else◌, nat_eq, eqb-true, refl, arith, List, [], ◌++◌, ◌∙◌, ap}
 use Rattle.std.proofs.lemmas.Bool.Decides.{nat_tests}
 use Rattle.hs_copies.specs.Lists.{Item}
 use Rattle.hs_copies.specs.Machine.{PeerCopy, put_at}

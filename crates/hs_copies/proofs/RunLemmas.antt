@@ -1,16 +1,16 @@
 -- What a stop leaves is chosen rightly.
-use Rattle.std.proofs.Common.{◌≡◌, ◌≢◌, ℕ, zero, suc, ◌+◌, ◌≤◌, ◌<◌, Bool, true, false, List, [], ◌∷◌, ◌++◌, ◌⊎◌, inl, inr, refl, sym, arith, length, Option, Some, None, ap, ◌∙◌}
+use Rattle.std.proofs.Common.{◌≡◌, ℕ, zero, suc, ◌≤◌, ◌<◌, Bool, true, false, List, [], ◌∷◌, ◌++◌, inl, inr, refl, arith, length, Option, Some, None, ap}
 use Rattle.std.specs.Prelude.{slice_get}
-use Rattle.hs_copies.specs.Lists.{Item, IsFront, IsAtMost, rank_by_stamps, end_view}
-use Rattle.hs_copies.specs.Machine.{Stage, Good, Copies, CopyEvent, TakesEffect, put_at, item, told_copy, after_event}
+use Rattle.hs_copies.specs.Lists.{Item, IsFront, IsAtMost}
+use Rattle.hs_copies.specs.Machine.{TakesEffect, item, told_copy}
 use Rattle.hs_copies.specs.Invariant.{reach, AreFaithful}
 use Rattle.hs_copies.specs.Lines.{IsPending, AreLinesOpen, LinedCopies, LineEvent, Step, Begin, Answer, AnswerBy, IsLineAllowed, after_line_event}
-use Rattle.hs_copies.specs.Stamps.{rank_told, view_told, Ascends, TellsView, AreStampsTold}
-use Rattle.hs_copies.specs.Images.{AreImages, KeepsSealed}
+use Rattle.hs_copies.specs.Stamps.{rank_told, view_told, AreStampsTold}
+use Rattle.hs_copies.specs.Images.{AreImages}
 use Rattle.hs_copies.specs.Opened.{stamped_alike}
 use Rattle.hs_copies.specs.Opened.{copy_with, opened_copies}
 use Rattle.hs_copies.specs.Runs.{Reading, IsTold, AreLineAllowed, after_line_events, IsSinceOpening, IsChosen}
-use Rattle.hs_copies.proofs.ListLemmas.{front_refl, front_trans, front_length, front_both, front_append, append_nil, length_append}
+use Rattle.hs_copies.proofs.ListLemmas.{front_refl, front_trans, front_both, append_nil}
 use Rattle.hs_copies.proofs.PeerLemmas.{put_cases, reach_none}
 use Rattle.hs_copies.proofs.OpenedLemmas.{opened_right, took_good, settled_right}
 use Rattle.hs_copies.proofs.LineLemmas.{does_owned, get_prefix, get_end}

@@ -1,5 +1,5 @@
 -- What the core sends the machine may send.
-use Rattle.std.proofs.Common.{◌≡◌, ◌≢◌, ℕ, zero, suc, ◌+◌, ◌-◌, ◌≤◌, ◌<◌, List, [], ◌∷◌, ◌++◌, ◌⊎◌, inl, inr, refl, sym, arith, length, Option, Some, None, ap, ◌∙◌, map, drop}
+use Rattle.std.proofs.Common.{◌≡◌, ℕ, zero, suc, ◌+◌, ◌-◌, ◌≤◌, List, [], ◌∷◌, ◌++◌, inl, inr, refl, arith, Some, ap, ◌∙◌, map, drop}
 use Rattle.std.specs.List.{enumerate_from}
 use Rattle.std.specs.Prelude.{flat_map, slice_get}
 use Rattle.hs_entry.specs.declared.entry.Entry.{Entry}
@@ -7,7 +7,6 @@ use Rattle.hs_post.specs.declared.message.Message.{Message}
 use Rattle.hs_post.specs.declared.message.Message.TheVariants as message
 use Rattle.hs_replica.specs.Group.{Group, copies_above, entries_above, view_after}
 use Rattle.hs_copies.specs.CoreCopies.{CoreCopies}
-use Rattle.hs_copies.specs.Invariant.{AreFaithful}
 use Rattle.hs_copies.specs.Lists.{IsAmong, Item}
 use Rattle.hs_copies.specs.Machine.{AreAllowed, Copies, CopyEvent, EntryNotice, Good, IsAllowed, Notice, PeerCopy, SealedNotice, Send, after_event, after_events}
 use Rattle.hs_copies.specs.Standing.{Continues, IsSent, Stands}

@@ -1,11 +1,11 @@
 -- Ranks as the disks tell them.
-use Rattle.std.proofs.Common.{◌≡◌, ◌≢◌, ℕ, zero, suc, ◌+◌, ◌≤◌, ◌<◌, List, [], ◌∷◌, ◌++◌, ◌⊎◌, inl, inr, refl, sym, arith, length, Option, Some, None, ap, ◌∙◌}
-use Rattle.std.specs.Prelude.{slice_get, take}
-use Rattle.hs_copies.specs.Lists.{Item, IsAmong, IsFront, AreBelow, Rises, IsBehind, Agree, IsAtMost, rank_by_stamps, end_view}
-use Rattle.hs_copies.specs.Machine.{Stage, Good, Down, PeerCopy, put_at, begin_again, Copies, CopyEvent, Propose, Send, CopyComes, Sealed, HaveComes, TakesEffect, Fail, GiveUp, Start, Cleared, Copying, Copied, Join, item, IsAllowed, after_event}
+use Rattle.std.proofs.Common.{◌≡◌, ℕ, zero, suc, ◌≤◌, ◌<◌, List, [], ◌∷◌, ◌++◌, ◌⊎◌, inl, inr, refl, sym, arith, length, ap, ◌∙◌}
+use Rattle.std.specs.Prelude.{take}
+use Rattle.hs_copies.specs.Lists.{Item, IsFront, Agree, IsAtMost, rank_by_stamps, end_view}
+use Rattle.hs_copies.specs.Machine.{Good, Down, put_at, begin_again, Copies, CopyEvent, Propose, Send, CopyComes, Sealed, HaveComes, TakesEffect, Fail, GiveUp, Start, Cleared, Copying, Copied, Join, item, IsAllowed, after_event}
 use Rattle.hs_copies.specs.Invariant.{reach, AreFaithful}
 use Rattle.hs_copies.specs.Stamps.{view_told, rank_told, Ascends, AreStamped, TellsView, AreStampsTold}
-use Rattle.hs_copies.proofs.ListLemmas.{front_refl, front_trans, front_append, front_length, front_whole, front_both, view_ap, append_nil, lineage, behind_less, agree_front_of, lineage_from}
+use Rattle.hs_copies.proofs.ListLemmas.{front_trans, front_length, front_both, view_ap, append_nil, agree_front_of}
 use Rattle.hs_copies.proofs.PeerLemmas.{reach_none}
 use Rattle.hs_copies.proofs.GrownLemmas.{grown, IsGrown, items_added, StandsBehind}
 use Rattle.hs_copies.proofs.OpenedLemmas.{took_after, took_good, lineage_right}

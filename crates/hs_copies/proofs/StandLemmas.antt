@@ -1,5 +1,5 @@
 -- What follows where copies of the core stand for copies of the machine, and what a change of one peer must keep.
-use Rattle.std.proofs.Common.{◌≡◌, ◌≢◌, ℕ, zero, suc, ◌+◌, ◌-◌, ◌≤◌, ◌<◌, Bool, true, false, nat_eq, eqb-true, List, [], ◌∷◌, ◌++◌, ◌⊎◌, inl, inr, refl, sym, arith, length, Option, Some, None, ap, ◌∙◌, map}
+use Rattle.std.proofs.Common.{◌≡◌, ◌≢◌, ℕ, ◌-◌, Bool, true, false, nat_eq, eqb-true, List, [], ◌∷◌, ◌⊎◌, inl, inr, refl, sym, arith, length, Some, ap, ◌∙◌}
 use Rattle.std.proofs.lemmas.Bool.Decides.{nat_tests}
 use Rattle.std.proofs.lemmas.List.{length-map}
 use Rattle.std.specs.Prelude.{slice_index_or, ◌&&◌}
@@ -7,9 +7,8 @@ use Rattle.hs_entry.specs.declared.entry.Entry.{Entry}
 use Rattle.hs_limits.specs.declared.limits.PeerStatus.{PeerStatus}
 use Rattle.hs_rejoin.specs.Rejoin.{Rejoin}
 use Rattle.hs_replica.specs.declared.replica.Replica.{Replica}
-use Rattle.hs_replica.specs.Group.{Group, IsHome, copy_of, last_view, lead, length_of}
+use Rattle.hs_replica.specs.Group.{IsHome, copy_of, last_view, lead, length_of}
 use Rattle.hs_copies.specs.CoreCopies.{CoreCopies}
-use Rattle.hs_copies.specs.Invariant.{AreFaithful}
 use Rattle.hs_copies.specs.Lists.{Item, end_view}
 use Rattle.hs_copies.specs.Machine.{Clearing, Copies, Down, Following, Good, PeerCopy, Stage}
 use Rattle.hs_copies.specs.Standing.{ArePeers, IsCopyOf, Stands, is_good_stage, stage_of, stamps_of}

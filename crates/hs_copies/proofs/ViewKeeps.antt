@@ -1,11 +1,10 @@
 -- A peer that fails, and one that joins: new views.
-use Rattle.std.proofs.Common.{◌≡◌, ◌≢◌, ℕ, zero, suc, ◌+◌, ◌≤◌, ◌<◌, Bool, true, false, if◌then◌else◌, nat_eq, List, [], ◌∷◌, ◌++◌, ◌⊎◌, inl, inr, refl, sym, arith, length, Option, Some, None, ap, ◌∙◌}
-use Rattle.std.specs.Prelude.{slice_get, take}
-use Rattle.hs_copies.specs.Lists.{Item, IsAmong, IsFront, AreBelow, Rises, IsBehind, Agree}
-use Rattle.hs_copies.specs.Machine.{Stage, Good, Clearing, Following, Down, PeerCopy, Notice, Copies, CopyEvent, Propose, Send, CopyComes, Sealed, HaveComes, TakesEffect, Fail, GiveUp, Start, Cleared, Copying, Copied, Join, put_at, item, told_copy, stage_again, begin_again, with_new_view, with_copy, IsAllowed, after_event, AreAllowed, after_events}
-use Rattle.hs_copies.specs.Invariant.{reach, IsGoodCopy, IsTrue, AreFaithful}
-use Rattle.hs_copies.proofs.ListLemmas.{front_refl, front_trans, front_append, front_length, front_whole, front_both, front_left}
-use Rattle.hs_copies.proofs.PeerLemmas.{put_cases, put_self, reach_none}
+use Rattle.std.proofs.Common.{◌≡◌, ◌≢◌, ℕ, Bool, true, false, List, [], ◌∷◌, refl, sym, arith, length, ap, ◌∙◌}
+use Rattle.hs_copies.specs.Lists.{Item, IsFront}
+use Rattle.hs_copies.specs.Machine.{Stage, Good, Clearing, Following, Down, PeerCopy, Copies, CopyEvent, Propose, Send, CopyComes, Sealed, HaveComes, TakesEffect, Fail, GiveUp, Start, Cleared, Copying, Copied, Join, put_at, stage_again, begin_again, IsAllowed, after_event, AreAllowed, after_events}
+use Rattle.hs_copies.specs.Invariant.{reach, AreFaithful}
+use Rattle.hs_copies.proofs.ListLemmas.{front_refl, front_length, front_whole, front_both, front_left}
+use Rattle.hs_copies.proofs.PeerLemmas.{put_cases}
 use Rattle.hs_copies.proofs.ChangeLemmas.{Stays, next_view}
 use Rattle.hs_copies.proofs.EventKeeps.{propose, send, copy_comes, seals, have_comes, takes_effect, give_up, starts, cleared, copying, copied}
 

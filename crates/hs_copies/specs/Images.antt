@@ -1,10 +1,9 @@
 -- What disks may be left with, list by list.
-use Rattle.std.specs.Prelude.{◌≡◌, ◌≢◌, ◌⊎◌, ℕ, zero, suc, ◌+◌, ◌<◌, ◌≤◌, Bool, true, false, List, [], ◌∷◌, ◌++◌, length, Option, Some, None}
-use Rattle.hs_entry.specs.declared.rank.Rank.{Rank}
-use Rattle.std.specs.Prelude.{slice_get, take}
-use Rattle.hs_copies.specs.Lists.{Item, IsFront, IsAtMost, rank_by_stamps, end_view}
-use Rattle.hs_copies.specs.Machine.{Stage, Good, Clearing, Following, Down, PeerCopy, Copies, CopyEvent, Propose, Send, CopyComes, Sealed, HaveComes, TakesEffect, Fail, GiveUp, Start, Cleared, Copying, Copied, Join, IsAllowed, after_event}
-use Rattle.hs_copies.specs.Invariant.{reach, AreFaithful}
+use Rattle.std.specs.Prelude.{◌≡◌, ◌⊎◌, ℕ, ◌≤◌, List, [], ◌++◌, length}
+use Rattle.std.specs.Prelude.{take}
+use Rattle.hs_copies.specs.Lists.{Item, IsFront, IsAtMost, rank_by_stamps}
+use Rattle.hs_copies.specs.Machine.{Stage, Good, Clearing, Following, Down, PeerCopy, Copies, CopyEvent, Propose, Send, CopyComes, Sealed, HaveComes, TakesEffect, Fail, GiveUp, Start, Cleared, Copying, Copied, Join}
+use Rattle.hs_copies.specs.Invariant.{reach}
 
 -- the peers of which the sealed entries are known to stand
 abbrev pub KeepsSealed : Stage → Type 0

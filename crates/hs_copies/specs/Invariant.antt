@@ -1,8 +1,8 @@
 -- What stays true of the copies of a shard.
-use Rattle.std.specs.Prelude.{◌≡◌, ◌≢◌, ◌⊎◌, ℕ, zero, suc, ◌+◌, ◌<◌, ◌≤◌, List, [], ◌∷◌, ◌++◌, length, Option, Some, None}
+use Rattle.std.specs.Prelude.{◌≡◌, ℕ, suc, ◌≤◌, List, [], ◌++◌, length, Some}
 use Rattle.std.specs.Prelude.{slice_get}
 use Rattle.hs_copies.specs.Lists.{Item, IsAmong, IsFront, AreBelow, Rises, IsBehind, Agree}
-use Rattle.hs_copies.specs.Machine.{Stage, Good, Clearing, Following, Down, PeerCopy, Notice, EntryNotice, SealedNotice, Copies}
+use Rattle.hs_copies.specs.Machine.{Good, Following, PeerCopy, Notice, EntryNotice, SealedNotice, Copies}
 
 -- the longest list that the peer's disk may have
 abbrev pub reach : {X : Type 0} → PeerCopy X → List (Item X)

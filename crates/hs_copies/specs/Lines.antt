@@ -1,8 +1,8 @@
 -- Which lines the entries above what took effect are of, and which lines have no answer yet.
-use Rattle.std.specs.Prelude.{◌≡◌, ◌≢◌, ◌⊎◌, ℕ, zero, suc, ◌+◌, ◌<◌, ◌≤◌, Bool, true, false, if◌then◌else◌, nat_eq, List, [], ◌∷◌, ◌++◌, length, Option, Some, None}
+use Rattle.std.specs.Prelude.{◌≡◌, ℕ, ◌≤◌, Bool, true, false, if◌then◌else◌, nat_eq, List, length, Option, Some, None}
 use Rattle.std.specs.Prelude.{slice_get}
 use Rattle.hs_copies.specs.Lists.{Item, IsFront, end_view}
-use Rattle.hs_copies.specs.Machine.{PeerCopy, Copies, CopyEvent, Propose, Send, CopyComes, Sealed, HaveComes, TakesEffect, Fail, GiveUp, Start, Cleared, Copying, Copied, Join, IsAllowed, after_event, item}
+use Rattle.hs_copies.specs.Machine.{Copies, CopyEvent, Propose, Send, CopyComes, Sealed, HaveComes, TakesEffect, Fail, GiveUp, Start, Cleared, Copying, Copied, Join, IsAllowed, after_event}
 use Rattle.hs_copies.specs.Invariant.{reach}
 
 -- the entry with n before it is of line k and above what took effect, in a list that has all that took effect

@@ -1,6 +1,6 @@
 -- The copies of one shard as a machine over whole lists: what may happen, and what it does. No bound, no disk and no
 -- memory is in it; an entry is any payload with the view in which it was proposed.
-use Rattle.std.specs.Prelude.{◌≡◌, ◌≢◌, ◌⊎◌, ℕ, zero, suc, ◌+◌, ◌<◌, ◌≤◌, Bool, true, false, List, [], ◌∷◌, ◌++◌, length, Option, Some, None, if◌then◌else◌, nat_eq}
+use Rattle.std.specs.Prelude.{◌≡◌, ◌≢◌, ◌⊎◌, ℕ, zero, suc, ◌<◌, ◌≤◌, Bool, true, false, List, [], ◌∷◌, ◌++◌, length, Some, if◌then◌else◌, nat_eq}
 use Rattle.std.specs.Prelude.{slice_get, take}
 use Rattle.hs_copies.specs.Lists.{Item, IsAmong, IsFront}
 
@@ -87,7 +87,7 @@ with_new_view lead x peers s =
       log = (peers lead).list ++ item (suc s.view) x ∷ [];
       took = s.took;
       peers = put_at lead (record (told_copy (peers lead)) { list = (peers lead).list ++ item (suc s.view) x ∷ [] })
-        (λ q. told_copy (peers q));
+          (λ q. told_copy (peers q));
       sent = s.sent;
     }
 

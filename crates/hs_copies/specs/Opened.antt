@@ -1,10 +1,7 @@
 -- The copies of a shard as it is opened, and what may come of them.
-use Rattle.std.specs.Prelude.{◌≡◌, ◌≢◌, ◌⊎◌, ℕ, zero, suc, ◌+◌, ◌<◌, ◌≤◌, Bool, true, false, if◌then◌else◌, List, [], ◌∷◌, ◌++◌, length, Option, Some, None}
-use Rattle.hs_entry.specs.declared.rank.Rank.{Rank}
-use Rattle.std.specs.Prelude.{slice_get}
-use Rattle.hs_copies.specs.Lists.{Item, IsFront, AreBelow, Rises, IsAtMost, rank_by_stamps, end_view}
-use Rattle.hs_copies.specs.Machine.{Stage, Good, Down, PeerCopy, Copies, CopyEvent, IsAllowed, after_event, AreAllowed, after_events, item, with_new_view}
-use Rattle.hs_copies.specs.Invariant.{AreFaithful, reach}
+use Rattle.std.specs.Prelude.{◌≡◌, ℕ, suc, Bool, true, false, List, [], ◌∷◌, length}
+use Rattle.hs_copies.specs.Lists.{Item, AreBelow, Rises}
+use Rattle.hs_copies.specs.Machine.{Good, Down, PeerCopy, Copies, CopyEvent, AreAllowed, after_events, item, with_new_view}
 
 -- the list with one view at all of its entries, as it is counted after opening
 abbrev pub stamped_alike : {X : Type 0} → ℕ → List (Item X) → List (Item X)

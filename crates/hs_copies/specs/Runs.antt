@@ -1,12 +1,8 @@
 -- A shard from its opening on, with its lines, and what is chosen where it stops.
-use Rattle.std.specs.Prelude.{◌≡◌, ◌≢◌, ◌⊎◌, ℕ, zero, suc, ◌+◌, ◌<◌, ◌≤◌, Bool, true, false, List, [], ◌∷◌, ◌++◌, length, Option, Some, None}
-use Rattle.std.specs.Prelude.{slice_get}
-use Rattle.hs_copies.specs.Lists.{Item, IsFront, IsAtMost, end_view}
-use Rattle.hs_copies.specs.Machine.{Copies, CopyEvent, Good}
-use Rattle.hs_copies.specs.Invariant.{AreFaithful, reach}
-use Rattle.hs_copies.specs.Lines.{IsPending, AreLinesOpen, LinedCopies, LineEvent, Step, Begin, Answer, AnswerBy, IsLineAllowed, after_line_event}
-use Rattle.hs_copies.specs.Stamps.{rank_told, view_told, Ascends, TellsView, AreStampsTold}
-use Rattle.hs_copies.specs.Images.{AreImages}
+use Rattle.std.specs.Prelude.{◌≡◌, ℕ, suc, Bool, true, false, List, [], ◌∷◌, Option, None}
+use Rattle.hs_copies.specs.Lists.{Item, IsFront, end_view}
+use Rattle.hs_copies.specs.Lines.{IsPending, LinedCopies, LineEvent, Step, Begin, Answer, AnswerBy, IsLineAllowed, after_line_event}
+use Rattle.hs_copies.specs.Stamps.{view_told, Ascends, TellsView}
 use Rattle.hs_copies.specs.Opened.{stamped_alike}
 use Rattle.hs_copies.specs.Opened.{opened_copies}
 

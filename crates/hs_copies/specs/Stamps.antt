@@ -1,8 +1,7 @@
 -- The views that entries tell: `tells v x` is the view behind the entry x, where v was the view before it.
-use Rattle.std.specs.Prelude.{◌≡◌, ◌≢◌, ◌⊎◌, ℕ, zero, suc, ◌+◌, ◌<◌, ◌≤◌, List, [], ◌∷◌, ◌++◌, length, Option, Some, None}
+use Rattle.std.specs.Prelude.{◌≡◌, ℕ, zero, suc, ◌≤◌, List, [], ◌∷◌, length}
 use Rattle.hs_entry.specs.declared.rank.Rank.{Rank}
-use Rattle.std.specs.Prelude.{slice_get, take}
-use Rattle.hs_copies.specs.Lists.{Item, IsFront, IsAtMost, rank_by_stamps, end_view}
+use Rattle.hs_copies.specs.Lists.{Item, IsFront, end_view}
 use Rattle.hs_copies.specs.Machine.{Copied, Copies, CopyComes, CopyEvent, Copying, Cleared, Fail, GiveUp, HaveComes, Join, Propose, Sealed, Send, Start, TakesEffect}
 use Rattle.hs_copies.specs.Invariant.{reach}
 

@@ -10,7 +10,7 @@ use Rattle.hs_post.specs.declared.message.Message.{Message}
 use Rattle.hs_post.specs.declared.message.Message.TheVariants as message
 use Rattle.hs_rejoin.specs.Rejoin.{Rejoin}
 use Rattle.hs_replica.specs.declared.replica.Replica.{Replica}
-use Rattle.hs_replica.specs.Group.{Group, IsHome, copy_of, view_after}
+use Rattle.hs_replica.specs.Group.{IsHome, copy_of, view_after}
 use Rattle.hs_copies.specs.CoreCopies.{CoreCopies, core_give_up}
 use Rattle.hs_copies.specs.Invariant.{AreFaithful}
 use Rattle.hs_copies.specs.Lists.{IsAmong, Item}

@@ -32,6 +32,6 @@ pub fn runs_of_the_core_are_runs_of_the_machine()
         → MayCallAll calls (core_open shape shard (view_told view_after 0 log) (length log) good m rejoins)
         → (leads : ℕ) × (opens_good shape shard good leads ≡ true)
         × Continues (after_calls calls (core_open shape shard (view_told view_after 0 log) (length log) good m rejoins))
-            (opened_copies (view_told view_after 0 log) (stamped_alike (view_told view_after 0 log) log)
-            (opens_good shape shard good) leads (View (view_of shard m))) }
+        (opened_copies (view_told view_after 0 log) (stamped_alike (view_told view_after 0 log) log)
+        (opens_good shape shard good) leads (View (view_of shard m))) }
 {}

@@ -1,4 +1,3 @@
-use Rattle.hs_entry.specs.declared.entry.Entry.{Entry}
 use Rattle.hs_copies.proofs.OpenedLemmas.{lives_right, opened_right}
 use Rattle.hs_copies.proofs.ViewKeeps.{after_right}
 use Rattle.hs_copies.proofs.faithful.events_keep_the_copies_faithful.Goals as goal

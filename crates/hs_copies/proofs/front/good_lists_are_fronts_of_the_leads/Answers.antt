@@ -1,4 +1,3 @@
-use Rattle.hs_entry.specs.declared.entry.Entry.{Entry}
 use Rattle.hs_copies.proofs.OpenedLemmas.{took_after, took_good}
 use Rattle.hs_copies.proofs.front.good_lists_are_fronts_of_the_leads.Goals as goal
 

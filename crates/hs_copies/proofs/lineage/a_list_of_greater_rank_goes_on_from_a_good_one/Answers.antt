@@ -1,4 +1,3 @@
-use Rattle.hs_entry.specs.declared.entry.Entry.{Entry}
 use Rattle.hs_copies.proofs.OpenedLemmas.{has_effects, lineage_right, one_up_to}
 use Rattle.hs_copies.proofs.lineage.a_list_of_greater_rank_goes_on_from_a_good_one.Goals as goal
 

@@ -1,4 +1,3 @@
-use Rattle.hs_entry.specs.declared.entry.Entry.{Entry}
 use Rattle.hs_copies.proofs.LineLemmas.{does_owned}
 use Rattle.hs_copies.proofs.RunLemmas.{opened_owned}
 use Rattle.hs_copies.proofs.lines.pending_entries_are_of_open_lines.Goals as goal

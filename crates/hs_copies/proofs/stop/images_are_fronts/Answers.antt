@@ -1,4 +1,3 @@
-use Rattle.hs_entry.specs.declared.entry.Entry.{Entry}
 use Rattle.hs_copies.proofs.ImageLemmas.{fine_after}
 use Rattle.hs_copies.proofs.stop.images_are_fronts.Goals as goal
 

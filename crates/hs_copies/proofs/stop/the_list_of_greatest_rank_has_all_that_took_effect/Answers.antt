@@ -1,4 +1,3 @@
-use Rattle.hs_entry.specs.declared.entry.Entry.{Entry}
 use Rattle.hs_copies.proofs.ImageLemmas.{stop}
 use Rattle.hs_copies.proofs.RunLemmas.{stop_since}
 use Rattle.hs_copies.proofs.stop.the_list_of_greatest_rank_has_all_that_took_effect.Goals as goal
