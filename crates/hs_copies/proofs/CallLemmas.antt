@@ -13,8 +13,8 @@ use Rattle.hs_replica.specs.Group.{Group, IsHome, change_copy, commit_front, com
 use Rattle.hs_copies.specs.CoreCopies.{CoreCopies, core_append, core_commit, core_have, core_nudge, core_propose, core_seal}
 use Rattle.hs_copies.specs.Invariant.{AreFaithful}
 use Rattle.hs_copies.specs.Lists.{IsAmong, IsFront, Item}
-use Rattle.hs_copies.specs.Machine.{Copies, CopyComes, CopyEvent, EntryNotice, Good, HaveComes, IsAllowed, PeerCopy, Propose, SealedNotice, Sealed, TakesEffect, after_event, item, put_at}
-use Rattle.hs_copies.specs.Standing.{ArePeers, Continues, IsCopyOf, IsPlain, IsSent, Stands, stamps_of}
+use Rattle.hs_copies.specs.Machine.{Copies, CopyComes, CopyEvent, EntryNotice, Good, HaveComes, CanCome, PeerCopy, Propose, SealedNotice, Sealed, TakesEffect, after_event, item, put_at}
+use Rattle.hs_copies.specs.Standing.{ArePeers, Continues, IsCopyOf, TellsNoView, HasMessage, StandsFor, stamps_of}
 use Rattle.hs_copies.specs.Stamps.{view_told}
 use Rattle.hs_copies.proofs.HomeLemmas.{le_or_lt, set_other, set_same}
 use Rattle.hs_copies.proofs.ListLemmas.{front_length, front_step}
@@ -28,7 +28,7 @@ use Rattle.hs_copies.proofs.ViewKeeps.{after_right}
 -- ---- a peer of the group changes
 
 -- one good peer has another copy, and all else stands as before
-module _ (c : CoreCopies) (s : Copies Entry) (st : Stands c s) (p : ℕ) (own : IsHome c.group p) (good : (s.peers p).stage ≡ Good)
+module _ (c : CoreCopies) (s : Copies Entry) (st : StandsFor c s) (p : ℕ) (own : IsHome c.group p) (good : (s.peers p).stage ≡ Good)
     (f : Replica → Replica) (peers2 : ℕ → PeerCopy Entry)
     (same : (q : ℕ) → q ≢ p → peers2 q ≡ s.peers q)
     (each : IsCopyOf (f (copy_of c.group p)) (peers2 p))
@@ -53,14 +53,14 @@ pub get_end : {X : Type 0} (xs : List X) (x : X) → slice_get (xs ++ x ∷ []) 
 get_end [] x = refl
 get_end (y ∷ xs) x = get_end xs x
 
-module _ (c : CoreCopies) (s : Copies Entry) (st : Stands c s) (entry : Entry) (plain : IsPlain entry) where
+module _ (c : CoreCopies) (s : Copies Entry) (st : StandsFor c s) (entry : Entry) (plain : TellsNoView entry) where
   r : AreFaithful s
   r = st.faithful
 
   l : ℕ
   l = (stands_lead c s st).peer
 
-  proposing : IsAllowed s (Propose (stands_lead c s st).peer entry)
+  proposing : CanCome s (Propose (stands_lead c s st).peer entry)
   proposing = ((stands_lead c s st).good, (stands_lead c s st).whole)
 
   grown : List (Item Entry)
@@ -84,7 +84,7 @@ module _ (c : CoreCopies) (s : Copies Entry) (st : Stands c s) (entry : Entry) (
   proposed_waiting =
       rw (drop-append-le (length s.took) s.log (item s.view entry ∷ []) took_low, map-append (λ (x : Item Entry). x.what) (drop (length s.took) s.log) (item s.view entry ∷ []), st.waiting) refl
 
-  proposed_stands : Stands (record c { group = record (take_entry (stands_lead c s st).peer entry c.group) { waiting = c.group.waiting ++ entry ∷ [] } }) (after_event (Propose (stands_lead c s st).peer entry) s)
+  proposed_stands : StandsFor (record c { group = record (take_entry (stands_lead c s st).peer entry c.group) { waiting = c.group.waiting ++ entry ∷ [] } }) (after_event (Propose (stands_lead c s st).peer entry) s)
   proposed_stands =
       let d = stands_lead c s st in
       let new : PeerCopy Entry = record (s.peers d.peer) { list = s.log ++ item s.view entry ∷ [] } in
@@ -123,18 +123,18 @@ module _ (c : CoreCopies) (s : Copies Entry) (st : Stands c s) (entry : Entry) (
       proposed_stands (proposal entry c.group) (proposal_may (put_at d.peer (record (s.peers d.peer) { list = s.log ++ item s.view entry ∷ [] }) s.peers)))
 
 -- nothing happens
-pub no_event : (c : CoreCopies) (s : Copies Entry) → Stands c s → Continues c s
+pub no_event : (c : CoreCopies) (s : Copies Entry) → StandsFor c s → Continues c s
 no_event c s st = record { events = []; allowed = tt; stands = st }
 
 -- one event
-pub one_event : (c : CoreCopies) (s : Copies Entry) (e : CopyEvent Entry) → IsAllowed s e → Stands c (after_event e s) → Continues c s
+pub one_event : (c : CoreCopies) (s : Copies Entry) (e : CopyEvent Entry) → CanCome s e → StandsFor c (after_event e s) → Continues c s
 one_event c s e a st = record { events = e ∷ []; allowed = (a, tt); stands = st }
 
 -- ---- a Copy comes
 
-module _ (c : CoreCopies) (s : Copies Entry) (st : Stands c s) (p : ℕ) (own : IsHome c.group p) (good : (s.peers p).stage ≡ Good)
+module _ (c : CoreCopies) (s : Copies Entry) (st : StandsFor c s) (p : ℕ) (own : IsHome c.group p) (good : (s.peers p).stage ≡ Good)
     (x : Item Entry) (k : IsAmong (EntryNotice p s.view (length (s.peers p).list) x) s.sent) where
-  coming : IsAllowed s (CopyComes p (length (s.peers p).list) x)
+  coming : CanCome s (CopyComes p (length (s.peers p).list) x)
   coming = (good, refl, k)
 
   here : slice_get s.log (length (s.peers p).list) ≡ Some x
@@ -160,7 +160,7 @@ module _ (c : CoreCopies) (s : Copies Entry) (st : Stands c s) (p : ℕ) (own : 
       (stamped_prefix view_after (length st.begun) st.begun_at ((s.peers p).list ++ x ∷ []) s.log longer_front all) in
       ap (λ w. view_after w x.what) (last_stamp (s.peers p).list ∙ end_view_any 0 st.begun_at (s.peers p).list no_list) ∙ sym v
 
-  pub taken_stands : Stands (record c { group = take_entry p x.what c.group }) (after_event (CopyComes p (length (s.peers p).list) x) s)
+  pub taken_stands : StandsFor (record c { group = take_entry p x.what c.group }) (after_event (CopyComes p (length (s.peers p).list) x) s)
   taken_stands =
       let new : PeerCopy Entry = record (s.peers p) { list = (s.peers p).list ++ x ∷ [] } in
       let k = st.peers.each p own in
@@ -191,11 +191,11 @@ append_if : (peer view number : ℕ) (entry : Entry) (group : Group) (b : Bool) 
     → on_append peer view number entry group ≡ (if b then take_entry peer entry group else group)
 append_if peer view number entry group b e = ap (λ t. if t then take_entry peer entry group else group) e
 
-pub appended : (c : CoreCopies) (s : Copies Entry) → Stands c s → (shard peer view number : ℕ) (entry : Entry) → IsHome c.group peer
+pub appended : (c : CoreCopies) (s : Copies Entry) → StandsFor c s → (shard peer view number : ℕ) (entry : Entry) → IsHome c.group peer
     → IsAmong (message.Copy shard peer view number entry) c.sent → Continues (core_append peer view number entry c) s
 appended c s st shard peer view number entry own k = go (takes peer view number c.group) refl
   where
-    told : IsSent s.sent (message.Copy shard peer view number entry)
+    told : HasMessage s.sent (message.Copy shard peer view number entry)
     told = st.sent (message.Copy shard peer view number entry) k
 
     place_it : (x : Item Entry) → view ≡ s.view → number - 1 ≡ length (s.peers peer).list → IsAmong (EntryNotice peer view (number - 1) x) s.sent
@@ -230,12 +230,12 @@ have_may group now log peers peer number v g n = go (is_peer peer (lead group))
     go true = tt
     go false = each_map (MayTell now log peers) (λ l. message.Have group.shard peer l group.view number) (option_to_list (lead group)) (λ l. (v, g, n))
 
-module _ (c : CoreCopies) (s : Copies Entry) (st : Stands c s) (p number : ℕ) (own : IsHome c.group p) (good : (s.peers p).stage ≡ Good)
+module _ (c : CoreCopies) (s : Copies Entry) (st : StandsFor c s) (p number : ℕ) (own : IsHome c.group p) (good : (s.peers p).stage ≡ Good)
     (low : (s.peers p).sealed ≤ number) (high : number ≤ length (s.peers p).list) where
-  sealing : IsAllowed s (Sealed p number)
+  sealing : CanCome s (Sealed p number)
   sealing = (good, low, high)
 
-  sealed_stands : Stands (record c { group = change_copy p (λ r. record r { sealed = number; known = r.known }) c.group }) (after_event (Sealed p number) s)
+  sealed_stands : StandsFor (record c { group = change_copy p (λ r. record r { sealed = number; known = r.known }) c.group }) (after_event (Sealed p number) s)
   sealed_stands =
       let new : PeerCopy Entry = record (s.peers p) { sealed = number } in
       let k = st.peers.each p own in
@@ -263,13 +263,13 @@ module _ (c : CoreCopies) (s : Copies Entry) (st : Stands c s) (p number : ℕ) 
   s1 : Copies Entry
   s1 = after_event (Sealed p number) s
 
-  known_too : IsAllowed (after_event (Sealed p number) s) (HaveComes p (max (s.peers p).known number))
+  known_too : CanCome (after_event (Sealed p number) s) (HaveComes p (max (s.peers p).known number))
   known_too =
       let new : PeerCopy Entry = record (s.peers p) { sealed = number } in
       let g = st.faithful.good p good in
       rw (put_here p new s.peers) (omega arith, inl (good, omega (arith, g.told, low)))
 
-  known_stands : Stands (record c { group = change_copy p (λ r. record r { sealed = number; known = max r.known number }) c.group })
+  known_stands : StandsFor (record c { group = change_copy p (λ r. record r { sealed = number; known = max r.known number }) c.group })
       (after_event (HaveComes p (max (s.peers p).known number)) (after_event (Sealed p number) s))
   known_stands =
       let new : PeerCopy Entry = record (s.peers p) { sealed = number } in
@@ -323,9 +323,9 @@ have_if : (peer view sealed : ℕ) (group : Group) (b : Bool) → hears peer vie
     → on_have peer view sealed group ≡ (if b then change_copy peer (λ c. record c { known = max c.known sealed }) group else group)
 have_if peer view sealed group b e = ap (λ t. if t then change_copy peer (λ c. record c { known = max c.known sealed }) group else group) e
 
-module _ (c : CoreCopies) (s : Copies Entry) (st : Stands c s) (p sealed : ℕ) (own : IsHome c.group p) (good : (s.peers p).stage ≡ Good)
+module _ (c : CoreCopies) (s : Copies Entry) (st : StandsFor c s) (p sealed : ℕ) (own : IsHome c.group p) (good : (s.peers p).stage ≡ Good)
     (k : IsAmong (SealedNotice p s.view sealed) s.sent) where
-  hearing : IsAllowed s (HaveComes p (max (s.peers p).known sealed))
+  hearing : CanCome s (HaveComes p (max (s.peers p).known sealed))
   hearing = (omega arith, which (le_or_lt (s.peers p).known sealed))
     where
       which : ((s.peers p).known ≤ sealed) ⊎ (sealed < (s.peers p).known)
@@ -333,7 +333,7 @@ module _ (c : CoreCopies) (s : Copies Entry) (st : Stands c s) (p sealed : ℕ) 
       which (inl l) = let e : max (s.peers p).known sealed ≡ sealed = omega (arith, l) in inr (rw e k)
       which (inr l) = inl (good, omega (arith, l, (st.faithful.good p good).told))
 
-  heard_stands : Stands (record c { group = change_copy p (λ r. record r { known = max r.known sealed }) c.group }) (after_event (HaveComes p (max (s.peers p).known sealed)) s)
+  heard_stands : StandsFor (record c { group = change_copy p (λ r. record r { known = max r.known sealed }) c.group }) (after_event (HaveComes p (max (s.peers p).known sealed)) s)
   heard_stands =
       let new : PeerCopy Entry = record (s.peers p) { known = max (s.peers p).known sealed } in
       let k = st.peers.each p own in
@@ -360,7 +360,7 @@ module _ (c : CoreCopies) (s : Copies Entry) (st : Stands c s) (p sealed : ℕ) 
   pub heard_continues : Continues (record c { group = change_copy p (λ r. record r { known = max r.known sealed }) c.group }) s
   heard_continues = one_event (record c { group = change_copy p (λ r. record r { known = max r.known sealed }) c.group }) s (HaveComes p (max (s.peers p).known sealed)) hearing heard_stands
 
-pub heard : (c : CoreCopies) (s : Copies Entry) → Stands c s → (shard from to view sealed : ℕ) → IsHome c.group from
+pub heard : (c : CoreCopies) (s : Copies Entry) → StandsFor c s → (shard from to view sealed : ℕ) → IsHome c.group from
     → IsAmong (message.Have shard from to view sealed) c.sent → Continues (core_have from view sealed c) s
 heard c s st shard from to view sealed own k = go (hears from view c.group) refl
   where
@@ -425,7 +425,7 @@ first_of : (ws : List (Item Entry)) (entry : Entry) → slice_get (map (λ x. x.
 first_of [] entry e = absurd (cc e)
 first_of (x ∷ rest) entry e = (x, rest, refl)
 
-module _ (c : CoreCopies) (s : Copies Entry) (st : Stands c s) (y : ℕ × Entry) (e : committed c.group ≡ Some y) (x : Item Entry) (rest : List (Item Entry))
+module _ (c : CoreCopies) (s : Copies Entry) (st : StandsFor c s) (y : ℕ × Entry) (e : committed c.group ≡ Some y) (x : Item Entry) (rest : List (Item Entry))
     (f : drop (length s.took) s.log ≡ x ∷ rest) where
   tells : (c.group.front < commit_front c.group) × (y.0 ≡ c.group.front + 1) × (slice_get c.group.waiting 0 ≡ Some y.1)
   tells = committed_tells c.group y e
@@ -436,7 +436,7 @@ module _ (c : CoreCopies) (s : Copies Entry) (st : Stands c s) (y : ℕ × Entry
       let k = good_copy c s st q h g in
       omega (arith, st.front, tells.0, least_low c.group q st.copies h k, (st.peers.each q h).known k)
 
-  taking : IsAllowed s (TakesEffect x)
+  taking : CanCome s (TakesEffect x)
   taking = ((drop_cons (length s.took) s.log x rest f).0, all_known)
 
   rest_waits : drop 1 c.group.waiting ≡ map (λ x. x.what) (drop (length (s.took ++ x ∷ [])) s.log)
@@ -444,7 +444,7 @@ module _ (c : CoreCopies) (s : Copies Entry) (st : Stands c s) (y : ℕ × Entry
       let n : length (s.took ++ x ∷ []) ≡ suc (length s.took) = omega (arith, length-append s.took (x ∷ [])) in
       rw (n, (drop_cons (length s.took) s.log x rest f).1, st.waiting, f) refl
 
-  committed_stands : Stands (record c { group = record c.group { front = y.0; waiting = drop 1 c.group.waiting } }) (after_event (TakesEffect x) s)
+  committed_stands : StandsFor (record c { group = record c.group { front = y.0; waiting = drop 1 c.group.waiting } }) (after_event (TakesEffect x) s)
   committed_stands =
       record {
         shape = st.shape;
@@ -466,7 +466,7 @@ module _ (c : CoreCopies) (s : Copies Entry) (st : Stands c s) (y : ℕ × Entry
   pub commits : Continues (record c { group = record c.group { front = y.0; waiting = drop 1 c.group.waiting } }) s
   commits = one_event (record c { group = record c.group { front = y.0; waiting = drop 1 c.group.waiting } }) s (TakesEffect x) taking committed_stands
 
-pub took_effect : (c : CoreCopies) (s : Copies Entry) → Stands c s → Continues (core_commit c) s
+pub took_effect : (c : CoreCopies) (s : Copies Entry) → StandsFor c s → Continues (core_commit c) s
 took_effect c s st = go (committed c.group) refl
   where
     go : (o : Option (ℕ × Entry)) → committed c.group ≡ o → Continues (core_commit c) s
@@ -477,10 +477,10 @@ took_effect c s st = go (committed c.group) refl
 
 -- ---- a nudge
 
-all_waiting : (c : CoreCopies) (s : Copies Entry) → Stands c s → Each (IsOfLog s.log) (enumerate_from (c.group.front + 1) c.group.waiting)
+all_waiting : (c : CoreCopies) (s : Copies Entry) → StandsFor c s → Each (IsOfLog s.log) (enumerate_from (c.group.front + 1) c.group.waiting)
 all_waiting c s st = waiting_of_log s.log c.group.front c.group.waiting (rw st.front st.waiting)
 
-pub nudged : (c : CoreCopies) (s : Copies Entry) → Stands c s → (p : ℕ) → IsHome c.group p → (copy_of c.group p).good ≡ true → Continues (core_nudge p c) s
+pub nudged : (c : CoreCopies) (s : Copies Entry) → StandsFor c s → (p : ℕ) → IsHome c.group p → (copy_of c.group p).good ≡ true → Continues (core_nudge p c) s
 nudged c s st p own k =
     let t = tell_all c s st (resend p c.group) (may (is_peer p (lead c.group)) refl) in
     record { events = t.events; allowed = t.allowed; stands = t.stands }

@@ -6,7 +6,7 @@ use Rattle.hs_replica.specs.Group.{IsHome, copy_of, last_number, lead, length_of
 use Rattle.hs_copies.specs.CoreCopies.{CoreCopies}
 use Rattle.hs_copies.specs.Lists.{IsFront, Item}
 use Rattle.hs_copies.specs.Machine.{Copies}
-use Rattle.hs_copies.specs.Standing.{Stands, stamps_of}
+use Rattle.hs_copies.specs.Standing.{StandsFor, stamps_of}
 use Rattle.hs_copies.proofs.ListLemmas.{front_length}
 use Rattle.hs_copies.proofs.OpenedLemmas.{took_good}
 use Rattle.hs_copies.proofs.StandLemmas.{good_peer, length_is, stands_lead}
@@ -16,7 +16,7 @@ front_stamps [] ys p = tt
 front_stamps (x ∷ xs) [] p = absurd p
 front_stamps (x ∷ xs) (y ∷ ys) p = (ap (λ (z : Item Entry). z.view) p.0, front_stamps xs ys p.1)
 
-module _ (c : CoreCopies) (s : Copies Entry) (st : Stands c s) where
+module _ (c : CoreCopies) (s : Copies Entry) (st : StandsFor c s) where
   pub good_stamps : (p l : ℕ) → IsHome c.group p → (copy_of c.group p).good ≡ true → lead c.group ≡ Some l → IsFront (copy_of c.group p).stamps (copy_of c.group l).stamps
   good_stamps p l own good e =
       let d = stands_lead c s st in

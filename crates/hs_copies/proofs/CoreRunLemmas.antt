@@ -12,7 +12,7 @@ use Rattle.hs_copies.specs.Lists.{Item}
 use Rattle.hs_copies.specs.Machine.{Copies, after_events}
 use Rattle.hs_copies.specs.Opened.{opened_copies, stamped_alike}
 use Rattle.hs_copies.specs.Stamps.{view_told}
-use Rattle.hs_copies.specs.Standing.{Continues, IsOpening, Stands}
+use Rattle.hs_copies.specs.Standing.{Continues, IsOpening, StandsFor}
 use Rattle.hs_copies.proofs.CallLemmas.{appended, heard, nudged, proposed, seals_core, took_effect}
 use Rattle.hs_copies.proofs.FailLemmas.{failed, joined}
 use Rattle.hs_copies.proofs.JoinLemmas.{copied_core, emptied_core, gave_up, started}
@@ -20,11 +20,11 @@ use Rattle.hs_copies.proofs.OpenCoreLemmas.{opens}
 use Rattle.hs_copies.proofs.SendLemmas.{after_append, allowed_append}
 use Rattle.hs_copies.proofs.StandLemmas.{good_peer, length_is}
 
-pub sealed_core : (c : CoreCopies) (s : Copies Entry) → Stands c s → (peer number : ℕ) → MayCall (Seals peer number) c → Continues (after_call (Seals peer number) c) s
+pub sealed_core : (c : CoreCopies) (s : Copies Entry) → StandsFor c s → (peer number : ℕ) → MayCall (Seals peer number) c → Continues (after_call (Seals peer number) c) s
 sealed_core c s st peer number m =
     seals_core c s st peer number m.0 (good_peer c s st peer m.0 m.1) (omega (arith, m.2, (st.peers.each peer m.0).sealed)) (omega (arith, m.3, length_is c s st peer m.0))
 
-pub one_call : (call : CoreCall) (c : CoreCopies) (s : Copies Entry) → Stands c s → MayCall call c → Continues (after_call call c) s
+pub one_call : (call : CoreCall) (c : CoreCopies) (s : Copies Entry) → StandsFor c s → MayCall call c → Continues (after_call call c) s
 one_call (Proposes entry) c s st m = proposed c s st entry m
 one_call (TakesCopy shard peer view number entry) c s st m = appended c s st shard peer view number entry m.0 m.1
 one_call (Seals peer number) c s st m = sealed_core c s st peer number m

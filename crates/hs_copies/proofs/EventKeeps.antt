@@ -2,7 +2,7 @@
 use Rattle.std.proofs.Common.{◌≡◌, ℕ, zero, suc, ◌≤◌, List, [], ◌∷◌, ◌++◌, inl, inr, refl, arith, length, Some, ap}
 use Rattle.std.specs.Prelude.{slice_get, take}
 use Rattle.hs_copies.specs.Lists.{Item, IsFront, AreBelow, Rises, IsBehind, Agree}
-use Rattle.hs_copies.specs.Machine.{Stage, Good, Clearing, Following, Down, PeerCopy, Notice, EntryNotice, SealedNotice, Copies, Propose, Send, CopyComes, Sealed, HaveComes, TakesEffect, GiveUp, Start, Cleared, Copying, Copied, put_at, item, MaySend, IsCommon, IsAllowed, after_event}
+use Rattle.hs_copies.specs.Machine.{Stage, Good, Clearing, Following, Down, PeerCopy, Notice, EntryNotice, SealedNotice, Copies, Propose, Send, CopyComes, Sealed, HaveComes, TakesEffect, GiveUp, Start, Cleared, Copying, Copied, put_at, item, MaySend, IsCommon, CanCome, after_event}
 use Rattle.hs_copies.specs.Invariant.{reach, IsGoodCopy, IsTrue, AreFaithful}
 use Rattle.hs_copies.proofs.ListLemmas.{front_refl, front_append, front_more, front_step, get_more, get_low, take_length, length_append, below_append, rises_append, behind_prefix, behind_less, behind_more, agree_refl, agree_sym, agree_end, common_prefix}
 use Rattle.hs_copies.proofs.PeerLemmas.{put_cases, put_self, reach_none}
@@ -88,7 +88,7 @@ module _ {X : Type 0} (s : Copies X) (r : AreFaithful s) where
       }
 
   -- a copy comes
-  pub copy_comes : (to place : ℕ) (x : Item X) → IsAllowed s (CopyComes to place x) → AreFaithful (after_event (CopyComes to place x) s)
+  pub copy_comes : (to place : ℕ) (x : Item X) → CanCome s (CopyComes to place x) → AreFaithful (after_event (CopyComes to place x) s)
   copy_comes to place x a =
       let g = r.good to a.0 in
       let here : slice_get s.log (length (s.peers to).list) ≡ Some x = rw (← a.1) ((r.sent (EntryNotice to s.view place x) a.2).1 refl) in
@@ -100,7 +100,7 @@ module _ {X : Type 0} (s : Copies X) (r : AreFaithful s) where
       (λ e. absurd (stage_apart (s.peers to).stage (s.peers to).stage a.0 e refl))
 
   -- sealed
-  pub seals : (p n : ℕ) → IsAllowed s (Sealed p n) → AreFaithful (after_event (Sealed p n) s)
+  pub seals : (p n : ℕ) → CanCome s (Sealed p n) → AreFaithful (after_event (Sealed p n) s)
   seals p n a =
       let g = r.good p a.0 in
       let c : PeerCopy X = record (s.peers p) { sealed = n } in
@@ -108,10 +108,10 @@ module _ {X : Type 0} (s : Copies X) (r : AreFaithful s) where
       (λ e. record { prefix = g.prefix; nothing = g.nothing; told = omega (arith, g.told, a.1); held = a.2; front = g.front })
       (λ e. absurd (stage_apart (s.peers p).stage (s.peers p).stage a.0 e refl))
 
-  known_of : (p n : ℕ) → IsAllowed s (HaveComes p n) → ((s.peers p).stage ≡ Good) × (n ≤ (s.peers p).sealed)
+  known_of : (p n : ℕ) → CanCome s (HaveComes p n) → ((s.peers p).stage ≡ Good) × (n ≤ (s.peers p).sealed)
   known_of p n a = elim a.1 [ inl k ↦ k | inr k ↦ (r.sent (SealedNotice p s.view n) k).1 refl ]
 
-  pub have_comes : (p n : ℕ) → IsAllowed s (HaveComes p n) → AreFaithful (after_event (HaveComes p n) s)
+  pub have_comes : (p n : ℕ) → CanCome s (HaveComes p n) → AreFaithful (after_event (HaveComes p n) s)
   have_comes p n a =
       let k = known_of p n a in
       let g = r.good p k.0 in
@@ -125,7 +125,7 @@ module _ {X : Type 0} (s : Copies X) (r : AreFaithful s) where
   effect_fits y (EntryNotice to view place x) f = f
   effect_fits y (SealedNotice from view number) f = f
 
-  pub takes_effect : (x : Item X) → IsAllowed s (TakesEffect x) → AreFaithful (after_event (TakesEffect x) s)
+  pub takes_effect : (x : Item X) → CanCome s (TakesEffect x) → AreFaithful (after_event (TakesEffect x) s)
   takes_effect x a =
       record {
         rises = r.rises;
@@ -150,12 +150,12 @@ module _ {X : Type 0} (s : Copies X) (r : AreFaithful s) where
   following_not : (k : Stage) → k ≡ Following → k ≡ Good → ⊥
   following_not k a b = cc (a, b)
 
-  pub give_up : (p : ℕ) → IsAllowed s (GiveUp p) → AreFaithful (after_event (GiveUp p) s)
+  pub give_up : (p : ℕ) → CanCome s (GiveUp p) → AreFaithful (after_event (GiveUp p) s)
   give_up p a =
       let c : PeerCopy X = record (s.peers p) { stage = Down } in
       one_peer s r p c (inr (front_refl (reach (s.peers p)))) (λ e. absurd (a e)) (λ e f. f) (λ e. absurd (cc e)) (λ e. absurd (cc e))
 
-  pub starts : (p : ℕ) → IsAllowed s (Start p) → AreFaithful (after_event (Start p) s)
+  pub starts : (p : ℕ) → CanCome s (Start p) → AreFaithful (after_event (Start p) s)
   starts p a =
       let c : PeerCopy X = record (s.peers p) { stage = Clearing } in
       one_peer s r p c (inr (front_refl (reach (s.peers p)))) (λ e. absurd (a e)) (λ e f. f) (λ e. absurd (cc e)) (λ e. absurd (cc e))
@@ -166,19 +166,19 @@ module _ {X : Type 0} (s : Copies X) (r : AreFaithful s) where
       let b = behind_less (s.peers p).list (reach (s.peers p)) s.log (front_append (s.peers p).list (s.peers p).adding) (r.behind p) in
       (common_prefix 0 (s.peers p).list s.log n a.0 a.1 r.rises b a.2 a.3 a.4, take_length (suc n) (s.peers p).list (omega (arith, get_low (s.peers p).list n a.0 a.2)))
 
-  pub cleared : (p n : ℕ) → IsAllowed s (Cleared p n) → AreFaithful (after_event (Cleared p n) s)
+  pub cleared : (p n : ℕ) → CanCome s (Cleared p n) → AreFaithful (after_event (Cleared p n) s)
   cleared p n a =
       let k = cleared_common p n a.1 in
       let c : PeerCopy X = record (s.peers p) { stage = Following; list = take n (s.peers p).list; adding = []; sealed = n } in
       let e : reach c ≡ take n (s.peers p).list = reach_none c refl in
       one_peer s r p c (inl (rw e k.0)) (λ g. absurd (clearing_not (s.peers p).stage a.0 g)) (λ g. absurd (clearing_not (s.peers p).stage a.0 g)) (λ g. absurd (cc g)) (λ g. (rw e k.0, k.1))
 
-  pub copying : (p : ℕ) (more : List (Item X)) → IsAllowed s (Copying p more) → AreFaithful (after_event (Copying p more) s)
+  pub copying : (p : ℕ) (more : List (Item X)) → CanCome s (Copying p more) → AreFaithful (after_event (Copying p more) s)
   copying p more a =
       let c : PeerCopy X = record (s.peers p) { adding = more } in
       one_peer s r p c (inl a.1) (λ g. absurd (following_not (s.peers p).stage a.0 g)) (λ g. absurd (following_not (s.peers p).stage a.0 g)) (λ g. absurd (following_not (s.peers p).stage a.0 g)) (λ g. (a.1, (r.following p a.0).1))
 
-  pub copied : (p : ℕ) → IsAllowed s (Copied p) → AreFaithful (after_event (Copied p) s)
+  pub copied : (p : ℕ) → CanCome s (Copied p) → AreFaithful (after_event (Copied p) s)
   copied p a =
       let c : PeerCopy X = record (s.peers p) { list = (s.peers p).list ++ (s.peers p).adding; adding = []; sealed = length ((s.peers p).list ++ (s.peers p).adding) } in
       let e : reach c ≡ reach (s.peers p) = reach_none c refl in

@@ -12,8 +12,8 @@ use Rattle.hs_rejoin.specs.Rejoin.{Rejoin, is_level, new_rejoin}
 use Rattle.hs_replica.specs.Group.{Group, IsHome, copy_of, first_peer, is_peer, lead, length_of, on_view, told, view_messages}
 use Rattle.hs_copies.specs.CoreCopies.{CoreCopies, begin_with, core_fail, core_join, core_view}
 use Rattle.hs_copies.specs.Lists.{IsFront}
-use Rattle.hs_copies.specs.Machine.{Copies, Down, Fail, Following, Good, IsAllowed, Join, PeerCopy, Stage, begin_again, put_at, stage_again}
-use Rattle.hs_copies.specs.Standing.{Continues, Stands, is_good_stage, stage_of}
+use Rattle.hs_copies.specs.Machine.{Copies, Down, Fail, Following, Good, CanCome, Join, PeerCopy, Stage, begin_again, put_at, stage_again}
+use Rattle.hs_copies.specs.Standing.{Continues, StandsFor, is_good_stage, stage_of}
 use Rattle.hs_copies.proofs.HomeLemmas.{Leads, lead_found}
 use Rattle.hs_copies.proofs.ListLemmas.{front_left, front_length}
 use Rattle.hs_copies.proofs.NewViewLemmas.{good_status, new_view, before, led_anew, told_good, told_length, told_long}
@@ -91,7 +91,7 @@ good_only is.Good due e = refl
 good_only is.Joining due e = let wrong : false ≡ true = e in cc
 good_only is.Down due e = let wrong : false ≡ true = e in cc
 
-module _ (c : CoreCopies) (s : Copies Entry) (st : Stands c s) (p : ℕ) (own : IsHome c.group p) (was : status p c.members ≡ is.Good)
+module _ (c : CoreCopies) (s : Copies Entry) (st : StandsFor c s) (p : ℕ) (own : IsHome c.group p) (was : status p c.members ≡ is.Good)
     (left : has_good c.group.shard (become p is.Down c.members) ≡ true) where
   m : Members
   m = become p is.Down c.members
@@ -154,7 +154,7 @@ module _ (c : CoreCopies) (s : Copies Entry) (st : Stands c s) (p : ℕ) (own : 
         same_peer : (k : ℕ) → k ≡ p → is_peer p (Some k) ≡ true
         same_peer k e = rw e (grind (arith, nat_tests))
 
-    failing : IsAllowed s (Fail p l (is_peer p (lead c.group)) (View (view_of c.group.shard (become p is.Down c.members))))
+    failing : CanCome s (Fail p l (is_peer p (lead c.group)) (View (view_of c.group.shard (become p is.Down c.members))))
     failing = (d.other, good_before, d.good, longest_left, whole_left)
 
     stages : (again : Bool) (dues : ℕ → Rejoin) → ((q : ℕ) → again ≡ true → (dues q).empty ≡ true) → ((q : ℕ) → again ≡ false → dues q ≡ c.rejoins q)
@@ -228,7 +228,7 @@ module _ (c : CoreCopies) (s : Copies Entry) (st : Stands c s) (p : ℕ) (own : 
           st.shape (become_members p is.Down c.members st.members) rises left_list left_sealed
           (stages (is_peer p (lead c.group)) dues all none) left_counted left_still left_elsewhere d.chosen d.leads.home left_good left_within left_has
 
-pub failed : (c : CoreCopies) (s : Copies Entry) → Stands c s → (p : ℕ) → IsHome c.group p → status p c.members ≡ is.Good
+pub failed : (c : CoreCopies) (s : Copies Entry) → StandsFor c s → (p : ℕ) → IsHome c.group p → status p c.members ≡ is.Good
     → has_good c.group.shard (become p is.Down c.members) ≡ true → Continues (core_fail p c) s
 failed c s st p own was left = go (is_peer p (lead c.group)) refl
   where
@@ -263,7 +263,7 @@ failed c s st p own was left = go (is_peer p (lead c.group)) refl
 
 -- ---- a joining peer is good
 
-module _ (c : CoreCopies) (s : Copies Entry) (st : Stands c s) (p : ℕ) (own : IsHome c.group p) (joins : status p c.members ≡ is.Joining)
+module _ (c : CoreCopies) (s : Copies Entry) (st : StandsFor c s) (p : ℕ) (own : IsHome c.group p) (joins : status p c.members ≡ is.Joining)
     (done : (c.rejoins p).empty ≡ false) (level : (c.rejoins p).len ≡ length s.log) where
   joiner : IsPeer c.members.shape p
   joiner = rw st.shape (home_peer c.group p st.shard own)
@@ -341,7 +341,7 @@ module _ (c : CoreCopies) (s : Copies Entry) (st : Stands c s) (p : ℕ) (own : 
           front_length (s.peers l).list s.log within_log,
         )
 
-    joining : IsAllowed s (Join p l (View (view_of c.group.shard (become p is.Good c.members))))
+    joining : CanCome s (Join p l (View (view_of c.group.shard (become p is.Good c.members))))
     joining = (follows, st.peers.still p own follows, long, (good_other, lead_whole))
 
     lead_good : (staged p Good s.peers l).stage ≡ Good
@@ -361,7 +361,7 @@ module _ (c : CoreCopies) (s : Copies Entry) (st : Stands c s) (p : ℕ) (own : 
         joining refl (λ v. join_rises) st.shape (become_members p is.Good c.members st.members) join_rises (staged_list p Good s.peers) (staged_sealed p Good s.peers)
         join_stages join_counted join_still join_elsewhere d.chosen d.leads.home lead_good lead_within lead_has
 
-pub joined : (c : CoreCopies) (s : Copies Entry) → Stands c s → (p l : ℕ) → IsHome c.group p → status p c.members ≡ is.Joining
+pub joined : (c : CoreCopies) (s : Copies Entry) → StandsFor c s → (p l : ℕ) → IsHome c.group p → status p c.members ≡ is.Joining
     → lead c.group ≡ Some l → is_level (length_of c.group l) (c.rejoins p) ≡ true → Continues (core_join p c) s
 joined c s st p l own joins e level =
     let k = stands_lead c s st in
@@ -378,8 +378,8 @@ joined c s st p l own joins e level =
 
 -- ---- another shard's peer
 
-pub elsewhere_stands : (c : CoreCopies) (s : Copies Entry) → Stands c s → (p : ℕ) (new : PeerStatus) → 0 < c.group.shape.copies → (IsHome c.group p → ⊥)
-    → Stands (record c { members = become p new c.members }) s
+pub elsewhere_stands : (c : CoreCopies) (s : Copies Entry) → StandsFor c s → (p : ℕ) (new : PeerStatus) → 0 < c.group.shape.copies → (IsHome c.group p → ⊥)
+    → StandsFor (record c { members = become p new c.members }) s
 elsewhere_stands c s st p new some n =
     let apart : c.group.shard ≢ home_of c.members.shape p = λ e. other_shard c.group p some n (rw st.shape at (sym e)) in
     record {

@@ -2,7 +2,7 @@
 use Rattle.std.proofs.Common.{◌≡◌, ℕ, suc, ◌≤◌, Bool, true, false, List, [], ◌∷◌, ◌++◌, ◌⊎◌, inl, inr, refl, arith, length, Some, ◌∙◌}
 use Rattle.std.specs.Prelude.{slice_get, take}
 use Rattle.hs_copies.specs.Lists.{Item, IsFront}
-use Rattle.hs_copies.specs.Machine.{Good, Clearing, Following, Down, PeerCopy, EntryNotice, Copies, CopyEvent, Propose, Send, CopyComes, Sealed, HaveComes, TakesEffect, Fail, GiveUp, Start, Cleared, Copying, Copied, Join, put_at, item, told_copy, begin_again, with_new_view, IsAllowed, after_event}
+use Rattle.hs_copies.specs.Machine.{Good, Clearing, Following, Down, PeerCopy, EntryNotice, Copies, CopyEvent, Propose, Send, CopyComes, Sealed, HaveComes, TakesEffect, Fail, GiveUp, Start, Cleared, Copying, Copied, Join, put_at, item, told_copy, begin_again, with_new_view, CanCome, after_event}
 use Rattle.hs_copies.specs.Invariant.{reach, AreFaithful}
 use Rattle.hs_copies.proofs.ListLemmas.{front_refl, front_length, front_both, front_step}
 use Rattle.hs_copies.proofs.PeerLemmas.{put_cases, reach_none}
@@ -50,15 +50,15 @@ module _ {X : Type 0} (s : Copies X) (r : AreFaithful s) where
   begins_adding true c = refl
   begins_adding false c = refl
 
-  fail_adding : (p lead : ℕ) (again : Bool) (x : X) → IsAllowed s (Fail p lead again x) → (begin_again again (put_at p (record (s.peers p) { stage = Down }) s.peers lead)).adding ≡ []
+  fail_adding : (p lead : ℕ) (again : Bool) (x : X) → CanCome s (Fail p lead again x) → (begin_again again (put_at p (record (s.peers p) { stage = Down }) s.peers lead)).adding ≡ []
   fail_adding p lead again x a =
       put_cases (λ k. (begin_again again k).adding ≡ []) p (record (s.peers p) { stage = Down }) s.peers lead (λ e. absurd (a.0 e)) (λ e. begins_adding again (s.peers lead) ∙ (r.good lead a.2).nothing)
 
-  join_adding : (p lead : ℕ) (x : X) → IsAllowed s (Join p lead x) → (put_at p (record (s.peers p) { stage = Good }) s.peers lead).adding ≡ []
+  join_adding : (p lead : ℕ) (x : X) → CanCome s (Join p lead x) → (put_at p (record (s.peers p) { stage = Good }) s.peers lead).adding ≡ []
   join_adding p lead x a =
       put_cases (λ k. k.adding ≡ []) p (record (s.peers p) { stage = Good }) s.peers lead (λ e. a.1) (λ e. (r.good lead (a.3.0 e)).nothing)
 
-  pub grown : (e : CopyEvent X) → IsAllowed s e → (q : ℕ) → IsGrown s e q (reach ((after_event e s).peers q))
+  pub grown : (e : CopyEvent X) → CanCome s e → (q : ℕ) → IsGrown s e q (reach ((after_event e s).peers q))
   unfolding others joined
   grown (Propose lead x) a q =
       let c : PeerCopy X = record (s.peers lead) { list = s.log ++ item s.view x ∷ [] } in

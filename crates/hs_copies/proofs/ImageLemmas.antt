@@ -2,7 +2,7 @@
 use Rattle.std.proofs.Common.{◌≡◌, ℕ, suc, ◌≤◌, Bool, true, false, List, [], ◌∷◌, ◌++◌, inl, inr, refl, arith, length, ap, ◌∙◌}
 use Rattle.std.specs.Prelude.{take}
 use Rattle.hs_copies.specs.Lists.{Item, IsFront}
-use Rattle.hs_copies.specs.Machine.{Stage, Good, Clearing, Following, Down, PeerCopy, Copies, CopyEvent, Propose, Send, CopyComes, Sealed, HaveComes, TakesEffect, Fail, GiveUp, Start, Cleared, Copying, Copied, Join, put_at, item, told_copy, stage_again, begin_again, with_new_view, IsAllowed, after_event}
+use Rattle.hs_copies.specs.Machine.{Stage, Good, Clearing, Following, Down, PeerCopy, Copies, CopyEvent, Propose, Send, CopyComes, Sealed, HaveComes, TakesEffect, Fail, GiveUp, Start, Cleared, Copying, Copied, Join, put_at, item, told_copy, stage_again, begin_again, with_new_view, CanCome, after_event}
 use Rattle.hs_copies.specs.Invariant.{reach, AreFaithful}
 use Rattle.hs_copies.specs.Images.{KeepsSealed, IsFine, IsReported, AreImages, HasGreatestRank}
 use Rattle.hs_copies.proofs.ListLemmas.{front_refl, front_trans, front_more, front_both, append_nil, take_length}
@@ -50,7 +50,7 @@ module _ {X : Type 0} (s : Copies X) (r : AreFaithful s) (q : ℕ) (l : List (It
       (λ i. fine_longer (peers lead) (item (suc s.view) x ∷ []) (peers lead).sealed l e (rw (← i) g))
       (λ i. record { front = g.front; sealed = g.sealed })
 
-  pub fine_after : (e : CopyEvent X) → IsAllowed s e → IsReported s e q l → IsFine ((after_event e s).peers q) l
+  pub fine_after : (e : CopyEvent X) → CanCome s e → IsReported s e q l → IsFine ((after_event e s).peers q) l
   fine_after (Propose lead x) a t =
       one lead (record (s.peers lead) { list = s.log ++ item s.view x ∷ [] })
       (λ i. rw (← a.1) (fine_longer (s.peers lead) (item s.view x ∷ []) (s.peers lead).known l (r.good lead a.0).nothing (get_one lead i)))

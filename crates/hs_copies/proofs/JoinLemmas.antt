@@ -11,8 +11,8 @@ use Rattle.hs_replica.specs.declared.replica.Replica.{Replica}
 use Rattle.hs_replica.specs.Group.{Group, IsHome, change_copy, copy_of, lead, length_of, on_copied, on_emptied, view_after}
 use Rattle.hs_copies.specs.CoreCopies.{CoreCopies, begin_with, core_copied, core_empty, core_give_up, core_start}
 use Rattle.hs_copies.specs.Lists.{IsFront, Item}
-use Rattle.hs_copies.specs.Machine.{Clearing, Cleared, Copied, Copies, Copying, Down, Following, GiveUp, Good, IsAllowed, PeerCopy, Stage, Start, after_event, put_at}
-use Rattle.hs_copies.specs.Standing.{Continues, IsCopyingStep, Stands, is_good_stage, stage_of, stamps_of}
+use Rattle.hs_copies.specs.Machine.{Clearing, Cleared, Copied, Copies, Copying, Down, Following, GiveUp, Good, CanCome, PeerCopy, Stage, Start, after_event, put_at}
+use Rattle.hs_copies.specs.Standing.{Continues, IsCopyingStep, StandsFor, is_good_stage, stage_of, stamps_of}
 use Rattle.hs_copies.proofs.CallLemmas.{one_event}
 use Rattle.hs_copies.proofs.HomeLemmas.{set_other, set_same}
 use Rattle.hs_copies.proofs.ListLemmas.{front_left, front_step}
@@ -35,7 +35,7 @@ not_down_following k a b = cc (a, b)
 not_clearing_following : (k : Stage) → k ≡ Clearing → k ≡ Following → ⊥
 not_clearing_following k a b = cc (a, b)
 
-module _ (c : CoreCopies) (s : Copies Entry) (st : Stands c s) (p : ℕ) (own : IsHome c.group p) where
+module _ (c : CoreCopies) (s : Copies Entry) (st : StandsFor c s) (p : ℕ) (own : IsHome c.group p) where
   own_peer : IsPeer c.members.shape p
   own_peer = rw st.shape (home_peer c.group p st.shard own)
 
@@ -45,13 +45,13 @@ module _ (c : CoreCopies) (s : Copies Entry) (st : Stands c s) (p : ℕ) (own : 
     joining : is_good_stage (s.peers p).stage ≡ false
     joining = ap is_good_stage (st.peers.stage p own) ∙ ap (λ k. is_good_stage (stage_of k (c.rejoins p).empty)) joins ∙ joining_not_good (c.rejoins p).empty
 
-    giving_up : IsAllowed s (GiveUp p)
+    giving_up : CanCome s (GiveUp p)
     giving_up = not_good (s.peers p).stage joining
 
     no_change : changes_good (status p c.members) is.Down ≡ false
     no_change = rw joins refl
 
-    gave_up_stands : Stands (core_give_up p c) (after_event (GiveUp p) s)
+    gave_up_stands : StandsFor (core_give_up p c) (after_event (GiveUp p) s)
     gave_up_stands =
         let new : PeerCopy Entry = record (s.peers p) { stage = Down } in
         let k = st.peers.each p own in
@@ -87,13 +87,13 @@ module _ (c : CoreCopies) (s : Copies Entry) (st : Stands c s) (p : ℕ) (own : 
     down : (s.peers p).stage ≡ Down
     down = st.peers.stage p own ∙ ap (λ k. stage_of k (c.rejoins p).empty) lies
 
-    starting : IsAllowed s (Start p)
+    starting : CanCome s (Start p)
     starting = not_good (s.peers p).stage (ap is_good_stage down)
 
     no_good_change : changes_good (status p c.members) is.Joining ≡ false
     no_good_change = rw lies refl
 
-    started_stands : Stands (core_start p c) (after_event (Start p) s)
+    started_stands : StandsFor (core_start p c) (after_event (Start p) s)
     started_stands =
         let d = stands_lead c s st in
         let new : PeerCopy Entry = record (s.peers p) { stage = Clearing } in
@@ -132,10 +132,10 @@ module _ (c : CoreCopies) (s : Copies Entry) (st : Stands c s) (p : ℕ) (own : 
     clearing : (s.peers p).stage ≡ Clearing
     clearing = st.peers.stage p own ∙ ap (λ k. stage_of k (c.rejoins p).empty) joins ∙ ap (λ b. stage_of is.Joining b) due
 
-    emptying : IsAllowed s (Cleared p 0)
+    emptying : CanCome s (Cleared p 0)
     emptying = (clearing, tt)
 
-    emptied_stands : Stands (core_empty p c) (after_event (Cleared p 0) s)
+    emptied_stands : StandsFor (core_empty p c) (after_event (Cleared p 0) s)
     emptied_stands =
         let new : PeerCopy Entry = record (s.peers p) { stage = Following; list = []; adding = []; sealed = 0 } in
         let k = st.peers.each p own in
@@ -184,7 +184,7 @@ item_at [] n l = absurd (omega (arith, l))
 item_at (y ∷ xs) zero l = (y, refl)
 item_at (y ∷ xs) (suc n) l = item_at xs n (omega (arith, l))
 
-module _ (c : CoreCopies) (s : Copies Entry) (st : Stands c s) (p number : ℕ) (own : IsHome c.group p) (joins : status p c.members ≡ is.Joining)
+module _ (c : CoreCopies) (s : Copies Entry) (st : StandsFor c s) (p number : ℕ) (own : IsHome c.group p) (joins : status p c.members ≡ is.Joining)
     (done : (c.rejoins p).empty ≡ false) (next : number ≡ (c.rejoins p).len + 1)
     (x : Item Entry) (here : slice_get s.log (length (s.peers p).list) ≡ Some x) where
   pub following : (s.peers p).stage ≡ Following
@@ -196,7 +196,7 @@ module _ (c : CoreCopies) (s : Copies Entry) (st : Stands c s) (p number : ℕ) 
   front : IsFront (s.peers p).list s.log
   front = front_left (s.peers p).list (s.peers p).adding s.log (st.faithful.following p following).0
 
-  pub copying : IsAllowed s (Copying p (x ∷ []))
+  pub copying : CanCome s (Copying p (x ∷ []))
   copying = (following, front_step (s.peers p).list s.log x front here, st.peers.still p own following)
 
   new : PeerCopy Entry
@@ -219,7 +219,7 @@ module _ (c : CoreCopies) (s : Copies Entry) (st : Stands c s) (p number : ℕ) 
   s1 : Copies Entry
   s1 = after_event (Copying p (x ∷ [])) s
 
-  copy_done : IsAllowed (after_event (Copying p (x ∷ [])) s) (Copied p)
+  copy_done : CanCome (after_event (Copying p (x ∷ [])) s) (Copied p)
   copy_done = rw (put_here p (record (s.peers p) { adding = x ∷ [] }) s.peers) following
 
   number_is : number ≡ length ((s.peers p).list ++ x ∷ [])
@@ -235,7 +235,7 @@ module _ (c : CoreCopies) (s : Copies Entry) (st : Stands c s) (p number : ℕ) 
   with_one : ℕ → Replica → Replica
   with_one view r = record r { stamps = r.stamps ++ view ∷ []; sealed = number }
 
-  copied_stands : Stands (record c { group = change_copy p (λ r. record r { stamps = r.stamps ++ x.view ∷ []; sealed = number }) c.group; rejoins = put_at p (copied number (c.rejoins p)) c.rejoins })
+  copied_stands : StandsFor (record c { group = change_copy p (λ r. record r { stamps = r.stamps ++ x.view ∷ []; sealed = number }) c.group; rejoins = put_at p (copied number (c.rejoins p)) c.rejoins })
       (after_event (Copied p) (after_event (Copying p (x ∷ [])) s))
   unfolding newer whole
   copied_stands =
@@ -279,7 +279,7 @@ module _ (c : CoreCopies) (s : Copies Entry) (st : Stands c s) (p number : ℕ) 
 
   -- ---- the step is broken off
 
-  broken_off : IsAllowed (after_event (Copying p (x ∷ [])) s) (GiveUp p)
+  broken_off : CanCome (after_event (Copying p (x ∷ [])) s) (GiveUp p)
   broken_off = rw (put_here p (record (s.peers p) { adding = x ∷ [] }) s.peers) (λ e. not_good_following (s.peers p).stage e following)
 
   lies : PeerCopy Entry
@@ -292,7 +292,7 @@ module _ (c : CoreCopies) (s : Copies Entry) (st : Stands c s) (p number : ℕ) 
   unfolding lies broken
   is_broken = rw (put_here p (record (s.peers p) { adding = x ∷ [] }) s.peers) refl
 
-  broken_stands : Stands (core_give_up p c) (after_event (GiveUp p) (after_event (Copying p (x ∷ [])) s))
+  broken_stands : StandsFor (core_give_up p c) (after_event (GiveUp p) (after_event (Copying p (x ∷ [])) s))
   unfolding lies broken
   broken_stands =
       let k = st.peers.each p own in
@@ -335,7 +335,7 @@ module _ (c : CoreCopies) (s : Copies Entry) (st : Stands c s) (p number : ℕ) 
         broken = broken_stands;
       }
 
-pub copied_core : (c : CoreCopies) (s : Copies Entry) → Stands c s → (p number l : ℕ) → IsHome c.group p → status p c.members ≡ is.Joining
+pub copied_core : (c : CoreCopies) (s : Copies Entry) → StandsFor c s → (p number l : ℕ) → IsHome c.group p → status p c.members ≡ is.Joining
     → (c.rejoins p).empty ≡ false → number ≡ (c.rejoins p).len + 1 → lead c.group ≡ Some l → number ≤ length_of c.group l → Continues (core_copied p number c) s
 copied_core c s st p number l own joins done next e low =
     let d = stands_lead c s st in
@@ -345,7 +345,7 @@ copied_core c s st p number l own joins done next e low =
     let k = item_at s.log (length (s.peers p).list) (omega (arith, next, low, n, st.peers.counted p own f)) in
     copied_one c s st p number own joins done next k.0 k.1
 
-pub step_under_way : (c : CoreCopies) (s : Copies Entry) → Stands c s → (p number l : ℕ) → IsHome c.group p → status p c.members ≡ is.Joining
+pub step_under_way : (c : CoreCopies) (s : Copies Entry) → StandsFor c s → (p number l : ℕ) → IsHome c.group p → status p c.members ≡ is.Joining
     → (c.rejoins p).empty ≡ false → number ≡ (c.rejoins p).len + 1 → lead c.group ≡ Some l → number ≤ length_of c.group l → IsCopyingStep c s p
 step_under_way c s st p number l own joins done next e low =
     let d = stands_lead c s st in

@@ -2,9 +2,9 @@
 use Rattle.std.proofs.Common.{◌≡◌, ℕ, zero, suc, ◌<◌, Bool, true, false, if◌then◌else◌, nat_eq, eqb-true, List, [], ◌∷◌, ◌++◌, ◌⊎◌, inl, inr, refl, sym, arith, length, Option, Some, ap, ◌∙◌}
 use Rattle.std.specs.Prelude.{slice_get}
 use Rattle.hs_copies.specs.Lists.{Item, IsFront, end_view}
-use Rattle.hs_copies.specs.Machine.{Copies, CopyEvent, Propose, Send, CopyComes, Sealed, HaveComes, TakesEffect, Fail, GiveUp, Start, Cleared, Copying, Copied, Join, IsAllowed, after_event, item}
+use Rattle.hs_copies.specs.Machine.{Copies, CopyEvent, Propose, Send, CopyComes, Sealed, HaveComes, TakesEffect, Fail, GiveUp, Start, Cleared, Copying, Copied, Join, CanCome, after_event, item}
 use Rattle.hs_copies.specs.Invariant.{reach, AreFaithful}
-use Rattle.hs_copies.specs.Lines.{IsPending, AreLinesOpen, LinedCopies, LineEvent, Step, Begin, Answer, AnswerBy, set_waits, ProposesRightly, IsLineAllowed, after_line_event}
+use Rattle.hs_copies.specs.Lines.{IsLineEntry, AreLinesOpen, LinedCopies, LineEvent, Step, Begin, Answer, AnswerBy, set_waits, ProposesRightly, CanComeToLines, after_line_event}
 use Rattle.hs_copies.proofs.ListLemmas.{front_refl, front_trans, front_append, append_nil, length_append}
 use Rattle.hs_copies.proofs.PeerLemmas.{reach_none}
 use Rattle.hs_copies.proofs.ViewKeeps.{after_right}
@@ -29,30 +29,30 @@ module _ {X : Type 0} (line : X → Option ℕ) (waits : ℕ → Bool) (s : Copi
   log_reach = reach_none (s.peers r.led.0) (r.good r.led.0 r.led.1).nothing ∙ r.led.2
 
   -- pending in a front is pending in the whole
-  pub up : (xs ys : List (Item X)) (n k : ℕ) → IsFront xs ys → IsPending line s.took xs n k → IsPending line s.took ys n k
+  pub up : (xs ys : List (Item X)) (n k : ℕ) → IsFront xs ys → IsLineEntry line s.took xs n k → IsLineEntry line s.took ys n k
   up xs ys n k p h =
       record { entry = h.entry; has = front_trans s.took xs ys h.has p; above = h.above; here = get_prefix xs ys n h.entry p h.here; of_line = h.of_line }
 
-  to_lead : (xs : List (Item X)) (n k : ℕ) → IsFront xs s.log → IsPending line s.took xs n k → IsPending line s.took (reach (s.peers r.led.0)) n k
+  to_lead : (xs : List (Item X)) (n k : ℕ) → IsFront xs s.log → IsLineEntry line s.took xs n k → IsLineEntry line s.took (reach (s.peers r.led.0)) n k
   to_lead xs n k p h = up xs (reach (s.peers r.led.0)) n k (rw log_reach p) h
 
-  log_waits : (xs : List (Item X)) (n k : ℕ) → IsFront xs s.log → IsPending line s.took xs n k → waits k ≡ true
+  log_waits : (xs : List (Item X)) (n k : ℕ) → IsFront xs s.log → IsLineEntry line s.took xs n k → waits k ≡ true
   log_waits xs n k p h = o.waiting r.led.0 n k (to_lead xs n k p h)
 
-  log_once : (xs : List (Item X)) (m n k : ℕ) → IsFront xs s.log → IsPending line s.took xs m k → IsPending line s.took xs n k → m ≡ n
+  log_once : (xs : List (Item X)) (m n k : ℕ) → IsFront xs s.log → IsLineEntry line s.took xs m k → IsLineEntry line s.took xs n k → m ≡ n
   log_once xs m n k p h i = o.once r.led.0 m n k (to_lead xs m k p h) (to_lead xs n k p i)
 
   -- pending with an entry more: pending before, or just that entry
-  split : (ys : List (Item X)) (y : Item X) (n k : ℕ) → IsFront ys s.log → IsPending line s.took (ys ++ y ∷ []) n k → IsPending line s.took s.log n k ⊎ ((n ≡ length ys) × (line y.what ≡ Some k))
+  split : (ys : List (Item X)) (y : Item X) (n k : ℕ) → IsFront ys s.log → IsLineEntry line s.took (ys ++ y ∷ []) n k → IsLineEntry line s.took s.log n k ⊎ ((n ≡ length ys) × (line y.what ≡ Some k))
   split ys y n k p h =
       elim (get_end ys y n h.entry h.here) [ inl e ↦ inl (record { entry = h.entry; has = r.took; above = h.above; here = get_prefix ys s.log n h.entry p e; of_line = h.of_line }) | inr e ↦ inr (e.0, rw e.1 h.of_line) ]
 
-  module _ (e : CopyEvent X) (a : IsAllowed s e) (l : ProposesRightly line (record { copies = s; waits = waits }) e) (same : (after_event e s).took ≡ s.took) where
+  module _ (e : CopyEvent X) (a : CanCome s e) (l : ProposesRightly line (record { copies = s; waits = waits }) e) (same : (after_event e s).took ≡ s.took) where
     -- the entry that is added is of a line that waits and has no other
-    new_line : (y : Item X) (k : ℕ) → items_added e s ≡ y ∷ [] → line y.what ≡ Some k → (waits k ≡ true) × ((n : ℕ) → IsPending line s.took s.log n k → ⊥)
+    new_line : (y : Item X) (k : ℕ) → items_added e s ≡ y ∷ [] → line y.what ≡ Some k → (waits k ≡ true) × ((n : ℕ) → IsLineEntry line s.took s.log n k → ⊥)
     new_line y k f g = go e l f
       where
-        go : (e : CopyEvent X) → ProposesRightly line (record { copies = s; waits = waits }) e → items_added e s ≡ y ∷ [] → (waits k ≡ true) × ((n : ℕ) → IsPending line s.took s.log n k → ⊥)
+        go : (e : CopyEvent X) → ProposesRightly line (record { copies = s; waits = waits }) e → items_added e s ≡ y ∷ [] → (waits k ≡ true) × ((n : ℕ) → IsLineEntry line s.took s.log n k → ⊥)
         go (Propose lead x) l f = l k (let i : item s.view x ≡ y = cc f in rw (ap (λ (j : Item X). line j.what) i) g)
         go (Fail p lead again x) l f = let i : item (suc s.view) x ≡ y = cc f in let j : line x ≡ Some k = rw (ap (λ (j : Item X). line j.what) i) g in absurd (cc (l, j))
         go (Join p lead x) l f = let i : item (suc s.view) x ≡ y = cc f in let j : line x ≡ Some k = rw (ap (λ (j : Item X). line j.what) i) g in absurd (cc (l, j))
@@ -85,7 +85,7 @@ module _ {X : Type 0} (line : X → Option ℕ) (waits : ℕ → Bool) (s : Copi
         go (Copying p more) = inl refl
         go (Copied p) = inl refl
 
-    step_waits : (q n k : ℕ) (xs : List (Item X)) → IsGrown s e q xs → IsPending line s.took xs n k → waits k ≡ true
+    step_waits : (q n k : ℕ) (xs : List (Item X)) → IsGrown s e q xs → IsLineEntry line s.took xs n k → waits k ≡ true
     step_waits q n k xs g h =
         elim g [
           | inl p ↦ log_waits xs n k p h
@@ -99,7 +99,7 @@ module _ {X : Type 0} (line : X → Option ℕ) (waits : ℕ → Bool) (s : Copi
           ]
         ]
 
-    step_once : (q m n k : ℕ) (xs : List (Item X)) → IsGrown s e q xs → IsPending line s.took xs m k → IsPending line s.took xs n k → m ≡ n
+    step_once : (q m n k : ℕ) (xs : List (Item X)) → IsGrown s e q xs → IsLineEntry line s.took xs m k → IsLineEntry line s.took xs n k → m ≡ n
     step_once q m n k xs g h i =
         elim g [
           | inl p ↦ log_once xs m n k p h i
@@ -110,7 +110,7 @@ module _ {X : Type 0} (line : X → Option ℕ) (waits : ℕ → Bool) (s : Copi
           ]
         ]
       where
-        both : (ys : List (Item X)) (y : Item X) → IsFront ys s.log → items_added e s ≡ y ∷ [] → IsPending line s.took s.log m k ⊎ ((m ≡ length ys) × (line y.what ≡ Some k)) → IsPending line s.took s.log n k ⊎ ((n ≡ length ys) × (line y.what ≡ Some k)) → m ≡ n
+        both : (ys : List (Item X)) (y : Item X) → IsFront ys s.log → items_added e s ≡ y ∷ [] → IsLineEntry line s.took s.log m k ⊎ ((m ≡ length ys) × (line y.what ≡ Some k)) → IsLineEntry line s.took s.log n k ⊎ ((n ≡ length ys) × (line y.what ≡ Some k)) → m ≡ n
         both ys y p z (inl u) (inl v) = log_once s.log m n k (front_refl s.log) u v
         both ys y p z (inl u) (inr v) = absurd ((new_line y k z v.1).1 m u)
         both ys y p z (inr u) (inl v) = absurd ((new_line y k z u.1).1 n v)
@@ -124,8 +124,8 @@ module _ {X : Type 0} (line : X → Option ℕ) (waits : ℕ → Bool) (s : Copi
         }
 
   -- an entry takes effect, and its line may be answered by it
-  module _ (x : Item X) (a : IsAllowed s (TakesEffect x)) where
-    down : (xs : List (Item X)) (n k : ℕ) → IsPending line (s.took ++ x ∷ []) xs n k → IsPending line s.took xs n k × (length s.took < n) × (slice_get xs (length s.took) ≡ Some x) × IsFront s.took xs
+  module _ (x : Item X) (a : CanCome s (TakesEffect x)) where
+    down : (xs : List (Item X)) (n k : ℕ) → IsLineEntry line (s.took ++ x ∷ []) xs n k → IsLineEntry line s.took xs n k × (length s.took < n) × (slice_get xs (length s.took) ≡ Some x) × IsFront s.took xs
     down xs n k h = (
       record { entry = h.entry; has = front_trans s.took (s.took ++ x ∷ []) xs (front_append s.took (x ∷ [])) h.has; above = omega (arith, h.above, length_append s.took (x ∷ [])); here = h.here; of_line = h.of_line },
       omega (arith, h.above, length_append s.took (x ∷ [])),
@@ -151,20 +151,20 @@ module _ {X : Type 0} (line : X → Option ℕ) (waits : ℕ → Bool) (s : Copi
           once = λ y m n k h i. o.once y m n k (down (reach (s.peers y)) m k h).0 (down (reach (s.peers y)) n k i).0;
         }
       where
-        stay : (y n k : ℕ) → IsPending line (s.took ++ x ∷ []) (reach (s.peers y)) n k → (t : Bool) → nat_eq k j ≡ t → (if t then false else waits k) ≡ true
+        stay : (y n k : ℕ) → IsLineEntry line (s.took ++ x ∷ []) (reach (s.peers y)) n k → (t : Bool) → nat_eq k j ≡ t → (if t then false else waits k) ≡ true
         stay y n k h true f =
             let d = down (reach (s.peers y)) n k h in
             let i : k ≡ j = eqb-true k j f in
-            let begun : IsPending line s.took (reach (s.peers y)) (length s.took) k = record { entry = x; has = d.3; above = omega arith; here = d.2; of_line = rw i e } in
+            let begun : IsLineEntry line s.took (reach (s.peers y)) (length s.took) k = record { entry = x; has = d.3; above = omega arith; here = d.2; of_line = rw i e } in
             absurd (omega (arith, d.1, o.once y (length s.took) n k begun d.0))
         stay y n k h false f = o.waiting y n k (down (reach (s.peers y)) n k h).0
 
   -- in a settled view a line without an entry in the lead's list has none in any list
-  pub answer_owned : (j : ℕ) → end_view 0 s.took ≡ s.view → ((n : ℕ) → IsPending line s.took s.log n j → ⊥) → AreLinesOpen line (set_waits j false waits) s
+  pub answer_owned : (j : ℕ) → end_view 0 s.took ≡ s.view → ((n : ℕ) → IsLineEntry line s.took s.log n j → ⊥) → AreLinesOpen line (set_waits j false waits) s
   answer_owned j settled none =
       record { waiting = λ y n k h. stay y n k h (nat_eq k j) refl; once = o.once }
     where
-      stay : (y n k : ℕ) → IsPending line s.took (reach (s.peers y)) n k → (t : Bool) → nat_eq k j ≡ t → (if t then false else waits k) ≡ true
+      stay : (y n k : ℕ) → IsLineEntry line s.took (reach (s.peers y)) n k → (t : Bool) → nat_eq k j ≡ t → (if t then false else waits k) ≡ true
       stay y n k h true f =
           let p : IsFront (reach (s.peers y)) s.log = settled_right s r settled y (reach (s.peers y)) (front_refl (reach (s.peers y))) h.has in
           absurd (none n (rw (← eqb-true k j f) (up (reach (s.peers y)) s.log n k p h)))
@@ -193,7 +193,7 @@ took_same (Copying p more) s = inl refl
 took_same (Copied p) s = inl refl
 took_same (Join p lead x) s = inl refl
 
-pub does_owned : {X : Type 0} (line : X → Option ℕ) (w : LinedCopies X) (d : LineEvent X) → AreFaithful w.copies → AreLinesOpen line w.waits w.copies → IsLineAllowed line w d → AreFaithful (after_line_event d w).copies × AreLinesOpen line (after_line_event d w).waits (after_line_event d w).copies
+pub does_owned : {X : Type 0} (line : X → Option ℕ) (w : LinedCopies X) (d : LineEvent X) → AreFaithful w.copies → AreLinesOpen line w.waits w.copies → CanComeToLines line w d → AreFaithful (after_line_event d w).copies × AreLinesOpen line (after_line_event d w).waits (after_line_event d w).copies
 does_owned line w (Step e) r o a =
     (after_right w.copies r e a.0, elim (took_same e w.copies) [ inl k ↦ step_owned line w.waits w.copies r o e a.0 a.1 k | inr k ↦ rw k.1 (effect_owned line w.waits w.copies r o k.0 (rw k.1 at a.0)) ])
 does_owned line w (Begin k) r o a = (r, begin_owned line w.waits w.copies r o k)

@@ -18,9 +18,9 @@ use Rattle.hs_replica.specs.Group.{Group, IsHome, copies_above, copy_of, first_p
 use Rattle.hs_copies.specs.CoreCopies.{CoreCopies}
 use Rattle.hs_copies.specs.Invariant.{AreFaithful}
 use Rattle.hs_copies.specs.Lists.{IsAmong, IsFront, Item}
-use Rattle.hs_copies.specs.Machine.{Copies, CopyEvent, Down, Following, Good, IsAllowed, PeerCopy, after_event, item, put_at, told_copy, with_new_view}
+use Rattle.hs_copies.specs.Machine.{Copies, CopyEvent, Down, Following, Good, CanCome, PeerCopy, after_event, item, put_at, told_copy, with_new_view}
 use Rattle.hs_copies.specs.Stamps.{AreStampsTold, TellsView}
-use Rattle.hs_copies.specs.Standing.{ArePeers, Continues, IsCopyOf, IsSent, Stands, is_good_stage, stage_of, stamps_of}
+use Rattle.hs_copies.specs.Standing.{ArePeers, Continues, IsCopyOf, HasMessage, StandsFor, is_good_stage, stage_of, stamps_of}
 use Rattle.hs_copies.proofs.CallLemmas.{get_end, propose_is}
 use Rattle.hs_copies.proofs.HomeLemmas.{change_each, lead_found, set_same}
 use Rattle.hs_copies.proofs.ListLemmas.{get_more}
@@ -98,9 +98,9 @@ pub record Before (c : CoreCopies) (s : Copies Entry) : Type 0 where
   pub each : (q : ℕ) → IsHome c.group q → IsCopyOf (copy_of c.group q) (s.peers q)
   pub front : c.group.front ≡ length s.took
   pub waiting : c.group.waiting ≡ map (λ x. x.what) (drop (length s.took) s.log)
-  pub sent : (n : Message) → IsAmong n c.sent → IsSent s.sent n
+  pub sent : (n : Message) → IsAmong n c.sent → HasMessage s.sent n
 
-pub before : (c : CoreCopies) (s : Copies Entry) → Stands c s → Before c s
+pub before : (c : CoreCopies) (s : Copies Entry) → StandsFor c s → Before c s
 before c s st =
     record { shard = st.shard; copies = st.copies; each = st.peers.each; front = st.front; waiting = st.waiting; sent = st.sent }
 
@@ -178,7 +178,7 @@ module _ (c : CoreCopies) (s : Copies Entry) (b : Before c s) (m : Members) (due
 
   pub view_stands : AreFaithful (with_new_view l (View (view_of c.group.shard m)) peers s) → (begun : List (Item Entry)) (begun_at : ℕ)
       → AreStampsTold view_after begun begun_at (with_new_view l (View (view_of c.group.shard m)) peers s)
-      → Stands (record c { group = viewed m l c.group; members = m; rejoins = dues }) (with_new_view l (View (view_of c.group.shard m)) peers s)
+      → StandsFor (record c { group = viewed m l c.group; members = m; rejoins = dues }) (with_new_view l (View (view_of c.group.shard m)) peers s)
   view_stands faithful begun begun_at stamped =
       record {
         shape = shape;
@@ -240,9 +240,9 @@ module _ (c : CoreCopies) (s : Copies Entry) (b : Before c s) (m : Members) (due
       (f.0, ap lead (view_is m c.group l leads) ∙ f.1)
 
 -- the core's new view is the event
-pub new_view : (c : CoreCopies) (s : Copies Entry) → Stands c s → (m : Members) (dues : ℕ → Rejoin) (peers : ℕ → PeerCopy Entry) (l : ℕ)
+pub new_view : (c : CoreCopies) (s : Copies Entry) → StandsFor c s → (m : Members) (dues : ℕ → Rejoin) (peers : ℕ → PeerCopy Entry) (l : ℕ)
     → (e : CopyEvent Entry)
-    → IsAllowed s e
+    → CanCome s e
     → after_event e s ≡ with_new_view l (View (view_of c.group.shard m)) peers s
     → TellsView view_after s e
     → m.shape ≡ c.group.shape

@@ -17,7 +17,7 @@ use Rattle.hs_copies.specs.Lists.{Item}
 use Rattle.hs_copies.specs.Machine.{Copies, Down, Following, Good, PeerCopy}
 use Rattle.hs_copies.specs.Opened.{copy_with, opened_copies, stamped_alike, taken_copies}
 use Rattle.hs_copies.specs.Stamps.{view_told}
-use Rattle.hs_copies.specs.Standing.{Continues, IsCopyOf, IsOpening, Stands, stage_of, stamps_of}
+use Rattle.hs_copies.specs.Standing.{Continues, IsCopyOf, IsOpening, StandsFor, stage_of, stamps_of}
 use Rattle.hs_copies.proofs.FailLemmas.{good_found}
 use Rattle.hs_copies.proofs.HomeLemmas.{Leads, le_or_lt, lead_found}
 use Rattle.hs_copies.proofs.ListLemmas.{front_refl}
@@ -164,7 +164,7 @@ module _ (shape : Shape) (shard : ℕ) (log : List (Item Entry)) (good : List Bo
     begun : Copies Entry
     begun = opened_copies (view_told view_after 0 log) (stamped_alike (view_told view_after 0 log) log) (opens_good shape shard good) l (View (view_of shard m))
 
-    begun_stands : Stands (record c { group = viewed m l group }) (opened_copies (view_told view_after 0 log) (stamped_alike (view_told view_after 0 log) log) (opens_good shape shard good) l (View (view_of shard m)))
+    begun_stands : StandsFor (record c { group = viewed m l group }) (opened_copies (view_told view_after 0 log) (stamped_alike (view_told view_after 0 log) log) (opens_good shape shard good) l (View (view_of shard m)))
     begun_stands =
         view_stands c s opening_before m rejoins peers l o.same o.valid o.view (λ q. refl) (λ q. refl) open_stages
         (λ q h e. absurd (none_follows (opens_good shape shard good q) e)) (λ q h e. absurd (none_follows (opens_good shape shard good q) e)) open_elsewhere

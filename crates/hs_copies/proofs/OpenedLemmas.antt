@@ -4,7 +4,7 @@ use Rattle.std.specs.Prelude.{slice_get, take}
 use Rattle.hs_copies.specs.Lists.{Item, IsFront, AreBelow, Rises, IsBehind, Agree, IsAtMost, rank_by_stamps, end_view}
 use Rattle.hs_copies.specs.Machine.{Good, Following, Copies, CopyEvent, Propose, Send, CopyComes, Sealed, HaveComes, TakesEffect, Fail, GiveUp, Start, Cleared, Copying, Copied, Join, after_event, after_events}
 use Rattle.hs_copies.specs.Invariant.{reach, IsGoodCopy, AreFaithful}
-use Rattle.hs_copies.specs.Opened.{copy_with, taken_copies, opened_copies, IsRun}
+use Rattle.hs_copies.specs.Opened.{copy_with, taken_copies, opened_copies, IsCopyRun}
 use Rattle.hs_copies.proofs.ListLemmas.{front_refl, front_trans, front_append, front_both, below_prefix, behind_prefix, agree_up_to, behind_less, agree_refl, rises_prefix, append_nil, lineage, view_ap}
 use Rattle.hs_copies.proofs.ChangeLemmas.{Stays, next_view, log_below}
 use Rattle.hs_copies.proofs.ViewKeeps.{keeps_right}
@@ -61,7 +61,7 @@ module _ {X : Type 0} (view : ℕ) (log : List (Item X)) (good : ℕ → Bool) (
       (rw w (front_refl log)) (λ q g. with_stays (copy_with log (good lead)).list w (good q) g)
       (λ q g. let k = with_following (good q) g in (rw w k.0, k.1))
 
-pub lives_right : {X : Type 0} (s : Copies X) → IsRun s → AreFaithful s
+pub lives_right : {X : Type 0} (s : Copies X) → IsCopyRun s → AreFaithful s
 lives_right s l =
     rw (← l.here) (keeps_right (opened_copies l.view l.taken_log l.good l.lead l.what) l.events (opened_right l.view l.taken_log l.good l.lead l.what l.rises l.below l.leads) l.legal)
 

@@ -3,7 +3,7 @@ use Rattle.std.proofs.Common.{◌≡◌, ℕ, zero, suc, ◌≤◌, Bool, true, 
 use Rattle.hs_copies.specs.Lists.{Item, AreBelow, Rises, end_view}
 use Rattle.hs_copies.specs.Machine.{item, told_copy}
 use Rattle.hs_copies.specs.Invariant.{reach}
-use Rattle.hs_copies.specs.Stamps.{view_told, Ascends, AreStamped, AreStampsTold}
+use Rattle.hs_copies.specs.Stamps.{view_told, ToldRises, AreStamped, AreStampsTold}
 use Rattle.hs_copies.specs.Opened.{copy_with, opened_copies}
 use Rattle.hs_copies.specs.Opened.{stamped_alike}
 use Rattle.hs_copies.proofs.ListLemmas.{front_refl, append_nil}
@@ -18,7 +18,7 @@ alike_told : {X : Type 0} (tells : ℕ → X → ℕ) (d v : ℕ) (xs : List (It
 alike_told tells d v [] = refl
 alike_told tells d v (x ∷ xs) = alike_told tells (tells d x.what) v xs
 
-alike_ascends : {X : Type 0} (tells : ℕ → X → ℕ) (d v : ℕ) (xs : List (Item X)) → Ascends tells d xs → Ascends tells d (stamped_alike v xs)
+alike_ascends : {X : Type 0} (tells : ℕ → X → ℕ) (d v : ℕ) (xs : List (Item X)) → ToldRises tells d xs → ToldRises tells d (stamped_alike v xs)
 alike_ascends tells d v [] a = tt
 alike_ascends tells d v (x ∷ xs) a = (a.0, alike_ascends tells (tells d x.what) v xs a.1)
 
@@ -38,7 +38,7 @@ pub alike_below : {X : Type 0} (v : ℕ) (xs : List (Item X)) → AreBelow (suc 
 alike_below v [] = tt
 alike_below v (x ∷ xs) = (omega arith, alike_below v xs)
 
-pub opened_tells : {X : Type 0} (tells : ℕ → X → ℕ) (list : List (Item X)) (good : ℕ → Bool) (lead : ℕ) (x : X) (v : ℕ) → Ascends tells 0 list → view_told tells 0 list ≡ v → good lead ≡ true → ((w : ℕ) → tells w x ≡ suc v) → AreStampsTold tells (stamped_alike v list) v (opened_copies v (stamped_alike v list) good lead x)
+pub opened_tells : {X : Type 0} (tells : ℕ → X → ℕ) (list : List (Item X)) (good : ℕ → Bool) (lead : ℕ) (x : X) (v : ℕ) → ToldRises tells 0 list → view_told tells 0 list ≡ v → good lead ≡ true → ((w : ℕ) → tells w x ≡ suc v) → AreStampsTold tells (stamped_alike v list) v (opened_copies v (stamped_alike v list) good lead x)
 opened_tells {X = X} tells list good lead x v a e g t =
     record {
       opening = front_refl (stamped_alike v list);

@@ -8,14 +8,14 @@ use Rattle.hs_post.specs.declared.message.Message.TheVariants as message
 use Rattle.hs_replica.specs.Group.{Group, copies_above, entries_above, view_after}
 use Rattle.hs_copies.specs.CoreCopies.{CoreCopies}
 use Rattle.hs_copies.specs.Lists.{IsAmong, Item}
-use Rattle.hs_copies.specs.Machine.{AreAllowed, Copies, CopyEvent, EntryNotice, Good, IsAllowed, Notice, PeerCopy, SealedNotice, Send, after_event, after_events}
-use Rattle.hs_copies.specs.Standing.{Continues, IsSent, Stands}
+use Rattle.hs_copies.specs.Machine.{CanComeAll, Copies, CopyEvent, EntryNotice, Good, CanCome, Notice, PeerCopy, SealedNotice, Send, after_event, after_events}
+use Rattle.hs_copies.specs.Standing.{Continues, HasMessage, StandsFor}
 use Rattle.hs_copies.proofs.StampLemmas.{tells_after}
 use Rattle.hs_copies.proofs.ViewKeeps.{after_right}
 
 -- ---- events one after another
 
-pub allowed_append : (s : Copies Entry) (es fs : List (CopyEvent Entry)) → AreAllowed s es → AreAllowed (after_events s es) fs → AreAllowed s (es ++ fs)
+pub allowed_append : (s : Copies Entry) (es fs : List (CopyEvent Entry)) → CanComeAll s es → CanComeAll (after_events s es) fs → CanComeAll s (es ++ fs)
 allowed_append s [] fs a b = b
 allowed_append s (e ∷ es) fs a b = (a.0, allowed_append (after_event e s) es fs a.1 b)
 
@@ -59,18 +59,18 @@ MayTell now log peers (message.Copy shard to view number entry) =
 MayTell now log peers (message.Have shard from to view sealed) = (view ≡ now) × ((peers from).stage ≡ Good) × (sealed ≤ (peers from).sealed)
 MayTell now log peers (message.Round from to epoch round total deltas) = Unit {0}
 
-sent_more : (sent : List (Notice Entry)) (notice : Notice Entry) (m : Message) → IsSent sent m → IsSent (notice ∷ sent) m
+sent_more : (sent : List (Notice Entry)) (notice : Notice Entry) (m : Message) → HasMessage sent m → HasMessage (notice ∷ sent) m
 sent_more sent notice (message.Copy shard to view number entry) f = (f.0, (f.1.0, f.1.1, inr f.1.2))
 sent_more sent notice (message.Have shard from to view sealed) f = inr f
 sent_more sent notice (message.Round from to epoch round total deltas) f = tt
 
-sent_now : (sent : List (Notice Entry)) (notice : Notice Entry) (ms : List Message) (m : Message) → IsSent (notice ∷ sent) m
-    → ((n : Message) → IsAmong n ms → IsSent sent n) → (n : Message) → IsAmong n (m ∷ ms) → IsSent (notice ∷ sent) n
+sent_now : (sent : List (Notice Entry)) (notice : Notice Entry) (ms : List Message) (m : Message) → HasMessage (notice ∷ sent) m
+    → ((n : Message) → IsAmong n ms → HasMessage sent n) → (n : Message) → IsAmong n (m ∷ ms) → HasMessage (notice ∷ sent) n
 sent_now sent notice ms m h all n (inl e) = rw e h
 sent_now sent notice ms m h all n (inr k) = sent_more sent notice n (all n k)
 
-send_notice : (c : CoreCopies) (s : Copies Entry) → Stands c s → (m : Message) (notice : Notice Entry) → IsAllowed s (Send notice) → IsSent (notice ∷ s.sent) m
-    → Stands (record c { sent = m ∷ c.sent }) (after_event (Send notice) s)
+send_notice : (c : CoreCopies) (s : Copies Entry) → StandsFor c s → (m : Message) (notice : Notice Entry) → CanCome s (Send notice) → HasMessage (notice ∷ s.sent) m
+    → StandsFor (record c { sent = m ∷ c.sent }) (after_event (Send notice) s)
 send_notice c s st m notice a h =
     record {
       shape = st.shape;
@@ -92,16 +92,16 @@ send_notice c s st m notice a h =
 -- these messages were sent, and nothing else changed
 pub record HaveTold (c : CoreCopies) (s : Copies Entry) (ms : List Message) : Type 0 where
   pub events : List (CopyEvent Entry)
-  pub allowed : AreAllowed s events
+  pub allowed : CanComeAll s events
   pub view : (after_events s events).view ≡ s.view
   pub log : (after_events s events).log ≡ s.log
   pub peers : (after_events s events).peers ≡ s.peers
-  pub stands : Stands (record c { sent = ms ++ c.sent }) (after_events s events)
+  pub stands : StandsFor (record c { sent = ms ++ c.sent }) (after_events s events)
 
-tell_one : (c : CoreCopies) (s : Copies Entry) → Stands c s → (m : Message) → MayTell s.view s.log s.peers m → HaveTold c s (m ∷ [])
+tell_one : (c : CoreCopies) (s : Copies Entry) → StandsFor c s → (m : Message) → MayTell s.view s.log s.peers m → HaveTold c s (m ∷ [])
 tell_one c s st (message.Copy shard to view number entry) h =
     let notice : Notice Entry = EntryNotice to view (number - 1) h.2.0 in
-    let a : IsAllowed s (Send notice) = (h.1, h.2.2) in
+    let a : CanCome s (Send notice) = (h.1, h.2.2) in
     record {
       events = Send notice ∷ [];
       allowed = (a, tt);
@@ -145,11 +145,11 @@ tell_one c s st (message.Round from to epoch round total deltas) h =
       };
     }
   where
-    of_round : (n : Message) → IsAmong n (message.Round from to epoch round total deltas ∷ c.sent) → IsSent s.sent n
+    of_round : (n : Message) → IsAmong n (message.Round from to epoch round total deltas ∷ c.sent) → HasMessage s.sent n
     of_round n (inl e) = rw e tt
     of_round n (inr k) = st.sent n k
 
-pub tell_all : (c : CoreCopies) (s : Copies Entry) → Stands c s → (ms : List Message) → Each (MayTell s.view s.log s.peers) ms → HaveTold c s ms
+pub tell_all : (c : CoreCopies) (s : Copies Entry) → StandsFor c s → (ms : List Message) → Each (MayTell s.view s.log s.peers) ms → HaveTold c s ms
 tell_all c s st [] h = record { events = []; allowed = tt; view = refl; log = refl; peers = refl; stands = st }
 tell_all c s st (m ∷ ms) h =
     let rest = tell_all c s st ms h.1 in
@@ -164,7 +164,7 @@ tell_all c s st (m ∷ ms) h =
     }
 
 -- one event, and then these messages
-pub one_and_tell : (c : CoreCopies) (s : Copies Entry) (e : CopyEvent Entry) → IsAllowed s e → Stands c (after_event e s) → (ms : List Message)
+pub one_and_tell : (c : CoreCopies) (s : Copies Entry) (e : CopyEvent Entry) → CanCome s e → StandsFor c (after_event e s) → (ms : List Message)
     → Each (MayTell (after_event e s).view (after_event e s).log (after_event e s).peers) ms → Continues (record c { sent = ms ++ c.sent }) s
 one_and_tell c s e a st ms h =
     let k = tell_all c (after_event e s) st ms h in

@@ -2,9 +2,9 @@
 use Rattle.std.proofs.Common.{◌≡◌, ℕ, zero, suc, ◌≤◌, ◌<◌, List, [], ◌∷◌, ◌++◌, ◌⊎◌, inl, inr, refl, sym, arith, length, ap, ◌∙◌}
 use Rattle.std.specs.Prelude.{take}
 use Rattle.hs_copies.specs.Lists.{Item, IsFront, Agree, IsAtMost, rank_by_stamps, end_view}
-use Rattle.hs_copies.specs.Machine.{Good, Down, put_at, begin_again, Copies, CopyEvent, Propose, Send, CopyComes, Sealed, HaveComes, TakesEffect, Fail, GiveUp, Start, Cleared, Copying, Copied, Join, item, IsAllowed, after_event}
+use Rattle.hs_copies.specs.Machine.{Good, Down, put_at, begin_again, Copies, CopyEvent, Propose, Send, CopyComes, Sealed, HaveComes, TakesEffect, Fail, GiveUp, Start, Cleared, Copying, Copied, Join, item, CanCome, after_event}
 use Rattle.hs_copies.specs.Invariant.{reach, AreFaithful}
-use Rattle.hs_copies.specs.Stamps.{view_told, rank_told, Ascends, AreStamped, TellsView, AreStampsTold}
+use Rattle.hs_copies.specs.Stamps.{view_told, rank_told, ToldRises, AreStamped, TellsView, AreStampsTold}
 use Rattle.hs_copies.proofs.ListLemmas.{front_trans, front_length, front_both, view_ap, append_nil, agree_front_of}
 use Rattle.hs_copies.proofs.PeerLemmas.{reach_none}
 use Rattle.hs_copies.proofs.GrownLemmas.{grown, IsGrown, items_added, StandsBehind}
@@ -44,13 +44,13 @@ same_behind tells v [] t = refl
 same_behind tells v (x ∷ xs) t = rw (← t.0) (same_behind tells x.view xs t.1)
 
 -- the views told in a front of the list of opening are no higher than that of the whole
-pub told_low : {X : Type 0} (tells : ℕ → X → ℕ) (d : ℕ) (start : List (Item X)) → Ascends tells d start → d ≤ view_told tells d start
+pub told_low : {X : Type 0} (tells : ℕ → X → ℕ) (d : ℕ) (start : List (Item X)) → ToldRises tells d start → d ≤ view_told tells d start
 told_low tells d [] a = omega arith
 told_low tells d (x ∷ xs) a = omega (arith, a.0, told_low tells (tells d x.what) xs a.1)
 
 -- a list whose first items are those of opening: what it tells is at most its view, and just that once all of them are there
 module _ {X : Type 0} (tells : ℕ → X → ℕ) (v : ℕ) where
-  told_at_most : (d : ℕ) (start xs : List (Item X)) → Ascends tells d start → view_told tells d start ≡ v → AreStamped tells (length start) v xs → IsFront (take (length start) xs) start → view_told tells d xs ≤ (end_view v xs)
+  told_at_most : (d : ℕ) (start xs : List (Item X)) → ToldRises tells d start → view_told tells d start ≡ v → AreStamped tells (length start) v xs → IsFront (take (length start) xs) start → view_told tells d xs ≤ (end_view v xs)
   told_at_most d [] xs a e t p = omega (arith, same_behind tells v xs t, ap (λ k. view_told tells k xs) e)
   told_at_most d (y ∷ start) [] a e t p = omega (arith, e, told_low tells d (y ∷ start) a)
   told_at_most d (y ∷ start) (x ∷ xs) a e t p =
@@ -142,7 +142,7 @@ module _ {X : Type 0} (tells : ℕ → X → ℕ) (start : List (Item X)) (v : �
   current_after (Copying p more) d = k.current d
   current_after (Copied p) d = k.current d
 
-  pub tells_after : (e : CopyEvent X) → IsAllowed s e → TellsView tells s e → AreStampsTold tells start v (after_event e s)
+  pub tells_after : (e : CopyEvent X) → CanCome s e → TellsView tells s e → AreStampsTold tells start v (after_event e s)
   tells_after e a t =
       record {
         opening = front_trans start s.took (after_event e s).took k.opening (took_after s e);

@@ -11,7 +11,7 @@ use Rattle.hs_replica.specs.Group.{IsHome, copy_of, last_view, lead, length_of}
 use Rattle.hs_copies.specs.CoreCopies.{CoreCopies}
 use Rattle.hs_copies.specs.Lists.{Item, end_view}
 use Rattle.hs_copies.specs.Machine.{Clearing, Copies, Down, Following, Good, PeerCopy, Stage}
-use Rattle.hs_copies.specs.Standing.{ArePeers, IsCopyOf, Stands, is_good_stage, stage_of, stamps_of}
+use Rattle.hs_copies.specs.Standing.{ArePeers, IsCopyOf, StandsFor, is_good_stage, stage_of, stamps_of}
 use Rattle.hs_copies.proofs.HomeLemmas.{Leads, home_or_not, lead_found}
 use Rattle.hs_copies.proofs.ListLemmas.{front_whole}
 
@@ -48,7 +48,7 @@ pub record HasLead (c : CoreCopies) (s : Copies Entry) : Type 0 where
   pub good : (s.peers peer).stage ≡ Good
   pub whole : (s.peers peer).list ≡ s.log
 
-module _ (c : CoreCopies) (s : Copies Entry) (st : Stands c s) where
+module _ (c : CoreCopies) (s : Copies Entry) (st : StandsFor c s) where
   pub good_home : (p : ℕ) → (s.peers p).stage ≡ Good → IsHome c.group p
   good_home p g =
       elim (home_or_not c.group p) [ inl h ↦ h | inr n ↦ absurd (not_good_down (s.peers p).stage g (st.peers.elsewhere p n)) ]

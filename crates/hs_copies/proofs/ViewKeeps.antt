@@ -1,7 +1,7 @@
 -- A peer that fails, and one that joins: new views.
 use Rattle.std.proofs.Common.{◌≡◌, ◌≢◌, ℕ, Bool, true, false, List, [], ◌∷◌, refl, sym, arith, length, ap, ◌∙◌}
 use Rattle.hs_copies.specs.Lists.{Item, IsFront}
-use Rattle.hs_copies.specs.Machine.{Stage, Good, Clearing, Following, Down, PeerCopy, Copies, CopyEvent, Propose, Send, CopyComes, Sealed, HaveComes, TakesEffect, Fail, GiveUp, Start, Cleared, Copying, Copied, Join, put_at, stage_again, begin_again, IsAllowed, after_event, AreAllowed, after_events}
+use Rattle.hs_copies.specs.Machine.{Stage, Good, Clearing, Following, Down, PeerCopy, Copies, CopyEvent, Propose, Send, CopyComes, Sealed, HaveComes, TakesEffect, Fail, GiveUp, Start, Cleared, Copying, Copied, Join, put_at, stage_again, begin_again, CanCome, after_event, CanComeAll, after_events}
 use Rattle.hs_copies.specs.Invariant.{reach, AreFaithful}
 use Rattle.hs_copies.proofs.ListLemmas.{front_refl, front_length, front_whole, front_both, front_left}
 use Rattle.hs_copies.proofs.PeerLemmas.{put_cases}
@@ -49,7 +49,7 @@ begins_followed true c lead p l = (p, l)
 begins_followed false c lead p l = (p, l)
 
 module _ {X : Type 0} (s : Copies X) (r : AreFaithful s) where
-  module _ (p lead : ℕ) (again : Bool) (x : X) (a : IsAllowed s (Fail p lead again x)) where
+  module _ (p lead : ℕ) (again : Bool) (x : X) (a : CanCome s (Fail p lead again x)) where
     down : PeerCopy X
     down = record (s.peers p) { stage = Down }
 
@@ -114,7 +114,7 @@ module _ {X : Type 0} (s : Copies X) (r : AreFaithful s) where
         (cases (λ k. k.stage ≡ Good) lead (λ e. absurd (a.0 e)) (λ e. begins_good again (s.peers lead) a.2))
         fail_within fail_good fail_following
 
-  module _ (p lead : ℕ) (x : X) (a : IsAllowed s (Join p lead x)) where
+  module _ (p lead : ℕ) (x : X) (a : CanCome s (Join p lead x)) where
     unfoldable pub joined : ℕ → PeerCopy X
     joined = put_at p (record (s.peers p) { stage = Good }) s.peers
 
@@ -158,7 +158,7 @@ module _ {X : Type 0} (s : Copies X) (r : AreFaithful s) where
         (put_cases (λ k. k.stage ≡ Good) p (record (s.peers p) { stage = Good }) s.peers lead (λ e. refl) (λ e. a.3.0 e))
         (rw join_list (front_refl s.log)) join_good join_following
 
-  pub after_right : (e : CopyEvent X) → IsAllowed s e → AreFaithful (after_event e s)
+  pub after_right : (e : CopyEvent X) → CanCome s e → AreFaithful (after_event e s)
   after_right (Propose lead x) a = propose s r lead x a.0 a.1
   after_right (Send m) a = send s r m a
   after_right (CopyComes to place x) a = copy_comes s r to place x a
@@ -173,6 +173,6 @@ module _ {X : Type 0} (s : Copies X) (r : AreFaithful s) where
   after_right (Copied p) a = copied s r p a
   after_right (Join p lead x) a = joins p lead x a
 
-pub keeps_right : {X : Type 0} (s : Copies X) (es : List (CopyEvent X)) → AreFaithful s → AreAllowed s es → AreFaithful (after_events s es)
+pub keeps_right : {X : Type 0} (s : Copies X) (es : List (CopyEvent X)) → AreFaithful s → CanComeAll s es → AreFaithful (after_events s es)
 keeps_right s [] r l = r
 keeps_right s (e ∷ es) r l = keeps_right (after_event e s) es (after_right s r e l.0) l.1

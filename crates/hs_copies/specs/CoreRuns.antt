@@ -8,7 +8,7 @@ use Rattle.hs_rejoin.specs.Rejoin.{is_level}
 use Rattle.hs_replica.specs.Group.{IsHome, copy_of, lead, length_of}
 use Rattle.hs_copies.specs.CoreCopies.{CoreCopies, core_append, core_commit, core_copied, core_empty, core_fail, core_give_up, core_have, core_join, core_nudge, core_propose, core_seal, core_start}
 use Rattle.hs_copies.specs.Lists.{IsAmong}
-use Rattle.hs_copies.specs.Standing.{IsPlain}
+use Rattle.hs_copies.specs.Standing.{TellsNoView}
 
 pub data CoreCall : Type 0 where
   Proposes : Entry → CoreCall
@@ -27,7 +27,7 @@ pub data CoreCall : Type 0 where
 -- when the core may make a call
 abbrev pub MayCall : CoreCall → CoreCopies → Type 0
 -- an entry that is no View and no Base
-MayCall (Proposes entry) c = IsPlain entry
+MayCall (Proposes entry) c = TellsNoView entry
 -- a message that was sent
 MayCall (TakesCopy shard peer view number entry) c = IsHome c.group peer × IsAmong (message.Copy shard peer view number entry) c.sent
 MayCall (Hears shard from to view sealed) c = IsHome c.group from × IsAmong (message.Have shard from to view sealed) c.sent

@@ -2,11 +2,11 @@
 use Rattle.std.specs.Prelude.{◌≡◌, ℕ, ◌≤◌, Bool, true, false, if◌then◌else◌, nat_eq, List, length, Option, Some, None}
 use Rattle.std.specs.Prelude.{slice_get}
 use Rattle.hs_copies.specs.Lists.{Item, IsFront, end_view}
-use Rattle.hs_copies.specs.Machine.{Copies, CopyEvent, Propose, Send, CopyComes, Sealed, HaveComes, TakesEffect, Fail, GiveUp, Start, Cleared, Copying, Copied, Join, IsAllowed, after_event}
+use Rattle.hs_copies.specs.Machine.{Copies, CopyEvent, Propose, Send, CopyComes, Sealed, HaveComes, TakesEffect, Fail, GiveUp, Start, Cleared, Copying, Copied, Join, CanCome, after_event}
 use Rattle.hs_copies.specs.Invariant.{reach}
 
 -- the entry with n before it is of line k and above what took effect, in a list that has all that took effect
-pub record IsPending {X : Type 0} (line : X → Option ℕ) (took xs : List (Item X)) (n : ℕ) (k : ℕ) : Type 0 where
+pub record IsLineEntry {X : Type 0} (line : X → Option ℕ) (took xs : List (Item X)) (n : ℕ) (k : ℕ) : Type 0 where
   pub entry : Item X
   pub has : IsFront took xs
   pub above : length took ≤ n
@@ -15,9 +15,9 @@ pub record IsPending {X : Type 0} (line : X → Option ℕ) (took xs : List (Ite
 
 -- every such entry of a line is of a line without an answer, and no list has two of one line
 pub record AreLinesOpen {X : Type 0} (line : X → Option ℕ) (waits : ℕ → Bool) (s : Copies X) : Type 0 where
-  pub waiting : (y n k : ℕ) → IsPending line s.took (reach (s.peers y)) n k → waits k ≡ true
-  pub once : (y m n k : ℕ) → IsPending line s.took (reach (s.peers y)) m k
-      → IsPending line s.took (reach (s.peers y)) n k → m ≡ n
+  pub waiting : (y n k : ℕ) → IsLineEntry line s.took (reach (s.peers y)) n k → waits k ≡ true
+  pub once : (y m n k : ℕ) → IsLineEntry line s.took (reach (s.peers y)) m k
+      → IsLineEntry line s.took (reach (s.peers y)) n k → m ≡ n
 
 -- the copies, and which lines have no answer
 pub record LinedCopies (X : Type 0) : Type 0 where
@@ -38,7 +38,7 @@ set_waits k b waits j = if nat_eq j k then b else waits j
 -- the entry of a new view is of no line; the entry of a line is of one that waits and has no other in the lead's list
 abbrev pub ProposesRightly : {X : Type 0} (line : X → Option ℕ) → LinedCopies X → CopyEvent X → Type 0
 ProposesRightly line w (Propose lead x) =
-    (k : ℕ) → line x ≡ Some k → (w.waits k ≡ true) × ((n : ℕ) → IsPending line w.copies.took w.copies.log n k → ⊥)
+    (k : ℕ) → line x ≡ Some k → (w.waits k ≡ true) × ((n : ℕ) → IsLineEntry line w.copies.took w.copies.log n k → ⊥)
 ProposesRightly line w (Fail p lead again x) = line x ≡ None
 ProposesRightly line w (Join p lead x) = line x ≡ None
 ProposesRightly line w (Send m) = Unit {0}
@@ -53,12 +53,12 @@ ProposesRightly line w (Copying p more) = Unit {0}
 ProposesRightly line w (Copied p) = Unit {0}
 
 -- when it may come. A line is answered without an entry once the current view has an entry in effect, and none of its own waits
-abbrev pub IsLineAllowed : {X : Type 0} (line : X → Option ℕ) → LinedCopies X → LineEvent X → Type 0
-IsLineAllowed line w (Step e) = IsAllowed w.copies e × ProposesRightly line w e
-IsLineAllowed line w (Begin k) = Unit {0}
-IsLineAllowed line w (Answer k) =
-    (end_view 0 w.copies.took ≡ w.copies.view) × ((n : ℕ) → IsPending line w.copies.took w.copies.log n k → ⊥)
-IsLineAllowed line w (AnswerBy x k) = IsAllowed w.copies (TakesEffect x) × (line x.what ≡ Some k)
+abbrev pub CanComeToLines : {X : Type 0} (line : X → Option ℕ) → LinedCopies X → LineEvent X → Type 0
+CanComeToLines line w (Step e) = CanCome w.copies e × ProposesRightly line w e
+CanComeToLines line w (Begin k) = Unit {0}
+CanComeToLines line w (Answer k) =
+    (end_view 0 w.copies.took ≡ w.copies.view) × ((n : ℕ) → IsLineEntry line w.copies.took w.copies.log n k → ⊥)
+CanComeToLines line w (AnswerBy x k) = CanCome w.copies (TakesEffect x) × (line x.what ≡ Some k)
 
 -- what it leaves
 abbrev pub after_line_event : {X : Type 0} → LineEvent X → LinedCopies X → LinedCopies X

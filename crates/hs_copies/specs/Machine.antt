@@ -107,29 +107,29 @@ IsCommon {X} s p (suc n) =
     (x y : Item X) × (slice_get (s.peers p).list n ≡ Some x) × (slice_get s.log n ≡ Some y) × (x.view ≡ y.view)
 
 -- when an event may come
-abbrev pub IsAllowed : {X : Type 0} → Copies X → CopyEvent X → Type 0
-IsAllowed s (Propose lead x) = ((s.peers lead).stage ≡ Good) × ((s.peers lead).list ≡ s.log)
-IsAllowed s (Send m) = MaySend s m
-IsAllowed s (CopyComes to place x) =
+abbrev pub CanCome : {X : Type 0} → Copies X → CopyEvent X → Type 0
+CanCome s (Propose lead x) = ((s.peers lead).stage ≡ Good) × ((s.peers lead).list ≡ s.log)
+CanCome s (Send m) = MaySend s m
+CanCome s (CopyComes to place x) =
     ((s.peers to).stage ≡ Good) × (place ≡ length (s.peers to).list)
     × IsAmong (EntryNotice to s.view place x) s.sent
-IsAllowed s (Sealed p n) = ((s.peers p).stage ≡ Good) × ((s.peers p).sealed ≤ n) × (n ≤ length (s.peers p).list)
-IsAllowed s (HaveComes p n) =
+CanCome s (Sealed p n) = ((s.peers p).stage ≡ Good) × ((s.peers p).sealed ≤ n) × (n ≤ length (s.peers p).list)
+CanCome s (HaveComes p n) =
     ((s.peers p).known ≤ n)
     × ((((s.peers p).stage ≡ Good) × (n ≤ (s.peers p).sealed)) ⊎ IsAmong (SealedNotice p s.view n) s.sent)
-IsAllowed s (TakesEffect x) =
+CanCome s (TakesEffect x) =
     (slice_get s.log (length s.took) ≡ Some x) × ((p : ℕ) → (s.peers p).stage ≡ Good → length s.took < (s.peers p).known)
-IsAllowed s (Fail p lead again x) =
+CanCome s (Fail p lead again x) =
     (lead ≢ p) × ((s.peers p).stage ≡ Good) × ((s.peers lead).stage ≡ Good)
     × ((q : ℕ) → q ≢ p → (s.peers q).stage ≡ Good → length (s.peers q).list ≤ length (s.peers lead).list)
     × (again ≡ false → length (s.peers lead).list ≡ length s.log)
-IsAllowed s (GiveUp p) = (s.peers p).stage ≢ Good
-IsAllowed s (Start p) = (s.peers p).stage ≢ Good
-IsAllowed s (Cleared p n) = ((s.peers p).stage ≡ Clearing) × IsCommon s p n
-IsAllowed s (Copying p more) =
+CanCome s (GiveUp p) = (s.peers p).stage ≢ Good
+CanCome s (Start p) = (s.peers p).stage ≢ Good
+CanCome s (Cleared p n) = ((s.peers p).stage ≡ Clearing) × IsCommon s p n
+CanCome s (Copying p more) =
     ((s.peers p).stage ≡ Following) × IsFront ((s.peers p).list ++ more) s.log × ((s.peers p).adding ≡ [])
-IsAllowed s (Copied p) = (s.peers p).stage ≡ Following
-IsAllowed s (Join p lead x) =
+CanCome s (Copied p) = (s.peers p).stage ≡ Following
+CanCome s (Join p lead x) =
     ((s.peers p).stage ≡ Following) × ((s.peers p).adding ≡ []) × (length (s.peers p).list ≡ length s.log)
     × ((lead ≢ p → (s.peers lead).stage ≡ Good) × (length (s.peers lead).list ≡ length s.log))
 
@@ -161,9 +161,9 @@ after_event (Copied p) s =
 after_event (Join p lead x) s = with_new_view lead x (put_at p (record (s.peers p) { stage = Good }) s.peers) s
 
 -- each event was allowed when it came
-abbrev pub AreAllowed : {X : Type 0} → Copies X → List (CopyEvent X) → Type 0
-AreAllowed s [] = Unit {0}
-AreAllowed s (e ∷ es) = IsAllowed s e × AreAllowed (after_event e s) es
+abbrev pub CanComeAll : {X : Type 0} → Copies X → List (CopyEvent X) → Type 0
+CanComeAll s [] = Unit {0}
+CanComeAll s (e ∷ es) = CanCome s e × CanComeAll (after_event e s) es
 
 -- what they leave
 abbrev pub after_events : {X : Type 0} → Copies X → List (CopyEvent X) → Copies X

@@ -1,7 +1,7 @@
 -- The copies of a shard as it is opened, and what may come of them.
 use Rattle.std.specs.Prelude.{◌≡◌, ℕ, suc, Bool, true, false, List, [], ◌∷◌, length}
 use Rattle.hs_copies.specs.Lists.{Item, AreBelow, Rises}
-use Rattle.hs_copies.specs.Machine.{Good, Down, PeerCopy, Copies, CopyEvent, AreAllowed, after_events, item, with_new_view}
+use Rattle.hs_copies.specs.Machine.{Good, Down, PeerCopy, Copies, CopyEvent, CanComeAll, after_events, item, with_new_view}
 
 -- the list with one view at all of its entries, as it is counted after opening
 abbrev pub stamped_alike : {X : Type 0} → ℕ → List (Item X) → List (Item X)
@@ -23,7 +23,7 @@ abbrev pub opened_copies : {X : Type 0} → ℕ → List (Item X) → (ℕ → B
 opened_copies view log good lead x = with_new_view lead x (λ q. copy_with log (good q)) (taken_copies view log good)
 
 -- the shard was opened with a list whose views never fall, and only what may come has come
-pub record IsRun {X : Type 0} (s : Copies X) : Type 0 where
+pub record IsCopyRun {X : Type 0} (s : Copies X) : Type 0 where
   pub view : ℕ
   pub taken_log : List (Item X)
   pub good : ℕ → Bool
@@ -33,5 +33,5 @@ pub record IsRun {X : Type 0} (s : Copies X) : Type 0 where
   pub rises : Rises 0 taken_log
   pub below : AreBelow (suc view) taken_log
   pub leads : good lead ≡ true
-  pub legal : AreAllowed (opened_copies view taken_log good lead what) events
+  pub legal : CanComeAll (opened_copies view taken_log good lead what) events
   pub here : after_events (opened_copies view taken_log good lead what) events ≡ s

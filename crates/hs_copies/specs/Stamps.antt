@@ -15,9 +15,9 @@ abbrev pub rank_told : {X : Type 0} → (ℕ → X → ℕ) → List (Item X) �
 rank_told tells xs = record { view = view_told tells 0 xs; number = length xs }
 
 -- the views that are told never fall, and none is below this one
-abbrev pub Ascends : {X : Type 0} → (ℕ → X → ℕ) → ℕ → List (Item X) → Type 0
-Ascends tells d [] = Unit {0}
-Ascends tells d (x ∷ xs) = (d ≤ tells d x.what) × Ascends tells (tells d x.what) xs
+abbrev pub ToldRises : {X : Type 0} → (ℕ → X → ℕ) → ℕ → List (Item X) → Type 0
+ToldRises tells d [] = Unit {0}
+ToldRises tells d (x ∷ xs) = (d ≤ tells d x.what) × ToldRises tells (tells d x.what) xs
 
 -- the first n items are those of opening, all of view v; behind them each item's view is what the entries tell
 abbrev pub AreStamped : {X : Type 0} → (ℕ → X → ℕ) → ℕ → ℕ → List (Item X) → Type 0
@@ -45,7 +45,7 @@ TellsView tells s (Copied p) = Unit {0}
 pub record AreStampsTold {X : Type 0} (tells : ℕ → X → ℕ) (start : List (Item X)) (v : ℕ) (s : Copies X) : Type 0 where
   -- the list of opening took effect
   pub opening : IsFront start s.took
-  pub ascends : Ascends tells 0 start
+  pub ascends : ToldRises tells 0 start
   pub ends : view_told tells 0 start ≡ v
   -- each list is stamped as its entries tell, and the lead's ends with the current view
   pub each : (q : ℕ) → AreStamped tells (length start) v (reach (s.peers q))

@@ -14,8 +14,8 @@ use Rattle.hs_replica.specs.Group.{IsHome, copy_of, view_after}
 use Rattle.hs_copies.specs.CoreCopies.{CoreCopies, core_give_up}
 use Rattle.hs_copies.specs.Invariant.{AreFaithful}
 use Rattle.hs_copies.specs.Lists.{IsAmong, Item}
-use Rattle.hs_copies.specs.Machine.{AreAllowed, Clearing, Copies, CopyEvent, Copying, Down, EntryNotice, Following, GiveUp, Good, IsAllowed, Notice, PeerCopy, SealedNotice, Stage, after_event, after_events}
-use Rattle.hs_copies.specs.Stamps.{Ascends, AreStampsTold, view_told}
+use Rattle.hs_copies.specs.Machine.{CanComeAll, Clearing, Copies, CopyEvent, Copying, Down, EntryNotice, Following, GiveUp, Good, CanCome, Notice, PeerCopy, SealedNotice, Stage, after_event, after_events}
+use Rattle.hs_copies.specs.Stamps.{ToldRises, AreStampsTold, view_told}
 
 -- the stage of a peer with this status; a joining one follows the lead's list once no emptying is due
 abbrev pub stage_of : PeerStatus → Bool → Stage
@@ -42,15 +42,15 @@ pub record IsCopyOf (r : Replica) (copy : PeerCopy Entry) : Type 0 where
   pub known : r.good ≡ true → r.known ≡ copy.known
 
 -- the notices have a message
-abbrev pub IsSent : List (Notice Entry) → Message → Type 0
-IsSent sent (message.Copy shard to view number entry) =
+abbrev pub HasMessage : List (Notice Entry) → Message → Type 0
+HasMessage sent (message.Copy shard to view number entry) =
     (1 ≤ number) × ((x : Item Entry) × (x.what ≡ entry) × IsAmong (EntryNotice to view (number - 1) x) sent)
-IsSent sent (message.Have shard from to view sealed) = IsAmong (SealedNotice from view sealed) sent
-IsSent sent (message.Round from to epoch round total deltas) = Unit {0}
+HasMessage sent (message.Have shard from to view sealed) = IsAmong (SealedNotice from view sealed) sent
+HasMessage sent (message.Round from to epoch round total deltas) = Unit {0}
 
 -- no View and no Base
-abbrev pub IsPlain : Entry → Type 0
-IsPlain entry = (view : ℕ) → view_after view entry ≡ view
+abbrev pub TellsNoView : Entry → Type 0
+TellsNoView entry = (view : ℕ) → view_after view entry ≡ view
 
 -- the shard's own peers stand for those of the machine, and no other peer is one
 pub record ArePeers (home : ℕ → Type 0) (copy : ℕ → Replica) (status : ℕ → PeerStatus) (rejoins : ℕ → Rejoin) (peers : ℕ → PeerCopy Entry) : Type 0 where
@@ -62,7 +62,7 @@ pub record ArePeers (home : ℕ → Type 0) (copy : ℕ → Replica) (status : �
   pub elsewhere : (peer : ℕ) → (home peer → ⊥) → (peers peer).stage ≡ Down
 
 -- what the core keeps of a shard stands for these copies of the machine, which are faithful, and whose stamps are those that the entries tell
-pub record Stands (c : CoreCopies) (s : Copies Entry) : Type 0 where
+pub record StandsFor (c : CoreCopies) (s : Copies Entry) : Type 0 where
   -- the group is of a shard of the store, with a copy for each peer
   pub shape : c.members.shape ≡ c.group.shape
   pub members : IsMembers c.members
@@ -74,7 +74,7 @@ pub record Stands (c : CoreCopies) (s : Copies Entry) : Type 0 where
   pub peers : ArePeers (IsHome c.group) (copy_of c.group) (λ peer. status_of peer c.members) c.rejoins s.peers
   pub front : c.group.front ≡ length s.took
   pub waiting : c.group.waiting ≡ map (λ x. x.what) (drop (length s.took) s.log)
-  pub sent : (m : Message) → IsAmong m c.sent → IsSent s.sent m
+  pub sent : (m : Message) → IsAmong m c.sent → HasMessage s.sent m
   -- the machine's side
   pub faithful : AreFaithful s
   pub begun : List (Item Entry)
@@ -84,17 +84,17 @@ pub record Stands (c : CoreCopies) (s : Copies Entry) : Type 0 where
 -- it goes on as events of the machine, each of which may come
 pub record Continues (c : CoreCopies) (s : Copies Entry) : Type 0 where
   pub events : List (CopyEvent Entry)
-  pub allowed : AreAllowed s events
-  pub stands : Stands c (after_events s events)
+  pub allowed : CanComeAll s events
+  pub stands : StandsFor c (after_events s events)
 
 -- while a copying step runs the peer's disk may have the next item of the lead's list too: the machine has it there, and where
 -- the step is broken off and the peer goes down, the core's copies stand for the machine's with it
 pub record IsCopyingStep (c : CoreCopies) (s : Copies Entry) (peer : ℕ) : Type 0 where
   pub item : Item Entry
   pub next : slice_get s.log (length (s.peers peer).list) ≡ Some item
-  pub begins : IsAllowed s (Copying peer (item ∷ []))
-  pub breaks : IsAllowed (after_event (Copying peer (item ∷ [])) s) (GiveUp peer)
-  pub broken : Stands (core_give_up peer c) (after_event (GiveUp peer) (after_event (Copying peer (item ∷ [])) s))
+  pub begins : CanCome s (Copying peer (item ∷ []))
+  pub breaks : CanCome (after_event (Copying peer (item ∷ [])) s) (GiveUp peer)
+  pub broken : StandsFor (core_give_up peer c) (after_event (GiveUp peer) (after_event (Copying peer (item ∷ [])) s))
 
 -- a shard is opened with this log, whose views never fall, and members that say which of its peers are good, in the view after the log's
 pub record IsOpening (shape : Shape) (shard : ℕ) (log : List (Item Entry)) (good : List Bool) (m : Members) : Type 0 where
@@ -102,7 +102,7 @@ pub record IsOpening (shape : Shape) (shard : ℕ) (log : List (Item Entry)) (go
   pub valid : IsMembers m
   pub within : IsShard shape shard
   pub copies : length good ≡ shape.copies
-  pub ascends : Ascends view_after 0 log
+  pub ascends : ToldRises view_after 0 log
   pub view : view_of shard m ≡ suc (view_told view_after 0 log)
   pub each : (copy : ℕ) → copy < shape.copies → status_of (peer_of shape shard copy) m ≡ (if slice_index_or good copy false then status.Good else status.Down)
   pub some : has_good shard m ≡ true

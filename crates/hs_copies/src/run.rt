@@ -13,20 +13,20 @@ ghost use Rattle.hs_copies.specs.Lists.{Item};
 ghost use Rattle.hs_copies.specs.Machine.{Copies};
 ghost use Rattle.hs_copies.specs.Opened.{opened_copies, stamped_alike};
 ghost use Rattle.hs_copies.specs.Stamps.{view_told};
-ghost use Rattle.hs_copies.specs.Standing.{Continues, IsCopyingStep, IsOpening, Stands};
+ghost use Rattle.hs_copies.specs.Standing.{Continues, IsCopyingStep, IsOpening, StandsFor};
 
 /// A shard as the core opens it stands for one as the machine does, for any number of copies. Each call that the core
 /// may make is events of the machine; so after any calls since the opening its copies stand for copies of the machine, and
 /// the laws of those hold of them. While a copying step runs its entry may be on the disk already. Another shard's peers
 /// change nothing.
 pub fn runs_of_the_core_are_runs_of_the_machine()
-    ensures call { (call : CoreCall) (c : CoreCopies) (s : Copies Entry) → Stands c s → MayCall call c
+    ensures call { (call : CoreCall) (c : CoreCopies) (s : Copies Entry) → StandsFor c s → MayCall call c
         → Continues (after_call call c) s }
-    ensures copying { (c : CoreCopies) (s : Copies Entry) (peer number leads : ℕ) → Stands c s
+    ensures copying { (c : CoreCopies) (s : Copies Entry) (peer number leads : ℕ) → StandsFor c s
         → MayCall (CopiesTo peer number leads) c → IsCopyingStep c s peer }
-    ensures elsewhere { (c : CoreCopies) (s : Copies Entry) (peer : ℕ) (new : PeerStatus) → Stands c s
+    ensures elsewhere { (c : CoreCopies) (s : Copies Entry) (peer : ℕ) (new : PeerStatus) → StandsFor c s
         → 0 < c.group.shape.copies → (IsHome c.group peer → ⊥)
-        → Stands (record c { members = become peer new c.members }) s }
+        → StandsFor (record c { members = become peer new c.members }) s }
     ensures run { (shape : Shape) (shard : ℕ) (log : List (Item Entry)) (good : List Bool) (m : Members)
         (rejoins : ℕ → Rejoin) (calls : List CoreCall) → IsOpening shape shard log good m
         → MayCallAll calls (core_open shape shard (view_told view_after 0 log) (length log) good m rejoins)
