@@ -1,5 +1,5 @@
--- One shard's copies as the core keeps them, and what becomes of them by the functions of the group, the members and the joining
--- peers, as the core composes them.
+-- One shard's copies as the core keeps them, and what becomes of them by the functions of the group, the members and
+-- the joining peers, as the core composes them.
 use Rattle.std.specs.Option.{option_map_or}
 use Rattle.std.specs.Prelude.{ℕ, ◌-◌, ◌&&◌, Bool, false, List, [], ◌++◌, Option, nat_le, slice_index_or, if◌then◌else◌}
 use Rattle.hs_entry.specs.declared.entry.Entry.{Entry}
@@ -12,7 +12,7 @@ use Rattle.hs_rejoin.specs.Rejoin.{Rejoin, copied, emptied, new_rejoin}
 use Rattle.hs_replica.specs.Group.{Group, have, is_peer, lead, new_group, on_append, on_copied, on_emptied, on_have, on_sealed, on_view, proposal, propose, resend, take_committed, view_messages}
 use Rattle.hs_copies.specs.Machine.{put_at}
 
--- the shard's group, all members, how far each joining peer has come, and every message that was ever sent for the shard
+-- the shard's group, all members, how far each joining peer has come, and every message that was ever sent
 pub record CoreCopies : Type 0 where
   pub group : Group
   pub members : Members
@@ -31,7 +31,8 @@ core_append peer view number entry c = record c { group = on_append peer view nu
 
 -- a peer has sealed so many
 abbrev pub core_seal : ℕ → ℕ → CoreCopies → CoreCopies
-core_seal peer number c = record c { group = on_sealed peer number c.group; sent = have peer number c.group ++ c.sent }
+core_seal peer number c =
+    record c { group = on_sealed peer number c.group; sent = have peer number c.group ++ c.sent }
 
 -- a Have comes
 abbrev pub core_have : ℕ → ℕ → ℕ → CoreCopies → CoreCopies
@@ -63,7 +64,8 @@ begin_with lead r = option_map_or new_rejoin lead r
 abbrev pub core_fail : ℕ → CoreCopies → CoreCopies
 core_fail peer c =
     let new : CoreCopies = core_view (become peer status.Down c.members) c in
-    if is_peer peer (lead c.group) then record new { rejoins = λ q. begin_with (lead new.group) (c.rejoins q) } else new
+    if is_peer peer (lead c.group) then record new { rejoins = λ q. begin_with (lead new.group) (c.rejoins q) }
+    else new
 
 -- a joining peer is good
 abbrev pub core_join : ℕ → CoreCopies → CoreCopies
@@ -74,11 +76,17 @@ core_join peer c = core_view (become peer status.Good c.members) c
 -- each good peer has so many entries, the last of this view, and a view begins as these members say
 abbrev pub core_open : Shape → ℕ → ℕ → ℕ → List Bool → Members → (ℕ → Rejoin) → CoreCopies
 core_open shape shard view len good members rejoins =
-    core_view members (record { group = new_group shape shard view len good; members = members; rejoins = rejoins; sent = [] })
+    core_view members (record {
+      group = new_group shape shard view len good;
+      members = members;
+      rejoins = rejoins;
+      sent = [];
+    })
 
 -- the peer has a copy of the shard that is good at opening
 abbrev pub opens_good : Shape → ℕ → List Bool → ℕ → Bool
-opens_good shape shard good peer = nat_le (peer_of shape shard 0) peer && slice_index_or good (peer - peer_of shape shard 0) false
+opens_good shape shard good peer =
+    nat_le (peer_of shape shard 0) peer && slice_index_or good (peer - peer_of shape shard 0) false
 
 -- ---- joining
 

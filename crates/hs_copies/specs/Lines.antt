@@ -24,7 +24,8 @@ pub record LinedCopies (X : Type 0) : Type 0 where
   pub copies : Copies X
   pub waits : ℕ → Bool
 
--- a step of the copies; a line that begins; one that is answered without an entry; one whose entry takes effect and answers it
+-- a step of the copies; a line that begins; one that is answered without an entry; one that is answered by its entry, which
+-- takes effect
 pub data LineEvent (X : Type 0) : Type 0 where
   Step : CopyEvent X → LineEvent X
   Begin : ℕ → LineEvent X
@@ -52,7 +53,8 @@ ProposesRightly line w (Cleared p n) = Unit {0}
 ProposesRightly line w (Copying p more) = Unit {0}
 ProposesRightly line w (Copied p) = Unit {0}
 
--- when it may come. A line is answered without an entry once the current view has an entry in effect, and none of its own waits
+-- when it may come. A line is answered without an entry where the current view has an entry in effect, and none of its
+-- own waits
 abbrev pub CanComeToLines : {X : Type 0} (line : X → Option ℕ) → LinedCopies X → LineEvent X → Type 0
 CanComeToLines line w (Step e) = CanCome w.copies e × ProposesRightly line w e
 CanComeToLines line w (Begin k) = Unit {0}

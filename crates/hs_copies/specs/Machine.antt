@@ -22,7 +22,7 @@ pub record PeerCopy (X : Type 0) : Type 0 where
   pub sealed : ℕ
   pub known : ℕ
 
--- what one peer tells another: the entry with so many before it in the lead's list; or how many entries a peer has sealed
+-- what one peer tells another: an entry of the lead's list, and how many are before it; or how many a peer has sealed
 pub data Notice (X : Type 0) : Type 0 where
   EntryNotice : (to view place : ℕ) → Item X → Notice X
   SealedNotice : (from view sealed : ℕ) → Notice X
@@ -38,8 +38,8 @@ pub record Copies (X : Type 0) : Type 0 where
   -- all that was ever told
   pub sent : List (Notice X)
 
--- an event. A notice that is lost never comes, and one that is repeated comes again. A peer that fails, and one that has
--- joined, names the lead of the new view and what it proposes first; `again` says whether the joining peers begin again
+-- an event. A notice that is lost never comes, and one that is repeated comes again. Where a peer fails or has joined,
+-- the event names the next lead and what it proposes; `again` says whether the joining peers begin again
 pub data CopyEvent (X : Type 0) : Type 0 where
   Propose : (lead : ℕ) → X → CopyEvent X
   Send : Notice X → CopyEvent X
@@ -79,7 +79,7 @@ abbrev pub begin_again : {X : Type 0} → Bool → PeerCopy X → PeerCopy X
 begin_again true c = record c { stage = stage_again c.stage }
 begin_again false c = c
 
--- a new view over these peers: what stood above the lead's list is gone, all sealed numbers are known, and the lead proposes
+-- a new view over these peers: the lead's list is what counts, it knows what each has sealed, and it proposes
 abbrev pub with_new_view : {X : Type 0} → ℕ → X → (ℕ → PeerCopy X) → Copies X → Copies X
 with_new_view lead x peers s =
     record {
@@ -98,7 +98,8 @@ with_copy p c s = record s { peers = put_at p c s.peers }
 -- what is sent is an entry of the lead's list, or what a good peer has sealed
 abbrev pub MaySend : {X : Type 0} → Copies X → Notice X → Type 0
 MaySend s (EntryNotice to view place x) = (view ≡ s.view) × (slice_get s.log place ≡ Some x)
-MaySend s (SealedNotice from view number) = (view ≡ s.view) × ((s.peers from).stage ≡ Good) × (number ≤ (s.peers from).sealed)
+MaySend s (SealedNotice from view number) =
+    (view ≡ s.view) × ((s.peers from).stage ≡ Good) × (number ≤ (s.peers from).sealed)
 
 -- this many are common to the peer's list and the lead's, as the views of their last ones tell
 abbrev pub IsCommon : {X : Type 0} → Copies X → ℕ → ℕ → Type 0
@@ -118,7 +119,8 @@ CanCome s (HaveComes p n) =
     ((s.peers p).known ≤ n)
     × ((((s.peers p).stage ≡ Good) × (n ≤ (s.peers p).sealed)) ⊎ IsAmong (SealedNotice p s.view n) s.sent)
 CanCome s (TakesEffect x) =
-    (slice_get s.log (length s.took) ≡ Some x) × ((p : ℕ) → (s.peers p).stage ≡ Good → length s.took < (s.peers p).known)
+    (slice_get s.log (length s.took) ≡ Some x)
+    × ((p : ℕ) → (s.peers p).stage ≡ Good → length s.took < (s.peers p).known)
 CanCome s (Fail p lead again x) =
     (lead ≢ p) × ((s.peers p).stage ≡ Good) × ((s.peers lead).stage ≡ Good)
     × ((q : ℕ) → q ≢ p → (s.peers q).stage ≡ Good → length (s.peers q).list ≤ length (s.peers lead).list)

@@ -21,7 +21,8 @@ TellsLineView e w (AnswerBy x k) = Unit {0}
 -- each event may come when it does
 abbrev pub CanComeAllToLines : {X : Type 0} → EntryReading X → LinedCopies X → List (LineEvent X) → Type 0
 CanComeAllToLines e w [] = Unit {0}
-CanComeAllToLines e w (d ∷ ds) = CanComeToLines e.line w d × TellsLineView e w d × CanComeAllToLines e (after_line_event d w) ds
+CanComeAllToLines e w (d ∷ ds) =
+    CanComeToLines e.line w d × TellsLineView e w d × CanComeAllToLines e (after_line_event d w) ds
 
 -- what they leave
 abbrev pub after_line_events : {X : Type 0} → List (LineEvent X) → LinedCopies X → LinedCopies X
@@ -47,8 +48,8 @@ pub record IsSinceOpening {X : Type 0} (e : EntryReading X) (log : List (Item X)
   pub may : CanComeAllToLines e (opened_lined e log good lead what) deeds
   pub here : after_line_events deeds (opened_lined e log good lead what) ≡ w
 
--- the list has all that took effect. Of what more it has, each entry of a line is of one that has no answer, and no line
--- has two; and once the current view has an entry in effect, all of it is the lead's
+-- the list has all that took effect. Of what more it has, each entry of a line is of one that has no answer, and no
+-- line has two; and once the current view has an entry in effect, all of it is the lead's
 pub record IsChosen {X : Type 0} (e : EntryReading X) (w : LinedCopies X) (list : List (Item X)) : Type 0 where
   pub has : IsFront w.copies.took list
   pub waits : (n k : ℕ) → IsLineEntry e.line w.copies.took list n k → w.waits k ≡ true

@@ -53,7 +53,8 @@ abbrev pub TellsNoView : Entry → Type 0
 TellsNoView entry = (view : ℕ) → view_after view entry ≡ view
 
 -- the shard's own peers stand for those of the machine, and no other peer is one
-pub record ArePeers (home : ℕ → Type 0) (copy : ℕ → Replica) (status : ℕ → PeerStatus) (rejoins : ℕ → Rejoin) (peers : ℕ → PeerCopy Entry) : Type 0 where
+pub record ArePeers (home : ℕ → Type 0) (copy : ℕ → Replica) (status : ℕ → PeerStatus) (rejoins : ℕ → Rejoin)
+    (peers : ℕ → PeerCopy Entry) : Type 0 where
   pub each : (peer : ℕ) → home peer → IsCopyOf (copy peer) (peers peer)
   pub stage : (peer : ℕ) → home peer → (peers peer).stage ≡ stage_of (status peer) (rejoins peer).empty
   -- what a joining peer counts is the length of its list, and its last step is done
@@ -61,7 +62,8 @@ pub record ArePeers (home : ℕ → Type 0) (copy : ℕ → Replica) (status : �
   pub still : (peer : ℕ) → home peer → (peers peer).stage ≡ Following → (peers peer).adding ≡ []
   pub elsewhere : (peer : ℕ) → (home peer → ⊥) → (peers peer).stage ≡ Down
 
--- what the core keeps of a shard stands for these copies of the machine, which are faithful, and whose stamps are those that the entries tell
+-- what the core keeps of a shard stands for these copies of the machine, which are faithful, and whose stamps are those
+-- that the entries tell
 pub record StandsFor (c : CoreCopies) (s : Copies Entry) : Type 0 where
   -- the group is of a shard of the store, with a copy for each peer
   pub shape : c.members.shape ≡ c.group.shape
@@ -87,7 +89,7 @@ pub record Continues (c : CoreCopies) (s : Copies Entry) : Type 0 where
   pub allowed : CanComeAll s events
   pub stands : StandsFor c (after_events s events)
 
--- while a copying step runs the peer's disk may have the next item of the lead's list too: the machine has it there, and where
+-- while a copying step runs the peer's disk may have the next item of the lead's list too: the machine has it there. Where
 -- the step is broken off and the peer goes down, the core's copies stand for the machine's with it
 pub record IsCopyingStep (c : CoreCopies) (s : Copies Entry) (peer : ℕ) : Type 0 where
   pub item : Item Entry
@@ -96,7 +98,8 @@ pub record IsCopyingStep (c : CoreCopies) (s : Copies Entry) (peer : ℕ) : Type
   pub breaks : CanCome (after_event (Copying peer (item ∷ [])) s) (GiveUp peer)
   pub broken : StandsFor (core_give_up peer c) (after_event (GiveUp peer) (after_event (Copying peer (item ∷ [])) s))
 
--- a shard is opened with this log, whose views never fall, and members that say which of its peers are good, in the view after the log's
+-- a shard is opened with this log, whose views never fall, and with members that say which of its peers are good and
+-- that it is in the view after the log's
 pub record IsOpening (shape : Shape) (shard : ℕ) (log : List (Item Entry)) (good : List Bool) (m : Members) : Type 0 where
   pub same : m.shape ≡ shape
   pub valid : IsMembers m
@@ -104,5 +107,6 @@ pub record IsOpening (shape : Shape) (shard : ℕ) (log : List (Item Entry)) (go
   pub copies : length good ≡ shape.copies
   pub ascends : ToldRises view_after 0 log
   pub view : view_of shard m ≡ suc (view_told view_after 0 log)
-  pub each : (copy : ℕ) → copy < shape.copies → status_of (peer_of shape shard copy) m ≡ (if slice_index_or good copy false then status.Good else status.Down)
+  pub each : (copy : ℕ) → copy < shape.copies → status_of (peer_of shape shard copy) m
+      ≡ (if slice_index_or good copy false then status.Good else status.Down)
   pub some : has_good shard m ≡ true

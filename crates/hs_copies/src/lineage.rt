@@ -15,7 +15,8 @@ pub fn a_list_of_greater_rank_goes_on_from_a_good_one()
         → IsAtMost (rank_by_stamps front) (rank_by_stamps other) → IsFront front other }
     ensures effects { (s : Copies Entry) (p y : ℕ) (front other : List (Item Entry)) → AreFaithful s
         → (s.peers p).stage ≡ Good → IsFront front (s.peers p).list → (s.peers p).known ≤ length front
-        → IsFront other (reach (s.peers y)) → IsAtMost (rank_by_stamps front) (rank_by_stamps other) → IsFront s.took other }
+        → IsFront other (reach (s.peers y)) → IsAtMost (rank_by_stamps front) (rank_by_stamps other)
+        → IsFront s.took other }
     ensures common { (s : Copies Entry) (p q n : ℕ) (x y : Item Entry) → AreFaithful s
         → slice_get (reach (s.peers p)) n ≡ Some x → slice_get (reach (s.peers q)) n ≡ Some y → x.view ≡ y.view
         → take (suc n) (reach (s.peers p)) ≡ take (suc n) (reach (s.peers q)) }
