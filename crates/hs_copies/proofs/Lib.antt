@@ -1,0 +1,24 @@
+pub mod ListLemmas
+pub mod PeerLemmas
+pub mod ChangeLemmas
+pub mod EventKeeps
+pub mod ViewKeeps
+pub mod OpenedLemmas
+pub mod GrownLemmas
+pub mod LineLemmas
+pub mod ImageLemmas
+pub mod StampLemmas
+pub mod OpeningLemmas
+pub mod RunLemmas
+pub mod HomeLemmas
+pub mod StandLemmas
+pub mod SendLemmas
+pub mod CallLemmas
+pub mod StatusLemmas
+pub mod JoinLemmas
+pub mod NewViewLemmas
+pub mod FailLemmas
+pub mod CoreLemmas
+pub mod OpenCoreLemmas
+pub mod CoreRunLemmas
+mod Examples

@@ -1,0 +1,11 @@
+pub mod Lists
+pub mod Machine
+pub mod Invariant
+pub mod Lines
+pub mod Images
+pub mod Stamps
+pub mod Opened
+pub mod Runs
+pub mod CoreCopies
+pub mod Standing
+pub mod CoreRuns
