@@ -1,0 +1,17 @@
+pub mod Asking
+pub mod Changing
+pub mod Delivering
+pub mod Effects
+pub mod Entering
+pub mod Failing
+pub mod Joining
+pub mod Looking
+pub mod Opening
+pub mod Operating
+pub mod Pending
+pub mod Reporting
+pub mod Seeing
+pub mod State
+pub mod Step
+pub mod Views
+pub mod Words

@@ -1,0 +1,6 @@
+pub mod Answers
+pub mod Going
+pub mod Operations
+pub mod Refusals
+pub mod Speaking
+pub mod Views
