@@ -14,14 +14,15 @@ use Rattle.hs_desk.specs.declared.job.Job.TheVariants as job
 use Rattle.hs_entry.specs.declared.entry.Entry.{Entry}
 use Rattle.hs_journal.specs.declared.entry.Who.TheVariants as who
 use Rattle.hs_journal.specs.Order.{session_of}
+use Rattle.hs_limits.specs.declared.address.Held.{Held}
 use Rattle.hs_model.specs.declared.op.Op.{Op}
 use Rattle.hs_model.specs.declared.reply.Reply.{Reply}
 use Rattle.hs_ops.specs.declared.step.OpStep.{OpStep}
 use Rattle.hs_ops.specs.declared.step.OpStep.TheVariants as step
 use Rattle.hs_ops.specs.Speaking.{judging_shard, wanted_address}
-use Rattle.hs_ops.specs.Answers.{deed_of, seats_after}
+use Rattle.hs_ops.specs.Answers.{deed_of, gained, seats_after}
 use Rattle.hs_ops.specs.Views.{OpView}
-use Rattle.hs_ops.specs.Operations.{Operation, after, go_step, new_operation}
+use Rattle.hs_ops.specs.Operations.{Operation, after_step, go_step, new_operation}
 use Rattle.hs_replica.specs.Group.{last_number, lead, proposal, propose}
 
 -- ---- one step
@@ -37,8 +38,9 @@ propose_entry shard entry core =
 abbrev pub answer : ℕ → Waiting → Reply → Core → Core
 answer line w reply core =
     let o : Op = w.operation.op in
+    let gains : List Held = gained (view_for w.shard o core) (pointers_for w.shard o core) o in
     record (core ▸ end_operation line ▸ note (who.Line line) (deed_of core.sessions o reply) reply) {
-      sessions = seats_after (view_for w.shard o core) (pointers_for w.shard o core) o reply core.sessions;
+      sessions = seats_after gains o reply core.sessions;
     }
 
 -- an operation waits
@@ -66,7 +68,7 @@ carry_out line w step.Wait core = wait_for line w (what_holds w core) core
 
 -- the operation is where the step leaves it
 abbrev pub take_step : ℕ → Waiting → OpStep → Core → Core
-take_step line w taken core = carry_out line (record w { operation = after taken w.operation }) taken core
+take_step line w taken core = carry_out line (record w { operation = after_step taken w.operation }) taken core
 
 -- ---- the next steps
 

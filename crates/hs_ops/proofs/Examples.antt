@@ -16,7 +16,7 @@ use Rattle.hs_model.specs.declared.op.Op.{Op}
 use Rattle.hs_model.specs.declared.op.Op.TheVariants as op
 use Rattle.hs_model.specs.declared.reply.Reply.{Reply}
 use Rattle.hs_model.specs.declared.reply.Reply.TheVariants as reply
-use Rattle.hs_ops.specs.Answers.{deed_of, seats_after}
+use Rattle.hs_ops.specs.Answers.{deed_of, gained, seats_after}
 use Rattle.hs_ops.specs.Going.{asked_for, begin, block_entry, compared, data_of, go, is_same_block, judged_in, mark_entry, on_bytes, on_effect}
 use Rattle.hs_ops.specs.Operations.{Operation, after_step, bytes_step, effect_step, go_step, new_operation}
 use Rattle.hs_ops.specs.Refusals.{refusal_of, refusals_of}
@@ -246,14 +246,14 @@ unfolding deed_of asked_block
 deeds = refl
 
 -- a write holds its address in the epoch of its shard, a read each pointer in that of its handle, a look-up the root in that of the root's shard
-holds : map (λ handle. found (seats_after kept (address 1 ∷ []) (op.Read a 1) (reply.Bytes [] (2 ∷ [])) seats) a handle) (1 ∷ 2 ∷ []) ≡ given 5 3 ∷ given 1 3 ∷ []
-unfolding seats_after helds_of
+gains : map (λ o. gained kept (address 1 ∷ address 2 ∷ []) o) (write [] [] ∷ op.Read a 1 ∷ op.Look a k ∷ op.Root a k 0 ∷ []) ≡ (given 9 2 ∷ []) ∷ (given 1 3 ∷ given 2 3 ∷ []) ∷ (given 4 2 ∷ []) ∷ [] ∷ []
+unfolding gained helds_of
+gains = refl
+
+holds : map (λ handle. found (seats_after (given 1 3 ∷ given 2 3 ∷ []) (op.Read a 1) (reply.Bytes [] (2 ∷ 3 ∷ [])) seats) a handle) (1 ∷ 2 ∷ 3 ∷ []) ≡ given 5 3 ∷ given 1 3 ∷ given 2 3 ∷ []
+unfolding seats_after
 holds = refl
 
-holds_written : found (seats_after kept [] (write [] []) (reply.New 2 2) seats) a 2 ∷ found (seats_after kept [] (op.Look a k) (reply.Held 2 2) seats) a 2 ∷ [] ≡ given 9 2 ∷ given 4 2 ∷ []
-unfolding seats_after
-holds_written = refl
-
-refusals_leave : seats_after view [] (write [] []) reply.Collision seats ∷ seats_after view [] (op.Forget a 0) (reply.NoHandle 0) seats ∷ [] ≡ seats ∷ seats ∷ []
+refusals_leave : seats_after (given 9 2 ∷ []) (write [] []) reply.Collision seats ∷ seats_after [] (op.Forget a 0) (reply.NoHandle 0) seats ∷ [] ≡ seats ∷ seats ∷ []
 unfolding seats_after
 refusals_leave = refl

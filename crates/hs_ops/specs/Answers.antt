@@ -2,6 +2,7 @@
 use Rattle.std.specs.Option.{option_map}
 use Rattle.std.specs.Prelude.{ℕ, Bool, true, false, List, [], ◌∷◌, Option, if◌then◌else◌, slice_index}
 use Rattle.hs_limits.specs.declared.address.Address.{Address}
+use Rattle.hs_limits.specs.declared.address.Held.{Held}
 use Rattle.hs_model.specs.Judge.{asked_of, given_address, written_deed}
 use Rattle.hs_model.specs.Store.{helds_of}
 use Rattle.hs_model.specs.declared.deed.Deed.{Deed}
@@ -71,20 +72,35 @@ abbrev pub root_address : Option RootRecord → Address
 root_address None = nothing.address
 root_address (Some root) = root.address
 
--- the sessions after a reply that is no refusal; pointers: those of the block that was read
-abbrev pub seated : OpView → List Address → Op → Seats → Seats
-seated v pointers (op.Open name) seats = open_session name seats
-seated v pointers (op.Close name) seats = close_session name seats
-seated v pointers (op.Write name payload handles address) seats = hold name (record { address = given_address address; epoch = now_in v } ∷ []) seats
-seated v pointers (op.Read name handle) seats = hold name (helds_of pointers (found v.seats name handle).epoch) seats
-seated v pointers (op.Look name key) seats = hold name (record { address = root_address (kept_in v key); epoch = now_in v } ∷ []) seats
-seated v pointers (op.Root name key handle) seats = seats
-seated v pointers (op.Drop key) seats = seats
-seated v pointers (op.Forget name handle) seats = forget name handle seats
-seated v pointers (op.Name name handle) seats = seats
-seated v pointers op.Delete seats = seats
-seated v pointers op.Stat seats = seats
+-- what the handles of a reply stand for: what was written in the epoch of its shard, each pointer of what was read in the epoch of its handle,
+-- a root in the epoch of the root's shard; pointers: those of the block that was read
+unfoldable pub gained : OpView → List Address → Op → List Held
+gained v pointers (op.Open name) = []
+gained v pointers (op.Close name) = []
+gained v pointers (op.Write name payload handles address) = record { address = given_address address; epoch = now_in v } ∷ []
+gained v pointers (op.Read name handle) = helds_of pointers (found v.seats name handle).epoch
+gained v pointers (op.Look name key) = record { address = root_address (kept_in v key); epoch = now_in v } ∷ []
+gained v pointers (op.Root name key handle) = []
+gained v pointers (op.Drop key) = []
+gained v pointers (op.Forget name handle) = []
+gained v pointers (op.Name name handle) = []
+gained v pointers op.Delete = []
+gained v pointers op.Stat = []
+
+-- the sessions after a reply that is no refusal, where it gave these
+abbrev pub seated : List Held → Op → Seats → Seats
+seated helds (op.Open name) seats = open_session name seats
+seated helds (op.Close name) seats = close_session name seats
+seated helds (op.Write name payload handles address) seats = hold name helds seats
+seated helds (op.Read name handle) seats = hold name helds seats
+seated helds (op.Look name key) seats = hold name helds seats
+seated helds (op.Root name key handle) seats = seats
+seated helds (op.Drop key) seats = seats
+seated helds (op.Forget name handle) seats = forget name handle seats
+seated helds (op.Name name handle) seats = seats
+seated helds op.Delete seats = seats
+seated helds op.Stat seats = seats
 
 -- the sessions after a reply: a refusal changes nothing
-unfoldable pub seats_after : OpView → List Address → Op → Reply → Seats → Seats
-seats_after v pointers o r seats = if is_done r then seated v pointers o seats else seats
+unfoldable pub seats_after : List Held → Op → Reply → Seats → Seats
+seats_after helds o r seats = if is_done r then seated helds o seats else seats

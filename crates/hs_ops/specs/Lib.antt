@@ -3,4 +3,5 @@ pub mod Going
 pub mod Operations
 pub mod Refusals
 pub mod Speaking
+pub mod Stops
 pub mod Views

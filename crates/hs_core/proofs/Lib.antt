@@ -1,0 +1,5 @@
+mod DeletionExamples
+mod Driving
+mod Examples
+mod LimitExamples
+mod PeerExamples
