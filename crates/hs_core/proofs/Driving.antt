@@ -129,7 +129,7 @@ next_of_settle line (place, w) = if is_some w.core.ended then None else by_turn 
 -- so many at most
 abbrev pub settles : ℕ → ℕ → Place × World → World
 settles zero line at = at.1
-settles (suc n) line at = elim next_of_settle line at [ Some next ↦ settles n line next | None ↦ at.1 ]
+settles (suc n) line at = elim (next_of_settle line at) [ Some next ↦ settles n line next | None ↦ at.1 ]
 
 abbrev pub first_place : Place
 first_place = record { peer = 0; nudger = 0; progress = false }
@@ -137,7 +137,7 @@ first_place = record { peer = 0; nudger = 0; progress = false }
 -- passes until nobody has a turn, as after opening
 abbrev pub passes : ℕ → World → World
 passes zero w = w
-passes (suc n) w = elim next_turn 0 w.core [ Some peer ↦ passes n (turns 0 peer w) | None ↦ w ]
+passes (suc n) w = elim (next_turn 0 w.core) [ Some peer ↦ passes n (turns 0 peer w) | None ↦ w ]
 
 -- ---- lines
 

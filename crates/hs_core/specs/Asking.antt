@@ -1,5 +1,5 @@
 -- Lines of a script that are no client's: turns, messages, failures and starts.
-use Rattle.std.specs.Prelude.{ℕ, ◌&&◌, Bool, true, false, not, List, [], ◌∷◌, Option, Some, None, length, nat_le}
+use Rattle.std.specs.Prelude.{ℕ, ◌&&◌, Bool, true, false, not, List, [], ◌∷◌, Option, Some, None, length, nat_le, if◌then◌else◌}
 use Rattle.hs_core.specs.Changing.{change_pool, post, refuse}
 use Rattle.hs_core.specs.Delivering.{handle}
 use Rattle.hs_core.specs.Effects.{round_messages}
@@ -40,7 +40,7 @@ lose number m core = change_pool (without number) core
 
 -- a message is sent once more, where the pool is not full
 abbrev pub send_again : ℕ → Message → Core → Core
-send_again line m core = elim is_full core.pool [ true ↦ refuse line (reply.PoolFull core.pool.limit) core | false ↦ post (m ∷ []) core ]
+send_again line m core = if is_full core.pool then refuse line (reply.PoolFull core.pool.limit) core else post (m ∷ []) core
 
 -- ---- peers
 

@@ -1,14 +1,14 @@
 -- What happens when entries take effect.
 use Rattle.std.specs.List.{list_all}
 use Rattle.std.specs.Option.{option_map_or}
-use Rattle.std.specs.Prelude.{ℕ, ◌+◌, ◌-◌, ◌==◌, ◌&&◌, ◌||◌, Bool, true, false, List, Option, is_none, is_some, map, nat_le, if◌then◌else◌}
+use Rattle.std.specs.Prelude.{ℕ, ◌+◌, ◌-◌, ◌==◌, ◌&&◌, ◌||◌, Bool, true, false, List, Option, is_some, map, nat_le, if◌then◌else◌}
 use Rattle.hs_core.specs.declared.wait.Wait.{Wait}
 use Rattle.hs_core.specs.declared.wait.Wait.TheVariants as wait
 use Rattle.hs_core.specs.Changing.{change_group, note, post, set_catalogue, set_viewed}
 use Rattle.hs_core.specs.Entering.{propose_due}
 use Rattle.hs_core.specs.Looking.{catalogue_of, front_of, group_of, operation_of}
 use Rattle.hs_core.specs.Operating.{go_on_with, resume_where}
-use Rattle.hs_core.specs.Pending.{is_address, named}
+use Rattle.hs_core.specs.Pending.{is_address, named, puts_root, writes_block}
 use Rattle.hs_core.specs.State.{Core, Waiting}
 use Rattle.hs_core.specs.Words.{change_if, change_with, times, ◌▸◌}
 use Rattle.hs_desk.specs.declared.what.What.{What}
@@ -19,7 +19,7 @@ use Rattle.hs_journal.specs.declared.entry.Who.TheVariants as who
 use Rattle.hs_limits.specs.declared.address.Address.{Address}
 use Rattle.hs_model.specs.declared.deed.Deed.TheVariants as deed
 use Rattle.hs_model.specs.declared.reply.Reply.TheVariants as reply
-use Rattle.hs_ops.specs.Speaking.{key_of, wanted_address}
+use Rattle.hs_ops.specs.Speaking.{wanted_address}
 use Rattle.hs_ops.specs.Operations.{effect_step}
 use Rattle.hs_post.specs.declared.message.Message.{Message}
 use Rattle.hs_post.specs.declared.message.Message.TheVariants as message
@@ -53,10 +53,10 @@ is_for_address a core w = is_any w.wait && option_map_or (λ a. is_address a (wa
     is_any wait.Address = true
     is_any other = false
 
--- a Block wakes the writes that wait for its address or for room, and a Root the roots that wait for room; a root has a key
+-- a Block wakes the writes that wait for its address or for room, and a Root the roots that wait for room
 abbrev pub wakes : Entry → Option Address → Core → Waiting → Bool
-wakes (kind.Block line least bytes) a core w = is_for_address a core w || is_for_room w && is_none (key_of w.operation.op)
-wakes (kind.Root line held kept key) a core w = is_for_room w && is_some (key_of w.operation.op)
+wakes (kind.Block line least bytes) a core w = is_for_address a core w || is_for_room w && writes_block w.operation.op
+wakes (kind.Root line held kept key) a core w = is_for_room w && puts_root w.operation.op
 wakes other a core w = false
 
 -- ---- what an entry did is told

@@ -1,7 +1,7 @@
 -- What stands in a lead's list and has not taken effect, as far as operations wait for it.
 use Rattle.std.specs.List.{list_any}
 use Rattle.std.specs.Option.{option_and_then, option_map_or}
-use Rattle.std.specs.Prelude.{ℕ, ◌+◌, ◌||◌, Bool, true, false, not, Option, None, bytes_eq, count_by, length, nat_lt}
+use Rattle.std.specs.Prelude.{ℕ, ◌+◌, ◌||◌, Bool, true, false, not, Option, None, bytes_eq, count_by, length, nat_lt, if◌then◌else◌}
 use Rattle.hs_core.specs.Looking.{catalogue_of, group_of, operation_of}
 use Rattle.hs_core.specs.State.{Core}
 use Rattle.hs_entry.specs.declared.entry.Entry.{Entry}
@@ -11,6 +11,15 @@ use Rattle.hs_model.specs.declared.op.Op.{Op}
 use Rattle.hs_model.specs.declared.op.Op.TheVariants as op
 use Rattle.hs_ops.specs.Speaking.{wanted_address}
 use Rattle.hs_roots.specs.Roots.{retained_count}
+
+-- whether an operation writes a block, or puts a root
+abbrev pub writes_block : Op → Bool
+writes_block (op.Write name payload handles a) = true
+writes_block other = false
+
+abbrev pub puts_root : Op → Bool
+puts_root (op.Root name key handle) = true
+puts_root other = false
 
 -- whether an entry stores a block, or puts a root
 abbrev pub is_block : Entry → Bool
@@ -43,8 +52,7 @@ has_root_room shard more core = nat_lt (retained_count (catalogue_of shard core)
 
 -- so is it for an operation: a root needs room for a root, and the others for a block
 abbrev pub has_room : ℕ → Op → ℕ → ℕ → Core → Bool
-has_room shard (op.Root name key handle) blocks roots core = has_root_room shard roots core
-has_room shard other blocks roots core = has_block_room shard blocks core
+has_room shard o blocks roots core = if puts_root o then has_root_room shard roots core else has_block_room shard blocks core
 
 -- with the Blocks and Roots that have not taken effect there is no room
 abbrev pub is_crowded : ℕ → Op → Core → Bool
