@@ -1,6 +1,6 @@
 -- Scripts of the rules on deletion runs, computed: what the journal tells.
 use Rattle.std.proofs.Common.{◌≡◌, ℕ, List, [], ◌∷◌, Option, Some, None, refl, true}
-use Rattle.hs_core.proofs.Driving.{Says, tail_name}
+use Rattle.hs_core.proofs.Driving.{Leaves, Says, tail_name}
 use Rattle.hs_desk.specs.declared.fault.CoreFault.TheVariants as fault
 use Rattle.hs_journal.specs.declared.entry.Who.{Who}
 use Rattle.hs_journal.specs.declared.entry.Who.TheVariants as who
@@ -141,3 +141,29 @@ round_zero_and_on_told =
 round_zero_and_on : Says (1, 1) greatest_limits round_zero_and_on_lines round_zero_and_on_told (None)
 unfolding gained addresses block_at read_block no_handle_in stale_in helds_of deed_of seats_after asked_for begin block_entry compared data_of go is_same_block judged_in mark_entry on_bytes on_effect refusals_of asked_block least_epoch
 round_zero_and_on = record { told = refl; ended = refl }
+
+-- a round that comes twice is logged once
+lost_and_repeated_leaves : Leaves (1, 1) greatest_limits lost_and_repeated_lines (11 ∷ []) 0
+unfolding gained addresses block_at read_block no_handle_in stale_in helds_of deed_of seats_after asked_for begin block_entry compared data_of go is_same_block judged_in mark_entry on_bytes on_effect refusals_of asked_block least_epoch
+lost_and_repeated_leaves = record { effects = refl; messages = refl }
+
+-- a write and a read are judged again where their entry takes effect and where their bytes come
+abbrev judged_again_lines : List Command
+judged_again_lines =
+    command.Client (op.Open a) ∷ command.Client (op.Write a (97 ∷ []) [] None) ∷ command.Settle ∷ command.Client (op.Write a (98 ∷ []) (0 ∷ []) None) ∷ command.Settle ∷
+    command.Client op.Delete ∷ command.Settle ∷ command.Client op.Delete ∷ command.Client (op.Write a (98 ∷ []) (0 ∷ []) None) ∷ command.Client (op.Read a 0) ∷ command.Settle ∷
+    command.Client op.Delete ∷ command.Client (op.Read a 0) ∷ command.Settle ∷ []
+
+abbrev judged_again_told : List (Who × Reply)
+judged_again_told =
+    (who.Line 1, reply.Ok) ∷ (who.Line 2, reply.New 0 1) ∷ (who.Line 4, reply.New 1 1) ∷ (who.Line 6, reply.Run 2) ∷ (who.Shard 0, reply.Sweep 2 0) ∷ (who.Store, reply.Done 2) ∷
+    (who.Line 10, reply.Busy 9) ∷ (who.Line 8, reply.Run 3) ∷ (who.Line 9, reply.Stale 0 1 3) ∷ (who.Shard 0, reply.Sweep 3 2) ∷ (who.Store, reply.Done 3) ∷
+    (who.Line 13, reply.Stale 0 1 3) ∷ (who.Line 12, reply.Run 4) ∷ (who.Shard 0, reply.Sweep 4 0) ∷ (who.Store, reply.Done 4) ∷ []
+
+judged_again : Says (1, 1) greatest_limits judged_again_lines judged_again_told None
+unfolding gained addresses block_at read_block no_handle_in stale_in helds_of deed_of seats_after asked_for begin block_entry compared data_of go is_same_block judged_in mark_entry on_bytes on_effect refusals_of asked_block least_epoch
+judged_again = record { told = refl; ended = refl }
+
+judged_again_leaves : Leaves (1, 1) greatest_limits judged_again_lines (14 ∷ []) 0
+unfolding gained addresses block_at read_block no_handle_in stale_in helds_of deed_of seats_after asked_for begin block_entry compared data_of go is_same_block judged_in mark_entry on_bytes on_effect refusals_of asked_block least_epoch
+judged_again_leaves = record { effects = refl; messages = refl }

@@ -199,3 +199,8 @@ opened (shards, copies) limits =
 pub record Says (shape : ℕ × ℕ) (limits : Limits) (lines : List Command) (expected : List (Who × Reply)) (end : Option CoreFault) : Type 0 where
   pub told : said (does_lines 1 lines (opened shape limits)).core ≡ expected
   pub ended : (does_lines 1 lines (opened shape limits)).core.ended ≡ end
+
+-- what a script leaves from there: how many entries of each shard have taken effect, and how many messages are under way
+pub record Leaves (shape : ℕ × ℕ) (limits : Limits) (lines : List Command) (fronts : List ℕ) (under_way : ℕ) : Type 0 where
+  pub effects : map (λ group. group.front) (does_lines 1 lines (opened shape limits)).core.groups ≡ fronts
+  pub messages : length (does_lines 1 lines (opened shape limits)).core.pool.messages ≡ under_way

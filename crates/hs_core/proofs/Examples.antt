@@ -1,6 +1,6 @@
 -- Scripts of the rules on writes and reads, computed: what the journal tells.
-use Rattle.std.proofs.Common.{◌≡◌, ℕ, List, [], ◌∷◌, Option, Some, None, refl, true}
-use Rattle.hs_core.proofs.Driving.{Says, tail_name}
+use Rattle.std.proofs.Common.{◌≡◌, ℕ, List, [], ◌∷◌, Option, Some, None, refl, map}
+use Rattle.hs_core.proofs.Driving.{Leaves, Says, does_lines, opened, tail_name}
 use Rattle.hs_desk.specs.declared.fault.CoreFault.TheVariants as fault
 use Rattle.hs_journal.specs.declared.entry.Who.{Who}
 use Rattle.hs_journal.specs.declared.entry.Who.TheVariants as who
@@ -9,6 +9,9 @@ use Rattle.hs_limits.specs.Limits.{greatest_limits}
 use Rattle.hs_limits.specs.Reading.{addresses, block_at, read_block}
 use Rattle.hs_model.specs.declared.command.Command.{Command}
 use Rattle.hs_model.specs.declared.command.Command.TheVariants as command
+use Rattle.hs_model.specs.declared.deed.Deed.{Deed}
+use Rattle.hs_model.specs.declared.deed.Deed.TheVariants as deed
+use Rattle.hs_model.specs.declared.op.Asked.TheVariants as asked
 use Rattle.hs_model.specs.declared.op.Op.TheVariants as op
 use Rattle.hs_model.specs.declared.reply.Reply.{Reply}
 use Rattle.hs_model.specs.declared.reply.Reply.TheVariants as reply
@@ -147,3 +150,23 @@ read_walk_told =
 read_walk : Says (1, 1) greatest_limits read_walk_lines read_walk_told (None)
 unfolding gained addresses block_at read_block no_handle_in stale_in helds_of deed_of seats_after asked_for begin block_entry compared data_of go is_same_block judged_in mark_entry on_bytes on_effect refusals_of asked_block least_epoch
 read_walk = record { told = refl; ended = refl }
+
+-- a View, a Block and two Marks: the second write waited for the first
+dup_marks_leaves : Leaves (1, 1) greatest_limits dup_marks_lines (4 ∷ []) 0
+unfolding gained addresses block_at read_block no_handle_in stale_in helds_of deed_of seats_after asked_for begin block_entry compared data_of go is_same_block judged_in mark_entry on_bytes on_effect refusals_of asked_block least_epoch
+dup_marks_leaves = record { effects = refl; messages = refl }
+
+-- one shard's Block each, behind its View
+two_shards_leaves : Leaves (2, 1) greatest_limits two_shards_lines (2 ∷ 2 ∷ []) 0
+unfolding gained addresses block_at read_block no_handle_in stale_in helds_of deed_of seats_after asked_for begin block_entry compared data_of go is_same_block judged_in mark_entry on_bytes on_effect refusals_of asked_block least_epoch
+two_shards_leaves = record { effects = refl; messages = refl }
+
+-- and what each entry did
+busy_did : List Deed
+busy_did = deed.Opened a ∷ deed.Refused (asked.Write a 1 [] (Some (tail_name (spell (record { pointers = []; bytes = 97 ∷ [] })))))
+    ∷ deed.Wrote a (tail_name (spell (record { pointers = []; bytes = 97 ∷ 98 ∷ [] }))) [] 0 ∷ deed.Nothing
+    ∷ deed.ReadBlock a (tail_name (spell (record { pointers = []; bytes = 97 ∷ 98 ∷ [] }))) 1 [] ∷ []
+
+busy_deeds : map (λ e. e.deed) (does_lines 1 busy_lines (opened (1, 1) greatest_limits)).core.journal ≡ busy_did
+unfolding busy_did gained addresses block_at read_block no_handle_in stale_in helds_of deed_of seats_after asked_for begin block_entry compared data_of go is_same_block judged_in mark_entry on_bytes on_effect refusals_of asked_block least_epoch
+busy_deeds = refl

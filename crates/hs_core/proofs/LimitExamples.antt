@@ -91,3 +91,11 @@ refusals_told =
 refusals : Says (1, 1) (record greatest_limits { sessions = 2; handles = 2; blocks = 2; roots = 1 }) refusals_lines refusals_told (None)
 unfolding gained addresses block_at read_block no_handle_in stale_in helds_of deed_of seats_after asked_for begin block_entry compared data_of go is_same_block judged_in mark_entry on_bytes on_effect refusals_of asked_block least_epoch
 refusals = record { told = refl; ended = refl }
+
+-- a core that has ended does nothing more: the last copy's failure is not heard of
+abbrev full_and_on_lines : List Command
+full_and_on_lines = command.Client (op.Open a) ∷ command.Client (op.Open b) ∷ command.Client (op.Open c) ∷ command.Client (op.Open d) ∷ command.Fail 0 ∷ []
+
+full_and_on : Says (1, 1) (record greatest_limits { ops = 3 }) full_and_on_lines small_limits_told (Some fault.OpsFull)
+unfolding gained addresses block_at read_block no_handle_in stale_in helds_of deed_of seats_after asked_for begin block_entry compared data_of go is_same_block judged_in mark_entry on_bytes on_effect refusals_of asked_block least_epoch
+full_and_on = record { told = refl; ended = refl }

@@ -1,6 +1,8 @@
 -- Scripts of the rules on peers and messages, computed: what the journal tells, and how the core ends.
 use Rattle.std.proofs.Common.{◌≡◌, ℕ, List, [], ◌∷◌, Option, Some, None, refl, true}
-use Rattle.hs_core.proofs.Driving.{Says, tail_name}
+use Rattle.hs_core.proofs.Driving.{Says, World, does, does_lines, opened, said}
+use Rattle.hs_core.specs.declared.event.Event.TheVariants as event
+use Rattle.hs_desk.specs.declared.done.Done.TheVariants as done
 use Rattle.hs_desk.specs.declared.fault.CoreFault.TheVariants as fault
 use Rattle.hs_journal.specs.declared.entry.Who.{Who}
 use Rattle.hs_journal.specs.declared.entry.Who.TheVariants as who
@@ -152,3 +154,14 @@ full_pool_told =
 full_pool : Says (1, 2) (record greatest_limits { pool = 16 }) full_pool_lines full_pool_told (None)
 unfolding gained addresses block_at read_block no_handle_in stale_in helds_of deed_of seats_after asked_for begin block_entry compared data_of go is_same_block judged_in mark_entry on_bytes on_effect refusals_of asked_block least_epoch
 full_pool = record { told = refl; ended = refl }
+
+-- a disk fails while an entry is appended: its peer is told of, and the other answers
+abbrev after_failure : World
+after_failure = does (event.Report 0 (done.Failed 0)) (does_lines 1 (command.Client (op.Open a) ∷ command.Client (op.Write a (97 ∷ []) [] None) ∷ []) (opened (1, 2) greatest_limits))
+
+abbrev disk_fails_told : List (Who × Reply)
+disk_fails_told = (who.Line 1, reply.Ok) ∷ (who.Store, reply.Down 0 2) ∷ (who.Line 2, reply.New 0 1) ∷ []
+
+disk_fails : said (does_lines 3 (command.Settle ∷ []) after_failure).core ≡ disk_fails_told
+unfolding gained addresses block_at read_block no_handle_in stale_in helds_of deed_of seats_after asked_for begin block_entry compared data_of go is_same_block judged_in mark_entry on_bytes on_effect refusals_of asked_block least_epoch
+disk_fails = refl

@@ -1,6 +1,6 @@
 -- One event of the core.
 use Rattle.std.specs.Option.{option_map}
-use Rattle.std.specs.Prelude.{ℕ, ◌+◌, ◌++◌, ◌==◌, ◌&&◌, not, [], length, Some, is_some, nat_lt, if◌then◌else◌}
+use Rattle.std.specs.Prelude.{ℕ, ◌+◌, ◌++◌, ◌==◌, ◌&&◌, not, [], length, Some, is_none, nat_lt, if◌then◌else◌}
 use Rattle.hs_core.specs.declared.event.Event.{Event}
 use Rattle.hs_core.specs.declared.event.Event.TheVariants as event
 use Rattle.hs_core.specs.Asking.{deliver, lose, nudge_good, send_again, with_down, with_message, with_up}
@@ -67,7 +67,10 @@ abbrev pub end_event : Core → Core
 end_event core =
     if nat_lt core.limits.ops (length core.journal + length core.entries) then refuse_entries core else keep_entries core
 
--- one event at a moment; a core that has ended stays as it is
+-- one event at a moment
+abbrev pub run_event : Event → ℕ → Core → Core
+run_event event moment core = core ▸ begin_event (line_of event) moment ▸ do_event event ▸ end_event
+
+-- a core that has ended stays as it is
 abbrev pub step : Event → ℕ → Core → Core
-step event moment core =
-    if is_some core.ended then core else core ▸ begin_event (line_of event) moment ▸ do_event event ▸ end_event
+step event moment core = core ▸ change_if (is_none core.ended) (run_event event moment)
