@@ -6,7 +6,7 @@ use Rattle.hs_core.specs.Effects.{round_messages}
 use Rattle.hs_core.specs.Entering.{propose_due}
 use Rattle.hs_core.specs.Failing.{go_down}
 use Rattle.hs_core.specs.Joining.{start}
-use Rattle.hs_core.specs.Looking.{catalogue_of, group_of, home, status_of}
+use Rattle.hs_core.specs.Looking.{catalogue_of, group_of, home, lead_of, status_of}
 use Rattle.hs_core.specs.State.{Core}
 use Rattle.hs_core.specs.Words.{change_if, change_with, ◌▸◌}
 use Rattle.hs_members.specs.Members.{is_down, is_good_status}
@@ -15,7 +15,7 @@ use Rattle.hs_model.specs.declared.reply.Reply.TheVariants as reply
 use Rattle.hs_model.specs.Refusals.{first, refused_when}
 use Rattle.hs_post.specs.declared.message.Message.{Message}
 use Rattle.hs_post.specs.Pool.{is_full, message_at, without}
-use Rattle.hs_replica.specs.Group.{is_peer, lead, resend}
+use Rattle.hs_replica.specs.Group.{is_peer, resend}
 use Rattle.hs_rounds.specs.Rounds.{sent_back}
 use Rattle.hs_shard.specs.Facts.{Catalogue}
 use Rattle.hs_shard.specs.Rounds.{messages}
@@ -82,7 +82,7 @@ send_rounds shard core = core ▸ send_round 1 shard ▸ send_round 0 shard
 abbrev pub nudge : ℕ → Core → Core
 nudge peer core =
     let shard : ℕ = home peer core in
-    core ▸ change_if (is_peer peer (lead (group_of shard core))) (λ core. core ▸ propose_due shard ▸ send_rounds shard)
+    core ▸ change_if (is_peer peer (lead_of shard core)) (λ core. core ▸ propose_due shard ▸ send_rounds shard)
     ▸ (λ core. post (resend peer (group_of shard core)) core)
 
 abbrev pub nudge_good : ℕ → Core → Core

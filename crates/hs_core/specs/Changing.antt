@@ -7,7 +7,8 @@ use Rattle.std.specs.Prelude.{ℕ, ◌+◌, ◌++◌, Bool, List, [], ◌∷◌,
 use Rattle.hs_core.specs.declared.task.Task.{Task}
 use Rattle.hs_core.specs.declared.wait.Wait.{Wait}
 use Rattle.hs_core.specs.Looking.{group_of, operation_of, rejoin_of, tasks_of}
-use Rattle.hs_core.specs.State.{Core, Waiting}
+use Rattle.hs_core.specs.declared.waiting.Waiting.{Waiting}
+use Rattle.hs_core.specs.State.{Core}
 use Rattle.hs_core.specs.Words.{change_with, ◌▸◌}
 use Rattle.hs_desk.specs.declared.job.Job.TheVariants as job
 use Rattle.hs_entry.specs.declared.entry.Entry.{Entry}

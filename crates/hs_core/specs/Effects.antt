@@ -9,7 +9,8 @@ use Rattle.hs_core.specs.Entering.{propose_due}
 use Rattle.hs_core.specs.Looking.{catalogue_of, front_of, group_of, operation_of}
 use Rattle.hs_core.specs.Operating.{go_on_with, resume_where}
 use Rattle.hs_core.specs.Pending.{is_address, named, puts_root, writes_block}
-use Rattle.hs_core.specs.State.{Core, Waiting}
+use Rattle.hs_core.specs.declared.waiting.Waiting.{Waiting}
+use Rattle.hs_core.specs.State.{Core}
 use Rattle.hs_core.specs.Words.{change_if, change_with, times, ◌▸◌}
 use Rattle.hs_desk.specs.declared.what.What.{What}
 use Rattle.hs_desk.specs.declared.what.What.TheVariants as what

@@ -3,7 +3,7 @@ use Rattle.std.specs.Prelude.{ℕ, Bool, [], None}
 use Rattle.hs_core.specs.Changing.{change_pool, note, set_rejoin, set_status, set_tasks}
 use Rattle.hs_core.specs.Effects.{commit}
 use Rattle.hs_core.specs.Joining.{begin_joining, joining_peers}
-use Rattle.hs_core.specs.Looking.{group_of, home, status_of}
+use Rattle.hs_core.specs.Looking.{home, lead_of, status_of}
 use Rattle.hs_core.specs.State.{Core}
 use Rattle.hs_core.specs.Views.{change_view}
 use Rattle.hs_core.specs.Words.{change_if, each, ◌▸◌}
@@ -13,7 +13,7 @@ use Rattle.hs_members.specs.Members.{has_good, is_good_status}
 use Rattle.hs_model.specs.declared.deed.Deed.TheVariants as deed
 use Rattle.hs_model.specs.declared.reply.Reply.TheVariants as reply
 use Rattle.hs_post.specs.Pool.{drop_for}
-use Rattle.hs_replica.specs.Group.{is_peer, lead}
+use Rattle.hs_replica.specs.Group.{is_peer}
 
 -- its jobs are dropped, and the Copies and Haves for it are taken out of the pool
 abbrev pub leave : ℕ → Core → Core
@@ -28,7 +28,7 @@ abbrev pub go_down : ℕ → Core → Core
 go_down peer core =
     let shard : ℕ = home peer core in
     let was_good : Bool = is_good_status (status_of peer core) in
-    let was_lead : Bool = is_peer peer (lead (group_of shard core)) in
+    let was_lead : Bool = is_peer peer (lead_of shard core) in
     core ▸ leave peer
     ▸ change_if was_good (change_view shard)
     ▸ change_if was_lead (λ core. core ▸ each (joining_peers shard core) begin_joining)

@@ -10,7 +10,7 @@ use Rattle.hs_core.specs.Words.{change_if, change_with, each, ◌▸◌}
 use Rattle.hs_limits.specs.declared.limits.PeerStatus.TheVariants.{Good, Joining}
 use Rattle.hs_members.specs.Members.{is_joining, peers_of}
 use Rattle.hs_rejoin.specs.Rejoin.{follow, is_level, new_rejoin}
-use Rattle.hs_replica.specs.Group.{lead, length_of}
+use Rattle.hs_replica.specs.Group.{length_of}
 
 -- the joining peers of a shard
 abbrev pub joining_peers : ℕ → Core → List ℕ
@@ -32,7 +32,7 @@ follow_lead shard core =
 -- its list is as long as the lead's
 abbrev pub is_level_with_lead : ℕ → Core → Bool
 is_level_with_lead peer core =
-    let len : ℕ = option_map_or (length_of (group_of (home peer core) core)) (lead (group_of (home peer core) core)) 0 in
+    let len : ℕ = option_map_or (length_of (group_of (home peer core) core)) (lead_of (home peer core) core) 0 in
     option_map_or (is_level len) (rejoin_of peer core) false
 
 -- then it is good, and the view rises

@@ -8,7 +8,8 @@ use Rattle.hs_core.specs.Changing.{add_entry_tasks, add_operation, add_task, cha
 use Rattle.hs_core.specs.Looking.{group_of, lead_of, operation_of, shape_of}
 use Rattle.hs_core.specs.Pending.{is_coming}
 use Rattle.hs_core.specs.Seeing.{pointers_for, view_for}
-use Rattle.hs_core.specs.State.{Core, Waiting}
+use Rattle.hs_core.specs.declared.waiting.Waiting.{Waiting}
+use Rattle.hs_core.specs.State.{Core}
 use Rattle.hs_core.specs.Words.{change_with, each, ◌▸◌}
 use Rattle.hs_desk.specs.declared.job.Job.TheVariants as job
 use Rattle.hs_entry.specs.declared.entry.Entry.{Entry}
@@ -23,7 +24,7 @@ use Rattle.hs_ops.specs.Speaking.{judging_shard, wanted_address}
 use Rattle.hs_ops.specs.Answers.{deed_of, gained, seats_after}
 use Rattle.hs_ops.specs.Views.{OpView}
 use Rattle.hs_ops.specs.Operations.{Operation, after_step, go_step, new_operation}
-use Rattle.hs_replica.specs.Group.{last_number, lead, proposal, propose}
+use Rattle.hs_replica.specs.Group.{last_number, proposal, propose}
 
 -- ---- one step
 
@@ -32,7 +33,7 @@ abbrev pub propose_entry : ℕ → Entry → Core → Core
 propose_entry shard entry core =
     core ▸ change_group shard (propose entry)
     ▸ post (proposal entry (group_of shard core))
-    ▸ change_with (lead (group_of shard core)) (λ peer. add_entry_tasks peer (last_number (group_of shard core) + 1) entry)
+    ▸ change_with (lead_of shard core) (λ peer. add_entry_tasks peer (last_number (group_of shard core) + 1) entry)
 
 -- an operation is answered: it is over, the journal tells it, and its session changes as the reply says
 abbrev pub answer : ℕ → Waiting → Reply → Core → Core

@@ -10,7 +10,8 @@ use Rattle.hs_core.specs.Joining.{join_if_level}
 use Rattle.hs_core.specs.Looking.{first_task, group_of, home, operation_of, tasks_of}
 use Rattle.hs_core.specs.Operating.{go_on_with}
 use Rattle.hs_core.specs.Seeing.{pointers_for}
-use Rattle.hs_core.specs.State.{Core, Waiting}
+use Rattle.hs_core.specs.declared.waiting.Waiting.{Waiting}
+use Rattle.hs_core.specs.State.{Core}
 use Rattle.hs_core.specs.Words.{change_if, change_with, ◌▸◌}
 use Rattle.hs_desk.specs.declared.done.Done.{Done}
 use Rattle.hs_desk.specs.declared.done.Done.TheVariants as done

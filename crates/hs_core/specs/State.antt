@@ -1,23 +1,16 @@
 -- The state of the core: all shards, peers, sessions, operations, messages and jobs, and what was answered.
 use Rattle.std.specs.Prelude.{ℕ, Bool, List, Option}
 use Rattle.hs_core.specs.declared.task.Task.{Task}
-use Rattle.hs_core.specs.declared.wait.Wait.{Wait}
+use Rattle.hs_core.specs.declared.waiting.Waiting.{Waiting}
 use Rattle.hs_desk.specs.declared.fault.CoreFault.{CoreFault}
 use Rattle.hs_journal.specs.declared.entry.JournalEntry.{JournalEntry}
 use Rattle.hs_limits.specs.declared.limits.Limits.{Limits}
 use Rattle.hs_members.specs.Members.{Members}
-use Rattle.hs_ops.specs.Operations.{Operation}
 use Rattle.hs_post.specs.Pool.{Pool}
 use Rattle.hs_rejoin.specs.Rejoin.{Rejoin}
 use Rattle.hs_replica.specs.Group.{Group}
 use Rattle.hs_shard.specs.Facts.{Catalogue}
 use Rattle.hs_tokens.specs.Seats.{Seats}
-
--- an operation without an answer, the shard that judges it, and what it waits for
-pub record Waiting : Type 0 where
-  pub operation : Operation
-  pub shard : ℕ
-  pub wait : Wait
 
 -- members: the view of each shard and the status of each peer
 -- by shard: catalogues (what has taken effect), groups (the copies of its list), viewed (the current view's View has taken effect)

@@ -5,7 +5,8 @@ use Rattle.hs_core.specs.declared.wait.Wait.TheVariants as wait
 use Rattle.hs_core.specs.Changing.{change_group, post, set_viewed}
 use Rattle.hs_core.specs.Looking.{group_of}
 use Rattle.hs_core.specs.Operating.{propose_entry}
-use Rattle.hs_core.specs.State.{Core, Waiting}
+use Rattle.hs_core.specs.declared.waiting.Waiting.{Waiting}
+use Rattle.hs_core.specs.State.{Core}
 use Rattle.hs_core.specs.Words.{change_if, ◌▸◌}
 use Rattle.hs_entry.specs.declared.entry.Entry.TheVariants as kind
 use Rattle.hs_members.specs.Members.{has_good, view_of}

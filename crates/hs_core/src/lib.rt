@@ -4,7 +4,9 @@
 mod event;
 mod task;
 mod wait;
+mod waiting;
 
 pub use event::Event;
 pub use task::Task;
 pub use wait::Wait;
+pub use waiting::Waiting;
