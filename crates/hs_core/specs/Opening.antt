@@ -34,13 +34,23 @@ taken_group shape taken shard =
 -- nothing is under way
 abbrev pub new_core : Shape → Limits → Taken → ℕ → Core
 new_core shape limits taken moment = record {
-  limits = limits; members = members_at shape taken.views taken.good;
-  catalogues = taken.catalogues; groups = map (taken_group shape taken) (range_with_len 0 shape.shards);
+  limits = limits;
+  members = members_at shape taken.views taken.good;
+  catalogues = taken.catalogues;
+  groups = map (taken_group shape taken) (range_with_len 0 shape.shards);
   viewed = replicate shape.shards false;
-  tasks = replicate (length taken.good) []; rejoins = replicate (length taken.good) None;
-  pool = empty_pool limits.pool; sessions = []; operations = [];
-  journal = []; entries = []; refused = []; ended = None;
-  moment = moment; last_line = 0; event_line = 0;
+  tasks = replicate (length taken.good) [];
+  rejoins = replicate (length taken.good) None;
+  pool = empty_pool limits.pool;
+  sessions = [];
+  operations = [];
+  journal = [];
+  entries = [];
+  refused = [];
+  ended = None;
+  moment = moment;
+  last_line = 0;
+  event_line = 0;
 }
 
 -- each peer that is not good is told of

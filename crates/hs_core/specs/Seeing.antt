@@ -22,14 +22,18 @@ pointers_for shard o core = option_map_or (λ facts. facts.pointers) (facts_for 
 -- an operation that this shard judges sees what has taken effect
 abbrev pub view_for : ℕ → Op → Core → OpView
 view_for shard o core = record {
-  limits = core.limits; seats = core.sessions;
+  limits = core.limits;
+  seats = core.sessions;
   roots = (catalogue_of shard core).roots;
-  retained = sum_by (λ c. retained_count c.roots) core.catalogues; blocks = sum_by (λ c. length c.blocks) core.catalogues;
-  epochs = map (λ c. c.epoch) core.catalogues; swept = map (λ c. c.swept) core.catalogues;
+  retained = sum_by (λ c. retained_count c.roots) core.catalogues;
+  blocks = sum_by (λ c. length c.blocks) core.catalogues;
+  epochs = map (λ c. c.epoch) core.catalogues;
+  swept = map (λ c. c.swept) core.catalogues;
   shard = shard;
   present = option_map (λ facts. facts.number) (facts_for shard o core);
   pointers = length (pointers_for shard o core);
-  room = has_room shard o 0 0 core; pending = is_pending shard o core;
+  room = has_room shard o 0 0 core;
+  pending = is_pending shard o core;
   viewed = slice_index_or core.viewed shard false;
   busy = None;
 }
