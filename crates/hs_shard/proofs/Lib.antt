@@ -1,0 +1,7 @@
+mod Examples
+pub mod AdvanceLemmas
+pub mod EachLemmas
+pub mod FoundLemmas
+pub mod KeptLemmas
+pub mod ListedLemmas
+pub mod TallyLemmas

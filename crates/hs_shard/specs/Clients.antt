@@ -2,7 +2,7 @@
 use Rattle.std.specs.Prelude.{ℕ, ◌==◌, ◌&&◌, ◌||◌, Bool, false, not, if◌then◌else◌, List, [], Option, Some, None, is_none, is_some, Result, Ok, Err}
 use Rattle.std.specs.BTreeMap.{insert_entry, is_at}
 use Rattle.std.specs.Map.{set_value}
-use Rattle.std.specs.Option.{option_map_or}
+use Rattle.std.specs.Option.{option_map, option_map_or}
 use Rattle.hs_desk.specs.declared.what.What.{What}
 use Rattle.hs_desk.specs.declared.what.What.TheVariants.{Again, Dropped, Marked, Nothing, Refused, Rooted, Stored}
 use Rattle.hs_limits.specs.declared.address.Address.{Address}
@@ -16,12 +16,16 @@ use Rattle.hs_roots.specs.Refusals.{put_refusal}
 use Rattle.hs_roots.specs.Roots.{Retention, retained_of}
 use Rattle.hs_roots.specs.Roots.{put_root as with_root, drop_root as without_root}
 use Rattle.hs_shard.specs.declared.effect.Effect.{Effect}
-use Rattle.hs_shard.specs.Facts.{BlockList, Catalogue, Facts, facts_at, facts_in, has_room, is_fresh, is_mine}
+use Rattle.hs_shard.specs.declared.facts.Facts.{Facts}
+use Rattle.hs_shard.specs.Facts.{BlockList, Catalogue, facts_at, facts_in, has_room, is_fresh, is_mine}
 
 -- what an entry leaves, and its effect
 pub record Applied : Type 0 where
   pub catalogue : Catalogue
   pub effect : Effect
+
+abbrev pub applied : Catalogue → Effect → Applied
+applied c effect = record { catalogue = c; effect = effect }
 
 -- an effect that sends and removes nothing
 abbrev pub only : What → Catalogue → Applied
@@ -44,17 +48,14 @@ store_block number least a (Ok block) c =
     if not (is_fresh least c && has_room c) then only Refused c else
     only Stored (with_block a (new_facts number c.epoch block.pointers) c)
 
--- the facts of a present block changed
+-- with these facts of a present block
 abbrev pub put_facts : Address → Option Facts → BlockList → BlockList
 put_facts a None blocks = blocks
 put_facts a (Some f) blocks = set_value (is_at (address_cmp a)) blocks f
 
+-- the facts of a block changed, if it is present
 abbrev pub change_at : Address → (Facts → Facts) → BlockList → BlockList
-change_at a change blocks = change_found (facts_in a blocks)
-  where
-    change_found : Option Facts → BlockList
-    change_found None = blocks
-    change_found (Some f) = set_value (is_at (address_cmp a)) blocks (change f)
+change_at a change blocks = put_facts a (option_map change (facts_in a blocks)) blocks
 
 -- a block that is given in an epoch
 abbrev pub give : ℕ → Facts → Facts

@@ -11,17 +11,7 @@ use Rattle.hs_model.specs.Store.{address_cmp}
 use Rattle.hs_roots.specs.declared.root.RootRecord.{RootRecord}
 use Rattle.hs_rounds.specs.Rounds.{Run, empty_run}
 use Rattle.hs_shard.specs.declared.effect.BlockFacts.{BlockFacts}
-
--- a present block: the number of the entry that stored it, the epoch of its birth, the one in which a write gave it last,
--- whether it counts, whether it is a zero block, how often it is pointed to, and what it points to; its data stay on the disks
-pub record Facts : Type 0 where
-  pub number : ℕ
-  pub born : ℕ
-  pub mark : ℕ
-  pub counted : Bool
-  pub zero : Bool
-  pub count : ℕ
-  pub pointers : List Address
+use Rattle.hs_shard.specs.declared.facts.Facts.{Facts}
 
 -- the present blocks by address
 abbrev pub BlockList : Type 0

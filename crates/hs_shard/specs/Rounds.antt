@@ -14,9 +14,10 @@ use Rattle.hs_rounds.specs.declared.place.Place.{Place}
 use Rattle.hs_rounds.specs.Rounds.{Run, body_at, complete, finish, go_on, got, is_last, outgoing, received}
 use Rattle.hs_rounds.specs.Rounds.{enter as enter_run}
 use Rattle.hs_shard.specs.declared.effect.Effect.{Effect}
+use Rattle.hs_shard.specs.declared.facts.Facts.{Facts}
 use Rattle.hs_shard.specs.declared.effect.Sent.{Sent}
 use Rattle.hs_shard.specs.Clients.{Applied, change_at, only}
-use Rattle.hs_shard.specs.Facts.{BlockList, Catalogue, Facts}
+use Rattle.hs_shard.specs.Facts.{BlockList, Catalogue}
 
 -- ---- what is sent
 
@@ -59,16 +60,13 @@ enter_epoch epoch c = record c {
 
 -- ---- the end of a round: its deltas move the counts
 
--- a delta that would take a count outside 32 bits changes nothing
-abbrev pub raise : ℕ → Facts → Facts
-raise amount f = if nat_lt (f.count + amount) (2 ^ 32) then record f { count = f.count + amount } else f
+-- round 0 raises, the others lower; a delta that would take a count outside 32 bits changes nothing
+abbrev pub moved : ℕ → ℕ → ℕ → ℕ
+moved round count amount =
+    if round == 0 then (if nat_lt (count + amount) (2 ^ 32) then count + amount else count) else (if nat_le amount count then count - amount else count)
 
-abbrev pub lower : ℕ → Facts → Facts
-lower amount f = if nat_le amount f.count then record f { count = f.count - amount } else f
-
--- round 0 raises, the others lower
 abbrev pub move_count : ℕ → ℕ → Facts → Facts
-move_count round amount f = if round == 0 then raise amount f else lower amount f
+move_count round amount f = record f { count = moved round f.count amount }
 
 -- each delta moves the count of its block; of an absent one nothing
 abbrev pub settle : ℕ → List Delta → BlockList → BlockList
@@ -176,9 +174,11 @@ abbrev pub enter : ℕ → Catalogue → Applied
 enter epoch c = if may_enter epoch c then advanced (entered epoch c) else only Refused c
 
 -- a round may come where it is the open one or the next one of the run, or the first of the run after the epoch
+abbrev pub is_of_run : Place → Run → Bool
+is_of_run place run = option_map_or (λ at. place.epoch == at.0 && (place.round == at.1 || place.round == at.1 + 1)) run.opened false
+
 abbrev pub is_due : Place → Catalogue → Bool
-is_due place c =
-    option_map_or (λ at. place.epoch == at.0 && (place.round == at.1 || place.round == at.1 + 1)) c.run.opened false || place.epoch == c.epoch + 1 && place.round == 0
+is_due place c = is_of_run place c.run || place.epoch == c.epoch + 1 && place.round == 0
 
 -- a Got is taken where its sender is there, its round may come, and it did not come before
 abbrev pub is_accepted : Place → Catalogue → Bool

@@ -10,10 +10,10 @@ use Rattle.hs_model.specs.Store.{address_cmp}
 abbrev pub one_more : Address → List (Address × ℕ) → List (Address × ℕ)
 one_more a counts = insert_entry address_cmp counts a (unwrap_or (lookup (is_at (address_cmp a)) counts) 0 + 1)
 
--- some addresses counted, with those that were counted before
+-- some addresses counted, one after another, with those that were counted before
 abbrev pub count_all : List Address → List (Address × ℕ) → List (Address × ℕ)
 count_all [] counts = counts
-count_all (a ∷ rest) counts = one_more a (count_all rest counts)
+count_all (a ∷ rest) counts = count_all rest (one_more a counts)
 
 -- the counts as deltas
 abbrev pub deltas_of : List (Address × ℕ) → List Delta

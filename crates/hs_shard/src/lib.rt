@@ -1,8 +1,15 @@
 //! The catalogue of one shard in memory: what its entries amount to, without the blocks' data.
 #![tactic(auto)]
 
+mod blocks;
+mod catalogue;
 mod effect;
+mod facts;
 mod fault;
+mod listed;
+mod tally;
 
+pub use catalogue::Catalogue;
 pub use effect::{BlockFacts, Effect, Sent};
+pub use facts::Facts;
 pub use fault::ShardFault;

@@ -1,0 +1,36 @@
+-- Counts of addresses, as deltas: ascending, and each of at least 1.
+use Rattle.std.proofs.Common.{◌≡◌, ◌≤◌, ℕ, List, [], ◌∷◌, refl, ap, sym, subst, map, Ordering, Less, Equal, Greater}
+use Rattle.std.proofs.lemmas.List.Elements.{All-cons, All-nil}
+use Rattle.std.specs.BTreeMap.{insert_entry}
+use Rattle.std.specs.List.{All, AllByRecursion}
+use Rattle.std.specs.List.Sorted.{IsStrictlySortedBy}
+use Rattle.std.specs.Map.{keys_of}
+use Rattle.std.specs.Ordering.{match_ordering}
+use Rattle.hs_limits.specs.declared.address.Address.{Address}
+use Rattle.hs_limits.specs.declared.delta.Delta.{Delta}
+use Rattle.hs_model.specs.Store.{address_cmp}
+use Rattle.hs_rounds.specs.Changes.{AreChanges}
+use Rattle.hs_shard.specs.Tally.{deltas_of}
+
+abbrev pub Some1 : List (Address × ℕ) → Type 0
+Some1 es = AllByRecursion (λ e. 1 ≤ e.1) es
+
+pub some_insert : (a : Address) (n : ℕ) (es : List (Address × ℕ)) → 1 ≤ n → Some1 es → Some1 (insert_entry address_cmp es a n)
+some_insert a n [] le h = (le, tt)
+some_insert a n (e ∷ es) le h = go (some_insert a n es le h.1) (address_cmp a e.0)
+  where
+    go : Some1 (insert_entry address_cmp es a n) → (o : Ordering) → Some1 (match_ordering o ((a, n) ∷ e ∷ es) ((e.0, n) ∷ es) (e ∷ insert_entry address_cmp es a n))
+    go ih Less = (le, h)
+    go ih Equal = (le, h.1)
+    go ih Greater = (h.0, ih)
+
+some_deltas : (es : List (Address × ℕ)) → Some1 es → All (λ (d : Delta). 1 ≤ d.amount) (deltas_of es)
+some_deltas [] h = All-nil (λ (d : Delta). 1 ≤ d.amount)
+some_deltas (e ∷ es) h = All-cons (λ (d : Delta). 1 ≤ d.amount) (record { address = e.0; amount = e.1 }) (deltas_of es) h.0 (some_deltas es h.1)
+
+addresses_of_deltas : (es : List (Address × ℕ)) → map (λ (d : Delta). d.address) (deltas_of es) ≡ keys_of es
+addresses_of_deltas [] = refl
+addresses_of_deltas (e ∷ es) = ap (λ as'. e.0 ∷ as') (addresses_of_deltas es)
+
+pub are_changes : (es : List (Address × ℕ)) → IsStrictlySortedBy address_cmp (keys_of es) → Some1 es → AreChanges (deltas_of es)
+are_changes es d h = record { ascend = subst (λ ks. IsStrictlySortedBy address_cmp ks) (sym (addresses_of_deltas es)) d; some = some_deltas es h }
