@@ -1,12 +1,18 @@
 //! One client operation at a time: what is to be done for it next.
 #![tactic(auto)]
 
+mod asking;
+mod comparing;
+mod effects;
+mod entries;
 mod fault;
+mod going;
 mod operation;
 mod rows;
 mod step;
 mod stop;
 mod table;
+mod telling;
 mod view;
 
 pub use fault::OpFault;

@@ -1,5 +1,6 @@
 //! The table of refusals: the checks of each line in their order. An operation is refused for the first that stops.
-ghost use Rattle.std.specs.Prelude.{◌≡◌, IfOk};
+ghost use Rattle.std.specs.Prelude.{◌≡◌, Option, IfOk};
+ghost use Rattle.hs_limits.specs.declared.address.Address.{Address};
 ghost use Rattle.hs_model.specs.declared.op.Op.TheVariants as op;
 ghost use Rattle.hs_ops.specs.Refusals.{refusal_of};
 ghost use Rattle.hs_ops.specs.Stops.{Stops};
@@ -7,7 +8,7 @@ ghost use Rattle.hs_ops.specs.Stops.{Stops};
 use crate::rows::{are_few, is_short};
 use crate::stop::Stop;
 use crate::{OpFault, OpView};
-use hs_limits::{Address, Key, Name};
+use hs_limits::{Key, Name};
 use hs_model::{Op, Reply};
 use std::alloc::Global;
 
@@ -34,8 +35,8 @@ fn check(view: &OpView, alloc: Global, op: &Op) -> Result<(), Stop>
             session,
             payload,
             handles,
-            address,
-        } => view.check_write(alloc, session, payload.as_slice(), handles.as_slice(), *address),
+            ..
+        } => view.check_write(alloc, session, payload.as_slice(), handles.as_slice()),
         Op::Read { session, handle } => view.check_read(alloc, session, *handle),
         Op::Look { session, key } => view.check_look(alloc, session, key),
         Op::Root {
@@ -75,10 +76,9 @@ impl<'a> OpView<'a> {
         session: &Name,
         payload: &[u8],
         handles: &[u32],
-        address: Option<Address>,
     ) -> Result<(), Stop>
-        ensures { Stops (refusal_of self.now (op.Write session.now payload.now handles.now address))
-            result }
+        ensures { (address : Option Address) → Stops
+            (refusal_of self.now (op.Write session.now payload.now handles.now address)) result }
     {
         self.is_open(alloc, session)?;
         self.is_free()?;

@@ -86,7 +86,7 @@ impl<'a> OpView<'a> {
     pub(crate) fn found(&self, session: &Name, handle: u32) -> Held
         ensures { result ≡ found self.now.seats session.now handle }
     {
-        self.held(session, handle).unwrap_or(nothing())
+        found_in(self.sessions, session, handle)
     }
 
     /// The next handle number of a session, 0 where it is not open.
@@ -111,8 +111,15 @@ pub(crate) fn number_at(numbers: &[u64], place: usize) -> u64
     numbers.get(place).copied().unwrap_or(0)
 }
 
+/// What a handle of a session stands for, and the zero address in epoch 0 where it is not held.
+pub(crate) fn found_in(sessions: &Sessions, session: &Name, handle: u32) -> Held
+    ensures { result ≡ found sessions.now.seats session.now handle }
+{
+    sessions.find(session, handle).unwrap_or(nothing())
+}
+
 /// What stands for what is not held.
-fn nothing() -> Held
+pub(crate) fn nothing() -> Held
     ensures { result ≡ nothing }
 {
     Held {

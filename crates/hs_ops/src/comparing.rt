@@ -1,0 +1,127 @@
+//! What reported bytes bring.
+ghost use Rattle.std.specs.Prelude.{◌≡◌, None, IfOk};
+ghost use Rattle.std.specs.Option.{option_map};
+ghost use Rattle.hs_limits.specs.Block.{IsBlock};
+ghost use Rattle.hs_ops.specs.Going.{compared, data_of, is_reported, is_same_block, on_bytes};
+ghost use Rattle.hs_ops.specs.Refusals.{refusal_of};
+ghost use Rattle.hs_ops.specs.Speaking.{asked_block};
+
+use crate::entries::{addresses_of, spelling};
+use crate::going::go;
+use crate::table::refusal_of;
+use crate::{OpFault, OpStep, OpView};
+use hs_limits::{Address, ListOf, Name, parts_of};
+use hs_model::{Op, Reply};
+use std::alloc::Global;
+
+/// What was reported of a block: the number of its entry, its bytes, if they are not gone, and the
+/// pointers that the catalogue has.
+#[derive(Clone, Copy)]
+pub(crate) struct Report<'a> {
+    pub(crate) number: u64,
+    pub(crate) bytes: Option<&'a [u8]>,
+    pub(crate) pointers: &'a [Address],
+}
+
+/// The step of an operation whose bytes were reported: it is judged again first.
+#[tactic(auto, unfolding(crate::specs::Going::on_bytes))]
+pub(crate) fn on_bytes(
+    view: &OpView,
+    alloc: Global,
+    line: u64,
+    report: Report,
+    op: &Op,
+) -> Result<OpStep, OpFault>
+    ensures { IfOk result (λ step. step ≡ on_bytes view.now line report.number
+        (option_map (λ bytes. bytes.now) report.bytes) report.pointers.now op.now) }
+{
+    match refusal_of(view, alloc, op)? {
+        Some(refusal) => Ok(OpStep::Answer(refusal)),
+        None => compared(view, alloc, line, report, op),
+    }
+}
+
+/// The step of an operation that is not refused.
+#[tactic(auto, unfolding(crate::specs::Going::compared))]
+fn compared(
+    view: &OpView,
+    alloc: Global,
+    line: u64,
+    report: Report,
+    op: &Op,
+) -> Result<OpStep, OpFault>
+    requires { refusal_of view.now op.now ≡ None }
+    ensures { IfOk result (λ step. step ≡ compared view.now line report.number
+        (option_map (λ bytes. bytes.now) report.bytes) report.pointers.now op.now) }
+{
+    match op {
+        Op::Write {
+            session,
+            payload,
+            handles,
+            address,
+        } => {
+            if !view.is_reported(report) {
+                return go(view, alloc, line, op);
+            }
+            let handles = handles.as_slice();
+            if !view.is_same_block(alloc, session, payload.as_slice(), handles, report)? {
+                return Ok(OpStep::Answer(Reply::Collision));
+            }
+            let entry = view.mark_entry(line, report.number, session, handles, *address);
+            Ok(OpStep::Propose(entry))
+        }
+        Op::Read { session, .. } => {
+            let bytes = data_of(alloc, report.bytes)?;
+            Ok(OpStep::Answer(view.read_reply(alloc, session, bytes)?))
+        }
+        _ => Ok(OpStep::Wait),
+    }
+}
+
+impl<'a> OpView<'a> {
+    /// Whether the block of this entry is present, and its bytes were reported.
+    fn is_reported(&self, report: Report) -> bool
+        ensures { result ≡ is_reported self.now report.number
+            (option_map (λ bytes. bytes.now) report.bytes) }
+    {
+        self.present == Some(report.number) && report.bytes.is_some()
+    }
+
+    /// Whether the bytes are those of a write's block, and the catalogue's pointers are its pointers.
+    #[tactic(auto, unfolding(crate::specs::Going::is_same_block, crate::specs::Speaking::asked_block))]
+    fn is_same_block(
+        &self,
+        alloc: Global,
+        session: &Name,
+        payload: &[u8],
+        handles: &[u32],
+        report: Report,
+    ) -> Result<bool, OpFault>
+        requires { IsBlock (asked_block self.now.seats session.now payload.now handles.now) }
+        ensures { IfOk result (λ same. same
+            ≡ is_same_block (asked_block self.now.seats session.now payload.now handles.now)
+            (option_map (λ bytes. bytes.now) report.bytes) report.pointers.now) }
+    {
+        let Some(bytes) = report.bytes else {
+            return Ok(false);
+        };
+        let pointers = addresses_of(alloc, self.sessions, session, handles)?;
+        let spelled = spelling(alloc, pointers.as_slice(), payload)?;
+        Ok(spelled.as_slice() == bytes && pointers.as_slice() == report.pointers)
+    }
+}
+
+/// The data of the block that some bytes spell, none where they spell none.
+#[tactic(auto, unfolding(crate::specs::Going::data_of))]
+fn data_of(alloc: Global, bytes: Option<&[u8]>) -> Result<ListOf<u8>, OpFault>
+    ensures { IfOk result (λ told. told ≡ data_of (option_map (λ bytes. bytes.now) bytes)) }
+{
+    let Some(bytes) = bytes else {
+        return Ok(ListOf::new(alloc));
+    };
+    match parts_of(bytes) {
+        Ok((_, _, content)) => Ok(ListOf::from_vec(Vec::from_slice(alloc, content)?)),
+        Err(_) => Ok(ListOf::new(alloc)),
+    }
+}
