@@ -5,6 +5,7 @@ pub mod Effects
 pub mod Entering
 pub mod Failing
 pub mod Joining
+pub mod Keeping
 pub mod Looking
 pub mod Opening
 pub mod Operating

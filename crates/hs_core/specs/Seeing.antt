@@ -9,7 +9,8 @@ use Rattle.hs_model.specs.declared.op.Op.{Op}
 use Rattle.hs_ops.specs.Speaking.{wanted_address}
 use Rattle.hs_ops.specs.Views.{OpView}
 use Rattle.hs_roots.specs.Roots.{retained_count}
-use Rattle.hs_shard.specs.Facts.{Facts, facts_at}
+use Rattle.hs_shard.specs.declared.facts.Facts.{Facts}
+use Rattle.hs_shard.specs.Facts.{facts_at}
 
 -- what the catalogue knows of the block that it writes or reads
 abbrev pub facts_for : ℕ → Op → Core → Option Facts

@@ -1,0 +1,135 @@
+//! The core.
+ghost use Rattle.std.specs.Prelude.{◌≡◌, IsSome, IfSome};
+ghost use Rattle.std.specs.Option.{option_copied, option_map};
+ghost use Rattle.hs_core.specs.Looking.{catalogue_of, first_job, front_of, known_of, oldest_message, open_work, sealed_of, status_of};
+ghost use Rattle.hs_members.specs.Members.{IsPeer, IsShard};
+
+use crate::queue::Queue;
+use crate::{Task, Waiting};
+use hs_desk::{CoreFault, Job};
+use hs_journal::{Journal, JournalEntry};
+use hs_limits::{Limits, PeerStatus, Shape};
+use hs_members::{Members, home_of};
+use hs_post::Pool;
+use hs_rejoin::Rejoin;
+use hs_replica::Group;
+use hs_shard::Catalogue;
+use hs_tokens::Sessions;
+use std::alloc::Global;
+use std::collections::BTreeMap;
+use std::marker::Model;
+
+/// All shards, peers, sessions, operations, messages and jobs of a store, and what was answered.
+#[derive(Drop)]
+pub struct Core {
+    limits: Limits,
+    members: Members,
+    catalogues: Vec<Catalogue>,
+    groups: Vec<Group>,
+    viewed: Vec<bool>,
+    tasks: Vec<Queue>,
+    rejoins: Vec<Option<Rejoin>>,
+    /// The next copying step of each peer, so that it can be lent.
+    steps: Vec<Option<Job>>,
+    pool: Pool,
+    sessions: Sessions,
+    operations: BTreeMap<u64, Waiting>,
+    journal: Journal,
+    entries: Vec<JournalEntry>,
+    refused: Vec<JournalEntry>,
+    ended: Option<CoreFault>,
+    moment: u64,
+    last_line: u64,
+    event_line: u64,
+    alloc: Global,
+}
+
+impl Model for Core {
+    ghost use Rattle.std.specs.Prelude.{◌≡◌};
+    ghost use Rattle.hs_core.specs.Keeping.{AreSteps, IsCore};
+    ghost use Rattle.hs_core.specs.State.{Core};
+
+    ghost Value = { Core };
+
+    ghost view = { λ a. record {
+      limits = a.limits;
+      members = a.members;
+      catalogues = a.catalogues.items;
+      groups = a.groups.items;
+      viewed = a.viewed.items;
+      tasks = a.tasks.items;
+      rejoins = a.rejoins.items;
+      pool = a.pool;
+      sessions = a.sessions.seats;
+      operations = a.operations.entries;
+      journal = a.journal.entries;
+      entries = a.entries.items;
+      refused = a.refused.items;
+      ended = a.ended;
+      moment = a.moment;
+      last_line = a.last_line;
+      event_line = a.event_line;
+    } };
+
+    ghost invariant = { λ a. record {
+      kept : IsCore (view a);
+      steps : AreSteps (view a) a.steps.items;
+      pool : a.pool.limit ≡ a.limits.pool;
+      sessions : a.sessions.limits ≡ a.limits;
+      journal : a.journal.limit ≡ a.limits.ops;
+    } };
+}
+
+impl Core {
+    /// The line of the last client's operation, 0 before the first. It takes no memory.
+    pub fn last_line(&self) -> u64
+        ensures { result ≡ self.now.last_line }
+    {
+        self.last_line
+    }
+
+    /// The moment of the last event, that of the opening before the first. It takes no memory.
+    pub fn last_moment(&self) -> u64
+        ensures { result ≡ self.now.moment }
+    {
+        self.moment
+    }
+
+    /// Why the core has ended. None exactly until a fault has ended it. It takes no memory.
+    pub fn ended(&self) -> Option<CoreFault>
+        ensures { result ≡ self.now.ended }
+    {
+        self.ended
+    }
+
+    /// What was answered. It takes no memory.
+    pub fn journal(&self) -> &Journal
+        ensures { result.now.entries ≡ self.now.journal }
+    {
+        &self.journal
+    }
+
+    /// The entries that the event refused as OpsFull would have made, none where none was refused
+    /// so. It takes no memory.
+    pub fn refused(&self) -> &[JournalEntry]
+        ensures { result.now ≡ self.now.refused }
+    {
+        self.refused.as_slice()
+    }
+
+    /// What a peer is. It takes no memory.
+    pub fn status(&self, peer: u8) -> PeerStatus
+        requires { IsPeer self.now.members.shape peer }
+        ensures { result ≡ status_of peer self.now }
+    {
+        self.members.status(peer)
+    }
+
+    /// What has taken effect in a shard. It takes no memory.
+    pub fn catalogue(&self, shard: u8) -> &Catalogue
+        requires { IsShard self.now.members.shape shard }
+        ensures { result.now ≡ catalogue_of shard self.now }
+    {
+        &self.catalogues[usize::from(shard)]
+    }
+}
