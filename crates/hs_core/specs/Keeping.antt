@@ -1,6 +1,6 @@
 -- What a core keeps to.
-use Rattle.std.specs.Prelude.{◌≡◌, ℕ, ◌*◌, ◌<◌, Bool, Option, None, List, length, slice_index_or, if◌then◌else◌}
-use Rattle.hs_core.specs.Looking.{catalogue_of, copying_step, group_of, shape_of, status_of}
+use Rattle.std.specs.Prelude.{◌≡◌, ℕ, ◌*◌, ◌<◌, Bool, Option, None, List, length, slice_index, slice_index_or, if◌then◌else◌}
+use Rattle.hs_core.specs.Looking.{copying_step, front_of, group_of, shape_of, status_of}
 use Rattle.hs_core.specs.State.{Core}
 use Rattle.hs_desk.specs.declared.job.Job.{Job}
 use Rattle.hs_members.specs.Members.{IsMembers, IsPeer, IsShard, is_joining}
@@ -24,3 +24,8 @@ kept_step peer core = if is_joining (status_of peer core) then copying_step peer
 pub record AreSteps (core : Core) (steps : List (Option Job)) : Type 0 where
   pub length : length steps ≡ (shape_of core).shards * (shape_of core).copies
   pub each : (peer : ℕ) → IsPeer (shape_of core) peer → slice_index_or steps peer None ≡ kept_step peer core
+
+-- these are the numbers of the last entries of all shards that have taken effect
+pub record AreFronts (core : Core) (fronts : List ℕ) : Type 0 where
+  pub length : length fronts ≡ (shape_of core).shards
+  pub each : (shard : ℕ) → IsShard (shape_of core) shard → slice_index fronts shard ≡ front_of shard core

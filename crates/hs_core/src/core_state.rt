@@ -1,14 +1,16 @@
 //! The core.
-ghost use Rattle.std.specs.Prelude.{◌≡◌, IsSome, IfSome};
-ghost use Rattle.std.specs.Option.{option_copied, option_map};
-ghost use Rattle.hs_core.specs.Looking.{catalogue_of, first_job, front_of, known_of, oldest_message, open_work, sealed_of, status_of};
+ghost use Rattle.std.specs.Prelude.{◌≡◌};
+ghost use Rattle.std.specs.Option.{option_copied};
+ghost use Rattle.hs_core.specs.Looking.{catalogue_of, first_job, front_of, group_of, home, known_of, sealed_of, status_of};
 ghost use Rattle.hs_members.specs.Members.{IsPeer, IsShard};
+ghost use Rattle.hs_replica.specs.Group.{IsHome};
+ghost use Rattle.hs_tokens.specs.Seats.{held_at, seat_of};
 
 use crate::queue::Queue;
 use crate::{Task, Waiting};
 use hs_desk::{CoreFault, Job};
 use hs_journal::{Journal, JournalEntry};
-use hs_limits::{Limits, PeerStatus, Shape};
+use hs_limits::{Held, Limits, Name, PeerStatus};
 use hs_members::{Members, home_of};
 use hs_post::Pool;
 use hs_rejoin::Rejoin;
@@ -26,6 +28,8 @@ pub struct Core {
     members: Members,
     catalogues: Vec<Catalogue>,
     groups: Vec<Group>,
+    /// The number of each shard's last entry that has taken effect.
+    fronts: Vec<u64>,
     viewed: Vec<bool>,
     tasks: Vec<Queue>,
     rejoins: Vec<Option<Rejoin>>,
@@ -46,7 +50,7 @@ pub struct Core {
 
 impl Model for Core {
     ghost use Rattle.std.specs.Prelude.{◌≡◌};
-    ghost use Rattle.hs_core.specs.Keeping.{AreSteps, IsCore};
+    ghost use Rattle.hs_core.specs.Keeping.{AreFronts, AreSteps, IsCore};
     ghost use Rattle.hs_core.specs.State.{Core};
 
     ghost Value = { Core };
@@ -73,6 +77,7 @@ impl Model for Core {
 
     ghost invariant = { λ a. record {
       kept : IsCore (view a);
+      fronts : AreFronts (view a) a.fronts.items;
       steps : AreSteps (view a) a.steps.items;
       pool : a.pool.limit ≡ a.limits.pool;
       sessions : a.sessions.limits ≡ a.limits;
@@ -131,5 +136,63 @@ impl Core {
         ensures { result.now ≡ catalogue_of shard self.now }
     {
         &self.catalogues[usize::from(shard)]
+    }
+
+    /// What a handle of a session stands for. None exactly where the session does not hold it. It
+    /// takes no memory.
+    pub fn held(&self, session: &Name, handle: u32) -> Option<Held>
+        ensures { result ≡ held_at (seat_of session.now self.now.sessions) handle }
+    {
+        self.sessions.find(session, handle).ok()
+    }
+
+    /// How many entries a peer has sealed. It takes no memory.
+    pub fn sealed(&self, peer: u8) -> u64
+        requires { IsPeer self.now.members.shape peer }
+        ensures { result ≡ sealed_of peer self.now }
+    {
+        self.groups[usize::from(self.home(peer))].sealed(peer)
+    }
+
+    /// How many entries the lead of a peer's shard knows the peer to have sealed. It takes no memory.
+    pub fn known(&self, peer: u8) -> u64
+        requires { IsPeer self.now.members.shape peer }
+        ensures { result ≡ known_of peer self.now }
+    {
+        self.groups[usize::from(self.home(peer))].known(peer)
+    }
+
+    /// The number of a shard's last entry that has taken effect, those of the taken log included. It
+    /// takes no memory.
+    pub fn front(&self, shard: u8) -> u64
+        requires { IsShard self.now.members.shape shard }
+        ensures { result ≡ front_of shard self.now }
+    {
+        self.fronts[usize::from(shard)]
+    }
+
+    /// The first job of a peer: a joining one has its copying steps alone. None exactly where it has
+    /// no job. It takes no memory.
+    pub fn first_job(&self, peer: u8) -> Option<&Job>
+        requires { IsPeer self.now.members.shape peer }
+        ensures { option_copied result ≡ first_job peer self.now }
+    {
+        if self.members.status(peer) == PeerStatus::Joining {
+            return self.steps[usize::from(peer)].as_ref();
+        }
+        match self.tasks[usize::from(peer)].first() {
+            Some(task) => Some(&task.job),
+            None => None,
+        }
+    }
+
+    /// The shard that a peer keeps a copy of.
+    fn home(&self, peer: u8) -> u8
+        requires { IsPeer self.now.members.shape peer }
+        ensures home { result ≡ home peer self.now }
+        ensures shard { IsShard self.now.members.shape result }
+        ensures group { IsHome (group_of result self.now) peer }
+    {
+        home_of(peer, self.members.shape())
     }
 }
