@@ -143,9 +143,9 @@ unfolding gained addresses block_at read_block no_handle_in stale_in helds_of de
 round_zero_and_on = record { told = refl; ended = refl }
 
 -- a round that comes twice is logged once
-lost_and_repeated_leaves : Leaves (1, 1) greatest_limits lost_and_repeated_lines (11 ∷ []) 0
+lost_and_repeated_leaves : Leaves (1, 1) greatest_limits lost_and_repeated_lines ((11, 11) ∷ []) 0
 unfolding gained addresses block_at read_block no_handle_in stale_in helds_of deed_of seats_after asked_for begin block_entry compared data_of go is_same_block judged_in mark_entry on_bytes on_effect refusals_of asked_block least_epoch
-lost_and_repeated_leaves = record { effects = refl; messages = refl }
+lost_and_repeated_leaves = record { lists = refl; messages = refl }
 
 -- a write and a read are judged again where their entry takes effect and where their bytes come
 abbrev judged_again_lines : List Command
@@ -164,6 +164,20 @@ judged_again : Says (1, 1) greatest_limits judged_again_lines judged_again_told 
 unfolding gained addresses block_at read_block no_handle_in stale_in helds_of deed_of seats_after asked_for begin block_entry compared data_of go is_same_block judged_in mark_entry on_bytes on_effect refusals_of asked_block least_epoch
 judged_again = record { told = refl; ended = refl }
 
-judged_again_leaves : Leaves (1, 1) greatest_limits judged_again_lines (14 ∷ []) 0
+judged_again_leaves : Leaves (1, 1) greatest_limits judged_again_lines ((14, 14) ∷ []) 0
 unfolding gained addresses block_at read_block no_handle_in stale_in helds_of deed_of seats_after asked_for begin block_entry compared data_of go is_same_block judged_in mark_entry on_bytes on_effect refusals_of asked_block least_epoch
-judged_again_leaves = record { effects = refl; messages = refl }
+judged_again_leaves = record { lists = refl; messages = refl }
+
+undelete_leaves : Leaves (1, 1) greatest_limits undelete_lines ((21, 21) ∷ []) 0
+unfolding gained addresses block_at read_block no_handle_in stale_in helds_of deed_of seats_after asked_for begin block_entry compared data_of go is_same_block judged_in mark_entry on_bytes on_effect refusals_of asked_block least_epoch
+undelete_leaves = record { lists = refl; messages = refl }
+
+-- each shard's Enter is logged once
+epochs_apart_leaves : Leaves (2, 1) greatest_limits epochs_apart_lines ((12, 12) ∷ (12, 12) ∷ []) 0
+unfolding gained addresses block_at read_block no_handle_in stale_in helds_of deed_of seats_after asked_for begin block_entry compared data_of go is_same_block judged_in mark_entry on_bytes on_effect refusals_of asked_block least_epoch
+epochs_apart_leaves = record { lists = refl; messages = refl }
+
+-- round 0 of the second run is under way
+round_zero_and_on_leaves : Leaves (1, 1) greatest_limits round_zero_and_on_lines ((5, 5) ∷ []) 1
+unfolding gained addresses block_at read_block no_handle_in stale_in helds_of deed_of seats_after asked_for begin block_entry compared data_of go is_same_block judged_in mark_entry on_bytes on_effect refusals_of asked_block least_epoch
+round_zero_and_on_leaves = record { lists = refl; messages = refl }

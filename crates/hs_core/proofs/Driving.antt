@@ -5,7 +5,7 @@ use Rattle.std.specs.Prelude.{◌≡◌, ℕ, zero, suc, ◌*◌, ◌+◌, ◌-�
 use Rattle.hs_core.specs.declared.event.Event.{Event}
 use Rattle.hs_core.specs.declared.event.Event.TheVariants as event
 use Rattle.hs_core.specs.Asking.{no_peer, not_up}
-use Rattle.hs_core.specs.Looking.{first_job, home, known_of, oldest_message, open_work, shape_of, status_of}
+use Rattle.hs_core.specs.Looking.{first_job, group_of, home, known_of, oldest_message, open_work, sealed_of, shape_of, status_of}
 use Rattle.hs_core.specs.Opening.{Taken, open_core}
 use Rattle.hs_core.specs.State.{Core}
 use Rattle.hs_core.specs.Step.{step}
@@ -31,6 +31,7 @@ use Rattle.hs_model.specs.declared.op.Op.TheVariants as op
 use Rattle.hs_model.specs.declared.reply.Reply.{Reply}
 use Rattle.hs_model.specs.Refusals.{first}
 use Rattle.hs_ops.specs.Speaking.{asked_block}
+use Rattle.hs_replica.specs.Group.{length_of}
 use Rattle.hs_shard.specs.Facts.{empty_catalogue}
 use Rattle.hs_tokens.specs.Seats.{Seats, held_at, seat_of}
 
@@ -183,6 +184,10 @@ does_lines line (c ∷ cs) w = does_lines (line + 1) cs (does_command line c w)
 abbrev pub said : Core → List (Who × Reply)
 said core = map (λ e. (e.who, e.reply)) core.journal
 
+-- of each peer how many entries its list has, and how many it has sealed
+abbrev pub lists_of : Core → List (ℕ × ℕ)
+lists_of core = map (λ peer. (length_of (group_of (home peer core) core) peer, sealed_of peer core)) (all_peers (shape_of core))
+
 -- a store of this shape and these limits, with blank disks, just opened
 abbrev pub opened : ℕ × ℕ → Limits → World
 opened (shards, copies) limits =
@@ -200,7 +205,7 @@ pub record Says (shape : ℕ × ℕ) (limits : Limits) (lines : List Command) (e
   pub told : said (does_lines 1 lines (opened shape limits)).core ≡ expected
   pub ended : (does_lines 1 lines (opened shape limits)).core.ended ≡ end
 
--- what a script leaves from there: how many entries of each shard have taken effect, and how many messages are under way
-pub record Leaves (shape : ℕ × ℕ) (limits : Limits) (lines : List Command) (fronts : List ℕ) (under_way : ℕ) : Type 0 where
-  pub effects : map (λ group. group.front) (does_lines 1 lines (opened shape limits)).core.groups ≡ fronts
+-- what a script leaves from there: of each peer how many entries it has and how many it has sealed, and how many messages are under way
+pub record Leaves (shape : ℕ × ℕ) (limits : Limits) (lines : List Command) (expected : List (ℕ × ℕ)) (under_way : ℕ) : Type 0 where
+  pub lists : lists_of (does_lines 1 lines (opened shape limits)).core ≡ expected
   pub messages : length (does_lines 1 lines (opened shape limits)).core.pool.messages ≡ under_way

@@ -152,14 +152,14 @@ unfolding gained addresses block_at read_block no_handle_in stale_in helds_of de
 read_walk = record { told = refl; ended = refl }
 
 -- a View, a Block and two Marks: the second write waited for the first
-dup_marks_leaves : Leaves (1, 1) greatest_limits dup_marks_lines (4 ∷ []) 0
+dup_marks_leaves : Leaves (1, 1) greatest_limits dup_marks_lines ((4, 4) ∷ []) 0
 unfolding gained addresses block_at read_block no_handle_in stale_in helds_of deed_of seats_after asked_for begin block_entry compared data_of go is_same_block judged_in mark_entry on_bytes on_effect refusals_of asked_block least_epoch
-dup_marks_leaves = record { effects = refl; messages = refl }
+dup_marks_leaves = record { lists = refl; messages = refl }
 
 -- one shard's Block each, behind its View
-two_shards_leaves : Leaves (2, 1) greatest_limits two_shards_lines (2 ∷ 2 ∷ []) 0
+two_shards_leaves : Leaves (2, 1) greatest_limits two_shards_lines ((2, 2) ∷ (2, 2) ∷ []) 0
 unfolding gained addresses block_at read_block no_handle_in stale_in helds_of deed_of seats_after asked_for begin block_entry compared data_of go is_same_block judged_in mark_entry on_bytes on_effect refusals_of asked_block least_epoch
-two_shards_leaves = record { effects = refl; messages = refl }
+two_shards_leaves = record { lists = refl; messages = refl }
 
 -- and what each entry did
 busy_did : List Deed
@@ -170,3 +170,7 @@ busy_did = deed.Opened a ∷ deed.Refused (asked.Write a 1 [] (Some (tail_name (
 busy_deeds : map (λ e. e.deed) (does_lines 1 busy_lines (opened (1, 1) greatest_limits)).core.journal ≡ busy_did
 unfolding busy_did gained addresses block_at read_block no_handle_in stale_in helds_of deed_of seats_after asked_for begin block_entry compared data_of go is_same_block judged_in mark_entry on_bytes on_effect refusals_of asked_block least_epoch
 busy_deeds = refl
+
+turn_by_turn_leaves : Leaves (1, 2) greatest_limits turn_by_turn_lines ((2, 2) ∷ (2, 2) ∷ []) 0
+unfolding gained addresses block_at read_block no_handle_in stale_in helds_of deed_of seats_after asked_for begin block_entry compared data_of go is_same_block judged_in mark_entry on_bytes on_effect refusals_of asked_block least_epoch
+turn_by_turn_leaves = record { lists = refl; messages = refl }

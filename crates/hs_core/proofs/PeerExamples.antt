@@ -1,7 +1,8 @@
 -- Scripts of the rules on peers and messages, computed: what the journal tells, and how the core ends.
-use Rattle.std.proofs.Common.{◌≡◌, ℕ, List, [], ◌∷◌, Option, Some, None, refl, true}
-use Rattle.hs_core.proofs.Driving.{Says, World, does, does_lines, opened, said}
+use Rattle.std.proofs.Common.{◌≡◌, ℕ, List, [], ◌∷◌, Option, Some, None, length, refl}
+use Rattle.hs_core.proofs.Driving.{Leaves, Says, World, does, does_lines, opened, said}
 use Rattle.hs_core.specs.declared.event.Event.TheVariants as event
+use Rattle.hs_core.specs.Looking.{tasks_of}
 use Rattle.hs_desk.specs.declared.done.Done.TheVariants as done
 use Rattle.hs_desk.specs.declared.fault.CoreFault.TheVariants as fault
 use Rattle.hs_journal.specs.declared.entry.Who.{Who}
@@ -165,3 +166,35 @@ disk_fails_told = (who.Line 1, reply.Ok) ∷ (who.Store, reply.Down 0 2) ∷ (wh
 disk_fails : said (does_lines 3 (command.Settle ∷ []) after_failure).core ≡ disk_fails_told
 unfolding gained addresses block_at read_block no_handle_in stale_in helds_of deed_of seats_after asked_for begin block_entry compared data_of go is_same_block judged_in mark_entry on_bytes on_effect refusals_of asked_block least_epoch
 disk_fails = refl
+
+fail_one_copy_leaves : Leaves (1, 2) greatest_limits fail_one_copy_lines ((2, 2) ∷ (4, 4) ∷ []) 0
+unfolding gained addresses block_at read_block no_handle_in stale_in helds_of deed_of seats_after asked_for begin block_entry compared data_of go is_same_block judged_in mark_entry on_bytes on_effect refusals_of asked_block least_epoch
+fail_one_copy_leaves = record { lists = refl; messages = refl }
+
+lower_view_leaves : Leaves (1, 2) greatest_limits lower_view_lines ((5, 5) ∷ (6, 3) ∷ []) 3
+unfolding gained addresses block_at read_block no_handle_in stale_in helds_of deed_of seats_after asked_for begin block_entry compared data_of go is_same_block judged_in mark_entry on_bytes on_effect refusals_of asked_block least_epoch
+lower_view_leaves = record { lists = refl; messages = refl }
+
+rejoin_leaves : Leaves (1, 2) greatest_limits rejoin_lines ((6, 6) ∷ (5, 5) ∷ []) 0
+unfolding gained addresses block_at read_block no_handle_in stale_in helds_of deed_of seats_after asked_for begin block_entry compared data_of go is_same_block judged_in mark_entry on_bytes on_effect refusals_of asked_block least_epoch
+rejoin_leaves = record { lists = refl; messages = refl }
+
+not_joined_leaves : Leaves (1, 2) greatest_limits not_joined_lines ((2, 1) ∷ (1, 1) ∷ []) 0
+unfolding gained addresses block_at read_block no_handle_in stale_in helds_of deed_of seats_after asked_for begin block_entry compared data_of go is_same_block judged_in mark_entry on_bytes on_effect refusals_of asked_block least_epoch
+not_joined_leaves = record { lists = refl; messages = refl }
+
+-- a Have for the lead is under way when the lead fails
+abbrev lost_lead_lines : List Command
+lost_lead_lines = command.Client (op.Open a) ∷ command.Client (op.Write a (97 ∷ []) [] None) ∷ command.Turn 1 ∷ command.Turn 1 ∷ command.Turn 1 ∷ command.Fail 0 ∷ []
+
+lost_lead_leaves : Leaves (1, 2) greatest_limits lost_lead_lines ((2, 1) ∷ (3, 2) ∷ []) 0
+unfolding gained addresses block_at read_block no_handle_in stale_in helds_of deed_of seats_after asked_for begin block_entry compared data_of go is_same_block judged_in mark_entry on_bytes on_effect refusals_of asked_block least_epoch
+lost_lead_leaves = record { lists = refl; messages = refl }
+
+-- a report that answers no job changes nothing
+abbrev writing : World
+writing = does_lines 1 (command.Client (op.Open a) ∷ command.Client (op.Write a (97 ∷ []) [] None) ∷ []) (opened (1, 1) greatest_limits)
+
+other_reports : length (tasks_of 0 (does (event.Report 0 (done.Sealed 2)) writing).core) ≡ 2
+unfolding gained addresses block_at read_block no_handle_in stale_in helds_of deed_of seats_after asked_for begin block_entry compared data_of go is_same_block judged_in mark_entry on_bytes on_effect refusals_of asked_block least_epoch
+other_reports = refl
