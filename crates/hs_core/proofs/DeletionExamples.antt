@@ -1,6 +1,6 @@
 -- Scripts of the rules on deletion runs, computed: what the journal tells.
-use Rattle.std.proofs.Common.{◌≡◌, ℕ, List, [], ◌∷◌, Option, Some, None, refl, true}
-use Rattle.hs_core.proofs.Driving.{Leaves, Says, tail_name}
+use Rattle.std.proofs.Common.{◌≡◌, ℕ, List, [], ◌∷◌, Option, Some, None, refl, take, ◌++◌}
+use Rattle.hs_core.proofs.Driving.{Leaves, Says, does_lines, lists_of, opened}
 use Rattle.hs_desk.specs.declared.fault.CoreFault.TheVariants as fault
 use Rattle.hs_journal.specs.declared.entry.Who.{Who}
 use Rattle.hs_journal.specs.declared.entry.Who.TheVariants as who
@@ -181,3 +181,11 @@ epochs_apart_leaves = record { lists = refl; messages = refl }
 round_zero_and_on_leaves : Leaves (1, 1) greatest_limits round_zero_and_on_lines ((5, 5) ∷ []) 1
 unfolding gained addresses block_at read_block no_handle_in stale_in helds_of deed_of seats_after asked_for begin block_entry compared data_of go is_same_block judged_in mark_entry on_bytes on_effect refusals_of asked_block least_epoch
 round_zero_and_on_leaves = record { lists = refl; messages = refl }
+
+-- round 0 of the next run comes to shard 1 while it has not swept: it is logged, and no Enter is proposed
+abbrev early_round_lines : List Command
+early_round_lines = take 29 epochs_apart_lines ++ command.Deliver 10 ∷ command.Turn 1 ∷ command.Turn 1 ∷ []
+
+early_round_lists : lists_of (does_lines 1 early_round_lines (opened (2, 1) greatest_limits)).core ≡ (8, 8) ∷ (5, 5) ∷ []
+unfolding gained addresses block_at read_block no_handle_in stale_in helds_of deed_of seats_after asked_for begin block_entry compared data_of go is_same_block judged_in mark_entry on_bytes on_effect refusals_of asked_block least_epoch
+early_round_lists = refl

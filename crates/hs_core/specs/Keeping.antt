@@ -3,7 +3,18 @@ use Rattle.std.specs.Prelude.{◌≡◌, ℕ, ◌*◌, ◌<◌, Bool, Option, No
 use Rattle.hs_core.specs.Looking.{copying_step, front_of, group_of, shape_of, status_of}
 use Rattle.hs_core.specs.State.{Core}
 use Rattle.hs_desk.specs.declared.job.Job.{Job}
+use Rattle.hs_limits.specs.declared.shape.Shape.{Shape}
+use Rattle.hs_limits.specs.Shape.{IsShape}
 use Rattle.hs_members.specs.Members.{IsMembers, IsPeer, IsShard, is_joining}
+use Rattle.hs_replica.specs.Group.{Group}
+
+-- the copies of a shard of this shape
+pub record IsOf (shape : Shape) (shard : ℕ) (group : Group) : Type 0 where
+  pub valid : IsShape shape
+  pub within : IsShard shape shard
+  pub same_shape : group.shape ≡ shape
+  pub same_shard : group.shard ≡ shard
+  pub copies : length group.copies ≡ shape.copies
 
 -- one of each for every shard and every peer, and each is of its shard
 pub record IsCore (core : Core) : Type 0 where
@@ -13,8 +24,7 @@ pub record IsCore (core : Core) : Type 0 where
   pub viewed : length core.viewed ≡ (shape_of core).shards
   pub tasks : length core.tasks ≡ (shape_of core).shards * (shape_of core).copies
   pub rejoins : length core.rejoins ≡ (shape_of core).shards * (shape_of core).copies
-  pub shapes : (shard : ℕ) → IsShard (shape_of core) shard → (group_of shard core).shape ≡ shape_of core
-  pub shards : (shard : ℕ) → IsShard (shape_of core) shard → (group_of shard core).shard ≡ shard
+  pub each : (shard : ℕ) → IsShard (shape_of core) shard → IsOf (shape_of core) shard (group_of shard core)
 
 -- the next copying step of a peer that is joining
 abbrev pub kept_step : ℕ → Core → Option Job

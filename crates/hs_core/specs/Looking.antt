@@ -37,6 +37,10 @@ group_of shard core = slice_index_or core.groups shard (new_group (shape_of core
 abbrev pub lead_of : ℕ → Core → Option ℕ
 lead_of shard core = lead_by shard (map (λ copy. length copy.stamps) (group_of shard core).copies) core.members
 
+-- the leads of all shards
+abbrev pub leads_of : Core → List (Option ℕ)
+leads_of core = map (λ shard. lead_of shard core) (shards_of core)
+
 -- how many of its entries have taken effect
 abbrev pub front_of : ℕ → Core → ℕ
 front_of shard core = (group_of shard core).front
@@ -84,7 +88,7 @@ first_job peer core = option_map (λ task. task.job) (first_task peer core)
 
 -- the number of the oldest message for it
 abbrev pub oldest_message : ℕ → Core → Option ℕ
-oldest_message peer core = oldest_for peer (map (λ shard. lead_of shard core) (shards_of core)) core.pool
+oldest_message peer core = oldest_for peer (leads_of core) core.pool
 
 -- ---- operations
 

@@ -1,6 +1,7 @@
 //! The core.
 ghost use Rattle.std.specs.Prelude.{◌≡◌};
 ghost use Rattle.std.specs.Option.{option_copied};
+ghost use Rattle.hs_core.specs.Keeping.{IsCore};
 ghost use Rattle.hs_core.specs.Looking.{catalogue_of, first_job, front_of, group_of, home, known_of, sealed_of, status_of};
 ghost use Rattle.hs_members.specs.Members.{IsPeer, IsShard};
 ghost use Rattle.hs_replica.specs.Group.{IsHome};
@@ -10,7 +11,7 @@ use crate::queue::Queue;
 use crate::{Task, Waiting};
 use hs_desk::{CoreFault, Job};
 use hs_journal::{Journal, JournalEntry};
-use hs_limits::{Held, Limits, Name, PeerStatus};
+use hs_limits::{Held, Limits, Name, PeerStatus, Shape};
 use hs_members::{Members, home_of};
 use hs_post::Pool;
 use hs_rejoin::Rejoin;
@@ -24,10 +25,10 @@ use std::marker::Model;
 /// All shards, peers, sessions, operations, messages and jobs of a store, and what was answered.
 #[derive(Drop)]
 pub struct Core {
-    limits: Limits,
-    members: Members,
-    catalogues: Vec<Catalogue>,
-    groups: Vec<Group>,
+    pub(crate) limits: Limits,
+    pub(crate) members: Members,
+    pub(crate) catalogues: Vec<Catalogue>,
+    pub(crate) groups: Vec<Group>,
     /// The number of each shard's last entry that has taken effect.
     fronts: Vec<u64>,
     viewed: Vec<bool>,
@@ -35,7 +36,7 @@ pub struct Core {
     rejoins: Vec<Option<Rejoin>>,
     /// The next copying step of each peer, so that it can be lent.
     steps: Vec<Option<Job>>,
-    pool: Pool,
+    pub(crate) pool: Pool,
     sessions: Sessions,
     operations: BTreeMap<u64, Waiting>,
     journal: Journal,
@@ -184,6 +185,22 @@ impl Core {
             Some(task) => Some(&task.job),
             None => None,
         }
+    }
+
+    /// The copies of a shard's list.
+    pub(crate) fn group(&self, shard: u8) -> &Group
+        requires { IsShard self.now.members.shape shard }
+        ensures { result.now ≡ group_of shard self.now }
+    {
+        &self.groups[usize::from(shard)]
+    }
+
+    /// The shape of the store.
+    pub(crate) fn shape(&self) -> Shape
+        ensures value { result ≡ self.now.members.shape }
+        ensures kept { IsCore self.now }
+    {
+        self.members.shape()
     }
 
     /// The shard that a peer keeps a copy of.

@@ -3,6 +3,7 @@
 
 mod core_state;
 mod event;
+mod leads;
 mod queue;
 mod task;
 mod wait;
