@@ -1,14 +1,14 @@
 -- Rounds that end one after another: each leaves fewer Gots, so that they come to an end.
-use Rattle.std.proofs.Common.{◌≡◌, ◌<◌, ◌≤◌, ℕ, zero, suc, ◌+◌, List, [], ◌∷◌, ◌&&◌, not, Bool, true, false, cond, Option, Some, None, refl, sym, ap, subst, ◌∙◌, filter, length, is_some, arith}
+use Rattle.std.proofs.Common.{◌≡◌, ◌<◌, ◌≤◌, ℕ, zero, suc, ◌+◌, List, [], ◌∷◌, ◌&&◌, ◌⊎◌, inl, inr, not, Bool, true, false, cond, Some, refl, sym, ap, subst, ◌∙◌, length, is_some, arith}
 use Rattle.std.proofs.lemmas.Bool.{false≢true}
 use Rattle.std.specs.BTreeMap.{is_at}
 use Rattle.hs_limits.specs.declared.delta.Delta.{Delta}
 use Rattle.hs_limits.specs.Shape.{IsShape}
 use Rattle.hs_rounds.specs.declared.place.Place.{Place}
-use Rattle.hs_rounds.specs.Rounds.{GotList, Run, body_at, complete, finish, from_round, go_on, have_told, is_before, is_last, place_cmp, told_by}
+use Rattle.hs_rounds.specs.Rounds.{GotList, Run, body_at, complete, finish, from_round, go_on, have_told, is_before, place_cmp, told_by}
 use Rattle.hs_rounds.proofs.PlaceLemmas.{same_place}
 use Rattle.hs_shard.specs.Clients.{Applied}
-use Rattle.hs_shard.specs.Rounds.{advance, end_open, end_round, next_deltas, next_total, search, searched, settled, sweep, swept}
+use Rattle.hs_shard.specs.Rounds.{advance, end_open}
 
 dropped : (epoch round : ℕ) (gots : GotList) → length (from_round epoch round gots) ≤ length gots
 dropped epoch round [] = omega arith
@@ -21,15 +21,15 @@ dropped epoch round (e ∷ es) = go (dropped epoch round es) (is_before epoch ro
 -- what came for a round before this one is dropped
 drops_one : (epoch round : ℕ) (p : Place) (gots : GotList) → is_before epoch round p ≡ true → is_some (body_at p gots) ≡ true → length (from_round epoch round gots) < length gots
 drops_one epoch round p [] before there = absurd (false≢true there)
-drops_one epoch round p (e ∷ es) before there = go (is_at (place_cmp p) e.0) refl (is_before epoch round e.0) refl
+drops_one epoch round p (e ∷ es) before there = go (drops_one epoch round p es before) (is_at (place_cmp p) e.0) refl (is_before epoch round e.0) refl
   where
-    go : (b : Bool) → is_at (place_cmp p) e.0 ≡ b → (c : Bool) → is_before epoch round e.0 ≡ c
+    go : (is_some (body_at p es) ≡ true → length (from_round epoch round es) < length es) → (b : Bool) → is_at (place_cmp p) e.0 ≡ b → (c : Bool) → is_before epoch round e.0 ≡ c
         → length (cond (not c) (e ∷ from_round epoch round es) (from_round epoch round es)) < suc (length es)
-    go true t true s = let le = dropped epoch round es in omega (arith, le)
-    go true t false s = absurd (false≢true (sym s ∙ ap (λ q. is_before epoch round q) (sym (same_place p e.0 t)) ∙ before))
-    go false t true s = let le = dropped epoch round es in omega (arith, le)
-    go false t false s =
-        let less : length (from_round epoch round es) < length es = drops_one epoch round p es before (ap (λ b. is_some (cond b (Some e.1) (body_at p es))) (sym t) ∙ there) in
+    go ih true t true s = let le = dropped epoch round es in omega (arith, le)
+    go ih true t false s = absurd (false≢true (sym s ∙ ap (λ q. is_before epoch round q) (sym (same_place p e.0 t)) ∙ before))
+    go ih false t true s = let le = dropped epoch round es in omega (arith, le)
+    go ih false t false s =
+        let less : length (from_round epoch round es) < length es = ih (ap (λ b. is_some (cond b (Some e.1) (body_at p es))) (sym t) ∙ there) in
         omega (arith, less)
 
 first_of : (a b : Bool) → (a && b) ≡ true → a ≡ true
@@ -61,16 +61,13 @@ gone_on_gots : (total : ℕ) (run : Run) (epoch round : ℕ) (deltas : List Delt
 gone_on_gots total run epoch round deltas opened = rw opened refl
 
 -- the end of a round leaves fewer Gots
-pub ended_fewer : (a : Applied) (epoch round : ℕ) → IsShape a.catalogue.run.shape → a.catalogue.run.opened ≡ Some (epoch, round) → complete a.catalogue.run ≡ true
-    → length (end_round epoch round a).catalogue.run.gots < length a.catalogue.run.gots
-ended_fewer a epoch round shape opened done = go (is_last a.catalogue.run)
-  where
-    less : length (from_round epoch (round + 1) a.catalogue.run.gots) < length a.catalogue.run.gots
-    less = complete_drops a.catalogue.run epoch round shape opened done
-    go : (b : Bool) → length (cond b (swept epoch a.effect (settled round a.catalogue)) (searched epoch round a.effect (settled round a.catalogue))).catalogue.run.gots < length a.catalogue.run.gots
-    go true = rw (finished_gots a.catalogue.run epoch round opened) less
-    go false =
-        rw (gone_on_gots (next_total epoch round (settled round a.catalogue)) a.catalogue.run epoch round (next_deltas epoch round (settled round a.catalogue)) opened) less
+pub finished_fewer : (run : Run) (epoch round : ℕ) → IsShape run.shape → run.opened ≡ Some (epoch, round) → complete run ≡ true → length (finish run).gots < length run.gots
+finished_fewer run epoch round shape opened done =
+    subst (λ (gots : GotList). length gots < length run.gots) (sym (finished_gots run epoch round opened)) (complete_drops run epoch round shape opened done)
+
+pub gone_on_fewer : (total : ℕ) (deltas : List Delta) (run : Run) (epoch round : ℕ) → IsShape run.shape → run.opened ≡ Some (epoch, round) → complete run ≡ true → length (go_on total deltas run).gots < length run.gots
+gone_on_fewer total deltas run epoch round shape opened done =
+    subst (λ (gots : GotList). length gots < length run.gots) (sym (gone_on_gots total run epoch round deltas opened)) (complete_drops run epoch round shape opened done)
 
 -- ---- the steps of a loop
 
@@ -80,3 +77,15 @@ advance_more turns a e = ap (λ (b : Bool). cond b (advance turns (end_open a.ca
 pub advance_done : (turns : ℕ) (a : Applied) → complete a.catalogue.run ≡ false → advance turns a ≡ a
 advance_done zero a e = refl
 advance_done (suc turns) a e = ap (λ (b : Bool). cond b (advance turns (end_open a.catalogue.run.opened a)) a) e
+
+-- so many turns are left, more than there are Gots
+abbrev pub Left : Applied → Applied → Type 0
+Left a goal = (turns : ℕ) × (length a.catalogue.run.gots < turns) × (advance turns a ≡ goal)
+
+pub advance_step : (a next goal : Applied) → Left a goal → complete a.catalogue.run ≡ true → next ≡ end_open a.catalogue.run.opened a
+    → length next.catalogue.run.gots < length a.catalogue.run.gots → Left next goal
+advance_step a next goal (zero, less, same) done e fewer = absurd (omega (arith, less))
+advance_step a next goal (suc turns, less, same) done e fewer = (turns, omega (arith, less, fewer), ap (λ x. advance turns x) e ∙ sym (advance_more turns a done) ∙ same)
+
+pub advance_over : (a goal : Applied) → Left a goal → complete a.catalogue.run ≡ false → a ≡ goal
+advance_over a goal (turns, less, same) done = sym (advance_done turns a done) ∙ same

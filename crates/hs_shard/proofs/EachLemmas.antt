@@ -1,22 +1,21 @@
 -- Some blocks at once: those that pass a test, by their addresses in order, and all in one pass.
-use Rattle.std.proofs.Common.{◌≡◌, ℕ, suc, ◌+◌, ◌==◌, ◌&&◌, ◌||◌, not, nat_le, nat_lt, length, count_by, List, [], ◌∷◌, ◌++◌, Bool, true, false, cond, Option, Some, None, refl, sym, ap, subst, ◌∙◌, filter, map, Less}
+use Rattle.std.proofs.Common.{◌≡◌, ℕ, ◌+◌, ◌==◌, ◌&&◌, ◌||◌, not, nat_le, nat_lt, length, count_by, List, [], ◌∷◌, ◌++◌, Bool, true, false, cond, Option, Some, None, refl, sym, ap, ◌∙◌, filter, Less}
 use Rattle.std.proofs.lemmas.Bool.{false≢true}
+use Rattle.std.proofs.lemmas.List.Sums.{length-filter}
+use Rattle.std.proofs.lemmas.Map.Entries.{length-keys_of}
 use Rattle.std.proofs.lemmas.Map.Keys.{sorted_head, sorted_tail}
-use Rattle.std.proofs.lemmas.Map.Lookups.{btree_set_from_contains, exact_bytes}
 use Rattle.std.specs.BTreeMap.{is_at}
-use Rattle.std.specs.BTreeSet.{BTreeSet, contains}
-use Rattle.std.specs.List.{AllByRecursion, list_any}
+use Rattle.std.specs.List.{AllByRecursion}
 use Rattle.std.specs.List.Sorted.{IsStrictlySortedBy}
 use Rattle.std.specs.Map.{keys_of, set_value}
 use Rattle.std.specs.Option.{option_map, option_map_or}
 use Rattle.hs_limits.specs.declared.address.Address.{Address}
 use Rattle.hs_model.specs.Store.{address_cmp}
-use Rattle.hs_model.proofs.SetLemmas.{address_total}
 use Rattle.hs_shard.specs.declared.facts.Facts.{Facts}
 use Rattle.hs_shard.specs.Clients.{change_at, put_facts}
 use Rattle.hs_shard.specs.Facts.{BlockList, facts_in}
 use Rattle.hs_shard.specs.Listed.{is_sound, picked, pointers_each, remove_at, remove_each, stand, stand_each}
-use Rattle.hs_shard.specs.Rounds.{count_block, each_block, find_zero, is_gone, is_new, is_new_zero, pointers_of, spare, sweep_blocks}
+use Rattle.hs_shard.specs.Rounds.{count_block, each_block, find_zero, is_new, is_new_zero, pointers_of, spare}
 use Rattle.hs_shard.proofs.FoundLemmas.{AreFound, all_found, at_itself, not_above}
 
 -- none of some addresses is at this one
@@ -54,20 +53,19 @@ stand_behind counted zero (k ∷ ks) e es m =
 pub stand_picked : (counted zero : Bool) (test : Facts → Bool) (es : BlockList) → IsStrictlySortedBy address_cmp (keys_of es)
     → stand_each counted zero (picked test es) es ≡ each_block (λ f. cond (test f) (stand counted zero f) f) es
 stand_picked counted zero test [] d = refl
-stand_picked counted zero test (e ∷ es) d = go (test e.1) refl
+stand_picked counted zero test (e ∷ es) d = go (stand_picked counted zero test es (sorted_tail address_cmp e.0 (keys_of es) d)) (test e.1) refl
   where
-    rest : stand_each counted zero (picked test es) es ≡ each_block (λ f. cond (test f) (stand counted zero f) f) es
-    rest = stand_picked counted zero test es (sorted_tail address_cmp e.0 (keys_of es) d)
     misses : Misses e.0 (picked test es)
     misses = misses_picked test e.0 es (sorted_head address_cmp e.0 (keys_of es) d)
-    go : (b : Bool) → test e.1 ≡ b
+
+    go : stand_each counted zero (picked test es) es ≡ each_block (λ f. cond (test f) (stand counted zero f) f) es → (b : Bool) → test e.1 ≡ b
         → stand_each counted zero (keys_of (cond b (e ∷ filter (λ e. test e.1) es) (filter (λ e. test e.1) es))) (e ∷ es)
         ≡ (e.0, cond b (stand counted zero e.1) e.1) ∷ each_block (λ f. cond (test f) (stand counted zero f) f) es
-    go true t =
+    go rest true t =
         ap (λ bs. stand_each counted zero (picked test es) bs) (change_first (stand counted zero) e es)
         ∙ stand_behind counted zero (picked test es) (e.0, stand counted zero e.1) es misses
         ∙ ap (λ bs. (e.0, stand counted zero e.1) ∷ bs) rest
-    go false t = stand_behind counted zero (picked test es) e es misses ∙ ap (λ bs. e ∷ bs) rest
+    go rest false t = stand_behind counted zero (picked test es) e es misses ∙ ap (λ bs. e ∷ bs) rest
 
 -- ---- taken away
 
@@ -77,14 +75,12 @@ remove_behind (k ∷ ks) e es m = ap (λ (b : Bool). remove_each ks (cond b es (
 
 pub remove_picked : (test : Facts → Bool) (es : BlockList) → IsStrictlySortedBy address_cmp (keys_of es) → remove_each (picked test es) es ≡ filter (λ e. not (test e.1)) es
 remove_picked test [] d = refl
-remove_picked test (e ∷ es) d = go (test e.1)
+remove_picked test (e ∷ es) d = go (remove_picked test es (sorted_tail address_cmp e.0 (keys_of es) d)) (test e.1)
   where
-    rest : remove_each (picked test es) es ≡ filter (λ e. not (test e.1)) es
-    rest = remove_picked test es (sorted_tail address_cmp e.0 (keys_of es) d)
-    go : (b : Bool) → remove_each (keys_of (cond b (e ∷ filter (λ e. test e.1) es) (filter (λ e. test e.1) es))) (e ∷ es)
+    go : remove_each (picked test es) es ≡ filter (λ e. not (test e.1)) es → (b : Bool) → remove_each (keys_of (cond b (e ∷ filter (λ e. test e.1) es) (filter (λ e. test e.1) es))) (e ∷ es)
         ≡ cond (not b) (e ∷ filter (λ e. not (test e.1)) es) (filter (λ e. not (test e.1)) es)
-    go true = ap (λ (b : Bool). remove_each (picked test es) (cond b es (e ∷ remove_at e.0 es))) (at_itself e.0) ∙ rest
-    go false = remove_behind (picked test es) e es (misses_picked test e.0 es (sorted_head address_cmp e.0 (keys_of es) d)) ∙ ap (λ bs. e ∷ bs) rest
+    go rest true = ap (λ (b : Bool). remove_each (picked test es) (cond b es (e ∷ remove_at e.0 es))) (at_itself e.0) ∙ rest
+    go rest false = remove_behind (picked test es) e es (misses_picked test e.0 es (sorted_head address_cmp e.0 (keys_of es) d)) ∙ ap (λ bs. e ∷ bs) rest
 
 -- ---- what they point to
 
@@ -103,7 +99,7 @@ pointers_picked test blocks d = pointers_picked_of test blocks blocks (all_found
 -- ---- those of a kind, and of them those that pass a test
 
 -- the addresses of a kind's list that pass the stronger test
-picked_among : (listed test : Facts → Bool) (blocks es : BlockList) → AreFound blocks es → ((f : Facts) → test f ≡ true → listed f ≡ true)
+pub picked_among : (listed test : Facts → Bool) (blocks es : BlockList) → AreFound blocks es → ((f : Facts) → test f ≡ true → listed f ≡ true)
     → filter (λ a. option_map_or test (facts_in a blocks) false) (picked listed es) ≡ picked test es
 picked_among listed test blocks [] found less = refl
 picked_among listed test blocks (e ∷ es) found less = go (picked_among listed test blocks es found.1 less) (listed e.1) refl (test e.1) refl
@@ -166,10 +162,4 @@ spared_picked blocks d = stand_picked false false (λ f. f.zero) blocks d
 
 -- as many blocks as their addresses
 pub length_picked : (test : Facts → Bool) (es : BlockList) → length (picked test es) ≡ count_by (λ e. test e.1) es
-length_picked test [] = refl
-length_picked test (e ∷ es) = go (length_picked test es) (test e.1)
-  where
-    go : length (picked test es) ≡ count_by (λ e. test e.1) es → (b : Bool)
-        → length (keys_of (cond b (e ∷ filter (λ e. test e.1) es) (filter (λ e. test e.1) es))) ≡ (cond b 1 0 + count_by (λ e. test e.1) es)
-    go ih true = ap suc ih
-    go ih false = ih
+length_picked test es = length-keys_of (filter (λ e. test e.1) es) ∙ length-filter (λ e. test e.1) es

@@ -1,6 +1,5 @@
 -- What a look-up finds among the blocks.
-use Rattle.std.proofs.Common.{◌≡◌, ℕ, ◌==◌, List, [], ◌∷◌, Bool, true, false, cond, Option, Some, None, refl, sym, ap, subst, ◌∙◌, filter, find, is_eq, Less, Greater, Equal}
-use Rattle.std.proofs.lemmas.Bool.{false≢true}
+use Rattle.std.proofs.Common.{◌≡◌, [], ◌∷◌, Bool, true, false, cond, Option, Some, None, refl, sym, ap, subst, ◌∙◌, is_eq, Less}
 use Rattle.std.proofs.lemmas.Cmp.{eq_by_cmp_equiv}
 use Rattle.std.proofs.lemmas.Map.{lookup-set_value}
 use Rattle.std.proofs.lemmas.Map.Keys.{sorted_head, sorted_tail}
@@ -9,7 +8,7 @@ use Rattle.std.specs.Cmp.{IsEquivalence}
 use Rattle.std.specs.List.{AllByRecursion}
 use Rattle.std.specs.List.Sorted.{IsStrictlySortedBy}
 use Rattle.std.specs.Map.{keys_of, set_value}
-use Rattle.std.specs.Option.{IsSome, option_map, option_map_or}
+use Rattle.std.specs.Option.{IsSome, option_map}
 use Rattle.std.specs.Ordering.{eq_by_cmp, ordering_reverse}
 use Rattle.hs_limits.specs.declared.address.Address.{Address}
 use Rattle.hs_model.specs.Store.{address_cmp}
@@ -49,7 +48,7 @@ found_change a q change blocks = go (facts_in a blocks) refl
   where
     go : (o : Option Facts) → facts_in a blocks ≡ o → facts_in q (put_facts a (option_map change o) blocks) ≡ cond (is_at (address_cmp a) q) (option_map change o) (facts_in q blocks)
     go None e = none_there a q blocks e (is_at (address_cmp a) q) refl
-    go (Some f) e = found_put a q (change f) blocks (subst (λ o. IsSome o) (sym e) (some refl))
+    go (Some f) e = found_put a q (change f) blocks (subst (λ o. IsSome o) (sym e) refl)
 
 -- ---- each entry is found at its key
 

@@ -4,4 +4,6 @@ pub mod EachLemmas
 pub mod FoundLemmas
 pub mod KeptLemmas
 pub mod ListedLemmas
+pub mod OutcomeLemmas
+pub mod PointerLemmas
 pub mod TallyLemmas

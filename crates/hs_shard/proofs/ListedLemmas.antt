@@ -1,7 +1,7 @@
 -- The list of a kind has the addresses of its blocks, in order.
 use Rattle.std.proofs.Common.{◌≡◌, ℕ, ◌+◌, ◌==◌, ◌&&◌, ◌||◌, not, nat_le, nat_lt, List, [], ◌∷◌, Bool, true, false, cond, Option, Some, None, refl, sym, ap, subst, ◌∙◌, filter, is_eq, Less}
 use Rattle.std.proofs.lemmas.Map.Keys.{sorted_head, sorted_tail}
-use Rattle.std.proofs.lemmas.Map.Lookups.{btree_set_from_contains, exact_bytes, CmpEqualImpliesEq}
+use Rattle.std.proofs.lemmas.Map.Lookups.{btree_set_from_contains, CmpEqualImpliesEq}
 use Rattle.std.specs.BTreeMap.{is_at}
 use Rattle.std.specs.BTreeSet.{BTreeSet, contains}
 use Rattle.std.specs.List.{AllByRecursion, list_any}
@@ -36,17 +36,15 @@ below_all a test (e ∷ es) below = go (below_all a test es below.1) (test e.1)
 -- whether an address is among those of the blocks that pass a test
 pub among_picked : (test : Facts → Bool) (q : Address) (es : BlockList) → IsStrictlySortedBy address_cmp (keys_of es) → list_any (is_at (address_cmp q)) (picked test es) ≡ option_map_or test (facts_in q es) false
 among_picked test q [] d = refl
-among_picked test q (e ∷ es) d = go (is_at (address_cmp q) e.0) refl (test e.1) refl
+among_picked test q (e ∷ es) d = go (among_picked test q es (sorted_tail address_cmp e.0 (keys_of es) d)) (is_at (address_cmp q) e.0) refl (test e.1) refl
   where
-    rest : list_any (is_at (address_cmp q)) (picked test es) ≡ option_map_or test (facts_in q es) false
-    rest = among_picked test q es (sorted_tail address_cmp e.0 (keys_of es) d)
-    go : (b : Bool) → is_at (address_cmp q) e.0 ≡ b → (c : Bool) → test e.1 ≡ c
+    go : list_any (is_at (address_cmp q)) (picked test es) ≡ option_map_or test (facts_in q es) false → (b : Bool) → is_at (address_cmp q) e.0 ≡ b → (c : Bool) → test e.1 ≡ c
         → list_any (is_at (address_cmp q)) (keys_of (cond c (e ∷ filter (λ e. test e.1) es) (filter (λ e. test e.1) es))) ≡ option_map_or test (cond b (Some e.1) (facts_in q es)) false
-    go true t true s = ap (λ (b : Bool). b || list_any (is_at (address_cmp q)) (picked test es)) t ∙ sym s
-    go true t false s =
+    go rest true t true s = ap (λ (b : Bool). b || list_any (is_at (address_cmp q)) (picked test es)) t ∙ sym s
+    go rest true t false s =
         subst (λ z. list_any (is_at (address_cmp z)) (picked test es) ≡ false) (sym (same_at q e.0 t)) (below_all e.0 test es (sorted_head address_cmp e.0 (keys_of es) d)) ∙ sym s
-    go false t true s = ap (λ (b : Bool). b || list_any (is_at (address_cmp q)) (picked test es)) t ∙ rest
-    go false t false s = rest
+    go rest false t true s = ap (λ (b : Bool). b || list_any (is_at (address_cmp q)) (picked test es)) t ∙ rest
+    go rest false t false s = rest
 
 filter_all : (P : Address → Type 0) (test : Facts → Bool) (es : BlockList) → AllByRecursion P (keys_of es) → AllByRecursion P (picked test es)
 filter_all P test [] h = tt
@@ -56,15 +54,16 @@ filter_all P test (e ∷ es) h = go (filter_all P test es h.1) (test e.1)
     go ih true = (h.0, ih)
     go ih false = ih
 
+sorted_cons : (k : Address) (ks : List Address) → AllByRecursion (λ y. address_cmp k y ≡ Less) ks → IsStrictlySortedBy address_cmp ks → IsStrictlySortedBy address_cmp (k ∷ ks)
+unfolding IsStrictlySortedBy
+sorted_cons k ks h d = (h, d)
+
 picked_sorted : (test : Facts → Bool) (es : BlockList) → IsStrictlySortedBy address_cmp (keys_of es) → IsStrictlySortedBy address_cmp (picked test es)
 picked_sorted test [] d = d
 picked_sorted test (e ∷ es) d = go (picked_sorted test es (sorted_tail address_cmp e.0 (keys_of es) d)) (test e.1)
   where
-    cons : (k : Address) (ks : List Address) → AllByRecursion (λ y. address_cmp k y ≡ Less) ks → IsStrictlySortedBy address_cmp ks → IsStrictlySortedBy address_cmp (k ∷ ks)
-    unfolding IsStrictlySortedBy
-    cons k ks h d = (h, d)
     go : IsStrictlySortedBy address_cmp (picked test es) → (b : Bool) → IsStrictlySortedBy address_cmp (keys_of (cond b (e ∷ filter (λ e. test e.1) es) (filter (λ e. test e.1) es)))
-    go ih true = cons e.0 (picked test es) (filter_all (λ y. address_cmp e.0 y ≡ Less) test es (sorted_head address_cmp e.0 (keys_of es) d)) ih
+    go ih true = sorted_cons e.0 (picked test es) (filter_all (λ y. address_cmp e.0 y ≡ Less) test es (sorted_head address_cmp e.0 (keys_of es) d)) ih
     go ih false = ih
 
 -- a set that has the addresses of the blocks that pass a test has them in order
@@ -104,7 +103,7 @@ zero_is : (f : Facts) → is_sound f ≡ true → goes_in Zero (kind_of f) ≡ f
 zero_is f = go f.counted f.zero (f.count == 0)
   where
     go : (counted zero none : Bool) → (counted || not zero) ≡ true → goes_in Zero (cond (not counted) Uncounted (cond zero Zero (cond none Idle Other))) ≡ zero
-    go false true none h = sym h
+    go false true none h = h
     go false false none h = refl
     go true true none h = refl
     go true false true h = refl
@@ -138,16 +137,16 @@ gone_is_zero epoch f h = go f.zero (nat_lt f.mark epoch) h
 pub new_listed : (epoch : ℕ) (blocks : BlockList) (numbers : NumberList) (listed : Listed) → AreKept blocks numbers listed → IsStrictlySortedBy address_cmp listed.uncounted.keys
     → filter (λ a. option_map_or (is_new epoch) (facts_in a blocks) false) listed.uncounted.keys ≡ picked (is_new epoch) blocks
 new_listed epoch blocks numbers listed kept d =
-    set_filtered (λ f. goes_in Uncounted (kind_of f)) (is_new epoch) blocks listed.uncounted d kept.ordered (λ q. kept.listed Uncounted q) (λ f h. new_is_uncounted epoch f h)
+    set_filtered (λ f. goes_in Uncounted (kind_of f)) (is_new epoch) blocks listed.uncounted d kept.ordered (λ q. kept.lists Uncounted q) (λ f h. new_is_uncounted epoch f h)
 
 pub new_zeros_listed : (epoch : ℕ) (blocks : BlockList) (numbers : NumberList) (listed : Listed) → AreKept blocks numbers listed → IsStrictlySortedBy address_cmp listed.idle.keys
     → filter (λ a. option_map_or (is_new_zero epoch) (facts_in a blocks) false) listed.idle.keys ≡ picked (is_new_zero epoch) blocks
 new_zeros_listed epoch blocks numbers listed kept d =
-    set_filtered (λ f. goes_in Idle (kind_of f)) (is_new_zero epoch) blocks listed.idle d kept.ordered (λ q. kept.listed Idle q) (λ f h. new_zero_is_idle epoch f h)
+    set_filtered (λ f. goes_in Idle (kind_of f)) (is_new_zero epoch) blocks listed.idle d kept.ordered (λ q. kept.lists Idle q) (λ f h. new_zero_is_idle epoch f h)
 
 -- the list of zero blocks has each of them
 has_zeros : (blocks : BlockList) (numbers : NumberList) (listed : Listed) → AreKept blocks numbers listed → (q : Address) → contains address_cmp listed.zeros q ≡ option_map_or (λ f. f.zero) (facts_in q blocks) false
-has_zeros blocks numbers listed kept q = kept.listed Zero q ∙ go (facts_in q blocks) (kept.sound q)
+has_zeros blocks numbers listed kept q = kept.lists Zero q ∙ go (facts_in q blocks) (kept.sound q)
   where
     go : (o : Option Facts) → option_map_or is_sound o true ≡ true → option_map_or (λ f. goes_in Zero (kind_of f)) o false ≡ option_map_or (λ f. f.zero) o false
     go None h = refl

@@ -1,16 +1,21 @@
 -- Counts of addresses, as deltas: ascending, and each of at least 1.
-use Rattle.std.proofs.Common.{◌≡◌, ◌≤◌, ℕ, List, [], ◌∷◌, refl, ap, sym, subst, map, Ordering, Less, Equal, Greater}
+use Rattle.std.proofs.Common.{◌≡◌, ◌≤◌, ◌<◌, ◌+◌, ◌∙◌, ℕ, List, [], ◌∷◌, ◌++◌, drop, length, refl, ap, sym, subst, map, Ordering, Less, Equal, Greater}
+use Rattle.std.proofs.Math.ListN.{get_or}
+use Rattle.std.proofs.lemmas.List.{at_drop_more}
 use Rattle.std.proofs.lemmas.List.Elements.{All-cons, All-nil}
 use Rattle.std.specs.BTreeMap.{insert_entry}
 use Rattle.std.specs.List.{All, AllByRecursion}
 use Rattle.std.specs.List.Sorted.{IsStrictlySortedBy}
 use Rattle.std.specs.Map.{keys_of}
+use Rattle.std.specs.Option.{option_map_or}
 use Rattle.std.specs.Ordering.{match_ordering}
 use Rattle.hs_limits.specs.declared.address.Address.{Address}
 use Rattle.hs_limits.specs.declared.delta.Delta.{Delta}
 use Rattle.hs_model.specs.Store.{address_cmp}
 use Rattle.hs_rounds.specs.Changes.{AreChanges}
-use Rattle.hs_shard.specs.Tally.{deltas_of}
+use Rattle.hs_shard.specs.Facts.{BlockList, facts_in}
+use Rattle.hs_shard.specs.Listed.{pointers_each}
+use Rattle.hs_shard.specs.Tally.{count_all, deltas_of, one_more}
 
 abbrev pub Some1 : List (Address × ℕ) → Type 0
 Some1 es = AllByRecursion (λ e. 1 ≤ e.1) es
@@ -34,3 +39,17 @@ addresses_of_deltas (e ∷ es) = ap (λ as'. e.0 ∷ as') (addresses_of_deltas e
 
 pub are_changes : (es : List (Address × ℕ)) → IsStrictlySortedBy address_cmp (keys_of es) → Some1 es → AreChanges (deltas_of es)
 are_changes es d h = record { ascend = subst (λ ks. IsStrictlySortedBy address_cmp ks) (sym (addresses_of_deltas es)) d; some = some_deltas es h }
+
+-- some and then others
+pub count_more : (xs ys : List Address) (counts : List (Address × ℕ)) → count_all (xs ++ ys) counts ≡ count_all ys (count_all xs counts)
+count_more [] ys counts = refl
+count_more (x ∷ xs) ys counts = count_more xs ys (one_more x counts)
+
+-- one block more
+pub tell_more : (as' : List Address) (i : ℕ) (blocks : BlockList) (before now : List (Address × ℕ)) (d : Address) → i < length as'
+    → now ≡ count_all (option_map_or (λ f. f.pointers) (facts_in (get_or as' i d) blocks) []) before
+    → count_all (pointers_each (drop (i + 1) as') blocks) now ≡ count_all (pointers_each (drop i as') blocks) before
+tell_more as' i blocks before now d lt e =
+    let pointers : List Address = option_map_or (λ f. f.pointers) (facts_in (get_or as' i d) blocks) [] in
+    let rest : List Address = pointers_each (drop (i + 1) as') blocks in
+    ap (λ counts. count_all rest counts) e ∙ sym (count_more pointers rest before) ∙ sym (at_drop_more (λ bs. count_all (pointers_each bs blocks) before) as' i d lt)

@@ -1,5 +1,5 @@
 -- What an entry of any kind does to the catalogue of its shard.
-use Rattle.std.specs.Prelude.{◌≡◌, ℕ, List, [], ◌∷◌, Option, None, IsSome, replicate, unwrap_or}
+use Rattle.std.specs.Prelude.{◌≡◌, ℕ, Option, None, IsSome, replicate, unwrap_or}
 use Rattle.hs_desk.specs.declared.what.What.TheVariants.{Nothing, Viewed}
 use Rattle.hs_entry.specs.declared.entry.Entry.{Entry}
 use Rattle.hs_entry.specs.declared.entry.Entry.TheVariants as kind

@@ -1,5 +1,5 @@
 -- What clients' entries do to a catalogue: a new block and a new root do not count yet.
-use Rattle.std.specs.Prelude.{ℕ, ◌==◌, ◌&&◌, ◌||◌, Bool, false, not, if◌then◌else◌, List, [], Option, Some, None, is_none, is_some, Result, Ok, Err}
+use Rattle.std.specs.Prelude.{ℕ, ◌==◌, ◌&&◌, ◌||◌, false, not, if◌then◌else◌, List, [], Option, Some, None, is_none, is_some, Result, Ok, Err}
 use Rattle.std.specs.BTreeMap.{insert_entry, is_at}
 use Rattle.std.specs.Map.{set_value}
 use Rattle.std.specs.Option.{option_map, option_map_or}
@@ -13,7 +13,7 @@ use Rattle.hs_limits.specs.Shape.{shard_of_key}
 use Rattle.hs_model.specs.Store.{address_cmp}
 use Rattle.hs_roots.specs.declared.fault.RootFault.{RootFault}
 use Rattle.hs_roots.specs.Refusals.{put_refusal}
-use Rattle.hs_roots.specs.Roots.{Retention, retained_of}
+use Rattle.hs_roots.specs.Roots.{retained_of}
 use Rattle.hs_roots.specs.Roots.{put_root as with_root, drop_root as without_root}
 use Rattle.hs_shard.specs.declared.effect.Effect.{Effect}
 use Rattle.hs_shard.specs.declared.facts.Facts.{Facts}

@@ -31,14 +31,14 @@ same_kind Uncounted Uncounted = true
 same_kind Idle Idle = true
 same_kind Zero Zero = true
 same_kind Other Other = true
-same_kind k other = false
+same_kind k _ = false
 
 -- whether what is of the second kind is in the list of the first; there is no list of the others
 abbrev pub goes_in : Kind → Kind → Bool
 goes_in Uncounted Uncounted = true
 goes_in Idle Idle = true
 goes_in Zero Zero = true
-goes_in k other = false
+goes_in k _ = false
 
 -- whether an address is in the list of a kind
 abbrev pub has : Kind → Address → Listed → Bool
@@ -74,7 +74,7 @@ pub record AreKept (blocks : BlockList) (numbers : NumberList) (listed : Listed)
   pub few : length blocks ≤ greatest_limits.blocks
   pub ordered : IsStrictlySortedBy address_cmp (keys_of blocks)
   pub sound : (a : Address) → option_map_or is_sound (facts_in a blocks) true ≡ true
-  pub listed : AreListed blocks listed
+  pub lists : AreListed blocks listed
   pub numbered : AreNumbered blocks numbers
 
 -- ---- some blocks at once

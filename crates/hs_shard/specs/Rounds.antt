@@ -1,7 +1,7 @@
 -- The rounds of a deletion run at one shard: what becomes counted, what becomes a zero block, and what is swept.
-use Rattle.std.specs.Prelude.{ℕ, zero, suc, ◌+◌, ◌-◌, ◌^◌, ◌==◌, ◌&&◌, ◌||◌, ◌++◌, Bool, false, not, if◌then◌else◌, List, [], ◌∷◌, length, Option, Some, None, is_none, map, filter, count_by, nat_le, nat_lt}
+use Rattle.std.specs.Prelude.{ℕ, zero, suc, ◌+◌, ◌-◌, ◌^◌, ◌==◌, ◌&&◌, ◌||◌, ◌++◌, Bool, true, false, not, if◌then◌else◌, List, [], ◌∷◌, length, Option, Some, None, is_none, map, filter, count_by, nat_le, nat_lt}
 use Rattle.std.specs.List.{flat_map, range_with_len}
-use Rattle.std.specs.Option.{option_map_or, option_or}
+use Rattle.std.specs.Option.{option_map_or}
 use Rattle.hs_desk.specs.declared.what.What.TheVariants.{Entered, Nothing, Refused}
 use Rattle.hs_shard.specs.Tally.{tally}
 use Rattle.hs_limits.specs.declared.address.Address.{Address}

@@ -1,6 +1,6 @@
 //! The present blocks of a shard: what is known of each, and which a deletion run looks at.
-ghost use Rattle.std.specs.Prelude.{[], ◌≡◌, ◌||◌, ◌+◌, ◌<◌, None, ℕ, false, true, nat_le, not, length, count_by, IfOk, OnErr, OnOk};
-ghost use Rattle.std.specs.BTreeMap.{insert_entry};
+ghost use Rattle.std.specs.Prelude.{[], ◌≡◌, ◌||◌, ◌+◌, ◌<◌, ◌≤◌, None, Some, cond, ℕ, false, true, nat_le, not, length, count_by, filter, IfOk, OnErr, OnOk};
+ghost use Rattle.std.specs.BTreeMap.{insert_entry, is_at};
 ghost use Rattle.std.specs.List.Sorted.{IsStrictlySortedBy};
 ghost use Rattle.std.specs.Map.{keys_of};
 ghost use Rattle.std.specs.Option.{option_copied, option_map, option_map_or};
@@ -11,11 +11,12 @@ ghost use Rattle.hs_model.specs.Store.{address_cmp};
 ghost use Rattle.hs_shard.specs.declared.facts.Facts.{Facts};
 ghost use Rattle.hs_shard.specs.Clients.{change_at, give, new_facts};
 ghost use Rattle.hs_shard.specs.Facts.{facts_in, pointers_at, told_at};
-ghost use Rattle.hs_shard.specs.Listed.{address_of, picked, pointers_each, remove_at, remove_each, stand, stand_each};
+ghost use Rattle.hs_shard.specs.Listed.{address_of, pointers_each, remove_at, remove_each, stand, stand_each};
 ghost use Rattle.hs_shard.specs.Tally.{count_all};
-ghost use Rattle.hs_shard.specs.Rounds.{count_block, each_block, find_zero, gone_count, is_gone, is_new, is_new_zero, move_count, moved, pointers_of, settle, sweep_blocks};
+ghost use Rattle.hs_shard.specs.Rounds.{count_block, each_block, find_zero, gone_count, is_gone, is_new, is_new_zero, move_count, moved, pointers_of, settle, spare, sweep_blocks};
 
 use crate::listed::{Kind, Listed, kind_as};
+use crate::picking::{pick_all, pick_gone, pick_new, pick_new_zeros};
 use crate::tally::Tally;
 use crate::{BlockFacts, Facts};
 use hs_limits::{Address, Delta, ListOf};
@@ -92,18 +93,28 @@ impl Blocks {
     pub(crate) fn pointers(&self, number: u64) -> Option<&[Address]>
         ensures { option_map (λ pointers. pointers.now) result ≡ pointers_at number self.now }
     {
-        let address = self.numbers.get(&number)?;
-        let facts = self.known.get(address)?;
-        Some(facts.pointers.as_slice())
+        match self.numbers.get(&number) {
+            Some(address) => self.pointers_of(address),
+            None => None,
+        }
+    }
+
+    /// What the block of an address points to. It takes no memory.
+    fn pointers_of(&self, address: &Address) -> Option<&[Address]>
+        ensures { option_map (λ pointers. pointers.now) result
+            ≡ option_map (λ f. f.pointers) (facts_in address.now self.now) }
+    {
+        match self.known.get(address) {
+            Some(facts) => Some(facts.pointers.as_slice()),
+            None => None,
+        }
     }
 
     /// Gives a block in an epoch. It takes no memory.
     pub(crate) fn give(&mut self, address: &Address, epoch: u64)
         ensures { self.new ≡ change_at address.now (give epoch) self.old }
     {
-        if let Some(facts) = self.known.get_mut(address) {
-            facts.mark = epoch;
-        }
+        give(&mut self.known, address, epoch);
     }
 
     /// Stores a block that does not count yet. Without memory nothing changes.
@@ -131,11 +142,13 @@ impl Blocks {
             pointers,
         };
         self.listed.relist(address, Kind::Other, Kind::Uncounted)?;
-        if insert_both(&mut self.known, &mut self.numbers, address, facts).is_err() {
-            self.listed.unlist(&address, Kind::Uncounted);
-            return Err(AllocError);
+        match insert_both(&mut self.known, &mut self.numbers, address, facts) {
+            Ok(()) => Ok(()),
+            Err(error) => {
+                self.listed.unlist(&address, Kind::Uncounted);
+                Err(error)
+            }
         }
-        Ok(())
     }
 
     /// Moves the counts of the deltas' blocks at the end of a round. Without memory some may have
@@ -155,61 +168,43 @@ impl Blocks {
             (tally.new ≡ count_all (pointers_each addresses.now self.now) tally.old) }
     {
         for address in addresses {
-            if let Some(facts) = self.known.get(address) {
-                tally.add_all(facts.pointers.as_slice())?;
-            }
+            self.tell_one(address, tally)?;
         }
         Ok(())
     }
 
+    /// Names what a block points to.
+    fn tell_one(&self, address: &Address, tally: &mut Tally) -> Result<(), AllocError>
+        ensures { OnOk result (tally.new ≡ count_all
+            (option_map_or (λ f. f.pointers) (facts_in address.now self.now) []) tally.old) }
+    {
+        match self.known.get(address) {
+            Some(facts) => tally.add_all(facts.pointers.as_slice()),
+            None => Ok(()),
+        }
+    }
+
     /// The blocks that become counted in an epoch, ascending.
     pub(crate) fn new_in(&self, epoch: u64) -> Result<Vec<Address>, AllocError>
-        ensures addresses { IfOk result (λ addresses.
-            addresses.items ≡ picked (is_new epoch) self.now) }
         ensures told { IfOk result (λ addresses.
             pointers_each addresses.items self.now ≡ pointers_of (is_new epoch) self.now) }
+        ensures counted { IfOk result (λ addresses.
+            stand_each true false addresses.items self.now
+            ≡ each_block (count_block epoch) self.now) }
     {
-        self.listed
-            .uncounted
-            .iter()
-            .filter(|address| self.is_new(address, epoch))
-            .copied()
-            .collect(self.alloc)
+        pick_new(self.alloc, &self.listed.uncounted, &self.known, epoch)
     }
 
     /// The blocks that become zero blocks in an epoch, ascending.
     pub(crate) fn new_zeros(&self, epoch: u64) -> Result<Vec<Address>, AllocError>
-        ensures addresses { IfOk result (λ addresses.
-            addresses.items ≡ picked (is_new_zero epoch) self.now) }
         ensures told { IfOk result (λ addresses.
             pointers_each addresses.items self.now ≡ pointers_of (is_new_zero epoch) self.now) }
+        ensures found { IfOk result (λ addresses.
+            stand_each true true addresses.items self.now ≡ each_block (find_zero epoch) self.now) }
         ensures count { IfOk result (λ addresses. length addresses.items
             ≡ count_by (λ e. is_new_zero epoch e.1) self.now) }
     {
-        self.listed
-            .idle
-            .iter()
-            .filter(|address| self.is_new_zero(address, epoch))
-            .copied()
-            .collect(self.alloc)
-    }
-
-    /// The blocks that become counted in an epoch count from then on. Without memory some of them may
-    /// count.
-    pub(crate) fn count(&mut self, addresses: &[Address]) -> Result<(), AllocError>
-        ensures { OnOk result ((epoch : ℕ) → addresses.now ≡ picked (is_new epoch) self.old
-            → self.new ≡ each_block (count_block epoch) self.old) }
-    {
-        self.stand_each(addresses, true, false)
-    }
-
-    /// The blocks that become zero blocks in an epoch are zero blocks from then on. Without memory
-    /// some of them may be.
-    pub(crate) fn make_zero(&mut self, addresses: &[Address]) -> Result<(), AllocError>
-        ensures { OnOk result ((epoch : ℕ) → addresses.now ≡ picked (is_new_zero epoch) self.old
-            → self.new ≡ each_block (find_zero epoch) self.old) }
-    {
-        self.stand_each(addresses, true, true)
+        pick_new_zeros(self.alloc, &self.listed.idle, &self.known, epoch)
     }
 
     /// The zero blocks that no write gave in an epoch go, and the others count no more; how many go.
@@ -230,28 +225,25 @@ impl Blocks {
 
     /// The zero blocks that the sweep of an epoch removes, ascending.
     fn gone(&self, epoch: u64) -> Result<Vec<Address>, AllocError>
-        ensures addresses { IfOk result (λ addresses.
-            addresses.items ≡ picked (is_gone epoch) self.now) }
+        ensures removed { IfOk result (λ addresses. remove_each addresses.items self.now
+            ≡ filter (λ e. not (is_gone epoch e.1)) self.now) }
+        ensures count { IfOk result (λ addresses.
+            length addresses.items ≡ gone_count epoch self.now) }
     {
-        self.listed
-            .zeros
-            .iter()
-            .filter(|address| self.is_gone(address, epoch))
-            .copied()
-            .collect(self.alloc)
+        pick_gone(self.alloc, &self.listed.zeros, &self.known, epoch)
     }
 
     /// The zero blocks, ascending.
     fn zeros(&self) -> Result<Vec<Address>, AllocError>
-        ensures addresses { IfOk result (λ addresses.
-            addresses.items ≡ picked (λ f. f.zero) self.now) }
+        ensures spared { IfOk result (λ addresses.
+            stand_each false false addresses.items self.now ≡ each_block spare self.now) }
     {
-        self.listed.zeros.iter().copied().collect(self.alloc)
+        pick_all(self.alloc, &self.listed.zeros)
     }
 
     /// Says of some blocks whether they count and whether they are zero blocks. Without memory it may
     /// be said of some of them.
-    fn stand_each(
+    pub(crate) fn stand_each(
         &mut self,
         addresses: &[Address],
         counted: bool,
@@ -259,7 +251,6 @@ impl Blocks {
     ) -> Result<(), AllocError>
         requires { (counted || not zero) ≡ true }
         ensures ok { OnOk result (self.new ≡ stand_each counted zero addresses.now self.old) }
-        ensures ordered { IsStrictlySortedBy address_cmp (keys_of self.old) }
     {
         for address in addresses {
             self.stand(address, counted, zero)?;
@@ -270,7 +261,6 @@ impl Blocks {
     /// Takes some blocks away. It takes no memory.
     fn remove_each(&mut self, addresses: &[Address])
         ensures ok { self.new ≡ remove_each addresses.now self.old }
-        ensures ordered { IsStrictlySortedBy address_cmp (keys_of self.old) }
     {
         for address in addresses {
             self.remove(address);
@@ -329,51 +319,13 @@ impl Blocks {
     fn remove(&mut self, address: &Address)
         ensures { self.new ≡ remove_at address.now self.old }
     {
-        if let Some(facts) = self.known.remove(address) {
-            let kind = kind_as(facts.counted, facts.zero, facts.count);
-            self.numbers.remove(&facts.number);
-            self.listed.unlist(address, kind);
-        }
+        let Some(facts) = self.known.remove(address) else {
+            return;
+        };
+        let kind = kind_as(facts.counted, facts.zero, facts.count);
+        self.numbers.remove(&facts.number);
+        self.listed.unlist(address, kind);
     }
-
-    /// Whether a block becomes counted in an epoch.
-    fn is_new(&self, address: &Address, epoch: u64) -> bool
-        ensures { result ≡ option_map_or (is_new epoch) (facts_in address.now self.now) false }
-    {
-        match self.known.get(address) {
-            Some(facts) => !facts.counted && facts.born < epoch,
-            None => false,
-        }
-    }
-
-    /// Whether a block becomes a zero block in an epoch.
-    fn is_new_zero(&self, address: &Address, epoch: u64) -> bool
-        ensures { result ≡ option_map_or (is_new_zero epoch) (facts_in address.now self.now) false }
-    {
-        match self.known.get(address) {
-            Some(facts) => {
-                facts.counted && !facts.zero && facts.count == 0 && is_past(facts.mark, epoch)
-            }
-            None => false,
-        }
-    }
-
-    /// Whether the sweep of an epoch removes a block.
-    fn is_gone(&self, address: &Address, epoch: u64) -> bool
-        ensures { result ≡ option_map_or (is_gone epoch) (facts_in address.now self.now) false }
-    {
-        match self.known.get(address) {
-            Some(facts) => facts.zero && facts.mark < epoch,
-            None => false,
-        }
-    }
-}
-
-/// Whether an epoch is the second after another or later.
-fn is_past(epoch: u64, now: u64) -> bool
-    ensures { result ≡ nat_le (epoch + 2) now }
-{
-    epoch < now.saturating_sub(1)
 }
 
 /// What a count becomes at the end of a round: round 0 raises it, the others lower it, as far as it
@@ -385,6 +337,15 @@ fn moved(round: u32, count: u32, amount: u32) -> u32
         return count.checked_add(amount).unwrap_or(count);
     }
     count.checked_sub(amount).unwrap_or(count)
+}
+
+/// Writes down that a block was given in an epoch. It takes no memory.
+fn give(known: &mut BTreeMap<Address, Facts>, address: &Address, epoch: u64)
+    ensures { known.new.entries ≡ change_at address.now (give epoch) known.old.entries }
+{
+    if let Some(facts) = known.get_mut(address) {
+        facts.mark = epoch;
+    }
 }
 
 /// Writes down whether a block counts, whether it is a zero block, and its count. It takes no memory.
@@ -417,6 +378,14 @@ fn insert_both(
         ≡ insert_entry address_cmp known.old.entries address facts) }
     ensures numbers { OnOk result (numbers.new.entries
         ≡ insert_entry nat_cmp numbers.old.entries facts.number address) }
+    ensures found { OnOk result ((a : Address) → facts_in a known.new.entries
+        ≡ cond (is_at (address_cmp address) a) (Some facts) (facts_in a known.old.entries)) }
+    ensures counted { OnOk result ((number : ℕ) → address_of number numbers.new.entries
+        ≡ cond (is_at (nat_cmp facts.number) number) (Some address)
+        (address_of number numbers.old.entries)) }
+    ensures more { OnOk result (length known.new.entries ≤ length known.old.entries + 1) }
+    ensures ordered { OnOk result
+        (IsStrictlySortedBy address_cmp (keys_of known.new.entries)) }
     ensures same_known { OnErr result (known.new.entries ≡ known.old.entries) }
     ensures same_numbers { OnErr result ((number : ℕ) →
         address_of number numbers.new.entries ≡ address_of number numbers.old.entries) }

@@ -199,7 +199,10 @@ impl Catalogue {
                 ..
             } => Ok(self.mark_block(*least, *block, address)),
             Entry::Root {
-                held, address, key, ..
+                held,
+                address,
+                key,
+                ..
             } => self.put_root(*held, *address, key),
             Entry::Drop { key, .. } => Ok(self.drop_root(key)),
             Entry::Enter { epoch, .. } => self.enter(*epoch),

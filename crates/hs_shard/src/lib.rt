@@ -7,6 +7,7 @@ mod effect;
 mod facts;
 mod fault;
 mod listed;
+mod picking;
 mod tally;
 
 pub use catalogue::Catalogue;

@@ -45,7 +45,12 @@ impl Listed {
     }
 
     /// Lists an address under another kind than before. Without memory nothing changes.
-    pub(crate) fn relist(&mut self, address: Address, from: Kind, to: Kind) -> Result<(), AllocError>
+    pub(crate) fn relist(
+        &mut self,
+        address: Address,
+        from: Kind,
+        to: Kind,
+    ) -> Result<(), AllocError>
         requires { (k : Kind) (q : Address) → is_at (address_cmp address) q ≡ true
             → has k q self.old ≡ goes_in k from }
         ensures ok { OnOk result ((k : Kind) (q : Address) → has k q self.new
@@ -130,9 +135,5 @@ pub(crate) fn kind_as(counted: bool, zero: bool, count: u32) -> Kind
     if zero {
         return Kind::Zero;
     }
-    if count == 0 {
-        Kind::Idle
-    } else {
-        Kind::Other
-    }
+    if count == 0 { Kind::Idle } else { Kind::Other }
 }

@@ -59,13 +59,7 @@ impl Tally {
         ensures value { IfOk result (λ deltas. deltas.items ≡ deltas_of self.now) }
         ensures changes { IfOk result (λ deltas. AreChanges deltas.items) }
     {
-        self.counts
-            .iter()
-            .map(|(address, amount)| Delta {
-                address: *address,
-                amount: *amount,
-            })
-            .collect(self.alloc)
+        deltas_of(self.alloc, &self.counts)
     }
 
     /// Names an address once more. A count beyond 2^32-1 counts as want of memory.
@@ -79,4 +73,17 @@ impl Tally {
         self.counts.insert(address, count)?;
         Ok(())
     }
+}
+
+/// Some counts as deltas.
+fn deltas_of(alloc: Global, counts: &BTreeMap<Address, u32>) -> Result<Vec<Delta>, AllocError>
+    ensures { IfOk result (λ deltas. deltas.items ≡ deltas_of counts.now.entries) }
+{
+    counts
+        .iter()
+        .map(|(address, amount)| Delta {
+            address: *address,
+            amount: *amount,
+        })
+        .collect(alloc)
 }

@@ -100,7 +100,7 @@ impl Catalogue {
             return Err(ShardFault::NoMemory);
         };
         self.run.go_on(total, decrements)?;
-        self.blocks.make_zero(zeros.as_slice())?;
+        self.blocks.stand_each(zeros.as_slice(), true, true)?;
         let Some(next) = round.checked_add(1) else {
             return Err(ShardFault::NoMemory);
         };
@@ -132,7 +132,7 @@ impl Catalogue {
         let roots = self.roots.count_new(epoch)?;
         let increments = self.tally(blocks.as_slice(), roots.as_slice())?;
         self.run.enter(epoch, increments)?;
-        self.blocks.count(blocks.as_slice())?;
+        self.blocks.stand_each(blocks.as_slice(), true, false)?;
         self.epoch = epoch;
         Ok(())
     }
