@@ -147,7 +147,7 @@ shards = refl
 -- it is refused or answered also before the view, and else waits for it
 begins_before_the_view : map (λ o. begin (record view { viewed = false }) 7 o) (op.Open a ∷ op.Name a 1 ∷ op.Look a k ∷ write (1 ∷ []) [] ∷ op.Drop k ∷ [])
     ≡ Answer (reply.SessionTaken a) ∷ Answer (reply.Name (address 5)) ∷ Answer (reply.NoKey k) ∷ Wait ∷ Answer (reply.NoKey k) ∷ []
-unfolding begin go judged_in refusals_of asked_for no_handle_in
+unfolding begin go judged_in refusals_of asked_for no_handle_in stale_in
 begins_before_the_view = refl
 
 -- an absent block is stored under its spelling, a present one is compared; one that another entry has to decide waits

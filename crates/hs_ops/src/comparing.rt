@@ -1,5 +1,6 @@
 //! What reported bytes bring.
-ghost use Rattle.std.specs.Prelude.{◌≡◌, None, IfOk};
+ghost use Rattle.std.specs.Prelude.{◌≡◌, ◌&&◌, None, bytes_eq, IfOk};
+ghost use Rattle.std.specs.Cmp.Lexicographic.{pointwise};
 ghost use Rattle.std.specs.Option.{option_map};
 ghost use Rattle.hs_limits.specs.Block.{IsBlock};
 ghost use Rattle.hs_ops.specs.Going.{compared, data_of, is_reported, is_same_block, on_bytes};
@@ -16,7 +17,7 @@ use std::alloc::Global;
 
 /// What was reported of a block: the number of its entry, its bytes, if they are not gone, and the
 /// pointers that the catalogue has.
-#[derive(Clone, Copy)]
+#[derive(Drop)]
 pub(crate) struct Report<'a> {
     pub(crate) number: u64,
     pub(crate) bytes: Option<&'a [u8]>,
@@ -29,11 +30,11 @@ pub(crate) fn on_bytes(
     view: &OpView,
     alloc: Global,
     line: u64,
-    report: Report,
+    report: &Report,
     op: &Op,
 ) -> Result<OpStep, OpFault>
-    ensures { IfOk result (λ step. step ≡ on_bytes view.now line report.number
-        (option_map (λ bytes. bytes.now) report.bytes) report.pointers.now op.now) }
+    ensures { IfOk result (λ step. step ≡ on_bytes view.now line report.now.number
+        (option_map (λ told. told.now) report.now.bytes) report.now.pointers.now op.now) }
 {
     match refusal_of(view, alloc, op)? {
         Some(refusal) => Ok(OpStep::Answer(refusal)),
@@ -47,12 +48,12 @@ fn compared(
     view: &OpView,
     alloc: Global,
     line: u64,
-    report: Report,
+    report: &Report,
     op: &Op,
 ) -> Result<OpStep, OpFault>
     requires { refusal_of view.now op.now ≡ None }
-    ensures { IfOk result (λ step. step ≡ compared view.now line report.number
-        (option_map (λ bytes. bytes.now) report.bytes) report.pointers.now op.now) }
+    ensures { IfOk result (λ step. step ≡ compared view.now line report.now.number
+        (option_map (λ told. told.now) report.now.bytes) report.now.pointers.now op.now) }
 {
     match op {
         Op::Write {
@@ -81,41 +82,50 @@ fn compared(
 
 impl<'a> OpView<'a> {
     /// Whether the block of this entry is present, and its bytes were reported.
-    fn is_reported(&self, report: Report) -> bool
-        ensures { result ≡ is_reported self.now report.number
-            (option_map (λ bytes. bytes.now) report.bytes) }
+    fn is_reported(&self, report: &Report) -> bool
+        ensures { result ≡ is_reported self.now report.now.number
+            (option_map (λ told. told.now) report.now.bytes) }
     {
         self.present == Some(report.number) && report.bytes.is_some()
     }
 
     /// Whether the bytes are those of a write's block, and the catalogue's pointers are its pointers.
-    #[tactic(auto, unfolding(crate::specs::Going::is_same_block, crate::specs::Speaking::asked_block))]
+    #[tactic(auto, unfolding(crate::specs::Going::is_same_block), using(crate::proofs::BlockLemmas::asked_is, crate::proofs::BlockLemmas::is_spelled, crate::proofs::BlockLemmas::same_is))]
     fn is_same_block(
         &self,
         alloc: Global,
         session: &Name,
         payload: &[u8],
         handles: &[u32],
-        report: Report,
+        report: &Report,
     ) -> Result<bool, OpFault>
         requires { IsBlock (asked_block self.now.seats session.now payload.now handles.now) }
         ensures { IfOk result (λ same. same
             ≡ is_same_block (asked_block self.now.seats session.now payload.now handles.now)
-            (option_map (λ bytes. bytes.now) report.bytes) report.pointers.now) }
+            (option_map (λ told. told.now) report.now.bytes) report.now.pointers.now) }
     {
         let Some(bytes) = report.bytes else {
             return Ok(false);
         };
         let pointers = addresses_of(alloc, self.sessions, session, handles)?;
         let spelled = spelling(alloc, pointers.as_slice(), payload)?;
-        Ok(spelled.as_slice() == bytes && pointers.as_slice() == report.pointers)
+        let asked = pointers.as_slice();
+        Ok(are_same(spelled.as_slice(), bytes, asked, report.pointers))
     }
+}
+
+/// Whether bytes and pointers are the same as some others.
+fn are_same(spelled: &[u8], bytes: &[u8], asked: &[Address], pointers: &[Address]) -> bool
+    ensures { result ≡ (bytes_eq spelled.now bytes.now
+        && pointwise (λ p q. bytes_eq p.0 q.0) asked.now pointers.now) }
+{
+    spelled == bytes && asked == pointers
 }
 
 /// The data of the block that some bytes spell, none where they spell none.
 #[tactic(auto, unfolding(crate::specs::Going::data_of))]
 fn data_of(alloc: Global, bytes: Option<&[u8]>) -> Result<ListOf<u8>, OpFault>
-    ensures { IfOk result (λ told. told ≡ data_of (option_map (λ bytes. bytes.now) bytes)) }
+    ensures { IfOk result (λ told. told ≡ data_of (option_map (λ told. told.now) bytes.entry)) }
 {
     let Some(bytes) = bytes else {
         return Ok(ListOf::new(alloc));

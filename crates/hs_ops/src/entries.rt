@@ -15,7 +15,7 @@ use std::alloc::Global;
 
 impl<'a> OpView<'a> {
     /// The entry that stores a write's block.
-    #[tactic(auto, unfolding(crate::specs::Going::block_entry))]
+    #[tactic(auto, using(crate::proofs::BlockLemmas::asked_is, crate::proofs::BlockLemmas::is_spelled, crate::proofs::BlockLemmas::entry_is))]
     pub(crate) fn block_entry(
         &self,
         alloc: Global,

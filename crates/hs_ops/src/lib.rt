@@ -1,6 +1,7 @@
 //! One client operation at a time: what is to be done for it next.
 #![tactic(auto)]
 
+mod answering;
 mod asking;
 mod comparing;
 mod effects;
@@ -9,6 +10,7 @@ mod fault;
 mod going;
 mod operation;
 mod rows;
+mod speaking;
 mod step;
 mod stop;
 mod table;

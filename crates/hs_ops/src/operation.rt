@@ -1,15 +1,18 @@
 //! One client operation.
 ghost use Rattle.std.specs.Prelude.{◌≡◌, Ok, IfOk, OnOk, OnErr};
 ghost use Rattle.std.specs.Option.{option_map};
+ghost use Rattle.hs_ops.specs.Answers.{deed_of, gained};
 ghost use Rattle.hs_ops.specs.Operations.{after_step, bytes_step, effect_step, go_step, new_operation, stage_after, wanted_number};
 
+use crate::answering::{deed_of, gained};
 use crate::comparing::{Report, on_bytes};
 use crate::effects::on_effect;
 use crate::going::{begin, go};
 use crate::{OpFault, OpStep, OpView};
 use hs_desk::What;
-use hs_limits::Address;
-use hs_model::Op;
+use hs_limits::{Address, Held, ListOf};
+use hs_model::{Deed, Op, Reply};
+use hs_tokens::Sessions;
 use std::alloc::Global;
 use std::marker::Model;
 
@@ -106,9 +109,9 @@ impl Operation {
         pointers: &[Address],
     ) -> Result<OpStep, OpFault>
         ensures step { IfOk result (λ step. step ≡ bytes_step view.now
-            (option_map (λ told. told.now) bytes) pointers.now self.old) }
+            (option_map (λ told. told.now) bytes.entry) pointers.now self.old) }
         ensures after { OnOk result (self.new ≡ after_step (bytes_step view.now
-            (option_map (λ told. told.now) bytes) pointers.now self.old) self.old) }
+            (option_map (λ told. told.now) bytes.entry) pointers.now self.old) self.old) }
         ensures same { OnErr result (self.new ≡ self.old) }
     {
         let number = wanted_number(self.stage);
@@ -117,7 +120,7 @@ impl Operation {
             bytes,
             pointers,
         };
-        let step = on_bytes(view, self.alloc, self.line, report, &self.op)?;
+        let step = on_bytes(view, self.alloc, self.line, &report, &self.op)?;
         self.stage = stage_after(&step, self.stage);
         Ok(step)
     }
@@ -133,6 +136,22 @@ impl Operation {
         let step = on_effect(view, self.alloc, self.line, what, &self.op)?;
         self.stage = stage_after(&step, self.stage);
         Ok(step)
+    }
+
+    /// What the handles of its reply stand for, where it is not refused: of a read each of these
+    /// pointers, those of the block that it read.
+    pub fn gained(&self, view: &OpView, pointers: &[Address]) -> Result<ListOf<Held>, OpFault>
+        ensures { IfOk result (λ helds. helds ≡ gained view.now pointers.now self.now.op) }
+    {
+        gained(view, self.alloc, pointers, &self.op)
+    }
+
+    /// The deed of the operation that got this reply, where these are the sessions before it.
+    pub fn into_deed(self, sessions: &Sessions, reply: &Reply) -> Result<Deed, OpFault>
+        ensures { IfOk result (λ deed. deed ≡ deed_of sessions.now.seats self.op reply.now) }
+    {
+        let Operation { op, alloc, .. } = self;
+        deed_of(alloc, sessions, op, reply)
     }
 }
 

@@ -62,6 +62,7 @@ impl<'a> OpView<'a> {
     // ---- handles
 
     /// NoHandle for the first handle that the session does not hold.
+    #[tactic(auto, using(crate::proofs::StopLemmas::held_stops, crate::proofs::StopLemmas::held_passes, crate::proofs::StopLemmas::held_ends))]
     pub(crate) fn holds_all(&self, session: &Name, handles: &[u32]) -> Result<(), Stop>
         ensures { Stops (not_held self.now session.now handles.now) result }
     {
@@ -94,6 +95,7 @@ impl<'a> OpView<'a> {
     }
 
     /// Stale for the first handle that may not be used any more.
+    #[tactic(auto, using(crate::proofs::StopLemmas::fresh_stops, crate::proofs::StopLemmas::fresh_passes, crate::proofs::StopLemmas::fresh_ends))]
     pub(crate) fn are_fresh(&self, session: &Name, handles: &[u32]) -> Result<(), Stop>
         ensures { Stops (outdated self.now session.now handles.now) result }
     {

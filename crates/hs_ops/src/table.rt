@@ -53,7 +53,7 @@ fn check(view: &OpView, alloc: Global, op: &Op) -> Result<(), Stop>
 }
 
 impl<'a> OpView<'a> {
-    #[tactic(auto, unfolding(crate::specs::Refusals::refusals_of))]
+    #[tactic(auto, unfolding(crate::specs::Refusals::refusals_of), using(crate::proofs::StopLemmas::passes, crate::proofs::StopLemmas::stops_by, crate::proofs::StopLemmas::decides))]
     fn check_open(&self, alloc: Global, session: &Name) -> Result<(), Stop>
         ensures { Stops (refusal_of self.now (op.Open session.now)) result }
     {
@@ -61,7 +61,7 @@ impl<'a> OpView<'a> {
         self.has_seat()
     }
 
-    #[tactic(auto, unfolding(crate::specs::Refusals::refusals_of))]
+    #[tactic(auto, unfolding(crate::specs::Refusals::refusals_of), using(crate::proofs::StopLemmas::passes, crate::proofs::StopLemmas::stops_by, crate::proofs::StopLemmas::decides))]
     fn check_close(&self, alloc: Global, session: &Name) -> Result<(), Stop>
         ensures { Stops (refusal_of self.now (op.Close session.now)) result }
     {
@@ -69,7 +69,7 @@ impl<'a> OpView<'a> {
         self.is_free()
     }
 
-    #[tactic(auto, unfolding(crate::specs::Refusals::refusals_of))]
+    #[tactic(auto, unfolding(crate::specs::Refusals::refusals_of), using(crate::proofs::StopLemmas::passes, crate::proofs::StopLemmas::stops_by, crate::proofs::StopLemmas::decides))]
     fn check_write(
         &self,
         alloc: Global,
@@ -90,7 +90,7 @@ impl<'a> OpView<'a> {
         self.has_block_room()
     }
 
-    #[tactic(auto, unfolding(crate::specs::Refusals::refusals_of))]
+    #[tactic(auto, unfolding(crate::specs::Refusals::refusals_of), using(crate::proofs::StopLemmas::passes, crate::proofs::StopLemmas::stops_by, crate::proofs::StopLemmas::decides))]
     fn check_read(&self, alloc: Global, session: &Name, handle: u32) -> Result<(), Stop>
         ensures { Stops (refusal_of self.now (op.Read session.now handle)) result }
     {
@@ -101,7 +101,7 @@ impl<'a> OpView<'a> {
         self.has_handles(session, self.pointers)
     }
 
-    #[tactic(auto, unfolding(crate::specs::Refusals::refusals_of))]
+    #[tactic(auto, unfolding(crate::specs::Refusals::refusals_of), using(crate::proofs::StopLemmas::passes, crate::proofs::StopLemmas::stops_by, crate::proofs::StopLemmas::decides))]
     fn check_look(&self, alloc: Global, session: &Name, key: &Key) -> Result<(), Stop>
         ensures { Stops (refusal_of self.now (op.Look session.now key.now)) result }
     {
@@ -111,7 +111,7 @@ impl<'a> OpView<'a> {
         self.is_kept(alloc, key)
     }
 
-    #[tactic(auto, unfolding(crate::specs::Refusals::refusals_of))]
+    #[tactic(auto, unfolding(crate::specs::Refusals::refusals_of), using(crate::proofs::StopLemmas::passes, crate::proofs::StopLemmas::stops_by, crate::proofs::StopLemmas::decides))]
     fn check_root(
         &self,
         alloc: Global,
@@ -129,14 +129,14 @@ impl<'a> OpView<'a> {
         self.has_root_room(key)
     }
 
-    #[tactic(auto, unfolding(crate::specs::Refusals::refusals_of))]
+    #[tactic(auto, unfolding(crate::specs::Refusals::refusals_of), using(crate::proofs::StopLemmas::passes, crate::proofs::StopLemmas::stops_by, crate::proofs::StopLemmas::decides))]
     fn check_drop(&self, alloc: Global, key: &Key) -> Result<(), Stop>
         ensures { Stops (refusal_of self.now (op.Drop key.now)) result }
     {
         self.is_kept(alloc, key)
     }
 
-    #[tactic(auto, unfolding(crate::specs::Refusals::refusals_of))]
+    #[tactic(auto, unfolding(crate::specs::Refusals::refusals_of), using(crate::proofs::StopLemmas::passes, crate::proofs::StopLemmas::stops_by, crate::proofs::StopLemmas::decides))]
     fn check_forget(&self, alloc: Global, session: &Name, handle: u32) -> Result<(), Stop>
         ensures { Stops (refusal_of self.now (op.Forget session.now handle)) result }
     {
@@ -145,7 +145,7 @@ impl<'a> OpView<'a> {
         self.holds_all(session, &[handle])
     }
 
-    #[tactic(auto, unfolding(crate::specs::Refusals::refusals_of))]
+    #[tactic(auto, unfolding(crate::specs::Refusals::refusals_of), using(crate::proofs::StopLemmas::passes, crate::proofs::StopLemmas::stops_by, crate::proofs::StopLemmas::decides))]
     fn check_name(&self, alloc: Global, session: &Name, handle: u32) -> Result<(), Stop>
         ensures { Stops (refusal_of self.now (op.Name session.now handle)) result }
     {
@@ -154,7 +154,7 @@ impl<'a> OpView<'a> {
         self.holds_all(session, &[handle])
     }
 
-    #[tactic(auto, unfolding(crate::specs::Refusals::refusals_of))]
+    #[tactic(auto, unfolding(crate::specs::Refusals::refusals_of), using(crate::proofs::StopLemmas::passes, crate::proofs::StopLemmas::stops_by, crate::proofs::StopLemmas::decides))]
     fn check_delete(&self) -> Result<(), Stop>
         ensures { Stops (refusal_of self.now op.Delete) result }
     {

@@ -87,6 +87,7 @@ impl<'a> OpView<'a> {
 }
 
 /// So many numbers from a first one on. A number that is none of a handle counts as want of memory.
+#[tactic(auto, using(crate::proofs::RangeLemmas::range_one_more))]
 fn numbers_from(alloc: Global, first: u32, count: usize) -> Result<ListOf<u32>, OpFault>
     ensures { IfOk result (λ numbers. numbers ≡ range_with_len first count) }
 {

@@ -2,6 +2,7 @@
 ghost use Rattle.std.specs.Prelude.{◌≡◌, slice_index};
 ghost use Rattle.std.specs.Option.{option_map};
 ghost use Rattle.hs_model.specs.Store.{held_in, next_of};
+ghost use Rattle.hs_ops.specs.Answers.{root_address};
 ghost use Rattle.hs_ops.specs.Views.{kept_in, now_in, open_in};
 ghost use Rattle.hs_tokens.specs.Seats.{found, nothing};
 
@@ -11,6 +12,7 @@ use hs_tokens::Sessions;
 use std::marker::Model;
 
 /// What has taken effect, as an operation sees it. It is made for one operation and one call.
+#[derive(Drop)]
 pub struct OpView<'a> {
     pub sessions: &'a Sessions,
     /// The roots of the shard that judges; they may be left out where the operation has no key.
@@ -101,6 +103,13 @@ impl<'a> OpView<'a> {
         ensures { result ≡ option_map (λ root. root.address) (kept_in self.now key.now) }
     {
         self.roots?.look(key)
+    }
+
+    /// The address that a key retains, and the zero address where it retains none.
+    pub(crate) fn root_address(&self, key: &Key) -> Address
+        ensures { result ≡ root_address (kept_in self.now key.now) }
+    {
+        self.kept(key).unwrap_or(nothing().address)
     }
 }
 
