@@ -11,7 +11,7 @@ use Rattle.hs_core.specs.State.{Core}
 use Rattle.hs_desk.specs.declared.job.Job.{Job}
 use Rattle.hs_limits.specs.declared.limits.PeerStatus.{PeerStatus}
 use Rattle.hs_limits.specs.declared.shape.Shape.{Shape}
-use Rattle.hs_members.specs.Members.{has_good, home_of, is_joining, lead_by, status}
+use Rattle.hs_members.specs.Members.{all_peers, has_good, home_of, is_joining, lead_by, status}
 use Rattle.hs_post.specs.Pool.{oldest_for}
 use Rattle.hs_rejoin.specs.Rejoin.{Rejoin, next_job}
 use Rattle.hs_replica.specs.Group.{Group, copy_of, new_group}
@@ -108,7 +108,7 @@ open_work core =
     not (length core.operations == 0)
     || (list_any (λ group. not (length group.waiting == 0)) core.groups
     || (list_any (λ c. nat_lt c.swept (top_epoch core)) core.catalogues
-    || list_any is_joining core.members.statuses))
+    || list_any (λ peer. is_joining (status_of peer core)) (all_peers (shape_of core))))
 
 -- the first shard without a good peer
 abbrev pub lost_shard : Core → Option ℕ

@@ -1,17 +1,17 @@
 -- The core as it opens.
 use Rattle.std.specs.List.{range_with_len}
-use Rattle.std.specs.Prelude.{ℕ, Bool, List, [], None, drop, false, filter, length, map, not, replicate, slice_index, slice_set, take, ◌+◌}
+use Rattle.std.specs.Prelude.{ℕ, ◌+◌, ◌*◌, Bool, false, not, List, [], None, drop, map, replicate, slice_index, take, if◌then◌else◌}
 use Rattle.hs_core.specs.Changing.{note}
 use Rattle.hs_core.specs.Looking.{shape_of, shards_of, status_of}
 use Rattle.hs_core.specs.State.{Core}
 use Rattle.hs_core.specs.Step.{end_event}
 use Rattle.hs_core.specs.Views.{change_view}
-use Rattle.hs_core.specs.Words.{each, ◌▸◌}
+use Rattle.hs_core.specs.Words.{change_if, each, ◌▸◌}
 use Rattle.hs_journal.specs.declared.entry.Who.TheVariants as who
 use Rattle.hs_limits.specs.declared.limits.Limits.{Limits}
 use Rattle.hs_limits.specs.declared.shape.Shape.{Shape}
 use Rattle.hs_limits.specs.Shape.{peer_of}
-use Rattle.hs_members.specs.Members.{Members, all_peers, has_good, is_good_status, members_at, view_of}
+use Rattle.hs_members.specs.Members.{all_peers, has_good, is_good_status, members_at}
 use Rattle.hs_model.specs.declared.deed.Deed.TheVariants as deed
 use Rattle.hs_model.specs.declared.reply.Reply.TheVariants as reply
 use Rattle.hs_post.specs.Pool.{empty_pool}
@@ -31,16 +31,24 @@ taken_group shape taken shard =
     let good : List Bool = take shape.copies (drop (peer_of shape shard 0) taken.good) in
     new_group shape shard (slice_index taken.views shard) (slice_index taken.lengths shard) good
 
+-- the first view of a shard: where it has a good peer, one above that of the taken log
+abbrev pub first_view : Shape → Taken → ℕ → ℕ
+first_view shape taken shard =
+    if has_good shard (members_at shape taken.views taken.good) then slice_index taken.views shard + 1 else slice_index taken.views shard
+
+abbrev pub first_views : Shape → Taken → List ℕ
+first_views shape taken = map (first_view shape taken) (range_with_len 0 shape.shards)
+
 -- nothing is under way
 abbrev pub new_core : Shape → Limits → Taken → ℕ → Core
 new_core shape limits taken moment = record {
   limits = limits;
-  members = members_at shape taken.views taken.good;
+  members = members_at shape (first_views shape taken) taken.good;
   catalogues = taken.catalogues;
   groups = map (taken_group shape taken) (range_with_len 0 shape.shards);
   viewed = replicate shape.shards false;
-  tasks = replicate (length taken.good) [];
-  rejoins = replicate (length taken.good) None;
+  tasks = replicate (shape.shards * shape.copies) [];
+  rejoins = replicate (shape.shards * shape.copies) None;
   pool = empty_pool limits.pool;
   sessions = [];
   operations = [];
@@ -53,22 +61,17 @@ new_core shape limits taken moment = record {
   event_line = 0;
 }
 
--- each peer that is not good is told of
+-- a peer that is not good is told of
+abbrev pub note_if_down : ℕ → Core → Core
+note_if_down peer core =
+    core ▸ change_if (not (is_good_status (status_of peer core))) (note who.Store deed.Nothing (reply.Down peer 0))
+
+-- each such peer is, and each shard with a good peer begins its first view
 abbrev pub note_down : Core → Core
-note_down core =
-    core ▸ each (filter (λ peer. not (is_good_status (status_of peer core))) (all_peers (shape_of core)))
-    (λ peer. note who.Store deed.Nothing (reply.Down peer 0))
+note_down core = core ▸ each (all_peers (shape_of core)) note_if_down
 
--- a shard's view is one above that of the taken log
-abbrev pub raise_view : ℕ → Members → Members
-raise_view shard m = record m { views = slice_set m.views shard (view_of shard m + 1) }
-
-abbrev pub begin_first_view : ℕ → Core → Core
-begin_first_view shard core = record core { members = raise_view shard core.members } ▸ change_view shard
-
--- each shard with a good peer begins a view
 abbrev pub begin_views : Core → Core
-begin_views core = core ▸ each (filter (λ shard. has_good shard core.members) (shards_of core)) begin_first_view
+begin_views core = core ▸ each (shards_of core) change_view
 
 abbrev pub open_core : Shape → Limits → Taken → ℕ → Core
 open_core shape limits taken moment = new_core shape limits taken moment ▸ note_down ▸ begin_views ▸ end_event

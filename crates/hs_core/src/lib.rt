@@ -4,6 +4,10 @@
 mod core_state;
 mod event;
 mod leads;
+mod new_core;
+mod no_memory;
+mod notes;
+mod open_work;
 mod queue;
 mod task;
 mod wait;
