@@ -1,0 +1,6 @@
+mod DeletionExamples
+mod Driving
+mod Examples
+mod LeadLemmas
+mod LimitExamples
+mod PeerExamples

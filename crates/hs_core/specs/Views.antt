@@ -1,0 +1,37 @@
+-- A new view of a shard.
+use Rattle.std.specs.Prelude.{ℕ, ◌==◌, ◌&&◌, Bool, false, not, map, nat_le, if◌then◌else◌}
+use Rattle.hs_core.specs.declared.wait.Wait.{Wait}
+use Rattle.hs_core.specs.declared.wait.Wait.TheVariants as wait
+use Rattle.hs_core.specs.Changing.{change_group, post, set_viewed}
+use Rattle.hs_core.specs.Looking.{group_of}
+use Rattle.hs_core.specs.Operating.{propose_entry}
+use Rattle.hs_core.specs.declared.waiting.Waiting.{Waiting}
+use Rattle.hs_core.specs.State.{Core}
+use Rattle.hs_core.specs.Words.{change_if, ◌▸◌}
+use Rattle.hs_entry.specs.declared.entry.Entry.TheVariants as kind
+use Rattle.hs_members.specs.Members.{has_good, view_of}
+use Rattle.hs_replica.specs.Group.{last_number, renew, renewal}
+
+-- whether what is waited for is an entry up to this number
+abbrev pub is_within : ℕ → Wait → Bool
+is_within last (wait.Entry number) = nat_le number last
+is_within last other = false
+
+-- an operation of the shard starts again, but for one whose entry still stands in the lead's list
+abbrev pub restarted : ℕ → ℕ → Waiting → Waiting
+restarted shard last w = if w.shard == shard && not (is_within last w.wait) then record w { wait = wait.View } else w
+
+abbrev pub restart : ℕ → Core → Core
+restart shard core =
+    record core { operations = map (λ e. (e.0, restarted shard (last_number (group_of shard core)) e.1)) core.operations }
+
+-- the view has risen: all copies are told, operations start again, each good peer is sent what it lacks, and the View is proposed
+abbrev pub begin_view : ℕ → Core → Core
+begin_view shard core =
+    core ▸ set_viewed shard false ▸ change_group shard (renew core.members) ▸ restart shard
+    ▸ (λ core. post (renewal (group_of shard core)) core)
+    ▸ (λ core. propose_entry shard (kind.View (view_of shard core.members)) core)
+
+-- where a good peer is left
+abbrev pub change_view : ℕ → Core → Core
+change_view shard core = core ▸ change_if (has_good shard core.members) (begin_view shard)

@@ -1,0 +1,32 @@
+//! There is no memory: the only way in which a part of an event fails.
+use hs_members::MemberFault;
+use hs_replica::GroupFault;
+use std::alloc::{AllocError, AllocFailed};
+
+/// There is no memory, or a number has no next one.
+#[derive(Debug, Drop)]
+pub(crate) struct NoMemory;
+
+impl From<AllocError> for NoMemory {
+    fn from(_error: AllocError) -> NoMemory {
+        NoMemory
+    }
+}
+
+impl<T: Drop> From<AllocFailed<T>> for NoMemory {
+    fn from(_error: AllocFailed<T>) -> NoMemory {
+        NoMemory
+    }
+}
+
+impl From<GroupFault> for NoMemory {
+    fn from(_fault: GroupFault) -> NoMemory {
+        NoMemory
+    }
+}
+
+impl From<MemberFault> for NoMemory {
+    fn from(_fault: MemberFault) -> NoMemory {
+        NoMemory
+    }
+}

@@ -1,0 +1,41 @@
+//! The jobs of one peer.
+ghost use Rattle.std.specs.Prelude.{◌≡◌, ◌∷◌, ◌++◌, [], drop, slice_get, OnOk, OnErr};
+ghost use Rattle.std.specs.Option.{option_copied};
+
+use crate::Task;
+use std::alloc::{AllocError, Global};
+use std::collections::VecDeque;
+use std::marker::Model;
+
+/// The jobs of one peer, in order.
+#[derive(Drop)]
+pub(crate) struct Queue {
+    tasks: VecDeque<Task>,
+}
+
+impl Model for Queue {
+    ghost use Rattle.std.specs.Prelude.{List};
+    ghost use Rattle.hs_core.specs.declared.task.Task.{Task};
+
+    ghost Value = { List Task };
+
+    ghost view = { λ a. a.tasks.items };
+}
+
+impl Queue {
+    /// No job. It takes no memory.
+    pub(crate) fn new(alloc: Global) -> Queue
+        ensures { result ≡ [] }
+    {
+        Queue {
+            tasks: VecDeque::new(alloc),
+        }
+    }
+
+    /// The first job. None exactly where there is none. It takes no memory.
+    pub(crate) fn first(&self) -> Option<&Task>
+        ensures { option_copied result ≡ slice_get self.now 0 }
+    {
+        self.tasks.front()
+    }
+}
