@@ -15,7 +15,7 @@ use Rattle.hs_memory.specs.Forget.{apply_all, forget, named, reading}
 use Rattle.hs_memory.proofs.ClientLemmas.{dropped_alike, marked_alike, rooted_alike, stored_alike}
 use Rattle.hs_memory.proofs.RunLemmas.{entered_alike, got_alike}
 use Rattle.hs_shard.specs.Apply.{apply}
-use Rattle.hs_shard.specs.Facts.{Catalogue, empty_catalogue}
+use Rattle.hs_shard.specs.Facts.{empty_catalogue}
 
 module _ (name : List ℕ → Address) (shape : Shape) (shard : ℕ) where
   pub entry_alike : (c : Folded) → IsOwn shape.shards shard c → (number : ℕ) (entry : Entry)

@@ -1,6 +1,6 @@
 -- Clients' entries in memory and in the fold.
 use Rattle.std.proofs.Common.{◌≡◌, ℕ, ◌+◌, ◌==◌, ◌&&◌, ◌||◌, not, nat_le, nat_lt, List, [], ◌∷◌, ◌++◌, count_by, find, length, map, Bool, true, false, cond, Option, Some, None, is_none, is_some, Result, Ok, Err, bytes_eq, is_gt, refl, sym, ap, subst, ◌∙◌, arith}
-use Rattle.std.proofs.lemmas.Bool.{and_parts, false≢true}
+use Rattle.std.proofs.lemmas.Bool.{false≢true}
 use Rattle.std.proofs.lemmas.Bool.Decides.{Decides-eqb, nat_tests}
 use Rattle.std.proofs.lemmas.Map.Made.{lookup-map_values}
 use Rattle.std.specs.BTreeMap.{insert_entry, is_at}
@@ -19,20 +19,20 @@ use Rattle.hs_model.proofs.MapLemmas.{map-insert_entry, map-set_value}
 use Rattle.hs_roots.specs.declared.root.RootRecord.{RootRecord}
 use Rattle.hs_roots.specs.declared.fault.RootFault.TheVariants.{KeyTaken, RootsFull}
 use Rattle.hs_roots.specs.Refusals.{put_refusal}
-use Rattle.hs_roots.specs.Roots.{Retention, dropping, new_root as new_record, retained_count, retained_of, retains}
+use Rattle.hs_roots.specs.Roots.{Retention, dropping, new_root as new_record, retained_count, retained_of}
 use Rattle.hs_fold.specs.Catalogue.{Shard, fresh_present}
 use Rattle.hs_fold.specs.Runs.Clients as fold
 use Rattle.hs_fold.specs.Runs.Facts.{Catalogue as Folded, Facts as FoldedFacts, RootFacts, plain, roots_of}
 use Rattle.hs_fold.specs.Runs.Facts.{facts_at as fold_facts}
 use Rattle.hs_fold.specs.Runs.Own.{IsOwn, OneRetained}
-use Rattle.hs_fold.specs.Shards.Catalogue.{is_marked, is_rooted, is_stored, retained_in, takes_root}
+use Rattle.hs_fold.specs.Shards.Catalogue.{is_marked, retained_in, takes_root}
 use Rattle.hs_fold.specs.Shards.Catalogue.{retained_count as fold_count}
 use Rattle.hs_fold.specs.Shards.Opened.{both_roots}
 use Rattle.hs_fold.proofs.Runs.PlainLemmas.{same_key}
 use Rattle.hs_fold.proofs.Shards.RootLemmas.{both-each, find-place, find-placed, passing, passing-both, passing-is}
 use Rattle.hs_memory.specs.Forget.{forget, known_of, record_of}
 use Rattle.hs_memory.proofs.MapLemmas.{count_map, known, length_map}
-use Rattle.hs_shard.specs.Clients.{change_at, drop_root, give, mark_block, new_facts, only, put_facts, put_root, store_block, with_block}
+use Rattle.hs_shard.specs.Clients.{drop_root, give, mark_block, new_facts, only, put_facts, put_root, store_block, with_block}
 use Rattle.hs_shard.specs.Facts.{Catalogue, facts_in}
 
 -- ---- roots as they are looked up

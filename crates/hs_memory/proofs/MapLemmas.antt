@@ -1,31 +1,30 @@
 -- Blocks and roots as they are kept in memory, changed one by one.
-use Rattle.std.proofs.Common.{◌≡◌, ℕ, suc, ◌+◌, ◌==◌, ◌&&◌, ◌||◌, not, nat_le, nat_lt, List, [], ◌∷◌, ◌++◌, length, map, filter, count_by, Bool, true, false, cond, Option, Some, None, refl, sym, ap, subst, ◌∙◌, Less, is_eq}
+use Rattle.std.proofs.Common.{◌≡◌, ℕ, suc, ◌&&◌, ◌||◌, not, nat_lt, List, [], ◌∷◌, ◌++◌, length, map, filter, count_by, Bool, true, false, cond, Option, Some, None, refl, sym, ap, subst, ◌∙◌, Less, is_eq}
 use Rattle.std.proofs.lemmas.List.Sums.{length-filter}
 use Rattle.std.proofs.lemmas.Map.Keys.{sorted_head, sorted_tail}
 use Rattle.std.specs.BTreeMap.{is_at}
 use Rattle.std.specs.List.{AllByRecursion}
 use Rattle.std.specs.List.Sorted.{IsStrictlySortedBy}
 use Rattle.std.specs.Map.{keys_of, set_value}
-use Rattle.std.specs.Option.{option_map, option_map_or}
+use Rattle.std.specs.Option.{option_map}
 use Rattle.hs_limits.specs.declared.address.Address.{Address}
 use Rattle.hs_limits.specs.declared.delta.Delta.{Delta}
 use Rattle.hs_model.specs.Reach.{is_same}
 use Rattle.hs_model.specs.Store.{address_cmp}
-use Rattle.hs_model.proofs.Members.{at_is_same, same-refl}
+use Rattle.hs_model.proofs.Members.{at_is_same}
 use Rattle.hs_model.proofs.RootLemmas.{map_of_filter}
 use Rattle.hs_roots.specs.declared.root.RootRecord.{RootRecord}
 use Rattle.hs_roots.specs.Roots.{counting, count_new, is_released, kept_by, release}
-use Rattle.hs_roots.specs.Roots.{is_new as is_new_record}
 use Rattle.hs_fold.specs.Runs.Facts.{Facts as FoldedFacts, RootFacts}
 use Rattle.hs_fold.specs.Runs.Facts.{each_block as fold_each}
-use Rattle.hs_fold.specs.Runs.Rounds.{count_block as fold_count, count_root, find_zero as fold_zero, is_gone as fold_gone, is_new as fold_new, is_new_root, is_new_zero as fold_new_zero, moved_by, spare as fold_spare}
+use Rattle.hs_fold.specs.Runs.Rounds.{count_block as fold_count, count_root, find_zero as fold_zero, is_gone as fold_gone, is_new as fold_new, is_new_zero as fold_new_zero, moved_by, spare as fold_spare}
 use Rattle.hs_fold.specs.Runs.Told.{addresses_of}
 use Rattle.hs_fold.specs.Runs.Told.{pointers_of as fold_pointers}
 use Rattle.hs_memory.specs.Forget.{known_of, record_of}
 use Rattle.hs_shard.specs.declared.facts.Facts.{Facts}
 use Rattle.hs_shard.specs.Clients.{change_at, put_facts}
 use Rattle.hs_shard.specs.Facts.{BlockList, facts_in}
-use Rattle.hs_shard.specs.Rounds.{count_block, each_block, find_zero, gone_count, is_gone, is_new, is_new_zero, move_count, moved, pointers_of, settle, spare, sweep_blocks}
+use Rattle.hs_shard.specs.Rounds.{count_block, each_block, find_zero, is_gone, is_new, is_new_zero, move_count, moved, pointers_of, settle, spare, sweep_blocks}
 use Rattle.hs_shard.proofs.FoundLemmas.{same_at}
 
 abbrev pub FoldedList : Type 0

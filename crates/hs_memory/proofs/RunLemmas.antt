@@ -1,33 +1,30 @@
 -- Deletion runs: an Enter, a Got and the ends of rounds in memory and in the fold.
-use Rattle.std.proofs.Common.{◌≡◌, ℕ, zero, suc, ◌+◌, ◌==◌, ◌&&◌, ◌||◌, not, nat_lt, List, [], ◌++◌, count_by, length, Bool, true, false, cond, Option, Some, None, is_none, refl, sym, ap, subst, ◌∙◌}
+use Rattle.std.proofs.Common.{◌≡◌, ℕ, zero, suc, ◌+◌, ◌==◌, ◌&&◌, ◌||◌, nat_lt, List, ◌++◌, count_by, length, Bool, true, false, cond, Some, None, is_none, refl, sym, ap, subst, ◌∙◌}
 use Rattle.std.proofs.lemmas.Bool.{false≢true}
 use Rattle.std.proofs.lemmas.Bool.Decides.{Decides-eqb}
 use Rattle.std.specs.Option.{option_map_or}
-use Rattle.hs_limits.specs.declared.delta.Delta.{Delta}
 use Rattle.hs_limits.specs.declared.shape.Shape.{Shape}
 use Rattle.hs_roots.specs.Roots.{is_new as is_new_record, kept_by}
 use Rattle.hs_rounds.specs.declared.body.RoundBody.{RoundBody}
 use Rattle.hs_rounds.specs.declared.place.Place.{Place}
 use Rattle.hs_rounds.specs.Rounds.{body_at, complete, finish, go_on, have_told, received}
-use Rattle.hs_rounds.specs.Rounds.{Run, enter as enter_run, got as got_run, is_last as is_last_run}
+use Rattle.hs_rounds.specs.Rounds.{enter as enter_run, is_last as is_last_run}
 use Rattle.hs_fold.specs.Catalogue.{Shard}
 use Rattle.hs_fold.specs.Runs.Facts.{Catalogue as Folded}
 use Rattle.hs_fold.specs.Runs.Own.{IsOwn}
 use Rattle.hs_fold.specs.Runs.Rounds as fold
 use Rattle.hs_fold.specs.Runs.Rounds.{run_of}
-use Rattle.hs_fold.specs.Runs.Told.{addresses_of}
 use Rattle.hs_fold.specs.Runs.Told.{pointers_of as fold_pointers, tally as fold_tally}
 use Rattle.hs_fold.proofs.Runs.MemoryLemmas.{run-complete, run-enter, run-got, run-last, run-received, run-search, run-sweep}
 use Rattle.hs_fold.proofs.Runs.OwnLemmas.{enter-own, search-own, settled-plain, sweep-own}
 use Rattle.hs_fold.specs.Shards.Mine.{IsMine}
-use Rattle.hs_memory.specs.Forget.{forget, known_of, record_of}
+use Rattle.hs_memory.specs.Forget.{forget}
 use Rattle.hs_memory.proofs.CountLemmas.{tally_alike}
-use Rattle.hs_memory.proofs.MapLemmas.{counted_known, counted_records, kept_records, known, let_go_count, let_go_records, old, pointers_new, pointers_zero, settled_known, still_kept_records, swept_known, zero_count_known, zeros_known}
+use Rattle.hs_memory.proofs.MapLemmas.{counted_known, counted_records, kept_records, known, let_go_count, let_go_records, pointers_new, pointers_zero, settled_known, still_kept_records, swept_known, zero_count_known, zeros_known}
 use Rattle.hs_shard.specs.declared.effect.Effect.{Effect}
 use Rattle.hs_shard.specs.Clients.{Applied, applied, only}
 use Rattle.hs_shard.specs.Facts.{Catalogue}
-use Rattle.hs_shard.specs.Rounds.{advance, advanced, end_open, end_round, enter, enter_epoch, entered, first_deltas, get_round, is_accepted, is_due, is_new, is_new_zero, let_go, log_got, may_enter, next_deltas, next_total, pointers_of, search, searched, settle, settled, still_kept, sweep, swept}
-use Rattle.hs_shard.specs.Tally.{tally}
+use Rattle.hs_shard.specs.Rounds.{advance, advanced, end_open, end_round, enter, enter_epoch, entered, first_deltas, get_round, is_accepted, is_due, is_new, is_new_zero, let_go, log_got, next_deltas, next_total, pointers_of, search, searched, settle, settled, still_kept, sweep, swept}
 use Rattle.hs_desk.specs.declared.what.What.TheVariants.{Nothing, Refused}
 use Rattle.std.proofs.lemmas.Map.Made.{keys_of-map_values}
 use Rattle.std.specs.List.Sorted.{IsStrictlySortedBy}

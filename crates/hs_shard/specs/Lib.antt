@@ -1,6 +1,7 @@
 pub mod Apply
 pub mod Clients
 pub mod Facts
+pub mod Lending
 pub mod Listed
 pub mod Rounds
 pub mod Tally

@@ -1,6 +1,7 @@
 //! The catalogue of one shard.
 ghost use Rattle.std.specs.Prelude.{◌≡◌, ◌<◌, length, IfOk, IsOkUnless, OnOk};
 ghost use Rattle.std.specs.Option.{option_map};
+ghost use Rattle.hs_limits.specs.Limits.{greatest_limits};
 ghost use Rattle.hs_limits.specs.Shape.{IsShape};
 ghost use Rattle.hs_shard.specs.declared.fault.ShardFault.TheVariants.{NoMemory};
 ghost use Rattle.hs_shard.specs.Apply.{MayTake, apply};
@@ -63,6 +64,9 @@ impl Model for Catalogue {
 }
 
 impl Catalogue {
+    ghost use Rattle.std.specs.Borrow.{sem};
+    ghost use Rattle.hs_shard.specs.Lending.{StaysAsItWas};
+
     /// The catalogue of a shard before its first entry. Lists are read under the greatest limits,
     /// whatever the limits of the run are. It takes no memory.
     pub fn new(alloc: Global, shape: Shape, shard: u8, _limits: Limits) -> Catalogue
@@ -137,7 +141,8 @@ impl Catalogue {
 
     /// The shard's roots. It takes no memory.
     pub fn roots(&self) -> &RootSet
-        ensures { result.now.roots ≡ self.now.roots }
+        ensures roots { result.now.roots ≡ self.now.roots }
+        ensures limit { result.now.limit ≡ greatest_limits.roots }
     {
         &self.roots
     }
@@ -147,6 +152,7 @@ impl Catalogue {
     pub fn pointers(&mut self, number: u64) -> Option<&[Address]>
         ensures value { option_map (λ pointers. pointers.now) result
             ≡ pointers_at number self.old.blocks }
+        ensures* same { sem 𝓛 (StaysAsItWas self.entry) }
     {
         self.blocks.pointers(number)
     }
