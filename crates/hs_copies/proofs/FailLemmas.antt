@@ -13,7 +13,7 @@ use Rattle.hs_replica.specs.Group.{Group, IsHome, copy_of, first_peer, is_peer, 
 use Rattle.hs_copies.specs.CoreCopies.{CoreCopies, begin_with, core_fail, core_join, core_view}
 use Rattle.hs_copies.specs.Lists.{IsFront}
 use Rattle.hs_copies.specs.Machine.{Copies, Down, Fail, Following, Good, CanCome, Join, PeerCopy, Stage, begin_again, put_at, stage_again}
-use Rattle.hs_copies.specs.Standing.{Continues, StandsFor, is_good_stage, stage_of}
+use Rattle.hs_copies.specs.Standing.{Continues, IsAlike, StandsFor, is_good_stage, stage_of}
 use Rattle.hs_copies.proofs.HomeLemmas.{Leads, lead_found}
 use Rattle.hs_copies.proofs.ListLemmas.{front_left, front_length}
 use Rattle.hs_copies.proofs.NewViewLemmas.{good_status, new_view, before, led_anew, told_good, told_length, told_long}
@@ -376,23 +376,22 @@ joined c s st p l own joins e level =
     not_due false e = refl
     not_due true e = let wrong : false ≡ true = e in cc
 
--- ---- another shard's peer
+-- ---- what doesn't concern the shard
 
-pub elsewhere_stands : (c : CoreCopies) (s : Copies Entry) → StandsFor c s → (p : ℕ) (new : PeerStatus) → 0 < c.group.shape.copies → (IsHome c.group p → ⊥)
-    → StandsFor (record c { members = become p new c.members }) s
-elsewhere_stands c s st p new some n =
-    let apart : c.group.shard ≢ home_of c.members.shape p = λ e. other_shard c.group p some n (rw st.shape at (sym e)) in
+pub alike_stands : (c : CoreCopies) (s : Copies Entry) → StandsFor c s → (m : Members) (rejoins : ℕ → Rejoin) → IsAlike c m rejoins
+    → StandsFor (record c { members = m; rejoins = rejoins }) s
+alike_stands c s st m rejoins a =
     record {
-      shape = st.shape;
-      members = become_members p new c.members st.members;
+      shape = a.shape ∙ st.shape;
+      members = a.valid;
       shard = st.shard;
       copies = st.copies;
       view = st.view;
-      of_members = view_elsewhere p c.group.shard new c.members apart ∙ st.of_members;
+      of_members = a.view ∙ st.of_members;
       peers = record {
         each = st.peers.each;
-        stage = λ q h. rw (become_other p q new c.members (λ e. n (rw (← e) h))) (st.peers.stage q h);
-        counted = st.peers.counted;
+        stage = λ q h. rw (a.statuses q h, a.empties q h) (st.peers.stage q h);
+        counted = λ q h f. a.counts q h ∙ st.peers.counted q h f;
         still = st.peers.still;
         elsewhere = st.peers.elsewhere;
       };
@@ -404,3 +403,17 @@ elsewhere_stands c s st p new some n =
       begun_at = st.begun_at;
       told = st.told;
     }
+
+pub elsewhere_stands : (c : CoreCopies) (s : Copies Entry) → StandsFor c s → (p : ℕ) (new : PeerStatus) → 0 < c.group.shape.copies → (IsHome c.group p → ⊥)
+    → StandsFor (record c { members = become p new c.members }) s
+elsewhere_stands c s st p new some n =
+    let apart : c.group.shard ≢ home_of c.members.shape p = λ e. other_shard c.group p some n (rw st.shape at (sym e)) in
+    alike_stands c s st (become p new c.members) c.rejoins
+    (record {
+      shape = refl;
+      valid = become_members p new c.members st.members;
+      view = view_elsewhere p c.group.shard new c.members apart;
+      statuses = λ q h. become_other p q new c.members (λ e. n (rw (← e) h));
+      empties = λ q h. refl;
+      counts = λ q h. refl;
+    })

@@ -98,6 +98,16 @@ pub record IsCopyingStep (c : CoreCopies) (s : Copies Entry) (peer : ℕ) : Type
   pub breaks : CanCome (after_event (Copying peer (item ∷ [])) s) (GiveUp peer)
   pub broken : StandsFor (core_give_up peer c) (after_event (GiveUp peer) (after_event (Copying peer (item ∷ [])) s))
 
+-- to this shard these members, and how far these joining peers have come, are as before: only the lead that they copy from,
+-- another shard's view or another shard's peers may be others
+pub record IsAlike (c : CoreCopies) (m : Members) (rejoins : ℕ → Rejoin) : Type 0 where
+  pub shape : m.shape ≡ c.members.shape
+  pub valid : IsMembers m
+  pub view : view_of c.group.shard m ≡ view_of c.group.shard c.members
+  pub statuses : (peer : ℕ) → IsHome c.group peer → status_of peer m ≡ status_of peer c.members
+  pub empties : (peer : ℕ) → IsHome c.group peer → (rejoins peer).empty ≡ (c.rejoins peer).empty
+  pub counts : (peer : ℕ) → IsHome c.group peer → (rejoins peer).len ≡ (c.rejoins peer).len
+
 -- a shard is opened with this log, whose views never fall, and with members that say which of its peers are good and
 -- that it is in the view after the log's
 pub record IsOpening (shape : Shape) (shard : ℕ) (log : List (Item Entry)) (good : List Bool) (m : Members) : Type 0 where
