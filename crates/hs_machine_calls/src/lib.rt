@@ -12,6 +12,8 @@ mod marks;
 #[cfg(test)]
 mod members;
 #[cfg(test)]
+mod ops;
+#[cfg(test)]
 mod peerlog;
 #[cfg(test)]
 mod post;
@@ -23,5 +25,7 @@ mod replica;
 mod roots;
 #[cfg(test)]
 mod rounds;
+#[cfg(test)]
+mod shard;
 #[cfg(test)]
 mod tokens;

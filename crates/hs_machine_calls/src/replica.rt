@@ -6,7 +6,9 @@ use hs_replica::Group;
 use std::test::Fail;
 
 #[test]
-fn an_entry_of_two_copies_takes_effect_when_both_have_sealed_it(rt: HostRuntime) -> Result<(), Fail> {
+fn an_entry_of_two_copies_takes_effect_when_both_have_sealed_it(
+    rt: HostRuntime,
+) -> Result<(), Fail> {
     let alloc = rt.alloc();
     let mut pool = Pool::new(alloc, 16);
     let shape = Shape {
@@ -18,7 +20,10 @@ fn an_entry_of_two_copies_takes_effect_when_both_have_sealed_it(rt: HostRuntime)
     assert!(rt; group.on_append(1, 1, 1, Entry::View { view: 1 })?);
     group.on_sealed(&mut pool, 0, 1)?;
     group.on_sealed(&mut pool, 1, 1)?;
-    assert_eq!(rt; (group.length(1), group.sealed(1), group.known(1)), (1, 1, 0));
+    assert_eq!(rt;
+        (group.length(1), group.sealed(1), group.known(1)),
+        (1, 1, 0)
+    );
     assert!(rt; matches!(group.take_committed(), None));
     group.resend(&mut pool, 1)?;
     group.on_have(1, 1, 1);

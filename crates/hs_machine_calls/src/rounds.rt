@@ -14,11 +14,17 @@ fn rounds_open_come_and_end(rt: HostRuntime) -> Result<(), Fail> {
     run.enter(2, Vec::new(alloc))?;
     assert!(rt; !run.complete());
     run.got(0, 2, 0, 1, Vec::new(alloc))?;
-    assert_eq!(rt; (run.complete(), run.last(), run.received().len()), (true, false, 0));
+    assert_eq!(rt;
+        (run.complete(), run.last(), run.received().len()),
+        (true, false, 0)
+    );
     if run.complete() && !run.last() {
         run.go_on(0, Vec::new(alloc))?;
     }
-    assert_eq!(rt; (run.open_round(), run.sent(1)), (Some((2, 1)), Some((2, 0))));
+    assert_eq!(rt;
+        (run.open_round(), run.sent(1)),
+        (Some((2, 1)), Some((2, 0)))
+    );
     assert!(rt; matches!(run.outgoing(2, 1, 0), Some(_)));
     run.got(0, 2, 1, 0, Vec::new(alloc))?;
     assert!(rt; run.last());
