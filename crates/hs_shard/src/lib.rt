@@ -9,6 +9,7 @@ mod fault;
 mod listed;
 mod picking;
 mod tally;
+mod writes;
 
 pub use catalogue::Catalogue;
 pub use effect::{BlockFacts, Effect, Sent};
