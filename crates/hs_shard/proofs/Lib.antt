@@ -1,6 +1,7 @@
 mod Examples
 pub mod AdvanceLemmas
 pub mod EachLemmas
+pub mod EffectLemmas
 pub mod FoundLemmas
 pub mod KeptLemmas
 pub mod ListedLemmas

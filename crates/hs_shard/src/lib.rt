@@ -6,11 +6,14 @@ mod catalogue;
 mod effect;
 mod facts;
 mod fault;
+mod laws;
 mod listed;
 mod picking;
 mod tally;
+mod writes;
 
 pub use catalogue::Catalogue;
 pub use effect::{BlockFacts, Effect, Sent};
 pub use facts::Facts;
 pub use fault::ShardFault;
+pub use laws::effects_tell_what_changed;
