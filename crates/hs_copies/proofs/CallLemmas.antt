@@ -1,7 +1,7 @@
 -- What the core does with a shard's copies in one view is events of the machine.
-use Rattle.std.proofs.Common.{◌≡◌, ◌≢◌, ℕ, zero, suc, ◌+◌, ◌-◌, ◌≤◌, ◌<◌, max, min, Bool, true, false, if◌then◌else◌, eqb-true, List, [], ◌∷◌, ◌++◌, ◌⊎◌, inl, inr, refl, sym, arith, length, Option, Some, None, ap, ◌∙◌, map, drop}
+use Rattle.std.proofs.Common.{◌≡◌, ◌≢◌, ℕ, zero, suc, ◌+◌, ◌-◌, ◌≤◌, ◌<◌, max, min, Bool, true, false, if◌then◌else◌, eqb-true, List, [], ◌∷◌, ◌++◌, ◌⊎◌, inl, inr, refl, sym, arith, length, Option, Some, None, ap, ◌∙◌, map, drop, take}
 use Rattle.std.proofs.lemmas.Bool.Decides.{nat_tests}
-use Rattle.std.proofs.lemmas.List.{drop-append-le, length-append, length-map, length-set, map-append, length-drop}
+use Rattle.std.proofs.lemmas.List.{take-map, drop-append-le, length-append, length-map, length-set, map-append, length-drop}
 use Rattle.std.specs.List.{enumerate_from}
 use Rattle.std.specs.Option.{option_map, option_map_or, option_to_list}
 use Rattle.std.specs.Prelude.{slice_get, slice_index_or, ◌==◌, ◌&&◌, nat_lt}
@@ -10,25 +10,27 @@ use Rattle.hs_members.specs.Members.{status}
 use Rattle.hs_post.specs.declared.message.Message.TheVariants as message
 use Rattle.hs_replica.specs.declared.replica.Replica.{Replica}
 use Rattle.hs_replica.specs.Group.{Group, IsHome, change_copy, commit_front, committed, copy_of, first_peer, have, hears, is_peer, last_number, last_view, lead, lead_takes, least_known, length_of, lower, no_copy, on_append, on_have, on_sealed, others, proposal, propose, resend, stamp, take_committed, take_entry, takes, view_after, copies_above}
-use Rattle.hs_copies.specs.CoreCopies.{CoreCopies, core_append, core_commit, core_have, core_nudge, core_propose, core_seal}
+use Rattle.hs_copies.specs.CoreCopies.{CoreCopies, core_answer, core_append, core_begin, core_commit, core_have, core_nudge, core_propose, core_seal}
 use Rattle.hs_copies.specs.Invariant.{AreFaithful}
-use Rattle.hs_copies.specs.Lists.{IsAmong, IsFront, Item}
+use Rattle.hs_copies.specs.Lists.{IsAmong, IsFront, Item, end_view}
 use Rattle.hs_copies.specs.Machine.{Copies, CopyComes, CopyEvent, EntryNotice, Good, HaveComes, CanCome, PeerCopy, Propose, SealedNotice, Sealed, TakesEffect, after_event, item, put_at}
 use Rattle.hs_copies.specs.Standing.{ArePeers, Continues, IsCopyOf, TellsNoView, HasMessage, StandsFor, stamps_of}
 use Rattle.hs_copies.specs.Stamps.{view_told}
 use Rattle.hs_copies.proofs.HomeLemmas.{le_or_lt, set_other, set_same}
+use Rattle.hs_copies.specs.Lines.{Answer, AnswerBy, Begin, set_waits}
+use Rattle.hs_copies.proofs.LineLemmas.{does_owned, lines_after}
 use Rattle.hs_copies.proofs.ListLemmas.{front_length, front_step}
 use Rattle.hs_copies.proofs.OpenedLemmas.{took_good}
 use Rattle.hs_copies.proofs.PeerLemmas.{put_here, put_other}
 use Rattle.hs_copies.proofs.SendLemmas.{Each, IsOfLog, MayTell, copies_may, each_flat_map, each_map, one_and_tell, tell_all, waiting_of_log, drop_cons}
 use Rattle.hs_copies.proofs.StampLemmas.{log_tells, stamped_last, stamped_prefix, tells_after}
-use Rattle.hs_copies.proofs.StandLemmas.{and_left, and_right, end_view_any, good_copy, good_home, good_peer, last_stamp, length_is, not_good_following, one_changes, stands_lead}
+use Rattle.hs_copies.proofs.StandLemmas.{and_left, and_right, end_view_any, good_copy, good_home, good_peer, last_stamp, length_is, none_waits, not_good_following, one_changes, stands_lead}
 use Rattle.hs_copies.proofs.ViewKeeps.{after_right}
 
 -- ---- a peer of the group changes
 
 -- one good peer has another copy, and all else stands as before
-module _ (c : CoreCopies) (s : Copies Entry) (st : StandsFor c s) (p : ℕ) (own : IsHome c.group p) (good : (s.peers p).stage ≡ Good)
+module _ {line : Entry → Option ℕ} (c : CoreCopies) (s : Copies Entry) (st : StandsFor line c s) (p : ℕ) (own : IsHome c.group p) (good : (s.peers p).stage ≡ Good)
     (f : Replica → Replica) (peers2 : ℕ → PeerCopy Entry)
     (same : (q : ℕ) → q ≢ p → peers2 q ≡ s.peers q)
     (each : IsCopyOf (f (copy_of c.group p)) (peers2 p))
@@ -53,7 +55,8 @@ pub get_end : {X : Type 0} (xs : List X) (x : X) → slice_get (xs ++ x ∷ []) 
 get_end [] x = refl
 get_end (y ∷ xs) x = get_end xs x
 
-module _ (c : CoreCopies) (s : Copies Entry) (st : StandsFor c s) (entry : Entry) (plain : TellsNoView entry) where
+module _ {line : Entry → Option ℕ} (c : CoreCopies) (s : Copies Entry) (st : StandsFor line c s) (entry : Entry) (plain : TellsNoView entry)
+    (fresh : (k : ℕ) → line entry ≡ Some k → (c.waits k ≡ true) × ((x : Entry) → IsAmong x c.group.waiting → line x ≡ Some k → ⊥)) where
   r : AreFaithful s
   r = st.faithful
 
@@ -84,7 +87,7 @@ module _ (c : CoreCopies) (s : Copies Entry) (st : StandsFor c s) (entry : Entry
   proposed_waiting =
       rw (drop-append-le (length s.took) s.log (item s.view entry ∷ []) took_low, map-append (λ (x : Item Entry). x.what) (drop (length s.took) s.log) (item s.view entry ∷ []), st.waiting) refl
 
-  proposed_stands : StandsFor (record c { group = record (take_entry (stands_lead c s st).peer entry c.group) { waiting = c.group.waiting ++ entry ∷ [] } }) (after_event (Propose (stands_lead c s st).peer entry) s)
+  proposed_stands : StandsFor line (record c { group = record (take_entry (stands_lead c s st).peer entry c.group) { waiting = c.group.waiting ++ entry ∷ [] } }) (after_event (Propose (stands_lead c s st).peer entry) s)
   proposed_stands =
       let d = stands_lead c s st in
       let new : PeerCopy Entry = record (s.peers d.peer) { list = s.log ++ item s.view entry ∷ [] } in
@@ -104,6 +107,8 @@ module _ (c : CoreCopies) (s : Copies Entry) (st : StandsFor c s) (entry : Entry
         waiting = proposed_waiting;
         sent = st.sent;
         faithful = after_right s st.faithful (Propose d.peer entry) proposing;
+        views = st.views;
+        lines = lines_after s c.waits st.faithful st.lines (Propose d.peer entry) proposing (λ k e. ((fresh k e).0, none_waits c s st k (fresh k e).1));
         begun = st.begun;
         begun_at = st.begun_at;
         told = tells_after view_after st.begun st.begun_at s st.faithful st.told (Propose d.peer entry) proposing (plain s.view);
@@ -115,7 +120,7 @@ module _ (c : CoreCopies) (s : Copies Entry) (st : StandsFor c s) (entry : Entry
       each_map (MayTell s.view (s.log ++ item s.view entry ∷ []) peers) (λ x. message.Copy c.group.shard x.0 c.group.view (last_number c.group + 1) entry) (others c.group)
       (λ x. (omega arith, st.view, (item s.view entry, refl, rw n (get_end s.log (item s.view entry)))))
 
-  pub proposed : Continues (core_propose entry c) s
+  pub proposed : Continues line (core_propose entry c) s
   proposed =
       let d = stands_lead c s st in
       rw (propose_is entry c.group d.peer d.is)
@@ -123,16 +128,16 @@ module _ (c : CoreCopies) (s : Copies Entry) (st : StandsFor c s) (entry : Entry
       proposed_stands (proposal entry c.group) (proposal_may (put_at d.peer (record (s.peers d.peer) { list = s.log ++ item s.view entry ∷ [] }) s.peers)))
 
 -- nothing happens
-pub no_event : (c : CoreCopies) (s : Copies Entry) → StandsFor c s → Continues c s
+pub no_event : {line : Entry → Option ℕ} (c : CoreCopies) (s : Copies Entry) → StandsFor line c s → Continues line c s
 no_event c s st = record { events = []; allowed = tt; stands = st }
 
 -- one event
-pub one_event : (c : CoreCopies) (s : Copies Entry) (e : CopyEvent Entry) → CanCome s e → StandsFor c (after_event e s) → Continues c s
+pub one_event : {line : Entry → Option ℕ} (c : CoreCopies) (s : Copies Entry) (e : CopyEvent Entry) → CanCome s e → StandsFor line c (after_event e s) → Continues line c s
 one_event c s e a st = record { events = e ∷ []; allowed = (a, tt); stands = st }
 
 -- ---- a Copy comes
 
-module _ (c : CoreCopies) (s : Copies Entry) (st : StandsFor c s) (p : ℕ) (own : IsHome c.group p) (good : (s.peers p).stage ≡ Good)
+module _ {line : Entry → Option ℕ} (c : CoreCopies) (s : Copies Entry) (st : StandsFor line c s) (p : ℕ) (own : IsHome c.group p) (good : (s.peers p).stage ≡ Good)
     (x : Item Entry) (k : IsAmong (EntryNotice p s.view (length (s.peers p).list) x) s.sent) where
   coming : CanCome s (CopyComes p (length (s.peers p).list) x)
   coming = (good, refl, k)
@@ -160,7 +165,7 @@ module _ (c : CoreCopies) (s : Copies Entry) (st : StandsFor c s) (p : ℕ) (own
       (stamped_prefix view_after (length st.begun) st.begun_at ((s.peers p).list ++ x ∷ []) s.log longer_front all) in
       ap (λ w. view_after w x.what) (last_stamp (s.peers p).list ∙ end_view_any 0 st.begun_at (s.peers p).list no_list) ∙ sym v
 
-  pub taken_stands : StandsFor (record c { group = take_entry p x.what c.group }) (after_event (CopyComes p (length (s.peers p).list) x) s)
+  pub taken_stands : StandsFor line (record c { group = take_entry p x.what c.group }) (after_event (CopyComes p (length (s.peers p).list) x) s)
   taken_stands =
       let new : PeerCopy Entry = record (s.peers p) { list = (s.peers p).list ++ x ∷ [] } in
       let k = st.peers.each p own in
@@ -179,21 +184,23 @@ module _ (c : CoreCopies) (s : Copies Entry) (st : StandsFor c s) (p : ℕ) (own
         waiting = st.waiting;
         sent = st.sent;
         faithful = after_right s st.faithful (CopyComes p (length (s.peers p).list) x) coming;
+        views = st.views;
+        lines = lines_after s c.waits st.faithful st.lines (CopyComes p (length (s.peers p).list) x) coming tt;
         begun = st.begun;
         begun_at = st.begun_at;
         told = tells_after view_after st.begun st.begun_at s st.faithful st.told (CopyComes p (length (s.peers p).list) x) coming tt;
       }
 
-  pub taken_continues : Continues (record c { group = take_entry p x.what c.group }) s
+  pub taken_continues : Continues line (record c { group = take_entry p x.what c.group }) s
   taken_continues = one_event (record c { group = take_entry p x.what c.group }) s (CopyComes p (length (s.peers p).list) x) coming taken_stands
 
 append_if : (peer view number : ℕ) (entry : Entry) (group : Group) (b : Bool) → takes peer view number group ≡ b
     → on_append peer view number entry group ≡ (if b then take_entry peer entry group else group)
 append_if peer view number entry group b e = ap (λ t. if t then take_entry peer entry group else group) e
 
-pub appended : (c : CoreCopies) (s : Copies Entry) → StandsFor c s → (shard peer view number : ℕ) (entry : Entry) → IsHome c.group peer
-    → IsAmong (message.Copy shard peer view number entry) c.sent → Continues (core_append peer view number entry c) s
-appended c s st shard peer view number entry own k = go (takes peer view number c.group) refl
+pub appended : {line : Entry → Option ℕ} (c : CoreCopies) (s : Copies Entry) → StandsFor line c s → (shard peer view number : ℕ) (entry : Entry) → IsHome c.group peer
+    → IsAmong (message.Copy shard peer view number entry) c.sent → Continues line (core_append peer view number entry c) s
+appended {line = line} c s st shard peer view number entry own k = go (takes peer view number c.group) refl
   where
     told : HasMessage s.sent (message.Copy shard peer view number entry)
     told = st.sent (message.Copy shard peer view number entry) k
@@ -203,10 +210,10 @@ appended c s st shard peer view number entry own k = go (takes peer view number 
     place_it x v n k = rw (← v, ← n) k
 
     take_it : (s.peers peer).stage ≡ Good → (x : Item Entry) → x.what ≡ entry → IsAmong (EntryNotice peer s.view (length (s.peers peer).list) x) s.sent
-        → Continues (record c { group = take_entry peer entry c.group }) s
+        → Continues line (record c { group = take_entry peer entry c.group }) s
     take_it good x w k = rw (← w) (taken_continues c s st peer own good x k)
 
-    go : (b : Bool) → takes peer view number c.group ≡ b → Continues (core_append peer view number entry c) s
+    go : (b : Bool) → takes peer view number c.group ≡ b → Continues line (core_append peer view number entry c) s
     go false e = rw (append_if peer view number entry c.group false e) (no_event c s st)
     go true e =
         let both = and_left ((copy_of c.group peer).good && view == c.group.view) (number == length_of c.group peer + 1) e in
@@ -230,12 +237,12 @@ have_may group now log peers peer number v g n = go (is_peer peer (lead group))
     go true = tt
     go false = each_map (MayTell now log peers) (λ l. message.Have group.shard peer l group.view number) (option_to_list (lead group)) (λ l. (v, g, n))
 
-module _ (c : CoreCopies) (s : Copies Entry) (st : StandsFor c s) (p number : ℕ) (own : IsHome c.group p) (good : (s.peers p).stage ≡ Good)
+module _ {line : Entry → Option ℕ} (c : CoreCopies) (s : Copies Entry) (st : StandsFor line c s) (p number : ℕ) (own : IsHome c.group p) (good : (s.peers p).stage ≡ Good)
     (low : (s.peers p).sealed ≤ number) (high : number ≤ length (s.peers p).list) where
   sealing : CanCome s (Sealed p number)
   sealing = (good, low, high)
 
-  sealed_stands : StandsFor (record c { group = change_copy p (λ r. record r { sealed = number; known = r.known }) c.group }) (after_event (Sealed p number) s)
+  sealed_stands : StandsFor line (record c { group = change_copy p (λ r. record r { sealed = number; known = r.known }) c.group }) (after_event (Sealed p number) s)
   sealed_stands =
       let new : PeerCopy Entry = record (s.peers p) { sealed = number } in
       let k = st.peers.each p own in
@@ -254,6 +261,8 @@ module _ (c : CoreCopies) (s : Copies Entry) (st : StandsFor c s) (p number : �
         waiting = st.waiting;
         sent = st.sent;
         faithful = after_right s st.faithful (Sealed p number) sealing;
+        views = st.views;
+        lines = lines_after s c.waits st.faithful st.lines (Sealed p number) sealing tt;
         begun = st.begun;
         begun_at = st.begun_at;
         told = tells_after view_after st.begun st.begun_at s st.faithful st.told (Sealed p number) sealing tt;
@@ -269,12 +278,13 @@ module _ (c : CoreCopies) (s : Copies Entry) (st : StandsFor c s) (p number : �
       let g = st.faithful.good p good in
       rw (put_here p new s.peers) (omega arith, inl (good, omega (arith, g.told, low)))
 
-  known_stands : StandsFor (record c { group = change_copy p (λ r. record r { sealed = number; known = max r.known number }) c.group })
+  known_stands : StandsFor line (record c { group = change_copy p (λ r. record r { sealed = number; known = max r.known number }) c.group })
       (after_event (HaveComes p (max (s.peers p).known number)) (after_event (Sealed p number) s))
   known_stands =
       let new : PeerCopy Entry = record (s.peers p) { sealed = number } in
       let newer : PeerCopy Entry = record (put_at p new s.peers p) { known = max (s.peers p).known number } in
       let k = st.peers.each p own in
+      let opened = lines_after s c.waits st.faithful st.lines (Sealed p number) sealing tt in
       let f = after_right s st.faithful (Sealed p number) sealing in
       let t = tells_after view_after st.begun st.begun_at s st.faithful st.told (Sealed p number) sealing tt in
       record {
@@ -292,18 +302,20 @@ module _ (c : CoreCopies) (s : Copies Entry) (st : StandsFor c s) (p number : �
         waiting = st.waiting;
         sent = st.sent;
         faithful = after_right (after_event (Sealed p number) s) f (HaveComes p (max (s.peers p).known number)) known_too;
+        views = st.views;
+        lines = lines_after (after_event (Sealed p number) s) c.waits f opened (HaveComes p (max (s.peers p).known number)) known_too tt;
         begun = st.begun;
         begun_at = st.begun_at;
         told = tells_after view_after st.begun st.begun_at (after_event (Sealed p number) s) f t (HaveComes p (max (s.peers p).known number)) known_too tt;
       }
 
-  pub seals_core : Continues (core_seal p number c) s
+  pub seals_core : Continues line (core_seal p number c) s
   seals_core = go (is_peer p (lead c.group)) refl
     where
       new : PeerCopy Entry
       new = record (s.peers p) { sealed = number }
 
-      go : (b : Bool) → is_peer p (lead c.group) ≡ b → Continues (core_seal p number c) s
+      go : (b : Bool) → is_peer p (lead c.group) ≡ b → Continues line (core_seal p number c) s
       go false e =
           rw (seal_if p number c.group false e)
           (one_and_tell (record c { group = change_copy p (λ r. record r { sealed = number; known = r.known }) c.group }) s (Sealed p number) sealing sealed_stands (have p number c.group)
@@ -323,7 +335,7 @@ have_if : (peer view sealed : ℕ) (group : Group) (b : Bool) → hears peer vie
     → on_have peer view sealed group ≡ (if b then change_copy peer (λ c. record c { known = max c.known sealed }) group else group)
 have_if peer view sealed group b e = ap (λ t. if t then change_copy peer (λ c. record c { known = max c.known sealed }) group else group) e
 
-module _ (c : CoreCopies) (s : Copies Entry) (st : StandsFor c s) (p sealed : ℕ) (own : IsHome c.group p) (good : (s.peers p).stage ≡ Good)
+module _ {line : Entry → Option ℕ} (c : CoreCopies) (s : Copies Entry) (st : StandsFor line c s) (p sealed : ℕ) (own : IsHome c.group p) (good : (s.peers p).stage ≡ Good)
     (k : IsAmong (SealedNotice p s.view sealed) s.sent) where
   hearing : CanCome s (HaveComes p (max (s.peers p).known sealed))
   hearing = (omega arith, which (le_or_lt (s.peers p).known sealed))
@@ -333,7 +345,7 @@ module _ (c : CoreCopies) (s : Copies Entry) (st : StandsFor c s) (p sealed : �
       which (inl l) = let e : max (s.peers p).known sealed ≡ sealed = omega (arith, l) in inr (rw e k)
       which (inr l) = inl (good, omega (arith, l, (st.faithful.good p good).told))
 
-  heard_stands : StandsFor (record c { group = change_copy p (λ r. record r { known = max r.known sealed }) c.group }) (after_event (HaveComes p (max (s.peers p).known sealed)) s)
+  heard_stands : StandsFor line (record c { group = change_copy p (λ r. record r { known = max r.known sealed }) c.group }) (after_event (HaveComes p (max (s.peers p).known sealed)) s)
   heard_stands =
       let new : PeerCopy Entry = record (s.peers p) { known = max (s.peers p).known sealed } in
       let k = st.peers.each p own in
@@ -352,22 +364,24 @@ module _ (c : CoreCopies) (s : Copies Entry) (st : StandsFor c s) (p sealed : �
         waiting = st.waiting;
         sent = st.sent;
         faithful = after_right s st.faithful (HaveComes p (max (s.peers p).known sealed)) hearing;
+        views = st.views;
+        lines = lines_after s c.waits st.faithful st.lines (HaveComes p (max (s.peers p).known sealed)) hearing tt;
         begun = st.begun;
         begun_at = st.begun_at;
         told = tells_after view_after st.begun st.begun_at s st.faithful st.told (HaveComes p (max (s.peers p).known sealed)) hearing tt;
       }
 
-  pub heard_continues : Continues (record c { group = change_copy p (λ r. record r { known = max r.known sealed }) c.group }) s
+  pub heard_continues : Continues line (record c { group = change_copy p (λ r. record r { known = max r.known sealed }) c.group }) s
   heard_continues = one_event (record c { group = change_copy p (λ r. record r { known = max r.known sealed }) c.group }) s (HaveComes p (max (s.peers p).known sealed)) hearing heard_stands
 
-pub heard : (c : CoreCopies) (s : Copies Entry) → StandsFor c s → (shard from to view sealed : ℕ) → IsHome c.group from
-    → IsAmong (message.Have shard from to view sealed) c.sent → Continues (core_have from view sealed c) s
-heard c s st shard from to view sealed own k = go (hears from view c.group) refl
+pub heard : {line : Entry → Option ℕ} (c : CoreCopies) (s : Copies Entry) → StandsFor line c s → (shard from to view sealed : ℕ) → IsHome c.group from
+    → IsAmong (message.Have shard from to view sealed) c.sent → Continues line (core_have from view sealed c) s
+heard {line = line} c s st shard from to view sealed own k = go (hears from view c.group) refl
   where
     told : IsAmong (SealedNotice from view sealed) s.sent
     told = st.sent (message.Have shard from to view sealed) k
 
-    go : (b : Bool) → hears from view c.group ≡ b → Continues (core_have from view sealed c) s
+    go : (b : Bool) → hears from view c.group ≡ b → Continues line (core_have from view sealed c) s
     go false e = rw (have_if from view sealed c.group false e) (no_event c s st)
     go true e =
         let v : view ≡ s.view = eqb-true view c.group.view (and_left (view == c.group.view) (copy_of c.group from).good e) ∙ st.view in
@@ -425,7 +439,7 @@ first_of : (ws : List (Item Entry)) (entry : Entry) → slice_get (map (λ x. x.
 first_of [] entry e = absurd (cc e)
 first_of (x ∷ rest) entry e = (x, rest, refl)
 
-module _ (c : CoreCopies) (s : Copies Entry) (st : StandsFor c s) (y : ℕ × Entry) (e : committed c.group ≡ Some y) (x : Item Entry) (rest : List (Item Entry))
+module _ {line : Entry → Option ℕ} (c : CoreCopies) (s : Copies Entry) (st : StandsFor line c s) (y : ℕ × Entry) (e : committed c.group ≡ Some y) (x : Item Entry) (rest : List (Item Entry))
     (f : drop (length s.took) s.log ≡ x ∷ rest) where
   tells : (c.group.front < commit_front c.group) × (y.0 ≡ c.group.front + 1) × (slice_get c.group.waiting 0 ≡ Some y.1)
   tells = committed_tells c.group y e
@@ -444,7 +458,7 @@ module _ (c : CoreCopies) (s : Copies Entry) (st : StandsFor c s) (y : ℕ × En
       let n : length (s.took ++ x ∷ []) ≡ suc (length s.took) = omega (arith, length-append s.took (x ∷ [])) in
       rw (n, (drop_cons (length s.took) s.log x rest f).1, st.waiting, f) refl
 
-  committed_stands : StandsFor (record c { group = record c.group { front = y.0; waiting = drop 1 c.group.waiting } }) (after_event (TakesEffect x) s)
+  committed_stands : StandsFor line (record c { group = record c.group { front = y.0; waiting = drop 1 c.group.waiting } }) (after_event (TakesEffect x) s)
   committed_stands =
       record {
         shape = st.shape;
@@ -458,30 +472,131 @@ module _ (c : CoreCopies) (s : Copies Entry) (st : StandsFor c s) (y : ℕ × En
         waiting = rest_waits;
         sent = st.sent;
         faithful = after_right s st.faithful (TakesEffect x) taking;
+        views = st.views;
+        lines = lines_after s c.waits st.faithful st.lines (TakesEffect x) taking tt;
         begun = st.begun;
         begun_at = st.begun_at;
         told = tells_after view_after st.begun st.begun_at s st.faithful st.told (TakesEffect x) taking tt;
       }
 
-  pub commits : Continues (record c { group = record c.group { front = y.0; waiting = drop 1 c.group.waiting } }) s
+  pub commits : Continues line (record c { group = record c.group { front = y.0; waiting = drop 1 c.group.waiting } }) s
   commits = one_event (record c { group = record c.group { front = y.0; waiting = drop 1 c.group.waiting } }) s (TakesEffect x) taking committed_stands
 
-pub took_effect : (c : CoreCopies) (s : Copies Entry) → StandsFor c s → Continues (core_commit c) s
-took_effect c s st = go (committed c.group) refl
+  -- and its line is answered
+  module _ (k : ℕ) (of_line : line y.1 ≡ Some k) where
+    line_of_x : line x.what ≡ Some k
+    line_of_x =
+        let g : Some x.what ≡ Some y.1 = rw (st.waiting, f) at tells.2 in
+        let h : x.what ≡ y.1 = cc g in
+        ap line h ∙ of_line
+
+    answered_stands : StandsFor line (record c { group = record c.group { front = y.0; waiting = drop 1 c.group.waiting }; waits = set_waits k false c.waits }) (after_event (TakesEffect x) s)
+    answered_stands =
+        let b = committed_stands in
+        record {
+          shape = b.shape;
+          members = b.members;
+          shard = b.shard;
+          copies = b.copies;
+          view = b.view;
+          of_members = b.of_members;
+          peers = b.peers;
+          front = b.front;
+          waiting = b.waiting;
+          sent = b.sent;
+          views = st.views;
+          lines = (does_owned line (record { copies = s; waits = c.waits }) (AnswerBy x k) st.faithful st.lines (taking, line_of_x)).1;
+          faithful = b.faithful;
+          begun = b.begun;
+          begun_at = b.begun_at;
+          told = b.told;
+        }
+
+    pub commits_and_answers : Continues line (record c { group = record c.group { front = y.0; waiting = drop 1 c.group.waiting }; waits = set_waits k false c.waits }) s
+    commits_and_answers =
+        one_event (record c { group = record c.group { front = y.0; waiting = drop 1 c.group.waiting }; waits = set_waits k false c.waits }) s (TakesEffect x) taking answered_stands
+
+pub took_effect : {line : Entry → Option ℕ} (c : CoreCopies) (s : Copies Entry) → StandsFor line c s → Continues line (core_commit c) s
+took_effect {line = line} c s st = go (committed c.group) refl
   where
-    go : (o : Option (ℕ × Entry)) → committed c.group ≡ o → Continues (core_commit c) s
+    go : (o : Option (ℕ × Entry)) → committed c.group ≡ o → Continues line (core_commit c) s
     go None e = rw (commit_if c.group None e) (no_event c s st)
     go (Some y) e =
         let k = first_of (drop (length s.took) s.log) y.1 (rw st.waiting at (committed_tells c.group y e).2) in
         rw (commit_if c.group (Some y) e) (commits c s st y e k.0 k.1 k.2)
 
+pub answered_by : {line : Entry → Option ℕ} (c : CoreCopies) (s : Copies Entry) → StandsFor line c s → (y : ℕ × Entry) (k : ℕ) → committed c.group ≡ Some y → line y.1 ≡ Some k
+    → Continues line (core_answer k (core_commit c)) s
+answered_by c s st y k e of_line =
+    let f = first_of (drop (length s.took) s.log) y.1 (rw st.waiting at (committed_tells c.group y e).2) in
+    rw (commit_if c.group (Some y) e) (commits_and_answers c s st y e f.0 f.1 f.2 k of_line)
+
+-- ---- lines
+
+pub begins_line : {line : Entry → Option ℕ} (c : CoreCopies) (s : Copies Entry) → StandsFor line c s → (k : ℕ) → Continues line (core_begin k c) s
+begins_line {line = line} c s st k =
+    no_event (core_begin k c) s
+    (record {
+      shape = st.shape;
+      members = st.members;
+      shard = st.shard;
+      copies = st.copies;
+      view = st.view;
+      of_members = st.of_members;
+      peers = st.peers;
+      front = st.front;
+      waiting = st.waiting;
+      sent = st.sent;
+      views = st.views;
+      lines = (does_owned line (record { copies = s; waits = c.waits }) (Begin k) st.faithful st.lines tt).1;
+      faithful = st.faithful;
+      begun = st.begun;
+      begun_at = st.begun_at;
+      told = st.told;
+    })
+
+front_taken : {X : Type 0} (xs ys : List X) → IsFront xs ys → xs ≡ take (length xs) ys
+front_taken [] ys p = refl
+front_taken (x ∷ xs) [] p = absurd p
+front_taken (x ∷ xs) (y ∷ ys) p = let e = front_taken xs ys p.1 in let f = p.0 in cc (e, f)
+
+pub answers_line : {line : Entry → Option ℕ} (c : CoreCopies) (s : Copies Entry) → StandsFor line c s → (k l : ℕ) → lead c.group ≡ Some l
+    → last_view (take c.group.front (copy_of c.group l).stamps) ≡ c.group.view → ((x : Entry) → IsAmong x c.group.waiting → line x ≡ Some k → ⊥)
+    → Continues line (core_answer k c) s
+answers_line {line = line} c s st k l e v none =
+    let d = stands_lead c s st in
+    let same : d.peer ≡ l = let g : Some d.peer ≡ Some l = sym d.is ∙ e in cc g in
+    let stamps : (copy_of c.group l).stamps ≡ stamps_of s.log = rw (← same) ((st.peers.each d.peer d.leads.home).stamps ∙ ap stamps_of d.whole) in
+    let took : stamps_of s.took ≡ take c.group.front (copy_of c.group l).stamps =
+    rw (stamps, st.front) (ap stamps_of (front_taken s.took s.log st.faithful.took) ∙ sym (take-map (λ (x : Item Entry). x.view) (length s.took) s.log)) in
+    let settled : end_view 0 s.took ≡ s.view = sym (last_stamp s.took) ∙ ap last_view took ∙ v ∙ st.view in
+    no_event (core_answer k c) s
+    (record {
+      shape = st.shape;
+      members = st.members;
+      shard = st.shard;
+      copies = st.copies;
+      view = st.view;
+      of_members = st.of_members;
+      peers = st.peers;
+      front = st.front;
+      waiting = st.waiting;
+      sent = st.sent;
+      views = st.views;
+      lines = (does_owned line (record { copies = s; waits = c.waits }) (Answer k) st.faithful st.lines (settled, none_waits c s st k none)).1;
+      faithful = st.faithful;
+      begun = st.begun;
+      begun_at = st.begun_at;
+      told = st.told;
+    })
+
 -- ---- a nudge
 
-all_waiting : (c : CoreCopies) (s : Copies Entry) → StandsFor c s → Each (IsOfLog s.log) (enumerate_from (c.group.front + 1) c.group.waiting)
-all_waiting c s st = waiting_of_log s.log c.group.front c.group.waiting (rw st.front st.waiting)
+all_waiting : {line : Entry → Option ℕ} (c : CoreCopies) (s : Copies Entry) → StandsFor line c s → Each (IsOfLog s.log) (enumerate_from (c.group.front + 1) c.group.waiting)
+all_waiting {line = line} c s st = waiting_of_log s.log c.group.front c.group.waiting (rw st.front st.waiting)
 
-pub nudged : (c : CoreCopies) (s : Copies Entry) → StandsFor c s → (p : ℕ) → IsHome c.group p → (copy_of c.group p).good ≡ true → Continues (core_nudge p c) s
-nudged c s st p own k =
+pub nudged : {line : Entry → Option ℕ} (c : CoreCopies) (s : Copies Entry) → StandsFor line c s → (p : ℕ) → IsHome c.group p → (copy_of c.group p).good ≡ true → Continues line (core_nudge p c) s
+nudged {line = line} c s st p own k =
     let t = tell_all c s st (resend p c.group) (may (is_peer p (lead c.group)) refl) in
     record { events = t.events; allowed = t.allowed; stands = t.stands }
   where

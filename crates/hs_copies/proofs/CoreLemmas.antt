@@ -1,5 +1,5 @@
 -- What holds of a shard's copies in the core.
-use Rattle.std.proofs.Common.{◌≡◌, ℕ, ◌≤◌, ◌-◌, true, List, [], ◌∷◌, arith, length, Some, ap, sym, ◌∙◌, drop}
+use Rattle.std.proofs.Common.{◌≡◌, ℕ, ◌≤◌, ◌-◌, true, List, [], ◌∷◌, arith, length, Some, ap, sym, ◌∙◌, drop, Option}
 use Rattle.std.proofs.lemmas.List.{length-drop, length-map}
 use Rattle.hs_entry.specs.declared.entry.Entry.{Entry}
 use Rattle.hs_replica.specs.Group.{IsHome, copy_of, last_number, lead, length_of}
@@ -16,7 +16,7 @@ front_stamps [] ys p = tt
 front_stamps (x ∷ xs) [] p = absurd p
 front_stamps (x ∷ xs) (y ∷ ys) p = (ap (λ (z : Item Entry). z.view) p.0, front_stamps xs ys p.1)
 
-module _ (c : CoreCopies) (s : Copies Entry) (st : StandsFor c s) where
+module _ {line : Entry → Option ℕ} (c : CoreCopies) (s : Copies Entry) (st : StandsFor line c s) where
   pub good_stamps : (p l : ℕ) → IsHome c.group p → (copy_of c.group p).good ≡ true → lead c.group ≡ Some l → IsFront (copy_of c.group p).stamps (copy_of c.group l).stamps
   good_stamps p l own good e =
       let d = stands_lead c s st in

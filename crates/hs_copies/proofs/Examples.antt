@@ -1,6 +1,7 @@
 -- Runs of the core that the check computes: one copy, and four of which one fails and one joins.
-use Rattle.std.proofs.Common.{◌≡◌, ℕ, zero, suc, ◌<◌, true, false, if◌then◌else◌, List, [], ◌∷◌, inl, inr, refl, arith, map}
+use Rattle.std.proofs.Common.{◌≡◌, ℕ, zero, suc, ◌<◌, true, false, if◌then◌else◌, List, [], ◌∷◌, inl, inr, refl, arith, map, Option, Some, None, Bool}
 use Rattle.std.specs.Prelude.{slice_index_or}
+use Rattle.hs_entry.specs.declared.entry.Entry.{Entry}
 use Rattle.hs_entry.specs.declared.entry.Entry.TheVariants.{Drop, View}
 use Rattle.hs_limits.specs.declared.limits.PeerStatus.TheVariants as is
 use Rattle.hs_limits.specs.declared.shape.Shape.{Shape}
@@ -9,8 +10,14 @@ use Rattle.hs_members.specs.Members.{Members, status}
 use Rattle.hs_rejoin.specs.Rejoin.{Rejoin, new_rejoin}
 use Rattle.hs_replica.specs.declared.replica.Replica.{Replica}
 use Rattle.hs_copies.specs.CoreCopies.{CoreCopies, core_open}
-use Rattle.hs_copies.specs.CoreRuns.{Commits, CoreCall, CopiesTo, Empties, Fails, Hears, Joins, MayCallAll, Proposes, Seals, Starts, TakesCopy, after_calls}
+use Rattle.hs_copies.specs.CoreRuns.{Begins, Commits, CommitsAndAnswers, CoreCall, CopiesTo, Empties, Fails, Hears, Joins, MayCallAll, Proposes, Seals, Starts, TakesCopy, after_calls}
+use Rattle.hs_copies.specs.Lines.{set_waits}
 use Rattle.hs_copies.specs.Standing.{IsOpening}
+
+-- of which line an entry is: here only drops are of one
+abbrev line_of : Entry → Option ℕ
+line_of (Drop op key) = Some op
+line_of entry = None
 
 -- no peer joins at opening
 abbrev none_joins : ℕ → Rejoin
@@ -44,13 +51,31 @@ one_is_an_opening = record {
     first zero l = refl
     first (suc n) l = absurd (omega (arith, l))
 
--- it is sealed and takes effect; so does an entry that is proposed then
+-- it is sealed and takes effect; so does an entry of line 7 that is proposed then, and the line is answered by it
 abbrev one_calls : List CoreCall
-one_calls = Seals 0 1 ∷ Commits ∷ Proposes (Drop 7 (97 ∷ [])) ∷ Seals 0 2 ∷ Commits ∷ []
+one_calls = Seals 0 1 ∷ Commits ∷ Begins 7 ∷ Proposes (Drop 7 (97 ∷ [])) ∷ Seals 0 2 ∷ CommitsAndAnswers 7 ∷ []
 
-one_may : MayCallAll one_calls one_opened
-one_may =
-    (((omega arith, omega arith), refl, omega arith, omega arith), (tt, ((λ view. refl), (((omega arith, omega arith), refl, omega arith, omega arith), (tt, tt)))))
+-- line 7 has no answer once it began
+waits_for_7 : (waits : ℕ → Bool) (k : ℕ) → Some 7 ≡ Some k → set_waits 7 true waits k ≡ true
+waits_for_7 waits k e = let i : 7 ≡ k = cc e in rw (← i) refl
+
+one_may : MayCallAll line_of one_calls one_opened
+one_may = (
+  ((omega arith, omega arith), refl, omega arith, omega arith),
+  (
+    tt,
+    (
+      tt,
+      (
+        ((λ view. refl), (λ k e. (waits_for_7 (λ j. false) k e, λ entry m f. m))),
+        (
+          ((omega arith, omega arith), refl, omega arith, omega arith),
+          (((2, Drop 7 (97 ∷ [])), refl, refl), tt),
+        ),
+      ),
+    ),
+  ),
+)
 
 one_is_done : (after_calls one_calls one_opened).group.front ≡ 2
 one_is_done = refl
@@ -77,11 +102,12 @@ first_calls =
     ∷ Seals 2 1
     ∷ Hears 0 2 0 1 1
     ∷ Commits
+    ∷ Begins 7
     ∷ Proposes (Drop 7 (97 ∷ []))
     ∷ TakesCopy 0 1 1 2 (Drop 7 (97 ∷ []))
     ∷ []
 
-first_may : MayCallAll first_calls four_opened
+first_may : MayCallAll line_of first_calls four_opened
 first_may = (
   ((omega arith, omega arith), refl, omega arith, omega arith),
   (
@@ -99,10 +125,13 @@ first_may = (
               (
                 tt,
                 (
-                  (λ view. refl),
+                  tt,
                   (
-                    ((omega arith, omega arith), inl refl),
-                    tt,
+                    ((λ view. refl), (λ k e. (waits_for_7 (λ j. false) k e, λ entry m f. m))),
+                    (
+                      ((omega arith, omega arith), inl refl),
+                      tt,
+                    ),
                   ),
                 ),
               ),
@@ -124,7 +153,7 @@ first_is = (refl, refl)
 abbrev later_calls : List CoreCall
 later_calls = Fails 0 ∷ Starts 3 ∷ Empties 3 ∷ CopiesTo 3 1 1 ∷ CopiesTo 3 2 1 ∷ CopiesTo 3 3 1 ∷ Joins 3 1 ∷ []
 
-later_may : MayCallAll later_calls first_state
+later_may : MayCallAll line_of later_calls first_state
 later_may = (
   ((omega arith, omega arith), refl, refl),
   (

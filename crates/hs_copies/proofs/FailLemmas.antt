@@ -1,5 +1,5 @@
 -- A good peer that fails and a joining peer that is good, in the core and in the machine.
-use Rattle.std.proofs.Common.{◌≡◌, ◌≢◌, ℕ, zero, suc, ◌+◌, ◌≤◌, ◌<◌, Bool, true, false, if◌then◌else◌, eqb-true, not, [], ◌++◌, inl, inr, refl, sym, arith, length, Some, ap, ◌∙◌}
+use Rattle.std.proofs.Common.{◌≡◌, ◌≢◌, ℕ, zero, suc, ◌+◌, ◌≤◌, ◌<◌, Bool, true, false, if◌then◌else◌, eqb-true, not, [], ◌++◌, inl, inr, refl, sym, arith, length, Some, ap, ◌∙◌, Option}
 use Rattle.std.proofs.lemmas.Bool.Decides.{nat_tests}
 use Rattle.std.specs.List.{list_any, range_with_len}
 use Rattle.std.specs.Prelude.{◌==◌}
@@ -91,7 +91,7 @@ good_only is.Good due e = refl
 good_only is.Joining due e = let wrong : false ≡ true = e in cc
 good_only is.Down due e = let wrong : false ≡ true = e in cc
 
-module _ (c : CoreCopies) (s : Copies Entry) (st : StandsFor c s) (p : ℕ) (own : IsHome c.group p) (was : status p c.members ≡ is.Good)
+module _ {line : Entry → Option ℕ} (c : CoreCopies) (s : Copies Entry) (st : StandsFor line c s) (p : ℕ) (own : IsHome c.group p) (was : status p c.members ≡ is.Good)
     (left : has_good c.group.shard (become p is.Down c.members) ≡ true) where
   m : Members
   m = become p is.Down c.members
@@ -215,11 +215,11 @@ module _ (c : CoreCopies) (s : Copies Entry) (st : StandsFor c s) (p : ℕ) (own
       left_has : length s.took ≤ length (begin_again (is_peer p (lead c.group)) (staged p Down s.peers l)).list
       left_has = rw (left_list l) (front_length s.took (s.peers l).list (took_good s st.faithful l d.good))
 
-      failed_with : Continues (record c { group = on_view (become p is.Down c.members) c.group; members = become p is.Down c.members; rejoins = dues; sent = view_messages (become p is.Down c.members) c.group ++ c.sent }) s
+      failed_with : Continues line (record c { group = on_view (become p is.Down c.members) c.group; members = become p is.Down c.members; rejoins = dues; sent = view_messages (become p is.Down c.members) c.group ++ c.sent }) s
       failed_with =
           new_view c s st (become p is.Down c.members) dues (λ q. begin_again (is_peer p (lead c.group)) (staged p Down s.peers q)) l
           (Fail p l (is_peer p (lead c.group)) (View (view_of c.group.shard (become p is.Down c.members))))
-          failing refl (λ v. rises) st.shape (become_members p is.Down c.members st.members) rises left_list left_sealed
+          failing refl (λ v. rises) (st.views (view_of c.group.shard (become p is.Down c.members))) st.shape (become_members p is.Down c.members st.members) rises left_list left_sealed
           (stages (is_peer p (lead c.group)) dues all none) left_counted left_still left_elsewhere d.chosen d.leads.home left_good left_within left_has
 
       led_after : (k : ℕ) × (lead (on_view (become p is.Down c.members) c.group) ≡ Some k)
@@ -228,9 +228,9 @@ module _ (c : CoreCopies) (s : Copies Entry) (st : StandsFor c s) (p : ℕ) (own
           st.shape (become_members p is.Down c.members st.members) rises left_list left_sealed
           (stages (is_peer p (lead c.group)) dues all none) left_counted left_still left_elsewhere d.chosen d.leads.home left_good left_within left_has
 
-pub failed : (c : CoreCopies) (s : Copies Entry) → StandsFor c s → (p : ℕ) → IsHome c.group p → status p c.members ≡ is.Good
-    → has_good c.group.shard (become p is.Down c.members) ≡ true → Continues (core_fail p c) s
-failed c s st p own was left = go (is_peer p (lead c.group)) refl
+pub failed : {line : Entry → Option ℕ} (c : CoreCopies) (s : Copies Entry) → StandsFor line c s → (p : ℕ) → IsHome c.group p → status p c.members ≡ is.Good
+    → has_good c.group.shard (become p is.Down c.members) ≡ true → Continues line (core_fail p c) s
+failed {line = line} c s st p own was left = go (is_peer p (lead c.group)) refl
   where
     d : (l : ℕ) × HasNewLead c s st p own was left l
     d = new_lead c s st p own was left
@@ -249,7 +249,7 @@ failed c s st p own was left = go (is_peer p (lead c.group)) refl
     fail_if false e =
         ap (λ t. if t then record (core_view (become p is.Down c.members) c) { rejoins = λ q. begin_with (lead (on_view (become p is.Down c.members) c.group)) (c.rejoins q) } else core_view (become p is.Down c.members) c) e
 
-    go : (b : Bool) → is_peer p (lead c.group) ≡ b → Continues (core_fail p c) s
+    go : (b : Bool) → is_peer p (lead c.group) ≡ b → Continues line (core_fail p c) s
     go true e =
         let blank : ℕ → Rejoin = λ q. new_rejoin p in
         let k = led_after c s st p own was left d.0 d.1 blank (λ q t. refl) (λ q f. let wrong : true ≡ false = sym e ∙ f in absurd (cc wrong)) in
@@ -263,7 +263,7 @@ failed c s st p own was left = go (is_peer p (lead c.group)) refl
 
 -- ---- a joining peer is good
 
-module _ (c : CoreCopies) (s : Copies Entry) (st : StandsFor c s) (p : ℕ) (own : IsHome c.group p) (joins : status p c.members ≡ is.Joining)
+module _ {line : Entry → Option ℕ} (c : CoreCopies) (s : Copies Entry) (st : StandsFor line c s) (p : ℕ) (own : IsHome c.group p) (joins : status p c.members ≡ is.Joining)
     (done : (c.rejoins p).empty ≡ false) (level : (c.rejoins p).len ≡ length s.log) where
   joiner : IsPeer c.members.shape p
   joiner = rw st.shape (home_peer c.group p st.shard own)
@@ -354,16 +354,16 @@ module _ (c : CoreCopies) (s : Copies Entry) (st : StandsFor c s) (p : ℕ) (own
     lead_has : length s.took ≤ length (staged p Good s.peers l).list
     lead_has = omega (arith, ap (λ k. length k) (staged_list p Good s.peers l), lead_whole, front_length s.took s.log st.faithful.took)
 
-    joined_with : Continues (core_join p c) s
+    joined_with : Continues line (core_join p c) s
     joined_with =
         new_view c s st (become p is.Good c.members) c.rejoins (staged p Good s.peers) l
         (Join p l (View (view_of c.group.shard (become p is.Good c.members))))
-        joining refl (λ v. join_rises) st.shape (become_members p is.Good c.members st.members) join_rises (staged_list p Good s.peers) (staged_sealed p Good s.peers)
+        joining refl (λ v. join_rises) (st.views (view_of c.group.shard (become p is.Good c.members))) st.shape (become_members p is.Good c.members st.members) join_rises (staged_list p Good s.peers) (staged_sealed p Good s.peers)
         join_stages join_counted join_still join_elsewhere d.chosen d.leads.home lead_good lead_within lead_has
 
-pub joined : (c : CoreCopies) (s : Copies Entry) → StandsFor c s → (p l : ℕ) → IsHome c.group p → status p c.members ≡ is.Joining
-    → lead c.group ≡ Some l → is_level (length_of c.group l) (c.rejoins p) ≡ true → Continues (core_join p c) s
-joined c s st p l own joins e level =
+pub joined : {line : Entry → Option ℕ} (c : CoreCopies) (s : Copies Entry) → StandsFor line c s → (p l : ℕ) → IsHome c.group p → status p c.members ≡ is.Joining
+    → lead c.group ≡ Some l → is_level (length_of c.group l) (c.rejoins p) ≡ true → Continues line (core_join p c) s
+joined {line = line} c s st p l own joins e level =
     let k = stands_lead c s st in
     let same : k.peer ≡ l = let i : Some k.peer ≡ Some l = sym k.is ∙ e in cc i in
     let n : length_of c.group l ≡ length s.log = rw (← same) (length_is c s st k.peer k.leads.home ∙ ap (λ j. length j) k.whole) in
@@ -378,9 +378,9 @@ joined c s st p l own joins e level =
 
 -- ---- what doesn't concern the shard
 
-pub alike_stands : (c : CoreCopies) (s : Copies Entry) → StandsFor c s → (m : Members) (rejoins : ℕ → Rejoin) → IsAlike c m rejoins
-    → StandsFor (record c { members = m; rejoins = rejoins }) s
-alike_stands c s st m rejoins a =
+pub alike_stands : {line : Entry → Option ℕ} (c : CoreCopies) (s : Copies Entry) → StandsFor line c s → (m : Members) (rejoins : ℕ → Rejoin) → IsAlike c m rejoins
+    → StandsFor line (record c { members = m; rejoins = rejoins }) s
+alike_stands {line = line} c s st m rejoins a =
     record {
       shape = a.shape ∙ st.shape;
       members = a.valid;
@@ -399,14 +399,16 @@ alike_stands c s st m rejoins a =
       waiting = st.waiting;
       sent = st.sent;
       faithful = st.faithful;
+      views = st.views;
+      lines = st.lines;
       begun = st.begun;
       begun_at = st.begun_at;
       told = st.told;
     }
 
-pub elsewhere_stands : (c : CoreCopies) (s : Copies Entry) → StandsFor c s → (p : ℕ) (new : PeerStatus) → 0 < c.group.shape.copies → (IsHome c.group p → ⊥)
-    → StandsFor (record c { members = become p new c.members }) s
-elsewhere_stands c s st p new some n =
+pub elsewhere_stands : {line : Entry → Option ℕ} (c : CoreCopies) (s : Copies Entry) → StandsFor line c s → (p : ℕ) (new : PeerStatus) → 0 < c.group.shape.copies → (IsHome c.group p → ⊥)
+    → StandsFor line (record c { members = become p new c.members }) s
+elsewhere_stands {line = line} c s st p new some n =
     let apart : c.group.shard ≢ home_of c.members.shape p = λ e. other_shard c.group p some n (rw st.shape at (sym e)) in
     alike_stands c s st (become p new c.members) c.rejoins
     (record {

@@ -1,5 +1,5 @@
 -- What the core does with a joining peer is events of the machine.
-use Rattle.std.proofs.Common.{◌≡◌, ◌≢◌, ℕ, zero, suc, ◌+◌, ◌-◌, ◌≤◌, ◌<◌, Bool, true, false, List, [], ◌∷◌, ◌++◌, refl, sym, arith, length, Some, ap, ◌∙◌}
+use Rattle.std.proofs.Common.{◌≡◌, ◌≢◌, ℕ, zero, suc, ◌+◌, ◌-◌, ◌≤◌, ◌<◌, Bool, true, false, List, [], ◌∷◌, ◌++◌, refl, sym, arith, length, Some, ap, ◌∙◌, Option}
 use Rattle.std.proofs.lemmas.List.{length-append, length-set, map-append}
 use Rattle.std.specs.Option.{option_map_or}
 use Rattle.std.specs.Prelude.{slice_get, slice_index_or}
@@ -15,6 +15,7 @@ use Rattle.hs_copies.specs.Machine.{Clearing, Cleared, Copied, Copies, Copying, 
 use Rattle.hs_copies.specs.Standing.{Continues, IsCopyingStep, StandsFor, is_good_stage, stage_of, stamps_of}
 use Rattle.hs_copies.proofs.CallLemmas.{one_event}
 use Rattle.hs_copies.proofs.HomeLemmas.{set_other, set_same}
+use Rattle.hs_copies.proofs.LineLemmas.{lines_after}
 use Rattle.hs_copies.proofs.ListLemmas.{front_left, front_step}
 use Rattle.hs_copies.proofs.PeerLemmas.{put_here, put_other}
 use Rattle.hs_copies.proofs.StampLemmas.{tells_after}
@@ -35,7 +36,7 @@ not_down_following k a b = cc (a, b)
 not_clearing_following : (k : Stage) → k ≡ Clearing → k ≡ Following → ⊥
 not_clearing_following k a b = cc (a, b)
 
-module _ (c : CoreCopies) (s : Copies Entry) (st : StandsFor c s) (p : ℕ) (own : IsHome c.group p) where
+module _ {line : Entry → Option ℕ} (c : CoreCopies) (s : Copies Entry) (st : StandsFor line c s) (p : ℕ) (own : IsHome c.group p) where
   own_peer : IsPeer c.members.shape p
   own_peer = rw st.shape (home_peer c.group p st.shard own)
 
@@ -51,7 +52,7 @@ module _ (c : CoreCopies) (s : Copies Entry) (st : StandsFor c s) (p : ℕ) (own
     no_change : changes_good (status p c.members) is.Down ≡ false
     no_change = rw joins refl
 
-    gave_up_stands : StandsFor (core_give_up p c) (after_event (GiveUp p) s)
+    gave_up_stands : StandsFor line (core_give_up p c) (after_event (GiveUp p) s)
     gave_up_stands =
         let new : PeerCopy Entry = record (s.peers p) { stage = Down } in
         let k = st.peers.each p own in
@@ -73,12 +74,14 @@ module _ (c : CoreCopies) (s : Copies Entry) (st : StandsFor c s) (p : ℕ) (own
           waiting = st.waiting;
           sent = st.sent;
           faithful = after_right s st.faithful (GiveUp p) giving_up;
+          views = st.views;
+          lines = lines_after s c.waits st.faithful st.lines (GiveUp p) giving_up tt;
           begun = st.begun;
           begun_at = st.begun_at;
           told = tells_after view_after st.begun st.begun_at s st.faithful st.told (GiveUp p) giving_up tt;
         }
 
-    pub gave_up : Continues (core_give_up p c) s
+    pub gave_up : Continues line (core_give_up p c) s
     gave_up = one_event (core_give_up p c) s (GiveUp p) giving_up gave_up_stands
 
   -- ---- a peer that is down begins to join
@@ -93,7 +96,7 @@ module _ (c : CoreCopies) (s : Copies Entry) (st : StandsFor c s) (p : ℕ) (own
     no_good_change : changes_good (status p c.members) is.Joining ≡ false
     no_good_change = rw lies refl
 
-    started_stands : StandsFor (core_start p c) (after_event (Start p) s)
+    started_stands : StandsFor line (core_start p c) (after_event (Start p) s)
     started_stands =
         let d = stands_lead c s st in
         let new : PeerCopy Entry = record (s.peers p) { stage = Clearing } in
@@ -118,12 +121,14 @@ module _ (c : CoreCopies) (s : Copies Entry) (st : StandsFor c s) (p : ℕ) (own
           waiting = st.waiting;
           sent = st.sent;
           faithful = after_right s st.faithful (Start p) starting;
+          views = st.views;
+          lines = lines_after s c.waits st.faithful st.lines (Start p) starting tt;
           begun = st.begun;
           begun_at = st.begun_at;
           told = tells_after view_after st.begun st.begun_at s st.faithful st.told (Start p) starting tt;
         }
 
-    pub started : Continues (core_start p c) s
+    pub started : Continues line (core_start p c) s
     started = one_event (core_start p c) s (Start p) starting started_stands
 
   -- ---- its disk was emptied
@@ -135,7 +140,7 @@ module _ (c : CoreCopies) (s : Copies Entry) (st : StandsFor c s) (p : ℕ) (own
     emptying : CanCome s (Cleared p 0)
     emptying = (clearing, tt)
 
-    emptied_stands : StandsFor (core_empty p c) (after_event (Cleared p 0) s)
+    emptied_stands : StandsFor line (core_empty p c) (after_event (Cleared p 0) s)
     emptied_stands =
         let new : PeerCopy Entry = record (s.peers p) { stage = Following; list = []; adding = []; sealed = 0 } in
         let k = st.peers.each p own in
@@ -159,12 +164,14 @@ module _ (c : CoreCopies) (s : Copies Entry) (st : StandsFor c s) (p : ℕ) (own
           waiting = st.waiting;
           sent = st.sent;
           faithful = after_right s st.faithful (Cleared p 0) emptying;
+          views = st.views;
+          lines = lines_after s c.waits st.faithful st.lines (Cleared p 0) emptying tt;
           begun = st.begun;
           begun_at = st.begun_at;
           told = tells_after view_after st.begun st.begun_at s st.faithful st.told (Cleared p 0) emptying tt;
         }
 
-    pub emptied_core : Continues (core_empty p c) s
+    pub emptied_core : Continues line (core_empty p c) s
     emptied_core = one_event (core_empty p c) s (Cleared p 0) emptying emptied_stands
 
 -- ---- an entry was copied to it
@@ -184,7 +191,7 @@ item_at [] n l = absurd (omega (arith, l))
 item_at (y ∷ xs) zero l = (y, refl)
 item_at (y ∷ xs) (suc n) l = item_at xs n (omega (arith, l))
 
-module _ (c : CoreCopies) (s : Copies Entry) (st : StandsFor c s) (p number : ℕ) (own : IsHome c.group p) (joins : status p c.members ≡ is.Joining)
+module _ {line : Entry → Option ℕ} (c : CoreCopies) (s : Copies Entry) (st : StandsFor line c s) (p number : ℕ) (own : IsHome c.group p) (joins : status p c.members ≡ is.Joining)
     (done : (c.rejoins p).empty ≡ false) (next : number ≡ (c.rejoins p).len + 1)
     (x : Item Entry) (here : slice_get s.log (length (s.peers p).list) ≡ Some x) where
   pub following : (s.peers p).stage ≡ Following
@@ -235,7 +242,7 @@ module _ (c : CoreCopies) (s : Copies Entry) (st : StandsFor c s) (p number : �
   with_one : ℕ → Replica → Replica
   with_one view r = record r { stamps = r.stamps ++ view ∷ []; sealed = number }
 
-  copied_stands : StandsFor (record c { group = change_copy p (λ r. record r { stamps = r.stamps ++ x.view ∷ []; sealed = number }) c.group; rejoins = put_at p (copied number (c.rejoins p)) c.rejoins })
+  copied_stands : StandsFor line (record c { group = change_copy p (λ r. record r { stamps = r.stamps ++ x.view ∷ []; sealed = number }) c.group; rejoins = put_at p (copied number (c.rejoins p)) c.rejoins })
       (after_event (Copied p) (after_event (Copying p (x ∷ [])) s))
   unfolding newer whole
   copied_stands =
@@ -243,6 +250,7 @@ module _ (c : CoreCopies) (s : Copies Entry) (st : StandsFor c s) (p number : �
       let f : Replica → Replica = λ r. record r { stamps = r.stamps ++ x.view ∷ []; sealed = number } in
       let counted : Rejoin = copied number (c.rejoins p) in
       let mid = after_right s st.faithful (Copying p (x ∷ [])) copying in
+      let opened = lines_after s c.waits st.faithful st.lines (Copying p (x ∷ [])) copying tt in
       let mid_told = tells_after view_after st.begun st.begun_at s st.faithful st.told (Copying p (x ∷ [])) copying tt in
       let first : PeerCopy Entry = record (s.peers p) { adding = x ∷ [] } in
       let becomes_whole : put_at p newer (put_at p first s.peers) p ≡ whole = put_here p newer (put_at p first s.peers) ∙ is_whole in
@@ -266,12 +274,14 @@ module _ (c : CoreCopies) (s : Copies Entry) (st : StandsFor c s) (p number : �
         waiting = st.waiting;
         sent = st.sent;
         faithful = after_right (after_event (Copying p (x ∷ [])) s) mid (Copied p) copy_done;
+        views = st.views;
+        lines = lines_after (after_event (Copying p (x ∷ [])) s) c.waits mid opened (Copied p) copy_done tt;
         begun = st.begun;
         begun_at = st.begun_at;
         told = tells_after view_after st.begun st.begun_at (after_event (Copying p (x ∷ [])) s) mid mid_told (Copied p) copy_done tt;
       }
 
-  pub copied_one : Continues (core_copied p number c) s
+  pub copied_one : Continues line (core_copied p number c) s
   copied_one =
       let d = stands_lead c s st in
       rw (copied_is p number d.peer c.group d.is, stamp_is d.peer d.leads.home d.whole)
@@ -292,12 +302,13 @@ module _ (c : CoreCopies) (s : Copies Entry) (st : StandsFor c s) (p number : �
   unfolding lies broken
   is_broken = rw (put_here p (record (s.peers p) { adding = x ∷ [] }) s.peers) refl
 
-  broken_stands : StandsFor (core_give_up p c) (after_event (GiveUp p) (after_event (Copying p (x ∷ [])) s))
+  broken_stands : StandsFor line (core_give_up p c) (after_event (GiveUp p) (after_event (Copying p (x ∷ [])) s))
   unfolding lies broken
   broken_stands =
       let k = st.peers.each p own in
       let peer : IsPeer c.members.shape p = rw st.shape (home_peer c.group p st.shard own) in
       let mid = after_right s st.faithful (Copying p (x ∷ [])) copying in
+      let opened = lines_after s c.waits st.faithful st.lines (Copying p (x ∷ [])) copying tt in
       let mid_told = tells_after view_after st.begun st.begun_at s st.faithful st.told (Copying p (x ∷ [])) copying tt in
       let first : PeerCopy Entry = record (s.peers p) { adding = x ∷ [] } in
       let becomes_broken : put_at p lies (put_at p first s.peers) p ≡ broken = put_here p lies (put_at p first s.peers) ∙ is_broken in
@@ -320,12 +331,14 @@ module _ (c : CoreCopies) (s : Copies Entry) (st : StandsFor c s) (p number : �
         waiting = st.waiting;
         sent = st.sent;
         faithful = after_right (after_event (Copying p (x ∷ [])) s) mid (GiveUp p) broken_off;
+        views = st.views;
+        lines = lines_after (after_event (Copying p (x ∷ [])) s) c.waits mid opened (GiveUp p) broken_off tt;
         begun = st.begun;
         begun_at = st.begun_at;
         told = tells_after view_after st.begun st.begun_at (after_event (Copying p (x ∷ [])) s) mid mid_told (GiveUp p) broken_off tt;
       }
 
-  pub under_way : IsCopyingStep c s p
+  pub under_way : IsCopyingStep line c s p
   under_way =
       record {
         item = x;
@@ -335,9 +348,9 @@ module _ (c : CoreCopies) (s : Copies Entry) (st : StandsFor c s) (p number : �
         broken = broken_stands;
       }
 
-pub copied_core : (c : CoreCopies) (s : Copies Entry) → StandsFor c s → (p number l : ℕ) → IsHome c.group p → status p c.members ≡ is.Joining
-    → (c.rejoins p).empty ≡ false → number ≡ (c.rejoins p).len + 1 → lead c.group ≡ Some l → number ≤ length_of c.group l → Continues (core_copied p number c) s
-copied_core c s st p number l own joins done next e low =
+pub copied_core : {line : Entry → Option ℕ} (c : CoreCopies) (s : Copies Entry) → StandsFor line c s → (p number l : ℕ) → IsHome c.group p → status p c.members ≡ is.Joining
+    → (c.rejoins p).empty ≡ false → number ≡ (c.rejoins p).len + 1 → lead c.group ≡ Some l → number ≤ length_of c.group l → Continues line (core_copied p number c) s
+copied_core {line = line} c s st p number l own joins done next e low =
     let d = stands_lead c s st in
     let same : d.peer ≡ l = let k : Some d.peer ≡ Some l = sym d.is ∙ e in cc k in
     let f : (s.peers p).stage ≡ Following = st.peers.stage p own ∙ ap (λ k. stage_of k (c.rejoins p).empty) joins ∙ ap (λ b. stage_of is.Joining b) done in
@@ -345,9 +358,9 @@ copied_core c s st p number l own joins done next e low =
     let k = item_at s.log (length (s.peers p).list) (omega (arith, next, low, n, st.peers.counted p own f)) in
     copied_one c s st p number own joins done next k.0 k.1
 
-pub step_under_way : (c : CoreCopies) (s : Copies Entry) → StandsFor c s → (p number l : ℕ) → IsHome c.group p → status p c.members ≡ is.Joining
-    → (c.rejoins p).empty ≡ false → number ≡ (c.rejoins p).len + 1 → lead c.group ≡ Some l → number ≤ length_of c.group l → IsCopyingStep c s p
-step_under_way c s st p number l own joins done next e low =
+pub step_under_way : {line : Entry → Option ℕ} (c : CoreCopies) (s : Copies Entry) → StandsFor line c s → (p number l : ℕ) → IsHome c.group p → status p c.members ≡ is.Joining
+    → (c.rejoins p).empty ≡ false → number ≡ (c.rejoins p).len + 1 → lead c.group ≡ Some l → number ≤ length_of c.group l → IsCopyingStep line c s p
+step_under_way {line = line} c s st p number l own joins done next e low =
     let d = stands_lead c s st in
     let same : d.peer ≡ l = let k : Some d.peer ≡ Some l = sym d.is ∙ e in cc k in
     let f : (s.peers p).stage ≡ Following = st.peers.stage p own ∙ ap (λ k. stage_of k (c.rejoins p).empty) joins ∙ ap (λ b. stage_of is.Joining b) done in

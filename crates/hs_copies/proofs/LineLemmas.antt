@@ -1,7 +1,7 @@
 -- Every pending entry of a line is of a line that waits, and no list has two of one line.
-use Rattle.std.proofs.Common.{◌≡◌, ℕ, zero, suc, ◌<◌, Bool, true, false, if◌then◌else◌, nat_eq, eqb-true, List, [], ◌∷◌, ◌++◌, ◌⊎◌, inl, inr, refl, sym, arith, length, Option, Some, ap, ◌∙◌}
+use Rattle.std.proofs.Common.{◌≡◌, ℕ, zero, suc, ◌<◌, Bool, true, false, if◌then◌else◌, nat_eq, eqb-true, List, [], ◌∷◌, ◌++◌, ◌⊎◌, inl, inr, refl, sym, arith, length, Option, Some, ap, ◌∙◌, map, drop, ◌≤◌}
 use Rattle.std.specs.Prelude.{slice_get}
-use Rattle.hs_copies.specs.Lists.{Item, IsFront, end_view}
+use Rattle.hs_copies.specs.Lists.{IsAmong, Item, IsFront, end_view}
 use Rattle.hs_copies.specs.Machine.{Copies, CopyEvent, Propose, Send, CopyComes, Sealed, HaveComes, TakesEffect, Fail, GiveUp, Start, Cleared, Copying, Copied, Join, CanCome, after_event, item}
 use Rattle.hs_copies.specs.Invariant.{reach, AreFaithful}
 use Rattle.hs_copies.specs.Lines.{IsLineEntry, AreLinesOpen, LinedCopies, LineEvent, Step, Begin, Answer, AnswerBy, set_waits, ProposesRightly, CanComeToLines, after_line_event}
@@ -199,3 +199,19 @@ does_owned line w (Step e) r o a =
 does_owned line w (Begin k) r o a = (r, begin_owned line w.waits w.copies r o k)
 does_owned line w (Answer k) r o a = (r, answer_owned line w.waits w.copies r o k a.0 a.1)
 does_owned line w (AnswerBy x k) r o a = (after_right w.copies r (TakesEffect x) a.0, answer_by_owned line w.waits w.copies r o x a.0 k a.1)
+
+-- an event of the copies that proposes rightly
+pub lines_after : {X : Type 0} {line : X → Option ℕ} (s : Copies X) (waits : ℕ → Bool) → AreFaithful s → AreLinesOpen line waits s → (e : CopyEvent X) → CanCome s e
+    → ProposesRightly line (record { copies = s; waits = waits }) e → AreLinesOpen line waits (after_event e s)
+lines_after {line = line} s waits r o e a l = (does_owned line (record { copies = s; waits = waits }) (Step e) r o (a, l)).1
+
+-- an entry of a line in the log above so many is among those that wait
+pub among_waiting : {X : Type 0} (log : List (Item X)) (m n : ℕ) (x : Item X) → m ≤ n → slice_get log n ≡ Some x → IsAmong x.what (map (λ y. y.what) (drop m log))
+among_waiting {X = X} [] m n x l e = absurd (cc e)
+among_waiting {X = X} (y ∷ log) zero zero x l e = let k : y ≡ x = cc e in inl (sym (ap (λ (z : Item X). z.what) k))
+among_waiting {X = X} (y ∷ log) zero (suc n) x l e = inr (rest log n x (among_waiting log zero n x (omega arith) e))
+  where
+    rest : (log : List (Item X)) (n : ℕ) (x : Item X) → IsAmong x.what (map (λ y. y.what) (drop 0 log)) → IsAmong x.what (map (λ y. y.what) log)
+    rest log n x k = k
+among_waiting (y ∷ log) (suc m) zero x l e = absurd (omega (arith, l))
+among_waiting (y ∷ log) (suc m) (suc n) x l e = among_waiting log m n x (omega (arith, l)) e

@@ -1,5 +1,5 @@
 -- A new view of the core's copies is a new view of the machine.
-use Rattle.std.proofs.Common.{◌≡◌, ℕ, zero, suc, ◌+◌, ◌-◌, ◌≤◌, ◌<◌, Bool, true, false, List, [], ◌∷◌, ◌++◌, refl, sym, arith, length, Some, ap, ◌∙◌, map, drop, take}
+use Rattle.std.proofs.Common.{◌≡◌, ℕ, zero, suc, ◌+◌, ◌-◌, ◌≤◌, ◌<◌, Bool, true, false, List, [], ◌∷◌, ◌++◌, refl, sym, arith, length, Some, ap, ◌∙◌, map, drop, take, Option, None}
 use Rattle.std.proofs.lemmas.List.{drop-append-le, drop-take, length-drop, length-map, length-set, map-append, take-map}
 use Rattle.std.proofs.lemmas.List.FromFn.{length-enumerate_from}
 use Rattle.std.specs.List.{enumerate_from}
@@ -23,6 +23,8 @@ use Rattle.hs_copies.specs.Stamps.{AreStampsTold, TellsView}
 use Rattle.hs_copies.specs.Standing.{ArePeers, Continues, IsCopyOf, HasMessage, StandsFor, is_good_stage, stage_of, stamps_of}
 use Rattle.hs_copies.proofs.CallLemmas.{get_end, propose_is}
 use Rattle.hs_copies.proofs.HomeLemmas.{change_each, lead_found, set_same}
+use Rattle.hs_copies.specs.Lines.{AreLinesOpen, ProposesRightly}
+use Rattle.hs_copies.proofs.LineLemmas.{lines_after}
 use Rattle.hs_copies.proofs.ListLemmas.{get_more}
 use Rattle.hs_copies.proofs.PeerLemmas.{put_cases}
 use Rattle.hs_copies.proofs.SendLemmas.{Each, IsOfLog, MayTell, copies_may, each_append, each_flat_map, each_map, one_and_tell, waiting_of_log}
@@ -100,7 +102,7 @@ pub record Before (c : CoreCopies) (s : Copies Entry) : Type 0 where
   pub waiting : c.group.waiting ≡ map (λ x. x.what) (drop (length s.took) s.log)
   pub sent : (n : Message) → IsAmong n c.sent → HasMessage s.sent n
 
-pub before : (c : CoreCopies) (s : Copies Entry) → StandsFor c s → Before c s
+pub before : {line : Entry → Option ℕ} (c : CoreCopies) (s : Copies Entry) → StandsFor line c s → Before c s
 before c s st =
     record { shard = st.shard; copies = st.copies; each = st.peers.each; front = st.front; waiting = st.waiting; sent = st.sent }
 
@@ -176,10 +178,11 @@ module _ (c : CoreCopies) (s : Copies Entry) (b : Before c s) (m : Members) (due
         cut_waits,
       ) refl
 
-  pub view_stands : AreFaithful (with_new_view l (View (view_of c.group.shard m)) peers s) → (begun : List (Item Entry)) (begun_at : ℕ)
+  pub view_stands : (line : Entry → Option ℕ) → ((view : ℕ) → line (View view) ≡ None) → AreLinesOpen line c.waits (with_new_view l (View (view_of c.group.shard m)) peers s)
+      → AreFaithful (with_new_view l (View (view_of c.group.shard m)) peers s) → (begun : List (Item Entry)) (begun_at : ℕ)
       → AreStampsTold view_after begun begun_at (with_new_view l (View (view_of c.group.shard m)) peers s)
-      → StandsFor (record c { group = viewed m l c.group; members = m; rejoins = dues }) (with_new_view l (View (view_of c.group.shard m)) peers s)
-  view_stands faithful begun begun_at stamped =
+      → StandsFor line (record c { group = viewed m l c.group; members = m; rejoins = dues }) (with_new_view l (View (view_of c.group.shard m)) peers s)
+  view_stands line views opened faithful begun begun_at stamped =
       record {
         shape = shape;
         members = valid;
@@ -192,6 +195,8 @@ module _ (c : CoreCopies) (s : Copies Entry) (b : Before c s) (m : Members) (due
         waiting = view_waits;
         sent = b.sent;
         faithful = faithful;
+        views = views;
+        lines = opened;
         begun = begun;
         begun_at = begun_at;
         told = stamped;
@@ -240,11 +245,12 @@ module _ (c : CoreCopies) (s : Copies Entry) (b : Before c s) (m : Members) (due
       (f.0, ap lead (view_is m c.group l leads) ∙ f.1)
 
 -- the core's new view is the event
-pub new_view : (c : CoreCopies) (s : Copies Entry) → StandsFor c s → (m : Members) (dues : ℕ → Rejoin) (peers : ℕ → PeerCopy Entry) (l : ℕ)
+pub new_view : {line : Entry → Option ℕ} (c : CoreCopies) (s : Copies Entry) → StandsFor line c s → (m : Members) (dues : ℕ → Rejoin) (peers : ℕ → PeerCopy Entry) (l : ℕ)
     → (e : CopyEvent Entry)
     → CanCome s e
     → after_event e s ≡ with_new_view l (View (view_of c.group.shard m)) peers s
     → TellsView view_after s e
+    → ProposesRightly line (record { copies = s; waits = c.waits }) e
     → m.shape ≡ c.group.shape
     → IsMembers m
     → view_of c.group.shard m ≡ suc s.view
@@ -259,12 +265,14 @@ pub new_view : (c : CoreCopies) (s : Copies Entry) → StandsFor c s → (m : Me
     → (peers l).stage ≡ Good
     → IsFront (peers l).list s.log
     → length s.took ≤ length (peers l).list
-    → Continues (record c { group = on_view m c.group; members = m; rejoins = dues; sent = view_messages m c.group ++ c.sent }) s
-new_view c s st m dues peers l e allowed becomes tells shape valid rises lists seals stages counted still elsewhere leads own good within has =
+    → Continues line (record c { group = on_view m c.group; members = m; rejoins = dues; sent = view_messages m c.group ++ c.sent }) s
+new_view {line = line} c s st m dues peers l e allowed becomes tells right shape valid rises lists seals stages counted still elsewhere leads own good within has =
+    let opened : AreLinesOpen line c.waits (with_new_view l (View (view_of c.group.shard m)) peers s) =
+    rw (← becomes) (lines_after s c.waits st.faithful st.lines e allowed right) in
     let f : AreFaithful (with_new_view l (View (view_of c.group.shard m)) peers s) = rw (← becomes) (after_right s st.faithful e allowed) in
     let t : AreStampsTold view_after st.begun st.begun_at (with_new_view l (View (view_of c.group.shard m)) peers s) =
     rw (← becomes) (tells_after view_after st.begun st.begun_at s st.faithful st.told e allowed tells) in
-    let k = view_stands c s (before c s st) m dues peers l shape valid rises lists seals stages counted still elsewhere leads own good within has f st.begun st.begun_at t in
+    let k = view_stands c s (before c s st) m dues peers l shape valid rises lists seals stages counted still elsewhere leads own good within has line st.views opened f st.begun st.begun_at t in
     rw (view_is m c.group l leads)
     (one_and_tell (record c { group = viewed m l c.group; members = m; rejoins = dues }) s e allowed (rw becomes k) (view_messages m c.group)
     (rw becomes (viewed_messages c s (before c s st) m dues peers l shape valid rises lists seals stages counted still elsewhere leads own good within has)))

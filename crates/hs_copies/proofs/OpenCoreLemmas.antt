@@ -1,5 +1,5 @@
 -- A shard as the core opens it stands for one as the machine does.
-use Rattle.std.proofs.Common.{◌≡◌, ℕ, zero, suc, ◌+◌, ◌-◌, ◌≤◌, Bool, true, false, if◌then◌else◌, List, [], ◌∷◌, inl, inr, refl, sym, arith, length, Some, ap, ◌∙◌, map, drop}
+use Rattle.std.proofs.Common.{◌≡◌, ℕ, zero, suc, ◌+◌, ◌-◌, ◌≤◌, Bool, true, false, if◌then◌else◌, List, [], ◌∷◌, inl, inr, refl, sym, arith, length, Some, ap, ◌∙◌, map, drop, Option, None}
 use Rattle.std.proofs.lemmas.Bool.Decides.{nat_tests}
 use Rattle.std.proofs.lemmas.List.{length-map}
 use Rattle.std.specs.Prelude.{replicate, slice_index_or, ◌&&◌, nat_le}
@@ -24,6 +24,7 @@ use Rattle.hs_copies.proofs.ListLemmas.{front_refl}
 use Rattle.hs_copies.proofs.NewViewLemmas.{Before, told_good, told_length, view_is, view_stands, viewed, viewed_messages}
 use Rattle.hs_copies.proofs.OpenedLemmas.{opened_right}
 use Rattle.hs_copies.proofs.OpeningLemmas.{alike_below, alike_rises, opened_tells}
+use Rattle.hs_copies.proofs.RunLemmas.{opened_owned}
 use Rattle.hs_copies.proofs.SendLemmas.{tell_all}
 
 alike_long : (v : ℕ) (xs : List (Item Entry)) → length (stamped_alike v xs) ≡ length xs
@@ -57,7 +58,8 @@ one_is view log true =
     record { good = refl; stamps = sym (alike_stamps view log); sealed = sym (alike_long view log); known = λ e. sym (alike_long view log) }
 one_is view log false = record { good = refl; stamps = refl; sealed = refl; known = λ e. refl }
 
-module _ (shape : Shape) (shard : ℕ) (log : List (Item Entry)) (good : List Bool) (m : Members) (rejoins : ℕ → Rejoin) (o : IsOpening shape shard log good m) where
+module _ (shape : Shape) (shard : ℕ) (log : List (Item Entry)) (good : List Bool) (m : Members) (rejoins : ℕ → Rejoin) (o : IsOpening shape shard log good m)
+    (line : Entry → Option ℕ) (views : (view : ℕ) → line (View view) ≡ None) where
   v : ℕ
   v = view_told view_after 0 log
 
@@ -65,7 +67,7 @@ module _ (shape : Shape) (shard : ℕ) (log : List (Item Entry)) (good : List Bo
   group = new_group shape shard (view_told view_after 0 log) (length log) good
 
   abbrev c : CoreCopies
-  c = record { group = new_group shape shard (view_told view_after 0 log) (length log) good; members = m; rejoins = rejoins; sent = [] }
+  c = record { group = new_group shape shard (view_told view_after 0 log) (length log) good; members = m; rejoins = rejoins; sent = []; waits = λ k. false }
 
   abbrev s : Copies Entry
   s = taken_copies (view_told view_after 0 log) (stamped_alike (view_told view_after 0 log) log) (opens_good shape shard good)
@@ -164,18 +166,20 @@ module _ (shape : Shape) (shard : ℕ) (log : List (Item Entry)) (good : List Bo
     begun : Copies Entry
     begun = opened_copies (view_told view_after 0 log) (stamped_alike (view_told view_after 0 log) log) (opens_good shape shard good) l (View (view_of shard m))
 
-    begun_stands : StandsFor (record c { group = viewed m l group }) (opened_copies (view_told view_after 0 log) (stamped_alike (view_told view_after 0 log) log) (opens_good shape shard good) l (View (view_of shard m)))
+    begun_stands : StandsFor line (record c { group = viewed m l group }) (opened_copies (view_told view_after 0 log) (stamped_alike (view_told view_after 0 log) log) (opens_good shape shard good) l (View (view_of shard m)))
     begun_stands =
         view_stands c s opening_before m rejoins peers l o.same o.valid o.view (λ q. refl) (λ q. refl) open_stages
         (λ q h e. absurd (none_follows (opens_good shape shard good q) e)) (λ q h e. absurd (none_follows (opens_good shape shard good q) e)) open_elsewhere
         d.chosen d.leads.home (good_stage_of (opens_good shape shard good l) d.good_there)
         (rw lead_list (front_refl (stamped_alike (view_told view_after 0 log) log))) (omega (arith, ap (λ k. length k) lead_list))
+        line views
+        (opened_owned line (view_told view_after 0 log) (stamped_alike (view_told view_after 0 log) log) (opens_good shape shard good) l (View (view_of shard m)) d.good_there (views (view_of shard m)) (λ k. false))
         (opened_right (view_told view_after 0 log) (stamped_alike (view_told view_after 0 log) log) (opens_good shape shard good) l (View (view_of shard m))
         (alike_rises (view_told view_after 0 log) 0 log (omega arith)) (alike_below (view_told view_after 0 log) log) d.good_there)
         (stamped_alike (view_told view_after 0 log) log) (view_told view_after 0 log)
         (opened_tells view_after log (opens_good shape shard good) l (View (view_of shard m)) (view_told view_after 0 log) o.ascends refl d.good_there (λ w. o.view))
 
-    begun_continues : Continues (core_open shape shard (view_told view_after 0 log) (length log) good m rejoins)
+    begun_continues : Continues line (core_open shape shard (view_told view_after 0 log) (length log) good m rejoins)
         (opened_copies (view_told view_after 0 log) (stamped_alike (view_told view_after 0 log) log) (opens_good shape shard good) l (View (view_of shard m)))
     begun_continues =
         let may = viewed_messages c s opening_before m rejoins peers l o.same o.valid o.view (λ q. refl) (λ q. refl) open_stages
@@ -187,6 +191,6 @@ module _ (shape : Shape) (shard : ℕ) (log : List (Item Entry)) (good : List Bo
         rw (view_is m group l d.chosen) (record { events = k.events; allowed = k.allowed; stands = k.stands })
 
   pub opens : (l : ℕ) × (opens_good shape shard good l ≡ true)
-      × Continues (core_open shape shard (view_told view_after 0 log) (length log) good m rejoins)
+      × Continues line (core_open shape shard (view_told view_after 0 log) (length log) good m rejoins)
       (opened_copies (view_told view_after 0 log) (stamped_alike (view_told view_after 0 log) log) (opens_good shape shard good) l (View (view_of shard m)))
   opens = let d = first_lead in (d.0, d.1.good_there, begun_continues d.0 d.1)

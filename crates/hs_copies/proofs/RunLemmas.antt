@@ -39,7 +39,7 @@ module _ {X : Type 0} (e : EntryReading X) (start : List (Item X)) (v : ℕ) whe
   all_right [] w r m = r
   all_right (d ∷ ds) w r m = all_right ds (after_line_event d w) (does_right w d r m.0 m.1) m.2
 
-  chosen : (w : LinedCopies X) → WorldRight e start v w → (p y : ℕ) (images : ℕ → List (Item X)) → AreImages w.copies p images → ((q : ℕ) → IsAtMost (rank_told e.tells (images q)) (rank_told e.tells (images y))) → IsChosen e w (images y)
+  pub chosen : (w : LinedCopies X) → WorldRight e start v w → (p y : ℕ) (images : ℕ → List (Item X)) → AreImages w.copies p images → ((q : ℕ) → IsAtMost (rank_told e.tells (images q)) (rank_told e.tells (images y))) → IsChosen e w (images y)
   chosen w r p y images g h =
       record {
         has = has;

@@ -1,5 +1,5 @@
 -- What the core sends the machine may send.
-use Rattle.std.proofs.Common.{◌≡◌, ℕ, zero, suc, ◌+◌, ◌-◌, ◌≤◌, List, [], ◌∷◌, ◌++◌, inl, inr, refl, arith, Some, ap, ◌∙◌, map, drop}
+use Rattle.std.proofs.Common.{◌≡◌, ℕ, zero, suc, ◌+◌, ◌-◌, ◌≤◌, List, [], ◌∷◌, ◌++◌, inl, inr, refl, arith, Some, ap, ◌∙◌, map, drop, Option}
 use Rattle.std.specs.List.{enumerate_from}
 use Rattle.std.specs.Prelude.{flat_map, slice_get}
 use Rattle.hs_entry.specs.declared.entry.Entry.{Entry}
@@ -10,6 +10,7 @@ use Rattle.hs_copies.specs.CoreCopies.{CoreCopies}
 use Rattle.hs_copies.specs.Lists.{IsAmong, Item}
 use Rattle.hs_copies.specs.Machine.{CanComeAll, Copies, CopyEvent, EntryNotice, Good, CanCome, Notice, PeerCopy, SealedNotice, Send, after_event, after_events}
 use Rattle.hs_copies.specs.Standing.{Continues, HasMessage, StandsFor}
+use Rattle.hs_copies.proofs.LineLemmas.{lines_after}
 use Rattle.hs_copies.proofs.StampLemmas.{tells_after}
 use Rattle.hs_copies.proofs.ViewKeeps.{after_right}
 
@@ -69,8 +70,8 @@ sent_now : (sent : List (Notice Entry)) (notice : Notice Entry) (ms : List Messa
 sent_now sent notice ms m h all n (inl e) = rw e h
 sent_now sent notice ms m h all n (inr k) = sent_more sent notice n (all n k)
 
-send_notice : (c : CoreCopies) (s : Copies Entry) → StandsFor c s → (m : Message) (notice : Notice Entry) → CanCome s (Send notice) → HasMessage (notice ∷ s.sent) m
-    → StandsFor (record c { sent = m ∷ c.sent }) (after_event (Send notice) s)
+send_notice : {line : Entry → Option ℕ} (c : CoreCopies) (s : Copies Entry) → StandsFor line c s → (m : Message) (notice : Notice Entry) → CanCome s (Send notice) → HasMessage (notice ∷ s.sent) m
+    → StandsFor line (record c { sent = m ∷ c.sent }) (after_event (Send notice) s)
 send_notice c s st m notice a h =
     record {
       shape = st.shape;
@@ -84,22 +85,24 @@ send_notice c s st m notice a h =
       waiting = st.waiting;
       sent = sent_now s.sent notice c.sent m h st.sent;
       faithful = after_right s st.faithful (Send notice) a;
+      views = st.views;
+      lines = lines_after s c.waits st.faithful st.lines (Send notice) a tt;
       begun = st.begun;
       begun_at = st.begun_at;
       told = tells_after view_after st.begun st.begun_at s st.faithful st.told (Send notice) a tt;
     }
 
 -- these messages were sent, and nothing else changed
-pub record HaveTold (c : CoreCopies) (s : Copies Entry) (ms : List Message) : Type 0 where
+pub record HaveTold (line : Entry → Option ℕ) (c : CoreCopies) (s : Copies Entry) (ms : List Message) : Type 0 where
   pub events : List (CopyEvent Entry)
   pub allowed : CanComeAll s events
   pub view : (after_events s events).view ≡ s.view
   pub log : (after_events s events).log ≡ s.log
   pub peers : (after_events s events).peers ≡ s.peers
-  pub stands : StandsFor (record c { sent = ms ++ c.sent }) (after_events s events)
+  pub stands : StandsFor line (record c { sent = ms ++ c.sent }) (after_events s events)
 
-tell_one : (c : CoreCopies) (s : Copies Entry) → StandsFor c s → (m : Message) → MayTell s.view s.log s.peers m → HaveTold c s (m ∷ [])
-tell_one c s st (message.Copy shard to view number entry) h =
+tell_one : {line : Entry → Option ℕ} (c : CoreCopies) (s : Copies Entry) → StandsFor line c s → (m : Message) → MayTell s.view s.log s.peers m → HaveTold line c s (m ∷ [])
+tell_one {line = line} c s st (message.Copy shard to view number entry) h =
     let notice : Notice Entry = EntryNotice to view (number - 1) h.2.0 in
     let a : CanCome s (Send notice) = (h.1, h.2.2) in
     record {
@@ -110,7 +113,7 @@ tell_one c s st (message.Copy shard to view number entry) h =
       peers = refl;
       stands = send_notice c s st (message.Copy shard to view number entry) notice a (h.0, (h.2.0, h.2.1, inl refl));
     }
-tell_one c s st (message.Have shard from to view sealed) h =
+tell_one {line = line} c s st (message.Have shard from to view sealed) h =
     let notice : Notice Entry = SealedNotice from view sealed in
     record {
       events = Send notice ∷ [];
@@ -120,7 +123,7 @@ tell_one c s st (message.Have shard from to view sealed) h =
       peers = refl;
       stands = send_notice c s st (message.Have shard from to view sealed) notice h (inl refl);
     }
-tell_one c s st (message.Round from to epoch round total deltas) h =
+tell_one {line = line} c s st (message.Round from to epoch round total deltas) h =
     record {
       events = [];
       allowed = tt;
@@ -139,6 +142,8 @@ tell_one c s st (message.Round from to epoch round total deltas) h =
         waiting = st.waiting;
         sent = of_round;
         faithful = st.faithful;
+        views = st.views;
+        lines = st.lines;
         begun = st.begun;
         begun_at = st.begun_at;
         told = st.told;
@@ -149,9 +154,9 @@ tell_one c s st (message.Round from to epoch round total deltas) h =
     of_round n (inl e) = rw e tt
     of_round n (inr k) = st.sent n k
 
-pub tell_all : (c : CoreCopies) (s : Copies Entry) → StandsFor c s → (ms : List Message) → Each (MayTell s.view s.log s.peers) ms → HaveTold c s ms
-tell_all c s st [] h = record { events = []; allowed = tt; view = refl; log = refl; peers = refl; stands = st }
-tell_all c s st (m ∷ ms) h =
+pub tell_all : {line : Entry → Option ℕ} (c : CoreCopies) (s : Copies Entry) → StandsFor line c s → (ms : List Message) → Each (MayTell s.view s.log s.peers) ms → HaveTold line c s ms
+tell_all {line = line} c s st [] h = record { events = []; allowed = tt; view = refl; log = refl; peers = refl; stands = st }
+tell_all {line = line} c s st (m ∷ ms) h =
     let rest = tell_all c s st ms h.1 in
     let one = tell_one (record c { sent = ms ++ c.sent }) (after_events s rest.events) rest.stands m (rw (rest.view, rest.log, rest.peers) h.0) in
     record {
@@ -164,8 +169,8 @@ tell_all c s st (m ∷ ms) h =
     }
 
 -- one event, and then these messages
-pub one_and_tell : (c : CoreCopies) (s : Copies Entry) (e : CopyEvent Entry) → CanCome s e → StandsFor c (after_event e s) → (ms : List Message)
-    → Each (MayTell (after_event e s).view (after_event e s).log (after_event e s).peers) ms → Continues (record c { sent = ms ++ c.sent }) s
+pub one_and_tell : {line : Entry → Option ℕ} (c : CoreCopies) (s : Copies Entry) (e : CopyEvent Entry) → CanCome s e → StandsFor line c (after_event e s) → (ms : List Message)
+    → Each (MayTell (after_event e s).view (after_event e s).log (after_event e s).peers) ms → Continues line (record c { sent = ms ++ c.sent }) s
 one_and_tell c s e a st ms h =
     let k = tell_all c (after_event e s) st ms h in
     record { events = e ∷ k.events; allowed = (a, k.allowed); stands = k.stands }

@@ -1,5 +1,5 @@
 -- What follows where copies of the core stand for copies of the machine, and what a change of one peer must keep.
-use Rattle.std.proofs.Common.{◌≡◌, ◌≢◌, ℕ, ◌-◌, Bool, true, false, nat_eq, eqb-true, List, [], ◌∷◌, ◌⊎◌, inl, inr, refl, sym, arith, length, Some, ap, ◌∙◌}
+use Rattle.std.proofs.Common.{◌≡◌, ◌≢◌, ℕ, ◌-◌, Bool, true, false, nat_eq, eqb-true, List, [], ◌∷◌, ◌⊎◌, inl, inr, refl, sym, arith, length, Some, ap, ◌∙◌, Option}
 use Rattle.std.proofs.lemmas.Bool.Decides.{nat_tests}
 use Rattle.std.proofs.lemmas.List.{length-map}
 use Rattle.std.specs.Prelude.{slice_index_or, ◌&&◌}
@@ -9,10 +9,12 @@ use Rattle.hs_rejoin.specs.Rejoin.{Rejoin}
 use Rattle.hs_replica.specs.declared.replica.Replica.{Replica}
 use Rattle.hs_replica.specs.Group.{IsHome, copy_of, last_view, lead, length_of}
 use Rattle.hs_copies.specs.CoreCopies.{CoreCopies}
-use Rattle.hs_copies.specs.Lists.{Item, end_view}
+use Rattle.hs_copies.specs.Lines.{IsLineEntry}
+use Rattle.hs_copies.specs.Lists.{IsAmong, Item, end_view}
 use Rattle.hs_copies.specs.Machine.{Clearing, Copies, Down, Following, Good, PeerCopy, Stage}
 use Rattle.hs_copies.specs.Standing.{ArePeers, IsCopyOf, StandsFor, is_good_stage, stage_of, stamps_of}
 use Rattle.hs_copies.proofs.HomeLemmas.{Leads, home_or_not, lead_found}
+use Rattle.hs_copies.proofs.LineLemmas.{among_waiting}
 use Rattle.hs_copies.proofs.ListLemmas.{front_whole}
 
 pub good_stage : (k : Stage) → is_good_stage k ≡ true → k ≡ Good
@@ -48,7 +50,7 @@ pub record HasLead (c : CoreCopies) (s : Copies Entry) : Type 0 where
   pub good : (s.peers peer).stage ≡ Good
   pub whole : (s.peers peer).list ≡ s.log
 
-module _ (c : CoreCopies) (s : Copies Entry) (st : StandsFor c s) where
+module _ {line : Entry → Option ℕ} (c : CoreCopies) (s : Copies Entry) (st : StandsFor line c s) where
   pub good_home : (p : ℕ) → (s.peers p).stage ≡ Good → IsHome c.group p
   good_home p g =
       elim (home_or_not c.group p) [ inl h ↦ h | inr n ↦ absurd (not_good_down (s.peers p).stage g (st.peers.elsewhere p n)) ]
@@ -77,6 +79,10 @@ module _ (c : CoreCopies) (s : Copies Entry) (st : StandsFor c s) where
         whole = front_whole (s.peers f.0).list s.log (r.good f.0 g).prefix
             (omega (arith, k.longest r.led.0 h (good_copy r.led.0 h r.led.1), length_is r.led.0 h, length_is f.0 k.home, ap (λ k. length k) r.led.2));
       }
+
+  -- where no entry that waits is of a line, the lead's list has none above what took effect
+  pub none_waits : (k : ℕ) → ((x : Entry) → IsAmong x c.group.waiting → line x ≡ Some k → ⊥) → (n : ℕ) → IsLineEntry line s.took s.log n k → ⊥
+  none_waits k h n i = h i.entry.what (rw st.waiting (among_waiting s.log (length s.took) n i.entry i.above i.here)) i.of_line
 
 -- ---- the last stamp
 

@@ -1,7 +1,7 @@
 -- One shard's copies as the core keeps them, and what becomes of them by the functions of the group, the members and
 -- the joining peers, as the core composes them.
 use Rattle.std.specs.Option.{option_map_or}
-use Rattle.std.specs.Prelude.{ℕ, ◌-◌, ◌&&◌, Bool, false, List, [], ◌++◌, Option, nat_le, slice_index_or, if◌then◌else◌}
+use Rattle.std.specs.Prelude.{ℕ, ◌-◌, ◌&&◌, Bool, true, false, List, [], ◌++◌, Option, nat_le, slice_index_or, if◌then◌else◌}
 use Rattle.hs_entry.specs.declared.entry.Entry.{Entry}
 use Rattle.hs_limits.specs.declared.limits.PeerStatus.TheVariants as status
 use Rattle.hs_limits.specs.declared.shape.Shape.{Shape}
@@ -10,14 +10,17 @@ use Rattle.hs_members.specs.Members.{Members, become}
 use Rattle.hs_post.specs.declared.message.Message.{Message}
 use Rattle.hs_rejoin.specs.Rejoin.{Rejoin, copied, emptied, new_rejoin}
 use Rattle.hs_replica.specs.Group.{Group, have, is_peer, lead, new_group, on_append, on_copied, on_emptied, on_have, on_sealed, on_view, proposal, propose, resend, take_committed, view_messages}
+use Rattle.hs_copies.specs.Lines.{set_waits}
 use Rattle.hs_copies.specs.Machine.{put_at}
 
--- the shard's group, all members, how far each joining peer has come, and every message that was ever sent
+-- the shard's group, all members, how far each joining peer has come, every message that was ever sent, and which lines have
+-- no answer yet
 pub record CoreCopies : Type 0 where
   pub group : Group
   pub members : Members
   pub rejoins : ℕ → Rejoin
   pub sent : List Message
+  pub waits : ℕ → Bool
 
 -- ---- in a view
 
@@ -41,6 +44,13 @@ core_have from view sealed c = record c { group = on_have from view sealed c.gro
 -- the next entry takes effect
 abbrev pub core_commit : CoreCopies → CoreCopies
 core_commit c = record c { group = take_committed c.group }
+
+-- a line begins, and one is answered
+abbrev pub core_begin : ℕ → CoreCopies → CoreCopies
+core_begin k c = record c { waits = set_waits k true c.waits }
+
+abbrev pub core_answer : ℕ → CoreCopies → CoreCopies
+core_answer k c = record c { waits = set_waits k false c.waits }
 
 -- a nudge at a peer
 abbrev pub core_nudge : ℕ → CoreCopies → CoreCopies
@@ -81,6 +91,7 @@ core_open shape shard view len good members rejoins =
       members = members;
       rejoins = rejoins;
       sent = [];
+      waits = λ k. false;
     })
 
 -- the peer has a copy of the shard that is good at opening

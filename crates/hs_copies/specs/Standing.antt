@@ -1,6 +1,7 @@
 -- Copies as the core keeps them stand for copies of the machine.
-use Rattle.std.specs.Prelude.{◌≡◌, ℕ, suc, ◌-◌, ◌≤◌, ◌<◌, Bool, true, false, if◌then◌else◌, List, [], ◌∷◌, Some, slice_get, length, map, drop, slice_index_or}
+use Rattle.std.specs.Prelude.{◌≡◌, ℕ, suc, ◌-◌, ◌≤◌, ◌<◌, Bool, true, false, if◌then◌else◌, List, [], ◌∷◌, Option, None, Some, slice_get, length, map, drop, slice_index_or}
 use Rattle.hs_entry.specs.declared.entry.Entry.{Entry}
+use Rattle.hs_entry.specs.declared.entry.Entry.TheVariants.{View}
 use Rattle.hs_limits.specs.declared.limits.PeerStatus.{PeerStatus}
 use Rattle.hs_limits.specs.declared.limits.PeerStatus.TheVariants as status
 use Rattle.hs_limits.specs.declared.shape.Shape.{Shape}
@@ -13,6 +14,7 @@ use Rattle.hs_replica.specs.declared.replica.Replica.{Replica}
 use Rattle.hs_replica.specs.Group.{IsHome, copy_of, view_after}
 use Rattle.hs_copies.specs.CoreCopies.{CoreCopies, core_give_up}
 use Rattle.hs_copies.specs.Invariant.{AreFaithful}
+use Rattle.hs_copies.specs.Lines.{AreLinesOpen}
 use Rattle.hs_copies.specs.Lists.{IsAmong, Item}
 use Rattle.hs_copies.specs.Machine.{CanComeAll, Clearing, Copies, CopyEvent, Copying, Down, EntryNotice, Following, GiveUp, Good, CanCome, Notice, PeerCopy, SealedNotice, Stage, after_event, after_events}
 use Rattle.hs_copies.specs.Stamps.{ToldRises, AreStampsTold, view_told}
@@ -63,8 +65,8 @@ pub record ArePeers (home : ℕ → Type 0) (copy : ℕ → Replica) (status : �
   pub elsewhere : (peer : ℕ) → (home peer → ⊥) → (peers peer).stage ≡ Down
 
 -- what the core keeps of a shard stands for these copies of the machine, which are faithful, and whose stamps are those
--- that the entries tell
-pub record StandsFor (c : CoreCopies) (s : Copies Entry) : Type 0 where
+-- that the entries tell; `line` says of which line an entry is
+pub record StandsFor (line : Entry → Option ℕ) (c : CoreCopies) (s : Copies Entry) : Type 0 where
   -- the group is of a shard of the store, with a copy for each peer
   pub shape : c.members.shape ≡ c.group.shape
   pub members : IsMembers c.members
@@ -77,6 +79,9 @@ pub record StandsFor (c : CoreCopies) (s : Copies Entry) : Type 0 where
   pub front : c.group.front ≡ length s.took
   pub waiting : c.group.waiting ≡ map (λ x. x.what) (drop (length s.took) s.log)
   pub sent : (m : Message) → IsAmong m c.sent → HasMessage s.sent m
+  -- a View is of no line, and each entry of a line above what took effect is of one without an answer
+  pub views : (view : ℕ) → line (View view) ≡ None
+  pub lines : AreLinesOpen line c.waits s
   -- the machine's side
   pub faithful : AreFaithful s
   pub begun : List (Item Entry)
@@ -84,19 +89,19 @@ pub record StandsFor (c : CoreCopies) (s : Copies Entry) : Type 0 where
   pub told : AreStampsTold view_after begun begun_at s
 
 -- it goes on as events of the machine, each of which may come
-pub record Continues (c : CoreCopies) (s : Copies Entry) : Type 0 where
+pub record Continues (line : Entry → Option ℕ) (c : CoreCopies) (s : Copies Entry) : Type 0 where
   pub events : List (CopyEvent Entry)
   pub allowed : CanComeAll s events
-  pub stands : StandsFor c (after_events s events)
+  pub stands : StandsFor line c (after_events s events)
 
 -- while a copying step runs the peer's disk may have the next item of the lead's list too: the machine has it there. Where
 -- the step is broken off and the peer goes down, the core's copies stand for the machine's with it
-pub record IsCopyingStep (c : CoreCopies) (s : Copies Entry) (peer : ℕ) : Type 0 where
+pub record IsCopyingStep (line : Entry → Option ℕ) (c : CoreCopies) (s : Copies Entry) (peer : ℕ) : Type 0 where
   pub item : Item Entry
   pub next : slice_get s.log (length (s.peers peer).list) ≡ Some item
   pub begins : CanCome s (Copying peer (item ∷ []))
   pub breaks : CanCome (after_event (Copying peer (item ∷ [])) s) (GiveUp peer)
-  pub broken : StandsFor (core_give_up peer c) (after_event (GiveUp peer) (after_event (Copying peer (item ∷ [])) s))
+  pub broken : StandsFor line (core_give_up peer c) (after_event (GiveUp peer) (after_event (Copying peer (item ∷ [])) s))
 
 -- to this shard these members, and how far these joining peers have come, are as before: only the lead that they copy from,
 -- another shard's view or another shard's peers may be others

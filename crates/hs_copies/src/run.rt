@@ -1,6 +1,7 @@
 //! Runs of the core, from the opening of a shard on.
-ghost use Rattle.std.specs.Prelude.{◌≡◌, ℕ, ◌<◌, Bool, List, true};
+ghost use Rattle.std.specs.Prelude.{◌≡◌, ℕ, ◌<◌, Bool, List, None, Option, true};
 ghost use Rattle.hs_entry.specs.declared.entry.Entry.{Entry};
+ghost use Rattle.hs_entry.specs.declared.entry.Entry.TheVariants.{View};
 ghost use Rattle.hs_limits.specs.declared.limits.PeerStatus.{PeerStatus};
 ghost use Rattle.hs_limits.specs.declared.shape.Shape.{Shape};
 ghost use Rattle.hs_members.specs.Members.{Members, become};
@@ -18,19 +19,19 @@ ghost use Rattle.hs_copies.specs.Standing.{Continues, IsAlike, IsCopyingStep, Is
 /// be on the disk already. What doesn't concern the shard changes nothing: another shard's views and peers,
 /// and which lead a joining peer copies from.
 pub fn runs_of_the_core_are_runs_of_the_machine()
-    ensures call { (call : CoreCall) (c : CoreCopies) (s : Copies Entry) → StandsFor c s → MayCall call c
-        → Continues (after_call call c) s }
-    ensures copying { (c : CoreCopies) (s : Copies Entry) (peer number leads : ℕ) → StandsFor c s
-        → MayCall (CopiesTo peer number leads) c → IsCopyingStep c s peer }
-    ensures alike { (c : CoreCopies) (s : Copies Entry) (m : Members) (rejoins : ℕ → Rejoin) → StandsFor c s
-        → IsAlike c m rejoins → StandsFor (record c { members = m; rejoins = rejoins }) s }
-    ensures elsewhere { (c : CoreCopies) (s : Copies Entry) (peer : ℕ) (new : PeerStatus) → StandsFor c s
-        → 0 < c.group.shape.copies → (IsHome c.group peer → ⊥)
-        → StandsFor (record c { members = become peer new c.members }) s }
-    ensures run { (shape : Shape) (shard : ℕ) (log : List (Item Entry)) (good : List Bool) (m : Members)
-        (rejoins : ℕ → Rejoin) (calls : List CoreCall) → IsOpening shape shard log good m
-        → MayCallAll calls (opened_core shape shard log good m rejoins)
+    ensures call { (line : Entry → Option ℕ) (call : CoreCall) (c : CoreCopies) (s : Copies Entry) → StandsFor line c s
+        → MayCall line call c → Continues line (after_call call c) s }
+    ensures copying { (line : Entry → Option ℕ) (c : CoreCopies) (s : Copies Entry) (peer number leads : ℕ)
+        → StandsFor line c s → MayCall line (CopiesTo peer number leads) c → IsCopyingStep line c s peer }
+    ensures alike { (line : Entry → Option ℕ) (c : CoreCopies) (s : Copies Entry) (m : Members) (rejoins : ℕ → Rejoin)
+        → StandsFor line c s → IsAlike c m rejoins → StandsFor line (record c { members = m; rejoins = rejoins }) s }
+    ensures elsewhere { (line : Entry → Option ℕ) (c : CoreCopies) (s : Copies Entry) (peer : ℕ) (new : PeerStatus)
+        → StandsFor line c s → 0 < c.group.shape.copies → (IsHome c.group peer → ⊥)
+        → StandsFor line (record c { members = become peer new c.members }) s }
+    ensures run { (line : Entry → Option ℕ) (shape : Shape) (shard : ℕ) (log : List (Item Entry)) (good : List Bool)
+        (m : Members) (rejoins : ℕ → Rejoin) (calls : List CoreCall) → ((view : ℕ) → line (View view) ≡ None)
+        → IsOpening shape shard log good m → MayCallAll line calls (opened_core shape shard log good m rejoins)
         → (leads : ℕ) × (opens_good shape shard good leads ≡ true)
-        × Continues (after_calls calls (opened_core shape shard log good m rejoins))
+        × Continues line (after_calls calls (opened_core shape shard log good m rejoins))
         (opened_machine shape shard log good m leads) }
 {}

@@ -1,6 +1,8 @@
 //! What a stop leaves on the disks, and what is chosen of it.
-ghost use Rattle.std.specs.Prelude.{◌≡◌, ℕ, List};
+ghost use Rattle.std.specs.Prelude.{◌≡◌, ℕ, List, Option};
 ghost use Rattle.hs_entry.specs.declared.entry.Entry.{Entry};
+ghost use Rattle.hs_replica.specs.Group.{view_after};
+ghost use Rattle.hs_copies.specs.CoreCopies.{CoreCopies};
 ghost use Rattle.hs_copies.specs.Images.{AreImages, HasGreatestRank, IsFine, IsReported};
 ghost use Rattle.hs_copies.specs.Invariant.{AreFaithful};
 ghost use Rattle.hs_copies.specs.Lines.{LinedCopies};
@@ -8,6 +10,7 @@ ghost use Rattle.hs_copies.specs.Lists.{IsAtMost, IsFront, Item};
 ghost use Rattle.hs_copies.specs.Machine.{Copies, CopyEvent, CanCome, after_event};
 ghost use Rattle.hs_copies.specs.Runs.{IsChosen, IsSinceOpening, EntryReading};
 ghost use Rattle.hs_copies.specs.Stamps.{rank_told};
+ghost use Rattle.hs_copies.specs.Standing.{StandsFor};
 
 /// What a peer's disk may leave stays a front of the peer's list, and at least as long as what is known
 /// to be sealed, through every event that may come, where the reports of disk work are true.
@@ -18,7 +21,8 @@ pub fn images_are_fronts()
 
 /// Among what the disks may leave, of a good peer and of others that are behind or blank, the list of
 /// greatest rank has all that took effect. Ranks are those of the stamps; or those that the entries tell,
-/// and then too each later entry of a line is of a line without an answer, and no line has two.
+/// and then too each later entry of a line is of a line without an answer, and no line has two. So it is
+/// of the core's copies.
 pub fn the_list_of_greatest_rank_has_all_that_took_effect()
     ensures greatest { (s : Copies Entry) (p y : ℕ) (images : ℕ → List (Item Entry)) → AreFaithful s
         → AreImages s p images → HasGreatestRank images y → IsFront s.took (images y) }
@@ -26,4 +30,8 @@ pub fn the_list_of_greatest_rank_has_all_that_took_effect()
         → (p y : ℕ) (images : ℕ → List (Item Entry)) → AreImages w.copies p images
         → ((q : ℕ) → IsAtMost (rank_told e.tells (images q)) (rank_told e.tells (images y)))
         → IsChosen e w (images y) }
+    ensures core { (line : Entry → Option ℕ) (c : CoreCopies) (s : Copies Entry) (p y : ℕ) (images : ℕ → List (Item Entry))
+        → StandsFor line c s → AreImages s p images
+        → ((q : ℕ) → IsAtMost (rank_told view_after (images q)) (rank_told view_after (images y)))
+        → IsChosen (record { line = line; tells = view_after }) (record { copies = s; waits = c.waits }) (images y) }
 {}

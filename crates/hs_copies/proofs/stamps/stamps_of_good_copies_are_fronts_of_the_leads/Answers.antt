@@ -3,7 +3,7 @@ use Rattle.hs_copies.proofs.stamps.stamps_of_good_copies_are_fronts_of_the_leads
 
 pub returns : goal.returns
 returns c = record {
-  stamps = λ c s peer leads st own good e. good_stamps c s st peer leads own good e;
-  effects = λ c s peer st own good. front_within c s st peer own good;
-  waiting = λ c s leads st e. last_is_leads c s st leads e;
+  stamps = λ line c s peer leads st own good e. good_stamps c s st peer leads own good e;
+  effects = λ line c s peer st own good. front_within c s st peer own good;
+  waiting = λ line c s leads st e. last_is_leads c s st leads e;
 }
