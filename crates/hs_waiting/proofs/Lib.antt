@@ -1,3 +1,5 @@
 pub mod WasLemmas
 pub mod EnterStoreLemmas
 pub mod GotStayLemmas
+pub mod EpochLemmas
+pub mod StayLemmas
