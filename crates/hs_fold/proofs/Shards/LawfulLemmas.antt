@@ -25,32 +25,32 @@ use Rattle.hs_fold.proofs.Shards.WaitLemmas.{deed-keeps, may-still, is-other}
 
 -- ---- lists of facts
 
-each-append : {X : Type 0} (P : X → Type 0) (xs ys : List X) → AllByRecursion P xs → AllByRecursion P ys → AllByRecursion P (xs ++ ys)
+pub each-append : {X : Type 0} (P : X → Type 0) (xs ys : List X) → AllByRecursion P xs → AllByRecursion P ys → AllByRecursion P (xs ++ ys)
 each-append P [] ys h k = k
 each-append P (x ∷ xs) ys h k = (h.0, each-append P xs ys h.1 k)
 
-each-from : {X : Type 0} (P Q : X → Type 0) (xs : List X) → ((x : X) → P x → Q x) → AllByRecursion P xs → AllByRecursion Q xs
+pub each-from : {X : Type 0} (P Q : X → Type 0) (xs : List X) → ((x : X) → P x → Q x) → AllByRecursion P xs → AllByRecursion Q xs
 each-from P Q [] f h = tt
 each-from P Q (x ∷ xs) f h = (f x h.0, each-from P Q xs f h.1)
 
-abbrev PairsBy : {X : Type 0} → (X → X → Type 0) → List X → Type 0
+abbrev pub PairsBy : {X : Type 0} → (X → X → Type 0) → List X → Type 0
 PairsBy R [] = Unit {0}
 PairsBy R (x ∷ xs) = AllByRecursion (R x) xs × PairsBy R xs
 
-pairs-from : {X : Type 0} (R : X → X → Type 0) (xs : List X) → AllPairs R xs → PairsBy R xs
+pub pairs-from : {X : Type 0} (R : X → X → Type 0) (xs : List X) → AllPairs R xs → PairsBy R xs
 pairs-from R [] f = tt
 pairs-from R (x ∷ xs) f = (
   recursion_from_All (R x) xs (All-from_get_or (R x) xs x (λ j l. f 0 (suc j) x (omega arith) (grind (arith, common_steps, l)))),
   pairs-from R xs (λ i j d l m. f (suc i) (suc j) d (omega (arith, l)) (grind (arith, common_steps, m))),
 )
 
-pairs-to : {X : Type 0} (R : X → X → Type 0) (xs : List X) → PairsBy R xs → AllPairs R xs
+pub pairs-to : {X : Type 0} (R : X → X → Type 0) (xs : List X) → PairsBy R xs → AllPairs R xs
 pairs-to R [] h i j d l m = absurd (omega (arith, m))
 pairs-to R (x ∷ xs) h i zero d l m = absurd (omega (arith, l))
 pairs-to R (x ∷ xs) h zero (suc j) d l m = All-get_or (R x) xs j d (grind (arith, common_steps, m)) (All-from_recursion (R x) xs h.0)
 pairs-to R (x ∷ xs) h (suc i) (suc j) d l m = pairs-to R xs h.1 i j d (omega (arith, l)) (grind (arith, common_steps, m))
 
-pairs-append : {X : Type 0} (R : X → X → Type 0) (xs ys : List X) → PairsBy R xs → PairsBy R ys → AllByRecursion (λ x. AllByRecursion (R x) ys) xs → PairsBy R (xs ++ ys)
+pub pairs-append : {X : Type 0} (R : X → X → Type 0) (xs ys : List X) → PairsBy R xs → PairsBy R ys → AllByRecursion (λ x. AllByRecursion (R x) ys) xs → PairsBy R (xs ++ ys)
 pairs-append R [] ys h k c = k
 pairs-append R (x ∷ xs) ys h k c = (each-append (R x) xs ys h.0 c.0, pairs-append R xs ys h.1 k c.1)
 
@@ -164,7 +164,7 @@ all-behind lists k low = ap (λ m. entries_of m (behind_deeds 0 lists)) (zero-le
 
 -- ---- what may wait
 
-abbrev AllGoOn : List Parted → Type 0
+abbrev pub AllGoOn : List Parted → Type 0
 AllGoOn [] = Unit {0}
 AllGoOn (x ∷ xs) = GoOn (last_of x.done) x.back × AllGoOn xs
 
@@ -227,19 +227,19 @@ deeds-pairs g n (e ∷ es) goes =
       deeds-pairs g (n + 1) es goes.2,
     )
 
-behind-pairs : (g : ℕ) (lists : List Parted) → AllGoOn lists → PairsBy Ascends (behind_deeds g lists)
+pub behind-pairs : (g : ℕ) (lists : List Parted) → AllGoOn lists → PairsBy Ascends (behind_deeds g lists)
 behind-pairs g [] goes = tt
 behind-pairs g (x ∷ lists) goes = pairs-append Ascends (deeds_of g x.back) (behind_deeds (g + 1) lists) (deeds-pairs g (last_of x.done) x.back goes.0) (behind-pairs (g + 1) lists goes.1)
     (each-from (λ (d : Deed). d.shard ≡ g) (λ d. AllByRecursion (Ascends d) (behind_deeds (g + 1) lists)) (deeds_of g x.back)
     (λ first here. each-from (λ (d : Deed). g + 1 ≤ d.shard) (Ascends first) (behind_deeds (g + 1) lists) (λ d low same. absurd (omega (arith, here, low, same))) (of-later (g + 1) lists)) (of-shard g x.back))
 
 -- the last numbers rise
-last-rises : (lists : List Parted) → AllGoOn lists → (k : ℕ) → last_of (list_at (done_lists lists) k) ≤ last_of (list_at (whole_lists lists) k)
+pub last-rises : (lists : List Parted) → AllGoOn lists → (k : ℕ) → last_of (list_at (done_lists lists) k) ≤ last_of (list_at (whole_lists lists) k)
 last-rises [] goes k = omega arith
 last-rises (x ∷ lists) goes zero = let last = last-goes_on x.done x.back goes.0 in omega (arith, last)
 last-rises (x ∷ lists) goes (suc k) = last-rises lists goes.1 k
 
-behind-within : (high : ℕ → ℕ) (g : ℕ) (lists : List Parted) → ((k : ℕ) → k < length lists → last_of (list_at (whole_lists lists) k) ≤ high (g + k)) → AllGoOn lists
+pub behind-within : (high : ℕ → ℕ) (g : ℕ) (lists : List Parted) → ((k : ℕ) → k < length lists → last_of (list_at (whole_lists lists) k) ≤ high (g + k)) → AllGoOn lists
     → AllByRecursion (λ (d : Deed). d.number ≤ high d.shard) (behind_deeds g lists)
 behind-within high g [] f goes = tt
 behind-within high g (x ∷ lists) f goes = each-append (λ (d : Deed). d.number ≤ high d.shard) (deeds_of g x.back) (behind_deeds (g + 1) lists) here
