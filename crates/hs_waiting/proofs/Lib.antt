@@ -5,3 +5,5 @@ pub mod EpochLemmas
 pub mod StayLemmas
 pub mod RunLemmas
 pub mod HistoryLemmas
+pub mod KeptLemmas
+pub mod ListLemmas
