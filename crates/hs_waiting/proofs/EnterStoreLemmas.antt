@@ -95,4 +95,3 @@ enter-still s some k l t (enters shard) may u =
 enter-still s some k l t (sweeps shard) may u =
     let m = may_enter-gives s k some t in
     may-from (sweep s shard) k (record { swept = set-other s.swept shard (slice_index s.epochs shard) k u ∙ m.swept; least = m.least; behind = m.behind })
-

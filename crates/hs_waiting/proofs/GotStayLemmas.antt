@@ -48,10 +48,10 @@ accepted_label n c place t =
     let b = and_parts (is_none (body_at place c.got)) (is_due c place.epoch place.round) a.1 in
     elim (or_true (is_running c && (place.epoch == c.epoch && (place.round == c.round || place.round == c.round + 1))) (place.epoch == c.epoch + 1 && place.round == 0) b.1) [
       | inl o ↦ (
-        let d = and_parts (is_running c) (place.epoch == c.epoch && (place.round == c.round || place.round == c.round + 1)) o in
-        let e = and_parts (place.epoch == c.epoch) (place.round == c.round || place.round == c.round + 1) d.1 in
-        inl (ltb-true c.swept c.epoch d.0, eqb-true place.epoch c.epoch e.0, elim (or_true (place.round == c.round) (place.round == c.round + 1) e.1) [ inl q ↦ (let k = eqb-true place.round c.round q in omega (arith, k)) | inr q ↦ (let k = eqb-true place.round (c.round + 1) q in omega (arith, k)) ])
-      )
+          let d = and_parts (is_running c) (place.epoch == c.epoch && (place.round == c.round || place.round == c.round + 1)) o in
+          let e = and_parts (place.epoch == c.epoch) (place.round == c.round || place.round == c.round + 1) d.1 in
+          inl (ltb-true c.swept c.epoch d.0, eqb-true place.epoch c.epoch e.0, elim (or_true (place.round == c.round) (place.round == c.round + 1) e.1) [ inl q ↦ (let k = eqb-true place.round c.round q in omega (arith, k)) | inr q ↦ (let k = eqb-true place.round (c.round + 1) q in omega (arith, k)) ])
+          )
       | inr o ↦ (let d = and_parts (place.epoch == c.epoch + 1) (place.round == 0) o in inr (eqb-true place.epoch (c.epoch + 1) d.0, eqb-true place.round 0 d.1))
     ]
 
@@ -76,24 +76,24 @@ module _ (set : Setting) (some : 0 < set.shape.shards) (cs : List Catalogue) (m 
     sender = within;
     sent = was_sent set some cs m st place.from within shard place.epoch place.round told h;
     tells = λ kept k e r. (
-      let last = st.joined.last place.from within in
-      let p = place_of h.kept (catalogue_at cs place.from).sent (member_from_contains h.kept (catalogue_at cs place.from).sent h.among) in
-      let q = place_of kept (catalogue_at cs place.from).sent k in
-      let x = last.rows p.0 h.kept p.1 in
-      let y = last.rows q.0 kept q.1 in
-      let xe = x.epoch in
-      let xr = x.round in
-      let ye = y.epoch in
-      let yr = y.round in
-      let he = h.of_epoch in
-      let hr = h.of_round in
-      let rows = label_tells L m.states x.row y.row (omega (arith, xe, ye, he, e)) (omega (arith, xr, yr, hr, r)) in
-      let xb = x.back in
-      let yb = y.back in
-      let places : p.0 ≡ q.0 = omega (arith, rows, xb, yb) in
-      let same : h.kept ≡ kept = one_there h.kept kept (catalogue_at cs place.from).sent q.0 (subst (λ j. slice_get (catalogue_at cs place.from).sent j ≡ Some h.kept) places p.1) q.1 in
-      subst (λ (z : SentRound). slice_get z.bodies shard ≡ Some told) same h.tells
-    );
+        let last = st.joined.last place.from within in
+        let p = place_of h.kept (catalogue_at cs place.from).sent (member_from_contains h.kept (catalogue_at cs place.from).sent h.among) in
+        let q = place_of kept (catalogue_at cs place.from).sent k in
+        let x = last.rows p.0 h.kept p.1 in
+        let y = last.rows q.0 kept q.1 in
+        let xe = x.epoch in
+        let xr = x.round in
+        let ye = y.epoch in
+        let yr = y.round in
+        let he = h.of_epoch in
+        let hr = h.of_round in
+        let rows = label_tells L m.states x.row y.row (omega (arith, xe, ye, he, e)) (omega (arith, xr, yr, hr, r)) in
+        let xb = x.back in
+        let yb = y.back in
+        let places : p.0 ≡ q.0 = omega (arith, rows, xb, yb) in
+        let same : h.kept ≡ kept = one_there h.kept kept (catalogue_at cs place.from).sent q.0 (subst (λ j. slice_get (catalogue_at cs place.from).sent j ≡ Some h.kept) places p.1) q.1 in
+        subst (λ (z : SentRound). slice_get z.bodies shard ≡ Some told) same h.tells
+        );
   }
 
   -- ---- an accepted one is of its sender's last two rounds
@@ -117,23 +117,23 @@ module _ (set : Setting) (some : 0 < set.shape.shards) (cs : List Catalogue) (m 
         let ir = w.sent.of_round in
         elim (accepted_label n c place ok) [
           | inl q ↦ (
-            let q0 = q.0 in
-            let q1 = q.1 in
-            let q2 = q.2 in
-            let unswept : (m.states g).swept < (m.states g).epoch = omega (arith, q0, e1, e2) in
-            let r = (st.joined.followed.each g lg).round unswept in
-            let p = unswept_of L m.states R.clocks g lg unswept in
-            let pe = p.of_epoch in
-            let pr = p.of_round in
-            elim (early k) [ inl x ↦ omega (arith, x, pe, ie, q1, e1) | inr x ↦ (let x1 = x.1 in omega (arith, x1, pr, ir, q2, r)) ]
-          )
+              let q0 = q.0 in
+              let q1 = q.1 in
+              let q2 = q.2 in
+              let unswept : (m.states g).swept < (m.states g).epoch = omega (arith, q0, e1, e2) in
+              let r = (st.joined.followed.each g lg).round unswept in
+              let p = unswept_of L m.states R.clocks g lg unswept in
+              let pe = p.of_epoch in
+              let pr = p.of_round in
+              elim (early k) [ inl x ↦ omega (arith, x, pe, ie, q1, e1) | inr x ↦ (let x1 = x.1 in omega (arith, x1, pr, ir, q2, r)) ]
+              )
           | inr q ↦ (
-            let q0 = q.0 in
-            elim (R.clocks g lg).phase [
-              | inl p ↦ (let pe = p.of_epoch in elim (early k) [ inl x ↦ omega (arith, x, pe, ie, q0, e1) | inr x ↦ (let x0 = x.0 in omega (arith, x0, pe, ie, q0, e1)) ])
-              | inr p ↦ (let pe = p.of_epoch in let pr = p.of_round in elim (early k) [ inl x ↦ omega (arith, x, pe, ie, q0, e1) | inr x ↦ (let x1 = x.1 in omega (arith, x1, pr)) ])
-            ]
-          )
+              let q0 = q.0 in
+              elim (R.clocks g lg).phase [
+                | inl p ↦ (let pe = p.of_epoch in elim (early k) [ inl x ↦ omega (arith, x, pe, ie, q0, e1) | inr x ↦ (let x0 = x.0 in omega (arith, x0, pe, ie, q0, e1)) ])
+                | inr p ↦ (let pe = p.of_epoch in let pr = p.of_round in elim (early k) [ inl x ↦ omega (arith, x, pe, ie, q0, e1) | inr x ↦ (let x1 = x.1 in omega (arith, x1, pr)) ])
+              ]
+              )
         ]
 
     late : (m.states g).completed ≤ w.sent.row
@@ -205,10 +205,10 @@ got_stays set some cs ds m later st st' g lg moves sends others shard place told
         let up = label_rises L later.states next_row.row 0 new_row.row (omega (arith, nb, xb)) in
         elim (cases_eq w.sent.row old_row.row) [
           | inl same ↦ (
-            let se : (label_of L m.states w.sent.row).epoch ≡ (label_of L m.states old_row.row).epoch = ap (λ j. (label_of L m.states j).epoch) same in
-            let sr : (label_of L m.states w.sent.row).round ≡ (label_of L m.states old_row.row).round = ap (λ j. (label_of L m.states j).round) same in
-            elim up [ inl l ↦ absurd (omega (arith, l, se, ie, oe, xe, ne, ke)) | inr l ↦ (let l1 = l.1 in absurd (omega (arith, l1, sr, ir, or, xr, nr, kr))) ]
-          )
+              let se : (label_of L m.states w.sent.row).epoch ≡ (label_of L m.states old_row.row).epoch = ap (λ j. (label_of L m.states j).epoch) same in
+              let sr : (label_of L m.states w.sent.row).round ≡ (label_of L m.states old_row.row).round = ap (λ j. (label_of L m.states j).round) same in
+              elim up [ inl l ↦ absurd (omega (arith, l, se, ie, oe, xe, ne, ke)) | inr l ↦ (let l1 = l.1 in absurd (omega (arith, l1, sr, ir, or, xr, nr, kr))) ]
+              )
           | inr differs ↦ elim (label_rises L m.states w.sent.row (old_row.row - (w.sent.row + 1)) old_row.row (omega (arith, before, ob, differs))) [
             | inl l2 ↦ elim up [ inl l ↦ absurd (omega (arith, l, l2, ie, oe, xe, ne, ke)) | inr l ↦ (let l0 = l.0 in absurd (omega (arith, l0, l2, ie, oe, xe, ne, ke))) ]
             | inr l2 ↦ (let l20 = l2.0 in let l21 = l2.1 in elim up [ inl l ↦ absurd (omega (arith, l, l20, ie, oe, xe, ne, ke)) | inr l ↦ (let l1 = l.1 in absurd (omega (arith, l1, l21, ir, or, xr, nr, kr))) ])

@@ -27,9 +27,9 @@ still_waits set some few shard place told [] cs m st fit records w = record { la
 still_waits set some few shard place told (deed ∷ deeds) cs m st fit records w =
     let one = arrives set some cs m st deed.shard fit.0 deed.number deed.entry few fit.1 records.0 in
     let rest = still_waits set some few shard place told deeds (follow set cs deed) one.later one.standing fit.2 records.1
-      (got_stays set some cs (follow set cs deed) m one.later st one.standing deed.shard fit.0 one.moves
-        (subst (λ (x : Catalogue). SendsOn (catalogue_at cs deed.shard).sent x.sent (m.states deed.shard).sent (one.later.states deed.shard).sent) (sym (set_here set some cs m st deed.shard fit.0 (applied set cs deed) m)) one.sends)
-        (λ k o. set_there set some cs m st deed.shard fit.0 (applied set cs deed) m k o) shard place told w) in
+    (got_stays set some cs (follow set cs deed) m one.later st one.standing deed.shard fit.0 one.moves
+    (subst (λ (x : Catalogue). SendsOn (catalogue_at cs deed.shard).sent x.sent (m.states deed.shard).sent (one.later.states deed.shard).sent) (sym (set_here set some cs m st deed.shard fit.0 (applied set cs deed) m)) one.sends)
+    (λ k o. set_there set some cs m st deed.shard fit.0 (applied set cs deed) m k o) shard place told w) in
     record { later = rest.later; standing = rest.standing; waits = rest.waits }
 
 pub kept_still : (set : Setting) (history deeds : List Deed) (shard : ℕ) (place : Place) (told : RoundBody) → IsShape set.shape → FitAll set (no_entries set) history → KeepFewRecords set (no_entries set) history

@@ -144,11 +144,11 @@ module _ (set : Setting) (some : 0 < set.shape.shards) (cs : List Catalogue) (m 
   each_rises : (k : ℕ) → (catalogue_at cs k).epoch ≤ (catalogue_at ds k).epoch
   each_rises k = elim (cases_eq k g) [
     | inl e ↦ (
-      let a : (catalogue_at cs k).epoch ≡ c.epoch = ap (λ j. (catalogue_at cs j).epoch) e in
-      let b : (catalogue_at ds k).epoch ≡ d.epoch = ap (λ j. (catalogue_at ds j).epoch) e ∙ ap (λ (x : Catalogue). x.epoch) now_here in
-      let r = epoch_rises at c number entry in
-      omega (arith, a, b, r)
-    )
+        let a : (catalogue_at cs k).epoch ≡ c.epoch = ap (λ j. (catalogue_at cs j).epoch) e in
+        let b : (catalogue_at ds k).epoch ≡ d.epoch = ap (λ j. (catalogue_at ds j).epoch) e ∙ ap (λ (x : Catalogue). x.epoch) now_here in
+        let r = epoch_rises at c number entry in
+        omega (arith, a, b, r)
+        )
     | inr o ↦ (let a : (catalogue_at ds k).epoch ≡ (catalogue_at cs k).epoch = ap (λ (x : Catalogue). x.epoch) (now_there k o) in omega (arith, a))
   ]
 
@@ -158,8 +158,7 @@ module _ (set : Setting) (some : 0 < set.shape.shards) (cs : List Catalogue) (m 
       let now = nat_le_from (catalogue_at ds k).epoch (least + 1) fresh in
       let up = each_rises k in
       let after = one.standing.joined in
-      let low : least_epoch (store_of ds) ≤ (catalogue_at ds k).epoch = least_low n some ds after.each after.own one.later after.followed.each k l in
-      (
+      let low : least_epoch (store_of ds) ≤ (catalogue_at ds k).epoch = least_low n some ds after.each after.own one.later after.followed.each k l in (
         nat_le-true (catalogue_at cs k).epoch (least + 1) (omega (arith, now, up)),
         λ a r. is_from_reached (store_of ds) (rests_on (store_of ds) least) a ((one.keeps valid).1 least (omega (arith, now, low)) a (reached_from_is (store_of cs) (rests_on (store_of cs) least) a r)),
       )
@@ -251,14 +250,14 @@ module _ (set : Setting) (some : 0 < set.shape.shards) (cs : List Catalogue) (m 
       go false e =
           let same : enter_here n' other c' ≡ c' = ap (λ b. cond b (advanced n' (enter_epoch n' c')) c') e in
           still_here set some cs m st valid g lg number (kind.Enter op other) one epoch here may (ap (λ (x : Catalogue). x.epoch) same, ap (λ (x : Catalogue). x.swept) same)
-            (λ x q. (let none : happening_by set cs (deed' (kind.Enter op other)) ≡ None = ap (λ b. cond b (Some (enters g)) None) e in cc (none, q)))
+          (λ x q. (let none : happening_by set cs (deed' (kind.Enter op other)) ≡ None = ap (λ b. cond b (Some (enters g)) None) e in cc (none, q)))
   enter_own (kind.Got sender e round total deltas) one epoch here may =
       let swept = eqb-true c'.swept c'.epoch (and_parts (epoch == c'.epoch + 1) (c'.swept == c'.epoch) here).1 in
       let idle : nat_lt c'.swept c'.epoch ≡ false = grind (arith, nat_tests, swept) in
       let place : Place = record { epoch = e; round = round; from = sender } in
       let told : RoundBody = record { total = total; deltas = deltas } in
       still_here set some cs m st valid g lg number (kind.Got sender e round total deltas) one epoch here may (idle_got n' c' idle place told)
-        (λ x q. (let none : happening_by set cs (deed' (kind.Got sender e round total deltas)) ≡ None = ap (λ b. cond b (Some (sweeps g)) None) (idle_ends n' c' idle place told) in cc (none, q)))
+      (λ x q. (let none : happening_by set cs (deed' (kind.Got sender e round total deltas)) ≡ None = ap (λ b. cond b (Some (sweeps g)) None) (idle_ends n' c' idle place told) in cc (none, q)))
   enter_own (kind.Base view e swept round frames) one epoch here may = still_here set some cs m st valid g lg number (kind.Base view e swept round frames) one epoch here may (refl, refl) (λ x q. cc q)
   enter_own (kind.KeptBlock born mark flags count bytes) one epoch here may = still_here set some cs m st valid g lg number (kind.KeptBlock born mark flags count bytes) one epoch here may (refl, refl) (λ x q. cc q)
   enter_own (kind.KeptRoot created dropped counted address key) one epoch here may = still_here set some cs m st valid g lg number (kind.KeptRoot created dropped counted address key) one epoch here may (refl, refl) (λ x q. cc q)
@@ -284,8 +283,8 @@ module _ (set : Setting) (some : 0 < set.shape.shards) (cs : List Catalogue) (m 
   waits_stay entry one k l (kind.Enter op epoch) u w = enter_stays entry one k epoch l w
   waits_stay entry one k l (kind.Got sender epoch round total deltas) u w =
       got_stays set some cs (follow set cs (deed' entry)) m one.later st one.standing g lg one.moves
-        (subst (λ (x : Catalogue). SendsOn c'.sent x.sent (m.states g).sent (one.later.states g).sent) (sym (now_here set some cs m st valid g lg number entry one)) one.sends)
-        (λ j o. now_there set some cs m st valid g lg number entry one j o) k (record { epoch = epoch; round = round; from = sender }) (record { total = total; deltas = deltas }) w
+      (subst (λ (x : Catalogue). SendsOn c'.sent x.sent (m.states g).sent (one.later.states g).sent) (sym (now_here set some cs m st valid g lg number entry one)) one.sends)
+      (λ j o. now_there set some cs m st valid g lg number entry one j o) k (record { epoch = epoch; round = round; from = sender }) (record { total = total; deltas = deltas }) w
   waits_stay entry one k l (kind.Base view epoch swept round frames) u w = tt
   waits_stay entry one k l (kind.KeptBlock born mark flags count bytes) u w = tt
   waits_stay entry one k l (kind.KeptRoot created dropped counted address key) u w = tt

@@ -104,9 +104,9 @@ module _ (at : Shard) (c : Catalogue) (own : IsOwn at.shards at.shard c) (a : Ad
       go found q false e = was-itself c.blocks a f e
       go None q true e = was-itself c.blocks a f e
       go (Some old) q true e = elim (was-set b (remark c.epoch old) c.blocks a f e) [
-          | inl p ↦ record { old = old; found = subst (λ x. lookup (is_at (address_cmp x)) c.blocks ≡ Some old) (sym p.0) q; number = ap (λ (y : Facts). y.present.number) (sym p.1); stored = ap (λ (y : Facts). y.present.stored) (sym p.1) }
-          | inr k ↦ was-itself c.blocks a f k
-        ]
+        | inl p ↦ record { old = old; found = subst (λ x. lookup (is_at (address_cmp x)) c.blocks ≡ Some old) (sym p.0) q; number = ap (λ (y : Facts). y.present.number) (sym p.1); stored = ap (λ (y : Facts). y.present.stored) (sym p.1) }
+        | inr k ↦ was-itself c.blocks a f k
+      ]
 
   root-was : (held : ℕ) (b : Address) (key : List ℕ) → Was (keep_root at c held b key)
   root-was held b key = go (is_rooted at (plain c) held b key && is_none (retained_in (plain c) key))
