@@ -1,14 +1,8 @@
 -- An Enter that waits may come still behind any other entry.
-use Rattle.std.proofs.Common.{◌≡◌, ◌≢◌, ◌⊎◌, inl, inr, ℕ, suc, ◌+◌, ◌<◌, ◌≤◌, ◌==◌, ◌&&◌, ◌||◌, List, ◌∷◌, [], ◌++◌, length, map, Bool, true, false, cond, Option, Some, None, is_none, Result, Ok, Err, refl, sym, ap, ◌∙◌, subst, arith, nat_lt, slice_index, slice_set}
-use Rattle.std.proofs.lemmas.Bool.{eq-eqb, eqb-true, cases_eq, and_parts, ltb-true}
+use Rattle.std.proofs.Common.{◌≡◌, ◌≢◌, ◌⊎◌, inl, inr, ℕ, ◌+◌, ◌<◌, ◌≤◌, ◌==◌, ◌&&◌, ◌||◌, List, length, Bool, true, false, cond, is_none, refl, sym, ap, ◌∙◌, arith, slice_index, slice_set}
+use Rattle.std.proofs.lemmas.Bool.{eq-eqb, cases_eq}
 use Rattle.std.specs.BTreeMap.{insert_entry}
-use Rattle.std.specs.Option.{option_map}
-use Rattle.hs_limits.specs.declared.address.Address.{Address}
-use Rattle.hs_limits.specs.declared.spelling.SpellingFault.{SpellingFault}
-use Rattle.hs_limits.specs.Block.{Block}
 use Rattle.hs_limits.specs.Limits.{greatest_limits}
-use Rattle.hs_limits.specs.Reading.{read_block}
-use Rattle.hs_limits.specs.Shape.{shard_of_key}
 use Rattle.hs_model.specs.Inner.{enter, sweep, may_enter, none_below}
 use Rattle.hs_model.specs.Refusals.{shard_full}
 use Rattle.hs_model.specs.Store.{Store, Root, address_cmp, epoch_at, with_block, with_roots}
@@ -16,8 +10,7 @@ use Rattle.hs_laws.specs.Valid.{least_epoch}
 use Rattle.hs_laws.proofs.EnterLemmas.{MayEnter, may_enter-gives, set-at, enter-least}
 use Rattle.hs_laws.proofs.EpochLemmas.{least_epoch-at, none_below_from_least}
 use Rattle.hs_fold.specs.Shards.Change.{Change, change, stores, gives, keeps, drops, is_usable, may_keep}
-use Rattle.hs_fold.specs.Shards.Happening.{Happening, changes, enters, sweeps, MayHappen, happen, happen_by}
-use Rattle.hs_joint.specs.Along.{MayHappenBy}
+use Rattle.hs_fold.specs.Shards.Happening.{Happening, changes, enters, sweeps, MayHappen, happen}
 
 same-may : (s t : Store) (k : ℕ) → t.epochs ≡ s.epochs → t.swept ≡ s.swept → may_enter t k ≡ may_enter s k
 same-may s t k e w = rw (e, w) refl

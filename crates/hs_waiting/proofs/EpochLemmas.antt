@@ -1,5 +1,5 @@
 -- Epochs only rise, and a client's entry leaves them.
-use Rattle.std.proofs.Common.{◌≡◌, ℕ, suc, ◌+◌, ◌<◌, ◌≤◌, ◌==◌, ◌&&◌, ◌||◌, List, [], ◌∷◌, ◌++◌, length, map, Bool, true, false, cond, Option, Some, None, is_none, Result, Ok, Err, refl, sym, ap, ◌∙◌, arith, nat_lt}
+use Rattle.std.proofs.Common.{◌≡◌, ℕ, suc, ◌+◌, ◌≤◌, ◌==◌, ◌&&◌, ◌||◌, List, [], ◌∷◌, ◌++◌, length, map, Bool, true, false, cond, is_none, Result, Ok, Err, refl, ap, ◌∙◌, arith, nat_lt}
 use Rattle.std.specs.BTreeMap.{insert_entry}
 use Rattle.std.specs.Option.{option_map}
 use Rattle.hs_limits.specs.declared.address.Address.{Address}
@@ -25,49 +25,49 @@ use Rattle.hs_joint.proofs.GotLemmas.{advanced_epoch, stays_open}
 
 module _ (at : Shard) (c : Catalogue) where
   abbrev pub IsStill : Catalogue → Type 0
-  IsStill d = (d.epoch ≡ c.epoch) × (d.swept ≡ c.swept)
+  IsStill d = (d.epoch ≡ c.epoch) × (d.swept ≡ c.swept) × (d.round ≡ c.round) × (d.got ≡ c.got)
 
   store_still : (number least : ℕ) (a : Address) (read : Result Block SpellingFault) → IsStill (store_block at c number least a read)
-  store_still number least a (Err fault) = (refl, refl)
+  store_still number least a (Err fault) = (refl, refl, refl, refl)
   store_still number least a (Ok block) = go (is_stored at (plain c) least a)
     where
       go : (b : Bool) → IsStill (cond b (record c { blocks = insert_entry address_cmp c.blocks a (new_facts (fresh_present c.epoch number block)) }) c)
-      go true = (refl, refl)
-      go false = (refl, refl)
+      go true = (refl, refl, refl, refl)
+      go false = (refl, refl, refl, refl)
 
   mark_still : (least number : ℕ) (a : Address) → IsStill (give_block c least number a)
   mark_still least number a = go (is_marked (plain c) least number (option_map (λ f. f.present) (facts_at c a)))
     where
       go : (b : Bool) → IsStill (cond b (record c { blocks = marked c.epoch (facts_at c a) c.blocks a }) c)
-      go true = (refl, refl)
-      go false = (refl, refl)
+      go true = (refl, refl, refl, refl)
+      go false = (refl, refl, refl, refl)
 
   root_still : (held : ℕ) (a : Address) (key : List ℕ) → IsStill (keep_root at c held a key)
   root_still held a key = go (is_rooted at (plain c) held a key && is_none (retained_in (plain c) key))
     where
       go : (b : Bool) → IsStill (cond b (record c { roots = c.roots ++ new_root c.epoch a key ∷ [] }) c)
-      go true = (refl, refl)
-      go false = (refl, refl)
+      go true = (refl, refl, refl, refl)
+      go false = (refl, refl, refl, refl)
 
   drop_still : (key : List ℕ) → IsStill (drop_key at c key)
   drop_still key = go (shard_of_key at.shards key == at.shard)
     where
       go : (b : Bool) → IsStill (cond b (record c { roots = map (end_retention key c.epoch) c.roots }) c)
-      go true = (refl, refl)
-      go false = (refl, refl)
+      go true = (refl, refl, refl, refl)
+      go false = (refl, refl, refl, refl)
 
   pub client_still : (number : ℕ) (entry : Entry) → IsClients entry → IsStill (apply at c (number, entry))
-  client_still number (kind.View view) u = (refl, refl)
+  client_still number (kind.View view) u = (refl, refl, refl, refl)
   client_still number (kind.Block op least bytes) u = store_still number least (at.name bytes) (read_block bytes)
   client_still number (kind.Mark op least block a) u = mark_still least block a
   client_still number (kind.Root op held a key) u = root_still held a key
   client_still number (kind.Drop op key) u = drop_still key
   client_still number (kind.Enter op epoch) u = elim u [ ]
   client_still number (kind.Got sender epoch round total deltas) u = elim u [ ]
-  client_still number (kind.Base view epoch swept round frames) u = (refl, refl)
-  client_still number (kind.KeptBlock born mark flags count bytes) u = (refl, refl)
-  client_still number (kind.KeptRoot created dropped counted address key) u = (refl, refl)
-  client_still number (kind.KeptRound way other epoch round total deltas) u = (refl, refl)
+  client_still number (kind.Base view epoch swept round frames) u = (refl, refl, refl, refl)
+  client_still number (kind.KeptBlock born mark flags count bytes) u = (refl, refl, refl, refl)
+  client_still number (kind.KeptRoot created dropped counted address key) u = (refl, refl, refl, refl)
+  client_still number (kind.KeptRound way other epoch round total deltas) u = (refl, refl, refl, refl)
 
   -- an Enter that changes something enters
   pub entered_epoch : (epoch : ℕ) → may_enter c epoch ≡ true → (enter_here at.shards epoch c).epoch ≡ c.epoch + 1

@@ -1,7 +1,7 @@
 -- A Got that waits may come still behind any other entry: where it is accepted, its sender still keeps the round.
-use Rattle.std.proofs.Common.{◌≡◌, ◌≢◌, ◌⊎◌, inl, inr, ℕ, zero, suc, ◌+◌, ◌-◌, ◌<◌, ◌≤◌, ◌==◌, ◌&&◌, ◌||◌, List, [], ◌∷◌, take, Bool, true, false, Option, Some, None, is_none, refl, sym, ap, ◌∙◌, subst, arith, nat_lt}
+use Rattle.std.proofs.Common.{◌≡◌, ◌≢◌, ◌⊎◌, inl, inr, ℕ, zero, suc, ◌+◌, ◌-◌, ◌<◌, ◌≤◌, ◌==◌, ◌&&◌, ◌||◌, List, [], ◌∷◌, take, Bool, true, false, Some, is_none, refl, sym, ap, ◌∙◌, subst, arith, nat_lt}
 use Rattle.std.proofs.lemmas.Bool.{and_parts, eqb-true, ltb-true, cases_eq, cases_lt}
-use Rattle.std.specs.Prelude.{Contains, slice_get}
+use Rattle.std.specs.Prelude.{slice_get}
 use Rattle.hs_model.proofs.Members.{Member, member_from_contains, contains_from_member}
 use Rattle.hs_rounds.specs.declared.body.RoundBody.{RoundBody}
 use Rattle.hs_rounds.specs.declared.place.Place.{Place}
@@ -17,7 +17,6 @@ use Rattle.hs_fold.specs.Shards.Setting.{Setting}
 use Rattle.hs_fold.specs.Runs.Facts.{Catalogue}
 use Rattle.hs_fold.specs.Runs.Fits.{catalogue_at, HasSent}
 use Rattle.hs_fold.specs.Runs.Rounds.{is_running, is_due, is_accepted}
-use Rattle.hs_joint.specs.Joined.{IsOfRow}
 use Rattle.hs_joint.specs.Seen.{layout_of, seen_round}
 use Rattle.hs_joint.proofs.EndLemmas.{taken}
 use Rattle.hs_joint.proofs.StandLemmas.{IsStanding, SendsOn, right, was_sent}
@@ -42,7 +41,7 @@ or_true true b e = inl refl
 or_true false b e = inr e
 
 -- the open round or a next one
-accepted_label : (n : ℕ) (c : Catalogue) (place : Place) → is_accepted n c place ≡ true → (c.swept < c.epoch) × (place.epoch ≡ c.epoch) × (c.round ≤ place.round) ⊎ (place.epoch ≡ c.epoch + 1) × (place.round ≡ 0)
+pub accepted_label : (n : ℕ) (c : Catalogue) (place : Place) → is_accepted n c place ≡ true → (c.swept < c.epoch) × (place.epoch ≡ c.epoch) × (c.round ≤ place.round) ⊎ (place.epoch ≡ c.epoch + 1) × (place.round ≡ 0)
 accepted_label n c place t =
     let a = and_parts (nat_lt place.from n) (is_none (body_at place c.got) && is_due c place.epoch place.round) t in
     let b = and_parts (is_none (body_at place c.got)) (is_due c place.epoch place.round) a.1 in
@@ -96,6 +95,23 @@ module _ (set : Setting) (some : 0 < set.shape.shards) (cs : List Catalogue) (m 
         );
   }
 
+  -- a row that the shard has not completed its sender keeps
+  pub row_is_kept : (g : ℕ) → g < n → (place : Place) (told : RoundBody) (w : GotWaits g place told) → (m.states g).completed ≤ w.sent.row → HasSent (catalogue_at cs place.from).sent g place.epoch place.round told
+  row_is_kept g lg place told w late =
+      let up = w.sent.sent in
+      let near = sent_near L m.states R.clocks g place.from lg w.sender in
+      let last = st.joined.last place.from w.sender in
+      let at : ℕ = (m.states place.from).sent - (w.sent.row + 1) in
+      let back : w.sent.row + (at + 1) ≡ (m.states place.from).sent = omega (arith, up) in
+      let k = last.there at (omega (arith, near, late, back)) (omega (arith, back)) in
+      let y = last.rows at k.0 k.1 in
+      let yb = y.back in
+      let row : y.row ≡ w.sent.row = omega (arith, yb, back) in
+      let epoch : k.0.epoch ≡ place.epoch = sym y.epoch ∙ ap (λ j. (label_of L m.states j).epoch) row ∙ w.sent.of_epoch in
+      let round : k.0.round ≡ place.round = sym y.round ∙ ap (λ j. (label_of L m.states j).round) row ∙ w.sent.of_round in
+      let m_k = member_at k.0 (catalogue_at cs place.from).sent at k.1 in
+      record { kept = k.0; among = contains_from_member k.0 (catalogue_at cs place.from).sent m_k; of_epoch = epoch; of_round = round; tells = w.tells k.0 m_k epoch round }
+
   -- ---- an accepted one is of its sender's last two rounds
 
   module _ (g : ℕ) (lg : g < n) (place : Place) (ok : is_accepted n (catalogue_at cs g) place ≡ true) (told : RoundBody) (w : GotWaits g place told) where
@@ -141,20 +157,7 @@ module _ (set : Setting) (some : 0 < set.shape.shards) (cs : List Catalogue) (m 
 
     -- so it is exactly what its sender keeps of that round
     pub accepted_is_kept : HasSent (catalogue_at cs place.from).sent g place.epoch place.round told
-    accepted_is_kept =
-        let up = w.sent.sent in
-        let near = sent_near L m.states R.clocks g place.from lg w.sender in
-        let last = st.joined.last place.from w.sender in
-        let at : ℕ = (m.states place.from).sent - (w.sent.row + 1) in
-        let back : w.sent.row + (at + 1) ≡ (m.states place.from).sent = omega (arith, up) in
-        let k = last.there at (omega (arith, near, late, back)) (omega (arith, back)) in
-        let y = last.rows at k.0 k.1 in
-        let yb = y.back in
-        let row : y.row ≡ w.sent.row = omega (arith, yb, back) in
-        let epoch : k.0.epoch ≡ place.epoch = sym y.epoch ∙ ap (λ j. (label_of L m.states j).epoch) row ∙ w.sent.of_epoch in
-        let round : k.0.round ≡ place.round = sym y.round ∙ ap (λ j. (label_of L m.states j).round) row ∙ w.sent.of_round in
-        let m_k = member_at k.0 (catalogue_at cs place.from).sent at k.1 in
-        record { kept = k.0; among = contains_from_member k.0 (catalogue_at cs place.from).sent m_k; of_epoch = epoch; of_round = round; tells = w.tells k.0 m_k epoch round }
+    accepted_is_kept = row_is_kept g lg place told w late
 
 -- ---- behind an entry
 

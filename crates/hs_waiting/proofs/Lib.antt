@@ -6,4 +6,5 @@ pub mod StayLemmas
 pub mod RunLemmas
 pub mod HistoryLemmas
 pub mod KeptLemmas
+pub mod LoggedLemmas
 pub mod ListLemmas

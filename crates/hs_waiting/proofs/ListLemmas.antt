@@ -1,8 +1,8 @@
 -- Lists of all shards behind what took effect of them.
-use Rattle.std.proofs.Common.{◌≡◌, ℕ, zero, suc, ◌+◌, ◌<◌, ◌≤◌, List, [], ◌∷◌, ◌++◌, length, refl, sym, ap, ◌∙◌, subst, arith, slice_set}
+use Rattle.std.proofs.Common.{◌≡◌, ℕ, zero, suc, ◌+◌, ◌<◌, ◌≤◌, List, [], ◌∷◌, ◌++◌, length, refl, sym, ap, ◌∙◌, subst, arith, replicate, slice_set}
 use Rattle.std.proofs.lemmas.List.Elements.{All-from_recursion, recursion_from_All}
 use Rattle.std.specs.List.{AllByRecursion}
-use Rattle.std.specs.Prelude.{AllPairs, All}
+use Rattle.std.specs.Prelude.{All}
 use Rattle.hs_limits.specs.Shape.{IsShape}
 use Rattle.hs_laws.proofs.ValidLemmas.{Valid}
 use Rattle.hs_entry.specs.declared.entry.Entry.{Entry}
@@ -13,17 +13,19 @@ use Rattle.hs_fold.specs.Shards.Parted.{Parted, NamesUpTo, done_lists, whole_lis
 use Rattle.hs_fold.specs.Shards.Setting.{Numbered, Setting, shard_in}
 use Rattle.hs_fold.specs.Runs.Catalogue.{apply, apply_all, catalogue_of}
 use Rattle.hs_fold.specs.Runs.Facts.{Catalogue, empty_catalogue}
-use Rattle.hs_fold.specs.Runs.Fits.{catalogue_at}
 use Rattle.hs_fold.specs.Runs.History.{follow, follow_all, FitAll, AreLawful, no_entries}
+use Rattle.hs_fold.specs.Runs.Fits.{catalogue_at}
 use Rattle.hs_fold.specs.Runs.Opened.{catalogues, store_of}
-use Rattle.hs_fold.proofs.Shards.LastLemmas.{last-goes_on}
+use Rattle.hs_fold.specs.Runs.Sound.{AreSent, HasRoom}
+use Rattle.hs_fold.specs.Shards.Sound.{most_records}
 use Rattle.hs_fold.proofs.Shards.LawfulLemmas.{PairsBy, each-append, each-from, pairs-from, pairs-to, pairs-append, AllGoOn, behind-pairs, last-rises, behind-within, behind_deeds}
 use Rattle.hs_fold.proofs.Shards.LawfulLemmas.{deeds_of as deeds_there}
 use Rattle.hs_fold.proofs.Shards.PlaceLemmas.{at-place, set-place}
-use Rattle.hs_joint.specs.Along.{KeepFewRecords}
+use Rattle.hs_joint.specs.Along.{HaveFewRecords, KeepFewRecords}
 use Rattle.hs_joint.proofs.HistoryLemmas.{shape_some, shape_few, history_goes}
-use Rattle.hs_waiting.specs.Lists.{deeds_of, pending_deeds, MayWait, MayAllWait}
-use Rattle.hs_waiting.specs.Waits.{EntryWaits, Waits, AllWait}
+use Rattle.hs_waiting.specs.Lists.{deeds_of, pending_deeds, MayAllWait}
+use Rattle.hs_waiting.specs.Waits.{EntryWaits, AllWait}
+use Rattle.hs_waiting.proofs.LoggedLemmas.{history_logged}
 use Rattle.hs_waiting.proofs.RunLemmas.{all_beside, RunsAll, runs_all}
 
 -- ---- histories go on
@@ -73,6 +75,33 @@ follow_lists set front (x ∷ lists) =
 
 pub gives_whole : (set : Setting) (lists : List Parted) → follow_all set (catalogues set 0 (done_lists lists)) (pending_deeds 0 lists) ≡ catalogues set 0 (whole_lists lists)
 gives_whole set lists = follow_lists set [] lists
+
+-- ---- room behind a history
+
+records_append : (set : Setting) (cs : List Catalogue) (one more : List Deed) → KeepFewRecords set cs one → KeepFewRecords set (follow_all set cs one) more → KeepFewRecords set cs (one ++ more)
+records_append set cs [] more f g = g
+records_append set cs (d ∷ one) more f g = (f.0, records_append set (follow set cs d) one more f.1 g)
+
+records_end : (set : Setting) (cs : List Catalogue) (deeds : List Deed) → HaveFewRecords cs → KeepFewRecords set cs deeds → HaveFewRecords (follow_all set cs deeds)
+records_end set cs [] now r = now
+records_end set cs (d ∷ deeds) now r = records_end set (follow set cs d) deeds r.0 r.1
+
+no_records : (n : ℕ) → AllByRecursion (λ (c : Catalogue). length c.roots ≤ most_records) (replicate n empty_catalogue)
+no_records zero = tt
+no_records (suc n) = (omega arith, no_records n)
+
+each_room : (cs : List Catalogue) → ((k : ℕ) → k < length cs → length (catalogue_at cs k).blocks ≤ 16384) → AllByRecursion (λ (c : Catalogue). length c.roots ≤ most_records) cs → AllByRecursion (λ c. HasRoom c) cs
+each_room [] blocks records = tt
+each_room (c ∷ cs) blocks records = (record { blocks = blocks 0 (omega arith); records = records.0 }, each_room cs (λ k low. blocks (suc k) (omega (arith, low))) records.1)
+
+pub history_room : (set : Setting) (history : List Deed) → IsShape set.shape → FitAll set (no_entries set) history → KeepFewRecords set (no_entries set) history → All HasRoom (follow_all set (no_entries set) history)
+history_room set history shape fit records =
+    let g = history_goes set (shape_some set.shape shape) (shape_few set.shape shape) history fit records in
+    let each = g.standing.joined.each in
+    let cs : List Catalogue = follow_all set (no_entries set) history in
+    let begin = All-from_recursion (λ (c : Catalogue). length c.roots ≤ most_records) (no_entries set) (no_records set.shape.shards) in
+    All-from_recursion (λ c. HasRoom c) cs (each_room cs (λ k low. g.standing.room k (omega (arith, low, each)))
+    (recursion_from_All (λ (c : Catalogue). length c.roots ≤ most_records) cs (records_end set (no_entries set) history begin records)))
 
 -- ---- the same deeds as without runs
 
@@ -188,3 +217,13 @@ module _ (set : Setting) (lists : List Parted) (lawful : AreLawful set (done_lis
       above : AllByRecursion (λ d. AllByRecursion (Ascends d) later) lawful.history
       above = each-from (λ (d : Deed). d.number ≤ front d.shard) (λ d. AllByRecursion (Ascends d) later) lawful.history
           (λ first low. each-from (λ (d : Deed). front d.shard < d.number) (Ascends first) later (λ d up same. let here : front first.shard ≡ front d.shard = ap front same in omega (arith, low, up, here)) (above_front set front done later all_wait)) old
+
+  all_records : KeepFewRecords set (no_entries set) whole_lawful.history
+  unfolding whole_lawful
+  all_records = records_append set (no_entries set) lawful.history later records (subst (λ cs. KeepFewRecords set cs later) (sym lawful.gives) more)
+
+  pub whole_sent : (shard : ℕ) → shard < set.shape.shards → AreSent whole shard
+  whole_sent shard l = subst (λ cs. AreSent cs shard) whole_lawful.gives (history_logged set whole_lawful.history shard shape whole_lawful.fits all_records l)
+
+  pub whole_room : All HasRoom whole
+  whole_room = subst (λ cs. All HasRoom cs) whole_lawful.gives (history_room set whole_lawful.history shape whole_lawful.fits all_records)

@@ -1,5 +1,5 @@
 -- The run over all that waits.
-use Rattle.std.proofs.Common.{◌≡◌, ◌≢◌, ◌⊎◌, inl, inr, ℕ, ◌+◌, ◌<◌, ◌≤◌, ◌==◌, ◌&&◌, List, [], ◌∷◌, length, Bool, true, false, cond, refl, sym, ap, ◌∙◌, subst, arith}
+use Rattle.std.proofs.Common.{◌≡◌, inl, inr, ℕ, ◌+◌, ◌<◌, ◌≤◌, ◌==◌, List, [], ◌∷◌, Bool, true, false, cond, refl, ap, arith}
 use Rattle.std.proofs.lemmas.Bool.{and_parts, eqb-true}
 use Rattle.hs_laws.proofs.ValidLemmas.{Valid, is_from_valid}
 use Rattle.hs_entry.specs.declared.entry.Entry.{Entry}
@@ -12,13 +12,13 @@ use Rattle.hs_fold.specs.Shards.Parted.{NamesUpTo}
 use Rattle.hs_fold.specs.Shards.Setting.{Setting}
 use Rattle.hs_fold.specs.Runs.Facts.{Catalogue}
 use Rattle.hs_fold.specs.Runs.Fits.{catalogue_at, MayCome}
-use Rattle.hs_fold.specs.Runs.History.{applied, follow, follow_all, FitAll}
+use Rattle.hs_fold.specs.Runs.History.{follow, follow_all, FitAll}
 use Rattle.hs_fold.specs.Runs.Opened.{store_of}
 use Rattle.hs_fold.specs.Runs.Rounds.{may_enter, enter_epoch, is_accepted, advanced, log_got}
 use Rattle.hs_joint.specs.Along.{KeepFewRecords, EachDoesItsPart}
 use Rattle.hs_joint.proofs.DeedLemmas.{Arrives, Fits, arrives}
 use Rattle.hs_joint.proofs.StandLemmas.{IsStanding}
-use Rattle.hs_waiting.specs.Waits.{EnterWaits, EntryWaits, Waits, AllWait}
+use Rattle.hs_waiting.specs.Waits.{EnterWaits, EntryWaits, AllWait}
 use Rattle.hs_waiting.proofs.GotStayLemmas.{GotWaits, got_waits, accepted_is_kept}
 use Rattle.hs_waiting.proofs.StayLemmas.{NamesAnother, WaitsBeside, waits_stay}
 

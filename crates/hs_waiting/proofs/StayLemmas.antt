@@ -1,17 +1,15 @@
 -- What waits may come still behind any other entry.
-use Rattle.std.proofs.Common.{◌≡◌, ◌≢◌, ◌⊎◌, inl, inr, ℕ, ◌+◌, ◌<◌, ◌≤◌, ◌==◌, ◌&&◌, List, [], ◌∷◌, length, Bool, true, false, cond, Option, Some, None, Ok, refl, sym, ap, ◌∙◌, subst, arith, nat_lt, slice_set}
-use Rattle.std.proofs.lemmas.Bool.{cases_eq, and_parts, eqb-true, ltb-true}
+use Rattle.std.proofs.Common.{◌≡◌, ◌≢◌, ◌⊎◌, inl, inr, ℕ, ◌+◌, ◌<◌, ◌≤◌, ◌==◌, List, length, Bool, true, false, cond, Option, Some, None, refl, sym, ap, ◌∙◌, subst, arith, nat_lt}
+use Rattle.std.proofs.lemmas.Bool.{cases_eq, and_parts, eqb-true}
 use Rattle.std.proofs.lemmas.Bool.Decides.{nat_tests}
 use Rattle.std.proofs.lemmas.Map.Made.{lookup-map_values}
 use Rattle.std.specs.BTreeMap.{is_at}
 use Rattle.std.specs.Map.{lookup}
 use Rattle.std.specs.Option.{option_map}
-use Rattle.std.specs.Prelude.{Contains, nat_le, slice_index}
+use Rattle.std.specs.Prelude.{Contains}
 use Rattle.hs_limits.specs.declared.address.Address.{Address}
-use Rattle.hs_limits.specs.Block.{Block}
-use Rattle.hs_limits.specs.Reading.{read_block}
 use Rattle.hs_model.specs.Inner.{may_enter as store_may_enter}
-use Rattle.hs_model.specs.Store.{Store, address_cmp}
+use Rattle.hs_model.specs.Store.{address_cmp}
 use Rattle.hs_model.proofs.ReachLemmas.{reached_from_is, is_from_reached}
 use Rattle.hs_laws.specs.Valid.{least_epoch, rests_on}
 use Rattle.hs_laws.proofs.EpochLemmas.{nat_le_from, nat_le-true}
@@ -20,17 +18,16 @@ use Rattle.hs_entry.specs.declared.entry.Entry.{Entry}
 use Rattle.hs_entry.specs.declared.entry.Entry.TheVariants as kind
 use Rattle.hs_rounds.specs.declared.body.RoundBody.{RoundBody}
 use Rattle.hs_rounds.specs.declared.place.Place.{Place}
-use Rattle.hs_deletion.specs.Machine.{Layout, Machine}
+use Rattle.hs_deletion.specs.Machine.{Machine}
 use Rattle.hs_fold.specs.Catalogue.{Present, Shard}
 use Rattle.hs_fold.specs.Lawful.{Deed}
 use Rattle.hs_fold.specs.Shards.Catalogue.{is_fresh, present_at}
-use Rattle.hs_fold.specs.Shards.Fits.{EachRests, Rests, BlockRests, MarkRests, RootRests}
+use Rattle.hs_fold.specs.Shards.Fits.{Rests, BlockRests, MarkRests, RootRests}
 use Rattle.hs_fold.specs.Shards.Happening.{Happening, changes, enters, sweeps, happen_by}
 use Rattle.hs_fold.specs.Shards.Happening.{happening_of as plain_happening}
 use Rattle.hs_fold.specs.Shards.Setting.{Setting, shard_in}
-use Rattle.hs_fold.specs.Runs.Catalogue.{apply}
 use Rattle.hs_fold.specs.Runs.Facts.{Facts, Catalogue, empty_catalogue, plain, facts_at}
-use Rattle.hs_fold.specs.Runs.Fits.{catalogue_at, MayCome}
+use Rattle.hs_fold.specs.Runs.Fits.{catalogue_at}
 use Rattle.hs_fold.specs.Runs.Happening.{IsClients, ends_run, happening_of}
 use Rattle.hs_fold.specs.Runs.History.{applied, follow}
 use Rattle.hs_fold.specs.Runs.Opened.{store_of}
@@ -39,7 +36,7 @@ use Rattle.hs_fold.specs.Runs.Rounds.{enter as enter_here}
 use Rattle.hs_fold.proofs.Shards.LegalLemmas.{MayBeChange, one-changes}
 use Rattle.hs_fold.proofs.Shards.PlaceLemmas.{same-at, other-at}
 use Rattle.hs_joint.specs.Along.{happening_by, MayHappenBy}
-use Rattle.hs_joint.proofs.AllowLemmas.{FreshOnward, inside}
+use Rattle.hs_joint.proofs.AllowLemmas.{inside}
 use Rattle.hs_joint.proofs.DeedLemmas.{Arrives}
 use Rattle.hs_joint.proofs.ListedLemmas.{epochs-length}
 use Rattle.hs_joint.proofs.ReachedLemmas.{least_low}
@@ -48,7 +45,7 @@ use Rattle.hs_waiting.specs.Waits.{EnterWaits}
 use Rattle.hs_waiting.proofs.EnterStoreLemmas.{Elsewhere, enter-still}
 use Rattle.hs_waiting.proofs.EpochLemmas.{client_still, entered_epoch, epoch_rises, idle_got, idle_ends}
 use Rattle.hs_waiting.proofs.GotStayLemmas.{GotWaits, got_stays}
-use Rattle.hs_waiting.proofs.WasLemmas.{WasThere, was-there}
+use Rattle.hs_waiting.proofs.WasLemmas.{was-there}
 
 -- the entry of this number is not the Block that a waiting Mark of its shard names
 abbrev pub NamesAnother : ℕ → ℕ → ℕ → Entry → Type 0
@@ -236,10 +233,10 @@ module _ (set : Setting) (some : 0 < set.shape.shards) (cs : List Catalogue) (m 
   -- an Enter that the shard may take now, behind another entry of the shard
   enter_own : (entry : Entry) (one : Arrives set some cs m (deed' entry)) (epoch : ℕ) → may_enter c' epoch ≡ true → store_may_enter (store_of cs) g ≡ true → EnterWaits (follow set cs (deed' entry)) g epoch
   enter_own (kind.View view) one epoch here may = still_here set some cs m st valid g lg number (kind.View view) one epoch here may (refl, refl) (λ x e. cc e)
-  enter_own (kind.Block op least bytes) one epoch here may = still_here set some cs m st valid g lg number (kind.Block op least bytes) one epoch here may (client_still (shard_in set g) c' number (kind.Block op least bytes) tt) (λ x e. client_elsewhere (shard_in set g) c' (kind.Block op least bytes) tt g x e)
-  enter_own (kind.Mark op least block a) one epoch here may = still_here set some cs m st valid g lg number (kind.Mark op least block a) one epoch here may (client_still (shard_in set g) c' number (kind.Mark op least block a) tt) (λ x e. client_elsewhere (shard_in set g) c' (kind.Mark op least block a) tt g x e)
-  enter_own (kind.Root op held a key) one epoch here may = still_here set some cs m st valid g lg number (kind.Root op held a key) one epoch here may (client_still (shard_in set g) c' number (kind.Root op held a key) tt) (λ x e. client_elsewhere (shard_in set g) c' (kind.Root op held a key) tt g x e)
-  enter_own (kind.Drop op key) one epoch here may = still_here set some cs m st valid g lg number (kind.Drop op key) one epoch here may (client_still (shard_in set g) c' number (kind.Drop op key) tt) (λ x e. client_elsewhere (shard_in set g) c' (kind.Drop op key) tt g x e)
+  enter_own (kind.Block op least bytes) one epoch here may = still_here set some cs m st valid g lg number (kind.Block op least bytes) one epoch here may ((client_still (shard_in set g) c' number (kind.Block op least bytes) tt).0, (client_still (shard_in set g) c' number (kind.Block op least bytes) tt).1) (λ x e. client_elsewhere (shard_in set g) c' (kind.Block op least bytes) tt g x e)
+  enter_own (kind.Mark op least block a) one epoch here may = still_here set some cs m st valid g lg number (kind.Mark op least block a) one epoch here may ((client_still (shard_in set g) c' number (kind.Mark op least block a) tt).0, (client_still (shard_in set g) c' number (kind.Mark op least block a) tt).1) (λ x e. client_elsewhere (shard_in set g) c' (kind.Mark op least block a) tt g x e)
+  enter_own (kind.Root op held a key) one epoch here may = still_here set some cs m st valid g lg number (kind.Root op held a key) one epoch here may ((client_still (shard_in set g) c' number (kind.Root op held a key) tt).0, (client_still (shard_in set g) c' number (kind.Root op held a key) tt).1) (λ x e. client_elsewhere (shard_in set g) c' (kind.Root op held a key) tt g x e)
+  enter_own (kind.Drop op key) one epoch here may = still_here set some cs m st valid g lg number (kind.Drop op key) one epoch here may ((client_still (shard_in set g) c' number (kind.Drop op key) tt).0, (client_still (shard_in set g) c' number (kind.Drop op key) tt).1) (λ x e. client_elsewhere (shard_in set g) c' (kind.Drop op key) tt g x e)
   enter_own (kind.Enter op other) one epoch here may = go (may_enter c' other) refl
     where
       go : (b : Bool) → may_enter c' other ≡ b → EnterWaits (follow set cs (deed' (kind.Enter op other))) g epoch

@@ -22,7 +22,7 @@ use Rattle.hs_fold.specs.Catalogue.{Present, Shard, fresh_present}
 use Rattle.hs_fold.specs.Shards.Catalogue.{is_stored, is_marked, is_rooted, retained_in}
 use Rattle.hs_fold.specs.Runs.Catalogue.{apply}
 use Rattle.hs_fold.specs.Runs.Clients.{new_facts, remark, store_block, give_block, marked, new_root, keep_root, end_retention, drop_key}
-use Rattle.hs_fold.specs.Runs.Facts.{Facts, RootFacts, Catalogue, plain, facts_at}
+use Rattle.hs_fold.specs.Runs.Facts.{Facts, Catalogue, plain, facts_at}
 use Rattle.hs_fold.specs.Runs.Own.{IsOwn}
 use Rattle.hs_fold.specs.Runs.Rounds.{count_block, enter_epoch, is_accepted, is_complete, is_last, moved_by, open_deltas, settled, find_zero, search, is_gone, spare, sweep, end_round, advance, advanced, log_got, get_round, may_enter}
 use Rattle.hs_fold.specs.Runs.Rounds.{enter as enter_here}
