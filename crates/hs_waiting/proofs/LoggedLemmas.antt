@@ -1,14 +1,13 @@
 -- Each Got that is logged is one of the last two rounds that its sender sent.
-use Rattle.std.proofs.Common.{◌≡◌, ◌≢◌, ◌⊎◌, inl, inr, ℕ, zero, suc, ◌+◌, ◌-◌, ◌<◌, ◌≤◌, ◌==◌, ◌&&◌, ◌||◌, not, List, [], ◌∷◌, filter, length, Bool, true, false, cond, Option, Some, None, refl, sym, ap, ◌∙◌, subst, arith, nat_lt, replicate, slice_set, Ordering, Less, Equal, Greater, is_eq}
+use Rattle.std.proofs.Common.{◌≡◌, ◌⊎◌, inl, inr, ℕ, zero, suc, ◌+◌, ◌-◌, ◌<◌, ◌≤◌, ◌==◌, not, List, [], ◌∷◌, Bool, true, false, cond, refl, sym, ap, ◌∙◌, subst, arith, nat_lt, replicate, slice_set, Ordering, Less, Equal, Greater, is_eq}
 use Rattle.std.proofs.lemmas.Bool.{and_parts, eqb-true, ltb-true, cases_eq, cases_lt}
 use Rattle.std.proofs.lemmas.Bool.Decides.{nat_tests}
 use Rattle.std.proofs.lemmas.List.Elements.{All-from_recursion}
 use Rattle.std.specs.BTreeMap.{insert_entry}
 use Rattle.std.specs.List.{AllByRecursion}
 use Rattle.std.specs.Ordering.{match_ordering}
-use Rattle.std.specs.Prelude.{slice_get}
 use Rattle.hs_limits.specs.Shape.{IsShape}
-use Rattle.hs_model.proofs.Members.{Member, member_of_filter, contains_from_member}
+use Rattle.hs_model.proofs.Members.{Member, member_of_filter}
 use Rattle.hs_entry.specs.declared.entry.Entry.{Entry}
 use Rattle.hs_entry.specs.declared.entry.Entry.TheVariants as kind
 use Rattle.hs_rounds.specs.declared.body.RoundBody.{RoundBody}
@@ -20,18 +19,16 @@ use Rattle.hs_deletion.specs.History.{is_last as is_last_there}
 use Rattle.hs_deletion.specs.Rounds.{total_in}
 use Rattle.hs_deletion.specs.Machine.{Layout, Machine, empty_machine}
 use Rattle.hs_deletion.specs.Invariants.{IsRight}
-use Rattle.hs_deletion.proofs.ClockLemmas.{sent_near, unswept_of}
+use Rattle.hs_deletion.proofs.ClockLemmas.{unswept_of}
 use Rattle.hs_deletion.proofs.LabelLemmas.{last_tells, label_next, label_rises, epoch_rises}
-use Rattle.hs_fold.specs.Catalogue.{Shard}
 use Rattle.hs_fold.specs.Lawful.{Deed}
 use Rattle.hs_fold.specs.Shards.Setting.{Setting, shard_in}
-use Rattle.hs_fold.specs.Runs.Catalogue.{apply}
 use Rattle.hs_fold.specs.Runs.Facts.{Catalogue, empty_catalogue}
 use Rattle.hs_fold.specs.Runs.Fits.{catalogue_at, HasSent}
 use Rattle.hs_fold.specs.Runs.Happening.{IsClients}
 use Rattle.hs_fold.specs.Runs.History.{applied, follow, follow_all, FitAll, no_entries}
 use Rattle.hs_fold.specs.Runs.Sound.{AreSent}
-use Rattle.hs_fold.specs.Runs.Rounds.{is_running, is_accepted, is_complete, is_last, settled, search, sweep, end_round, advanced, enter_epoch, log_got, get_round, may_enter}
+use Rattle.hs_fold.specs.Runs.Rounds.{is_running, is_accepted, is_complete, is_last, settled, search, sweep, advanced, enter_epoch, log_got, get_round, may_enter}
 use Rattle.hs_fold.specs.Runs.Rounds.{enter as enter_here}
 use Rattle.hs_joint.specs.Along.{KeepFewRecords}
 use Rattle.hs_joint.proofs.DeedLemmas.{Arrives, Fits, arrives}
@@ -43,7 +40,7 @@ use Rattle.hs_joint.proofs.LikeLemmas.{logged_follows}
 use Rattle.hs_joint.proofs.StandLemmas.{IsStanding, SendsOn, right, set_here, set_there, own_here, join_on, room_on, few_on, nothing_done}
 use Rattle.hs_joint.specs.Seen.{layout_of}
 use Rattle.hs_waiting.proofs.EpochLemmas.{client_still}
-use Rattle.hs_waiting.proofs.GotStayLemmas.{GotWaits, got_waits, accepted_label, member_at, row_is_kept, got_stays}
+use Rattle.hs_waiting.proofs.GotStayLemmas.{GotWaits, got_waits, accepted_label, row_is_kept, got_stays}
 
 -- ---- members of what is logged and of what is not forgotten
 
