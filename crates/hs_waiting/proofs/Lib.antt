@@ -1,0 +1,10 @@
+pub mod WasLemmas
+pub mod EnterStoreLemmas
+pub mod GotStayLemmas
+pub mod EpochLemmas
+pub mod StayLemmas
+pub mod RunLemmas
+pub mod HistoryLemmas
+pub mod KeptLemmas
+pub mod LoggedLemmas
+pub mod ListLemmas
