@@ -8,6 +8,7 @@ mod file_disk;
 mod file_fault;
 mod help;
 mod notes;
+mod piece;
 mod retry;
 mod run;
 mod side_file;

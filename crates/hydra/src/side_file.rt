@@ -4,22 +4,22 @@ ghost use Rattle.hs_ports.specs.Disk.{HasRead, IsBetween};
 ghost use Rattle.hydra.specs.SideFault.{Keeps, Tells};
 
 use crate::file_fault::{Deed, SideFault, note};
-use crate::retry::{read_some_at, write_some_at};
+use crate::piece::Piece;
+use crate::retry::write_some_at;
 use hs_ports::PortFault;
 use std::fs::OpenFile;
 use std::io;
 use std::os::unix::fs::FileExt;
 
-/// The most bytes that one call reads.
-const PIECE: usize = 65536;
-
-/// A file and its length, or none: then the length is 0, and each call fails.
+/// A file and its length, or none: then the length is 0, and each call fails. The piece that was read
+/// last is kept until something is written or cut, or a read fails.
 #[derive(Drop)]
 pub struct SideFile<F> {
     pub file: Option<F>,
     pub len: u64,
     /// The first call that failed.
     pub fault: Option<SideFault>,
+    piece: Option<Piece>,
     ghost fits: { len < 2 ^ 64 },
 }
 
@@ -32,6 +32,7 @@ impl<F: FileExt + OpenFile> SideFile<F> {
             file: Some(file),
             len,
             fault: None,
+            piece: None,
         }
     }
 
@@ -45,6 +46,7 @@ impl<F: FileExt + OpenFile> SideFile<F> {
             file: None,
             len: 0,
             fault,
+            piece: None,
         }
     }
 
@@ -71,10 +73,16 @@ impl<F: FileExt + OpenFile> SideFile<F> {
         ensures told { IsSome self.old.file → Tells result self.new.fault }
         ensures kept { Keeps self.old.fault self.new.fault }
     {
-        match &self.file {
-            Some(file) => read_from(file, &mut self.fault, self.len, at, max, into),
+        let mut piece = match self.piece.take() {
+            Some(piece) => piece,
+            None => Piece::new(*into.allocator()),
+        };
+        let answer = match &self.file {
+            Some(file) => read_from(file, &mut piece, &mut self.fault, self.len, at, max, into),
             None => Err(PortFault::Failed),
-        }
+        };
+        self.piece = Some(piece);
+        answer
     }
 
     /// Writes over what is there and past the end; after a fault maybe a front alone.
@@ -88,6 +96,7 @@ impl<F: FileExt + OpenFile> SideFile<F> {
         ensures told { IsSome self.old.file → Tells result self.new.fault }
         ensures kept { Keeps self.old.fault self.new.fault }
     {
+        self.give_up();
         let fits = at.checked_add(bytes.len() as u64).is_some();
         match &self.file {
             Some(_) if !fits => {
@@ -108,6 +117,17 @@ impl<F: FileExt + OpenFile> SideFile<F> {
         }
     }
 
+    // Gives up the piece that was read last.
+    fn give_up(&mut self)
+        ensures file { self.new.file ≡ self.old.file }
+        ensures value { self.new.len ≡ self.old.len }
+        ensures fault { self.new.fault ≡ self.old.fault }
+    {
+        if let Some(piece) = &mut self.piece {
+            piece.give_up();
+        }
+    }
+
     /// Cuts the file to this length.
     pub fn cut(&mut self, len: u64) -> Result<(), PortFault>
         ensures size { OnOk result (self.new.len ≡ len) }
@@ -117,6 +137,7 @@ impl<F: FileExt + OpenFile> SideFile<F> {
         ensures told { IsSome self.old.file → Tells result self.new.fault }
         ensures kept { Keeps self.old.fault self.new.fault }
     {
+        self.give_up();
         let Some(file) = &self.file else {
             return Err(PortFault::Failed);
         };
@@ -153,9 +174,11 @@ impl<F: FileExt + OpenFile> SideFile<F> {
     }
 }
 
-// Appends a piece of a file of this length from a place on, or nothing.
+// Appends what the piece holds of a file of this length from a place on, or nothing. A piece that
+// holds nothing of it is read anew, by one call.
 fn read_from<F: FileExt>(
     file: &F,
+    piece: &mut Piece,
     fault: &mut Option<SideFault>,
     len: u64,
     at: u64,
@@ -171,34 +194,36 @@ fn read_from<F: FileExt>(
     if at >= len {
         return Ok(0);
     }
-    let start = into.len();
-    let most = (len - at).min(PIECE as u64).min(max as u64) as usize;
-    if into.resize(start + most, 0).is_err() {
+    let most = (len - at).min(max as u64) as usize;
+    if let Some(held) = piece.held(at) {
+        return append(held, most, into);
+    }
+    if piece.make_room(at, len - at).is_err() {
         return Err(PortFault::NoMemory);
     }
-    match read_piece(file, at, &mut into[start..]) {
-        Ok(n) => {
-            into.truncate(start + n);
-            Ok(n)
-        }
+    match piece.load(file, at, len - at) {
+        Ok(held) => append(held, most, into),
         Err(reason) => {
-            into.truncate(start);
             note(fault, Deed::Read, reason);
             Err(PortFault::Failed)
         }
     }
 }
 
-// Reads a front of the piece, and at least one byte, by one call.
-fn read_piece<F: FileExt>(file: &F, at: u64, piece: &mut [u8]) -> io::Result<usize>
-    ensures some { IfOk result (λ n. 0 < n) }
-    ensures within { IfOk result (λ n. n ≤ length piece.new) }
+// Appends a front of what is held.
+fn append(held: &[u8], max: usize, into: &mut Vec<u8>) -> Result<usize, PortFault>
+    requires some { 0 < length held.now }
+    requires max { 0 < max }
+    ensures found { IfOk result (λ n.
+        HasRead (length held.now) 0 max into.old.items into.new.items n) }
+    ensures untaken { OnErr result (into.new.items ≡ into.old.items) }
+    ensures memory { IfErr result (λ fault. fault ≡ PortFault.NoMemory) }
 {
-    let n = read_some_at(file, piece, at)?;
-    if n == 0 {
-        return Err(io::ErrorKind::UnexpectedEof.into());
+    let count = held.len().min(max);
+    match into.extend_from_slice(&held[..count]) {
+        Ok(()) => Ok(count),
+        Err(_) => Err(PortFault::NoMemory),
     }
-    Ok(n)
 }
 
 // Writes from a place on, and says how many bytes the file took: all, unless it failed.

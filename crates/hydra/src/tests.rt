@@ -261,6 +261,75 @@ fn files_keep_what_was_written(rt: HostRuntime) -> Result<(), Fail> {
     Ok(())
 }
 
+fn read_most<D: Disk>(
+    disk: &mut D,
+    at: u64,
+    max: usize,
+    into: &mut Vec<u8>,
+) -> Result<usize, PortFault>
+    requires { 0 < max }
+{
+    disk.read(Side::One, at, max, into)
+}
+
+fn write_over<D: Disk>(
+    disk: &mut D,
+    watch: &mut Watch,
+    at: u64,
+    bytes: &[u8],
+) -> Result<(), PortFault> {
+    let end = disk.len(Side::One)?;
+    disk.write_at(watch, Side::One, at.min(end), bytes)
+}
+
+#[test]
+fn reads_go_on_over_the_end_of_a_piece_and_see_what_was_written(
+    rt: HostRuntime,
+) -> Result<(), Fail> {
+    let alloc = rt.alloc();
+    let name = format!(in alloc; "hydra-pieces-{}", process::id(rt.process()))?;
+    let dir = env::temp_dir(&rt)?.join(alloc, name.as_str())?;
+    fs::create_dir(&rt, dir.as_str())?;
+    let mut watch = Watch::new();
+    let mut text = Vec::new(alloc);
+    for number in 0..70_000u64 {
+        text.push((number % 251) as u8)?;
+    }
+    let mut disk = open_disk(&rt, alloc, dir.as_str(), 0);
+    assert_eq!(rt;
+        append(&mut disk, &mut watch, Side::One, text.as_slice()),
+        Ok(())
+    );
+    let mut into = Vec::new(alloc);
+    for (at, want) in [(0, 50_000), (50_000, 15_536), (65_536, 4464), (70_000, 0)] {
+        assert_eq!(rt;
+            read_most(&mut disk, at, 50_000, &mut into),
+            Ok(want),
+            "at {at}"
+        );
+    }
+    assert_eq!(rt; into, text);
+
+    for (at, bytes) in [(10, b"one".as_slice()), (69_998, b"two".as_slice())] {
+        into.clear();
+        assert_eq!(rt; read_most(&mut disk, at, 2, &mut into), Ok(2));
+        assert_eq!(rt; write_over(&mut disk, &mut watch, at, bytes), Ok(()));
+        into.clear();
+        assert_eq!(rt; read_most(&mut disk, at, 3, &mut into), Ok(3));
+        assert_eq!(rt; into.as_slice(), bytes);
+    }
+    assert_eq!(rt; clear(&mut disk, &mut watch, Side::One), Ok(()));
+    assert_eq!(rt; read_most(&mut disk, 10, 3, &mut into), Ok(0));
+    assert_eq!(rt; append(&mut disk, &mut watch, Side::One, b"abc"), Ok(()));
+    into.clear();
+    assert_eq!(rt; read_most(&mut disk, 0, 9, &mut into), Ok(3));
+    assert_eq!(rt; into.as_slice(), b"abc".as_slice());
+    assert_eq!(rt; disk.faults(), 0);
+    drop(disk);
+    fs::remove_dir_all(&rt, dir.as_str())?;
+    Ok(())
+}
+
 #[test]
 fn a_folder_is_made_and_one_run_has_it(rt: HostRuntime) -> Result<(), Fail> {
     let alloc = rt.alloc();
