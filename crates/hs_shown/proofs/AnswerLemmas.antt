@@ -12,8 +12,7 @@ use Rattle.hs_model.specs.declared.reply.Reply.{Reply}
 use Rattle.hs_model.specs.declared.reply.Reply.TheVariants as reply
 use Rattle.hs_ops.specs.Going.{at_once, judged_in}
 use Rattle.hs_ops.specs.Refusals.{refusal_of}
-use Rattle.hs_ops.specs.Views.{OpView, kept_in, now_in, open_in}
-use Rattle.hs_roots.specs.declared.root.RootRecord.{RootRecord}
+use Rattle.hs_ops.specs.Views.{OpView, kept_in, open_in}
 use Rattle.hs_shown.proofs.RowLemmas.{close_refusal, delete_refusal, drop_refusal, forget_refusal, look_refusal, name_refusal, open_refusal, read_refusal, root_refusal, stat_refusal, write_refused}
 use Rattle.hs_shown.proofs.ShownLemmas.{address_is, look_now, session_is, sessions_count}
 use Rattle.hs_shown.specs.Showing.{Shows}

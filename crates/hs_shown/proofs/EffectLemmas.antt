@@ -1,15 +1,14 @@
 -- What an entry's effect and reported bytes answer.
-use Rattle.std.proofs.Common.{◌≡◌, ◌+◌, ℕ, Bool, true, false, List, Option, Some, None, is_some, length, not, refl, sym, ap, ◌∙◌}
+use Rattle.std.proofs.Common.{◌≡◌, ◌+◌, ℕ, Bool, true, false, List, Option, Some, None, is_some, not, refl, sym, ap, ◌∙◌}
 use Rattle.std.specs.List.{range_with_len}
 use Rattle.std.specs.Prelude.{slice_index}
 use Rattle.hs_desk.specs.declared.what.What.TheVariants as what
 use Rattle.hs_limits.specs.Block.{Block}
 use Rattle.hs_limits.specs.declared.address.Address.{Address}
 use Rattle.hs_limits.specs.declared.limits.Limits.{Limits}
-use Rattle.hs_model.specs.Judge.{address_of, bytes_of, given_address, granted, judge, refusals, written, written_reply}
-use Rattle.hs_model.specs.Refusals.{collision, first, is_block, is_other, refused_when}
+use Rattle.hs_model.specs.Judge.{address_of, bytes_of, given_address, granted, judge, written, written_reply}
+use Rattle.hs_model.specs.Refusals.{collision, is_block, is_other, refused_when}
 use Rattle.hs_model.specs.Store.{Session, Store, block_at, epoch_at, next_of, session_at}
-use Rattle.hs_model.specs.declared.op.Op.{Op}
 use Rattle.hs_model.specs.declared.op.Op.TheVariants as op
 use Rattle.hs_model.specs.declared.reply.Reply.{Reply}
 use Rattle.hs_model.specs.declared.reply.Reply.TheVariants as reply
@@ -38,10 +37,10 @@ write_reply : (limits : Limits) (s : Store) (v : OpView) (name payload handles :
 unfolding granted
 write_reply limits s v name payload handles address dup shows n c d =
     ap (λ (told : Reply). Some told) (sym (
-      judge_granted limits s _ (write_taken limits s v name payload handles address shows n ∙ c)
-      ∙ ap (λ (b : Bool). written_reply b (next_of (session_at s name)) (epoch_at s (given_address address))) d
-      ∙ ap (λ (session : Option Session). written_reply dup (next_of session) (epoch_at s (given_address address))) (session_is limits s _ v shows name)
-      ∙ ap (λ (now : ℕ). written_reply dup (next_of (open_in v name)) now) (write_now limits s v name payload handles address shows)))
+    judge_granted limits s _ (write_taken limits s v name payload handles address shows n ∙ c)
+    ∙ ap (λ (b : Bool). written_reply b (next_of (session_at s name)) (epoch_at s (given_address address))) d
+    ∙ ap (λ (session : Option Session). written_reply dup (next_of session) (epoch_at s (given_address address))) (session_is limits s _ v shows name)
+    ∙ ap (λ (now : ℕ). written_reply dup (next_of (open_in v name)) now) (write_now limits s v name payload handles address shows)))
 
 pub stored : (limits : Limits) (s : Store) (v : OpView) (name payload handles : List ℕ) (address : Option Address)
     → Shows limits s (op.Write name payload handles address) v → refusal_of v (op.Write name payload handles address) ≡ None
@@ -49,7 +48,7 @@ pub stored : (limits : Limits) (s : Store) (v : OpView) (name payload handles : 
     → effect_reply v what.Stored (op.Write name payload handles address) ≡ Some (judge limits s (op.Write name payload handles address)).reply
 stored limits s v name payload handles address shows n absent =
     write_reply limits s v name payload handles address false shows n
-      (no_collision (block_at s (given_address address)) (written s name payload handles) absent) (ap (λ (b : Option StoredBlock). is_some b) absent)
+    (no_collision (block_at s (given_address address)) (written s name payload handles) absent) (ap (λ (b : Option StoredBlock). is_some b) absent)
 
 pub marked : (limits : Limits) (s : Store) (v : OpView) (name payload handles : List ℕ) (address : Option Address) (block : StoredBlock)
     → Shows limits s (op.Write name payload handles address) v → refusal_of v (op.Write name payload handles address) ≡ None
@@ -57,7 +56,7 @@ pub marked : (limits : Limits) (s : Store) (v : OpView) (name payload handles : 
     → effect_reply v what.Marked (op.Write name payload handles address) ≡ Some (judge limits s (op.Write name payload handles address)).reply
 marked limits s v name payload handles address block shows n present same =
     write_reply limits s v name payload handles address true shows n
-      (same_block (block_at s (given_address address)) block (written s name payload handles) true present same) (ap (λ (b : Option StoredBlock). is_some b) present)
+    (same_block (block_at s (given_address address)) block (written s name payload handles) true present same) (ap (λ (b : Option StoredBlock). is_some b) present)
 
 pub collides : (limits : Limits) (s : Store) (v : OpView) (name payload handles : List ℕ) (address : Option Address) (block : StoredBlock)
     → Shows limits s (op.Write name payload handles address) v → refusal_of v (op.Write name payload handles address) ≡ None
@@ -65,7 +64,7 @@ pub collides : (limits : Limits) (s : Store) (v : OpView) (name payload handles 
     → (judge limits s (op.Write name payload handles address)).reply ≡ reply.Collision
 collides limits s v name payload handles address block shows n present other =
     judge_refused limits s _ reply.Collision (write_taken limits s v name payload handles address shows n
-      ∙ same_block (block_at s (given_address address)) block (written s name payload handles) false present other)
+    ∙ same_block (block_at s (given_address address)) block (written s name payload handles) false present other)
 
 -- ---- reads
 
@@ -76,8 +75,8 @@ unfolding granted
 read_is limits s v name handle shows n =
     let bytes : List ℕ = bytes_of (block_at s (address_of s name handle)) in
     sym (judge_granted limits s _ (read_refusal limits s v name handle shows ∙ n)
-      ∙ ap (λ (more : ℕ). reply.Bytes bytes (range_with_len (next_of (session_at s name)) more)) (sym (shows.pointers (address_of s name handle) refl))
-      ∙ ap (λ (session : Option Session). reply.Bytes bytes (range_with_len (next_of session) v.pointers)) (session_is limits s _ v shows name))
+    ∙ ap (λ (more : ℕ). reply.Bytes bytes (range_with_len (next_of (session_at s name)) more)) (sym (shows.pointers (address_of s name handle) refl))
+    ∙ ap (λ (session : Option Session). reply.Bytes bytes (range_with_len (next_of session) v.pointers)) (session_is limits s _ v shows name))
 
 -- ---- roots and deletion runs
 

@@ -1,14 +1,14 @@
 -- Each row of the table is the plain store's, and so is the first refusal.
-use Rattle.std.proofs.Common.{◌≡◌, ℕ, Bool, true, false, not, List, [], ◌∷◌, ◌++◌, ◌⊎◌, Option, Some, None, is_none, is_some, inl, inr, length, nat_le, refl, sym, ap, ◌∙◌}
+use Rattle.std.proofs.Common.{◌≡◌, ℕ, Bool, not, List, [], ◌∷◌, ◌++◌, ◌⊎◌, Option, Some, None, is_none, is_some, inl, inr, length, nat_le, refl, sym, ap, ◌∙◌}
 use Rattle.std.specs.Option.{option_map}
 use Rattle.std.specs.Prelude.{nat_lt, slice_index, ◌&&◌}
 use Rattle.hs_limits.specs.Block.{Block}
 use Rattle.hs_limits.specs.Shape.{shard_of_key}
 use Rattle.hs_limits.specs.declared.address.Address.{Address}
 use Rattle.hs_limits.specs.declared.limits.Limits.{Limits}
-use Rattle.hs_model.specs.Judge.{address_of, given_address, pointers_at, refusals, written}
+use Rattle.hs_model.specs.Judge.{address_of, given_address, refusals, written}
 use Rattle.hs_model.specs.Refusals.{collision, epoch_end, first, handles_full, handles_full_in, is_other, key_taken, no_handle, no_handle_in, no_key, no_session, refused_when, roots_full, running, session_taken, sessions_full, shard_full, stale, stale_in, too_long, too_many}
-use Rattle.hs_model.specs.Store.{Session, Store, block_at, blocks_in, epoch_at, retained_at, root_epoch, roots_in, session_at, shard_at}
+use Rattle.hs_model.specs.Store.{Session, Store, block_at, blocks_in, roots_in, shard_at}
 use Rattle.hs_model.specs.declared.op.Op.{Op}
 use Rattle.hs_model.specs.declared.op.Op.TheVariants as op
 use Rattle.hs_model.specs.declared.reply.Reply.{Reply}
@@ -17,9 +17,8 @@ use Rattle.hs_model.specs.declared.store.StoredBlock.{StoredBlock}
 use Rattle.hs_ops.specs.Refusals.{all_open, epochs_end, is_busy, is_running, kept_otherwise, no_more_handles, no_room_for_block, no_room_for_root, not_held, not_kept, not_open, open_already, outdated, refusal_of, refusals_of}
 use Rattle.hs_ops.specs.Speaking.{named_key}
 use Rattle.hs_ops.specs.Views.{OpView, kept_in, now_in, open_in}
-use Rattle.hs_shown.proofs.ShownLemmas.{address_is, kept_differs, kept_none, look_now, none_is, not_room, read_now, root_now, session_is, sessions_count, write_now}
+use Rattle.hs_shown.proofs.ShownLemmas.{address_is, kept_differs, kept_none, none_is, not_room, read_now, root_now, session_is, sessions_count, write_now}
 use Rattle.hs_shown.specs.Showing.{Shows}
-use Rattle.hs_tokens.specs.Seats.{found}
 
 -- ---- rows
 
@@ -104,27 +103,27 @@ pub read_refusal : (limits : Limits) (s : Store) (v : OpView) (name : List ℕ) 
 unfolding refusals refusals_of
 read_refusal limits s v name handle shows =
     first_is _ _ (cons_is _ _ _ _ (not_open_is limits s _ v name shows)
-      (cons_is _ _ _ _ (not_held_is limits s _ v name (handle ∷ []) shows)
-      (cons_is _ _ _ _ (outdated_is limits s _ v name (handle ∷ []) _ shows (read_now limits s v name handle shows))
-      (cons_is _ _ _ _ (ap (λ (more : ℕ). handles_full limits s name more) (sym (shows.pointers (address_of s name handle) refl)) ∙ no_more_is limits s _ v name v.pointers shows) refl))))
+    (cons_is _ _ _ _ (not_held_is limits s _ v name (handle ∷ []) shows)
+    (cons_is _ _ _ _ (outdated_is limits s _ v name (handle ∷ []) _ shows (read_now limits s v name handle shows))
+    (cons_is _ _ _ _ (ap (λ (more : ℕ). handles_full limits s name more) (sym (shows.pointers (address_of s name handle) refl)) ∙ no_more_is limits s _ v name v.pointers shows) refl))))
     ∙ sym (free_rows v (not_open v name) _ shows.free)
 
 pub look_refusal : (limits : Limits) (s : Store) (v : OpView) (name key : List ℕ) → Shows limits s (op.Look name key) v → first (refusals limits s (op.Look name key)) ≡ refusal_of v (op.Look name key)
 unfolding refusals refusals_of
 look_refusal limits s v name key shows =
     first_is _ _ (cons_is _ _ _ _ (not_open_is limits s _ v name shows)
-      (cons_is _ _ _ _ (no_more_is limits s _ v name 1 shows)
-      (cons_is _ _ _ _ (not_kept_is limits s _ v key shows refl) refl)))
+    (cons_is _ _ _ _ (no_more_is limits s _ v name 1 shows)
+    (cons_is _ _ _ _ (not_kept_is limits s _ v key shows refl) refl)))
     ∙ sym (free_rows v (not_open v name) _ shows.free)
 
 pub root_refusal : (limits : Limits) (s : Store) (v : OpView) (name key : List ℕ) (handle : ℕ) → Shows limits s (op.Root name key handle) v → first (refusals limits s (op.Root name key handle)) ≡ refusal_of v (op.Root name key handle)
 unfolding refusals refusals_of
 root_refusal limits s v name key handle shows =
     first_is _ _ (cons_is _ _ _ _ (not_open_is limits s _ v name shows)
-      (cons_is _ _ _ _ (not_held_is limits s _ v name (handle ∷ []) shows)
-      (cons_is _ _ _ _ (outdated_is limits s _ v name (handle ∷ []) _ shows (root_now limits s v name key handle shows))
-      (cons_is _ _ _ _ (kept_otherwise_is limits s _ v key _ _ shows refl (address_is limits s _ v shows name handle))
-      (cons_is _ _ _ _ (root_room_is limits s v name key handle shows) refl)))))
+    (cons_is _ _ _ _ (not_held_is limits s _ v name (handle ∷ []) shows)
+    (cons_is _ _ _ _ (outdated_is limits s _ v name (handle ∷ []) _ shows (root_now limits s v name key handle shows))
+    (cons_is _ _ _ _ (kept_otherwise_is limits s _ v key _ _ shows refl (address_is limits s _ v shows name handle))
+    (cons_is _ _ _ _ (root_room_is limits s v name key handle shows) refl)))))
     ∙ sym (free_rows v (not_open v name) _ shows.free)
 
 pub drop_refusal : (limits : Limits) (s : Store) (v : OpView) (key : List ℕ) → Shows limits s (op.Drop key) v → first (refusals limits s (op.Drop key)) ≡ refusal_of v (op.Drop key)
@@ -161,11 +160,11 @@ write_rows : (limits : Limits) (s : Store) (v : OpView) (name payload handles : 
 unfolding refusals
 write_rows limits s v name payload handles address shows =
     first_is _ _ (cons_is _ _ _ _ (not_open_is limits s _ v name shows)
-      (cons_is _ _ _ _ refl
-      (cons_is _ _ _ _ refl
-      (cons_is _ _ _ _ (not_held_is limits s _ v name handles shows)
-      (cons_is _ _ _ _ (no_more_is limits s _ v name 1 shows)
-      (cons_is _ _ _ _ (outdated_is limits s _ v name handles _ shows (write_now limits s v name payload handles address shows)) refl))))))
+    (cons_is _ _ _ _ refl
+    (cons_is _ _ _ _ refl
+    (cons_is _ _ _ _ (not_held_is limits s _ v name handles shows)
+    (cons_is _ _ _ _ (no_more_is limits s _ v name 1 shows)
+    (cons_is _ _ _ _ (outdated_is limits s _ v name handles _ shows (write_now limits s v name payload handles address shows)) refl))))))
 
 view_rows : (limits : Limits) (s : Store) (v : OpView) (name payload handles : List ℕ) (address : Option Address) → Shows limits s (op.Write name payload handles address) v
     → refusal_of v (op.Write name payload handles address) ≡ first (front v name payload handles ++ shard_full limits s (given_address address) ∷ [])

@@ -1,5 +1,5 @@
 -- What a view shows of a plain store: sessions, handles, epochs, roots.
-use Rattle.std.proofs.Common.{◌≡◌, ◌%◌, ℕ, Bool, true, false, not, List, Option, Some, None, is_none, is_some, length, map, nat_le, refl, sym, ap, ◌∙◌}
+use Rattle.std.proofs.Common.{◌≡◌, ℕ, Bool, true, false, not, List, Option, Some, None, is_none, is_some, length, refl, sym, ap, ◌∙◌}
 use Rattle.std.specs.BTreeMap.{is_at}
 use Rattle.std.specs.Map.{lookup}
 use Rattle.std.specs.Option.{option_map, option_map_or, option_or}

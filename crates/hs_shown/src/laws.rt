@@ -21,8 +21,7 @@ ghost use Rattle.hs_shown.specs.Showing.{Shows};
 pub fn an_answer_by_the_view_is_the_stores()
     ensures { (limits : Limits) (s : Store) (o : Op) (v : OpView) (r : Reply)
         → Shows limits s o v → judged_in v o ≡ Some r → (judge limits s o).reply ≡ r }
-{
-}
+{}
 
 /// What the effect of an entry answers to an operation that is not refused then, the plain store
 /// answers.
@@ -55,8 +54,7 @@ pub fn an_effect_is_the_stores()
         → Shows limits s op.Delete v → refusal_of v op.Delete ≡ None
         → effect_reply v (what.Entered (slice_index s.epochs 0 + 1)) op.Delete
         ≡ Some (judge limits s op.Delete).reply }
-{
-}
+{}
 
 /// Where the bytes of a block are told to an operation that is not refused then, the plain store
 /// answers a read with them and a write of another block with Collision.
@@ -72,5 +70,4 @@ pub fn bytes_are_answered_as_the_store_does()
         → block_at s (given_address address) ≡ Some stored
         → is_block stored (written s name payload handles) ≡ false
         → (judge limits s (op.Write name payload handles address)).reply ≡ reply.Collision }
-{
-}
+{}

@@ -3,4 +3,7 @@
 
 mod laws;
 
-pub use laws::{an_answer_by_the_view_is_the_stores, an_effect_is_the_stores, bytes_are_answered_as_the_store_does};
+pub use laws::{
+    an_answer_by_the_view_is_the_stores, an_effect_is_the_stores,
+    bytes_are_answered_as_the_store_does,
+};
