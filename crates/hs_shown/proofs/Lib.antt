@@ -1,0 +1,4 @@
+mod AnswerLemmas
+mod EffectLemmas
+mod RowLemmas
+mod ShownLemmas
