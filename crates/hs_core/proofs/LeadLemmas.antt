@@ -8,7 +8,7 @@ use Rattle.hs_replica.specs.Group.{no_copy}
 -- the lengths of at most four lists
 pub four_lengths : (copies : List Replica) (n : ℕ) → length copies ≡ n → n ≤ 4 →
     take n (length (slice_index_or copies 0 no_copy).stamps ∷ length (slice_index_or copies 1 no_copy).stamps
-        ∷ length (slice_index_or copies 2 no_copy).stamps ∷ length (slice_index_or copies 3 no_copy).stamps ∷ [])
+    ∷ length (slice_index_or copies 2 no_copy).stamps ∷ length (slice_index_or copies 3 no_copy).stamps ∷ [])
     ≡ map (λ copy. length copy.stamps) copies
 four_lengths [] n e h = rw (← e) refl
 four_lengths (a ∷ []) n e h = rw (← e) refl

@@ -11,7 +11,7 @@ use Rattle.hs_journal.specs.declared.entry.Who.TheVariants as who
 use Rattle.hs_limits.specs.declared.limits.Limits.{Limits}
 use Rattle.hs_limits.specs.declared.shape.Shape.{Shape}
 use Rattle.hs_limits.specs.Shape.{peer_of}
-use Rattle.hs_members.specs.Members.{all_peers, has_good, is_good_status, members_at}
+use Rattle.hs_members.specs.Members.{Members, all_peers, has_good, is_good_status, members_at}
 use Rattle.hs_model.specs.declared.deed.Deed.TheVariants as deed
 use Rattle.hs_model.specs.declared.reply.Reply.TheVariants as reply
 use Rattle.hs_post.specs.Pool.{empty_pool}
@@ -25,25 +25,27 @@ pub record Taken : Type 0 where
   pub lengths : List ℕ
   pub good : List Bool
 
+-- which copies of a shard are good, where these are the good peers
+abbrev pub good_copies : Shape → List Bool → ℕ → List Bool
+good_copies shape good shard = take shape.copies (drop (peer_of shape shard 0) good)
+
 -- the copies of a shard's list: the good peers have the taken log, all of it sealed and in effect
 abbrev pub taken_group : Shape → Taken → ℕ → Group
 taken_group shape taken shard =
-    let good : List Bool = take shape.copies (drop (peer_of shape shard 0) taken.good) in
-    new_group shape shard (slice_index taken.views shard) (slice_index taken.lengths shard) good
+    new_group shape shard (slice_index taken.views shard) (slice_index taken.lengths shard) (good_copies shape taken.good shard)
 
 -- the first view of a shard: where it has a good peer, one above that of the taken log
-abbrev pub first_view : Shape → Taken → ℕ → ℕ
-first_view shape taken shard =
-    if has_good shard (members_at shape taken.views taken.good) then slice_index taken.views shard + 1 else slice_index taken.views shard
+abbrev pub first_view : Members → List ℕ → ℕ → ℕ
+first_view m views shard = if has_good shard m then slice_index views shard + 1 else slice_index views shard
 
-abbrev pub first_views : Shape → Taken → List ℕ
-first_views shape taken = map (first_view shape taken) (range_with_len 0 shape.shards)
+abbrev pub first_views : Members → List ℕ → List ℕ
+first_views m views = map (first_view m views) (range_with_len 0 m.shape.shards)
 
 -- nothing is under way
 abbrev pub new_core : Shape → Limits → Taken → ℕ → Core
 new_core shape limits taken moment = record {
   limits = limits;
-  members = members_at shape (first_views shape taken) taken.good;
+  members = members_at shape (first_views (members_at shape taken.views taken.good) taken.views) taken.good;
   catalogues = taken.catalogues;
   groups = map (taken_group shape taken) (range_with_len 0 shape.shards);
   viewed = replicate shape.shards false;

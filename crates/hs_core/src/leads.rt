@@ -56,7 +56,8 @@ impl Core {
     {
         let shape = self.shape();
         let lengths = lengths_of(self.group(shard), shape, shard);
-        self.members.lead(shard, &lengths[..usize::from(shape.copies)])
+        self.members
+            .lead(shard, &lengths[..usize::from(shape.copies)])
     }
 }
 

@@ -4,7 +4,6 @@
 mod core_state;
 mod event;
 mod leads;
-mod new_core;
 mod no_memory;
 mod notes;
 mod open_work;

@@ -17,7 +17,10 @@ impl Core {
     {
         !self.operations.is_empty()
             || any_waits(self.groups.as_slice())
-            || any_is_behind(self.catalogues.as_slice(), top_epoch(self.catalogues.as_slice()))
+            || any_is_behind(
+                self.catalogues.as_slice(),
+                top_epoch(self.catalogues.as_slice()),
+            )
             || self.any_joins()
     }
 
