@@ -157,7 +157,7 @@ beside shape cs all own shard low = on-place (λ ds k. AreOwn n 0 ds → IsBesid
               ap (λ ps. blocks_in (listed ps) (length front)) same
               ∙ ap (λ k. blocks_in (listed (fs ++ p ∷ bs)) k) (sym place)
               ∙ blocks_of_shard fs bs p mine
-              ∙ length_map {Address × FoldedFacts} {Address × Present} (λ e. (e.0, e.1.present)) c.blocks;
+              ∙ length_map {X = Address × FoldedFacts} {Y = Address × Present} (λ e. (e.0, e.1.present)) c.blocks;
           kept = λ key here.
               kept_pruned (listed (map plain (front ++ c ∷ back))) key
               ∙ ap (λ ps. retained_at (listed ps) key) same
@@ -199,7 +199,7 @@ abbrev many_blocks : Catalogue → ℕ
 many_blocks c = length c.blocks
 
 pub blocks_total : (shape : Shape) (from : ℕ) (cs : List Folded) → AreOwn shape.shards from cs → sum_by (λ (c : Catalogue). length c.blocks) (forget_all shape from cs) ≡ length (store_of cs).blocks
-blocks_total shape from cs own = go from cs own ∙ sym (length_map {Address × Present} {Address × StoredBlock} (λ e. (e.0, e.1.stored)) (all_present (map plain cs)))
+blocks_total shape from cs own = go from cs own ∙ sym (length_map {X = Address × Present} {Y = Address × StoredBlock} (λ e. (e.0, e.1.stored)) (all_present (map plain cs)))
   where
     go : (from : ℕ) (cs : List Folded) → AreOwn shape.shards from cs → sum_by many_blocks (forget_all shape from cs) ≡ length (all_present (map plain cs))
     go from [] own = refl
@@ -207,8 +207,8 @@ blocks_total shape from cs own = go from cs own ∙ sym (length_map {Address × 
         let mine = own_mine shape.shards from (c ∷ cs) own in
         let all = length_both (plain c).blocks (all_present (map plain cs)) mine.0.ordered (apart-mine shape.shards from (plain c).blocks (map plain cs) mine.0.blocks (no_block_later shape.shards from (from + 1) (map plain cs) (omega arith) mine.1)) in
         let sum = sum_by-cons many_blocks (forget shape from c) (forget_all shape (from + 1) cs) in
-        let here = length_map {Address × FoldedFacts} {Address × Facts} (λ e. (e.0, known_of e.1)) c.blocks in
-        let there = length_map {Address × FoldedFacts} {Address × Present} (λ e. (e.0, e.1.present)) c.blocks in
+        let here = length_map {X = Address × FoldedFacts} {Y = Address × Facts} (λ e. (e.0, known_of e.1)) c.blocks in
+        let there = length_map {X = Address × FoldedFacts} {Y = Address × Present} (λ e. (e.0, e.1.present)) c.blocks in
         let rest = go (from + 1) cs own.1 in
         omega (arith, all, sum, here, there, rest)
 

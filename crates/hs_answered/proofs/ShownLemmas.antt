@@ -214,7 +214,7 @@ module _ (cs : List Folded) (core : Core) (o : Op) (folded : IsFolded core cs) (
     room_for_block =
         ap (λ (b : Bool). if_root b) (puts_none s o a looks)
         ∙ ap (λ (c : Catalogue). nat_lt (length c.blocks + 0) core.limits.blocks) memory_is
-        ∙ ap (λ (n : ℕ). nat_lt (n + 0) core.limits.blocks) (length_map {Address × FoldedFacts} {Address × Facts} (λ e. (e.0, known_of e.1)) its.c.blocks)
+        ∙ ap (λ (n : ℕ). nat_lt (n + 0) core.limits.blocks) (length_map {X = Address × FoldedFacts} {Y = Address × Facts} (λ e. (e.0, known_of e.1)) its.c.blocks)
         ∙ room_is (length its.c.blocks) core.limits.blocks
         ∙ ap (λ (n : ℕ). not (nat_le core.limits.blocks n)) (sym its.count)
         ∙ ap (λ (k : ℕ). not (nat_le core.limits.blocks (blocks_in s k))) (sym (ap (λ (n : ℕ). shard_of n a) shards_are ∙ here))
