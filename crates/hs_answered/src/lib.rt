@@ -1,6 +1,8 @@
 //! What the core answers is what the plain store of its catalogues and sessions answers.
 #![tactic(auto)]
 
+mod answered;
 mod shown;
 
+pub use answered::an_answer_is_the_judges;
 pub use shown::views_show_the_store;
