@@ -111,6 +111,7 @@ count-stored shards shard [] = refl
 count-stored shards shard (e ∷ es) =
     sum_by-cons (λ (x : Address × StoredBlock). cond (shard_of shards x.0 == shard) 1 0) (e.0, e.1.stored) (stored_of es)
     ∙ ap (λ n. cond (shard_of shards e.0 == shard) 1 0 + n) (count-stored shards shard es)
+
 -- ---- one shard among others
 
 mine_back : (n from : ℕ) (front back : List Catalogue) (c : Catalogue) → AreMine n from (front ++ c ∷ back) → AreMine n (from + length front + 1) back
