@@ -1,5 +1,5 @@
 -- What an answer by the view alone leaves, and its deed, are those of the plain store's judge.
-use Rattle.std.proofs.Common.{◌≡◌, ℕ, ◌+◌, ◌⊎◌, inl, inr, Bool, true, false, cond, not, List, [], ◌∷◌, length, map, Option, Some, None, is_none, is_some, refl, sym, ap, ◌∙◌, subst, slice_index, unwrap_or}
+use Rattle.std.proofs.Common.{◌≡◌, ℕ, ◌⊎◌, inl, inr, Bool, true, false, cond, List, [], ◌∷◌, Option, Some, None, refl, sym, ap, ◌∙◌, subst, slice_index, unwrap_or}
 use Rattle.std.proofs.lemmas.Bool.{false≢true}
 use Rattle.std.proofs.lemmas.Map.Made.{lookup-map_values}
 use Rattle.std.specs.BTreeMap.{insert_entry, is_at}
@@ -10,15 +10,14 @@ use Rattle.hs_answered.proofs.ShownLemmas.{held_is}
 use Rattle.hs_limits.specs.declared.address.Address.{Address}
 use Rattle.hs_limits.specs.declared.address.Held.{Held}
 use Rattle.hs_limits.specs.declared.limits.Limits.{Limits}
-use Rattle.hs_model.specs.declared.deed.Deed.{Deed}
 use Rattle.hs_model.specs.declared.deed.Deed.TheVariants as deed
 use Rattle.hs_model.specs.declared.op.Op.{Op}
 use Rattle.hs_model.specs.declared.op.Op.TheVariants as op
 use Rattle.hs_model.specs.declared.reply.Reply.{Reply}
 use Rattle.hs_model.specs.declared.reply.Reply.TheVariants as reply
-use Rattle.hs_model.specs.Judge.{Judged, address_of, asked_of, forgetting, granted, judge, judged, kept_address, nothing, refusals, refused, roots_with, written_reply}
+use Rattle.hs_model.specs.Judge.{Judged, address_of, forgetting, granted, judge, judged, kept_address, nothing, refusals, refused, roots_with, written_reply}
 use Rattle.hs_model.specs.Refusals.{first}
-use Rattle.hs_model.specs.Store.{Root, Session, Store, held_in, hold_all, holding_all, new_session, next_of, put_session, retained_at, root_epoch, session_at, text_cmp, with_roots, with_sessions}
+use Rattle.hs_model.specs.Store.{Root, Session, Store, hold_all, holding_all, new_session, next_of, put_session, retained_at, root_epoch, session_at, text_cmp, with_roots, with_sessions}
 use Rattle.hs_model.proofs.MapLemmas.{map-insert_entry, map-set_value}
 use Rattle.hs_ops.specs.Answers.{deed_of, gained, is_done, root_address, seats_after}
 use Rattle.hs_ops.specs.Going.{at_once, judged_in}

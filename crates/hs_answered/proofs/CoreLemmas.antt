@@ -3,7 +3,7 @@ use Rattle.std.proofs.Common.{◌≡◌, ℕ, ◌++◌, Bool, List, [], ◌∷�
 use Rattle.std.specs.Option.{option_map, option_map_or, option_or}
 use Rattle.hs_answered.proofs.AnswerLemmas.{ByTheView, Leaves, leaves}
 use Rattle.hs_answered.proofs.ShownLemmas.{shown}
-use Rattle.hs_answered.specs.Judged.{IsBusy, IsJudged, entry_of, judged_at}
+use Rattle.hs_answered.specs.Judged.{IsBusy, IsJudged, judged_at}
 use Rattle.hs_answered.specs.Standing.{IsAddressed, IsFolded, store_with}
 use Rattle.hs_core.specs.declared.wait.Wait.TheVariants as wait
 use Rattle.hs_core.specs.declared.waiting.Waiting.{Waiting}
@@ -14,7 +14,6 @@ use Rattle.hs_core.specs.Pending.{is_pending}
 use Rattle.hs_core.specs.Seeing.{pointers_for, view_for}
 use Rattle.hs_core.specs.State.{Core}
 use Rattle.hs_fold.specs.Runs.Facts.{Catalogue as Folded}
-use Rattle.hs_journal.specs.declared.entry.JournalEntry.{JournalEntry}
 use Rattle.hs_journal.specs.declared.entry.Who.TheVariants as who
 use Rattle.hs_journal.specs.Order.{IsOpen, session_of}
 use Rattle.hs_model.specs.declared.deed.Deed.{Deed}
@@ -22,12 +21,11 @@ use Rattle.hs_model.specs.declared.op.Op.{Op}
 use Rattle.hs_model.specs.declared.op.Op.TheVariants as op
 use Rattle.hs_model.specs.declared.reply.Reply.{Reply}
 use Rattle.hs_model.specs.declared.reply.Reply.TheVariants as reply
-use Rattle.hs_model.specs.Judge.{Judged, judge}
 use Rattle.hs_model.specs.Refusals.{first, refused_when}
 use Rattle.hs_model.specs.Store.{Store}
 use Rattle.hs_ops.specs.Answers.{deed_of, seats_after}
 use Rattle.hs_ops.specs.Going.{at_once, begin, go, judged_in}
-use Rattle.hs_ops.specs.Operations.{after_step, go_step, new_operation}
+use Rattle.hs_ops.specs.Operations.{after_step, new_operation}
 use Rattle.hs_ops.specs.Refusals.{is_busy, not_open, refusal_of, refusals_of}
 use Rattle.hs_ops.specs.Speaking.{judging_shard}
 use Rattle.hs_ops.specs.Views.{OpView, as_session}

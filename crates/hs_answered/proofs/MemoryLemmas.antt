@@ -1,5 +1,5 @@
 -- What the plain store of folds has of a shard is what memory has of its fold, and so are the counts of all.
-use Rattle.std.proofs.Common.{◌≡◌, ℕ, suc, ◌+◌, ◌<◌, List, [], ◌∷◌, ◌++◌, length, map, Bool, true, false, cond, Option, Some, None, is_none, is_some, is_eq, refl, sym, ap, ◌∙◌, subst, arith, count_by, find, is_gt, Ordering, Less, Equal, Greater, sum_by}
+use Rattle.std.proofs.Common.{◌≡◌, ℕ, suc, ◌+◌, ◌<◌, List, [], ◌∷◌, ◌++◌, length, map, Bool, true, false, cond, Option, Some, None, is_none, is_eq, refl, sym, ap, ◌∙◌, subst, arith, count_by, find, is_gt, Ordering, Less, Equal, Greater, sum_by}
 use Rattle.std.proofs.lemmas.Bool.{false≢true}
 use Rattle.std.proofs.lemmas.List.{length-map}
 use Rattle.std.proofs.lemmas.List.Sums.{sum_by-cons}

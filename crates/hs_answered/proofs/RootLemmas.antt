@@ -1,5 +1,5 @@
 -- What the plain store has of one shard among others: its roots and its blocks.
-use Rattle.std.proofs.Common.{◌≡◌, ◌≢◌, ℕ, suc, ◌+◌, ◌<◌, ◌≤◌, ◌==◌, ◌&&◌, List, [], ◌∷◌, ◌++◌, length, map, Bool, true, false, cond, Option, Some, None, is_none, refl, sym, ap, ◌∙◌, subst, arith, count_by, find, filter, bytes_eq}
+use Rattle.std.proofs.Common.{◌≡◌, ◌≢◌, ℕ, suc, ◌+◌, ◌<◌, ◌≤◌, ◌==◌, ◌&&◌, List, [], ◌∷◌, ◌++◌, length, Bool, true, false, cond, Option, Some, None, is_none, refl, sym, ap, ◌∙◌, subst, arith, count_by, find, filter, bytes_eq}
 use Rattle.std.proofs.lemmas.Bool.{and_parts, eq-eqb, ne_eqb}
 use Rattle.std.proofs.lemmas.List.Sums.{sum_by-cons}
 use Rattle.std.proofs.lemmas.Slice.Eq.{bytes_eq-Decides}
@@ -19,7 +19,7 @@ use Rattle.hs_fold.specs.Catalogue.{Present}
 use Rattle.hs_fold.specs.Runs.Opened.{pruned}
 use Rattle.hs_fold.specs.Shards.Catalogue.{Catalogue}
 use Rattle.hs_fold.specs.Shards.Mine.{AreMine}
-use Rattle.hs_fold.specs.Shards.Opened.{all_present, all_roots, both_roots, store_of}
+use Rattle.hs_fold.specs.Shards.Opened.{all_present, all_roots, store_of}
 
 -- ---- roots of other shards: as hs_fold says it of an entry
 

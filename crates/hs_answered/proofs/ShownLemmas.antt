@@ -1,18 +1,18 @@
 -- The view that the core makes for an operation shows the plain store of its catalogues and sessions.
-use Rattle.std.proofs.Common.{◌≡◌, ◌⊎◌, inl, inr, ℕ, ◌+◌, ◌-◌, ◌<◌, ◌≤◌, List, [], length, map, Bool, true, false, cond, not, Option, Some, None, IsSome, is_none, is_some, refl, sym, ap, ◌∙◌, subst, arith, nat_le, nat_lt, count_by, find, sum_by, unwrap_or}
+use Rattle.std.proofs.Common.{◌≡◌, ◌⊎◌, inl, inr, ℕ, ◌+◌, ◌-◌, ◌<◌, List, [], length, map, Bool, true, false, cond, not, Option, Some, None, IsSome, is_some, refl, sym, ap, ◌∙◌, arith, nat_le, nat_lt, find, sum_by, unwrap_or}
 use Rattle.std.proofs.Math.Nat.{mod-lt}
 use Rattle.std.proofs.lemmas.Bool.Decides.{nat_tests}
 use Rattle.std.proofs.lemmas.Map.Made.{lookup-map_values}
 use Rattle.std.specs.BTreeMap.{is_at}
 use Rattle.std.specs.Option.{option_and_then, option_map, option_map_or, option_or}
 use Rattle.std.specs.Prelude.{slice_index, slice_index_or}
-use Rattle.hs_answered.specs.Standing.{IsAddressed, IsFolded, forget_all, store_with}
+use Rattle.hs_answered.specs.Standing.{IsAddressed, IsFolded, store_with}
 use Rattle.hs_answered.proofs.MemoryLemmas.{IsBeside, beside, blocks_total, epochs_same, length_map, retained_record, retained_root, roots_total, shards_same, swept_same}
 use Rattle.hs_core.specs.Looking.{catalogue_of, shape_of}
 use Rattle.hs_core.specs.Pending.{has_block_room, has_root_room, puts_root}
 use Rattle.hs_core.specs.Seeing.{facts_for, pointers_for, view_for}
 use Rattle.hs_core.specs.State.{Core}
-use Rattle.hs_fold.specs.Runs.Facts.{Catalogue as Folded, Facts as FoldedFacts, RootFacts, facts_at as fold_facts, roots_of}
+use Rattle.hs_fold.specs.Runs.Facts.{Catalogue as Folded, Facts as FoldedFacts, RootFacts, facts_at as fold_facts}
 use Rattle.hs_limits.specs.declared.address.Address.{Address}
 use Rattle.hs_limits.specs.declared.address.Held.{Held}
 use Rattle.hs_limits.specs.declared.shape.Shape.{Shape}
@@ -22,7 +22,7 @@ use Rattle.hs_model.specs.declared.op.Op.{Op}
 use Rattle.hs_model.specs.declared.op.Op.TheVariants as op
 use Rattle.hs_model.specs.declared.store.StoredBlock.{StoredBlock}
 use Rattle.hs_model.specs.Hollow.{looks_at}
-use Rattle.hs_model.specs.Judge.{address_of, nothing, pointers_at}
+use Rattle.hs_model.specs.Judge.{nothing, pointers_at}
 use Rattle.hs_model.specs.Reach.{pointers_of}
 use Rattle.hs_model.specs.Store.{Root, Session, Store, address_cmp, block_at, blocks_in, held_in, is_retained, retained_at, roots_in, session_at, shard_at, text_cmp}
 use Rattle.hs_model.specs.Store.{held_at as store_held}
