@@ -1,0 +1,83 @@
+-- Clause 5, completeness.
+use Rattle.std.specs.Prelude.{◌≡◌, ◌⊎◌, ℕ, ◌+◌, ◌*◌, ◌<◌, ◌≤◌, Bool, true, List, length, bytes_eq, codes, count_by, Some, IsSome, All}
+use Rattle.hs_journal.specs.Events.{client_op}
+use Rattle.hs_journal.specs.Order.{IsOfLine, IsPrompt}
+use Rattle.hs_model.specs.declared.command.Command.TheVariants as command
+use Rattle.hs_model.specs.Store.{Store}
+use Rattle.hs_ports.specs.Moments.{disk_at}
+use Rattle.hs_script.specs.Lines.{lines_of}
+use Rattle.hs_side.specs.declared.header.Header.{Header}
+use Rattle.hs_promise.specs.declared.status.Status.TheVariants as status
+use Rattle.hs_promise.specs.Answers.{store_at}
+use Rattle.hs_promise.specs.Ending.{ending_of}
+use Rattle.hs_promise.specs.Ends.{IsBad, input_limit}
+use Rattle.hs_promise.specs.Lost.{IsPast, LostCause}
+use Rattle.hs_promise.specs.Run.{Objects, Ran, Script, peer_count}
+use Rattle.hs_promise.specs.Shapes.{HasHeader, own_header}
+
+-- ---- how a run without failures ends
+
+-- how many lines of a script are `delete`
+abbrev pub delete_count : List (List ℕ) → ℕ
+delete_count lines = count_by (λ line. bytes_eq line (codes "delete")) lines
+
+-- the most entries that a run without failures may have
+abbrev pub entry_bound : Script → List (List ℕ) → ℕ
+entry_bound S lines = length lines + (2 * S.set.shape.shards + 1) * (delete_count lines + 2) + peer_count S
+
+-- no count of faults rose
+pub record NoneFailed (old new : Objects) : Type 0 where
+  pub disks : new.disk_faults ≡ old.disk_faults
+  pub sink : new.sink_faults ≡ old.sink_faults
+  pub source : new.source_faults ≡ old.source_faults
+
+-- the script is in the language and within its bounds, the headers are of the shape, nothing fails, and the journal has room
+pub record MayComplete (S : Script) (script : List ℕ) (r : Ran) : Type 0 where
+  pub headers : (peer : ℕ) (found : Header) → peer < length r.old.disks → HasHeader (disk_at r.old.disks peer) found → found ≡ own_header S.set.shape peer
+  pub good : (n : ℕ) → IsBad (lines_of script) n → ⊥
+  pub short : length script ≤ input_limit
+  pub calm : NoneFailed r.old r.new
+  pub room : entry_bound S (lines_of script) ≤ S.set.limits.ops
+
+-- it comes to its end, or memory was wanting, or a shard was lost with its cause
+abbrev pub EndsWell : Script → Ran → Type 0
+EndsWell S r = (r.ending ≡ status.Done) ⊎ ((r.ending ≡ status.NoMemory) ⊎ (shard : ℕ) × (r.ending ≡ status.ShardLost shard) × LostCause S r shard)
+
+-- ---- which lines have their entries
+
+-- the last line that was begun may lack its entry where memory was wanting or the journal full
+abbrev pub MayLack : Ran → ℕ → Type 0
+MayLack r line = (line ≡ r.line) × (((ending_of r.ending).wanting ≡ true) ⊎ ((ending_of r.ending).full ≡ true))
+
+-- a line that is answered in its own event has its entry
+abbrev pub HasPrompt : Script → Ran → ℕ → Type 0
+HasPrompt S r line = line ≤ r.line → IsPrompt (client_op (S.commands line)) → (MayLack r line → ⊥) → (place : ℕ) × IsOfLine r.journal place line
+
+-- ---- settle
+
+-- a place of a journal is that of the first entry of a line above this one, or the end where there is none
+pub record IsFirstAbove (r : Ran) (line place : ℕ) : Type 0 where
+  pub within : place ≤ length r.journal
+  pub none : (before n : ℕ) → before < place → line < n → IsOfLine r.journal before n → ⊥
+  pub here : (place ≡ length r.journal) ⊎ (n : ℕ) × (line < n) × IsOfLine r.journal place n
+
+-- a client's line n has its entry before every entry of a line above this one
+pub record IsAnsweredBefore (r : Ran) (line n : ℕ) : Type 0 where
+  pub place : ℕ
+  pub at : IsOfLine r.journal place n
+  pub first : (other k : ℕ) → line < k → IsOfLine r.journal other k → place < other
+
+-- the shards of a store are in one epoch, and have swept it
+pub record IsLevel (s : Store) : Type 0 where
+  pub epoch : ℕ
+  pub entered : All (λ e. e ≡ epoch) s.epochs
+  pub swept : All (λ e. e ≡ epoch) s.swept
+
+-- what a settle that was gone past has done: all lines below are answered, and the shards are level
+pub record Settles (S : Script) (entry : Store) (r : Ran) (line : ℕ) : Type 0 where
+  pub answered : (n : ℕ) → n < line → IsSome (client_op (S.commands n)) → IsAnsweredBefore r line n
+  pub level : (place : ℕ) → IsFirstAbove r line place → IsLevel (store_at S entry r.journal place)
+
+-- so each, where the pool has more room than the last two rounds of one lead take
+abbrev pub SettlesEach : Script → Store → Ran → Type 0
+SettlesEach S entry r = 2 * S.set.shape.shards < S.set.limits.pool → (line : ℕ) → S.commands line ≡ Some command.Settle → IsPast r line → Settles S entry r line

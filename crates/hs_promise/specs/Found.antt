@@ -1,0 +1,42 @@
+-- What opening found: which disks were read as what, and which peers were set aside.
+use Rattle.std.specs.Prelude.{◌≡◌, ◌⊎◌, ℕ, ◌≤◌, ◌<◌, true, false, length, None, slice_index_or, All, AllPairs, Contains}
+use Rattle.hs_members.specs.Members.{home_of}
+use Rattle.hs_ports.specs.Moments.{disk_at}
+use Rattle.hs_side.specs.Current.{list_in}
+use Rattle.hs_promise.specs.Entry.{is_taken}
+use Rattle.hs_promise.specs.Run.{DiskRose, Ran, Script, peer_count}
+use Rattle.hs_promise.specs.Story.{Story, opens_good}
+
+-- a peer of a taken log whose disk failed before the core was opened, and when
+pub record IsLostBefore (S : Script) (r : Ran) (story : Story) (lost : ℕ × ℕ) : Type 0 where
+  pub taken : is_taken S.set.shape story.logs lost.0 ≡ true
+  pub bad : opens_good story lost.0 ≡ false
+  pub failed : DiskRose r 1 lost.0
+  pub later : r.old.moment ≤ lost.1
+  pub before : lost.1 ≤ story.opened
+
+-- the taken log of a peer's shard was lost so
+pub record IsLeftBehind (S : Script) (story : Story) (peer : ℕ) : Type 0 where
+  pub lost : ℕ × ℕ
+  pub among : Contains story.lost lost
+  pub same_shard : home_of S.set.shape lost.0 ≡ home_of S.set.shape peer
+
+-- why a peer was not good when the core was opened: its disk failed, or is no log, or it was not yet made equal to a log that was lost
+abbrev pub IsSetAside : Script → Ran → Story → ℕ → Type 0
+IsSetAside S r story peer = DiskRose r 1 peer ⊎ ((slice_index_or story.logs peer None ≡ None) ⊎ IsLeftBehind S story peer)
+
+-- what was found
+pub record Found (S : Script) (r : Ran) (story : Story) : Type 0 where
+  pub logs : length story.logs ≡ peer_count S
+  pub goods : length story.good ≡ peer_count S
+  pub later : r.old.moment ≤ story.opened
+  pub lost : All (IsLostBefore S r story) story.lost
+  pub once : AllPairs (λ one other. (one.1 ≤ other.1) × (one.0 ≡ other.0 → ⊥)) story.lost
+  pub all_lost : (peer : ℕ) → is_taken S.set.shape story.logs peer ≡ true → opens_good story peer ≡ false → (moment : ℕ) × Contains story.lost (peer, moment)
+  pub aside : (peer : ℕ) → peer < peer_count S → opens_good story peer ≡ false → IsSetAside S r story peer
+
+-- where the disks tell their contents a peer's log is that of its disk, or its disk failed and counts as having none
+abbrev pub IsReadAs : Ran → Story → ℕ → Type 0
+IsReadAs r story peer =
+    (slice_index_or story.logs peer None ≡ list_in (disk_at r.old.disks peer).seen)
+    ⊎ (slice_index_or story.logs peer None ≡ None) × DiskRose r 1 peer

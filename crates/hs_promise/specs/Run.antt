@@ -1,0 +1,50 @@
+-- A run of a script as it is seen from outside, and what it is set up with.
+use Rattle.std.specs.Prelude.{ℕ, ◌+◌, ◌*◌, ◌-◌, ◌^◌, ◌≤◌, min, List, Option, slice_index_or}
+use Rattle.hs_fold.specs.Shards.Setting.{Setting}
+use Rattle.hs_journal.specs.declared.entry.JournalEntry.{JournalEntry}
+use Rattle.hs_model.specs.declared.command.Command.{Command}
+use Rattle.hs_model.specs.declared.course.CourseItem.{CourseItem}
+use Rattle.hs_ports.specs.Disk.{Standing}
+use Rattle.hs_promise.specs.declared.status.Status.{Status}
+
+-- a script on a store: what the store is set up with (naming, limits, shape), and the command of each line by its number
+pub record Script : Type 0 where
+  pub set : Setting
+  pub commands : ℕ → Option Command
+
+-- what a run is handed, at one time: the moment of the watch, the disks by peer, what the sink has got (each byte with its moment) and
+-- what the source has left, where they tell it, and how often each has failed
+pub record Objects : Type 0 where
+  pub moment : ℕ
+  pub disks : List Standing
+  pub got : Option (List (ℕ × ℕ))
+  pub left : Option (List ℕ)
+  pub disk_faults : List ℕ
+  pub sink_faults : ℕ
+  pub source_faults : ℕ
+
+-- what a run answers, and what it was handed, as that was at entry and is at the end
+pub record Ran : Type 0 where
+  pub ending : Status
+  pub line : ℕ
+  pub journal : List JournalEntry
+  pub refused : List JournalEntry
+  pub course : List CourseItem
+  pub old : Objects
+  pub new : Objects
+
+-- how many peers the store has
+abbrev pub peer_count : Script → ℕ
+peer_count S = S.set.shape.shards * S.set.shape.copies
+
+-- how often the disk of a peer has failed by some counts
+abbrev pub faults_at : List ℕ → ℕ → ℕ
+faults_at faults peer = slice_index_or faults peer 0
+
+-- a count rose by at least so much, or stands at the end of a u64
+abbrev pub RoseBy : ℕ → ℕ → ℕ → Type 0
+RoseBy n before now = min (before + n) (2 ^ 64 - 1) ≤ now
+
+-- so did the count of a peer's disk in a run
+abbrev pub DiskRose : Ran → ℕ → ℕ → Type 0
+DiskRose r n peer = RoseBy n (faults_at r.old.disk_faults peer) (faults_at r.new.disk_faults peer)
