@@ -1,12 +1,12 @@
 -- The causes of the statuses that need no contents, and that of a full journal.
-use Rattle.std.specs.Prelude.{◌≡◌, ⊤, ℕ, ◌<◌, ◌≤◌, [], ◌++◌, length, All}
+use Rattle.std.specs.Prelude.{All, [], length, ℕ, ◌++◌, ◌<◌, ◌≡◌, ◌≤◌}
 use Rattle.hs_model.specs.Store.{Store}
 use Rattle.hs_ports.specs.Fault.{HasRisen}
-use Rattle.hs_promise.specs.declared.status.Status.{Status}
-use Rattle.hs_promise.specs.declared.status.Status.TheVariants as status
 use Rattle.hs_promise.specs.Answers.{Answers, IsEntry}
 use Rattle.hs_promise.specs.Lost.{LostCause}
 use Rattle.hs_promise.specs.Run.{Objects, Ran, Script, faults_at}
+use Rattle.hs_promise.specs.declared.status.Status.{Status}
+use Rattle.hs_promise.specs.declared.status.Status.TheVariants as status
 
 -- no count of faults ever falls
 pub record CountsStand (old new : Objects) : Type 0 where

@@ -1,25 +1,23 @@
 -- Clause 5, completeness.
-use Rattle.std.specs.Prelude.{◌≡◌, ◌⊎◌, ℕ, ◌+◌, ◌*◌, ◌<◌, ◌≤◌, Bool, true, List, length, bytes_eq, codes, count_by, Some, IsSome, All}
+use Rattle.std.specs.Prelude.{IsSome, List, Some, length, true, ℕ, ◌*◌, ◌+◌, ◌<◌, ◌≡◌, ◌≤◌, ◌⊎◌}
 use Rattle.hs_journal.specs.Events.{client_op}
 use Rattle.hs_journal.specs.Order.{IsOfLine, IsPrompt}
-use Rattle.hs_model.specs.declared.command.Command.TheVariants as command
 use Rattle.hs_model.specs.Store.{Store}
+use Rattle.hs_model.specs.declared.command.Command.TheVariants as command
 use Rattle.hs_ports.specs.Moments.{disk_at}
 use Rattle.hs_script.specs.Lines.{lines_of}
 use Rattle.hs_side.specs.declared.header.Header.{Header}
-use Rattle.hs_promise.specs.declared.status.Status.TheVariants as status
 use Rattle.hs_promise.specs.Answers.{store_at}
 use Rattle.hs_promise.specs.Ending.{ending_of}
-use Rattle.hs_promise.specs.Ends.{IsBad, input_limit}
 use Rattle.hs_promise.specs.Lost.{IsPast, LostCause}
+use Rattle.hs_promise.specs.Lower.Laws.{IsLevel}
+use Rattle.hs_promise.specs.Lower.Script.{IsBad, delete_count, input_limit}
+use Rattle.hs_promise.specs.Lower.Sides.{HasHeader, own_header}
+use Rattle.hs_promise.specs.Lower.Telling.{IsAnsweredBefore, IsFirstAbove}
 use Rattle.hs_promise.specs.Run.{Objects, Ran, Script, peer_count}
-use Rattle.hs_promise.specs.Shapes.{HasHeader, own_header}
+use Rattle.hs_promise.specs.declared.status.Status.TheVariants as status
 
 -- ---- how a run without failures ends
-
--- how many lines of a script are `delete`
-abbrev pub delete_count : List (List ℕ) → ℕ
-delete_count lines = count_by (λ line. bytes_eq line (codes "delete")) lines
 
 -- the most entries that a run without failures may have
 abbrev pub entry_bound : Script → List (List ℕ) → ℕ
@@ -55,28 +53,10 @@ HasPrompt S r line = line ≤ r.line → IsPrompt (client_op (S.commands line)) 
 
 -- ---- settle
 
--- a place of a journal is that of the first entry of a line above this one, or the end where there is none
-pub record IsFirstAbove (r : Ran) (line place : ℕ) : Type 0 where
-  pub within : place ≤ length r.journal
-  pub none : (before n : ℕ) → before < place → line < n → IsOfLine r.journal before n → ⊥
-  pub here : (place ≡ length r.journal) ⊎ (n : ℕ) × (line < n) × IsOfLine r.journal place n
-
--- a client's line n has its entry before every entry of a line above this one
-pub record IsAnsweredBefore (r : Ran) (line n : ℕ) : Type 0 where
-  pub place : ℕ
-  pub at : IsOfLine r.journal place n
-  pub first : (other k : ℕ) → line < k → IsOfLine r.journal other k → place < other
-
--- the shards of a store are in one epoch, and have swept it
-pub record IsLevel (s : Store) : Type 0 where
-  pub epoch : ℕ
-  pub entered : All (λ e. e ≡ epoch) s.epochs
-  pub swept : All (λ e. e ≡ epoch) s.swept
-
 -- what a settle that was gone past has done: all lines below are answered, and the shards are level
 pub record Settles (S : Script) (entry : Store) (r : Ran) (line : ℕ) : Type 0 where
-  pub answered : (n : ℕ) → n < line → IsSome (client_op (S.commands n)) → IsAnsweredBefore r line n
-  pub level : (place : ℕ) → IsFirstAbove r line place → IsLevel (store_at S entry r.journal place)
+  pub answered : (n : ℕ) → n < line → IsSome (client_op (S.commands n)) → IsAnsweredBefore r.journal line n
+  pub level : (place : ℕ) → IsFirstAbove r.journal line place → IsLevel (store_at S entry r.journal place)
 
 -- so each, where the pool has more room than the last two rounds of one lead take
 abbrev pub SettlesEach : Script → Store → Ran → Type 0

@@ -1,25 +1,13 @@
 -- Clause 4, deletion.
-use Rattle.std.specs.Prelude.{◌≡◌, ℕ, ◌+◌, ◌-◌, ◌≤◌, List, length, All, slice_index}
-use Rattle.hs_journal.specs.declared.entry.JournalEntry.{JournalEntry}
+use Rattle.std.specs.Prelude.{ℕ, ◌+◌, ◌≡◌}
 use Rattle.hs_journal.specs.Order.{IsAt}
-use Rattle.hs_laws.specs.Unreached.{KeepsItsGiven, KeepsTheRest}
-use Rattle.hs_model.specs.declared.deed.Deed.TheVariants as deed
-use Rattle.hs_model.specs.declared.reply.Reply.{Reply}
-use Rattle.hs_model.specs.declared.reply.Reply.TheVariants as reply
-use Rattle.hs_model.specs.Inner.{sweep}
+use Rattle.hs_journal.specs.declared.entry.JournalEntry.{JournalEntry}
 use Rattle.hs_model.specs.Store.{Store}
+use Rattle.hs_model.specs.declared.deed.Deed.TheVariants as deed
+use Rattle.hs_model.specs.declared.reply.Reply.TheVariants as reply
 use Rattle.hs_promise.specs.Answers.{store_at}
+use Rattle.hs_promise.specs.Lower.Laws.{AllSwept, SweepsExactly}
 use Rattle.hs_promise.specs.Run.{Ran, Script}
-
--- a sweep of a shard removes exactly the blocks of it that were born before its epoch and that no anchor reaches, with what is given there, and tells their number
-pub record SweepsExactly (s : Store) (shard : ℕ) (told : Reply) : Type 0 where
-  pub exact : KeepsTheRest s (slice_index s.epochs shard) shard (sweep s shard)
-  pub given : KeepsItsGiven s (sweep s shard)
-  pub number : told ≡ reply.Sweep (slice_index s.epochs shard) (length s.blocks - length (sweep s shard).blocks)
-
--- every shard has swept this epoch
-abbrev pub AllSwept : Store → ℕ → Type 0
-AllSwept s epoch = All (λ e. epoch ≤ e) s.swept
 
 -- the entry at a place is a sweep, behind which every shard has swept this epoch, and before which one had not
 pub record EndsRun (S : Script) (entry : Store) (r : Ran) (place epoch : ℕ) : Type 0 where

@@ -1,9 +1,9 @@
 -- What opening found: which disks were read as what, and which peers were set aside.
-use Rattle.std.specs.Prelude.{◌≡◌, ◌⊎◌, ℕ, ◌≤◌, ◌<◌, true, false, length, None, slice_index_or, All, AllPairs, Contains}
+use Rattle.std.specs.Prelude.{All, AllPairs, Contains, None, false, length, slice_index_or, true, ℕ, ◌<◌, ◌≡◌, ◌≤◌, ◌⊎◌}
 use Rattle.hs_members.specs.Members.{home_of}
 use Rattle.hs_ports.specs.Moments.{disk_at}
 use Rattle.hs_side.specs.Current.{list_in}
-use Rattle.hs_promise.specs.Entry.{is_taken}
+use Rattle.hs_promise.specs.Lower.Taken.{is_taken}
 use Rattle.hs_promise.specs.Run.{DiskRose, Ran, Script, peer_count}
 use Rattle.hs_promise.specs.Story.{Story, opens_good}
 

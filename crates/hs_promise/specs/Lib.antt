@@ -20,4 +20,3 @@ pub mod Shapes
 pub mod Stops
 pub mod Story
 pub mod Time
-pub mod Words

@@ -1,19 +1,17 @@
 -- Why a shard counts as lost, and why a peer is told to be down.
 use Rattle.std.specs.List.{list_any}
-use Rattle.std.specs.Prelude.{◌≡◌, ◌⊎◌, ℕ, ◌-◌, ◌&&◌, ◌||◌, ◌<◌, ◌≤◌, Bool, true, if◌then◌else◌, ◌++◌, List, Some, is_none, Contains}
+use Rattle.std.specs.Prelude.{Bool, Some, if◌then◌else◌, is_none, true, ℕ, ◌&&◌, ◌++◌, ◌-◌, ◌<◌, ◌||◌, ◌≡◌, ◌≤◌, ◌⊎◌}
 use Rattle.hs_fold.specs.Shards.Course.{begins}
-use Rattle.hs_journal.specs.declared.entry.JournalEntry.{JournalEntry}
-use Rattle.hs_journal.specs.declared.entry.Who.TheVariants as who
 use Rattle.hs_journal.specs.Order.{IsOfLine}
 use Rattle.hs_limits.specs.Shape.{peer_of}
 use Rattle.hs_members.specs.Members.{home_of, peers_of}
 use Rattle.hs_model.specs.declared.command.Command.TheVariants as command
-use Rattle.hs_model.specs.declared.reply.Reply.TheVariants as reply
 use Rattle.hs_ports.specs.Moments.{disk_at}
 use Rattle.hs_side.specs.Current.{list_in}
 use Rattle.hs_promise.specs.Ending.{ending_of}
 use Rattle.hs_promise.specs.Entry.{is_aside}
 use Rattle.hs_promise.specs.Lower.Notes.{is_first_noted, note_count}
+use Rattle.hs_promise.specs.Lower.Telling.{IsNoted}
 use Rattle.hs_promise.specs.Run.{DiskRose, Ran, Script}
 
 -- ---- a shard that is lost
@@ -28,13 +26,6 @@ pub record IsStarted (S : Script) (r : Ran) (peer line : ℕ) : Type 0 where
 abbrev pub IsPast : Ran → ℕ → Type 0
 IsPast r line = (line < r.line) ⊎ (line ≡ r.line) × ((ending_of r.ending).past ≡ true)
 
--- a note in the journal that a peer is down since a line
-pub record IsNoted (r : Ran) (peer line : ℕ) : Type 0 where
-  pub note : JournalEntry
-  pub among : Contains r.journal note
-  pub store : note.who ≡ who.Store
-  pub told : note.reply ≡ reply.Down peer line
-
 -- no line behind this one started the peer again
 abbrev pub NotStartedAfter : Script → Ran → ℕ → ℕ → Type 0
 NotStartedAfter S r peer line = (k : ℕ) → line < k → IsStarted S r peer k → ⊥
@@ -46,7 +37,7 @@ NotSettledAfter S r line = (k : ℕ) → line < k → S.commands k ≡ Some comm
 -- why a peer counts as not good: a `fail` line, or a note, and no start above it; or a start, and no settle that was gone past above it
 pub data NotGood (S : Script) (r : Ran) (peer : ℕ) : Type 0 where
   Failed : (line : ℕ) → line ≤ r.line → S.commands line ≡ Some (command.Fail peer) → NotStartedAfter S r peer line → NotGood S r peer
-  Noted : (line : ℕ) → IsNoted r peer line → NotStartedAfter S r peer line → NotGood S r peer
+  Noted : (line : ℕ) → IsNoted r.journal peer line → NotStartedAfter S r peer line → NotGood S r peer
   Joins : (line : ℕ) → IsStarted S r peer line → NotSettledAfter S r line → NotGood S r peer
 
 -- a shard is lost only where none of its peers counts as good

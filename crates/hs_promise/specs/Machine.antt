@@ -1,35 +1,29 @@
 -- Clause 1's other half: a run is the machine's on the events that are due, and on no others.
-use Rattle.std.specs.Prelude.{◌≡◌, ⊤, ℕ, ◌<◌, ◌≤◌, Bool, true, false, if◌then◌else◌, List, [], ◌∷◌, length, Option, Some, None, IfSome, All}
-use Rattle.hs_core.specs.State.{Core}
+use Rattle.std.specs.Prelude.{ℕ, ◌≡◌, ◌⊎◌, ◌<◌, ◌≤◌, Bool, true, false, if◌then◌else◌, List, [], ◌∷◌, length, Option, Some, None, IfSome, All}
 use Rattle.hs_desk.specs.declared.fault.CoreFault.{CoreFault}
 use Rattle.hs_desk.specs.declared.fault.CoreFault.TheVariants as fault
-use Rattle.hs_promise.specs.declared.status.Status.{Status}
-use Rattle.hs_promise.specs.declared.status.Status.TheVariants as status
+use Rattle.hs_model.specs.Refusals.{first}
 use Rattle.hs_promise.specs.Course.{course_of}
-use Rattle.hs_promise.specs.Ending.{ending_of}
+use Rattle.hs_promise.specs.Ending.{Ending, ending_of}
 use Rattle.hs_promise.specs.Entry.{MayStop}
 use Rattle.hs_promise.specs.Found.{Found, IsReadAs}
 use Rattle.hs_promise.specs.Lines.{AreLines}
+use Rattle.hs_promise.specs.Lower.Course.{steps}
 use Rattle.hs_promise.specs.Lower.Due.{Events, is_walk, next_turn}
+use Rattle.hs_promise.specs.Lower.Reports.{failures}
 use Rattle.hs_promise.specs.Promise.{AreOfScript}
-use Rattle.hs_promise.specs.Reports.{IsTold, failures}
+use Rattle.hs_promise.specs.Reports.{IsTold}
 use Rattle.hs_promise.specs.Run.{DiskRose, Ran, Script, peer_count}
-use Rattle.hs_promise.specs.Story.{Story, all_events, first_core, last_core, steps}
+use Rattle.hs_promise.specs.Story.{Story, all_events, first_core, last_core}
 
 -- ---- the end
 
--- the core ended with the fault of the status, or did not end. A failed sink and want of memory come before either, while the same line is printed
-abbrev pub EndsAs : Status → Option CoreFault → Type 0
-EndsAs status.Done ended = ended ≡ None
-EndsAs status.Usage ended = ⊥
-EndsAs (status.BadLine line) ended = ended ≡ None
-EndsAs (status.ShardLost shard) ended = ended ≡ Some (fault.ShardLost shard)
-EndsAs status.ReadFault ended = ended ≡ None
-EndsAs status.WriteFault ended = ⊤
-EndsAs status.NoMemory ended = ⊤
-EndsAs (status.WrongShape peer found) ended = ⊥
-EndsAs status.OpsFull ended = ended ≡ Some fault.OpsFull
-EndsAs status.InputFull ended = ended ≡ None
+-- the core ended with the fault that the status tells, and did not where the last line was gone past. A failed sink and want of memory come before either, while the same line is printed
+pub record EndsAs (ending : Ending) (ended : Option CoreFault) : Type 0 where
+  pub opened : ending.closed ≡ false
+  pub past : ending.past ≡ true → ended ≡ None
+  pub full : ending.full ≡ true → ended ≡ Some fault.OpsFull
+  pub lost : IfSome ending.lost (λ shard. ended ≡ Some (fault.ShardLost shard))
 
 -- moments never fall, from one on and up to another
 abbrev pub Rises : ℕ → Events → ℕ → Type 0
@@ -53,7 +47,7 @@ pub record Went (S : Script) (r : Ran) (story : Story) : Type 0 where
   pub journal : r.journal ≡ (last_core S story).journal
   pub refused : r.refused ≡ (if (ending_of r.ending).full then (last_core S story).refused else [])
   pub course : r.course ≡ course_of S story r.old.moment
-  pub ends : EndsAs r.ending (last_core S story).ended
+  pub ends : EndsAs (ending_of r.ending) (last_core S story).ended
   pub failed : (disk : ℕ) → DiskRose r (failures false disk (first_core S story) (all_events story)) disk
 
 -- and so where the disks tell their contents
@@ -62,22 +56,9 @@ pub record Tells (S : Script) (r : Ran) (story : Story) : Type 0 where
   pub told : MayStop S r → All (IsTold r) (all_events story)
   pub failed : (disk : ℕ) → DiskRose r (failures true disk (first_core S story) (all_events story)) disk
 
--- without a core a run of a script ends only so
-abbrev pub IsUnopened : Status → Type 0
-IsUnopened status.Done = ⊥
-IsUnopened status.Usage = ⊥
-IsUnopened (status.BadLine line) = ⊥
-IsUnopened (status.ShardLost shard) = ⊥
-IsUnopened status.ReadFault = ⊥
-IsUnopened status.WriteFault = ⊥
-IsUnopened status.NoMemory = ⊤
-IsUnopened (status.WrongShape peer found) = ⊤
-IsUnopened status.OpsFull = ⊥
-IsUnopened status.InputFull = ⊥
-
--- and nothing was answered, read or put
+-- no core was opened, since a disk is of another store or memory was wanting: nothing was answered, read or put
 pub record NeverOpened (r : Ran) : Type 0 where
-  pub unopened : IsUnopened r.ending
+  pub cause : ((ending_of r.ending).closed ≡ true) ⊎ ((ending_of r.ending).wanting ≡ true)
   pub journal : r.journal ≡ []
   pub refused : r.refused ≡ []
   pub course : r.course ≡ []

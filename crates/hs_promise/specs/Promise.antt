@@ -1,7 +1,6 @@
 -- All that is promised of a run of a script, in the words of the plain store.
-use Rattle.std.specs.Prelude.{◌≡◌, ℕ, List, [], Option, None, IfSome}
+use Rattle.std.specs.Prelude.{IfSome, [], ℕ, ◌≡◌}
 use Rattle.hs_script.specs.Reading.{commands}
-use Rattle.hs_promise.specs.declared.status.Status.TheVariants as status
 use Rattle.hs_promise.specs.Answers.{Answers, Prints}
 use Rattle.hs_promise.specs.Causes.{Cause, CountsStand, FullCause}
 use Rattle.hs_promise.specs.Completes.{EndsWell, HasPrompt, MayComplete, SettlesEach}
@@ -14,6 +13,7 @@ use Rattle.hs_promise.specs.Run.{Ran, Script}
 use Rattle.hs_promise.specs.Shapes.{ShapeCause}
 use Rattle.hs_promise.specs.Stops.{Stops}
 use Rattle.hs_promise.specs.Time.{KeepsPast, KeepsTime}
+use Rattle.hs_promise.specs.declared.status.Status.TheVariants as status
 
 -- clauses 1 to 5 from the store at entry, where the disks are sound
 pub record Clauses (S : Script) (r : Ran) : Type 0 where

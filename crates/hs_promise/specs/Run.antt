@@ -1,10 +1,14 @@
 -- A run of a script as it is seen from outside, and what it is set up with.
-use Rattle.std.specs.Prelude.{ℕ, ◌+◌, ◌*◌, ◌-◌, ◌^◌, ◌≤◌, min, List, Option, slice_index_or}
+use Rattle.std.specs.Prelude.{List, Option, slice_index_or, ℕ, ◌*◌}
 use Rattle.hs_fold.specs.Shards.Setting.{Setting}
 use Rattle.hs_journal.specs.declared.entry.JournalEntry.{JournalEntry}
+use Rattle.hs_limits.specs.declared.address.Address.{Address}
 use Rattle.hs_model.specs.declared.command.Command.{Command}
 use Rattle.hs_model.specs.declared.course.CourseItem.{CourseItem}
 use Rattle.hs_ports.specs.Disk.{Standing}
+use Rattle.hs_script.specs.Reading.{commands}
+use Rattle.hs_promise.specs.Lower.Sides.{RoseBy}
+use Rattle.hs_promise.specs.Lower.Words.{Wanted}
 use Rattle.hs_promise.specs.declared.status.Status.{Status}
 
 -- a script on a store: what the store is set up with (naming, limits, shape), and the command of each line by its number
@@ -41,10 +45,10 @@ peer_count S = S.set.shape.shards * S.set.shape.copies
 abbrev pub faults_at : List ℕ → ℕ → ℕ
 faults_at faults peer = slice_index_or faults peer 0
 
--- a count rose by at least so much, or stands at the end of a u64
-abbrev pub RoseBy : ℕ → ℕ → ℕ → Type 0
-RoseBy n before now = min (before + n) (2 ^ 64 - 1) ≤ now
-
 -- so did the count of a peer's disk in a run
 abbrev pub DiskRose : Ran → ℕ → ℕ → Type 0
 DiskRose r n peer = RoseBy n (faults_at r.old.disk_faults peer) (faults_at r.new.disk_faults peer)
+
+-- the script that is run so, with this naming and these commands
+abbrev pub script_of : (List ℕ → Address) → Wanted → (ℕ → Option Command) → Script
+script_of name w commands = record { set = record { name = name; limits = w.limits; shape = w.shape }; commands = commands }

@@ -1,5 +1,5 @@
 -- Clause 3, a stop: what it leaves, at every moment of a run.
-use Rattle.std.specs.Prelude.{◌≡◌, ◌≢◌, ℕ, ◌<◌, List, Option, IsSome, All, AllPairs, length, map}
+use Rattle.std.specs.Prelude.{All, AllPairs, IsSome, List, Option, length, map, ℕ, ◌<◌, ◌≡◌, ◌≢◌}
 use Rattle.hs_entry.specs.declared.entry.Entry.{Entry}
 use Rattle.hs_fold.specs.Good.{taken_below}
 use Rattle.hs_fold.specs.Images.{image_at}
@@ -12,11 +12,12 @@ use Rattle.hs_fold.specs.Shards.Setting.{Numbered}
 use Rattle.hs_model.specs.Store.{Store, reborn}
 use Rattle.hs_side.specs.Current.{list_in}
 use Rattle.hs_promise.specs.Answers.{events_in, store_after}
-use Rattle.hs_promise.specs.Entry.{counted_course, filled, is_aside, taken_lists}
-use Rattle.hs_promise.specs.Awaited.{IsAwaited, MayPend}
-use Rattle.hs_promise.specs.Run.{Ran, Script}
+use Rattle.hs_promise.specs.Awaited.{IsAwaited}
+use Rattle.hs_promise.specs.Entry.{counted_course, is_aside}
 use Rattle.hs_promise.specs.Lower.Moments.{below}
-use Rattle.hs_promise.specs.Lower.Pending.{pending}
+use Rattle.hs_promise.specs.Lower.Pending.{MayPend, pending}
+use Rattle.hs_promise.specs.Lower.Taken.{filled, taken_lists}
+use Rattle.hs_promise.specs.Run.{Ran, Script}
 use Rattle.hs_promise.specs.Time.{IsDuring}
 
 -- a stop of a run at a moment

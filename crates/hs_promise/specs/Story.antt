@@ -1,16 +1,16 @@
 -- How a run went within, where a core was opened: what opening found, and the events.
 use Rattle.std.specs.List.{list_any, range_with_len}
-use Rattle.std.specs.Prelude.{ℕ, Bool, false, if◌then◌else◌, List, [], ◌∷◌, ◌++◌, flat_map, map, Option, slice_index_or}
+use Rattle.std.specs.Prelude.{Bool, List, Option, [], false, flat_map, if◌then◌else◌, map, slice_index_or, ℕ, ◌++◌}
 use Rattle.hs_core.specs.Opening.{Taken, open_core}
 use Rattle.hs_core.specs.State.{Core}
-use Rattle.hs_core.specs.Step.{step}
 use Rattle.hs_entry.specs.Entries.{rank_of}
 use Rattle.hs_fold.specs.Shards.Setting.{Numbered}
 use Rattle.hs_members.specs.Members.{peers_of}
 use Rattle.hs_memory.specs.Forget.{apply_all}
 use Rattle.hs_shard.specs.Facts.{Catalogue, empty_catalogue}
-use Rattle.hs_promise.specs.Entry.{taken_list}
+use Rattle.hs_promise.specs.Lower.Course.{steps}
 use Rattle.hs_promise.specs.Lower.Due.{Events}
+use Rattle.hs_promise.specs.Lower.Taken.{taken_list}
 use Rattle.hs_promise.specs.Run.{Script}
 
 -- logs: what each disk was read as, None where it is no log or was not read; lost: the peers of taken logs whose disk failed before the core was opened, each with the moment;
@@ -48,10 +48,6 @@ opens_with S story =
 -- the core that is opened, that behind some events, and that at the end of a run
 abbrev pub first_core : Script → Story → Core
 first_core S story = open_core S.set.shape S.set.limits (opens_with S story) story.opened
-
-abbrev pub steps : Core → Events → Core
-steps core [] = core
-steps core (e ∷ es) = steps (step e.0 e.1 core) es
 
 abbrev pub all_events : Story → Events
 all_events story = story.opening ++ flat_map (λ line. line) story.lines

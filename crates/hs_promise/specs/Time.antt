@@ -1,16 +1,11 @@
 -- The watch, and when what was put.
-use Rattle.std.specs.Prelude.{◌≡◌, ℕ, ◌-◌, ◌^◌, ◌<◌, ◌≤◌, List, Option, All, take}
-use Rattle.hs_ports.specs.declared.disk.Side.{Side}
+use Rattle.std.specs.Prelude.{All, List, ℕ, ◌-◌, ◌<◌, ◌^◌, ◌≡◌, ◌≤◌}
 use Rattle.hs_ports.specs.Moments.{disk_at}
 use Rattle.hs_ports.specs.Sink.{followed}
 use Rattle.hs_ports.specs.Watch.{next_moment}
+use Rattle.hs_ports.specs.declared.disk.Side.{Side}
 use Rattle.hs_promise.specs.Lower.Moments.{got_by}
 use Rattle.hs_promise.specs.Run.{Objects}
-
--- a front of a text was put behind the bytes before, where they are told
-pub record PutsFront (before : Option (List ℕ)) (bytes : List ℕ) (after : Option (List ℕ)) : Type 0 where
-  pub count : ℕ
-  pub put : after ≡ followed before (take count bytes)
 
 -- the sink has got nothing at a later moment than the watch shows
 abbrev pub IsSinkBehind : Objects → Type 0

@@ -1,9 +1,10 @@
 //! The promise as a contract.
 ghost use Rattle.std.specs.Prelude.{◌≡◌, ℕ, Option, None, IfSome, map, string_bytes, vec_len};
 ghost use Rattle.hs_model.specs.declared.command.Command.{Command};
+ghost use Rattle.hs_promise.specs.Lower.Words.{wanted_of};
 ghost use Rattle.hs_promise.specs.Machine.{IsOfMachine};
 ghost use Rattle.hs_promise.specs.Promise.{IsUsage, Promise};
-ghost use Rattle.hs_promise.specs.Words.{Wanted, script_of, wanted_of};
+ghost use Rattle.hs_promise.specs.Run.{script_of};
 
 use crate::{Outcome, Status};
 use hs_block::Addresser;

@@ -1,13 +1,13 @@
 -- A client's operation as the core is asked for it, and what events and reports tell. (Belongs to hs_ops, hs_desk and hs_core.)
 use Rattle.std.specs.List.{list_all}
-use Rattle.std.specs.Prelude.{ℕ, ◌&&◌, Bool, if◌then◌else◌, List, length, nat_le, Option, Some, None, is_some}
+use Rattle.std.specs.Prelude.{Bool, List, None, Option, Some, if◌then◌else◌, is_some, length, nat_le, ℕ, ◌&&◌}
 use Rattle.hs_core.specs.declared.event.Event.{Event}
 use Rattle.hs_core.specs.declared.event.Event.TheVariants as event
 use Rattle.hs_desk.specs.declared.done.Done.{Done}
 use Rattle.hs_desk.specs.declared.done.Done.TheVariants as done
+use Rattle.hs_limits.specs.Block.{spell}
 use Rattle.hs_limits.specs.declared.address.Address.{Address}
 use Rattle.hs_limits.specs.declared.spelling.TheConstants.{MOST_BYTES, MOST_POINTERS}
-use Rattle.hs_limits.specs.Block.{spell}
 use Rattle.hs_model.specs.declared.op.Op.{Op}
 use Rattle.hs_model.specs.declared.op.Op.TheVariants as op
 use Rattle.hs_ops.specs.Speaking.{asked_block}

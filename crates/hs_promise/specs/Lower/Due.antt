@@ -2,15 +2,15 @@
 -- What a disk call came to is the disk's to say; all else follows from the core.
 use Rattle.std.specs.List.{list_any}
 use Rattle.std.specs.Option.{option_and_then, option_map, option_map_or, option_or}
-use Rattle.std.specs.Prelude.{ℕ, ◌+◌, ◌==◌, ◌&&◌, ◌||◌, Bool, true, false, not, if◌then◌else◌, List, [], ◌∷◌, ◌++◌, drop, filter_map, find, length, nat_le, nat_lt, Option, Some, None, is_none, is_some, slice_get, take}
-use Rattle.hs_core.specs.declared.event.Event.{Event}
-use Rattle.hs_core.specs.declared.event.Event.TheVariants as event
+use Rattle.std.specs.Prelude.{Bool, List, None, Option, Some, [], drop, false, filter_map, find, if◌then◌else◌, is_none, is_some, length, nat_le, nat_lt, not, slice_get, take, true, ℕ, ◌&&◌, ◌++◌, ◌+◌, ◌==◌, ◌||◌, ◌∷◌}
 use Rattle.hs_core.specs.Asking.{no_peer, not_up}
 use Rattle.hs_core.specs.Looking.{first_job, known_of, oldest_message, open_work, shape_of, status_of}
 use Rattle.hs_core.specs.State.{Core}
 use Rattle.hs_core.specs.Step.{step}
-use Rattle.hs_desk.specs.declared.done.Done.{Done}
+use Rattle.hs_core.specs.declared.event.Event.{Event}
+use Rattle.hs_core.specs.declared.event.Event.TheVariants as event
 use Rattle.hs_desk.specs.Answers.{answers}
+use Rattle.hs_desk.specs.declared.done.Done.{Done}
 use Rattle.hs_members.specs.Members.{all_peers, is_good_status}
 use Rattle.hs_model.specs.Refusals.{first}
 
@@ -99,18 +99,18 @@ moved (Nudging peer) raised place =
 -- ---- events that are due one after another
 
 -- the core, and where passes and nudges stand
-pub record Standing : Type 0 where
+pub record Walked : Type 0 where
   pub place : Place
   pub core : Core
 
 -- behind an event of a line, where it is what is due
-abbrev pub move : (Place → Core → Option Due) → ℕ → Standing → Event × ℕ → Option Standing
+abbrev pub move : (Place → Core → Option Due) → ℕ → Walked → Event × ℕ → Option Walked
 move due line at e =
     let after : Core = step e.0 e.1 at.core in
     option_and_then (λ d. if is_it line at.core d e.0 then Some (record { place = moved d (raises_known at.core after) at.place; core = after }) else None) (due at.place at.core)
 
 -- behind some; they may stop before nothing is due any more
-abbrev pub walk : (Place → Core → Option Due) → ℕ → Standing → Events → Option Standing
+abbrev pub walk : (Place → Core → Option Due) → ℕ → Walked → Events → Option Walked
 walk due line at [] = Some at
 walk due line at (e ∷ es) = option_and_then (λ next. walk due line next es) (move due line at e)
 

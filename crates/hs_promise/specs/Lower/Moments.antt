@@ -1,6 +1,6 @@
 -- What was answered and what was got by a moment. (Belongs to hs_journal and hs_ports.)
 use Rattle.std.specs.Option.{option_map}
-use Rattle.std.specs.Prelude.{ℕ, List, Option, filter, nat_le, nat_lt}
+use Rattle.std.specs.Prelude.{List, Option, filter, nat_le, nat_lt, ℕ}
 use Rattle.hs_journal.specs.declared.entry.JournalEntry.{JournalEntry}
 
 -- the entries of a journal below a moment

@@ -1,13 +1,10 @@
--- The words of the command line of a script, and what they ask for.
+-- The words of the command line of a script, and what they ask for. (Belongs to hs_script.)
 use Rattle.std.specs.List.{list_any}
-use Rattle.std.specs.Option.{option_and_then, option_map, option_map_or}
-use Rattle.std.specs.Prelude.{ℕ, ◌+◌, ◌*◌, ◌==◌, ◌&&◌, Bool, true, false, not, if◌then◌else◌, List, [], ◌∷◌, length, map, Option, Some, None, bytes_eq, codes, fold, find, nat_le}
-use Rattle.hs_limits.specs.declared.address.Address.{Address}
+use Rattle.std.specs.Option.{option_and_then, option_map}
+use Rattle.std.specs.Prelude.{List, None, Option, Some, [], bytes_eq, codes, find, if◌then◌else◌, length, nat_le, not, ℕ, ◌&&◌, ◌*◌, ◌+◌, ◌==◌, ◌∷◌}
+use Rattle.hs_limits.specs.Limits.{greatest_limits}
 use Rattle.hs_limits.specs.declared.limits.Limits.{Limits}
 use Rattle.hs_limits.specs.declared.shape.Shape.{Shape}
-use Rattle.hs_limits.specs.Limits.{greatest_limits}
-use Rattle.hs_model.specs.declared.command.Command.{Command}
-use Rattle.hs_promise.specs.Run.{Script}
 use Rattle.hs_script.specs.Parts.{number_below}
 
 -- what the words ask for
@@ -75,7 +72,3 @@ wanted other = None
 -- they ask for something, and there is a disk for each peer
 abbrev pub wanted_of : List (List ℕ) → ℕ → Option Wanted
 wanted_of words disks = option_and_then (λ w. if disks == w.shape.shards * w.shape.copies then Some w else None) (wanted words)
-
--- the script that is run so, with this naming and these commands
-abbrev pub script_of : (List ℕ → Address) → Wanted → (ℕ → Option Command) → Script
-script_of name w commands = record { set = record { name = name; limits = w.limits; shape = w.shape }; commands = commands }
