@@ -16,7 +16,7 @@ use Rattle.hs_promise.specs.Lower.Moments.{below, got_by}
 use Rattle.hs_promise.specs.Lower.Sides.{IsPut, PutsFront}
 use Rattle.hs_promise.specs.Lower.Telling.{IsOfStore, MayTell}
 use Rattle.hs_promise.specs.Run.{Ran, Script}
-use Rattle.hs_promise.specs.Time.{IsDuring, IsSinkBehind}
+use Rattle.hs_promise.specs.Lower.Objects.{IsDuring, IsSinkBehind}
 
 -- ---- in the plain store's words
 

@@ -4,15 +4,9 @@ use Rattle.hs_model.specs.Store.{Store}
 use Rattle.hs_ports.specs.Fault.{HasRisen}
 use Rattle.hs_promise.specs.Answers.{Answers, IsEntry}
 use Rattle.hs_promise.specs.Lost.{LostCause}
-use Rattle.hs_promise.specs.Run.{Objects, Ran, Script, faults_at}
+use Rattle.hs_promise.specs.Run.{Ran, Script}
 use Rattle.hs_promise.specs.declared.status.Status.{Status}
 use Rattle.hs_promise.specs.declared.status.Status.TheVariants as status
-
--- no count of faults ever falls
-pub record CountsStand (old new : Objects) : Type 0 where
-  pub disks : (peer : ℕ) → faults_at old.disk_faults peer ≤ faults_at new.disk_faults peer
-  pub sink : old.sink_faults ≤ new.sink_faults
-  pub source : old.source_faults ≤ new.source_faults
 
 -- a run ends so only there; where it ends otherwise nothing was refused
 abbrev pub Cause : Script → Ran → Status → Type 0

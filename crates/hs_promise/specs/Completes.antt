@@ -14,20 +14,16 @@ use Rattle.hs_promise.specs.Lower.Laws.{IsLevel}
 use Rattle.hs_promise.specs.Lower.Script.{IsBad, delete_count, input_limit}
 use Rattle.hs_promise.specs.Lower.Sides.{HasHeader, own_header}
 use Rattle.hs_promise.specs.Lower.Telling.{IsAnsweredBefore, IsFirstAbove}
-use Rattle.hs_promise.specs.Run.{Objects, Ran, Script, peer_count}
+use Rattle.hs_promise.specs.Run.{Ran, Script}
 use Rattle.hs_promise.specs.declared.status.Status.TheVariants as status
+use Rattle.hs_promise.specs.Lower.Objects.{NoneFailed}
+use Rattle.hs_promise.specs.Lower.Taken.{peer_count}
 
 -- ---- how a run without failures ends
 
 -- the most entries that a run without failures may have
 abbrev pub entry_bound : Script → List (List ℕ) → ℕ
-entry_bound S lines = length lines + (2 * S.set.shape.shards + 1) * (delete_count lines + 2) + peer_count S
-
--- no count of faults rose
-pub record NoneFailed (old new : Objects) : Type 0 where
-  pub disks : new.disk_faults ≡ old.disk_faults
-  pub sink : new.sink_faults ≡ old.sink_faults
-  pub source : new.source_faults ≡ old.source_faults
+entry_bound S lines = length lines + (2 * S.set.shape.shards + 1) * (delete_count lines + 2) + peer_count S.set.shape
 
 -- the script is in the language and within its bounds, the headers are of the shape, nothing fails, and the journal has room
 pub record MayComplete (S : Script) (script : List ℕ) (r : Ran) : Type 0 where

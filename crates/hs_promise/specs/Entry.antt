@@ -15,8 +15,8 @@ use Rattle.hs_side.specs.Current.{list_in}
 use Rattle.hs_promise.specs.Ending.{ending_of}
 use Rattle.hs_promise.specs.Lower.Notes.{is_first_noted}
 use Rattle.hs_promise.specs.Lower.Taken.{filled, taken_items, taken_lists}
-use Rattle.hs_promise.specs.Run.{Ran, Script, faults_at}
-use Rattle.hs_promise.specs.Time.{NoneAhead}
+use Rattle.hs_promise.specs.Run.{Ran, Script}
+use Rattle.hs_promise.specs.Lower.Objects.{NoneAhead, faults_at}
 
 -- ---- the log that is taken of a shard. Logs stand by peer: None where there is none
 

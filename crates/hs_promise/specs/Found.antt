@@ -4,8 +4,9 @@ use Rattle.hs_members.specs.Members.{home_of}
 use Rattle.hs_ports.specs.Moments.{disk_at}
 use Rattle.hs_side.specs.Current.{list_in}
 use Rattle.hs_promise.specs.Lower.Taken.{is_taken}
-use Rattle.hs_promise.specs.Run.{DiskRose, Ran, Script, peer_count}
+use Rattle.hs_promise.specs.Run.{DiskRose, Ran, Script}
 use Rattle.hs_promise.specs.Story.{Story, opens_good}
+use Rattle.hs_promise.specs.Lower.Taken.{peer_count}
 
 -- a peer of a taken log whose disk failed before the core was opened, and when
 pub record IsLostBefore (S : Script) (r : Ran) (story : Story) (lost : ℕ × ℕ) : Type 0 where
@@ -27,13 +28,13 @@ IsSetAside S r story peer = DiskRose r 1 peer ⊎ ((slice_index_or story.logs pe
 
 -- what was found
 pub record Found (S : Script) (r : Ran) (story : Story) : Type 0 where
-  pub logs : length story.logs ≡ peer_count S
-  pub goods : length story.good ≡ peer_count S
+  pub logs : length story.logs ≡ peer_count S.set.shape
+  pub goods : length story.good ≡ peer_count S.set.shape
   pub later : r.old.moment ≤ story.opened
   pub lost : All (IsLostBefore S r story) story.lost
   pub once : AllPairs (λ one other. (one.1 ≤ other.1) × (one.0 ≡ other.0 → ⊥)) story.lost
   pub all_lost : (peer : ℕ) → is_taken S.set.shape story.logs peer ≡ true → opens_good story peer ≡ false → (moment : ℕ) × Contains story.lost (peer, moment)
-  pub aside : (peer : ℕ) → peer < peer_count S → opens_good story peer ≡ false → IsSetAside S r story peer
+  pub aside : (peer : ℕ) → peer < peer_count S.set.shape → opens_good story peer ≡ false → IsSetAside S r story peer
 
 -- where the disks tell their contents a peer's log is that of its disk, or its disk failed and counts as having none
 abbrev pub IsReadAs : Ran → Story → ℕ → Type 0

@@ -19,4 +19,3 @@ pub mod Run
 pub mod Shapes
 pub mod Stops
 pub mod Story
-pub mod Time

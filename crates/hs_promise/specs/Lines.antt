@@ -9,7 +9,7 @@ use Rattle.hs_promise.specs.Lower.Course.{steps}
 use Rattle.hs_promise.specs.Lower.Due.{Events}
 use Rattle.hs_promise.specs.Lower.Moments.{got_by}
 use Rattle.hs_promise.specs.Run.{Ran, Script}
-use Rattle.hs_promise.specs.Time.{IsSinkBehind}
+use Rattle.hs_promise.specs.Lower.Objects.{IsSinkBehind}
 
 -- at the first event of a line the sink has got the text of all that was answered before, and no more; nothing is said of the last moment of a u64
 abbrev pub IsPrintedBefore : Ran → LineAt → Type 0

@@ -6,6 +6,7 @@ pub mod Due
 pub mod Laws
 pub mod Moments
 pub mod Notes
+pub mod Objects
 pub mod Pending
 pub mod Reports
 pub mod Script

@@ -13,8 +13,9 @@ use Rattle.hs_promise.specs.Lower.Due.{Events, is_walk, next_turn}
 use Rattle.hs_promise.specs.Lower.Reports.{failures}
 use Rattle.hs_promise.specs.Promise.{AreOfScript}
 use Rattle.hs_promise.specs.Reports.{IsTold}
-use Rattle.hs_promise.specs.Run.{DiskRose, Ran, Script, peer_count}
+use Rattle.hs_promise.specs.Run.{DiskRose, Ran, Script}
 use Rattle.hs_promise.specs.Story.{Story, all_events, first_core, last_core}
+use Rattle.hs_promise.specs.Lower.Taken.{peer_count}
 
 -- ---- the end
 
@@ -52,7 +53,7 @@ pub record Went (S : Script) (r : Ran) (story : Story) : Type 0 where
 
 -- and so where the disks tell their contents
 pub record Tells (S : Script) (r : Ran) (story : Story) : Type 0 where
-  pub read : (peer : ℕ) → peer < peer_count S → IsReadAs r story peer
+  pub read : (peer : ℕ) → peer < peer_count S.set.shape → IsReadAs r story peer
   pub told : MayStop S r → All (IsTold r) (all_events story)
   pub failed : (disk : ℕ) → DiskRose r (failures true disk (first_core S story) (all_events story)) disk
 

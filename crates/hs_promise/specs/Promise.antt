@@ -2,7 +2,7 @@
 use Rattle.std.specs.Prelude.{IfSome, [], ℕ, ◌≡◌}
 use Rattle.hs_script.specs.Reading.{commands}
 use Rattle.hs_promise.specs.Answers.{Answers, Prints}
-use Rattle.hs_promise.specs.Causes.{Cause, CountsStand, FullCause}
+use Rattle.hs_promise.specs.Causes.{Cause, FullCause}
 use Rattle.hs_promise.specs.Completes.{EndsWell, HasPrompt, MayComplete, SettlesEach}
 use Rattle.hs_promise.specs.Deletes.{Deletes}
 use Rattle.hs_promise.specs.Ends.{Ends}
@@ -12,8 +12,8 @@ use Rattle.hs_promise.specs.Lost.{NotesCause}
 use Rattle.hs_promise.specs.Run.{Ran, Script}
 use Rattle.hs_promise.specs.Shapes.{ShapeCause}
 use Rattle.hs_promise.specs.Stops.{Stops}
-use Rattle.hs_promise.specs.Time.{KeepsPast, KeepsTime}
 use Rattle.hs_promise.specs.declared.status.Status.TheVariants as status
+use Rattle.hs_promise.specs.Lower.Objects.{CountsStand, KeepsPast, KeepsTime}
 
 -- clauses 1 to 5 from the store at entry, where the disks are sound
 pub record Clauses (S : Script) (r : Ran) : Type 0 where

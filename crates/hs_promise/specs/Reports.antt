@@ -8,7 +8,7 @@ use Rattle.hs_side.specs.Current.{list_in}
 use Rattle.hs_promise.specs.Lower.Asked.{report_in}
 use Rattle.hs_promise.specs.Lower.Reports.{TellsOf}
 use Rattle.hs_promise.specs.Run.{Ran}
-use Rattle.hs_promise.specs.Time.{IsDuring}
+use Rattle.hs_promise.specs.Lower.Objects.{IsDuring}
 
 -- ---- failures
 

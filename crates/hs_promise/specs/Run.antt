@@ -10,22 +10,12 @@ use Rattle.hs_script.specs.Reading.{commands}
 use Rattle.hs_promise.specs.Lower.Sides.{RoseBy}
 use Rattle.hs_promise.specs.Lower.Words.{Wanted}
 use Rattle.hs_promise.specs.declared.status.Status.{Status}
+use Rattle.hs_promise.specs.Lower.Objects.{Objects, faults_at}
 
 -- a script on a store: what the store is set up with (naming, limits, shape), and the command of each line by its number
 pub record Script : Type 0 where
   pub set : Setting
   pub commands : ℕ → Option Command
-
--- what a run is handed, at one time: the moment of the watch, the disks by peer, what the sink has got (each byte with its moment) and
--- what the source has left, where they tell it, and how often each has failed
-pub record Objects : Type 0 where
-  pub moment : ℕ
-  pub disks : List Standing
-  pub got : Option (List (ℕ × ℕ))
-  pub left : Option (List ℕ)
-  pub disk_faults : List ℕ
-  pub sink_faults : ℕ
-  pub source_faults : ℕ
 
 -- what a run answers, and what it was handed, as that was at entry and is at the end
 pub record Ran : Type 0 where
@@ -36,14 +26,6 @@ pub record Ran : Type 0 where
   pub course : List CourseItem
   pub old : Objects
   pub new : Objects
-
--- how many peers the store has
-abbrev pub peer_count : Script → ℕ
-peer_count S = S.set.shape.shards * S.set.shape.copies
-
--- how often the disk of a peer has failed by some counts
-abbrev pub faults_at : List ℕ → ℕ → ℕ
-faults_at faults peer = slice_index_or faults peer 0
 
 -- so did the count of a peer's disk in a run
 abbrev pub DiskRose : Ran → ℕ → ℕ → Type 0

@@ -18,7 +18,7 @@ use Rattle.hs_promise.specs.Lower.Moments.{below}
 use Rattle.hs_promise.specs.Lower.Pending.{MayPend, pending}
 use Rattle.hs_promise.specs.Lower.Taken.{filled, taken_lists}
 use Rattle.hs_promise.specs.Run.{Ran, Script}
-use Rattle.hs_promise.specs.Time.{IsDuring}
+use Rattle.hs_promise.specs.Lower.Objects.{IsDuring}
 
 -- a stop of a run at a moment
 abbrev pub stop_at : Script → Ran → ℕ → Stop

@@ -1,7 +1,7 @@
 -- The log that is taken of each shard. (Belongs to hs_fold.) Logs stand by peer: None where there is none.
 use Rattle.std.specs.List.{range_with_len}
 use Rattle.std.specs.Option.{option_map_or}
-use Rattle.std.specs.Prelude.{Bool, List, None, Option, Some, [], false, find, flat_map, map, not, slice_index_or, unwrap_or, ℕ, ◌==◌, ◌∷◌}
+use Rattle.std.specs.Prelude.{Bool, List, None, Option, Some, [], false, find, flat_map, map, not, slice_index_or, unwrap_or, ℕ, ◌==◌, ◌*◌, ◌∷◌}
 use Rattle.hs_entry.specs.Entries.{rank_of}
 use Rattle.hs_fold.specs.Opened.{chosen_each, outranks}
 use Rattle.hs_fold.specs.Shards.Setting.{Numbered}
@@ -9,6 +9,10 @@ use Rattle.hs_limits.specs.declared.shape.Shape.{Shape}
 use Rattle.hs_members.specs.Members.{home_of, peers_of}
 use Rattle.hs_model.specs.declared.course.CourseItem.{CourseItem}
 use Rattle.hs_model.specs.declared.course.CourseItem.TheVariants as item
+
+-- how many peers a store has
+abbrev pub peer_count : Shape → ℕ
+peer_count shape = shape.shards * shape.copies
 
 -- where a disk has no log it counts as blank
 abbrev pub filled : List (Option Numbered) → List Numbered

@@ -1,11 +1,42 @@
--- The watch, and when what was put.
-use Rattle.std.specs.Prelude.{All, List, ℕ, ◌-◌, ◌<◌, ◌^◌, ◌≡◌, ◌≤◌}
+-- What a run is handed, and how its time goes. (Belongs to hs_ports.)
+use Rattle.std.specs.Prelude.{ℕ, ◌≡◌, ◌-◌, ◌^◌, ◌<◌, ◌≤◌, List, Option, All, slice_index_or}
+use Rattle.hs_ports.specs.Disk.{Standing}
+use Rattle.hs_ports.specs.declared.disk.Side.{Side}
 use Rattle.hs_ports.specs.Moments.{disk_at}
 use Rattle.hs_ports.specs.Sink.{followed}
 use Rattle.hs_ports.specs.Watch.{next_moment}
-use Rattle.hs_ports.specs.declared.disk.Side.{Side}
 use Rattle.hs_promise.specs.Lower.Moments.{got_by}
-use Rattle.hs_promise.specs.Run.{Objects}
+
+-- what a run is handed, at one time: the moment of the watch, the disks by peer, what the sink has got (each byte with its moment) and
+-- what the source has left, where they tell it, and how often each has failed
+pub record Objects : Type 0 where
+  pub moment : ℕ
+  pub disks : List Standing
+  pub got : Option (List (ℕ × ℕ))
+  pub left : Option (List ℕ)
+  pub disk_faults : List ℕ
+  pub sink_faults : ℕ
+  pub source_faults : ℕ
+
+-- ---- faults
+
+-- how often the disk of a peer has failed by some counts
+abbrev pub faults_at : List ℕ → ℕ → ℕ
+faults_at faults peer = slice_index_or faults peer 0
+
+-- no count of faults ever falls
+pub record CountsStand (old new : Objects) : Type 0 where
+  pub disks : (peer : ℕ) → faults_at old.disk_faults peer ≤ faults_at new.disk_faults peer
+  pub sink : old.sink_faults ≤ new.sink_faults
+  pub source : old.source_faults ≤ new.source_faults
+
+-- no count of faults rose
+pub record NoneFailed (old new : Objects) : Type 0 where
+  pub disks : new.disk_faults ≡ old.disk_faults
+  pub sink : new.sink_faults ≡ old.sink_faults
+  pub source : new.source_faults ≡ old.source_faults
+
+-- ---- moments
 
 -- the sink has got nothing at a later moment than the watch shows
 abbrev pub IsSinkBehind : Objects → Type 0
