@@ -1,9 +1,10 @@
 -- A run in which a peer fails, joins again, and the other one fails: its events, its course, and that these are the ones due.
 use Rattle.std.specs.Fmt.{digits}
 use Rattle.std.specs.Option.{option_map}
-use Rattle.std.specs.Prelude.{◌≡◌, refl, ℕ, ◌==◌, false, true, List, [], ◌∷◌, find, map, Option, Some, None}
+use Rattle.std.specs.Prelude.{◌≡◌, refl, ℕ, ◌==◌, ◌++◌, false, true, List, [], ◌∷◌, find, flat_map, map, take, Option, Some, None}
 use Rattle.hs_core.specs.declared.event.Event.{Event}
 use Rattle.hs_core.specs.declared.event.Event.TheVariants as event
+use Rattle.hs_core.specs.State.{Core}
 use Rattle.hs_desk.specs.declared.done.Done.TheVariants as done
 use Rattle.hs_entry.specs.Entries.{rank_of}
 use Rattle.hs_journal.specs.declared.entry.JournalEntry.{JournalEntry}
@@ -120,3 +121,36 @@ the_lines = (record { going = refl; printed = λ behind early. refl; events = (r
 the_end : (last_core script story).ended ≡ None
 unfolding gained addresses block_at read_block no_handle_in stale_in helds_of deed_of seats_after asked_for begin block_entry compared data_of go is_same_block judged_in mark_entry on_bytes on_effect refusals_of asked_block least_epoch rank_of
 the_end = refl
+
+-- ---- what is not due, and what a failure costs
+
+-- the core behind opening and the first lines
+abbrev core_at : ℕ → Core
+core_at n = steps (first_core script story) (opening ++ flat_map (λ l. l.2) (take n lines))
+
+-- peer 1 has no turn while peer 0 has one
+no_other_turn_is_due : is_walk next_turn false 0 (first_core script story) ((event.Report 1 (done.Stored 1), 0) ∷ []) ≡ false
+unfolding gained addresses block_at read_block no_handle_in stale_in helds_of deed_of seats_after asked_for begin block_entry compared data_of go is_same_block judged_in mark_entry on_bytes on_effect refusals_of asked_block least_epoch rank_of
+no_other_turn_is_due = refl
+
+-- settle on line 6 may be cut short behind its first report, but is not over then
+settle_goes_on : is_walk next_due true 6 (core_at 5) ((event.Report 1 (done.Stored 2), 0) ∷ []) ≡ false
+unfolding gained addresses block_at read_block no_handle_in stale_in helds_of deed_of seats_after asked_for begin block_entry compared data_of go is_same_block judged_in mark_entry on_bytes on_effect refusals_of asked_block least_epoch rank_of
+settle_goes_on = refl
+
+settle_is_cut : is_walk next_due false 6 (core_at 5) ((event.Report 1 (done.Stored 2), 0) ∷ []) ≡ true
+unfolding gained addresses block_at read_block no_handle_in stale_in helds_of deed_of seats_after asked_for begin block_entry compared data_of go is_same_block judged_in mark_entry on_bytes on_effect refusals_of asked_block least_epoch rank_of
+settle_is_cut = refl
+
+-- an append that fails has a cost; a read that finds no log has one only where the disks tell their contents
+an_append_costs : failures false 0 (first_core script story) ((event.Report 0 (done.Failed 0), 0) ∷ []) ≡ 1
+unfolding gained addresses block_at read_block no_handle_in stale_in helds_of deed_of seats_after asked_for begin block_entry compared data_of go is_same_block judged_in mark_entry on_bytes on_effect refusals_of asked_block least_epoch rank_of
+an_append_costs = refl
+
+a_read_is_free : failures false 0 (core_at 9) ((event.Report 0 (done.Failed 0), 0) ∷ []) ≡ 0
+unfolding gained addresses block_at read_block no_handle_in stale_in helds_of deed_of seats_after asked_for begin block_entry compared data_of go is_same_block judged_in mark_entry on_bytes on_effect refusals_of asked_block least_epoch rank_of
+a_read_is_free = refl
+
+a_told_read_costs : failures true 0 (core_at 9) ((event.Report 0 (done.Failed 0), 0) ∷ []) ≡ 1
+unfolding gained addresses block_at read_block no_handle_in stale_in helds_of deed_of seats_after asked_for begin block_entry compared data_of go is_same_block judged_in mark_entry on_bytes on_effect refusals_of asked_block least_epoch rank_of
+a_told_read_costs = refl
