@@ -1,5 +1,5 @@
 -- What opening found: which disks were read as what, and which peers were set aside.
-use Rattle.std.specs.Prelude.{All, AllPairs, Contains, None, false, length, slice_index_or, true, ℕ, ◌<◌, ◌≡◌, ◌≤◌, ◌⊎◌}
+use Rattle.std.specs.Prelude.{All, AllPairs, Contains, IsSome, None, false, length, slice_index_or, true, ℕ, ◌<◌, ◌≡◌, ◌≤◌, ◌⊎◌}
 use Rattle.hs_members.specs.Members.{home_of}
 use Rattle.hs_ports.specs.Moments.{disk_at}
 use Rattle.hs_side.specs.Current.{list_in}
@@ -34,6 +34,7 @@ pub record Found (S : Script) (r : Ran) (story : Story) : Type 0 where
   pub lost : All (IsLostBefore S r story) story.lost
   pub once : AllPairs (λ one other. (one.1 ≤ other.1) × (one.0 ≡ other.0 → ⊥)) story.lost
   pub all_lost : (peer : ℕ) → is_taken S.set.shape story.logs peer ≡ true → opens_good story peer ≡ false → (moment : ℕ) × Contains story.lost (peer, moment)
+  pub kept : (peer : ℕ) → opens_good story peer ≡ true → IsSome (slice_index_or story.logs peer None)
   pub aside : (peer : ℕ) → peer < peer_count S.set.shape → opens_good story peer ≡ false → IsSetAside S r story peer
 
 -- where the disks tell their contents a peer's log is that of its disk, or its disk failed and counts as having none

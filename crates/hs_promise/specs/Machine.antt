@@ -1,5 +1,5 @@
 -- Clause 1's other half: a run is the machine's on the events that are due, and on no others.
-use Rattle.std.specs.Prelude.{ℕ, ◌≡◌, ◌⊎◌, ◌<◌, ◌≤◌, Bool, true, false, if◌then◌else◌, List, [], ◌∷◌, length, Option, Some, None, IfSome, All}
+use Rattle.std.specs.Prelude.{ℕ, ◌+◌, ◌==◌, ◌≡◌, ◌⊎◌, ◌<◌, ◌≤◌, Bool, count_by, true, false, if◌then◌else◌, List, [], ◌∷◌, length, Option, Some, None, IfSome, All}
 use Rattle.hs_desk.specs.declared.fault.CoreFault.{CoreFault}
 use Rattle.hs_desk.specs.declared.fault.CoreFault.TheVariants as fault
 use Rattle.hs_model.specs.Refusals.{first}
@@ -38,6 +38,10 @@ opening_is_whole r (first ∷ rest) = true
 
 -- ---- all of it
 
+-- how often a disk failed before the core was opened, as far as its log was the taken one
+abbrev pub loss_count : Story → ℕ → ℕ
+loss_count story disk = count_by (λ peer. peer.0 == disk) story.lost
+
 -- a core was opened, and the run went as a story says
 pub record Went (S : Script) (r : Ran) (story : Story) : Type 0 where
   pub found : Found S r story
@@ -49,13 +53,13 @@ pub record Went (S : Script) (r : Ran) (story : Story) : Type 0 where
   pub refused : r.refused ≡ (if (ending_of r.ending).full then (last_core S story).refused else [])
   pub course : r.course ≡ course_of S story r.old.moment
   pub ends : EndsAs (ending_of r.ending) (last_core S story).ended
-  pub failed : (disk : ℕ) → DiskRose r (failures false disk (first_core S story) (all_events story)) disk
+  pub failed : (disk : ℕ) → DiskRose r (failures false disk (first_core S story) (all_events story) + loss_count story disk) disk
 
 -- and so where the disks tell their contents
 pub record Tells (S : Script) (r : Ran) (story : Story) : Type 0 where
   pub read : (peer : ℕ) → peer < peer_count S.set.shape → IsReadAs r story peer
   pub told : MayStop S r → All (IsTold r) (all_events story)
-  pub failed : (disk : ℕ) → DiskRose r (failures true disk (first_core S story) (all_events story)) disk
+  pub failed : (disk : ℕ) → DiskRose r (failures true disk (first_core S story) (all_events story) + loss_count story disk) disk
 
 -- no core was opened, since a disk is of another store or memory was wanting: nothing was answered, read or put
 pub record NeverOpened (r : Ran) : Type 0 where

@@ -1,5 +1,5 @@
 -- All that is promised of a run of a script, in the words of the plain store.
-use Rattle.std.specs.Prelude.{IfSome, [], ℕ, ◌≡◌}
+use Rattle.std.specs.Prelude.{IfSome, [], length, ℕ, ◌≡◌}
 use Rattle.hs_script.specs.Reading.{commands}
 use Rattle.hs_promise.specs.Answers.{Answers, Prints}
 use Rattle.hs_promise.specs.Causes.{Cause, FullCause}
@@ -39,6 +39,7 @@ AreOfScript S r = IfSome r.old.left (λ script. (n : ℕ) → S.commands n ≡ c
 -- all of it: what stands whatever the objects tell, and what stands where they do
 pub record Promise (tells : Type 0) (S : Script) (r : Ran) : Type 0 where
   pub script : AreOfScript S r
+  pub handed_back : length r.new.disks ≡ length r.old.disks
   pub prints : Prints S r
   pub prompt : (line : ℕ) → HasPrompt S r line
   pub time : KeepsTime r.old r.new
