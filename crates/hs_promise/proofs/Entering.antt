@@ -1,6 +1,6 @@
 -- Which disks count at entry, which course counts, and when what was put: computed on small runs.
 use Rattle.std.specs.Fmt.{digits}
-use Rattle.std.specs.Prelude.{◌≡◌, refl, ℕ, false, true, List, [], ◌∷◌, ◌++◌, map, Option, Some, None, IsSome, codes}
+use Rattle.std.specs.Prelude.{◌≡◌, refl, ℕ, false, true, List, [], ◌∷◌, ◌++◌, map, Option, Some, None}
 use Rattle.hs_core.specs.declared.event.Event.TheVariants as event
 use Rattle.hs_entry.specs.declared.entry.Entry.TheVariants as kind
 use Rattle.hs_entry.specs.Entries.{rank_of}
@@ -8,8 +8,6 @@ use Rattle.hs_fold.specs.Shards.Setting.{Numbered}
 use Rattle.hs_journal.specs.declared.entry.JournalEntry.{JournalEntry}
 use Rattle.hs_journal.specs.declared.entry.Who.TheVariants as who
 use Rattle.hs_limits.specs.declared.shape.Shape.{Shape}
-use Rattle.hs_limits.specs.Limits.{greatest_limits}
-use Rattle.hs_model.specs.declared.course.CourseItem.{CourseItem}
 use Rattle.hs_model.specs.declared.course.CourseItem.TheVariants as item
 use Rattle.hs_model.specs.declared.deed.Deed.TheVariants as deed
 use Rattle.hs_model.specs.declared.reply.Reply.TheVariants as reply
@@ -23,8 +21,8 @@ use Rattle.hs_promise.specs.Entry.{counted_course, entry_logs, entry_store, is_a
 use Rattle.hs_promise.specs.Lines.{IsPrintedBefore}
 use Rattle.hs_promise.specs.Lower.Commands.{LineAt}
 use Rattle.hs_promise.specs.Lower.Objects.{Objects}
-use Rattle.hs_promise.specs.Lower.Taken.{taken_items, taken_list, taken_peer}
-use Rattle.hs_promise.specs.Run.{Ran, Script}
+use Rattle.hs_promise.specs.Lower.Taken.{taken_items, taken_peer}
+use Rattle.hs_promise.specs.Run.{Ran}
 use Rattle.hs_promise.proofs.Rejoining.{nothing, ran, script, story}
 use Rattle.hs_promise.specs.Story.{first_core}
 

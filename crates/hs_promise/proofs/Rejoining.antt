@@ -1,14 +1,10 @@
 -- A run in which a peer fails, joins again, and the other one fails: its events, its course, and that these are the ones due.
-use Rattle.std.specs.Fmt.{digits}
 use Rattle.std.specs.Option.{option_map}
 use Rattle.std.specs.Prelude.{◌≡◌, refl, ℕ, ◌==◌, ◌++◌, false, true, List, [], ◌∷◌, find, flat_map, map, take, Option, Some, None}
-use Rattle.hs_core.specs.declared.event.Event.{Event}
 use Rattle.hs_core.specs.declared.event.Event.TheVariants as event
 use Rattle.hs_core.specs.State.{Core}
 use Rattle.hs_desk.specs.declared.done.Done.TheVariants as done
 use Rattle.hs_entry.specs.Entries.{rank_of}
-use Rattle.hs_journal.specs.declared.entry.JournalEntry.{JournalEntry}
-use Rattle.hs_journal.specs.declared.entry.Who.TheVariants as who
 use Rattle.hs_limits.specs.declared.address.Address.{Address}
 use Rattle.hs_limits.specs.declared.shape.Shape.{Shape}
 use Rattle.hs_limits.specs.Limits.{greatest_limits}
@@ -16,26 +12,21 @@ use Rattle.hs_limits.specs.Reading.{addresses, block_at, read_block}
 use Rattle.hs_model.specs.declared.command.Command.{Command}
 use Rattle.hs_model.specs.declared.command.Command.TheVariants as command
 use Rattle.hs_model.specs.declared.course.CourseItem.TheVariants as item
-use Rattle.hs_model.specs.declared.deed.Deed.TheVariants as deed
 use Rattle.hs_model.specs.declared.op.Op.{Op}
 use Rattle.hs_model.specs.declared.op.Op.TheVariants as op
-use Rattle.hs_model.specs.declared.reply.Reply.TheVariants as reply
 use Rattle.hs_model.specs.Refusals.{no_handle_in, stale_in}
 use Rattle.hs_model.specs.Store.{helds_of}
 use Rattle.hs_ops.specs.Answers.{deed_of, gained, seats_after}
 use Rattle.hs_ops.specs.Going.{asked_for, begin, block_entry, compared, data_of, go, is_same_block, judged_in, mark_entry, on_bytes, on_effect}
 use Rattle.hs_ops.specs.Refusals.{refusals_of}
 use Rattle.hs_ops.specs.Speaking.{asked_block, least_epoch}
-use Rattle.hs_script.specs.Text.{entry_text, text}
 use Rattle.hs_promise.specs.declared.status.Status.TheVariants as status
 use Rattle.hs_promise.specs.Course.{course_of}
-use Rattle.hs_promise.specs.Ending.{ending_of}
-use Rattle.hs_promise.specs.Lines.{AreLines, IsPrintedBefore}
+use Rattle.hs_promise.specs.Lines.{AreLines}
 use Rattle.hs_promise.specs.Lower.Course.{steps}
 use Rattle.hs_promise.specs.Lower.Due.{Events, is_walk, next_due, next_turn}
 use Rattle.hs_promise.specs.Lower.Objects.{Objects}
 use Rattle.hs_promise.specs.Lower.Reports.{failures}
-use Rattle.hs_promise.specs.Machine.{EndsAs}
 use Rattle.hs_promise.specs.Run.{Ran, Script}
 use Rattle.hs_promise.specs.Story.{Story, first_core, last_core}
 

@@ -1,6 +1,5 @@
 -- Command lines, and what they ask for; `delete` lines and complete lines.
-use Rattle.std.specs.Prelude.{◌≡◌, refl, ℕ, List, [], ◌∷◌, Option, Some, None, codes}
-use Rattle.std.specs.Option.{option_map}
+use Rattle.std.specs.Prelude.{◌≡◌, refl, ℕ, List, [], ◌∷◌, Some, None, codes}
 use Rattle.hs_limits.specs.Limits.{greatest_limits}
 use Rattle.hs_script.specs.Lines.{lines_of}
 use Rattle.hs_script.specs.Parts.{number_below}

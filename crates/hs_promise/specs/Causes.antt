@@ -1,5 +1,5 @@
 -- The causes of the statuses that need no contents, and that of a full journal.
-use Rattle.std.specs.Prelude.{All, [], length, ℕ, ◌++◌, ◌<◌, ◌≡◌, ◌≤◌}
+use Rattle.std.specs.Prelude.{All, [], length, ◌++◌, ◌<◌, ◌≡◌}
 use Rattle.hs_model.specs.Store.{Store}
 use Rattle.hs_ports.specs.Fault.{HasRisen}
 use Rattle.hs_promise.specs.Answers.{Answers, IsEntry}

@@ -3,8 +3,7 @@ use Rattle.std.specs.Prelude.{ℕ, Bool, true, false, Option, Some, None}
 use Rattle.hs_promise.specs.declared.status.Status.{Status}
 use Rattle.hs_promise.specs.declared.status.Status.TheVariants as status
 
--- past: the last line that was begun, or opening, was gone past; short: what was put may be a front of the text; wanting: memory was wanting;
--- full: the journal could not take the entries of an event; lost: this shard has no good peer; closed: no store was opened
+-- past: the last line that was begun, or opening, was gone past; short: what was put may be a front of the text; wanting: memory was wanting; full: the journal could not take the entries of an event; lost: this shard has no good peer; closed: no store was opened
 pub record Ending : Type 0 where
   pub past : Bool
   pub short : Bool

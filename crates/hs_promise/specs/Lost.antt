@@ -30,15 +30,11 @@ IsPast r line = (line < r.line) ⊎ (line ≡ r.line) × ((ending_of r.ending).p
 abbrev pub NotStartedAfter : Script → Ran → ℕ → ℕ → Type 0
 NotStartedAfter S r peer line = (k : ℕ) → line < k → IsStarted S r peer k → ⊥
 
--- no `settle` behind this line was gone past
-abbrev pub NotSettledAfter : Script → Ran → ℕ → Type 0
-NotSettledAfter S r line = (k : ℕ) → line < k → S.commands k ≡ Some command.Settle → IsPast r k → ⊥
-
 -- why a peer counts as not good: a `fail` line, or a note, and no start above it; or a start, and no settle that was gone past above it
 pub data NotGood (S : Script) (r : Ran) (peer : ℕ) : Type 0 where
   Failed : (line : ℕ) → line ≤ r.line → S.commands line ≡ Some (command.Fail peer) → NotStartedAfter S r peer line → NotGood S r peer
   Noted : (line : ℕ) → IsNoted r.journal peer line → NotStartedAfter S r peer line → NotGood S r peer
-  Joins : (line : ℕ) → IsStarted S r peer line → NotSettledAfter S r line → NotGood S r peer
+  Joins : (line : ℕ) → IsStarted S r peer line → ((k : ℕ) → line < k → S.commands k ≡ Some command.Settle → IsPast r k → ⊥) → NotGood S r peer
 
 -- a shard is lost only where none of its peers counts as good
 pub record LostCause (S : Script) (r : Ran) (shard : ℕ) : Type 0 where

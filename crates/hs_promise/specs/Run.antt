@@ -1,11 +1,10 @@
 -- A run of a script as it is seen from outside, and what it is set up with.
-use Rattle.std.specs.Prelude.{List, Option, slice_index_or, ℕ, ◌*◌}
+use Rattle.std.specs.Prelude.{List, Option, ℕ}
 use Rattle.hs_fold.specs.Shards.Setting.{Setting}
 use Rattle.hs_journal.specs.declared.entry.JournalEntry.{JournalEntry}
 use Rattle.hs_limits.specs.declared.address.Address.{Address}
 use Rattle.hs_model.specs.declared.command.Command.{Command}
 use Rattle.hs_model.specs.declared.course.CourseItem.{CourseItem}
-use Rattle.hs_ports.specs.Disk.{Standing}
 use Rattle.hs_script.specs.Reading.{commands}
 use Rattle.hs_promise.specs.Lower.Sides.{RoseBy}
 use Rattle.hs_promise.specs.Lower.Words.{Wanted}
@@ -27,7 +26,7 @@ pub record Ran : Type 0 where
   pub old : Objects
   pub new : Objects
 
--- so did the count of a peer's disk in a run
+-- the count of a peer's disk rose in a run by at least so much
 abbrev pub DiskRose : Ran → ℕ → ℕ → Type 0
 DiskRose r n peer = RoseBy n (faults_at r.old.disk_faults peer) (faults_at r.new.disk_faults peer)
 
