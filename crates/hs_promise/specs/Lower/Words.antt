@@ -65,7 +65,7 @@ shape_of shards copies = option_and_then (λ g. option_map (λ r. record { shard
 unfoldable pub wanted : List (List ℕ) → Option Wanted
 wanted (command ∷ dir ∷ shards ∷ copies ∷ options) =
     if bytes_eq command (codes "script") && not (length dir == 0) then
-      option_and_then (λ shape. option_map (λ limits. record { shape = shape; limits = limits }) (with_options [] options (Some greatest_limits))) (shape_of shards copies)
+    option_and_then (λ shape. option_map (λ limits. record { shape = shape; limits = limits }) (with_options [] options (Some greatest_limits))) (shape_of shards copies)
     else None
 wanted other = None
 
