@@ -8,6 +8,7 @@ use Rattle.hs_model.specs.declared.course.CourseItem.{CourseItem}
 use Rattle.hs_script.specs.Reading.{commands}
 use Rattle.hs_promise.specs.Lower.Sides.{RoseBy}
 use Rattle.hs_promise.specs.Lower.Words.{Wanted}
+use Rattle.hs_promise.specs.declared.outcome.Outcome.{Outcome}
 use Rattle.hs_promise.specs.declared.status.Status.{Status}
 use Rattle.hs_promise.specs.Lower.Objects.{Objects, faults_at}
 
@@ -25,6 +26,10 @@ pub record Ran : Type 0 where
   pub course : List CourseItem
   pub old : Objects
   pub new : Objects
+
+-- the run of an outcome, between these objects at entry and at the end
+abbrev pub ran_of : Outcome → Objects → Objects → Ran
+ran_of o old new = record { ending = o.status; line = o.line; journal = o.journal.entries; refused = o.refused; course = o.course; old = old; new = new }
 
 -- the count of a peer's disk rose in a run by at least so much
 abbrev pub DiskRose : Ran → ℕ → ℕ → Type 0

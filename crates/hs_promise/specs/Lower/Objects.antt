@@ -1,5 +1,5 @@
 -- What a run is handed, and how its time goes. (Belongs to hs_ports.)
-use Rattle.std.specs.Prelude.{ℕ, ◌≡◌, ◌-◌, ◌^◌, ◌<◌, ◌≤◌, List, Option, All, slice_index_or}
+use Rattle.std.specs.Prelude.{ℕ, ◌≡◌, ◌-◌, ◌^◌, ◌<◌, ◌≤◌, List, Option, All, map, slice_index_or}
 use Rattle.hs_ports.specs.Disk.{Standing}
 use Rattle.hs_ports.specs.declared.disk.Side.{Side}
 use Rattle.hs_ports.specs.Moments.{disk_at}
@@ -17,6 +17,18 @@ pub record Objects : Type 0 where
   pub disk_faults : List ℕ
   pub sink_faults : ℕ
   pub source_faults : ℕ
+
+-- the moment, each disk with its count, what the sink got with its count, and what the source has left with its count
+abbrev pub handed : ℕ → List (Standing × ℕ) → Option (List (ℕ × ℕ)) × ℕ → Option (List ℕ) × ℕ → Objects
+handed moment disks sink source = record {
+  moment = moment;
+  disks = map (λ disk. disk.0) disks;
+  got = sink.0;
+  left = source.0;
+  disk_faults = map (λ disk. disk.1) disks;
+  sink_faults = sink.1;
+  source_faults = source.1;
+}
 
 -- ---- faults
 
