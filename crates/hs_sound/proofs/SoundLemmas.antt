@@ -1,5 +1,5 @@
 -- What waits behind lists that took effect leaves them sound.
-use Rattle.std.proofs.Common.{◌≡◌, ℕ, List, [], ◌∷◌, ◌++◌, length, sym, ap, ◌∙◌, subst}
+use Rattle.std.proofs.Common.{◌≡◌, List, [], ◌∷◌, ◌++◌, length, sym, ap, ◌∙◌, subst}
 use Rattle.std.specs.Prelude.{All}
 use Rattle.hs_limits.specs.Shape.{IsShape}
 use Rattle.hs_laws.proofs.ValidLemmas.{is_from_valid}

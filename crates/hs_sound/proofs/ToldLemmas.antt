@@ -11,10 +11,9 @@ use Rattle.hs_limits.specs.Shape.{shard_of}
 use Rattle.hs_model.specs.Reach.{is_same}
 use Rattle.hs_model.proofs.Members.{same_from}
 use Rattle.hs_rounds.specs.declared.body.RoundBody.{RoundBody}
-use Rattle.hs_rounds.specs.declared.sending.SentRound.{SentRound}
 use Rattle.hs_rounds.specs.Changes.{changes_for}
 use Rattle.hs_rounds.specs.Rounds.{body_for, bodies_for}
-use Rattle.hs_fold.specs.Runs.Counts.{amount_at, deltas_of}
+use Rattle.hs_fold.specs.Runs.Counts.{amount_at}
 use Rattle.hs_joint.proofs.AmountLemmas.{amount_append}
 use Rattle.hs_joint.proofs.CutLemmas.{body_told}
 use Rattle.hs_sound.specs.Told.{TellsEachItsOwn}
@@ -67,15 +66,15 @@ one_told a [] k told e h = cc e
 one_told a (b ∷ bs) zero told e h =
     amount_append a b.deltas (told_all bs)
     ∙ (
-        let is : b ≡ told = cc e in
-        let same : amount_at a b.deltas ≡ amount_at a told.deltas = ap (λ (x : RoundBody). amount_at a x.deltas) is in
-        let rest = none_told a bs (λ j other q. h (suc j) other q (λ z. omega (arith, z))) in
-        omega (arith, same, rest)
-        )
+    let is : b ≡ told = cc e in
+    let same : amount_at a b.deltas ≡ amount_at a told.deltas = ap (λ (x : RoundBody). amount_at a x.deltas) is in
+    let rest = none_told a bs (λ j other q. h (suc j) other q (λ z. omega (arith, z))) in
+    omega (arith, same, rest)
+    )
 one_told a (b ∷ bs) (suc k) told e h =
     amount_append a b.deltas (told_all bs)
     ∙ (
-        let first = h 0 b refl (λ z. omega (arith, z)) in
-        let rest = one_told a bs k told e (λ j other q o. h (suc j) other q (λ z. o (omega (arith, z)))) in
-        omega (arith, first, rest)
-        )
+    let first = h 0 b refl (λ z. omega (arith, z)) in
+    let rest = one_told a bs k told e (λ j other q o. h (suc j) other q (λ z. o (omega (arith, z)))) in
+    omega (arith, first, rest)
+    )

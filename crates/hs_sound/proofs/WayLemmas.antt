@@ -1,6 +1,6 @@
 -- What shards keep as sent and a shard has not applied is what the machine has on its way there.
-use Rattle.std.proofs.Common.{◌≡◌, ◌≢◌, ◌⊎◌, inl, inr, ℕ, zero, suc, ◌+◌, ◌-◌, ◌<◌, ◌≤◌, ◌==◌, ◌&&◌, ◌||◌, not, List, [], ◌∷◌, length, filter, flat_map, Bool, true, false, cond, Some, refl, sym, ap, ◌∙◌, subst, arith, nat_lt, nat_le}
-use Rattle.std.proofs.lemmas.Bool.{cases_eq, cases_lt, eq-eqb, ne_eqb, ltb-true, leb-true}
+use Rattle.std.proofs.Common.{◌≡◌, ◌⊎◌, inl, inr, ℕ, zero, suc, ◌+◌, ◌-◌, ◌<◌, ◌≤◌, ◌==◌, ◌&&◌, ◌||◌, not, List, [], ◌∷◌, length, filter, flat_map, Bool, true, false, cond, Some, refl, sym, ap, ◌∙◌, arith, nat_lt, nat_le}
+use Rattle.std.proofs.lemmas.Bool.{cases_eq, eq-eqb, ne_eqb, ltb-true, leb-true}
 use Rattle.std.proofs.lemmas.Bool.Decides.{nat_tests}
 use Rattle.std.proofs.lemmas.List.Elements.{recursion_from_All}
 use Rattle.std.specs.List.{AllByRecursion}
@@ -13,7 +13,6 @@ use Rattle.hs_rounds.specs.declared.body.RoundBody.{RoundBody}
 use Rattle.hs_rounds.specs.declared.sending.SentRound.{SentRound}
 use Rattle.hs_deletion.specs.Clocks.{label_of}
 use Rattle.hs_deletion.specs.Counts.{raised_on_way, lowered_on_way}
-use Rattle.hs_deletion.specs.Following.{IsSent}
 use Rattle.hs_deletion.specs.Invariants.{IsRight}
 use Rattle.hs_deletion.specs.Machine.{Layout, Round, Machine, empty_round, sum_below}
 use Rattle.hs_deletion.specs.Rounds.{times, raised_in, lowered_in}
@@ -50,7 +49,7 @@ amount_kept a test (x ∷ xs) = go (test x) (amount_kept a test xs)
 
     go : (b : Bool) → amount_at a (flat_map deltas_of (filter test xs)) ≡ rest → amount_at a (flat_map deltas_of (cond b (x ∷ filter test xs) (filter test xs))) ≡ cond b (amount_at a (deltas_of x)) 0 + rest
     go true ih = amount_append a (deltas_of x) (flat_map deltas_of (filter test xs)) ∙ ap (λ k. amount_at a (deltas_of x) + k) ih
-    go false ih = ih
+    go false ih = omega (arith, ih)
 
 sum_none : (w : SentRound → ℕ) (xs : List SentRound) → ((place : ℕ) (kept : SentRound) → slice_get xs place ≡ Some kept → w kept ≡ 0) → sum_each w xs ≡ 0
 sum_none w [] h = refl

@@ -1,5 +1,5 @@
 -- What a round that is kept as sent tells which shard.
-use Rattle.std.specs.Prelude.{◌≡◌, ℕ, List, length, All, Some, slice_get}
+use Rattle.std.specs.Prelude.{◌≡◌, ℕ, length, All, Some, slice_get}
 use Rattle.hs_limits.specs.Shape.{shard_of}
 use Rattle.hs_rounds.specs.declared.body.RoundBody.{RoundBody}
 use Rattle.hs_rounds.specs.declared.sending.SentRound.{SentRound}
