@@ -1,0 +1,6 @@
+mod AnswerLemmas
+mod CoreLemmas
+mod MemoryLemmas
+mod RefusalLemmas
+mod RootLemmas
+mod ShownLemmas

@@ -1,0 +1,10 @@
+//! What the core answers is what the plain store of its catalogues and sessions answers.
+#![tactic(auto)]
+
+mod answered;
+mod busy;
+mod shown;
+
+pub use answered::an_answer_is_the_judges;
+pub use busy::a_busy_session_is_told;
+pub use shown::views_show_the_store;
