@@ -28,8 +28,8 @@ events_in S entry journal = events_of S.commands S.set.name S.set.limits entry j
 abbrev pub store_after : Script → Store → List JournalEntry → Store
 store_after S entry journal = run S.set.limits entry (events_in S entry journal)
 
-abbrev pub store_at : Script → Store → List JournalEntry → ℕ → Store
-store_at S entry journal place = store_after S entry (take place journal)
+abbrev pub store_before : Script → Store → List JournalEntry → ℕ → Store
+store_before S entry journal place = store_after S entry (take place journal)
 
 -- a journal is a legal run of the plain store, its answers are that store's, and they stand in the order of a journal
 pub record Answers (S : Script) (entry : Store) (journal : List JournalEntry) : Type 0 where

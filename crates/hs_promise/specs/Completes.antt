@@ -7,7 +7,7 @@ use Rattle.hs_model.specs.declared.command.Command.TheVariants as command
 use Rattle.hs_ports.specs.Moments.{disk_at}
 use Rattle.hs_script.specs.Lines.{lines_of}
 use Rattle.hs_side.specs.declared.header.Header.{Header}
-use Rattle.hs_promise.specs.Answers.{store_at}
+use Rattle.hs_promise.specs.Answers.{store_before}
 use Rattle.hs_promise.specs.Ending.{ending_of}
 use Rattle.hs_promise.specs.Lost.{IsPast, LostCause}
 use Rattle.hs_promise.specs.Lower.Laws.{IsLevel}
@@ -26,7 +26,7 @@ abbrev pub entry_bound : Script → List (List ℕ) → ℕ
 entry_bound S lines = length lines + (2 * S.set.shape.shards + 1) * (delete_count lines + 2) + peer_count S.set.shape
 
 -- the script is in the language and within its bounds, the headers are of the shape, nothing fails, and the journal has room
-pub record MayComplete (S : Script) (script : List ℕ) (r : Ran) : Type 0 where
+pub record MayEndWell (S : Script) (script : List ℕ) (r : Ran) : Type 0 where
   pub headers : (peer : ℕ) (found : Header) → peer < length r.old.disks → HasHeader (disk_at r.old.disks peer) found → found ≡ own_header S.set.shape peer
   pub good : (n : ℕ) → IsBad (lines_of script) n → ⊥
   pub short : length script ≤ input_limit
@@ -52,7 +52,7 @@ HasPrompt S r line = line ≤ r.line → IsPrompt (client_op (S.commands line)) 
 -- what a settle that was gone past has done: all lines below are answered, and the shards are level
 pub record Settles (S : Script) (entry : Store) (r : Ran) (line : ℕ) : Type 0 where
   pub answered : (n : ℕ) → n < line → IsSome (client_op (S.commands n)) → IsAnsweredBefore r.journal line n
-  pub level : (place : ℕ) → IsFirstAbove r.journal line place → IsLevel (store_at S entry r.journal place)
+  pub level : (place : ℕ) → IsFirstAbove r.journal line place → IsLevel (store_before S entry r.journal place)
 
 -- so each, where the pool has more room than the last two rounds of one lead take
 abbrev pub SettlesEach : Script → Store → Ran → Type 0

@@ -14,7 +14,7 @@ use Rattle.hs_ports.specs.declared.disk.Side.{Side}
 use Rattle.hs_side.specs.Current.{list_in}
 use Rattle.hs_promise.specs.Ending.{ending_of}
 use Rattle.hs_promise.specs.Lower.Notes.{is_first_noted}
-use Rattle.hs_promise.specs.Lower.Taken.{filled, taken_items, taken_lists}
+use Rattle.hs_promise.specs.Lower.Taken.{or_blank, taken_items, taken_lists}
 use Rattle.hs_promise.specs.Run.{Ran, Script}
 use Rattle.hs_promise.specs.Lower.Objects.{NoneAhead, faults_at}
 
@@ -36,7 +36,7 @@ entry_logs S r = logs_from S r 0 r.old.disks
 
 -- the store at entry
 abbrev pub entry_store : Script → Ran → Store
-entry_store S r = opened S.set (filled (entry_logs S r))
+entry_store S r = opened S.set (or_blank (entry_logs S r))
 
 -- ---- what may be asked of them
 

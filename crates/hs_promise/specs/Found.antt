@@ -27,7 +27,7 @@ abbrev pub IsSetAside : Script → Ran → Story → ℕ → Type 0
 IsSetAside S r story peer = DiskRose r 1 peer ⊎ ((slice_index_or story.logs peer None ≡ None) ⊎ IsLeftBehind S story peer)
 
 -- what was found
-pub record Found (S : Script) (r : Ran) (story : Story) : Type 0 where
+pub record HasFound (S : Script) (r : Ran) (story : Story) : Type 0 where
   pub logs : length story.logs ≡ peer_count S.set.shape
   pub goods : length story.good ≡ peer_count S.set.shape
   pub later : r.old.moment ≤ story.opened

@@ -48,9 +48,9 @@ abbrev pub lost_taken : Script → Ran → ℕ → Bool
 lost_taken S r peer = list_any (λ p. begins S.set.shape.shards r.course p && is_first_noted p (r.journal ++ r.refused)) (peers_of S.set.shape (home_of S.set.shape peer))
 
 -- a peer that was set aside without a failure of its disk has one note more: its sides are no log, or it was not yet made equal to that log
-abbrev pub one_more : Script → Ran → ℕ → ℕ
-one_more S r peer = if is_aside S r peer && (is_none (list_in (disk_at r.old.disks peer).seen) || lost_taken S r peer) then 1 else 0
+abbrev pub extra_note : Script → Ran → ℕ → ℕ
+extra_note S r peer = if is_aside S r peer && (is_none (list_in (disk_at r.old.disks peer).seen) || lost_taken S r peer) then 1 else 0
 
 -- of a disk that tells its contents there are at most so many notes more than its count rose by
 abbrev pub NotesCause : Script → Ran → Type 0
-NotesCause S r = (peer : ℕ) → DiskRose r (note_count peer (r.journal ++ r.refused) - one_more S r peer) peer
+NotesCause S r = (peer : ℕ) → DiskRose r (note_count peer (r.journal ++ r.refused) - extra_note S r peer) peer

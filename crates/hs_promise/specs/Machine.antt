@@ -6,7 +6,7 @@ use Rattle.hs_model.specs.Refusals.{first}
 use Rattle.hs_promise.specs.Course.{course_of}
 use Rattle.hs_promise.specs.Ending.{Ending, ending_of}
 use Rattle.hs_promise.specs.Entry.{MayStop}
-use Rattle.hs_promise.specs.Found.{Found, IsReadAs}
+use Rattle.hs_promise.specs.Found.{HasFound, IsReadAs}
 use Rattle.hs_promise.specs.Lines.{AreLines}
 use Rattle.hs_promise.specs.Lower.Course.{steps}
 use Rattle.hs_promise.specs.Lower.Due.{Events, is_walk, next_turn}
@@ -27,9 +27,9 @@ pub record EndsAs (ending : Ending) (ended : Option CoreFault) : Type 0 where
   pub lost : IfSome ending.lost (λ shard. ended ≡ Some (fault.ShardLost shard))
 
 -- moments never fall, from one on and up to another
-abbrev pub Rises : ℕ → Events → ℕ → Type 0
-Rises from [] to = from ≤ to
-Rises from (e ∷ es) to = (from ≤ e.1) × Rises e.1 es to
+abbrev pub MomentsRise : ℕ → Events → ℕ → Type 0
+MomentsRise from [] to = from ≤ to
+MomentsRise from (e ∷ es) to = (from ≤ e.1) × MomentsRise e.1 es to
 
 -- opening is turns until nobody has one; it may be cut short only where no line was begun
 abbrev pub opening_is_whole : Ran → List Events → Bool
@@ -44,11 +44,11 @@ loss_count story disk = count_by (λ peer. peer.0 == disk) story.lost
 
 -- a core was opened, and the run went as a story says
 pub record Went (S : Script) (r : Ran) (story : Story) : Type 0 where
-  pub found : Found S r story
+  pub found : HasFound S r story
   pub opening : is_walk next_turn (opening_is_whole r story.lines) 0 (first_core S story) story.opening ≡ true
   pub lines : AreLines S r 1 (steps (first_core S story) story.opening) story.lines
   pub line : r.line ≡ length story.lines
-  pub rises : Rises story.opened (all_events story) r.new.moment
+  pub rises : MomentsRise story.opened (all_events story) r.new.moment
   pub journal : r.journal ≡ (last_core S story).journal
   pub refused : r.refused ≡ (if (ending_of r.ending).full then (last_core S story).refused else [])
   pub course : r.course ≡ course_of S story r.old.moment

@@ -3,11 +3,11 @@ use Rattle.std.specs.Prelude.{IfSome, [], length, ℕ, ◌≡◌}
 use Rattle.hs_script.specs.Reading.{commands}
 use Rattle.hs_promise.specs.Answers.{Answers, Prints}
 use Rattle.hs_promise.specs.Causes.{Cause, FullCause}
-use Rattle.hs_promise.specs.Completes.{EndsWell, HasPrompt, MayComplete, SettlesEach}
+use Rattle.hs_promise.specs.Completes.{EndsWell, HasPrompt, MayEndWell, SettlesEach}
 use Rattle.hs_promise.specs.Deletes.{Deletes}
 use Rattle.hs_promise.specs.Ends.{Ends}
 use Rattle.hs_promise.specs.Entry.{IsSoundAtEntry, MayStop, entry_store}
-use Rattle.hs_promise.specs.Kept.{Keeps}
+use Rattle.hs_promise.specs.Kept.{KeepsAlong}
 use Rattle.hs_promise.specs.Lost.{NotesCause}
 use Rattle.hs_promise.specs.Run.{Ran, Script}
 use Rattle.hs_promise.specs.Shapes.{ShapeCause}
@@ -19,13 +19,13 @@ use Rattle.hs_promise.specs.Lower.Objects.{CountsStand, KeepsPast, KeepsTime}
 pub record Clauses (S : Script) (r : Ran) : Type 0 where
   pub answers : Answers S (entry_store S r) r.journal
   pub full : FullCause S (entry_store S r) r
-  pub keeps : Keeps S (entry_store S r) r
+  pub keeps : KeepsAlong S (entry_store S r) r
   pub deletes : Deletes S (entry_store S r) r
   pub settles : SettlesEach S (entry_store S r) r
-  pub ends : IfSome r.old.left (λ script. MayComplete S script r → EndsWell S r)
+  pub ends : IfSome r.old.left (λ script. MayEndWell S script r → EndsWell S r)
 
 -- over disks that tell their contents
-pub record Told (S : Script) (r : Ran) : Type 0 where
+pub record WhereTold (S : Script) (r : Ran) : Type 0 where
   pub clauses : IsSoundAtEntry S r → Clauses S r
   pub stops : MayStop S r → Stops S (entry_store S r) r
   pub past : KeepsPast r.old r.new
@@ -46,7 +46,7 @@ pub record Promise (tells : Type 0) (S : Script) (r : Ran) : Type 0 where
   pub counts : CountsStand r.old r.new
   pub cause : Cause S r r.ending
   pub ends : IfSome r.old.left (λ script. IfSome r.new.left (Ends r script))
-  pub told : tells → Told S r
+  pub told : tells → WhereTold S r
 
 -- a faulty command line: nothing was read, answered or put, and nothing changed
 pub record IsUsage (r : Ran) : Type 0 where

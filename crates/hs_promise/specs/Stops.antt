@@ -16,7 +16,7 @@ use Rattle.hs_promise.specs.Awaited.{IsAwaited}
 use Rattle.hs_promise.specs.Entry.{counted_course, is_aside}
 use Rattle.hs_promise.specs.Lower.Moments.{below}
 use Rattle.hs_promise.specs.Lower.Pending.{MayPend, pending}
-use Rattle.hs_promise.specs.Lower.Taken.{filled, taken_lists}
+use Rattle.hs_promise.specs.Lower.Taken.{or_blank, taken_lists}
 use Rattle.hs_promise.specs.Run.{Ran, Script}
 use Rattle.hs_promise.specs.Lower.Objects.{IsDuring}
 
@@ -33,7 +33,7 @@ pending_at S r moment images = pending S.set (taken_below (counted_course S r) m
 
 -- the images open at the store after the journal below the moment and then what is pending, all of it one legal run, and the next run may begin with them
 pub record Reopens (S : Script) (entry : Store) (r : Ran) (moment : ℕ) (images : List Image) : Type 0 where
-  pub stands : opened S.set (filled (image_logs images))
+  pub stands : opened S.set (or_blank (image_logs images))
       ≡ reborn (happen_all (store_after S entry (below moment r.journal)) (happenings (pending_at S r moment images)))
   pub legal : AreOneRun S.set.limits entry (events_in S entry (below moment r.journal)) (happenings (pending_at S r moment images))
   pub sound : AreSound S.set (taken_lists S.set.shape (image_logs images))

@@ -75,25 +75,25 @@ due_by line core (event.Nudge l peer) = if l == line then Some (Nudging peer) el
 due_by line core (event.Fail l peer) = None
 due_by line core (event.Start l peer) = None
 
-abbrev pub is_same : Due → Due → Bool
-is_same (Reporting p) (Reporting q) = p == q
-is_same (Handling p m) (Handling q n) = m == n
-is_same (Nudging p) (Nudging q) = p == q
-is_same due other = false
+abbrev pub is_same_due : Due → Due → Bool
+is_same_due (Reporting p) (Reporting q) = p == q
+is_same_due (Handling p m) (Handling q n) = m == n
+is_same_due (Nudging p) (Nudging q) = p == q
+is_same_due due other = false
 
 -- whether an event of a line is what is due
 abbrev pub is_it : ℕ → Core → Due → Event → Bool
-is_it line core due e = option_map_or (is_same due) (due_by line core e) false
+is_it line core due e = option_map_or (is_same_due due) (due_by line core e) false
 
 -- whether a peer is known to have sealed more than before
 abbrev pub raises_known : Core → Core → Bool
 raises_known before after = list_any (λ peer. nat_lt (known_of peer before) (known_of peer after)) (all_peers (shape_of before))
 
 -- where they stand behind what was due
-abbrev pub moved : Due → Bool → Place → Place
-moved (Reporting peer) raised place = record place { peer = peer; progress = true }
-moved (Handling peer message) raised place = record place { peer = peer; progress = place.progress || raised }
-moved (Nudging peer) raised place =
+abbrev pub place_after : Due → Bool → Place → Place
+place_after (Reporting peer) raised place = record place { peer = peer; progress = true }
+place_after (Handling peer message) raised place = record place { peer = peer; progress = place.progress || raised }
+place_after (Nudging peer) raised place =
     record { peer = 0; nudger = peer + 1; progress = (nat_le place.nudger peer && (not (place.nudger == 0) && place.progress)) || raised }
 
 -- ---- events that are due one after another
@@ -107,7 +107,7 @@ pub record Walked : Type 0 where
 abbrev pub move : (Place → Core → Option Due) → ℕ → Walked → Event × ℕ → Option Walked
 move due line at e =
     let after : Core = step e.0 e.1 at.core in
-    option_and_then (λ d. if is_it line at.core d e.0 then Some (record { place = moved d (raises_known at.core after) at.place; core = after }) else None) (due at.place at.core)
+    option_and_then (λ d. if is_it line at.core d e.0 then Some (record { place = place_after d (raises_known at.core after) at.place; core = after }) else None) (due at.place at.core)
 
 -- behind some; they may stop before nothing is due any more
 abbrev pub walk : (Place → Core → Option Due) → ℕ → Walked → Events → Option Walked

@@ -11,7 +11,7 @@ use Rattle.hs_model.specs.declared.reply.Reply.{Reply}
 use Rattle.hs_model.specs.declared.reply.Reply.TheVariants as reply
 
 -- a sweep of a shard removes exactly the blocks of it that were born before its epoch and that no anchor reaches, with what is given there, and tells their number
-pub record SweepsExactly (s : Store) (shard : ℕ) (told : Reply) : Type 0 where
+pub record SweepIsExact (s : Store) (shard : ℕ) (told : Reply) : Type 0 where
   pub exact : KeepsTheRest s (slice_index s.epochs shard) shard (sweep s shard)
   pub given : KeepsItsGiven s (sweep s shard)
   pub number : told ≡ reply.Sweep (slice_index s.epochs shard) (length s.blocks - length (sweep s shard).blocks)

@@ -45,15 +45,15 @@ pub record HasBlock (number : ℕ) (bytes : List ℕ) (list : Option Numbered) :
   pub block : Contains entries (number, kind.Block line least bytes)
 
 -- it has no entry of a number
-abbrev pub HasNone : ℕ → Option Numbered → Type 0
-HasNone number list = IfSome list (λ entries. (entry : Entry) → Contains entries (number, entry) → ⊥)
+abbrev pub LacksEntry : ℕ → Option Numbered → Type 0
+LacksEntry number list = IfSome list (λ entries. (entry : Entry) → Contains entries (number, entry) → ⊥)
 
 -- a Read tells the bytes of the block of its number, or that no such entry is kept; what the other jobs came to clause 3 shows
 abbrev pub TellsOf : Done → Option Numbered → Type 0
 TellsOf (done.Stored number) list = ⊤
 TellsOf (done.Sealed number) list = ⊤
 TellsOf (done.Bytes number bytes) list = HasBlock number bytes list
-TellsOf (done.Gone number) list = HasNone number list
+TellsOf (done.Gone number) list = LacksEntry number list
 TellsOf done.Emptied list = ⊤
 TellsOf (done.Copied number) list = ⊤
 TellsOf (done.Stepped switched) list = ⊤

@@ -15,12 +15,12 @@ abbrev pub peer_count : Shape → ℕ
 peer_count shape = shape.shards * shape.copies
 
 -- where a disk has no log it counts as blank
-abbrev pub filled : List (Option Numbered) → List Numbered
-filled logs = map (λ log. unwrap_or log []) logs
+abbrev pub or_blank : List (Option Numbered) → List Numbered
+or_blank logs = map (λ log. unwrap_or log []) logs
 
 -- by shard the list of greatest rank
 abbrev pub taken_lists : Shape → List (Option Numbered) → List Numbered
-taken_lists shape logs = chosen_each shape.shards shape.copies (filled logs)
+taken_lists shape logs = chosen_each shape.shards shape.copies (or_blank logs)
 
 abbrev pub taken_list : Shape → List (Option Numbered) → ℕ → Numbered
 taken_list shape logs shard = slice_index_or (taken_lists shape logs) shard []

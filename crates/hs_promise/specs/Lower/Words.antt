@@ -51,21 +51,21 @@ with_options given (name ∷ value ∷ words) limits =
 -- ---- the words
 
 -- how many shards, and how many copies, a word asks for
-abbrev pub shards_of : List ℕ → Option ℕ
-shards_of word = option_and_then (λ n. if list_any (λ k. n == k) (1 ∷ 2 ∷ 4 ∷ 8 ∷ []) then Some n else None) (number_below 9 word)
+abbrev pub shards_word : List ℕ → Option ℕ
+shards_word word = option_and_then (λ n. if list_any (λ k. n == k) (1 ∷ 2 ∷ 4 ∷ 8 ∷ []) then Some n else None) (number_below 9 word)
 
-abbrev pub copies_of : List ℕ → Option ℕ
-copies_of word = option_and_then (λ n. if n == 0 then None else Some n) (number_below 5 word)
+abbrev pub copies_word : List ℕ → Option ℕ
+copies_word word = option_and_then (λ n. if n == 0 then None else Some n) (number_below 5 word)
 
 -- the shape that two words ask for
-abbrev pub shape_of : List ℕ → List ℕ → Option Shape
-shape_of shards copies = option_and_then (λ g. option_map (λ r. record { shards = g; copies = r }) (copies_of copies)) (shards_of shards)
+abbrev pub shape_word : List ℕ → List ℕ → Option Shape
+shape_word shards copies = option_and_then (λ g. option_map (λ r. record { shards = g; copies = r }) (copies_word copies)) (shards_word shards)
 
 -- what `script DIR G R` and its options ask for, with any DIR that is not empty
 unfoldable pub wanted : List (List ℕ) → Option Wanted
 wanted (command ∷ dir ∷ shards ∷ copies ∷ options) =
     if bytes_eq command (codes "script") && not (length dir == 0) then
-    option_and_then (λ shape. option_map (λ limits. record { shape = shape; limits = limits }) (with_options [] options (Some greatest_limits))) (shape_of shards copies)
+    option_and_then (λ shape. option_map (λ limits. record { shape = shape; limits = limits }) (with_options [] options (Some greatest_limits))) (shape_word shards copies)
     else None
 wanted other = None
 
