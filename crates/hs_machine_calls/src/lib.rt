@@ -12,20 +12,8 @@ mod marks;
 #[cfg(test)]
 mod members;
 #[cfg(test)]
-mod ops;
-#[cfg(test)]
-mod peerlog;
-#[cfg(test)]
 mod post;
 #[cfg(test)]
-mod rejoin;
-#[cfg(test)]
-mod replica;
-#[cfg(test)]
 mod roots;
-#[cfg(test)]
-mod rounds;
-#[cfg(test)]
-mod shard;
 #[cfg(test)]
 mod tokens;

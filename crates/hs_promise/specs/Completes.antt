@@ -1,0 +1,59 @@
+-- Clause 5, completeness.
+use Rattle.std.specs.Prelude.{IsSome, List, Some, length, true, ℕ, ◌*◌, ◌+◌, ◌<◌, ◌≡◌, ◌≤◌, ◌⊎◌}
+use Rattle.hs_journal.specs.Events.{client_op}
+use Rattle.hs_journal.specs.Order.{IsOfLine, IsPrompt}
+use Rattle.hs_model.specs.Store.{Store}
+use Rattle.hs_model.specs.declared.command.Command.TheVariants as command
+use Rattle.hs_ports.specs.Moments.{disk_at}
+use Rattle.hs_script.specs.Lines.{lines_of}
+use Rattle.hs_side.specs.declared.header.Header.{Header}
+use Rattle.hs_promise.specs.Answers.{store_before}
+use Rattle.hs_promise.specs.Ending.{ending_of}
+use Rattle.hs_promise.specs.Lost.{IsPast, LostCause}
+use Rattle.hs_promise.specs.Lower.Laws.{IsLevel}
+use Rattle.hs_promise.specs.Lower.Script.{IsBad, delete_count, input_limit}
+use Rattle.hs_promise.specs.Lower.Sides.{HasHeader, own_header}
+use Rattle.hs_promise.specs.Lower.Telling.{IsAnsweredBefore, IsFirstAbove}
+use Rattle.hs_promise.specs.Run.{Ran, Script}
+use Rattle.hs_promise.specs.declared.status.Status.TheVariants as status
+use Rattle.hs_promise.specs.Lower.Objects.{NoneFailed}
+use Rattle.hs_promise.specs.Lower.Taken.{peer_count}
+
+-- ---- how a run without failures ends
+
+-- the most entries that a run without failures may have
+abbrev pub entry_bound : Script → List (List ℕ) → ℕ
+entry_bound S lines = length lines + (2 * S.set.shape.shards + 1) * (delete_count lines + 2) + peer_count S.set.shape
+
+-- the script is in the language and within its bounds, the headers are of the shape, nothing fails, and the journal has room
+pub record MayEndWell (S : Script) (script : List ℕ) (r : Ran) : Type 0 where
+  pub headers : (peer : ℕ) (found : Header) → peer < length r.old.disks → HasHeader (disk_at r.old.disks peer) found → found ≡ own_header S.set.shape peer
+  pub good : (n : ℕ) → IsBad (lines_of script) n → ⊥
+  pub short : length script ≤ input_limit
+  pub calm : NoneFailed r.old r.new
+  pub room : entry_bound S (lines_of script) ≤ S.set.limits.ops
+
+-- it comes to its end, or memory was wanting, or a shard was lost with its cause
+abbrev pub EndsWell : Script → Ran → Type 0
+EndsWell S r = (r.ending ≡ status.Done) ⊎ ((r.ending ≡ status.NoMemory) ⊎ (shard : ℕ) × (r.ending ≡ status.ShardLost shard) × LostCause S r shard)
+
+-- ---- which lines have their entries
+
+-- the last line that was begun may lack its entry where memory was wanting or the journal full
+abbrev pub MayLack : Ran → ℕ → Type 0
+MayLack r line = (line ≡ r.line) × (((ending_of r.ending).wanting ≡ true) ⊎ ((ending_of r.ending).full ≡ true))
+
+-- a line that is answered in its own event has its entry
+abbrev pub HasPrompt : Script → Ran → ℕ → Type 0
+HasPrompt S r line = line ≤ r.line → IsPrompt (client_op (S.commands line)) → (MayLack r line → ⊥) → (place : ℕ) × IsOfLine r.journal place line
+
+-- ---- settle
+
+-- what a settle that was gone past has done: all lines below are answered, and the shards are level
+pub record Settles (S : Script) (entry : Store) (r : Ran) (line : ℕ) : Type 0 where
+  pub answered : (n : ℕ) → n < line → IsSome (client_op (S.commands n)) → IsAnsweredBefore r.journal line n
+  pub level : (place : ℕ) → IsFirstAbove r.journal line place → IsLevel (store_before S entry r.journal place)
+
+-- so each, where the pool has more room than the last two rounds of one lead take
+abbrev pub SettlesEach : Script → Store → Ran → Type 0
+SettlesEach S entry r = 2 * S.set.shape.shards < S.set.limits.pool → (line : ℕ) → S.commands line ≡ Some command.Settle → IsPast r line → Settles S entry r line

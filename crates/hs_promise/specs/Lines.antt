@@ -1,0 +1,33 @@
+-- Which events a line of a script has, and that it comes behind all text so far.
+use Rattle.std.specs.Prelude.{List, None, [], true, ℕ, ⊤, ◌+◌, ◌-◌, ◌<◌, ◌^◌, ◌∷◌, ◌≡◌}
+use Rattle.hs_core.specs.State.{Core}
+use Rattle.hs_ports.specs.Sink.{bytes_of, followed}
+use Rattle.hs_script.specs.Text.{text}
+use Rattle.hs_promise.specs.Ending.{ending_of}
+use Rattle.hs_promise.specs.Lower.Commands.{AreOfLine, LineAt}
+use Rattle.hs_promise.specs.Lower.Course.{steps}
+use Rattle.hs_promise.specs.Lower.Due.{Events}
+use Rattle.hs_promise.specs.Lower.Moments.{got_by}
+use Rattle.hs_promise.specs.Run.{Ran, Script}
+use Rattle.hs_promise.specs.Lower.Objects.{IsSinkBehind}
+
+-- at the first event of a line the sink has got the text of all that was answered before, and no more; nothing is said of the last moment of a u64
+abbrev pub IsPrintedBefore : Ran → LineAt → Type 0
+IsPrintedBefore r at = from at.events
+  where
+    from : Events → Type 0
+    from [] = ⊤
+    from (e ∷ es) = IsSinkBehind r.old → e.1 < 2 ^ 64 - 1 → bytes_of (got_by e.1 r.new.got) ≡ followed (bytes_of r.old.got) (text at.core.journal)
+
+-- a line is begun by a core that has not ended
+pub record IsBegunLine (S : Script) (r : Ran) (at : LineAt) : Type 0 where
+  pub going : at.core.ended ≡ None
+  pub printed : IsPrintedBefore r at
+  pub events : AreOfLine S.set.name at (S.commands at.line)
+
+-- the lines from one on, each behind the one before; the last may be cut short
+abbrev pub AreLines : Script → Ran → ℕ → Core → List Events → Type 0
+AreLines S r line core [] = ⊤
+AreLines S r line core (es ∷ []) = IsBegunLine S r (record { line = line; core = core; events = es; whole = (ending_of r.ending).past })
+AreLines S r line core (es ∷ next ∷ rest) =
+    IsBegunLine S r (record { line = line; core = core; events = es; whole = true }) × AreLines S r (line + 1) (steps core es) (next ∷ rest)

@@ -1,0 +1,12 @@
+-- What was answered and what was got by a moment. (Belongs to hs_journal and hs_ports.)
+use Rattle.std.specs.Option.{option_map}
+use Rattle.std.specs.Prelude.{List, Option, filter, nat_le, nat_lt, ℕ}
+use Rattle.hs_journal.specs.declared.entry.JournalEntry.{JournalEntry}
+
+-- the entries of a journal below a moment
+abbrev pub below : ℕ → List JournalEntry → List JournalEntry
+below moment journal = filter (λ entry. nat_lt entry.moment moment) journal
+
+-- what a sink got by a moment, each byte with its moment
+abbrev pub got_by : ℕ → Option (List (ℕ × ℕ)) → Option (List (ℕ × ℕ))
+got_by moment got = option_map (λ bytes. filter (λ byte. nat_le byte.1 moment) bytes) got

@@ -1,0 +1,57 @@
+-- What the entries of a journal may tell, and where they stand. (Belongs to hs_journal.)
+use Rattle.std.specs.Prelude.{Contains, IsSome, None, List, Option, Some, length, ℕ, ◌*◌, ◌<◌, ◌≡◌, ◌≤◌, ◌⊎◌}
+use Rattle.hs_fold.specs.Shards.Setting.{Setting}
+use Rattle.hs_journal.specs.Events.{client_op}
+use Rattle.hs_journal.specs.Order.{IsOfLine}
+use Rattle.hs_journal.specs.declared.entry.JournalEntry.{JournalEntry}
+use Rattle.hs_journal.specs.declared.entry.Who.TheVariants as who
+use Rattle.hs_model.specs.declared.command.Command.{Command}
+use Rattle.hs_model.specs.declared.command.Command.TheVariants as command
+use Rattle.hs_model.specs.declared.reply.Reply.{Reply}
+use Rattle.hs_model.specs.declared.reply.Reply.TheVariants as reply
+
+-- a line that names a peer is refused since there is none of this number, or since that one is not as the line wants it
+abbrev pub IsPeerRefusal : Setting → ℕ → Reply → Reply → Type 0
+IsPeerRefusal set peer unfit told = (set.shape.shards * set.shape.copies ≤ peer) × (told ≡ reply.NoPeer peer) ⊎ (peer < set.shape.shards * set.shape.copies) × (told ≡ unfit)
+
+-- what a line may be refused by on which no client asks
+abbrev pub IsRefusalOf : Setting → Command → Reply → Type 0
+IsRefusalOf set (command.Client o) told = ⊥
+IsRefusalOf set command.Settle told = ⊥
+IsRefusalOf set (command.Turn peer) told = IsPeerRefusal set peer (reply.NotUp peer) told
+IsRefusalOf set (command.Nudge peer) told = IsPeerRefusal set peer (reply.NotUp peer) told
+IsRefusalOf set (command.Deliver message) told = told ≡ reply.NoMessage message
+IsRefusalOf set (command.Lose message) told = told ≡ reply.NoMessage message
+IsRefusalOf set (command.Repeat message) told = (told ≡ reply.NoMessage message) ⊎ (told ≡ reply.PoolFull set.limits.pool)
+IsRefusalOf set (command.Fail peer) told = IsPeerRefusal set peer (reply.NotUp peer) told
+IsRefusalOf set (command.Start peer) told = IsPeerRefusal set peer (reply.NotDown peer) told
+IsRefusalOf set (command.Reclaim peer) told = IsPeerRefusal set peer (reply.NotUp peer) told
+
+-- what a line may be told: its client's answer, or its refusal; a line without a command is told nothing
+abbrev pub MayTell : Setting → Option Command → Reply → Type 0
+MayTell set None told = ⊥
+MayTell set (Some c) told = IsSome (client_op (Some c)) ⊎ IsRefusalOf set c told
+
+-- what the store as a whole tells: a run is done, or a peer is down
+pub data IsOfStore (told : Reply) : Type 0 where
+  Done : (epoch : ℕ) → told ≡ reply.Done epoch → IsOfStore told
+  Down : (peer line : ℕ) → told ≡ reply.Down peer line → IsOfStore told
+
+-- a place of a journal is that of the first entry of a line above this one, or the end where there is none
+pub record IsFirstAbove (journal : List JournalEntry) (line place : ℕ) : Type 0 where
+  pub within : place ≤ length journal
+  pub none : (before n : ℕ) → before < place → line < n → IsOfLine journal before n → ⊥
+  pub here : (place ≡ length journal) ⊎ (n : ℕ) × (line < n) × IsOfLine journal place n
+
+-- a client's line n has its entry before every entry of a line above this one
+pub record IsAnsweredBefore (journal : List JournalEntry) (line n : ℕ) : Type 0 where
+  pub place : ℕ
+  pub at : IsOfLine journal place n
+  pub first : (other k : ℕ) → line < k → IsOfLine journal other k → place < other
+
+-- a note in the journal that a peer is down since a line
+pub record IsNoted (journal : List JournalEntry) (peer line : ℕ) : Type 0 where
+  pub note : JournalEntry
+  pub among : Contains journal note
+  pub store : note.who ≡ who.Store
+  pub told : note.reply ≡ reply.Down peer line

@@ -1,0 +1,15 @@
+//! What a run of a script on a store promises, as definitions.
+#![tactic(auto)]
+
+mod laws;
+mod outcome;
+mod promised;
+mod status;
+
+pub use laws::{
+    another_store_is_found_first, done_is_the_end, faults_have_their_causes,
+    only_a_full_journal_refuses, the_end_of_the_core_is_told,
+};
+pub use outcome::Outcome;
+pub use promised::Promised;
+pub use status::Status;
