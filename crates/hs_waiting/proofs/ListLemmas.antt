@@ -218,7 +218,7 @@ module _ (set : Setting) (lists : List Parted) (lawful : AreLawful set (done_lis
       above = each-from (λ (d : Deed). d.number ≤ front d.shard) (λ d. AllByRecursion (Ascends d) later) lawful.history
           (λ first low. each-from (λ (d : Deed). front d.shard < d.number) (Ascends first) later (λ d up same. let here : front first.shard ≡ front d.shard = ap front same in omega (arith, low, up, here)) (above_front set front done later all_wait)) old
 
-  all_records : KeepFewRecords set (no_entries set) whole_lawful.history
+  pub all_records : KeepFewRecords set (no_entries set) whole_lawful.history
   unfolding whole_lawful
   all_records = records_append set (no_entries set) lawful.history later records (subst (λ cs. KeepFewRecords set cs later) (sym lawful.gives) more)
 
