@@ -1,6 +1,10 @@
 -- Leads and lengths that stand in an array.
-use Rattle.std.proofs.Common.{◌≡◌, ℕ, ◌≤◌, ◌+◌, List, [], ◌∷◌, Option, length, map, take, refl, arith, ◌<◌, ◌⊎◌, inl, inr}
+use Rattle.std.proofs.Common.{◌≡◌, ℕ, ◌≤◌, ◌+◌, ◌*◌, suc, List, [], ◌∷◌, Option, length, map, take, refl, arith, ◌<◌, ◌⊎◌, inl, inr}
+use Rattle.std.proofs.Math.Nat.{mul-le-mul_right, suc-mul}
 use Rattle.std.specs.List.{range_with_len}
+use Rattle.hs_limits.specs.declared.shape.Shape.{Shape}
+use Rattle.hs_limits.specs.Shape.{peer_of}
+use Rattle.hs_members.specs.Members.{IsPeer, IsShard}
 use Rattle.std.specs.Prelude.{slice_index_or}
 use Rattle.hs_replica.specs.declared.replica.Replica.{Replica}
 use Rattle.hs_replica.specs.Group.{no_copy}
@@ -35,3 +39,10 @@ eight_leads f a b c d e g h i n (inr (inr (inr s))) p q r t u v w x =
     let pc : c ≡ f 2 = r (omega (arith, s)) in let pd : d ≡ f 3 = t (omega (arith, s)) in
     let pe : e ≡ f 4 = u (omega (arith, s)) in let pg : g ≡ f 5 = v (omega (arith, s)) in
     let ph : h ≡ f 6 = w (omega (arith, s)) in let pi : i ≡ f 7 = x (omega (arith, s)) in rw (s, pa, pb, pc, pd, pe, pg, ph, pi) refl
+
+-- a copy of a shard is a peer of the store
+pub peer_within : (shape : Shape) (shard copy peer : ℕ) → peer ≡ peer_of shape shard copy → IsShard shape shard → copy < shape.copies → IsPeer shape peer
+peer_within shape shard copy peer e s c =
+    let m : suc shard * shape.copies ≤ shape.shards * shape.copies = mul-le-mul_right shape.copies (omega (arith, s)) in
+    let d : suc shard * shape.copies ≡ shard * shape.copies + shape.copies = suc-mul shard shape.copies in
+    omega (arith, e, m, d, c)

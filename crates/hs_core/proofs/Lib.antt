@@ -3,4 +3,7 @@ mod Driving
 mod Examples
 mod LeadLemmas
 mod LimitExamples
+mod OpenLemmas
 mod PeerExamples
+mod RangeLemmas
+mod ViewLemmas

@@ -1,12 +1,13 @@
 -- What a core keeps to.
-use Rattle.std.specs.Prelude.{◌≡◌, ℕ, ◌*◌, ◌<◌, Bool, Option, None, List, length, slice_index, slice_index_or, if◌then◌else◌}
+use Rattle.std.specs.Prelude.{◌≡◌, ℕ, ◌*◌, ◌<◌, Bool, Option, None, List, [], length, slice_index, slice_index_or, if◌then◌else◌}
 use Rattle.hs_core.specs.Looking.{copying_step, front_of, group_of, shape_of, status_of}
+use Rattle.hs_core.specs.declared.task.Task.{Task}
 use Rattle.hs_core.specs.State.{Core}
 use Rattle.hs_desk.specs.declared.job.Job.{Job}
 use Rattle.hs_limits.specs.declared.shape.Shape.{Shape}
 use Rattle.hs_limits.specs.Shape.{IsShape}
-use Rattle.hs_members.specs.Members.{IsMembers, IsPeer, IsShard, is_joining}
-use Rattle.hs_replica.specs.Group.{Group}
+use Rattle.hs_members.specs.Members.{Members, IsMembers, IsPeer, IsShard, is_joining}
+use Rattle.hs_replica.specs.Group.{Group, new_group}
 
 -- the copies of a shard of this shape
 pub record IsOf (shape : Shape) (shard : ℕ) (group : Group) : Type 0 where
@@ -39,3 +40,12 @@ pub record AreSteps (core : Core) (steps : List (Option Job)) : Type 0 where
 pub record AreFronts (core : Core) (fronts : List ℕ) : Type 0 where
   pub length : length fronts ≡ (shape_of core).shards
   pub each : (shard : ℕ) → IsShard (shape_of core) shard → slice_index fronts shard ≡ front_of shard core
+
+-- the lists of all shards, each of its shard, with how many entries have taken effect, and the jobs of all peers
+pub record AreLists (m : Members) (gs : List Group) (fs : List ℕ) (vs : List Bool) (ts : List (List Task)) : Type 0 where
+  pub groups : length gs ≡ m.shape.shards
+  pub fronts : length fs ≡ m.shape.shards
+  pub viewed : length vs ≡ m.shape.shards
+  pub tasks : length ts ≡ m.shape.shards * m.shape.copies
+  pub each : (shard : ℕ) → IsShard m.shape shard → IsOf m.shape shard (slice_index_or gs shard (new_group m.shape shard 0 0 []))
+  pub at : (shard : ℕ) → IsShard m.shape shard → slice_index fs shard ≡ (slice_index_or gs shard (new_group m.shape shard 0 0 [])).front

@@ -63,17 +63,17 @@ new_core shape limits taken moment = record {
   event_line = 0;
 }
 
--- a peer that is not good is told of
+-- each shard with a good peer begins its first view
+abbrev pub begin_views : Core → Core
+begin_views core = core ▸ each (shards_of core) change_view
+
+-- each peer that is not good is told of
 abbrev pub note_if_down : ℕ → Core → Core
 note_if_down peer core =
     core ▸ change_if (not (is_good_status (status_of peer core))) (note who.Store deed.Nothing (reply.Down peer 0))
 
--- each such peer is, and each shard with a good peer begins its first view
 abbrev pub note_down : Core → Core
 note_down core = core ▸ each (all_peers (shape_of core)) note_if_down
 
-abbrev pub begin_views : Core → Core
-begin_views core = core ▸ each (shards_of core) change_view
-
 abbrev pub open_core : Shape → Limits → Taken → ℕ → Core
-open_core shape limits taken moment = new_core shape limits taken moment ▸ note_down ▸ begin_views ▸ end_event
+open_core shape limits taken moment = new_core shape limits taken moment ▸ begin_views ▸ note_down ▸ end_event

@@ -80,7 +80,6 @@ impl Model for Core {
       kept : IsCore (view a);
       fronts : AreFronts (view a) a.fronts.items;
       steps : AreSteps (view a) a.steps.items;
-      pool : a.pool.limit ≡ a.limits.pool;
       sessions : a.sessions.limits ≡ a.limits;
       journal : a.journal.limit ≡ a.limits.ops;
     } };

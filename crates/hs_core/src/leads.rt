@@ -1,12 +1,13 @@
 //! Who leads each shard.
-ghost use Rattle.std.specs.Prelude.{◌≡◌, length, map, slice_index_or, take};
+ghost use Rattle.std.specs.Prelude.{◌≡◌, length, map, slice_index_or, take, IfSome};
 ghost use Rattle.hs_core.specs.Keeping.{IsOf};
 ghost use Rattle.hs_core.specs.Looking.{lead_of, leads_of, oldest_message};
-ghost use Rattle.hs_members.specs.Members.{IsPeer, IsShard};
+ghost use Rattle.hs_members.specs.Members.{IsPeer, IsShard, lead_by};
 ghost use Rattle.hs_replica.specs.Group.{no_copy};
 
 use crate::Core;
 use hs_limits::{Shape, peer_of};
+use hs_members::Members;
 use hs_replica::Group;
 
 impl Core {
@@ -54,11 +55,22 @@ impl Core {
         requires { IsShard self.now.members.shape shard }
         ensures { result ≡ lead_of shard self.now }
     {
-        let shape = self.shape();
-        let lengths = lengths_of(self.group(shard), shape, shard);
-        self.members
-            .lead(shard, &lengths[..usize::from(shape.copies)])
+        let _shape = self.shape();
+        lead_of(&self.members, self.group(shard), shard)
     }
+}
+
+/// The lead of a shard, where this is its group. It takes no memory.
+#[tactic(auto, using(crate::proofs::LeadLemmas::peer_within))]
+pub(crate) fn lead_of(members: &Members, group: &Group, shard: u8) -> Option<u8>
+    requires { IsOf members.now.shape shard group.now }
+    ensures value { result
+        ≡ lead_by shard (map (λ copy. length copy.stamps) group.now.copies) members.now }
+    ensures peer { IfSome result (IsPeer members.now.shape) }
+{
+    let shape = members.shape();
+    let lengths = lengths_of(group, shape, shard);
+    members.lead(shard, &lengths[..usize::from(shape.copies)])
 }
 
 /// The lengths of the lists at a shard's copies, in order, and behind them 0.

@@ -2,13 +2,19 @@
 #![tactic(auto)]
 
 mod core_state;
+mod ending;
 mod event;
 mod leads;
+mod lists;
+mod new_core;
+mod new_lists;
 mod no_memory;
 mod notes;
 mod open_work;
+mod opening;
 mod queue;
 mod task;
+mod tasks;
 mod wait;
 mod waiting;
 

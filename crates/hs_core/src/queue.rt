@@ -38,4 +38,13 @@ impl Queue {
     {
         self.tasks.front()
     }
+
+    /// A job more behind the others. Without memory nothing changes.
+    pub(crate) fn push(&mut self, task: Task) -> Result<(), AllocError>
+        ensures ok { OnOk result (self.new ≡ self.old ++ task ∷ []) }
+        ensures same { OnErr result (self.new ≡ self.old) }
+    {
+        self.tasks.push_back(task)?;
+        Ok(())
+    }
 }

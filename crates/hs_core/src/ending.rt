@@ -1,0 +1,60 @@
+//! The end of an event.
+ghost use Rattle.std.specs.Prelude.{◌≡◌, ◌++◌, OnOk};
+ghost use Rattle.hs_core.specs.Looking.{lost_shard};
+ghost use Rattle.hs_core.specs.Step.{end_event};
+
+use crate::Core;
+use crate::no_memory::NoMemory;
+use hs_desk::CoreFault;
+use hs_journal::{Journal, JournalEntry};
+use std::collections::VecDeque;
+use std::mem::replace;
+
+impl Core {
+    /// The first shard without a good peer. It takes no memory.
+    #[tactic(auto, using(crate::proofs::RangeLemmas::find_range_skips, crate::proofs::RangeLemmas::find_range_found, crate::proofs::RangeLemmas::find_range_end, crate::proofs::RangeLemmas::find_range_begin))]
+    fn lost_shard(&self) -> Option<u8>
+        ensures { result ≡ lost_shard self.now }
+    {
+        for shard in 0..self.shape().shards {
+            if !self.members.has_good(shard) {
+                return Some(shard);
+            }
+        }
+        None
+    }
+
+    /// The event's entries are appended, all or none; where there is no room for them, or a shard has
+    /// no good peer, the core has ended.
+    pub(crate) fn end_event(&mut self) -> Result<(), NoMemory>
+        ensures { OnOk result (self.new ≡ end_event self.old) }
+    {
+        let entries = replace(&mut self.entries, Vec::new(self.alloc));
+        let length = self.journal.entries().len().saturating_add(entries.len());
+        if length > self.limits.ops as usize {
+            self.refused = entries;
+            self.ended = Some(CoreFault::OpsFull);
+            return Ok(());
+        }
+        append(&mut self.journal, entries)?;
+        self.ended = match self.lost_shard() {
+            Some(shard) => Some(CoreFault::ShardLost { shard }),
+            None => None,
+        };
+        Ok(())
+    }
+}
+
+/// Appends entries to the journal, in order.
+fn append(journal: &mut Journal, entries: Vec<JournalEntry>) -> Result<(), NoMemory>
+    ensures ok { OnOk result (journal.new.entries ≡ journal.old.entries ++ entries.items) }
+    ensures limit { journal.new.limit ≡ journal.old.limit }
+{
+    let mut rest = VecDeque::from(entries);
+    while let Some(entry) = rest.pop_front() {
+        if journal.push(entry).is_err() {
+            return Err(NoMemory);
+        }
+    }
+    Ok(())
+}

@@ -1,0 +1,42 @@
+//! The jobs of peers.
+ghost use Rattle.std.specs.Prelude.{◌≡◌, OnOk};
+ghost use Rattle.hs_core.specs.Changing.{add_entry_tasks, add_task};
+ghost use Rattle.hs_members.specs.Members.{IsPeer};
+
+use crate::no_memory::NoMemory;
+use crate::{Core, Task};
+use hs_desk::Job;
+use hs_entry::Entry;
+
+impl Core {
+    /// A taken entry makes two jobs of a peer: it is appended, then sealed.
+    pub(crate) fn add_entry_tasks(
+        &mut self,
+        peer: u8,
+        number: u64,
+        entry: Entry,
+    ) -> Result<(), NoMemory>
+        requires { IsPeer self.old.members.shape peer }
+        ensures { OnOk result (self.new ≡ add_entry_tasks peer number entry self.old) }
+    {
+        let append = Job::Append { number, entry };
+        self.add_task(
+            peer,
+            Task {
+                job: append,
+                line: 0,
+            },
+        )?;
+        let seal = Job::Seal { number };
+        self.add_task(peer, Task { job: seal, line: 0 })
+    }
+
+    /// A job more for a peer, behind the others.
+    fn add_task(&mut self, peer: u8, task: Task) -> Result<(), NoMemory>
+        requires { IsPeer self.old.members.shape peer }
+        ensures { OnOk result (self.new ≡ add_task peer task self.old) }
+    {
+        self.tasks[usize::from(peer)].push(task)?;
+        Ok(())
+    }
+}
