@@ -1,14 +1,9 @@
 -- Words that belong to lower crates, and move there when these next change.
-pub mod Asked
-pub mod Commands
-pub mod Course
-pub mod Due
 pub mod Laws
 pub mod Moments
 pub mod Notes
 pub mod Objects
 pub mod Pending
-pub mod Reports
 pub mod Script
 pub mod Sides
 pub mod Taken

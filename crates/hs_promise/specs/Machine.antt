@@ -8,9 +8,9 @@ use Rattle.hs_promise.specs.Ending.{Ending, ending_of}
 use Rattle.hs_promise.specs.Entry.{MayStop}
 use Rattle.hs_promise.specs.Found.{HasFound, IsReadAs}
 use Rattle.hs_promise.specs.Lines.{AreLines}
-use Rattle.hs_promise.specs.Lower.Course.{steps}
-use Rattle.hs_promise.specs.Lower.Due.{Events, is_walk, next_turn}
-use Rattle.hs_promise.specs.Lower.Reports.{failures}
+use Rattle.hs_cluster.specs.Course.{steps}
+use Rattle.hs_cluster.specs.Due.{Events, is_walk, next_turn}
+use Rattle.hs_cluster.specs.Reports.{failures}
 use Rattle.hs_promise.specs.Promise.{AreOfScript}
 use Rattle.hs_promise.specs.Reports.{IsTold}
 use Rattle.hs_promise.specs.Run.{DiskRose, Ran, Script}

@@ -5,8 +5,8 @@ use Rattle.hs_fold.specs.Images.{IsLeft}
 use Rattle.hs_fold.specs.Shards.Images.{Image}
 use Rattle.hs_ports.specs.Moments.{disk_at}
 use Rattle.hs_side.specs.Current.{list_in}
-use Rattle.hs_promise.specs.Lower.Asked.{report_in}
-use Rattle.hs_promise.specs.Lower.Reports.{TellsOf}
+use Rattle.hs_cluster.specs.Asked.{report_in}
+use Rattle.hs_cluster.specs.Reports.{TellsOf}
 use Rattle.hs_promise.specs.Run.{Ran}
 use Rattle.hs_promise.specs.Lower.Objects.{IsDuring}
 

@@ -1,0 +1,183 @@
+-- What events leave of a cluster.
+use Rattle.std.proofs.Common.{◌≡◌, ◌∙◌, ap, sym, ℕ, ◌+◌, ◌*◌, ◌<◌, Bool, true, false, List, [], ◌∷◌, ◌++◌, Option, Some, None, map, refl, subst, arith, zero, suc}
+use Rattle.std.proofs.lemmas.List.{append-nil, append_assoc}
+use Rattle.std.specs.List.{range_with_len}
+use Rattle.std.specs.Option.{option_map_or}
+use Rattle.std.specs.Prelude.{flat_map, slice_index_or, Result, Ok, Err, ⊤}
+use Rattle.hs_cluster.specs.Calls.{Does, outcome_by, ran_out}
+use Rattle.hs_cluster.specs.Course.{change_item, event_items, items_between, items_of, steps, took_items}
+use Rattle.hs_cluster.specs.declared.fault.ClusterFault.{ClusterFault}
+use Rattle.hs_cluster.specs.declared.fault.ClusterFault.TheVariants.{NoMemory}
+use Rattle.hs_cluster.specs.Due.{Events}
+use Rattle.hs_cluster.specs.Running.{Running}
+use Rattle.hs_core.specs.Calls.{begun_line, outcome_of}
+use Rattle.hs_core.specs.declared.event.Event.{Event}
+use Rattle.hs_core.specs.Looking.{front_of, status_of}
+use Rattle.hs_core.specs.State.{Core}
+use Rattle.hs_core.specs.Step.{step}
+use Rattle.hs_desk.specs.declared.fault.CoreFault.{CoreFault}
+use Rattle.hs_members.specs.Members.{is_good_status}
+use Rattle.hs_model.specs.declared.course.CourseItem.{CourseItem}
+use Rattle.hs_model.specs.declared.course.CourseItem.TheVariants as item
+
+-- ---- some events, and then others
+
+pub steps_append : (core : Core) (es fs : Events) → steps core (es ++ fs) ≡ steps (steps core es) fs
+steps_append core [] fs = refl
+steps_append core (e ∷ es) fs = steps_append (step e.0 e.1 core) es fs
+
+pub items_append : (core : Core) (es fs : Events) → items_of core (es ++ fs) ≡ items_of core es ++ items_of (steps core es) fs
+items_append core [] fs = refl
+items_append core (e ∷ es) fs =
+    ap (λ xs. event_items core e ++ xs) (items_append (step e.0 e.1 core) es fs)
+    ∙ sym (append_assoc (event_items core e) (items_of (step e.0 e.1 core) es) (items_of (steps (step e.0 e.1 core) es) fs))
+
+-- ---- what they leave
+
+pub nothing_done : (old new : Running) → new.course ≡ old.course → new.core.journal ≡ old.core.journal → new.core.refused ≡ old.core.refused → old.core.ended ≡ None → Does [] old new (Err NoMemory)
+nothing_done old new course journal refused ended = record {
+  course = course ∙ sym (append-nil old.course);
+  journal = journal;
+  refused = refused;
+  core = λ e. absurd (true_is_not_false e);
+  outcome = λ e. absurd (true_is_not_false e);
+  going = λ e. ended;
+}
+  where
+    true_is_not_false : true ≡ false → ⊥
+    true_is_not_false e = grind arith
+
+pub one_done : (e : Event × ℕ) (old new : Running) (result : Result ⊤ ClusterFault) → new.course ≡ old.course ++ event_items old.core e → new.core ≡ step e.0 e.1 old.core → result ≡ outcome_by new.core.ended → ran_out result ≡ false
+    → Does (e ∷ []) old new result
+one_done e old new result course core outcome there = record {
+  course = course ∙ ap (λ xs. old.course ++ xs) (sym (append-nil (event_items old.core e)));
+  journal = ap (λ (c : Core). c.journal) core;
+  refused = ap (λ (c : Core). c.refused) core;
+  core = λ h. core;
+  outcome = λ h. outcome;
+  going = λ h. absurd (both (sym there ∙ h));
+}
+  where
+    both : false ≡ true → ⊥
+    both e = grind arith
+
+-- a core that goes on has not ended
+goes_on : (ended : Option CoreFault) → Ok tt ≡ outcome_by ended → ended ≡ None
+goes_on None h = refl
+goes_on (Some fault) h = grind arith
+
+pub still_going : (es : Events) (old mid : Running) → Does es old mid (Ok tt) → mid.core.ended ≡ None
+still_going es old mid one = goes_on mid.core.ended (one.outcome refl)
+
+pub does_then : (es fs : Events) (old mid new : Running) (result : Result ⊤ ClusterFault) → Does es old mid (Ok tt) → Does fs mid new result → Does (es ++ fs) old new result
+does_then es fs old mid new result one two =
+    let core : mid.core ≡ steps old.core es = one.core refl in
+    let last : steps mid.core fs ≡ steps old.core (es ++ fs) = ap (λ c. steps c fs) core ∙ sym (steps_append old.core es fs) in
+    record {
+      course = two.course ∙ ap (λ xs. xs ++ items_of mid.core fs) one.course ∙ append_assoc old.course (items_of old.core es) (items_of mid.core fs)
+          ∙ ap (λ xs. old.course ++ xs) (ap (λ c. items_of old.core es ++ items_of c fs) core ∙ sym (items_append old.core es fs));
+      journal = two.journal ∙ ap (λ (c : Core). c.journal) last;
+      refused = two.refused ∙ ap (λ (c : Core). c.refused) last;
+      core = λ h. two.core h ∙ last;
+      outcome = two.outcome;
+      going = λ h. ap (λ (c : Core). c.ended) (sym last) ∙ two.going h;
+    }
+
+-- ---- the items of one event
+
+at_range : {A : Type 0} (f : ℕ → A) (d : A) (s n k : ℕ) → k < n → slice_index_or (map f (range_with_len s n)) k d ≡ f (s + k)
+at_range f d s zero k h = absurd (omega (arith, h))
+at_range f d s (suc n) zero h =
+    let a : s + 0 ≡ s = omega arith in
+    rw a refl
+at_range f d s (suc n) (suc k) h =
+    let a : s + suc k ≡ (s + 1) + k = omega arith in
+    rw a (at_range f d (s + 1) n k (omega (arith, h)))
+
+-- what is told by each number of a range is told where it is told otherwise of no number of it
+flat_same : {A : Type 0} (f g : ℕ → List A) (s n : ℕ) → ((k : ℕ) → k < n → f (s + k) ≡ g (s + k)) → flat_map f (range_with_len s n) ≡ flat_map g (range_with_len s n)
+flat_same f g s zero h = refl
+flat_same f g s (suc n) h =
+    let a : s + 0 ≡ s = omega arith in
+    let first : f s ≡ g s = subst (λ k. f k ≡ g k) a (h 0 (omega arith)) in
+    let rest = flat_same f g (s + 1) n (λ k less. subst (λ i. f i ≡ g i) (next k) (h (suc k) (omega (arith, less)))) in
+    λ i. first i ++ rest i
+  where
+    next : (k : ℕ) → s + suc k ≡ (s + 1) + k
+    next k = omega arith
+
+zero_plus : (k : ℕ) → 0 + k ≡ k
+zero_plus k = omega arith
+
+flat_from_zero : {A : Type 0} (f g : ℕ → List A) (n : ℕ) → ((k : ℕ) → k < n → f k ≡ g k) → flat_map f (range_with_len 0 n) ≡ flat_map g (range_with_len 0 n)
+flat_from_zero f g n h = flat_same f g 0 n (λ k less. subst (λ i. f i ≡ g i) (sym (zero_plus k)) (h k less))
+
+pub at_from_zero : {A : Type 0} (f : ℕ → A) (d : A) (xs : List A) (n k : ℕ) → xs ≡ map f (range_with_len 0 n) → k < n → slice_index_or xs k d ≡ f k
+at_from_zero f d xs n k is less = ap (λ ys. slice_index_or ys k d) is ∙ at_range f d 0 n k less ∙ ap f (zero_plus k)
+
+pub noted : (begun : Option ℕ) (before after : Core) (goods : List Bool) (fronts : List ℕ) (course one two three : List CourseItem) (peers shards moment : ℕ)
+    → before.members.shape.shards * before.members.shape.copies ≡ peers → before.members.shape.shards ≡ shards
+    → goods ≡ map (λ peer. is_good_status (status_of peer before)) (range_with_len 0 peers) → fronts ≡ map (λ shard. front_of shard before) (range_with_len 0 shards)
+    → one ≡ course ++ option_map_or (λ line. item.Begun line moment ∷ []) begun []
+    → two ≡ one ++ flat_map (λ peer. change_item (slice_index_or goods peer false) (is_good_status (status_of peer after)) peer moment) (range_with_len 0 peers)
+    → three ≡ two ++ flat_map (λ shard. took_items shard (slice_index_or fronts shard 0) (front_of shard after) moment) (range_with_len 0 shards)
+    → three ≡ course ++ items_between begun before after moment
+noted begun before after goods fronts course one two three peers shards moment same_peers same_shards gs fs h1 h2 h3 =
+    let line : List CourseItem = option_map_or (λ l. item.Begun l moment ∷ []) begun [] in
+    let changes : List CourseItem = flat_map (λ peer. change_item (slice_index_or goods peer false) (is_good_status (status_of peer after)) peer moment) (range_with_len 0 peers) in
+    let tooks : List CourseItem = flat_map (λ shard. took_items shard (slice_index_or fronts shard 0) (front_of shard after) moment) (range_with_len 0 shards) in
+    let changes_are : changes ≡ flat_map (λ peer. change_item (is_good_status (status_of peer before)) (is_good_status (status_of peer after)) peer moment) (range_with_len 0 peers) =
+    flat_from_zero (λ peer. change_item (slice_index_or goods peer false) (is_good_status (status_of peer after)) peer moment) (λ peer. change_item (is_good_status (status_of peer before)) (is_good_status (status_of peer after)) peer moment) peers
+    (λ k less. ap (λ b. change_item b (is_good_status (status_of k after)) k moment) (at_from_zero (λ peer. is_good_status (status_of peer before)) false goods peers k gs less)) in
+    let tooks_are : tooks ≡ flat_map (λ shard. took_items shard (front_of shard before) (front_of shard after) moment) (range_with_len 0 shards) =
+    flat_from_zero (λ shard. took_items shard (slice_index_or fronts shard 0) (front_of shard after) moment) (λ shard. took_items shard (front_of shard before) (front_of shard after) moment) shards
+    (λ k less. ap (λ n. took_items k n (front_of k after) moment) (at_from_zero (λ shard. front_of shard before) 0 fronts shards k fs less)) in
+    h3 ∙ ap (λ xs. xs ++ tooks) (h2 ∙ ap (λ xs. xs ++ changes) h1)
+    ∙ ap (λ xs. xs ++ tooks) (append_assoc course line changes)
+    ∙ append_assoc course (line ++ changes) tooks
+    ∙ ap (λ xs. course ++ xs) (append_assoc line changes tooks)
+    ∙ ap (λ xs. course ++ (line ++ (xs ++ tooks))) changes_are
+    ∙ ap (λ xs. course ++ (line ++ (flat_map (λ peer. change_item (is_good_status (status_of peer before)) (is_good_status (status_of peer after)) peer moment) (range_with_len 0 peers) ++ xs))) tooks_are
+    ∙ ap (λ n. course ++ (line ++ (flat_map (λ peer. change_item (is_good_status (status_of peer before)) (is_good_status (status_of peer after)) peer moment) (range_with_len 0 n) ++ flat_map (λ shard. took_items shard (front_of shard before) (front_of shard after) moment) (range_with_len 0 shards)))) (sym same_peers)
+    ∙ ap (λ n. course ++ (line ++ (flat_map (λ peer. change_item (is_good_status (status_of peer before)) (is_good_status (status_of peer after)) peer moment) (range_with_len 0 (before.members.shape.shards * before.members.shape.copies)) ++ flat_map (λ shard. took_items shard (front_of shard before) (front_of shard after) moment) (range_with_len 0 n)))) (sym same_shards)
+
+-- ---- one event of a cluster
+
+-- a core that answers Ok goes on, and one that answers a fault has ended by it
+pub ok_goes : (core : Core) (x : ⊤) → Ok x ≡ outcome_of core → core.ended ≡ None
+ok_goes core x h = go core.ended refl
+  where
+    not_err : (fault : CoreFault) → Ok x ≡ Err fault → ⊥
+    not_err fault e = grind arith
+
+    go : (o : Option CoreFault) → core.ended ≡ o → core.ended ≡ None
+    go None e = e
+    go (Some fault) e =
+        let is : outcome_of core ≡ Err fault = rw e refl in
+        absurd (not_err fault (h ∙ is))
+
+abbrev err : CoreFault → Result ⊤ CoreFault
+err fault = Err fault
+
+pub err_ends : (core : Core) (fault : CoreFault) → Err fault ≡ outcome_of core → core.ended ≡ Some fault
+err_ends core fault h = go core.ended refl
+  where
+    not_ok : (x : ⊤) → Err fault ≡ Ok x → ⊥
+    not_ok x e = grind arith
+
+    same : (other : CoreFault) → err fault ≡ err other → other ≡ fault
+    same other e = cc
+
+    go : (o : Option CoreFault) → core.ended ≡ o → core.ended ≡ Some fault
+    go None e =
+        let is : outcome_of core ≡ Ok tt = rw e refl in
+        absurd (not_ok tt (h ∙ is))
+    go (Some other) e =
+        let is : outcome_of core ≡ Err other = rw e refl in
+        e ∙ ap (λ f. Some f) (same other (h ∙ is))
+
+pub event_done : (event : Event) (moment : ℕ) (old new : Running) (line : Option ℕ) (result : Result ⊤ ClusterFault) → new.core ≡ step event moment old.core → line ≡ begun_line event
+    → new.course ≡ old.course ++ items_between line old.core new.core moment → result ≡ outcome_by new.core.ended → ran_out result ≡ false → Does ((event, moment) ∷ []) old new result
+event_done event moment old new line result core begun course outcome there =
+    one_done (event, moment) old new result
+    (course ∙ ap (λ l. old.course ++ items_between l old.core new.core moment) begun ∙ ap (λ c. old.course ++ items_between (begun_line event) old.core c moment) core) core outcome there

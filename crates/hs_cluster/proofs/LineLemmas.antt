@@ -1,0 +1,111 @@
+-- The events of a line.
+use Rattle.std.proofs.Common.{◌≡◌, ◌∙◌, ap, sym, subst, ℕ, ◌≤◌, Bool, true, false, List, [], ◌∷◌, ◌++◌, Option, Some, None, refl, arith}
+use Rattle.std.specs.Prelude.{Result, Ok, Err, ⊤, is_ok, not, if◌then◌else◌}
+use Rattle.hs_cluster.proofs.EventLemmas.{does_then, nothing_done}
+use Rattle.hs_cluster.proofs.WalkLemmas.{rise_one}
+use Rattle.hs_cluster.specs.Calls.{Does, MomentsRise, RunsLine, done_of, ran_out}
+use Rattle.hs_cluster.specs.Commands.{AreOfCommand, BeginsWith, LineAt}
+use Rattle.hs_cluster.specs.declared.due.Due.{Due}
+use Rattle.hs_cluster.specs.declared.fault.ClusterFault.{ClusterFault}
+use Rattle.hs_cluster.specs.declared.fault.ClusterFault.TheVariants as cluster
+use Rattle.hs_cluster.specs.Due.{Events, is_it, is_one, turn_behind}
+use Rattle.hs_cluster.specs.Running.{Running}
+use Rattle.hs_cluster.specs.Settling.{DoesDue, RunsWalk}
+use Rattle.hs_core.specs.declared.event.Event.{Event}
+use Rattle.hs_core.specs.declared.event.Event.TheVariants as event
+use Rattle.hs_core.specs.State.{Core}
+use Rattle.hs_core.specs.Step.{step}
+use Rattle.hs_limits.specs.declared.address.Address.{Address}
+use Rattle.hs_model.specs.declared.command.Command.{Command}
+use Rattle.hs_model.specs.declared.command.Command.TheVariants as command
+
+-- a line with some events
+line_at : ℕ → Core → Events → Result ⊤ ClusterFault → LineAt
+line_at line core events r = record { line = line; core = core; events = events; whole = is_ok r }
+
+-- ---- one event
+
+pub begins_one : (line : ℕ) (core : Core) (e : Event) (k : ℕ) (r : Result ⊤ ClusterFault) → BeginsWith (record { line = line; core = core; events = done_of r (e, k); whole = is_ok r }) e (λ core. None)
+begins_one line core e k (Ok done) = (refl, refl)
+begins_one line core e k (Err (cluster.WrongShape peer found)) = (refl, refl)
+begins_one line core e k (Err (cluster.ShardLost shard)) = (refl, refl)
+begins_one line core e k (Err cluster.OpsFull) = (refl, refl)
+begins_one line core e k (Err cluster.NoMemory) = refl
+
+pub runs_one : (name : List ℕ → Address) (line : ℕ) (asked : Command) (before now : ℕ) (old new : Running) (r : Result ⊤ ClusterFault) (e : Event) (k : ℕ)
+    → (BeginsWith (record { line = line; core = old.core; events = done_of r (e, k); whole = is_ok r }) e (λ core. None) → AreOfCommand name (record { line = line; core = old.core; events = done_of r (e, k); whole = is_ok r }) asked)
+    → before ≤ k → k ≤ now → Does (done_of r (e, k)) old new r → RunsLine name line asked before now old new r
+runs_one name line asked before now old new r e k is low high does = record {
+  events = done_of r (e, k);
+  due = is (begins_one line old.core e k r);
+  rises = rise_one before now r (e, k) low high;
+  does = does;
+}
+
+-- no event, since memory ran out before the first
+pub runs_none : (name : List ℕ → Address) (line : ℕ) (asked : Command) (before now : ℕ) (old new : Running)
+    → (BeginsWith (record { line = line; core = old.core; events = []; whole = false }) (event.Turn 0 0) (λ core. None) → AreOfCommand name (record { line = line; core = old.core; events = []; whole = false }) asked)
+    → before ≤ now → Does [] old new (Err cluster.NoMemory) → RunsLine name line asked before now old new (Err cluster.NoMemory)
+runs_none name line asked before now old new is low does = record { events = []; due = is refl; rises = low; does = does }
+
+-- ---- a turn
+
+-- behind a first event, something may be due, or nothing
+cut_short : (due : Option Due) (line : ℕ) (core : Core) → is_one due false line core [] ≡ true
+cut_short None line core = refl
+cut_short (Some due) line core = refl
+
+turn_begins : (line : ℕ) (core : Core) (peer k : ℕ) (fault : ClusterFault)
+    → BeginsWith (record { line = line; core = core; events = done_of (Err fault) (event.Turn line peer, k); whole = false }) (event.Turn line peer) (turn_behind peer)
+turn_begins line core peer k (cluster.WrongShape p found) = (refl, cut_short (turn_behind peer (step (event.Turn line peer) k core)) line (step (event.Turn line peer) k core))
+turn_begins line core peer k (cluster.ShardLost shard) = (refl, cut_short (turn_behind peer (step (event.Turn line peer) k core)) line (step (event.Turn line peer) k core))
+turn_begins line core peer k cluster.OpsFull = (refl, cut_short (turn_behind peer (step (event.Turn line peer) k core)) line (step (event.Turn line peer) k core))
+turn_begins line core peer k cluster.NoMemory = refl
+
+-- its own event was the last, since the core ended by it, or memory ran out
+pub runs_turn_cut : (name : List ℕ → Address) (line peer before now k : ℕ) (old new : Running) (fault : ClusterFault) → before ≤ k → k ≤ now
+    → Does (done_of (Err fault) (event.Turn line peer, k)) old new (Err fault) → RunsLine name line (command.Turn peer) before now old new (Err fault)
+runs_turn_cut name line peer before now k old new fault low high does = record {
+  events = done_of (Err fault) (event.Turn line peer, k);
+  due = turn_begins line old.core peer k fault;
+  rises = rise_one before now (Err fault) (event.Turn line peer, k) low high;
+  does = does;
+}
+
+-- nothing is due behind it
+pub runs_turn_alone : (name : List ℕ → Address) (line peer before now k : ℕ) (old new : Running) → before ≤ k → k ≤ now
+    → Does (done_of (Ok tt) (event.Turn line peer, k)) old new (Ok tt) → turn_behind peer new.core ≡ None → RunsLine name line (command.Turn peer) before now old new (Ok tt)
+runs_turn_alone name line peer before now k old new low high does none = record {
+  events = (event.Turn line peer, k) ∷ [];
+  due = (refl, ap (λ d. is_one d true line (step (event.Turn line peer) k old.core) []) (ap (turn_behind peer) (sym (does.core refl)) ∙ none));
+  rises = (low, high);
+  does = does;
+}
+
+-- what is due behind it is done
+one_due : (due : Due) (line : ℕ) (core : Core) (e : Event × ℕ) (r : Result ⊤ ClusterFault) → (ran_out r ≡ false → is_it line core due e.0 ≡ true) → is_one (Some due) (is_ok r) line core (done_of r e) ≡ true
+one_due due line core e (Ok done) is = rw (is refl) refl
+one_due due line core e (Err (cluster.WrongShape peer found)) is = rw (is refl) refl
+one_due due line core e (Err (cluster.ShardLost shard)) is = rw (is refl) refl
+one_due due line core e (Err cluster.OpsFull) is = rw (is refl) refl
+one_due due line core e (Err cluster.NoMemory) is = refl
+
+pub runs_turn : (name : List ℕ → Address) (line peer before now k : ℕ) (old mid new : Running) (due : Due) (r : Result ⊤ ClusterFault) → before ≤ k
+    → Does (done_of (Ok tt) (event.Turn line peer, k)) old mid (Ok tt) → turn_behind peer mid.core ≡ Some due → DoesDue line due k now mid new r → RunsLine name line (command.Turn peer) before now old new r
+runs_turn name line peer before now k old mid new due r low first is does =
+    let core : mid.core ≡ step (event.Turn line peer) k old.core = first.core refl in
+    record {
+      events = (event.Turn line peer, k) ∷ done_of r does.event;
+      due = (
+        refl,
+        ap (λ d. is_one d (is_ok r) line (step (event.Turn line peer) k old.core) (done_of r does.event)) (ap (turn_behind peer) (sym core) ∙ is)
+            ∙ one_due due line (step (event.Turn line peer) k old.core) does.event r (λ h. ap (λ c. is_it line c due does.event.0) (sym core) ∙ does.due_is h),
+      );
+      rises = (low, rise_one k now r does.event does.after does.up_to);
+      does = does_then ((event.Turn line peer, k) ∷ []) (done_of r does.event) old mid new r first does.does;
+    }
+
+-- ---- settle
+
+pub runs_settle : (name : List ℕ → Address) (line before now : ℕ) (old new : Running) (r : Result ⊤ ClusterFault) → RunsWalk true line before now old new r → RunsLine name line command.Settle before now old new r
+runs_settle name line before now old new r walks = record { events = walks.events; due = walks.due; rises = walks.rises; does = walks.does }

@@ -1,0 +1,18 @@
+use Rattle.std.proofs.Common.{◌≡◌, ◌∙◌, ◌*◌, ap, map}
+use Rattle.std.specs.List.{range_with_len}
+use Rattle.hs_cluster.proofs.WalkLemmas.{raised_is}
+use Rattle.hs_cluster.specs.Due.{place_after, raises_known}
+use Rattle.hs_cluster.specs.Running.{Running}
+use Rattle.hs_core.specs.Looking.{known_of}
+use Rattle.hs_cluster.proofs.cluster.Cluster.move_on.Goals as goal
+
+pub returns-clause-place : goal.returns-clause-place
+returns-clause-place g c =
+    let old = c.args.self.now.core in
+    let shape = ap (λ (r : Running). r.core.members.shape) c.self-2.view_is ∙ c.do_due.ensures.shape in
+    let knowns = c.as_slice.ensures.value ∙ c.in-Ok.ensures
+    ∙ ap (λ (r : Running). map (λ peer. known_of peer r.core) (range_with_len 0 c.peers_of.result)) c.self.view_is
+    ∙ ap (λ n. map (λ peer. known_of peer old) (range_with_len 0 n)) (c.peers_of.ensures.value ∙ ap (λ (r : Running). r.core.members.shape.shards * r.core.members.shape.copies) c.self.view_is) in
+    c.place_after.ensures
+    ∙ ap (λ b. place_after c.args.due b c.args.place.now)
+    (c.raises_known-raised.ensures ∙ raised_is old c.self-2.inside.core c.as_slice.result.now shape knowns ∙ ap (λ (r : Running). raises_known old r.core) c.self-2.view_is)

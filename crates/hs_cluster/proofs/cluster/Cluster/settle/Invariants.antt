@@ -1,0 +1,17 @@
+use Rattle.std.proofs.Common.{◌≡◌, ◌*◌, ◌≤◌, None, length, map}
+use Rattle.hs_cluster.specs.Disks.{AreReady, seen_as}
+use Rattle.hs_cluster.specs.Settling.{HasWalked}
+use Rattle.hs_cluster.proofs.cluster.Cluster.settle.Given as goal
+
+abbrev pub invariant-loop-step : goal.invariant-loop-step
+invariant-loop-step g l = record {
+  walked : HasWalked l.nudges l.line l.fn.watch l.watch l.fn.self l.self l.place;
+  going : l.self.core.ended ≡ None;
+  ready : AreReady g.D.Disk.tells l.self.logs (map (λ disk. seen_as (g.D.Disk.size disk) (g.D.Disk.stands disk) (g.D.Disk.faults disk)) l.disks);
+  count : length l.disks ≡ length l.fn.disks;
+  shape : l.self.core.members.shape ≡ l.fn.self.core.members.shape;
+  moment : l.self.core.moment ≤ l.watch;
+  ticks : l.fn.watch ≤ l.watch;
+  peer : l.place.peer ≤ l.self.core.members.shape.shards * l.self.core.members.shape.copies;
+  nudger : l.place.nudger ≤ l.self.core.members.shape.shards * l.self.core.members.shape.copies;
+}

@@ -1,0 +1,37 @@
+use Rattle.std.proofs.Common.{◌≡◌, ◌<◌, arith, length, map, slice_set}
+use Rattle.std.proofs.lemmas.Grind.{common_steps}
+use Rattle.std.proofs.lemmas.List.{length-set}
+use Rattle.hs_cluster.proofs.DiskLemmas.{at_ok, ready_slot, slot_at}
+use Rattle.hs_cluster.specs.Disks.{AreReady, DiskSeen, log_at, seen_as}
+use Rattle.hs_cluster.proofs.job.do_copy.Goals as goal
+
+pub read_copy-requires : goal.read_copy-requires
+read_copy-requires g c =
+    let f : g.row.D.Denot → DiskSeen = λ disk. seen_as (g.D.Disk.size disk) (g.D.Disk.stands disk) (g.D.Disk.faults disk) in
+    let item : c.index_mut.result.now ≡ log_at c.args.logs.now.items c.from-source.result = grind (arith, common_steps) in
+    let low : c.from-source.result < length c.args.disks.now = grind (arith, common_steps) in
+    record { ready = slot_at g.D.Disk.tells c.args.logs.now.items c.args.disks.now f c.from-source.result c.index_mut.result.now c.index-disks-source.result c.requires.ready item low }
+
+pub write_copy-requires : goal.write_copy-requires
+write_copy-requires g c =
+    let f : g.row.D.Denot → DiskSeen = λ disk. seen_as (g.D.Disk.size disk) (g.D.Disk.stands disk) (g.D.Disk.faults disk) in
+    let logs = slice_set c.args.logs.now.items c.from-source.result c.read_copy.new.slot in
+    let disks = slice_set c.args.disks.now c.from-source.result c.read_copy.new.disk in
+    let in_logs : c.from-source.result < length c.args.logs.now.items = grind (arith, common_steps) in
+    let in_disks : c.from-source.result < length c.args.disks.now = grind (arith, common_steps) in
+    let ready : AreReady g.D.Disk.tells logs (map f disks) = ready_slot g.D.Disk.tells c.args.logs.now.items c.args.disks.now f c.from-source.result c.read_copy.new.slot c.read_copy.new.disk c.requires.ready in_logs in_disks c.read_copy.ensures.ready in
+    let item : c.index_mut-in-Ok.result.now ≡ log_at logs c.from-place.result = grind (arith, common_steps) in
+    let low : c.from-place.result < length disks = grind (arith, common_steps, length-set c.args.disks.now c.from-source.result c.read_copy.new.disk) in
+    record { ready = slot_at g.D.Disk.tells logs disks f c.from-place.result c.index_mut-in-Ok.result.now c.index-disks-place.result ready item low }
+
+pub returns-in-Ok-clause-ready : goal.returns-in-Ok-clause-ready
+returns-in-Ok-clause-ready g c =
+    let f : g.row.D.Denot → DiskSeen = λ disk. seen_as (g.D.Disk.size disk) (g.D.Disk.stands disk) (g.D.Disk.faults disk) in
+    let logs = slice_set c.args.logs.now.items c.from-source.result c.read_copy.new.slot in
+    let disks = slice_set c.args.disks.now c.from-source.result c.read_copy.new.disk in
+    let in_logs : c.from-source.result < length c.args.logs.now.items = grind (arith, common_steps) in
+    let in_disks : c.from-source.result < length c.args.disks.now = grind (arith, common_steps) in
+    let ready : AreReady g.D.Disk.tells logs (map f disks) = ready_slot g.D.Disk.tells c.args.logs.now.items c.args.disks.now f c.from-source.result c.read_copy.new.slot c.read_copy.new.disk c.requires.ready in_logs in_disks c.read_copy.ensures.ready in
+    let low_logs : c.from-place.result < length logs = grind (arith, common_steps, length-set c.args.logs.now.items c.from-source.result c.read_copy.new.slot) in
+    let low : c.from-place.result < length disks = grind (arith, common_steps, length-set c.args.disks.now c.from-source.result c.read_copy.new.disk) in
+    at_ok c.write_copy.result c.write_copy.ensures.ready (λ here. ready_slot g.D.Disk.tells logs disks f c.from-place.result c.write_copy.new.slot c.write_copy.new.disk ready low_logs low here)

@@ -1,0 +1,66 @@
+//! One event, with its items of the course.
+ghost use Rattle.std.specs.Prelude.{◌≡◌, ◌≤◌, None, OnOk};
+ghost use Rattle.hs_cluster.specs.Calls.{Does, done_of};
+ghost use Rattle.hs_core.specs.Calls.{IsNextLine, begun_line, last_line_after};
+
+use crate::before::{fronts_of, goods_of, note_event};
+use crate::{Cluster, ClusterFault};
+use hs_core::Event;
+use hs_desk::CoreFault;
+
+impl Cluster {
+    /// Does one event at a moment, and notes its items of the course, for which room is made before
+    /// it.
+    #[tactic(auto, using(crate::proofs::EventLemmas::nothing_done, crate::proofs::EventLemmas::one_done, crate::proofs::GoingLemmas::step_goes))]
+    pub(crate) fn step(&mut self, event: Event, moment: u64) -> Result<(), ClusterFault>
+        requires going { self.old.core.ended ≡ None }
+        requires moment { self.old.core.moment ≤ moment }
+        requires line { IsNextLine self.old.core event }
+        ensures does { Does (done_of result (event, moment)) self.old self.new result }
+        ensures logs { self.new.logs ≡ self.old.logs }
+        ensures shape { self.new.core.members.shape ≡ self.old.core.members.shape }
+        ensures moment { self.new.core.moment ≤ moment }
+        ensures last_line { OnOk result
+            (self.new.core.last_line ≡ last_line_after event self.old.core) }
+    {
+        let shape = self.core.shape();
+        let peers = shape.shards * shape.copies;
+        self.course
+            .reserve(1 + usize::from(peers) + usize::from(shape.shards))?;
+        let goods = goods_of(self.alloc, &self.core, peers)?;
+        let fronts = fronts_of(self.alloc, &self.core, shape.shards)?;
+        let line = begun_line(&event);
+        match self.core.step(event, moment) {
+            Ok(()) => {
+                note_event(&self.core, line, &goods, &fronts, &mut self.course, moment);
+                Ok(())
+            }
+            Err(CoreFault::OpsFull) => {
+                note_event(&self.core, line, &goods, &fronts, &mut self.course, moment);
+                Err(ClusterFault::OpsFull)
+            }
+            Err(CoreFault::ShardLost { shard }) => {
+                note_event(&self.core, line, &goods, &fronts, &mut self.course, moment);
+                Err(ClusterFault::ShardLost { shard })
+            }
+            Err(CoreFault::NoMemory) => Err(ClusterFault::NoMemory),
+        }
+    }
+}
+
+/// The line that an event begins for a client.
+fn begun_line(event: &Event) -> Option<u64>
+    ensures { result ≡ begun_line event.now }
+{
+    match event {
+        Event::Line { line, .. } => Some(*line),
+        Event::Report { .. }
+        | Event::Turn { .. }
+        | Event::Deliver { .. }
+        | Event::Lose { .. }
+        | Event::Repeat { .. }
+        | Event::Nudge { .. }
+        | Event::Fail { .. }
+        | Event::Start { .. } => None,
+    }
+}

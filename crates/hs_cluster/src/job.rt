@@ -1,0 +1,243 @@
+//! The first job of a peer.
+ghost use Rattle.std.specs.Prelude.{◌≡◌, ◌*◌, ◌+◌, ◌≤◌, ℕ, length, map, true, IfOk, IsOkUnless, OnOk};
+ghost use Rattle.hs_cluster.specs.declared.fault.ClusterFault.TheVariants.{NoMemory};
+ghost use Rattle.hs_cluster.specs.Disks.{AreReady, IsSlotReady, seen_as};
+ghost use Rattle.hs_cluster.specs.Due.{is_answer};
+ghost use Rattle.hs_desk.specs.Answers.{answers};
+ghost use Rattle.hs_desk.specs.declared.job.Job.TheVariants as job;
+ghost use Rattle.hs_members.specs.Members.{IsPeer};
+ghost use Rattle.hs_peerlog.specs.Lists.{IsReady};
+
+use crate::ClusterFault;
+use crate::work::{do_own, empty_disk, keep_copy};
+use hs_core::Core;
+use hs_desk::{Done, Job};
+use hs_entry::Entry;
+use hs_limits::Shape;
+use hs_members::home_of;
+use hs_peerlog::{LogFault, PeerLog};
+use hs_ports::{Disk, Watch};
+use hs_shard::Catalogue;
+use std::alloc::Global;
+
+/// Does the first job of a peer: what it came to. A disk that fails is out of use from then on.
+#[tactic(auto, using(crate::proofs::DiskLemmas::slot_at, crate::proofs::DiskLemmas::ready_slot))]
+pub(crate) fn do_job<D: Disk>(
+    alloc: Global,
+    core: &Core,
+    logs: &mut Vec<Option<PeerLog>>,
+    disks: &mut [D],
+    watch: &mut Watch,
+    peer: u8,
+) -> Result<Done, ClusterFault>
+    requires peer { IsPeer core.now.members.shape peer }
+    requires logs { length logs.old.items
+        ≡ core.now.members.shape.shards * core.now.members.shape.copies }
+    requires disks { length disks.old
+        ≡ core.now.members.shape.shards * core.now.members.shape.copies }
+    requires ready { AreReady D.tells logs.old.items
+        (map (λ disk. seen_as (D.size disk) (D.stands disk) (D.faults disk)) disks.old) }
+    ensures answer { IfOk result (λ done. is_answer core.now peer done ≡ true) }
+    ensures only { IsOkUnless result NoMemory }
+    ensures ready { OnOk result (AreReady D.tells logs.new.items
+        (map (λ disk. seen_as (D.size disk) (D.stands disk) (D.faults disk)) disks.new)) }
+    ensures logs { length logs.new.items ≡ length logs.old.items }
+    ensures disks { length disks.new ≡ length disks.old }
+    ensures ticks { watch.old ≤ watch.new }
+{
+    let Some(job) = core.first_job(peer) else {
+        return Err(ClusterFault::NoMemory);
+    };
+    let place = usize::from(peer);
+    match job {
+        Job::Reset => do_reset(
+            alloc,
+            &mut logs[place],
+            &mut disks[place],
+            watch,
+            core.shape(),
+            peer,
+        ),
+        Job::Copy { from, number } => do_copy(logs, disks, watch, peer, *from, *number),
+        Job::Append { .. } | Job::Seal { .. } | Job::Read { .. } | Job::Reclaim => {
+            let catalogue = core.catalogue(home_of(peer, core.shape()));
+            do_usual(
+                &mut logs[place],
+                &mut disks[place],
+                watch,
+                peer,
+                job,
+                catalogue,
+            )
+        }
+    }
+}
+
+/// Copies the entry of a number from the disk of another peer.
+#[tactic(auto, using(crate::proofs::DiskLemmas::slot_at, crate::proofs::DiskLemmas::ready_slot))]
+fn do_copy<D: Disk>(
+    logs: &mut Vec<Option<PeerLog>>,
+    disks: &mut [D],
+    watch: &mut Watch,
+    peer: u8,
+    from: u8,
+    number: u64,
+) -> Result<Done, ClusterFault>
+    requires logs { peer + 1 ≤ length logs.old.items }
+    requires count { length disks.old ≡ length logs.old.items }
+    requires ready { AreReady D.tells logs.old.items
+        (map (λ disk. seen_as (D.size disk) (D.stands disk) (D.faults disk)) disks.old) }
+    ensures answer { IfOk result (λ told. answers peer (job.Copy from number) told ≡ true) }
+    ensures only { IsOkUnless result NoMemory }
+    ensures ready { OnOk result (AreReady D.tells logs.new.items
+        (map (λ disk. seen_as (D.size disk) (D.stands disk) (D.faults disk)) disks.new)) }
+    ensures logs { length logs.new.items ≡ length logs.old.items }
+    ensures disks { length disks.new ≡ length disks.old }
+    ensures ticks { watch.old ≤ watch.new }
+{
+    let source = usize::from(from);
+    if source >= logs.len() {
+        return Err(ClusterFault::NoMemory);
+    }
+    match read_copy(&mut logs[source], &mut disks[source], number) {
+        Ok(entry) => {
+            let place = usize::from(peer);
+            write_copy(
+                &mut logs[place],
+                &mut disks[place],
+                watch,
+                peer,
+                number,
+                &entry,
+            )
+        }
+        Err(LogFault::NoMemory) => Err(ClusterFault::NoMemory),
+        Err(LogFault::Disk) | Err(LogFault::NotALog { .. }) | Err(LogFault::WrongShape { .. }) => {
+            Ok(Done::Failed { disk: from })
+        }
+    }
+}
+
+/// Does a job that needs the log of its peer alone.
+fn do_usual<D: Disk>(
+    slot: &mut Option<PeerLog>,
+    disk: &mut D,
+    watch: &mut Watch,
+    peer: u8,
+    job: &Job,
+    catalogue: &Catalogue,
+) -> Result<Done, ClusterFault>
+    requires ready { IsSlotReady D.tells slot.old (D.size disk.old) (D.stands disk.old) }
+    ensures answer { IfOk result (λ told. answers peer job.now told ≡ true) }
+    ensures only { IsOkUnless result NoMemory }
+    ensures ready { OnOk result
+        (IsSlotReady D.tells slot.new (D.size disk.new) (D.stands disk.new)) }
+    ensures ticks { watch.old ≤ watch.new }
+{
+    let Some(log) = slot.take() else {
+        return Err(ClusterFault::NoMemory);
+    };
+    let mut log = log;
+    match do_own(&mut log, disk, watch, job, catalogue) {
+        Ok(done) => {
+            *slot = Some(log);
+            Ok(done)
+        }
+        Err(LogFault::NoMemory) => Err(ClusterFault::NoMemory),
+        Err(LogFault::Disk) | Err(LogFault::NotALog { .. }) | Err(LogFault::WrongShape { .. }) => {
+            Ok(Done::Failed { disk: peer })
+        }
+    }
+}
+
+/// Empties the disk of a peer.
+fn do_reset<D: Disk>(
+    alloc: Global,
+    slot: &mut Option<PeerLog>,
+    disk: &mut D,
+    watch: &mut Watch,
+    shape: Shape,
+    peer: u8,
+) -> Result<Done, ClusterFault>
+    ensures answer { IfOk result (λ told. answers peer job.Reset told ≡ true) }
+    ensures only { IsOkUnless result NoMemory }
+    ensures ready { OnOk result
+        (IsSlotReady D.tells slot.new (D.size disk.new) (D.stands disk.new)) }
+    ensures ticks { watch.old ≤ watch.new }
+{
+    *slot = None;
+    match empty_disk(alloc, disk, watch, shape, peer) {
+        Ok(log) => {
+            *slot = Some(log);
+            Ok(Done::Emptied)
+        }
+        Err(LogFault::NoMemory) => Err(ClusterFault::NoMemory),
+        Err(LogFault::Disk) | Err(LogFault::NotALog { .. }) | Err(LogFault::WrongShape { .. }) => {
+            Ok(Done::Failed { disk: peer })
+        }
+    }
+}
+
+/// The entry of a number on the disk of a peer. Where that fails, or has no such entry, the disk is
+/// out of use from then on.
+fn read_copy<D: Disk>(
+    slot: &mut Option<PeerLog>,
+    disk: &mut D,
+    number: u64,
+) -> Result<Entry, LogFault>
+    requires ready { IsSlotReady D.tells slot.old (D.size disk.old) (D.stands disk.old) }
+    ensures ready { IsSlotReady D.tells slot.new (D.size disk.new) (D.stands disk.new) }
+{
+    let Some(log) = slot.take() else {
+        return Err(LogFault::NoMemory);
+    };
+    let entry = read_sealed(&log, disk, number)?;
+    *slot = Some(log);
+    Ok(entry)
+}
+
+/// The entry of a number, which is kept.
+fn read_sealed<D: Disk>(log: &PeerLog, disk: &mut D, number: u64) -> Result<Entry, LogFault>
+    requires ready { IsReady D.tells log.now (D.size disk.old log.now.log.side)
+        (D.stands disk.old) }
+    ensures ready { OnOk result (IsReady D.tells log.now (D.size disk.new log.now.log.side)
+        (D.stands disk.new)) }
+{
+    match log.read_entry(disk, number)? {
+        Some(entry) => Ok(entry),
+        None => Err(LogFault::NotALog { at: number }),
+    }
+}
+
+/// Appends and seals an entry that was copied.
+fn write_copy<D: Disk>(
+    slot: &mut Option<PeerLog>,
+    disk: &mut D,
+    watch: &mut Watch,
+    peer: u8,
+    number: u64,
+    entry: &Entry,
+) -> Result<Done, ClusterFault>
+    requires ready { IsSlotReady D.tells slot.old (D.size disk.old) (D.stands disk.old) }
+    ensures answer { (from : ℕ) → IfOk result (λ told.
+        answers peer (job.Copy from number) told ≡ true) }
+    ensures only { IsOkUnless result NoMemory }
+    ensures ready { OnOk result
+        (IsSlotReady D.tells slot.new (D.size disk.new) (D.stands disk.new)) }
+    ensures ticks { watch.old ≤ watch.new }
+{
+    let Some(log) = slot.take() else {
+        return Err(ClusterFault::NoMemory);
+    };
+    let mut log = log;
+    match keep_copy(&mut log, disk, watch, number, entry) {
+        Ok(()) => {
+            *slot = Some(log);
+            Ok(Done::Copied { number })
+        }
+        Err(LogFault::NoMemory) => Err(ClusterFault::NoMemory),
+        Err(LogFault::Disk) | Err(LogFault::NotALog { .. }) | Err(LogFault::WrongShape { .. }) => {
+            Ok(Done::Failed { disk: peer })
+        }
+    }
+}

@@ -1,0 +1,167 @@
+//! One line of a script.
+ghost use Rattle.std.specs.Prelude.{◌≡◌, ◌*◌, ◌<◌, ◌≤◌, ℕ, Err, List, None, Some, false, length, map, true, IfSome, OnOk};
+ghost use Rattle.hs_cluster.specs.Calls.{RunsLine, of_core};
+ghost use Rattle.hs_cluster.specs.Commands.{is_served, uses_disks};
+ghost use Rattle.hs_cluster.specs.Disks.{AreReady, log_at, seen_as};
+ghost use Rattle.hs_cluster.specs.Due.{turn_behind};
+ghost use Rattle.hs_cluster.specs.Settling.{IsDueOf};
+ghost use Rattle.hs_desk.specs.declared.fault.CoreFault.{CoreFault};
+ghost use Rattle.hs_limits.specs.declared.address.Address.{Address};
+ghost use Rattle.hs_model.specs.declared.command.Command.TheVariants as command;
+ghost use Rattle.hs_peerlog.specs.Lists.{Keeping};
+
+use crate::addressed::addressed;
+use crate::due::{peers_of, turn_of};
+use crate::{Cluster, ClusterFault, Due};
+use hs_block::Addresser;
+use hs_core::{Core, Event};
+use hs_limits::PeerStatus;
+use hs_model::{Command, Op};
+use hs_ports::{Disk, Watch};
+
+impl Cluster {
+    /// Does one line of a script. A cluster whose core has ended answers its fault, and nothing
+    /// happens. The disks are those that the last call left. After a fault the core has ended, but
+    /// for want of memory, and the cluster is of use no more.
+    pub fn run<A: Addresser, D: Disk>(
+        &mut self,
+        naming: &A,
+        disks: &mut [D],
+        watch: &mut Watch,
+        line: u64,
+        command: Command,
+    ) -> Result<(), ClusterFault>
+        requires line { self.old.core.last_line < line }
+        requires moment { self.old.core.moment ≤ watch.old }
+        requires count { length disks.old
+            ≡ self.old.core.members.shape.shards * self.old.core.members.shape.copies }
+        requires ready { AreReady D.tells self.old.logs
+            (map (λ disk. seen_as (D.size disk) (D.stands disk) (D.faults disk)) disks.old) }
+
+        // The events that are due for the line, and no others; of a line that asks to reclaim
+        // nothing is said.
+        ensures runs { self.old.core.ended ≡ None → is_served command ≡ true
+            → RunsLine (A.name naming.now) line command watch.old watch.new
+            self.old self.new result }
+        ensures ended { (fault : CoreFault) → self.old.core.ended ≡ Some fault
+            → (result ≡ Err (of_core fault)) × (self.new ≡ self.old)
+            × (disks.new ≡ disks.old) × (watch.new ≡ watch.old) }
+
+        // But for turns and `settle` the disks are as they were.
+        ensures still { uses_disks command ≡ false
+            → (disks.new ≡ disks.old) × (watch.new ≡ watch.old) }
+
+        ensures ready { OnOk result (AreReady D.tells self.new.logs
+            (map (λ disk. seen_as (D.size disk) (D.stands disk) (D.faults disk)) disks.new)) }
+        ensures count { length disks.new ≡ length disks.old }
+        ensures shape { self.new.core.members.shape ≡ self.old.core.members.shape }
+        ensures moment { OnOk result (self.new.core.moment ≤ watch.new) }
+        ensures ticks { watch.old ≤ watch.new }
+    {
+        if let Some(fault) = self.core.ended() {
+            return Err(ClusterFault::from(fault));
+        }
+        let moment = watch.now();
+        match command {
+            Command::Client(op) => self.ask(naming, line, op, moment),
+            Command::Settle => self.settle(disks, watch, line, true),
+            Command::Turn { peer } => self.turn(disks, watch, line, peer),
+            Command::Nudge { peer } => self.step(Event::Nudge { line, peer }, moment),
+            Command::Deliver { message } => self.step(Event::Deliver { line, message }, moment),
+            Command::Lose { message } => self.step(Event::Lose { line, message }, moment),
+            Command::Repeat { message } => self.step(Event::Repeat { line, message }, moment),
+            Command::Fail { peer } => self.fail(line, peer, moment),
+            Command::Start { peer } => self.step(Event::Start { line, peer }, moment),
+            Command::Reclaim { .. } => Err(ClusterFault::NoMemory),
+        }
+    }
+}
+
+impl Cluster {
+    /// A client asks for an operation.
+    fn ask<A: Addresser>(
+        &mut self,
+        naming: &A,
+        line: u64,
+        op: Op,
+        moment: u64,
+    ) -> Result<(), ClusterFault>
+        requires going { self.old.core.ended ≡ None }
+        requires line { self.old.core.last_line < line }
+        requires moment { self.old.core.moment ≤ moment }
+        ensures runs { RunsLine (A.name naming.now) line (command.Client op) moment moment
+            self.old self.new result }
+        ensures logs { self.new.logs ≡ self.old.logs }
+        ensures shape { self.new.core.members.shape ≡ self.old.core.members.shape }
+        ensures moment { self.new.core.moment ≤ moment }
+    {
+        let op = addressed(self.alloc, &self.core, naming, op)?;
+        self.step(Event::Line { line, op }, moment)
+    }
+
+    /// A peer fails: its disk is out of use.
+    fn fail(&mut self, line: u64, peer: u8, moment: u64) -> Result<(), ClusterFault>
+        requires going { self.old.core.ended ≡ None }
+        requires moment { self.old.core.moment ≤ moment }
+        ensures runs { (name : List ℕ → Address) → RunsLine name line (command.Fail peer)
+            moment moment self.old self.new result }
+        ensures logs { (p : ℕ) (keeping : Keeping) → log_at self.new.logs p ≡ Some keeping
+            → log_at self.old.logs p ≡ Some keeping }
+        ensures shape { self.new.core.members.shape ≡ self.old.core.members.shape }
+        ensures moment { self.new.core.moment ≤ moment }
+    {
+        self.step(Event::Fail { line, peer }, moment)?;
+        let place = usize::from(peer);
+        if place < self.logs.len() {
+            self.logs[place] = None;
+        }
+        Ok(())
+    }
+
+    /// A turn of a peer, where it is not refused: its first job with its report, else the handling
+    /// of the oldest message for it, else nothing.
+    fn turn<D: Disk>(
+        &mut self,
+        disks: &mut [D],
+        watch: &mut Watch,
+        line: u64,
+        peer: u8,
+    ) -> Result<(), ClusterFault>
+        requires going { self.old.core.ended ≡ None }
+        requires moment { self.old.core.moment ≤ watch.old }
+        requires count { length disks.old
+            ≡ self.old.core.members.shape.shards * self.old.core.members.shape.copies }
+        requires ready { AreReady D.tells self.old.logs
+            (map (λ disk. seen_as (D.size disk) (D.stands disk) (D.faults disk)) disks.old) }
+        ensures runs { (name : List ℕ → Address) → RunsLine name line (command.Turn peer)
+            watch.old watch.new self.old self.new result }
+        ensures ready { OnOk result (AreReady D.tells self.new.logs
+            (map (λ disk. seen_as (D.size disk) (D.stands disk) (D.faults disk)) disks.new)) }
+        ensures count { length disks.new ≡ length disks.old }
+        ensures shape { self.new.core.members.shape ≡ self.old.core.members.shape }
+        ensures moment { OnOk result (self.new.core.moment ≤ watch.new) }
+        ensures ticks { watch.old ≤ watch.new }
+    {
+        self.step(Event::Turn { line, peer }, watch.now())?;
+        match turn_behind(&self.core, peer) {
+            Some(due) => self.do_due(disks, watch, line, due),
+            None => Ok(()),
+        }
+    }
+}
+
+/// The turn of a peer, where such a turn is not refused.
+#[tactic(auto, using(crate::proofs::TurnLemmas::turn_beyond, crate::proofs::TurnLemmas::turn_down, crate::proofs::TurnLemmas::turn_up))]
+fn turn_behind(core: &Core, peer: u8) -> Option<Due>
+    requires { core.now.ended ≡ None }
+    ensures value { result ≡ turn_behind peer core.now }
+    ensures due { IfSome result (IsDueOf core.now) }
+{
+    if peer >= peers_of(core) {
+        return None;
+    }
+    if core.status(peer) == PeerStatus::Down {
+        return None;
+    }
+    turn_of(core, peer)
+}

@@ -1,0 +1,195 @@
+//! One job on the disk of a peer.
+ghost use Rattle.std.specs.Prelude.{◌≡◌, ◌+◌, ◌≤◌, ℕ, None, Some, true, false, is_some, IfOk, OnOk};
+ghost use Rattle.hs_desk.specs.Answers.{answers};
+ghost use Rattle.hs_desk.specs.declared.done.Done.TheVariants as done;
+ghost use Rattle.hs_desk.specs.declared.job.Job.TheVariants as job;
+ghost use Rattle.hs_peerlog.specs.Caused.{IsCaused};
+ghost use Rattle.hs_peerlog.specs.Lists.{IsReady};
+ghost use Rattle.hs_shard.specs.Facts.{pointers_at};
+
+use crate::readable::is_readable;
+use hs_desk::{Done, Job};
+use hs_entry::Entry;
+use hs_limits::Shape;
+use hs_peerlog::{LogFault, PeerLog};
+use hs_ports::{Disk, Watch};
+use hs_shard::Catalogue;
+use std::alloc::Global;
+
+/// Does a job on the disk of a peer, whose log this is; `catalogue` is that of its shard. What it
+/// came to. A job that does not follow the log counts as want of memory.
+pub(crate) fn do_own<D: Disk>(
+    log: &mut PeerLog,
+    disk: &mut D,
+    watch: &mut Watch,
+    job: &Job,
+    catalogue: &Catalogue,
+) -> Result<Done, LogFault>
+    requires ready { IsReady D.tells log.old (D.size disk.old log.old.log.side)
+        (D.stands disk.old) }
+    ensures ready { OnOk result (IsReady D.tells log.new (D.size disk.new log.new.log.side)
+        (D.stands disk.new)) }
+    ensures answer { (peer : ℕ) → IfOk result (λ told. answers peer job.now told ≡ true) }
+    ensures ticks { watch.old ≤ watch.new }
+    ensures cause { IsCaused (D.faults disk.old) (D.faults disk.new) result }
+{
+    match job {
+        Job::Append { number, entry } => {
+            append_entry(log, disk, watch, *number, entry)?;
+            Ok(Done::Stored { number: *number })
+        }
+        Job::Seal { number } => {
+            seal_entry(log, disk, watch, *number)?;
+            Ok(Done::Sealed { number: *number })
+        }
+        Job::Read { number } => read_block(log, disk, *number, catalogue),
+        Job::Reset => {
+            log.reset(disk, watch)?;
+            Ok(Done::Emptied)
+        }
+        Job::Copy { .. } => Err(LogFault::NoMemory),
+        Job::Reclaim => Ok(Done::Stepped { switched: true }),
+    }
+}
+
+/// Appends the entry of a number, where it is the next one.
+pub(crate) fn append_entry<D: Disk>(
+    log: &mut PeerLog,
+    disk: &mut D,
+    watch: &mut Watch,
+    number: u64,
+    entry: &Entry,
+) -> Result<(), LogFault>
+    requires ready { IsReady D.tells log.old (D.size disk.old log.old.log.side)
+        (D.stands disk.old) }
+    ensures ready { OnOk result (IsReady D.tells log.new (D.size disk.new log.new.log.side)
+        (D.stands disk.new)) }
+    ensures ticks { watch.old ≤ watch.new }
+    ensures cause { IsCaused (D.faults disk.old) (D.faults disk.new) result }
+{
+    if !is_next(log, number) || !is_readable(entry) {
+        return Err(LogFault::NoMemory);
+    }
+    log.append(disk, watch, number, entry)
+}
+
+/// Whether nothing waits to be sealed, and this is the next number.
+fn is_next(log: &PeerLog, number: u64) -> bool
+    ensures next { result ≡ true → number ≡ log.now.rank.number + 1 }
+    ensures none { result ≡ true → log.now.waits ≡ None }
+{
+    if log.unsealed().is_some() {
+        return false;
+    }
+    match log.last().checked_add(1) {
+        Some(next) => next == number,
+        None => false,
+    }
+}
+
+/// Seals the entry of a number, where it waits.
+fn seal_entry<D: Disk>(
+    log: &mut PeerLog,
+    disk: &mut D,
+    watch: &mut Watch,
+    number: u64,
+) -> Result<(), LogFault>
+    requires ready { IsReady D.tells log.old (D.size disk.old log.old.log.side)
+        (D.stands disk.old) }
+    ensures ready { OnOk result (IsReady D.tells log.new (D.size disk.new log.new.log.side)
+        (D.stands disk.new)) }
+    ensures ticks { watch.old ≤ watch.new }
+    ensures cause { IsCaused (D.faults disk.old) (D.faults disk.new) result }
+{
+    match log.unsealed() {
+        Some(waits) if waits == number => log.seal(disk, watch),
+        _ => Err(LogFault::NoMemory),
+    }
+}
+
+/// The block of the entry of a number. Where no such block is kept it is gone, unless the shard still
+/// has it: then the disk does not give its list.
+fn read_block<D: Disk>(
+    log: &PeerLog,
+    disk: &mut D,
+    number: u64,
+    catalogue: &Catalogue,
+) -> Result<Done, LogFault>
+    requires ready { IsReady D.tells log.now (D.size disk.old log.now.log.side)
+        (D.stands disk.old) }
+    ensures ready { IsReady D.tells log.now (D.size disk.new log.now.log.side)
+        (D.stands disk.new) }
+    ensures answer { (peer : ℕ) → IfOk result (λ told. answers peer (job.Read number) told ≡ true) }
+    ensures gone { IfOk result (λ told. told ≡ done.Gone number
+        → is_some (pointers_at number catalogue.now.blocks) ≡ false) }
+    ensures cause { IsCaused (D.faults disk.old) (D.faults disk.new) result }
+{
+    if let Some(Entry::Block { bytes, .. }) = log.read_entry(disk, number)? {
+        return Ok(Done::Bytes { number, bytes });
+    }
+    if is_stored(catalogue, number) {
+        return Err(LogFault::NotALog { at: number });
+    }
+    Ok(Done::Gone { number })
+}
+
+/// Whether a present block was stored by the entry of a number.
+#[tactic(auto, using(crate::proofs::FindLemmas::stored_here, crate::proofs::FindLemmas::stored_later, crate::proofs::FindLemmas::stored_nowhere, crate::proofs::FindLemmas::none_told))]
+fn is_stored(catalogue: &Catalogue, number: u64) -> bool
+    ensures { result ≡ is_some (pointers_at number catalogue.now.blocks) }
+{
+    for place in 0..catalogue.count() {
+        if let Some(facts) = catalogue.facts(place) {
+            if facts.number == number {
+                return true;
+            }
+        }
+    }
+    false
+}
+
+/// Empties the disk of a peer: its log, where it is one, and else whatever is on it.
+pub(crate) fn empty_disk<D: Disk>(
+    alloc: Global,
+    disk: &mut D,
+    watch: &mut Watch,
+    shape: Shape,
+    peer: u8,
+) -> Result<PeerLog, LogFault>
+    ensures ready { IfOk result (λ log. IsReady D.tells log (D.size disk.new log.log.side)
+        (D.stands disk.new)) }
+    ensures ticks { watch.old ≤ watch.new }
+    ensures cause { IsCaused (D.faults disk.old) (D.faults disk.new) result }
+{
+    match PeerLog::recover(alloc, disk, watch, shape, peer) {
+        Ok(log) => {
+            let mut log = log;
+            log.reset(disk, watch)?;
+            Ok(log)
+        }
+        Err(LogFault::Disk) => Err(LogFault::Disk),
+        Err(LogFault::NoMemory) => Err(LogFault::NoMemory),
+        Err(LogFault::NotALog { .. }) | Err(LogFault::WrongShape { .. }) => {
+            PeerLog::clear(alloc, disk, watch, shape, peer)
+        }
+    }
+}
+
+/// Appends and seals an entry that was copied, under its number.
+pub(crate) fn keep_copy<D: Disk>(
+    log: &mut PeerLog,
+    disk: &mut D,
+    watch: &mut Watch,
+    number: u64,
+    entry: &Entry,
+) -> Result<(), LogFault>
+    requires ready { IsReady D.tells log.old (D.size disk.old log.old.log.side)
+        (D.stands disk.old) }
+    ensures ready { OnOk result (IsReady D.tells log.new (D.size disk.new log.new.log.side)
+        (D.stands disk.new)) }
+    ensures ticks { watch.old ≤ watch.new }
+    ensures cause { IsCaused (D.faults disk.old) (D.faults disk.new) result }
+{
+    append_entry(log, disk, watch, number, entry)?;
+    seal_entry(log, disk, watch, number)
+}

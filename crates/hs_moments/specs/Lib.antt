@@ -1,0 +1,7 @@
+pub mod Answers
+pub mod CoreMachine
+pub mod Course
+pub mod Joint
+pub mod Machine
+pub mod Moments
+pub mod Obeys
