@@ -13,6 +13,7 @@ mod payload;
 mod print;
 mod put;
 mod read;
+mod shorter;
 mod words;
 mod written;
 

@@ -60,6 +60,7 @@ fn put_number(number: u64, out: &mut Vec<u8>)
 }
 
 /// Puts bytes at the end of `out`, which has room for them.
+#[inline(always)]
 fn put_bytes(bytes: &[u8], out: &mut Vec<u8>)
     requires { vec_len out.old + length bytes.now ≤ vec_capacity out.old }
     ensures items { out.new.items ≡ out.old.items ++ bytes.now }

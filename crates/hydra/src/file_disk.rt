@@ -163,7 +163,10 @@ pub fn open_disk<R: Files<File = File>>(
 }
 
 fn hold_three<R: Files<File = File>>(rt: &R) -> io::Result<(File, File, File)> {
-    Ok((fs::open(rt, "/")?, fs::open(rt, "/")?, fs::open(rt, "/")?))
+    let first = fs::open(rt, "/")?;
+    let second = first.try_clone()?;
+    let third = first.try_clone()?;
+    Ok((first, second, third))
 }
 
 fn open_side<R: Files<File = File>>(
