@@ -25,7 +25,11 @@ TOLD = re.compile(r"(\d+) blocks, (\d+) roots, epoch (\d+), swept (\d+), (\d+) b
 
 
 class Counts:
-    """A run of the program: what it printed, its seconds, its greatest memory, its instructions if they were counted."""
+    """A run of the program: what it printed, its seconds, its greatest memory, its instructions if they were counted.
+
+    The greatest memory is that of the whole process. The system counts what this script had when it began it, too, so
+    that a smaller number than this script's own is not seen.
+    """
 
     def __init__(self, program, blocks, dropped, steps, before=()):
         start = time.perf_counter()
@@ -61,13 +65,12 @@ def time_and_memory(program, blocks, rounds):
     print(f"{entries} entries applied: {(filled - made) / entries * 1e6:.1f} us each, "
           f"{filled / entries * 1e6:.1f} us with making them and the start of the program")
     rules = blocks * (POINTERS * ADDRESS + FACTS)
-    none = Counts(program, 0, 0, 1).bytes
     for name, dropped, steps in (
         ("filled", 0, 1),
         ("after the run in which all blocks become counted", 0, 2),
         ("after a run that removes half of them", blocks // 2 // GROUP, 4),
     ):
-        most = Counts(program, blocks, dropped, steps).bytes - none
+        most = Counts(program, blocks, dropped, steps).bytes
         print(f"greatest memory, {name}: {most / 1e6:.1f} MB, {most / rules:.2f} of the {rules / 1e6:.1f} MB by the rules")
 
 
