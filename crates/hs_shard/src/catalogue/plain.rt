@@ -4,9 +4,9 @@ ghost use Rattle.hs_model.specs.Plain.{IsPlain, plain_of};
 ghost use Rattle.hs_shard.specs.declared.fault.ShardFault.TheVariants.{NoMemory};
 ghost use Rattle.hs_shard.specs.Plain.{add_shard};
 
+use crate::ShardFault;
 use crate::catalogue::Catalogue;
 use crate::plain_roots::add_roots;
-use crate::ShardFault;
 use hs_limits::ListOf;
 use hs_model::PlainStore;
 use std::mem::replace;

@@ -12,8 +12,8 @@ use Rattle.hs_shard.proofs.plain_blocks.blocks_in_order.Goals as goal
 pub returns-clause-ordered : goal.returns-clause-ordered
 returns-clause-ordered c =
     let whole : listed_blocks c.loop-address.list ≡ outlined c.args.outlines.entries =
-        sym (append-nil (listed_blocks c.loop-address.list))
-        ∙ ap (λ z. listed_blocks c.loop-address.list ++ outlined z) (sym c.in-None.ensures.steps.0)
-        ∙ c.loop-address.invariant in
+    sym (append-nil (listed_blocks c.loop-address.list))
+    ∙ ap (λ z. listed_blocks c.loop-address.list ++ outlined z) (sym c.in-None.ensures.steps.0)
+    ∙ c.loop-address.invariant in
     subst (λ (z : List (Address × StoredBlock)). IsStrictlySortedBy address_cmp (keys_of z)) (sym whole)
     (subst (λ ks. IsStrictlySortedBy address_cmp ks) (sym (keys_outlined c.args.outlines.entries)) c.into_iter-address-iterator.ensures.into_iter_gives.5)

@@ -1,4 +1,4 @@
-use Rattle.std.proofs.Common.{◌≡◌, List, rules, sym, ap, subst, ◌∙◌}
+use Rattle.std.proofs.Common.{List, rules, sym, ap, subst, ◌∙◌}
 use Rattle.std.proofs.lemmas.List.Sorted.{IsPartitionPoint-from_clause}
 use Rattle.std.specs.List.{insert}
 use Rattle.hs_model.specs.declared.plain.PlainRoot.{PlainRoot}
