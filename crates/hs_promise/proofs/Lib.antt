@@ -1,3 +1,4 @@
 mod Entering
+mod Meeting
 mod Rejoining
 mod Wording

@@ -6,10 +6,12 @@ use Rattle.hs_model.specs.Refusals.{first}
 use Rattle.hs_promise.specs.Course.{course_of}
 use Rattle.hs_promise.specs.Ending.{Ending, ending_of}
 use Rattle.hs_promise.specs.Entry.{MayStop}
-use Rattle.hs_promise.specs.Found.{HasFound, IsReadAs}
+use Rattle.hs_promise.specs.Found.{HasFound, IsReadAs, IsStillBehind}
 use Rattle.hs_promise.specs.Lines.{AreLines}
 use Rattle.hs_promise.specs.Lower.Course.{steps}
 use Rattle.hs_promise.specs.Lower.Due.{Events, is_walk, next_turn}
+use Rattle.hs_promise.specs.Lower.Moments.{MomentsRise}
+use Rattle.hs_promise.specs.Lower.Objects.{NoneAhead}
 use Rattle.hs_promise.specs.Lower.Reports.{failures}
 use Rattle.hs_promise.specs.Promise.{AreOfScript}
 use Rattle.hs_promise.specs.Reports.{IsTold}
@@ -25,11 +27,6 @@ pub record EndsAs (ending : Ending) (ended : Option CoreFault) : Type 0 where
   pub past : ending.past ≡ true → ended ≡ None
   pub full : ending.full ≡ true → ended ≡ Some fault.OpsFull
   pub lost : IfSome ending.lost (λ shard. ended ≡ Some (fault.ShardLost shard))
-
--- moments never fall, from one on and up to another
-abbrev pub MomentsRise : ℕ → Events → ℕ → Type 0
-MomentsRise from [] to = from ≤ to
-MomentsRise from (e ∷ es) to = (from ≤ e.1) × MomentsRise e.1 es to
 
 -- opening is turns until nobody has one; it may be cut short only where no line was begun
 abbrev pub opening_is_whole : Ran → List Events → Bool
@@ -53,12 +50,13 @@ pub record Went (S : Script) (r : Ran) (story : Story) : Type 0 where
   pub refused : r.refused ≡ (if (ending_of r.ending).full then (last_core S story).refused else [])
   pub course : r.course ≡ course_of S story r.old.moment
   pub ends : EndsAs (ending_of r.ending) (last_core S story).ended
-  pub failed : (disk : ℕ) → DiskRose r (failures false disk (first_core S story) (all_events story) + loss_count story disk) disk
+  pub failed : (disk : ℕ) → DiskRose r (failures false disk (first_core S story) (all_events story)) disk
 
--- and so where the disks tell their contents
+-- and so where the disks tell their contents, so that no read finds what is no log
 pub record Tells (S : Script) (r : Ran) (story : Story) : Type 0 where
   pub read : (peer : ℕ) → peer < peer_count S.set.shape → IsReadAs r story peer
   pub told : MayStop S r → All (IsTold r) (all_events story)
+  pub still : NoneAhead r.old → All (IsStillBehind r story) story.lost
   pub failed : (disk : ℕ) → DiskRose r (failures true disk (first_core S story) (all_events story) + loss_count story disk) disk
 
 -- no core was opened, since a disk is of another store or memory was wanting: nothing was answered, read or put
