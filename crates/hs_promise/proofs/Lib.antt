@@ -1,4 +1,5 @@
 mod Entering
 mod Meeting
 mod Rejoining
+mod Stopping
 mod Wording

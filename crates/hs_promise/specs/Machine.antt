@@ -14,7 +14,7 @@ use Rattle.hs_promise.specs.Lower.Moments.{MomentsRise}
 use Rattle.hs_promise.specs.Lower.Objects.{NoneAhead}
 use Rattle.hs_promise.specs.Lower.Reports.{failures}
 use Rattle.hs_promise.specs.Promise.{AreOfScript}
-use Rattle.hs_promise.specs.Reports.{IsTold}
+use Rattle.hs_promise.specs.Reports.{IsBorneOut}
 use Rattle.hs_promise.specs.Run.{DiskRose, Ran, Script}
 use Rattle.hs_promise.specs.Story.{Story, all_events, first_core, last_core}
 use Rattle.hs_promise.specs.Lower.Taken.{peer_count}
@@ -53,9 +53,9 @@ pub record Went (S : Script) (r : Ran) (story : Story) : Type 0 where
   pub failed : (disk : ℕ) → DiskRose r (failures false disk (first_core S story) (all_events story)) disk
 
 -- and so where the disks tell their contents, so that no read finds what is no log
-pub record Tells (S : Script) (r : Ran) (story : Story) : Type 0 where
+pub record IsOfDisks (S : Script) (r : Ran) (story : Story) : Type 0 where
   pub read : (peer : ℕ) → peer < peer_count S.set.shape → IsReadAs r story peer
-  pub told : MayStop S r → All (IsTold r) (all_events story)
+  pub told : MayStop S r → All (IsBorneOut r) (all_events story)
   pub still : NoneAhead r.old → All (IsStillBehind r story) story.lost
   pub failed : (disk : ℕ) → DiskRose r (failures true disk (first_core S story) (all_events story) + loss_count story disk) disk
 
@@ -78,4 +78,4 @@ pub record IsOfMachine (tells : Type 0) (S : Script) (r : Ran) : Type 0 where
   pub script : AreOfScript S r
   pub how : Option Story
   pub went : WentAs S r how
-  pub told : tells → IfSome how (Tells S r)
+  pub told : tells → IfSome how (IsOfDisks S r)
