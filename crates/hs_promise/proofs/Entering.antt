@@ -1,8 +1,8 @@
 -- Which disks count at entry, which course counts, and when what was put: computed on small runs.
 use Rattle.std.specs.Fmt.{digits}
 use Rattle.std.proofs.lemmas.Bool.{false≢true}
-use Rattle.std.specs.Option.{option_map_or}
-use Rattle.std.specs.Prelude.{◌≡◌, ap, refl, ℕ, false, true, List, [], ◌∷◌, ◌++◌, length, map, nat_le, take, Option, Some, None}
+use Rattle.std.proofs.Common.{ap}
+use Rattle.std.specs.Prelude.{◌≡◌, refl, ℕ, Bool, false, true, List, [], ◌∷◌, ◌++◌, map, take, Option, Some, None}
 use Rattle.hs_core.specs.declared.event.Event.TheVariants as event
 use Rattle.hs_entry.specs.declared.entry.Entry.TheVariants as kind
 use Rattle.hs_entry.specs.Entries.{rank_of}
@@ -148,6 +148,11 @@ failing = record (put_at 2) { ending = status.WriteFault; new = record nothing {
 abbrev blank_line : LineAt
 blank_line = record second_line { events = [] }
 
+-- whether there is a fourth byte
+abbrev has_a_fourth : Option (List ℕ) → Bool
+has_a_fourth (Some (first ∷ second ∷ third ∷ fourth ∷ rest)) = true
+has_a_fourth other = false
+
 not_printed : IsPrintedBefore failing blank_line → ⊥
 unfolding entry_text digits
-not_printed before = false≢true (ap (λ got. option_map_or (λ bytes. nat_le 4 (length bytes)) got false) before.put)
+not_printed before = false≢true (ap has_a_fourth before.put)

@@ -1,7 +1,8 @@
 -- The run in which a peer joins again is the machine's: all that is said of one holds of it, where the objects tell nothing.
 use Rattle.std.proofs.lemmas.Bool.{false≢true}
 use Rattle.std.proofs.lemmas.List.Elements.{All-nil}
-use Rattle.std.specs.Prelude.{◌≡◌, refl, sym, ◌∙◌, ℕ, zero, suc, ◌<◌, ◌≤◌, false, true, [], Some, None, IsSome, slice_index_or}
+use Rattle.std.proofs.Common.{arith, sym, ◌∙◌}
+use Rattle.std.specs.Prelude.{◌≡◌, refl, ℕ, zero, suc, ◌<◌, ◌≤◌, false, true, Some, None, IsSome, slice_index_or}
 use Rattle.hs_entry.specs.Entries.{rank_of}
 use Rattle.hs_limits.specs.Reading.{addresses, block_at, read_block}
 use Rattle.hs_model.specs.Refusals.{no_handle_in, stale_in}
@@ -11,7 +12,7 @@ use Rattle.hs_ops.specs.Going.{asked_for, begin, block_entry, compared, data_of,
 use Rattle.hs_ops.specs.Refusals.{refusals_of}
 use Rattle.hs_ops.specs.Speaking.{asked_block, least_epoch}
 use Rattle.hs_promise.proofs.Rejoining.{ran, script, story, the_end, the_lines, the_opening}
-use Rattle.hs_promise.specs.Found.{HasFound}
+use Rattle.hs_promise.specs.Found.{HasFound, IsLostBefore}
 use Rattle.hs_promise.specs.Lower.Moments.{MomentsRise}
 use Rattle.hs_promise.specs.Lower.Sides.{RoseBy}
 use Rattle.hs_promise.specs.Machine.{IsOfMachine, Went}
@@ -40,7 +41,7 @@ found = record {
   logs = refl;
   goods = refl;
   later = le;
-  lost = All-nil;
+  lost = All-nil (IsLostBefore script ran story);
   once = λ i j d before within. absurd (omega arith);
   all_lost = λ peer within taken bad. absurd (never_aside peer within bad);
   kept = good_has_a_log;

@@ -168,14 +168,14 @@ a_copied_read_is_free : failures false 1 copying ((event.Report 0 (done.Failed 1
 unfolding gained addresses block_at read_block no_handle_in stale_in helds_of deed_of seats_after asked_for begin block_entry compared data_of go is_same_block judged_in mark_entry on_bytes on_effect refusals_of asked_block least_epoch rank_of
 a_copied_read_is_free = refl
 
--- the write of line 2 takes effect in the last event of line 6, which answers it
+-- the write of line 2 takes effect in an event of line 6, which answers it
 abbrev before_effect : Core
-before_effect = steps (core_at 5) ((event.Report 1 (done.Stored 2), 0) ∷ [])
+before_effect = steps (core_at 5) ((event.Report 1 (done.Stored 2), 0) ∷ (event.Report 1 (done.Sealed 2), 0) ∷ (event.Report 1 (done.Stored 3), 0) ∷ [])
 
 abbrev effect : Event × ℕ
-effect = (event.Report 1 (done.Sealed 2), 0)
+effect = (event.Report 1 (done.Sealed 3), 0)
 
-it_takes_effect : event_items before_effect effect ≡ item.Took 0 2 0 ∷ []
+it_takes_effect : event_items before_effect effect ≡ item.Took 0 3 0 ∷ []
 unfolding gained addresses block_at read_block no_handle_in stale_in helds_of deed_of seats_after asked_for begin block_entry compared data_of go is_same_block judged_in mark_entry on_bytes on_effect refusals_of asked_block least_epoch rank_of
 it_takes_effect = refl
 

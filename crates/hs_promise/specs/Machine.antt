@@ -1,5 +1,5 @@
 -- Clause 1's other half: a run is the machine's on the events that are due, and on no others.
-use Rattle.std.specs.Prelude.{ℕ, ◌+◌, ◌==◌, ◌≡◌, ◌⊎◌, ◌<◌, ◌≤◌, Bool, count_by, true, false, if◌then◌else◌, List, [], ◌∷◌, length, Option, Some, None, IfSome, All}
+use Rattle.std.specs.Prelude.{ℕ, ◌+◌, ◌==◌, ◌≡◌, ◌⊎◌, ◌<◌, Bool, count_by, true, false, if◌then◌else◌, List, [], ◌∷◌, length, Option, Some, None, IfSome, All}
 use Rattle.hs_desk.specs.declared.fault.CoreFault.{CoreFault}
 use Rattle.hs_desk.specs.declared.fault.CoreFault.TheVariants as fault
 use Rattle.hs_model.specs.Refusals.{first}
