@@ -1,5 +1,6 @@
 pub mod Anew
 pub mod Asking
+pub mod Calls
 pub mod Changing
 pub mod Delivering
 pub mod Effects
