@@ -1,6 +1,7 @@
 mod DeletionExamples
 mod Driving
 mod Examples
+mod KeptLemmas
 mod LeadLemmas
 mod LimitExamples
 mod OpenLemmas
