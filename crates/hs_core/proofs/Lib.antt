@@ -1,10 +1,13 @@
+mod CommitLemmas
 mod DeletionExamples
 mod Driving
 mod Examples
-mod KeptLemmas
+mod JoiningLemmas
 mod LeadLemmas
 mod LimitExamples
+mod NowhereLemmas
 mod OpenLemmas
 mod PeerExamples
 mod RangeLemmas
+mod ReportLemmas
 mod ViewLemmas

@@ -51,6 +51,13 @@ pub record Kept (old new : Core) : Type 0 where
   pub refused : new.refused ≡ old.refused
   pub shape : new.members.shape ≡ old.members.shape
 
+-- what an event leaves of a core before its end
+pub record Stays (old new : Core) : Type 0 where
+  pub journal : new.journal ≡ old.journal
+  pub limits : new.limits ≡ old.limits
+  pub refused : new.refused ≡ old.refused
+  pub shape : new.members.shape ≡ old.members.shape
+
 -- the lists of all shards, each of its shard, with how many entries have taken effect, and the jobs of all peers
 pub record AreLists (m : Members) (gs : List Group) (fs : List ℕ) (vs : List Bool) (ts : List (List Task)) : Type 0 where
   pub groups : length gs ≡ m.shape.shards

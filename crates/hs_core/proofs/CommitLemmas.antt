@@ -1,0 +1,78 @@
+-- All committed entries, one at a time.
+use Rattle.std.proofs.Common.{◌≡◌, ◌∙◌, sym, ap, ℕ, ◌+◌, ◌-◌, ◌<◌, ◌≤◌, suc, Bool, true, false, List, [], Option, Some, None, refl, arith}
+use Rattle.std.proofs.lemmas.List.{set-get_or}
+use Rattle.std.specs.Option.{option_map}
+use Rattle.std.specs.Prelude.{nat_lt, slice_get, slice_index_or, slice_set, if◌then◌else◌}
+use Rattle.hs_core.specs.Changing.{change_group}
+use Rattle.hs_core.specs.Effects.{after_entry, commit_next, take_effect}
+use Rattle.hs_core.specs.Handing.{take_handed}
+use Rattle.hs_core.specs.Looking.{front_of, group_of, shape_of}
+use Rattle.hs_core.specs.State.{Core}
+use Rattle.hs_core.specs.Words.{change_with, times, ◌▸◌}
+use Rattle.hs_entry.specs.declared.entry.Entry.{Entry}
+use Rattle.hs_entry.specs.declared.entry.Entry.TheVariants as kind
+use Rattle.hs_replica.specs.Group.{Group, commit_front, committed, new_group, take_committed}
+use Rattle.hs_shard.specs.declared.effect.Effect.{Effect}
+use Rattle.hs_shard.specs.declared.effect.Sent.{Sent}
+
+-- ---- so many times
+
+pub times_next : {A : Type 0} (f : A → A) (s n : ℕ) (x : A) → s < n → times (n - s) f x ≡ times (n - (s + 1)) f (f x)
+times_next f s n x h =
+    let d : n - s ≡ suc (n - (s + 1)) = omega (arith, h) in
+    rw d refl
+
+pub times_end : {A : Type 0} (f : A → A) (s n : ℕ) (x : A) → n ≤ s → times (n - s) f x ≡ x
+times_end f s n x h =
+    let d : n - s ≡ 0 = omega (arith, h) in
+    rw d refl
+
+pub times_begin : {A : Type 0} (f : A → A) (n : ℕ) (x : A) → times (n - 0) f x ≡ times n f x
+times_begin f n x =
+    let d : n - 0 ≡ n = omega arith in
+    rw d refl
+
+-- ---- one of them
+
+handed_if : (b : Bool) (n number : ℕ) (o : Option Entry) (entry : Entry) → (if b then option_map (λ e. (n, e)) o else None) ≡ Some (number, entry) → number ≡ n
+handed_if true n number (Some e) entry h = ap (λ (x : Option (ℕ × Entry)). the x) (sym h)
+  where
+    the : Option (ℕ × Entry) → ℕ
+    the (Some x) = x.0
+    the None = 0
+handed_if true n number None entry h = cc
+handed_if false n number o entry h = cc
+
+-- the number of an entry that is handed out is the next
+handed_number : (group : Group) (number : ℕ) (entry : Entry) → committed group ≡ Some (number, entry) → number ≡ group.front + 1
+handed_number group number entry h = handed_if (nat_lt group.front (commit_front group)) (group.front + 1) number (slice_get group.waiting 0) entry h
+
+pub commit_some : (shard number : ℕ) (entry : Entry) (core : Core) → committed (group_of shard core) ≡ Some (number, entry)
+    → take_handed shard number entry (change_group shard take_committed core) ≡ commit_next shard core
+commit_some shard number entry core h =
+    let n : number ≡ front_of shard core + 1 = handed_number (group_of shard core) number entry h in
+    let one : take_handed shard number entry (change_group shard take_committed core) ≡ take_effect shard entry core =
+        ap (λ m. take_handed shard m entry (change_group shard take_committed core)) n in
+    one ∙ sym (ap (λ o. change_with o (λ e. take_effect shard e.1) core) h)
+
+pub commit_none : (shard : ℕ) (core : Core) → committed (group_of shard core) ≡ None → change_group shard take_committed core ≡ commit_next shard core
+commit_none shard core h =
+    let same : take_committed (group_of shard core) ≡ group_of shard core = rw h refl in
+    let groups : slice_set core.groups shard (take_committed (group_of shard core)) ≡ core.groups =
+        ap (slice_set core.groups shard) same ∙ set-get_or core.groups shard (new_group (shape_of core) shard 0 0 []) in
+    ap (λ gs. record core { groups = gs }) groups ∙ sym (ap (λ o. change_with o (λ e. take_effect shard e.1) core) h)
+
+-- what is told of an entry does not depend on what it sent
+pub after_sends : (shard : ℕ) (entry : Entry) (effect : Effect) (core : Core)
+    → after_entry shard entry (record { what = effect.what; sends = []; removed = effect.removed }) core ≡ after_entry shard entry effect core
+after_sends shard (kind.View view) effect core = refl
+after_sends shard (kind.Block line least bytes) effect core = refl
+after_sends shard (kind.Mark line least block a) effect core = refl
+after_sends shard (kind.Root line held a key) effect core = refl
+after_sends shard (kind.Drop line key) effect core = refl
+after_sends shard (kind.Enter line epoch) effect core = refl
+after_sends shard (kind.Got from epoch round total deltas) effect core = refl
+after_sends shard (kind.Base view epoch swept round frames) effect core = refl
+after_sends shard (kind.KeptBlock born mark flags count bytes) effect core = refl
+after_sends shard (kind.KeptRoot created dropped counted address key) effect core = refl
+after_sends shard (kind.KeptRound way other epoch round total deltas) effect core = refl
