@@ -1,9 +1,11 @@
 -- What happens for a shard or a peer that the store does not have.
-use Rattle.std.proofs.Common.{◌≡◌, ◌∙◌, sym, ap, ℕ, ◌≤◌, List, [], length, Option, None, refl}
+use Rattle.std.proofs.Common.{◌≡◌, ◌∙◌, sym, ap, ℕ, ◌≤◌, ◌<◌, ◌*◌, List, [], length, Option, None, refl, arith}
 use Rattle.std.proofs.lemmas.List.{get_or_past, set_past}
+use Rattle.std.proofs.lemmas.Nat.{le-div}
 use Rattle.std.specs.Prelude.{slice_index_or, slice_set}
 use Rattle.hs_core.specs.Effects.{commit}
 use Rattle.hs_core.specs.Failing.{go_down, leave}
+use Rattle.hs_core.specs.Keeping.{IsCore}
 use Rattle.hs_core.specs.Looking.{group_of, home, lead_of, shape_of, status_of}
 use Rattle.hs_core.specs.Operating.{propose_entry}
 use Rattle.hs_core.specs.State.{Core}
@@ -30,5 +32,9 @@ no_status peer core h = get_or_past core.members.statuses peer Down h
 no_lead : (shard : ℕ) (core : Core) → length core.groups ≤ shard → lead_of shard core ≡ None
 no_lead shard core h = rw (no_group shard core h) refl
 
-pub go_down_nowhere : (peer : ℕ) (core : Core) → length core.members.statuses ≤ peer → length core.groups ≤ home peer core → leave peer core ≡ go_down peer core
-go_down_nowhere peer core p h = sym (rw (no_status peer core p, no_lead (home peer core) core h) refl)
+pub go_down_nowhere : (peer : ℕ) (core : Core) → IsCore core → (shape_of core).shards * (shape_of core).copies ≤ peer → leave peer core ≡ go_down peer core
+go_down_nowhere peer core is h =
+    let statuses : length core.members.statuses ≤ peer = omega (arith, is.members.statuses, h) in
+    let past : (shape_of core).shards ≤ home peer core = le-div (shape_of core).shards peer (shape_of core).copies (omega (arith, is.members.shape.some_copy)) h in
+    let groups : length core.groups ≤ home peer core = omega (arith, is.groups, past) in
+    sym (rw (no_status peer core statuses, no_lead (home peer core) core groups) refl)

@@ -62,3 +62,10 @@ pub record GivesUp (event : Event) (at : ℕ) (old new : Core) : Type 0 where
   pub last_line : new.last_line ≡ last_line_after event old
   pub limits : new.limits ≡ old.limits
   pub shape : new.members.shape ≡ old.members.shape
+
+-- what an event leaves of a core, whatever it does
+pub record GoesOn (event : Event) (at : ℕ) (old new : Core) : Type 0 where
+  pub shape : new.members.shape ≡ old.members.shape
+  pub limits : new.limits ≡ old.limits
+  pub moment : old.ended ≡ None → new.moment ≡ at
+  pub last_line : old.ended ≡ None → new.last_line ≡ last_line_after event old

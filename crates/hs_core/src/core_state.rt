@@ -194,8 +194,8 @@ impl Core {
         &self.groups[usize::from(shard)]
     }
 
-    /// The shape of the store.
-    pub(crate) fn shape(&self) -> Shape
+    /// The shape of the store. It takes no memory.
+    pub fn shape(&self) -> Shape
         ensures value { result ≡ self.now.members.shape }
         ensures kept { IsCore self.now }
     {

@@ -28,6 +28,10 @@ impl Core {
     pub(crate) fn end_event(&mut self) -> Result<(), NoMemory>
         ensures ok { OnOk result (self.new ≡ end_event self.old) }
         ensures kept { OnErr result (Kept self.old self.new) }
+        ensures moves { Kept (record self.old {
+          journal = self.new.journal;
+          refused = self.new.refused;
+        }) self.new }
     {
         let entries = replace(&mut self.entries, Vec::new(self.alloc));
         let length = self.journal.entries().len().saturating_add(entries.len());

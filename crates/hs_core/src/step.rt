@@ -1,7 +1,7 @@
 //! One event of the core.
 ghost use Rattle.std.specs.Prelude.{◌≡◌, ◌≤◌, OnErr, OnOk, Some, true};
-ghost use Rattle.hs_core.specs.Calls.{GivesUp, IsNextLine, Steps, last_line_after, outcome_of, ran_out};
-ghost use Rattle.hs_core.specs.Keeping.{Kept, Stays};
+ghost use Rattle.hs_core.specs.Calls.{GivesUp, GoesOn, IsNextLine, Steps, last_line_after, outcome_of, ran_out};
+ghost use Rattle.hs_core.specs.Keeping.{Kept, Moves, Stays};
 ghost use Rattle.hs_core.specs.Step.{begin_event, do_event, is_first_line, line_of, run_event};
 ghost use Rattle.hs_desk.specs.declared.fault.CoreFault.TheVariants as fault;
 
@@ -23,6 +23,7 @@ impl Core {
         ensures steps { Steps event moment self.old self.new result }
         ensures gave_up { ran_out self.old result ≡ true
             → GivesUp event moment self.old self.new }
+        ensures goes { GoesOn event moment self.old self.new }
     {
         if let Some(fault) = self.ended {
             return Err(fault);
@@ -82,6 +83,7 @@ impl Core {
         requires { IsNextLine self.old event }
         ensures ok { OnOk result (self.new ≡ run_event event moment self.old) }
         ensures kept { OnErr result (Stays self.old self.new) }
+        ensures moves { Moves event moment self.old self.new }
     {
         self.begin_event(line_of(&event), moment);
         self.do_event(event)?;
@@ -91,7 +93,10 @@ impl Core {
     /// The event's moment, and its line, where it has one.
     fn begin_event(&mut self, line: u64, moment: u64)
         ensures ok { self.new ≡ begin_event line moment self.old }
-        ensures kept { Stays self.old self.new }
+        ensures kept { Kept (record self.old {
+          moment = moment;
+          event_line = self.new.event_line;
+        }) self.new }
     {
         self.first_line(line);
         self.moment = moment;
@@ -114,7 +119,8 @@ impl Core {
     fn do_event(&mut self, event: Event) -> Result<(), NoMemory>
         requires { IsNextLine self.old event }
         ensures ok { OnOk result (self.new ≡ do_event event self.old) }
-        ensures kept { Stays self.old self.new }
+        ensures kept { Kept (record self.old { last_line = last_line_after event self.old })
+            self.new }
     {
         match event {
             Event::Line { line, op } => self.begin_line(line, op),
