@@ -3,7 +3,7 @@ ghost use Rattle.std.specs.Prelude.{◌≡◌, ◌∷◌, ◌++◌, ◌<◌, ◌
 ghost use Rattle.hs_journal.specs.declared.fault.JournalFault.TheVariants as fault;
 
 use crate::{JournalEntry, JournalFault};
-use std::alloc::Global;
+use std::alloc::{AllocError, Global};
 use std::marker::Model;
 
 /// The entries so far, in the order in which they were made, and how many there may be.
@@ -59,7 +59,7 @@ impl Journal {
         if self.is_full() {
             return Err(JournalFault::OpsFull);
         }
-        match self.entries.push(entry) {
+        match push_item(&mut self.entries, entry) {
             Ok(()) => Ok(()),
             Err(_) => Err(JournalFault::NoMemory),
         }
@@ -87,4 +87,13 @@ impl Journal {
         }
         Ok(())
     }
+}
+
+/// Adds an item at the end. Without memory nothing changes.
+fn push_item<T: Drop>(items: &mut Vec<T>, item: T) -> Result<(), AllocError>
+    ensures ok { OnOk result (items.new.items ≡ items.old.items ++ item ∷ []) }
+    ensures same { OnErr result (items.new.items ≡ items.old.items) }
+{
+    items.push(item)?;
+    Ok(())
 }
