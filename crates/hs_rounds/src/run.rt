@@ -129,7 +129,6 @@ impl Run {
     }
 
     /// Whether a round that is open or waits has come from some shard. It takes no memory.
-    #[tactic(auto, using(crate::proofs::ComeLemmas::come_from_some))]
     pub fn has_come(&self, epoch: u64, round: u32) -> bool
         ensures { result ≡ has_come epoch round self.now }
     {
