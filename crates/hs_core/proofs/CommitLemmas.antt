@@ -34,12 +34,11 @@ times_begin f n x =
 
 -- ---- one of them
 
-handed_if : (b : Bool) (n number : ℕ) (o : Option Entry) (entry : Entry) → (if b then option_map (λ e. (n, e)) o else None) ≡ Some (number, entry) → number ≡ n
-handed_if true n number (Some e) entry h = ap (λ (x : Option (ℕ × Entry)). the x) (sym h)
-  where
-    the : Option (ℕ × Entry) → ℕ
-    the (Some x) = x.0
-    the None = 0
+abbrev numbered : ℕ → Entry → ℕ × Entry
+numbered n entry = (n, entry)
+
+handed_if : (b : Bool) (n number : ℕ) (o : Option Entry) (entry : Entry) → (if b then option_map (numbered n) o else None) ≡ Some (number, entry) → number ≡ n
+handed_if true n number (Some e) entry h = cc
 handed_if true n number None entry h = cc
 handed_if false n number o entry h = cc
 

@@ -1,25 +1,30 @@
 -- What happens for a shard or a peer that the store does not have.
-use Rattle.std.proofs.Common.{◌≡◌, ◌∙◌, sym, ap, ℕ, ◌≤◌, ◌<◌, ◌*◌, List, [], length, Option, None, refl, arith}
+use Rattle.std.proofs.Common.{◌≡◌, ◌∙◌, sym, ap, ℕ, ◌≤◌, ◌<◌, ◌*◌, ◌-◌, List, [], length, Option, None, refl, arith}
 use Rattle.std.proofs.lemmas.List.{get_or_past, set_past}
 use Rattle.std.proofs.lemmas.Nat.{le-div}
 use Rattle.std.specs.Prelude.{slice_index_or, slice_set}
-use Rattle.hs_core.specs.Effects.{commit}
+use Rattle.hs_core.specs.Effects.{commit, commit_next}
 use Rattle.hs_core.specs.Failing.{go_down, leave}
 use Rattle.hs_core.specs.Keeping.{IsCore}
-use Rattle.hs_core.specs.Looking.{group_of, home, lead_of, shape_of, status_of}
+use Rattle.hs_core.specs.Looking.{front_of, group_of, home, lead_of, shape_of, status_of}
 use Rattle.hs_core.specs.Operating.{propose_entry}
 use Rattle.hs_core.specs.State.{Core}
+use Rattle.hs_core.specs.Words.{times}
 use Rattle.hs_entry.specs.declared.entry.Entry.{Entry}
 use Rattle.hs_limits.specs.declared.limits.PeerStatus.{PeerStatus}
 use Rattle.hs_limits.specs.declared.limits.PeerStatus.TheVariants.{Down}
-use Rattle.hs_replica.specs.Group.{Group, new_group, propose}
+use Rattle.hs_replica.specs.Group.{Group, commit_front, new_group, propose}
 
 -- the group of no shard
 no_group : (shard : ℕ) (core : Core) → length core.groups ≤ shard → group_of shard core ≡ new_group (shape_of core) shard 0 0 []
 no_group shard core h = get_or_past core.groups shard (new_group (shape_of core) shard 0 0 []) h
 
 pub commit_nowhere : (shard : ℕ) (core : Core) → length core.groups ≤ shard → commit shard core ≡ core
-commit_nowhere shard core h = rw (no_group shard core h) refl
+commit_nowhere shard core h =
+    let front : front_of shard core ≡ 0 = ap (λ (g : Group). g.front) (no_group shard core h) in
+    let top : commit_front (group_of shard core) ≡ 0 = ap commit_front (no_group shard core h) in
+    let none : commit_front (group_of shard core) - front_of shard core ≡ 0 = omega (arith, front, top) in
+    ap (λ n. times n (commit_next shard) core) none
 
 pub propose_nowhere : (shard : ℕ) (entry : Entry) (core : Core) → length core.groups ≤ shard → propose_entry shard entry core ≡ core
 propose_nowhere shard entry core h = rw (set_past core.groups shard (propose entry (group_of shard core)) h, no_group shard core h) refl
