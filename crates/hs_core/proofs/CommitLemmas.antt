@@ -34,26 +34,7 @@ times_begin f n x =
 
 -- ---- one of them
 
-abbrev numbered : ℕ → Entry → ℕ × Entry
-numbered n entry = (n, entry)
-
-handed_if : (b : Bool) (n number : ℕ) (o : Option Entry) (entry : Entry) → (if b then option_map (numbered n) o else None) ≡ Some (number, entry) → number ≡ n
-handed_if true n number (Some e) entry h = cc
-handed_if true n number None entry h = cc
-handed_if false n number o entry h = cc
-
--- the number of an entry that is handed out is the next
-handed_number : (group : Group) (number : ℕ) (entry : Entry) → committed group ≡ Some (number, entry) → number ≡ group.front + 1
-handed_number group number entry h = handed_if (nat_lt group.front (commit_front group)) (group.front + 1) number (slice_get group.waiting 0) entry h
-
-pub commit_some : (shard number : ℕ) (entry : Entry) (core : Core) → committed (group_of shard core) ≡ Some (number, entry)
-    → take_handed shard number entry (change_group shard take_committed core) ≡ commit_next shard core
-commit_some shard number entry core h =
-    let n : number ≡ front_of shard core + 1 = handed_number (group_of shard core) number entry h in
-    let one : take_handed shard number entry (change_group shard take_committed core) ≡ take_effect shard entry core =
-        ap (λ m. take_handed shard m entry (change_group shard take_committed core)) n in
-    one ∙ sym (ap (λ o. change_with o (λ e. take_effect shard e.1) core) h)
-
+-- nothing changes where there is none
 pub commit_none : (shard : ℕ) (core : Core) → committed (group_of shard core) ≡ None → change_group shard take_committed core ≡ commit_next shard core
 commit_none shard core h =
     let same : take_committed (group_of shard core) ≡ group_of shard core = rw h refl in

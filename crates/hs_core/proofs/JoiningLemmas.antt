@@ -2,6 +2,8 @@
 use Rattle.std.proofs.Common.{◌≡◌, ◌∙◌, sym, ap, ℕ, ◌+◌, ◌-◌, ◌<◌, ◌≤◌, suc, zero, Bool, true, false, List, [], ◌∷◌, refl, arith}
 use Rattle.std.specs.List.{range_with_len}
 use Rattle.std.specs.Prelude.{filter}
+use Rattle.hs_core.specs.Joining.{begin_joining}
+use Rattle.hs_core.specs.State.{Core}
 use Rattle.hs_core.specs.Words.{change_if, each}
 
 -- those from a number on
@@ -16,7 +18,7 @@ each_from_next {A} test f first i n x h =
     rw (d, at) (go (test (first + i)) refl)
   where
     go : (b : Bool) → test (first + i) ≡ b
-        → each (filter test (first + i ∷ range_with_len ((first + i) + 1) (n - (i + 1)))) f x
+        → each (filter test ((first + i) ∷ range_with_len ((first + i) + 1) (n - (i + 1)))) f x
         ≡ each (filter test (range_with_len ((first + i) + 1) (n - (i + 1)))) f (change_if (test (first + i)) (f (first + i)) x)
     go true e = rw e refl
     go false e = rw e refl
@@ -31,3 +33,8 @@ each_from_begin test f first n x =
     let d : n - 0 ≡ n = omega arith in
     let at : first + 0 ≡ first = omega arith in
     rw (d, at) refl
+
+-- a peer that begins to join leaves all statuses
+pub members_if : (b : Bool) (peer : ℕ) (core : Core) → (change_if b (begin_joining peer) core).members ≡ core.members
+members_if true peer core = refl
+members_if false peer core = refl

@@ -3,6 +3,7 @@ mod DeletionExamples
 mod Driving
 mod Examples
 mod JoiningLemmas
+mod KeptLemmas
 mod LeadLemmas
 mod LimitExamples
 mod NowhereLemmas

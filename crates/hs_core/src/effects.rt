@@ -34,7 +34,6 @@ impl Core {
     }
 
     /// The next entry that every good peer is known to have sealed takes effect, if there is one.
-    #[tactic(auto, using(crate::proofs::CommitLemmas::commit_some, crate::proofs::CommitLemmas::commit_none))]
     fn commit_next(&mut self, shard: u8) -> Result<(), NoMemory>
         requires { IsShard self.old.members.shape shard }
         ensures ok { OnOk result (self.new ≡ commit_next shard self.old) }
