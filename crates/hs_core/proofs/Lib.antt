@@ -1,9 +1,14 @@
+mod CommitLemmas
 mod DeletionExamples
 mod Driving
 mod Examples
+mod JoiningLemmas
+mod KeptLemmas
 mod LeadLemmas
 mod LimitExamples
+mod NowhereLemmas
 mod OpenLemmas
 mod PeerExamples
 mod RangeLemmas
+mod ReportLemmas
 mod ViewLemmas

@@ -1,10 +1,12 @@
 pub mod Anew
 pub mod Asking
+pub mod Calls
 pub mod Changing
 pub mod Delivering
 pub mod Effects
 pub mod Entering
 pub mod Failing
+pub mod Handing
 pub mod Joining
 pub mod Keeping
 pub mod Looking

@@ -1,9 +1,14 @@
 //! The core: all shards, peers, sessions, operations, messages and jobs, changed by one event at a time.
 #![tactic(auto)]
 
+mod asking;
 mod core_state;
+mod delivering;
+mod effects;
 mod ending;
+mod entering;
 mod event;
+mod failing;
 mod leads;
 mod lists;
 mod new_core;
@@ -13,8 +18,12 @@ mod notes;
 mod open_work;
 mod opening;
 mod queue;
+mod reporting;
+mod step;
+mod stubs;
 mod task;
 mod tasks;
+mod telling;
 mod wait;
 mod waiting;
 

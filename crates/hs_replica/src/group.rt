@@ -252,6 +252,13 @@ impl Group {
         self.copies[self.index_of(peer)].known
     }
 
+    /// The shard's view. It takes no memory.
+    pub fn view(&self) -> u64
+        ensures { result ≡ self.now.view }
+    {
+        self.view
+    }
+
     /// The entries of the lead's list that were not handed out, in order. It takes no memory.
     pub fn waiting(&self) -> &[Entry]
         ensures { result.now ≡ self.now.waiting }
