@@ -162,11 +162,9 @@ pub fn open_disk<R: Files<File = File>>(
     }
 }
 
+// Each is opened: the system gives a copy of an open file no number below 3.
 fn hold_three<R: Files<File = File>>(rt: &R) -> io::Result<(File, File, File)> {
-    let first = fs::open(rt, "/")?;
-    let second = first.try_clone()?;
-    let third = first.try_clone()?;
-    Ok((first, second, third))
+    Ok((fs::open(rt, "/")?, fs::open(rt, "/")?, fs::open(rt, "/")?))
 }
 
 fn open_side<R: Files<File = File>>(
