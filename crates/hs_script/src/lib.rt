@@ -13,7 +13,6 @@ mod payload;
 mod print;
 mod put;
 mod read;
-mod shorter;
 mod words;
 mod written;
 

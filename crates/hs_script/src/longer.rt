@@ -18,7 +18,6 @@ use hs_model::{Command, Op};
 use std::alloc::Global;
 
 /// What stands behind `root`: a session, a key and a handle.
-#[inline(never)]
 pub(crate) fn read_root(alloc: Global, rest: &[u8]) -> Result<Command, ScriptFault>
     ensures { ReadsCommand result (says_by
         (λ p. command.Client (op.Root p.0 p.1.0 p.1.1))

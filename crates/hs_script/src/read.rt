@@ -6,10 +6,7 @@ ghost use Rattle.hs_script.specs.Reading.{command_of, driving_line, line_of, rea
 
 use crate::ScriptFault;
 use crate::longer::{read_root, read_write};
-use crate::parts::{message, no_word, peer};
-use crate::shorter::{
-    read_close, read_drop, read_forget, read_look, read_name, read_open, read_read,
-};
+use crate::parts::{key, message, no_word, peer, session, session_and_handle, session_and_key};
 use crate::words::split_word;
 use hs_model::{Command, Op};
 use std::alloc::Global;
@@ -49,23 +46,30 @@ fn read_verb(alloc: Global, verb: &[u8], rest: &[u8]) -> Result<Command, ScriptF
     ensures { ReadsCommand result (line_of verb.now (more_words rest.now)) }
 {
     if verb == b"open".as_slice() {
-        read_open(alloc, rest)
+        let session = session(alloc, rest)?;
+        Ok(Command::Client(Op::Open { session }))
     } else if verb == b"close".as_slice() {
-        read_close(alloc, rest)
+        let session = session(alloc, rest)?;
+        Ok(Command::Client(Op::Close { session }))
     } else if verb == b"write".as_slice() {
         read_write(alloc, rest)
     } else if verb == b"read".as_slice() {
-        read_read(alloc, rest)
+        let (session, handle) = session_and_handle(alloc, rest)?;
+        Ok(Command::Client(Op::Read { session, handle }))
     } else if verb == b"look".as_slice() {
-        read_look(alloc, rest)
+        let (session, key) = session_and_key(alloc, rest)?;
+        Ok(Command::Client(Op::Look { session, key }))
     } else if verb == b"root".as_slice() {
         read_root(alloc, rest)
     } else if verb == b"drop".as_slice() {
-        read_drop(alloc, rest)
+        let key = key(alloc, rest)?;
+        Ok(Command::Client(Op::Drop { key }))
     } else if verb == b"forget".as_slice() {
-        read_forget(alloc, rest)
+        let (session, handle) = session_and_handle(alloc, rest)?;
+        Ok(Command::Client(Op::Forget { session, handle }))
     } else if verb == b"name".as_slice() {
-        read_name(alloc, rest)
+        let (session, handle) = session_and_handle(alloc, rest)?;
+        Ok(Command::Client(Op::Name { session, handle }))
     } else if verb == b"delete".as_slice() {
         no_word(rest)?;
         Ok(Command::Client(Op::Delete))
@@ -79,7 +83,6 @@ fn read_verb(alloc: Global, verb: &[u8], rest: &[u8]) -> Result<Command, ScriptF
 
 /// The command of a line that drives the store.
 #[tactic(auto, unfolding(crate::specs::Reading::driving_line))]
-#[inline(never)]
 fn read_driving(verb: &[u8], rest: &[u8]) -> Result<Command, ScriptFault>
     ensures { ReadsCommand result (driving_line verb.now (more_words rest.now)) }
 {

@@ -9,6 +9,7 @@ use crate::side_file::SideFile;
 use hs_ports::{Disk, PortFault, Side, Watch};
 use std::alloc::Global;
 use std::fs::{File, OpenFile, OpenOptions, TryLockError};
+use std::os::fd::AsRawFd;
 use std::os::unix::fs::FileExt;
 use std::rt::Files;
 use std::{fs, io};
@@ -137,8 +138,8 @@ pub fn open_disk<R: Files<File = File>>(
     peer: usize,
 ) -> FileDisk<File> {
     // A file that is opened while a standard stream is closed gets that stream's number, and
-    // would be read as input or written as output. These three take such numbers meanwhile.
-    let held = match hold_three(rt) {
+    // would be read as input or written as output. These take such numbers meanwhile.
+    let held = match hold_streams(rt) {
         Ok(held) => held,
         Err(reason) => return FileDisk::failed(Side::Zero, Deed::Open, reason),
     };
@@ -162,11 +163,14 @@ pub fn open_disk<R: Files<File = File>>(
     }
 }
 
-fn hold_three<R: Files<File = File>>(rt: &R) -> io::Result<(File, File, File)> {
+// The system gives a file the lowest free number: where the first is above 2 no stream is closed. (A
+// copy of an open file would get none below 3.)
+fn hold_streams<R: Files<File = File>>(rt: &R) -> io::Result<(File, Option<(File, File)>)> {
     let first = fs::open(rt, "/")?;
-    let second = first.try_clone()?;
-    let third = first.try_clone()?;
-    Ok((first, second, third))
+    if first.as_raw_fd() > 2 {
+        return Ok((first, None));
+    }
+    Ok((first, Some((fs::open(rt, "/")?, fs::open(rt, "/")?))))
 }
 
 fn open_side<R: Files<File = File>>(
