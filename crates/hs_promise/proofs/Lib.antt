@@ -3,5 +3,6 @@ mod Entering
 mod Meeting
 mod Rejoining
 mod Stopping
+mod Told
 mod Whole
 mod Wording

@@ -53,7 +53,7 @@ found = record {
 moments_rise : MomentsRise 0 (all_events story) 0
 moments_rise = (le, (le, (le, (le, (le, (le, (le, (le, (le, (le, (le, (le, (le, (le, (le, (le, (le, (le, (le, (le, (le, (le, (le, (le, (le, (le, (le, (le, (le, (le, (le, (le, (le, (le, (le, (le, (le, (le, (le, (le, (le, (le, (le, le)))))))))))))))))))))))))))))))))))))))))))
 
-no_rise : (count : ℕ) → RoseBy 0 count count
+pub no_rise : (count : ℕ) → RoseBy 0 count count
 no_rise count = omega arith
 
 went : Went script ran story

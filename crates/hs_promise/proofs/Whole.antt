@@ -33,7 +33,7 @@ few : (n : ℕ) → n ≡ 5 → n ≤ 1048576
 few n five = omega (arith, five)
 
 -- none of the store
-abbrev is_of_store : JournalEntry → Bool
+abbrev pub is_of_store : JournalEntry → Bool
 is_of_store entry = by entry.who
   where
     by : Who → Bool
@@ -53,7 +53,7 @@ none_of_store (suc (suc (suc zero))) = refl
 none_of_store (suc (suc (suc (suc zero)))) = refl
 none_of_store (suc (suc (suc (suc (suc place))))) = refl
 
-store_is : (note : JournalEntry) → note.who ≡ who.Store → is_of_store note ≡ true
+pub store_is : (note : JournalEntry) → note.who ≡ who.Store → is_of_store note ≡ true
 store_is note store = ap (λ w. is_of_store (record note { who = w })) store
 
 no_note : (place peer line : ℕ) → IsDownAt ran.journal place peer line → ⊥
@@ -82,7 +82,7 @@ prompt (suc (suc (suc (suc (suc (suc (suc (suc (suc (suc (suc (suc (suc (suc (su
 
 -- ---- all of it
 
-abbrev begins_with_items : List CourseItem → Bool
+abbrev pub begins_with_items : List CourseItem → Bool
 begins_with_items [] = false
 begins_with_items (i ∷ items) = true
 
@@ -100,7 +100,7 @@ prints = record {
   in_time = λ m behind during. record { count = 0; put = refl };
 }
 
-same : (count : ℕ) → count ≤ count
+pub same : (count : ℕ) → count ≤ count
 same count = omega arith
 
 the_promise_is_kept : Promise ⊥ script ran
