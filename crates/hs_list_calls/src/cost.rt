@@ -3,16 +3,13 @@ ghost use Rattle.std.specs.Prelude.{◌≡◌, None, OnOk};
 ghost use Rattle.hs_entry.specs.Reading.{IsReadable};
 ghost use Rattle.hs_peerlog.specs.Lists.{IsReady};
 
-use crate::counted::Counted;
+use crate::counted::{Asked, Counted, since};
 use crate::steps::{blank, recover, spelled};
 use hs_entry::Entry;
 use hs_peerlog::{LogFault, PeerLog};
 use hs_ports::{Disk, Watch};
 use std::alloc::{AllocError, Global};
 use std::test::Fail;
-
-/// What a call asks of a disk: how many writes and cuts, bytes to write, and syncs.
-type Asked = (u64, u64, u64);
 
 /// What the append and the seal of an entry ask of the disk.
 fn asked_for<D: Disk>(
@@ -32,11 +29,11 @@ fn asked_for<D: Disk>(
     let Some(number) = log.last().checked_add(1) else {
         return Err(LogFault::NoMemory);
     };
-    disk.take();
+    let before = disk.asked();
     log.append(disk, watch, number, entry)?;
-    let append = disk.take();
+    let between = disk.asked();
     log.seal(disk, watch)?;
-    Ok((append, disk.take()))
+    Ok((since(before, between), since(between, disk.asked())))
 }
 
 /// The payload of an entry that stores a block of so many bytes, below 256.

@@ -1,8 +1,10 @@
 //! A disk that counts what it is asked to change.
 use hs_ports::{Disk, PortFault, Side, Watch};
 
-/// A disk, and what it was asked since the count began: how often to write or cut, how many bytes to
-/// write, and how often to sync.
+/// What a disk was asked: how often to write or cut, how many bytes to write, and how often to sync.
+pub(crate) type Asked = (u64, u64, u64);
+
+/// A disk, and what it was asked so far.
 #[derive(Drop)]
 pub(crate) struct Counted<D> {
     disk: D,
@@ -22,15 +24,19 @@ impl<D: Disk> Counted<D> {
         }
     }
 
-    /// What was asked since the last call: writes and cuts, bytes to write, syncs. The count begins
-    /// again.
-    pub(crate) fn take(&mut self) -> (u64, u64, u64) {
-        let asked = (self.changes, self.bytes, self.syncs);
-        self.changes = 0;
-        self.bytes = 0;
-        self.syncs = 0;
-        asked
+    /// What was asked so far.
+    pub(crate) fn asked(&self) -> Asked {
+        (self.changes, self.bytes, self.syncs)
     }
+}
+
+/// What was asked since then.
+pub(crate) fn since(then: Asked, now: Asked) -> Asked {
+    (
+        now.0.saturating_sub(then.0),
+        now.1.saturating_sub(then.1),
+        now.2.saturating_sub(then.2),
+    )
 }
 
 impl<D: Disk> Disk for Counted<D> {

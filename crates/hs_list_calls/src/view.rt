@@ -35,6 +35,7 @@ fn a_view_writes_nothing(rt: HostRuntime) -> Result<(), Fail> {
     let mut watch = Watch::new();
     let empty = PeerView::read(rt.alloc(), &mut disk, &mut watch, SHAPE, 1)?;
     assert_eq!(rt; (empty.last(), empty.rank().view), (0, 0));
-    assert_eq!(rt; disk.take(), (0, 0, 2));
+    let (changes, bytes, _syncs) = disk.asked();
+    assert_eq!(rt; (changes, bytes), (0, 0));
     Ok(())
 }
