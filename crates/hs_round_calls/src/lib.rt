@@ -1,7 +1,5 @@
-//! Public calls of one shard's rounds and of its catalogue.
+//! Public calls of one shard's rounds.
 #![tactic(auto)]
 
-#[cfg(test)]
-mod catalogue;
 #[cfg(test)]
 mod rounds;

@@ -1,5 +1,7 @@
 //! A run of two rounds.
-use hs_limits::Shape;
+ghost use Rattle.hs_rounds.specs.Changes.{AreChanges};
+
+use hs_limits::{Delta, Shape};
 use hs_rounds::{Run, RunFault};
 use std::alloc::Global;
 use std::test::Fail;
@@ -13,15 +15,22 @@ fn one_shard(alloc: Global) -> Run {
     Run::new(alloc, shape, 0)
 }
 
+/// No changes.
+fn none(alloc: Global) -> Vec<Delta>
+    ensures { AreChanges result.items }
+{
+    Vec::new(alloc)
+}
+
 /// What the shard tells itself for a round, without changes.
 fn got(alloc: Global, run: &mut Run, round: u32, total: u32) -> Result<(), RunFault> {
-    run.got(0, 2, round, total, Vec::new(alloc))
+    run.got(0, 2, round, total, none(alloc))
 }
 
 /// Goes on where the open round is complete and not the last.
 fn go_on(alloc: Global, run: &mut Run) -> Result<(), RunFault> {
     if run.complete() && !run.last() {
-        run.go_on(0, Vec::new(alloc))?;
+        run.go_on(0, none(alloc))?;
     }
     Ok(())
 }
@@ -36,7 +45,7 @@ fn finish(run: &mut Run) {
 /// A run whose round 0 of epoch 2 is open.
 fn entered(alloc: Global) -> Result<Run, RunFault> {
     let mut run = one_shard(alloc);
-    run.enter(2, Vec::new(alloc))?;
+    run.enter(2, none(alloc))?;
     Ok(run)
 }
 
