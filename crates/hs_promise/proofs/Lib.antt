@@ -1,5 +1,6 @@
 mod Deleting
 mod Entering
+mod Full
 mod Meeting
 mod Rejoining
 mod Stopping
