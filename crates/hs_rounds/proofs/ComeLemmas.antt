@@ -74,8 +74,9 @@ told_come epoch round (e ∷ es) h = come_first epoch round e es (is_of epoch ro
 range_any : (p : ℕ → Bool) (s n k : ℕ) → s ≤ k → k < s + n → p k ≡ true → list_any p (range_with_len s n) ≡ true
 range_any p s zero k low high h = absurd (omega arith)
 range_any p s (suc n) k low high h = elim (cases_eq s k) [
-    inl e ↦ first_any p s (range_with_len (s + 1) n) (ap p e ∙ h)
-  | inr d ↦ later_any p s (range_with_len (s + 1) n) (range_any p (s + 1) n k (omega (arith, d)) (omega arith) h) ]
+  | inl e ↦ first_any p s (range_with_len (s + 1) n) (ap p e ∙ h)
+  | inr d ↦ later_any p s (range_with_len (s + 1) n) (range_any p (s + 1) n k (omega (arith, d)) (omega arith) h)
+]
 
 abbrev Passes : (ℕ → Bool) → Type 0
 Passes p = (k : ℕ) × (p k ≡ true)
