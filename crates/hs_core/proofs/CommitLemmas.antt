@@ -1,19 +1,16 @@
 -- All committed entries, one at a time.
-use Rattle.std.proofs.Common.{◌≡◌, ◌∙◌, sym, ap, ℕ, ◌+◌, ◌-◌, ◌<◌, ◌≤◌, suc, Bool, true, false, List, [], Option, Some, None, refl, arith}
+use Rattle.std.proofs.Common.{◌≡◌, ◌∙◌, sym, ap, ℕ, ◌+◌, ◌-◌, ◌<◌, ◌≤◌, suc, [], None, refl, arith}
 use Rattle.std.proofs.lemmas.List.{set-get_or}
-use Rattle.std.specs.Option.{option_map}
-use Rattle.std.specs.Prelude.{nat_lt, slice_get, slice_index_or, slice_set, if◌then◌else◌}
+use Rattle.std.specs.Prelude.{slice_set}
 use Rattle.hs_core.specs.Changing.{change_group}
 use Rattle.hs_core.specs.Effects.{after_entry, commit_next, take_effect}
-use Rattle.hs_core.specs.Handing.{take_handed}
-use Rattle.hs_core.specs.Looking.{front_of, group_of, shape_of}
+use Rattle.hs_core.specs.Looking.{group_of, shape_of}
 use Rattle.hs_core.specs.State.{Core}
-use Rattle.hs_core.specs.Words.{change_with, times, ◌▸◌}
+use Rattle.hs_core.specs.Words.{change_with, times}
 use Rattle.hs_entry.specs.declared.entry.Entry.{Entry}
 use Rattle.hs_entry.specs.declared.entry.Entry.TheVariants as kind
-use Rattle.hs_replica.specs.Group.{Group, commit_front, committed, new_group, take_committed}
+use Rattle.hs_replica.specs.Group.{committed, new_group, take_committed}
 use Rattle.hs_shard.specs.declared.effect.Effect.{Effect}
-use Rattle.hs_shard.specs.declared.effect.Sent.{Sent}
 
 -- ---- so many times
 
@@ -39,7 +36,7 @@ pub commit_none : (shard : ℕ) (core : Core) → committed (group_of shard core
 commit_none shard core h =
     let same : take_committed (group_of shard core) ≡ group_of shard core = rw h refl in
     let groups : slice_set core.groups shard (take_committed (group_of shard core)) ≡ core.groups =
-        ap (slice_set core.groups shard) same ∙ set-get_or core.groups shard (new_group (shape_of core) shard 0 0 []) in
+    ap (slice_set core.groups shard) same ∙ set-get_or core.groups shard (new_group (shape_of core) shard 0 0 []) in
     ap (λ gs. record core { groups = gs }) groups ∙ sym (ap (λ o. change_with o (λ e. take_effect shard e.1) core) h)
 
 -- what is told of an entry does not depend on what it sent

@@ -1,8 +1,7 @@
 -- What happens for a shard or a peer that the store does not have.
-use Rattle.std.proofs.Common.{◌≡◌, ◌∙◌, sym, ap, ℕ, ◌≤◌, ◌<◌, ◌*◌, ◌-◌, List, [], length, Option, None, refl, arith}
+use Rattle.std.proofs.Common.{◌≡◌, sym, ap, ℕ, ◌≤◌, ◌*◌, ◌-◌, [], length, None, refl, arith}
 use Rattle.std.proofs.lemmas.List.{get_or_past, set_past}
 use Rattle.std.proofs.lemmas.Nat.{le-div}
-use Rattle.std.specs.Prelude.{slice_index_or, slice_set}
 use Rattle.hs_core.specs.Effects.{commit, commit_next}
 use Rattle.hs_core.specs.Failing.{go_down, leave}
 use Rattle.hs_core.specs.Keeping.{IsCore}
@@ -11,7 +10,6 @@ use Rattle.hs_core.specs.Operating.{propose_entry}
 use Rattle.hs_core.specs.State.{Core}
 use Rattle.hs_core.specs.Words.{times}
 use Rattle.hs_entry.specs.declared.entry.Entry.{Entry}
-use Rattle.hs_limits.specs.declared.limits.PeerStatus.{PeerStatus}
 use Rattle.hs_limits.specs.declared.limits.PeerStatus.TheVariants.{Down}
 use Rattle.hs_replica.specs.Group.{Group, commit_front, new_group, propose}
 

@@ -1,5 +1,5 @@
 -- What a core keeps to.
-use Rattle.std.specs.Prelude.{◌≡◌, ℕ, ◌*◌, ◌<◌, Bool, Option, None, List, [], length, slice_index, slice_index_or, if◌then◌else◌}
+use Rattle.std.specs.Prelude.{◌≡◌, ℕ, ◌*◌, Bool, Option, None, List, [], length, slice_index, slice_index_or, if◌then◌else◌}
 use Rattle.hs_core.specs.declared.event.Event.{Event}
 use Rattle.hs_core.specs.Calls.{last_line_after}
 use Rattle.hs_core.specs.Looking.{copying_step, front_of, group_of, shape_of, status_of}

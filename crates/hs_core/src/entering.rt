@@ -23,13 +23,7 @@ impl Core {
             return Err(NoMemory);
         };
         if self.is_enter_due(shard, next) {
-            self.propose_entry(
-                shard,
-                Entry::Enter {
-                    op: 0,
-                    epoch: next,
-                },
-            )?;
+            self.propose_entry(shard, Entry::Enter { op: 0, epoch: next })?;
         }
         Ok(())
     }

@@ -23,11 +23,7 @@ impl Core {
         ensures kept { Kept self.old self.new }
     {
         let line = self.event_line;
-        self.note(
-            Who::Store,
-            Deed::Nothing,
-            Reply::Down { peer: disk, line },
-        )?;
+        self.note(Who::Store, Deed::Nothing, Reply::Down { peer: disk, line })?;
         let shape = self.shape();
         if disk >= shape.shards * shape.copies {
             return self.leave(disk);

@@ -121,10 +121,7 @@ impl Core {
         Err(NoMemory)
     }
 
-    pub(crate) fn take_committed(
-        &mut self,
-        _shard: u8,
-    ) -> Result<Option<(u64, Entry)>, NoMemory>
+    pub(crate) fn take_committed(&mut self, _shard: u8) -> Result<Option<(u64, Entry)>, NoMemory>
         requires { IsShard self.old.members.shape _shard }
         ensures ok { OnOk result (self.new ≡ change_group _shard take_committed self.old) }
         ensures entry { IfOk result (λ entry. entry ≡ committed (group_of _shard self.old)) }

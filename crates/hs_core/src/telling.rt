@@ -82,5 +82,7 @@ impl Core {
 fn have_swept(catalogues: &[Catalogue], epoch: u64) -> bool
     ensures { result ≡ list_all (λ c. nat_le epoch c.swept) catalogues.now }
 {
-    catalogues.iter().all(|catalogue| epoch <= catalogue.swept())
+    catalogues
+        .iter()
+        .all(|catalogue| epoch <= catalogue.swept())
 }

@@ -1,4 +1,4 @@
-use Rattle.std.proofs.Common.{◌≡◌, ◌∙◌, sym, ap, ℕ, ◌+◌, ◌-◌, ◌*◌, ◌<◌, Bool, arith}
+use Rattle.std.proofs.Common.{◌≡◌, ◌∙◌, sym, ap, ℕ, ◌+◌, ◌-◌, ◌<◌, Bool, arith}
 use Rattle.hs_core.specs.Joining.{begin_joining}
 use Rattle.hs_core.specs.Looking.{status_of}
 use Rattle.hs_core.specs.State.{Core}
