@@ -1,9 +1,14 @@
 mod DeletionExamples
 mod Driving
+mod EntryLemmas
 mod Examples
+mod GoingLemmas
+mod KeptLemmas
 mod LeadLemmas
 mod LimitExamples
 mod OpenLemmas
 mod PeerExamples
 mod RangeLemmas
+mod SeatLemmas
+mod SightLemmas
 mod ViewLemmas

@@ -5,6 +5,7 @@ pub mod Delivering
 pub mod Effects
 pub mod Entering
 pub mod Failing
+pub mod Going
 pub mod Joining
 pub mod Keeping
 pub mod Looking

@@ -1,0 +1,161 @@
+-- An operation goes on: its parts are the whole.
+use Rattle.std.proofs.Common.{◌≡◌, ◌∙◌, sym, ap, ℕ, ◌+◌, not, List, [], Bool, Option, Some, None, option_map, refl, if◌then◌else◌}
+use Rattle.std.specs.BTreeMap.{insert_entry, is_at}
+use Rattle.std.specs.Map.{remove_entry, set_value}
+use Rattle.std.specs.Ordering.{nat_cmp}
+use Rattle.std.specs.Prelude.{false, slice_index_or}
+use Rattle.hs_core.proofs.EntryLemmas.{find_insert, find_set, insert_set, remove_set, set_twice}
+use Rattle.hs_core.proofs.SeatLemmas.{seats_told}
+use Rattle.hs_core.proofs.SightLemmas.{coming_put, gained_alike, seen}
+use Rattle.hs_core.specs.Changing.{add_operation, note, put_operation}
+use Rattle.hs_core.specs.declared.aim.Aim.{Aim}
+use Rattle.hs_core.specs.declared.next.Next.{Next}
+use Rattle.hs_core.specs.declared.next.Next.TheVariants as next
+use Rattle.hs_core.specs.declared.sight.Sight.{Sight}
+use Rattle.hs_core.specs.declared.wait.Wait.{Wait}
+use Rattle.hs_core.specs.declared.wait.Wait.TheVariants as wait
+use Rattle.hs_core.specs.declared.waiting.Waiting.{Waiting}
+use Rattle.hs_core.specs.Going.{aim_of, answer_with, carry_by, given_by, go_by, holds_by, judge_at, next_step, seats_by, set_wait, sight_of, view_by}
+use Rattle.hs_core.specs.Looking.{group_of, lead_of, operation_of, shape_of}
+use Rattle.hs_core.specs.Operating.{add_read, begin_line, busy_line, carry_out, propose_entry, take_step, wait_for, what_holds}
+use Rattle.hs_core.specs.Pending.{is_coming}
+use Rattle.hs_core.specs.Seeing.{pointers_for, view_for}
+use Rattle.hs_core.specs.State.{Core}
+use Rattle.hs_core.specs.Words.{change_with, ◌▸◌}
+use Rattle.hs_entry.specs.declared.entry.Entry.{Entry}
+use Rattle.hs_journal.specs.declared.entry.Who.TheVariants as who
+use Rattle.hs_limits.specs.declared.address.Address.{Address}
+use Rattle.hs_limits.specs.declared.address.Held.{Held}
+use Rattle.hs_model.specs.declared.op.Op.{Op}
+use Rattle.hs_model.specs.declared.reply.Reply.{Reply}
+use Rattle.hs_ops.specs.Answers.{deed_of, gained, seats_after}
+use Rattle.hs_ops.specs.declared.step.OpStep.{OpStep}
+use Rattle.hs_ops.specs.declared.step.OpStep.TheVariants as step
+use Rattle.hs_ops.specs.Operations.{Operation, after_step, go_step, new_operation}
+use Rattle.hs_ops.specs.Speaking.{judging_shard, wanted_address}
+use Rattle.hs_ops.specs.Views.{OpView}
+use Rattle.hs_replica.specs.Group.{last_number}
+use Rattle.hs_tokens.specs.Seats.{Seats}
+
+-- what it is given to hold where it is answered
+abbrev gains : Waiting → Core → List Held
+gains w core = gained (view_for w.shard w.operation.op core) (pointers_for w.shard w.operation.op core) w.operation.op
+
+-- the operation where a step leaves it
+abbrev after : OpStep → Waiting → Waiting
+after s w = record w { operation = after_step s w.operation }
+
+-- ---- what a step asks for, where the operation stands after the step already
+
+module _ (line : ℕ) (w : Waiting) (core : Core) (found : operation_of line core ≡ Some w) where
+  moved : OpStep → Core
+  moved s = put_operation line (after s w) core
+
+  moved_found : (s : OpStep) → operation_of line (moved s) ≡ Some (after s w)
+  moved_found s = find_set (is_at (nat_cmp line)) core.operations w (after s w) found
+
+  waits : (s : OpStep) (what : Wait) → set_wait line what (moved s) ≡ wait_for line (after s w) what core
+  waits s what =
+      let first : set_wait line what (moved s) ≡ wait_for line (after s w) what (moved s) = rw (moved_found s) refl in
+      first ∙ ap (λ ops. record core { operations = ops }) (set_twice (is_at (nat_cmp line)) core.operations (after s w) (record w { operation = after_step s w.operation; wait = what }))
+
+  holds : (s : OpStep) → holds_by (aim_of w.shard w.operation.op core) (moved s) ≡ what_holds (after s w) core
+  holds s =
+      ap (λ b. if not (slice_index_or core.viewed w.shard false) then wait.View else (if b then wait.Address else wait.Room))
+      (coming_put line core w (after s w) found refl w.shard (wanted_address core.sessions w.operation.op))
+
+  answers : (reply : Reply) → (core ▸ put_operation line (after (step.Answer reply) w) ▸ change_with (operation_of line (moved (step.Answer reply))) (answer_with line reply (gains w core)))
+      ≡ take_step line w (step.Answer reply) core
+  answers reply =
+      let s = step.Answer reply in
+      let o : Op = w.operation.op in
+      let make : List (ℕ × Waiting) → Seats → Core = λ ops seats. record (note (who.Line line) (deed_of core.sessions o reply) reply core) { operations = ops; sessions = seats } in
+      let test = is_at (nat_cmp line) in
+      let first : change_with (operation_of line (moved s)) (answer_with line reply (gains w core)) (moved s)
+      ≡ make (remove_entry test (set_value test core.operations (after s w))) (seats_by (deed_of core.sessions o reply) (gains w core) core.sessions) = rw (moved_found s) refl in
+      first
+      ∙ ap (λ ops. make ops (seats_by (deed_of core.sessions o reply) (gains w core) core.sessions)) (remove_set test core.operations (after s w))
+      ∙ ap (make (remove_entry test core.operations)) (seats_told (gains w core) o reply core.sessions)
+
+  pub carried : (s : OpStep) → carry_by (aim_of w.shard w.operation.op core) line s (given_by s (gains w core)) (moved s) ≡ take_step line w s core
+  carried (step.Answer reply) = answers reply
+  carried (step.Propose entry) = ap (propose_entry w.shard entry) (waits (step.Propose entry) (wait.Entry (last_number (group_of w.shard core) + 1)))
+  carried (step.Compare number) = ap (change_with (lead_of w.shard core) (add_read number line)) (waits (step.Compare number) (wait.Bytes number))
+  carried step.Wait = ap (λ what. set_wait line what (moved step.Wait)) (holds step.Wait) ∙ waits step.Wait (what_holds (after step.Wait w) core)
+
+-- ---- one that waits goes on
+
+-- its next step, by what is seen of what it is about
+abbrev step_by : Next → Aim → Option ℕ → Core → Operation → OpStep
+step_by how aim busy core operation = next_step how (sight_of aim core).pointers (view_by (sight_of aim core) aim busy core) operation
+
+abbrev gains_by : Aim → Option ℕ → Core → Op → List Held
+gains_by aim busy core o = gained (view_by (sight_of aim core) aim busy core) (sight_of aim core).pointers o
+
+pub gone : (how : Next) (line : ℕ) (core between last : Core) (aim : Aim) (s : OpStep) (helds : List Held)
+    → option_map (λ w. aim_of w.shard w.operation.op core) (operation_of line core) ≡ Some aim
+    → between ≡ judge_at how (sight_of aim core).pointers (view_by (sight_of aim core) aim None core) line core
+    → ((w : Waiting) → operation_of line core ≡ Some w → s ≡ step_by how aim None core w.operation)
+    → ((w : Waiting) → operation_of line core ≡ Some w → helds ≡ given_by s (gains_by aim None core w.operation.op))
+    → last ≡ carry_by aim line s helds between
+    → last ≡ go_by how line core
+gone how line core between last aim s helds about judged steps gives carries = go (operation_of line core) refl about
+  where
+    go : (o : Option Waiting) → operation_of line core ≡ o → option_map (λ w. aim_of w.shard w.operation.op core) o ≡ Some aim → last ≡ go_by how line core
+    go None e q = cc q
+    go (Some w) e q =
+        let own : aim ≡ aim_of w.shard w.operation.op core = cc q in
+        let o : Op = w.operation.op in
+        let t : OpStep = next_step how (pointers_for w.shard o core) (view_for w.shard o core) w.operation in
+        let view : view_by (sight_of (aim_of w.shard o core) core) (aim_of w.shard o core) None core ≡ view_for w.shard o core = seen w.shard o None core in
+        let stepped : s ≡ t = steps w e ∙ ap (λ a. step_by how a None core w.operation) own ∙ ap (λ v. next_step how (pointers_for w.shard o core) v w.operation) view in
+        let held : gains_by aim None core o ≡ gains w core = ap (λ a. gains_by a None core o) own ∙ ap (λ v. gained v (pointers_for w.shard o core) o) view in
+        let given : helds ≡ given_by t (gains w core) = gives w e ∙ ap (given_by s) held ∙ ap (λ x. given_by x (gains w core)) stepped in
+        let put : judge_at how (sight_of aim core).pointers (view_by (sight_of aim core) aim None core) line core ≡ put_operation line (after (step_by how aim None core w.operation) w) core = rw e refl in
+        let there : between ≡ put_operation line (after t w) core = judged ∙ put ∙ ap (λ x. put_operation line (after x w) core) (sym (steps w e) ∙ stepped) in
+        let whole : take_step line w t core ≡ go_by how line core = rw e refl in
+        carries
+        ∙ ap (λ c. carry_by aim line s helds c) there
+        ∙ ap (λ hs. carry_by aim line s hs (put_operation line (after t w) core)) given
+        ∙ ap (λ x. carry_by aim line x (given_by t (gains w core)) (put_operation line (after t w) core)) stepped
+        ∙ ap (λ a. carry_by a line t (given_by t (gains w core)) (put_operation line (after t w) core)) own
+        ∙ carried line w core e t
+        ∙ whole
+
+-- ---- one of a client's line
+
+pub begun : (line : ℕ) (o : Op) (core last : Core) (s : OpStep) (helds : List Held)
+    → s ≡ step_by next.Go (aim_of (judging_shard (shape_of core).shards core.sessions o) o core) (busy_line o core) (record core { last_line = line }) (new_operation line o)
+    → helds ≡ given_by s (gains_by (aim_of (judging_shard (shape_of core).shards core.sessions o) o core) (busy_line o core) (record core { last_line = line }) o)
+    → last ≡ carry_by (aim_of (judging_shard (shape_of core).shards core.sessions o) o core) line s helds
+    (add_operation line (record {
+      operation = after_step (step_by next.Go (aim_of (judging_shard (shape_of core).shards core.sessions o) o core) (busy_line o core) (record core { last_line = line }) (new_operation line o)) (new_operation line o);
+      shard = judging_shard (shape_of core).shards core.sessions o;
+      wait = wait.View;
+    }) (record core { last_line = line }))
+    → last ≡ begin_line line o core
+begun line o core last s helds steps gives carries =
+    let first : Core = record core { last_line = line } in
+    let shard : ℕ = judging_shard (shape_of core).shards core.sessions o in
+    let aim : Aim = aim_of shard o core in
+    let w : Waiting = record { operation = new_operation line o; shard = shard; wait = wait.View } in
+    let added : Core = add_operation line w first in
+    let v : OpView = record (view_for shard o first) { busy = busy_line o core } in
+    let t : OpStep = go_step v (new_operation line o) in
+    let view : view_by (sight_of aim first) aim (busy_line o core) first ≡ v = seen shard o (busy_line o core) first in
+    let first_step : step_by next.Go aim (busy_line o core) first (new_operation line o) ≡ t = ap (λ x. go_step x (new_operation line o)) view in
+    let stepped : s ≡ t = steps ∙ first_step in
+    let alike : gained v (pointers_for shard o first) o ≡ gains w added =
+    gained_alike (view_for shard o first) (pointers_for shard o first) o (busy_line o core) (view_for shard o first).pending
+    ∙ sym (gained_alike (view_for shard o first) (pointers_for shard o first) o None (view_for shard o added).pending) in
+    let held : gains_by aim (busy_line o core) first o ≡ gains w added = ap (λ x. gained x (pointers_for shard o first) o) view ∙ alike in
+    let given : helds ≡ given_by t (gains w added) = gives ∙ ap (given_by s) held ∙ ap (λ x. given_by x (gains w added)) stepped in
+    let found : operation_of line added ≡ Some w = find_insert line core.operations w in
+    let inserted : add_operation line (after t w) first ≡ put_operation line (after t w) added =
+    ap (λ ops. record first { operations = ops }) (sym (insert_set line core.operations w (after t w))) in
+    carries
+    ∙ ap (λ x. carry_by aim line s helds (add_operation line (after x w) first)) first_step
+    ∙ ap (λ c. carry_by aim line s helds c) inserted
+    ∙ ap (λ hs. carry_by aim line s hs (put_operation line (after t w) added)) given
+    ∙ ap (λ x. carry_by aim line x (given_by t (gains w added)) (put_operation line (after t w) added)) stepped
+    ∙ carried line w added found t
