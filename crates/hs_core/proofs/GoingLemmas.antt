@@ -15,7 +15,7 @@ use Rattle.hs_core.specs.declared.sight.Sight.{Sight}
 use Rattle.hs_core.specs.declared.wait.Wait.{Wait}
 use Rattle.hs_core.specs.declared.wait.Wait.TheVariants as wait
 use Rattle.hs_core.specs.declared.waiting.Waiting.{Waiting}
-use Rattle.hs_core.specs.Going.{aim_of, answer_with, carry_by, given_by, go_by, holds_by, judge_at, next_step, seats_by, set_wait, sight_of, view_by}
+use Rattle.hs_core.specs.Going.{aim_of, answer_with, carry_by, given_by, go_by, gains_by, holds_by, judge_in, judged_by, next_step, seats_by, set_wait, sight_of, step_by, view_by}
 use Rattle.hs_core.specs.Looking.{group_of, lead_of, operation_of, shape_of}
 use Rattle.hs_core.specs.Operating.{add_read, begin_line, busy_line, carry_out, propose_entry, take_step, wait_for, what_holds}
 use Rattle.hs_core.specs.Pending.{is_coming}
@@ -41,30 +41,26 @@ use Rattle.hs_tokens.specs.Seats.{Seats}
 abbrev gains : Waiting → Core → List Held
 gains w core = gained (view_for w.shard w.operation.op core) (pointers_for w.shard w.operation.op core) w.operation.op
 
--- the operation where a step leaves it
-abbrev after : OpStep → Waiting → Waiting
-after s w = record w { operation = after_step s w.operation }
-
 -- ---- what a step asks for, where the operation stands after the step already
 
 module _ (line : ℕ) (w : Waiting) (core : Core) (found : operation_of line core ≡ Some w) where
-  moved : OpStep → Core
-  moved s = put_operation line (after s w) core
+  abbrev moved : OpStep → Core
+  moved s = put_operation line (judged_by s w) core
 
-  moved_found : (s : OpStep) → operation_of line (moved s) ≡ Some (after s w)
-  moved_found s = find_set (is_at (nat_cmp line)) core.operations w (after s w) found
+  moved_found : (s : OpStep) → operation_of line (moved s) ≡ Some (judged_by s w)
+  moved_found s = find_set (is_at (nat_cmp line)) core.operations w (judged_by s w) found
 
-  waits : (s : OpStep) (what : Wait) → set_wait line what (moved s) ≡ wait_for line (after s w) what core
+  waits : (s : OpStep) (what : Wait) → set_wait line what (moved s) ≡ wait_for line (judged_by s w) what core
   waits s what =
-      let first : set_wait line what (moved s) ≡ wait_for line (after s w) what (moved s) = rw (moved_found s) refl in
-      first ∙ ap (λ ops. record core { operations = ops }) (set_twice (is_at (nat_cmp line)) core.operations (after s w) (record w { operation = after_step s w.operation; wait = what }))
+      let first : set_wait line what (moved s) ≡ wait_for line (judged_by s w) what (moved s) = rw (moved_found s) refl in
+      first ∙ ap (λ ops. record core { operations = ops }) (set_twice (is_at (nat_cmp line)) core.operations (judged_by s w) (record w { operation = after_step s w.operation; wait = what }))
 
-  holds : (s : OpStep) → holds_by (aim_of w.shard w.operation.op core) (moved s) ≡ what_holds (after s w) core
+  holds : (s : OpStep) → holds_by (aim_of w.shard w.operation.op core) (moved s) ≡ what_holds (judged_by s w) core
   holds s =
       ap (λ b. if not (slice_index_or core.viewed w.shard false) then wait.View else (if b then wait.Address else wait.Room))
-      (coming_put line core w (after s w) found refl w.shard (wanted_address core.sessions w.operation.op))
+      (coming_put line core w (judged_by s w) found refl w.shard (wanted_address core.sessions w.operation.op))
 
-  answers : (reply : Reply) → (core ▸ put_operation line (after (step.Answer reply) w) ▸ change_with (operation_of line (moved (step.Answer reply))) (answer_with line reply (gains w core)))
+  answers : (reply : Reply) → change_with (operation_of line (moved (step.Answer reply))) (answer_with line reply (gains w core)) (moved (step.Answer reply))
       ≡ take_step line w (step.Answer reply) core
   answers reply =
       let s = step.Answer reply in
@@ -72,29 +68,26 @@ module _ (line : ℕ) (w : Waiting) (core : Core) (found : operation_of line cor
       let make : List (ℕ × Waiting) → Seats → Core = λ ops seats. record (note (who.Line line) (deed_of core.sessions o reply) reply core) { operations = ops; sessions = seats } in
       let test = is_at (nat_cmp line) in
       let first : change_with (operation_of line (moved s)) (answer_with line reply (gains w core)) (moved s)
-      ≡ make (remove_entry test (set_value test core.operations (after s w))) (seats_by (deed_of core.sessions o reply) (gains w core) core.sessions) = rw (moved_found s) refl in
+      ≡ make (remove_entry test (set_value test core.operations (judged_by s w))) (seats_by (deed_of core.sessions o reply) (gains w core) core.sessions) = rw (moved_found s) refl in
       first
-      ∙ ap (λ ops. make ops (seats_by (deed_of core.sessions o reply) (gains w core) core.sessions)) (remove_set test core.operations (after s w))
+      ∙ ap (λ ops. make ops (seats_by (deed_of core.sessions o reply) (gains w core) core.sessions)) (remove_set test core.operations (judged_by s w))
       ∙ ap (make (remove_entry test core.operations)) (seats_told (gains w core) o reply core.sessions)
 
   pub carried : (s : OpStep) → carry_by (aim_of w.shard w.operation.op core) line s (given_by s (gains w core)) (moved s) ≡ take_step line w s core
   carried (step.Answer reply) = answers reply
   carried (step.Propose entry) = ap (propose_entry w.shard entry) (waits (step.Propose entry) (wait.Entry (last_number (group_of w.shard core) + 1)))
   carried (step.Compare number) = ap (change_with (lead_of w.shard core) (add_read number line)) (waits (step.Compare number) (wait.Bytes number))
-  carried step.Wait = ap (λ what. set_wait line what (moved step.Wait)) (holds step.Wait) ∙ waits step.Wait (what_holds (after step.Wait w) core)
+  carried step.Wait = ap (λ what. set_wait line what (moved step.Wait)) (holds step.Wait) ∙ waits step.Wait (what_holds (judged_by step.Wait w) core)
 
 -- ---- one that waits goes on
 
--- its next step, by what is seen of what it is about
-abbrev step_by : Next → Aim → Option ℕ → Core → Operation → OpStep
-step_by how aim busy core operation = next_step how (sight_of aim core).pointers (view_by (sight_of aim core) aim busy core) operation
-
-abbrev gains_by : Aim → Option ℕ → Core → Op → List Held
-gains_by aim busy core o = gained (view_by (sight_of aim core) aim busy core) (sight_of aim core).pointers o
+-- the operation of a line stands after that step
+abbrev judged_at : Next → ℕ → Core → Aim → Core
+judged_at how line core aim = record core { operations = judge_in how (sight_of aim core).pointers (view_by (sight_of aim core) aim None core) line core.operations }
 
 pub gone : (how : Next) (line : ℕ) (core between last : Core) (aim : Aim) (s : OpStep) (helds : List Held)
     → option_map (λ w. aim_of w.shard w.operation.op core) (operation_of line core) ≡ Some aim
-    → between ≡ judge_at how (sight_of aim core).pointers (view_by (sight_of aim core) aim None core) line core
+    → between ≡ judged_at how line core aim
     → ((w : Waiting) → operation_of line core ≡ Some w → s ≡ step_by how aim None core w.operation)
     → ((w : Waiting) → operation_of line core ≡ Some w → helds ≡ given_by s (gains_by aim None core w.operation.op))
     → last ≡ carry_by aim line s helds between
@@ -111,14 +104,14 @@ gone how line core between last aim s helds about judged steps gives carries = g
         let stepped : s ≡ t = steps w e ∙ ap (λ a. step_by how a None core w.operation) own ∙ ap (λ v. next_step how (pointers_for w.shard o core) v w.operation) view in
         let held : gains_by aim None core o ≡ gains w core = ap (λ a. gains_by a None core o) own ∙ ap (λ v. gained v (pointers_for w.shard o core) o) view in
         let given : helds ≡ given_by t (gains w core) = gives w e ∙ ap (given_by s) held ∙ ap (λ x. given_by x (gains w core)) stepped in
-        let put : judge_at how (sight_of aim core).pointers (view_by (sight_of aim core) aim None core) line core ≡ put_operation line (after (step_by how aim None core w.operation) w) core = rw e refl in
-        let there : between ≡ put_operation line (after t w) core = judged ∙ put ∙ ap (λ x. put_operation line (after x w) core) (sym (steps w e) ∙ stepped) in
+        let put : judged_at how line core aim ≡ put_operation line (judged_by (step_by how aim None core w.operation) w) core = rw e refl in
+        let there : between ≡ put_operation line (judged_by t w) core = judged ∙ put ∙ ap (λ x. put_operation line (judged_by x w) core) (sym (steps w e) ∙ stepped) in
         let whole : take_step line w t core ≡ go_by how line core = rw e refl in
         carries
         ∙ ap (λ c. carry_by aim line s helds c) there
-        ∙ ap (λ hs. carry_by aim line s hs (put_operation line (after t w) core)) given
-        ∙ ap (λ x. carry_by aim line x (given_by t (gains w core)) (put_operation line (after t w) core)) stepped
-        ∙ ap (λ a. carry_by a line t (given_by t (gains w core)) (put_operation line (after t w) core)) own
+        ∙ ap (λ hs. carry_by aim line s hs (put_operation line (judged_by t w) core)) given
+        ∙ ap (λ x. carry_by aim line x (given_by t (gains w core)) (put_operation line (judged_by t w) core)) stepped
+        ∙ ap (λ a. carry_by a line t (given_by t (gains w core)) (put_operation line (judged_by t w) core)) own
         ∙ carried line w core e t
         ∙ whole
 
@@ -151,11 +144,11 @@ begun line o core last s helds steps gives carries =
     let held : gains_by aim (busy_line o core) first o ≡ gains w added = ap (λ x. gained x (pointers_for shard o first) o) view ∙ alike in
     let given : helds ≡ given_by t (gains w added) = gives ∙ ap (given_by s) held ∙ ap (λ x. given_by x (gains w added)) stepped in
     let found : operation_of line added ≡ Some w = find_insert line core.operations w in
-    let inserted : add_operation line (after t w) first ≡ put_operation line (after t w) added =
-    ap (λ ops. record first { operations = ops }) (sym (insert_set line core.operations w (after t w))) in
+    let inserted : add_operation line (judged_by t w) first ≡ put_operation line (judged_by t w) added =
+    ap (λ ops. record first { operations = ops }) (sym (insert_set line core.operations w (judged_by t w))) in
     carries
-    ∙ ap (λ x. carry_by aim line s helds (add_operation line (after x w) first)) first_step
+    ∙ ap (λ x. carry_by aim line s helds (add_operation line (judged_by x w) first)) first_step
     ∙ ap (λ c. carry_by aim line s helds c) inserted
-    ∙ ap (λ hs. carry_by aim line s hs (put_operation line (after t w) added)) given
-    ∙ ap (λ x. carry_by aim line x (given_by t (gains w added)) (put_operation line (after t w) added)) stepped
+    ∙ ap (λ hs. carry_by aim line s hs (put_operation line (judged_by t w) added)) given
+    ∙ ap (λ x. carry_by aim line x (given_by t (gains w added)) (put_operation line (judged_by t w) added)) stepped
     ∙ carried line w added found t

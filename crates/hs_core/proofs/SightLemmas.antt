@@ -63,7 +63,7 @@ by_part part f (Some x) = refl
 
 -- another step of an operation leaves what it asks for
 module _ (line : ℕ) (core : Core) (w new : Waiting) (found : operation_of line core ≡ Some w) (same : new.operation.op ≡ w.operation.op) where
-  op_of : Waiting → Op
+  abbrev op_of : Waiting → Op
   op_of x = x.operation.op
 
   asked_put : (other : ℕ) → option_and_then (λ x. wanted_address core.sessions (op_of x)) (operation_of other (put_operation line new core))

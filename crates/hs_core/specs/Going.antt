@@ -1,5 +1,8 @@
 -- How an operation goes on, in the parts in which a body does it: for private clauses.
+use Rattle.std.specs.BTreeMap.{is_at}
+use Rattle.std.specs.Map.{lookup, set_value}
 use Rattle.std.specs.Option.{option_and_then, option_map, option_map_or}
+use Rattle.std.specs.Ordering.{nat_cmp}
 use Rattle.std.specs.Prelude.{ℕ, ◌+◌, ◌||◌, Bool, false, not, List, [], ◌∷◌, Option, count_by, length, map, slice_index_or, sum_by, if◌then◌else◌}
 use Rattle.hs_core.specs.declared.aim.Aim.{Aim}
 use Rattle.hs_core.specs.declared.next.Next.{Next}
@@ -8,7 +11,7 @@ use Rattle.hs_core.specs.declared.sight.Sight.{Sight}
 use Rattle.hs_core.specs.declared.wait.Wait.{Wait}
 use Rattle.hs_core.specs.declared.wait.Wait.TheVariants as wait
 use Rattle.hs_core.specs.declared.waiting.Waiting.{Waiting}
-use Rattle.hs_core.specs.Changing.{end_operation, note, put_operation}
+use Rattle.hs_core.specs.Changing.{end_operation, note}
 use Rattle.hs_core.specs.Looking.{catalogue_of, group_of, lead_of, operation_of}
 use Rattle.hs_core.specs.Operating.{add_read, propose_entry, take_step, wait_for}
 use Rattle.hs_core.specs.Pending.{has_block_room, has_root_room, is_block, is_coming, is_root, puts_root, writes_block}
@@ -19,17 +22,19 @@ use Rattle.hs_entry.specs.declared.entry.Entry.{Entry}
 use Rattle.hs_journal.specs.declared.entry.Who.TheVariants as who
 use Rattle.hs_limits.specs.declared.address.Address.{Address}
 use Rattle.hs_limits.specs.declared.address.Held.{Held}
+use Rattle.hs_limits.specs.declared.limits.Limits.{Limits}
 use Rattle.hs_model.specs.declared.deed.Deed.{Deed}
 use Rattle.hs_model.specs.declared.deed.Deed.TheVariants as deed
 use Rattle.hs_model.specs.declared.op.Op.{Op}
 use Rattle.hs_model.specs.declared.reply.Reply.{Reply}
 use Rattle.hs_ops.specs.declared.step.OpStep.{OpStep}
 use Rattle.hs_ops.specs.declared.step.OpStep.TheVariants as step
-use Rattle.hs_ops.specs.Answers.{deed_of, seats_after}
+use Rattle.hs_ops.specs.Answers.{deed_of, gained}
 use Rattle.hs_ops.specs.Operations.{Operation, after_step, bytes_step, effect_step, go_step}
 use Rattle.hs_ops.specs.Speaking.{wanted_address}
 use Rattle.hs_ops.specs.Views.{OpView}
 use Rattle.hs_replica.specs.Group.{last_number}
+use Rattle.hs_roots.specs.declared.root.RootRecord.{RootRecord}
 use Rattle.hs_roots.specs.Roots.{retained_count}
 use Rattle.hs_shard.specs.declared.facts.Facts.{Facts}
 use Rattle.hs_shard.specs.Facts.{facts_at}
@@ -78,11 +83,11 @@ sight_of aim core = record {
 }
 
 -- the view that an operation is given
-abbrev pub view_by : Sight → Aim → Option ℕ → Core → OpView
-view_by sight aim busy core = record {
-  limits = core.limits;
-  seats = core.sessions;
-  roots = (catalogue_of aim.shard core).roots;
+abbrev pub view_of : Sight → Aim → Option ℕ → Limits → Seats → List RootRecord → OpView
+view_of sight aim busy limits seats roots = record {
+  limits = limits;
+  seats = seats;
+  roots = roots;
   retained = sight.retained;
   blocks = sight.blocks;
   epochs = sight.epochs;
@@ -96,6 +101,9 @@ view_by sight aim busy core = record {
   busy = busy;
 }
 
+abbrev pub view_by : Sight → Aim → Option ℕ → Core → OpView
+view_by sight aim busy core = view_of sight aim busy core.limits core.sessions (catalogue_of aim.shard core).roots
+
 -- ---- its step
 
 -- its next step, that at reported bytes, or that at the effect of its entry
@@ -104,11 +112,23 @@ next_step next.Go pointers v operation = go_step v operation
 next_step (next.Bytes bytes) pointers v operation = bytes_step v bytes pointers operation
 next_step (next.Effect did) pointers v operation = effect_step v did operation
 
+-- by what is seen of what it is about
+abbrev pub step_by : Next → Aim → Option ℕ → Core → Operation → OpStep
+step_by how aim busy core operation = next_step how (sight_of aim core).pointers (view_by (sight_of aim core) aim busy core) operation
+
+-- and what its reply would give to hold
+abbrev pub gains_by : Aim → Option ℕ → Core → Op → List Held
+gains_by aim busy core o = gained (view_by (sight_of aim core) aim busy core) (sight_of aim core).pointers o
+
 -- the operation of a line goes on by it
 abbrev pub go_by : Next → ℕ → Core → Core
 go_by how line core =
     core ▸ change_with (operation_of line core)
     (λ w. take_step line w (next_step how (pointers_for w.shard w.operation.op core) (view_for w.shard w.operation.op core) w.operation))
+
+-- the operation where a step leaves it
+abbrev pub judged_by : OpStep → Waiting → Waiting
+judged_by s w = record w { operation = after_step s w.operation }
 
 -- what a reply gives to hold; other steps give nothing
 abbrev pub given_by : OpStep → List Held → List Held
@@ -117,11 +137,10 @@ given_by (step.Propose entry) helds = []
 given_by (step.Compare number) helds = []
 given_by step.Wait helds = []
 
--- the operation of a line, where it goes on by a step that it sees so
-abbrev pub judge_at : Next → List Address → OpView → ℕ → Core → Core
-judge_at how pointers v line core =
-    core ▸ change_with (operation_of line core)
-    (λ w. put_operation line (record w { operation = after_step (next_step how pointers v w.operation) w.operation }))
+-- the operation of a line stands after its step, by what it sees
+abbrev pub judge_in : Next → List Address → OpView → ℕ → List (ℕ × Waiting) → List (ℕ × Waiting)
+judge_in how pointers v line operations =
+    operations ▸ change_with (lookup (is_at (nat_cmp line)) operations) (λ w es. set_value (is_at (nat_cmp line)) es (judged_by (next_step how pointers v w.operation) w))
 
 -- ---- what the step asks for
 

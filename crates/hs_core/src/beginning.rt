@@ -1,21 +1,20 @@
 //! A client's line.
 ghost use Rattle.std.specs.Prelude.{◌≡◌, OnOk, IfOk};
 ghost use Rattle.hs_core.specs.declared.next.Next.TheVariants as next;
-ghost use Rattle.hs_core.specs.Going.{given_by, next_step, view_by};
+ghost use Rattle.hs_core.specs.Changing.{add_operation};
+ghost use Rattle.hs_core.specs.Going.{gains_by, given_by, step_by};
 ghost use Rattle.hs_core.specs.Keeping.{Kept};
 ghost use Rattle.hs_core.specs.Operating.{begin_line};
 ghost use Rattle.hs_members.specs.Members.{IsShard};
-ghost use Rattle.hs_ops.specs.Answers.{gained};
 ghost use Rattle.hs_ops.specs.Operations.{after_step};
 
 use crate::aim::Aim;
 use crate::going::{Judged, judge};
 use crate::next::Next;
 use crate::no_memory::NoMemory;
-use crate::sight::Sight;
 use crate::{Core, Wait, Waiting};
 use hs_model::Op;
-use hs_ops::{OpView, Operation};
+use hs_ops::Operation;
 
 impl Core {
     /// The operation of a line is begun: it is answered at once, or it waits for a job, an entry or a
@@ -33,51 +32,45 @@ impl Core {
             return Err(NoMemory);
         }
         let aim = self.aim_of(shard, &operation);
-        let sight = self.sight(aim)?;
-        let judged = self.judge_first(&mut operation, aim, &sight, busy)?;
+        let judged = self.judge_first(&mut operation, aim, busy)?;
         let wait = Wait::View;
         let waiting = Waiting {
             operation,
             shard,
             wait,
         };
-        self.operations.insert(line, waiting)?;
+        self.add_operation(line, waiting)?;
         self.carry_out(line, aim, judged)
     }
 
     /// An operation takes its first step, by what it sees.
     fn judge_first(
-        &self,
+        &mut self,
         operation: &mut Operation,
         aim: Aim,
-        sight: &Sight,
         busy: Option<u64>,
     ) -> Result<Judged, NoMemory>
-        requires { IsShard self.now.members.shape aim.shard }
-        ensures step { IfOk result (λ judged. judged.step ≡ next_step next.Go
-            sight.now.pointers (view_by sight.now aim busy self.now) operation.old) }
-        ensures helds { IfOk result (λ judged. judged.helds ≡ given_by judged.step
-            (gained (view_by sight.now aim busy self.now) sight.now.pointers operation.old.op)) }
-        ensures after { OnOk result (operation.new ≡ after_step (next_step next.Go
-            sight.now.pointers (view_by sight.now aim busy self.now) operation.old)
-            operation.old) }
+        requires { IsShard self.old.members.shape aim.shard }
+        ensures step { IfOk result (λ judged. judged.step
+            ≡ step_by next.Go aim busy self.old operation.old) }
+        ensures helds { IfOk result (λ judged. judged.helds
+            ≡ given_by judged.step (gains_by aim busy self.old operation.old.op)) }
+        ensures after { OnOk result (operation.new
+            ≡ after_step (step_by next.Go aim busy self.old operation.old) operation.old) }
+        ensures same { self.new ≡ self.old }
     {
-        let view = OpView {
-            sessions: &self.sessions,
-            roots: Some(self.catalogue(aim.shard).roots()),
-            retained: sight.retained,
-            blocks: sight.blocks,
-            epochs: sight.epochs.as_slice(),
-            swept: sight.swept.as_slice(),
-            limits: self.limits,
-            shard: aim.shard,
-            present: sight.present,
-            pointers: sight.pointers.len(),
-            room: sight.room,
-            pending: sight.pending,
-            viewed: sight.viewed,
-            busy,
-        };
+        let sight = self.sight(aim)?;
+        let roots = self.catalogue(aim.shard).roots();
+        let view = sight.view(aim, busy, self.limits, &self.sessions, roots);
         judge(self.alloc, operation, &view, sight.pointers.as_slice(), &Next::Go)
+    }
+
+    /// An operation more is without an answer.
+    fn add_operation(&mut self, line: u64, waiting: Waiting) -> Result<(), NoMemory>
+        ensures ok { OnOk result (self.new ≡ add_operation line waiting self.old) }
+        ensures kept { Kept self.old self.new }
+    {
+        self.operations.insert(line, waiting)?;
+        Ok(())
     }
 }

@@ -1,8 +1,11 @@
 //! How an operation goes on.
 ghost use Rattle.std.specs.Prelude.{◌≡◌, Some, None, IfOk, OnOk};
+ghost use Rattle.std.specs.BTreeMap.{is_at};
+ghost use Rattle.std.specs.Map.{lookup};
+ghost use Rattle.std.specs.Ordering.{nat_cmp};
 ghost use Rattle.hs_core.specs.declared.waiting.Waiting.{Waiting};
 ghost use Rattle.hs_core.specs.Effects.{tell_operation};
-ghost use Rattle.hs_core.specs.Going.{given_by, go_by, judge_at, next_step, view_by};
+ghost use Rattle.hs_core.specs.Going.{gains_by, given_by, go_by, judge_in, next_step, sight_of, step_by, view_by};
 ghost use Rattle.hs_core.specs.Keeping.{Kept};
 ghost use Rattle.hs_core.specs.Looking.{operation_of};
 ghost use Rattle.hs_core.specs.Operating.{resume};
@@ -10,15 +13,15 @@ ghost use Rattle.hs_members.specs.Members.{IsShard};
 ghost use Rattle.hs_ops.specs.Answers.{gained};
 ghost use Rattle.hs_ops.specs.Operations.{after_step};
 
-use crate::Core;
 use crate::aim::Aim;
 use crate::next::Next;
 use crate::no_memory::NoMemory;
-use crate::sight::Sight;
+use crate::{Core, Waiting};
 use hs_desk::What;
 use hs_limits::{Address, Held, ListOf};
 use hs_ops::{OpFault, OpStep, OpView, Operation};
 use std::alloc::Global;
+use std::collections::BTreeMap;
 
 /// The step of an operation, and what its reply gives to hold, where it is one.
 #[derive(Drop)]
@@ -62,59 +65,56 @@ impl Core {
         if aim.shard >= self.shape().shards {
             return Err(NoMemory);
         }
-        let sight = self.sight(aim)?;
-        let judged = self.judge_at(line, aim, &sight, how)?;
+        let judged = self.judge_at(line, aim, how)?;
         self.carry_out(line, aim, judged)
     }
 
     /// The operation of a line takes its next step, by what it sees.
-    fn judge_at(
-        &mut self,
-        line: u64,
-        aim: Aim,
-        sight: &Sight,
-        how: &Next,
-    ) -> Result<Judged, NoMemory>
+    fn judge_at(&mut self, line: u64, aim: Aim, how: &Next) -> Result<Judged, NoMemory>
         requires shard { IsShard self.old.members.shape aim.shard }
-        ensures ok { OnOk result (self.new ≡ judge_at how.now sight.now.pointers
-            (view_by sight.now aim None self.old) line self.old) }
+        ensures ok { OnOk result (self.new ≡ record self.old { operations = judge_in how.now
+            (sight_of aim self.old).pointers (view_by (sight_of aim self.old) aim None self.old)
+            line self.old.operations }) }
         ensures step { (w : Waiting) → operation_of line self.old ≡ Some w
-            → IfOk result (λ judged. judged.step ≡ next_step how.now sight.now.pointers
-            (view_by sight.now aim None self.old) w.operation) }
+            → IfOk result (λ judged. judged.step ≡ step_by how.now aim None self.old w.operation) }
         ensures helds { (w : Waiting) → operation_of line self.old ≡ Some w
-            → IfOk result (λ judged. judged.helds ≡ given_by judged.step
-            (gained (view_by sight.now aim None self.old) sight.now.pointers w.operation.op)) }
+            → IfOk result (λ judged. judged.helds
+            ≡ given_by judged.step (gains_by aim None self.old w.operation.op)) }
         ensures kept { Kept self.old self.new }
     {
-        let view = OpView {
-            sessions: &self.sessions,
-            roots: Some(self.catalogues[usize::from(aim.shard)].roots()),
-            retained: sight.retained,
-            blocks: sight.blocks,
-            epochs: sight.epochs.as_slice(),
-            swept: sight.swept.as_slice(),
-            limits: self.limits,
-            shard: aim.shard,
-            present: sight.present,
-            pointers: sight.pointers.len(),
-            room: sight.room,
-            pending: sight.pending,
-            viewed: sight.viewed,
-            busy: None,
-        };
-        match self.operations.get_mut(&line) {
-            Some(waiting) => judge(
-                self.alloc,
-                &mut waiting.operation,
-                &view,
-                sight.pointers.as_slice(),
-                how,
-            ),
-            None => Ok(Judged {
-                step: OpStep::Wait,
-                helds: ListOf::new(self.alloc),
-            }),
-        }
+        let sight = self.sight(aim)?;
+        let roots = self.catalogues[usize::from(aim.shard)].roots();
+        let view = sight.view(aim, None, self.limits, &self.sessions, roots);
+        let pointers = sight.pointers.as_slice();
+        judge_in(self.alloc, &mut self.operations, line, &view, pointers, how)
+    }
+}
+
+/// The operation of a line takes its next step by what it sees, with the pointers that the catalogue
+/// has.
+fn judge_in(
+    alloc: Global,
+    operations: &mut BTreeMap<u64, Waiting>,
+    line: u64,
+    view: &OpView,
+    pointers: &[Address],
+    how: &Next,
+) -> Result<Judged, NoMemory>
+    ensures ok { OnOk result (operations.new.entries
+        ≡ judge_in how.now pointers.now view.now line operations.old.entries) }
+    ensures step { (w : Waiting) → lookup (is_at (nat_cmp line)) operations.old.entries ≡ Some w
+        → IfOk result (λ judged. judged.step
+        ≡ next_step how.now pointers.now view.now w.operation) }
+    ensures helds { (w : Waiting) → lookup (is_at (nat_cmp line)) operations.old.entries ≡ Some w
+        → IfOk result (λ judged. judged.helds
+        ≡ given_by judged.step (gained view.now pointers.now w.operation.op)) }
+{
+    match operations.get_mut(&line) {
+        Some(waiting) => judge(alloc, &mut waiting.operation, view, pointers, how),
+        None => Ok(Judged {
+            step: OpStep::Wait,
+            helds: ListOf::new(alloc),
+        }),
     }
 }
 

@@ -1,5 +1,6 @@
 //! What stands in a lead's list and has not taken effect, as far as operations wait for it.
 ghost use Rattle.std.specs.Prelude.{◌≡◌, count_by};
+ghost use Rattle.std.specs.List.{list_any};
 ghost use Rattle.std.specs.Option.{option_and_then};
 ghost use Rattle.hs_core.specs.Going.{has_room_by, holds_by, is_pending_by};
 ghost use Rattle.hs_core.specs.Looking.{group_of, operation_of};
@@ -111,10 +112,20 @@ impl Core {
         let Some(address) = address else {
             return false;
         };
-        self.group(shard)
-            .waiting()
-            .iter()
-            .any(|entry| self.stores(entry, &address))
+        self.any_stores(self.group(shard).waiting(), &address)
+    }
+
+    /// Whether one of some entries stores the block of this address.
+    fn any_stores(&self, entries: &[Entry], address: &Address) -> bool
+        ensures { result
+            ≡ list_any (λ entry. is_address address.now (named entry self.now)) entries.now }
+    {
+        for entry in entries {
+            if self.stores(entry, address) {
+                return true;
+            }
+        }
+        false
     }
 
     /// Whether an entry stores the block of this address.

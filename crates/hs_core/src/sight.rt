@@ -1,15 +1,19 @@
 //! What an operation sees of all shards, and of the block that it is about.
 ghost use Rattle.std.specs.Prelude.{◌≡◌, ◌≤◌, [], length, map, IfOk, sum_by};
 ghost use Rattle.std.specs.Option.{option_map, option_map_or};
-ghost use Rattle.hs_core.specs.Going.{facts_by, sight_of};
+ghost use Rattle.hs_core.specs.Going.{facts_by, sight_of, view_of};
 ghost use Rattle.hs_members.specs.Members.{IsShard};
 ghost use Rattle.hs_roots.specs.Roots.{retained_count};
 
 use crate::Core;
 use crate::aim::Aim;
 use crate::no_memory::NoMemory;
-use hs_limits::{Address, ListOf};
+use crate::stubs::copy_pointers;
+use hs_limits::{Address, Limits, ListOf};
+use hs_ops::OpView;
+use hs_roots::RootSet;
 use hs_shard::Catalogue;
+use hs_tokens::Sessions;
 use std::alloc::{AllocError, Global};
 
 /// What an operation sees, beside the sessions and the roots: the retained roots and the blocks of
@@ -27,6 +31,38 @@ pub(crate) struct Sight {
     pub(crate) room: bool,
     pub(crate) pending: bool,
     pub(crate) viewed: bool,
+}
+
+impl Sight {
+    /// The view that an operation is given. It takes no memory.
+    pub(crate) fn view<'a>(
+        &'a self,
+        aim: Aim,
+        busy: Option<u64>,
+        limits: Limits,
+        sessions: &'a Sessions,
+        roots: &'a RootSet,
+    ) -> OpView<'a>
+        ensures { result ≡ view_of self.now aim busy limits sessions.now.seats roots.now.roots }
+    {
+        let roots = Some(roots);
+        OpView {
+            sessions,
+            roots,
+            retained: self.retained,
+            blocks: self.blocks,
+            epochs: self.epochs.as_slice(),
+            swept: self.swept.as_slice(),
+            limits,
+            shard: aim.shard,
+            present: self.present,
+            pointers: self.pointers.len(),
+            room: self.room,
+            pending: self.pending,
+            viewed: self.viewed,
+            busy,
+        }
+    }
 }
 
 impl Core {
@@ -71,10 +107,7 @@ impl Core {
         let Some(address) = aim.address else {
             return Ok(ListOf::new(self.alloc));
         };
-        match self.catalogues[usize::from(aim.shard)].copy_pointers(&address) {
-            Ok(pointers) => Ok(pointers),
-            Err(_) => Err(NoMemory),
-        }
+        copy_pointers(&mut self.catalogues[usize::from(aim.shard)], &address)
     }
 }
 

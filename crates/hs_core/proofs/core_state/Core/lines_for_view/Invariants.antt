@@ -2,7 +2,7 @@ use Rattle.std.proofs.Common.{◌≡◌, ◌++◌, map}
 use Rattle.std.specs.Prelude.{◌==◌, ◌&&◌, filter}
 use Rattle.hs_core.specs.Effects.{is_for_view}
 use Rattle.hs_core.specs.Operating.{lines_where}
-use Rattle.hs_core.proofs.lines.Core.lines_for_view.Given as goal
+use Rattle.hs_core.proofs.core_state.Core.lines_for_view.Given as goal
 
 abbrev pub invariant-loop-line : goal.invariant-loop-line
 invariant-loop-line l =

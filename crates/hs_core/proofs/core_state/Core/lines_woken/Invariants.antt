@@ -2,7 +2,7 @@ use Rattle.std.proofs.Common.{◌≡◌, ◌++◌, map}
 use Rattle.std.specs.Prelude.{◌==◌, ◌&&◌, filter}
 use Rattle.hs_core.specs.Effects.{wakes}
 use Rattle.hs_core.specs.Operating.{lines_where}
-use Rattle.hs_core.proofs.lines.Core.lines_woken.Given as goal
+use Rattle.hs_core.proofs.core_state.Core.lines_woken.Given as goal
 
 abbrev pub invariant-loop-line : goal.invariant-loop-line
 invariant-loop-line l =
