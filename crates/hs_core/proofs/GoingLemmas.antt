@@ -1,5 +1,5 @@
 -- An operation goes on: its parts are the whole.
-use Rattle.std.proofs.Common.{◌≡◌, ◌∙◌, sym, ap, ℕ, ◌+◌, not, List, [], Bool, Option, Some, None, option_map, refl, if◌then◌else◌}
+use Rattle.std.proofs.Common.{◌≡◌, ◌∙◌, sym, ap, subst, ℕ, ◌+◌, not, List, [], Bool, Option, Some, None, option_map, refl, if◌then◌else◌}
 use Rattle.std.specs.BTreeMap.{insert_entry, is_at}
 use Rattle.std.specs.Map.{remove_entry, set_value}
 use Rattle.std.specs.Ordering.{nat_cmp}
@@ -152,3 +152,64 @@ begun line o core last s helds steps gives carries =
     ∙ ap (λ hs. carry_by aim line s hs (put_operation line (judged_by t w) added)) given
     ∙ ap (λ x. carry_by aim line x (given_by t (gains w added)) (put_operation line (judged_by t w) added)) stepped
     ∙ carried line w added found t
+
+-- the same of what a body has at hand
+pub begun_by : (line : ℕ) (o : Op) (core middle inserted last : Core) (operation left : Operation) (shard : ℕ) (aim : Aim) (busy : Option ℕ) (s : OpStep) (helds : List Held)
+    → operation ≡ new_operation line o
+    → shard ≡ judging_shard (shape_of core).shards core.sessions operation.op
+    → aim ≡ aim_of shard operation.op core
+    → busy ≡ busy_line o core
+    → s ≡ step_by next.Go aim busy (record core { last_line = line }) operation
+    → helds ≡ given_by s (gains_by aim busy (record core { last_line = line }) operation.op)
+    → left ≡ after_step (step_by next.Go aim busy (record core { last_line = line }) operation) operation
+    → middle ≡ record core { last_line = line }
+    → inserted ≡ add_operation line (record { operation = left; shard = shard; wait = wait.View }) middle
+    → last ≡ carry_by aim line s helds inserted
+    → last ≡ begin_line line o core
+begun_by line o core middle inserted last operation left shard aim busy s helds made place about who steps gives leaves same puts carries =
+    let first : Core = record core { last_line = line } in
+    let new : Operation = new_operation line o in
+    let J : ℕ = judging_shard (shape_of core).shards core.sessions o in
+    let A : Aim = aim_of J o core in
+    let B : Option ℕ = busy_line o core in
+    let T : OpStep = step_by next.Go A B first new in
+    let judges : shard ≡ J = place ∙ ap (λ (x : Operation). judging_shard (shape_of core).shards core.sessions x.op) made in
+    let aims : aim ≡ A = about ∙ ap (λ (x : Operation). aim_of shard x.op core) made ∙ ap (λ k. aim_of k o core) judges in
+    let step_is : step_by next.Go aim busy first operation ≡ T =
+    ap (λ a. step_by next.Go a busy first operation) aims ∙ ap (λ b. step_by next.Go A b first operation) who ∙ ap (λ x. step_by next.Go A B first x) made in
+    let held : gains_by aim busy first operation.op ≡ gains_by A B first o =
+    ap (λ a. gains_by a busy first operation.op) aims ∙ ap (λ b. gains_by A b first operation.op) who ∙ ap (λ (x : Operation). gains_by A B first x.op) made in
+    let after : left ≡ after_step T new = leaves ∙ ap (λ t. after_step t operation) step_is ∙ ap (λ x. after_step T x) made in
+    let put : Operation → ℕ → Core → Core = λ x k m. add_operation line (record { operation = x; shard = k; wait = wait.View }) m in
+    let there : inserted ≡ put (after_step T new) J first =
+    puts ∙ ap (λ x. put x shard middle) after ∙ ap (λ k. put (after_step T new) k middle) judges ∙ ap (λ m. put (after_step T new) J m) same in
+    let carried_on : last ≡ carry_by A line s helds (put (after_step T new) J first) =
+    carries ∙ ap (λ m. carry_by aim line s helds m) there ∙ ap (λ a. carry_by a line s helds (put (after_step T new) J first)) aims in
+    begun line o core last s helds (steps ∙ step_is) (gives ∙ ap (λ hs. given_by s hs) held) carried_on
+
+-- and of the core in which that line is the last one already
+pub begun_from : (line : ℕ) (o : Op) (core first middle inserted last : Core) (operation left : Operation) (shard : ℕ) (aim : Aim) (busy : Option ℕ) (s : OpStep) (helds : List Held)
+    → first ≡ record core { last_line = line }
+    → operation ≡ new_operation line o
+    → shard ≡ judging_shard (shape_of first).shards first.sessions operation.op
+    → aim ≡ aim_of shard operation.op first
+    → busy ≡ busy_line o first
+    → s ≡ step_by next.Go aim busy first operation
+    → helds ≡ given_by s (gains_by aim busy first operation.op)
+    → left ≡ after_step (step_by next.Go aim busy first operation) operation
+    → middle ≡ first
+    → inserted ≡ add_operation line (record { operation = left; shard = shard; wait = wait.View }) middle
+    → last ≡ carry_by aim line s helds inserted
+    → last ≡ begin_line line o core
+begun_from line o core first middle inserted last operation left shard aim busy s helds at made =
+    subst (λ (x : Core). shard ≡ judging_shard (shape_of x).shards x.sessions operation.op
+    → aim ≡ aim_of shard operation.op x
+    → busy ≡ busy_line o x
+    → s ≡ step_by next.Go aim busy x operation
+    → helds ≡ given_by s (gains_by aim busy x operation.op)
+    → left ≡ after_step (step_by next.Go aim busy x operation) operation
+    → middle ≡ x
+    → inserted ≡ add_operation line (record { operation = left; shard = shard; wait = wait.View }) middle
+    → last ≡ carry_by aim line s helds inserted
+    → last ≡ begin_line line o core) (sym at)
+    (λ place about who steps gives leaves same puts carries. begun_by line o core middle inserted last operation left shard aim busy s helds made place about who steps gives leaves same puts carries)

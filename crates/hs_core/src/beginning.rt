@@ -23,7 +23,7 @@ impl Core {
         ensures ok { OnOk result (self.new ≡ begin_line line op self.old) }
         ensures kept { Kept (record self.old { last_line = line }) self.new }
     {
-        self.last_line = line;
+        self.set_line(line);
         let busy = self.busy_line(&op);
         let mut operation = Operation::begin(self.alloc, line, op)?;
         let shard = operation.shard(&self.sessions, self.shape());
@@ -41,6 +41,13 @@ impl Core {
         };
         self.add_operation(line, waiting)?;
         self.carry_out(line, aim, judged)
+    }
+
+    /// A line is the last one. It takes no memory.
+    fn set_line(&mut self, line: u64)
+        ensures { self.new ≡ record self.old { last_line = line } }
+    {
+        self.last_line = line;
     }
 
     /// An operation takes its first step, by what it sees.
