@@ -1,7 +1,9 @@
 mod CommitLemmas
 mod DeletionExamples
 mod Driving
+mod EntryLemmas
 mod Examples
+mod GoingLemmas
 mod JoiningLemmas
 mod KeptLemmas
 mod LeadLemmas
@@ -11,4 +13,6 @@ mod OpenLemmas
 mod PeerExamples
 mod RangeLemmas
 mod ReportLemmas
+mod SeatLemmas
+mod SightLemmas
 mod ViewLemmas

@@ -6,6 +6,7 @@ pub mod Delivering
 pub mod Effects
 pub mod Entering
 pub mod Failing
+pub mod Going
 pub mod Handing
 pub mod Joining
 pub mod Keeping

@@ -53,7 +53,8 @@ impl Core {
     /// The lead of a shard. It takes no memory.
     pub(crate) fn lead(&self, shard: u8) -> Option<u8>
         requires { IsShard self.now.members.shape shard }
-        ensures { result ≡ lead_of shard self.now }
+        ensures value { result ≡ lead_of shard self.now }
+        ensures peer { IfSome result (IsPeer self.now.members.shape) }
     {
         let _shape = self.shape();
         lead_of(&self.members, self.group(shard), shard)

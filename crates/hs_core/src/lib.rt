@@ -1,7 +1,10 @@
 //! The core: all shards, peers, sessions, operations, messages and jobs, changed by one event at a time.
 #![tactic(auto)]
 
+mod aim;
 mod asking;
+mod beginning;
+mod carrying;
 mod core_state;
 mod delivering;
 mod effects;
@@ -9,16 +12,23 @@ mod ending;
 mod entering;
 mod event;
 mod failing;
+mod going;
 mod leads;
+mod lines;
 mod lists;
 mod new_core;
 mod new_lists;
+mod next;
 mod no_memory;
 mod notes;
 mod open_work;
 mod opening;
+mod pending;
 mod queue;
 mod reporting;
+mod resuming;
+mod seating;
+mod sight;
 mod step;
 mod stubs;
 mod task;
