@@ -41,6 +41,16 @@ pub record AreFronts (core : Core) (fronts : List ℕ) : Type 0 where
   pub length : length fronts ≡ (shape_of core).shards
   pub each : (shard : ℕ) → IsShard (shape_of core) shard → slice_index fronts shard ≡ front_of shard core
 
+-- what a fault leaves of a core
+pub record Kept (old new : Core) : Type 0 where
+  pub journal : new.journal ≡ old.journal
+  pub limits : new.limits ≡ old.limits
+  pub moment : new.moment ≡ old.moment
+  pub last_line : new.last_line ≡ old.last_line
+  pub event_line : new.event_line ≡ old.event_line
+  pub refused : new.refused ≡ old.refused
+  pub shape : new.members.shape ≡ old.members.shape
+
 -- the lists of all shards, each of its shard, with how many entries have taken effect, and the jobs of all peers
 pub record AreLists (m : Members) (gs : List Group) (fs : List ℕ) (vs : List Bool) (ts : List (List Task)) : Type 0 where
   pub groups : length gs ≡ m.shape.shards
