@@ -6,4 +6,5 @@ mod LimitExamples
 mod OpenLemmas
 mod PeerExamples
 mod RangeLemmas
+mod StepLemmas
 mod ViewLemmas

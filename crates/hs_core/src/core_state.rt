@@ -203,7 +203,7 @@ impl Core {
     }
 
     /// The shard that a peer keeps a copy of.
-    fn home(&self, peer: u8) -> u8
+    pub(crate) fn home(&self, peer: u8) -> u8
         requires { IsPeer self.now.members.shape peer }
         ensures home { result ≡ home peer self.now }
         ensures shard { IsShard self.now.members.shape result }

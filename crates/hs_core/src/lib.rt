@@ -1,9 +1,11 @@
 //! The core: all shards, peers, sessions, operations, messages and jobs, changed by one event at a time.
 #![tactic(auto)]
 
+mod copying;
 mod core_state;
 mod ending;
 mod event;
+mod joining;
 mod leads;
 mod lists;
 mod new_core;
@@ -13,8 +15,13 @@ mod notes;
 mod open_work;
 mod opening;
 mod queue;
+mod sending;
+mod statuses;
+mod steps;
+mod stubs;
 mod task;
 mod tasks;
+mod views;
 mod wait;
 mod waiting;
 
