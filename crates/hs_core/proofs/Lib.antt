@@ -1,10 +1,12 @@
 mod DeletionExamples
 mod Driving
 mod Examples
+mod JoinLemmas
 mod LeadLemmas
 mod LimitExamples
 mod OpenLemmas
 mod PeerExamples
 mod RangeLemmas
+mod StatusLemmas
 mod StepLemmas
 mod ViewLemmas

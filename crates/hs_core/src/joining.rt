@@ -80,7 +80,8 @@ impl Core {
     {
         let shape = self.shape();
         let first = peer_of(shard, 0, shape);
-        for peer in first..first + shape.copies {
+        let last = first + shape.copies;
+        for peer in first..last {
             self.follow_if_joining(peer, lead);
         }
     }

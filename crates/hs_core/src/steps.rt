@@ -29,7 +29,8 @@ pub(crate) fn renew_steps(
     let lead = lead_of(members, group, shard);
     let sealed = sealed_by(group, lead);
     let first = peer_of(shard, 0, shape);
-    for peer in first..first + shape.copies {
+    let last = first + shape.copies;
+    for peer in first..last {
         steps[usize::from(peer)] = step_at(members, lead, sealed, rejoins, peer);
     }
 }

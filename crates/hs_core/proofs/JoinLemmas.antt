@@ -1,0 +1,18 @@
+-- Changes by each of those that pass a test.
+use Rattle.std.proofs.Common.{◌≡◌, ◌∙◌, ap, refl, arith, ℕ, ◌+◌, ◌-◌, Bool, true, false, List, [], ◌∷◌, filter}
+use Rattle.std.specs.List.{range_with_len}
+use Rattle.hs_core.specs.Words.{change_if, each}
+
+pub each_filter : {A B : Type 0} (p : B → Bool) (f : B → A → A) (ys : List B) (x : A) → each (filter p ys) f x ≡ each ys (λ y. change_if (p y) (f y)) x
+each_filter p f [] x = refl
+each_filter p f (y ∷ ys) x = go (p y) refl
+  where
+    go : (b : Bool) → p y ≡ b → each (filter p (y ∷ ys)) f x ≡ each (y ∷ ys) (λ z. change_if (p z) (f z)) x
+    go true e = rw e (each_filter p f ys (f y x))
+    go false e = rw e (each_filter p f ys x)
+
+-- so many numbers from one on
+pub range_from : (first n : ℕ) → range_with_len first (first + n - first) ≡ range_with_len first n
+range_from first n =
+    let e : first + n - first ≡ n = omega arith in
+    rw e refl
