@@ -77,8 +77,8 @@ lead_is_home m shard lead lens l e = found (longest (filter (λ x. is_good_statu
     some x h q = rw (← q) (home_between m.shape shard x.0 h.0 (omega (arith, h.1, l)))
 
     found : (r : Option (ℕ × ℕ)) → IfSome r (λ x. (peer_of m.shape shard 0 ≤ x.0) × (x.0 < peer_of m.shape shard 0 + length lens)) → option_map (λ x. x.0) r ≡ Some lead → home_of m.shape lead ≡ shard
-    found None h q = cc
-    found (Some x) h q = some x h cc
+    found None h q = let wrong : None ≡ Some lead = q in cc
+    found (Some x) h q = let at : x.0 ≡ lead = cc in some x h at
 
 -- it depends on the statuses of the shard's peers alone
 same_good : (p q : ℕ → Bool) (n : ℕ) (xs : List ℕ) → ((k : ℕ) → n ≤ k → k < n + length xs → p k ≡ q k) → filter (λ (x : ℕ × ℕ). p x.0) (enumerate_from n xs) ≡ filter (λ (x : ℕ × ℕ). q x.0) (enumerate_from n xs)
