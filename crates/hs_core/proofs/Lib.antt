@@ -2,6 +2,7 @@ mod DeletionExamples
 mod Driving
 mod Examples
 mod JoinLemmas
+mod KeptLemmas
 mod LeadLemmas
 mod LimitExamples
 mod OpenLemmas

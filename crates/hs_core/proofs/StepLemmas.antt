@@ -1,11 +1,16 @@
 -- The next copying steps of peers, from what they are made of, and after a change.
 use Rattle.std.proofs.Common.{◌≡◌, ◌≢◌, ◌∙◌, sym, ap, refl, arith, ℕ, zero, suc, ◌+◌, ◌-◌, ◌*◌, ◌/◌, ◌%◌, ◌<◌, ◌≤◌, Bool, true, false, List, [], ◌∷◌, Option, Some, None, length, map, filter}
 use Rattle.std.proofs.Math.Decide.{ℕ_discrete}
-use Rattle.std.proofs.lemmas.List.{get_or-set_other, get_or-set_same, length-map, length-set}
+use Rattle.std.proofs.lemmas.List.{get_or-set_other, get_or-set_same, get_or_past, length-map, length-set, set-get_or}
+use Rattle.std.proofs.Math.Nat.{mul-le-mul_right, suc-mul}
+use native.Mathlib.Decide.{dec_lt}
 use Rattle.std.proofs.lemmas.Nat.{div-add-mod', div-mul-add, div_below, mod_below}
 use Rattle.std.specs.List.{enumerate_from}
 use Rattle.std.specs.Option.{IfSome, option_map}
 use Rattle.std.specs.Prelude.{if◌then◌else◌, nat_le, slice_index, slice_index_or, slice_set}
+use Rattle.hs_core.proofs.LeadLemmas.{peer_within}
+use Rattle.hs_core.specs.Changing.{change_group}
+use Rattle.hs_core.specs.Words.{change_if}
 use Rattle.hs_core.specs.Keeping.{AreFronts, AreSteps, IsCore, IsOf, kept_step}
 use Rattle.hs_core.specs.Looking.{copying_step, front_of, group_of, home, lead_of, rejoin_of, shape_of, status_of}
 use Rattle.hs_core.specs.Renewing.{Renews, lead_in, lead_sealed, step_at, step_by}
@@ -16,9 +21,9 @@ use Rattle.hs_limits.specs.declared.limits.PeerStatus.{PeerStatus}
 use Rattle.hs_limits.specs.declared.shape.Shape.{Shape}
 use Rattle.hs_limits.specs.Shape.{IsShape, peer_of}
 use Rattle.hs_members.specs.Members.{IsPeer, IsShard, Members, home_of, is_good_status, is_joining, lead_by, longer, longest, status}
-use Rattle.hs_rejoin.specs.Rejoin.{Rejoin}
+use Rattle.hs_rejoin.specs.Rejoin.{Rejoin, next_job}
 use Rattle.hs_replica.specs.declared.replica.Replica.{Replica}
-use Rattle.hs_replica.specs.Group.{Group, committed, new_group, take_committed}
+use Rattle.hs_replica.specs.Group.{Group, committed, copy_of, first_peer, new_group, no_copy, on_append, take_committed, take_entry, takes}
 use Rattle.hs_replica.specs.Keeping.{KeepsFront}
 
 -- ---- peers of a shard
@@ -42,6 +47,26 @@ pub home_between : (shape : Shape) (shard peer : ℕ) → peer_of shape shard 0 
 home_between shape shard peer l h =
     let e : peer_of shape shard (peer - peer_of shape shard 0) ≡ peer = omega (arith, l) in
     ap (home_of shape) (sym e) ∙ home_in shape shard (peer - peer_of shape shard 0) (omega (arith, l, h))
+
+-- and it is a peer of the store
+pub peer_between : (shape : Shape) (shard peer : ℕ) → IsShard shape shard → peer_of shape shard 0 ≤ peer → peer < peer_of shape shard 0 + shape.copies → IsPeer shape peer
+peer_between shape shard peer s l h = peer_within shape shard (peer - peer_of shape shard 0) peer (omega (arith, l)) s (omega (arith, l, h))
+
+-- ---- steps written one after another
+
+-- those of the shard up to this peer
+pub one_inside : (shape : Shape) (shard peer : ℕ) (ss : List (Option Job)) (v : Option Job) (f : ℕ → Option Job) → peer < length ss → v ≡ f peer
+    → ((k : ℕ) → home_of shape k ≡ shard → k < peer → slice_index_or ss k None ≡ f k)
+    → (k : ℕ) → home_of shape k ≡ shard → k < peer + 1 → slice_index_or (slice_set ss peer v) k None ≡ f k
+one_inside shape shard peer ss v f l e before k at h = elim (ℕ_discrete k peer) [
+  | yes q ↦ rw q (get_or-set_same ss peer v None l ∙ e)
+  | no d ↦ get_or-set_other ss peer k v None d ∙ before k at (omega (arith, h, d))
+]
+
+-- those of other shards
+pub one_outside : (shape : Shape) (shard peer k : ℕ) (ss : List (Option Job)) (v : Option Job) → home_of shape peer ≡ shard → home_of shape k ≢ shard
+    → slice_index_or (slice_set ss peer v) k None ≡ slice_index_or ss k None
+one_outside shape shard peer k ss v at d = get_or-set_other ss peer k v None (λ e. d (ap (home_of shape) e ∙ at))
 
 -- ---- the lead
 
@@ -108,7 +133,7 @@ kept_step_at core peer is = go (is_joining (status_of peer core)) refl (lead_of 
     go true e (Some l) p None q = rw (e, p, q) refl
     go true e (Some l) p (Some r) q =
         let at : home l core ≡ home peer core = lead_is_home core.members (home peer core) l (map (λ copy. length copy.stamps) (group_of (home peer core) core).copies) (length-map (group_of (home peer core) core).copies _ ∙ is.copies) p in
-        rw (e, p, q, at) refl
+        rw (e, p, q) (ap (λ s. next_job (copy_of (group_of s core) l).sealed r) at)
 
 -- it stays where the statuses of the shard's peers and the peer's progress do
 parts_elsewhere : (m w : Members) (g : Group) (rs ss : List (Option Rejoin)) (shard peer : ℕ) → length g.copies ≡ m.shape.copies → w.shape ≡ m.shape → home_of m.shape peer ≡ shard
@@ -165,19 +190,19 @@ steps_renewed old new shard ss ts io iw are e renews gs sts rs = record {
     each_of : (peer : ℕ) → IsPeer (shape_of new) peer → slice_index_or ts peer None ≡ kept_step peer new
     each_of peer h = elim (ℕ_discrete (home peer new) shard) [
       | yes q ↦ renews.inside peer h q
-        ∙ ap (λ t. step_at new.members (lead_of t new) (lead_sealed (lead_of t new) (group_of t new)) new.rejoins peer) (sym q)
-        ∙ sym (kept_step_at new peer (of_home new peer iw h))
+          ∙ ap (λ t. step_at new.members (lead_of t new) (lead_sealed (lead_of t new) (group_of t new)) new.rejoins peer) (sym q)
+          ∙ sym (kept_step_at new peer (of_home new peer iw h))
       | no d ↦ renews.outside peer d ∙ are.each peer (old_peer peer h)
-        ∙ sym (step_elsewhere old new peer (of_home old peer io (old_peer peer h)) (of_home new peer iw h) e
-        (gs (home peer old) (λ q. d (same_home peer ∙ q)))
-        (λ k at. sts k (λ q. d (same_home peer ∙ sym at ∙ q)))
-        (rs peer (λ q. d (same_home peer ∙ q))))
+          ∙ sym (step_elsewhere old new peer (of_home old peer io (old_peer peer h)) (of_home new peer iw h) e
+          (gs (home peer old) (λ q. d (same_home peer ∙ q)))
+          (λ k at. sts k (λ q. d (same_home peer ∙ sym at ∙ q)))
+          (rs peer (λ q. d (same_home peer ∙ q))))
     ]
 
 -- ---- one group changes
 
 -- another group of the same shard
-of_kept : (shape : Shape) (shard : ℕ) (g h : Group) → IsOf shape shard g → KeepsFront g h → IsOf shape shard h
+pub of_kept : (shape : Shape) (shard : ℕ) (g h : Group) → IsOf shape shard g → KeepsFront g h → IsOf shape shard h
 of_kept shape shard g h is kept = record {
   valid = is.valid;
   within = is.within;
@@ -284,3 +309,109 @@ taken_parts m g rs shard peer = go (committed g) refl
         ≡ step_at m (lead_in m g shard) (lead_sealed (lead_in m g shard) g) rs peer
     go None e = rw e refl
     go (Some x) e = rw e refl
+
+-- the core after the next entry of a shard was handed out
+pub steps_taken : (old new : Core) (shard : ℕ) (ss : List (Option Job)) → IsCore old → IsCore new → IsShard (shape_of old) shard → AreSteps old ss
+    → new.members ≡ old.members → new.groups ≡ slice_set old.groups shard (take_committed (group_of shard old)) → new.rejoins ≡ old.rejoins → AreSteps new ss
+steps_taken old new shard ss io iw within are m gs rs = record {
+  length = are.length ∙ ap (λ (x : Members). x.shape.shards * x.shape.copies) (sym m);
+  each = each_of;
+}
+  where
+    g : Group
+    g = group_of shard old
+
+    same_home : (peer : ℕ) → home peer new ≡ home peer old
+    same_home peer = ap (λ (x : Members). home_of x.shape peer) m
+
+    old_peer : (peer : ℕ) → IsPeer (shape_of new) peer → IsPeer (shape_of old) peer
+    old_peer peer h = rw (← m) h
+
+    put : group_of shard new ≡ take_committed g
+    put = group_after old new shard (take_committed g) m gs (rw io.groups within)
+
+    inside : (peer : ℕ) → IsPeer (shape_of new) peer → home peer new ≡ shard → kept_step peer new ≡ kept_step peer old
+    inside peer h q =
+        let at : home peer old ≡ shard = sym (same_home peer) ∙ q in
+        kept_step_at new peer (of_home new peer iw h)
+        ∙ ap (λ t. step_at new.members (lead_of t new) (lead_sealed (lead_of t new) (group_of t new)) new.rejoins peer) q
+        ∙ ap (λ x. step_at new.members (lead_in new.members x shard) (lead_sealed (lead_in new.members x shard) x) new.rejoins peer) put
+        ∙ taken_parts new.members g new.rejoins shard peer
+        ∙ ap (λ x. step_at x (lead_in x g shard) (lead_sealed (lead_in x g shard) g) new.rejoins peer) m
+        ∙ ap (λ x. step_at old.members (lead_in old.members g shard) (lead_sealed (lead_in old.members g shard) g) x peer) rs
+        ∙ ap (λ t. step_at old.members (lead_of t old) (lead_sealed (lead_of t old) (group_of t old)) old.rejoins peer) (sym at)
+        ∙ sym (kept_step_at old peer (of_home old peer io (old_peer peer h)))
+
+    each_of : (peer : ℕ) → IsPeer (shape_of new) peer → slice_index_or ss peer None ≡ kept_step peer new
+    each_of peer h = elim (ℕ_discrete (home peer new) shard) [
+      | yes q ↦ are.each peer (old_peer peer h) ∙ sym (inside peer h q)
+      | no d ↦ are.each peer (old_peer peer h)
+        ∙ sym (step_elsewhere old new peer (of_home old peer io (old_peer peer h)) (of_home new peer iw h) (ap (λ (x : Members). x.shape) m)
+        (group_beside old new shard (home peer old) (take_committed g) m gs (λ q. d (same_home peer ∙ q)))
+        (λ k at. ap (status k) m)
+        (ap (λ x. slice_index_or x peer None) rs))
+    ]
+
+-- what taking leaves: the shard and its copies
+taken_of : (shape : Shape) (shard : ℕ) (g : Group) → IsOf shape shard g → IsOf shape shard (take_committed g)
+taken_of shape shard g is = go (committed g) refl
+  where
+    go : (o : Option (ℕ × Entry)) → committed g ≡ o → IsOf shape shard (take_committed g)
+    go None e = rw e is
+    go (Some x) e = rw e (record { valid = is.valid; within = is.within; same_shape = is.same_shape; same_shard = is.same_shard; copies = is.copies })
+
+pub core_taken : (old new : Core) (shard : ℕ) → IsCore old → IsShard (shape_of old) shard
+    → new.members ≡ old.members → new.groups ≡ slice_set old.groups shard (take_committed (group_of shard old))
+    → length new.catalogues ≡ length old.catalogues → length new.viewed ≡ length old.viewed → length new.tasks ≡ length old.tasks → length new.rejoins ≡ length old.rejoins
+    → IsCore new
+core_taken old new shard is within m gs cs vs ts rs = record {
+  members = rw m is.members;
+  catalogues = cs ∙ is.catalogues ∙ shards;
+  groups = rw gs (length-set old.groups shard (take_committed (group_of shard old))) ∙ is.groups ∙ shards;
+  viewed = vs ∙ is.viewed ∙ shards;
+  tasks = ts ∙ is.tasks ∙ peers;
+  rejoins = rs ∙ is.rejoins ∙ peers;
+  each = λ s h. rw (m, gs) (each_after (shape_of old) old.groups shard (take_committed (group_of shard old)) is.groups within is.each (taken_of (shape_of old) shard (group_of shard old) (is.each shard within)) s (rw (← m) h));
+}
+  where
+    shards : (shape_of old).shards ≡ (shape_of new).shards
+    shards = ap (λ (x : Members). x.shape.shards) (sym m)
+
+    peers : (shape_of old).shards * (shape_of old).copies ≡ (shape_of new).shards * (shape_of new).copies
+    peers = ap (λ (x : Members). x.shape.shards * x.shape.copies) (sym m)
+
+-- the number of an entry that is handed out is the new front
+pub taken_number : (g : Group) (number : ℕ) (entry : Entry) → committed g ≡ Some (number, entry) → (take_committed g).front ≡ number
+taken_number g number entry e = rw e refl
+
+-- ---- a Copy
+
+-- a peer that takes a Copy is a peer of the store
+pub takes_peer : (shape : Shape) (shard peer view number : ℕ) (g : Group) → IsOf shape shard g → takes peer view number g ≡ true → IsPeer shape peer
+takes_peer shape shard peer view number g is e = elim (dec_lt (peer - first_peer g) (length g.copies)) [
+  | yes l ↦
+    let first : first_peer g ≡ peer_of shape shard 0 = rw (is.same_shape, is.same_shard) refl in
+    let low : peer < peer_of shape shard 0 + shape.copies = omega (arith, l, first, is.copies) in
+    let m : suc shard * shape.copies ≤ shape.shards * shape.copies = mul-le-mul_right shape.copies (omega (arith, is.within)) in
+    let d : suc shard * shape.copies ≡ shard * shape.copies + shape.copies = suc-mul shard shape.copies in
+    omega (arith, low, m, d)
+  | no n ↦
+    let past : copy_of g peer ≡ no_copy = get_or_past g.copies (peer - first_peer g) no_copy (omega (arith, n)) in
+    let wrong : false ≡ true = rw past at e in cc
+]
+
+-- where it is not taken nothing changes
+pub append_is : (shard peer view number : ℕ) (entry : Entry) (core : Core)
+    → change_group shard (on_append peer view number entry) core ≡ change_if (takes peer view number (group_of shard core)) (change_group shard (take_entry peer entry)) core
+append_is shard peer view number entry core = go (takes peer view number (group_of shard core)) refl
+  where
+    go : (b : Bool) → takes peer view number (group_of shard core) ≡ b
+        → change_group shard (on_append peer view number entry) core ≡ change_if (takes peer view number (group_of shard core)) (change_group shard (take_entry peer entry)) core
+    go true e = rw e refl
+    go false e = rw e (ap (λ gs. record core { groups = gs }) (set-get_or core.groups shard (new_group (shape_of core) shard 0 0 [])))
+
+-- a shard that there isn't takes none
+pub takes_nowhere : (shard peer view number : ℕ) (core : Core) → length core.groups ≤ shard → takes peer view number (group_of shard core) ≡ false
+takes_nowhere shard peer view number core h =
+    let none : group_of shard core ≡ new_group (shape_of core) shard 0 0 [] = get_or_past core.groups shard (new_group (shape_of core) shard 0 0 []) h in
+    rw none refl

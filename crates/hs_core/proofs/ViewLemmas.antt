@@ -5,11 +5,11 @@ use Rattle.std.proofs.lemmas.List.{get_or-set_other, get_or-set_same, length-set
 use Rattle.std.proofs.lemmas.List.FromFn.{length-enumerate_from}
 use Rattle.std.specs.List.{enumerate_from}
 use Rattle.std.specs.Prelude.{slice_index, slice_index_or, slice_set}
-use Rattle.hs_core.specs.Anew.{view_tasks, viewed_anew}
+use Rattle.hs_core.specs.Anew.{group_anew, told_anew, view_tasks, viewed_anew}
 use Rattle.hs_core.specs.Changing.{add_entry_tasks, post}
 use Rattle.hs_core.specs.declared.task.Task.{Task}
-use Rattle.hs_core.specs.Keeping.{AreLists, IsOf}
-use Rattle.hs_core.specs.Looking.{group_of, shape_of}
+use Rattle.hs_core.specs.Keeping.{AreLists, IsCore, IsOf}
+use Rattle.hs_core.specs.Looking.{group_of, lead_of, shape_of}
 use Rattle.hs_core.specs.Operating.{propose_entry}
 use Rattle.hs_core.specs.State.{Core}
 use Rattle.hs_core.specs.Views.{begin_view, restart_at, restarted}
@@ -190,3 +190,13 @@ viewed_known shard peer core g q p h =
       pool = send_all (view_messages core.members g) core.pool;
       tasks = tasks;
     }) (two_tasks core.tasks peer (last_number (on_view core.members g)) (view_of shard core.members) h))
+
+-- where the copies are told what is left is the jobs of the View
+pub begin_view_left : (shard : ℕ) (core mid : Core) (lead : Option ℕ) → IsCore core → IsShard (shape_of core) shard
+    → mid ≡ restart_at shard (last_number (renew core.members (group_of shard core))) (told_anew shard core) → lead ≡ lead_of shard core
+    → begin_view shard core ≡ (mid ▸ change_with lead (λ peer. add_entry_tasks peer (last_number (group_anew shard core)) (kind.View (view_of shard core.members))))
+begin_view_left shard core mid lead is within m l =
+    let long : shard < length core.groups = rw is.groups within in
+    begin_view_told shard core long (is.each shard within).same_shard
+    ∙ ap (λ x. x ▸ change_with (lead_of shard core) (λ peer. add_entry_tasks peer (last_number (group_anew shard core)) (kind.View (view_of shard core.members)))) (sym m)
+    ∙ ap (λ o. mid ▸ change_with o (λ peer. add_entry_tasks peer (last_number (group_anew shard core)) (kind.View (view_of shard core.members)))) (sym l)

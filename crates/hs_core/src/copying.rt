@@ -1,13 +1,13 @@
 //! What the copies of a shard's list take and tell.
-ghost use Rattle.std.specs.Prelude.{◌≡◌, ◌+◌, true, IfOk, OnOk};
+ghost use Rattle.std.specs.Prelude.{◌≡◌, ◌+◌, IfOk, OnOk};
 ghost use Rattle.hs_core.specs.Changing.{change_group, post};
 ghost use Rattle.hs_core.specs.Delivering.{on_copy};
 ghost use Rattle.hs_core.specs.Keeping.{Kept};
 ghost use Rattle.hs_core.specs.Looking.{group_of, home};
 ghost use Rattle.hs_core.specs.Operating.{propose_entry};
-ghost use Rattle.hs_core.specs.Words.{◌▸◌, change_if};
+ghost use Rattle.hs_core.specs.Words.{◌▸◌};
 ghost use Rattle.hs_members.specs.Members.{IsPeer, IsShard};
-ghost use Rattle.hs_replica.specs.Group.{committed, have, last_number, on_have, on_sealed, proposal, propose, resend, take_committed, take_entry, takes};
+ghost use Rattle.hs_replica.specs.Group.{committed, have, last_number, on_append, on_have, on_sealed, proposal, propose, resend, take_committed, takes};
 
 use crate::Core;
 use crate::no_memory::NoMemory;
@@ -90,10 +90,8 @@ impl Core {
     ) -> Result<bool, NoMemory>
         requires { IsShard self.old.members.shape shard }
         ensures ok { OnOk result (self.new
-            ≡ (self.old ▸ change_if (takes peer view number (group_of shard self.old))
-            (change_group shard (take_entry peer entry.now)))) }
+            ≡ change_group shard (on_append peer view number entry.now) self.old) }
         ensures taken { IfOk result (λ taken. taken ≡ takes peer view number (group_of shard self.old)) }
-        ensures peer { IfOk result (λ taken. taken ≡ true → IsPeer self.old.members.shape peer) }
         ensures kept { Kept self.old self.new }
     {
         let group = &mut self.groups[usize::from(shard)];

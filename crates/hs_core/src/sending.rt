@@ -14,6 +14,7 @@ use hs_journal::Who;
 use hs_limits::ListOf;
 use hs_model::{Deed, Reply};
 use hs_post::{Message, PostFault};
+use hs_rounds::RoundBody;
 use hs_shard::Sent;
 use std::collections::VecDeque;
 
@@ -94,12 +95,19 @@ fn round_of(shard: u8, sent: Sent) -> Message
     ensures { result
         ≡ message.Round shard sent.to sent.epoch sent.round sent.body.total sent.body.deltas }
 {
+    let Sent {
+        to,
+        epoch,
+        round,
+        body,
+    } = sent;
+    let RoundBody { total, deltas } = body;
     Message::Round {
         from: shard,
-        to: sent.to,
-        epoch: sent.epoch,
-        round: sent.round,
-        total: sent.body.total,
-        deltas: sent.body.deltas,
+        to,
+        epoch,
+        round,
+        total,
+        deltas,
     }
 }

@@ -2,7 +2,7 @@
 ghost use Rattle.std.specs.Prelude.{◌≡◌, ◌*◌, length, IfSome};
 ghost use Rattle.hs_core.specs.Keeping.{IsOf};
 ghost use Rattle.hs_core.specs.Renewing.{Renews, lead_sealed, step_at};
-ghost use Rattle.hs_members.specs.Members.{IsPeer};
+ghost use Rattle.hs_members.specs.Members.{IsMembers, IsPeer};
 ghost use Rattle.hs_replica.specs.Group.{IsHome};
 
 use crate::leads::lead_of;
@@ -23,7 +23,8 @@ pub(crate) fn renew_steps(
     requires of { IsOf members.now.shape shard group.now }
     requires steps { length steps.old.items ≡ members.now.shape.shards * members.now.shape.copies }
     requires rejoins { length rejoins.now ≡ members.now.shape.shards * members.now.shape.copies }
-    ensures { Renews members.now group.now rejoins.now shard steps.old.items steps.new.items }
+    ensures renewed { Renews members.now group.now rejoins.now shard steps.old.items steps.new.items }
+    ensures members { IsMembers members.now }
 {
     let shape = members.shape();
     let lead = lead_of(members, group, shard);

@@ -64,9 +64,9 @@ impl Core {
             self.rejoins.as_slice(),
             shard,
         );
-        if told.is_err() {
+        let Ok(()) = told else {
             return Err(NoMemory);
-        }
+        };
         restart(&mut self.operations, shard, number.saturating_sub(1));
         Ok(number)
     }
