@@ -1,7 +1,7 @@
 -- What a peer is from now on.
-use Rattle.std.proofs.Common.{◌≡◌, ◌≢◌, ◌∙◌, sym, ap, refl, ℕ, ◌+◌, ◌*◌, ◌<◌, ◌≤◌, Bool, true, false, List, Option, Some, None, length, set-set}
+use Rattle.std.proofs.Common.{◌≡◌, ◌≢◌, ◌∙◌, sym, ap, refl, ℕ, ◌+◌, ◌*◌, ◌<◌, ◌≤◌, false, List, Option, length, set-set}
 use Rattle.std.proofs.lemmas.List.{get_or-set_other, get_or-set_same, get_or_past, set-get_or}
-use Rattle.std.specs.Prelude.{slice_index, slice_index_or, slice_set}
+use Rattle.std.specs.Prelude.{slice_index_or, slice_set}
 use Rattle.hs_core.specs.Keeping.{AreFronts, AreSteps, IsCore}
 use Rattle.hs_core.specs.Looking.{group_of, rejoin_of, shape_of}
 use Rattle.hs_core.specs.Renewing.{Renews}

@@ -1,5 +1,5 @@
 -- The next copying steps of peers, from what they are made of, and after a change.
-use Rattle.std.proofs.Common.{◌≡◌, ◌≢◌, ◌∙◌, sym, ap, refl, arith, ℕ, zero, suc, ◌+◌, ◌-◌, ◌*◌, ◌/◌, ◌%◌, ◌<◌, ◌≤◌, Bool, true, false, List, [], ◌∷◌, Option, Some, None, length, map, filter}
+use Rattle.std.proofs.Common.{◌≡◌, ◌≢◌, ◌∙◌, sym, ap, refl, arith, ℕ, suc, ◌+◌, ◌-◌, ◌*◌, ◌/◌, ◌%◌, ◌<◌, ◌≤◌, Bool, true, false, List, [], ◌∷◌, Option, Some, None, length, map, filter}
 use Rattle.std.proofs.Math.Decide.{ℕ_discrete}
 use Rattle.std.proofs.lemmas.List.{get_or-set_other, get_or-set_same, get_or_past, length-map, length-set, set-get_or}
 use Rattle.std.proofs.Math.Nat.{mul-le-mul_right, suc-mul}
@@ -7,22 +7,20 @@ use native.Mathlib.Decide.{dec_lt}
 use Rattle.std.proofs.lemmas.Nat.{div-add-mod', div-mul-add, div_below, mod_below}
 use Rattle.std.specs.List.{enumerate_from}
 use Rattle.std.specs.Option.{IfSome, option_map}
-use Rattle.std.specs.Prelude.{if◌then◌else◌, nat_le, slice_index, slice_index_or, slice_set}
+use Rattle.std.specs.Prelude.{if◌then◌else◌, nat_le, slice_index_or, slice_set}
 use Rattle.hs_core.proofs.LeadLemmas.{peer_within}
 use Rattle.hs_core.specs.Changing.{change_group}
 use Rattle.hs_core.specs.Words.{change_if}
 use Rattle.hs_core.specs.Keeping.{AreFronts, AreSteps, IsCore, IsOf, kept_step}
-use Rattle.hs_core.specs.Looking.{copying_step, front_of, group_of, home, lead_of, rejoin_of, shape_of, status_of}
-use Rattle.hs_core.specs.Renewing.{Renews, lead_in, lead_sealed, step_at, step_by}
+use Rattle.hs_core.specs.Looking.{group_of, home, lead_of, rejoin_of, shape_of, status_of}
+use Rattle.hs_core.specs.Renewing.{Renews, lead_in, lead_sealed, step_at}
 use Rattle.hs_core.specs.State.{Core}
 use Rattle.hs_desk.specs.declared.job.Job.{Job}
 use Rattle.hs_entry.specs.declared.entry.Entry.{Entry}
-use Rattle.hs_limits.specs.declared.limits.PeerStatus.{PeerStatus}
 use Rattle.hs_limits.specs.declared.shape.Shape.{Shape}
-use Rattle.hs_limits.specs.Shape.{IsShape, peer_of}
+use Rattle.hs_limits.specs.Shape.{peer_of}
 use Rattle.hs_members.specs.Members.{IsPeer, IsShard, Members, home_of, is_good_status, is_joining, lead_by, longer, longest, status}
 use Rattle.hs_rejoin.specs.Rejoin.{Rejoin, next_job}
-use Rattle.hs_replica.specs.declared.replica.Replica.{Replica}
 use Rattle.hs_replica.specs.Group.{Group, committed, copy_of, first_peer, new_group, no_copy, on_append, take_committed, take_entry, takes}
 use Rattle.hs_replica.specs.Keeping.{KeepsFront}
 
@@ -346,10 +344,10 @@ steps_taken old new shard ss io iw within are m gs rs = record {
     each_of peer h = elim (ℕ_discrete (home peer new) shard) [
       | yes q ↦ are.each peer (old_peer peer h) ∙ sym (inside peer h q)
       | no d ↦ are.each peer (old_peer peer h)
-        ∙ sym (step_elsewhere old new peer (of_home old peer io (old_peer peer h)) (of_home new peer iw h) (ap (λ (x : Members). x.shape) m)
-        (group_beside old new shard (home peer old) (take_committed g) m gs (λ q. d (same_home peer ∙ q)))
-        (λ k at. ap (status k) m)
-        (ap (λ x. slice_index_or x peer None) rs))
+          ∙ sym (step_elsewhere old new peer (of_home old peer io (old_peer peer h)) (of_home new peer iw h) (ap (λ (x : Members). x.shape) m)
+          (group_beside old new shard (home peer old) (take_committed g) m gs (λ q. d (same_home peer ∙ q)))
+          (λ k at. ap (status k) m)
+          (ap (λ x. slice_index_or x peer None) rs))
     ]
 
 -- what taking leaves: the shard and its copies
@@ -390,14 +388,14 @@ taken_number g number entry e = rw e refl
 pub takes_peer : (shape : Shape) (shard peer view number : ℕ) (g : Group) → IsOf shape shard g → takes peer view number g ≡ true → IsPeer shape peer
 takes_peer shape shard peer view number g is e = elim (dec_lt (peer - first_peer g) (length g.copies)) [
   | yes l ↦
-    let first : first_peer g ≡ peer_of shape shard 0 = rw (is.same_shape, is.same_shard) refl in
-    let low : peer < peer_of shape shard 0 + shape.copies = omega (arith, l, first, is.copies) in
-    let m : suc shard * shape.copies ≤ shape.shards * shape.copies = mul-le-mul_right shape.copies (omega (arith, is.within)) in
-    let d : suc shard * shape.copies ≡ shard * shape.copies + shape.copies = suc-mul shard shape.copies in
-    omega (arith, low, m, d)
+      let first : first_peer g ≡ peer_of shape shard 0 = rw (is.same_shape, is.same_shard) refl in
+      let low : peer < peer_of shape shard 0 + shape.copies = omega (arith, l, first, is.copies) in
+      let m : suc shard * shape.copies ≤ shape.shards * shape.copies = mul-le-mul_right shape.copies (omega (arith, is.within)) in
+      let d : suc shard * shape.copies ≡ shard * shape.copies + shape.copies = suc-mul shard shape.copies in
+      omega (arith, low, m, d)
   | no n ↦
-    let past : copy_of g peer ≡ no_copy = get_or_past g.copies (peer - first_peer g) no_copy (omega (arith, n)) in
-    let wrong : false ≡ true = rw past at e in cc
+      let past : copy_of g peer ≡ no_copy = get_or_past g.copies (peer - first_peer g) no_copy (omega (arith, n)) in
+      let wrong : false ≡ true = rw past at e in cc
 ]
 
 -- where it is not taken nothing changes

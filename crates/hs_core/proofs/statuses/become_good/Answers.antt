@@ -13,7 +13,7 @@ returns-clause-ok c =
     let long : peer < length m.statuses = grind (arith, common_steps) in
     elim c.if-eq-2.branch [
       | then-eq-2+in_ok-start w ↦
-        let down : status peer m ≡ Down = grind (arith, common_steps) in
-        c.join.ensures ∙ ap (become peer Good) (w.members-is ∙ w.in_ok-start.ensures.ok) ∙ good_by_joining peer m long down
+          let down : status peer m ≡ Down = grind (arith, common_steps) in
+          c.join.ensures ∙ ap (become peer Good) (w.members-is ∙ w.in_ok-start.ensures.ok) ∙ good_by_joining peer m long down
       | else-eq-2 w ↦ c.join.ensures ∙ ap (become peer Good) w.members-is
     ]

@@ -1,19 +1,7 @@
-use Rattle.std.proofs.Common.{◌≡◌, ◌∙◌, sym, ap, refl, arith, false, true, None}
+use Rattle.std.proofs.Common.{◌≡◌, ◌∙◌, sym, refl, arith, None}
 use Rattle.std.proofs.lemmas.Grind.{common_steps}
-use Rattle.std.proofs.lemmas.List.{length-set}
-use Rattle.std.specs.Prelude.{slice_set}
-use Rattle.hs_core.specs.declared.core_state.Core.TheView.{view}
-use Rattle.hs_core.specs.Keeping.{IsOf}
-use Rattle.hs_core.specs.Looking.{group_of, home, shape_of}
-use Rattle.hs_core.specs.Renewing.{Renews}
 use Rattle.hs_core.specs.State.{Core}
-use Rattle.hs_limits.specs.declared.limits.PeerStatus.TheVariants.{Down, Good, Joining}
-use Rattle.hs_members.specs.Members.{IsShard, Members, become, home_of}
-use Rattle.hs_replica.specs.Group.{Group, committed, take_committed}
-use Rattle.hs_replica.specs.Keeping.{KeepsFront}
-use Rattle.hs_core.proofs.StatusLemmas.{core_told, fronts_same, steps_told}
-use Rattle.hs_core.proofs.StepLemmas.{core_after, core_taken, fronts_after, fronts_told, of_kept, rejoin_beside, steps_after, steps_renewed, steps_taken, taken_number}
-use Rattle.std.proofs.Common.{None, Some, Option, ℕ, subst}
+use Rattle.std.proofs.Common.{None, Some, subst}
 use Rattle.hs_core.specs.Changing.{add_entry_tasks}
 use Rattle.hs_core.specs.Anew.{group_anew}
 use Rattle.hs_core.specs.Keeping.{IsCore}

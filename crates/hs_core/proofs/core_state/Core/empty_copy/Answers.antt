@@ -1,18 +1,15 @@
-use Rattle.std.proofs.Common.{◌≡◌, ◌∙◌, sym, ap, refl, arith, false, true, None}
+use Rattle.std.proofs.Common.{◌≡◌, sym, refl, arith}
 use Rattle.std.proofs.lemmas.Grind.{common_steps}
 use Rattle.std.proofs.lemmas.List.{length-set}
 use Rattle.std.specs.Prelude.{slice_set}
 use Rattle.hs_core.specs.declared.core_state.Core.TheView.{view}
-use Rattle.hs_core.specs.Keeping.{IsOf}
-use Rattle.hs_core.specs.Looking.{group_of, home, shape_of}
+use Rattle.hs_core.specs.Looking.{group_of, shape_of}
 use Rattle.hs_core.specs.Renewing.{Renews}
 use Rattle.hs_core.specs.State.{Core}
-use Rattle.hs_limits.specs.declared.limits.PeerStatus.TheVariants.{Down, Good, Joining}
-use Rattle.hs_members.specs.Members.{IsShard, Members, become, home_of}
-use Rattle.hs_replica.specs.Group.{Group, committed, take_committed}
+use Rattle.hs_members.specs.Members.{IsShard, home_of}
+use Rattle.hs_replica.specs.Group.{Group}
 use Rattle.hs_replica.specs.Keeping.{KeepsFront}
-use Rattle.hs_core.proofs.StatusLemmas.{core_told, fronts_same, steps_told}
-use Rattle.hs_core.proofs.StepLemmas.{core_after, core_taken, fronts_after, fronts_told, of_kept, rejoin_beside, steps_after, steps_renewed, steps_taken, taken_number}
+use Rattle.hs_core.proofs.StepLemmas.{core_after, fronts_after, rejoin_beside, steps_after}
 use Rattle.hs_core.proofs.core_state.Core.empty_copy.Goals as goal
 
 pub invariant_of-self : goal.invariant_of-self
