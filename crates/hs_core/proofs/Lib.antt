@@ -4,6 +4,7 @@ mod Driving
 mod EntryLemmas
 mod Examples
 mod GoingLemmas
+mod JoinLemmas
 mod JoiningLemmas
 mod KeptLemmas
 mod LeadLemmas
@@ -15,4 +16,6 @@ mod RangeLemmas
 mod ReportLemmas
 mod SeatLemmas
 mod SightLemmas
+mod StatusLemmas
+mod StepLemmas
 mod ViewLemmas

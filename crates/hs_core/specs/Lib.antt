@@ -14,6 +14,7 @@ pub mod Looking
 pub mod Opening
 pub mod Operating
 pub mod Pending
+pub mod Renewing
 pub mod Reporting
 pub mod Seeing
 pub mod State

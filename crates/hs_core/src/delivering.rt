@@ -89,7 +89,7 @@ impl Core {
         if !self.is_good(to) {
             return Ok(());
         }
-        self.take_have_in(shard, from, view, sealed)?;
+        self.take_have_in(shard, from, view, sealed);
         if shard >= self.shape().shards {
             return Ok(());
         }

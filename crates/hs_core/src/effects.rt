@@ -39,7 +39,7 @@ impl Core {
         ensures ok { OnOk result (self.new ≡ commit_next shard self.old) }
         ensures kept { Kept self.old self.new }
     {
-        let Some((number, entry)) = self.take_committed(shard)? else {
+        let Some((number, entry)) = self.take_committed(shard) else {
             return Ok(());
         };
         self.take_handed(shard, number, entry)

@@ -43,7 +43,7 @@ impl Core {
         let was_lead = is_peer(peer, self.lead(shard));
         self.leave(peer)?;
         self.change_view_if(was_good, shard)?;
-        self.begin_joining_if(was_lead, shard)?;
+        self.begin_joining_if(was_lead, shard);
         self.commit_rest_if(was_good, shard)
     }
 
@@ -60,44 +60,40 @@ impl Core {
     }
 
     /// The joining peers of a shard begin again, where its lead is gone.
-    fn begin_joining_if(&mut self, was_lead: bool, shard: u8) -> Result<(), NoMemory>
+    fn begin_joining_if(&mut self, was_lead: bool, shard: u8)
         requires { IsShard self.old.members.shape shard }
-        ensures ok { OnOk result (self.new ≡ change_if was_lead
-            (λ core. each (joining_peers shard core) begin_joining core) self.old) }
+        ensures ok { self.new ≡ change_if was_lead
+            (λ core. each (joining_peers shard core) begin_joining core) self.old }
         ensures kept { Kept self.old self.new }
     {
         if was_lead {
-            self.begin_all_joining(shard)?;
+            self.begin_all_joining(shard);
         }
-        Ok(())
     }
 
     /// The joining peers of a shard begin again.
     #[tactic(auto, using(crate::proofs::JoiningLemmas::each_from_next, crate::proofs::JoiningLemmas::each_from_end, crate::proofs::JoiningLemmas::each_from_begin))]
-    fn begin_all_joining(&mut self, shard: u8) -> Result<(), NoMemory>
+    fn begin_all_joining(&mut self, shard: u8)
         requires { IsShard self.old.members.shape shard }
-        ensures ok { OnOk result (self.new
-            ≡ each (joining_peers shard self.old) begin_joining self.old) }
+        ensures ok { self.new ≡ each (joining_peers shard self.old) begin_joining self.old }
         ensures kept { Kept self.old self.new }
     {
         let shape = self.shape();
         for copy in 0..shape.copies {
-            self.begin_if_joining(peer_of(shard, copy, shape))?;
+            self.begin_if_joining(peer_of(shard, copy, shape));
         }
-        Ok(())
     }
 
     /// A peer begins again, if it is joining.
-    fn begin_if_joining(&mut self, peer: u8) -> Result<(), NoMemory>
+    fn begin_if_joining(&mut self, peer: u8)
         requires { IsPeer self.old.members.shape peer }
-        ensures ok { OnOk result (self.new
-            ≡ change_if (is_joining (status_of peer self.old)) (begin_joining peer) self.old) }
+        ensures ok { self.new
+            ≡ change_if (is_joining (status_of peer self.old)) (begin_joining peer) self.old }
         ensures kept { Kept self.old self.new }
     {
         if self.status(peer) == PeerStatus::Joining {
-            self.begin_joining(peer)?;
+            self.begin_joining(peer);
         }
-        Ok(())
     }
 
     /// What all good peers that are left have sealed takes effect, where the good peers have changed.

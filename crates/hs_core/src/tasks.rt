@@ -18,7 +18,8 @@ impl Core {
         entry: Entry,
     ) -> Result<(), NoMemory>
         requires { IsPeer self.old.members.shape peer }
-        ensures { OnOk result (self.new ≡ add_entry_tasks peer number entry self.old) }
+        ensures ok { OnOk result (self.new ≡ add_entry_tasks peer number entry self.old) }
+        ensures kept { Kept self.old self.new }
     {
         let append = Job::Append { number, entry };
         self.add_task(

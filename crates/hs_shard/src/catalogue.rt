@@ -19,6 +19,7 @@ use std::alloc::Global;
 use std::marker::Model;
 
 mod clients;
+mod copying;
 mod plain;
 mod rounds;
 mod taking;

@@ -22,14 +22,14 @@ loop-copy-preserved c =
     let peer : ℕ = c.peer_of.result in
     let at : peer ≡ first + copy = c.peer_of.ensures ∙ ap (λ (s : Shape). peer_of s c.args.shard copy) c.shape-shape.ensures.value ∙ omega arith in
     let same : mid.members ≡ old.members = c.loop-copy.invariant.members in
-    let ok : new ≡ change_if (is_joining (status_of peer mid)) (begin_joining peer) mid = c.in_ok-begin_if_joining.ensures.ok in
+    let ok : new ≡ change_if (is_joining (status_of peer mid)) (begin_joining peer) mid = c.begin_if_joining.ensures.ok in
     let tested : new ≡ change_if (test peer) (begin_joining peer) mid = ok ∙ ap (λ (m : Members). change_if (is_joining (status peer m)) (begin_joining peer) mid) same in
     let made : new ≡ change_if (test (first + copy)) (begin_joining (first + copy)) mid = tested ∙ ap (λ p. change_if (test p) (begin_joining p) mid) at in
     let copies : c.shape-shape.result.copies ≡ shape.copies = ap (λ (s : Shape). s.copies) c.shape-shape.ensures.value in
     let less : copy < shape.copies = omega (arith, c.loop-copy-test.true, copies) in
     let next = each_from_next test begin_joining first copy shape.copies mid less in
     record {
-      kept = kept_then old mid new c.loop-copy.invariant.kept c.in_ok-begin_if_joining.ensures.kept;
+      kept = kept_then old mid new c.loop-copy.invariant.kept c.begin_if_joining.ensures.kept;
       members = ap (λ (x : Core). x.members) ok ∙ members_if (is_joining (status_of peer mid)) peer mid ∙ same;
       begun = ap (λ x. each_from test begin_joining (first + (copy + 1)) (shape.copies - (copy + 1)) x) made ∙ sym next ∙ c.loop-copy.invariant.begun;
     }

@@ -8,5 +8,5 @@ pub returns-in_default-clause-ok : goal.returns-in_default-clause-ok
 returns-in_default-clause-ok c =
     let shard = c.args.shard in
     let core = c.args.self.now in
-    let none : committed (group_of shard core) ≡ None = sym c.in_ok-number.ensures.entry ∙ c.in_default.is in
-    c.in_ok-number.ensures.ok ∙ commit_none shard core none
+    let none : committed (group_of shard core) ≡ None = sym c.take_committed.ensures.entry ∙ c.in_default.is in
+    c.take_committed.ensures.rest ∙ commit_none shard core none
