@@ -1,5 +1,5 @@
 #!/usr/bin/env python3
-"""Measures one shard's catalogue in memory: time of an entry, memory, and what deletion runs cost.
+"""Measures one shard's catalogue in memory: processor time of an entry, memory, and what deletion runs cost.
 
 It runs the program of crates/hs_shard_bench, which fills a catalogue and does deletion runs, and takes one run from
 another: what a step costs is what a run with it costs more than one without. Instructions are counted by valgrind's
@@ -13,7 +13,6 @@ import statistics
 import subprocess
 import sys
 import tempfile
-import time
 
 GROUP = 64
 POINTERS = 64
@@ -25,19 +24,18 @@ TOLD = re.compile(r"(\d+) blocks, (\d+) roots, epoch (\d+), swept (\d+), (\d+) b
 
 
 class Counts:
-    """A run of the program: what it printed, its seconds, its greatest memory, its instructions if they were counted.
+    """A run of the program: what it printed, its seconds of a processor, its greatest memory, its instructions if they were counted.
 
     The greatest memory is that of the whole process. The system counts what this script had when it began it, too, so
     that a smaller number than this script's own is not seen.
     """
 
     def __init__(self, program, blocks, dropped, steps, before=()):
-        start = time.perf_counter()
         words = [*before, program, str(blocks), str(dropped), str(steps)]
         done = subprocess.Popen(words, stdout=subprocess.PIPE, stderr=subprocess.PIPE)
         printed, told = done.stdout.read(), done.stderr.read()
         _, status, usage = os.wait4(done.pid, 0)
-        self.seconds = time.perf_counter() - start
+        self.seconds = usage.ru_utime + usage.ru_stime
         self.printed = printed.decode()
         self.bytes = usage.ru_maxrss * 1024
         if status != 0:
@@ -58,7 +56,7 @@ def groups_of(blocks):
 
 
 def time_and_memory(program, blocks, rounds):
-    """Prints the time of an entry and the memory of the filled catalogue, also behind deletion runs."""
+    """Prints the processor time of an entry and the memory of the filled catalogue, also behind deletion runs."""
     entries = blocks + groups_of(blocks) + 1
     made = median(program, blocks, 0, 0, rounds)
     filled = median(program, blocks, 0, 1, rounds)
