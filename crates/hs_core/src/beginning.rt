@@ -69,7 +69,13 @@ impl Core {
         let sight = self.sight(aim)?;
         let roots = self.catalogue(aim.shard).roots();
         let view = sight.view(aim, busy, self.limits, &self.sessions, roots);
-        judge(self.alloc, operation, &view, sight.pointers.as_slice(), &Next::Go)
+        judge(
+            self.alloc,
+            operation,
+            &view,
+            sight.pointers.as_slice(),
+            &Next::Go,
+        )
     }
 
     /// An operation more is without an answer.

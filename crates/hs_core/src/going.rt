@@ -72,9 +72,11 @@ impl Core {
     /// The operation of a line takes its next step, by what it sees.
     fn judge_at(&mut self, line: u64, aim: Aim, how: &Next) -> Result<Judged, NoMemory>
         requires shard { IsShard self.old.members.shape aim.shard }
-        ensures ok { OnOk result (self.new ≡ record self.old { operations = judge_in how.now
-            (sight_of aim self.old).pointers (view_by (sight_of aim self.old) aim None self.old)
-            line self.old.operations }) }
+        ensures ok { OnOk result (self.new ≡ record self.old {
+          operations = judge_in how.now
+              (sight_of aim self.old).pointers (view_by (sight_of aim self.old) aim None self.old)
+              line self.old.operations;
+        }) }
         ensures step { (w : Waiting) → operation_of line self.old ≡ Some w
             → IfOk result (λ judged. judged.step ≡ step_by how.now aim None self.old w.operation) }
         ensures helds { (w : Waiting) → operation_of line self.old ≡ Some w

@@ -8,7 +8,6 @@ ghost use Rattle.hs_roots.specs.Roots.{retained_count};
 use crate::Core;
 use crate::aim::Aim;
 use crate::no_memory::NoMemory;
-use crate::stubs::copy_pointers;
 use hs_limits::{Address, Limits, ListOf};
 use hs_ops::OpView;
 use hs_roots::RootSet;
@@ -107,7 +106,10 @@ impl Core {
         let Some(address) = aim.address else {
             return Ok(ListOf::new(self.alloc));
         };
-        copy_pointers(&mut self.catalogues[usize::from(aim.shard)], &address)
+        match self.catalogues[usize::from(aim.shard)].copy_pointers(&address) {
+            Ok(pointers) => Ok(pointers),
+            Err(_) => Err(NoMemory),
+        }
     }
 }
 

@@ -19,6 +19,7 @@ use std::alloc::Global;
 use std::marker::Model;
 
 mod clients;
+mod copying;
 mod rounds;
 
 /// What a shard's entries amount to: its present blocks without their data, its roots, its epoch and
