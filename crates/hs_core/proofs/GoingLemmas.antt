@@ -1,6 +1,6 @@
 -- An operation goes on: its parts are the whole.
-use Rattle.std.proofs.Common.{◌≡◌, ◌∙◌, sym, ap, subst, ℕ, ◌+◌, not, List, [], Bool, Option, Some, None, option_map, refl, if◌then◌else◌}
-use Rattle.std.specs.BTreeMap.{insert_entry, is_at}
+use Rattle.std.proofs.Common.{◌≡◌, ◌∙◌, sym, ap, subst, ℕ, ◌+◌, not, List, Option, Some, None, option_map, refl, if◌then◌else◌}
+use Rattle.std.specs.BTreeMap.{is_at}
 use Rattle.std.specs.Map.{remove_entry, set_value}
 use Rattle.std.specs.Ordering.{nat_cmp}
 use Rattle.std.specs.Prelude.{false, slice_index_or}
@@ -11,24 +11,20 @@ use Rattle.hs_core.specs.Changing.{add_operation, note, put_operation}
 use Rattle.hs_core.specs.declared.aim.Aim.{Aim}
 use Rattle.hs_core.specs.declared.next.Next.{Next}
 use Rattle.hs_core.specs.declared.next.Next.TheVariants as next
-use Rattle.hs_core.specs.declared.sight.Sight.{Sight}
 use Rattle.hs_core.specs.declared.wait.Wait.{Wait}
 use Rattle.hs_core.specs.declared.wait.Wait.TheVariants as wait
 use Rattle.hs_core.specs.declared.waiting.Waiting.{Waiting}
 use Rattle.hs_core.specs.Going.{aim_of, answer_with, carry_by, given_by, go_by, gains_by, holds_by, judge_in, judged_by, next_step, seats_by, set_wait, sight_of, step_by, view_by}
 use Rattle.hs_core.specs.Looking.{group_of, lead_of, operation_of, shape_of}
-use Rattle.hs_core.specs.Operating.{add_read, begin_line, busy_line, carry_out, propose_entry, take_step, wait_for, what_holds}
-use Rattle.hs_core.specs.Pending.{is_coming}
+use Rattle.hs_core.specs.Operating.{add_read, begin_line, busy_line, propose_entry, take_step, wait_for, what_holds}
 use Rattle.hs_core.specs.Seeing.{pointers_for, view_for}
 use Rattle.hs_core.specs.State.{Core}
-use Rattle.hs_core.specs.Words.{change_with, ◌▸◌}
-use Rattle.hs_entry.specs.declared.entry.Entry.{Entry}
+use Rattle.hs_core.specs.Words.{change_with}
 use Rattle.hs_journal.specs.declared.entry.Who.TheVariants as who
-use Rattle.hs_limits.specs.declared.address.Address.{Address}
 use Rattle.hs_limits.specs.declared.address.Held.{Held}
 use Rattle.hs_model.specs.declared.op.Op.{Op}
 use Rattle.hs_model.specs.declared.reply.Reply.{Reply}
-use Rattle.hs_ops.specs.Answers.{deed_of, gained, seats_after}
+use Rattle.hs_ops.specs.Answers.{deed_of, gained}
 use Rattle.hs_ops.specs.declared.step.OpStep.{OpStep}
 use Rattle.hs_ops.specs.declared.step.OpStep.TheVariants as step
 use Rattle.hs_ops.specs.Operations.{Operation, after_step, go_step, new_operation}

@@ -1,5 +1,5 @@
 -- What stays of a core, step by step.
-use Rattle.std.proofs.Common.{◌≡◌, ◌∙◌, refl}
+use Rattle.std.proofs.Common.{◌∙◌}
 use Rattle.hs_core.specs.Keeping.{Kept}
 use Rattle.hs_core.specs.State.{Core}
 

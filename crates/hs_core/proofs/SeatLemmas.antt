@@ -13,7 +13,7 @@ use Rattle.hs_model.specs.declared.reply.Reply.{Reply}
 use Rattle.hs_model.specs.Judge.{asked_of, given_address, written_deed}
 use Rattle.hs_ops.specs.Answers.{deed_of, done_deed, handle_in, is_done, is_dup, seated, seats_after}
 use Rattle.hs_ops.specs.Speaking.{asked_pointers}
-use Rattle.hs_tokens.specs.Seats.{Seat, Seats, hold, name_cmp, put_seat, seat_of, with_held, with_helds}
+use Rattle.hs_tokens.specs.Seats.{Seat, Seats, hold, name_cmp, seat_of, with_held, with_helds}
 
 -- one after another is all at once
 pub hold_each_is : (name : List ℕ) (helds : List Held) (seats : Seats) → hold_each name helds seats ≡ hold name helds seats

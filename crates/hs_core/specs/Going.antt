@@ -18,7 +18,6 @@ use Rattle.hs_core.specs.Pending.{has_block_room, has_root_room, is_block, is_co
 use Rattle.hs_core.specs.Seeing.{pointers_for, view_for}
 use Rattle.hs_core.specs.State.{Core}
 use Rattle.hs_core.specs.Words.{change_with, ◌▸◌}
-use Rattle.hs_entry.specs.declared.entry.Entry.{Entry}
 use Rattle.hs_journal.specs.declared.entry.Who.TheVariants as who
 use Rattle.hs_limits.specs.declared.address.Address.{Address}
 use Rattle.hs_limits.specs.declared.address.Held.{Held}

@@ -32,7 +32,7 @@ impl Core {
         let Judged { step, helds } = judged;
         match step {
             OpStep::Answer(reply) => self.answer(line, reply, helds),
-            OpStep::Propose(entry) => self.propose(line, aim.shard, entry),
+            OpStep::Propose(entry) => self.propose_for(line, aim.shard, entry),
             OpStep::Compare { number } => self.compare(line, aim.shard, number),
             OpStep::Wait => {
                 let what = self.holds_by(aim);
@@ -58,7 +58,7 @@ impl Core {
     }
 
     /// An operation proposes its entry, and waits for it.
-    fn propose(&mut self, line: u64, shard: u8, entry: Entry) -> Result<(), NoMemory>
+    fn propose_for(&mut self, line: u64, shard: u8, entry: Entry) -> Result<(), NoMemory>
         requires { IsShard self.old.members.shape shard }
         ensures ok { OnOk result (self.new ≡ (self.old
             ▸ set_wait line (wait.Entry (last_number (group_of shard self.old) + 1))

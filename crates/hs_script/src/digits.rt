@@ -41,10 +41,8 @@ const HIGH: [u16; 256] = [
     256, 256, 256, 256, 256, 256, 256, 256,
 ];
 
-/// Writes the bytes of the digits, two for each. False where a digit is none. It is a call of its own,
-/// so that the tables' places stay in registers.
+/// Writes the bytes of the digits, two for each. False where a digit is none.
 #[tactic(auto, using(crate::proofs::DigitLemmas::decodes_more, crate::proofs::DigitLemmas::decodes_not, crate::proofs::DigitLemmas::decodes_all))]
-#[inline(never)]
 pub(crate) fn decode(digits: &[u8], bytes: &mut [u8]) -> bool
     requires { length digits.now ≡ 2 * length bytes.old }
     ensures { Decodes result (decode_pairs 0 digits.now) bytes.new }

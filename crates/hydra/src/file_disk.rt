@@ -9,6 +9,7 @@ use crate::side_file::SideFile;
 use hs_ports::{Disk, PortFault, Side, Watch};
 use std::alloc::Global;
 use std::fs::{File, OpenFile, OpenOptions, TryLockError};
+use std::io::{Seek, SeekFrom};
 use std::os::fd::AsRawFd;
 use std::os::unix::fs::FileExt;
 use std::rt::Files;
@@ -25,7 +26,7 @@ pub struct FileDisk<F> {
     pub is_taken: bool,
 }
 
-impl<F: FileExt + OpenFile + Drop> FileDisk<F> {
+impl<F: FileExt + OpenFile + Seek + Drop> FileDisk<F> {
     /// The disk of these files; one whose calls all fail where there are none, or where a length
     /// can't be had.
     pub fn new(files: Option<(F, F)>) -> FileDisk<F>
@@ -34,13 +35,13 @@ impl<F: FileExt + OpenFile + Drop> FileDisk<F> {
         ensures faults { ⟦<FileDisk<F> as Disk>⟧.faults result ≡ 0 }
         ensures taken { result.is_taken ≡ false }
     {
-        let Some((zero, one)) = files else {
+        let Some((mut zero, mut one)) = files else {
             return FileDisk::absent(false);
         };
-        match (zero.metadata(), one.metadata()) {
-            (Ok(zero_data), Ok(one_data)) => FileDisk {
-                zero: SideFile::new(zero, zero_data.len()),
-                one: SideFile::new(one, one_data.len()),
+        match (zero.seek(SeekFrom::End(0)), one.seek(SeekFrom::End(0))) {
+            (Ok(zero_len), Ok(one_len)) => FileDisk {
+                zero: SideFile::new(zero, zero_len),
+                one: SideFile::new(one, one_len),
                 count: FaultCount::new(),
                 is_taken: false,
             },
