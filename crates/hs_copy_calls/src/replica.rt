@@ -35,7 +35,7 @@ fn append(group: &mut Group) -> Result<bool, GroupFault>
     requires { IsPair group.old }
     ensures { OnOk result (IsPair group.new) }
 {
-    group.on_append(1, 1, 1, Entry::View { view: 1 })
+    group.on_append(1, 1, 1, &Entry::View { view: 1 })
 }
 
 /// A peer has sealed it.
