@@ -32,14 +32,26 @@ fn opened(alloc: Global) -> Result<Core, Fail>
     let views = one(alloc, 0)?;
     let lengths = one(alloc, 0)?;
     let good = one(alloc, true)?;
-    let core = Core::open(alloc, SHAPE, Limits::greatest(), logs, views, lengths, good, 5)?;
+    let core = Core::open(
+        alloc,
+        SHAPE,
+        Limits::greatest(),
+        logs,
+        views,
+        lengths,
+        good,
+        5,
+    )?;
     Ok(core)
 }
 
 #[test]
 fn a_core_opens_and_nothing_was_answered(rt: HostRuntime) -> Result<(), Fail> {
     let core = opened(rt.alloc())?;
-    assert_eq!(rt; (core.last_line(), core.last_moment(), core.ended()), (0, 5, None));
+    assert_eq!(rt;
+        (core.last_line(), core.last_moment(), core.ended()),
+        (0, 5, None)
+    );
     assert!(rt; core.journal().entries().is_empty());
     assert!(rt; core.refused().is_empty());
     assert_eq!(rt; core.held(&name(rt.alloc())?, 0), None);
@@ -50,7 +62,10 @@ fn a_core_opens_and_nothing_was_answered(rt: HostRuntime) -> Result<(), Fail> {
 fn a_core_that_opens_proposes_a_view(rt: HostRuntime) -> Result<(), Fail> {
     let core = opened(rt.alloc())?;
     assert!(rt; core.open_work());
-    assert_eq!(rt; (core.status(0), core.oldest_for(0)), (PeerStatus::Good, None));
+    assert_eq!(rt;
+        (core.status(0), core.oldest_for(0)),
+        (PeerStatus::Good, None)
+    );
     let job = core.first_job(0);
     assert!(rt;
         matches!(

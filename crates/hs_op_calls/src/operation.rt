@@ -79,7 +79,15 @@ fn a_write_of_an_absent_block_is_proposed(rt: HostRuntime) -> Result<(), Fail> {
 fn a_write_that_was_stored_is_answered(rt: HostRuntime) -> Result<(), Fail> {
     let sessions = one_session(rt.alloc())?;
     let step = told(rt.alloc(), &sessions, What::Stored)?;
-    assert!(rt; matches!(step, OpStep::Answer(Reply::New { handle: 0, epoch: 1 })));
+    assert!(rt;
+        matches!(
+            step,
+            OpStep::Answer(Reply::New {
+                handle: 0,
+                epoch: 1
+            })
+        )
+    );
     Ok(())
 }
 
@@ -104,6 +112,15 @@ fn a_write_of_a_present_block_is_compared(rt: HostRuntime) -> Result<(), Fail> {
     assert!(rt; matches!(step, OpStep::Compare { number: 2 }));
     assert_eq!(rt; stage, Stage::Reading { number: 2 });
     let step = compared(rt.alloc(), &sessions)?;
-    assert!(rt; matches!(step, OpStep::Propose(Entry::Mark { op: 2, block: 2, .. })));
+    assert!(rt;
+        matches!(
+            step,
+            OpStep::Propose(Entry::Mark {
+                op: 2,
+                block: 2,
+                ..
+            })
+        )
+    );
     Ok(())
 }
