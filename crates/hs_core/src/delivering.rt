@@ -1,8 +1,7 @@
 //! How a message is handled.
 ghost use Rattle.std.specs.Prelude.{◌≡◌, OnOk};
-ghost use Rattle.std.specs.List.{list_any};
 ghost use Rattle.hs_core.specs.Asking.{deliver, with_message};
-ghost use Rattle.hs_core.specs.Delivering.{handle, is_got, is_new_round, take_have};
+ghost use Rattle.hs_core.specs.Delivering.{handle, is_new_round, take_have};
 ghost use Rattle.hs_core.specs.Keeping.{Kept};
 ghost use Rattle.hs_core.specs.Looking.{status_of};
 ghost use Rattle.hs_core.specs.Operating.{propose_entry};
@@ -125,7 +124,9 @@ impl Core {
                 .run()
                 .body(place.from, place.epoch, place.round)
                 .is_none()
-            && !waits_as_got(self.group(shard).waiting(), place)
+            && !self
+                .group(shard)
+                .waits_as_got(place.from, place.epoch, place.round)
     }
 
     /// Whether there is such a peer, and it is good.
@@ -134,36 +135,5 @@ impl Core {
     {
         let shape = self.shape();
         peer < shape.shards * shape.copies && self.status(peer) == PeerStatus::Good
-    }
-}
-
-/// Whether the Got of a round has not taken effect.
-fn waits_as_got(waiting: &[Entry], place: Place) -> bool
-    ensures { result ≡ list_any (is_got place.from place.epoch place.round) waiting.now }
-{
-    waiting.iter().any(|entry| is_got(entry, place))
-}
-
-/// Whether an entry is the Got of a round.
-fn is_got(entry: &Entry, place: Place) -> bool
-    ensures { result ≡ is_got place.from place.epoch place.round entry.now }
-{
-    match entry {
-        Entry::Got {
-            sender,
-            epoch,
-            round,
-            ..
-        } => *sender == place.from && *epoch == place.epoch && *round == place.round,
-        Entry::View { .. }
-        | Entry::Block { .. }
-        | Entry::Mark { .. }
-        | Entry::Root { .. }
-        | Entry::Drop { .. }
-        | Entry::Enter { .. }
-        | Entry::Base { .. }
-        | Entry::KeptBlock { .. }
-        | Entry::KeptRoot { .. }
-        | Entry::KeptRound { .. } => false,
     }
 }

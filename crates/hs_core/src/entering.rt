@@ -1,7 +1,6 @@
 //! When a shard's lead proposes an Enter that nobody asked it for.
 ghost use Rattle.std.specs.Prelude.{◌≡◌, ◌+◌, OnOk};
-ghost use Rattle.std.specs.List.{list_any};
-ghost use Rattle.hs_core.specs.Entering.{enters, is_enter_due, propose_due};
+ghost use Rattle.hs_core.specs.Entering.{is_enter_due, propose_due};
 ghost use Rattle.hs_core.specs.Keeping.{Kept};
 ghost use Rattle.hs_core.specs.Looking.{catalogue_of};
 ghost use Rattle.hs_members.specs.Members.{IsShard};
@@ -39,32 +38,6 @@ impl Core {
         shard != 0
             && catalogue.swept() == catalogue.epoch()
             && catalogue.run().has_come(next, 0)
-            && !waits_to_enter(self.group(shard).waiting(), next)
-    }
-}
-
-/// Whether an Enter of this epoch has not taken effect.
-fn waits_to_enter(waiting: &[Entry], next: u64) -> bool
-    ensures { result ≡ list_any (enters next) waiting.now }
-{
-    waiting.iter().any(|entry| enters(entry, next))
-}
-
-/// Whether an entry enters this epoch.
-fn enters(entry: &Entry, next: u64) -> bool
-    ensures { result ≡ enters next entry.now }
-{
-    match entry {
-        Entry::Enter { epoch, .. } => *epoch == next,
-        Entry::View { .. }
-        | Entry::Block { .. }
-        | Entry::Mark { .. }
-        | Entry::Root { .. }
-        | Entry::Drop { .. }
-        | Entry::Got { .. }
-        | Entry::Base { .. }
-        | Entry::KeptBlock { .. }
-        | Entry::KeptRoot { .. }
-        | Entry::KeptRound { .. } => false,
+            && !self.group(shard).waits_to_enter(next)
     }
 }

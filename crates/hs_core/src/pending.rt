@@ -143,8 +143,7 @@ impl Core {
         requires { IsShard self.now.members.shape shard }
         ensures { result ≡ count_by is_block (group_of shard self.now).waiting }
     {
-        let waiting = self.group(shard).waiting();
-        waiting.iter().filter(|entry| is_block(entry)).count() as u64
+        self.group(shard).blocks_waiting()
     }
 
     /// How many Roots have not taken effect.
@@ -152,21 +151,6 @@ impl Core {
         requires { IsShard self.now.members.shape shard }
         ensures { result ≡ count_by is_root (group_of shard self.now).waiting }
     {
-        let waiting = self.group(shard).waiting();
-        waiting.iter().filter(|entry| is_root(entry)).count() as u64
+        self.group(shard).roots_waiting()
     }
-}
-
-/// Whether an entry stores a block.
-fn is_block(entry: &Entry) -> bool
-    ensures { result ≡ is_block entry.now }
-{
-    matches!(entry, Entry::Block { .. })
-}
-
-/// Whether an entry puts a root.
-fn is_root(entry: &Entry) -> bool
-    ensures { result ≡ is_root entry.now }
-{
-    matches!(entry, Entry::Root { .. })
 }

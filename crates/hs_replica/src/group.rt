@@ -1,10 +1,12 @@
 //! The copies of one shard's list.
-ghost use Rattle.std.specs.Prelude.{◌≡◌, ◌+◌, ◌-◌, ◌<◌, length, map, IfOk, IfSome, OnErr, OnOk, slice_index_or};
+ghost use Rattle.std.specs.Prelude.{◌≡◌, ◌+◌, ◌-◌, ◌<◌, count_by, length, map, IfOk, IfSome, OnErr, OnOk, slice_index_or};
+ghost use Rattle.std.specs.List.{list_any};
 ghost use Rattle.hs_entry.specs.declared.entry.Entry.TheVariants.{View};
 ghost use Rattle.hs_limits.specs.Shape.{IsShape};
 ghost use Rattle.hs_members.specs.Members.{IsShard};
 ghost use Rattle.hs_post.specs.declared.message.Message.TheVariants.{Copy};
 ghost use Rattle.hs_replica.specs.Group.{IsHome, commit_front, committed, copies_above, copy_of, first_peer, have, last_number, lead, lead_takes, length_of, new_group, no_copy, on_append, on_copied, on_emptied, on_have, on_sealed, on_view, others_from, proposal, propose, renew, resend, send_all, take_committed, takes, view_messages};
+ghost use Rattle.hs_replica.specs.Kinds.{enters, is_block, is_got, is_root};
 ghost use Rattle.hs_replica.specs.Keeping.{KeepsFront, take_at, takes_at};
 ghost use Rattle.hs_replica.specs.Sending.{copies_since, send_if_other};
 
@@ -274,6 +276,34 @@ impl Group {
         ensures { result.now ≡ self.now.waiting }
     {
         self.waiting.as_slice()
+    }
+
+    /// How many of these are Blocks, which store blocks. It takes no memory.
+    pub fn blocks_waiting(&self) -> u64
+        ensures { result ≡ count_by is_block self.now.waiting }
+    {
+        self.waiting.blocks()
+    }
+
+    /// How many of these are Roots, which put roots. It takes no memory.
+    pub fn roots_waiting(&self) -> u64
+        ensures { result ≡ count_by is_root self.now.waiting }
+    {
+        self.waiting.roots()
+    }
+
+    /// Whether one of these enters an epoch. It takes no memory.
+    pub fn waits_to_enter(&self, epoch: u64) -> bool
+        ensures { result ≡ list_any (enters epoch) self.now.waiting }
+    {
+        self.waiting.has_enter(epoch)
+    }
+
+    /// Whether one of these is the Got of a round. It takes no memory.
+    pub fn waits_as_got(&self, from: u8, epoch: u64, round: u32) -> bool
+        ensures { result ≡ list_any (is_got from epoch round) self.now.waiting }
+    {
+        self.waiting.has_got(from, epoch, round)
     }
 
     /// The number of the last entry of the lead's list. It takes no memory.
