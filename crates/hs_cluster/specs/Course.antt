@@ -1,10 +1,12 @@
 -- What the events of the core give for a course.
 use Rattle.std.specs.Option.{option_map_or}
-use Rattle.std.specs.Prelude.{Bool, List, Option, [], false, flat_map, if◌then◌else◌, nat_lt, true, ℕ, ◌++◌, ◌∷◌}
+use Rattle.std.specs.Prelude.{Bool, List, None, Option, Some, [], false, flat_map, if◌then◌else◌, nat_lt, true, ℕ, ◌++◌, ◌∷◌}
 use Rattle.hs_core.specs.Looking.{front_of, shape_of, shards_of, status_of}
 use Rattle.hs_core.specs.State.{Core}
 use Rattle.hs_core.specs.Step.{step}
 use Rattle.hs_core.specs.declared.event.Event.{Event}
+use Rattle.hs_desk.specs.declared.fault.CoreFault.{CoreFault}
+use Rattle.hs_desk.specs.declared.fault.CoreFault.TheVariants as fault
 use Rattle.hs_members.specs.Members.{all_peers, is_good_status}
 use Rattle.hs_model.specs.declared.course.CourseItem.{CourseItem}
 use Rattle.hs_model.specs.declared.course.CourseItem.TheVariants as item
@@ -29,9 +31,18 @@ items_between begun core after moment =
     ++ (flat_map (λ peer. change_item (is_good_status (status_of peer core)) (is_good_status (status_of peer after)) peer moment) (all_peers (shape_of core))
     ++ flat_map (λ shard. took_items shard (front_of shard core) (front_of shard after) moment) (shards_of core))
 
+-- an event that the journal had no room for has not happened
+abbrev pub is_refused : Option CoreFault → Bool
+is_refused None = false
+is_refused (Some fault.OpsFull) = true
+is_refused (Some (fault.ShardLost shard)) = false
+is_refused (Some fault.NoMemory) = false
+
 -- what an event gives
 abbrev pub event_items : Core → Event × ℕ → List CourseItem
-event_items core e = items_between (begun_line e.0) core (step e.0 e.1 core) e.1
+event_items core e =
+    let after : Core = step e.0 e.1 core in
+    if is_refused after.ended then [] else items_between (begun_line e.0) core after e.1
 
 -- some events, one after another
 abbrev pub items_of : Core → Events → List CourseItem

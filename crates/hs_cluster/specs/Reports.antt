@@ -15,21 +15,21 @@ use Rattle.hs_fold.specs.Shards.Setting.{Numbered}
 use Rattle.hs_cluster.specs.Asked.{failed_disk, report_in}
 use Rattle.hs_cluster.specs.Due.{Events}
 
--- whether a job only reads. Where it finds no log that counts as a failure, which a disk that tells its contents never gives
-abbrev pub only_reads : Job → Bool
-only_reads (job.Append number entry) = false
-only_reads (job.Seal number) = false
-only_reads (job.Read number) = true
-only_reads job.Reset = false
-only_reads (job.Copy from number) = true
-only_reads job.Reclaim = false
+-- whether a job only reads a disk; a copy reads that of the lead. Where it finds no log that counts as a failure, which a disk that tells its contents never gives
+abbrev pub only_reads : ℕ → Job → Bool
+only_reads disk (job.Append number entry) = false
+only_reads disk (job.Seal number) = false
+only_reads disk (job.Read number) = true
+only_reads disk job.Reset = false
+only_reads disk (job.Copy from number) = from == disk
+only_reads disk job.Reclaim = false
 
 -- whether an event reports that a call of this disk failed, so that its count must show it
 abbrev pub costs : Bool → ℕ → Core → Event → Bool
 costs tells disk core e = option_map_or is_failure (report_in e) false
   where
     is_failure : ℕ × Done → Bool
-    is_failure (peer, done) = option_map_or (λ d. d == disk) (failed_disk done) false && (tells || not (option_map_or only_reads (first_job peer core) false))
+    is_failure (peer, done) = option_map_or (λ d. d == disk) (failed_disk done) false && (tells || not (option_map_or (only_reads disk) (first_job peer core) false))
 
 -- how many of some events do
 abbrev pub failures : Bool → ℕ → Core → Events → ℕ

@@ -7,7 +7,7 @@ use Rattle.hs_limits.specs.Shape.{peer_of}
 use Rattle.hs_members.specs.Members.{IsPeer, IsShard}
 use Rattle.std.specs.Prelude.{slice_index_or}
 use Rattle.hs_replica.specs.declared.replica.Replica.{Replica}
-use Rattle.hs_replica.specs.Group.{no_copy}
+use Rattle.hs_replica.specs.Group.{Group, IsHome, no_copy}
 
 -- the lengths of at most four lists
 pub four_lengths : (copies : List Replica) (n : ℕ) → length copies ≡ n → n ≤ 4 →
@@ -46,3 +46,7 @@ peer_within shape shard copy peer e s c =
     let m : suc shard * shape.copies ≤ shape.shards * shape.copies = mul-le-mul_right shape.copies (omega (arith, s)) in
     let d : suc shard * shape.copies ≡ shard * shape.copies + shape.copies = suc-mul shard shape.copies in
     omega (arith, e, m, d, c)
+
+-- and one of the shard's group
+pub lead_home : (shape : Shape) (shard copy peer : ℕ) (g : Group) → peer ≡ peer_of shape shard copy → g.shape ≡ shape → g.shard ≡ shard → copy < shape.copies → IsHome g peer
+lead_home shape shard copy peer g e q r c = rw (e, q, r) (omega arith, omega (arith, c))

@@ -1,18 +1,16 @@
 -- A new view, all at once.
-use Rattle.std.proofs.Common.{◌≡◌, ◌∙◌, sym, ap, ℕ, ◌+◌, ◌*◌, ◌<◌, ◌≤◌, List, [], ◌∷◌, ◌++◌, false, length, map, refl, arith, set-set, length-append, suc, Bool, Option, Some, None, ◌⊎◌, inl, inr, ◌≢◌}
+use Rattle.std.proofs.Common.{◌≡◌, ◌∙◌, sym, ap, ℕ, ◌+◌, ◌<◌, List, [], ◌∷◌, ◌++◌, false, length, map, refl, arith, set-set, length-append, suc, Bool, Option, Some, None}
 use Rattle.std.proofs.Math.Decide.{ℕ_discrete}
 use Rattle.std.proofs.lemmas.List.{get_or-set_other, get_or-set_same, length-set}
-use Rattle.std.proofs.lemmas.List.FromFn.{length-enumerate_from}
-use Rattle.std.specs.List.{enumerate_from}
 use Rattle.std.specs.Prelude.{slice_index, slice_index_or, slice_set}
-use Rattle.hs_core.specs.Anew.{view_tasks, viewed_anew}
-use Rattle.hs_core.specs.Changing.{add_entry_tasks, change_group, post, set_viewed}
+use Rattle.hs_core.specs.Anew.{group_anew, told_anew, view_tasks, viewed_anew}
+use Rattle.hs_core.specs.Changing.{add_entry_tasks, post}
 use Rattle.hs_core.specs.declared.task.Task.{Task}
-use Rattle.hs_core.specs.Keeping.{AreLists, IsOf}
-use Rattle.hs_core.specs.Looking.{group_of, shape_of}
+use Rattle.hs_core.specs.Keeping.{AreLists, IsCore, IsOf}
+use Rattle.hs_core.specs.Looking.{group_of, lead_of, shape_of}
 use Rattle.hs_core.specs.Operating.{propose_entry}
 use Rattle.hs_core.specs.State.{Core}
-use Rattle.hs_core.specs.Views.{begin_view, restart}
+use Rattle.hs_core.specs.Views.{begin_view, restart_at, restarted}
 use Rattle.hs_core.specs.Words.{change_with, ◌▸◌}
 use Rattle.hs_desk.specs.declared.job.Job.TheVariants as job
 use Rattle.hs_entry.specs.declared.entry.Entry.{Entry}
@@ -37,12 +35,6 @@ send_all_append (x ∷ xs) ys pool = send_all_append xs ys _
 -- the group of a shard that was just put there
 pub group_put : (shape : Shape) (groups : List Group) (shard : ℕ) (g : Group) → shard < length groups → slice_index_or (slice_set groups shard g) shard (new_group shape shard 0 0 []) ≡ g
 group_put shape groups shard g h = get_or-set_same groups shard g _ h
-
--- the first steps: the view is not reached, the copies are told, and no operation starts again where there is none
-told_first : (shard : ℕ) (core : Core) → core.operations ≡ [] →
-    (core ▸ set_viewed shard false ▸ change_group shard (renew core.members) ▸ restart shard)
-    ≡ record core { viewed = slice_set core.viewed shard false; groups = slice_set core.groups shard (renew core.members (group_of shard core)) }
-told_first shard core e = rw e refl
 
 -- what is proposed is the next entry; the rest of the group stays
 takes_front : (o : Option ℕ) (e : Entry) (g : Group) → (lead_takes o e g).front ≡ g.front
@@ -129,20 +121,26 @@ propose_known : (shard : ℕ) (e : Entry) (core : Core) (x : Group) → group_of
     ▸ change_with (lead_by shard (map (λ copy. length copy.stamps) x.copies) core.members) (λ peer. add_entry_tasks peer (last_number x + 1) e))
 propose_known shard e core x q = rw q refl
 
--- a new view in one step
-pub begin_view_anew : (shard : ℕ) (core : Core) → shard < length core.groups → (group_of shard core).shard ≡ shard → core.operations ≡ [] → begin_view shard core ≡ viewed_anew shard core
-begin_view_anew shard core h s e =
+-- a new view in one step: operations start again, the copies are told, and a View is proposed
+pub begin_view_told : (shard : ℕ) (core : Core) → shard < length core.groups → (group_of shard core).shard ≡ shard
+    → begin_view shard core ≡ viewed_anew shard (restart_at shard (last_number (renew core.members (group_of shard core))) core)
+begin_view_told shard core h s =
     let m : Members = core.members in
     let g : Group = group_of shard core in
     let new : Group = renew m g in
-    let first : Core = record core { viewed = slice_set core.viewed shard false; groups = slice_set core.groups shard new } in
+    let put_at : ℕ → Core = λ last. record core {
+      viewed = slice_set core.viewed shard false;
+      groups = slice_set core.groups shard new;
+      operations = map (λ e. (e.0, restarted shard last e.1)) core.operations;
+    } in
+    let first : Core = put_at (last_number new) in
     let sending : Core = record first { pool = send_all (renewal new) core.pool } in
     let view : ℕ → Entry = λ of. kind.View (view_of of m) in
     let make : List Group → Pool → List ℕ → ℕ → Core = λ gs pool lens number.
     record first { groups = gs; pool = pool } ▸ change_with (lead_by shard lens m) (λ peer. add_entry_tasks peer number (view shard)) in
     let put : group_of shard first ≡ new = group_put (shape_of core) core.groups shard new h in
     let rest : Core → Core = λ c. propose_entry shard (view shard) (post (renewal (group_of shard c)) c) in
-    let told : begin_view shard core ≡ rest first = ap rest (told_first shard core e) in
+    let told : begin_view shard core ≡ rest first = ap (λ x. rest (put_at (last_number x))) put in
     let sent : rest first ≡ propose_entry shard (view shard) sending = ap (λ x. propose_entry shard (view shard) (post (renewal x) first)) put in
     let proposed = propose_known shard (view shard) sending new put in
     let again = ap (λ gs. make gs (send_all (proposal (view shard) new) (send_all (renewal new) core.pool)) (map (λ copy. length copy.stamps) new.copies) (last_number new + 1))
@@ -156,6 +154,12 @@ begin_view_anew shard core h s e =
     let own = ap (λ of. make (slice_set core.groups shard (propose (view of) new)) (send_all (renewal new ++ proposal (view of) new) core.pool) (map (λ copy. length copy.stamps) g.copies) (last_number (propose (view of) new)))
     (sym s) in
     told ∙ sent ∙ proposed ∙ again ∙ pooled ∙ lengths ∙ number ∙ own
+
+-- where no operation is without an answer none starts again
+pub begin_view_anew : (shard : ℕ) (core : Core) → shard < length core.groups → (group_of shard core).shard ≡ shard → core.operations ≡ [] → begin_view shard core ≡ viewed_anew shard core
+begin_view_anew shard core h s e =
+    let none : map (λ x. (x.0, restarted shard (last_number (renew core.members (group_of shard core))) x.1)) core.operations ≡ core.operations = rw e refl in
+    begin_view_told shard core h s ∙ ap (λ ops. viewed_anew shard (record core { operations = ops })) none
 
 -- the two jobs of a View
 two_tasks : (ts : List (List Task)) (peer number view : ℕ) → peer < length ts →
@@ -184,3 +188,13 @@ viewed_known shard peer core g q p h =
       pool = send_all (view_messages core.members g) core.pool;
       tasks = tasks;
     }) (two_tasks core.tasks peer (last_number (on_view core.members g)) (view_of shard core.members) h))
+
+-- where the copies are told what is left is the jobs of the View
+pub begin_view_left : (shard : ℕ) (core mid : Core) (lead : Option ℕ) → IsCore core → IsShard (shape_of core) shard
+    → mid ≡ restart_at shard (last_number (renew core.members (group_of shard core))) (told_anew shard core) → lead ≡ lead_of shard core
+    → begin_view shard core ≡ (mid ▸ change_with lead (λ peer. add_entry_tasks peer (last_number (group_anew shard core)) (kind.View (view_of shard core.members))))
+begin_view_left shard core mid lead is within m l =
+    let long : shard < length core.groups = rw is.groups within in
+    begin_view_told shard core long (is.each shard within).same_shard
+    ∙ ap (λ x. x ▸ change_with (lead_of shard core) (λ peer. add_entry_tasks peer (last_number (group_anew shard core)) (kind.View (view_of shard core.members)))) (sym m)
+    ∙ ap (λ o. mid ▸ change_with o (λ peer. add_entry_tasks peer (last_number (group_anew shard core)) (kind.View (view_of shard core.members)))) (sym l)

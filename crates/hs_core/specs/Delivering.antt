@@ -1,6 +1,6 @@
 -- How a message is handled.
 use Rattle.std.specs.List.{list_any}
-use Rattle.std.specs.Prelude.{ℕ, ◌==◌, ◌&&◌, Bool, false, not, is_none}
+use Rattle.std.specs.Prelude.{ℕ, ◌&&◌, Bool, not, is_none}
 use Rattle.hs_core.specs.Changing.{add_entry_tasks, change_group}
 use Rattle.hs_core.specs.Effects.{commit}
 use Rattle.hs_core.specs.Joining.{follow_lead}
@@ -14,6 +14,7 @@ use Rattle.hs_members.specs.Members.{is_good_status}
 use Rattle.hs_post.specs.declared.message.Message.{Message}
 use Rattle.hs_post.specs.declared.message.Message.TheVariants as message
 use Rattle.hs_replica.specs.Group.{on_have, take_entry, takes}
+pub use Rattle.hs_replica.specs.Kinds.{is_got}
 use Rattle.hs_rounds.specs.Rounds.{body}
 use Rattle.hs_shard.specs.Facts.{Catalogue}
 use Rattle.hs_shard.specs.Rounds.{is_due}
@@ -31,11 +32,6 @@ on_copy shard peer view number entry core =
 abbrev pub take_have : ℕ → ℕ → ℕ → ℕ → ℕ → Core → Core
 take_have shard from to view sealed core =
     core ▸ change_if (is_good_status (status_of to core)) (λ core. core ▸ change_group shard (on_have from view sealed) ▸ commit shard)
-
--- whether an entry is the Got of a round
-abbrev pub is_got : ℕ → ℕ → ℕ → Entry → Bool
-is_got from epoch round (kind.Got sender e r total deltas) = sender == from && (e == epoch && r == round)
-is_got from epoch round other = false
 
 -- a Round is of the run or of the next one, was not logged, and its Got does not stand in the lead's list
 abbrev pub is_new_round : ℕ → ℕ → ℕ → ℕ → Core → Bool

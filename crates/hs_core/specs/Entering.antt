@@ -1,19 +1,14 @@
 -- When a shard's lead proposes an Enter that nobody asked it for.
 use Rattle.std.specs.List.{list_any}
-use Rattle.std.specs.Prelude.{ℕ, ◌+◌, ◌==◌, ◌&&◌, Bool, false, not}
+use Rattle.std.specs.Prelude.{ℕ, ◌+◌, ◌==◌, ◌&&◌, Bool, not}
 use Rattle.hs_core.specs.Looking.{catalogue_of, group_of}
 use Rattle.hs_core.specs.Operating.{propose_entry}
 use Rattle.hs_core.specs.State.{Core}
 use Rattle.hs_core.specs.Words.{change_if, ◌▸◌}
-use Rattle.hs_entry.specs.declared.entry.Entry.{Entry}
 use Rattle.hs_entry.specs.declared.entry.Entry.TheVariants as kind
+pub use Rattle.hs_replica.specs.Kinds.{enters}
 use Rattle.hs_rounds.specs.Rounds.{Run}
 use Rattle.hs_shard.specs.Facts.{Catalogue}
-
--- whether an entry enters this epoch
-abbrev pub enters : ℕ → Entry → Bool
-enters next (kind.Enter line epoch) = epoch == next
-enters next other = false
 
 -- round 0 of an epoch has come from some shard
 abbrev pub has_begun : ℕ → Run → Bool

@@ -1,5 +1,7 @@
 -- What a core keeps to.
-use Rattle.std.specs.Prelude.{◌≡◌, ℕ, ◌*◌, ◌<◌, Bool, Option, None, List, [], length, slice_index, slice_index_or, if◌then◌else◌}
+use Rattle.std.specs.Prelude.{◌≡◌, ℕ, ◌*◌, Bool, Option, None, List, [], length, slice_index, slice_index_or, if◌then◌else◌}
+use Rattle.hs_core.specs.declared.event.Event.{Event}
+use Rattle.hs_core.specs.Calls.{last_line_after}
 use Rattle.hs_core.specs.Looking.{copying_step, front_of, group_of, shape_of, status_of}
 use Rattle.hs_core.specs.declared.task.Task.{Task}
 use Rattle.hs_core.specs.State.{Core}
@@ -40,6 +42,30 @@ pub record AreSteps (core : Core) (steps : List (Option Job)) : Type 0 where
 pub record AreFronts (core : Core) (fronts : List ℕ) : Type 0 where
   pub length : length fronts ≡ (shape_of core).shards
   pub each : (shard : ℕ) → IsShard (shape_of core) shard → slice_index fronts shard ≡ front_of shard core
+
+-- what a fault leaves of a core
+pub record Kept (old new : Core) : Type 0 where
+  pub journal : new.journal ≡ old.journal
+  pub limits : new.limits ≡ old.limits
+  pub moment : new.moment ≡ old.moment
+  pub last_line : new.last_line ≡ old.last_line
+  pub event_line : new.event_line ≡ old.event_line
+  pub refused : new.refused ≡ old.refused
+  pub shape : new.members.shape ≡ old.members.shape
+
+-- what a fault leaves of a core whose event has begun
+pub record Stays (old new : Core) : Type 0 where
+  pub journal : new.journal ≡ old.journal
+  pub limits : new.limits ≡ old.limits
+  pub refused : new.refused ≡ old.refused
+  pub shape : new.members.shape ≡ old.members.shape
+
+-- and what it leaves on every path
+pub record Moves (event : Event) (at : ℕ) (old new : Core) : Type 0 where
+  pub shape : new.members.shape ≡ old.members.shape
+  pub limits : new.limits ≡ old.limits
+  pub moment : new.moment ≡ at
+  pub last_line : new.last_line ≡ last_line_after event old
 
 -- the lists of all shards, each of its shard, with how many entries have taken effect, and the jobs of all peers
 pub record AreLists (m : Members) (gs : List Group) (fs : List ℕ) (vs : List Bool) (ts : List (List Task)) : Type 0 where

@@ -91,13 +91,14 @@ resume_where shard test core = core ▸ each (lines_where shard test core) resum
 
 -- ---- a client's line
 
+-- whether an operation is of a session
+abbrev pub is_of : List ℕ → Waiting → Bool
+is_of name w = option_map_or (bytes_eq name) (session_of (Some w.operation.op)) false
+
 -- the line of a session's operation that has no answer
 abbrev pub busy_line : Op → Core → Option ℕ
 busy_line o core = option_and_then line_in (session_of (Some o))
   where
-    is_of : List ℕ → Waiting → Bool
-    is_of name w = option_map_or (bytes_eq name) (session_of (Some w.operation.op)) false
-
     line_in : List ℕ → Option ℕ
     line_in name = option_map (λ e. e.0) (find (λ e. is_of name e.1) core.operations)
 

@@ -10,6 +10,7 @@ use Rattle.hs_limits.specs.declared.address.Address.{Address}
 use Rattle.hs_model.specs.declared.op.Op.{Op}
 use Rattle.hs_model.specs.declared.op.Op.TheVariants as op
 use Rattle.hs_ops.specs.Speaking.{wanted_address}
+pub use Rattle.hs_replica.specs.Kinds.{is_block, is_root}
 use Rattle.hs_roots.specs.Roots.{retained_count}
 
 -- whether an operation writes a block, or puts a root
@@ -20,15 +21,6 @@ writes_block other = false
 abbrev pub puts_root : Op → Bool
 puts_root (op.Root name key handle) = true
 puts_root other = false
-
--- whether an entry stores a block, or puts a root
-abbrev pub is_block : Entry → Bool
-is_block (kind.Block line least bytes) = true
-is_block other = false
-
-abbrev pub is_root : Entry → Bool
-is_root (kind.Root line held a key) = true
-is_root other = false
 
 -- the address of the block that an entry stores: that of the operation which asked for it
 abbrev pub named : Entry → Core → Option Address

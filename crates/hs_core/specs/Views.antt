@@ -21,9 +21,12 @@ is_within last other = false
 abbrev pub restarted : ℕ → ℕ → Waiting → Waiting
 restarted shard last w = if w.shard == shard && not (is_within last w.wait) then record w { wait = wait.View } else w
 
+-- where this is the last number of the lead's list
+abbrev pub restart_at : ℕ → ℕ → Core → Core
+restart_at shard last core = record core { operations = map (λ e. (e.0, restarted shard last e.1)) core.operations }
+
 abbrev pub restart : ℕ → Core → Core
-restart shard core =
-    record core { operations = map (λ e. (e.0, restarted shard (last_number (group_of shard core)) e.1)) core.operations }
+restart shard core = restart_at shard (last_number (group_of shard core)) core
 
 -- the view has risen: all copies are told, operations start again, each good peer is sent what it lacks, and the View is proposed
 abbrev pub begin_view : ℕ → Core → Core

@@ -194,8 +194,8 @@ impl Core {
         &self.groups[usize::from(shard)]
     }
 
-    /// The shape of the store.
-    pub(crate) fn shape(&self) -> Shape
+    /// The shape of the store. It takes no memory.
+    pub fn shape(&self) -> Shape
         ensures value { result ≡ self.now.members.shape }
         ensures kept { IsCore self.now }
     {
@@ -203,7 +203,7 @@ impl Core {
     }
 
     /// The shard that a peer keeps a copy of.
-    fn home(&self, peer: u8) -> u8
+    pub(crate) fn home(&self, peer: u8) -> u8
         requires { IsPeer self.now.members.shape peer }
         ensures home { result ≡ home peer self.now }
         ensures shard { IsShard self.now.members.shape result }

@@ -1,13 +1,12 @@
 //! The end of an event.
-ghost use Rattle.std.specs.Prelude.{◌≡◌, ◌++◌, OnOk};
+ghost use Rattle.std.specs.Prelude.{◌≡◌, OnErr, OnOk};
+ghost use Rattle.hs_core.specs.Keeping.{Kept};
 ghost use Rattle.hs_core.specs.Looking.{lost_shard};
 ghost use Rattle.hs_core.specs.Step.{end_event};
 
 use crate::Core;
 use crate::no_memory::NoMemory;
 use hs_desk::CoreFault;
-use hs_journal::{Journal, JournalEntry};
-use std::collections::VecDeque;
 use std::mem::replace;
 
 impl Core {
@@ -27,7 +26,12 @@ impl Core {
     /// The event's entries are appended, all or none; where there is no room for them, or a shard has
     /// no good peer, the core has ended.
     pub(crate) fn end_event(&mut self) -> Result<(), NoMemory>
-        ensures { OnOk result (self.new ≡ end_event self.old) }
+        ensures ok { OnOk result (self.new ≡ end_event self.old) }
+        ensures kept { OnErr result (Kept self.old self.new) }
+        ensures moves { Kept (record self.old {
+          journal = self.new.journal;
+          refused = self.new.refused;
+        }) self.new }
     {
         let entries = replace(&mut self.entries, Vec::new(self.alloc));
         let length = self.journal.entries().len().saturating_add(entries.len());
@@ -36,25 +40,13 @@ impl Core {
             self.ended = Some(CoreFault::OpsFull);
             return Ok(());
         }
-        append(&mut self.journal, entries)?;
+        if self.journal.append(entries).is_err() {
+            return Err(NoMemory);
+        }
         self.ended = match self.lost_shard() {
             Some(shard) => Some(CoreFault::ShardLost { shard }),
             None => None,
         };
         Ok(())
     }
-}
-
-/// Appends entries to the journal, in order.
-fn append(journal: &mut Journal, entries: Vec<JournalEntry>) -> Result<(), NoMemory>
-    ensures ok { OnOk result (journal.new.entries ≡ journal.old.entries ++ entries.items) }
-    ensures limit { journal.new.limit ≡ journal.old.limit }
-{
-    let mut rest = VecDeque::from(entries);
-    while let Some(entry) = rest.pop_front() {
-        if journal.push(entry).is_err() {
-            return Err(NoMemory);
-        }
-    }
-    Ok(())
 }

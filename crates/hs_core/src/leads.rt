@@ -1,9 +1,9 @@
 //! Who leads each shard.
 ghost use Rattle.std.specs.Prelude.{◌≡◌, length, map, slice_index_or, take, IfSome};
 ghost use Rattle.hs_core.specs.Keeping.{IsOf};
-ghost use Rattle.hs_core.specs.Looking.{lead_of, leads_of, oldest_message};
+ghost use Rattle.hs_core.specs.Looking.{group_of, lead_of, leads_of, oldest_message};
 ghost use Rattle.hs_members.specs.Members.{IsPeer, IsShard, lead_by};
-ghost use Rattle.hs_replica.specs.Group.{no_copy};
+ghost use Rattle.hs_replica.specs.Group.{IsHome, no_copy};
 
 use crate::Core;
 use hs_limits::{Shape, peer_of};
@@ -53,7 +53,9 @@ impl Core {
     /// The lead of a shard. It takes no memory.
     pub(crate) fn lead(&self, shard: u8) -> Option<u8>
         requires { IsShard self.now.members.shape shard }
-        ensures { result ≡ lead_of shard self.now }
+        ensures value { result ≡ lead_of shard self.now }
+        ensures peer { IfSome result (IsPeer self.now.members.shape) }
+        ensures home { IfSome result (IsHome (group_of shard self.now)) }
     {
         let _shape = self.shape();
         lead_of(&self.members, self.group(shard), shard)
@@ -61,12 +63,13 @@ impl Core {
 }
 
 /// The lead of a shard, where this is its group. It takes no memory.
-#[tactic(auto, using(crate::proofs::LeadLemmas::peer_within))]
+#[tactic(auto, using(crate::proofs::LeadLemmas::peer_within, crate::proofs::LeadLemmas::lead_home))]
 pub(crate) fn lead_of(members: &Members, group: &Group, shard: u8) -> Option<u8>
     requires { IsOf members.now.shape shard group.now }
     ensures value { result
         ≡ lead_by shard (map (λ copy. length copy.stamps) group.now.copies) members.now }
     ensures peer { IfSome result (IsPeer members.now.shape) }
+    ensures home { IfSome result (IsHome group.now) }
 {
     let shape = members.shape();
     let lengths = lengths_of(group, shape, shard);

@@ -1,6 +1,7 @@
 //! What an event tells.
 ghost use Rattle.std.specs.Prelude.{◌≡◌, OnOk};
 ghost use Rattle.hs_core.specs.Changing.{note};
+ghost use Rattle.hs_core.specs.Keeping.{Kept};
 ghost use Rattle.hs_core.specs.Opening.{note_down, note_if_down};
 ghost use Rattle.hs_members.specs.Members.{IsPeer};
 
@@ -13,7 +14,8 @@ use hs_model::{Deed, Reply};
 impl Core {
     /// Tells an entry, at the event's moment.
     pub(crate) fn note(&mut self, who: Who, deed: Deed, reply: Reply) -> Result<(), NoMemory>
-        ensures { OnOk result (self.new ≡ note who deed reply self.old) }
+        ensures ok { OnOk result (self.new ≡ note who deed reply self.old) }
+        ensures kept { Kept self.old self.new }
     {
         let entry = JournalEntry {
             who,

@@ -47,4 +47,11 @@ impl Queue {
         self.tasks.push_back(task)?;
         Ok(())
     }
+
+    /// The first job is taken out, if there is one. It takes no memory.
+    pub(crate) fn drop_first(&mut self)
+        ensures { self.new ≡ drop 1 self.old }
+    {
+        self.tasks.pop_front();
+    }
 }

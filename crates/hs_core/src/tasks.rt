@@ -1,6 +1,7 @@
 //! The jobs of peers.
 ghost use Rattle.std.specs.Prelude.{◌≡◌, OnOk};
 ghost use Rattle.hs_core.specs.Changing.{add_entry_tasks, add_task};
+ghost use Rattle.hs_core.specs.Keeping.{Kept};
 ghost use Rattle.hs_members.specs.Members.{IsPeer};
 
 use crate::no_memory::NoMemory;
@@ -17,7 +18,8 @@ impl Core {
         entry: Entry,
     ) -> Result<(), NoMemory>
         requires { IsPeer self.old.members.shape peer }
-        ensures { OnOk result (self.new ≡ add_entry_tasks peer number entry self.old) }
+        ensures ok { OnOk result (self.new ≡ add_entry_tasks peer number entry self.old) }
+        ensures kept { Kept self.old self.new }
     {
         let append = Job::Append { number, entry };
         self.add_task(
@@ -32,9 +34,10 @@ impl Core {
     }
 
     /// A job more for a peer, behind the others.
-    fn add_task(&mut self, peer: u8, task: Task) -> Result<(), NoMemory>
+    pub(crate) fn add_task(&mut self, peer: u8, task: Task) -> Result<(), NoMemory>
         requires { IsPeer self.old.members.shape peer }
-        ensures { OnOk result (self.new ≡ add_task peer task self.old) }
+        ensures ok { OnOk result (self.new ≡ add_task peer task self.old) }
+        ensures kept { Kept self.old self.new }
     {
         self.tasks[usize::from(peer)].push(task)?;
         Ok(())

@@ -1,16 +1,15 @@
 //! The journal as a list with a limit.
-ghost use Rattle.std.specs.Prelude.{◌≡◌, ◌∷◌, ◌++◌, ◌<◌, ◌≤◌, ◌↔◌, [], length, IsTrue, OnOk, OnErr};
+ghost use Rattle.std.specs.Prelude.{◌≡◌, ◌∷◌, ◌++◌, ◌<◌, ◌≤◌, ◌↔◌, ◌+◌, [], length, IsTrue, OnOk, OnErr};
 ghost use Rattle.hs_journal.specs.declared.fault.JournalFault.TheVariants as fault;
 
 use crate::{JournalEntry, JournalFault};
-use hs_limits::ListOf;
-use std::alloc::Global;
+use std::alloc::{AllocError, Global};
 use std::marker::Model;
 
 /// The entries so far, in the order in which they were made, and how many there may be.
 #[derive(Debug, Drop)]
 pub struct Journal {
-    entries: ListOf<JournalEntry>,
+    entries: Vec<JournalEntry>,
     limit: u32,
 }
 
@@ -19,7 +18,7 @@ impl Model for Journal {
 
     ghost Value = { Told };
 
-    ghost view = { λ a. record { entries = a.entries; limit = a.limit } };
+    ghost view = { λ a. record { entries = a.entries.items; limit = a.limit } };
 }
 
 impl Journal {
@@ -29,7 +28,7 @@ impl Journal {
         ensures limit { result.limit ≡ limit }
     {
         Journal {
-            entries: ListOf::new(alloc),
+            entries: Vec::new(alloc),
             limit,
         }
     }
@@ -60,9 +59,41 @@ impl Journal {
         if self.is_full() {
             return Err(JournalFault::OpsFull);
         }
-        match self.entries.push(entry) {
+        match push_item(&mut self.entries, entry) {
             Ok(()) => Ok(()),
             Err(_) => Err(JournalFault::NoMemory),
         }
     }
+
+    /// Adds some entries at the end, in order: all of them, or none. The entries before them stay as
+    /// they are, and a fault changes nothing.
+    pub fn append(&mut self, entries: Vec<JournalEntry>) -> Result<(), JournalFault>
+        ensures ok { OnOk result (self.new.entries ≡ self.old.entries ++ entries.items) }
+        ensures room { OnOk result
+            (length self.old.entries + length entries.items ≤ self.old.limit) }
+        ensures full { self.old.limit < length self.old.entries + length entries.items
+            → result ≡ Err fault.OpsFull }
+        ensures only_full { result ≡ Err fault.OpsFull
+            → self.old.limit < length self.old.entries + length entries.items }
+        ensures same { OnErr result (self.new.entries ≡ self.old.entries) }
+        ensures limit { self.new.limit ≡ self.old.limit }
+    {
+        let mut more = entries;
+        if self.entries.len().saturating_add(more.len()) > self.limit as usize {
+            return Err(JournalFault::OpsFull);
+        }
+        if self.entries.append(&mut more).is_err() {
+            return Err(JournalFault::NoMemory);
+        }
+        Ok(())
+    }
+}
+
+/// Adds an item at the end. Without memory nothing changes.
+fn push_item<T: Drop>(items: &mut Vec<T>, item: T) -> Result<(), AllocError>
+    ensures ok { OnOk result (items.new.items ≡ items.old.items ++ item ∷ []) }
+    ensures same { OnErr result (items.new.items ≡ items.old.items) }
+{
+    items.push(item)?;
+    Ok(())
 }

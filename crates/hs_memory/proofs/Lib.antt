@@ -3,3 +3,4 @@ pub mod ClientLemmas
 pub mod CountLemmas
 pub mod MapLemmas
 pub mod RunLemmas
+pub mod WholeLemmas

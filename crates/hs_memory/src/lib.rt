@@ -2,5 +2,7 @@
 #![tactic(auto)]
 
 mod agree;
+mod whole;
 
 pub use agree::catalogues_in_memory_are_folds;
+pub use whole::catalogues_give_the_plain_store;

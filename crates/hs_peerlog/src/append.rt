@@ -2,6 +2,7 @@
 ghost use Rattle.std.specs.Prelude.{◌≡◌, ◌≤◌, ◌+◌, ℕ, List, None, Some, OnOk, IfErr, IsErrOf};
 ghost use Rattle.hs_ports.specs.Watch.{next_moment};
 ghost use Rattle.hs_entry.specs.declared.entry.Entry.{Entry};
+ghost use Rattle.hs_entry.specs.Entries.{rank_after};
 ghost use Rattle.hs_entry.specs.Reading.{IsReadable};
 ghost use Rattle.hs_peerlog.specs.Caused.{IsCalm, IsCaused, IsOutside};
 ghost use Rattle.hs_peerlog.specs.Images.{Is, LeavesEach};
@@ -30,6 +31,9 @@ impl PeerLog {
 
         ensures ready { OnOk result (IsReady D.tells self.new
             (D.size disk.new self.new.log.side) (D.stands disk.new)) }
+        ensures waits { OnOk result (self.new.waits
+            ≡ Some (rank_after self.old.rank number entry.now)) }
+        ensures rank { OnOk result (self.new.rank ≡ self.old.rank) }
         ensures list { D.tells → (D.stands disk.old).last ≤ watch.old → (list : List (ℕ × Entry))
             → HasLog self.old (D.stands disk.old) list None
             → OnOk result (HasLog self.new (D.stands disk.new) list (Some entry.now)) }

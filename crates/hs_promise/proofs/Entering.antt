@@ -1,6 +1,8 @@
 -- Which disks count at entry, which course counts, and when what was put: computed on small runs.
 use Rattle.std.specs.Fmt.{digits}
-use Rattle.std.specs.Prelude.{◌≡◌, refl, ℕ, false, true, List, [], ◌∷◌, ◌++◌, map, Option, Some, None}
+use Rattle.std.proofs.lemmas.Bool.{false≢true}
+use Rattle.std.proofs.Common.{ap}
+use Rattle.std.specs.Prelude.{◌≡◌, refl, ℕ, Bool, false, true, List, [], ◌∷◌, ◌++◌, map, take, Option, Some, None}
 use Rattle.hs_core.specs.declared.event.Event.TheVariants as event
 use Rattle.hs_entry.specs.declared.entry.Entry.TheVariants as kind
 use Rattle.hs_entry.specs.Entries.{rank_of}
@@ -137,4 +139,20 @@ second_line = record { line = 2; core = record (first_core script story) { journ
 
 printed_in_time : IsPrintedBefore (put_at 2) second_line
 unfolding entry_text digits
-printed_in_time = λ behind early. refl
+printed_in_time = record { on_time = λ behind early. refl; rest = text (answer 2 3 ∷ []); put = refl }
+
+-- a line without events too is begun only where the text before it was put: here the sink failed within that of the first answer
+abbrev failing : Ran
+failing = record (put_at 2) { ending = status.WriteFault; new = record nothing { moment = 5; got = Some (map (λ byte. (byte, 2)) (take 3 (text (answer 1 0 ∷ [])))) } }
+
+abbrev blank_line : LineAt
+blank_line = record second_line { events = [] }
+
+-- whether there is a fourth byte
+abbrev has_a_fourth : Option (List ℕ) → Bool
+has_a_fourth (Some (first ∷ second ∷ third ∷ fourth ∷ rest)) = true
+has_a_fourth other = false
+
+not_printed : IsPrintedBefore failing blank_line → ⊥
+unfolding entry_text digits
+not_printed before = false≢true (ap has_a_fourth before.put)

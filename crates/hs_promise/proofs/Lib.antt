@@ -1,3 +1,9 @@
+mod Deleting
 mod Entering
+mod Full
+mod Meeting
 mod Rejoining
+mod Stopping
+mod Told
+mod Whole
 mod Wording

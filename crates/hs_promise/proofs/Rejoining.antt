@@ -1,6 +1,7 @@
 -- A run in which a peer fails, joins again, and the other one fails: its events, its course, and that these are the ones due.
 use Rattle.std.specs.Option.{option_map}
 use Rattle.std.specs.Prelude.{◌≡◌, refl, ℕ, ◌==◌, ◌++◌, false, true, List, [], ◌∷◌, find, flat_map, map, take, Option, Some, None}
+use Rattle.hs_core.specs.declared.event.Event.{Event}
 use Rattle.hs_core.specs.declared.event.Event.TheVariants as event
 use Rattle.hs_core.specs.State.{Core}
 use Rattle.hs_desk.specs.declared.done.Done.TheVariants as done
@@ -22,8 +23,9 @@ use Rattle.hs_ops.specs.Refusals.{refusals_of}
 use Rattle.hs_ops.specs.Speaking.{asked_block, least_epoch}
 use Rattle.hs_promise.specs.declared.status.Status.TheVariants as status
 use Rattle.hs_promise.specs.Course.{course_of}
-use Rattle.hs_promise.specs.Lines.{AreLines}
-use Rattle.hs_cluster.specs.Course.{steps}
+use Rattle.hs_promise.specs.Lines.{AreLines, IsOnTime, IsPrintedBefore}
+use Rattle.hs_cluster.specs.Commands.{LineAt}
+use Rattle.hs_cluster.specs.Course.{event_items, steps}
 use Rattle.hs_cluster.specs.Due.{Events, is_walk, next_due, next_turn}
 use Rattle.hs_promise.specs.Lower.Objects.{Objects}
 use Rattle.hs_cluster.specs.Reports.{failures}
@@ -99,17 +101,25 @@ unfolding gained addresses block_at read_block no_handle_in stale_in helds_of de
 the_course = refl
 
 -- opening's events are turns until nobody has one
-the_opening : is_walk next_turn true 0 (first_core script story) story.opening ≡ true
+pub the_opening : is_walk next_turn true 0 (first_core script story) story.opening ≡ true
 unfolding gained addresses block_at read_block no_handle_in stale_in helds_of deed_of seats_after asked_for begin block_entry compared data_of go is_same_block judged_in mark_entry on_bytes on_effect refusals_of asked_block least_epoch rank_of
 the_opening = refl
 
+-- a sink that tells nothing has got what was answered
+on_time : (at : LineAt) (events : Events) → IsOnTime ran at events
+on_time at [] = tt
+on_time at (e ∷ es) = λ behind early. refl
+
+told_nothing : (at : LineAt) → IsPrintedBefore ran at
+told_nothing at = record { on_time = on_time at at.events; rest = []; put = refl }
+
 -- each line has the events that are due for it, behind all text so far
-the_lines : AreLines script ran 1 (steps (first_core script story) story.opening) story.lines
+pub the_lines : AreLines script ran 1 (steps (first_core script story) story.opening) story.lines
 unfolding gained addresses block_at read_block no_handle_in stale_in helds_of deed_of seats_after asked_for begin block_entry compared data_of go is_same_block judged_in mark_entry on_bytes on_effect refusals_of asked_block least_epoch rank_of
-the_lines = (record { going = refl; printed = λ behind early. refl; events = (refl, refl) }, (record { going = refl; printed = λ behind early. refl; events = (refl, refl) }, (record { going = refl; printed = λ behind early. refl; events = (refl, refl) }, (record { going = refl; printed = λ behind early. refl; events = (refl, refl) }, (record { going = refl; printed = λ behind early. refl; events = (refl, refl) }, (record { going = refl; printed = λ behind early. refl; events = refl }, (record { going = refl; printed = λ behind early. refl; events = (refl, refl) }, (record { going = refl; printed = λ behind early. refl; events = refl }, (record { going = refl; printed = λ behind early. refl; events = (refl, refl) }, (record { going = refl; printed = λ behind early. refl; events = refl }, (record { going = refl; printed = λ behind early. refl; events = (refl, refl) }, (record { going = refl; printed = λ behind early. refl; events = (refl, refl) }, (record { going = refl; printed = λ behind early. refl; events = refl }, record { going = refl; printed = λ behind early. refl; events = (refl, refl) })))))))))))))
+the_lines = (record { going = refl; printed = told_nothing _; events = (refl, refl) }, (record { going = refl; printed = told_nothing _; events = (refl, refl) }, (record { going = refl; printed = told_nothing _; events = (refl, refl) }, (record { going = refl; printed = told_nothing _; events = (refl, refl) }, (record { going = refl; printed = told_nothing _; events = (refl, refl) }, (record { going = refl; printed = told_nothing _; events = refl }, (record { going = refl; printed = told_nothing _; events = (refl, refl) }, (record { going = refl; printed = told_nothing _; events = refl }, (record { going = refl; printed = told_nothing _; events = (refl, refl) }, (record { going = refl; printed = told_nothing _; events = refl }, (record { going = refl; printed = told_nothing _; events = (refl, refl) }, (record { going = refl; printed = told_nothing _; events = (refl, refl) }, (record { going = refl; printed = told_nothing _; events = refl }, record { going = refl; printed = told_nothing _; events = (refl, refl) })))))))))))))
 
 -- the core has not ended
-the_end : (last_core script story).ended ≡ None
+pub the_end : (last_core script story).ended ≡ None
 unfolding gained addresses block_at read_block no_handle_in stale_in helds_of deed_of seats_after asked_for begin block_entry compared data_of go is_same_block judged_in mark_entry on_bytes on_effect refusals_of asked_block least_epoch rank_of
 the_end = refl
 
@@ -145,3 +155,31 @@ a_read_is_free = refl
 a_told_read_costs : failures true 0 (core_at 9) ((event.Report 0 (done.Failed 0), 0) ∷ []) ≡ 1
 unfolding gained addresses block_at read_block no_handle_in stale_in helds_of deed_of seats_after asked_for begin block_entry compared data_of go is_same_block judged_in mark_entry on_bytes on_effect refusals_of asked_block least_epoch rank_of
 a_told_read_costs = refl
+
+-- a copy that fails at the joining peer's own disk has a cost; at the lead's, which is read, only where the disks tell their contents
+abbrev copying : Core
+copying = steps (core_at 7) ((event.Report 0 done.Emptied, 0) ∷ [])
+
+a_copy_costs : failures false 0 copying ((event.Report 0 (done.Failed 0), 0) ∷ []) ≡ 1
+unfolding gained addresses block_at read_block no_handle_in stale_in helds_of deed_of seats_after asked_for begin block_entry compared data_of go is_same_block judged_in mark_entry on_bytes on_effect refusals_of asked_block least_epoch rank_of
+a_copy_costs = refl
+
+a_copied_read_is_free : failures false 1 copying ((event.Report 0 (done.Failed 1), 0) ∷ []) ≡ 0
+unfolding gained addresses block_at read_block no_handle_in stale_in helds_of deed_of seats_after asked_for begin block_entry compared data_of go is_same_block judged_in mark_entry on_bytes on_effect refusals_of asked_block least_epoch rank_of
+a_copied_read_is_free = refl
+
+-- the write of line 2 takes effect in an event of line 6, which answers it
+abbrev before_effect : Core
+before_effect = steps (core_at 5) ((event.Report 1 (done.Stored 2), 0) ∷ (event.Report 1 (done.Sealed 2), 0) ∷ (event.Report 1 (done.Stored 3), 0) ∷ [])
+
+abbrev effect : Event × ℕ
+effect = (event.Report 1 (done.Sealed 3), 0)
+
+it_takes_effect : event_items before_effect effect ≡ item.Took 0 3 0 ∷ []
+unfolding gained addresses block_at read_block no_handle_in stale_in helds_of deed_of seats_after asked_for begin block_entry compared data_of go is_same_block judged_in mark_entry on_bytes on_effect refusals_of asked_block least_epoch rank_of
+it_takes_effect = refl
+
+-- but not where the journal has no room for the answer
+refused_it_has_not_happened : event_items (record before_effect { limits = record greatest_limits { ops = 1 } }) effect ≡ []
+unfolding gained addresses block_at read_block no_handle_in stale_in helds_of deed_of seats_after asked_for begin block_entry compared data_of go is_same_block judged_in mark_entry on_bytes on_effect refusals_of asked_block least_epoch rank_of
+refused_it_has_not_happened = refl

@@ -14,7 +14,7 @@ use Rattle.hs_script.specs.Text.{text}
 use Rattle.hs_promise.specs.Ending.{ending_of}
 use Rattle.hs_promise.specs.Lower.Moments.{below, got_by}
 use Rattle.hs_promise.specs.Lower.Sides.{IsPut, PutsFront}
-use Rattle.hs_promise.specs.Lower.Telling.{IsOfStore, MayTell}
+use Rattle.hs_promise.specs.Lower.Telling.{AreDated, IsOfStore, MayTell}
 use Rattle.hs_promise.specs.Run.{Ran, Script}
 use Rattle.hs_promise.specs.Lower.Objects.{IsDuring, IsSinkBehind}
 
@@ -44,9 +44,9 @@ abbrev pub IsEntry : Script → ℕ → JournalEntry → Type 0
 IsEntry S last entry = stands_for entry.who
   where
     stands_for : Who → Type 0
-    stands_for (who.Line n) = (n ≤ last) × MayTell S.set (S.commands n) entry.reply
+    stands_for (who.Line n) = (n ≤ last) × MayTell S.set (S.commands n) entry
     stands_for (who.Shard g) = (g < S.set.shape.shards) × ((entry.deed ≡ deed.Entered g) ⊎ (entry.deed ≡ deed.Swept g))
-    stands_for who.Store = IsOfStore entry.reply
+    stands_for who.Store = (entry.deed ≡ deed.Nothing) × IsOfStore S.set last entry.reply
 
 -- ---- what stands whatever the disks hold
 
@@ -56,10 +56,11 @@ pub record BeganNothing (r : Ran) : Type 0 where
   pub line : r.line ≡ 0
   pub notes : All (λ entry. (peer : ℕ) × (entry.reply ≡ reply.Down peer 0)) r.journal
 
--- the entries stand for what they may, within the limit; a run without a course began nothing; what was put is the journal's text, at each moment a front of what was answered below it
+-- the entries stand for what they may, within the limit, and notes have their line; a run without a course began nothing; what was put is the journal's text, at each moment a front of what was answered below it
 pub record Prints (S : Script) (r : Ran) : Type 0 where
   pub entries : All (IsEntry S r.line) r.journal
   pub fits : length r.journal ≤ S.set.limits.ops
+  pub dated : AreDated S.commands r.journal
   pub nothing : r.course ≡ [] → BeganNothing r
   pub printed : IsPut (ending_of r.ending).short (bytes_of r.old.got) (text r.journal) (bytes_of r.new.got)
   pub in_time : (m : ℕ) → IsSinkBehind r.old → IsDuring r.old r.new m → PutsFront (bytes_of r.old.got) (text (below m r.journal)) (bytes_of (got_by m r.new.got))

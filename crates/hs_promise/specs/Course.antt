@@ -6,14 +6,14 @@ use Rattle.hs_model.specs.declared.course.CourseItem.TheVariants as item
 use Rattle.hs_cluster.specs.Course.{change_item, items_of}
 use Rattle.hs_promise.specs.Lower.Taken.{is_taken, taken_items}
 use Rattle.hs_promise.specs.Run.{Script}
-use Rattle.hs_promise.specs.Story.{Story, all_events, first_core, opens_good}
+use Rattle.hs_promise.specs.Story.{Story, all_events, first_core, starts_good}
 
 -- the taken logs at the moment of entry, the peers of these that failed before the core was opened, and when it is opened each other good peer
 abbrev pub first_items : Script → Story → ℕ → List CourseItem
 first_items S story entry =
     taken_items S.set.shape story.logs entry
     ++ (map (λ peer. item.Bad peer.0 peer.1) story.lost
-    ++ flat_map (λ peer. change_item (is_taken S.set.shape story.logs peer) (is_taken S.set.shape story.logs peer || opens_good story peer) peer story.opened) (all_peers S.set.shape))
+    ++ flat_map (λ peer. change_item (is_taken S.set.shape story.logs peer) (is_taken S.set.shape story.logs peer || starts_good story peer) peer story.opened) (all_peers S.set.shape))
 
 -- the course of a run that began at this moment
 abbrev pub course_of : Script → Story → ℕ → List CourseItem

@@ -1,5 +1,5 @@
 -- The store at entry: which logs count of the disks as they were.
-use Rattle.std.specs.Prelude.{Bool, List, None, Option, [], false, filter, if◌then◌else◌, not, true, ℕ, ◌&&◌, ◌++◌, ◌+◌, ◌==◌, ◌∷◌, ◌≡◌}
+use Rattle.std.specs.Prelude.{Bool, List, None, Option, [], false, filter, if◌then◌else◌, length, not, true, ℕ, ◌&&◌, ◌++◌, ◌+◌, ◌==◌, ◌∷◌, ◌≡◌}
 use Rattle.hs_fold.specs.Runs.Opened.{opened}
 use Rattle.hs_fold.specs.Runs.Sound.{AreSound}
 use Rattle.hs_fold.specs.Shards.Course.{begins}
@@ -17,8 +17,6 @@ use Rattle.hs_promise.specs.Lower.Notes.{is_first_noted}
 use Rattle.hs_promise.specs.Lower.Taken.{or_blank, taken_items, taken_lists}
 use Rattle.hs_promise.specs.Run.{Ran, Script}
 use Rattle.hs_promise.specs.Lower.Objects.{NoneAhead, faults_at}
-
--- ---- the log that is taken of a shard. Logs stand by peer: None where there is none
 
 -- ---- which disks count at entry
 
@@ -67,8 +65,5 @@ still_counts r (item.Took shard number moment) = true
 
 -- that of the run; where memory was wanting before there was one, that of the logs which the disks have
 abbrev pub counted_course : Script → Ran → List CourseItem
-counted_course S r = course_by (ending_of r.ending).wanting r.course
-  where
-    course_by : Bool → List CourseItem → List CourseItem
-    course_by true [] = filter (still_counts r) (taken_items S.set.shape (entry_logs S r) r.old.moment)
-    course_by wanting course = course
+counted_course S r =
+    if (ending_of r.ending).wanting && length r.course == 0 then filter (still_counts r) (taken_items S.set.shape (entry_logs S r) r.old.moment) else r.course

@@ -1,18 +1,18 @@
 -- What opening found: which disks were read as what, and which peers were set aside.
-use Rattle.std.specs.Prelude.{All, AllPairs, Contains, IsSome, None, false, length, slice_index_or, true, ℕ, ◌<◌, ◌≡◌, ◌≤◌, ◌⊎◌}
+use Rattle.std.specs.Prelude.{All, AllPairs, Contains, IsSome, None, false, length, slice_index_or, true, ℕ, ◌+◌, ◌-◌, ◌<◌, ◌^◌, ◌≡◌, ◌≤◌, ◌⊎◌}
 use Rattle.hs_members.specs.Members.{home_of}
+use Rattle.hs_ports.specs.declared.disk.Side.{Side}
 use Rattle.hs_ports.specs.Moments.{disk_at}
 use Rattle.hs_side.specs.Current.{list_in}
 use Rattle.hs_promise.specs.Lower.Taken.{is_taken}
 use Rattle.hs_promise.specs.Run.{DiskRose, Ran, Script}
-use Rattle.hs_promise.specs.Story.{Story, opens_good}
+use Rattle.hs_promise.specs.Story.{Story, starts_good}
 use Rattle.hs_promise.specs.Lower.Taken.{peer_count}
 
 -- a peer of a taken log whose disk failed before the core was opened, and when
 pub record IsLostBefore (S : Script) (r : Ran) (story : Story) (lost : ℕ × ℕ) : Type 0 where
   pub taken : is_taken S.set.shape story.logs lost.0 ≡ true
-  pub bad : opens_good story lost.0 ≡ false
-  pub failed : DiskRose r 1 lost.0
+  pub bad : starts_good story lost.0 ≡ false
   pub later : r.old.moment ≤ lost.1
   pub before : lost.1 ≤ story.opened
 
@@ -33,11 +33,17 @@ pub record HasFound (S : Script) (r : Ran) (story : Story) : Type 0 where
   pub later : r.old.moment ≤ story.opened
   pub lost : All (IsLostBefore S r story) story.lost
   pub once : AllPairs (λ one other. (one.1 ≤ other.1) × (one.0 ≡ other.0 → ⊥)) story.lost
-  pub all_lost : (peer : ℕ) → is_taken S.set.shape story.logs peer ≡ true → opens_good story peer ≡ false → (moment : ℕ) × Contains story.lost (peer, moment)
-  pub kept : (peer : ℕ) → opens_good story peer ≡ true → IsSome (slice_index_or story.logs peer None)
-  pub aside : (peer : ℕ) → peer < peer_count S.set.shape → opens_good story peer ≡ false → IsSetAside S r story peer
+  pub all_lost : (peer : ℕ) → peer < peer_count S.set.shape → is_taken S.set.shape story.logs peer ≡ true → starts_good story peer ≡ false → (moment : ℕ) × Contains story.lost (peer, moment)
+  pub kept : (peer : ℕ) → starts_good story peer ≡ true → IsSome (slice_index_or story.logs peer None)
+  pub aside : (peer : ℕ) → peer < peer_count S.set.shape → starts_good story peer ≡ false → IsSetAside S r story peer
 
--- where the disks tell their contents a peer's log is that of its disk, or its disk failed and counts as having none
+-- where the disks tell their contents no call changed its disk from then on until the core was opened
+abbrev pub IsStillBehind : Ran → Story → ℕ × ℕ → Type 0
+IsStillBehind r story lost =
+    (m : ℕ) (side : Side) → lost.1 < m → m ≤ story.opened → m < 2 ^ 64 - 1
+    → (disk_at r.new.disks lost.0).past m side ≡ (disk_at r.new.disks lost.0).past (lost.1 + 1) side
+
+-- and there a peer's log is that of its disk, or its disk failed and counts as having none
 abbrev pub IsReadAs : Ran → Story → ℕ → Type 0
 IsReadAs r story peer =
     (slice_index_or story.logs peer None ≡ list_in (disk_at r.old.disks peer).seen)

@@ -1,5 +1,5 @@
 -- Which events a line of a script has, and that it comes behind all text so far.
-use Rattle.std.specs.Prelude.{List, None, [], true, ℕ, ⊤, ◌+◌, ◌-◌, ◌<◌, ◌^◌, ◌∷◌, ◌≡◌}
+use Rattle.std.specs.Prelude.{List, None, [], true, ℕ, ⊤, ◌++◌, ◌+◌, ◌-◌, ◌<◌, ◌^◌, ◌∷◌, ◌≡◌}
 use Rattle.hs_core.specs.State.{Core}
 use Rattle.hs_ports.specs.Sink.{bytes_of, followed}
 use Rattle.hs_script.specs.Text.{text}
@@ -12,12 +12,15 @@ use Rattle.hs_promise.specs.Run.{Ran, Script}
 use Rattle.hs_promise.specs.Lower.Objects.{IsSinkBehind}
 
 -- at the first event of a line the sink has got the text of all that was answered before, and no more; nothing is said of the last moment of a u64
-abbrev pub IsPrintedBefore : Ran → LineAt → Type 0
-IsPrintedBefore r at = from at.events
-  where
-    from : Events → Type 0
-    from [] = ⊤
-    from (e ∷ es) = IsSinkBehind r.old → e.1 < 2 ^ 64 - 1 → bytes_of (got_by e.1 r.new.got) ≡ followed (bytes_of r.old.got) (text at.core.journal)
+abbrev pub IsOnTime : Ran → LineAt → Events → Type 0
+IsOnTime r at [] = ⊤
+IsOnTime r at (e ∷ es) = IsSinkBehind r.old → e.1 < 2 ^ 64 - 1 → bytes_of (got_by e.1 r.new.got) ≡ followed (bytes_of r.old.got) (text at.core.journal)
+
+-- and in the end it has got that text, whether the line has events or not
+pub record IsPrintedBefore (r : Ran) (at : LineAt) : Type 0 where
+  pub on_time : IsOnTime r at at.events
+  pub rest : List ℕ
+  pub put : bytes_of r.new.got ≡ followed (bytes_of r.old.got) (text at.core.journal ++ rest)
 
 -- a line is begun by a core that has not ended
 pub record IsBegunLine (S : Script) (r : Ran) (at : LineAt) : Type 0 where

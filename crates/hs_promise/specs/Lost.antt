@@ -11,7 +11,7 @@ use Rattle.hs_side.specs.Current.{list_in}
 use Rattle.hs_promise.specs.Ending.{ending_of}
 use Rattle.hs_promise.specs.Entry.{is_aside}
 use Rattle.hs_promise.specs.Lower.Notes.{is_first_noted, note_count}
-use Rattle.hs_promise.specs.Lower.Telling.{IsNoted}
+use Rattle.hs_promise.specs.Lower.Telling.{IsDownAt}
 use Rattle.hs_promise.specs.Run.{DiskRose, Ran, Script}
 
 -- ---- a shard that is lost
@@ -33,7 +33,7 @@ NotStartedAfter S r peer line = (k : ℕ) → line < k → IsStarted S r peer k 
 -- why a peer counts as not good: a `fail` line, or a note, and no start above it; or a start, and no settle that was gone past above it
 pub data NotGood (S : Script) (r : Ran) (peer : ℕ) : Type 0 where
   Failed : (line : ℕ) → line ≤ r.line → S.commands line ≡ Some (command.Fail peer) → NotStartedAfter S r peer line → NotGood S r peer
-  Noted : (line : ℕ) → IsNoted r.journal peer line → NotStartedAfter S r peer line → NotGood S r peer
+  Noted : (place line : ℕ) → IsDownAt r.journal place peer line → NotStartedAfter S r peer line → NotGood S r peer
   Joins : (line : ℕ) → IsStarted S r peer line → ((k : ℕ) → line < k → S.commands k ≡ Some command.Settle → IsPast r k → ⊥) → NotGood S r peer
 
 -- a shard is lost only where none of its peers counts as good

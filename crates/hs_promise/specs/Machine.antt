@@ -1,18 +1,20 @@
 -- Clause 1's other half: a run is the machine's on the events that are due, and on no others.
-use Rattle.std.specs.Prelude.{ℕ, ◌+◌, ◌==◌, ◌≡◌, ◌⊎◌, ◌<◌, ◌≤◌, Bool, count_by, true, false, if◌then◌else◌, List, [], ◌∷◌, length, Option, Some, None, IfSome, All}
+use Rattle.std.specs.Prelude.{ℕ, ◌+◌, ◌==◌, ◌≡◌, ◌⊎◌, ◌<◌, Bool, count_by, true, false, if◌then◌else◌, List, [], ◌∷◌, length, Option, Some, None, IfSome, All}
 use Rattle.hs_desk.specs.declared.fault.CoreFault.{CoreFault}
 use Rattle.hs_desk.specs.declared.fault.CoreFault.TheVariants as fault
 use Rattle.hs_model.specs.Refusals.{first}
 use Rattle.hs_promise.specs.Course.{course_of}
 use Rattle.hs_promise.specs.Ending.{Ending, ending_of}
 use Rattle.hs_promise.specs.Entry.{MayStop}
-use Rattle.hs_promise.specs.Found.{HasFound, IsReadAs}
+use Rattle.hs_promise.specs.Found.{HasFound, IsReadAs, IsStillBehind}
 use Rattle.hs_promise.specs.Lines.{AreLines}
 use Rattle.hs_cluster.specs.Course.{steps}
 use Rattle.hs_cluster.specs.Due.{Events, is_walk, next_turn}
+use Rattle.hs_cluster.specs.Calls.{MomentsRise}
+use Rattle.hs_promise.specs.Lower.Objects.{NoneAhead}
 use Rattle.hs_cluster.specs.Reports.{failures}
 use Rattle.hs_promise.specs.Promise.{AreOfScript}
-use Rattle.hs_promise.specs.Reports.{IsTold}
+use Rattle.hs_promise.specs.Reports.{IsBorneOut}
 use Rattle.hs_promise.specs.Run.{DiskRose, Ran, Script}
 use Rattle.hs_promise.specs.Story.{Story, all_events, first_core, last_core}
 use Rattle.hs_promise.specs.Lower.Taken.{peer_count}
@@ -25,11 +27,6 @@ pub record EndsAs (ending : Ending) (ended : Option CoreFault) : Type 0 where
   pub past : ending.past ≡ true → ended ≡ None
   pub full : ending.full ≡ true → ended ≡ Some fault.OpsFull
   pub lost : IfSome ending.lost (λ shard. ended ≡ Some (fault.ShardLost shard))
-
--- moments never fall, from one on and up to another
-abbrev pub MomentsRise : ℕ → Events → ℕ → Type 0
-MomentsRise from [] to = from ≤ to
-MomentsRise from (e ∷ es) to = (from ≤ e.1) × MomentsRise e.1 es to
 
 -- opening is turns until nobody has one; it may be cut short only where no line was begun
 abbrev pub opening_is_whole : Ran → List Events → Bool
@@ -53,12 +50,13 @@ pub record Went (S : Script) (r : Ran) (story : Story) : Type 0 where
   pub refused : r.refused ≡ (if (ending_of r.ending).full then (last_core S story).refused else [])
   pub course : r.course ≡ course_of S story r.old.moment
   pub ends : EndsAs (ending_of r.ending) (last_core S story).ended
-  pub failed : (disk : ℕ) → DiskRose r (failures false disk (first_core S story) (all_events story) + loss_count story disk) disk
+  pub failed : (disk : ℕ) → DiskRose r (failures false disk (first_core S story) (all_events story)) disk
 
--- and so where the disks tell their contents
-pub record Tells (S : Script) (r : Ran) (story : Story) : Type 0 where
+-- and so where the disks tell their contents, so that no read finds what is no log
+pub record IsOfDisks (S : Script) (r : Ran) (story : Story) : Type 0 where
   pub read : (peer : ℕ) → peer < peer_count S.set.shape → IsReadAs r story peer
-  pub told : MayStop S r → All (IsTold r) (all_events story)
+  pub told : MayStop S r → All (IsBorneOut r) (all_events story)
+  pub still : NoneAhead r.old → All (IsStillBehind r story) story.lost
   pub failed : (disk : ℕ) → DiskRose r (failures true disk (first_core S story) (all_events story) + loss_count story disk) disk
 
 -- no core was opened, since a disk is of another store or memory was wanting: nothing was answered, read or put
@@ -80,4 +78,4 @@ pub record IsOfMachine (tells : Type 0) (S : Script) (r : Ran) : Type 0 where
   pub script : AreOfScript S r
   pub how : Option Story
   pub went : WentAs S r how
-  pub told : tells → IfSome how (Tells S r)
+  pub told : tells → IfSome how (IsOfDisks S r)

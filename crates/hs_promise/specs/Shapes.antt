@@ -22,8 +22,8 @@ pub record IsFirstOther (S : Script) (r : Ran) (peer : ℕ) (found : Header) : T
 abbrev pub NoneWritten : Ran → Type 0
 NoneWritten r = (peer : ℕ) → (disk_at r.old.disks peer).last ≤ r.old.moment → IsUnwritten r.old.moment (disk_at r.old.disks peer) (disk_at r.new.disks peer)
 
--- a run ends so exactly there, but for want of memory, and has then written nothing
+-- a run ends so exactly there, but for want of memory, and either way has written nothing
 pub record ShapeCause (S : Script) (r : Ran) : Type 0 where
   pub only : (peer : ℕ) (found : Header) → r.ending ≡ status.WrongShape peer found → IsFirstOther S r peer found
   pub exact : (peer : ℕ) (found : Header) → IsFirstOther S r peer found → (r.ending ≡ status.WrongShape peer found) ⊎ (r.ending ≡ status.NoMemory)
-  pub unwritten : (peer : ℕ) (found : Header) → r.ending ≡ status.WrongShape peer found → NoneWritten r
+  pub unwritten : (peer : ℕ) (found : Header) → IsFirstOther S r peer found → NoneWritten r

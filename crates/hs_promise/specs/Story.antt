@@ -24,12 +24,12 @@ pub record Story : Type 0 where
   pub lines : List Events
 
 -- whether a peer is good when the core is opened
-abbrev pub opens_good : Story → ℕ → Bool
-opens_good story peer = slice_index_or story.good peer false
+abbrev pub starts_good : Story → ℕ → Bool
+starts_good story peer = slice_index_or story.good peer false
 
 -- the list that a shard opens with: the taken one, where a good peer has it
 abbrev pub opened_list : Script → Story → ℕ → Numbered
-opened_list S story shard = if list_any (opens_good story) (peers_of S.set.shape shard) then taken_list S.set.shape story.logs shard else []
+opened_list S story shard = if list_any (starts_good story) (peers_of S.set.shape shard) then taken_list S.set.shape story.logs shard else []
 
 -- its catalogue
 abbrev pub opened_catalogue : Script → Story → ℕ → Catalogue

@@ -25,10 +25,11 @@ pub fn done_is_the_end()
     ensures left { (lines : List (List ℕ)) (line : ℕ) (taken left : List ℕ) → HasEnded status.Done lines line taken left → left ≡ [] }
 {}
 
-/// Where a disk is of another store, nothing of the script was read.
+/// Where a disk is of another store, nothing of the script was read, and nothing answered.
 pub fn another_store_is_found_first()
     ensures line { (peer : ℕ) (found : Header) (lines : List (List ℕ)) (line : ℕ) (taken left : List ℕ) → HasEnded (status.WrongShape peer found) lines line taken left → line ≡ 0 }
     ensures taken { (peer : ℕ) (found : Header) (lines : List (List ℕ)) (line : ℕ) (taken left : List ℕ) → HasEnded (status.WrongShape peer found) lines line taken left → taken ≡ [] }
+    ensures journal { (S : Script) (r : Ran) (peer : ℕ) (found : Header) → Cause S r (status.WrongShape peer found) → r.journal ≡ [] }
 {}
 
 /// The source and the sink are blamed only where they failed, and a shard counts as lost only where

@@ -74,9 +74,8 @@ impl Rejoin {
         self.len = 0;
     }
 
-    /// The entry of this number, the next one, was copied and sealed. It takes no memory.
+    /// The entry of this number was copied and sealed. It takes no memory.
     pub fn copied(&mut self, number: u64)
-        requires next { number ≡ self.old.len + 1 }
         ensures value { self.new ≡ copied number self.old }
     {
         self.len = number;

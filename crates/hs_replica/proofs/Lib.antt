@@ -3,3 +3,6 @@ mod FrontLemmas
 mod RunLemmas
 mod SendLemmas
 mod TellLemmas
+mod CountLemmas
+mod TallyLemmas
+mod KindLemmas

@@ -1,5 +1,8 @@
+pub mod Counting
 pub mod Front
 pub mod Group
+pub mod Keeping
+pub mod Kinds
 pub mod Runs
 pub mod Sending
 pub use Rattle.hs_members.specs.Members

@@ -1,10 +1,13 @@
 //! The copies of one shard's list.
-ghost use Rattle.std.specs.Prelude.{◌≡◌, ◌+◌, ◌-◌, ◌<◌, length, map, IfOk, IfSome, OnErr, OnOk, slice_index_or};
+ghost use Rattle.std.specs.Prelude.{◌≡◌, ◌+◌, ◌-◌, ◌<◌, count_by, length, map, IfOk, IfSome, OnErr, OnOk, slice_index_or};
+ghost use Rattle.std.specs.List.{list_any};
 ghost use Rattle.hs_entry.specs.declared.entry.Entry.TheVariants.{View};
 ghost use Rattle.hs_limits.specs.Shape.{IsShape};
 ghost use Rattle.hs_members.specs.Members.{IsShard};
 ghost use Rattle.hs_post.specs.declared.message.Message.TheVariants.{Copy};
-ghost use Rattle.hs_replica.specs.Group.{IsHome, commit_front, committed, copies_above, copy_of, first_peer, have, last_number, lead, lead_takes, length_of, new_group, no_copy, on_append, on_copied, on_emptied, on_have, on_sealed, on_view, others_from, proposal, propose, renew, resend, send_all, take_committed, take_entry, takes, view_messages};
+ghost use Rattle.hs_replica.specs.Group.{IsHome, commit_front, committed, copies_above, copy_of, first_peer, have, last_number, lead, lead_takes, length_of, new_group, no_copy, on_append, on_copied, on_emptied, on_have, on_sealed, on_view, others_from, proposal, propose, renew, resend, send_all, take_committed, takes, view_messages};
+ghost use Rattle.hs_replica.specs.Kinds.{enters, is_block, is_got, is_root};
+ghost use Rattle.hs_replica.specs.Keeping.{KeepsFront, take_at, takes_at};
 ghost use Rattle.hs_replica.specs.Sending.{copies_since, send_if_other};
 
 use crate::GroupFault;
@@ -92,6 +95,7 @@ impl Group {
         ensures ok { OnOk result (self.new ≡ propose entry self.old) }
         ensures number { IfOk result (λ number. number ≡ last_number self.old + 1) }
         ensures sends { OnOk result (pool.new ≡ send_all (proposal entry self.old) pool.old) }
+        ensures kept { KeepsFront self.old self.new }
     {
         let Some(number) = self.last_number().checked_add(1) else {
             return Err(GroupFault::NoMemory);
@@ -111,19 +115,21 @@ impl Group {
         peer: u8,
         view: u64,
         number: u64,
-        entry: Entry,
+        entry: &Entry,
     ) -> Result<bool, GroupFault>
-        requires { IsHome self.old peer }
-        ensures ok { OnOk result (self.new ≡ on_append peer view number entry self.old) }
+        ensures ok { OnOk result (self.new ≡ on_append peer view number entry.now self.old) }
         ensures taken { IfOk result (λ taken. taken ≡ takes peer view number self.old) }
         ensures same { OnErr result (self.new ≡ self.old) }
+        ensures kept { KeepsFront self.old self.new }
     {
-        if self.takes(peer, view, number) {
-            self.take_entry(peer, &entry)?;
-            Ok(true)
-        } else {
-            Ok(false)
+        let Some(place) = self.place_of(peer) else {
+            return Ok(false);
+        };
+        if !self.takes(place, view, number) {
+            return Ok(false);
         }
+        self.take_at(place, entry)?;
+        Ok(true)
     }
 
     /// A peer has sealed so many entries: the lead knows its own at once, and another peer sends the
@@ -133,6 +139,7 @@ impl Group {
         ensures ok { OnOk result (self.new ≡ on_sealed peer number self.old) }
         ensures sends { OnOk result (pool.new ≡ send_all (have peer number self.old) pool.old) }
         ensures same { OnErr result (self.new ≡ self.old) }
+        ensures kept { KeepsFront self.old self.new }
     {
         let lead = self.lead();
         self.send_have(pool, lead, peer, number)?;
@@ -144,10 +151,12 @@ impl Group {
     /// A Have comes to the lead: of the shard's view and from a good peer it raises the number that
     /// the lead knows, and any other changes nothing. It takes no memory.
     pub fn on_have(&mut self, peer: u8, view: u64, sealed: u64)
-        requires { IsHome self.old peer }
-        ensures { self.new ≡ on_have peer view sealed self.old }
+        ensures value { self.new ≡ on_have peer view sealed self.old }
+        ensures kept { KeepsFront self.old self.new }
     {
-        let index = self.index_of(peer);
+        let Some(index) = self.place_of(peer) else {
+            return;
+        };
         if view == self.view && self.copies[index].good {
             self.copies[index].known = self.copies[index].known.max(sealed);
         }
@@ -161,6 +170,7 @@ impl Group {
         requires { members.now.shape ≡ self.old.shape }
         ensures ok { OnOk result (self.new ≡ on_view members.now self.old) }
         ensures sends { OnOk result (pool.new ≡ send_all (view_messages members.now self.old) pool.old) }
+        ensures kept { KeepsFront self.old self.new }
     {
         self.renew(members);
         self.send_since(pool, Since::Length)?;
@@ -185,7 +195,8 @@ impl Group {
     /// A joining peer's list was emptied. It takes no memory.
     pub fn on_emptied(&mut self, peer: u8)
         requires { IsHome self.old peer }
-        ensures { self.new ≡ on_emptied peer self.old }
+        ensures value { self.new ≡ on_emptied peer self.old }
+        ensures kept { KeepsFront self.old self.new }
     {
         let index = self.index_of(peer);
         self.copies[index].clear();
@@ -196,6 +207,7 @@ impl Group {
         requires { IsHome self.old peer }
         ensures ok { OnOk result (self.new ≡ on_copied peer number self.old) }
         ensures same { OnErr result (self.new ≡ self.old) }
+        ensures kept { KeepsFront self.old self.new }
     {
         let view = match self.lead() {
             Some(lead) => self.copies[self.index_of(lead)]
@@ -252,11 +264,53 @@ impl Group {
         self.copies[self.index_of(peer)].known
     }
 
+    /// The shard's view. It takes no memory.
+    pub fn view(&self) -> u64
+        ensures { result ≡ self.now.view }
+    {
+        self.view
+    }
+
     /// The entries of the lead's list that were not handed out, in order. It takes no memory.
     pub fn waiting(&self) -> &[Entry]
         ensures { result.now ≡ self.now.waiting }
     {
         self.waiting.as_slice()
+    }
+
+    /// How many of these are Blocks, which store blocks. It takes no memory.
+    pub fn blocks_waiting(&self) -> u64
+        ensures { result ≡ count_by is_block self.now.waiting }
+    {
+        self.waiting.blocks()
+    }
+
+    /// How many of these are Roots, which put roots. It takes no memory.
+    pub fn roots_waiting(&self) -> u64
+        ensures { result ≡ count_by is_root self.now.waiting }
+    {
+        self.waiting.roots()
+    }
+
+    /// Whether one of these enters an epoch. It takes no memory.
+    pub fn waits_to_enter(&self, epoch: u64) -> bool
+        ensures { result ≡ list_any (enters epoch) self.now.waiting }
+    {
+        self.waiting.has_enter(epoch)
+    }
+
+    /// Whether one of these is the Got of a round. It takes no memory.
+    pub fn waits_as_got(&self, from: u8, epoch: u64, round: u32) -> bool
+        ensures { result ≡ list_any (is_got from epoch round) self.now.waiting }
+    {
+        self.waiting.has_got(from, epoch, round)
+    }
+
+    /// The number of the last entry of the lead's list. It takes no memory.
+    pub fn last_number(&self) -> u64
+        ensures { result ≡ last_number self.now }
+    {
+        self.front + self.waiting.len() as u64
     }
 
     // ---- parts
@@ -265,6 +319,7 @@ impl Group {
     fn propose_view(&mut self, pool: &mut Pool) -> Result<(), GroupFault>
         ensures ok { OnOk result (self.new ≡ propose (View self.old.view) self.old) }
         ensures sends { OnOk result (pool.new ≡ send_all (proposal (View self.old.view) self.old) pool.old) }
+        ensures kept { KeepsFront self.old self.new }
     {
         let view = self.view;
         self.propose(pool, Entry::View { view })?;
@@ -279,13 +334,6 @@ impl Group {
         lead_of(peer_of(self.shard, 0, self.shape), self.copies.as_slice())
     }
 
-    /// The number of the last entry that waits.
-    fn last_number(&self) -> u64
-        ensures { result ≡ last_number self.now }
-    {
-        self.front + self.waiting.len() as u64
-    }
-
     /// The place of a peer's copy.
     fn index_of(&self, peer: u8) -> usize
         requires { IsHome self.now peer }
@@ -295,33 +343,48 @@ impl Group {
         usize::from(peer - peer_of(self.shard, 0, self.shape))
     }
 
-    /// Whether a peer takes a Copy.
-    fn takes(&self, peer: u8, view: u64, number: u64) -> bool
-        requires { IsHome self.now peer }
-        ensures { result ≡ takes peer view number self.now }
+    /// The place of a peer's copy. None exactly where no copy stands so far behind the first.
+    fn place_of(&self, peer: u8) -> Option<usize>
+        ensures place { IfSome result (λ place. place ≡ peer - first_peer self.now) }
+        ensures within { IfSome result (λ place. place < length self.now.copies) }
+        ensures none { result ≡ None → copy_of self.now peer ≡ no_copy }
     {
-        let copy = &self.copies[self.index_of(peer)];
+        let place = usize::from(peer.saturating_sub(peer_of(self.shard, 0, self.shape)));
+        if place < self.copies.len() {
+            Some(place)
+        } else {
+            None
+        }
+    }
+
+    /// Whether the peer of the copy at a place takes a Copy.
+    fn takes(&self, place: usize, view: u64, number: u64) -> bool
+        requires { place < length self.now.copies }
+        ensures { result ≡ takes_at place view number self.now }
+    {
+        let copy = &self.copies[place];
         copy.good && view == self.view && number > 0 && number - 1 == copy.stamps.len()
     }
 
-    /// A peer's list has an entry more. Without memory nothing changes.
-    fn take_entry(&mut self, peer: u8, entry: &Entry) -> Result<(), GroupFault>
-        requires { IsHome self.old peer }
-        ensures ok { OnOk result (self.new ≡ take_entry peer entry.now self.old) }
+    /// The list at a place has an entry more. Without memory nothing changes.
+    fn take_at(&mut self, place: usize, entry: &Entry) -> Result<(), GroupFault>
+        requires { place < length self.old.copies }
+        ensures ok { OnOk result (self.new ≡ take_at place entry.now self.old) }
         ensures same { OnErr result (self.new ≡ self.old) }
+        ensures kept { KeepsFront self.old self.new }
     {
-        let index = self.index_of(peer);
-        let view = view_after(self.copies[index].stamps.last(), entry);
-        self.copies[index].stamps.push(view)
+        let view = view_after(self.copies[place].stamps.last(), entry);
+        self.copies[place].stamps.push(view)
     }
 
-    /// The lead's list has an entry more.
+    /// The lead's list has an entry more. Without memory nothing changes.
     fn lead_takes(&mut self, leads: Option<u8>, entry: &Entry) -> Result<(), GroupFault>
         requires { IfSome leads (IsHome self.old) }
         ensures ok { OnOk result (self.new ≡ lead_takes leads entry.now self.old) }
+        ensures kept { KeepsFront self.old self.new }
     {
         match leads {
-            Some(peer) => self.take_entry(peer, entry),
+            Some(peer) => self.take_at(self.index_of(peer), entry),
             None => Ok(()),
         }
     }
@@ -440,7 +503,8 @@ impl Group {
     /// The copies are told who is good, and what stood above the new lead's list is gone.
     fn renew(&mut self, members: &Members)
         requires { members.now.shape ≡ self.old.shape }
-        ensures { self.new ≡ renew members.now self.old }
+        ensures value { self.new ≡ renew members.now self.old }
+        ensures kept { KeepsFront self.old self.new }
     {
         self.view = members.view(self.shard);
         tell_copies(

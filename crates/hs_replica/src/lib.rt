@@ -4,10 +4,12 @@
 mod copies;
 mod fault;
 mod group;
+mod kinds;
 mod laws;
 mod replica;
 mod sending;
 mod stamps;
+mod tally;
 mod waiting;
 
 pub use fault::GroupFault;

@@ -1,4 +1,6 @@
 mod Examples
+mod ChangeLemmas
+mod ComeLemmas
 pub mod EachLemmas
 pub mod PlaceLemmas
 pub mod RunLemmas

@@ -1,6 +1,6 @@
 -- One shard's side of the rounds of a deletion run.
 use Rattle.std.specs.BTreeMap.{insert_entry, is_at}
-use Rattle.std.specs.List.{flat_map, list_all, range_with_len}
+use Rattle.std.specs.List.{flat_map, list_all, list_any, range_with_len}
 use Rattle.std.specs.Map.{lookup}
 use Rattle.std.specs.declared.cmp.Ordering.{Ordering}
 use Rattle.std.specs.Option.{option_and_then, option_map, option_map_or}
@@ -56,6 +56,10 @@ have_told shards epoch round gots = list_all (λ from. is_some (told_by epoch ro
 -- the open round has come from every shard
 abbrev pub complete : Run → Bool
 complete run = option_map_or (λ at. have_told run.shape.shards at.0 at.1 run.gots) run.opened false
+
+-- some shard has told for a round
+abbrev pub has_come : ℕ → ℕ → Run → Bool
+has_come epoch round run = list_any (λ e. e.0.epoch == epoch && e.0.round == round) run.gots
 
 -- a total of 0 came
 abbrev pub is_zero_total : Option RoundBody → Bool

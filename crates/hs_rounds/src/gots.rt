@@ -1,9 +1,10 @@
 //! The Gots of the open round and of later ones.
-ghost use Rattle.std.specs.Prelude.{[], ◌≡◌, ◌<◌, ◌^◌, IfOk, OnErr, OnOk, Some, cond, drop, false, length};
+ghost use Rattle.std.specs.Prelude.{[], ◌≡◌, ◌<◌, ◌^◌, IfOk, OnErr, OnOk, Some, cond, drop, false, is_some, length};
+ghost use Rattle.std.specs.List.{list_any, range_with_len};
 ghost use Rattle.std.specs.BTreeMap.{insert_entry, is_at};
 ghost use Rattle.std.specs.Option.{option_copied};
 ghost use Rattle.hs_rounds.specs.declared.place.Place.{Place};
-ghost use Rattle.hs_rounds.specs.Rounds.{body_at, changes_in, changes_of, from_round, have_told, have_told_zero, is_before, is_zero_total, place_cmp};
+ghost use Rattle.hs_rounds.specs.Rounds.{body_at, changes_in, changes_of, from_round, have_told, have_told_zero, is_before, is_zero_total, place_cmp, told_by};
 ghost use Rattle.hs_rounds.specs.Steps.{starts_before};
 
 use crate::{Place, RoundBody};
@@ -70,6 +71,14 @@ impl Gots {
         ensures { result ≡ have_told shards epoch round self.now }
     {
         (0..shards).all(|from| self.get(Place { epoch, round, from }).is_some())
+    }
+
+    /// Whether a round has come from one of so many senders. It takes no memory.
+    pub(crate) fn has_some(&self, shards: u8, epoch: u64, round: u32) -> bool
+        ensures { result ≡ list_any (λ from. is_some (told_by epoch round self.now from))
+            (range_with_len 0 shards) }
+    {
+        (0..shards).any(|from| self.get(Place { epoch, round, from }).is_some())
     }
 
     /// Whether a round has come from each of so many senders with a total of 0. It takes no memory.

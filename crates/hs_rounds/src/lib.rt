@@ -2,6 +2,7 @@
 #![tactic(auto)]
 
 mod body;
+mod changes;
 mod fault;
 mod gots;
 mod place;
@@ -9,6 +10,7 @@ mod run;
 mod sending;
 
 pub use body::RoundBody;
+pub use changes::are_changes;
 pub use fault::RunFault;
 pub use place::Place;
 pub use run::Run;

@@ -5,7 +5,7 @@ ghost use Rattle.std.specs.Vec.{vec_len};
 ghost use Rattle.hs_limits.specs.Shape.{IsShape};
 ghost use Rattle.hs_rounds.specs.declared.fault.RunFault.TheVariants.{NoMemory};
 ghost use Rattle.hs_rounds.specs.Changes.{AreChanges};
-ghost use Rattle.hs_rounds.specs.Rounds.{IsGot, IsSent, IsTold, body, complete, empty_run, enter, finish, go_on, got, is_kept, is_last, is_past, is_round, open_at, outgoing, received, sent_back, was_sent};
+ghost use Rattle.hs_rounds.specs.Rounds.{IsGot, IsSent, IsTold, body, complete, empty_run, enter, finish, go_on, got, has_come, is_kept, is_last, is_past, is_round, open_at, outgoing, received, sent_back, was_sent};
 ghost use Rattle.hs_rounds.specs.Steps.{is_open, moved};
 
 use crate::gots::{Gots, is_before};
@@ -126,6 +126,13 @@ impl Run {
             Some((epoch, round)) => self.gots.has_all(self.shape.shards, epoch, round),
             None => false,
         }
+    }
+
+    /// Whether a round that is open or waits has come from some shard. It takes no memory.
+    pub fn has_come(&self, epoch: u64, round: u32) -> bool
+        ensures { result ≡ has_come epoch round self.now }
+    {
+        self.gots.has_some(self.shape.shards, epoch, round)
     }
 
     /// Whether the open round is not round 0, and has come from every shard with a total of 0. It

@@ -1,4 +1,4 @@
--- The table of digits, and the loop over pairs of them.
+-- The tables of digits, and the loop over pairs of them.
 use Rattle.std.proofs.Common.{◌≡◌, ℕ, zero, suc, ◌+◌, ◌*◌, ◌<◌, ◌≤◌, ◌==◌, Bool, true, false, ◌&&◌, inl, inr, List, length, take, drop, slice_index, slice_set, Option, Some, None, unwrap_or, Result, Ok, Err, refl, sym, ap, subst, arith}
 use Rattle.std.specs.Result.{result_ok}
 use Rattle.std.proofs.lemmas.Bool.{and_parts, cases_lt, eqb-true}
@@ -7,11 +7,11 @@ use Rattle.hex.specs.declared.error.FromHexError.{FromHexError}
 use Rattle.hex.specs.declared.error.FromHexError.TheVariants.{InvalidHexCharacter}
 use Rattle.hex.proofs.Pairs.{decode_done, decode_err, decode_step, prepend}
 use Rattle.hs_script.specs.Giving.{Decodes}
-use Rattle.hs_script.specs.declared.digits.TheConstants.{VALUES}
+use Rattle.hs_script.specs.declared.digits.TheConstants.{HIGH, LOW}
 
--- whether the table has the value of a byte
+-- whether the tables have the value of a byte
 abbrev has_value : ℕ → Bool
-has_value c = unwrap_or (hex_digit_value c) 255 == slice_index VALUES c
+has_value c = (unwrap_or (hex_digit_value c) 256 == slice_index LOW c) && (unwrap_or (hex_digit_value c) 16 * 16 == slice_index HIGH c)
 
 -- of each byte below a number
 abbrev has_values : ℕ → Bool
@@ -29,55 +29,72 @@ values_at (suc n) c h lt =
           rw e parts.0
     ]
 
--- the table has the value of each digit, and 255 of what is none
-pub value_in_table : (c : ℕ) → c < 256 → slice_index VALUES c ≡ unwrap_or (hex_digit_value c) 255
-value_in_table c below = sym (eqb-true (unwrap_or (hex_digit_value c) 255) (slice_index VALUES c) (values_at 256 c refl below))
+both : (c : ℕ) → c < 256 → ((unwrap_or (hex_digit_value c) 256 == slice_index LOW c) ≡ true) × ((unwrap_or (hex_digit_value c) 16 * 16 == slice_index HIGH c) ≡ true)
+both c below = and_parts (unwrap_or (hex_digit_value c) 256 == slice_index LOW c) (unwrap_or (hex_digit_value c) 16 * 16 == slice_index HIGH c) (values_at 256 c refl below)
 
--- ---- pairs
+-- the tables have the value of each digit, and 256 of what is none
+pub value_in_low : (c : ℕ) → c < 256 → slice_index LOW c ≡ unwrap_or (hex_digit_value c) 256
+value_in_low c below = sym (eqb-true (unwrap_or (hex_digit_value c) 256) (slice_index LOW c) (both c below).0)
+
+pub value_in_high : (c : ℕ) → c < 256 → slice_index HIGH c ≡ unwrap_or (hex_digit_value c) 16 * 16
+value_in_high c below = sym (eqb-true (unwrap_or (hex_digit_value c) 16 * 16) (slice_index HIGH c) (both c below).1)
 
 -- a digit's value is below 16
 value_small : (c v : ℕ) → hex_digit_value c ≡ Some v → v < 16
 value_small c v h = grind (arith)
 
--- a byte is a digit where its value is at most 15
-a_digit : (c : ℕ) (o : Option ℕ) → hex_digit_value c ≡ o → unwrap_or o 255 ≤ 15 → hex_digit_value c ≡ Some (unwrap_or o 255)
-a_digit c (Some v) is low = is
-a_digit c None is low = absurd (omega arith)
+low_by : (c : ℕ) (o : Option ℕ) → hex_digit_value c ≡ o → unwrap_or o 256 ≤ 256
+low_by c (Some v) is = let small = value_small c v is in omega (arith, small)
+low_by c None is = omega arith
 
-no_digit : (c : ℕ) (o : Option ℕ) → hex_digit_value c ≡ o → 15 < unwrap_or o 255 → hex_digit_value c ≡ None
-no_digit c (Some v) is high = let small = value_small c v is in absurd (omega (arith, small))
-no_digit c None is high = is
+high_by : (c : ℕ) (o : Option ℕ) → hex_digit_value c ≡ o → unwrap_or o 16 * 16 ≤ 256
+high_by c (Some v) is = let small = value_small c v is in omega (arith, small)
+high_by c None is = omega arith
+
+-- and nothing above 256
+pub most_in_low : (c : ℕ) → c < 256 → slice_index LOW c ≤ 256
+most_in_low c below = subst (λ n. n ≤ 256) (sym (value_in_low c below)) (low_by c (hex_digit_value c) refl)
+
+pub most_in_high : (c : ℕ) → c < 256 → slice_index HIGH c ≤ 256
+most_in_high c below = subst (λ n. n ≤ 256) (sym (value_in_high c below)) (high_by c (hex_digit_value c) refl)
+
+-- ---- pairs
 
 -- two digits
-pub pair_read : (a b i : ℕ) → unwrap_or (hex_digit_value a) 255 ≤ 15 → unwrap_or (hex_digit_value b) 255 ≤ 15
-    → Some (unwrap_or (hex_digit_value a) 255 * 16 + unwrap_or (hex_digit_value b) 255) ≡ result_ok (pair_value a b i)
-pair_read a b i high low =
-    let first : value_at a i ≡ Ok (unwrap_or (hex_digit_value a) 255) = ap (digit_or_error a i) (a_digit a (hex_digit_value a) refl high) in
-    let second : value_at b (i + 1) ≡ Ok (unwrap_or (hex_digit_value b) 255) = ap (digit_or_error b (i + 1)) (a_digit b (hex_digit_value b) refl low) in
-    let pair : pair_value a b i ≡ Ok (unwrap_or (hex_digit_value a) 255 * 16 + unwrap_or (hex_digit_value b) 255) = rw (first, second) refl in
+read_by : (a b i : ℕ) (o p : Option ℕ) → hex_digit_value a ≡ o → hex_digit_value b ≡ p → unwrap_or o 16 * 16 + unwrap_or p 256 ≤ 255
+    → Some (unwrap_or o 16 * 16 + unwrap_or p 256) ≡ result_ok (pair_value a b i)
+read_by a b i (Some v) (Some w) ha hb low =
+    let first : value_at a i ≡ Ok v = ap (digit_or_error a i) ha in
+    let second : value_at b (i + 1) ≡ Ok w = ap (digit_or_error b (i + 1)) hb in
+    let pair : pair_value a b i ≡ Ok (v * 16 + w) = rw (first, second) refl in
     sym (ap result_ok pair)
+read_by a b i (Some v) None ha hb low = absurd (omega (arith, low))
+read_by a b i None p ha hb low = absurd (omega (arith, low))
 
--- the first is none
-pub pair_first : (a b i : ℕ) → 15 < unwrap_or (hex_digit_value a) 255 → None ≡ result_ok (pair_value a b i)
-pair_first a b i high =
-    let first : value_at a i ≡ Err (InvalidHexCharacter a i) = ap (digit_or_error a i) (no_digit a (hex_digit_value a) refl high) in
-    let pair : pair_value a b i ≡ Err (InvalidHexCharacter a i) = rw first refl in
-    sym (ap result_ok pair)
+pub pair_read : (a b i : ℕ) → unwrap_or (hex_digit_value a) 16 * 16 + unwrap_or (hex_digit_value b) 256 ≤ 255
+    → Some (unwrap_or (hex_digit_value a) 16 * 16 + unwrap_or (hex_digit_value b) 256) ≡ result_ok (pair_value a b i)
+pair_read a b i low = read_by a b i (hex_digit_value a) (hex_digit_value b) refl refl low
 
--- the second is
-second_by : (a b i : ℕ) (o : Option ℕ) → hex_digit_value a ≡ o → hex_digit_value b ≡ None → None ≡ result_ok (pair_value a b i)
-second_by a b i (Some v) ha hb =
+-- one is none
+none_by : (a b i : ℕ) (o p : Option ℕ) → hex_digit_value a ≡ o → hex_digit_value b ≡ p → 255 < unwrap_or o 16 * 16 + unwrap_or p 256
+    → None ≡ result_ok (pair_value a b i)
+none_by a b i (Some v) (Some w) ha hb high =
+    let v_small = value_small a v ha in
+    let w_small = value_small b w hb in
+    absurd (omega (arith, high, v_small, w_small))
+none_by a b i (Some v) None ha hb high =
     let first : value_at a i ≡ Ok v = ap (digit_or_error a i) ha in
     let second : value_at b (i + 1) ≡ Err (InvalidHexCharacter b (i + 1)) = ap (digit_or_error b (i + 1)) hb in
     let pair : pair_value a b i ≡ Err (InvalidHexCharacter b (i + 1)) = rw (first, second) refl in
     sym (ap result_ok pair)
-second_by a b i None ha hb =
+none_by a b i None p ha hb high =
     let first : value_at a i ≡ Err (InvalidHexCharacter a i) = ap (digit_or_error a i) ha in
     let pair : pair_value a b i ≡ Err (InvalidHexCharacter a i) = rw first refl in
     sym (ap result_ok pair)
 
-pub pair_second : (a b i : ℕ) → 15 < unwrap_or (hex_digit_value b) 255 → None ≡ result_ok (pair_value a b i)
-pair_second a b i low = second_by a b i (hex_digit_value a) refl (no_digit b (hex_digit_value b) refl low)
+pub pair_none : (a b i : ℕ) → 255 < unwrap_or (hex_digit_value a) 16 * 16 + unwrap_or (hex_digit_value b) 256
+    → None ≡ result_ok (pair_value a b i)
+pair_none a b i high = none_by a b i (hex_digit_value a) (hex_digit_value b) refl refl high
 
 -- ---- the loop
 

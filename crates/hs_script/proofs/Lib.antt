@@ -1,4 +1,5 @@
 mod WordsLemmas
+mod ReadingLemmas
 mod NumberLemmas
 mod DigitLemmas
 mod PayloadLemmas

@@ -20,9 +20,11 @@ is_refusal (reply.Down peer line) = false
 is_refusal (reply.Visits epoch count) = false
 is_refusal refusal = true
 
--- a reply without data
+-- a reply without data, and not that of a write which was done
 abbrev pub is_short : Reply → Bool
 is_short (reply.Bytes bytes handles) = false
+is_short (reply.New handle epoch) = false
+is_short (reply.Dup handle epoch) = false
 is_short other = true
 
 -- the dash that stands for no data

@@ -26,8 +26,8 @@ pub(crate) fn print_read(
     ensures err { IsOkUnless result ScriptFault.NoMemory }
     ensures same { OnErr result (out.new.items ≡ out.old.items) }
 {
-    let mut front = Vec::new(*out.allocator());
-    let mut back = Vec::new(*out.allocator());
+    let mut front = Vec::with_capacity(*out.allocator(), 64)?;
+    let mut back = Vec::with_capacity(*out.allocator(), 16)?;
     match put_ends(who, bytes, handles, &mut front, &mut back) {
         Ok(()) => {
             put_around(front.as_slice(), bytes, back.as_slice(), out)?;

@@ -14,6 +14,7 @@ mod print;
 mod put;
 mod read;
 mod words;
+mod written;
 
 pub use fault::ScriptFault;
 pub use print::print_entry;

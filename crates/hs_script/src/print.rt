@@ -8,6 +8,7 @@ ghost use Rattle.hs_script.specs.Text.{entry_text, reply_text, shard_text};
 use crate::ScriptFault;
 use crate::data::print_read;
 use crate::put::{put_address, put_named, put_stat, put_who};
+use crate::written::print_written;
 use hs_journal::{JournalEntry, Who};
 use hs_model::Reply;
 use std::io;
@@ -25,18 +26,26 @@ pub fn print_entry(entry: &JournalEntry, out: &mut Vec<u8>) -> Result<(), Script
         Reply::Bytes { bytes, handles } => {
             print_read(entry.who, bytes.as_slice(), handles.as_slice(), out)
         }
+        Reply::New { handle, epoch } => {
+            print_written(entry.who, b" new h", *handle, *epoch, out)?;
+            Ok(())
+        }
+        Reply::Dup { handle, epoch } => {
+            print_written(entry.who, b" dup h", *handle, *epoch, out)?;
+            Ok(())
+        }
         _ => print_short(entry, out),
     }
 }
 
-/// Puts the line of an entry without data at the end of `out`. It is made apart.
+/// Puts the line of a short entry at the end of `out`. It is made apart.
 fn print_short(entry: &JournalEntry, out: &mut Vec<u8>) -> Result<(), ScriptFault>
     requires { IsTrue (is_short entry.now.reply) }
     ensures ok { OnOk result (out.new.items ≡ out.old.items ++ entry_text entry.now) }
     ensures err { IsOkUnless result ScriptFault.NoMemory }
     ensures same { OnErr result (out.new.items ≡ out.old.items) }
 {
-    let mut line = Vec::new(*out.allocator());
+    let mut line = Vec::with_capacity(*out.allocator(), 128)?;
     match put_entry(entry, &mut line) {
         Ok(()) => {
             out.extend_from_slice(line.as_slice())?;
@@ -58,15 +67,13 @@ fn put_entry(entry: &JournalEntry, out: &mut Vec<u8>) -> io::Result<()>
     write!(out, "\n")
 }
 
-/// Puts a reply without data at the end of `out`.
+/// Puts a short reply at the end of `out`.
 fn put_reply(who: Who, reply: &Reply, out: &mut Vec<u8>) -> io::Result<()>
     requires { IsTrue (is_short reply.now) }
     ensures { OnOk result (out.new.items ≡ out.old.items ++ reply_text who reply.now) }
 {
     match reply {
         Reply::Ok => write!(out, "ok"),
-        Reply::New { handle, epoch } => write!(out, "new h{handle} e{epoch}"),
-        Reply::Dup { handle, epoch } => write!(out, "dup h{handle} e{epoch}"),
         Reply::Held { handle, epoch } => write!(out, "held h{handle} e{epoch}"),
         Reply::Name { address } => put_address(address, out),
         Reply::Stat {

@@ -5,6 +5,7 @@ ghost use Rattle.std.specs.List.{flat_map};
 ghost use Rattle.hex.specs.Hex.{encode_lower};
 ghost use Rattle.hs_script.specs.Text.{list_text, who_text};
 
+use crate::written::put_asker;
 use hs_block::print_address;
 use hs_journal::Who;
 use hs_limits::Address;
@@ -15,11 +16,9 @@ use std::io::Write;
 pub(crate) fn put_who(who: Who, out: &mut Vec<u8>) -> io::Result<()>
     ensures { OnOk result (out.new.items ≡ out.old.items ++ who_text who) }
 {
-    match who {
-        Who::Line(number) => write!(out, "{number}"),
-        Who::Shard(_) => write!(out, "-"),
-        Who::Store => write!(out, "-"),
-    }
+    out.reserve(40)?;
+    put_asker(who, out);
+    Ok(())
 }
 
 /// Puts a text and a name or key at the end of `out`.

@@ -1,4 +1,5 @@
 //! What a line of a script says.
+ghost use Rattle.std.specs.Prelude.{◌≡◌, bytes_eq, codes, false};
 ghost use Rattle.hs_script.specs.Answer.{Reads, ReadsCommand};
 ghost use Rattle.hs_script.specs.Giving.{more_words};
 ghost use Rattle.hs_script.specs.Lines.{words_of};
@@ -33,16 +34,24 @@ pub fn read_line(alloc: Global, bytes: &[u8]) -> Result<Option<Command>, ScriptF
 }
 
 /// The command of a line that is neither blank nor a comment.
+#[tactic(auto, using(crate::proofs::ReadingLemmas::write_line))]
 fn read_command(alloc: Global, line: &[u8]) -> Result<Command, ScriptFault>
     ensures { ReadsCommand result (command_of (words_of line.now)) }
 {
     let (verb, rest) = split_word(line);
-    read_verb(alloc, verb, rest)
+    if verb == b"write".as_slice() {
+        read_write(alloc, rest)
+    } else {
+        read_verb(alloc, verb, rest)
+    }
 }
 
-/// The command of a line on which a client asks, or of another.
+/// The command of a line whose verb isn't `write`. It is a call of its own: a write is read without
+/// what the other lines want on the stack.
 #[tactic(auto, unfolding(crate::specs::Reading::line_of))]
+#[inline(never)]
 fn read_verb(alloc: Global, verb: &[u8], rest: &[u8]) -> Result<Command, ScriptFault>
+    requires { bytes_eq verb.now (codes "write") ≡ false }
     ensures { ReadsCommand result (line_of verb.now (more_words rest.now)) }
 {
     if verb == b"open".as_slice() {
@@ -51,8 +60,6 @@ fn read_verb(alloc: Global, verb: &[u8], rest: &[u8]) -> Result<Command, ScriptF
     } else if verb == b"close".as_slice() {
         let session = session(alloc, rest)?;
         Ok(Command::Client(Op::Close { session }))
-    } else if verb == b"write".as_slice() {
-        read_write(alloc, rest)
     } else if verb == b"read".as_slice() {
         let (session, handle) = session_and_handle(alloc, rest)?;
         Ok(Command::Client(Op::Read { session, handle }))

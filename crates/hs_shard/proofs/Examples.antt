@@ -8,11 +8,14 @@ use Rattle.hs_limits.specs.declared.address.Address.{Address}
 use Rattle.hs_limits.specs.declared.delta.Delta.{Delta}
 use Rattle.hs_limits.specs.Block.{spell}
 use Rattle.hs_limits.specs.Reading.{addresses, block_at, read_block}
+use Rattle.hs_model.specs.declared.store.StoredBlock.{StoredBlock}
+use Rattle.hs_model.specs.Store.{Root, Store}
 use Rattle.hs_shard.specs.declared.effect.Effect.{Effect}
 use Rattle.hs_shard.specs.declared.effect.Sent.{Sent}
 use Rattle.hs_shard.specs.declared.facts.Facts.{Facts}
 use Rattle.hs_shard.specs.Apply.{apply}
 use Rattle.hs_shard.specs.Facts.{Catalogue, empty_catalogue, pointers_at}
+use Rattle.hs_shard.specs.Plain.{add_shard}
 
 abbrev a : ℕ → Address
 a byte = record { 0 = replicate 32 byte }
@@ -173,3 +176,35 @@ apart_blocks = refl
 apart_pointers : pointers_at 2 (after two apart).blocks ≡ Some (a 6 ∷ a 7 ∷ a 6 ∷ [])
 unfolding read_block block_at addresses
 apart_pointers = refl
+
+-- ---- what a shard has in a plain store: the second of two shards puts its block between those of the first, and a dropped root before a retained one
+
+abbrev plain_block_of : ℕ → List Address → StoredBlock
+plain_block_of born pointers = record { pointers = pointers; bytes = []; born = born }
+
+abbrev plain_root_of : ℕ → Option ℕ → Root
+plain_root_of byte dropped = record { key = key; address = a byte; dropped = dropped }
+
+abbrev first_shard : Store
+first_shard = record {
+  blocks = (a 6, plain_block_of 1 []) ∷ (a 8, plain_block_of 3 (a 6 ∷ [])) ∷ [];
+  given = (a 6, 4) ∷ (a 8, 3) ∷ [];
+  roots = [];
+  epochs = 4 ∷ 1 ∷ [];
+  swept = 4 ∷ 1 ∷ [];
+  sessions = [];
+}
+
+abbrev kept_twice : List Step
+kept_twice = (10, kind.Root 1 2 (a 7) key, None) ∷ (11, kind.Drop 1 key, None) ∷ (12, kind.Root 1 2 (a 6) key, None) ∷ mark 13 2 2 7 ∷ []
+
+both_in_place : add_shard (after two (apart ++ kept_twice)) first_shard ≡ record {
+  blocks = (a 6, plain_block_of 1 []) ∷ (a 7, plain_block_of 1 (a 6 ∷ a 7 ∷ a 6 ∷ [])) ∷ (a 8, plain_block_of 3 (a 6 ∷ [])) ∷ [];
+  given = (a 6, 4) ∷ (a 7, 2) ∷ (a 8, 3) ∷ [];
+  roots = plain_root_of 7 (Some 2) ∷ plain_root_of 6 None ∷ [];
+  epochs = 4 ∷ 2 ∷ [];
+  swept = 4 ∷ 2 ∷ [];
+  sessions = [];
+}
+unfolding read_block block_at addresses
+both_in_place = refl

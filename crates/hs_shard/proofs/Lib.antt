@@ -6,5 +6,6 @@ pub mod FoundLemmas
 pub mod KeptLemmas
 pub mod ListedLemmas
 pub mod OutcomeLemmas
+pub mod PlainLemmas
 pub mod PointerLemmas
 pub mod TallyLemmas

@@ -1,17 +1,19 @@
 -- Counts of addresses, as deltas: ascending, and each of at least 1.
-use Rattle.std.proofs.Common.{◌≡◌, ◌≤◌, ◌<◌, ◌+◌, ◌∙◌, ℕ, List, [], ◌∷◌, ◌++◌, drop, length, refl, ap, sym, subst, map, Ordering, Less, Equal, Greater}
+use Rattle.std.proofs.Common.{arith, ◌≡◌, ◌≤◌, ◌<◌, ◌+◌, ◌∙◌, ℕ, List, [], ◌∷◌, ◌++◌, drop, length, refl, ap, sym, subst, map, Option, Some, unwrap_or, Ordering, Less, Equal, Greater}
 use Rattle.std.proofs.Math.ListN.{get_or}
 use Rattle.std.proofs.lemmas.List.{at_drop_more}
 use Rattle.std.proofs.lemmas.List.Elements.{All-cons, All-nil}
-use Rattle.std.specs.BTreeMap.{insert_entry}
+use Rattle.std.specs.BTreeMap.{insert_entry, is_at}
 use Rattle.std.specs.List.{All, AllByRecursion}
 use Rattle.std.specs.List.Sorted.{IsStrictlySortedBy}
-use Rattle.std.specs.Map.{keys_of}
+use Rattle.std.specs.Map.{keys_of, lookup, set_value}
 use Rattle.std.specs.Option.{option_map_or}
 use Rattle.std.specs.Ordering.{match_ordering}
 use Rattle.hs_limits.specs.declared.address.Address.{Address}
 use Rattle.hs_limits.specs.declared.delta.Delta.{Delta}
 use Rattle.hs_model.specs.Store.{address_cmp}
+use Rattle.hs_model.proofs.MapLemmas.{insert-present}
+use Rattle.hs_model.proofs.SetLemmas.{address_total}
 use Rattle.hs_rounds.specs.Changes.{AreChanges}
 use Rattle.hs_shard.specs.Facts.{BlockList, facts_in}
 use Rattle.hs_shard.specs.Listed.{pointers_each}
@@ -28,6 +30,14 @@ some_insert a n (e ∷ es) le h = go (some_insert a n es le h.1) (address_cmp a 
     go ih Less = (le, h)
     go ih Equal = (le, h.1)
     go ih Greater = (h.0, ih)
+
+-- an address that has a count, counted once more
+pub raised : (a : Address) (n more : ℕ) (es : List (Address × ℕ)) → IsStrictlySortedBy address_cmp (keys_of es) → Some n ≡ lookup (is_at (address_cmp a)) es → more ≡ n + 1 → set_value (is_at (address_cmp a)) es more ≡ one_more a es
+raised a n more es d h e =
+    sym (insert-present address_cmp address_total es a n more d (sym h)) ∙ ap (λ k. insert_entry address_cmp es a k) (e ∙ ap (λ (o : Option ℕ). unwrap_or o 0 + 1) h)
+
+pub some_more : (a : Address) (es : List (Address × ℕ)) → Some1 es → Some1 (one_more a es)
+some_more a es h = some_insert a (unwrap_or (lookup (is_at (address_cmp a)) es) 0 + 1) es (omega arith) h
 
 some_deltas : (es : List (Address × ℕ)) → Some1 es → All (λ (d : Delta). 1 ≤ d.amount) (deltas_of es)
 some_deltas [] h = All-nil (λ (d : Delta). 1 ≤ d.amount)

@@ -1,8 +1,10 @@
+pub mod Adding
 pub mod Apply
 pub mod Clients
 pub mod Facts
 pub mod Lending
 pub mod Listed
+pub mod Plain
 pub mod Rounds
 pub mod Tally
 pub use Rattle.hs_limits.specs.Shape

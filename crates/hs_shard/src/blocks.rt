@@ -25,6 +25,8 @@ use std::alloc::{AllocError, Global};
 use std::collections::BTreeMap;
 use std::marker::Model;
 
+mod plain;
+
 /// The present blocks. Beside the map of what is known of each it keeps the address by the number of
 /// the entry that stored the block, and the addresses of those that a deletion run looks at.
 #[derive(Drop)]

@@ -19,7 +19,10 @@ use std::alloc::Global;
 use std::marker::Model;
 
 mod clients;
+mod copying;
+mod plain;
 mod rounds;
+mod taking;
 
 /// What a shard's entries amount to: its present blocks without their data, its roots, its epoch and
 /// the last one that it swept, the view of its last View entry, and its side of a deletion run's

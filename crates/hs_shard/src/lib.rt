@@ -9,6 +9,8 @@ mod fault;
 mod laws;
 mod listed;
 mod picking;
+mod plain_blocks;
+mod plain_roots;
 mod tally;
 mod writes;
 

@@ -66,11 +66,14 @@ impl Tally {
     fn add(&mut self, address: Address) -> Result<(), AllocError>
         ensures { OnOk result (self.new ≡ one_more address self.old) }
     {
-        let before = self.counts.get(&address).copied().unwrap_or(0);
-        let Some(count) = before.checked_add(1) else {
-            return Err(AllocError);
-        };
-        self.counts.insert(address, count)?;
+        if let Some(count) = self.counts.get_mut(&address) {
+            let Some(more) = count.checked_add(1) else {
+                return Err(AllocError);
+            };
+            *count = more;
+            return Ok(());
+        }
+        self.counts.insert(address, 1)?;
         Ok(())
     }
 }

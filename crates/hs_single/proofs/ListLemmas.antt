@@ -1,5 +1,5 @@
 -- Which lists a side gives before and after an entry is kept.
-use Rattle.std.proofs.Common.{◌≡◌, ℕ, ◌⊎◌, inl, inr, List, [], ◌∷◌, ◌++◌, ◌≤◌, Option, Some, None, Ok, length, refl, sym, ap, ◌∙◌, subst, IsSome, MatchOption}
+use Rattle.std.proofs.Common.{◌≡◌, ℕ, ◌⊎◌, inl, inr, List, [], ◌∷◌, ◌++◌, ◌≤◌, Option, Some, None, length, refl, sym, ap, ◌∙◌, subst, IsSome, MatchOption}
 use Rattle.std.proofs.lemmas.List.{map-append, length-map}
 use Rattle.hs_ports.specs.Moments.{EachMoment}
 use Rattle.hs_ports.specs.Disk.{Standing, IsImage, settled}
@@ -7,7 +7,6 @@ use Rattle.hs_ports.proofs.Images.{settled_only}
 use Rattle.hs_ports.specs.declared.disk.Side.{Side}
 use Rattle.hs_ports.proofs.MomentLemmas.{weaker, then_run}
 use Rattle.hs_entry.specs.declared.entry.Entry.{Entry}
-use Rattle.hs_entry.specs.Reading.{entry_at}
 use Rattle.hs_side.specs.Giving.{GivesSame, GivesEither}
 use Rattle.hs_side.specs.declared.header.Header.{Header}
 use Rattle.hs_side.specs.Follow.{Follow}
@@ -70,16 +69,14 @@ at-rest tells log size disk s told some none content image = go log.head refl so
         settled_only (disk.seen log.side) content (subst (λ l. IsImage l content) loose image)
 
 -- a frame that was written and then opened is one entry more
-pub sealed-list : (places before after : List ℕ) (end : ℕ) (entries : List (ℕ × Entry)) (number : ℕ) (entry : Entry) (payload : List ℕ) → HasList places before entries
-    → ((n : ℕ) (e : Entry) → entry_at payload ≡ Ok (n, e) → log_of after ≡ with_frame (record { place = end; number = n; entry = e }) (log_of before))
-    → entry_at payload ≡ Ok (number, entry) → HasList (places ++ end ∷ []) after (entries ++ (number, entry) ∷ [])
-sealed-list places before after end entries number entry payload h later reads = more-list places before after entries (record { place = end; number = number; entry = entry }) h (later number entry reads)
+pub sealed-list : (places before after : List ℕ) (end : ℕ) (entries : List (ℕ × Entry)) (number : ℕ) (entry : Entry) → HasList places before entries
+    → log_of after ≡ with_frame (record { place = end; number = number; entry = entry }) (log_of before) → HasList (places ++ end ∷ []) after (entries ++ (number, entry) ∷ [])
+sealed-list places before after end entries number entry h later = more-list places before after entries (record { place = end; number = number; entry = entry }) h later
 
 -- and of the same generation
-pub sealed-generation : (places before after : List ℕ) (end : ℕ) (entries : List (ℕ × Entry)) (number : ℕ) (entry : Entry) (payload : List ℕ) → HasList places before entries
-    → ((n : ℕ) (e : Entry) → entry_at payload ≡ Ok (n, e) → log_of after ≡ with_frame (record { place = end; number = n; entry = e }) (log_of before))
-    → entry_at payload ≡ Ok (number, entry) → generation_in after ≡ generation_in before
-sealed-generation places before after end entries number entry payload h later reads = frame-generation before after h.log (record { place = end; number = number; entry = entry }) h.read (later number entry reads)
+pub sealed-generation : (places before after : List ℕ) (end : ℕ) (entries : List (ℕ × Entry)) (number : ℕ) (entry : Entry) → HasList places before entries
+    → log_of after ≡ with_frame (record { place = end; number = number; entry = entry }) (log_of before) → generation_in after ≡ generation_in before
+sealed-generation places before after end entries number entry h later = frame-generation before after h.log (record { place = end; number = number; entry = entry }) h.read later
 
 -- what is left at each moment while a frame is written and then opened
 pub keep-moments : {first middle last : ℕ} {side : Side} {a b c : Standing} (places places' before mid after : List ℕ) (entries more : List (ℕ × Entry)) → HasList places before entries → HasList places' after more → GivesSame before mid → generation_in after ≡ generation_in before

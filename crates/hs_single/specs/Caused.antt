@@ -1,5 +1,5 @@
 -- What a count of the disk's faults says of an answer.
-use Rattle.std.specs.Prelude.{◌≡◌, ℕ, ◌≤◌, ⊤, Result, Ok, Err, IsErrOf}
+use Rattle.std.specs.Prelude.{◌≡◌, ℕ, ⊤, Result, Ok, Err}
 use Rattle.hs_ports.specs.Fault.{IsCausedBy}
 use Rattle.hs_side.specs.declared.fault.SideFault.{SideFault}
 use Rattle.hs_side.specs.declared.fault.SideFault.TheVariants as side

@@ -1,16 +1,15 @@
 //! One entry more on the disk.
-ghost use Rattle.std.specs.Prelude.{◌≡◌, ◌≤◌, ◌∷◌, ◌++◌, [], length, ℕ, List, None, Ok, IsSome, OnOk, IfErr};
+ghost use Rattle.std.specs.Prelude.{◌≡◌, ◌≤◌, ◌∷◌, ◌++◌, [], ℕ, List, None, IsSome, OnOk, IfErr};
 ghost use Rattle.hs_entry.specs.declared.entry.Entry.{Entry};
 ghost use Rattle.hs_entry.specs.Payload.{payload};
-ghost use Rattle.hs_entry.specs.Reading.{IsReadable, entry_at};
-ghost use Rattle.hs_side.specs.declared.frame.TheConstants.{MOST_PAYLOAD};
+ghost use Rattle.hs_entry.specs.Reading.{IsReadable};
 ghost use Rattle.hs_side.specs.Standing.{Stands, MayCome};
 ghost use Rattle.hs_single.specs.Caused.{IsCalm, IsCaused, IsOutside};
 ghost use Rattle.hs_single.specs.Images.{IsAlone, LeavesLists};
 ghost use Rattle.hs_single.specs.Lists.{HasList};
 
 use crate::{Single, SingleFault};
-use hs_entry::{Entry, EntryFault, write_entry};
+use hs_entry::Entry;
 use hs_ports::{Disk, Watch};
 
 impl Single {
@@ -26,8 +25,6 @@ impl Single {
         requires holds { IsSome self.old.log.head }
         requires sealed { self.old.log.waiting ≡ None }
         requires readable { IsReadable entry.now }
-        requires short { length (payload number entry.now) ≤ MOST_PAYLOAD }
-        requires reads { entry_at (payload number entry.now) ≡ Ok (number, entry.now) }
         requires comes { D.tells → MayCome ((D.stands disk.old).seen self.old.log.side) (payload number entry.now) }
 
         ensures stands { OnOk result (
@@ -59,12 +56,7 @@ impl Single {
         ensures calm { IsCalm (D.faults disk.old) (D.faults disk.new) result }
         ensures cause { IsCaused (D.faults disk.old) (D.faults disk.new) result }
     {
-        self.payload.clear();
-        match write_entry(number, entry, &mut self.payload) {
-            Ok(()) => {}
-            Err(_) => return Err(SingleFault::NoMemory),
-        }
-        self.log.append(disk, watch, &self.payload)?;
+        self.log.append_entry(disk, watch, number, entry)?;
         self.log.seal(disk, watch)?;
         Ok(())
     }

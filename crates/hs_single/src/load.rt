@@ -105,7 +105,6 @@ impl Single {
             log,
             plain: MemoryStore::new(alloc, shape)?,
             numbers: BTreeMap::new(alloc),
-            payload: Vec::new(alloc),
         })
     }
 

@@ -16,7 +16,6 @@ pub struct Single {
     pub(crate) log: SideLog,
     pub(crate) plain: MemoryStore,
     pub(crate) numbers: BTreeMap<Address, u64>,
-    pub(crate) payload: Vec<u8>,
 }
 
 impl Model for Single {

@@ -9,6 +9,8 @@ use crate::side_file::SideFile;
 use hs_ports::{Disk, PortFault, Side, Watch};
 use std::alloc::Global;
 use std::fs::{File, OpenFile, OpenOptions, TryLockError};
+use std::io::{Seek, SeekFrom};
+use std::os::fd::AsRawFd;
 use std::os::unix::fs::FileExt;
 use std::rt::Files;
 use std::{fs, io};
@@ -24,7 +26,7 @@ pub struct FileDisk<F> {
     pub is_taken: bool,
 }
 
-impl<F: FileExt + OpenFile + Drop> FileDisk<F> {
+impl<F: FileExt + OpenFile + Seek + Drop> FileDisk<F> {
     /// The disk of these files; one whose calls all fail where there are none, or where a length
     /// can't be had.
     pub fn new(files: Option<(F, F)>) -> FileDisk<F>
@@ -33,13 +35,13 @@ impl<F: FileExt + OpenFile + Drop> FileDisk<F> {
         ensures faults { ⟦<FileDisk<F> as Disk>⟧.faults result ≡ 0 }
         ensures taken { result.is_taken ≡ false }
     {
-        let Some((zero, one)) = files else {
+        let Some((mut zero, mut one)) = files else {
             return FileDisk::absent(false);
         };
-        match (zero.metadata(), one.metadata()) {
-            (Ok(zero_data), Ok(one_data)) => FileDisk {
-                zero: SideFile::new(zero, zero_data.len()),
-                one: SideFile::new(one, one_data.len()),
+        match (zero.seek(SeekFrom::End(0)), one.seek(SeekFrom::End(0))) {
+            (Ok(zero_len), Ok(one_len)) => FileDisk {
+                zero: SideFile::new(zero, zero_len),
+                one: SideFile::new(one, one_len),
                 count: FaultCount::new(),
                 is_taken: false,
             },
@@ -137,8 +139,8 @@ pub fn open_disk<R: Files<File = File>>(
     peer: usize,
 ) -> FileDisk<File> {
     // A file that is opened while a standard stream is closed gets that stream's number, and
-    // would be read as input or written as output. These three take such numbers meanwhile.
-    let held = match hold_three(rt) {
+    // would be read as input or written as output. These take such numbers meanwhile.
+    let held = match hold_streams(rt) {
         Ok(held) => held,
         Err(reason) => return FileDisk::failed(Side::Zero, Deed::Open, reason),
     };
@@ -162,8 +164,14 @@ pub fn open_disk<R: Files<File = File>>(
     }
 }
 
-fn hold_three<R: Files<File = File>>(rt: &R) -> io::Result<(File, File, File)> {
-    Ok((fs::open(rt, "/")?, fs::open(rt, "/")?, fs::open(rt, "/")?))
+// The system gives a file the lowest free number: where the first is above 2 no stream is closed. (A
+// copy of an open file would get none below 3.)
+fn hold_streams<R: Files<File = File>>(rt: &R) -> io::Result<(File, Option<(File, File)>)> {
+    let first = fs::open(rt, "/")?;
+    if first.as_raw_fd() > 2 {
+        return Ok((first, None));
+    }
+    Ok((first, Some((fs::open(rt, "/")?, fs::open(rt, "/")?))))
 }
 
 fn open_side<R: Files<File = File>>(

@@ -64,14 +64,15 @@ impl<R: Read + Drop> ReaderSource<R> {
     }
 }
 
-// Gives a ring more room, where it has not all yet and there is memory for it.
+// Gives a ring half as much room more, where it has not all yet and there is memory for it.
 fn grow(ring: &mut Vec<u8>) -> bool
     requires { 0 < length ring.old.items }
     ensures grown { IsTrue result → length ring.old.items < length ring.new.items }
     ensures kept { length ring.old.items ≤ length ring.new.items }
 {
     let size = ring.len();
-    size < KEPT && ring.resize((2 * size).min(KEPT), 0).is_ok()
+    let more = (size / 2).max(FIRST_KEPT);
+    size < KEPT && ring.resize((size + more).min(KEPT), 0).is_ok()
 }
 
 // Reads up to `max` bytes into the ring from a place on, and appends what it got, or nothing.

@@ -9,7 +9,7 @@ use crate::streams::{ReaderSource, WriterSink};
 use hs_ports::{Disk, PortFault, Side, Sink, Source, Watch};
 use std::cell::Cell;
 use std::fs::{Metadata, OpenFile};
-use std::io::{ErrorKind, Read, Write};
+use std::io::{ErrorKind, Read, Seek, SeekFrom, Write};
 use std::os::unix::fs::FileExt;
 use std::test::Fail;
 use std::{env, fs, io, process};
@@ -94,6 +94,12 @@ impl FileExt for FaultyFile {
         } else {
             Ok(buf.len().min(2))
         }
+    }
+}
+
+impl Seek for FaultyFile {
+    fn seek(&mut self, _to: SeekFrom) -> io::Result<u64> {
+        Ok(0)
     }
 }
 

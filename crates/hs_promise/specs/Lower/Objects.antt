@@ -2,6 +2,7 @@
 use Rattle.std.specs.Prelude.{ℕ, ◌≡◌, ◌-◌, ◌^◌, ◌<◌, ◌≤◌, List, Option, All, map, slice_index_or}
 use Rattle.hs_ports.specs.Disk.{Standing}
 use Rattle.hs_ports.specs.declared.disk.Side.{Side}
+use Rattle.hs_ports.specs.Fault.{HasRisen}
 use Rattle.hs_ports.specs.Moments.{disk_at}
 use Rattle.hs_ports.specs.Sink.{followed}
 use Rattle.hs_ports.specs.Watch.{next_moment}
@@ -44,9 +45,9 @@ pub record CountsStand (old new : Objects) : Type 0 where
 
 -- no count of faults rose
 pub record NoneFailed (old new : Objects) : Type 0 where
-  pub disks : new.disk_faults ≡ old.disk_faults
-  pub sink : new.sink_faults ≡ old.sink_faults
-  pub source : new.source_faults ≡ old.source_faults
+  pub disks : (peer : ℕ) → ¬ HasRisen (faults_at old.disk_faults peer) (faults_at new.disk_faults peer)
+  pub sink : ¬ HasRisen old.sink_faults new.sink_faults
+  pub source : ¬ HasRisen old.source_faults new.source_faults
 
 -- ---- moments
 

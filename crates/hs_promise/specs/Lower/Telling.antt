@@ -1,12 +1,13 @@
 -- What the entries of a journal may tell, and where they stand. (Belongs to hs_journal.)
-use Rattle.std.specs.Prelude.{Contains, IsSome, None, List, Option, Some, length, ℕ, ◌*◌, ◌<◌, ◌≡◌, ◌≤◌, ◌⊎◌}
+use Rattle.std.specs.Prelude.{IsSome, None, List, Option, Some, length, ℕ, ◌*◌, ◌<◌, ◌≡◌, ◌≤◌, ◌⊎◌}
 use Rattle.hs_fold.specs.Shards.Setting.{Setting}
 use Rattle.hs_journal.specs.Events.{client_op}
-use Rattle.hs_journal.specs.Order.{IsOfLine}
+use Rattle.hs_journal.specs.Order.{IsAt, IsOfLine, IsPrompt}
 use Rattle.hs_journal.specs.declared.entry.JournalEntry.{JournalEntry}
 use Rattle.hs_journal.specs.declared.entry.Who.TheVariants as who
 use Rattle.hs_model.specs.declared.command.Command.{Command}
 use Rattle.hs_model.specs.declared.command.Command.TheVariants as command
+use Rattle.hs_model.specs.declared.deed.Deed.TheVariants as deed
 use Rattle.hs_model.specs.declared.reply.Reply.{Reply}
 use Rattle.hs_model.specs.declared.reply.Reply.TheVariants as reply
 
@@ -27,15 +28,15 @@ IsRefusalOf set (command.Fail peer) told = IsPeerRefusal set peer (reply.NotUp p
 IsRefusalOf set (command.Start peer) told = IsPeerRefusal set peer (reply.NotDown peer) told
 IsRefusalOf set (command.Reclaim peer) told = IsPeerRefusal set peer (reply.NotUp peer) told
 
--- what a line may be told: its client's answer, or its refusal; a line without a command is told nothing
-abbrev pub MayTell : Setting → Option Command → Reply → Type 0
-MayTell set None told = ⊥
-MayTell set (Some c) told = IsSome (client_op (Some c)) ⊎ IsRefusalOf set c told
+-- what an entry of a line may tell: its client's answer, or its refusal; a line without a command is told nothing
+abbrev pub MayTell : Setting → Option Command → JournalEntry → Type 0
+MayTell set None entry = ⊥
+MayTell set (Some c) entry = IsSome (client_op (Some c)) ⊎ (entry.deed ≡ deed.Nothing) × IsRefusalOf set c entry.reply
 
--- what the store as a whole tells: a run is done, or a peer is down
-pub data IsOfStore (told : Reply) : Type 0 where
-  Done : (epoch : ℕ) → told ≡ reply.Done epoch → IsOfStore told
-  Down : (peer line : ℕ) → told ≡ reply.Down peer line → IsOfStore told
+-- what the store as a whole tells when this is the last line: a run is done, or a peer is down
+pub data IsOfStore (set : Setting) (last : ℕ) (told : Reply) : Type 0 where
+  Done : (epoch : ℕ) → told ≡ reply.Done epoch → IsOfStore set last told
+  Down : (peer line : ℕ) → told ≡ reply.Down peer line → peer < set.shape.shards * set.shape.copies → line ≤ last → IsOfStore set last told
 
 -- a place of a journal is that of the first entry of a line above this one, or the end where there is none
 pub record IsFirstAbove (journal : List JournalEntry) (line place : ℕ) : Type 0 where
@@ -49,9 +50,14 @@ pub record IsAnsweredBefore (journal : List JournalEntry) (line n : ℕ) : Type 
   pub at : IsOfLine journal place n
   pub first : (other k : ℕ) → line < k → IsOfLine journal other k → place < other
 
--- a note in the journal that a peer is down since a line
-pub record IsNoted (journal : List JournalEntry) (peer line : ℕ) : Type 0 where
+-- a note at a place of a journal that a peer is down, with the line of the last event that had one
+pub record IsDownAt (journal : List JournalEntry) (place peer line : ℕ) : Type 0 where
   pub note : JournalEntry
-  pub among : Contains journal note
+  pub at : IsAt journal place note
   pub store : note.who ≡ who.Store
   pub told : note.reply ≡ reply.Down peer line
+
+-- each such note has that line: before it stands no entry of a later one, and behind it none of this or an earlier one that was answered in its own event
+pub record AreDated (commands : ℕ → Option Command) (journal : List JournalEntry) : Type 0 where
+  pub later : (i j n peer line : ℕ) → IsOfLine journal i n → IsDownAt journal j peer line → i < j → n ≤ line
+  pub earlier : (i j n peer line : ℕ) → IsOfLine journal i n → IsPrompt (client_op (commands n)) → IsDownAt journal j peer line → n ≤ line → i < j

@@ -184,8 +184,9 @@ impl Catalogue {
         Ok(deltas)
     }
 
-    /// Puts what a round tells each shard behind what is sent.
-    fn send(&self, epoch: u64, round: u32, sends: &mut ListOf<Sent>) -> Result<(), ShardFault>
+    /// Puts what a round tells each shard behind what is sent: nothing, where it is not one of the last
+    /// two that were sent.
+    pub fn send(&self, epoch: u64, round: u32, sends: &mut ListOf<Sent>) -> Result<(), ShardFault>
         ensures ok { OnOk result (sends.new
             ≡ sends.old ++ messages self.now.shape.shards epoch round self.now.run) }
         ensures only { IsOkUnless result NoMemory }
@@ -239,8 +240,9 @@ impl Catalogue {
             && self.is_due(place)
     }
 
-    /// Whether a round may come.
-    fn is_due(&self, place: Place) -> bool
+    /// Whether a round may come: the open one, the next one of the run, or the first one of the run after
+    /// the shard's epoch. It takes no memory.
+    pub fn is_due(&self, place: Place) -> bool
         ensures { result ≡ is_due place self.now }
     {
         self.is_of_run(place) || (self.is_next(place.epoch) && place.round == 0)

@@ -14,4 +14,4 @@ returns c taken same taken_lists =
     let made : c.in_ok-core.core ≡ with_lists c.begin_views.new.self before = c.in_ok-core.ensures a.shape taken shape same in
     let begun : with_lists c.begin_views.new.self before ≡ begin_views (with_lists a.lists before) = c.in_ok-begin_views.ensures.ok before refl in
     let first : begin_views (with_lists a.lists before) ≡ begin_views before = ap begin_views taken_lists in
-    c.in_ok-end_event.ensures ∙ ap end_event (c.in_ok-note_down.ensures ∙ ap note_down (made ∙ begun ∙ first))
+    c.in_ok-end_event.ensures.ok ∙ ap end_event (c.in_ok-note_down.ensures ∙ ap note_down (made ∙ begun ∙ first))

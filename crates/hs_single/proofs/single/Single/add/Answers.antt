@@ -1,14 +1,7 @@
 use Rattle.std.proofs.Common.{◌≡◌, ◌+◌, ◌∷◌, ◌++◌, length, [], IsSome, ap, sym, ◌∙◌, subst}
-use Rattle.hs_single.proofs.EntryLemmas.{may-come, reads-again, next-numbered}
+use Rattle.hs_single.proofs.EntryLemmas.{may-come, next-numbered}
 use Rattle.hs_single.proofs.ListLemmas.{list-places}
-use Rattle.hs_entry.proofs.ShortLemmas.{payload-short}
 use Rattle.hs_single.proofs.single.Single.add.Goals as goal
-
-pub keep-requires-clause-short : goal.keep-requires-clause-short
-keep-requires-clause-short g c = payload-short c.next-number.result c.args.entry.now c.requires.readable
-
-pub keep-requires-clause-reads : goal.keep-requires-clause-reads
-keep-requires-clause-reads g c = reads-again c.next-number.result c.args.entry.now c.next-number.type_inv c.requires.readable
 
 pub keep-requires-clause-comes : goal.keep-requires-clause-comes
 keep-requires-clause-comes g c = λ told.

@@ -1,0 +1,12 @@
+use Rattle.std.proofs.Common.{sym}
+use Rattle.std.proofs.lemmas.Result.{on_ok_weaker}
+use Rattle.hs_core.proofs.GoingLemmas.{gone}
+use Rattle.hs_core.proofs.core_state.Core.go_by.Goals as goal
+
+pub returns-clause-ok : goal.returns-clause-ok
+returns-clause-ok c =
+    let judged = c.in_ok-judged.judged in
+    let its = c.in_ok-judged.ensures in
+    on_ok_weaker c.carry_out.result
+    (gone c.args.how.now c.args.line c.args.self.now c.judge_at.new.self c.carry_out.new.self c.in-Some.aim judged.step judged.helds (sym c.in-Some.ensures) its.ok its.step its.helds)
+    c.carry_out.ensures.ok

@@ -1,0 +1,33 @@
+use Rattle.std.proofs.Common.{◌≡◌, ◌∙◌, ap, Some, None, arith}
+use Rattle.std.proofs.lemmas.Grind.{common_steps}
+use Rattle.std.proofs.lemmas.Result.{IfOk-weaker}
+use Rattle.std.specs.BTreeMap.{is_at}
+use Rattle.std.specs.Map.{lookup}
+use Rattle.std.specs.Ordering.{nat_cmp}
+use Rattle.hs_core.specs.declared.going.Judged.{Judged}
+use Rattle.hs_core.specs.Going.{gains_by, given_by, next_step, sight_of, step_by, view_by}
+use Rattle.hs_ops.specs.Answers.{gained}
+use Rattle.hs_core.proofs.core_state.Core.judge_at.Goals as goal
+
+pub returns-clause-step : goal.returns-clause-step
+returns-clause-step c w e =
+    let core = c.args.self.now in
+    let how = c.args.how.now in
+    let aim = c.args.aim in
+    let found : lookup (is_at (nat_cmp c.args.line)) c.self.inside.operations.entries ≡ Some w = grind (arith, common_steps, e) in
+    let pointers : c.as_slice-pointers.result.now ≡ (sight_of aim core).pointers = grind (arith, common_steps) in
+    let view : c.view-view.result ≡ view_by (sight_of aim core) aim None core = grind (arith, common_steps) in
+    IfOk-weaker c.judge_in.result (λ (j : Judged). j.step ≡ next_step how c.as_slice-pointers.result.now c.view-view.result w.operation) (λ (j : Judged). j.step ≡ step_by how aim None core w.operation)
+    (λ j h. h ∙ ap (λ ps. next_step how ps c.view-view.result w.operation) pointers ∙ ap (λ v. next_step how (sight_of aim core).pointers v w.operation) view)
+    (c.judge_in.ensures.step w found)
+
+pub returns-clause-helds : goal.returns-clause-helds
+returns-clause-helds c w e =
+    let core = c.args.self.now in
+    let aim = c.args.aim in
+    let found : lookup (is_at (nat_cmp c.args.line)) c.self.inside.operations.entries ≡ Some w = grind (arith, common_steps, e) in
+    let pointers : c.as_slice-pointers.result.now ≡ (sight_of aim core).pointers = grind (arith, common_steps) in
+    let view : c.view-view.result ≡ view_by (sight_of aim core) aim None core = grind (arith, common_steps) in
+    IfOk-weaker c.judge_in.result (λ (j : Judged). j.helds ≡ given_by j.step (gained c.view-view.result c.as_slice-pointers.result.now w.operation.op)) (λ (j : Judged). j.helds ≡ given_by j.step (gains_by aim None core w.operation.op))
+    (λ j h. h ∙ ap (λ ps. given_by j.step (gained c.view-view.result ps w.operation.op)) pointers ∙ ap (λ v. given_by j.step (gained v (sight_of aim core).pointers w.operation.op)) view)
+    (c.judge_in.ensures.helds w found)

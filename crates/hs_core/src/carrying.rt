@@ -1,0 +1,110 @@
+//! What the step of an operation asks for is done.
+ghost use Rattle.std.specs.Prelude.{◌≡◌, ◌+◌, IfSome, OnOk};
+ghost use Rattle.hs_core.specs.declared.wait.Wait.TheVariants as wait;
+ghost use Rattle.hs_core.specs.Going.{answer_with, carry_by, set_wait};
+ghost use Rattle.hs_core.specs.Keeping.{Kept};
+ghost use Rattle.hs_core.specs.Looking.{group_of, lead_of, operation_of};
+ghost use Rattle.hs_core.specs.Operating.{add_read, propose_entry};
+ghost use Rattle.hs_core.specs.Words.{change_with, ◌▸◌};
+ghost use Rattle.hs_members.specs.Members.{IsShard};
+ghost use Rattle.hs_replica.specs.Group.{last_number};
+
+use crate::aim::Aim;
+use crate::going::Judged;
+use crate::no_memory::NoMemory;
+use crate::seating::seat;
+use crate::{Core, Task, Wait};
+use hs_desk::Job;
+use hs_entry::Entry;
+use hs_journal::Who;
+use hs_limits::{Held, ListOf};
+use hs_model::Reply;
+use hs_ops::OpStep;
+
+impl Core {
+    /// What the step of a line's operation asks for is done.
+    pub(crate) fn carry_out(&mut self, line: u64, aim: Aim, judged: Judged) -> Result<(), NoMemory>
+        requires { IsShard self.old.members.shape aim.shard }
+        ensures ok { OnOk result
+            (self.new ≡ carry_by aim line judged.step judged.helds self.old) }
+        ensures kept { Kept self.old self.new }
+    {
+        let Judged { step, helds } = judged;
+        match step {
+            OpStep::Answer(reply) => self.answer(line, reply, helds),
+            OpStep::Propose(entry) => self.propose_for(line, aim.shard, entry),
+            OpStep::Compare { number } => self.compare(line, aim.shard, number),
+            OpStep::Wait => {
+                let what = self.holds_by(aim);
+                self.set_wait(line, what);
+                Ok(())
+            }
+        }
+    }
+
+    /// An operation is answered, where its reply gives these to hold: it is over, the journal tells
+    /// it, and its session changes as the reply says.
+    fn answer(&mut self, line: u64, reply: Reply, helds: ListOf<Held>) -> Result<(), NoMemory>
+        ensures ok { OnOk result (self.new
+            ≡ (self.old ▸ change_with (operation_of line self.old) (answer_with line reply helds))) }
+        ensures kept { Kept self.old self.new }
+    {
+        let Some(waiting) = self.operations.remove(&line) else {
+            return Ok(());
+        };
+        let deed = waiting.operation.into_deed(&self.sessions, &reply)?;
+        seat(&mut self.sessions, &deed, helds.as_slice())?;
+        self.note(Who::Line(line), deed, reply)
+    }
+
+    /// An operation proposes its entry, and waits for it.
+    fn propose_for(&mut self, line: u64, shard: u8, entry: Entry) -> Result<(), NoMemory>
+        requires { IsShard self.old.members.shape shard }
+        ensures ok { OnOk result (self.new ≡ (self.old
+            ▸ set_wait line (wait.Entry (last_number (group_of shard self.old) + 1))
+            ▸ propose_entry shard entry)) }
+        ensures kept { Kept self.old self.new }
+    {
+        let Some(number) = self.next_number(shard) else {
+            return Err(NoMemory);
+        };
+        self.set_wait(line, Wait::Entry { number });
+        self.propose_entry(shard, entry)
+    }
+
+    /// An operation wants the bytes of an entry, which the lead is to read.
+    fn compare(&mut self, line: u64, shard: u8, number: u64) -> Result<(), NoMemory>
+        requires { IsShard self.old.members.shape shard }
+        ensures ok { OnOk result (self.new ≡ (self.old ▸ set_wait line (wait.Bytes number)
+            ▸ change_with (lead_of shard self.old) (add_read number line))) }
+        ensures kept { Kept self.old self.new }
+    {
+        let lead = self.lead(shard);
+        self.set_wait(line, Wait::Bytes { number });
+        if let Some(peer) = lead {
+            let job = Job::Read { number };
+            self.add_task(peer, Task { job, line })?;
+        }
+        Ok(())
+    }
+
+    /// The operation of a line waits. It takes no memory.
+    fn set_wait(&mut self, line: u64, what: Wait)
+        ensures ok { self.new ≡ set_wait line what self.old }
+        ensures kept { Kept self.old self.new }
+    {
+        if let Some(waiting) = self.operations.get_mut(&line) {
+            waiting.wait = what;
+        }
+    }
+
+    /// The number of the next entry of a shard's list. None where there is no such number. It takes
+    /// no memory.
+    fn next_number(&self, shard: u8) -> Option<u64>
+        requires { IsShard self.now.members.shape shard }
+        ensures { IfSome result (λ number. number ≡ last_number (group_of shard self.now) + 1) }
+    {
+        let waiting = self.group(shard).waiting().len() as u64;
+        self.front(shard).checked_add(waiting)?.checked_add(1)
+    }
+}

@@ -1,0 +1,156 @@
+//! What stands in a lead's list and has not taken effect, as far as operations wait for it.
+ghost use Rattle.std.specs.Prelude.{◌≡◌, count_by};
+ghost use Rattle.std.specs.List.{list_any};
+ghost use Rattle.std.specs.Option.{option_and_then};
+ghost use Rattle.hs_core.specs.Going.{has_room_by, holds_by, is_pending_by};
+ghost use Rattle.hs_core.specs.Looking.{group_of, operation_of};
+ghost use Rattle.hs_core.specs.Pending.{has_block_room, has_root_room, is_address, is_block, is_coming, is_root, named};
+ghost use Rattle.hs_members.specs.Members.{IsShard};
+ghost use Rattle.hs_ops.specs.Speaking.{wanted_address};
+
+use crate::aim::Aim;
+use crate::{Core, Wait};
+use hs_entry::Entry;
+use hs_limits::Address;
+
+impl Core {
+    /// The address of the block that an entry stores: that of the operation that asked for it. None
+    /// where it stores none, or none asked for it. It takes no memory.
+    pub(crate) fn named(&self, entry: &Entry) -> Option<Address>
+        ensures { result ≡ named entry.now self.now }
+    {
+        match entry {
+            Entry::Block { op, .. } => self.address_at(*op),
+            Entry::View { .. }
+            | Entry::Mark { .. }
+            | Entry::Root { .. }
+            | Entry::Drop { .. }
+            | Entry::Enter { .. }
+            | Entry::Got { .. }
+            | Entry::Base { .. }
+            | Entry::KeptBlock { .. }
+            | Entry::KeptRoot { .. }
+            | Entry::KeptRound { .. } => None,
+        }
+    }
+
+    /// The address of the block that the operation of a line writes or reads. It takes no memory.
+    fn address_at(&self, line: u64) -> Option<Address>
+        ensures { result ≡ option_and_then (λ w. wanted_address self.now.sessions w.operation.op)
+            (operation_of line self.now) }
+    {
+        match self.operations.get(&line) {
+            Some(waiting) => waiting.operation.address(&self.sessions),
+            None => None,
+        }
+    }
+
+    /// For what an operation waits: the current view's View, the Block of its address, or room. It
+    /// takes no memory.
+    pub(crate) fn holds_by(&self, aim: Aim) -> Wait
+        requires { IsShard self.now.members.shape aim.shard }
+        ensures { result ≡ holds_by aim self.now }
+    {
+        if !self.viewed[usize::from(aim.shard)] {
+            return Wait::View;
+        }
+        if self.is_coming(aim.shard, aim.address) {
+            return Wait::Address;
+        }
+        Wait::Room
+    }
+
+    /// Whether an entry that has not taken effect has the operation's address, or takes its room. It
+    /// takes no memory.
+    pub(crate) fn is_pending_by(&self, aim: Aim) -> bool
+        requires { IsShard self.now.members.shape aim.shard }
+        ensures { result ≡ is_pending_by aim self.now }
+    {
+        if aim.writes {
+            return self.is_coming(aim.shard, aim.address)
+                || !self.has_block_room(aim.shard, self.blocks_coming(aim.shard));
+        }
+        aim.roots && !self.has_root_room(aim.shard, self.roots_coming(aim.shard))
+    }
+
+    /// Whether there is room for the operation. It takes no memory.
+    pub(crate) fn has_room_by(&self, aim: Aim) -> bool
+        requires { IsShard self.now.members.shape aim.shard }
+        ensures { result ≡ has_room_by aim self.now }
+    {
+        if aim.roots {
+            return self.has_root_room(aim.shard, 0);
+        }
+        self.has_block_room(aim.shard, 0)
+    }
+
+    /// Whether a shard is below its limit of blocks with so many more. It takes no memory.
+    fn has_block_room(&self, shard: u8, more: u64) -> bool
+        requires { IsShard self.now.members.shape shard }
+        ensures { result ≡ has_block_room shard more self.now }
+    {
+        let count = u64::from(self.catalogue(shard).count());
+        count.saturating_add(more) < u64::from(self.limits.blocks)
+    }
+
+    /// Whether a shard is below its limit of roots with so many more. It takes no memory.
+    fn has_root_room(&self, shard: u8, more: u64) -> bool
+        requires { IsShard self.now.members.shape shard }
+        ensures { result ≡ has_root_room shard more self.now }
+    {
+        let count = u64::from(self.catalogue(shard).roots().retained());
+        count.saturating_add(more) < u64::from(self.limits.roots)
+    }
+
+    // ---- scans
+
+    /// Whether a Block of this address has not taken effect.
+    fn is_coming(&self, shard: u8, address: Option<Address>) -> bool
+        requires { IsShard self.now.members.shape shard }
+        ensures { result ≡ is_coming shard address self.now }
+    {
+        let Some(address) = address else {
+            return false;
+        };
+        self.any_stores(self.group(shard).waiting(), &address)
+    }
+
+    /// Whether one of some entries stores the block of this address.
+    fn any_stores(&self, entries: &[Entry], address: &Address) -> bool
+        ensures { result
+            ≡ list_any (λ entry. is_address address.now (named entry self.now)) entries.now }
+    {
+        for entry in entries {
+            if self.stores(entry, address) {
+                return true;
+            }
+        }
+        false
+    }
+
+    /// Whether an entry stores the block of this address.
+    fn stores(&self, entry: &Entry, address: &Address) -> bool
+        ensures { result ≡ is_address address.now (named entry.now self.now) }
+    {
+        match self.named(entry) {
+            Some(named) => *address == named,
+            None => false,
+        }
+    }
+
+    /// How many Blocks have not taken effect.
+    fn blocks_coming(&self, shard: u8) -> u64
+        requires { IsShard self.now.members.shape shard }
+        ensures { result ≡ count_by is_block (group_of shard self.now).waiting }
+    {
+        self.group(shard).blocks_waiting()
+    }
+
+    /// How many Roots have not taken effect.
+    fn roots_coming(&self, shard: u8) -> u64
+        requires { IsShard self.now.members.shape shard }
+        ensures { result ≡ count_by is_root (group_of shard self.now).waiting }
+    {
+        self.group(shard).roots_waiting()
+    }
+}

@@ -1,0 +1,5 @@
+//! Public calls of a shard's catalogue.
+#![tactic(auto)]
+
+#[cfg(test)]
+mod catalogue;
