@@ -3,12 +3,12 @@ use Rattle.std.proofs.Common.{◌≡◌, ◌∙◌, ap, sym, subst, ℕ, ◌≤�
 use Rattle.std.specs.Prelude.{Result, Ok, Err, ⊤, is_ok, not, if◌then◌else◌}
 use Rattle.hs_cluster.proofs.EventLemmas.{does_then, nothing_done}
 use Rattle.hs_cluster.proofs.WalkLemmas.{rise_one}
-use Rattle.hs_cluster.specs.Calls.{Does, MomentsRise, RunsLine, done_of, ran_out}
-use Rattle.hs_cluster.specs.Commands.{AreOfCommand, BeginsWith, LineAt}
-use Rattle.hs_cluster.specs.declared.due.Due.{Due}
+use Rattle.hs_cluster.specs.Calls.{Does, RunsLine, done_of, ran_out}
+use Rattle.hs_events.specs.Commands.{AreOfCommand, BeginsWith, LineAt}
+use Rattle.hs_events.specs.declared.due.Due.{Due}
 use Rattle.hs_cluster.specs.declared.fault.ClusterFault.{ClusterFault}
 use Rattle.hs_cluster.specs.declared.fault.ClusterFault.TheVariants as cluster
-use Rattle.hs_cluster.specs.Due.{Events, is_it, is_one, turn_behind}
+use Rattle.hs_events.specs.Due.{Events, MomentsRise, is_it, is_one, turn_behind}
 use Rattle.hs_cluster.specs.Running.{Running}
 use Rattle.hs_cluster.specs.Settling.{DoesDue, RunsWalk}
 use Rattle.hs_core.specs.declared.event.Event.{Event}

@@ -1,10 +1,10 @@
 -- What is promised of events, one after another, and of a line.
 use Rattle.std.specs.Prelude.{◌≡◌, ◌≤◌, ◌++◌, ℕ, Bool, true, false, ⊤, List, [], ◌∷◌, Option, Some, None, Result, Ok, Err, if◌then◌else◌, is_ok}
-use Rattle.hs_cluster.specs.Commands.{AreOfCommand}
-use Rattle.hs_cluster.specs.Course.{items_of, steps}
+use Rattle.hs_events.specs.Commands.{AreOfCommand}
+use Rattle.hs_events.specs.Course.{items_of, steps}
 use Rattle.hs_cluster.specs.declared.fault.ClusterFault.{ClusterFault}
 use Rattle.hs_cluster.specs.declared.fault.ClusterFault.TheVariants as cluster
-use Rattle.hs_cluster.specs.Due.{Events}
+use Rattle.hs_events.specs.Due.{Events, MomentsRise}
 use Rattle.hs_cluster.specs.Running.{Running}
 use Rattle.hs_core.specs.declared.event.Event.{Event}
 use Rattle.hs_core.specs.State.{Core}
@@ -35,11 +35,6 @@ ran_out (Err cluster.OpsFull) = false
 ran_out (Err cluster.NoMemory) = true
 
 -- ---- events
-
--- moments never fall, from one on and up to another
-abbrev pub MomentsRise : ℕ → Events → ℕ → Type 0
-MomentsRise from [] to = from ≤ to
-MomentsRise from (e ∷ es) to = (from ≤ e.1) × MomentsRise e.1 es to
 
 -- what some events leave of a cluster whose core had not ended: the course, and what was answered; and, unless memory ran out at a later one, the core
 pub record Does (events : Events) (old new : Running) (result : Result ⊤ ClusterFault) : Type 0 where

@@ -1,11 +1,5 @@
 pub mod Ascending
-pub mod Asked
 pub mod Calls
-pub mod Commands
-pub mod Course
 pub mod Disks
-pub mod Due
-pub mod Reports
 pub mod Running
 pub mod Settling
-pub mod Whole

@@ -1,15 +1,14 @@
 -- Events that are due one after another, so far.
 use Rattle.std.specs.Prelude.{◌≡◌, ◌≤◌, ℕ, Bool, true, false, ⊤, Option, Some, Result, Ok, is_ok}
-use Rattle.hs_cluster.specs.Calls.{Does, MomentsRise, done_of, ran_out}
-use Rattle.hs_cluster.specs.declared.due.Due.{Due}
-use Rattle.hs_cluster.specs.declared.due.Due.TheVariants.{Reporting, Handling, Nudging}
-use Rattle.hs_cluster.specs.declared.due.Place.{Place}
+use Rattle.hs_cluster.specs.Calls.{Does, done_of, ran_out}
+use Rattle.hs_events.specs.declared.due.Due.{Due}
+use Rattle.hs_events.specs.declared.due.Due.TheVariants.{Reporting, Handling, Nudging}
+use Rattle.hs_events.specs.declared.due.Place.{Place}
 use Rattle.hs_cluster.specs.declared.fault.ClusterFault.{ClusterFault}
-use Rattle.hs_cluster.specs.Due.{Events, Walked, first_place, is_it, is_walk, next_due, next_turn, walk}
+use Rattle.hs_events.specs.Due.{Events, MomentsRise, Walked, first_place, is_it, is_walk, next_due, next_turn, walk}
 use Rattle.hs_cluster.specs.Running.{Running}
 use Rattle.hs_core.specs.declared.event.Event.{Event}
 use Rattle.hs_core.specs.State.{Core}
-use Rattle.hs_members.specs.Members.{IsPeer}
 
 -- what is due of turns and nudges, or of turns alone
 abbrev pub due_with : Bool → Place → Core → Option Due
@@ -30,16 +29,6 @@ pub record HasWalked (nudges : Bool) (line before now : ℕ) (old new : Running)
   pub walked : walk (due_with nudges) line (record { place = first_place; core = old.core }) events ≡ Some (record { place = place; core = new.core })
   pub rises : MomentsRise before events now
   pub does : Does events old new (Ok tt)
-
--- whose turn or nudge is due
-abbrev pub peer_due : Due → ℕ
-peer_due (Reporting peer) = peer
-peer_due (Handling peer message) = peer
-peer_due (Nudging peer) = peer
-
--- it is a peer of the core
-abbrev pub IsDueOf : Core → Due → Type 0
-IsDueOf core due = IsPeer core.members.shape (peer_due due)
 
 -- they were, one after another, until nothing was due, or they were cut short
 pub record RunsWalk (nudges : Bool) (line before now : ℕ) (old new : Running) (result : Result ⊤ ClusterFault) : Type 0 where

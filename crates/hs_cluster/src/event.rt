@@ -1,11 +1,11 @@
 //! One event, with its items of the course.
 ghost use Rattle.std.specs.Prelude.{◌≡◌, ◌≤◌, None, OnOk};
 ghost use Rattle.hs_cluster.specs.Calls.{Does, done_of};
-ghost use Rattle.hs_core.specs.Calls.{IsNextLine, begun_line, last_line_after};
+ghost use Rattle.hs_core.specs.Calls.{IsNextLine, last_line_after};
 
-use crate::before::{fronts_of, goods_of, note_event};
 use crate::{Cluster, ClusterFault};
 use hs_core::Event;
+use hs_events::{begun_line, fronts_of, goods_of, note_event};
 use hs_desk::CoreFault;
 
 impl Cluster {
@@ -45,22 +45,5 @@ impl Cluster {
             }
             Err(CoreFault::NoMemory) => Err(ClusterFault::NoMemory),
         }
-    }
-}
-
-/// The line that an event begins for a client.
-fn begun_line(event: &Event) -> Option<u64>
-    ensures { result ≡ begun_line event.now }
-{
-    match event {
-        Event::Line { line, .. } => Some(*line),
-        Event::Report { .. }
-        | Event::Turn { .. }
-        | Event::Deliver { .. }
-        | Event::Lose { .. }
-        | Event::Repeat { .. }
-        | Event::Nudge { .. }
-        | Event::Fail { .. }
-        | Event::Start { .. } => None,
     }
 }

@@ -1,10 +1,7 @@
 //! The core with its disks: what a line of a script does to both.
 #![tactic(auto)]
 
-mod addressed;
-mod before;
 mod cluster;
-mod due;
 mod event;
 mod fault;
 mod job;
@@ -14,5 +11,4 @@ mod settle;
 mod work;
 
 pub use cluster::Cluster;
-pub use due::{Due, Place};
 pub use fault::ClusterFault;

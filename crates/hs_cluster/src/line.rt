@@ -1,21 +1,17 @@
 //! One line of a script.
 ghost use Rattle.std.specs.Prelude.{◌≡◌, ◌*◌, ◌<◌, ◌≤◌, ℕ, Err, List, None, Some, false, length, map, true, IfSome, OnOk};
 ghost use Rattle.hs_cluster.specs.Calls.{RunsLine, of_core};
-ghost use Rattle.hs_cluster.specs.Commands.{is_served, uses_disks};
+ghost use Rattle.hs_events.specs.Commands.{is_served, uses_disks};
 ghost use Rattle.hs_cluster.specs.Disks.{AreReady, log_at, seen_as};
-ghost use Rattle.hs_cluster.specs.Due.{turn_behind};
-ghost use Rattle.hs_cluster.specs.Settling.{IsDueOf};
 ghost use Rattle.hs_desk.specs.declared.fault.CoreFault.{CoreFault};
 ghost use Rattle.hs_limits.specs.declared.address.Address.{Address};
 ghost use Rattle.hs_model.specs.declared.command.Command.TheVariants as command;
 ghost use Rattle.hs_peerlog.specs.Lists.{Keeping};
 
-use crate::addressed::addressed;
-use crate::due::{peers_of, turn_of};
-use crate::{Cluster, ClusterFault, Due};
+use crate::{Cluster, ClusterFault};
 use hs_block::Addresser;
-use hs_core::{Core, Event};
-use hs_limits::PeerStatus;
+use hs_core::Event;
+use hs_events::{addressed, turn_behind};
 use hs_model::{Command, Op};
 use hs_ports::{Disk, Watch};
 
@@ -148,20 +144,4 @@ impl Cluster {
             None => Ok(()),
         }
     }
-}
-
-/// The turn of a peer, where such a turn is not refused.
-#[tactic(auto, using(crate::proofs::TurnLemmas::turn_beyond, crate::proofs::TurnLemmas::turn_down, crate::proofs::TurnLemmas::turn_up))]
-fn turn_behind(core: &Core, peer: u8) -> Option<Due>
-    requires { core.now.ended ≡ None }
-    ensures value { result ≡ turn_behind peer core.now }
-    ensures due { IfSome result (IsDueOf core.now) }
-{
-    if peer >= peers_of(core) {
-        return None;
-    }
-    if core.status(peer) == PeerStatus::Down {
-        return None;
-    }
-    turn_of(core, peer)
 }

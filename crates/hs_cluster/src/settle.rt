@@ -1,17 +1,17 @@
 //! Turns and nudges, one after another.
 ghost use Rattle.std.specs.List.{list_any};
 ghost use Rattle.std.specs.Prelude.{◌≡◌, ◌*◌, ◌<◌, ◌≤◌, ℕ, None, length, map, nat_lt, slice_index_or, IfSome, OnOk};
-ghost use Rattle.hs_cluster.specs.declared.due.Due.TheVariants.{Reporting};
+ghost use Rattle.hs_events.specs.declared.due.Due.TheVariants.{Reporting};
 ghost use Rattle.hs_cluster.specs.Disks.{AreReady, seen_as};
-ghost use Rattle.hs_cluster.specs.Due.{place_after, raises_known};
-ghost use Rattle.hs_cluster.specs.Settling.{DoesDue, IsDueOf, RunsWalk, due_with, peer_due};
+ghost use Rattle.hs_events.specs.Due.{place_after, raises_known};
+ghost use Rattle.hs_cluster.specs.Settling.{DoesDue, RunsWalk, due_with};
+ghost use Rattle.hs_events.specs.Due.{IsDueOf, peer_due};
 ghost use Rattle.hs_core.specs.Looking.{known_of};
 ghost use Rattle.hs_members.specs.Members.{IsPeer, all_peers};
 
-use crate::before::knowns_of;
-use crate::due::{next_due, next_turn, peers_of};
 use crate::job::do_job;
-use crate::{Cluster, ClusterFault, Due, Place};
+use crate::{Cluster, ClusterFault};
+use hs_events::{Due, Place, knowns_of, next_due, next_turn, peers_of, place_after, raises_known};
 use hs_core::{Core, Event};
 use hs_ports::{Disk, Watch};
 
@@ -166,54 +166,5 @@ fn due_of(core: &Core, place: Place, nudges: bool) -> Option<Due>
         next_due(core, place)
     } else {
         next_turn(core, place)
-    }
-}
-
-/// Whether a peer is known to have sealed more than these numbers.
-#[tactic(auto, using(crate::proofs::RangeLemmas::any_range_skips, crate::proofs::RangeLemmas::any_range_found, crate::proofs::RangeLemmas::any_range_end, crate::proofs::RangeLemmas::any_range_begin))]
-fn raises_known(core: &Core, knowns: &[u64]) -> bool
-    ensures { result ≡ list_any (λ peer. nat_lt (slice_index_or knowns.now peer 0)
-        (known_of peer core.now)) (all_peers core.now.members.shape) }
-{
-    let peers = peers_of(core);
-    for peer in 0..peers {
-        if known_before(knowns, peer) < core.known(peer) {
-            return true;
-        }
-    }
-    false
-}
-
-/// How many entries of a peer were known to be sealed.
-fn known_before(knowns: &[u64], peer: u8) -> u64
-    ensures { result ≡ slice_index_or knowns.now peer 0 }
-{
-    match knowns.get(usize::from(peer)) {
-        Some(known) => *known,
-        None => 0,
-    }
-}
-
-/// Where passes and nudges stand after what was due.
-fn place_after(due: Due, raised: bool, place: Place) -> Place
-    requires { peer_due due < 255 }
-    ensures { result ≡ place_after due raised place }
-{
-    match due {
-        Due::Reporting { peer } => Place {
-            peer,
-            nudger: place.nudger,
-            progress: true,
-        },
-        Due::Handling { peer, .. } => Place {
-            peer,
-            nudger: place.nudger,
-            progress: place.progress || raised,
-        },
-        Due::Nudging { peer } => Place {
-            peer: 0,
-            nudger: peer + 1,
-            progress: (place.nudger <= peer && place.nudger != 0 && place.progress) || raised,
-        },
     }
 }

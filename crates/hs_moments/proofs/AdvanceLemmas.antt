@@ -13,7 +13,7 @@ use Rattle.hs_ports.specs.Moments.{disk_at}
 use Rattle.hs_entry.specs.declared.entry.Entry.{Entry}
 use Rattle.hs_journal.specs.declared.entry.JournalEntry.{JournalEntry}
 use Rattle.hs_fold.specs.Good.{good_from, taken_from}
-use Rattle.hs_cluster.specs.Course.{change_item}
+use Rattle.hs_events.specs.Course.{change_item}
 use Rattle.hs_moments.specs.Course.{begun_items, good_items, front_items, items_of, course_of}
 use Rattle.hs_moments.specs.Machine.{Machine, runs, until, state_at, Rises}
 use Rattle.hs_moments.specs.Moments.{Keeps, ListsAtMoments}

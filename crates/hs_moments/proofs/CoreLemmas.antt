@@ -5,11 +5,11 @@ use Rattle.std.proofs.lemmas.List.Elements.{filter-append}
 use Rattle.std.specs.List.{range_with_len}
 use Rattle.std.specs.Option.{option_map_or}
 use Rattle.std.specs.Prelude.{flat_map, ⊤}
-use Rattle.hs_cluster.proofs.GoingLemmas.{step_goes}
-use Rattle.hs_cluster.proofs.RangeLemmas.{flat_map_range_more}
-use Rattle.hs_cluster.specs.Calls.{MomentsRise}
-use Rattle.hs_cluster.specs.Course.{change_item, event_items, items_of, steps, took_items}
-use Rattle.hs_cluster.specs.Due.{Events}
+use Rattle.hs_events.proofs.GoingLemmas.{step_goes}
+use Rattle.hs_events.proofs.RangeLemmas.{flat_map_range_more}
+use Rattle.hs_events.specs.Due.{MomentsRise}
+use Rattle.hs_events.specs.Course.{change_item, event_items, items_of, steps, took_items}
+use Rattle.hs_events.specs.Due.{Events}
 use Rattle.hs_core.specs.Calls.{last_line_after}
 use Rattle.hs_core.specs.declared.event.Event.{Event}
 use Rattle.hs_core.specs.Looking.{front_of, status_of}

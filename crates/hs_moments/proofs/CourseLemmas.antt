@@ -6,7 +6,7 @@ use Rattle.hs_limits.specs.declared.shape.Shape.{Shape}
 use Rattle.hs_model.specs.declared.course.CourseItem.{CourseItem}
 use Rattle.hs_model.specs.declared.course.CourseItem.TheVariants as item
 use Rattle.hs_fold.specs.Good.{good_after, good_from, taken_after, taken_from}
-use Rattle.hs_cluster.specs.Course.{change_item}
+use Rattle.hs_events.specs.Course.{change_item}
 use Rattle.hs_moments.specs.Course.{begun_items, good_items, front_items, items_of, course_of}
 use Rattle.hs_moments.specs.Machine.{Machine, runs, until, state_at, Rises}
 use Rattle.hs_moments.proofs.MomentLemmas.{lt-is, le-is}

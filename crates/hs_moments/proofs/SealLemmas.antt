@@ -3,8 +3,8 @@ use Rattle.std.proofs.Common.{◌≡◌, ◌∙◌, ap, sym, ℕ, zero, suc, ◌
 use Rattle.std.specs.List.{enumerate_from}
 use Rattle.std.specs.Option.{option_map, option_map_or}
 use Rattle.std.specs.Prelude.{slice_get, slice_index_or, slice_set}
-use Rattle.hs_cluster.proofs.KeepLemmas.{Leaves, keeps_begin, keeps_delivered, keeps_failed, keeps_lost, keeps_nudged, keeps_repeated, keeps_started, keeps_turn}
-use Rattle.hs_cluster.specs.Asked.{report_in}
+use Rattle.hs_events.proofs.KeepLemmas.{Leaves, keeps_begin, keeps_delivered, keeps_failed, keeps_lost, keeps_nudged, keeps_repeated, keeps_started, keeps_turn}
+use Rattle.hs_events.specs.Asked.{report_in}
 use Rattle.hs_core.specs.Changing.{change_group, change_pool}
 use Rattle.hs_core.specs.declared.event.Event.{Event}
 use Rattle.hs_core.specs.declared.event.Event.TheVariants as event

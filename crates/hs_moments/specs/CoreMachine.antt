@@ -1,7 +1,7 @@
 -- The core as a machine over events, without lists; and the core at a moment of a run.
 use Rattle.std.specs.Prelude.{ℕ, [], false}
-use Rattle.hs_cluster.specs.Course.{steps}
-use Rattle.hs_cluster.specs.Due.{Events}
+use Rattle.hs_events.specs.Course.{steps}
+use Rattle.hs_events.specs.Due.{Events}
 use Rattle.hs_core.specs.Calls.{begun_line}
 use Rattle.hs_core.specs.declared.event.Event.{Event}
 use Rattle.hs_core.specs.Looking.{front_of, status_of}

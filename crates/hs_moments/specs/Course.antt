@@ -4,7 +4,7 @@ use Rattle.std.proofs.Common.{zero, suc}
 use Rattle.hs_limits.specs.declared.shape.Shape.{Shape}
 use Rattle.hs_model.specs.declared.course.CourseItem.{CourseItem}
 use Rattle.hs_model.specs.declared.course.CourseItem.TheVariants as item
-use Rattle.hs_cluster.specs.Course.{change_item}
+use Rattle.hs_events.specs.Course.{change_item}
 use Rattle.hs_moments.specs.Machine.{Machine}
 
 -- a client's line was begun

@@ -1,8 +1,8 @@
 //! The course of a run.
 ghost use Rattle.std.specs.Prelude.{◌≡◌, ℕ};
-ghost use Rattle.hs_cluster.specs.Calls.{MomentsRise};
-ghost use Rattle.hs_cluster.specs.Course.{items_of};
-ghost use Rattle.hs_cluster.specs.Due.{Events};
+ghost use Rattle.hs_events.specs.Due.{MomentsRise};
+ghost use Rattle.hs_events.specs.Course.{items_of};
+ghost use Rattle.hs_events.specs.Due.{Events};
 ghost use Rattle.hs_core.specs.Looking.{front_of, status_of};
 ghost use Rattle.hs_core.specs.State.{Core};
 ghost use Rattle.hs_fold.specs.Good.{good_from, taken_from};

@@ -1,8 +1,8 @@
 //! The journal of a run.
 ghost use Rattle.std.specs.Prelude.{◌≡◌, ℕ, [], ◌++◌, All};
-ghost use Rattle.hs_cluster.specs.Calls.{MomentsRise};
-ghost use Rattle.hs_cluster.specs.Course.{steps};
-ghost use Rattle.hs_cluster.specs.Due.{Events};
+ghost use Rattle.hs_events.specs.Due.{MomentsRise};
+ghost use Rattle.hs_events.specs.Course.{steps};
+ghost use Rattle.hs_events.specs.Due.{Events};
 ghost use Rattle.hs_core.specs.declared.event.Event.{Event};
 ghost use Rattle.hs_core.specs.State.{Core};
 ghost use Rattle.hs_core.specs.Step.{step};

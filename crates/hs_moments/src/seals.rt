@@ -1,6 +1,6 @@
 //! What is known to be sealed.
 ghost use Rattle.std.specs.Prelude.{◌≡◌, ℕ, None};
-ghost use Rattle.hs_cluster.specs.Asked.{report_in};
+ghost use Rattle.hs_events.specs.Asked.{report_in};
 ghost use Rattle.hs_core.specs.declared.event.Event.{Event};
 ghost use Rattle.hs_core.specs.Looking.{sealed_of};
 ghost use Rattle.hs_core.specs.State.{Core};

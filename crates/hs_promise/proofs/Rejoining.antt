@@ -24,11 +24,11 @@ use Rattle.hs_ops.specs.Speaking.{asked_block, least_epoch}
 use Rattle.hs_promise.specs.declared.status.Status.TheVariants as status
 use Rattle.hs_promise.specs.Course.{course_of}
 use Rattle.hs_promise.specs.Lines.{AreLines, IsOnTime, IsPrintedBefore}
-use Rattle.hs_cluster.specs.Commands.{LineAt}
-use Rattle.hs_cluster.specs.Course.{event_items, steps}
-use Rattle.hs_cluster.specs.Due.{Events, is_walk, next_due, next_turn}
+use Rattle.hs_events.specs.Commands.{LineAt}
+use Rattle.hs_events.specs.Course.{event_items, steps}
+use Rattle.hs_events.specs.Due.{Events, is_walk, next_due, next_turn}
 use Rattle.hs_promise.specs.Lower.Objects.{Objects}
-use Rattle.hs_cluster.specs.Reports.{failures}
+use Rattle.hs_events.specs.Reports.{failures}
 use Rattle.hs_promise.specs.Run.{Ran, Script}
 use Rattle.hs_promise.specs.Story.{Story, first_core, last_core}
 

@@ -31,7 +31,7 @@ use Rattle.hs_promise.specs.Answers.{IsEntry, Prints}
 use Rattle.hs_promise.specs.Completes.{HasPrompt}
 use Rattle.hs_promise.specs.Found.{HasFound, IsLostBefore}
 use Rattle.hs_promise.specs.Lines.{AreLines}
-use Rattle.hs_cluster.specs.Course.{steps}
+use Rattle.hs_events.specs.Course.{steps}
 use Rattle.hs_promise.specs.Lower.Telling.{IsDownAt}
 use Rattle.hs_promise.specs.Machine.{IsOfMachine, Went}
 use Rattle.hs_promise.specs.Promise.{Promise}

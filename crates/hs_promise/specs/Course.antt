@@ -3,7 +3,7 @@ use Rattle.std.specs.Prelude.{List, flat_map, map, ℕ, ◌++◌, ◌||◌}
 use Rattle.hs_members.specs.Members.{all_peers}
 use Rattle.hs_model.specs.declared.course.CourseItem.{CourseItem}
 use Rattle.hs_model.specs.declared.course.CourseItem.TheVariants as item
-use Rattle.hs_cluster.specs.Course.{change_item, items_of}
+use Rattle.hs_events.specs.Course.{change_item, items_of}
 use Rattle.hs_promise.specs.Lower.Taken.{is_taken, taken_items}
 use Rattle.hs_promise.specs.Run.{Script}
 use Rattle.hs_promise.specs.Story.{Story, all_events, first_core, starts_good}

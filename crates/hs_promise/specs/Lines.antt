@@ -4,9 +4,9 @@ use Rattle.hs_core.specs.State.{Core}
 use Rattle.hs_ports.specs.Sink.{bytes_of, followed}
 use Rattle.hs_script.specs.Text.{text}
 use Rattle.hs_promise.specs.Ending.{ending_of}
-use Rattle.hs_cluster.specs.Commands.{AreOfLine, LineAt}
-use Rattle.hs_cluster.specs.Course.{steps}
-use Rattle.hs_cluster.specs.Due.{Events}
+use Rattle.hs_events.specs.Commands.{AreOfLine, LineAt}
+use Rattle.hs_events.specs.Course.{steps}
+use Rattle.hs_events.specs.Due.{Events}
 use Rattle.hs_promise.specs.Lower.Moments.{got_by}
 use Rattle.hs_promise.specs.Run.{Ran, Script}
 use Rattle.hs_promise.specs.Lower.Objects.{IsSinkBehind}

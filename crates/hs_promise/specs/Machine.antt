@@ -8,11 +8,11 @@ use Rattle.hs_promise.specs.Ending.{Ending, ending_of}
 use Rattle.hs_promise.specs.Entry.{MayStop}
 use Rattle.hs_promise.specs.Found.{HasFound, IsReadAs, IsStillBehind}
 use Rattle.hs_promise.specs.Lines.{AreLines}
-use Rattle.hs_cluster.specs.Course.{steps}
-use Rattle.hs_cluster.specs.Due.{Events, is_walk, next_turn}
-use Rattle.hs_cluster.specs.Calls.{MomentsRise}
+use Rattle.hs_events.specs.Course.{steps}
+use Rattle.hs_events.specs.Due.{Events, is_walk, next_turn}
+use Rattle.hs_events.specs.Due.{MomentsRise}
 use Rattle.hs_promise.specs.Lower.Objects.{NoneAhead}
-use Rattle.hs_cluster.specs.Reports.{failures}
+use Rattle.hs_events.specs.Reports.{failures}
 use Rattle.hs_promise.specs.Promise.{AreOfScript}
 use Rattle.hs_promise.specs.Reports.{IsBorneOut}
 use Rattle.hs_promise.specs.Run.{DiskRose, Ran, Script}

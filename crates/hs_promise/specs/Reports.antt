@@ -5,9 +5,9 @@ use Rattle.hs_fold.specs.Images.{IsLeft}
 use Rattle.hs_fold.specs.Shards.Images.{Image}
 use Rattle.hs_ports.specs.Moments.{disk_at}
 use Rattle.hs_side.specs.Current.{list_in}
-use Rattle.hs_cluster.specs.Asked.{report_in}
+use Rattle.hs_events.specs.Asked.{report_in}
 use Rattle.hs_promise.specs.Lower.Objects.{IsDuring}
-use Rattle.hs_cluster.specs.Reports.{TellsOf}
+use Rattle.hs_events.specs.Reports.{TellsOf}
 use Rattle.hs_promise.specs.Run.{Ran}
 
 -- a report tells what was read on its peer's disk: this is among what the disk may have left at the moment, and the last sync of the entry that was read may still act then

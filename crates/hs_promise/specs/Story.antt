@@ -8,8 +8,8 @@ use Rattle.hs_fold.specs.Shards.Setting.{Numbered}
 use Rattle.hs_members.specs.Members.{peers_of}
 use Rattle.hs_memory.specs.Forget.{apply_all}
 use Rattle.hs_shard.specs.Facts.{Catalogue, empty_catalogue}
-use Rattle.hs_cluster.specs.Course.{steps}
-use Rattle.hs_cluster.specs.Due.{Events}
+use Rattle.hs_events.specs.Course.{steps}
+use Rattle.hs_events.specs.Due.{Events}
 use Rattle.hs_promise.specs.Lower.Taken.{taken_list}
 use Rattle.hs_promise.specs.Run.{Script}
 

@@ -1,7 +1,7 @@
 use Rattle.std.proofs.Common.{◌≡◌, ◌∙◌, ◌*◌, ap, map}
 use Rattle.std.specs.List.{range_with_len}
 use Rattle.hs_cluster.proofs.WalkLemmas.{raised_is}
-use Rattle.hs_cluster.specs.Due.{place_after, raises_known}
+use Rattle.hs_events.specs.Due.{place_after, raises_known}
 use Rattle.hs_cluster.specs.Running.{Running}
 use Rattle.hs_core.specs.Looking.{known_of}
 use Rattle.hs_cluster.proofs.cluster.Cluster.move_on.Goals as goal

@@ -1,11 +1,11 @@
 use Rattle.std.proofs.Common.{◌≡◌, ◌≤◌, ◌<◌, ◌∙◌, ◌*◌, ap, arith, subst, sym, Some}
 use Rattle.hs_cluster.proofs.EventLemmas.{still_going}
 use Rattle.hs_cluster.proofs.WalkLemmas.{one_last, one_more, place_within}
-use Rattle.hs_cluster.specs.declared.due.Place.{Place}
-use Rattle.hs_cluster.specs.Due.{place_after, raises_known}
+use Rattle.hs_events.specs.declared.due.Place.{Place}
+use Rattle.hs_events.specs.Due.{peer_due, place_after, raises_known}
 use Rattle.hs_cluster.specs.Running.{Running}
 use Rattle.hs_cluster.specs.declared.fault.ClusterFault.{ClusterFault}
-use Rattle.hs_cluster.specs.Settling.{HasWalked, RunsWalk, due_with, peer_due}
+use Rattle.hs_cluster.specs.Settling.{HasWalked, RunsWalk, due_with}
 use Rattle.std.proofs.lemmas.Result.{err_from_is_err_and}
 use Rattle.std.specs.Prelude.{Err}
 use Rattle.hs_limits.specs.declared.shape.Shape.{Shape}

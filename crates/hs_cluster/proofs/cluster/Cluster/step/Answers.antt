@@ -2,9 +2,9 @@ use Rattle.std.proofs.Common.{◌≡◌, ◌∙◌, ap, sym, subst, refl, ◌*�
 use Rattle.std.specs.List.{range_with_len}
 use Rattle.std.specs.Prelude.{Result, Ok, Err}
 use Rattle.hs_cluster.proofs.EventLemmas.{err_ends, event_done, ok_goes}
-use Rattle.hs_cluster.proofs.GoingLemmas.{step_goes}
+use Rattle.hs_events.proofs.GoingLemmas.{step_goes}
 use Rattle.hs_cluster.specs.Calls.{Does, outcome_by}
-use Rattle.hs_cluster.specs.Course.{items_between}
+use Rattle.hs_events.specs.Course.{items_between}
 use Rattle.hs_cluster.specs.declared.fault.ClusterFault.TheVariants as cluster
 use Rattle.hs_cluster.specs.Running.{Running}
 use Rattle.hs_core.specs.Looking.{front_of, status_of}

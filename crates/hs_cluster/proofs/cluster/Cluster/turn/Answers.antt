@@ -1,6 +1,6 @@
 use Rattle.std.proofs.Common.{◌≡◌, ◌≤◌, ◌∙◌, ap, sym, subst, arith, Some}
 use Rattle.hs_cluster.proofs.LineLemmas.{runs_turn}
-use Rattle.hs_cluster.specs.Due.{turn_behind}
+use Rattle.hs_events.specs.Due.{turn_behind}
 use Rattle.hs_cluster.specs.Running.{Running}
 use Rattle.hs_cluster.specs.Settling.{DoesDue}
 use Rattle.hs_cluster.proofs.cluster.Cluster.turn.Goals as goal

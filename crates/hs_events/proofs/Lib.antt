@@ -1,0 +1,8 @@
+pub mod AddressLemmas
+mod Examples
+pub mod GoingLemmas
+pub mod KeepLemmas
+pub mod NotedLemmas
+pub mod RangeLemmas
+pub mod RunLemmas
+pub mod TurnLemmas

@@ -1,0 +1,6 @@
+pub mod Asked
+pub mod Commands
+pub mod Course
+pub mod Due
+pub mod Reports
+pub mod Whole
