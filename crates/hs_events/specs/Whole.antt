@@ -11,7 +11,8 @@ use Rattle.hs_desk.specs.declared.done.Done.{Done}
 use Rattle.hs_desk.specs.declared.done.Done.TheVariants as done
 use Rattle.hs_desk.specs.declared.job.Job.{Job}
 use Rattle.hs_desk.specs.declared.job.Job.TheVariants as job
-use Rattle.hs_fold.specs.Shards.Setting.{Numbered}
+use Rattle.hs_events.specs.Found.{Found, first_core, opened_list, starts_good}
+use Rattle.hs_fold.specs.Shards.Setting.{Numbered, Setting}
 use Rattle.hs_members.specs.Members.{is_good_status, is_joining}
 use Rattle.hs_replica.specs.Group.{Group, entries_above, length_of}
 
@@ -84,4 +85,17 @@ step_whole e at c =
       adds = λ peer. if is_joining (status_of peer after) then copied_entry (lists_after e c after) (first_job peer after)
           else if is_good_status (status_of peer after) then [] else c.adds peer;
       aside = λ peer. c.aside peer && not (is_good_status (status_of peer after));
+    }
+
+-- ---- opening
+
+-- as the core opens: a good peer has the taken log and what was proposed behind it; the disk of another counts as blank
+abbrev pub open_whole : Setting → Found → Whole
+open_whole set found =
+    let core : Core = first_core set found in
+    record {
+      core = core;
+      lists = λ peer. if starts_good found peer then grown (group_of (home peer core) core) peer (opened_list set found (home peer core)) else [];
+      adds = λ peer. [];
+      aside = λ peer. not (starts_good found peer);
     }

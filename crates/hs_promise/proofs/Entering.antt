@@ -23,10 +23,10 @@ use Rattle.hs_promise.specs.Entry.{counted_course, entry_logs, entry_store, is_a
 use Rattle.hs_promise.specs.Lines.{IsPrintedBefore}
 use Rattle.hs_events.specs.Commands.{LineAt}
 use Rattle.hs_promise.specs.Lower.Objects.{Objects}
-use Rattle.hs_promise.specs.Lower.Taken.{taken_items, taken_peer}
+use Rattle.hs_events.specs.Taken.{taken_items, taken_peer}
 use Rattle.hs_promise.specs.Run.{Ran}
 use Rattle.hs_promise.proofs.Rejoining.{nothing, ran, script, story}
-use Rattle.hs_promise.specs.Story.{first_core}
+use Rattle.hs_events.specs.Found.{first_core}
 
 -- ---- the log that is taken
 
@@ -135,7 +135,7 @@ put_at moment = record ran {
 
 -- line 2 has its first event at moment 3
 abbrev second_line : LineAt
-second_line = record { line = 2; core = record (first_core script story) { journal = answer 1 0 ∷ [] }; events = (event.Nudge 2 0, 3) ∷ []; whole = true }
+second_line = record { line = 2; core = record (first_core script.set story.found) { journal = answer 1 0 ∷ [] }; events = (event.Nudge 2 0, 3) ∷ []; whole = true }
 
 printed_in_time : IsPrintedBefore (put_at 2) second_line
 unfolding entry_text digits

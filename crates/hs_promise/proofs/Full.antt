@@ -37,7 +37,8 @@ use Rattle.hs_promise.specs.Lower.Telling.{IsDownAt}
 use Rattle.hs_promise.specs.Machine.{IsOfMachine, Went}
 use Rattle.hs_promise.specs.Promise.{Promise}
 use Rattle.hs_promise.specs.Run.{Ran, Script}
-use Rattle.hs_promise.specs.Story.{Story, first_core, last_core, starts_good}
+use Rattle.hs_events.specs.Found.{first_core, starts_good}
+use Rattle.hs_promise.specs.Story.{Story, last_core}
 use Rattle.hs_journal.specs.declared.entry.JournalEntry.{JournalEntry}
 use Rattle.hs_promise.proofs.Meeting.{no_rise}
 use Rattle.hs_promise.proofs.Rejoining.{a, nothing}
@@ -54,10 +55,7 @@ script = record { set = record { name = λ spelling. record { 0 = [] }; limits =
 -- the View is appended and sealed up to moment 5; each line is begun behind the text of the one before
 abbrev story : Story
 story = record {
-  logs = Some [] ∷ [];
-  lost = [];
-  good = true ∷ [];
-  opened = 2;
+  found = record { logs = Some [] ∷ []; lost = []; good = true ∷ []; opened = 2 };
   opening = (event.Report 0 (done.Stored 1), 3) ∷ (event.Report 0 (done.Sealed 1), 5) ∷ [];
   lines = ((event.Line 1 (op.Open a), 5) ∷ []) ∷ ((event.Line 2 op.Stat, 6) ∷ []) ∷ [];
 }
@@ -197,15 +195,15 @@ the_promise_is_kept = record {
 
 -- ---- the machine
 
-the_only_is_good : (peer : ℕ) → peer < 1 → starts_good story peer ≡ true
+the_only_is_good : (peer : ℕ) → peer < 1 → starts_good story.found peer ≡ true
 the_only_is_good zero within = refl
 the_only_is_good (suc peer) within = absurd (omega (arith, within))
 
-good_has_a_log : (peer : ℕ) → starts_good story peer ≡ true → IsSome (slice_index_or story.logs peer None)
+good_has_a_log : (peer : ℕ) → starts_good story.found peer ≡ true → IsSome (slice_index_or story.found.logs peer None)
 good_has_a_log zero good = refl
 good_has_a_log (suc peer) good = absurd (false≢true good)
 
-never_aside : (peer : ℕ) → peer < 1 → starts_good story peer ≡ false → ⊥
+never_aside : (peer : ℕ) → peer < 1 → starts_good story.found peer ≡ false → ⊥
 never_aside peer within bad = false≢true (sym bad ∙ the_only_is_good peer within)
 
 found : HasFound script ran story
@@ -221,7 +219,7 @@ found = record {
 }
 
 -- line 1 has its event at moment 5, before anything was put, and line 2 at moment 6, when the first text was
-are_lines : AreLines script ran 1 (steps (first_core script story) story.opening) story.lines
+are_lines : AreLines script ran 1 (steps (first_core script.set story.found) story.opening) story.lines
 unfolding entry_text digits gained no_handle_in stale_in deed_of seats_after asked_for begin compared data_of go judged_in on_bytes on_effect refusals_of asked_block least_epoch rank_of lines_of words_of reading line_of driving_line
 are_lines = (
   record { going = refl; printed = record { on_time = λ behind early. refl; rest = first_text; put = refl }; events = (refl, refl) },

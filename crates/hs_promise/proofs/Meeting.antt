@@ -16,24 +16,25 @@ use Rattle.hs_promise.specs.Found.{HasFound, IsLostBefore}
 use Rattle.hs_events.specs.Due.{MomentsRise}
 use Rattle.hs_promise.specs.Lower.Sides.{RoseBy}
 use Rattle.hs_promise.specs.Machine.{IsOfMachine, Went}
-use Rattle.hs_promise.specs.Story.{all_events, starts_good}
+use Rattle.hs_events.specs.Found.{starts_good}
+use Rattle.hs_promise.specs.Story.{all_events}
 
 le : 0 ≤ 0
 le = omega arith
 
 -- ---- what opening found: two blank disks
 
-both_are_good : (peer : ℕ) → peer < 2 → starts_good story peer ≡ true
+both_are_good : (peer : ℕ) → peer < 2 → starts_good story.found peer ≡ true
 both_are_good zero within = refl
 both_are_good (suc zero) within = refl
 both_are_good (suc (suc peer)) within = absurd (omega arith)
 
-good_has_a_log : (peer : ℕ) → starts_good story peer ≡ true → IsSome (slice_index_or story.logs peer None)
+good_has_a_log : (peer : ℕ) → starts_good story.found peer ≡ true → IsSome (slice_index_or story.found.logs peer None)
 good_has_a_log zero good = refl
 good_has_a_log (suc zero) good = refl
 good_has_a_log (suc (suc peer)) good = absurd (false≢true good)
 
-never_aside : (peer : ℕ) → peer < 2 → starts_good story peer ≡ false → ⊥
+never_aside : (peer : ℕ) → peer < 2 → starts_good story.found peer ≡ false → ⊥
 never_aside peer within bad = false≢true (sym bad ∙ both_are_good peer within)
 
 found : HasFound script ran story

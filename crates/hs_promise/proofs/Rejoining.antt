@@ -30,7 +30,8 @@ use Rattle.hs_events.specs.Due.{Events, is_walk, next_due, next_turn}
 use Rattle.hs_promise.specs.Lower.Objects.{Objects}
 use Rattle.hs_events.specs.Reports.{failures}
 use Rattle.hs_promise.specs.Run.{Ran, Script}
-use Rattle.hs_promise.specs.Story.{Story, first_core, last_core}
+use Rattle.hs_events.specs.Found.{first_core}
+use Rattle.hs_promise.specs.Story.{Story, last_core}
 
 abbrev pub shape : Shape
 shape = record { shards = 1; copies = 2 }
@@ -75,7 +76,7 @@ lines = (1, command.Client (op.Open a), (event.Line 1 (op.Open a), 0) ∷ [])
 
 -- two blank disks, both good when the core is opened
 abbrev pub story : Story
-story = record { logs = Some [] ∷ Some [] ∷ []; lost = []; good = true ∷ true ∷ []; opened = 0; opening = opening; lines = map (λ l. l.2) lines }
+story = record { found = record { logs = Some [] ∷ Some [] ∷ []; lost = []; good = true ∷ true ∷ []; opened = 0 }; opening = opening; lines = map (λ l. l.2) lines }
 
 -- the naming gives the address of the only block that is written
 abbrev pub script : Script
@@ -101,7 +102,7 @@ unfolding gained addresses block_at read_block no_handle_in stale_in helds_of de
 the_course = refl
 
 -- opening's events are turns until nobody has one
-pub the_opening : is_walk next_turn true 0 (first_core script story) story.opening ≡ true
+pub the_opening : is_walk next_turn true 0 (first_core script.set story.found) story.opening ≡ true
 unfolding gained addresses block_at read_block no_handle_in stale_in helds_of deed_of seats_after asked_for begin block_entry compared data_of go is_same_block judged_in mark_entry on_bytes on_effect refusals_of asked_block least_epoch rank_of
 the_opening = refl
 
@@ -114,7 +115,7 @@ told_nothing : (at : LineAt) → IsPrintedBefore ran at
 told_nothing at = record { on_time = on_time at at.events; rest = []; put = refl }
 
 -- each line has the events that are due for it, behind all text so far
-pub the_lines : AreLines script ran 1 (steps (first_core script story) story.opening) story.lines
+pub the_lines : AreLines script ran 1 (steps (first_core script.set story.found) story.opening) story.lines
 unfolding gained addresses block_at read_block no_handle_in stale_in helds_of deed_of seats_after asked_for begin block_entry compared data_of go is_same_block judged_in mark_entry on_bytes on_effect refusals_of asked_block least_epoch rank_of
 the_lines = (record { going = refl; printed = told_nothing _; events = (refl, refl) }, (record { going = refl; printed = told_nothing _; events = (refl, refl) }, (record { going = refl; printed = told_nothing _; events = (refl, refl) }, (record { going = refl; printed = told_nothing _; events = (refl, refl) }, (record { going = refl; printed = told_nothing _; events = (refl, refl) }, (record { going = refl; printed = told_nothing _; events = refl }, (record { going = refl; printed = told_nothing _; events = (refl, refl) }, (record { going = refl; printed = told_nothing _; events = refl }, (record { going = refl; printed = told_nothing _; events = (refl, refl) }, (record { going = refl; printed = told_nothing _; events = refl }, (record { going = refl; printed = told_nothing _; events = (refl, refl) }, (record { going = refl; printed = told_nothing _; events = (refl, refl) }, (record { going = refl; printed = told_nothing _; events = refl }, record { going = refl; printed = told_nothing _; events = (refl, refl) })))))))))))))
 
@@ -127,10 +128,10 @@ the_end = refl
 
 -- the core behind opening and the first lines
 abbrev core_at : ℕ → Core
-core_at n = steps (first_core script story) (opening ++ flat_map (λ l. l.2) (take n lines))
+core_at n = steps (first_core script.set story.found) (opening ++ flat_map (λ l. l.2) (take n lines))
 
 -- peer 1 has no turn while peer 0 has one
-no_other_turn_is_due : is_walk next_turn false 0 (first_core script story) ((event.Report 1 (done.Stored 1), 0) ∷ []) ≡ false
+no_other_turn_is_due : is_walk next_turn false 0 (first_core script.set story.found) ((event.Report 1 (done.Stored 1), 0) ∷ []) ≡ false
 unfolding gained addresses block_at read_block no_handle_in stale_in helds_of deed_of seats_after asked_for begin block_entry compared data_of go is_same_block judged_in mark_entry on_bytes on_effect refusals_of asked_block least_epoch rank_of
 no_other_turn_is_due = refl
 
@@ -144,7 +145,7 @@ unfolding gained addresses block_at read_block no_handle_in stale_in helds_of de
 settle_is_cut = refl
 
 -- an append that fails has a cost; a read that finds no log has one only where the disks tell their contents
-an_append_costs : failures false 0 (first_core script story) ((event.Report 0 (done.Failed 0), 0) ∷ []) ≡ 1
+an_append_costs : failures false 0 (first_core script.set story.found) ((event.Report 0 (done.Failed 0), 0) ∷ []) ≡ 1
 unfolding gained addresses block_at read_block no_handle_in stale_in helds_of deed_of seats_after asked_for begin block_entry compared data_of go is_same_block judged_in mark_entry on_bytes on_effect refusals_of asked_block least_epoch rank_of
 an_append_costs = refl
 

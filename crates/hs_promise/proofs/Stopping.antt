@@ -31,7 +31,7 @@ use Rattle.hs_side.specs.Reading.{found_in, frames, log_of, payload_at}
 use Rattle.hs_promise.specs.declared.status.Status.TheVariants as status
 use Rattle.hs_promise.specs.Answers.{events_in, store_after}
 use Rattle.hs_promise.specs.Lower.Moments.{below}
-use Rattle.hs_promise.specs.Lower.Taken.{or_blank}
+use Rattle.hs_events.specs.Taken.{or_blank}
 use Rattle.hs_promise.specs.Run.{Ran, Script}
 use Rattle.hs_promise.specs.Stops.{image_logs, pending_at}
 use Rattle.hs_promise.proofs.Rejoining.{a, its_address, nothing, spelling, written}

@@ -17,7 +17,7 @@ use Rattle.hs_promise.specs.Lower.Telling.{IsAnsweredBefore, IsFirstAbove}
 use Rattle.hs_promise.specs.Run.{Ran, Script}
 use Rattle.hs_promise.specs.declared.status.Status.TheVariants as status
 use Rattle.hs_promise.specs.Lower.Objects.{NoneFailed}
-use Rattle.hs_promise.specs.Lower.Taken.{peer_count}
+use Rattle.hs_events.specs.Taken.{peer_count}
 
 -- ---- how a run without failures ends
 

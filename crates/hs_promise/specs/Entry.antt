@@ -14,7 +14,7 @@ use Rattle.hs_ports.specs.declared.disk.Side.{Side}
 use Rattle.hs_side.specs.Current.{list_in}
 use Rattle.hs_promise.specs.Ending.{ending_of}
 use Rattle.hs_promise.specs.Lower.Notes.{is_first_noted}
-use Rattle.hs_promise.specs.Lower.Taken.{or_blank, taken_items, taken_lists}
+use Rattle.hs_events.specs.Taken.{or_blank, taken_items, taken_lists}
 use Rattle.hs_promise.specs.Run.{Ran, Script}
 use Rattle.hs_promise.specs.Lower.Objects.{NoneAhead, faults_at}
 

@@ -6,6 +6,5 @@ pub mod Objects
 pub mod Pending
 pub mod Script
 pub mod Sides
-pub mod Taken
 pub mod Telling
 pub mod Words

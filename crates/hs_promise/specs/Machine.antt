@@ -16,8 +16,9 @@ use Rattle.hs_events.specs.Reports.{failures}
 use Rattle.hs_promise.specs.Promise.{AreOfScript}
 use Rattle.hs_promise.specs.Reports.{IsBorneOut}
 use Rattle.hs_promise.specs.Run.{DiskRose, Ran, Script}
-use Rattle.hs_promise.specs.Story.{Story, all_events, first_core, last_core}
-use Rattle.hs_promise.specs.Lower.Taken.{peer_count}
+use Rattle.hs_events.specs.Found.{first_core}
+use Rattle.hs_promise.specs.Story.{Story, all_events, last_core}
+use Rattle.hs_events.specs.Taken.{peer_count}
 
 -- ---- the end
 
@@ -37,27 +38,27 @@ opening_is_whole r (first ∷ rest) = true
 
 -- how often a disk failed before the core was opened, as far as its log was the taken one
 abbrev pub loss_count : Story → ℕ → ℕ
-loss_count story disk = count_by (λ peer. peer.0 == disk) story.lost
+loss_count story disk = count_by (λ peer. peer.0 == disk) story.found.lost
 
 -- a core was opened, and the run went as a story says
 pub record Went (S : Script) (r : Ran) (story : Story) : Type 0 where
   pub found : HasFound S r story
-  pub opening : is_walk next_turn (opening_is_whole r story.lines) 0 (first_core S story) story.opening ≡ true
-  pub lines : AreLines S r 1 (steps (first_core S story) story.opening) story.lines
+  pub opening : is_walk next_turn (opening_is_whole r story.lines) 0 (first_core S.set story.found) story.opening ≡ true
+  pub lines : AreLines S r 1 (steps (first_core S.set story.found) story.opening) story.lines
   pub line : r.line ≡ length story.lines
-  pub rises : MomentsRise story.opened (all_events story) r.new.moment
+  pub rises : MomentsRise story.found.opened (all_events story) r.new.moment
   pub journal : r.journal ≡ (last_core S story).journal
   pub refused : r.refused ≡ (if (ending_of r.ending).full then (last_core S story).refused else [])
   pub course : r.course ≡ course_of S story r.old.moment
   pub ends : EndsAs (ending_of r.ending) (last_core S story).ended
-  pub failed : (disk : ℕ) → DiskRose r (failures false disk (first_core S story) (all_events story)) disk
+  pub failed : (disk : ℕ) → DiskRose r (failures false disk (first_core S.set story.found) (all_events story)) disk
 
 -- and so where the disks tell their contents, so that no read finds what is no log
 pub record IsOfDisks (S : Script) (r : Ran) (story : Story) : Type 0 where
   pub read : (peer : ℕ) → peer < peer_count S.set.shape → IsReadAs r story peer
   pub told : MayStop S r → All (IsBorneOut r) (all_events story)
-  pub still : NoneAhead r.old → All (IsStillBehind r story) story.lost
-  pub failed : (disk : ℕ) → DiskRose r (failures true disk (first_core S story) (all_events story) + loss_count story disk) disk
+  pub still : NoneAhead r.old → All (IsStillBehind r story) story.found.lost
+  pub failed : (disk : ℕ) → DiskRose r (failures true disk (first_core S.set story.found) (all_events story) + loss_count story disk) disk
 
 -- no core was opened, since a disk is of another store or memory was wanting: nothing was answered, read or put
 pub record NeverOpened (r : Ran) : Type 0 where

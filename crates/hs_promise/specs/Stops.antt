@@ -16,7 +16,7 @@ use Rattle.hs_promise.specs.Awaited.{IsAwaited}
 use Rattle.hs_promise.specs.Entry.{counted_course, is_aside}
 use Rattle.hs_promise.specs.Lower.Moments.{below}
 use Rattle.hs_promise.specs.Lower.Pending.{MayPend, pending}
-use Rattle.hs_promise.specs.Lower.Taken.{or_blank, taken_lists}
+use Rattle.hs_events.specs.Taken.{or_blank, taken_lists}
 use Rattle.hs_promise.specs.Run.{Ran, Script}
 use Rattle.hs_promise.specs.Lower.Objects.{IsDuring}
 

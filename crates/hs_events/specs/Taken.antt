@@ -1,4 +1,4 @@
--- The log that is taken of each shard. (Belongs to hs_fold.) Logs stand by peer: None where there is none.
+-- The log that is taken of each shard. Logs stand by peer: None where there is none.
 use Rattle.std.specs.List.{range_with_len}
 use Rattle.std.specs.Option.{option_map_or}
 use Rattle.std.specs.Prelude.{Bool, List, None, Option, Some, [], false, find, flat_map, map, not, slice_index_or, unwrap_or, ℕ, ◌==◌, ◌*◌, ◌∷◌}
