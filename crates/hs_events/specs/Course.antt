@@ -52,3 +52,12 @@ items_of core (e ∷ es) = event_items core e ++ items_of (step e.0 e.1 core) es
 abbrev pub steps : Core → Events → Core
 steps core [] = core
 steps core (e ∷ es) = steps (step e.0 e.1 core) es
+
+-- ---- what happened
+
+-- the events before one that the journal had no room for: what came of it is neither told nor in the course
+abbrev pub happened : Core → Events → Events
+happened core [] = []
+happened core (e ∷ es) =
+    let after : Core = step e.0 e.1 core in
+    if is_refused after.ended then [] else e ∷ happened after es

@@ -1,4 +1,5 @@
 pub mod Asked
+pub mod Beginning
 pub mod Commands
 pub mod Course
 pub mod Due

@@ -5,3 +5,4 @@ pub mod Joint
 pub mod Machine
 pub mod Moments
 pub mod Obeys
+pub mod WholeMachine
