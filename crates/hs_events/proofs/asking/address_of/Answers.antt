@@ -12,5 +12,7 @@ returns-in-Ok g c =
     let bytes = c.as_slice-in-Ok.ensures.value ∙ c.in-Ok.ensures.ok
     ∙ ap (λ (xs : List ℕ). xs ++ spell (record { pointers = c.as_slice.result.now; bytes = a.payload.now })) c.new-spelling.ensures.items
     ∙ ap (λ (ps : List Address). spell (record { pointers = ps; bytes = a.payload.now })) pointers in
-    record { ok = ap (λ x. Some x) (c.address.ensures ∙ ap name bytes)
-    ∙ sym (address_found name a.core.now.sessions a.session.now a.payload.now a.handles.now (sym c.are_held.ensures ∙ c.if-not-are_held.false) c.if-handles-gt-MOST_POINTERS.false c.if-payload-gt-MOST_BYTES.false) }
+    record {
+      ok = ap (λ x. Some x) (c.address.ensures ∙ ap name bytes)
+          ∙ sym (address_found name a.core.now.sessions a.session.now a.payload.now a.handles.now (sym c.are_held.ensures ∙ c.if-not-are_held.false) c.if-handles-gt-MOST_POINTERS.false c.if-payload-gt-MOST_BYTES.false);
+    }
