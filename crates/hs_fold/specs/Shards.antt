@@ -14,3 +14,4 @@ pub mod Prefix
 pub mod Setting
 pub mod Sound
 pub mod Unrooted
+pub mod Outstanding

@@ -1,3 +1,6 @@
 pub mod Told
 pub mod Events
 pub mod Order
+pub mod Moments
+pub mod Notes
+pub mod Telling

@@ -6,3 +6,4 @@ pub mod Order
 pub mod Valid
 pub mod Runs
 pub mod Written
+pub mod Kept

@@ -8,3 +8,4 @@ pub mod SidesLemmas
 pub mod StampLemmas
 pub mod TakeLemmas
 pub mod TearLemmas
+mod PuttingExamples

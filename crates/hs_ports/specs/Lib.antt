@@ -16,3 +16,6 @@ pub mod Sink
 pub mod Source
 pub mod Told
 pub mod Watch
+pub mod Objects
+pub mod Putting
+pub mod Unwritten

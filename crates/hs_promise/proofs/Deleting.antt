@@ -18,7 +18,7 @@ use Rattle.hs_model.specs.Store.{Store, empty_store}
 use Rattle.hs_promise.specs.declared.status.Status.TheVariants as status
 use Rattle.hs_promise.specs.Answers.{store_before}
 use Rattle.hs_promise.specs.Deletes.{Deletes, EndsRun, IsDoneAt}
-use Rattle.hs_promise.specs.Lower.Laws.{AllSwept, SweepIsExact}
+use Rattle.hs_laws.specs.Kept.{AllSwept, SweepIsExact}
 use Rattle.hs_promise.specs.Run.{Ran, Script}
 use Rattle.hs_promise.proofs.Rejoining.{nothing}
 use Rattle.hs_promise.proofs.Stopping.{one_block}

@@ -22,7 +22,7 @@ use Rattle.hs_promise.specs.declared.status.Status.TheVariants as status
 use Rattle.hs_promise.specs.Entry.{counted_course, entry_logs, entry_store, is_aside}
 use Rattle.hs_promise.specs.Lines.{IsPrintedBefore}
 use Rattle.hs_events.specs.Commands.{LineAt}
-use Rattle.hs_promise.specs.Lower.Objects.{Objects}
+use Rattle.hs_ports.specs.Objects.{Objects}
 use Rattle.hs_events.specs.Taken.{taken_items, taken_peer}
 use Rattle.hs_promise.specs.Run.{Ran}
 use Rattle.hs_promise.proofs.Rejoining.{nothing, ran, script, story}

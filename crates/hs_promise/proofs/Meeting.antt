@@ -14,7 +14,7 @@ use Rattle.hs_ops.specs.Speaking.{asked_block, least_epoch}
 use Rattle.hs_promise.proofs.Rejoining.{ran, script, story, the_end, the_lines, the_opening}
 use Rattle.hs_promise.specs.Found.{HasFound, IsLostBefore}
 use Rattle.hs_events.specs.Due.{MomentsRise}
-use Rattle.hs_promise.specs.Lower.Sides.{RoseBy}
+use Rattle.hs_ports.specs.Objects.{RoseBy}
 use Rattle.hs_promise.specs.Machine.{IsOfMachine, Went}
 use Rattle.hs_events.specs.Found.{starts_good}
 use Rattle.hs_promise.specs.Story.{all_events}

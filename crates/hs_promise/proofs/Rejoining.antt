@@ -27,7 +27,7 @@ use Rattle.hs_promise.specs.Lines.{AreLines, IsOnTime, IsPrintedBefore}
 use Rattle.hs_events.specs.Commands.{LineAt}
 use Rattle.hs_events.specs.Course.{event_items, steps}
 use Rattle.hs_events.specs.Due.{Events, is_walk, next_due, next_turn}
-use Rattle.hs_promise.specs.Lower.Objects.{Objects}
+use Rattle.hs_ports.specs.Objects.{Objects}
 use Rattle.hs_events.specs.Reports.{failures}
 use Rattle.hs_promise.specs.Run.{Ran, Script}
 use Rattle.hs_events.specs.Found.{first_core}

@@ -4,8 +4,7 @@ use Rattle.std.specs.Prelude.{◌≡◌, refl, ℕ, ◌==◌, List, [], ◌∷�
 use Rattle.hs_entry.specs.declared.entry.Entry.{Entry}
 use Rattle.hs_entry.specs.declared.entry.Entry.TheVariants as kind
 use Rattle.hs_entry.specs.Entries.{rank_of}
-use Rattle.hs_entry.specs.Reading.{entry_at, epoch_at, fields_at, view_at}
-use Rattle.hs_entry.specs.Reading.{block_at as block_entry_at}
+use Rattle.hs_entry.specs.Reading.{block_at as block_entry_at, entry_at, epoch_at, fields_at, view_at}
 use Rattle.hs_fold.specs.Runs.Opened.{opened}
 use Rattle.hs_fold.specs.Shards.Change.{stores}
 use Rattle.hs_fold.specs.Shards.Happening.{Happening, changes, happen_all, happenings}
@@ -30,7 +29,7 @@ use Rattle.hs_side.specs.Current.{list_in}
 use Rattle.hs_side.specs.Reading.{found_in, frames, log_of, payload_at}
 use Rattle.hs_promise.specs.declared.status.Status.TheVariants as status
 use Rattle.hs_promise.specs.Answers.{events_in, store_after}
-use Rattle.hs_promise.specs.Lower.Moments.{below}
+use Rattle.hs_journal.specs.Moments.{below}
 use Rattle.hs_events.specs.Taken.{or_blank}
 use Rattle.hs_promise.specs.Run.{Ran, Script}
 use Rattle.hs_promise.specs.Stops.{image_logs, pending_at}

@@ -23,16 +23,16 @@ use Rattle.hs_script.specs.Text.{entry_text, text}
 use Rattle.hs_promise.specs.declared.status.Status.TheVariants as status
 use Rattle.hs_promise.specs.Course.{course_of}
 use Rattle.hs_promise.specs.Ends.{Ends}
-use Rattle.hs_promise.specs.Lower.Moments.{below, got_by}
-use Rattle.hs_promise.specs.Lower.Objects.{IsDuring}
-use Rattle.hs_promise.specs.Lower.Script.{IsBad, is_bad}
-use Rattle.hs_promise.specs.Lower.Sides.{PutsFront}
+use Rattle.hs_journal.specs.Moments.{below}
+use Rattle.hs_ports.specs.Putting.{PutsFront, got_by}
+use Rattle.hs_ports.specs.Objects.{IsDuring}
+use Rattle.hs_script.specs.Scripts.{IsBad, is_bad}
 use Rattle.hs_promise.specs.Answers.{IsEntry, Prints}
 use Rattle.hs_promise.specs.Completes.{HasPrompt}
 use Rattle.hs_promise.specs.Found.{HasFound, IsLostBefore}
 use Rattle.hs_promise.specs.Lines.{AreLines}
 use Rattle.hs_events.specs.Course.{steps}
-use Rattle.hs_promise.specs.Lower.Telling.{IsDownAt}
+use Rattle.hs_journal.specs.Telling.{IsDownAt}
 use Rattle.hs_promise.specs.Machine.{IsOfMachine, Went}
 use Rattle.hs_promise.specs.Promise.{Promise}
 use Rattle.hs_promise.specs.Run.{Ran, Script}

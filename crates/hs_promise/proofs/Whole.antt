@@ -19,7 +19,7 @@ use Rattle.hs_ops.specs.Speaking.{asked_block, least_epoch}
 use Rattle.hs_promise.proofs.Rejoining.{ran, script}
 use Rattle.hs_promise.specs.Answers.{IsEntry, Prints}
 use Rattle.hs_promise.specs.Completes.{HasPrompt}
-use Rattle.hs_promise.specs.Lower.Telling.{IsDownAt}
+use Rattle.hs_journal.specs.Telling.{IsDownAt}
 use Rattle.hs_promise.specs.Promise.{Promise}
 
 -- ---- its entries: two prompt answers, and those of two writes and a read

@@ -3,8 +3,8 @@ use Rattle.std.specs.Prelude.{◌≡◌, refl, ℕ, List, [], ◌∷◌, Some, N
 use Rattle.hs_limits.specs.Limits.{greatest_limits}
 use Rattle.hs_script.specs.Lines.{lines_of}
 use Rattle.hs_script.specs.Parts.{number_below}
-use Rattle.hs_promise.specs.Lower.Script.{complete_lines, delete_count}
-use Rattle.hs_promise.specs.Lower.Words.{Wanted, wanted, wanted_of}
+use Rattle.hs_script.specs.Scripts.{complete_lines, delete_count}
+use Rattle.hs_script.specs.CommandLine.{Wanted, wanted, wanted_of}
 
 -- `script d 2 3` and some options
 abbrev words : List (List ℕ) → List (List ℕ)

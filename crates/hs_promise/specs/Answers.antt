@@ -12,11 +12,11 @@ use Rattle.hs_model.specs.declared.reply.Reply.TheVariants as reply
 use Rattle.hs_ports.specs.Sink.{bytes_of}
 use Rattle.hs_script.specs.Text.{text}
 use Rattle.hs_promise.specs.Ending.{ending_of}
-use Rattle.hs_promise.specs.Lower.Moments.{below, got_by}
-use Rattle.hs_promise.specs.Lower.Sides.{IsPut, PutsFront}
-use Rattle.hs_promise.specs.Lower.Telling.{AreDated, IsOfStore, MayTell}
+use Rattle.hs_journal.specs.Moments.{below}
+use Rattle.hs_ports.specs.Putting.{IsPut, PutsFront, got_by}
+use Rattle.hs_journal.specs.Telling.{AreDated, IsOfStore, MayTell}
 use Rattle.hs_promise.specs.Run.{Ran, Script}
-use Rattle.hs_promise.specs.Lower.Objects.{IsDuring, IsSinkBehind}
+use Rattle.hs_ports.specs.Objects.{IsDuring, IsSinkBehind}
 
 -- ---- in the plain store's words
 
@@ -44,9 +44,9 @@ abbrev pub IsEntry : Script → ℕ → JournalEntry → Type 0
 IsEntry S last entry = stands_for entry.who
   where
     stands_for : Who → Type 0
-    stands_for (who.Line n) = (n ≤ last) × MayTell S.set (S.commands n) entry
+    stands_for (who.Line n) = (n ≤ last) × MayTell S.set.shape S.set.limits (S.commands n) entry
     stands_for (who.Shard g) = (g < S.set.shape.shards) × ((entry.deed ≡ deed.Entered g) ⊎ (entry.deed ≡ deed.Swept g))
-    stands_for who.Store = (entry.deed ≡ deed.Nothing) × IsOfStore S.set last entry.reply
+    stands_for who.Store = (entry.deed ≡ deed.Nothing) × IsOfStore S.set.shape last entry.reply
 
 -- ---- what stands whatever the disks hold
 

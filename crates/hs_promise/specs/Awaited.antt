@@ -3,7 +3,7 @@ use Rattle.std.specs.Prelude.{IsSome, ℕ}
 use Rattle.hs_fold.specs.Good.{IsBegun}
 use Rattle.hs_journal.specs.Events.{client_op}
 use Rattle.hs_journal.specs.Order.{IsOfLine}
-use Rattle.hs_promise.specs.Lower.Moments.{below}
+use Rattle.hs_journal.specs.Moments.{below}
 use Rattle.hs_promise.specs.Run.{Ran, Script}
 
 -- a client's line was begun below a moment, and has no entry in the journal below it

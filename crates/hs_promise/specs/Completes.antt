@@ -10,13 +10,13 @@ use Rattle.hs_side.specs.declared.header.Header.{Header}
 use Rattle.hs_promise.specs.Answers.{store_before}
 use Rattle.hs_promise.specs.Ending.{ending_of}
 use Rattle.hs_promise.specs.Lost.{IsPast, LostCause}
-use Rattle.hs_promise.specs.Lower.Laws.{IsLevel}
-use Rattle.hs_promise.specs.Lower.Script.{IsBad, delete_count, input_limit}
-use Rattle.hs_promise.specs.Lower.Sides.{HasHeader, own_header}
-use Rattle.hs_promise.specs.Lower.Telling.{IsAnsweredBefore, IsFirstAbove}
+use Rattle.hs_laws.specs.Kept.{IsLevel}
+use Rattle.hs_script.specs.Scripts.{IsBad, delete_count, input_limit}
+use Rattle.hs_side.specs.Headers.{HasHeader, own_header}
+use Rattle.hs_journal.specs.Telling.{IsAnsweredBefore, IsFirstAbove}
 use Rattle.hs_promise.specs.Run.{Ran, Script}
 use Rattle.hs_promise.specs.declared.status.Status.TheVariants as status
-use Rattle.hs_promise.specs.Lower.Objects.{NoneFailed}
+use Rattle.hs_ports.specs.Objects.{NoneFailed}
 use Rattle.hs_events.specs.Taken.{peer_count}
 
 -- ---- how a run without failures ends

@@ -6,7 +6,7 @@ use Rattle.hs_model.specs.Store.{Store}
 use Rattle.hs_model.specs.declared.deed.Deed.TheVariants as deed
 use Rattle.hs_model.specs.declared.reply.Reply.TheVariants as reply
 use Rattle.hs_promise.specs.Answers.{store_before}
-use Rattle.hs_promise.specs.Lower.Laws.{AllSwept, SweepIsExact}
+use Rattle.hs_laws.specs.Kept.{AllSwept, SweepIsExact}
 use Rattle.hs_promise.specs.Run.{Ran, Script}
 
 -- the entry at a place is a sweep, behind which every shard has swept this epoch, and before which one had not

@@ -1,7 +1,7 @@
 -- How a run ends in its script: after how many lines, and with which bytes taken.
 use Rattle.std.specs.Prelude.{List, [], length, take, ℕ, ◌++◌, ◌+◌, ◌≡◌, ◌≤◌}
 use Rattle.hs_script.specs.Lines.{lines_of}
-use Rattle.hs_promise.specs.Lower.Script.{IsBad, complete_lines, input_limit}
+use Rattle.hs_script.specs.Scripts.{IsBad, complete_lines, input_limit}
 use Rattle.hs_promise.specs.Run.{Ran}
 use Rattle.hs_promise.specs.declared.status.Status.{Status}
 use Rattle.hs_promise.specs.declared.status.Status.TheVariants as status

@@ -13,10 +13,10 @@ use Rattle.hs_ports.specs.Moments.{disk_at}
 use Rattle.hs_ports.specs.declared.disk.Side.{Side}
 use Rattle.hs_side.specs.Current.{list_in}
 use Rattle.hs_promise.specs.Ending.{ending_of}
-use Rattle.hs_promise.specs.Lower.Notes.{is_first_noted}
+use Rattle.hs_journal.specs.Notes.{is_first_noted}
 use Rattle.hs_events.specs.Taken.{or_blank, taken_items, taken_lists}
 use Rattle.hs_promise.specs.Run.{Ran, Script}
-use Rattle.hs_promise.specs.Lower.Objects.{NoneAhead, faults_at}
+use Rattle.hs_ports.specs.Objects.{NoneAhead, faults_at}
 
 -- ---- which disks count at entry
 

@@ -2,7 +2,7 @@
 use Rattle.std.specs.Prelude.{ℕ}
 use Rattle.hs_model.specs.Store.{Store}
 use Rattle.hs_promise.specs.Answers.{store_before}
-use Rattle.hs_promise.specs.Lower.Laws.{KeepsAll}
+use Rattle.hs_laws.specs.Kept.{KeepsAll}
 use Rattle.hs_promise.specs.Run.{Ran, Script}
 
 -- so it is behind each front of the journal

@@ -11,7 +11,6 @@ pub mod Found
 pub mod Kept
 pub mod Lines
 pub mod Lost
-pub mod Lower
 pub mod Machine
 pub mod Promise
 pub mod Reports

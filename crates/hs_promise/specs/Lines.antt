@@ -7,9 +7,9 @@ use Rattle.hs_promise.specs.Ending.{ending_of}
 use Rattle.hs_events.specs.Commands.{AreOfLine, LineAt}
 use Rattle.hs_events.specs.Course.{steps}
 use Rattle.hs_events.specs.Due.{Events}
-use Rattle.hs_promise.specs.Lower.Moments.{got_by}
+use Rattle.hs_ports.specs.Putting.{got_by}
 use Rattle.hs_promise.specs.Run.{Ran, Script}
-use Rattle.hs_promise.specs.Lower.Objects.{IsSinkBehind}
+use Rattle.hs_ports.specs.Objects.{IsSinkBehind}
 
 -- at the first event of a line the sink has got the text of all that was answered before, and no more; nothing is said of the last moment of a u64
 abbrev pub IsOnTime : Ran → LineAt → Events → Type 0

@@ -10,8 +10,8 @@ use Rattle.hs_ports.specs.Moments.{disk_at}
 use Rattle.hs_side.specs.Current.{list_in}
 use Rattle.hs_promise.specs.Ending.{ending_of}
 use Rattle.hs_promise.specs.Entry.{is_aside}
-use Rattle.hs_promise.specs.Lower.Notes.{is_first_noted, note_count}
-use Rattle.hs_promise.specs.Lower.Telling.{IsDownAt}
+use Rattle.hs_journal.specs.Notes.{is_first_noted, note_count}
+use Rattle.hs_journal.specs.Telling.{IsDownAt}
 use Rattle.hs_promise.specs.Run.{DiskRose, Ran, Script}
 
 -- ---- a shard that is lost

@@ -9,9 +9,8 @@ use Rattle.hs_promise.specs.Entry.{MayStop}
 use Rattle.hs_promise.specs.Found.{HasFound, IsReadAs, IsStillBehind}
 use Rattle.hs_promise.specs.Lines.{AreLines}
 use Rattle.hs_events.specs.Course.{steps}
-use Rattle.hs_events.specs.Due.{Events, is_walk, next_turn}
-use Rattle.hs_events.specs.Due.{MomentsRise}
-use Rattle.hs_promise.specs.Lower.Objects.{NoneAhead}
+use Rattle.hs_events.specs.Due.{Events, MomentsRise, is_walk, next_turn}
+use Rattle.hs_ports.specs.Objects.{NoneAhead}
 use Rattle.hs_events.specs.Reports.{failures}
 use Rattle.hs_promise.specs.Promise.{AreOfScript}
 use Rattle.hs_promise.specs.Reports.{IsBorneOut}

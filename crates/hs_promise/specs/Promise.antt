@@ -13,7 +13,7 @@ use Rattle.hs_promise.specs.Run.{Ran, Script}
 use Rattle.hs_promise.specs.Shapes.{ShapeCause}
 use Rattle.hs_promise.specs.Stops.{Stops}
 use Rattle.hs_promise.specs.declared.status.Status.TheVariants as status
-use Rattle.hs_promise.specs.Lower.Objects.{CountsStand, KeepsPast, KeepsTime}
+use Rattle.hs_ports.specs.Objects.{CountsStand, KeepsPast, KeepsTime}
 
 -- clauses 1 to 5 from the store at entry, where the disks are sound
 pub record Clauses (S : Script) (r : Ran) : Type 0 where

@@ -6,7 +6,7 @@ use Rattle.hs_fold.specs.Shards.Images.{Image}
 use Rattle.hs_ports.specs.Moments.{disk_at}
 use Rattle.hs_side.specs.Current.{list_in}
 use Rattle.hs_events.specs.Asked.{report_in}
-use Rattle.hs_promise.specs.Lower.Objects.{IsDuring}
+use Rattle.hs_ports.specs.Objects.{IsDuring}
 use Rattle.hs_events.specs.Reports.{TellsOf}
 use Rattle.hs_promise.specs.Run.{Ran}
 

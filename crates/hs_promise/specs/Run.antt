@@ -6,11 +6,10 @@ use Rattle.hs_limits.specs.declared.address.Address.{Address}
 use Rattle.hs_model.specs.declared.command.Command.{Command}
 use Rattle.hs_model.specs.declared.course.CourseItem.{CourseItem}
 use Rattle.hs_script.specs.Reading.{commands}
-use Rattle.hs_promise.specs.Lower.Sides.{RoseBy}
-use Rattle.hs_promise.specs.Lower.Words.{Wanted}
+use Rattle.hs_ports.specs.Objects.{Objects, RoseBy, faults_at}
+use Rattle.hs_script.specs.CommandLine.{Wanted}
 use Rattle.hs_promise.specs.declared.outcome.Outcome.{Outcome}
 use Rattle.hs_promise.specs.declared.status.Status.{Status}
-use Rattle.hs_promise.specs.Lower.Objects.{Objects, faults_at}
 
 -- a script on a store: what the store is set up with (naming, limits, shape), and the command of each line by its number
 pub record Script : Type 0 where

@@ -2,7 +2,8 @@
 use Rattle.std.specs.Prelude.{length, ℕ, ◌<◌, ◌≡◌, ◌≢◌, ◌≤◌, ◌⊎◌}
 use Rattle.hs_ports.specs.Moments.{disk_at}
 use Rattle.hs_side.specs.declared.header.Header.{Header}
-use Rattle.hs_promise.specs.Lower.Sides.{HasHeader, IsUnwritten, own_header}
+use Rattle.hs_ports.specs.Unwritten.{IsUnwritten}
+use Rattle.hs_side.specs.Headers.{HasHeader, own_header}
 use Rattle.hs_promise.specs.Run.{DiskRose, Ran, Script}
 use Rattle.hs_promise.specs.declared.status.Status.TheVariants as status
 

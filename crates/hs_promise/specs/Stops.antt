@@ -14,11 +14,11 @@ use Rattle.hs_side.specs.Current.{list_in}
 use Rattle.hs_promise.specs.Answers.{events_in, store_after}
 use Rattle.hs_promise.specs.Awaited.{IsAwaited}
 use Rattle.hs_promise.specs.Entry.{counted_course, is_aside}
-use Rattle.hs_promise.specs.Lower.Moments.{below}
-use Rattle.hs_promise.specs.Lower.Pending.{MayPend, pending}
+use Rattle.hs_journal.specs.Moments.{below}
+use Rattle.hs_fold.specs.Shards.Outstanding.{MayPend, pending}
 use Rattle.hs_events.specs.Taken.{or_blank, taken_lists}
 use Rattle.hs_promise.specs.Run.{Ran, Script}
-use Rattle.hs_promise.specs.Lower.Objects.{IsDuring}
+use Rattle.hs_ports.specs.Objects.{IsDuring}
 
 -- a stop of a run at a moment
 abbrev pub stop_at : Script → Ran → ℕ → Stop

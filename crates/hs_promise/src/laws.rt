@@ -14,8 +14,8 @@ ghost use Rattle.hs_promise.specs.Lost.{LostCause};
 ghost use Rattle.hs_events.specs.Commands.{BeginsWith};
 ghost use Rattle.hs_events.specs.declared.due.Due.{Due};
 ghost use Rattle.hs_events.specs.Due.{Events};
-ghost use Rattle.hs_promise.specs.Lower.Objects.{Objects, KeepsTime};
-ghost use Rattle.hs_promise.specs.Lower.Script.{input_limit};
+ghost use Rattle.hs_ports.specs.Objects.{Objects, KeepsTime};
+ghost use Rattle.hs_script.specs.Scripts.{input_limit};
 ghost use Rattle.hs_promise.specs.Machine.{EndsAs};
 ghost use Rattle.hs_promise.specs.Run.{Ran, Script};
 

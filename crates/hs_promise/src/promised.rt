@@ -1,8 +1,8 @@
 //! The promise as a contract.
 ghost use Rattle.std.specs.Prelude.{◌≡◌, ℕ, Option, None, IfSome, map, string_bytes, vec_len};
 ghost use Rattle.hs_model.specs.declared.command.Command.{Command};
-ghost use Rattle.hs_promise.specs.Lower.Objects.{handed};
-ghost use Rattle.hs_promise.specs.Lower.Words.{wanted_of};
+ghost use Rattle.hs_ports.specs.Objects.{handed};
+ghost use Rattle.hs_script.specs.CommandLine.{wanted_of};
 ghost use Rattle.hs_promise.specs.Machine.{IsOfMachine};
 ghost use Rattle.hs_promise.specs.Promise.{IsUsage, Promise};
 ghost use Rattle.hs_promise.specs.Run.{ran_of, script_of};

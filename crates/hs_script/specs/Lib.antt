@@ -6,3 +6,5 @@ pub mod Replies
 pub mod Giving
 pub mod Answer
 pub use Rattle.hex.specs.Hex
+pub mod CommandLine
+pub mod Scripts

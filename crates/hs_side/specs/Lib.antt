@@ -7,3 +7,4 @@ pub mod Reading
 pub mod Spelling
 pub mod Standing
 pub mod Steps
+pub mod Headers

@@ -1,4 +1,4 @@
--- The words of the command line of a script, and what they ask for. (Belongs to hs_script.)
+-- The words of the command line of a script, and what they ask for.
 use Rattle.std.specs.List.{list_any}
 use Rattle.std.specs.Option.{option_and_then, option_map}
 use Rattle.std.specs.Prelude.{List, None, Option, Some, [], bytes_eq, codes, find, if◌then◌else◌, length, nat_le, not, ℕ, ◌&&◌, ◌*◌, ◌+◌, ◌==◌, ◌∷◌}
@@ -63,11 +63,14 @@ shape_word shards copies = option_and_then (λ g. option_map (λ r. record { sha
 
 -- what `script DIR G R` and its options ask for, with any DIR that is not empty
 unfoldable pub wanted : List (List ℕ) → Option Wanted
+wanted [] = None
+wanted (command ∷ []) = None
+wanted (command ∷ dir ∷ []) = None
+wanted (command ∷ dir ∷ shards ∷ []) = None
 wanted (command ∷ dir ∷ shards ∷ copies ∷ options) =
     if bytes_eq command (codes "script") && not (length dir == 0) then
     option_and_then (λ shape. option_map (λ limits. record { shape = shape; limits = limits }) (with_options [] options (Some greatest_limits))) (shape_word shards copies)
     else None
-wanted other = None
 
 -- they ask for something, and there is a disk for each peer
 abbrev pub wanted_of : List (List ℕ) → ℕ → Option Wanted

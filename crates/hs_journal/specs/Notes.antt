@@ -1,4 +1,4 @@
--- Notes that peers are down. (Belongs to hs_model and hs_journal.)
+-- Notes that peers are down.
 use Rattle.std.specs.List.{list_any}
 use Rattle.std.specs.Option.{option_map_or}
 use Rattle.std.specs.Prelude.{Bool, List, None, Option, Some, count_by, false, ℕ, ◌&&◌, ◌==◌}

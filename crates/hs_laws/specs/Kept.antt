@@ -1,4 +1,4 @@
--- What a plain store keeps and removes. (Belongs to hs_laws.)
+-- What a plain store keeps and removes.
 use Rattle.std.specs.Prelude.{All, Contains, None, length, slice_index, ℕ, ◌-◌, ◌≡◌, ◌≤◌}
 use Rattle.hs_laws.specs.Held.{IsFreshHeld, IsHeld}
 use Rattle.hs_laws.specs.Reached.{IsWhole}

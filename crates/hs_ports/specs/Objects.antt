@@ -1,12 +1,12 @@
--- What a run is handed, and how its time goes. (Belongs to hs_ports.)
-use Rattle.std.specs.Prelude.{ℕ, ◌≡◌, ◌-◌, ◌^◌, ◌<◌, ◌≤◌, List, Option, All, map, slice_index_or}
+-- What a run is handed, and how its time goes.
+use Rattle.std.specs.Prelude.{ℕ, ◌≡◌, ◌+◌, ◌-◌, ◌^◌, ◌<◌, ◌≤◌, List, Option, All, map, min, slice_index_or}
 use Rattle.hs_ports.specs.Disk.{Standing}
 use Rattle.hs_ports.specs.declared.disk.Side.{Side}
 use Rattle.hs_ports.specs.Fault.{HasRisen}
 use Rattle.hs_ports.specs.Moments.{disk_at}
+use Rattle.hs_ports.specs.Putting.{got_by}
 use Rattle.hs_ports.specs.Sink.{followed}
 use Rattle.hs_ports.specs.Watch.{next_moment}
-use Rattle.hs_promise.specs.Lower.Moments.{got_by}
 
 -- what a run is handed, at one time: the moment of the watch, the disks by peer, what the sink has got (each byte with its moment) and
 -- what the source has left, where they tell it, and how often each has failed
@@ -36,6 +36,10 @@ handed moment disks sink source = record {
 -- how often the disk of a peer has failed by some counts
 abbrev pub faults_at : List ℕ → ℕ → ℕ
 faults_at faults peer = slice_index_or faults peer 0
+
+-- a count rose by at least so much, or stands at the end of a u64
+abbrev pub RoseBy : ℕ → ℕ → ℕ → Type 0
+RoseBy n before now = min (before + n) (2 ^ 64 - 1) ≤ now
 
 -- no count of faults ever falls
 pub record CountsStand (old new : Objects) : Type 0 where

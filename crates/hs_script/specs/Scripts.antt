@@ -1,4 +1,4 @@
--- Lines of a script that are bad or complete, and how many bytes it may have. (Belongs to hs_script.)
+-- Lines of a script that are bad or complete, and how many bytes it may have.
 use Rattle.std.specs.Prelude.{Bool, List, Some, bytes_eq, codes, count_by, false, true, ℕ, ◌==◌, ◌≡◌}
 use Rattle.hs_model.specs.declared.command.Command.{Command}
 use Rattle.hs_model.specs.declared.command.Command.TheVariants as command

@@ -1,4 +1,4 @@
--- The entries of lists of all kinds that have not taken effect, and what they do. (Belongs to hs_fold, beside Runs.)
+-- The entries of lists of all kinds that have not taken effect, and what they do.
 use Rattle.std.specs.Prelude.{List, Option, [], ℕ, ⊤, ◌++◌, ◌+◌, ◌∷◌, ◌≡◌, ◌⊎◌}
 use Rattle.hs_entry.specs.declared.entry.Entry.{Entry}
 use Rattle.hs_entry.specs.declared.entry.Entry.TheVariants as kind
