@@ -219,9 +219,12 @@ one_lost p a b h f =
 abbrev pub Happens : Core → Core → Type 0
 Happens a b = Moves (face a) (face b) ⊎ ((p : ℕ) × Falls p a b)
 
+no_report : (r : ℕ × Done) → Some r ≡ None → ⊥
+no_report r bad = cc
+
 pub quiet : (e : Event) (c : Core) → AreAlone (face c) → report_in e ≡ None → Happens c (do_event e c)
 quiet (event.Line line o) c h q = inl (keeps_begin_line steps_go_on line o c h)
-quiet (event.Report p d) c h q = let bad : Some (p, d) ≡ None {A = ℕ × Done} = q in cc
+quiet (event.Report p d) c h q = absurd (no_report (p, d) q)
 quiet (event.Turn line p) c h q = unless_by line (no_peer p c ∷ not_up p c ∷ []) (λ core. core) c (Happens c) (λ r. inl (moves_same (face c) h)) (λ e. inl (moves_same (face c) h))
 quiet (event.Deliver line number) c h q = message_by line number (deliver number) c (Happens c) (λ r. inl (moves_same (face c) h)) (λ m at. inl (delivers number m c h at))
 quiet (event.Lose line number) c h q = message_by line number (lose number) c (Happens c) (λ r. inl (moves_same (face c) h)) (λ m at. inl (taken_out c number h))
