@@ -1,7 +1,7 @@
 -- How a store of one copy a shard stands between two events: a core beside the whole lists.
 use Rattle.std.specs.List.{All, enumerate_from}
 use Rattle.std.specs.Option.{option_map}
-use Rattle.std.specs.Prelude.{◌≡◌, ℕ, ◌<◌, ◌≤◌, Bool, false, List, [], Option, Some, None, slice_get}
+use Rattle.std.specs.Prelude.{◌≡◌, ℕ, ◌<◌, ◌≤◌, false, List, [], Option, Some, None, slice_get}
 use Rattle.hs_core.specs.Looking.{first_job, group_of, home, sealed_of, shape_of, tasks_of}
 use Rattle.hs_core.specs.State.{Core}
 use Rattle.hs_desk.specs.declared.job.Job.{Job}

@@ -1,6 +1,6 @@
 -- What an event makes of a core of one copy a shard: it goes on, or its shard is lost with the peer that goes down.
-use Rattle.std.proofs.Common.{◌≡◌, ◌≢◌, ◌⊎◌, ◌∙◌, ap, sym, subst, inl, inr, ℕ, zero, suc, ◌+◌, ◌*◌, ◌-◌, ◌/◌, ◌<◌, ◌≤◌, ◌==◌, ◌&&◌, ◌||◌, not, Bool, true, false, List, [], ◌∷◌, ◌++◌, Option, Some, None, refl, arith, length, nat_lt, nat_le, is_none, is_some}
-use Rattle.std.proofs.lemmas.Bool.{cases_eq, cases_lt, eqb-true, le-leb}
+use Rattle.std.proofs.Common.{◌≡◌, ◌≢◌, ◌⊎◌, ◌∙◌, ap, sym, subst, inl, inr, ℕ, zero, suc, ◌+◌, ◌*◌, ◌/◌, ◌<◌, ◌≤◌, ◌==◌, ◌&&◌, not, Bool, true, false, List, [], ◌∷◌, Option, Some, None, refl, arith, length, nat_lt, nat_le, is_none, is_some}
+use Rattle.std.proofs.lemmas.Bool.{cases_eq, cases_lt, le-leb}
 use Rattle.std.proofs.lemmas.List.{get_or-set_other, get_or-set_same, get_or_past}
 use Rattle.std.proofs.lemmas.List.Elements.{All-cons, All-nil}
 use Rattle.std.proofs.lemmas.Map.Views.{All-map-remove_entry, IfSome-lookup_from_All}
@@ -9,15 +9,15 @@ use Rattle.std.specs.List.{All, list_any, range_with_len}
 use Rattle.std.specs.Map.{values_of}
 use Rattle.std.specs.Option.{option_map}
 use Rattle.std.specs.Ordering.{nat_cmp}
-use Rattle.std.specs.Prelude.{IfSome, find, if◌then◌else◌, slice_index_or, slice_set}
-use Rattle.hs_core.specs.Asking.{deliver, lose, no_peer, not_down, not_up, nudge, nudge_good, send_again, send_rounds, with_down, with_message, with_up}
-use Rattle.hs_core.specs.Changing.{change_pool, note, post, refuse}
+use Rattle.std.specs.Prelude.{IfSome, find, if◌then◌else◌}
+use Rattle.hs_core.specs.Asking.{deliver, lose, no_peer, not_down, not_up, nudge, nudge_good, send_again, send_rounds}
+use Rattle.hs_core.specs.Changing.{change_pool, post, refuse}
 use Rattle.hs_core.specs.declared.event.Event.{Event}
 use Rattle.hs_core.specs.declared.event.Event.TheVariants as event
 use Rattle.hs_core.specs.Delivering.{handle, is_new_round}
 use Rattle.hs_core.specs.Effects.{commit}
 use Rattle.hs_core.specs.Entering.{propose_due}
-use Rattle.hs_core.specs.Failing.{commit_rest, fail_disk, go_down, leave}
+use Rattle.hs_core.specs.Failing.{commit_rest, go_down, leave}
 use Rattle.hs_core.specs.Joining.{begin_joining, joining_peers, start}
 use Rattle.hs_core.specs.Looking.{group_of, home, lead_of, lost_shard, shape_of, status_of}
 use Rattle.hs_core.specs.Operating.{propose_entry}
@@ -26,7 +26,6 @@ use Rattle.hs_core.specs.Step.{begin_event, do_event, end_event, keep_entries, l
 use Rattle.hs_core.specs.Views.{begin_view, change_view}
 use Rattle.hs_core.specs.Words.{change_if, each, ◌▸◌}
 use Rattle.hs_desk.specs.declared.done.Done.{Done}
-use Rattle.hs_desk.specs.declared.fault.CoreFault.{CoreFault}
 use Rattle.hs_desk.specs.declared.fault.CoreFault.TheVariants as fault
 use Rattle.hs_entry.specs.declared.entry.Entry.TheVariants as kind
 use Rattle.hs_limits.specs.declared.limits.PeerStatus.{PeerStatus}
@@ -38,12 +37,12 @@ use Rattle.hs_model.specs.declared.reply.Reply.TheVariants as reply
 use Rattle.hs_model.specs.Refusals.{first, refused_when}
 use Rattle.hs_post.specs.declared.message.Message.{Message}
 use Rattle.hs_post.specs.declared.message.Message.TheVariants as message
-use Rattle.hs_post.specs.Pool.{Pool, is_empty, is_full, message_at, restart_numbers, send, without}
-use Rattle.hs_replica.specs.Group.{Group, is_peer, new_group, resend}
+use Rattle.hs_post.specs.Pool.{is_empty, is_full, message_at, restart_numbers, send, without}
+use Rattle.hs_replica.specs.Group.{is_peer, resend}
 use Rattle.hs_events.specs.Asked.{report_in}
-use Rattle.hs_events.specs.Alone.{AreAlone, Face, IsAlone, face, is_round}
+use Rattle.hs_events.specs.Alone.{AreAlone, face, is_round}
 use Rattle.hs_moments.proofs.AloneLemmas.{resend_alone}
-use Rattle.hs_moments.proofs.AloneStepLemmas.{GoesOn, proposes, sends_rounds, steps_go_on}
+use Rattle.hs_moments.proofs.AloneStepLemmas.{proposes, sends_rounds, steps_go_on}
 use Rattle.hs_moments.proofs.MoveLemmas.{Moves, moves_both, moves_pool, moves_same}
 use Rattle.hs_moments.proofs.StepsKeepLemmas.{keeps_begin_line, keeps_if, keeps_propose_due, keeps_send_rounds, message_by, unless_by}
 
@@ -66,8 +65,8 @@ up_within : (c : Core) (p : ℕ) (rest : List (Option Reply)) → AreAlone (face
 up_within c p rest h e = elim (cases_lt p c.members.shape.shards) [
   | inl low ↦ low
   | inr high ↦
-    let past : nat_le (length c.members.statuses) p ≡ true = le-leb (length c.members.statuses) p (let n = h.statuses in omega (arith, n, high)) in
-    let bad : Some (reply.NoPeer p) ≡ None = ap (λ b. first (refused_when b (reply.NoPeer p) ∷ rest)) (sym past) ∙ e in cc
+      let past : nat_le (length c.members.statuses) p ≡ true = le-leb (length c.members.statuses) p (let n = h.statuses in omega (arith, n, high)) in
+      let bad : Some (reply.NoPeer p) ≡ None = ap (λ b. first (refused_when b (reply.NoPeer p) ∷ rest)) (sym past) ∙ e in cc
 ]
 
 -- and no peer is down

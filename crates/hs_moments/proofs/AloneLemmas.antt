@@ -1,11 +1,10 @@
 -- What the calls on a group make of one that stands alone: it leads, and nothing is sent.
-use Rattle.std.proofs.Common.{◌≡◌, ◌∙◌, ap, sym, subst, ℕ, zero, suc, ◌+◌, ◌-◌, ◌*◌, ◌<◌, ◌≤◌, ◌==◌, Bool, true, false, List, [], ◌∷◌, ◌++◌, Option, Some, None, refl, arith, length, map, max, nat_lt}
+use Rattle.std.proofs.Common.{◌≡◌, ◌∙◌, ap, sym, ℕ, ◌+◌, ◌-◌, ◌*◌, ◌<◌, ◌≤◌, ◌==◌, true, false, List, [], ◌∷◌, ◌++◌, Some, refl, arith, length, map, max, nat_lt}
 use Rattle.std.proofs.lemmas.Bool.{eq-eqb, lt-ltb, le-ltb}
 use Rattle.std.specs.List.{flat_map}
 use Rattle.std.specs.Option.{option_map, option_map_or}
 use Rattle.std.specs.Prelude.{filter, if◌then◌else◌, slice_index_or, slice_set, take}
 use Rattle.hs_entry.specs.declared.entry.Entry.{Entry}
-use Rattle.hs_limits.specs.declared.limits.PeerStatus.{PeerStatus}
 use Rattle.hs_limits.specs.declared.limits.PeerStatus.TheVariants.{Good}
 use Rattle.hs_limits.specs.declared.shape.Shape.{Shape}
 use Rattle.hs_members.specs.Members.{Members, is_good_status, lead_by, longest, status, view_of}

@@ -1,15 +1,15 @@
 -- What a report makes of a core of one copy a shard.
-use Rattle.std.proofs.Common.{◌≡◌, ◌≢◌, ◌⊎◌, ◌∙◌, ap, sym, subst, inl, inr, ℕ, zero, suc, ◌+◌, ◌-◌, ◌<◌, ◌≤◌, ◌==◌, ◌||◌, Bool, true, false, List, [], ◌∷◌, ◌++◌, Option, Some, None, refl, arith, length, max}
+use Rattle.std.proofs.Common.{◌≡◌, ◌≢◌, ◌∙◌, ap, sym, subst, inl, inr, ℕ, zero, suc, ◌+◌, ◌-◌, ◌<◌, ◌≤◌, ◌==◌, ◌||◌, Bool, true, false, List, [], ◌∷◌, Option, Some, None, refl, arith, length, max}
 use Rattle.std.proofs.lemmas.Bool.{cases_eq, cases_lt, eqb-true}
-use Rattle.std.proofs.lemmas.List.{get_or-set_other, get_or-set_same, get_or_past, length-set, set-get_or}
+use Rattle.std.proofs.lemmas.List.{get_or-set_other, get_or-set_same, get_or_past, length-set}
 use Rattle.std.specs.List.{enumerate_from}
 use Rattle.std.specs.Option.{option_map, option_map_or}
-use Rattle.std.specs.Prelude.{drop, if◌then◌else◌, slice_get, slice_index_or, slice_set}
+use Rattle.std.specs.Prelude.{drop, if◌then◌else◌, slice_get}
 use Rattle.hs_core.specs.Changing.{change_group, note, post, set_tasks}
 use Rattle.hs_core.specs.declared.task.Task.{Task}
 use Rattle.hs_core.specs.Effects.{commit, commit_next, take_effect}
 use Rattle.hs_core.specs.Failing.{fail_disk, go_down}
-use Rattle.hs_core.specs.Looking.{copying_step, first_job, first_task, front_of, group_of, home, status_of, tasks_of}
+use Rattle.hs_core.specs.Looking.{copying_step, first_job, first_task, front_of, group_of, tasks_of}
 use Rattle.hs_core.specs.Reporting.{on_report, take_report, take_sealed, tell_bytes}
 use Rattle.hs_core.specs.State.{Core}
 use Rattle.hs_core.specs.Words.{change_if, change_with, times, ◌▸◌}
@@ -20,20 +20,17 @@ use Rattle.hs_desk.specs.declared.job.Job.{Job}
 use Rattle.hs_desk.specs.declared.job.Job.TheVariants as job
 use Rattle.hs_entry.specs.declared.entry.Entry.{Entry}
 use Rattle.hs_journal.specs.declared.entry.Who.TheVariants as who
-use Rattle.hs_limits.specs.declared.limits.PeerStatus.{PeerStatus}
-use Rattle.hs_limits.specs.declared.limits.PeerStatus.TheVariants.{Good, Down}
 use Rattle.hs_members.specs.Members.{Members, is_joining}
 use Rattle.hs_model.specs.declared.deed.Deed.TheVariants as deed
 use Rattle.hs_model.specs.declared.reply.Reply.TheVariants as reply
 use Rattle.hs_post.specs.declared.message.Message.{Message}
-use Rattle.hs_replica.specs.declared.replica.Replica.{Replica}
-use Rattle.hs_replica.specs.Group.{Group, commit_front, committed, entries_above, have, last_number, new_group, on_sealed, take_committed}
+use Rattle.hs_replica.specs.Group.{Group, commit_front, entries_above, have, last_number, new_group, on_sealed, take_committed}
 use Rattle.hs_events.specs.Alone.{AreAlone, AreBegun, AreJobs, Face, HasJobs, IsAlone, IsSettled, face, group_in, own, seal_of, tasks_in}
-use Rattle.hs_moments.proofs.AloneEventLemmas.{Falls, Happens, falls, home_here, status_past}
+use Rattle.hs_moments.proofs.AloneEventLemmas.{Falls, falls, home_here, status_past}
 use Rattle.hs_moments.proofs.AloneLemmas.{HandsOut, alone, front_alone, hands_out, have_alone, is_alone, sealed_alone}
-use Rattle.hs_moments.proofs.AloneStepLemmas.{GoesOn, commits, steps_go_on}
-use Rattle.hs_moments.proofs.JobLemmas.{AppendsFirst, IsIdle, ReadsFirst, above_front, next_of}
-use Rattle.hs_moments.proofs.MoveLemmas.{Goes, Moves, alone_with, here, jobs_here, jobs_there, moves_both, moves_same, there}
+use Rattle.hs_moments.proofs.AloneStepLemmas.{commits, steps_go_on}
+use Rattle.hs_moments.proofs.JobLemmas.{above_front, next_of}
+use Rattle.hs_moments.proofs.MoveLemmas.{Moves, alone_with, here, jobs_here, jobs_there, moves_same, there}
 use Rattle.hs_moments.proofs.StepsKeepLemmas.{keeps_behind, keeps_commit_next, keeps_commits, keeps_tell_bytes}
 
 -- ---- the first job of a peer
@@ -289,12 +286,12 @@ module _ (c : Core) (p : ℕ) (h : AreAlone (face c)) (low : p < c.members.shape
     reached_y m g lt = elim (cases_eq g p) [
       | inl same ↦ subst (λ k. (own (group_of k y)).sealed ≤ (group_of k (commit p y)).front) (sym same) (commits_all p y alone_y low)
       | inr ne ↦
-        let up = (m.each g lt).front in
-        let e = there (face c) p (on_sealed p number group) behind h low g ne in
-        let all = (settled g lt).settled in
-        let one : (own (group_of g y)).sealed ≡ (own (group_of g c)).sealed = ap (λ (z : Group). (own z).sealed) e in
-        let two : (group_of g y).front ≡ (group_of g c).front = ap (λ (z : Group). z.front) e in
-        omega (arith, up, all, one, two)
+          let up = (m.each g lt).front in
+          let e = there (face c) p (on_sealed p number group) behind h low g ne in
+          let all = (settled g lt).settled in
+          let one : (own (group_of g y)).sealed ≡ (own (group_of g c)).sealed = ap (λ (z : Group). (own z).sealed) e in
+          let two : (group_of g y).front ≡ (group_of g c).front = ap (λ (z : Group). z.front) e in
+          omega (arith, up, all, one, two)
     ]
 
     seals_now : AreJobs (drop 1 (enumerate_from (group.front + 1) group.waiting)) behind → Answered c p (done.Sealed number) (take_sealed p number x)
@@ -356,9 +353,9 @@ reports p d c h settled e = by_jobs (settled p low).jobs
       | inl i ↦ absurd (idle i.jobs)
       | inr (inl r) ↦ by_report (record { job = job.Read r.number; line = r.line }) r.behind r.jobs (reads_out c p h low settled r.behind r.number r.line d (fits (record { job = job.Read r.number; line = r.line }) r.behind r.jobs) r.rest)
       | inr (inr a) ↦
-        let task : Task = record { job = job.Append a.first.0 a.first.1; line = 0 } in
-        let rest : List Task = seal_of a.first.0 ∷ a.behind in
-        by_report task rest a.jobs (appends_out c p h low settled rest a.first d (fits task rest a.jobs) (ap (option_map (λ (t : Task). t.job)) (begins_with task rest a.jobs))
-        (record { first = a.first; others = a.others; behind = a.behind; all = a.all; jobs = refl; rest = a.rest }) refl)
+          let task : Task = record { job = job.Append a.first.0 a.first.1; line = 0 } in
+          let rest : List Task = seal_of a.first.0 ∷ a.behind in
+          by_report task rest a.jobs (appends_out c p h low settled rest a.first d (fits task rest a.jobs) (ap (option_map (λ (t : Task). t.job)) (begins_with task rest a.jobs))
+          (record { first = a.first; others = a.others; behind = a.behind; all = a.all; jobs = refl; rest = a.rest }) refl)
     ]
     by_jobs (inr b) = by_report (seal_of b.first.0) b.behind b.jobs (seals_out c p h low settled b.behind b d (fits (seal_of b.first.0) b.behind b.jobs) refl)

@@ -1,31 +1,30 @@
 -- A core of one copy a shard goes on so by each step of an event.
-use Rattle.std.proofs.Common.{◌≡◌, ◌∙◌, ap, sym, subst, inl, inr, ℕ, zero, suc, ◌+◌, ◌-◌, ◌<◌, ◌≤◌, Bool, true, false, List, [], ◌∷◌, ◌++◌, Option, Some, None, refl, arith, length, map}
+use Rattle.std.proofs.Common.{◌≡◌, ◌∙◌, ap, sym, subst, inl, inr, ℕ, ◌+◌, ◌<◌, ◌≤◌, Bool, true, false, List, [], ◌∷◌, ◌++◌, Some, None, refl, arith, length, map}
 use Rattle.std.proofs.lemmas.Bool.{cases_lt}
 use Rattle.std.proofs.lemmas.List.{append-nil, append_assoc, get_or-set_same, get_or_past, length-append, set-get_or, set-set, set_past}
 use Rattle.std.proofs.lemmas.List.Elements.{All-cons, All-nil, All-head, All-tail}
 use Rattle.std.proofs.lemmas.Map.Views.{All-values-insert_entry}
-use Rattle.std.specs.List.{All, enumerate_from, flat_map}
+use Rattle.std.specs.List.{All}
 use Rattle.std.specs.Map.{values_of}
 use Rattle.std.specs.Ordering.{nat_cmp}
-use Rattle.std.specs.Prelude.{slice_index_or, slice_set, take}
+use Rattle.std.specs.Prelude.{slice_index_or, slice_set}
 use Rattle.hs_core.specs.declared.task.Task.{Task}
-use Rattle.hs_core.specs.Changing.{add_entry_tasks, add_task, change_group, post, set_tasks}
+use Rattle.hs_core.specs.Changing.{add_entry_tasks, change_group, post}
 use Rattle.hs_core.specs.Effects.{round_messages}
 use Rattle.hs_core.specs.Looking.{group_of, lead_of, tasks_of}
 use Rattle.hs_core.specs.Operating.{add_read, propose_entry}
 use Rattle.hs_core.specs.State.{Core}
-use Rattle.hs_core.specs.Words.{change_with, ◌▸◌}
+use Rattle.hs_core.specs.Words.{change_with}
 use Rattle.hs_desk.specs.declared.job.Job.TheVariants as job
 use Rattle.hs_entry.specs.declared.entry.Entry.{Entry}
 use Rattle.hs_entry.specs.Entries.{is_of_base}
-use Rattle.hs_members.specs.Members.{Members, lead_by}
+use Rattle.hs_members.specs.Members.{lead_by}
 use Rattle.hs_post.specs.declared.message.Message.{Message}
-use Rattle.hs_post.specs.declared.message.Message.TheVariants as message
 use Rattle.hs_post.specs.Pool.{Pool, is_full, send}
 use Rattle.hs_replica.specs.declared.replica.Replica.{Replica}
 use Rattle.hs_replica.specs.Group.{Group, last_number, new_group, proposal, propose, send_all, stamp, take_committed}
 use Rattle.hs_shard.specs.declared.effect.Sent.{Sent}
-use Rattle.hs_events.specs.Alone.{AreAlone, Face, IsAlone, Queued, entry_for, face, group_in, is_round, own, seal_of, tasks_for, tasks_in}
+use Rattle.hs_events.specs.Alone.{AreAlone, IsAlone, face, is_round, own, seal_of}
 use Rattle.hs_moments.proofs.AloneLemmas.{HandsOut, alone, hands_nothing, hands_out, is_alone, lead_by_alone, proposal_alone, propose_alone}
 use Rattle.hs_moments.proofs.MoveLemmas.{Goes, Moves, moves_at, moves_both, moves_pool, moves_same}
 use Rattle.hs_moments.proofs.StepsKeepLemmas.{StepLeaves}
@@ -113,7 +112,7 @@ goes_proposes c s entry h low plain =
 pub proposes : (s : ℕ) (entry : Entry) (c : Core) → is_of_base entry ≡ false → AreAlone (face c) → Moves (face c) (face (propose_entry s entry c))
 proposes s entry c plain h = elim (cases_lt s c.members.shape.shards) [
   | inl low ↦ subst (Moves (face c)) (sym (face_proposes c s entry h low))
-    (moves_at (face c) s (propose entry (group_of s c)) (tasks_of s c ++ jobs_of (last_number (group_of s c) + 1) entry) h low (alone_proposes c s entry h low) (goes_proposes c s entry h low plain))
+      (moves_at (face c) s (propose entry (group_of s c)) (tasks_of s c ++ jobs_of (last_number (group_of s c) + 1) entry) h low (alone_proposes c s entry h low) (goes_proposes c s entry h low plain))
   | inr high ↦ subst (Moves (face c)) (sym (face_proposes_nowhere c s entry h high)) (moves_same (face c) h)
 ]
 
@@ -122,22 +121,22 @@ proposes s entry c plain h = elim (cases_lt s c.members.shape.shards) [
 pub reads : (s number line : ℕ) (c : Core) → AreAlone (face c) → Moves (face c) (face (change_with (lead_of s c) (add_read number line) c))
 reads s number line c h = elim (cases_lt s c.members.shape.shards) [
   | inl low ↦
-    let read : List Task = record { job = job.Read number; line = line } ∷ [] in
-    let goes : Goes (group_of s c) (group_of s c) (tasks_of s c) (tasks_of s c ++ read) = record {
-      handed = [];
-      more = [];
-      queue = record { number = number; entry = None; line = line } ∷ [];
-      waits = sym (append-nil (group_of s c).waiting);
-      front = omega arith;
-      sealed = refl;
-      plain = All-nil (λ (e : Entry). is_of_base e ≡ false);
-      jobs = refl;
-      entries = refl;
-    } in
-    let is : face (change_with (lead_of s c) (add_read number line) c) ≡ record (face c) { groups = slice_set c.groups s (group_of s c); tasks = slice_set c.tasks s (tasks_of s c ++ read) } =
-    ap (λ o. face (change_with o (add_read number line) c)) (lead_here c s h low)
-    ∙ ap (λ gs. record (face c) { groups = gs; tasks = slice_set c.tasks s (tasks_of s c ++ read) }) (sym (set-get_or c.groups s (new_group c.members.shape s 0 0 []))) in
-    subst (Moves (face c)) (sym is) (moves_at (face c) s (group_of s c) (tasks_of s c ++ read) h low (h.each s low) goes)
+      let read : List Task = record { job = job.Read number; line = line } ∷ [] in
+      let goes : Goes (group_of s c) (group_of s c) (tasks_of s c) (tasks_of s c ++ read) = record {
+        handed = [];
+        more = [];
+        queue = record { number = number; entry = None; line = line } ∷ [];
+        waits = sym (append-nil (group_of s c).waiting);
+        front = omega arith;
+        sealed = refl;
+        plain = All-nil (λ (e : Entry). is_of_base e ≡ false);
+        jobs = refl;
+        entries = refl;
+      } in
+      let is : face (change_with (lead_of s c) (add_read number line) c) ≡ record (face c) { groups = slice_set c.groups s (group_of s c); tasks = slice_set c.tasks s (tasks_of s c ++ read) } =
+      ap (λ o. face (change_with o (add_read number line) c)) (lead_here c s h low)
+      ∙ ap (λ gs. record (face c) { groups = gs; tasks = slice_set c.tasks s (tasks_of s c ++ read) }) (sym (set-get_or c.groups s (new_group c.members.shape s 0 0 []))) in
+      subst (Moves (face c)) (sym is) (moves_at (face c) s (group_of s c) (tasks_of s c ++ read) h low (h.each s low) goes)
   | inr high ↦ subst (Moves (face c)) (sym (ap (λ o. face (change_with o (add_read number line) c)) (lead_nowhere c s h high))) (moves_same (face c) h)
 ]
 

@@ -1,11 +1,10 @@
 -- What is next in a peer's queue, and that its jobs are those of what it has not sealed.
-use Rattle.std.proofs.Common.{◌≡◌, ◌∙◌, ◌⊎◌, ap, sym, subst, inl, inr, ℕ, zero, suc, ◌+◌, ◌-◌, ◌<◌, ◌≤◌, Bool, true, false, List, [], ◌∷◌, ◌++◌, Option, Some, None, refl, arith, length}
-use Rattle.std.proofs.lemmas.List.{append-nil, append_assoc, drop-append-le, drop-drop, drop_all, drop_at, length-append, take_all}
+use Rattle.std.proofs.Common.{◌≡◌, ◌∙◌, ◌⊎◌, ap, sym, subst, inl, inr, ℕ, ◌+◌, ◌-◌, ◌≤◌, false, List, [], ◌∷◌, ◌++◌, Option, Some, None, refl, arith, length}
+use Rattle.std.proofs.lemmas.List.{append_assoc, drop-append-le, drop-drop, drop_all, drop_at, length-append, take_all}
 use Rattle.std.proofs.lemmas.List.Concat.{flat_map-append}
 use Rattle.std.proofs.lemmas.List.Elements.{All-append}
 use Rattle.std.proofs.lemmas.List.FromFn.{length-enumerate_from}
 use Rattle.std.specs.List.{All, enumerate_from, flat_map}
-use Rattle.std.specs.Option.{option_map_or}
 use Rattle.std.specs.Prelude.{drop, take}
 use Rattle.hs_core.specs.declared.task.Task.{Task}
 use Rattle.hs_desk.specs.declared.job.Job.TheVariants as job
@@ -163,8 +162,8 @@ counts_on g h ts us list a c =
     record {
       taken = c.taken ++ a.handed;
       counted = ap (λ es. es ++ enumerate_from (last_number g + 1) a.more) c.counted
-      ∙ ap (λ n. enumerate_from 1 (c.taken ++ g.waiting) ++ enumerate_from n a.more) begins
-      ∙ sym (enumerate_append 1 (c.taken ++ g.waiting) a.more) ∙ ap (enumerate_from 1) all;
+          ∙ ap (λ n. enumerate_from 1 (c.taken ++ g.waiting) ++ enumerate_from n a.more) begins
+          ∙ sym (enumerate_append 1 (c.taken ++ g.waiting) a.more) ∙ ap (enumerate_from 1) all;
       handed = let l = length-append c.taken a.handed in omega (arith, l, handed, front);
       plain = subst (λ es. All (λ (entry : Entry). is_of_base entry ≡ false) es) all (All-append (λ (entry : Entry). is_of_base entry ≡ false) (c.taken ++ g.waiting) a.more c.plain a.plain);
     }

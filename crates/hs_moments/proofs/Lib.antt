@@ -13,6 +13,7 @@ pub mod JournalLemmas
 pub mod MomentLemmas
 pub mod MoveLemmas
 pub mod OpeningLemmas
+mod SaneExamples
 pub mod SaneLemmas
 pub mod SealLemmas
 pub mod StepsKeepLemmas

@@ -1,6 +1,6 @@
 -- How a core of one copy a shard goes on within an event: entries are proposed with their jobs, and handed out.
-use Rattle.std.proofs.Common.{◌≡◌, ◌≢◌, ◌∙◌, ap, sym, subst, inl, inr, ℕ, zero, suc, ◌+◌, ◌-◌, ◌<◌, ◌≤◌, Bool, true, false, List, [], ◌∷◌, ◌++◌, Option, Some, None, refl, arith, length}
-use Rattle.std.proofs.lemmas.Bool.{cases_eq, cases_lt}
+use Rattle.std.proofs.Common.{◌≡◌, ◌≢◌, ◌∙◌, ap, sym, subst, inl, inr, ℕ, suc, ◌+◌, ◌<◌, true, false, List, [], ◌∷◌, ◌++◌, refl, arith, length}
+use Rattle.std.proofs.lemmas.Bool.{cases_eq}
 use Rattle.std.proofs.lemmas.List.{append-nil, append_assoc, get_or-set_other, get_or-set_same, length-append, length-set}
 use Rattle.std.proofs.lemmas.List.Concat.{flat_map-append}
 use Rattle.std.proofs.lemmas.List.Elements.{All-append, All-nil}
@@ -70,8 +70,8 @@ goes_both g0 g1 g2 t0 t1 t2 a b =
       plain = All-append (λ entry. is_of_base entry ≡ false) a.more b.more a.plain b.plain;
       jobs = b.jobs ∙ ap (λ ts. ts ++ flat_map tasks_for b.queue) a.jobs ∙ append_assoc t0 (flat_map tasks_for a.queue) (flat_map tasks_for b.queue) ∙ ap (λ ts. t0 ++ ts) (sym (flat_map-append tasks_for a.queue b.queue));
       entries = flat_map-append entry_for a.queue b.queue ∙ ap (λ es. es ++ flat_map entry_for b.queue) a.entries
-      ∙ ap (λ es. enumerate_from (last_number g0 + 1) a.more ++ es) (b.entries ∙ ap (λ n. enumerate_from n b.more) last)
-      ∙ sym (enumerate_append (last_number g0 + 1) a.more b.more);
+          ∙ ap (λ es. enumerate_from (last_number g0 + 1) a.more ++ es) (b.entries ∙ ap (λ n. enumerate_from n b.more) last)
+          ∙ sym (enumerate_append (last_number g0 + 1) a.more b.more);
     }
 
 -- ---- all of them
@@ -135,6 +135,6 @@ moves_at f s group ts h low alone goes = record { alone = alone_with f s group t
     goes_at : (g : ℕ) → g < f.members.shape.shards → Goes (group_in g f) (slice_index_or (slice_set f.groups s group) g (new_group f.members.shape g 0 0 [])) (tasks_in g f) (slice_index_or (slice_set f.tasks s ts) g [])
     goes_at g lt = elim (cases_eq g s) [
       | inl same ↦ subst (λ k. Goes (group_in k f) (slice_index_or (slice_set f.groups s group) k (new_group f.members.shape k 0 0 [])) (tasks_in k f) (slice_index_or (slice_set f.tasks s ts) k [])) (sym same)
-        (subst (λ (t : List Task). Goes (group_in s f) (slice_index_or (slice_set f.groups s group) s (new_group f.members.shape s 0 0 [])) (tasks_in s f) t) (sym (jobs_here f s group ts h low)) (subst (λ (y : Group). Goes (group_in s f) y (tasks_in s f) ts) (sym (here f s group ts h low)) goes))
+          (subst (λ (t : List Task). Goes (group_in s f) (slice_index_or (slice_set f.groups s group) s (new_group f.members.shape s 0 0 [])) (tasks_in s f) t) (sym (jobs_here f s group ts h low)) (subst (λ (y : Group). Goes (group_in s f) y (tasks_in s f) ts) (sym (here f s group ts h low)) goes))
       | inr ne ↦ subst (λ (t : List Task). Goes (group_in g f) (slice_index_or (slice_set f.groups s group) g (new_group f.members.shape g 0 0 [])) (tasks_in g f) t) (sym (jobs_there f s group ts h low g ne)) (subst (λ (y : Group). Goes (group_in g f) y (tasks_in g f) (tasks_in g f)) (sym (there f s group ts h low g ne)) (goes_same (group_in g f) (tasks_in g f)))
     ]

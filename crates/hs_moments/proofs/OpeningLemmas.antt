@@ -1,35 +1,29 @@
 -- A store of one copy a shard opens sane, where its core does not end at once.
-use Rattle.std.proofs.Common.{◌≡◌, ◌≢◌, ◌⊎◌, ◌∙◌, ap, sym, subst, inl, inr, ℕ, zero, suc, ◌+◌, ◌*◌, ◌-◌, ◌<◌, ◌≤◌, not, Bool, true, false, List, [], ◌∷◌, ◌++◌, Option, Some, None, refl, arith, length, map, replicate, is_some}
+use Rattle.std.proofs.Common.{◌≡◌, ◌∙◌, ap, sym, subst, inl, inr, ℕ, ◌+◌, ◌*◌, ◌-◌, ◌<◌, ◌≤◌, not, Bool, true, false, List, [], ◌∷◌, ◌++◌, Option, Some, None, refl, arith, length, replicate, is_some}
 use Rattle.std.proofs.lemmas.Bool.{cases_lt}
 use Rattle.std.proofs.lemmas.List.{append-nil, drop_more, get_or-map, get_or-replicate, get_or_past, length-map, length-replicate, set-get_or, set_past, take_all}
-use Rattle.std.proofs.lemmas.List.Elements.{All-head, All-nil, All-tail}
+use Rattle.std.proofs.lemmas.List.Elements.{All-nil}
 use Rattle.std.proofs.lemmas.List.FromFn.{get_or-map-range_with_len, length-map-range_with_len}
-use Rattle.std.specs.List.{All, enumerate_from, range_with_len}
+use Rattle.std.specs.List.{All, enumerate_from}
 use Rattle.std.specs.Option.{option_map}
-use Rattle.std.specs.Prelude.{drop, fold, if◌then◌else◌, slice_index, slice_index_or, slice_set, take}
+use Rattle.std.specs.Prelude.{drop, if◌then◌else◌, slice_index, slice_set, take}
 use Rattle.hs_core.specs.Changing.{add_entry_tasks, change_group, note, post, set_viewed}
 use Rattle.hs_core.specs.declared.task.Task.{Task}
-use Rattle.hs_core.specs.Looking.{group_of, home, lead_of, lost_shard, shape_of, shards_of, status_of, tasks_of}
-use Rattle.hs_core.specs.Opening.{Taken, begin_views, first_views, good_copies, new_core, note_down, note_if_down, taken_group}
-use Rattle.hs_core.specs.Operating.{propose_entry}
+use Rattle.hs_core.specs.Looking.{group_of, home, lost_shard, shape_of, shards_of, status_of, tasks_of}
+use Rattle.hs_core.specs.Opening.{Taken, begin_views, good_copies, new_core, note_down, note_if_down, taken_group}
 use Rattle.hs_core.specs.State.{Core}
-use Rattle.hs_core.specs.Step.{end_event}
 use Rattle.hs_core.specs.Views.{begin_view, change_view, restart}
 use Rattle.hs_core.specs.Words.{change_if, change_with, each, ◌▸◌}
-use Rattle.hs_desk.specs.declared.fault.CoreFault.{CoreFault}
 use Rattle.hs_desk.specs.declared.fault.CoreFault.TheVariants as fault
 use Rattle.hs_entry.specs.declared.entry.Entry.{Entry}
 use Rattle.hs_entry.specs.declared.entry.Entry.TheVariants as kind
-use Rattle.hs_entry.specs.declared.rank.Rank.{Rank}
-use Rattle.hs_entry.specs.Entries.{is_of_base, rank_after, rank_of}
-use Rattle.hs_events.specs.Alone.{AreAlone, IsAlone, IsCounted, IsSettled, face, is_round, own}
+use Rattle.hs_entry.specs.Entries.{is_of_base, rank_of}
+use Rattle.hs_events.specs.Alone.{AreAlone, IsAlone, IsCounted, face, is_round, own}
 use Rattle.hs_events.specs.Found.{Found, first_core, opened_list, opens_with, starts_good}
 use Rattle.hs_events.specs.Sane.{IsFromOne, IsSane}
-use Rattle.hs_events.specs.Whole.{Whole, grown, open_whole}
+use Rattle.hs_events.specs.Whole.{grown, open_whole}
 use Rattle.hs_fold.specs.Shards.Setting.{Numbered, Setting}
 use Rattle.hs_journal.specs.declared.entry.Who.TheVariants as who
-use Rattle.hs_limits.specs.declared.limits.Limits.{Limits}
-use Rattle.hs_limits.specs.declared.limits.PeerStatus.{PeerStatus}
 use Rattle.hs_limits.specs.declared.limits.PeerStatus.TheVariants.{Good, Down}
 use Rattle.hs_limits.specs.declared.shape.Shape.{Shape}
 use Rattle.hs_members.specs.Members.{Members, all_peers, has_good, is_good_status, status, view_of}
@@ -40,35 +34,11 @@ use Rattle.hs_moments.proofs.AloneLemmas.{alone, is_alone, renew_alone, renewal_
 use Rattle.hs_moments.proofs.AloneReportLemmas.{AreSettled}
 use Rattle.hs_moments.proofs.AloneStepLemmas.{GoesOn, nowhere, proposes, steps_go_on}
 use Rattle.hs_moments.proofs.JobLemmas.{above_front, counts_on, grows, length_counted, settles}
-use Rattle.hs_moments.proofs.MoveLemmas.{Goes, Moves, goes_same, moves_at, moves_both, moves_same}
+use Rattle.hs_moments.proofs.MoveLemmas.{Goes, Moves, moves_at, moves_both, moves_same}
 use Rattle.hs_moments.proofs.StepsKeepLemmas.{keeps_each, keeps_if}
+use Rattle.hs_moments.proofs.WorkLemmas.{last_is}
 use Rattle.hs_post.specs.declared.message.Message.{Message}
-use Rattle.hs_replica.specs.declared.replica.Replica.{Replica}
-use Rattle.hs_replica.specs.Group.{Group, entries_above, last_number, new_group, no_copy, renew, renewal, tell, whole_copy}
-
--- ---- the number of a list's last entry
-
-number_after : (r : Rank) (n : ℕ) (e : Entry) → is_of_base e ≡ false → (rank_after r n e).number ≡ n
-number_after r n (kind.View view) h = refl
-number_after r n (kind.Block op least bytes) h = refl
-number_after r n (kind.Mark op least block address) h = refl
-number_after r n (kind.Root op held address key) h = refl
-number_after r n (kind.Drop op key) h = refl
-number_after r n (kind.Enter op epoch) h = refl
-number_after r n (kind.Got sender epoch round total deltas) h = refl
-number_after r n (kind.Base view epoch swept round frames) h = cc
-number_after r n (kind.KeptBlock born mark flags count bytes) h = cc
-number_after r n (kind.KeptRoot created dropped counted address key) h = cc
-number_after r n (kind.KeptRound way other epoch round total deltas) h = cc
-
-ranks_on : (r : Rank) (n : ℕ) (es : List Entry) → All (λ e. is_of_base e ≡ false) es → r.number ≡ n → (fold (λ (rank : Rank) (x : ℕ × Entry). rank_after rank x.0 x.1) r (enumerate_from (n + 1) es)).number ≡ n + length es
-ranks_on r n [] plain e = e ∙ omega arith
-ranks_on r n (x ∷ es) plain e =
-    ranks_on (rank_after r (n + 1) x) (n + 1) es (All-tail (λ e. is_of_base e ≡ false) x es plain) (number_after r (n + 1) x (All-head (λ e. is_of_base e ≡ false) x es plain)) ∙ omega arith
-
-pub last_is : (es : List Entry) → All (λ e. is_of_base e ≡ false) es → (rank_of (enumerate_from 1 es)).number ≡ length es
-unfolding rank_of
-last_is es plain = ranks_on (record { view = 0; number = 0 }) 0 es plain refl ∙ omega arith
+use Rattle.hs_replica.specs.Group.{Group, entries_above, last_number, new_group, renew, renewal, tell, whole_copy}
 
 -- ---- a new view
 
@@ -76,26 +46,26 @@ last_is es plain = ranks_on (record { view = 0; number = 0 }) 0 es plain refl �
 renews : (s : ℕ) (c : Core) → AreAlone (face c) → Moves (face c) (face (change_group s (renew c.members) c))
 renews s c h = elim (cases_lt s c.members.shape.shards) [
   | inl low ↦
-    let g : Group = group_of s c in
-    let a : IsAlone c.members.shape s g = h.each s low in
-    let told : Group = alone c.members.shape s (view_of s c.members) g.front g.waiting (tell true (own g)) in
-    let all : take (length (own g).stamps - g.front) g.waiting ≡ g.waiting = let long = a.long in take_all (length (own g).stamps - g.front) g.waiting (omega (arith, long)) in
-    let is : renew c.members g ≡ told = renew_alone c.members.shape s g h.copies a c.members (h.good s low) ∙ ap (λ ws. alone c.members.shape s (view_of s c.members) g.front ws (tell true (own g))) all in
-    let goes : Goes g told (tasks_of s c) (tasks_of s c) = record {
-      handed = [];
-      more = [];
-      queue = [];
-      waits = sym (append-nil g.waiting);
-      front = omega arith;
-      sealed = refl;
-      plain = All-nil (λ (e : Entry). is_of_base e ≡ false);
-      jobs = sym (append-nil (tasks_of s c));
-      entries = refl;
-    } in
-    let stands : IsAlone c.members.shape s told = is_alone c.members.shape s (view_of s c.members) g.front g.waiting (tell true (own g)) refl refl a.handed a.within a.long in
-    let same : face (change_group s (renew c.members) c) ≡ record (face c) { groups = slice_set c.groups s told; tasks = slice_set c.tasks s (tasks_of s c) } =
-    ap (λ y. record (face c) { groups = slice_set c.groups s y }) is ∙ ap (λ ts. record (face c) { groups = slice_set c.groups s told; tasks = ts }) (sym (set-get_or c.tasks s [])) in
-    subst (Moves (face c)) (sym same) (moves_at (face c) s told (tasks_of s c) h low stands goes)
+      let g : Group = group_of s c in
+      let a : IsAlone c.members.shape s g = h.each s low in
+      let told : Group = alone c.members.shape s (view_of s c.members) g.front g.waiting (tell true (own g)) in
+      let all : take (length (own g).stamps - g.front) g.waiting ≡ g.waiting = let long = a.long in take_all (length (own g).stamps - g.front) g.waiting (omega (arith, long)) in
+      let is : renew c.members g ≡ told = renew_alone c.members.shape s g h.copies a c.members (h.good s low) ∙ ap (λ ws. alone c.members.shape s (view_of s c.members) g.front ws (tell true (own g))) all in
+      let goes : Goes g told (tasks_of s c) (tasks_of s c) = record {
+        handed = [];
+        more = [];
+        queue = [];
+        waits = sym (append-nil g.waiting);
+        front = omega arith;
+        sealed = refl;
+        plain = All-nil (λ (e : Entry). is_of_base e ≡ false);
+        jobs = sym (append-nil (tasks_of s c));
+        entries = refl;
+      } in
+      let stands : IsAlone c.members.shape s told = is_alone c.members.shape s (view_of s c.members) g.front g.waiting (tell true (own g)) refl refl a.handed a.within a.long in
+      let same : face (change_group s (renew c.members) c) ≡ record (face c) { groups = slice_set c.groups s told; tasks = slice_set c.tasks s (tasks_of s c) } =
+      ap (λ y. record (face c) { groups = slice_set c.groups s y }) is ∙ ap (λ ts. record (face c) { groups = slice_set c.groups s told; tasks = ts }) (sym (set-get_or c.tasks s [])) in
+      subst (Moves (face c)) (sym same) (moves_at (face c) s told (tasks_of s c) h low stands goes)
   | inr high ↦ subst (Moves (face c)) (sym (ap (λ gs. record (face c) { groups = gs }) (set_past c.groups s (renew c.members (group_of s c)) (let k = h.groups in omega (arith, k, high))))) (moves_same (face c) h)
 ]
 
@@ -213,7 +183,7 @@ module _ (set : Setting) (found : Found) (one : set.shape.copies ≡ 1) (many : 
     good = λ p low. status_is p low ∙ ap (λ b. if b then Good else Down) (all_good p low);
     rounds = All-nil (λ m. is_round m ≡ true);
     each = λ g low. subst (IsAlone set.shape g) (sym (group_is g low))
-    (is_alone set.shape g (slice_index taken.views g) (opened_length g) [] (whole_copy (slice_index taken.views g) (opened_length g)) refl refl (omega arith) (omega arith) (length-replicate (opened_length g) (slice_index taken.views g) ∙ omega arith));
+        (is_alone set.shape g (slice_index taken.views g) (opened_length g) [] (whole_copy (slice_index taken.views g) (opened_length g)) refl refl (omega arith) (omega arith) (length-replicate (opened_length g) (slice_index taken.views g) ∙ omega arith));
   }
 
   settled_start : AreSettled start

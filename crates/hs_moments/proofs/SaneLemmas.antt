@@ -1,9 +1,9 @@
 -- A store of one copy a shard stays sane, and what an event makes of its lists, floors and jobs.
-use Rattle.std.proofs.Common.{◌≡◌, ◌≢◌, ◌⊎◌, ◌∙◌, ap, sym, subst, inl, inr, ℕ, zero, suc, ◌+◌, ◌-◌, ◌<◌, ◌≤◌, ◌==◌, ◌&&◌, not, Bool, true, false, List, [], ◌∷◌, ◌++◌, Option, Some, None, refl, arith, length, is_some}
+use Rattle.std.proofs.Common.{◌≡◌, ◌≢◌, ◌⊎◌, ◌∙◌, ap, sym, subst, inl, inr, ℕ, ◌+◌, ◌-◌, ◌<◌, ◌≤◌, ◌==◌, ◌&&◌, not, Bool, true, false, List, [], ◌++◌, Option, Some, None, refl, arith, length, is_some}
 use Rattle.std.proofs.lemmas.Bool.{cases_eq, cases_lt}
-use Rattle.std.proofs.lemmas.List.{append-nil, append_assoc, get_or_past}
+use Rattle.std.proofs.lemmas.List.{append-nil, append_assoc}
 use Rattle.std.specs.List.{All, enumerate_from}
-use Rattle.std.specs.Option.{option_and_then, option_map, option_map_or}
+use Rattle.std.specs.Option.{option_and_then, option_map}
 use Rattle.std.specs.Prelude.{if◌then◌else◌, slice_index_or, take}
 use Rattle.hs_core.specs.declared.event.Event.{Event}
 use Rattle.hs_core.specs.declared.event.Event.TheVariants as event
@@ -14,9 +14,7 @@ use Rattle.hs_core.specs.State.{Core}
 use Rattle.hs_core.specs.Step.{do_event, end_event, step}
 use Rattle.hs_desk.specs.declared.done.Done.{Done}
 use Rattle.hs_desk.specs.declared.done.Done.TheVariants as done
-use Rattle.hs_desk.specs.declared.fault.CoreFault.{CoreFault}
 use Rattle.hs_desk.specs.declared.fault.CoreFault.TheVariants as fault
-use Rattle.hs_desk.specs.declared.job.Job.{Job}
 use Rattle.hs_desk.specs.declared.job.Job.TheVariants as job
 use Rattle.hs_entry.specs.declared.entry.Entry.{Entry}
 use Rattle.hs_entry.specs.Entries.{is_of_base}
@@ -27,7 +25,7 @@ use Rattle.hs_limits.specs.declared.shape.Shape.{Shape}
 use Rattle.hs_members.specs.Members.{Members, home_of, is_good_status, is_joining, status}
 use Rattle.hs_replica.specs.declared.replica.Replica.{Replica}
 use Rattle.hs_replica.specs.Group.{Group, copy_of, entries_above, last_number, length_of, new_group}
-use Rattle.hs_events.specs.Alone.{AreAlone, AreBegun, AreJobs, Face, HasJobs, IsAlone, IsCounted, IsSettled, face, group_in, own, tasks_in}
+use Rattle.hs_events.specs.Alone.{AreAlone, AreBegun, AreJobs, Face, HasJobs, IsAlone, IsCounted, face, group_in, own, tasks_in}
 use Rattle.hs_events.specs.Asked.{report_in}
 use Rattle.hs_events.specs.Course.{is_refused}
 use Rattle.hs_events.specs.Due.{is_answer}
@@ -36,9 +34,9 @@ use Rattle.hs_events.specs.Sane.{IsSane, appended_of}
 use Rattle.hs_events.specs.Whole.{Whole, copied_entry, counts, floor, grown, lists_after, reach, reported, step_whole, taken_report, told_list}
 use Rattle.hs_moments.specs.WholeMachine.{IsFrontOf, last_of, whole_machine}
 use Rattle.hs_moments.specs.Working.{HasReported, IsBehind}
-use Rattle.hs_moments.proofs.AloneEventLemmas.{EndsEvent, Falls, Happens, alone_begun, begun, ends, home_here, none_lost, one_lost, quiet, status_past, step_is}
+use Rattle.hs_moments.proofs.AloneEventLemmas.{Falls, alone_begun, begun, ends, home_here, one_lost, quiet, status_past, step_is}
 use Rattle.hs_moments.proofs.AloneLemmas.{copy_alone}
-use Rattle.hs_moments.proofs.AloneReportLemmas.{Above, Answered, answered_within, AreSettled, Left, Reports, Start, reports, reports_not}
+use Rattle.hs_moments.proofs.AloneReportLemmas.{Above, Answered, answered_within, AreSettled, Left, Reports, reports, reports_not}
 use Rattle.hs_moments.proofs.AloneStepLemmas.{nowhere}
 use Rattle.hs_moments.proofs.JobLemmas.{BegunAs, are_grow, begun_grow, counts_on, grows, length_counted, settles}
 use Rattle.hs_moments.proofs.MoveLemmas.{Goes, Moves, moves_same}
@@ -86,7 +84,7 @@ answered_well x p d b f same settled a = record {
   jobs = λ g lt. elim (cases_eq g p) [
     | inl same ↦ subst (λ k. HasJobs (Above k a.from) (tasks_in k a.from)) (sym same) (left_jobs x p d a.from a.left)
     | inr ne ↦ let e = a.start.others g ne in
-      subst (λ (y : Group). HasJobs (entries_above (own y).sealed y) (tasks_in g a.from)) (sym e.0) (subst (λ (ts : List Task). HasJobs (entries_above (own (group_of g x)).sealed (group_of g x)) ts) (sym e.1) (settled g lt).jobs)
+        subst (λ (y : Group). HasJobs (entries_above (own y).sealed y) (tasks_in g a.from)) (sym e.0) (subst (λ (ts : List Task). HasJobs (entries_above (own (group_of g x)).sealed (group_of g x)) ts) (sym e.1) (settled g lt).jobs)
   ];
   moves = subst (Moves a.from) (sym same) a.moves;
   reached = λ g lt. subst (λ y. (own (group_in g a.from)).sealed ≤ (group_in g y).front) (sym same) (a.reached g lt);
@@ -405,9 +403,9 @@ module _ (c : Whole) (e : Event) (at : ℕ) (h : IsSane c) where
   appended_well w p low group tasks = elim (h.settled p low).jobs [
     | inl j ↦ appended_none w p low (subst (λ (g : Group). AreJobs (entries_above (own g).sealed g) (tasks_in p w.from)) (sym group) (subst (λ (ts : List Task). AreJobs (Above p (face c.core)) ts) (sym tasks) j)) ∙ sym (none_appended c.core p h.alone low j)
     | inr s ↦
-      let same : BegunAs s.first (Above p w.from) (tasks_in p w.from) =
-      subst (λ (g : Group). BegunAs s.first (entries_above (own g).sealed g) (tasks_in p w.from)) (sym group) (subst (λ (ts : List Task). BegunAs s.first (Above p (face c.core)) ts) (sym tasks) (record { begun = s; same = refl })) in
-      appended_some w p low same.begun ∙ ap (λ (y : ℕ × Entry). Some y.1) same.same ∙ sym (begun_appended c.core p h.alone low s)
+        let same : BegunAs s.first (Above p w.from) (tasks_in p w.from) =
+        subst (λ (g : Group). BegunAs s.first (entries_above (own g).sealed g) (tasks_in p w.from)) (sym group) (subst (λ (ts : List Task). BegunAs s.first (Above p (face c.core)) ts) (sym tasks) (record { begun = s; same = refl })) in
+        appended_some w p low same.begun ∙ ap (λ (y : ℕ × Entry). Some y.1) same.same ∙ sym (begun_appended c.core p h.alone low s)
   ]
 
   appended_past : AreAlone (face after) → (p : ℕ) → c.core.members.shape.shards ≤ p → after.members.shape.shards ≤ p → appended_of p after ≡ appended_of p c.core
@@ -426,11 +424,13 @@ pub appended_stays : (c : Whole) (e : Event) (at peer : ℕ) → IsSane c → re
 unfolding quiet_well
 appended_stays c e at p h q going = elim (quiet_goes c e at h q) [
   | inl m ↦
-    let w : GoesWell (begun e at c.core) (face (step e at c.core)) = quiet_well (begun e at c.core) (face (step e at c.core)) (alone_x c e at h) h.settled m in
-    (elim (cases_lt p c.core.members.shape.shards) [
-      | inl low ↦ appended_well c e at h w p low refl refl
-      | inr high ↦ appended_past c e at h m.alone p high (subst (λ (y : Members). y.shape.shards ≤ p) (sym m.members) high)
-    ], long_well c e at h w p (λ low. refl))
+      let w : GoesWell (begun e at c.core) (face (step e at c.core)) = quiet_well (begun e at c.core) (face (step e at c.core)) (alone_x c e at h) h.settled m in (
+        elim (cases_lt p c.core.members.shape.shards) [
+          | inl low ↦ appended_well c e at h w p low refl refl
+          | inr high ↦ appended_past c e at h m.alone p high (subst (λ (y : Members). y.shape.shards ≤ p) (sym m.members) high)
+        ],
+        long_well c e at h w p (λ low. refl),
+      )
   | inr f ↦ absurd (fallen_ended c e at h f.0 f.1 going)
 ]
 
@@ -453,11 +453,13 @@ module _ (c : Whole) (p : ℕ) (d : Done) (at : ℕ) (h : IsSane c) where
   beside_stays : (a : Answered y p d (on_report p d y)) (q : ℕ) → q ≢ p → (appended_of q (step told at c.core) ≡ appended_of q c.core) × (floor (step_whole told at c) q ≡ floor c q)
   unfolding answered_well
   beside_stays a q ne =
-      let w : GoesWell y (face (step told at c.core)) = answered_well y p d (on_report p d y) (face (step told at c.core)) (face_is c told at h) h.settled a in
-      (elim (cases_lt q c.core.members.shape.shards) [
-        | inl low ↦ appended_well c told at h w q low (a.start.others q ne).0 (a.start.others q ne).1
-        | inr high ↦ appended_past c told at h (alone_after c told at h w) q high (subst (λ (m : Members). m.shape.shards ≤ q) (sym (members_same c told at h w)) high)
-      ], long_well c told at h w q (λ low. ap (λ (g : Group). (own g).sealed) (a.start.others q ne).0))
+      let w : GoesWell y (face (step told at c.core)) = answered_well y p d (on_report p d y) (face (step told at c.core)) (face_is c told at h) h.settled a in (
+        elim (cases_lt q c.core.members.shape.shards) [
+          | inl low ↦ appended_well c told at h w q low (a.start.others q ne).0 (a.start.others q ne).1
+          | inr high ↦ appended_past c told at h (alone_after c told at h w) q high (subst (λ (m : Members). m.shape.shards ≤ q) (sym (members_same c told at h w)) high)
+        ],
+        long_well c told at h w q (λ low. ap (λ (g : Group). (own g).sealed) (a.start.others q ne).0),
+      )
 
 -- the peer itself
 module _ (c : Whole) (p : ℕ) (at : ℕ) (h : IsSane c) (low : p < c.core.members.shape.shards) where
@@ -465,11 +467,13 @@ module _ (c : Whole) (p : ℕ) (at : ℕ) (h : IsSane c) (low : p < c.core.membe
   unfolding answered_well
   has_reported (done.Stored n) a =
       let d : Done = done.Stored n in
-      let w : GoesWell (y c p d at h) (face (step (event.Report p d) at c.core)) = answered_well (y c p d at h) p d (on_report p d (y c p d at h)) (face (step (event.Report p d) at c.core)) (face_is c (event.Report p d) at h) h.settled a in
-      (floor_well c (event.Report p d) at h w p low ∙ a.left.0 ∙ sym (floor_alone c p h.alone low), λ entry is.
-        let one : Some (job.Append a.left.1.first.0 a.left.1.first.1) ≡ Some (job.Append n entry) = sym a.left.2 ∙ is in
-        let two : a.left.1.first.1 ≡ entry = cc in
-        appended_some c (event.Report p d) at h w p low a.left.1 ∙ ap Some two)
+      let w : GoesWell (y c p d at h) (face (step (event.Report p d) at c.core)) = answered_well (y c p d at h) p d (on_report p d (y c p d at h)) (face (step (event.Report p d) at c.core)) (face_is c (event.Report p d) at h) h.settled a in (
+        floor_well c (event.Report p d) at h w p low ∙ a.left.0 ∙ sym (floor_alone c p h.alone low),
+        λ entry is.
+            let one : Some (job.Append a.left.1.first.0 a.left.1.first.1) ≡ Some (job.Append n entry) = sym a.left.2 ∙ is in
+            let two : a.left.1.first.1 ≡ entry = cc in
+            appended_some c (event.Report p d) at h w p low a.left.1 ∙ ap Some two,
+      )
   has_reported (done.Sealed n) a =
       let d : Done = done.Sealed n in
       let w : GoesWell (y c p d at h) (face (step (event.Report p d) at c.core)) = answered_well (y c p d at h) p d (on_report p d (y c p d at h)) (face (step (event.Report p d) at c.core)) (face_is c (event.Report p d) at h) h.settled a in

@@ -1,12 +1,12 @@
 -- What operations and entries that take effect do is made of a few steps: what each of these keeps, they keep.
-use Rattle.std.proofs.Common.{◌≡◌, ◌∙◌, ap, sym, ℕ, zero, suc, ◌+◌, ◌-◌, Bool, true, false, List, [], ◌∷◌, Option, Some, None, refl, arith}
+use Rattle.std.proofs.Common.{◌≡◌, ℕ, zero, suc, ◌+◌, ◌-◌, Bool, true, false, List, [], ◌∷◌, Option, Some, None, refl}
 use Rattle.std.specs.BTreeMap.{insert_entry, is_at}
-use Rattle.std.specs.Map.{remove_entry, set_value}
+use Rattle.std.specs.Map.{set_value}
 use Rattle.std.specs.Option.{option_map_or}
 use Rattle.std.specs.Ordering.{nat_cmp}
 use Rattle.std.specs.Prelude.{if◌then◌else◌, is_some}
 use Rattle.hs_core.specs.Asking.{send_round, send_rounds, unless_refused, with_message}
-use Rattle.hs_core.specs.Changing.{add_operation, change_group, end_operation, note, post, put_operation, refuse, set_catalogue, set_viewed}
+use Rattle.hs_core.specs.Changing.{add_operation, change_group, end_operation, note, post, refuse, set_catalogue, set_viewed}
 use Rattle.hs_core.specs.declared.wait.Wait.{Wait}
 use Rattle.hs_core.specs.declared.wait.Wait.TheVariants as wait
 use Rattle.hs_core.specs.declared.waiting.Waiting.{Waiting}
@@ -15,10 +15,10 @@ use Rattle.hs_core.specs.Entering.{is_enter_due, propose_due}
 use Rattle.hs_core.specs.Looking.{catalogue_of, front_of, group_of, lead_of, operation_of, shape_of}
 use Rattle.hs_core.specs.Operating.{add_read, answer, begin_line, busy_line, carry_out, go_on_with, lines_where, propose_entry, resume, resume_where, take_step, wait_for, what_holds}
 use Rattle.hs_core.specs.Pending.{named}
-use Rattle.hs_core.specs.Reporting.{is_reading, tell_bytes}
+use Rattle.hs_core.specs.Reporting.{tell_bytes}
 use Rattle.hs_core.specs.Seeing.{pointers_for, view_for}
 use Rattle.hs_core.specs.State.{Core}
-use Rattle.hs_core.specs.Words.{change_if, change_with, each, times, ◌▸◌}
+use Rattle.hs_core.specs.Words.{change_if, change_with, each, times}
 use Rattle.hs_desk.specs.declared.what.What.{What}
 use Rattle.hs_desk.specs.declared.what.What.TheVariants as what
 use Rattle.hs_entry.specs.declared.entry.Entry.{Entry}
@@ -36,7 +36,7 @@ use Rattle.hs_ops.specs.declared.operation.Stage.{Stage}
 use Rattle.hs_ops.specs.declared.operation.Stage.TheVariants as stage
 use Rattle.hs_ops.specs.declared.step.OpStep.{OpStep}
 use Rattle.hs_ops.specs.declared.step.OpStep.TheVariants as step
-use Rattle.hs_ops.specs.Going.{asked_for, begin, block_entry, compared, data_of, effect_reply, go, is_reported, is_same_block, judged_in, mark_entry, on_bytes, on_effect, propose_unless, read_or, read_reply, root_entry}
+use Rattle.hs_ops.specs.Going.{asked_for, begin, block_entry, compared, effect_reply, go, is_same_block, judged_in, mark_entry, on_bytes, on_effect, propose_unless, read_or, read_reply, root_entry}
 use Rattle.hs_ops.specs.Operations.{Operation, after_step, bytes_step, effect_step, go_from, go_step, new_operation, wanted_number}
 use Rattle.hs_ops.specs.Refusals.{refusal_of}
 use Rattle.hs_ops.specs.Speaking.{asked_block, judging_shard}

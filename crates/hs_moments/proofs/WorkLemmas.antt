@@ -1,26 +1,30 @@
 -- What a peer of a sane store has appended, and what comes next on its disk.
-use Rattle.std.proofs.Common.{◌≡◌, ◌≢◌, ◌⊎◌, ◌∙◌, ap, sym, subst, inl, inr, ℕ, zero, suc, ◌+◌, ◌-◌, ◌<◌, ◌≤◌, Bool, true, false, List, [], ◌∷◌, ◌++◌, Option, Some, None, refl, arith, length}
+use Rattle.std.proofs.Common.{◌≡◌, ◌∙◌, ap, sym, subst, inl, inr, ℕ, zero, suc, ◌+◌, ◌<◌, ◌≤◌, false, List, [], ◌∷◌, ◌++◌, Option, Some, None, refl, arith, length}
 use Rattle.std.proofs.lemmas.Bool.{cases_lt}
-use Rattle.std.proofs.lemmas.List.{append-nil, append_assoc, length-append, take_at}
+use Rattle.std.proofs.lemmas.List.{append-nil, append_assoc, length-append, length-take-le, take_at}
+use Rattle.std.proofs.lemmas.List.Elements.{All-head, All-tail, All-take}
 use Rattle.std.proofs.lemmas.List.FromFn.{length-enumerate_from}
-use Rattle.std.specs.List.{enumerate_from}
+use Rattle.std.specs.List.{All, enumerate_from}
 use Rattle.std.specs.Option.{option_map}
-use Rattle.std.specs.Prelude.{if◌then◌else◌, slice_get, take}
+use Rattle.std.specs.Prelude.{fold, if◌then◌else◌, slice_get, take}
 use Rattle.hs_core.specs.declared.task.Task.{Task}
-use Rattle.hs_core.specs.Looking.{first_job, first_task, group_of, home, sealed_of, status_of, tasks_of}
+use Rattle.hs_core.specs.Looking.{first_job, group_of, home, sealed_of, tasks_of}
 use Rattle.hs_core.specs.State.{Core}
 use Rattle.hs_desk.specs.declared.job.Job.{Job}
 use Rattle.hs_desk.specs.declared.job.Job.TheVariants as job
 use Rattle.hs_entry.specs.declared.entry.Entry.{Entry}
+use Rattle.hs_entry.specs.declared.entry.Entry.TheVariants as kind
+use Rattle.hs_entry.specs.declared.rank.Rank.{Rank}
+use Rattle.hs_entry.specs.Entries.{is_of_base, rank_after, rank_of}
 use Rattle.hs_fold.specs.Shards.Setting.{Numbered}
-use Rattle.hs_limits.specs.declared.limits.PeerStatus.{PeerStatus}
 use Rattle.hs_members.specs.Members.{is_good_status}
 use Rattle.hs_replica.specs.declared.replica.Replica.{Replica}
-use Rattle.hs_replica.specs.Group.{Group, copy_of, entries_above, last_number}
+use Rattle.hs_replica.specs.Group.{Group, copy_of, entries_above}
 use Rattle.hs_events.specs.Alone.{AreAlone, AreBegun, AreJobs, HasJobs, IsCounted, face, own, seal_of}
 use Rattle.hs_events.specs.Sane.{IsSane, appended_of, next_entry}
 use Rattle.hs_events.specs.Whole.{Whole, floor, reach}
-use Rattle.hs_moments.specs.Working.{IsNextEntry, NextJob, SealsNext}
+use Rattle.hs_moments.specs.WholeMachine.{last_of}
+use Rattle.hs_moments.specs.Working.{IsNextEntry, NextJob}
 use Rattle.hs_moments.proofs.AloneEventLemmas.{home_here, status_past}
 use Rattle.hs_moments.proofs.AloneLemmas.{copy_alone}
 use Rattle.hs_moments.proofs.AloneReportLemmas.{Above, first_here, first_past}
@@ -94,10 +98,11 @@ next_in list g first others l e =
     let long : length front ≡ g.front = length-enumerate_from 1 l.taken ∙ l.handed in
     let begins : 1 + length l.taken ≡ g.front + 1 = let n = l.handed in omega (arith, n) in
     let is : list ≡ front ++ first ∷ others = l.counted ∙ enumerate_append 1 l.taken g.waiting ∙ ap (λ n. front ++ enumerate_from n g.waiting) begins ∙ ap (λ es. front ++ es) e in
-    let more : length (front ++ first ∷ []) ≡ g.front + 1 = length-append front (first ∷ []) ∙ omega (arith, long) in
-    (number g.waiting refl,
-    ap (take (g.front + 1)) (is ∙ sym (append_assoc front (first ∷ []) others)) ∙ take_at (front ++ first ∷ []) others (g.front + 1) more
-    ∙ ap (λ es. es ++ first ∷ []) (sym (ap (take g.front) is ∙ take_at front (first ∷ others) g.front long)))
+    let more : length (front ++ first ∷ []) ≡ g.front + 1 = length-append front (first ∷ []) ∙ omega (arith, long) in (
+      number g.waiting refl,
+      ap (take (g.front + 1)) (is ∙ sym (append_assoc front (first ∷ []) others)) ∙ take_at (front ++ first ∷ []) others (g.front + 1) more
+          ∙ ap (λ es. es ++ first ∷ []) (sym (ap (take g.front) is ∙ take_at front (first ∷ others) g.front long)),
+    )
   where
     number : (ws : List Entry) → g.waiting ≡ ws → first.0 ≡ g.front + 1
     number [] w = let bad : [] ≡ first ∷ others = sym (ap (enumerate_from (g.front + 1)) w) ∙ e in cc
@@ -118,7 +123,7 @@ is_next_entry c p first others h low all =
     record {
       next = n.0 ∙ ap (λ k. k + 1) (sym floor_is);
       list = ap (λ k. take k (reach c p)) n.0 ∙ ap (take (g.front + 1)) (reach_sane c p h) ∙ n.1
-      ∙ ap (λ es. take g.front es ++ first ∷ []) (sym (reach_sane c p h)) ∙ ap (λ k. take k (reach c p) ++ first ∷ []) (sym floor_is);
+          ∙ ap (λ es. take g.front es ++ first ∷ []) (sym (reach_sane c p h)) ∙ ap (λ k. take k (reach c p) ++ first ∷ []) (sym floor_is);
     }
 
 -- which jobs there are
@@ -147,3 +152,42 @@ floor_within c p h low =
     let within = (h.alone.each p low).within in
     let long = ap length (reach_sane c p h) ∙ length_counted (c.lists p) g (h.lists p low) in
     omega (arith, floor_is, within, long)
+
+-- ---- the number of the last entry
+
+number_after : (r : Rank) (n : ℕ) (e : Entry) → is_of_base e ≡ false → (rank_after r n e).number ≡ n
+number_after r n (kind.View view) h = refl
+number_after r n (kind.Block op least bytes) h = refl
+number_after r n (kind.Mark op least block address) h = refl
+number_after r n (kind.Root op held address key) h = refl
+number_after r n (kind.Drop op key) h = refl
+number_after r n (kind.Enter op epoch) h = refl
+number_after r n (kind.Got sender epoch round total deltas) h = refl
+number_after r n (kind.Base view epoch swept round frames) h = cc
+number_after r n (kind.KeptBlock born mark flags count bytes) h = cc
+number_after r n (kind.KeptRoot created dropped counted address key) h = cc
+number_after r n (kind.KeptRound way other epoch round total deltas) h = cc
+
+ranks_on : (r : Rank) (n : ℕ) (es : List Entry) → All (λ e. is_of_base e ≡ false) es → r.number ≡ n → (fold (λ (rank : Rank) (x : ℕ × Entry). rank_after rank x.0 x.1) r (enumerate_from (n + 1) es)).number ≡ n + length es
+ranks_on r n [] plain e = e ∙ omega arith
+ranks_on r n (x ∷ es) plain e =
+    ranks_on (rank_after r (n + 1) x) (n + 1) es (All-tail (λ e. is_of_base e ≡ false) x es plain) (number_after r (n + 1) x (All-head (λ e. is_of_base e ≡ false) x es plain)) ∙ omega arith
+
+pub last_is : (es : List Entry) → All (λ e. is_of_base e ≡ false) es → (rank_of (enumerate_from 1 es)).number ≡ length es
+unfolding rank_of
+last_is es plain = ranks_on (record { view = 0; number = 0 }) 0 es plain refl ∙ omega arith
+
+take_counted : {X : Type 0} (k n : ℕ) (xs : List X) → take k (enumerate_from n xs) ≡ enumerate_from n (take k xs)
+take_counted zero n xs = refl
+take_counted (suc k) n [] = refl
+take_counted (suc k) n (x ∷ xs) = ap (λ ys. (n, x) ∷ ys) (take_counted k (n + 1) xs)
+
+-- the first entries of a list end in the number of how many they are
+pub last_of_front : (c : Whole) (p n : ℕ) → IsSane c → p < c.core.members.shape.shards → n ≤ length (reach c p) → last_of (take n (reach c p)) ≡ n
+last_of_front c p n h low le =
+    let l = h.lists p low in
+    let all : List Entry = l.taken ++ (group_of p c.core).waiting in
+    let is : reach c p ≡ enumerate_from 1 all = reach_sane c p h ∙ l.counted in
+    let long : length (reach c p) ≡ length all = ap length is ∙ length-enumerate_from 1 all in
+    ap (λ es. last_of (take n es)) is ∙ ap last_of (take_counted n 1 all)
+    ∙ last_is (take n all) (All-take (λ (e : Entry). is_of_base e ≡ false) n all l.plain) ∙ length-take-le n all (omega (arith, le, long))

@@ -1,5 +1,5 @@
 //! How a store of one copy a shard stands between two events.
-ghost use Rattle.std.specs.Prelude.{◌≡◌, ◌<◌, ◌≤◌, ℕ, None, Some, length};
+ghost use Rattle.std.specs.Prelude.{◌≡◌, ◌<◌, ◌≤◌, ℕ, None, Some, length, take};
 ghost use Rattle.hs_core.specs.declared.event.Event.{Event};
 ghost use Rattle.hs_core.specs.Looking.{first_job, shape_of};
 ghost use Rattle.hs_core.specs.Step.{step};
@@ -9,6 +9,7 @@ ghost use Rattle.hs_events.specs.Sane.{IsFromOne, IsSane};
 ghost use Rattle.hs_events.specs.Taken.{peer_count};
 ghost use Rattle.hs_events.specs.Whole.{Whole, floor, open_whole, reach, step_whole};
 ghost use Rattle.hs_fold.specs.Shards.Setting.{Setting};
+ghost use Rattle.hs_moments.specs.WholeMachine.{last_of};
 ghost use Rattle.hs_moments.specs.Working.{NextJob};
 
 /// A store of one copy a shard opens sane, where its core does not end at once: the opened lists are
@@ -28,11 +29,13 @@ pub fn what_is_sane_stays_so()
 {}
 
 /// Each job of a peer speaks of the entry that comes next on its disk, or reads; and what is sealed is
-/// within the peer's list.
-#[tactic(auto, using(crate::proofs::WorkLemmas::next_job, crate::proofs::WorkLemmas::floor_within))]
+/// within the peer's list, of which the first entries end in the number of how many they are.
+#[tactic(auto, using(crate::proofs::WorkLemmas::next_job, crate::proofs::WorkLemmas::floor_within, crate::proofs::WorkLemmas::last_of_front))]
 pub fn each_job_is_the_next()
     ensures job { (c : Whole) (peer : ℕ) (job : Job) → IsSane c → first_job peer c.core ≡ Some job
         → NextJob c peer job }
     ensures within { (c : Whole) (peer : ℕ) → IsSane c → peer < (shape_of c.core).shards
         → floor c peer ≤ length (reach c peer) }
+    ensures numbered { (c : Whole) (peer count : ℕ) → IsSane c → peer < (shape_of c.core).shards
+        → count ≤ length (reach c peer) → last_of (take count (reach c peer)) ≡ count }
 {}
