@@ -58,7 +58,8 @@ fn done_of(alloc: Global, job: &Job) -> Result<Done, AllocError> {
         Job::Append { number, .. } => Ok(Done::Stored { number: *number }),
         Job::Seal { number } => Ok(Done::Sealed { number: *number }),
         Job::Read { number } => {
-            let bytes = spelling(alloc, number.saturating_sub(2) as u32)?;
+            let block = number.saturating_sub(2).min(u64::from(u32::MAX)) as u32;
+            let bytes = spelling(alloc, block)?;
             Ok(Done::Bytes {
                 number: *number,
                 bytes,

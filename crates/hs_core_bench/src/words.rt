@@ -49,9 +49,18 @@ fn tell<W: Write>(core: &Core, rest: u32, rounds: u32, out: &mut W) -> io::Resul
     write!(
         out,
         "{} blocks, {rest} writes at rest, {} events, {} answers\n",
-        core.catalogue(0).count(),
+        blocks_of(core),
         rounds.saturating_mul(EVENTS),
         core.journal().entries().len()
     )?;
     Ok(true)
+}
+
+/// How many blocks its shards have.
+fn blocks_of(core: &Core) -> u32 {
+    let mut blocks = 0u32;
+    for shard in 0..core.shape().shards {
+        blocks = blocks.saturating_add(core.catalogue(shard).count());
+    }
+    blocks
 }
