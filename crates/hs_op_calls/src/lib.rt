@@ -1,8 +1,6 @@
-//! Public calls of one client operation, and of a core that opens.
+//! Public calls of one client operation.
 #![tactic(auto)]
 
-#[cfg(test)]
-mod opening;
 #[cfg(test)]
 mod operation;
 #[cfg(test)]

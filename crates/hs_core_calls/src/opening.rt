@@ -1,11 +1,10 @@
 //! A core that opens over a blank store, and what it lends.
 ghost use Rattle.std.specs.Prelude.{◌≡◌, ◌∷◌, [], IfOk};
 
-use crate::seen::name;
 use hs_core::{Core, Event};
 use hs_desk::{Done, Job};
 use hs_entry::Entry;
-use hs_limits::{Limits, PeerStatus, Shape};
+use hs_limits::{Limits, ListOf, Name, PeerStatus, Shape};
 use hs_model::Op;
 use hs_shard::Catalogue;
 use std::alloc::{AllocError, Global};
@@ -23,6 +22,12 @@ fn one<T: Drop>(alloc: Global, item: T) -> Result<Vec<T>, AllocError>
     let mut items = Vec::new(alloc);
     items.push(item)?;
     Ok(items)
+}
+
+/// The name `a`.
+fn name(alloc: Global) -> Result<Name, Fail> {
+    let bytes = ListOf::from_vec(one(alloc, b'a')?);
+    Ok(Name::from_list(bytes).ok_or("no name")?)
 }
 
 /// A core of one peer, which opens over a blank disk.

@@ -1,0 +1,40 @@
+//! Blocks, and names of sessions, by number.
+use hs_limits::{Address, ListOf, Name};
+use std::alloc::{AllocError, Global};
+
+/// The four bytes of data of a block.
+pub fn data(alloc: Global, block: u32) -> Result<ListOf<u8>, AllocError> {
+    let mut bytes = Vec::with_capacity(alloc, 4)?;
+    bytes.extend_from_slice(&block.to_be_bytes())?;
+    Ok(ListOf::from_vec(bytes))
+}
+
+/// The spelling of a block without pointers and with that data.
+pub fn spelling(alloc: Global, block: u32) -> Result<ListOf<u8>, AllocError> {
+    let mut bytes = Vec::with_capacity(alloc, 11)?;
+    bytes.extend_from_slice(&[1, 0, 0, 0, 0, 0, 4])?;
+    bytes.extend_from_slice(&block.to_be_bytes())?;
+    Ok(ListOf::from_vec(bytes))
+}
+
+/// Its address: the number, and zeros. No naming is measured.
+pub fn address_of(block: u32) -> Address {
+    let mut address = [0; 32];
+    let [a, b, c, d] = block.to_be_bytes();
+    address[0] = a;
+    address[1] = b;
+    address[2] = c;
+    address[3] = d;
+    Address(address)
+}
+
+/// The session of a number: `s` and six digits.
+pub fn session(alloc: Global, number: u32) -> Result<Option<Name>, AllocError> {
+    let mut bytes = Vec::with_capacity(alloc, 7)?;
+    bytes.push(b's')?;
+    for power in [100_000, 10_000, 1_000, 100, 10, 1] {
+        let digit = number / power % 10;
+        bytes.push(b'0' + digit as u8)?;
+    }
+    Ok(Name::from_list(ListOf::from_vec(bytes)))
+}

@@ -1,0 +1,5 @@
+//! Public calls of a core that opens.
+#![tactic(auto)]
+
+#[cfg(test)]
+mod opening;
