@@ -1,0 +1,5 @@
+pub mod ThinLemmas
+pub mod SessionLemmas
+pub mod WalkLemmas
+pub mod PartLemmas
+pub mod ListLemmas
