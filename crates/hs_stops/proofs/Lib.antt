@@ -3,3 +3,4 @@ pub mod SessionLemmas
 pub mod WalkLemmas
 pub mod PartLemmas
 pub mod ListLemmas
+pub mod ImageLemmas

@@ -31,7 +31,7 @@ use Rattle.hs_stops.proofs.WalkLemmas.{EachFew, few_along, pending_parts}
 
 -- ---- numbered lists
 
-goes_front : (n : ℕ) (xs more : Numbered) → GoOn n (xs ++ more) → GoOn n xs
+pub goes_front : (n : ℕ) (xs more : Numbered) → GoOn n (xs ++ more) → GoOn n xs
 goes_front n [] more g = tt
 goes_front n (x ∷ xs) more g = (g.0, g.1, goes_front (n + 1) xs more g.2)
 

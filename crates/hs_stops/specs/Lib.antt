@@ -1,4 +1,6 @@
 pub mod Left
 pub mod Lists
 pub mod Pending
+pub mod Reopens
+pub mod Stands
 pub mod Start
