@@ -1,7 +1,7 @@
 -- What images that count at a moment amount to, of a store with one copy of each shard.
-use Rattle.std.proofs.Common.{◌≡◌, ◌≢◌, ℕ, suc, ◌+◌, ◌*◌, ◌<◌, ◌≤◌, true, List, [], ◌∷◌, ◌++◌, length, map, take, Option, Some, None, refl, sym, ap, ◌∙◌, subst, arith}
+use Rattle.std.proofs.Common.{◌≡◌, ◌≢◌, ℕ, suc, ◌+◌, ◌*◌, ◌<◌, ◌≤◌, List, [], ◌∷◌, ◌++◌, length, Option, refl, sym, ap, ◌∙◌, subst, arith}
 use Rattle.std.specs.Prelude.{All, AllPairs, IsSome, unwrap_or}
-use Rattle.hs_limits.specs.Shape.{IsShape, peer_of}
+use Rattle.hs_limits.specs.Shape.{IsShape}
 use Rattle.hs_model.specs.Store.{reborn}
 use Rattle.hs_entry.specs.declared.entry.Entry.{Entry}
 use Rattle.hs_events.specs.Taken.{or_blank, taken_lists}
@@ -14,7 +14,6 @@ use Rattle.hs_fold.specs.Shards.Images.{AreGoodImages, Image, IsGoodImage, Stop}
 use Rattle.hs_fold.specs.Shards.Pending.{AreOneRun, changing_lines}
 use Rattle.hs_fold.specs.Shards.Setting.{Numbered, Setting, shard_in}
 use Rattle.hs_fold.specs.Runs.Opened.{catalogues, store_of}
-use Rattle.hs_fold.specs.Runs.Sound.{AreSound}
 use Rattle.hs_fold.proofs.OneListLemmas.{one-chosen}
 use Rattle.hs_fold.proofs.PrefixLemmas.{last-length}
 use Rattle.hs_journal.specs.declared.entry.JournalEntry.{JournalEntry}

@@ -1,5 +1,5 @@
 -- What the lists that a stop leaves of all shards amount to.
-use Rattle.std.proofs.Common.{◌≡◌, ◌≢◌, ℕ, ◌+◌, ◌<◌, List, [], length, Option, refl, sym, ap, ◌∙◌, subst, arith}
+use Rattle.std.proofs.Common.{◌≡◌, ◌≢◌, ℕ, ◌+◌, ◌<◌, List, length, Option, sym, ap, ◌∙◌, subst, arith}
 use Rattle.std.proofs.lemmas.List.Elements.{All-from_recursion}
 use Rattle.std.specs.List.{AllByRecursion}
 use Rattle.std.specs.Prelude.{All, AllPairs}
@@ -12,7 +12,7 @@ use Rattle.hs_fold.specs.Shards.Pending.{AreOneRun, changing_lines}
 use Rattle.hs_fold.specs.Shards.Setting.{Numbered, Setting}
 use Rattle.hs_fold.specs.Shards.Sound.{HasRisingViews}
 use Rattle.hs_fold.specs.Runs.Facts.{Catalogue}
-use Rattle.hs_fold.specs.Runs.History.{AreLawful, follow_all, no_entries}
+use Rattle.hs_fold.specs.Runs.History.{AreLawful, no_entries}
 use Rattle.hs_fold.specs.Runs.Opened.{catalogues, store_of}
 use Rattle.hs_fold.proofs.Shards.LawfulLemmas.{PairsBy, pairs-from, pairs-to}
 use Rattle.hs_joint.specs.Along.{EachDoesItsPart, KeepFewRecords}

@@ -1,5 +1,5 @@
 -- A front of each shard's list that has all that took effect, parted into that and what waits.
-use Rattle.std.proofs.Common.{◌≡◌, ℕ, zero, suc, ◌+◌, ◌<◌, ◌≤◌, List, [], ◌∷◌, ◌++◌, length, take, drop, Option, Some, None, refl, sym, ap, ◌∙◌, subst, arith, append_assoc, length-append}
+use Rattle.std.proofs.Common.{◌≡◌, ℕ, suc, ◌+◌, ◌<◌, ◌≤◌, List, [], ◌∷◌, ◌++◌, length, take, drop, Option, Some, None, refl, sym, ap, ◌∙◌, subst, arith, append_assoc, length-append}
 use Rattle.std.proofs.lemmas.List.{take-append-drop, take-append-le, drop-append-le, length-take-le}
 use Rattle.std.proofs.lemmas.List.Elements.{All-from_recursion, recursion_from_All}
 use Rattle.std.specs.List.{AllByRecursion}
@@ -26,7 +26,7 @@ use Rattle.hs_waiting.specs.Waits.{EntryWaits}
 use Rattle.hs_stops.specs.Left.{AreFronts, MayBeLeft}
 use Rattle.hs_stops.specs.Lists.{Lists, settled_catalogues, settled_from, waiting, whole_from}
 use Rattle.hs_stops.specs.Pending.{MayPend, pending, pending_of}
-use Rattle.hs_stops.proofs.ThinLemmas.{Thins, thins_append, thins_front, thins_none, thins_pairs}
+use Rattle.hs_stops.proofs.ThinLemmas.{Thins, thins_append, thins_front, thins_pairs}
 use Rattle.hs_stops.proofs.WalkLemmas.{EachFew, few_along, pending_parts}
 
 -- ---- numbered lists

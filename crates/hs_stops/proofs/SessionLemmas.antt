@@ -1,5 +1,5 @@
 -- What happens by entries leaves the sessions, and looks at none.
-use Rattle.std.proofs.Common.{◌≡◌, ℕ, List, [], ◌∷◌, Bool, true, false, cond, None, refl, sym, ap, ◌∙◌, subst}
+use Rattle.std.proofs.Common.{◌≡◌, List, [], ◌∷◌, Bool, true, false, cond, None, refl, sym, ap, ◌∙◌, subst}
 use Rattle.std.specs.BTreeMap.{insert_entry}
 use Rattle.hs_model.specs.Judge.{roots_with}
 use Rattle.hs_model.specs.Store.{Store, address_cmp, epoch_at, retained_at, with_block, with_roots, reborn}

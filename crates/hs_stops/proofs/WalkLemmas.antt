@@ -5,7 +5,6 @@ use Rattle.std.specs.List.{AllByRecursion}
 use Rattle.std.specs.Prelude.{slice_set}
 use Rattle.hs_model.specs.Store.{Store}
 use Rattle.hs_entry.specs.declared.entry.Entry.{Entry}
-use Rattle.hs_entry.specs.Entries.{IsPrefix}
 use Rattle.hs_fold.specs.Catalogue.{Shard}
 use Rattle.hs_fold.specs.Lawful.{Deed}
 use Rattle.hs_fold.specs.Shards.Happening.{Happening, happen_all, happen_by, AreLegal, and_then, happenings}
