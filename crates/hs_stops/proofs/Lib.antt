@@ -3,4 +3,7 @@ pub mod SessionLemmas
 pub mod WalkLemmas
 pub mod PartLemmas
 pub mod ListLemmas
+pub mod EffectLemmas
+pub mod StillLemmas
+pub mod TookLemmas
 pub mod ImageLemmas

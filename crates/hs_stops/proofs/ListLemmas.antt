@@ -64,8 +64,8 @@ module _ (start : Start) (journal : List JournalEntry) (Awaited : ℕ → Type 0
   done_is : done_lists parts ≡ settled set lists
   done_is = parted_done lists 0 some fine ∙ ap (λ n. settled_from lists 0 n) count
 
-  cats_is : done ≡ settled_catalogues set lists
-  cats_is = ap (λ ls. catalogues set 0 ls) done_is
+  pub settled_is : done ≡ settled_catalogues set lists
+  settled_is = ap (λ ls. catalogues set 0 ls) done_is
 
   now_is : now ≡ pending_parts set 0 parts
   now_is = parted_pending set Awaited lists 0 set.shape.shards some end fine left
@@ -79,41 +79,41 @@ module _ (start : Start) (journal : List JournalEntry) (Awaited : ℕ → Type 0
   each = parted_count lists 0 some ∙ count
 
   waits : MayAllWait done 0 parts
-  waits = subst (λ cs. MayAllWait cs 0 parts) (sym cats_is) (parted_wait set Awaited lists 0 set.shape.shards some end fine left)
+  waits = subst (λ cs. MayAllWait cs 0 parts) (sym settled_is) (parted_wait set Awaited lists 0 set.shape.shards some end fine left)
 
-  few : KeepFewRecords set done (pending_deeds 0 parts)
-  few = few_all set parts (parted_few set Awaited lists 0 set.shape.shards some end fine left)
+  pub lists_few : KeepFewRecords set done (pending_deeds 0 parts)
+  lists_few = few_all set parts (parted_few set Awaited lists 0 set.shape.shards some end fine left)
 
   views : All HasRisingViews (whole_lists parts)
   views = All-from_recursion HasRisingViews (whole_lists parts) (subst (λ ls. AllByRecursion HasRisingViews ls) (sym whole_is) (parted_views set Awaited lists 0 set.shape.shards some end fine left))
 
   each_part : EachDoesItsPart set done (pending_deeds 0 parts)
-  each_part = (runs set parts law.lawful shape each law.records waits few).parts
+  each_part = (runs set parts law.lawful shape each law.records waits lists_few).parts
 
-  more_is : happened_along set done (pending_deeds 0 parts) ≡ more
-  more_is = walk_all set parts ∙ ap (λ es. happenings es) (sym now_is)
+  pub lists_happen : happened_along set done (pending_deeds 0 parts) ≡ more
+  lists_happen = walk_all set parts ∙ ap (λ es. happenings es) (sym now_is)
 
   stood : store_of done ≡ reborn (store_after start journal)
-  stood = ap (λ cs. store_of cs) cats_is ∙ took.stood
+  stood = ap (λ cs. store_of cs) settled_is ∙ took.stood
 
   -- ---- so they reopen
 
   pub lists_sound : AreSoundAlong set some
-  lists_sound = subst (λ ls. AreSoundAlong set ls) whole_is (whole_along set parts law.lawful shape each law.records waits few views)
+  lists_sound = subst (λ ls. AreSoundAlong set ls) whole_is (whole_along set parts law.lawful shape each law.records waits lists_few views)
 
   pub lists_stand : store_of (catalogues set 0 some) ≡ reborn (happen_all (store_after start journal) more)
   lists_stand =
       ap (λ ls. store_of (catalogues set 0 ls)) (sym whole_is)
       ∙ ap (λ cs. store_of cs) (sym (gives_whole set parts))
       ∙ parts_stand set done (pending_deeds 0 parts) each_part
-      ∙ ap (λ hs. happen_all (store_of done) hs) more_is
+      ∙ ap (λ hs. happen_all (store_of done) hs) lists_happen
       ∙ ap (λ s. happen_all s more) stood
       ∙ sym (all_left (store_after start journal) more)
 
   pub lists_legal : AreOneRun set.limits start.entry (events_in start journal) more
   lists_legal = record {
     events_legal = took.legal;
-    more_legal = legal_left (store_after start journal) more (subst (λ s. AreLegal s more) stood (subst (λ hs. AreLegal (store_of done) hs) more_is (parts_legal set done (pending_deeds 0 parts) each_part)));
+    more_legal = legal_left (store_after start journal) more (subst (λ s. AreLegal s more) stood (subst (λ hs. AreLegal (store_of done) hs) lists_happen (parts_legal set done (pending_deeds 0 parts) each_part)));
   }
 
   pub lists_awaited : All (λ (e : Entry × Option Happening). MayPend Awaited e.0) now

@@ -51,6 +51,14 @@ one_pending at front list numbered low =
     let back : behind front list ≡ drop front list = ap (λ n. behind n list) (sym count) ∙ ap (λ es. behind (length (take front list)) es) (sym whole) ∙ numbered-behind (take front list) (drop front list) parted in
     ap (λ es. happens at (catalogue_of at es) (behind front list)) up ∙ ap (λ es. happens at (catalogue_of at (take front list)) es) back
 
+pub waiting_number : (lists : Lists) (g : ℕ) (e : ℕ × Entry) (rest : Numbered) → IsNumbered (lists.whole g) → lists.front g ≤ length (lists.whole g) → waiting lists g ≡ e ∷ rest → e.0 ≡ lists.front g + 1
+waiting_number lists g e rest numbered low is =
+    let done : Numbered = take (lists.front g) (lists.whole g) in
+    let parts : IsNumbered (done ++ waiting lists g) = subst (λ es. IsNumbered es) (sym (take-append-drop (lists.front g) (lists.whole g))) numbered in
+    let count : length done ≡ lists.front g = length-take-le (lists.front g) (lists.whole g) low in
+    let goes : GoOn (lists.front g) (waiting lists g) = goes_back 0 (lists.front g) done (waiting lists g) parts (omega (arith, count)) in
+    (subst (λ es. GoOn (lists.front g) es) is goes).0
+
 -- ---- fronts of lists of facts
 
 each_front : {X : Type 0} (P : X → Type 0) (xs more : List X) → AllByRecursion P (xs ++ more) → AllByRecursion P xs

@@ -29,7 +29,7 @@ abbrev pub happened_along : Setting → List Catalogue → List Deed → List Ha
 happened_along set cs [] = []
 happened_along set cs (deed ∷ deeds) = and_then (happening_by set cs deed) (happened_along set (follow set cs deed) deeds)
 
-all_then : (s : Store) (one : Option Happening) (rest : List Happening) → happen_all s (and_then one rest) ≡ happen_all (happen_by s one) rest
+pub all_then : (s : Store) (one : Option Happening) (rest : List Happening) → happen_all s (and_then one rest) ≡ happen_all (happen_by s one) rest
 all_then s None rest = refl
 all_then s (Some one) rest = refl
 

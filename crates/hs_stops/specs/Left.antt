@@ -35,12 +35,16 @@ abbrev pub HasFewRecords : Setting → Lists → ℕ → Type 0
 HasFewRecords set lists shard =
     (list : Numbered) → IsPrefix list (lists.whole shard) → lists.front shard ≤ length list → length (catalogue_of (shard_in set shard) list).roots ≤ most_records
 
+-- each entry that waits of a shard has what it rests on; a Mark names a block that took effect
+abbrev pub AllWait : Setting → Lists → ℕ → Type 0
+AllWait set lists shard = All (λ e. NamesUpTo (lists.front shard) e.1 × EntryWaits (settled_catalogues set lists) shard e.1) (waiting lists shard)
+
 -- any front of a shard's list that has all that took effect may be left by a stop: what waits has what it rests on, and is of lines that are awaited
 pub record MayBeLeft (set : Setting) (Awaited : ℕ → Type 0) (lists : Lists) (shard : ℕ) : Type 0 where
   pub numbered : IsNumbered (lists.whole shard)
   pub views : HasRisingViews (lists.whole shard)
   pub few : HasFewRecords set lists shard
-  pub waits : All (λ e. NamesUpTo (lists.front shard) e.1 × EntryWaits (settled_catalogues set lists) shard e.1) (waiting lists shard)
+  pub waits : AllWait set lists shard
   pub awaited : All (λ e. MayPend Awaited e.1) (waiting lists shard)
 
 -- of each shard from one on a front of its list that has all that took effect

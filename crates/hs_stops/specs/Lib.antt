@@ -1,3 +1,4 @@
+pub mod Effect
 pub mod Left
 pub mod Lists
 pub mod Pending

@@ -1,0 +1,36 @@
+-- One entry more takes effect.
+use Rattle.std.specs.Prelude.{◌≡◌, ◌+◌, ◌==◌, if◌then◌else◌, ℕ, true, List, All}
+use Rattle.hs_entry.specs.declared.entry.Entry.{Entry}
+use Rattle.hs_entry.specs.declared.entry.Entry.TheVariants as kind
+use Rattle.hs_fold.specs.Lawful.{Deed}
+use Rattle.hs_fold.specs.Runs.Facts.{Catalogue}
+use Rattle.hs_fold.specs.Runs.Fits.{catalogue_at}
+use Rattle.hs_fold.specs.Runs.Rounds.{is_accepted}
+use Rattle.hs_fold.specs.Shards.Setting.{Setting}
+use Rattle.hs_stops.specs.Lists.{Lists, settled_catalogues, waiting}
+
+-- one entry more of a shard took effect
+abbrev pub one_more : Lists → ℕ → Lists
+one_more lists shard = record { whole = lists.whole; front = λ g. if g == shard then lists.front g + 1 else lists.front g }
+
+-- an entry of a shard as one of a history
+abbrev pub deed_of : ℕ → ℕ × Entry → Deed
+deed_of shard e = record { shard = shard; number = e.0; entry = e.1 }
+
+-- a Got that waits would be taken where the catalogue is this
+abbrev pub IsStillDue : ℕ → Catalogue → Entry → Type 0
+IsStillDue shards c (kind.Got sender epoch round total deltas) = is_accepted shards c (record { epoch = epoch; round = round; from = sender }) ≡ true
+IsStillDue shards c (kind.View view) = Unit {0}
+IsStillDue shards c (kind.Block op least bytes) = Unit {0}
+IsStillDue shards c (kind.Mark op least block address) = Unit {0}
+IsStillDue shards c (kind.Root op held address key) = Unit {0}
+IsStillDue shards c (kind.Drop op key) = Unit {0}
+IsStillDue shards c (kind.Enter op epoch) = Unit {0}
+IsStillDue shards c (kind.Base view epoch swept round frames) = Unit {0}
+IsStillDue shards c (kind.KeptBlock born mark flags count bytes) = Unit {0}
+IsStillDue shards c (kind.KeptRoot created dropped counted address key) = Unit {0}
+IsStillDue shards c (kind.KeptRound way other epoch round total deltas) = Unit {0}
+
+-- so each that waits of a shard
+abbrev pub AreStillDue : Setting → Lists → ℕ → Type 0
+AreStillDue set lists shard = All (λ e. IsStillDue set.shape.shards (catalogue_at (settled_catalogues set lists) shard) e.1) (waiting lists shard)
