@@ -1,10 +1,9 @@
 -- One entry more takes effect: what took effect goes on as the journal tells, and what waits waits still.
-use Rattle.std.proofs.Common.{◌≡◌, ◌≢◌, inl, inr, ℕ, zero, suc, ◌+◌, ◌<◌, ◌≤◌, ◌==◌, Bool, true, false, cond, List, [], ◌∷◌, ◌++◌, length, take, drop, Option, Some, None, refl, sym, ap, ◌∙◌, subst, arith, length-append}
+use Rattle.std.proofs.Common.{◌≡◌, ◌≢◌, inl, inr, ℕ, zero, suc, ◌+◌, ◌<◌, ◌≤◌, ◌==◌, Bool, true, false, cond, [], ◌∷◌, ◌++◌, length, take, drop, refl, sym, ap, ◌∙◌, subst, arith, length-append}
 use Rattle.std.proofs.Math.Seq.{drop-append-add, drop-append_seam, take-append-add}
 use Rattle.std.proofs.lemmas.Bool.{cases_eq, eq-eqb, ne_eqb}
 use Rattle.std.proofs.lemmas.List.{take-append-drop, length-take-le, drop-take}
 use Rattle.hs_entry.specs.declared.entry.Entry.{Entry}
-use Rattle.hs_fold.specs.Lawful.{Deed}
 use Rattle.hs_fold.specs.Shards.Setting.{Numbered}
 use Rattle.hs_waiting.specs.Lists.{deeds_of, pending_deeds}
 use Rattle.hs_stops.specs.Effect.{deed_of, one_more}
@@ -13,7 +12,7 @@ use Rattle.hs_stops.specs.Lists.{Lists, settled_from, waiting}
 use Rattle.hs_stops.proofs.PartLemmas.{parted}
 
 -- a front of a front leaves nothing
-front_gone : (n : ℕ) (xs : Numbered) → drop n (take n xs) ≡ []
+pub front_gone : (n : ℕ) (xs : Numbered) → drop n (take n xs) ≡ []
 front_gone n xs = ap (λ m. drop n (take m xs)) (zero_right n) ∙ drop-take n 0 xs
   where
     zero_right : (m : ℕ) → m ≡ m + 0

@@ -4,6 +4,7 @@ pub mod WalkLemmas
 pub mod PartLemmas
 pub mod ListLemmas
 pub mod EffectLemmas
+pub mod OpenLemmas
 pub mod StillLemmas
 pub mod TookLemmas
 pub mod ImageLemmas

@@ -31,9 +31,9 @@ use Rattle.hs_stops.proofs.ThinLemmas.{thins_pairs}
 use Rattle.hs_stops.proofs.WalkLemmas.{happened_along, few_all, parts_legal, parts_stand, pending_parts, walk_all}
 
 -- what took effect is lawful, along a history without too many root records
-record IsLawful (set : Setting) (lists : List Numbered) : Type 0 where
-  lawful : AreLawful set lists (catalogues set 0 lists)
-  records : KeepFewRecords set (no_entries set) lawful.history
+pub record IsLawful (set : Setting) (lists : List Numbered) : Type 0 where
+  pub lawful : AreLawful set lists (catalogues set 0 lists)
+  pub records : KeepFewRecords set (no_entries set) lawful.history
 
 module _ (start : Start) (journal : List JournalEntry) (Awaited : ℕ → Type 0) (lists : Lists) (shape : IsShape start.set.shape) (took : TookEffect start journal lists)
     (left : (shard : ℕ) → shard < start.set.shape.shards → MayBeLeft start.set Awaited lists shard) (some : List Numbered) (count : length some ≡ start.set.shape.shards) (fine : AreFronts lists 0 some) where

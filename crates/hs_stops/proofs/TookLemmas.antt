@@ -1,5 +1,5 @@
 -- One entry more takes effect: what took effect and what waits.
-use Rattle.std.proofs.Common.{◌≡◌, ◌≢◌, inl, inr, ℕ, ◌+◌, ◌<◌, ◌≤◌, List, [], ◌∷◌, ◌++◌, length, Option, refl, sym, ap, ◌∙◌, subst, arith}
+use Rattle.std.proofs.Common.{◌≡◌, inl, inr, ℕ, ◌<◌, ◌≤◌, List, [], ◌∷◌, length, sym, ap, ◌∙◌, subst, arith}
 use Rattle.std.proofs.lemmas.Bool.{cases_eq}
 use Rattle.std.proofs.lemmas.List.Elements.{All-from_recursion, recursion_from_All, All-tail, All-head}
 use Rattle.std.specs.List.{AllByRecursion}
@@ -9,7 +9,7 @@ use Rattle.hs_model.specs.Run.{IsLegal}
 use Rattle.hs_model.specs.Store.{reborn}
 use Rattle.hs_entry.specs.declared.entry.Entry.{Entry}
 use Rattle.hs_fold.specs.Lawful.{Deed}
-use Rattle.hs_fold.specs.Shards.Happening.{Happening, happen_all, happen_by, happenings}
+use Rattle.hs_fold.specs.Shards.Happening.{happen_all, happen_by, happenings}
 use Rattle.hs_fold.specs.Shards.Parted.{NamesUpTo, done_lists}
 use Rattle.hs_fold.specs.Shards.Setting.{Numbered, Setting}
 use Rattle.hs_fold.specs.Runs.Facts.{Catalogue}
@@ -24,7 +24,7 @@ use Rattle.hs_waiting.specs.Waits.{EntryWaits}
 use Rattle.hs_waiting.proofs.ListLemmas.{gives_whole}
 use Rattle.hs_stops.specs.Effect.{AreStillDue, IsStillDue, deed_of, one_more}
 use Rattle.hs_stops.specs.Left.{AllWait, AreFronts, MayBeLeft, TookEffect}
-use Rattle.hs_stops.specs.Lists.{Lists, settled, settled_catalogues, settled_from, waiting}
+use Rattle.hs_stops.specs.Lists.{Lists, settled, settled_catalogues, waiting}
 use Rattle.hs_stops.specs.Pending.{pending}
 use Rattle.hs_stops.specs.Start.{Start, events_in, store_after}
 use Rattle.hs_stops.proofs.EffectLemmas.{back_there, later_back, later_fronts, one_deed, settled_count, there_low}

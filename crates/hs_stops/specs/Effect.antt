@@ -1,17 +1,34 @@
 -- One entry more takes effect.
-use Rattle.std.specs.Prelude.{◌≡◌, ◌+◌, ◌==◌, if◌then◌else◌, ℕ, true, List, All}
+use Rattle.std.specs.Prelude.{◌≡◌, ◌+◌, ◌<◌, ◌≤◌, ◌==◌, ◌∷◌, if◌then◌else◌, ℕ, true, List, length, All}
 use Rattle.hs_entry.specs.declared.entry.Entry.{Entry}
 use Rattle.hs_entry.specs.declared.entry.Entry.TheVariants as kind
 use Rattle.hs_fold.specs.Lawful.{Deed}
 use Rattle.hs_fold.specs.Runs.Facts.{Catalogue}
 use Rattle.hs_fold.specs.Runs.Fits.{catalogue_at}
 use Rattle.hs_fold.specs.Runs.Rounds.{is_accepted}
-use Rattle.hs_fold.specs.Shards.Setting.{Setting}
+use Rattle.hs_fold.specs.Shards.Setting.{Numbered, Setting}
+use Rattle.hs_journal.specs.declared.entry.JournalEntry.{JournalEntry}
+use Rattle.hs_limits.specs.Shape.{IsShape}
+use Rattle.hs_stops.specs.Left.{MayBeLeft, TookEffect}
 use Rattle.hs_stops.specs.Lists.{Lists, settled_catalogues, waiting}
+use Rattle.hs_stops.specs.Start.{Start}
 
 -- one entry more of a shard took effect
 abbrev pub one_more : Lists → ℕ → Lists
 one_more lists shard = record { whole = lists.whole; front = λ g. if g == shard then lists.front g + 1 else lists.front g }
+
+-- lists of all shards: what took effect of them is what the journal tells, and what waits of each may be left
+pub record AreStanding (start : Start) (Awaited : ℕ → Type 0) (journal : List JournalEntry) (lists : Lists) : Type 0 where
+  pub shape : IsShape start.set.shape
+  pub took : TookEffect start journal lists
+  pub within : (shard : ℕ) → shard < start.set.shape.shards → lists.front shard ≤ length (lists.whole shard)
+  pub left : (shard : ℕ) → shard < start.set.shape.shards → MayBeLeft start.set Awaited lists shard
+
+-- the first entry that waits of a shard
+pub record IsNext (set : Setting) (lists : Lists) (shard : ℕ) (e : ℕ × Entry) : Type 0 where
+  pub of : shard < set.shape.shards
+  pub rest : Numbered
+  pub first : waiting lists shard ≡ e ∷ rest
 
 -- an entry of a shard as one of a history
 abbrev pub deed_of : ℕ → ℕ × Entry → Deed

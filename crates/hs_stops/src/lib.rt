@@ -1,8 +1,12 @@
 //! What a stop leaves at one moment of a run: laws, each a function without parameters whose clauses are the law.
 #![tactic(auto)]
 
+mod effect;
 mod images;
 mod lists;
+mod opened;
 
+pub use effect::an_entry_takes_effect;
 pub use images::{good_images_are_logs, images_that_count_reopen};
 pub use lists::fronts_reopen;
+pub use opened::opened_lists_stand;
