@@ -3,6 +3,7 @@ pub mod SessionLemmas
 pub mod WalkLemmas
 pub mod PartLemmas
 pub mod ListLemmas
+pub mod AddLemmas
 pub mod EffectLemmas
 pub mod OpenLemmas
 pub mod StillLemmas

@@ -1,17 +1,39 @@
--- One entry more takes effect.
-use Rattle.std.specs.Prelude.{◌≡◌, ◌+◌, ◌<◌, ◌≤◌, ◌==◌, ◌∷◌, if◌then◌else◌, ℕ, true, List, length, All}
+-- One entry more comes to wait, and one takes effect.
+use Rattle.std.specs.Prelude.{◌≡◌, ◌+◌, ◌<◌, ◌≤◌, ◌==◌, ◌∷◌, ◌++◌, [], if◌then◌else◌, ℕ, true, false, List, length, All}
 use Rattle.hs_entry.specs.declared.entry.Entry.{Entry}
 use Rattle.hs_entry.specs.declared.entry.Entry.TheVariants as kind
+use Rattle.hs_entry.specs.Entries.{is_of_base}
 use Rattle.hs_fold.specs.Lawful.{Deed}
+use Rattle.hs_fold.specs.Runs.Catalogue.{catalogue_of}
 use Rattle.hs_fold.specs.Runs.Facts.{Catalogue}
 use Rattle.hs_fold.specs.Runs.Fits.{catalogue_at}
 use Rattle.hs_fold.specs.Runs.Rounds.{is_accepted}
-use Rattle.hs_fold.specs.Shards.Setting.{Numbered, Setting}
+use Rattle.hs_fold.specs.Shards.Parted.{NamesUpTo}
+use Rattle.hs_fold.specs.Shards.Setting.{Numbered, Setting, shard_in}
+use Rattle.hs_fold.specs.Shards.Sound.{HasRisingViews, most_records}
 use Rattle.hs_journal.specs.declared.entry.JournalEntry.{JournalEntry}
 use Rattle.hs_limits.specs.Shape.{IsShape}
 use Rattle.hs_stops.specs.Left.{MayBeLeft, TookEffect}
 use Rattle.hs_stops.specs.Lists.{Lists, settled_catalogues, waiting}
+use Rattle.hs_stops.specs.Pending.{MayPend}
 use Rattle.hs_stops.specs.Start.{Start}
+use Rattle.hs_waiting.specs.Waits.{EntryWaits}
+
+-- one entry more stands at the end of a shard's list
+abbrev pub with_entry : Lists → ℕ → Entry → Lists
+with_entry lists shard entry = record {
+  whole = λ g. if g == shard then lists.whole g ++ (length (lists.whole g) + 1, entry) ∷ [] else lists.whole g;
+  front = lists.front;
+}
+
+-- an entry may come to wait at the end of a shard's list
+pub record MayBeAdded (set : Setting) (Awaited : ℕ → Type 0) (lists : Lists) (shard : ℕ) (entry : Entry) : Type 0 where
+  pub ordinary : is_of_base entry ≡ false
+  pub views : HasRisingViews ((with_entry lists shard entry).whole shard)
+  pub few : length (catalogue_of (shard_in set shard) ((with_entry lists shard entry).whole shard)).roots ≤ most_records
+  pub names : NamesUpTo (lists.front shard) entry
+  pub waits : EntryWaits (settled_catalogues set lists) shard entry
+  pub awaited : MayPend Awaited entry
 
 -- one entry more of a shard took effect
 abbrev pub one_more : Lists → ℕ → Lists
