@@ -1,5 +1,5 @@
 -- One entry more comes to wait.
-use Rattle.std.proofs.Common.{◌≡◌, ◌≢◌, inl, inr, ℕ, zero, suc, ◌+◌, ◌<◌, ◌≤◌, false, cond, List, [], ◌∷◌, ◌++◌, length, take, drop, refl, sym, ap, ◌∙◌, subst, arith, append-nil, length-append}
+use Rattle.std.proofs.Common.{◌≡◌, ◌≢◌, inl, inr, ℕ, zero, suc, ◌+◌, ◌<◌, ◌≤◌, cond, List, [], ◌∷◌, ◌++◌, length, take, drop, refl, sym, ap, ◌∙◌, subst, arith, append-nil, length-append}
 use Rattle.std.proofs.lemmas.Bool.{cases_eq, eq-eqb, ne_eqb}
 use Rattle.std.proofs.lemmas.List.{take-append-le, drop-append-le}
 use Rattle.std.proofs.lemmas.List.Elements.{All-push}
@@ -11,7 +11,6 @@ use Rattle.hs_fold.specs.Shards.Parted.{NamesUpTo}
 use Rattle.hs_fold.specs.Shards.Setting.{Numbered, Setting, shard_in}
 use Rattle.hs_fold.specs.Shards.Sound.{HasRisingViews, most_records}
 use Rattle.hs_fold.specs.Runs.Catalogue.{catalogue_of}
-use Rattle.hs_fold.specs.Runs.Facts.{Catalogue}
 use Rattle.hs_fold.specs.Runs.Opened.{catalogues, store_of}
 use Rattle.hs_fold.proofs.NumberedLemmas.{numbered-more}
 use Rattle.hs_journal.specs.declared.entry.JournalEntry.{JournalEntry}

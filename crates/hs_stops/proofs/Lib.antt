@@ -9,3 +9,4 @@ pub mod OpenLemmas
 pub mod StillLemmas
 pub mod TookLemmas
 pub mod ImageLemmas
+pub mod SaneLemmas
