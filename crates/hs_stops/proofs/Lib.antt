@@ -10,3 +10,4 @@ pub mod StillLemmas
 pub mod TookLemmas
 pub mod ImageLemmas
 pub mod SaneLemmas
+pub mod RecordLemmas

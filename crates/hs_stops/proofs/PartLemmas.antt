@@ -98,7 +98,7 @@ line_append None one xs ys = refl
 line_append (Some line) None xs ys = refl
 line_append (Some line) (Some one) xs ys = refl
 
-lines_append : (xs ys : List (Entry × Option Happening)) → changing_lines (xs ++ ys) ≡ changing_lines xs ++ changing_lines ys
+pub lines_append : (xs ys : List (Entry × Option Happening)) → changing_lines (xs ++ ys) ≡ changing_lines xs ++ changing_lines ys
 lines_append [] ys = refl
 lines_append (x ∷ xs) ys = ap (λ lines. with_line (asked_by x.0) x.1 lines) (lines_append xs ys) ∙ sym (line_append (asked_by x.0) x.1 (changing_lines xs) (changing_lines ys))
 

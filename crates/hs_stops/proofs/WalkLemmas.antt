@@ -152,7 +152,7 @@ few_all set lists f = few_lists set [] lists tt f
 
 -- ---- of one list, by its fronts
 
-apply_append : (at : Shard) (c : Catalogue) (es more : Numbered) → apply_all at c (es ++ more) ≡ apply_all at (apply_all at c es) more
+pub apply_append : (at : Shard) (c : Catalogue) (es more : Numbered) → apply_all at c (es ++ more) ≡ apply_all at (apply_all at c es) more
 apply_append at c [] more = refl
 apply_append at c (e ∷ es) more = apply_append at (apply at c e) es more
 

@@ -5,3 +5,4 @@ pub mod Pending
 pub mod Reopens
 pub mod Stands
 pub mod Start
+pub mod Suffices
