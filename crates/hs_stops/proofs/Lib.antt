@@ -11,3 +11,4 @@ pub mod TookLemmas
 pub mod ImageLemmas
 pub mod SaneLemmas
 pub mod RecordLemmas
+pub mod PendLemmas
