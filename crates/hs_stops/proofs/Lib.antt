@@ -1,0 +1,14 @@
+pub mod ThinLemmas
+pub mod SessionLemmas
+pub mod WalkLemmas
+pub mod PartLemmas
+pub mod ListLemmas
+pub mod AddLemmas
+pub mod EffectLemmas
+pub mod OpenLemmas
+pub mod StillLemmas
+pub mod TookLemmas
+pub mod ImageLemmas
+pub mod SaneLemmas
+pub mod RecordLemmas
+pub mod PendLemmas

@@ -1,0 +1,8 @@
+pub mod Effect
+pub mod Left
+pub mod Lists
+pub mod Pending
+pub mod Reopens
+pub mod Stands
+pub mod Start
+pub mod Suffices
