@@ -1,6 +1,8 @@
-mod AnswerLemmas
-mod CoreLemmas
+pub mod AnswerLemmas
+pub mod CoreLemmas
+pub mod EarlyLemmas
 mod MemoryLemmas
-mod RefusalLemmas
+pub mod RefusalLemmas
 mod RootLemmas
-mod ShownLemmas
+pub mod ShownLemmas
+pub mod StepLemmas
