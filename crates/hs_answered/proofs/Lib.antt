@@ -6,3 +6,4 @@ pub mod RefusalLemmas
 mod RootLemmas
 pub mod ShownLemmas
 pub mod StepLemmas
+pub mod TellingLemmas
