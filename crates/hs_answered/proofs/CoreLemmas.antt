@@ -173,6 +173,10 @@ sees_alike : (v : OpView) (o : Op) (p : Bool) (r : Reply) → Sees v o r → See
 sees_alike v o p r (inl e) = inl (judged_alike v o p ∙ e)
 sees_alike v o p r (inr gone) = inr (record { name = gone.name; handle = gone.handle; is = gone.is; free = judged_alike v o p ∙ gone.free; gone = gone.gone; told = gone.told })
 
+judged_opening : (v : OpView) (busy : Option ℕ) (name : List ℕ) → judged_in (record v { busy = busy }) (op.Open name) ≡ judged_in (record v { busy = None }) (op.Open name)
+unfolding judged_in refusals_of
+judged_opening v busy name = refl
+
 -- it sees what it would see if its session had no other operation
 free_sees : (v : OpView) (busy : Option ℕ) (o : Op) (core : Core) (r : Reply) → busy_with o core ≡ None → busy ≡ busy_line o core → Sees (record v { busy = busy }) o r → Sees (record v { busy = None }) o r
 free_sees v busy o core r free is sees = elim (opens_or_free o free) [
@@ -195,12 +199,8 @@ free_sees v busy o core r free is sees = elim (opens_or_free o free) [
     opens_or_free op.Delete e = inl e
     opens_or_free op.Stat e = inl e
 
-    judged_opening : (name : List ℕ) → judged_in (record v { busy = busy }) (op.Open name) ≡ judged_in (record v { busy = None }) (op.Open name)
-    unfolding judged_in refusals_of
-    judged_opening name = refl
-
     opening : (name : List ℕ) → Sees (record v { busy = busy }) (op.Open name) r → Sees (record v { busy = None }) (op.Open name) r
-    opening name (inl e) = inl (sym (judged_opening name) ∙ e)
+    opening name (inl e) = inl (sym (judged_opening v busy name) ∙ e)
     opening name (inr gone) = let f : op.Open name ≡ op.Read gone.name gone.handle = gone.is in absurd (cc f)
 
 some_name : (a b : List ℕ) → Some a ≡ Some b → a ≡ b

@@ -1,5 +1,5 @@
 -- An operation without the address of its block is refused before the block is looked at.
-use Rattle.std.proofs.Common.{◌≡◌, ◌⊎◌, inl, inr, ℕ, ◌<◌, ◌≤◌, ◌&&◌, Bool, true, false, List, [], ◌∷◌, ◌++◌, length, map, Option, Some, None, IsSome, is_none, is_some, nat_le, nat_lt, refl, sym, ap, ◌∙◌, subst, arith}
+use Rattle.std.proofs.Common.{◌≡◌, ◌⊎◌, inl, inr, ℕ, ◌&&◌, Bool, true, false, List, [], ◌∷◌, ◌++◌, length, map, Option, Some, None, IsSome, is_none, is_some, nat_le, nat_lt, refl, sym, ap, ◌∙◌, subst, arith}
 use Rattle.std.proofs.lemmas.Bool.Decides.{nat_tests}
 use Rattle.std.specs.List.{list_all}
 use Rattle.std.specs.Option.{option_map}
@@ -20,7 +20,6 @@ use Rattle.hs_model.specs.Judge.{address_of, given_address, refusals, written}
 use Rattle.hs_model.specs.Judge.{pointers_at}
 use Rattle.hs_model.specs.Refusals.{collision, first, handles_full, no_handle_in, no_such_handle, refused_when, shard_full, stale, too_long, too_many}
 use Rattle.hs_model.specs.Store.{Session, Store, epoch_at, held_in, session_at}
-use Rattle.hs_model.specs.Store.{held_at as store_held}
 use Rattle.hs_ops.specs.Refusals.{is_busy, no_more_handles, no_room_for_block, not_held, not_open, outdated, refusal_of, refusals_of}
 use Rattle.hs_ops.specs.Views.{OpView, open_in}
 use Rattle.hs_shown.specs.Showing.{as_sessions}

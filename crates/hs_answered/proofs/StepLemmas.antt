@@ -1,14 +1,13 @@
 -- A step that answers gives the reply of the plain store's judge, and leaves what he leaves.
-use Rattle.std.proofs.Common.{◌≡◌, ◌⊎◌, inl, inr, ℕ, Bool, true, false, not, List, [], Option, Some, None, IsSome, is_none, is_some, refl, sym, ap, ◌∙◌, subst}
+use Rattle.std.proofs.Common.{◌≡◌, ◌⊎◌, inl, inr, ℕ, Bool, true, false, List, [], Option, Some, None, is_some, refl, sym, ap, ◌∙◌, subst}
 use Rattle.std.specs.Option.{option_map_or, option_or}
-use Rattle.std.specs.Prelude.{Ok, Result, if◌then◌else◌}
+use Rattle.std.specs.Prelude.{Result, if◌then◌else◌}
 use Rattle.hs_answered.proofs.AnswerLemmas.{ByTheBytes, ByTheView, Leaves, judge_granted, judge_refused, leaves, read_leaves, refused_leaves, store_refusal_stops, view_refusal_stops}
 use Rattle.hs_answered.proofs.EarlyLemmas.{IsEarly}
 use Rattle.hs_answered.specs.Asked.{HasBytes}
 use Rattle.hs_answered.specs.Judged.{with_data}
 use Rattle.hs_entry.specs.declared.entry.Entry.{Entry}
-use Rattle.hs_limits.specs.Block.{Block, spell}
-use Rattle.hs_limits.specs.Reading.{read_block}
+use Rattle.hs_limits.specs.Block.{Block}
 use Rattle.hs_limits.specs.declared.address.Address.{Address}
 use Rattle.hs_limits.specs.declared.limits.Limits.{Limits}
 use Rattle.hs_limits.specs.declared.spelling.SpellingFault.{SpellingFault}
@@ -20,15 +19,15 @@ use Rattle.hs_model.specs.declared.store.StoredBlock.{StoredBlock}
 use Rattle.hs_model.specs.Hollow.{looks_at}
 use Rattle.hs_model.specs.Judge.{Judged, address_of, bytes_of, granted, judge, pointers_at, refusals}
 use Rattle.hs_model.specs.Refusals.{first}
-use Rattle.hs_model.specs.Store.{Store, block_at, block_of}
+use Rattle.hs_model.specs.Store.{Store, block_at}
 use Rattle.hs_ops.specs.declared.operation.Stage.{Stage}
 use Rattle.hs_ops.specs.declared.operation.Stage.TheVariants.{New, Waiting, Reading, Logged}
 use Rattle.hs_ops.specs.declared.step.OpStep.{OpStep}
-use Rattle.hs_ops.specs.declared.step.OpStep.TheVariants.{Answer, Compare, Propose, Wait}
+use Rattle.hs_ops.specs.declared.step.OpStep.TheVariants.{Answer, Wait}
 use Rattle.hs_ops.specs.Answers.{is_done}
 use Rattle.hs_ops.specs.Going.{asked_for, at_once, begin, compared, data_in, data_of, go, judged_in, on_bytes, propose_unless, read_or, read_reply}
 use Rattle.hs_ops.specs.Operations.{Operation, go_from, go_step}
-use Rattle.hs_ops.specs.Refusals.{refusal_of, refusals_of}
+use Rattle.hs_ops.specs.Refusals.{refusal_of}
 use Rattle.hs_ops.specs.Views.{OpView}
 use Rattle.hs_shown.specs.Showing.{Shows, as_sessions}
 

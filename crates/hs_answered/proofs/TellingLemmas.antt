@@ -5,7 +5,7 @@ use Rattle.hs_answered.proofs.RefusalLemmas.{IsNotBusy, IsOfKind, not_busy, stor
 use Rattle.hs_answered.specs.Telling.{Judging, Tells, events_in}
 use Rattle.hs_journal.specs.declared.entry.JournalEntry.{JournalEntry}
 use Rattle.hs_journal.specs.declared.entry.Who.TheVariants as who
-use Rattle.hs_journal.specs.Events.{HasAnswer, addressed, asked, client_op, event_at, events_of, line_event, store_by, with_event}
+use Rattle.hs_journal.specs.Events.{HasAnswer, addressed, asked, client_op, event_at, line_event, store_by, with_event}
 use Rattle.hs_limits.specs.declared.address.Address.{Address}
 use Rattle.hs_limits.specs.declared.limits.Limits.{Limits}
 use Rattle.hs_model.specs.declared.deed.Deed.{Deed}
@@ -15,7 +15,7 @@ use Rattle.hs_model.specs.declared.reply.Reply.{Reply}
 use Rattle.hs_model.specs.declared.reply.Reply.TheVariants as reply
 use Rattle.hs_model.specs.Judge.{Judged, granted, judge, refusals, written_reply}
 use Rattle.hs_model.specs.Refusals.{first}
-use Rattle.hs_model.specs.Run.{Event, IsAllowed, IsLegal, asks, run, step}
+use Rattle.hs_model.specs.Run.{Event, IsAllowed, IsLegal, asks, run}
 use Rattle.hs_model.specs.Store.{Store}
 
 -- an event, where there is one, is allowed

@@ -1,5 +1,5 @@
 use Rattle.hs_answered.proofs.CoreLemmas.{at_its_line, goes_on}
-use Rattle.hs_answered.proofs.answered.a_step_that_answers_is_the_judges.Goals as goal
+use Rattle.hs_answered.proofs.stepping.a_step_that_answers_is_the_judges.Goals as goal
 
 pub returns-clause-first : goal.returns-clause-first
 returns-clause-first c = λ cs core line o r folded asked free e.
