@@ -1,0 +1,2 @@
+mod OperationLemmas
+pub mod TurnLemmas

@@ -1,0 +1,7 @@
+use Rattle.std.proofs.Common.{refl}
+use Rattle.hs_told.proofs.TurnLemmas.{turns_now}
+use Rattle.hs_told.proofs.OperationLemmas.{none_at}
+use Rattle.hs_told.proofs.order.answers_stay.Goals as goal
+
+pub returns : goal.returns
+returns c = λ n. refl
