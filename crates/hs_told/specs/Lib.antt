@@ -1,2 +1,4 @@
 pub mod Apart
+pub mod InTurn
+pub mod Part
 pub mod Turns
