@@ -278,7 +278,7 @@ module _ (cs : List Folded) (core : Core) (line : ℕ) (o : Op) where
       ap (λ (x : Option Reply). option_map_or Answer x (go (record (view_for g o begun) { busy = busy_line o core }) line o))
       (ap (λ (b : Option ℕ). judged_in (record (view_for g o begun) { busy = b }) o) free ∙ judged_alike (view_for g o core) o (is_pending g o begun) ∙ e)
 
-  busy_step : (other : ℕ) (name : List ℕ) → session_of (Some o) ≡ Some name → (IsOpen (Some o) → ⊥) → IsSome (seat_of name core.sessions) → busy_line o core ≡ Some other
+  pub busy_step : (other : ℕ) (name : List ℕ) → session_of (Some o) ≡ Some name → (IsOpen (Some o) → ⊥) → IsSome (seat_of name core.sessions) → busy_line o core ≡ Some other
       → first_step line o core ≡ Answer (reply.Busy other)
   unfolding begin
   busy_step other name asks apart some e =

@@ -1,5 +1,6 @@
 pub mod BesideLemmas
 pub mod CalmLemmas
+mod DuringLemmas
 mod OperationLemmas
 mod SeatLemmas
 pub mod StirLemmas

@@ -6,11 +6,12 @@ use Rattle.hs_journal.specs.Order.{IsAt, IsOfLine, IsOrdered, IsPrompt, session_
 use Rattle.hs_model.specs.declared.command.Command.{Command}
 use Rattle.hs_model.specs.declared.op.Op.{Op}
 
--- an operation that waits is of its line's session, and of none that is answered in its own event
+-- an operation that waits is of its line's session, and neither is answered in its own event
 pub record IsFor (command : Option Command) (o : Op) : Type 0 where
   pub named : IsSome command
   pub same : session_of (client_op command) ≡ session_of (Some o)
   pub slow : IsPrompt (client_op command) → ⊥
+  pub waits : IsPrompt (Some o) → ⊥
 
 -- each client's line below a bound has its answer or waits, and none has both; no session has two that wait; the answers are in order, up to a moment
 pub record Turns (commands : ℕ → Option Command) (bound moment : ℕ) (entries : List JournalEntry) (waits : ℕ → Option Op) : Type 0 where
