@@ -178,7 +178,7 @@ unfolding judged_in refusals_of
 judged_opening v busy name = refl
 
 -- it sees what it would see if its session had no other operation
-free_sees : (v : OpView) (busy : Option ℕ) (o : Op) (core : Core) (r : Reply) → busy_with o core ≡ None → busy ≡ busy_line o core → Sees (record v { busy = busy }) o r → Sees (record v { busy = None }) o r
+pub free_sees : (v : OpView) (busy : Option ℕ) (o : Op) (core : Core) (r : Reply) → busy_with o core ≡ None → busy ≡ busy_line o core → Sees (record v { busy = busy }) o r → Sees (record v { busy = None }) o r
 free_sees v busy o core r free is sees = elim (opens_or_free o free) [
   | inl none ↦ subst (λ b. Sees (record v { busy = b }) o r) (is ∙ none) sees
   | inr opens ↦

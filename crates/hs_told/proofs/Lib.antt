@@ -1,4 +1,6 @@
+mod BeginLemmas
 pub mod BesideLemmas
+mod BusyLemmas
 pub mod CalmLemmas
 mod DuringLemmas
 mod OperationLemmas

@@ -1,6 +1,7 @@
 use Rattle.std.proofs.Common.{refl}
 use Rattle.hs_told.proofs.TurnLemmas.{turns_now}
 use Rattle.hs_told.proofs.OperationLemmas.{none_at}
+use Rattle.hs_told.proofs.BeginLemmas.{begins}
 use Rattle.hs_told.proofs.DuringLemmas.{stirs}
 use Rattle.hs_told.proofs.SeatLemmas.{seats_stay}
 use Rattle.hs_told.specs.InTurn.{IsInTurn}
