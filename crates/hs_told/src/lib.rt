@@ -3,4 +3,4 @@
 
 mod order;
 
-pub use order::answers_stay;
+pub use order::answers_stay_in_order;
