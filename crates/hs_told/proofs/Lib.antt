@@ -4,6 +4,7 @@ mod BusyLemmas
 pub mod CalmLemmas
 mod DuringLemmas
 mod OperationLemmas
+mod OpenedLemmas
 mod OrderLemmas
 mod SeatLemmas
 pub mod StirLemmas

@@ -184,7 +184,7 @@ same_refusal e line moment core = go _ e
 -- ---- and ends
 
 module _ (commands : ℕ → Option Command) where
-  ended : (l : ℕ) (c : Core) → During commands (l + 1) l (part_of c) → IsInTurn commands (end_event c)
+  pub ended : (l : ℕ) (c : Core) → During commands (l + 1) l (part_of c) → IsInTurn commands (end_event c)
   ended l c p = go (nat_lt c.limits.ops (length c.journal + length c.entries))
     where
       turns : Turns commands (c.event_line + 1) c.moment (c.journal ++ c.entries) (asking c.operations)

@@ -60,7 +60,7 @@ pub record Stirs (P : Core → Type 0) : Type 0 where
 module _ {P : Core → Type 0} (S : Stirs P) where
   -- ---- how changes are joined
 
-  stays_if : (b : Bool) (f : Core → Core) (c : Core) → ((x : Core) → P x → P (f x)) → P c → P (change_if b f c)
+  pub stays_if : (b : Bool) (f : Core → Core) (c : Core) → ((x : Core) → P x → P (f x)) → P c → P (change_if b f c)
   stays_if true f c h p = h c p
   stays_if false f c h p = p
 
@@ -68,7 +68,7 @@ module _ {P : Core → Type 0} (S : Stirs P) where
   stays_with None f c h p = p
   stays_with (Some y) f c h p = h y c p
 
-  stays_each : {B : Type 0} (ys : List B) (f : B → Core → Core) (c : Core) → ((y : B) (x : Core) → P x → P (f y x)) → P c → P (each ys f c)
+  pub stays_each : {B : Type 0} (ys : List B) (f : B → Core → Core) (c : Core) → ((y : B) (x : Core) → P x → P (f y x)) → P c → P (each ys f c)
   stays_each [] f c h p = p
   stays_each (y ∷ ys) f c h p = stays_each ys f (f y c) h (h y c p)
 
@@ -117,7 +117,7 @@ module _ {P : Core → Type 0} (S : Stirs P) where
   shard_only : (shard n : ℕ) → who.Shard shard ≡ who.Line n → ⊥
   shard_only shard n e = cc e
 
-  store_only : (n : ℕ) → who.Store ≡ who.Line n → ⊥
+  pub store_only : (n : ℕ) → who.Store ≡ who.Line n → ⊥
   store_only n e = cc e
 
   stays_sweep : (shard removed : ℕ) (c : Core) → P c → P (note_sweep shard removed c)

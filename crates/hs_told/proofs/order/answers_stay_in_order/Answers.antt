@@ -1,5 +1,9 @@
+use Rattle.hs_told.proofs.OpenedLemmas.{opened_turn}
 use Rattle.hs_told.proofs.OrderLemmas.{all_turn, step_turn}
 use Rattle.hs_told.proofs.order.answers_stay_in_order.Goals as goal
+
+pub returns-clause-opens : goal.returns-clause-opens
+returns-clause-opens c = λ commands shape limits taken moment none. opened_turn commands shape limits taken moment none
 
 pub returns-clause-event : goal.returns-clause-event
 returns-clause-event c = λ commands core e moment turn may. step_turn commands e moment core turn (λ going. may)
