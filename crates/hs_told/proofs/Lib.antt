@@ -3,9 +3,11 @@ pub mod BesideLemmas
 mod BusyLemmas
 pub mod CalmLemmas
 mod DuringLemmas
-mod OperationLemmas
+mod LineLemmas
 mod OpenedLemmas
+mod OperationLemmas
 mod OrderLemmas
+mod SaidLemmas
 mod SeatLemmas
 pub mod StirLemmas
 pub mod TurnLemmas

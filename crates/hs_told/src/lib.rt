@@ -1,6 +1,8 @@
 //! What the core's journal tells of an event, and in which order.
 #![tactic(auto)]
 
+mod lines;
 mod order;
 
+pub use lines::a_line_is_told;
 pub use order::answers_stay_in_order;
