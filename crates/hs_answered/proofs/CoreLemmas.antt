@@ -103,8 +103,8 @@ module _ (by_view : ByTheView) (by_bytes : ByTheBytes) (cs : List Folded) (core 
       its : (r ≡ with_data (data_of bytes) (judged_at cs core w.operation.op).reply) × Leaves s w.operation.op (v w.operation.op) (pointers_for w.shard w.operation.op core) r (judged_at cs core w.operation.op)
       its =
           subst (λ o. Shows core.limits s o (v o) → ((a : Address) → looks_at s o ≡ Some a → pointers_for w.shard o core ≡ pointers_at s a)
-              → on_bytes (v o) w.operation.line number bytes (pointers_for w.shard o core) o ≡ Answer r
-              → (r ≡ with_data (data_of bytes) (judged_at cs core o).reply) × Leaves s o (v o) (pointers_for w.shard o core) r (judged_at cs core o)) (sym is)
+          → on_bytes (v o) w.operation.line number bytes (pointers_for w.shard o core) o ≡ Answer r
+          → (r ≡ with_data (data_of bytes) (judged_at cs core o).reply) × Leaves s o (v o) (pointers_for w.shard o core) r (judged_at cs core o)) (sym is)
           (λ shows alike f. data_judged by_view by_bytes core.limits s (v (op.Read name handle)) (pointers_for w.shard (op.Read name handle) core) w.operation.line number bytes name handle r shows (alike (address_of s name handle) refl) f)
           (shows_at w.shard w.operation.op folded addressed place) (pointers_at_shard w.shard w.operation.op folded addressed place) e
 

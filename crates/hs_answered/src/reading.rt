@@ -20,11 +20,12 @@ ghost use Rattle.hs_ops.specs.Speaking.{judging_shard};
 
 use hs_shown::{an_answer_by_the_view_is_the_stores, bytes_are_answered_as_the_store_does};
 
-/// A read that is told bytes is answered as the judge says, where they are those of its block. Whatever
-/// they are, all but the data in its reply is the judge's: deed, handles, and the store afterwards.
+/// A read that is told bytes is answered as the judge says, where they are those of its block.
+/// Whatever they are, all but the data in its reply is the judge's: deed, handles, and the store
+/// afterwards.
 pub fn a_read_is_the_judges()
-    ensures whatever { (cs : List Folded) (core : Core) (line : ℕ) (bytes : Option (List ℕ)) (w : Waiting)
-        (name : List ℕ) (handle : ℕ) (r : Reply)
+    ensures whatever { (cs : List Folded) (core : Core) (line : ℕ)
+        (bytes : Option (List ℕ)) (w : Waiting) (name : List ℕ) (handle : ℕ) (r : Reply)
         → IsFolded core cs → IsAddressed core.sessions w.operation.op
         → w.shard ≡ judging_shard (shape_of core).shards core.sessions w.operation.op
         → w.operation.op ≡ op.Read name handle
@@ -32,8 +33,8 @@ pub fn a_read_is_the_judges()
         (pointers_for w.shard w.operation.op core) w.operation ≡ Answer r →
         IsTold cs core (take_step line w (Answer r) core) line
         (telling (data_of bytes) (judged_at cs core w.operation.op)) }
-    ensures told { (cs : List Folded) (core : Core) (line : ℕ) (bytes : Option (List ℕ)) (w : Waiting)
-        (name : List ℕ) (handle : ℕ) (r : Reply)
+    ensures told { (cs : List Folded) (core : Core) (line : ℕ)
+        (bytes : Option (List ℕ)) (w : Waiting) (name : List ℕ) (handle : ℕ) (r : Reply)
         → IsFolded core cs → IsAddressed core.sessions w.operation.op
         → w.shard ≡ judging_shard (shape_of core).shards core.sessions w.operation.op
         → w.operation.op ≡ op.Read name handle

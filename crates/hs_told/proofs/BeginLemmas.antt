@@ -1,5 +1,5 @@
 -- The order stays where a client's line begins.
-use Rattle.std.proofs.Common.{◌≡◌, ◌⊎◌, inl, inr, ℕ, ◌+◌, ◌<◌, ◌≤◌, ◌++◌, Bool, true, false, List, [], ◌∷◌, Option, Some, None, IsSome, refl, sym, ap, subst, ◌∙◌, arith}
+use Rattle.std.proofs.Common.{◌≡◌, inl, inr, ℕ, ◌+◌, ◌<◌, ◌++◌, List, [], ◌∷◌, Option, Some, None, IsSome, refl, sym, ap, subst, ◌∙◌, arith}
 use Rattle.std.proofs.lemmas.Bool.{cases_eq}
 use Rattle.std.proofs.lemmas.List.{append_assoc}
 use Rattle.std.specs.BTreeMap.{insert_entry, is_at}
@@ -11,15 +11,13 @@ use Rattle.hs_answered.proofs.CoreLemmas.{free_sees}
 use Rattle.hs_answered.proofs.RefusalLemmas.{IsNotBusy}
 use Rattle.hs_answered.proofs.StepLemmas.{step_sees}
 use Rattle.hs_answered.specs.Asked.{busy_with, first_step}
-use Rattle.hs_core.specs.declared.wait.Wait.{Wait}
 use Rattle.hs_core.specs.declared.wait.Wait.TheVariants as wait
 use Rattle.hs_core.specs.declared.waiting.Waiting.{Waiting}
 use Rattle.hs_core.specs.Changing.{add_operation, put_operation}
 use Rattle.hs_core.specs.Looking.{group_of, lead_of, shape_of}
-use Rattle.hs_core.specs.Operating.{add_read, answer, begin_line, busy_line, propose_entry, take_step, what_holds}
-use Rattle.hs_core.specs.Seeing.{pointers_for, view_for}
+use Rattle.hs_core.specs.Operating.{add_read, answer, begin_line, busy_line, take_step, what_holds}
+use Rattle.hs_core.specs.Seeing.{view_for}
 use Rattle.hs_core.specs.State.{Core}
-use Rattle.hs_core.specs.Words.{change_with}
 use Rattle.hs_journal.specs.declared.entry.JournalEntry.{JournalEntry}
 use Rattle.hs_journal.specs.declared.entry.Who.TheVariants as who
 use Rattle.hs_journal.specs.Events.{client_op}
@@ -32,7 +30,7 @@ use Rattle.hs_model.specs.declared.reply.Reply.{Reply}
 use Rattle.hs_model.specs.declared.reply.Reply.TheVariants as reply
 use Rattle.hs_ops.specs.declared.step.OpStep.{OpStep}
 use Rattle.hs_ops.specs.declared.step.OpStep.TheVariants as step
-use Rattle.hs_ops.specs.Answers.{deed_of, gained, seats_after}
+use Rattle.hs_ops.specs.Answers.{deed_of, seats_after}
 use Rattle.hs_ops.specs.Going.{begin, go, judged_in}
 use Rattle.hs_ops.specs.Operations.{after_step, new_operation}
 use Rattle.hs_ops.specs.Speaking.{judging_shard}
@@ -48,7 +46,7 @@ use Rattle.hs_told.proofs.SeatLemmas.{Closes, seats_stay}
 use Rattle.hs_told.proofs.TurnLemmas.{turns_begins, turns_now, turns_same}
 use Rattle.hs_told.specs.InTurn.{bare}
 use Rattle.hs_told.specs.Part.{asking, part_of}
-use Rattle.hs_told.specs.Turns.{IsFor, Turns}
+use Rattle.hs_told.specs.Turns.{Turns}
 
 -- ---- the operation of a line
 
@@ -212,8 +210,8 @@ module _ (commands : ℕ → Option Command) (last line : ℕ) (o : Op) (x : Cor
   told_now u r is busy only unlocked = record {
     turns = waits_same (subst (λ entries. Turns commands (line + 1) x.moment entries (asking x.operations)) (append_assoc x.journal x.entries (e ∷ []))
         (turns_now commands line x.moment (x.journal ++ x.entries) (asking x.operations) p.turns e refl (omega arith) said.named
-            (λ session s d l q h t. busy session (sym said.same ∙ s) (λ h. d (said.opened h)) l q h t)
-            (λ l f. let it = only l f in (it.0, it.1, said.same ∙ it.2, (λ h. it.3 (said.opens h)), it.4, it.5))));
+        (λ session s d l q h t. busy session (sym said.same ∙ s) (λ h. d (said.opened h)) l q h t)
+        (λ l f. let it = only l f in (it.0, it.1, said.same ∙ it.2, (λ h. it.3 (said.opens h)), it.4, it.5))));
     journal = p.journal;
     apart = remove_apart (insert_entry nat_cmp x.operations line w) line (insert_apart x.operations line w new_line p.apart);
     opened = λ n q name h s. unlocked n q name (sym (ended_same n) ∙ h) s;

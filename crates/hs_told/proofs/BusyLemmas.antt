@@ -1,5 +1,5 @@
 -- Which operation a session has, by the line with which it is busy.
-use Rattle.std.proofs.Common.{◌≡◌, ◌⊎◌, inl, inr, ℕ, Bool, true, false, List, [], ◌∷◌, Option, Some, None, IsSome, refl, sym, ap, subst, ◌∙◌, is_none}
+use Rattle.std.proofs.Common.{◌≡◌, ℕ, true, false, List, ◌∷◌, Option, Some, None, IsSome, refl, sym, ap, subst, ◌∙◌, is_none}
 use Rattle.std.specs.BTreeMap.{is_at}
 use Rattle.std.specs.Map.{lookup}
 use Rattle.std.specs.Option.{option_and_then, option_map, option_map_or, option_or}
@@ -13,7 +13,6 @@ use Rattle.hs_journal.specs.Order.{IsOpen, IsPrompt, session_of}
 use Rattle.hs_model.specs.declared.op.Op.{Op}
 use Rattle.hs_model.specs.declared.op.Op.TheVariants as op
 use Rattle.hs_model.specs.declared.reply.Reply.{Reply}
-use Rattle.hs_model.specs.declared.reply.Reply.TheVariants as reply
 use Rattle.hs_model.specs.Refusals.{first, refused_when}
 use Rattle.hs_ops.specs.Going.{at_once, judged_in}
 use Rattle.hs_ops.specs.Refusals.{refusal_of, refusals_of}

@@ -1,6 +1,6 @@
 -- No step of an operation that goes on answers that its session is busy.
-use Rattle.std.proofs.Common.{◌≡◌, ◌⊎◌, inl, inr, ℕ, Bool, true, false, not, List, [], Option, Some, None, refl, sym, ap, ◌∙◌, subst}
-use Rattle.std.specs.Option.{option_map, option_map_or, option_or}
+use Rattle.std.proofs.Common.{◌≡◌, inl, inr, ℕ, Bool, true, false, not, List, Option, Some, None, sym, subst}
+use Rattle.std.specs.Option.{option_map, option_or}
 use Rattle.std.specs.Prelude.{if◌then◌else◌}
 use Rattle.hs_answered.proofs.RefusalLemmas.{IsNotBusy, IsOfKind, not_busy, not_told_busy, view_stops}
 use Rattle.hs_answered.proofs.StepLemmas.{Sees, go_sees, split_step, step_sees}
@@ -11,9 +11,7 @@ use Rattle.hs_model.specs.declared.op.Op.{Op}
 use Rattle.hs_model.specs.declared.op.Op.TheVariants as op
 use Rattle.hs_model.specs.declared.reply.Reply.{Reply}
 use Rattle.hs_model.specs.declared.reply.Reply.TheVariants as reply
-use Rattle.hs_model.specs.Judge.{written_reply}
-use Rattle.hs_ops.specs.declared.step.OpStep.{OpStep}
-use Rattle.hs_ops.specs.declared.step.OpStep.TheVariants.{Answer, Propose, Wait}
+use Rattle.hs_ops.specs.declared.step.OpStep.TheVariants.{Answer, Propose}
 use Rattle.hs_ops.specs.Going.{at_once, compared, data_of, effect_reply, given_reply, go, is_reported, is_same_block, judged_in, mark_entry, on_bytes, on_effect, read_reply}
 use Rattle.hs_ops.specs.Operations.{Operation, bytes_step, effect_step, go_step, wanted_number}
 use Rattle.hs_ops.specs.Refusals.{refusal_of}

@@ -1,5 +1,5 @@
 -- The order stays within an event, where operations wait, are answered or start again.
-use Rattle.std.proofs.Common.{◌≡◌, ◌⊎◌, inl, inr, ℕ, ◌++◌, Bool, true, false, List, [], ◌∷◌, Option, Some, None, IsSome, map, refl, sym, ap, subst, ◌∙◌}
+use Rattle.std.proofs.Common.{◌≡◌, inl, inr, ℕ, ◌++◌, Bool, true, false, List, [], ◌∷◌, Option, Some, None, IsSome, map, refl, sym, ap, subst, ◌∙◌}
 use Rattle.std.proofs.lemmas.Bool.{cases_eq}
 use Rattle.std.proofs.lemmas.List.{append_assoc}
 use Rattle.std.specs.BTreeMap.{is_at}
@@ -26,7 +26,6 @@ use Rattle.hs_model.specs.declared.deed.Deed.{Deed}
 use Rattle.hs_model.specs.declared.op.Op.{Op}
 use Rattle.hs_model.specs.declared.op.Op.TheVariants as op
 use Rattle.hs_model.specs.declared.reply.Reply.{Reply}
-use Rattle.hs_model.specs.declared.reply.Reply.TheVariants as reply
 use Rattle.hs_ops.specs.Answers.{deed_of, gained}
 use Rattle.hs_tokens.specs.Seats.{seat_of}
 use Rattle.hs_told.proofs.OperationLemmas.{map_apart, map_at, remove_apart, remove_here, remove_other, set_apart, set_here, set_other}
@@ -122,7 +121,7 @@ module _ (commands : ℕ → Option Command) (bound line : ℕ) where
   answers_on n w was told c here same calm p = record {
     turns = subst (λ entries. Turns commands bound c.moment entries (asking operations)) (append_assoc c.journal c.entries (e ∷ []))
         (turns_answered commands bound c.moment (c.journal ++ c.entries) (asking c.operations) p.turns n was.operation.op e (asking operations) asked (ap op_of (remove_here c.operations n p.apart))
-            (λ m d. ap op_of (remove_other c.operations n m d)) refl refl (λ l f. subst (λ r. IsNotBusy r) f calm));
+        (λ m d. ap op_of (remove_other c.operations n m d)) refl refl (λ l f. subst (λ r. IsNotBusy r) f calm));
     journal = p.journal;
     apart = remove_apart c.operations n p.apart;
     opened = λ m q name h s. seats_stay gains w.operation.op told c.sessions name (λ closes. quiet (closes_prompt w.operation.op name closes)) (p.opened m q name (back m q h) s);

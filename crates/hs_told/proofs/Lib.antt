@@ -1,6 +1,7 @@
 mod BeginLemmas
 pub mod BesideLemmas
 mod BusyLemmas
+mod BytesLemmas
 pub mod CalmLemmas
 mod DuringLemmas
 mod LineLemmas

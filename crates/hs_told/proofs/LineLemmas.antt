@@ -1,5 +1,5 @@
 -- What the event of a client's line tells.
-use Rattle.std.proofs.Common.{◌≡◌, ◌⊎◌, inl, inr, ℕ, ◌+◌, ◌==◌, ◌++◌, Bool, true, false, List, [], ◌∷◌, length, Option, Some, None, is_none, nat_lt, refl, sym, ap, subst, ◌∙◌}
+use Rattle.std.proofs.Common.{◌≡◌, ℕ, ◌+◌, ◌==◌, ◌++◌, Bool, true, false, List, [], ◌∷◌, length, Option, Some, None, is_none, nat_lt, refl, sym, ap, subst, ◌∙◌}
 use Rattle.std.proofs.lemmas.List.{append-nil}
 use Rattle.std.specs.List.{list_any}
 use Rattle.std.specs.Option.{option_map_or}
@@ -15,7 +15,7 @@ use Rattle.hs_core.specs.declared.wait.Wait.TheVariants as wait
 use Rattle.hs_core.specs.declared.waiting.Waiting.{Waiting}
 use Rattle.hs_core.specs.Changing.{add_entry_tasks, add_operation, change_group, change_pool, post, put_operation}
 use Rattle.hs_core.specs.Looking.{group_of, lead_of, shape_of}
-use Rattle.hs_core.specs.Operating.{add_read, begin_line, busy_line, propose_entry, take_step}
+use Rattle.hs_core.specs.Operating.{add_read, begin_line, busy_line, take_step}
 use Rattle.hs_core.specs.Pending.{is_address, is_coming, is_crowded, named}
 use Rattle.hs_core.specs.Seeing.{view_for}
 use Rattle.hs_core.specs.State.{Core}
@@ -193,7 +193,7 @@ module _ (cs : List Folded) (core : Core) (line moment : ℕ) (o : Op) where
   told_if_waits Wait e f h = (rw e (rw f refl), rw e (rw f refl))
 
 module _ (law : ByFirst) (commands : ℕ → Option Command) (cs : List Folded) (core : Core) (line moment : ℕ) (o : Op)
-  (turn : IsInTurn commands core) (folds : IsFolded core cs) (asked : IsAsked (store_with cs core.sessions) o) where
+    (turn : IsInTurn commands core) (folds : IsFolded core cs) (asked : IsAsked (store_with cs core.sessions) o) where
   abbrev last : ℕ
   last = if line == 0 then core.event_line else line
 

@@ -1,5 +1,5 @@
 -- A core that opens is in turn.
-use Rattle.std.proofs.Common.{◌≡◌, ◌⊎◌, inl, inr, ℕ, zero, suc, ◌+◌, ◌<◌, ◌≤◌, Bool, List, [], ◌∷◌, Option, Some, None, not, refl, sym, ap, subst, ◌∙◌, arith}
+use Rattle.std.proofs.Common.{◌≡◌, ℕ, [], Option, Some, None, not, refl, ap, ◌∙◌, arith}
 use Rattle.hs_core.specs.Changing.{note}
 use Rattle.hs_core.specs.Looking.{shape_of, shards_of, status_of}
 use Rattle.hs_core.specs.Opening.{Taken, begin_views, new_core, note_down, note_if_down, open_core}

@@ -1,5 +1,5 @@
 -- Every event keeps the order of answers.
-use Rattle.std.proofs.Common.{◌≡◌, ◌⊎◌, inl, inr, ℕ, ◌+◌, ◌<◌, ◌≤◌, ◌==◌, ◌++◌, Bool, true, false, List, [], ◌∷◌, length, Option, Some, None, IsSome, is_none, nat_lt, refl, sym, ap, subst, ◌∙◌, arith}
+use Rattle.std.proofs.Common.{◌≡◌, inl, inr, ℕ, ◌+◌, ◌<◌, ◌≤◌, ◌==◌, ◌++◌, Bool, true, false, List, [], ◌∷◌, length, Option, Some, None, is_none, nat_lt, refl, sym, ap, subst, ◌∙◌, arith}
 use Rattle.std.proofs.lemmas.Bool.{cases_eq}
 use Rattle.std.proofs.lemmas.Bool.Decides.{nat_tests}
 use Rattle.std.proofs.lemmas.List.{append-nil, append_assoc}
@@ -11,18 +11,16 @@ use Rattle.hs_core.specs.Asking.{deliver, lose, no_peer, not_down, not_up, nudge
 use Rattle.hs_core.specs.Changing.{change_pool, refuse}
 use Rattle.hs_core.specs.Failing.{go_down}
 use Rattle.hs_core.specs.Joining.{start}
-use Rattle.hs_core.specs.Looking.{status_of}
 use Rattle.hs_core.specs.Operating.{begin_line}
 use Rattle.hs_core.specs.State.{Core}
-use Rattle.hs_core.specs.Step.{begin_event, do_event, end_event, is_first_line, keep_entries, line_of, refuse_entries, run_event, step}
+use Rattle.hs_core.specs.Step.{begin_event, do_event, end_event, keep_entries, line_of, refuse_entries, run_event, step}
 use Rattle.hs_core.specs.Words.{change_if}
 use Rattle.hs_desk.specs.declared.fault.CoreFault.{CoreFault}
 use Rattle.hs_desk.specs.declared.fault.CoreFault.TheVariants as fault
 use Rattle.hs_journal.specs.declared.entry.JournalEntry.{JournalEntry}
 use Rattle.hs_journal.specs.declared.entry.Who.TheVariants as who
 use Rattle.hs_journal.specs.Events.{client_op}
-use Rattle.hs_journal.specs.Order.{IsOrdered, session_of}
-use Rattle.hs_members.specs.Members.{is_down}
+use Rattle.hs_journal.specs.Order.{session_of}
 use Rattle.hs_model.specs.declared.command.Command.{Command}
 use Rattle.hs_model.specs.declared.deed.Deed.TheVariants as deed
 use Rattle.hs_model.specs.declared.op.Op.{Op}
@@ -30,13 +28,13 @@ use Rattle.hs_model.specs.declared.reply.Reply.{Reply}
 use Rattle.hs_model.specs.declared.reply.Reply.TheVariants as reply
 use Rattle.hs_model.specs.Refusals.{first, refused_when}
 use Rattle.hs_post.specs.declared.message.Message.{Message}
-use Rattle.hs_post.specs.Pool.{is_empty, is_full, message_at, restart_numbers}
+use Rattle.hs_post.specs.Pool.{is_full, message_at, restart_numbers}
 use Rattle.hs_told.proofs.BeginLemmas.{begins, said_is}
 use Rattle.hs_told.proofs.BesideLemmas.{beside_if}
 use Rattle.hs_told.proofs.DuringLemmas.{During, stirs}
 use Rattle.hs_told.proofs.StirLemmas.{Stirs, stays_deliver, stays_down, stays_lose, stays_nudge, stays_report, stays_start}
 use Rattle.hs_told.proofs.TurnLemmas.{turns_later, turns_now, turns_raised}
-use Rattle.hs_told.specs.InTurn.{AllMayCome, ClientMay, IsInTurn, MayBegin, MayCome, NoneBetween, OtherMay, after_all, message_refusal, refusal_in, repeat_refusal, told_of}
+use Rattle.hs_told.specs.InTurn.{AllMayCome, ClientMay, IsInTurn, MayBegin, MayCome, OtherMay, after_all, message_refusal, refusal_in, repeat_refusal}
 use Rattle.hs_told.specs.Part.{Part, asking, part_of}
 use Rattle.hs_told.specs.Turns.{Turns}
 
@@ -279,8 +277,8 @@ module _ (commands : ℕ → Option Command) where
             refused above = record {
               turns = subst (λ entries. Turns commands (line + 1) x.moment entries (asking x.operations)) (append_assoc x.journal x.entries (told ∷ []))
                   (turns_now commands line x.moment (x.journal ++ x.entries) (asking x.operations) p.turns told refl (omega arith) may.named
-                      (λ session s d l o h t. let f : session_of (client_op (commands line)) ≡ None = ap (λ o. session_of o) may.nobody in absurd (cc (f, s)))
-                      (λ l f. absurd (calm l f)));
+                  (λ session s d l o h t. let f : session_of (client_op (commands line)) ≡ None = ap (λ o. session_of o) may.nobody in absurd (cc (f, s)))
+                  (λ l f. absurd (calm l f)));
               journal = p.journal;
               apart = p.apart;
               opened = p.opened;

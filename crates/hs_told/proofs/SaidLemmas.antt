@@ -1,5 +1,5 @@
 -- A line's operation with the address of its block comes as it has to be asked.
-use Rattle.std.proofs.Common.{◌≡◌, ℕ, Bool, true, false, List, Option, Some, None, refl, sym, subst}
+use Rattle.std.proofs.Common.{◌≡◌, ℕ, Bool, true, false, List, Some, None, refl, subst}
 use Rattle.std.specs.Prelude.{if◌then◌else◌}
 use Rattle.hs_answered.specs.Asked.{IsAsked}
 use Rattle.hs_journal.specs.Events.{address_of, addressed, has_block}

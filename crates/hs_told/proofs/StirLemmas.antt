@@ -1,26 +1,23 @@
 -- What operations keep where they wait, are answered or start again, each event keeps.
-use Rattle.std.proofs.Common.{◌≡◌, ◌∙◌, ap, sym, ℕ, zero, suc, ◌+◌, ◌-◌, Bool, true, false, List, [], ◌∷◌, Option, Some, None, refl}
+use Rattle.std.proofs.Common.{◌≡◌, ◌∙◌, ℕ, zero, suc, ◌+◌, ◌-◌, Bool, true, false, List, [], ◌∷◌, Option, Some, None, refl}
 use Rattle.std.specs.Prelude.{drop, is_some}
 use Rattle.hs_answered.proofs.RefusalLemmas.{IsNotBusy}
-use Rattle.hs_core.specs.Asking.{deliver, lose, nudge, nudge_good, send_again, send_rounds}
-use Rattle.hs_core.specs.Changing.{add_entry_tasks, change_group, change_pool, change_rejoin, note, post, put_operation, set_catalogue, set_rejoin, set_status, set_tasks, set_viewed}
-use Rattle.hs_core.specs.declared.task.Task.{Task}
-use Rattle.hs_core.specs.declared.wait.Wait.{Wait}
+use Rattle.hs_core.specs.Asking.{deliver, lose, nudge, nudge_good, send_rounds}
+use Rattle.hs_core.specs.Changing.{change_group, change_rejoin, note, post, put_operation, set_rejoin, set_status, set_tasks, set_viewed}
 use Rattle.hs_core.specs.declared.wait.Wait.TheVariants as wait
 use Rattle.hs_core.specs.declared.waiting.Waiting.{Waiting}
 use Rattle.hs_core.specs.Delivering.{handle, take_copy}
-use Rattle.hs_core.specs.Effects.{after_entry, commit, commit_next, is_for_view, note_enter, note_sweep, reach_view, round_messages, take_effect, tell_enter, tell_operation, wakes}
+use Rattle.hs_core.specs.Effects.{after_entry, commit, commit_next, is_for_view, note_enter, note_sweep, reach_view, take_effect, tell_enter, tell_operation}
 use Rattle.hs_core.specs.Entering.{propose_due}
 use Rattle.hs_core.specs.Failing.{commit_rest, fail_disk, go_down, leave}
 use Rattle.hs_core.specs.Joining.{begin_joining, follow_lead, join, join_if_level, joining_peers, start}
-use Rattle.hs_core.specs.Looking.{catalogue_of, first_task, front_of, group_of, home, lead_of, operation_of, rejoin_of, status_of, tasks_of}
-use Rattle.hs_core.specs.Operating.{add_read, answer, go_on_with, lines_where, propose_entry, resume, resume_where, take_step, wait_for, what_holds}
-use Rattle.hs_core.specs.Pending.{named}
+use Rattle.hs_core.specs.Looking.{catalogue_of, first_task, front_of, group_of, home, lead_of, operation_of, status_of, tasks_of}
+use Rattle.hs_core.specs.Operating.{add_read, answer, go_on_with, lines_where, propose_entry, resume, resume_where, take_step, what_holds}
 use Rattle.hs_core.specs.Reporting.{is_reading, on_report, take_report, tell_bytes}
 use Rattle.hs_core.specs.Seeing.{pointers_for, view_for}
 use Rattle.hs_core.specs.State.{Core}
 use Rattle.hs_core.specs.Views.{begin_view, change_view, restart, restart_at}
-use Rattle.hs_core.specs.Words.{change_if, change_with, each, times, ◌▸◌}
+use Rattle.hs_core.specs.Words.{change_if, change_with, each, times}
 use Rattle.hs_desk.specs.Answers.{answers}
 use Rattle.hs_desk.specs.declared.done.Done.{Done}
 use Rattle.hs_desk.specs.declared.done.Done.TheVariants as done
@@ -43,7 +40,7 @@ use Rattle.hs_ops.specs.Views.{OpView}
 use Rattle.hs_post.specs.declared.message.Message.{Message}
 use Rattle.hs_post.specs.declared.message.Message.TheVariants as message
 use Rattle.hs_rejoin.specs.Rejoin.{copied, emptied}
-use Rattle.hs_replica.specs.Group.{commit_front, committed, have, is_peer, last_number, on_copied, on_emptied, on_have, on_sealed, renew, renewal, take_committed}
+use Rattle.hs_replica.specs.Group.{commit_front, committed, have, is_peer, last_number, on_copied, on_emptied, on_have, on_sealed, renew, renewal}
 use Rattle.hs_shard.specs.declared.effect.Effect.{Effect}
 use Rattle.hs_told.proofs.BesideLemmas.{beside_copy, beside_due, beside_follow, beside_joining, beside_propose, beside_rounds, beside_with}
 use Rattle.hs_told.proofs.CalmLemmas.{bytes_calm, effect_calm, go_calm}

@@ -11,13 +11,15 @@ ghost use Rattle.hs_limits.specs.declared.shape.Shape.{Shape};
 ghost use Rattle.hs_model.specs.declared.command.Command.{Command};
 ghost use Rattle.hs_told.specs.InTurn.{AllMayCome, IsInTurn, MayCome, after_all, told_of};
 
-/// A core that opens is in turn, and every event that may come keeps the order of answers: beside an entry of a session's line at most
-/// one earlier line of the session is without its answer, and the line is refused as busy with it,
-/// and with nothing else; lines answered in their own event, and those refused as busy, have their
-/// entries before those of all later lines; no line has two; and moments never fall. So do any number
-/// of events, one after another, also where the last one finds the journal full.
+/// A core that opens is in turn, and every event that may come keeps the order of answers: beside an
+/// entry of a session's line at most one earlier line of the session is without its answer, and the
+/// line is refused as busy with it, and with nothing else; lines answered in their own event, and
+/// those refused as busy, have their entries before those of all later lines; no line has two; and
+/// moments never fall. So do any number of events, one after another, also where the last one finds
+/// the journal full.
 pub fn answers_stay_in_order()
-    ensures opens { (commands : ℕ → Option Command) (shape : Shape) (limits : Limits) (taken : Taken) (moment : ℕ)
+    ensures opens { (commands : ℕ → Option Command) (shape : Shape) (limits : Limits)
+        (taken : Taken) (moment : ℕ)
         → client_op (commands 0) ≡ None →
         IsInTurn commands (open_core shape limits taken moment) }
     ensures event { (commands : ℕ → Option Command) (core : Core) (e : Event) (moment : ℕ)
