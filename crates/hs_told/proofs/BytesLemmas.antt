@@ -1,8 +1,7 @@
 -- Whatever bytes a report tells, sessions and catalogues are afterwards the same.
-use Rattle.std.proofs.Common.{◌≡◌, ◌⊎◌, inl, inr, ℕ, ◌+◌, ◌&&◌, Bool, true, false, not, List, [], Option, Some, None, is_none, length, nat_lt, refl, sym, ap, subst, ◌∙◌}
+use Rattle.std.proofs.Common.{◌≡◌, ℕ, ◌+◌, Bool, true, false, not, List, Option, Some, None, is_none, length, nat_lt, refl, sym, ap, ◌∙◌}
 use Rattle.std.specs.Option.{option_map_or}
 use Rattle.std.specs.Prelude.{drop, if◌then◌else◌}
-use Rattle.hs_answered.proofs.AnswerLemmas.{view_refusal_stops}
 use Rattle.hs_core.specs.declared.event.Event.TheVariants as event
 use Rattle.hs_core.specs.declared.task.Task.{Task}
 use Rattle.hs_core.specs.declared.wait.Wait.TheVariants as wait
@@ -15,8 +14,7 @@ use Rattle.hs_core.specs.Seeing.{pointers_for, view_for}
 use Rattle.hs_core.specs.State.{Core}
 use Rattle.hs_core.specs.Step.{begin_event, end_event, keep_entries, refuse_entries, run_event, step}
 use Rattle.hs_core.specs.Words.{change_if, change_with}
-use Rattle.hs_desk.specs.Answers.{answers, is_read_of}
-use Rattle.hs_desk.specs.declared.done.Done.{Done}
+use Rattle.hs_desk.specs.Answers.{is_read_of}
 use Rattle.hs_desk.specs.declared.done.Done.TheVariants as done
 use Rattle.hs_limits.specs.declared.address.Address.{Address}
 use Rattle.hs_limits.specs.declared.address.Held.{Held}
@@ -27,7 +25,7 @@ use Rattle.hs_model.specs.declared.reply.Reply.TheVariants as reply
 use Rattle.hs_ops.specs.declared.step.OpStep.{OpStep}
 use Rattle.hs_ops.specs.declared.step.OpStep.TheVariants.{Answer, Compare, Propose, Wait}
 use Rattle.hs_ops.specs.Answers.{gained, seats_after}
-use Rattle.hs_ops.specs.Going.{compared, data_of, go, is_reported, is_same_block, mark_entry, on_bytes, read_reply}
+use Rattle.hs_ops.specs.Going.{compared, go, is_reported, is_same_block, mark_entry, on_bytes}
 use Rattle.hs_ops.specs.Operations.{Operation, after_step, bytes_step, wanted_number}
 use Rattle.hs_ops.specs.Refusals.{refusal_of}
 use Rattle.hs_ops.specs.Speaking.{asked_block}
