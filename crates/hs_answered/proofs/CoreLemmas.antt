@@ -2,6 +2,7 @@
 use Rattle.std.proofs.Common.{◌≡◌, ◌⊎◌, inl, inr, ℕ, ◌++◌, Bool, List, [], ◌∷◌, Option, Some, None, IsSome, is_none, refl, sym, ap, ◌∙◌, subst}
 use Rattle.std.specs.Option.{option_map, option_map_or, option_or}
 use Rattle.hs_answered.proofs.AnswerLemmas.{ByTheBytes, ByTheView, Leaves}
+use Rattle.hs_answered.proofs.CollisionLemmas.{ByCollision, write_judged}
 use Rattle.hs_answered.proofs.EarlyLemmas.{addressed_or_early, asked_from_address}
 use Rattle.hs_answered.proofs.ShownLemmas.{pointers_are, shown}
 use Rattle.hs_answered.proofs.StepLemmas.{Judges, Sees, data_judged, early_judged, sees_judged, step_sees, true_data, true_reply}
@@ -26,7 +27,7 @@ use Rattle.hs_model.specs.declared.op.Op.TheVariants as op
 use Rattle.hs_model.specs.declared.reply.Reply.{Reply}
 use Rattle.hs_model.specs.declared.reply.Reply.TheVariants as reply
 use Rattle.hs_model.specs.Hollow.{looks_at}
-use Rattle.hs_model.specs.Judge.{address_of, bytes_of, pointers_at}
+use Rattle.hs_model.specs.Judge.{address_of, bytes_of, given_address, pointers_at}
 use Rattle.hs_model.specs.Refusals.{first, refused_when}
 use Rattle.hs_model.specs.Store.{Store, block_at}
 use Rattle.hs_ops.specs.Answers.{deed_of, seats_after}
@@ -112,6 +113,25 @@ pub answered : ByTheView → ByTheBytes → (cs : List Folded) (core : Core) (li
     → w.shard ≡ judging_shard (shape_of core).shards core.sessions w.operation.op → judged_in (view_for w.shard w.operation.op core) w.operation.op ≡ Some r
     → IsJudged cs core (answer line w r core) line w.operation.op
 answered by_view by_bytes cs core line w r folded addressed place e = sees_is by_view by_bytes cs core line w r folded addressed place (inl e)
+
+-- a write that is told the bytes of its block's entry
+pub writes_true : ByTheView → ByTheBytes → ByCollision → (cs : List Folded) (core : Core) (line : ℕ) (bytes : Option (List ℕ)) (w : Waiting) (name payload handles : List ℕ) (address : Option Address) (r : Reply)
+    → IsFolded core cs → IsAddressed core.sessions w.operation.op → w.shard ≡ judging_shard (shape_of core).shards core.sessions w.operation.op
+    → w.operation.op ≡ op.Write name payload handles address
+    → ((view_for w.shard w.operation.op core).present ≡ Some (wanted_number w.operation.stage) → HasBytes (block_at (store_with cs core.sessions) (given_address address)) bytes)
+    → bytes_step (view_for w.shard w.operation.op core) bytes (pointers_for w.shard w.operation.op core) w.operation ≡ Answer r
+    → IsJudged cs core (take_step line w (Answer r) core) line w.operation.op
+writes_true by_view by_bytes by_collision cs core line bytes w name payload handles address r folded addressed place is true_bytes e =
+    told_is cs core line (record w { operation = after_step (Answer r) w.operation }) r folded
+    (subst (λ o. Shows core.limits s o (view_for w.shard o core) → ((a : Address) → looks_at s o ≡ Some a → pointers_for w.shard o core ≡ pointers_at s a)
+    → ((view_for w.shard o core).present ≡ Some (wanted_number w.operation.stage) → HasBytes (block_at s (given_address address)) bytes)
+    → on_bytes (view_for w.shard o core) w.operation.line (wanted_number w.operation.stage) bytes (pointers_for w.shard o core) o ≡ Answer r
+    → Judges core.limits s o (view_for w.shard o core) (pointers_for w.shard o core) r) (sym is)
+    (λ shows alike true f. write_judged by_view by_bytes by_collision core.limits s (view_for w.shard (op.Write name payload handles address) core) (pointers_for w.shard (op.Write name payload handles address) core) w.operation.line (wanted_number w.operation.stage) bytes name payload handles address r shows alike true f)
+    (shows_at by_view by_bytes cs core w.shard w.operation.op folded addressed place) (pointers_at_shard by_view by_bytes cs core w.shard w.operation.op folded addressed place) true_bytes e)
+  where
+    s : Store
+    s = store_with cs core.sessions
 
 -- and where its next step answers it
 pub goes_on : ByTheView → ByTheBytes → (cs : List Folded) (core : Core) (line : ℕ) (w : Waiting) (r : Reply) → IsFolded core cs → IsAddressed core.sessions w.operation.op

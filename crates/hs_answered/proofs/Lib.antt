@@ -1,4 +1,5 @@
 pub mod AnswerLemmas
+pub mod CollisionLemmas
 pub mod CoreLemmas
 pub mod EarlyLemmas
 mod MemoryLemmas

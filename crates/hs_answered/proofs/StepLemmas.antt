@@ -119,7 +119,7 @@ not_refused v o e = go (refusal_of v o) e
     go None f = refl
     go (Some q) f = cc f
 
-refused_at_once : (v : OpView) (o : Op) (q : Reply) → refusal_of v o ≡ Some q → judged_in v o ≡ Some q
+pub refused_at_once : (v : OpView) (o : Op) (q : Reply) → refusal_of v o ≡ Some q → judged_in v o ≡ Some q
 unfolding judged_in
 refused_at_once v o q e = ap (λ (x : Option Reply). option_or x (at_once v o)) e
 
