@@ -1,5 +1,5 @@
 -- Every event keeps the order of answers.
-use Rattle.std.proofs.Common.{◌≡◌, inl, inr, ℕ, ◌+◌, ◌<◌, ◌≤◌, ◌==◌, ◌++◌, Bool, true, false, List, [], ◌∷◌, length, Option, Some, None, is_none, nat_lt, refl, sym, ap, subst, ◌∙◌, arith}
+use Rattle.std.proofs.Common.{◌≡◌, inl, inr, ℕ, ◌+◌, ◌<◌, ◌≤◌, ◌==◌, ◌++◌, Bool, true, false, List, [], ◌∷◌, length, Option, Some, None, IsSome, is_none, nat_lt, refl, sym, ap, subst, ◌∙◌, arith}
 use Rattle.std.proofs.lemmas.Bool.{cases_eq}
 use Rattle.std.proofs.lemmas.Bool.Decides.{nat_tests}
 use Rattle.std.proofs.lemmas.List.{append-nil, append_assoc}
@@ -266,17 +266,17 @@ module _ (commands : ℕ → Option Command) where
             ended line (do_event e x) (event_stays (stirs commands (line + 1) line) e x other (same_refusal e line moment core ∙ free)
             (started (line + 1) line line (let u : core.event_line ≤ line = may.upward in omega (arith, u)) nobody (line_is line may.upward)))
         by_refusal (Some r) stops = elim may.once [
-          | inl above ↦ subst (λ c. IsInTurn commands (end_event c)) (sym (refused_does e x r (same_refusal e line moment core ∙ stops))) (ended line (refuse line r x) (refused above))
+          | inl above ↦ subst (λ c. IsInTurn commands (end_event c)) (sym (refused_does e x r (same_refusal e line moment core ∙ stops))) (ended line (refuse line r x) (refused above.0 above.1))
           | inr free ↦ let f : Some r ≡ None = sym stops ∙ free in absurd (cc f)
         ]
           where
             calm : (l : ℕ) → r ≡ reply.Busy l → ⊥
             calm l f = subst (λ q. IsNotBusy q) f (subst (λ q. IsOfKind IsNotBusy q) stops (refusal_calm e core))
 
-            refused : core.event_line < line → During commands (line + 1) line (part_of (refuse line r x))
-            refused above = record {
+            refused : core.event_line < line → IsSome (commands line) → During commands (line + 1) line (part_of (refuse line r x))
+            refused above named = record {
               turns = subst (λ entries. Turns commands (line + 1) x.moment entries (asking x.operations)) (append_assoc x.journal x.entries (told ∷ []))
-                  (turns_now commands line x.moment (x.journal ++ x.entries) (asking x.operations) p.turns told refl (omega arith) may.named
+                  (turns_now commands line x.moment (x.journal ++ x.entries) (asking x.operations) p.turns told refl (omega arith) named
                   (λ session s d l o h t. let f : session_of (client_op (commands line)) ≡ None = ap (λ o. session_of o) may.nobody in absurd (cc (f, s)))
                   (λ l f. absurd (calm l f)));
               journal = p.journal;

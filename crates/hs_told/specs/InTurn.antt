@@ -74,13 +74,12 @@ pub record ClientMay (commands : ℕ → Option Command) (core : Core) (line : �
   pub next : NoneBetween commands core line
   pub asks : option_map bare (client_op (commands line)) ≡ Some (bare o)
 
--- another line is not below the last one, and is no client's; an event behind its first one is not refused
+-- another line, 0 where there is none, is not below the last one, and is no client's; only its first event may be refused, where it has a command
 pub record OtherMay (commands : ℕ → Option Command) (core : Core) (line : ℕ) (event : Event) : Type 0 where
   pub upward : core.event_line ≤ line
   pub next : NoneBetween commands core line
-  pub named : IsSome (commands line)
   pub nobody : client_op (commands line) ≡ None
-  pub once : (core.event_line < line) ⊎ (refusal_in event core ≡ None)
+  pub once : ((core.event_line < line) × IsSome (commands line)) ⊎ (refusal_in event core ≡ None)
 
 abbrev pub MayBegin : (ℕ → Option Command) → Core → Event → Type 0
 MayBegin commands core (event.Line line o) = ClientMay commands core line o
