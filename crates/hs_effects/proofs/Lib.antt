@@ -1,0 +1,6 @@
+mod EndingLemmas
+mod EnterLemmas
+mod FoldLemmas
+mod LawfulLemmas
+mod QuietLemmas
+mod SweepLemmas
