@@ -28,7 +28,7 @@ use Rattle.hs_shard.specs.Rounds.{advance, advanced, each_block, end_open, end_r
 -- ---- blocks
 
 length_each : (f : Facts → Facts) (blocks : BlockList) → length (each_block f blocks) ≡ length blocks
-length_each f blocks = length-map {X = Address × Facts} {Y = Address × Facts} blocks (λ e. (e.0, f e.1))
+length_each f blocks = length-map blocks (λ (e : Address × Facts). (e.0, f e.1))
 
 length_put : (a : Address) (f : Option Facts) (blocks : BlockList) → length (put_facts a f blocks) ≡ length blocks
 length_put a None blocks = refl

@@ -14,7 +14,7 @@ use Rattle.hs_effects.specs.Telling.{HasHappened, IsSilent}
 use Rattle.hs_effects.proofs.EndingLemmas.{enter_did}
 use Rattle.hs_effects.proofs.FoldLemmas.{memory_at}
 use Rattle.hs_effects.proofs.QuietLemmas.{resumed_none}
-use Rattle.hs_effects.proofs.SweepLemmas.{ByViews, allowed, and_left, entered_index, epoch_before, some_is, store_is}
+use Rattle.hs_effects.proofs.SweepLemmas.{ByViews, allowed, entered_index, epoch_before, left_of, store_is}
 use Rattle.hs_entry.specs.declared.entry.Entry.{Entry}
 use Rattle.hs_entry.specs.declared.entry.Entry.TheVariants as kind
 use Rattle.hs_fold.specs.Runs.Facts.{Catalogue as Folded}
@@ -62,21 +62,21 @@ module _ (views : ByViews) (name : List ℕ → Address) (cs : List Folded) (cor
     store_by h e = store_is views name cs core shard asked its may refl ∙ ap (λ (x : Option Happening). with_sessions (happen_by (store_of cs) x) (as_sessions core.sessions)) e
 
     pub quiet : happening_by (setting_of name core) cs (next_deed shard asked core) ≡ None → IsSilent cs (folds_behind name cs shard asked core) core (take_effect shard asked core)
-    quiet no = subst (λ (x : Core). IsSilent cs (folds_behind name cs shard asked core) core x) (sym told_is) (go enters_now no)
+    quiet stays = subst (λ (x : Core). IsSilent cs (folds_behind name cs shard asked core) core x) (sym told_is) (go enters_now stays)
       where
         go : (b : Bool) → cond b (Some (entering shard)) None ≡ None → IsSilent cs (folds_behind name cs shard asked core) core (note_enter shard (cond b (what.Entered epoch) what.Refused) here)
         go true e = absurd (cc e)
-        go false e = record { told = refl; left = store_by None no }
+        go false e = record { told = refl; left = store_by None stays }
 
     pub entered : happening_by (setting_of name core) cs (next_deed shard asked core) ≡ Some (entering shard) → HasHappened cs (folds_behind name cs shard asked core) core (take_effect shard asked core) shard (enters shard) []
-    entered yes = subst (λ (x : Core). HasHappened cs (folds_behind name cs shard asked core) core x shard (enters shard) []) (sym told_is) (go enters_now refl yes)
+    entered comes = subst (λ (x : Core). HasHappened cs (folds_behind name cs shard asked core) core x shard (enters shard) []) (sym told_is) (go enters_now refl comes)
       where
         may_here : IsTrue (store_may_enter store shard)
-        may_here = subst (λ (h : Option Happening). MayHappenBy (store_of cs) h) yes (allowed views name cs core shard asked its may refl)
+        may_here = subst (λ (h : Option Happening). MayHappenBy (store_of cs) h) comes (allowed views name cs core shard asked its may refl)
 
         next_is : enters_now ≡ true → epoch ≡ slice_index (enter store shard).epochs shard
         next_is e =
-            eqb-true epoch ((catalogue_at cs shard).epoch + 1) (and_left (epoch == (catalogue_at cs shard).epoch + 1) _ e)
+            eqb-true epoch ((catalogue_at cs shard).epoch + 1) (left_of (epoch == (catalogue_at cs shard).epoch + 1) _ e)
             ∙ ap (λ (c : Catalogue). c.epoch + 1) (sym (memory_at name cs core shard asked its.folded may.of))
             ∙ ap (λ (n : ℕ). n + 1) (sym (epoch_before views name cs core shard asked its may refl))
             ∙ sym (entered_index views name cs core shard asked its may refl)
@@ -87,5 +87,5 @@ module _ (views : ByViews) (name : List ℕ → Address) (cs : List Folded) (cor
         go true e n = record {
           allowed = may_here;
           told = ap (λ (k : ℕ). (note_enter shard (what.Entered k) here).entries) (next_is e);
-          left = store_by (Some (entering shard)) yes;
+          left = store_by (Some (entering shard)) comes;
         }

@@ -2,5 +2,8 @@ mod EndingLemmas
 mod EnterLemmas
 mod FoldLemmas
 mod LawfulLemmas
+mod LookLemmas
 mod QuietLemmas
+mod SeatLemmas
+mod StepLemmas
 mod SweepLemmas

@@ -1,5 +1,5 @@
 -- What a Got that takes effect tells.
-use Rattle.std.proofs.Common.{◌≡◌, ◌∙◌, sym, ap, subst, ◌⊎◌, inl, inr, ⊥, ℕ, zero, suc, ◌+◌, ◌-◌, ◌<◌, Bool, true, false, cond, ◌&&◌, ◌==◌, List, [], ◌∷◌, ◌++◌, length, map, filter, Option, Some, None, IsTrue, refl, arith, nat_le, nat_lt, slice_index, sum_by, append_assoc}
+use Rattle.std.proofs.Common.{◌≡◌, ◌∙◌, sym, ap, subst, ◌⊎◌, inl, inr, ℕ, zero, suc, ◌+◌, ◌-◌, ◌<◌, Bool, true, false, cond, ◌&&◌, ◌==◌, List, [], ◌∷◌, ◌++◌, length, map, filter, Option, Some, None, IsTrue, refl, arith, nat_le, nat_lt, slice_index, sum_by, append_assoc}
 use Rattle.std.proofs.lemmas.Bool.{ltb-true}
 use Rattle.std.proofs.lemmas.Grind.{common_steps}
 use Rattle.std.proofs.lemmas.List.{get_or-map, length-map}
@@ -88,12 +88,9 @@ has_shards views cs core folded =
     let shows = views cs core op.Stat folded tt in
     record { epochs = shows.epochs; swept = shows.swept; blocks = shows.blocks }
 
-some_is : {A : Type 0} (x y : A) → Some x ≡ Some y → x ≡ y
-some_is x y e = cc
-
-and_left : (a b : Bool) → (a && b) ≡ true → a ≡ true
-and_left true b e = refl
-and_left false b e = e
+pub left_of : (a b : Bool) → (a && b) ≡ true → a ≡ true
+left_of true b e = refl
+left_of false b e = e
 
 -- ---- a shard by itself
 
@@ -209,8 +206,8 @@ noted_sweep shard removed c = go (list_all (λ (x : Catalogue). nat_le epoch x.s
     first = note (who.Shard shard) (deed.Swept shard) (reply.Sweep epoch removed) c
 
     go : (b : Bool) → (change_if b (note who.Store deed.Nothing (reply.Done epoch)) first).entries ≡ with_sweep c shard epoch removed b
-    unfolding with_sweep
-    go true = append_assoc
+    go true = append_assoc c.entries (record { who = who.Shard shard; moment = c.moment; deed = deed.Swept shard; reply = reply.Sweep epoch removed } ∷ [])
+        (record { who = who.Store; moment = c.moment; deed = deed.Nothing; reply = reply.Done epoch } ∷ [])
     go false = refl
 
 sweep_sessions : (shard removed : ℕ) (c : Core) → (note_sweep shard removed c).sessions ≡ c.sessions
@@ -257,10 +254,10 @@ module _ (views : ByViews) (name : List ℕ → Address) (cs : List Folded) (cor
 
     -- where nothing happens
     pub quiet : happening_by (setting_of name core) cs (next_deed shard got core) ≡ None → IsSilent cs (folds_behind name cs shard got core) core (take_effect shard got core)
-    quiet no = by_end ended
+    quiet stays = by_end ended
       where
         same : later ≡ store
-        same = store_is views name cs core shard got its may refl ∙ ap (λ (h : Option Happening). with_sessions (happen_by (store_of cs) h) (as_sessions core.sessions)) no
+        same = store_is views name cs core shard got its may refl ∙ ap (λ (h : Option Happening). with_sessions (happen_by (store_of cs) h) (as_sessions core.sessions)) stays
 
         by_end : IsSteady (only what.Nothing (catalogue_of shard core)) (done_by shard got core) ⊎ HasRemoved (only what.Nothing (catalogue_of shard core)) (done_by shard got core)
             → IsSilent cs (folds_behind name cs shard got core) core (take_effect shard got core)
@@ -279,19 +276,20 @@ module _ (views : ByViews) (name : List ℕ → Address) (cs : List Folded) (cor
 
     -- where the shard sweeps
     pub swept : happening_by (setting_of name core) cs (next_deed shard got core) ≡ Some (sweeping shard) → HasSwept cs (folds_behind name cs shard got core) core (take_effect shard got core) shard
-    swept yes = by_end ended
+    unfolding with_sweep
+    swept comes = by_end ended
       where
         now : ℕ
         now = slice_index store.epochs shard
 
         is_sweep : later ≡ sweep store shard
-        is_sweep = store_is views name cs core shard got its may refl ∙ ap (λ (h : Option Happening). with_sessions (happen_by (store_of cs) h) (as_sessions core.sessions)) yes
+        is_sweep = store_is views name cs core shard got its may refl ∙ ap (λ (h : Option Happening). with_sessions (happen_by (store_of cs) h) (as_sessions core.sessions)) comes
 
         may_here : IsTrue (may_sweep store shard)
-        may_here = subst (λ (h : Option Happening). MayHappenBy (store_of cs) h) yes (allowed views name cs core shard got its may refl)
+        may_here = subst (λ (h : Option Happening). MayHappenBy (store_of cs) h) comes (allowed views name cs core shard got its may refl)
 
         behind_now : slice_index store.swept shard < now
-        behind_now = ltb-true (slice_index store.swept shard) now (and_left (nat_lt (slice_index store.swept shard) now) _ may_here)
+        behind_now = ltb-true (slice_index store.swept shard) now (left_of (nat_lt (slice_index store.swept shard) now) _ may_here)
 
         now_is : (done_by shard got core).catalogue.swept ≡ now
         now_is = sym (swept_after views name cs core shard got its may refl) ∙ ap (λ (x : Store). slice_index x.swept shard) is_sweep ∙ swept_index views name cs core shard got its may refl
@@ -308,7 +306,6 @@ module _ (views : ByViews) (name : List ℕ → Address) (cs : List Folded) (cor
 
         by_end : IsSteady (only what.Nothing (catalogue_of shard core)) (done_by shard got core) ⊎ HasRemoved (only what.Nothing (catalogue_of shard core)) (done_by shard got core)
             → HasSwept cs (folds_behind name cs shard got core) core (take_effect shard got core) shard
-        unfolding with_sweep
         by_end (inl steady) =
             let before = swept_before views name cs core shard got its may refl in
             let level = steady.swept in

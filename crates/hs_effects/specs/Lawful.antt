@@ -1,5 +1,5 @@
 -- The catalogues of a core as those of a lawful history of entries.
-use Rattle.std.specs.Prelude.{◌≡◌, ⊥, ℕ, ◌<◌, List}
+use Rattle.std.specs.Prelude.{◌≡◌, ℕ, ◌<◌, List}
 use Rattle.hs_answered.specs.Standing.{IsFolded}
 use Rattle.hs_core.specs.State.{Core}
 use Rattle.hs_effects.specs.Taking.{setting_of}

@@ -1,3 +1,4 @@
 pub mod Lawful
+pub mod Logged
 pub mod Taking
 pub mod Telling

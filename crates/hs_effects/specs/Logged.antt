@@ -1,0 +1,98 @@
+-- Operations that wait for their entry, and the entries that they asked for.
+use Rattle.std.specs.BTreeMap.{is_at}
+use Rattle.std.specs.List.{list_all}
+use Rattle.std.specs.Map.{lookup}
+use Rattle.std.specs.Ordering.{nat_cmp}
+use Rattle.std.specs.Prelude.{◌≡◌, ◌⊎◌, ℕ, ◌+◌, ◌==◌, ◌≤◌, List, [], ◌∷◌, length, Option, Some, None, IsSome, is_some, true, slice_get, if◌then◌else◌}
+use Rattle.hs_core.specs.declared.wait.Wait.{Wait}
+use Rattle.hs_core.specs.declared.wait.Wait.TheVariants as wait
+use Rattle.hs_core.specs.declared.waiting.Waiting.{Waiting}
+use Rattle.hs_core.specs.Looking.{front_of, group_of, operation_of}
+use Rattle.hs_core.specs.State.{Core}
+use Rattle.hs_entry.specs.declared.entry.Entry.{Entry}
+use Rattle.hs_entry.specs.declared.entry.Entry.TheVariants as kind
+use Rattle.hs_journal.specs.Order.{session_of}
+use Rattle.hs_limits.specs.Block.{spell}
+use Rattle.hs_limits.specs.declared.address.Address.{Address}
+use Rattle.hs_limits.specs.declared.spelling.TheConstants.{MOST_BYTES, MOST_POINTERS}
+use Rattle.hs_model.specs.declared.op.Op.{Op}
+use Rattle.hs_model.specs.declared.op.Op.TheVariants as op
+use Rattle.hs_model.specs.Judge.{given_address}
+use Rattle.hs_ops.specs.Speaking.{asked_block, helds, least_epoch}
+use Rattle.hs_tokens.specs.Seats.{Seats, found, held_at, seat_of}
+
+-- ---- what an operation asks for
+
+-- a write has a block: each of its handles is held, and the block is within its bounds
+pub record HasBlock (seats : Seats) (session payload handles : List ℕ) : Type 0 where
+  pub held : list_all (λ handle. is_some (held_at (seat_of session seats) handle)) handles ≡ true
+  pub few : length handles ≤ MOST_POINTERS
+  pub short : length payload ≤ MOST_BYTES
+
+-- a write that has a block has its address: the name of the block's spelling
+abbrev pub IsCalled : (List ℕ → Address) → Seats → Op → Type 0
+IsCalled name seats (op.Write session payload handles address) =
+    HasBlock seats session payload handles → address ≡ Some (name (spell (asked_block seats session payload handles)))
+IsCalled name seats other = Unit {0}
+
+-- the Block of a write, with its address, or the Mark of the block that is there
+abbrev pub IsWriteEntry : (List ℕ → Address) → Seats → ℕ → Op → Entry → Type 0
+IsWriteEntry name seats line (op.Write session payload handles address) entry =
+    ((entry ≡ kind.Block line (least_epoch (helds seats session handles)) (spell (asked_block seats session payload handles)))
+    × (address ≡ Some (name (spell (asked_block seats session payload handles)))))
+    ⊎ ((number : ℕ) × (entry ≡ kind.Mark line (least_epoch (helds seats session handles)) number (given_address address)))
+IsWriteEntry name seats line other entry = ⊥
+
+-- an entry is what an operation asks for at these sessions
+abbrev pub IsEntryOf : (List ℕ → Address) → Seats → ℕ → Op → Entry → Type 0
+IsEntryOf name seats line (op.Write session payload handles address) entry = IsWriteEntry name seats line (op.Write session payload handles address) entry
+IsEntryOf name seats line (op.Root session key handle) entry =
+    entry ≡ kind.Root line (found seats session handle).epoch (found seats session handle).address key
+IsEntryOf name seats line (op.Drop key) entry = entry ≡ kind.Drop line key
+IsEntryOf name seats line op.Delete entry = (epoch : ℕ) × (entry ≡ kind.Enter line epoch)
+IsEntryOf name seats line other entry = ⊥
+
+-- the line of the operation that asked for an entry; lines are numbered from 1, and an Enter of line 0 is its shard's own
+abbrev pub asked_by : Entry → Option ℕ
+asked_by (kind.Block line least bytes) = Some line
+asked_by (kind.Mark line least block address) = Some line
+asked_by (kind.Root line held address key) = Some line
+asked_by (kind.Drop line key) = Some line
+asked_by (kind.Enter line epoch) = if line == 0 then None else Some line
+asked_by other = None
+
+-- ---- in the core
+
+-- the operation of a line waits for the entry of this number in its shard's list, and asked for it
+pub record HasAsked (name : List ℕ → Address) (core : Core) (shard number line : ℕ) (entry : Entry) : Type 0 where
+  pub waiting : Waiting
+  pub at : operation_of line core ≡ Some waiting
+  pub waits : waiting.wait ≡ wait.Entry number
+  pub judges : waiting.shard ≡ shard
+  pub asks : IsEntryOf name core.sessions line waiting.operation.op entry
+
+-- so it is with each entry that has not taken effect and that an operation asked for
+abbrev pub AreAsked : (List ℕ → Address) → Core → Type 0
+AreAsked name core =
+    (shard place line : ℕ) (entry : Entry) → slice_get (group_of shard core).waiting place ≡ Some entry → asked_by entry ≡ Some line
+    → HasAsked name core shard (front_of shard core + 1 + place) line entry
+
+-- an operation without an answer is that of its line, which is not 0, of an open session, and a write with the address of its block
+pub record IsPending (name : List ℕ → Address) (core : Core) (line : ℕ) (w : Waiting) : Type 0 where
+  pub of_line : w.operation.line ≡ line
+  pub counted : 1 ≤ line
+  pub opened : (session : List ℕ) → session_of (Some w.operation.op) ≡ Some session → IsSome (seat_of session core.sessions)
+  pub called : IsCalled name core.sessions w.operation.op
+
+-- no key stands in a map twice
+abbrev pub AreOnce : {X : Type 0} → List (ℕ × X) → Type 0
+AreOnce [] = Unit {0}
+AreOnce (e ∷ es) = (lookup (is_at (nat_cmp e.0)) es ≡ None) × AreOnce es
+
+-- operations without an answer, and entries that have not taken effect, as they stand between any two changes: no line has two, no session has two, and each entry is what its operation waits for
+pub record IsOrderly (name : List ℕ → Address) (core : Core) : Type 0 where
+  pub once : AreOnce core.operations
+  pub pending : (line : ℕ) (w : Waiting) → operation_of line core ≡ Some w → IsPending name core line w
+  pub alone : (l m : ℕ) (v w : Waiting) (session : List ℕ) → operation_of l core ≡ Some v → operation_of m core ≡ Some w
+      → session_of (Some v.operation.op) ≡ Some session → session_of (Some w.operation.op) ≡ Some session → l ≡ m
+  pub asked : AreAsked name core
