@@ -89,7 +89,7 @@ committed_first group number entry e = by_front (nat_lt group.front (commit_fron
     take : Option (ℕ × Entry) → Group
     take found = option_map_or (λ (x : ℕ × Entry). record group { front = x.0; waiting = drop 1 group.waiting }) found group
 
-    by_first : (first : Option Entry) → slice_get group.waiting 0 ≡ first → option_map (λ (entry : Entry). (group.front + 1, entry)) first ≡ Some (number, entry) → IsFirst group number entry
+    by_first : (first : Option Entry) → slice_get group.waiting 0 ≡ first → option_map {U = ℕ × Entry} (λ (entry : Entry). (group.front + 1, entry)) first ≡ Some (number, entry) → IsFirst group number entry
     by_first None f n = absurd (cc n)
     by_first (Some x) f n =
         let same : (group.front + 1, x) ≡ (number, entry) = cc n in
@@ -99,6 +99,6 @@ committed_first group number entry e = by_front (nat_lt group.front (commit_fron
           taken = subst (λ (found : Option (ℕ × Entry)). IsTaken group (take found)) (sym e) (record { waiting = refl; front = sym (ap (λ (y : ℕ × Entry). y.0) same) });
         }
 
-    by_front : (b : Bool) → nat_lt group.front (commit_front group) ≡ b → cond b (option_map (λ (entry : Entry). (group.front + 1, entry)) (slice_get group.waiting 0)) None ≡ Some (number, entry) → IsFirst group number entry
+    by_front : (b : Bool) → nat_lt group.front (commit_front group) ≡ b → cond b (option_map {U = ℕ × Entry} (λ (entry : Entry). (group.front + 1, entry)) (slice_get group.waiting 0)) None ≡ Some (number, entry) → IsFirst group number entry
     by_front true f n = by_first (slice_get group.waiting 0) refl n
     by_front false f n = absurd (cc n)

@@ -1,8 +1,12 @@
+mod EffectLemmas
 mod EndingLemmas
 mod EnterLemmas
 mod FoldLemmas
+mod GoingLemmas
+mod GroupLemmas
 mod LawfulLemmas
 mod LookLemmas
+mod OrderlyLemmas
 mod QuietLemmas
 mod SeatLemmas
 mod StepLemmas
