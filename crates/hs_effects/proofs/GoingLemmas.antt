@@ -98,7 +98,7 @@ module _ (name : List ℕ → Address) (c : Core) (line : ℕ) (its : IsOrderly 
         (waits_orderly name c line its free u at (record w { wait = wait.Bytes number }) same lines)
     carried step.Wait asks = waits_orderly name c line its free u at (record w { wait = what_holds w c }) same lines
 
-  stepped : (taken : OpStep) → ((entry : Entry) → taken ≡ step.Propose entry → IsEntryOf name c.sessions line u.operation.op entry) → IsOrderly name (take_step line u taken c)
+  pub stepped : (taken : OpStep) → ((entry : Entry) → taken ≡ step.Propose entry → IsEntryOf name c.sessions line u.operation.op entry) → IsOrderly name (take_step line u taken c)
   stepped taken asks = carried (record u { operation = after_step taken u.operation }) refl refl taken asks
 
 pub going_orderly : (next : OpView → Operation → OpStep) → AsksWith next → (name : List ℕ → Address) (line : ℕ) (c : Core) → IsOrderly name c → IsFree c line → IsOrderly name (go_on_with next line c)

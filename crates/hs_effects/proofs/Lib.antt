@@ -11,3 +11,4 @@ mod QuietLemmas
 mod SeatLemmas
 mod StepLemmas
 mod SweepLemmas
+mod ViewLemmas

@@ -184,7 +184,7 @@ asked_alike name a b shard number other line entry e f n h = record {
 }
 
 -- operations and sessions are the same, and the entries are told
-with_lists : (name : List ℕ → Address) (a b : Core) → IsOrderly name a → b.operations ≡ a.operations → b.sessions ≡ a.sessions
+pub with_lists : (name : List ℕ → Address) (a b : Core) → IsOrderly name a → b.operations ≡ a.operations → b.sessions ≡ a.sessions
     → ((shard place k : ℕ) (entry : Entry) → slice_get (group_of shard b).waiting place ≡ Some entry → asked_by entry ≡ Some k → HasAsked name b shard (front_of shard b + 1 + place) k entry)
     → IsOrderly name b
 with_lists name a b its e f asked = record {

@@ -1,0 +1,167 @@
+-- An operation at its own line keeps the order.
+use Rattle.std.proofs.Common.{◌≡◌, ◌∙◌, sym, ap, subst, ◌⊎◌, inl, inr, ℕ, ◌≤◌, Bool, true, false, cond, List, [], ◌∷◌, find, Option, Some, None, IsSome, refl, is_none, is_some, bytes_eq}
+use Rattle.std.proofs.lemmas.Slice.Eq.{bytes_eq-Decides}
+use Rattle.std.specs.BTreeMap.{insert_entry, is_at}
+use Rattle.std.specs.Map.{lookup}
+use Rattle.std.specs.Option.{option_map, option_map_or, option_or}
+use Rattle.std.specs.Ordering.{nat_cmp}
+use Rattle.hs_core.specs.Changing.{add_operation}
+use Rattle.hs_core.specs.declared.wait.Wait.TheVariants as wait
+use Rattle.hs_core.specs.declared.waiting.Waiting.{Waiting}
+use Rattle.hs_core.specs.Looking.{operation_of, shape_of}
+use Rattle.hs_core.specs.Operating.{answer, begin_line, busy_line, is_of, take_step}
+use Rattle.hs_core.specs.Seeing.{pointers_for, view_for}
+use Rattle.hs_core.specs.State.{Core}
+use Rattle.hs_effects.specs.Logged.{AreOnce, IsCalled, IsEntryOf, IsOrderly, IsPending}
+use Rattle.hs_effects.proofs.GoingLemmas.{stepped}
+use Rattle.hs_effects.proofs.LookLemmas.{found_insert, gone, insert_other, number_exact, once_insert, once_remove, remove_other}
+use Rattle.hs_effects.proofs.OrderlyLemmas.{ChangesAt, IsFree, changed_orderly, session_in, some_is}
+use Rattle.hs_effects.proofs.SeatLemmas.{seats_other}
+use Rattle.hs_effects.proofs.StepLemmas.{going_asks}
+use Rattle.hs_entry.specs.declared.entry.Entry.{Entry}
+use Rattle.hs_journal.specs.Order.{session_of}
+use Rattle.hs_limits.specs.declared.address.Address.{Address}
+use Rattle.hs_model.specs.declared.op.Op.{Op}
+use Rattle.hs_model.specs.declared.op.Op.TheVariants as op
+use Rattle.hs_model.specs.declared.reply.Reply.{Reply}
+use Rattle.hs_model.specs.declared.reply.Reply.TheVariants as reply
+use Rattle.hs_model.specs.Refusals.{first, refused_when}
+use Rattle.hs_ops.specs.Answers.{gained, is_done, seats_after}
+use Rattle.hs_ops.specs.Going.{at_once, begin, go, judged_in}
+use Rattle.hs_ops.specs.Operations.{Operation, after_step, go_step, new_operation}
+use Rattle.hs_ops.specs.Refusals.{all_open, is_busy, not_open, open_already, refusal_of, refusals_of}
+use Rattle.hs_ops.specs.Speaking.{judging_shard}
+use Rattle.hs_ops.specs.Views.{OpView, as_session}
+use Rattle.hs_ops.specs.declared.step.OpStep.{OpStep}
+use Rattle.hs_ops.specs.declared.step.OpStep.TheVariants as step
+use Rattle.hs_tokens.specs.Seats.{Seat, Seats, seat_of}
+
+-- ---- what the first look says
+
+name_is : (a b : List ℕ) → Some a ≡ Some b → a ≡ b
+name_is a b e = cc e
+
+head_none : (o : Option Reply) (rest : List (Option Reply)) → first (o ∷ rest) ≡ None → o ≡ None
+head_none None rest e = refl
+head_none (Some r) rest e = absurd (cc e)
+
+rest_none : (o : Option Reply) (rest : List (Option Reply)) → first (o ∷ rest) ≡ None → first rest ≡ None
+rest_none None rest e = e
+rest_none (Some r) rest e = absurd (cc e)
+
+-- the session is open, and has no other operation
+record IsAlone (v : OpView) (q : List ℕ) : Type 0 where
+  pub opened : IsSome (seat_of q v.seats)
+  pub free : v.busy ≡ None
+
+is_open : (v : OpView) (q : List ℕ) → not_open v q ≡ None → IsSome (seat_of q v.seats)
+is_open v q e = go (seat_of q v.seats) e
+  where
+    go : (seat : Option Seat) → refused_when (is_none (option_map as_session seat)) (reply.NoSession q) ≡ None → IsSome seat
+    go None n = absurd (cc n)
+    go (Some seat) n = tt
+
+is_free : (v : OpView) → is_busy v ≡ None → v.busy ≡ None
+is_free v e = go v.busy e
+  where
+    go : (busy : Option ℕ) → option_map (λ line. reply.Busy line) busy ≡ None → busy ≡ None
+    go None n = refl
+    go (Some l) n = absurd (cc n)
+
+alone_in : (v : OpView) (n q : List ℕ) (rest : List (Option Reply)) → first (not_open v n ∷ is_busy v ∷ rest) ≡ None → Some n ≡ Some q → IsAlone v q
+alone_in v n q rest e s = record {
+  opened = subst (λ k. IsSome (seat_of k v.seats)) (name_is n q s) (is_open v n (head_none (not_open v n) (is_busy v ∷ rest) e));
+  free = is_free v (head_none (is_busy v) rest (rest_none (not_open v n) (is_busy v ∷ rest) e));
+}
+
+not_refused : (v : OpView) (o : Op) → judged_in v o ≡ None → refusal_of v o ≡ None
+unfolding judged_in
+not_refused v o e = go (refusal_of v o) e
+  where
+    go : (x : Option Reply) → option_or x (at_once v o) ≡ None → x ≡ None
+    go None e = refl
+    go (Some r) e = absurd (cc e)
+
+-- one that isn't answered at once is of an open session that has no other
+unanswered_alone : (v : OpView) (o : Op) (q : List ℕ) → judged_in v o ≡ None → session_of (Some o) ≡ Some q → IsAlone v q
+unfolding judged_in refusals_of
+unanswered_alone v (op.Open n) q e s = absurd (never (refusal_of v (op.Open n)) e)
+  where
+    never : (x : Option Reply) → option_or x (Some reply.Ok) ≡ None → ⊥
+    never None f = cc f
+    never (Some r) f = cc f
+unanswered_alone v (op.Close n) q e s = alone_in v n q _ (not_refused v (op.Close n) e) s
+unanswered_alone v (op.Write n payload handles address) q e s = alone_in v n q _ (not_refused v (op.Write n payload handles address) e) s
+unanswered_alone v (op.Read n handle) q e s = alone_in v n q _ (not_refused v (op.Read n handle) e) s
+unanswered_alone v (op.Look n key) q e s = alone_in v n q _ (not_refused v (op.Look n key) e) s
+unanswered_alone v (op.Root n key handle) q e s = alone_in v n q _ (not_refused v (op.Root n key handle) e) s
+unanswered_alone v (op.Drop key) q e s = absurd (cc s)
+unanswered_alone v (op.Forget n handle) q e s = alone_in v n q _ (not_refused v (op.Forget n handle) e) s
+unanswered_alone v (op.Name n handle) q e s = alone_in v n q _ (not_refused v (op.Name n handle) e) s
+unanswered_alone v op.Delete q e s = absurd (cc s)
+unanswered_alone v op.Stat q e s = absurd (cc s)
+
+-- one of an open session that has another is refused
+refused_by : (v : OpView) (o : Op) (r : Reply) → refusal_of v o ≡ Some r → judged_in v o ≡ Some r
+unfolding judged_in
+refused_by v o r e = ap (λ (x : Option Reply). option_or x (at_once v o)) e
+
+busy_first : (v : OpView) (n q : List ℕ) (other : ℕ) (rest : List (Option Reply)) → IsSome (seat_of q v.seats) → v.busy ≡ Some other → Some n ≡ Some q → first (not_open v n ∷ is_busy v ∷ rest) ≡ Some (reply.Busy other)
+busy_first v n q other rest opened busy s =
+    ap (λ (b : Option ℕ). first (not_open v n ∷ option_map (λ line. reply.Busy line) b ∷ rest)) busy ∙ go (seat_of n v.seats) (subst (λ k. IsSome (seat_of k v.seats)) (sym (name_is n q s)) opened)
+  where
+    go : (seat : Option Seat) → IsSome seat → first (refused_when (is_none (option_map as_session seat)) (reply.NoSession n) ∷ Some (reply.Busy other) ∷ rest) ≡ Some (reply.Busy other)
+    go None h = absurd h
+    go (Some seat) h = refl
+
+taken_first : (v : OpView) (n q : List ℕ) (rest : List (Option Reply)) → IsSome (seat_of q v.seats) → Some n ≡ Some q → first (open_already v n ∷ rest) ≡ Some (reply.SessionTaken n)
+taken_first v n q rest opened s = go (seat_of n v.seats) (subst (λ k. IsSome (seat_of k v.seats)) (sym (name_is n q s)) opened)
+  where
+    go : (seat : Option Seat) → IsSome seat → first (refused_when (is_some (option_map as_session seat)) (reply.SessionTaken n) ∷ rest) ≡ Some (reply.SessionTaken n)
+    go None h = absurd h
+    go (Some seat) h = refl
+
+busy_refused : (v : OpView) (o : Op) (q : List ℕ) (other : ℕ) → session_of (Some o) ≡ Some q → IsSome (seat_of q v.seats) → v.busy ≡ Some other → (r : Reply) → judged_in v o ≡ Some r → is_done r ≡ false
+unfolding refusals_of
+busy_refused v o q other s opened busy r e = by_op o s e
+  where
+    by : (p : Op) (x : Reply) → refusal_of v p ≡ Some x → is_done x ≡ false → judged_in v p ≡ Some r → is_done r ≡ false
+    by p x f n j = subst (λ y. is_done y ≡ false) (some_is x r (sym (refused_by v p x f) ∙ j)) n
+
+    by_op : (p : Op) → session_of (Some p) ≡ Some q → judged_in v p ≡ Some r → is_done r ≡ false
+    by_op (op.Open n) t j = by (op.Open n) (reply.SessionTaken n) (taken_first v n q _ opened t) refl j
+    by_op (op.Close n) t j = by (op.Close n) (reply.Busy other) (busy_first v n q other _ opened busy t) refl j
+    by_op (op.Write n payload handles address) t j = by (op.Write n payload handles address) (reply.Busy other) (busy_first v n q other _ opened busy t) refl j
+    by_op (op.Read n handle) t j = by (op.Read n handle) (reply.Busy other) (busy_first v n q other _ opened busy t) refl j
+    by_op (op.Look n key) t j = by (op.Look n key) (reply.Busy other) (busy_first v n q other _ opened busy t) refl j
+    by_op (op.Root n key handle) t j = by (op.Root n key handle) (reply.Busy other) (busy_first v n q other _ opened busy t) refl j
+    by_op (op.Drop key) t j = absurd (cc t)
+    by_op (op.Forget n handle) t j = by (op.Forget n handle) (reply.Busy other) (busy_first v n q other _ opened busy t) refl j
+    by_op (op.Name n handle) t j = by (op.Name n handle) (reply.Busy other) (busy_first v n q other _ opened busy t) refl j
+    by_op op.Delete t j = absurd (cc t)
+    by_op op.Stat t j = absurd (cc t)
+
+-- ---- a session that has an operation is busy
+
+found_by : (test : Waiting → Bool) (m : ℕ) (w : Waiting) (es : List (ℕ × Waiting)) → lookup (is_at (nat_cmp m)) es ≡ Some w → test w ≡ true → IsSome (find (λ (e : ℕ × Waiting). test e.1) es)
+found_by test m w [] at t = absurd (cc at)
+found_by test m w (e ∷ es) at t = go (test e.1) refl (is_at (nat_cmp m) e.0) at (λ f. found_by test m w es f t)
+  where
+    go : (b : Bool) → test e.1 ≡ b → (here : Bool) → cond here (Some e.1) (lookup (is_at (nat_cmp m)) es) ≡ Some w
+        → (lookup (is_at (nat_cmp m)) es ≡ Some w → IsSome (find (λ (x : ℕ × Waiting). test x.1) es)) → IsSome (cond b (Some e) (find (λ (x : ℕ × Waiting). test x.1) es))
+    go true f here g ih = tt
+    go false f true g ih = absurd (cc (sym f ∙ ap test (some_is e.1 w g) ∙ t))
+    go false f false g ih = ih g
+
+is_of_own : (q : List ℕ) (w : Waiting) → session_in w ≡ Some q → is_of q w ≡ true
+is_of_own q w s = ap (λ (o : Option (List ℕ)). option_map_or (bytes_eq q) o false) s ∙ (bytes_eq-Decides q q).1 refl
+
+busy_by : (c : Core) (m : ℕ) (w : Waiting) (o : Op) (q : List ℕ) → operation_of m c ≡ Some w → session_in w ≡ Some q → session_of (Some o) ≡ Some q → busy_line o c ≡ None → ⊥
+busy_by c m w o q at s t none = clash (find (λ (e : ℕ × Waiting). is_of q e.1) c.operations) (found_by (is_of q) m w c.operations at (is_of_own q w s)) (sym (line_is (session_of (Some o)) t) ∙ none)
+  where
+    line_is : (x : Option (List ℕ)) → x ≡ Some q → busy_line o c ≡ option_map (λ (e : ℕ × Waiting). e.0) (find (λ (e : ℕ × Waiting). is_of q e.1) c.operations)
+    line_is x e = ?
+
+    clash : (found : Option (ℕ × Waiting)) → IsSome found → option_map (λ (e : ℕ × Waiting). e.0) found ≡ None → ⊥
+    clash None h f = h
+    clash (Some e) h f = cc f
