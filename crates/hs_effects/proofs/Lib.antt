@@ -1,6 +1,8 @@
+mod BeginLemmas
 mod EffectLemmas
 mod EndingLemmas
 mod EnterLemmas
+mod EventLemmas
 mod FoldLemmas
 mod GoingLemmas
 mod GroupLemmas

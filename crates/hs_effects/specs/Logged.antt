@@ -4,7 +4,8 @@ use Rattle.std.specs.List.{list_all}
 use Rattle.std.specs.Map.{lookup}
 use Rattle.std.specs.Ordering.{nat_cmp}
 use Rattle.std.specs.Prelude.{◌≡◌, ◌⊎◌, ℕ, ◌+◌, ◌==◌, ◌≤◌, List, [], ◌∷◌, length, Option, Some, None, IsSome, is_some, true, slice_get, if◌then◌else◌}
-use Rattle.hs_core.specs.declared.wait.Wait.{Wait}
+use Rattle.hs_core.specs.declared.event.Event.{Event}
+use Rattle.hs_core.specs.declared.event.Event.TheVariants as event
 use Rattle.hs_core.specs.declared.wait.Wait.TheVariants as wait
 use Rattle.hs_core.specs.declared.waiting.Waiting.{Waiting}
 use Rattle.hs_core.specs.Looking.{front_of, group_of, operation_of}
@@ -96,3 +97,14 @@ pub record IsOrderly (name : List ℕ → Address) (core : Core) : Type 0 where
   pub alone : (l m : ℕ) (v w : Waiting) (session : List ℕ) → operation_of l core ≡ Some v → operation_of m core ≡ Some w
       → session_of (Some v.operation.op) ≡ Some session → session_of (Some w.operation.op) ≡ Some session → l ≡ m
   pub asked : AreAsked name core
+
+-- a client's line is new, is not 0, and asks for a write with the address of its block
+pub record IsNewLine (name : List ℕ → Address) (core : Core) (line : ℕ) (o : Op) : Type 0 where
+  pub new : operation_of line core ≡ None
+  pub counted : 1 ≤ line
+  pub called : IsCalled name core.sessions o
+
+-- so an event may begin that is a client's line; of the others nothing is asked
+abbrev pub MayBegin : (List ℕ → Address) → Event → Core → Type 0
+MayBegin name (event.Line line o) core = IsNewLine name core line o
+MayBegin name other core = Unit {0}
