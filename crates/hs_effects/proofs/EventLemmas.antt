@@ -1,5 +1,9 @@
 -- Every event keeps the order.
-use Rattle.std.proofs.Common.{◌≡◌, ◌∙◌, sym, ap, ℕ, ◌≤◌, ◌==◌, ◌&&◌, Bool, true, false, cond, not, max, drop, List, [], ◌∷◌, Option, Some, None, refl, is_none}
+use Rattle.std.proofs.Common.{◌≡◌, ◌∙◌, sym, ap, subst, ℕ, zero, suc, ◌+◌, ◌≤◌, ◌==◌, ◌&&◌, Bool, true, false, cond, not, max, drop, length, map, List, [], ◌∷◌, Option, Some, None, refl, is_none, nat_lt, slice_get}
+use Rattle.std.specs.BTreeMap.{is_at}
+use Rattle.std.specs.Map.{lookup}
+use Rattle.std.specs.Ordering.{nat_cmp}
+use Rattle.std.specs.Prelude.{slice_index_or}
 use Rattle.hs_core.specs.Asking.{deliver, lose, no_peer, not_down, not_up, nudge, nudge_good, send_again, send_round, send_rounds, unless_refused, with_down, with_message, with_up}
 use Rattle.hs_core.specs.Changing.{add_entry_tasks, change_group, change_pool, change_rejoin, note, post, refuse, set_rejoin, set_status, set_tasks}
 use Rattle.hs_core.specs.declared.event.Event.{Event}
@@ -13,7 +17,8 @@ use Rattle.hs_core.specs.Effects.{commit, round_messages}
 use Rattle.hs_core.specs.Entering.{propose_due}
 use Rattle.hs_core.specs.Failing.{commit_rest, fail_disk, go_down, leave}
 use Rattle.hs_core.specs.Joining.{begin_joining, follow_lead, is_level_with_lead, join, join_if_level, joining_peers, start}
-use Rattle.hs_core.specs.Looking.{catalogue_of, first_task, group_of, home, lead_of, operation_of, status_of, tasks_of}
+use Rattle.hs_core.specs.Looking.{catalogue_of, first_task, group_of, home, lead_of, operation_of, shape_of, shards_of, status_of, tasks_of}
+use Rattle.hs_core.specs.Opening.{Taken, new_core, note_if_down, open_core, taken_group}
 use Rattle.hs_core.specs.Operating.{go_on_with, propose_entry}
 use Rattle.hs_core.specs.Reporting.{is_reading, on_report, take_copied, take_emptied, take_report, take_sealed, tell_bytes}
 use Rattle.hs_core.specs.Seeing.{pointers_for}
@@ -24,7 +29,7 @@ use Rattle.hs_core.specs.Words.{change_if, change_with, each}
 use Rattle.hs_desk.specs.Answers.{answers}
 use Rattle.hs_desk.specs.declared.done.Done.{Done}
 use Rattle.hs_desk.specs.declared.done.Done.TheVariants as done
-use Rattle.hs_effects.specs.Logged.{IsCalled, IsNewLine, IsOrderly, MayBegin}
+use Rattle.hs_effects.specs.Logged.{IsCalled, IsNewLine, IsOrderly, MayBegin, MayBeginAll, steps}
 use Rattle.hs_effects.proofs.BeginLemmas.{begun_orderly}
 use Rattle.hs_effects.proofs.EffectLemmas.{commit_orderly, due_orderly}
 use Rattle.hs_effects.proofs.GoingLemmas.{IsIdle, going_orderly, idle_free}
@@ -35,6 +40,10 @@ use Rattle.hs_entry.specs.declared.entry.Entry.{Entry}
 use Rattle.hs_entry.specs.declared.entry.Entry.TheVariants as kind
 use Rattle.hs_journal.specs.declared.entry.Who.TheVariants as who
 use Rattle.hs_limits.specs.declared.address.Address.{Address}
+use Rattle.hs_limits.specs.declared.limits.Limits.{Limits}
+use Rattle.hs_limits.specs.declared.shape.Shape.{Shape}
+use Rattle.hs_members.specs.Members.{all_peers}
+use Rattle.hs_tokens.specs.Seats.{Seats}
 use Rattle.hs_limits.specs.declared.limits.PeerStatus.TheVariants.{Down, Good, Joining}
 use Rattle.hs_model.specs.declared.deed.Deed.TheVariants as deed
 use Rattle.hs_model.specs.declared.op.Op.{Op}
@@ -258,3 +267,84 @@ module _ (name : List ℕ → Address) where
   done_orderly (event.Nudge line peer) c its may = unless_orderly line (no_peer peer c ∷ not_up peer c ∷ []) (nudge_good peer) c its (nudged_orderly peer c its)
   done_orderly (event.Fail line peer) c its may = unless_orderly line (no_peer peer c ∷ not_up peer c ∷ []) (go_down peer) c its (down_orderly peer c its)
   done_orderly (event.Start line peer) c its may = unless_orderly line (no_peer peer c ∷ not_down peer c ∷ []) (start peer) c its (started_orderly peer c its)
+
+  -- ---- one event at a moment
+
+  began_alike : (line moment : ℕ) (c : Core) → Alike c (begin_event line moment c)
+  began_alike line moment c = go ((c.event_line == 0 && not (line == 0)) && is_empty c.pool)
+    where
+      go : (b : Bool) → Alike c (record (change_if b (change_pool restart_numbers) c) { moment = moment; event_line = cond (line == 0) c.event_line line })
+      go true = record { operations = refl; sessions = refl; waiting = λ g. refl; front = λ g. refl }
+      go false = record { operations = refl; sessions = refl; waiting = λ g. refl; front = λ g. refl }
+
+  ended_alike : (c : Core) → Alike c (end_event c)
+  ended_alike c = go (nat_lt c.limits.ops (length c.journal + length c.entries))
+    where
+      go : (b : Bool) → Alike c (cond b (refuse_entries c) (keep_entries c))
+      go true = record { operations = refl; sessions = refl; waiting = λ g. refl; front = λ g. refl }
+      go false = record { operations = refl; sessions = refl; waiting = λ g. refl; front = λ g. refl }
+
+  may_alike : (e : Event) (a b : Core) → Alike a b → MayBegin name e a → MayBegin name e b
+  may_alike (event.Line line o) a b same may = record {
+    new = ap (λ (es : List (ℕ × Waiting)). lookup (is_at (nat_cmp line)) es) same.operations ∙ may.new;
+    counted = may.counted;
+    called = subst (λ (seats : Seats). IsCalled name seats o) (sym same.sessions) may.called;
+  }
+  may_alike (event.Report peer d) a b same may = tt
+  may_alike (event.Turn line peer) a b same may = tt
+  may_alike (event.Deliver line number) a b same may = tt
+  may_alike (event.Lose line number) a b same may = tt
+  may_alike (event.Repeat line number) a b same may = tt
+  may_alike (event.Nudge line peer) a b same may = tt
+  may_alike (event.Fail line peer) a b same may = tt
+  may_alike (event.Start line peer) a b same may = tt
+
+  run_orderly : (e : Event) (moment : ℕ) (c : Core) → O c → MayBegin name e c → O (run_event e moment c)
+  run_orderly e moment c its may =
+      let began : Core = begin_event (line_of e) moment c in
+      let did : Core = do_event e began in
+      alike_orderly name did (end_event did) (ended_alike did)
+      (done_orderly e began (alike_orderly name c began (began_alike (line_of e) moment c) its) (may_alike e c began (began_alike (line_of e) moment c) may))
+
+  pub step_orderly : (e : Event) (moment : ℕ) (c : Core) → O c → MayBegin name e c → O (step e moment c)
+  step_orderly e moment c its may = if_orderly (is_none c.ended) (run_event e moment) c its (λ h. run_orderly e moment c h may)
+
+  pub steps_orderly : (es : List (Event × ℕ)) (c : Core) → O c → MayBeginAll name es c → O (steps es c)
+  steps_orderly [] c its may = its
+  steps_orderly (e ∷ es) c its may = steps_orderly es (step e.0 e.1 c) (step_orderly e.0 e.1 c its may.0) may.1
+
+  -- ---- as the core opens
+
+  none_wait : (shape : Shape) (taken : Taken) (shards : List ℕ) (g : ℕ) (none : Group) → none.waiting ≡ [] → (slice_index_or (map (taken_group shape taken) shards) g none).waiting ≡ []
+  none_wait shape taken [] g none e = e
+  none_wait shape taken (s ∷ shards) zero none e = refl
+  none_wait shape taken (s ∷ shards) (suc g) none e = none_wait shape taken shards g none e
+
+  new_orderly : (shape : Shape) (limits : Limits) (taken : Taken) (moment : ℕ) → O (new_core shape limits taken moment)
+  new_orderly shape limits taken moment = record {
+    once = tt;
+    pending = λ line w at. absurd (cc at);
+    alone = λ l m v w q e f s t. absurd (cc e);
+    asked = λ g place line e at by. absurd (nothing place e (sym (ap (λ es. slice_get es place) (none_wait shape taken _ g _ refl)) ∙ at));
+  }
+    where
+      nothing : (place : ℕ) (e : Entry) → slice_get [] place ≡ Some e → ⊥
+      nothing zero e f = cc f
+      nothing (suc place) e f = cc f
+
+  each_orderly : {B : Type 0} (ys : List B) (f : B → Core → Core) (c : Core) → ((y : B) (x : Core) → O x → O (f y x)) → O c → O (each ys f c)
+  each_orderly [] f c h its = its
+  each_orderly (y ∷ ys) f c h its = each_orderly ys f (f y c) h (h y c its)
+
+  down_noted : (peer : ℕ) (c : Core) → O c → O (note_if_down peer c)
+  down_noted peer c its = if_orderly _ (note who.Store deed.Nothing (reply.Down peer 0)) c its
+      (λ h. alike_orderly name c (note who.Store deed.Nothing (reply.Down peer 0) c) (record { operations = refl; sessions = refl; waiting = λ g. refl; front = λ g. refl }) h)
+
+  pub open_orderly : (shape : Shape) (limits : Limits) (taken : Taken) (moment : ℕ) → O (open_core shape limits taken moment)
+  open_orderly shape limits taken moment =
+      let new : Core = new_core shape limits taken moment in
+      let viewed : Core = each (shards_of new) change_view new in
+      let noted : Core = each (all_peers (shape_of viewed)) note_if_down viewed in
+      alike_orderly name noted (end_event noted) (ended_alike noted)
+      (each_orderly (all_peers (shape_of viewed)) note_if_down viewed (λ peer x h. down_noted peer x h)
+      (each_orderly (shards_of new) change_view new (λ shard x h. view_changed name shard x h) (new_orderly shape limits taken moment)))

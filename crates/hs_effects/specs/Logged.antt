@@ -10,6 +10,7 @@ use Rattle.hs_core.specs.declared.wait.Wait.TheVariants as wait
 use Rattle.hs_core.specs.declared.waiting.Waiting.{Waiting}
 use Rattle.hs_core.specs.Looking.{front_of, group_of, operation_of}
 use Rattle.hs_core.specs.State.{Core}
+use Rattle.hs_core.specs.Step.{step}
 use Rattle.hs_entry.specs.declared.entry.Entry.{Entry}
 use Rattle.hs_entry.specs.declared.entry.Entry.TheVariants as kind
 use Rattle.hs_journal.specs.Order.{session_of}
@@ -108,3 +109,12 @@ pub record IsNewLine (name : List ℕ → Address) (core : Core) (line : ℕ) (o
 abbrev pub MayBegin : (List ℕ → Address) → Event → Core → Type 0
 MayBegin name (event.Line line o) core = IsNewLine name core line o
 MayBegin name other core = Unit {0}
+
+-- some events, each at its moment, one after another
+abbrev pub steps : List (Event × ℕ) → Core → Core
+steps [] core = core
+steps (e ∷ es) core = steps es (step e.0 e.1 core)
+
+abbrev pub MayBeginAll : (List ℕ → Address) → List (Event × ℕ) → Core → Type 0
+MayBeginAll name [] core = Unit {0}
+MayBeginAll name (e ∷ es) core = MayBegin name e.0 core × MayBeginAll name es (step e.0 e.1 core)

@@ -2,7 +2,9 @@
 #![tactic(auto)]
 
 mod lawful;
+mod logged;
 mod shards;
 
 pub use lawful::an_entry_keeps_a_lawful_store;
-pub use shards::{an_enter_by_itself_is_told, a_got_is_silent_or_a_sweep};
+pub use logged::operations_wait_for_their_entries;
+pub use shards::{a_got_is_silent_or_a_sweep, an_enter_by_itself_is_told};
