@@ -1,7 +1,7 @@
 -- An operation at its own line keeps the order.
-use Rattle.std.proofs.Common.{◌≡◌, ◌∙◌, sym, ap, subst, ◌⊎◌, inl, inr, ℕ, ◌≤◌, Bool, true, false, cond, List, [], ◌∷◌, find, Option, Some, None, IsSome, refl, is_none, is_some, bytes_eq}
+use Rattle.std.proofs.Common.{◌≡◌, ◌∙◌, sym, ap, subst, ℕ, ◌≤◌, Bool, true, false, cond, List, [], ◌∷◌, find, Option, Some, None, IsSome, refl, is_none, is_some, bytes_eq}
 use Rattle.std.proofs.lemmas.Slice.Eq.{bytes_eq-Decides}
-use Rattle.std.specs.BTreeMap.{insert_entry, is_at}
+use Rattle.std.specs.BTreeMap.{is_at}
 use Rattle.std.specs.Map.{lookup}
 use Rattle.std.specs.Option.{option_map, option_map_or, option_or}
 use Rattle.std.specs.Ordering.{nat_cmp}
@@ -12,13 +12,12 @@ use Rattle.hs_core.specs.Looking.{operation_of, shape_of}
 use Rattle.hs_core.specs.Operating.{answer, begin_line, busy_line, is_of, take_step}
 use Rattle.hs_core.specs.Seeing.{pointers_for, view_for}
 use Rattle.hs_core.specs.State.{Core}
-use Rattle.hs_effects.specs.Logged.{AreOnce, IsCalled, IsEntryOf, IsOrderly, IsPending}
+use Rattle.hs_effects.specs.Logged.{AreOnce, IsCalled, IsOrderly, IsPending}
 use Rattle.hs_effects.proofs.GoingLemmas.{stepped}
 use Rattle.hs_effects.proofs.LookLemmas.{found_insert, gone, insert_other, number_exact, once_insert, once_remove, remove_other}
-use Rattle.hs_effects.proofs.OrderlyLemmas.{ChangesAt, IsFree, changed_orderly, session_in, some_is}
+use Rattle.hs_effects.proofs.OrderlyLemmas.{IsFree, changed_orderly, session_in, some_is}
 use Rattle.hs_effects.proofs.SeatLemmas.{seats_other}
 use Rattle.hs_effects.proofs.StepLemmas.{going_asks}
-use Rattle.hs_entry.specs.declared.entry.Entry.{Entry}
 use Rattle.hs_journal.specs.Order.{session_of}
 use Rattle.hs_limits.specs.declared.address.Address.{Address}
 use Rattle.hs_model.specs.declared.op.Op.{Op}
@@ -29,13 +28,12 @@ use Rattle.hs_model.specs.Refusals.{first, refused_when}
 use Rattle.hs_limits.specs.declared.address.Held.{Held}
 use Rattle.hs_ops.specs.Answers.{gained, is_done, seated, seats_after}
 use Rattle.hs_ops.specs.Going.{at_once, begin, go, judged_in}
-use Rattle.hs_ops.specs.Operations.{Operation, after_step, go_step, new_operation}
-use Rattle.hs_ops.specs.Refusals.{all_open, is_busy, not_open, open_already, refusal_of, refusals_of}
+use Rattle.hs_ops.specs.Operations.{after_step, go_step, new_operation}
+use Rattle.hs_ops.specs.Refusals.{is_busy, not_open, open_already, refusal_of, refusals_of}
 use Rattle.hs_ops.specs.Speaking.{judging_shard}
 use Rattle.hs_ops.specs.Views.{OpView, as_session}
-use Rattle.hs_ops.specs.declared.step.OpStep.{OpStep}
 use Rattle.hs_ops.specs.declared.step.OpStep.TheVariants as step
-use Rattle.hs_tokens.specs.Seats.{Seat, Seats, seat_of}
+use Rattle.hs_tokens.specs.Seats.{Seat, seat_of}
 
 -- ---- what the first look says
 

@@ -1,17 +1,17 @@
 -- Entries that take effect keep the order, and each has the name of its block.
-use Rattle.std.proofs.Common.{◌≡◌, ◌∙◌, sym, ap, subst, ◌⊎◌, inl, inr, ℕ, zero, suc, ◌+◌, ◌-◌, ◌<◌, ◌≤◌, ◌==◌, ◌&&◌, ◌||◌, Bool, true, false, cond, List, [], ◌∷◌, length, Option, Some, None, refl, is_some, arith, slice_get}
+use Rattle.std.proofs.Common.{◌≡◌, ◌∙◌, sym, ap, subst, ◌⊎◌, inl, inr, ℕ, zero, suc, ◌+◌, ◌-◌, ◌<◌, ◌≤◌, ◌==◌, Bool, true, false, cond, List, [], ◌∷◌, length, Option, Some, None, refl, is_some, arith, slice_get}
 use Rattle.std.proofs.lemmas.Bool.Decides.{nat_tests}
 use Rattle.std.proofs.lemmas.Grind.{common_steps}
-use Rattle.std.specs.Option.{option_and_then, option_map_or}
-use Rattle.std.specs.Prelude.{slice_index_or, slice_set}
-use Rattle.hs_core.specs.Changing.{change_group, note, post, set_catalogue, set_viewed}
+use Rattle.std.specs.Option.{option_and_then}
+use Rattle.std.specs.Prelude.{slice_index_or}
+use Rattle.hs_core.specs.Changing.{change_group, note, set_viewed}
 use Rattle.hs_core.specs.declared.wait.Wait.{Wait}
 use Rattle.hs_core.specs.declared.wait.Wait.TheVariants as wait
 use Rattle.hs_core.specs.declared.waiting.Waiting.{Waiting}
 use Rattle.hs_core.specs.Effects.{after_entry, commit, commit_next, is_for_view, note_enter, note_sweep, reach_view, take_effect, tell_enter, tell_operation, wakes}
 use Rattle.hs_core.specs.Entering.{is_enter_due, propose_due}
 use Rattle.hs_core.specs.Looking.{catalogue_of, front_of, group_of, operation_of, shape_of}
-use Rattle.hs_core.specs.Operating.{go_on_with, propose_entry, resume_where}
+use Rattle.hs_core.specs.Operating.{propose_entry, resume_where}
 use Rattle.hs_core.specs.Pending.{named}
 use Rattle.hs_core.specs.State.{Core}
 use Rattle.hs_core.specs.Words.{change_if, change_with, times}
@@ -20,7 +20,7 @@ use Rattle.hs_desk.specs.declared.what.What.TheVariants as what
 use Rattle.hs_effects.specs.Logged.{HasAsked, IsEntryOf, IsOrderly, asked_by}
 use Rattle.hs_effects.specs.Taking.{IsNamed, done_by, taken}
 use Rattle.hs_effects.proofs.GoingLemmas.{IsIdle, PassesIdle, going_orderly, resumed_orderly}
-use Rattle.hs_effects.proofs.GroupLemmas.{IsFirst, IsTaken, at_front, committed_first, group_changed}
+use Rattle.hs_effects.proofs.GroupLemmas.{IsFirst, at_front, committed_first, group_changed}
 use Rattle.hs_effects.proofs.OrderlyLemmas.{Alike, IsFree, alike_free, alike_orderly, alike_same, committed_orderly, own_orderly, some_is}
 use Rattle.hs_effects.proofs.StepLemmas.{done_asks}
 use Rattle.hs_entry.specs.declared.entry.Entry.{Entry}
@@ -36,7 +36,6 @@ use Rattle.hs_ops.specs.Operations.{effect_step}
 use Rattle.hs_ops.specs.Speaking.{wanted_address}
 use Rattle.hs_replica.specs.Group.{Group, commit_front, committed, new_group, take_committed}
 use Rattle.hs_shard.specs.declared.effect.Effect.{Effect}
-use Rattle.hs_shard.specs.Facts.{Catalogue}
 use Rattle.hs_tokens.specs.Seats.{Seats}
 
 -- ---- the name of an entry's block

@@ -1,5 +1,5 @@
 -- What a Got or an Enter ends in memory: no run, or one run, and then the effect tells how many blocks went.
-use Rattle.std.proofs.Common.{◌≡◌, ◌∙◌, sym, ap, subst, ◌⊎◌, inl, inr, ℕ, zero, suc, ◌+◌, ◌<◌, Bool, true, false, cond, not, List, [], ◌∷◌, length, map, filter, count_by, Option, Some, None, refl, arith, nat_lt}
+use Rattle.std.proofs.Common.{◌≡◌, ◌∙◌, sym, ap, subst, ◌⊎◌, inl, inr, ℕ, zero, suc, ◌+◌, ◌<◌, Bool, true, false, cond, not, List, [], ◌∷◌, length, filter, Option, Some, None, refl, arith}
 use Rattle.std.proofs.lemmas.Bool.{ltb-true}
 use Rattle.std.proofs.lemmas.List.{length-map}
 use Rattle.std.proofs.lemmas.List.Filters.{length-filter_both}
@@ -18,12 +18,10 @@ use Rattle.hs_rounds.specs.declared.body.RoundBody.{RoundBody}
 use Rattle.hs_rounds.specs.declared.place.Place.{Place}
 use Rattle.hs_rounds.specs.Rounds.{Run, complete, finish, go_on, got, have_told, is_kept, is_last, place_cmp, received}
 use Rattle.hs_shard.specs.Clients.{Applied, change_at, only, put_facts}
-use Rattle.hs_shard.specs.declared.effect.Effect.{Effect}
 use Rattle.hs_shard.specs.declared.facts.Facts.{Facts}
-use Rattle.hs_desk.specs.declared.what.What.{What}
 use Rattle.hs_desk.specs.declared.what.What.TheVariants as what
 use Rattle.hs_shard.specs.Facts.{BlockList, Catalogue, facts_in}
-use Rattle.hs_shard.specs.Rounds.{advance, advanced, each_block, end_open, end_round, enter, entered, find_zero, get_round, gone_count, is_accepted, is_gone, log_got, may_enter, move_count, next_deltas, next_total, search, searched, settle, settled, spare, sweep, sweep_blocks, swept}
+use Rattle.hs_shard.specs.Rounds.{advance, advanced, each_block, end_open, enter, entered, find_zero, get_round, gone_count, is_accepted, is_gone, log_got, may_enter, move_count, next_deltas, next_total, searched, settle, settled, spare, sweep_blocks, swept}
 
 -- ---- blocks
 

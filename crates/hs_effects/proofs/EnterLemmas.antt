@@ -1,5 +1,5 @@
 -- What an Enter that takes effect tells, where no operation asked for it.
-use Rattle.std.proofs.Common.{◌≡◌, ◌∙◌, sym, ap, subst, ℕ, ◌+◌, Bool, true, false, cond, ◌&&◌, ◌==◌, List, [], ◌∷◌, ◌++◌, Option, Some, None, IsTrue, is_some, refl, slice_index}
+use Rattle.std.proofs.Common.{◌≡◌, ◌∙◌, sym, ap, subst, ℕ, ◌+◌, Bool, true, false, cond, ◌==◌, List, [], Option, Some, None, IsTrue, is_some, refl, slice_index}
 use Rattle.std.proofs.lemmas.Bool.{eqb-true}
 use Rattle.hs_answered.specs.Standing.{store_with}
 use Rattle.hs_core.specs.declared.waiting.Waiting.{Waiting}

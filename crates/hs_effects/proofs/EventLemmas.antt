@@ -1,10 +1,10 @@
 -- Every event keeps the order.
-use Rattle.std.proofs.Common.{◌≡◌, ◌∙◌, sym, ap, subst, ℕ, zero, suc, ◌+◌, ◌≤◌, ◌==◌, ◌&&◌, Bool, true, false, cond, not, max, drop, length, map, List, [], ◌∷◌, Option, Some, None, refl, is_none, nat_lt, slice_get}
+use Rattle.std.proofs.Common.{◌≡◌, ◌∙◌, sym, ap, subst, ℕ, zero, suc, ◌+◌, ◌==◌, ◌&&◌, Bool, true, false, cond, not, max, drop, length, map, List, [], ◌∷◌, Option, Some, None, refl, is_none, nat_lt, slice_get}
 use Rattle.std.specs.BTreeMap.{is_at}
 use Rattle.std.specs.Map.{lookup}
 use Rattle.std.specs.Ordering.{nat_cmp}
 use Rattle.std.specs.Prelude.{slice_index_or}
-use Rattle.hs_core.specs.Asking.{deliver, lose, no_peer, not_down, not_up, nudge, nudge_good, send_again, send_round, send_rounds, unless_refused, with_down, with_message, with_up}
+use Rattle.hs_core.specs.Asking.{deliver, lose, no_peer, not_down, not_up, nudge, nudge_good, send_again, send_round, send_rounds, unless_refused, with_message}
 use Rattle.hs_core.specs.Changing.{add_entry_tasks, change_group, change_pool, change_rejoin, note, post, refuse, set_rejoin, set_status, set_tasks}
 use Rattle.hs_core.specs.declared.event.Event.{Event}
 use Rattle.hs_core.specs.declared.event.Event.TheVariants as event
@@ -12,28 +12,28 @@ use Rattle.hs_core.specs.declared.task.Task.{Task}
 use Rattle.hs_core.specs.declared.wait.Wait.{Wait}
 use Rattle.hs_core.specs.declared.wait.Wait.TheVariants as wait
 use Rattle.hs_core.specs.declared.waiting.Waiting.{Waiting}
-use Rattle.hs_core.specs.Delivering.{handle, is_new_round, on_copy, take_copy, take_have}
+use Rattle.hs_core.specs.Delivering.{handle, is_new_round, take_copy}
 use Rattle.hs_core.specs.Effects.{commit, round_messages}
 use Rattle.hs_core.specs.Entering.{propose_due}
 use Rattle.hs_core.specs.Failing.{commit_rest, fail_disk, go_down, leave}
 use Rattle.hs_core.specs.Joining.{begin_joining, follow_lead, is_level_with_lead, join, join_if_level, joining_peers, start}
-use Rattle.hs_core.specs.Looking.{catalogue_of, first_task, group_of, home, lead_of, operation_of, shape_of, shards_of, status_of, tasks_of}
+use Rattle.hs_core.specs.Looking.{catalogue_of, first_task, group_of, home, lead_of, operation_of, shape_of, shards_of, tasks_of}
 use Rattle.hs_core.specs.Opening.{Taken, new_core, note_if_down, open_core, taken_group}
 use Rattle.hs_core.specs.Operating.{go_on_with, propose_entry}
-use Rattle.hs_core.specs.Reporting.{is_reading, on_report, take_copied, take_emptied, take_report, take_sealed, tell_bytes}
+use Rattle.hs_core.specs.Reporting.{is_reading, on_report, take_report, tell_bytes}
 use Rattle.hs_core.specs.Seeing.{pointers_for}
 use Rattle.hs_core.specs.State.{Core}
-use Rattle.hs_core.specs.Step.{begin_event, do_event, end_event, is_first_line, keep_entries, line_of, refuse_entries, run_event, step}
+use Rattle.hs_core.specs.Step.{begin_event, do_event, end_event, keep_entries, line_of, refuse_entries, run_event, step}
 use Rattle.hs_core.specs.Views.{change_view}
 use Rattle.hs_core.specs.Words.{change_if, change_with, each}
 use Rattle.hs_desk.specs.Answers.{answers}
 use Rattle.hs_desk.specs.declared.done.Done.{Done}
 use Rattle.hs_desk.specs.declared.done.Done.TheVariants as done
-use Rattle.hs_effects.specs.Logged.{IsCalled, IsNewLine, IsOrderly, MayBegin, MayBeginAll, steps}
+use Rattle.hs_effects.specs.Logged.{IsCalled, IsOrderly, MayBegin, MayBeginAll, steps}
 use Rattle.hs_effects.proofs.BeginLemmas.{begun_orderly}
 use Rattle.hs_effects.proofs.EffectLemmas.{commit_orderly, due_orderly}
 use Rattle.hs_effects.proofs.GoingLemmas.{IsIdle, going_orderly, idle_free}
-use Rattle.hs_effects.proofs.OrderlyLemmas.{Alike, IsFree, alike_both, alike_orderly, alike_same, group_alike, own_orderly, some_is}
+use Rattle.hs_effects.proofs.OrderlyLemmas.{Alike, alike_both, alike_orderly, alike_same, group_alike, own_orderly, some_is}
 use Rattle.hs_effects.proofs.StepLemmas.{told_asks}
 use Rattle.hs_effects.proofs.ViewLemmas.{view_changed}
 use Rattle.hs_entry.specs.declared.entry.Entry.{Entry}
@@ -44,18 +44,17 @@ use Rattle.hs_limits.specs.declared.limits.Limits.{Limits}
 use Rattle.hs_limits.specs.declared.shape.Shape.{Shape}
 use Rattle.hs_members.specs.Members.{all_peers}
 use Rattle.hs_tokens.specs.Seats.{Seats}
-use Rattle.hs_limits.specs.declared.limits.PeerStatus.TheVariants.{Down, Good, Joining}
+use Rattle.hs_limits.specs.declared.limits.PeerStatus.TheVariants.{Good}
 use Rattle.hs_model.specs.declared.deed.Deed.TheVariants as deed
-use Rattle.hs_model.specs.declared.op.Op.{Op}
 use Rattle.hs_model.specs.declared.reply.Reply.{Reply}
 use Rattle.hs_model.specs.declared.reply.Reply.TheVariants as reply
 use Rattle.hs_model.specs.Refusals.{first}
-use Rattle.hs_ops.specs.Operations.{Operation, bytes_step}
+use Rattle.hs_ops.specs.Operations.{bytes_step}
 use Rattle.hs_post.specs.declared.message.Message.{Message}
 use Rattle.hs_post.specs.declared.message.Message.TheVariants as message
-use Rattle.hs_post.specs.Pool.{drop_for, is_empty, is_full, message_at, restart_numbers, without}
-use Rattle.hs_rejoin.specs.Rejoin.{Rejoin, copied, emptied, follow}
-use Rattle.hs_replica.specs.Group.{Group, change_copy, have, hears, on_copied, on_emptied, on_have, on_sealed, take_entry}
+use Rattle.hs_post.specs.Pool.{is_empty, is_full, message_at, restart_numbers, without}
+use Rattle.hs_rejoin.specs.Rejoin.{copied, emptied, follow}
+use Rattle.hs_replica.specs.Group.{Group, change_copy, have, on_copied, on_emptied, on_have, on_sealed, take_entry}
 use Rattle.hs_rounds.specs.Rounds.{sent_back}
 use Rattle.hs_shard.specs.Rounds.{messages}
 
@@ -192,9 +191,9 @@ module _ (name : List ℕ → Address) where
   nudged_orderly : (peer : ℕ) (c : Core) → O c → O (nudge_good peer c)
   nudged_orderly peer c its = if_orderly _ (nudge peer) c its (λ h. alike_orderly name _ _ (record { operations = refl; sessions = refl; waiting = λ g. refl; front = λ g. refl })
       (if_orderly _ (λ x. send_rounds (home peer c) (propose_due (home peer c) x)) c h (λ h.
-        let due : Core = propose_due (home peer c) c in
-        alike_orderly name due (send_rounds (home peer c) due) (alike_both due (send_round 1 (home peer c) due) (send_rounds (home peer c) due) (round_alike 1 (home peer c) due) (round_alike 0 (home peer c) (send_round 1 (home peer c) due)))
-        (due_orderly name (home peer c) c h))))
+      let due : Core = propose_due (home peer c) c in
+      alike_orderly name due (send_rounds (home peer c) due) (alike_both due (send_round 1 (home peer c) due) (send_rounds (home peer c) due) (round_alike 1 (home peer c) due) (round_alike 0 (home peer c) (send_round 1 (home peer c) due)))
+      (due_orderly name (home peer c) c h))))
 
   -- ---- reports
 

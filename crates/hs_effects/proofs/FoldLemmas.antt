@@ -1,5 +1,5 @@
 -- An entry that takes effect, in the catalogues of a core and in their folds.
-use Rattle.std.proofs.Common.{◌≡◌, ◌∙◌, sym, ap, subst, ℕ, zero, suc, ◌+◌, ◌<◌, List, [], ◌∷◌, length, Option, refl, arith}
+use Rattle.std.proofs.Common.{◌≡◌, ◌∙◌, sym, ap, subst, ℕ, zero, suc, ◌+◌, ◌<◌, List, [], ◌∷◌, length, refl, arith}
 use Rattle.std.proofs.lemmas.Grind.{common_steps}
 use Rattle.std.specs.Prelude.{slice_index_or, slice_set}
 use Rattle.hs_answered.specs.Standing.{IsFolded, forget_all}
@@ -10,12 +10,11 @@ use Rattle.hs_core.specs.State.{Core}
 use Rattle.hs_effects.specs.Taking.{IsNamed, done_by, folds_behind, next_deed, setting_of, taken}
 use Rattle.hs_effects.proofs.QuietLemmas.{Quiet, behind_quiet, both, resumed_quiet}
 use Rattle.hs_entry.specs.declared.entry.Entry.{Entry}
-use Rattle.hs_fold.specs.Runs.Catalogue.{apply as fold_entry}
 use Rattle.hs_fold.specs.Runs.Facts.{Catalogue as Folded}
 use Rattle.hs_fold.specs.Runs.Fits.{catalogue_at}
 use Rattle.hs_fold.specs.Runs.History.{applied}
 use Rattle.hs_fold.specs.Runs.Own.{AreOwn, IsOwn}
-use Rattle.hs_fold.specs.Shards.Setting.{Setting, shard_in}
+use Rattle.hs_fold.specs.Shards.Setting.{shard_in}
 use Rattle.hs_fold.proofs.Runs.OwnLemmas.{apply-own}
 use Rattle.hs_fold.proofs.Shards.PlaceLemmas.{length-set}
 use Rattle.hs_joint.proofs.StandLemmas.{own_at, own_set}

@@ -1,42 +1,32 @@
 -- Operations that go on keep the order.
-use Rattle.std.proofs.Common.{◌≡◌, ◌∙◌, sym, ap, subst, ◌⊎◌, inl, inr, ℕ, zero, suc, ◌+◌, ◌-◌, ◌==◌, ◌&&◌, Bool, true, false, cond, map, filter, List, [], ◌∷◌, Option, Some, None, refl, is_some, arith, slice_get}
-use Rattle.std.proofs.lemmas.Bool.{eqb-true}
+use Rattle.std.proofs.Common.{◌≡◌, ◌∙◌, sym, ap, subst, inl, inr, ℕ, ◌+◌, ◌==◌, ◌&&◌, Bool, true, false, cond, map, filter, List, [], ◌∷◌, Option, Some, None, refl}
 use Rattle.std.specs.BTreeMap.{is_at}
 use Rattle.std.specs.List.{AllByRecursion}
 use Rattle.std.specs.Map.{lookup}
 use Rattle.std.specs.Ordering.{nat_cmp}
-use Rattle.hs_core.specs.Changing.{add_entry_tasks, change_group, post, put_operation, set_viewed}
+use Rattle.hs_core.specs.Changing.{add_entry_tasks, change_group, post, put_operation}
 use Rattle.hs_core.specs.declared.wait.Wait.{Wait}
 use Rattle.hs_core.specs.declared.wait.Wait.TheVariants as wait
 use Rattle.hs_core.specs.declared.waiting.Waiting.{Waiting}
-use Rattle.hs_core.specs.Effects.{after_entry, commit, commit_next, is_for_address, is_for_room, is_for_view, note_enter, note_sweep, reach_view, take_effect, tell_enter, tell_operation, wakes}
-use Rattle.hs_core.specs.Entering.{is_enter_due, propose_due}
-use Rattle.hs_core.specs.Looking.{catalogue_of, front_of, group_of, lead_of, operation_of}
-use Rattle.hs_core.specs.Operating.{add_read, answer, carry_out, go_on_with, lines_where, propose_entry, resume, resume_where, take_step, wait_for, what_holds}
-use Rattle.hs_core.specs.Pending.{named, puts_root, writes_block}
+use Rattle.hs_core.specs.Looking.{group_of, lead_of, operation_of}
+use Rattle.hs_core.specs.Operating.{add_read, carry_out, go_on_with, lines_where, propose_entry, resume, resume_where, take_step, wait_for, what_holds}
 use Rattle.hs_core.specs.Seeing.{view_for}
 use Rattle.hs_core.specs.State.{Core}
-use Rattle.hs_core.specs.Words.{change_if, change_with, each, times}
-use Rattle.hs_desk.specs.declared.what.What.{What}
-use Rattle.hs_desk.specs.declared.what.What.TheVariants as what
-use Rattle.hs_effects.specs.Logged.{AreOnce, HasAsked, IsCalled, IsEntryOf, IsOrderly, IsPending, asked_by}
-use Rattle.hs_effects.specs.Taking.{done_by, taken}
-use Rattle.hs_effects.proofs.GroupLemmas.{IsFirst, IsTaken, at_front, committed_first, group_changed}
+use Rattle.hs_core.specs.Words.{change_with, each}
+use Rattle.hs_effects.specs.Logged.{AreOnce, HasAsked, IsEntryOf, IsOrderly, asked_by}
+use Rattle.hs_effects.specs.Taking.{taken}
 use Rattle.hs_effects.proofs.LookLemmas.{each_found, found_set, number_exact, remove_other, same_number, set_other}
-use Rattle.hs_effects.proofs.OrderlyLemmas.{Alike, IsFree, alike_both, alike_free, alike_orderly, alike_same, answered_orderly, committed_orderly, own_orderly, proposed_orderly, some_is, waits_orderly}
-use Rattle.hs_effects.proofs.StepLemmas.{AsksWith, done_asks, going_asks}
+use Rattle.hs_effects.proofs.OrderlyLemmas.{Alike, IsFree, alike_orderly, alike_same, answered_orderly, proposed_orderly, some_is, waits_orderly}
+use Rattle.hs_effects.proofs.StepLemmas.{AsksWith, going_asks}
 use Rattle.hs_entry.specs.declared.entry.Entry.{Entry}
-use Rattle.hs_entry.specs.declared.entry.Entry.TheVariants as kind
 use Rattle.hs_limits.specs.declared.address.Address.{Address}
 use Rattle.hs_model.specs.declared.op.Op.{Op}
 use Rattle.hs_model.specs.declared.op.Op.TheVariants as op
-use Rattle.hs_model.specs.declared.reply.Reply.{Reply}
 use Rattle.hs_ops.specs.declared.step.OpStep.{OpStep}
 use Rattle.hs_ops.specs.declared.step.OpStep.TheVariants as step
-use Rattle.hs_ops.specs.Operations.{Operation, after_step, effect_step, go_step}
+use Rattle.hs_ops.specs.Operations.{Operation, after_step, go_step}
 use Rattle.hs_ops.specs.Views.{OpView}
-use Rattle.hs_replica.specs.Group.{Group, commit_front, committed, last_number, proposal, propose, take_committed}
-use Rattle.hs_shard.specs.declared.effect.Effect.{Effect}
+use Rattle.hs_replica.specs.Group.{last_number, proposal, propose}
 use Rattle.hs_tokens.specs.Seats.{Seats}
 
 -- ---- the line of an entry is its operation's
@@ -108,7 +98,7 @@ going_orderly next asks name line c its free = go (operation_of line c) refl
     go None at = its
     go (Some u) at = stepped name c line its free u at (next (view_for u.shard u.operation.op c) u.operation)
         (λ entry e. subst (λ k. IsEntryOf name c.sessions k u.operation.op entry) ((its.pending line u at).of_line)
-          (asks name (view_for u.shard u.operation.op c) u.operation ((its.pending line u at).called) entry e))
+        (asks name (view_for u.shard u.operation.op c) u.operation ((its.pending line u at).called) entry e))
 
 -- ---- which lines may go on
 

@@ -1,14 +1,14 @@
 -- The lists of a core of which one changes.
-use Rattle.std.proofs.Common.{◌≡◌, ◌∙◌, sym, ap, subst, ◌⊎◌, inl, inr, ℕ, zero, suc, ◌+◌, Bool, true, false, cond, List, [], ◌∷◌, ◌++◌, length, drop, Option, Some, None, refl, arith, nat_lt, slice_get}
+use Rattle.std.proofs.Common.{◌≡◌, ◌∙◌, sym, ap, subst, ◌⊎◌, inl, inr, ℕ, zero, suc, ◌+◌, Bool, true, false, cond, List, [], ◌∷◌, ◌++◌, length, drop, Option, Some, None, refl, nat_lt, slice_get}
 use Rattle.std.specs.Option.{option_map, option_map_or}
 use Rattle.std.specs.Prelude.{slice_index_or, slice_set}
 use Rattle.hs_core.specs.Changing.{change_group}
-use Rattle.hs_core.specs.Looking.{front_of, group_of, shape_of}
+use Rattle.hs_core.specs.Looking.{group_of, shape_of}
 use Rattle.hs_core.specs.State.{Core}
 use Rattle.hs_effects.proofs.LookLemmas.{one_or_other}
 use Rattle.hs_entry.specs.declared.entry.Entry.{Entry}
 use Rattle.hs_fold.proofs.Shards.PlaceLemmas.{other-at}
-use Rattle.hs_replica.specs.Group.{Group, change_copy, commit_front, committed, lead, lead_takes, new_group, propose, take_committed, take_entry}
+use Rattle.hs_replica.specs.Group.{Group, commit_front, committed, lead, lead_takes, new_group, propose, take_committed}
 
 set_at : {X : Type 0} (none : X) (xs : List X) (k : ℕ) (d : X) → (slice_index_or (slice_set xs k d) k none ≡ d) ⊎ (slice_index_or (slice_set xs k d) k none ≡ slice_index_or xs k none)
 set_at none [] k d = inr refl

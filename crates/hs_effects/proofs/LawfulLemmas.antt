@@ -1,6 +1,5 @@
 -- A lawful history with one entry more.
-use Rattle.std.proofs.Common.{◌≡◌, ◌∙◌, sym, ap, subst, ℕ, ◌<◌, List, [], ◌∷◌, ◌++◌, refl}
-use Rattle.hs_answered.specs.Standing.{IsFolded}
+use Rattle.std.proofs.Common.{◌≡◌, ◌∙◌, sym, ap, subst, ℕ, List, [], ◌∷◌, ◌++◌}
 use Rattle.hs_core.specs.Effects.{take_effect}
 use Rattle.hs_core.specs.State.{Core}
 use Rattle.hs_effects.specs.Lawful.{AreOfHistory, IsLawful, MayFollow}
@@ -13,7 +12,7 @@ use Rattle.hs_fold.specs.Runs.Facts.{Catalogue as Folded}
 use Rattle.hs_fold.specs.Runs.History.{follow, follow_all, no_entries}
 use Rattle.hs_fold.specs.Shards.Setting.{Setting}
 use Rattle.hs_joint.specs.Along.{DoesItsPart, KeepFewRecords}
-use Rattle.hs_joint.proofs.HistoryLemmas.{GoesAll, goes_all, history_goes, shape_few, shape_some}
+use Rattle.hs_joint.proofs.HistoryLemmas.{goes_all, history_goes, shape_few, shape_some}
 use Rattle.hs_limits.specs.declared.address.Address.{Address}
 use Rattle.hs_limits.specs.declared.limits.Limits.{Limits}
 use Rattle.hs_limits.specs.Shape.{IsShape}
@@ -32,7 +31,7 @@ module _ (set : Setting) (shape : IsShape set.shape) (cs : List Folded) (its : A
       there may =
           let behind = history_goes set (shape_some set.shape shape) (shape_few set.shape shape) its.history its.fits its.records in
           (goes_all set (shape_some set.shape shape) (shape_few set.shape shape) (deed ∷ []) (follow_all set (no_entries set) its.history) behind.later behind.standing behind.valid
-            (may.of, may.rests, tt) (may.records, tt)).parts.0
+          (may.of, may.rests, tt) (may.records, tt)).parts.0
 
   pub history_more : AreOfHistory set (follow set cs deed)
   history_more = record {

@@ -1,27 +1,23 @@
 -- Changes that keep operations and the entries that they asked for in order.
-use Rattle.std.proofs.Common.{◌≡◌, ◌∙◌, sym, ap, subst, ◌⊎◌, inl, inr, ℕ, suc, ◌+◌, ◌≤◌, Bool, true, false, cond, List, [], ◌∷◌, ◌++◌, length, Option, Some, None, IsSome, refl, arith, slice_get}
+use Rattle.std.proofs.Common.{◌≡◌, ◌∙◌, sym, ap, subst, ◌⊎◌, inl, inr, ℕ, suc, ◌+◌, List, [], ◌∷◌, ◌++◌, length, Option, Some, None, IsSome, refl, arith, slice_get}
 use Rattle.std.specs.BTreeMap.{is_at}
 use Rattle.std.specs.Map.{lookup}
 use Rattle.std.specs.Ordering.{nat_cmp}
 use Rattle.hs_core.specs.Changing.{add_entry_tasks, change_group, end_operation, post, put_operation}
-use Rattle.hs_core.specs.declared.wait.Wait.{Wait}
 use Rattle.hs_core.specs.declared.wait.Wait.TheVariants as wait
 use Rattle.hs_core.specs.declared.waiting.Waiting.{Waiting}
 use Rattle.hs_core.specs.Looking.{front_of, group_of, lead_of, operation_of}
-use Rattle.hs_core.specs.Operating.{answer, propose_entry, wait_for}
+use Rattle.hs_core.specs.Operating.{answer, propose_entry}
 use Rattle.hs_core.specs.Seeing.{pointers_for, view_for}
 use Rattle.hs_core.specs.State.{Core}
 use Rattle.hs_core.specs.Words.{change_with}
 use Rattle.hs_effects.specs.Logged.{AreOnce, HasAsked, IsCalled, IsEntryOf, IsOrderly, IsPending, asked_by}
-use Rattle.hs_effects.proofs.GroupLemmas.{IsFirst, IsTaken, at_end, at_front, group_changed, propose_front, taken_or_same}
+use Rattle.hs_effects.proofs.GroupLemmas.{IsTaken, at_end, at_front, group_changed, propose_front, taken_or_same}
 use Rattle.hs_effects.proofs.LookLemmas.{found_set, gone, number_exact, once_remove, once_set, one_or_other, remove_other, set_other}
 use Rattle.hs_effects.proofs.SeatLemmas.{called_on, entry_on, seats_other}
 use Rattle.hs_entry.specs.declared.entry.Entry.{Entry}
-use Rattle.hs_entry.specs.declared.entry.Entry.TheVariants as kind
 use Rattle.hs_journal.specs.Order.{session_of}
 use Rattle.hs_limits.specs.declared.address.Address.{Address}
-use Rattle.hs_model.specs.declared.op.Op.{Op}
-use Rattle.hs_model.specs.declared.op.Op.TheVariants as op
 use Rattle.hs_model.specs.declared.reply.Reply.{Reply}
 use Rattle.hs_ops.specs.Answers.{gained}
 use Rattle.hs_replica.specs.Group.{Group, last_number, proposal, propose, take_committed}

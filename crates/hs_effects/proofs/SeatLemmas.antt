@@ -1,10 +1,8 @@
 -- An answer changes its own session alone, and what an operation asks for rests on its own session alone.
-use Rattle.std.proofs.Common.{◌≡◌, ◌∙◌, sym, ap, subst, ◌⊎◌, inl, inr, ℕ, ◌==◌, Bool, true, false, cond, map, List, Option, Some, None, refl, is_some}
-use Rattle.std.specs.BTreeMap.{is_at}
+use Rattle.std.proofs.Common.{◌≡◌, ◌∙◌, sym, ap, subst, inl, inr, ℕ, Bool, true, false, cond, map, List, Option, Some, None, refl, is_some}
 use Rattle.std.specs.List.{list_all}
-use Rattle.std.specs.Option.{option_map}
 use Rattle.std.specs.Prelude.{unwrap_or}
-use Rattle.hs_effects.specs.Logged.{HasBlock, IsCalled, IsEntryOf}
+use Rattle.hs_effects.specs.Logged.{IsCalled, IsEntryOf}
 use Rattle.hs_effects.proofs.LookLemmas.{insert_other, name_exact, remove_other, set_other}
 use Rattle.hs_entry.specs.declared.entry.Entry.{Entry}
 use Rattle.hs_entry.specs.declared.entry.Entry.TheVariants as kind
@@ -18,7 +16,7 @@ use Rattle.hs_model.specs.declared.reply.Reply.{Reply}
 use Rattle.hs_model.specs.Judge.{given_address}
 use Rattle.hs_ops.specs.Answers.{is_done, seated, seats_after}
 use Rattle.hs_ops.specs.Speaking.{asked_block, helds, least_epoch}
-use Rattle.hs_tokens.specs.Seats.{Seat, Seats, close_session, held_at, name_cmp, new_seat, nothing, open_session, put_seat, seat_of}
+use Rattle.hs_tokens.specs.Seats.{Seat, Seats, held_at, name_cmp, new_seat, nothing, put_seat, seat_of}
 
 some_differ : (a b : List ℕ) → (Some a ≡ Some b → ⊥) → b ≡ a → ⊥
 some_differ a b d e = d (ap (λ x. Some x) (sym e))
@@ -92,9 +90,10 @@ entry_on name a b line (op.Write session payload handles address) entry same ask
 
     go : IsEntryOf name a line (op.Write session payload handles address) entry → IsEntryOf name b line (op.Write session payload handles address) entry
     go (inl is) = inl (
-        (is.0 ∙ ap (λ hs. kind.Block line (least_epoch hs) (spell (asked_block a session payload handles))) (helds_same a b session handles e)
-            ∙ ap (λ block. kind.Block line (least_epoch (helds b session handles)) (spell block)) (block_same a b session payload handles e)),
-        (is.1 ∙ ap (λ block. Some (name (spell block))) (block_same a b session payload handles e)))
+      (is.0 ∙ ap (λ hs. kind.Block line (least_epoch hs) (spell (asked_block a session payload handles))) (helds_same a b session handles e)
+          ∙ ap (λ block. kind.Block line (least_epoch (helds b session handles)) (spell block)) (block_same a b session payload handles e)),
+      (is.1 ∙ ap (λ block. Some (name (spell block))) (block_same a b session payload handles e)),
+    )
     go (inr is) = inr (is.0, is.1 ∙ ap (λ hs. kind.Mark line (least_epoch hs) is.0 (given_address address)) (helds_same a b session handles e))
 entry_on name a b line (op.Root session key handle) entry same asks =
     asks ∙ ap (λ seat. kind.Root line (unwrap_or (held_at seat handle) nothing).epoch (unwrap_or (held_at seat handle) nothing).address key) (sym (same session refl))

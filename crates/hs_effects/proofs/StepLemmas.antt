@@ -1,5 +1,5 @@
 -- What a step proposes is what its operation asks for.
-use Rattle.std.proofs.Common.{◌≡◌, ◌∙◌, sym, ap, subst, inl, inr, ℕ, ◌+◌, ◌≤◌, ◌&&◌, Bool, true, false, cond, not, map, List, [], ◌∷◌, length, Option, Some, None, refl, is_none, is_some, nat_lt, arith, slice_index}
+use Rattle.std.proofs.Common.{◌≡◌, ◌∙◌, sym, ap, inl, inr, ℕ, ◌+◌, ◌&&◌, Bool, true, false, cond, not, map, List, [], ◌∷◌, length, Option, Some, None, refl, is_none, is_some, slice_index}
 use Rattle.std.proofs.lemmas.Bool.{ltb-false}
 use Rattle.std.specs.List.{list_all}
 use Rattle.std.specs.Option.{option_map, option_map_or, option_or}
@@ -16,7 +16,7 @@ use Rattle.hs_model.specs.declared.op.Op.TheVariants as op
 use Rattle.hs_model.specs.declared.reply.Reply.{Reply}
 use Rattle.hs_model.specs.declared.reply.Reply.TheVariants as reply
 use Rattle.hs_model.specs.Refusals.{first, no_handle_in, no_such_handle, refused_when, too_long, too_many}
-use Rattle.hs_model.specs.Store.{Session, held_in}
+use Rattle.hs_model.specs.Store.{held_in}
 use Rattle.hs_ops.specs.declared.operation.Stage.{Stage}
 use Rattle.hs_ops.specs.declared.operation.Stage.TheVariants as stage
 use Rattle.hs_ops.specs.declared.step.OpStep.{OpStep}

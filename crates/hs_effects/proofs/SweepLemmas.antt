@@ -1,5 +1,5 @@
 -- What a Got that takes effect tells.
-use Rattle.std.proofs.Common.{◌≡◌, ◌∙◌, sym, ap, subst, ◌⊎◌, inl, inr, ℕ, zero, suc, ◌+◌, ◌-◌, ◌<◌, Bool, true, false, cond, ◌&&◌, ◌==◌, List, [], ◌∷◌, ◌++◌, length, map, filter, Option, Some, None, IsTrue, refl, arith, nat_le, nat_lt, slice_index, sum_by, append_assoc}
+use Rattle.std.proofs.Common.{◌≡◌, ◌∙◌, sym, ap, subst, ◌⊎◌, inl, inr, ℕ, zero, suc, ◌+◌, ◌-◌, ◌<◌, Bool, true, false, cond, ◌&&◌, List, [], ◌∷◌, ◌++◌, length, map, Option, Some, None, IsTrue, refl, arith, nat_le, nat_lt, slice_index, sum_by, append_assoc}
 use Rattle.std.proofs.lemmas.Bool.{ltb-true}
 use Rattle.std.proofs.lemmas.Grind.{common_steps}
 use Rattle.std.proofs.lemmas.List.{get_or-map, length-map}
@@ -9,17 +9,15 @@ use Rattle.std.specs.List.{list_all}
 use Rattle.std.specs.Prelude.{slice_index_or, slice_set}
 use Rattle.hs_answered.specs.Standing.{IsAddressed, IsFolded, forget_all, store_with}
 use Rattle.hs_core.specs.Changing.{note}
-use Rattle.hs_core.specs.declared.waiting.Waiting.{Waiting}
 use Rattle.hs_core.specs.Effects.{note_sweep, take_effect}
 use Rattle.hs_core.specs.Entering.{propose_due}
 use Rattle.hs_core.specs.Looking.{catalogue_of, shape_of}
-use Rattle.hs_core.specs.Operating.{resume, resume_where}
 use Rattle.hs_core.specs.Seeing.{view_for}
 use Rattle.hs_core.specs.State.{Core}
-use Rattle.hs_core.specs.Words.{change_if, change_with, each}
+use Rattle.hs_core.specs.Words.{change_if, change_with}
 use Rattle.hs_effects.specs.Lawful.{IsLawful, MayFollow}
 use Rattle.hs_effects.specs.Taking.{IsNamed, done_by, folds_behind, next_deed, setting_of, taken}
-use Rattle.hs_effects.specs.Telling.{HasSwept, IsSilent, done_entries, event_at, shard_entry}
+use Rattle.hs_effects.specs.Telling.{HasSwept, IsSilent}
 use Rattle.hs_effects.proofs.EndingLemmas.{HasRemoved, IsSteady, OpensAbove, forget_opens, got_ends}
 use Rattle.hs_effects.proofs.FoldLemmas.{memory_at, taken_folds}
 use Rattle.hs_effects.proofs.LawfulLemmas.{entry_part}
@@ -45,7 +43,6 @@ use Rattle.hs_model.specs.declared.op.Op.{Op}
 use Rattle.hs_model.specs.declared.op.Op.TheVariants as op
 use Rattle.hs_model.specs.declared.reply.Reply.TheVariants as reply
 use Rattle.hs_model.specs.Inner.{may_sweep, sweep}
-use Rattle.hs_model.specs.Run.{sweeps}
 use Rattle.hs_model.specs.Store.{Store, with_sessions}
 use Rattle.hs_ops.specs.Speaking.{judging_shard}
 use Rattle.hs_rounds.specs.declared.body.RoundBody.{RoundBody}

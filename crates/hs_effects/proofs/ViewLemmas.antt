@@ -1,10 +1,9 @@
 -- A new view keeps the order: entries that are gone have operations that start again.
-use Rattle.std.proofs.Common.{◌≡◌, ◌∙◌, sym, ap, subst, ◌⊎◌, inl, inr, ℕ, zero, suc, ◌+◌, ◌<◌, ◌≤◌, ◌==◌, ◌&&◌, Bool, true, false, cond, not, map, take, List, [], ◌∷◌, length, Option, Some, None, refl, arith, nat_le, slice_get}
+use Rattle.std.proofs.Common.{◌≡◌, ◌∙◌, sym, ap, subst, ◌⊎◌, inl, inr, ℕ, zero, suc, ◌+◌, ◌<◌, ◌≤◌, ◌==◌, ◌&&◌, Bool, true, false, cond, not, take, List, [], ◌∷◌, length, Option, Some, None, refl, arith, nat_le, slice_get}
 use Rattle.std.proofs.lemmas.Bool.{eqb-true}
 use Rattle.std.proofs.lemmas.Bool.Decides.{nat_tests}
 use Rattle.std.proofs.lemmas.Grind.{common_steps}
 use Rattle.std.specs.BTreeMap.{is_at}
-use Rattle.std.specs.Map.{lookup}
 use Rattle.std.specs.Option.{option_map}
 use Rattle.std.specs.Ordering.{nat_cmp}
 use Rattle.hs_core.specs.Changing.{change_group, post, set_viewed}
@@ -12,14 +11,13 @@ use Rattle.hs_core.specs.declared.wait.Wait.{Wait}
 use Rattle.hs_core.specs.declared.wait.Wait.TheVariants as wait
 use Rattle.hs_core.specs.declared.waiting.Waiting.{Waiting}
 use Rattle.hs_core.specs.Looking.{front_of, group_of, operation_of}
-use Rattle.hs_core.specs.Operating.{propose_entry}
 use Rattle.hs_core.specs.State.{Core}
 use Rattle.hs_core.specs.Views.{begin_view, change_view, is_within, restart, restarted}
 use Rattle.hs_core.specs.Words.{change_if}
-use Rattle.hs_effects.specs.Logged.{HasAsked, IsCalled, IsOrderly, IsPending, asked_by}
+use Rattle.hs_effects.specs.Logged.{HasAsked, IsOrderly, IsPending, asked_by}
 use Rattle.hs_effects.proofs.GroupLemmas.{group_changed}
 use Rattle.hs_effects.proofs.LookLemmas.{found_map, once_map}
-use Rattle.hs_effects.proofs.OrderlyLemmas.{Alike, alike_orderly, asked_alike, own_orderly, session_in, some_is, with_lists}
+use Rattle.hs_effects.proofs.OrderlyLemmas.{alike_orderly, asked_alike, own_orderly, session_in, some_is, with_lists}
 use Rattle.hs_entry.specs.declared.entry.Entry.{Entry}
 use Rattle.hs_entry.specs.declared.entry.Entry.TheVariants as kind
 use Rattle.hs_limits.specs.declared.address.Address.{Address}
