@@ -208,6 +208,8 @@ module _ (name : List ℕ → Address) (line : ℕ) (o : Op) (c : Core) (its : I
   answered : (x : Waiting) (r : Reply) → x.operation.op ≡ o → judged_in v o ≡ Some r → IsOrderly name (answer line x r with_it)
   unfolding seats_after
   answered x r same j = changed_orderly name c (answer line x r with_it) line its free (record {
+    limits = refl;
+    shape = refl;
     waiting = λ g. refl;
     front = λ g. refl;
     others = λ l d. remove_other nat_cmp number_exact with_it.operations line l d ∙ insert_other nat_cmp number_exact c.operations line l w d;
@@ -243,6 +245,8 @@ module _ (name : List ℕ → Address) (line : ℕ) (o : Op) (c : Core) (its : I
 
   added : judged_in v o ≡ None → IsOrderly name with_it
   added j = changed_orderly name c with_it line its free (record {
+    limits = refl;
+    shape = refl;
     waiting = λ g. refl;
     front = λ g. refl;
     others = λ l d. insert_other nat_cmp number_exact c.operations line l w d;
@@ -256,7 +260,7 @@ module _ (name : List ℕ → Address) (line : ℕ) (o : Op) (c : Core) (its : I
       is_it u e = some_is w u (sym (found_insert line c.operations w) ∙ e)
 
       pending : IsPending name with_it line w
-      pending = record { of_line = refl; counted = counted; opened = λ q s. (unanswered_alone v o q j s).opened; called = called }
+      pending = record { of_line = refl; counted = counted; opened = λ q s. (unanswered_alone v o q j s).opened; called = called; judges = refl }
 
       by_mine : (m : ℕ) (u : Waiting) (q : List ℕ) → operation_of m c ≡ Some u → session_in u ≡ Some q → session_of (Some o) ≡ Some q → ⊥
       by_mine m u q at s t = busy_by c m u o q at s t ((unanswered_alone v o q j t).free)

@@ -143,8 +143,8 @@ sweep_alike shard removed c = go _
     first = note (who.Shard shard) (deed.Swept shard) (reply.Sweep (catalogue_of shard c).swept removed) c
 
     go : (b : Bool) → Alike c (change_if b (note who.Store deed.Nothing (reply.Done (catalogue_of shard c).swept)) (note (who.Shard shard) (deed.Swept shard) (reply.Sweep (catalogue_of shard c).swept removed) c))
-    go true = record { operations = refl; sessions = refl; waiting = λ g. refl; front = λ g. refl }
-    go false = record { operations = refl; sessions = refl; waiting = λ g. refl; front = λ g. refl }
+    go true = record { operations = refl; sessions = refl; limits = refl; shape = refl; waiting = λ g. refl; front = λ g. refl }
+    go false = record { operations = refl; sessions = refl; limits = refl; shape = refl; waiting = λ g. refl; front = λ g. refl }
 
 enter_alike : (shard : ℕ) (did : What) (c : Core) → Alike c (note_enter shard did c)
 enter_alike shard what.Nothing c = alike_same c
@@ -154,7 +154,7 @@ enter_alike shard what.Marked c = alike_same c
 enter_alike shard what.Again c = alike_same c
 enter_alike shard what.Rooted c = alike_same c
 enter_alike shard what.Dropped c = alike_same c
-enter_alike shard (what.Entered epoch) c = record { operations = refl; sessions = refl; waiting = λ g. refl; front = λ g. refl }
+enter_alike shard (what.Entered epoch) c = record { operations = refl; sessions = refl; limits = refl; shape = refl; waiting = λ g. refl; front = λ g. refl }
 enter_alike shard what.Refused c = alike_same c
 
 pub due_orderly : (name : List ℕ → Address) (shard : ℕ) (c : Core) → IsOrderly name c → IsOrderly name (propose_due shard c)
@@ -211,7 +211,7 @@ module _ (name : List ℕ → Address) (shard : ℕ) (c : Core) (its : IsOrderly
   view_orderly view = go (view == (group_of shard c).view)
     where
       viewed : IsOrderly name (set_viewed shard true c)
-      viewed = alike_orderly name c (set_viewed shard true c) (record { operations = refl; sessions = refl; waiting = λ g. refl; front = λ g. refl }) its
+      viewed = alike_orderly name c (set_viewed shard true c) (record { operations = refl; sessions = refl; limits = refl; shape = refl; waiting = λ g. refl; front = λ g. refl }) its
 
       go : (b : Bool) → IsOrderly name (change_if b (λ x. resume_where shard is_for_view (set_viewed shard true x)) c)
       go true = resumed_orderly name shard is_for_view view_idle (set_viewed shard true c) viewed
@@ -248,7 +248,7 @@ pub effect_orderly : (name : List ℕ → Address) (shard number : ℕ) (entry :
 effect_orderly name shard number entry c its e =
     let first : Core = change_group shard take_committed c in
     let here : Core = taken shard entry c in
-    let beside : Alike first here = record { operations = refl; sessions = refl; waiting = λ g. refl; front = λ g. refl } in
+    let beside : Alike first here = record { operations = refl; sessions = refl; limits = refl; shape = refl; waiting = λ g. refl; front = λ g. refl } in
     let its_here : IsOrderly name here = alike_orderly name first here beside (committed_orderly name shard c its) in
     let effect : Effect = (done_by shard entry c).effect in
     resumed_orderly name shard (wakes entry (named entry c) (after_entry shard entry effect here)) (wakes_idle entry (named entry c) (after_entry shard entry effect here)) (after_entry shard entry effect here)

@@ -13,7 +13,7 @@ use Rattle.hs_core.specs.Operating.{add_read, carry_out, go_on_with, lines_where
 use Rattle.hs_core.specs.Seeing.{view_for}
 use Rattle.hs_core.specs.State.{Core}
 use Rattle.hs_core.specs.Words.{change_with, each}
-use Rattle.hs_effects.specs.Logged.{AreOnce, HasAsked, IsEntryOf, IsOrderly, asked_by}
+use Rattle.hs_effects.specs.Logged.{AreOnce, HasAsked, IsEntryOf, IsOrderly, IsOwn, asked_by}
 use Rattle.hs_effects.specs.Taking.{taken}
 use Rattle.hs_effects.proofs.LookLemmas.{each_found, found_set, number_exact, remove_other, same_number, set_other}
 use Rattle.hs_effects.proofs.OrderlyLemmas.{Alike, IsFree, alike_orderly, alike_same, answered_orderly, proposed_orderly, some_is, waits_orderly}
@@ -59,11 +59,11 @@ entry_line name seats line k op.Stat entry asks by = absurd asks
 
 module _ (name : List ℕ → Address) (c : Core) (line : ℕ) (its : IsOrderly name c) (free : IsFree c line) (u : Waiting) (at : operation_of line c ≡ Some u) where
   -- w is u at another stage
-  module _ (w : Waiting) (same : w.operation.op ≡ u.operation.op) (lines : w.operation.line ≡ u.operation.line) where
-    proposes : (entry : Entry) → IsEntryOf name c.sessions line w.operation.op entry
+  module _ (w : Waiting) (same : w.operation.op ≡ u.operation.op) (lines : w.operation.line ≡ u.operation.line) (places : w.shard ≡ u.shard) where
+    proposes : (entry : Entry) → IsEntryOf name c.sessions line w.operation.op entry × IsOwn c.limits c.sessions w.operation.op
         → IsOrderly name (propose_entry w.shard entry (wait_for line w (wait.Entry (last_number (group_of w.shard c) + 1)) c))
-    proposes entry asks = proposed_orderly name w.shard entry waits (waits_orderly name c line its free u at waiting same lines) (λ k by.
-        subst (λ j. HasAsked name waits w.shard (last_number (group_of w.shard c) + 1) j entry) (sym (entry_line name c.sessions line k w.operation.op entry asks by)) here)
+    proposes entry asks = proposed_orderly name w.shard entry waits (waits_orderly name c line its free u at waiting same lines places) (λ k by.
+        subst (λ j. HasAsked name waits w.shard (last_number (group_of w.shard c) + 1) j entry) (sym (entry_line name c.sessions line k w.operation.op entry asks.0 by)) here)
       where
         waiting : Waiting
         waiting = record w { wait = wait.Entry (last_number (group_of w.shard c) + 1) }
@@ -72,24 +72,24 @@ module _ (name : List ℕ → Address) (c : Core) (line : ℕ) (its : IsOrderly 
         waits = put_operation line waiting c
 
         here : HasAsked name (put_operation line (record w { wait = wait.Entry (last_number (group_of w.shard c) + 1) }) c) w.shard (last_number (group_of w.shard c) + 1) line entry
-        here = record { waiting = waiting; at = found_set line c.operations u waiting at; waits = refl; judges = refl; asks = asks }
+        here = record { waiting = waiting; at = found_set line c.operations u waiting at; waits = refl; judges = refl; asks = asks.0; own = asks.1 }
 
     -- a Read is put into a queue
     reads : (number : ℕ) (lead : Option ℕ) (x : Core) → Alike x (change_with lead (add_read number line) x)
     reads number None x = alike_same x
-    reads number (Some peer) x = record { operations = refl; sessions = refl; waiting = λ g. refl; front = λ g. refl }
+    reads number (Some peer) x = record { operations = refl; sessions = refl; limits = refl; shape = refl; waiting = λ g. refl; front = λ g. refl }
 
-    carried : (taken : OpStep) → ((entry : Entry) → taken ≡ step.Propose entry → IsEntryOf name c.sessions line w.operation.op entry) → IsOrderly name (carry_out line w taken c)
+    carried : (taken : OpStep) → ((entry : Entry) → taken ≡ step.Propose entry → IsEntryOf name c.sessions line w.operation.op entry × IsOwn c.limits c.sessions w.operation.op) → IsOrderly name (carry_out line w taken c)
     carried (step.Answer told) asks = answered_orderly name c line its free u at w told same
     carried (step.Propose entry) asks = proposes entry (asks entry refl)
     carried (step.Compare number) asks =
         let waits : Core = wait_for line w (wait.Bytes number) c in
         alike_orderly name waits (change_with (lead_of w.shard c) (add_read number line) waits) (reads number (lead_of w.shard c) waits)
-        (waits_orderly name c line its free u at (record w { wait = wait.Bytes number }) same lines)
-    carried step.Wait asks = waits_orderly name c line its free u at (record w { wait = what_holds w c }) same lines
+        (waits_orderly name c line its free u at (record w { wait = wait.Bytes number }) same lines places)
+    carried step.Wait asks = waits_orderly name c line its free u at (record w { wait = what_holds w c }) same lines places
 
-  pub stepped : (taken : OpStep) → ((entry : Entry) → taken ≡ step.Propose entry → IsEntryOf name c.sessions line u.operation.op entry) → IsOrderly name (take_step line u taken c)
-  stepped taken asks = carried (record u { operation = after_step taken u.operation }) refl refl taken asks
+  pub stepped : (taken : OpStep) → ((entry : Entry) → taken ≡ step.Propose entry → IsEntryOf name c.sessions line u.operation.op entry × IsOwn c.limits c.sessions u.operation.op) → IsOrderly name (take_step line u taken c)
+  stepped taken asks = carried (record u { operation = after_step taken u.operation }) refl refl refl taken asks
 
 pub going_orderly : (next : OpView → Operation → OpStep) → AsksWith next → (name : List ℕ → Address) (line : ℕ) (c : Core) → IsOrderly name c → IsFree c line → IsOrderly name (go_on_with next line c)
 going_orderly next asks name line c its free = go (operation_of line c) refl
@@ -97,7 +97,7 @@ going_orderly next asks name line c its free = go (operation_of line c) refl
     go : (o : Option Waiting) → operation_of line c ≡ o → IsOrderly name (change_with o (λ w. take_step line w (next (view_for w.shard w.operation.op c) w.operation)) c)
     go None at = its
     go (Some u) at = stepped name c line its free u at (next (view_for u.shard u.operation.op c) u.operation)
-        (λ entry e. subst (λ k. IsEntryOf name c.sessions k u.operation.op entry) ((its.pending line u at).of_line)
+        (λ entry e. subst (λ k. IsEntryOf name c.sessions k u.operation.op entry × IsOwn c.limits c.sessions u.operation.op) ((its.pending line u at).of_line)
         (asks name (view_for u.shard u.operation.op c) u.operation ((its.pending line u at).called) entry e))
 
 -- ---- which lines may go on

@@ -6,18 +6,21 @@ use Rattle.std.specs.Ordering.{nat_cmp}
 use Rattle.hs_core.specs.Changing.{add_entry_tasks, change_group, end_operation, post, put_operation}
 use Rattle.hs_core.specs.declared.wait.Wait.TheVariants as wait
 use Rattle.hs_core.specs.declared.waiting.Waiting.{Waiting}
-use Rattle.hs_core.specs.Looking.{front_of, group_of, lead_of, operation_of}
+use Rattle.hs_core.specs.Looking.{front_of, group_of, lead_of, operation_of, shape_of}
 use Rattle.hs_core.specs.Operating.{answer, propose_entry}
 use Rattle.hs_core.specs.Seeing.{pointers_for, view_for}
 use Rattle.hs_core.specs.State.{Core}
 use Rattle.hs_core.specs.Words.{change_with}
-use Rattle.hs_effects.specs.Logged.{AreOnce, HasAsked, IsCalled, IsEntryOf, IsOrderly, IsPending, asked_by}
+use Rattle.hs_effects.specs.Logged.{AreOnce, HasAsked, IsCalled, IsEntryOf, IsOrderly, IsOwn, IsPending, asked_by}
 use Rattle.hs_effects.proofs.GroupLemmas.{IsTaken, at_end, at_front, group_changed, propose_front, taken_or_same}
 use Rattle.hs_effects.proofs.LookLemmas.{found_set, gone, number_exact, once_remove, once_set, one_or_other, remove_other, set_other}
-use Rattle.hs_effects.proofs.SeatLemmas.{called_on, entry_on, seats_other}
+use Rattle.hs_effects.proofs.SeatLemmas.{called_on, entry_on, judging_on, own_on, seats_other}
 use Rattle.hs_entry.specs.declared.entry.Entry.{Entry}
 use Rattle.hs_journal.specs.Order.{session_of}
 use Rattle.hs_limits.specs.declared.address.Address.{Address}
+use Rattle.hs_limits.specs.declared.limits.Limits.{Limits}
+use Rattle.hs_limits.specs.declared.shape.Shape.{Shape}
+use Rattle.hs_ops.specs.Speaking.{judging_shard}
 use Rattle.hs_model.specs.declared.reply.Reply.{Reply}
 use Rattle.hs_ops.specs.Answers.{gained}
 use Rattle.hs_replica.specs.Group.{Group, last_number, proposal, propose, take_committed}
@@ -38,6 +41,8 @@ IsFree core line = (shard place : ℕ) (entry : Entry) → slice_get (group_of s
 
 -- operations, lists and sessions of two cores, but for the operation of one line and its session
 pub record ChangesAt (name : List ℕ → Address) (a b : Core) (line : ℕ) : Type 0 where
+  pub limits : b.limits ≡ a.limits
+  pub shape : shape_of b ≡ shape_of a
   pub waiting : (g : ℕ) → (group_of g b).waiting ≡ (group_of g a).waiting
   pub front : (g : ℕ) → front_of g b ≡ front_of g a
   pub others : (l : ℕ) → (l ≡ line → ⊥) → operation_of l b ≡ operation_of l a
@@ -63,6 +68,7 @@ module _ (name : List ℕ → Address) (a b : Core) (line : ℕ) (its : IsOrderl
             counted = p.counted;
             opened = λ q s. subst (λ seat. IsSome seat) (sym (ch.seats l w q d old s)) (p.opened q s);
             called = called_on name a.sessions b.sessions w.operation.op (λ q s. ch.seats l w q d old s) p.called;
+            judges = p.judges ∙ sym (judging_on (shape_of a) (shape_of b) a.sessions b.sessions w.operation.op (λ q s. ch.seats l w q d old s) ch.shape);
           }
 
   alone_on : (l m : ℕ) (v w : Waiting) (q : List ℕ) → operation_of l b ≡ Some v → operation_of m b ≡ Some w → session_in v ≡ Some q → session_in w ≡ Some q → l ≡ m
@@ -90,6 +96,7 @@ module _ (name : List ℕ → Address) (a b : Core) (line : ℕ) (its : IsOrderl
             waits = h.waits ∙ ap (λ f. wait.Entry (f + 1 + place)) (sym (ch.front shard));
             judges = h.judges;
             asks = entry_on name a.sessions b.sessions k h.waiting.operation.op entry (λ q s. ch.seats k h.waiting q d h.at s) h.asks;
+            own = own_on a.limits b.limits a.sessions b.sessions h.waiting.operation.op (λ q s. ch.seats k h.waiting q d h.at s) ch.limits h.own;
           }
 
   pub changed_orderly : IsOrderly name b
@@ -100,6 +107,8 @@ module _ (name : List ℕ → Address) (a b : Core) (line : ℕ) (its : IsOrderl
 module _ (name : List ℕ → Address) (c : Core) (line : ℕ) (its : IsOrderly name c) (free : IsFree c line) (u : Waiting) (at : operation_of line c ≡ Some u) where
   pub answered_orderly : (w : Waiting) (told : Reply) → w.operation.op ≡ u.operation.op → IsOrderly name (answer line w told c)
   answered_orderly w told same = changed_orderly name c (answer line w told c) line its free (record {
+    limits = refl;
+    shape = refl;
     waiting = λ g. refl;
     front = λ g. refl;
     others = λ l d. remove_other nat_cmp number_exact c.operations line l d;
@@ -113,8 +122,10 @@ module _ (name : List ℕ → Address) (c : Core) (line : ℕ) (its : IsOrderly 
       none : (v : Waiting) → operation_of line (end_operation line c) ≡ Some v → ⊥
       none v e = cc (sym (gone line c.operations its.once) ∙ e)
 
-  pub waits_orderly : (w : Waiting) → w.operation.op ≡ u.operation.op → w.operation.line ≡ u.operation.line → IsOrderly name (put_operation line w c)
-  waits_orderly w same lines = changed_orderly name c (put_operation line w c) line its free (record {
+  pub waits_orderly : (w : Waiting) → w.operation.op ≡ u.operation.op → w.operation.line ≡ u.operation.line → w.shard ≡ u.shard → IsOrderly name (put_operation line w c)
+  waits_orderly w same lines shards = changed_orderly name c (put_operation line w c) line its free (record {
+    limits = refl;
+    shape = refl;
     waiting = λ g. refl;
     front = λ g. refl;
     others = λ l d. set_other nat_cmp number_exact c.operations line l w d;
@@ -136,6 +147,7 @@ module _ (name : List ℕ → Address) (c : Core) (line : ℕ) (its : IsOrderly 
         counted = p.counted;
         opened = λ q s. p.opened q (ap (λ o. session_of (Some o)) (sym same) ∙ s);
         called = subst (λ o. IsCalled name c.sessions o) (sym same) p.called;
+        judges = shards ∙ p.judges ∙ ap (λ o. judging_shard (shape_of c).shards c.sessions o) (sym same);
       }
 
 -- ---- changes beside
@@ -143,6 +155,8 @@ module _ (name : List ℕ → Address) (c : Core) (line : ℕ) (its : IsOrderly 
 pub record Alike (a b : Core) : Type 0 where
   pub operations : b.operations ≡ a.operations
   pub sessions : b.sessions ≡ a.sessions
+  pub limits : b.limits ≡ a.limits
+  pub shape : shape_of b ≡ shape_of a
   pub waiting : (g : ℕ) → (group_of g b).waiting ≡ (group_of g a).waiting
   pub front : (g : ℕ) → front_of g b ≡ front_of g a
 
@@ -150,49 +164,55 @@ pub alike_both : (a b c : Core) → Alike a b → Alike b c → Alike a c
 alike_both a b c p q = record {
   operations = q.operations ∙ p.operations;
   sessions = q.sessions ∙ p.sessions;
+  limits = q.limits ∙ p.limits;
+  shape = q.shape ∙ p.shape;
   waiting = λ g. q.waiting g ∙ p.waiting g;
   front = λ g. q.front g ∙ p.front g;
 }
 
 pub alike_same : (c : Core) → Alike c c
-alike_same c = record { operations = refl; sessions = refl; waiting = λ g. refl; front = λ g. refl }
+alike_same c = record { operations = refl; sessions = refl; limits = refl; shape = refl; waiting = λ g. refl; front = λ g. refl }
 
 at_same : (a b : Core) (line : ℕ) → b.operations ≡ a.operations → operation_of line b ≡ operation_of line a
 at_same a b line e = ap (λ (es : List (ℕ × Waiting)). lookup (is_at (nat_cmp line)) es) e
 
-pending_alike : (name : List ℕ → Address) (a b : Core) (line : ℕ) (w : Waiting) → b.sessions ≡ a.sessions → IsPending name a line w → IsPending name b line w
-pending_alike name a b line w e p = record {
+pending_alike : (name : List ℕ → Address) (a b : Core) (line : ℕ) (w : Waiting) → b.sessions ≡ a.sessions → shape_of b ≡ shape_of a → IsPending name a line w → IsPending name b line w
+pending_alike name a b line w e z p = record {
   of_line = p.of_line;
   counted = p.counted;
   opened = λ q s. subst (λ (seats : Seats). IsSome (seat_of q seats)) (sym e) (p.opened q s);
   called = subst (λ (seats : Seats). IsCalled name seats w.operation.op) (sym e) p.called;
+  judges =
+      p.judges ∙ ap (λ (shape : Shape). judging_shard shape.shards a.sessions w.operation.op) (sym z)
+      ∙ ap (λ (seats : Seats). judging_shard (shape_of b).shards seats w.operation.op) (sym e);
 }
 
 -- what an operation has asked for, in a core that has the same operations and sessions
-pub asked_alike : (name : List ℕ → Address) (a b : Core) (shard number other line : ℕ) (entry : Entry) → b.operations ≡ a.operations → b.sessions ≡ a.sessions → number ≡ other
+pub asked_alike : (name : List ℕ → Address) (a b : Core) (shard number other line : ℕ) (entry : Entry) → b.operations ≡ a.operations → b.sessions ≡ a.sessions → b.limits ≡ a.limits → shape_of b ≡ shape_of a → number ≡ other
     → HasAsked name a shard number line entry → HasAsked name b shard other line entry
-asked_alike name a b shard number other line entry e f n h = record {
+asked_alike name a b shard number other line entry e f x z n h = record {
   waiting = h.waiting;
   at = at_same a b line e ∙ h.at;
   waits = h.waits ∙ ap (λ k. wait.Entry k) n;
   judges = h.judges;
   asks = subst (λ (seats : Seats). IsEntryOf name seats line h.waiting.operation.op entry) (sym f) h.asks;
+  own = subst (λ (limits : Limits). IsOwn limits b.sessions h.waiting.operation.op) (sym x) (subst (λ (seats : Seats). IsOwn a.limits seats h.waiting.operation.op) (sym f) h.own);
 }
 
 -- operations and sessions are the same, and the entries are told
-pub with_lists : (name : List ℕ → Address) (a b : Core) → IsOrderly name a → b.operations ≡ a.operations → b.sessions ≡ a.sessions
+pub with_lists : (name : List ℕ → Address) (a b : Core) → IsOrderly name a → b.operations ≡ a.operations → b.sessions ≡ a.sessions → b.limits ≡ a.limits → shape_of b ≡ shape_of a
     → ((shard place k : ℕ) (entry : Entry) → slice_get (group_of shard b).waiting place ≡ Some entry → asked_by entry ≡ Some k → HasAsked name b shard (front_of shard b + 1 + place) k entry)
     → IsOrderly name b
-with_lists name a b its e f asked = record {
+with_lists name a b its e f x z asked = record {
   once = subst (λ (es : List (ℕ × Waiting)). AreOnce es) (sym e) its.once;
-  pending = λ line w at. pending_alike name a b line w f (its.pending line w (sym (at_same a b line e) ∙ at));
+  pending = λ line w at. pending_alike name a b line w f z (its.pending line w (sym (at_same a b line e) ∙ at));
   alone = λ l m v w q x y s t. its.alone l m v w q (sym (at_same a b l e) ∙ x) (sym (at_same a b m e) ∙ y) s t;
   asked = asked;
 }
 
 pub alike_orderly : (name : List ℕ → Address) (a b : Core) → Alike a b → IsOrderly name a → IsOrderly name b
-alike_orderly name a b same its = with_lists name a b its same.operations same.sessions (λ shard place k entry at by.
-    asked_alike name a b shard (front_of shard a + 1 + place) (front_of shard b + 1 + place) k entry same.operations same.sessions (ap (λ f. f + 1 + place) (sym (same.front shard)))
+alike_orderly name a b same its = with_lists name a b its same.operations same.sessions same.limits same.shape (λ shard place k entry at by.
+    asked_alike name a b shard (front_of shard a + 1 + place) (front_of shard b + 1 + place) k entry same.operations same.sessions same.limits same.shape (ap (λ f. f + 1 + place) (sym (same.front shard)))
     (its.asked shard place k entry (sym (ap (λ es. slice_get es place) (same.waiting shard)) ∙ at) by))
 
 pub alike_free : (a b : Core) (line : ℕ) → Alike a b → IsFree a line → IsFree b line
@@ -200,7 +220,7 @@ alike_free a b line same free = λ shard place entry at by. free shard place ent
 
 -- a list changes, but not what waits in it
 pub group_alike : (shard : ℕ) (f : Group → Group) (c : Core) → (f (group_of shard c)).waiting ≡ (group_of shard c).waiting → (f (group_of shard c)).front ≡ (group_of shard c).front → Alike c (change_group shard f c)
-group_alike shard f c e n = record { operations = refl; sessions = refl; waiting = λ g. waits g (group_changed shard f c g); front = λ g. fronts g (group_changed shard f c g) }
+group_alike shard f c e n = record { operations = refl; sessions = refl; limits = refl; shape = refl; waiting = λ g. waits g (group_changed shard f c g); front = λ g. fronts g (group_changed shard f c g) }
   where
     waits : (g : ℕ) → (group_of g (change_group shard f c) ≡ group_of g c) ⊎ ((g ≡ shard) × (group_of g (change_group shard f c) ≡ f (group_of shard c))) → (group_of g (change_group shard f c)).waiting ≡ (group_of g c).waiting
     waits g (inl s) = ap (λ (x : Group). x.waiting) s
@@ -217,13 +237,13 @@ place_is front more = omega arith
 
 module _ (name : List ℕ → Address) (shard : ℕ) (entry : Entry) (c : Core) (its : IsOrderly name c) (new : (k : ℕ) → asked_by entry ≡ Some k → HasAsked name c shard (last_number (group_of shard c) + 1) k entry) where
   listed_orderly : IsOrderly name (change_group shard (propose entry) c)
-  listed_orderly = with_lists name c (change_group shard (propose entry) c) its refl refl (λ g place k e at by. go g place k e at by (group_changed shard (propose entry) c g))
+  listed_orderly = with_lists name c (change_group shard (propose entry) c) its refl refl refl refl (λ g place k e at by. go g place k e at by (group_changed shard (propose entry) c g))
     where
       more : (place k : ℕ) (e : Entry) → (slice_get (group_of shard c).waiting place ≡ Some e) ⊎ ((place ≡ length (group_of shard c).waiting) × (entry ≡ e)) → asked_by e ≡ Some k
           → HasAsked name c shard (front_of shard c + 1 + place) k e
       more place k e (inl old) by = its.asked shard place k e old by
       more place k e (inr last) by =
-          asked_alike name c c shard (last_number (group_of shard c) + 1) (front_of shard c + 1 + place) k e refl refl
+          asked_alike name c c shard (last_number (group_of shard c) + 1) (front_of shard c + 1 + place) k e refl refl refl refl
           (place_is (front_of shard c) (length (group_of shard c).waiting) ∙ ap (λ n. front_of shard c + 1 + n) (sym last.0))
           (subst (λ x. HasAsked name c shard (last_number (group_of shard c) + 1) k x) last.1 (new k (ap (λ x. asked_by x) last.1 ∙ by)))
 
@@ -231,13 +251,13 @@ module _ (name : List ℕ → Address) (shard : ℕ) (entry : Entry) (c : Core) 
           → (group_of g (change_group shard (propose entry) c) ≡ group_of g c) ⊎ ((g ≡ shard) × (group_of g (change_group shard (propose entry) c) ≡ propose entry (group_of shard c)))
           → HasAsked name (change_group shard (propose entry) c) g (front_of g (change_group shard (propose entry) c) + 1 + place) k e
       go g place k e at by (inl same) =
-          asked_alike name c (change_group shard (propose entry) c) g (front_of g c + 1 + place) (front_of g (change_group shard (propose entry) c) + 1 + place) k e refl refl
+          asked_alike name c (change_group shard (propose entry) c) g (front_of g c + 1 + place) (front_of g (change_group shard (propose entry) c) + 1 + place) k e refl refl refl refl
           (ap (λ (x : Group). x.front + 1 + place) (sym same)) (its.asked g place k e (sym (ap (λ (x : Group). slice_get x.waiting place) same) ∙ at) by)
       go g place k e at by (inr is) =
           let front : front_of g (change_group shard (propose entry) c) ≡ front_of shard c = ap (λ (x : Group). x.front) is.1 ∙ propose_front entry (group_of shard c) in
           let there : slice_get ((group_of shard c).waiting ++ entry ∷ []) place ≡ Some e = sym (ap (λ (x : Group). slice_get x.waiting place) is.1) ∙ at in
           subst (λ j. HasAsked name (change_group shard (propose entry) c) j (front_of g (change_group shard (propose entry) c) + 1 + place) k e) (sym is.0)
-          (asked_alike name c (change_group shard (propose entry) c) shard (front_of shard c + 1 + place) (front_of g (change_group shard (propose entry) c) + 1 + place) k e refl refl
+          (asked_alike name c (change_group shard (propose entry) c) shard (front_of shard c + 1 + place) (front_of g (change_group shard (propose entry) c) + 1 + place) k e refl refl refl refl
           (ap (λ f. f + 1 + place) (sym front)) (more place k e (at_end (group_of shard c).waiting entry e place there) by))
 
   -- the jobs and messages are beside
@@ -248,8 +268,8 @@ module _ (name : List ℕ → Address) (shard : ℕ) (entry : Entry) (c : Core) 
       sent = post (proposal entry (group_of shard c)) (change_group shard (propose entry) c)
 
       go : (lead : Option ℕ) → Alike (change_group shard (propose entry) c) (change_with lead (λ peer. add_entry_tasks peer (last_number (group_of shard c) + 1) entry) sent)
-      go None = record { operations = refl; sessions = refl; waiting = λ g. refl; front = λ g. refl }
-      go (Some peer) = record { operations = refl; sessions = refl; waiting = λ g. refl; front = λ g. refl }
+      go None = record { operations = refl; sessions = refl; limits = refl; shape = refl; waiting = λ g. refl; front = λ g. refl }
+      go (Some peer) = record { operations = refl; sessions = refl; limits = refl; shape = refl; waiting = λ g. refl; front = λ g. refl }
 
   pub proposed_orderly : IsOrderly name (propose_entry shard entry c)
   proposed_orderly = alike_orderly name (change_group shard (propose entry) c) (propose_entry shard entry c) sent_alike listed_orderly
@@ -264,12 +284,12 @@ next_place : (front place : ℕ) → front + 1 + suc place ≡ front + 1 + 1 + p
 next_place front place = omega arith
 
 pub committed_orderly : (name : List ℕ → Address) (shard : ℕ) (c : Core) → IsOrderly name c → IsOrderly name (change_group shard take_committed c)
-committed_orderly name shard c its = with_lists name c (change_group shard take_committed c) its refl refl (λ g place k e at by. go g place k e at by (group_changed shard take_committed c g))
+committed_orderly name shard c its = with_lists name c (change_group shard take_committed c) its refl refl refl refl (λ g place k e at by. go g place k e at by (group_changed shard take_committed c g))
   where
     as_before : (g place k : ℕ) (e : Entry) → group_of g (change_group shard take_committed c) ≡ group_of g c → slice_get (group_of g (change_group shard take_committed c)).waiting place ≡ Some e → asked_by e ≡ Some k
         → HasAsked name (change_group shard take_committed c) g (front_of g (change_group shard take_committed c) + 1 + place) k e
     as_before g place k e same at by =
-        asked_alike name c (change_group shard take_committed c) g (front_of g c + 1 + place) (front_of g (change_group shard take_committed c) + 1 + place) k e refl refl
+        asked_alike name c (change_group shard take_committed c) g (front_of g c + 1 + place) (front_of g (change_group shard take_committed c) + 1 + place) k e refl refl refl refl
         (ap (λ (x : Group). x.front + 1 + place) (sym same)) (its.asked g place k e (sym (ap (λ (x : Group). slice_get x.waiting place) same) ∙ at) by)
 
     go : (g place k : ℕ) (e : Entry) → slice_get (group_of g (change_group shard take_committed c)).waiting place ≡ Some e → asked_by e ≡ Some k
@@ -286,5 +306,5 @@ committed_orderly name shard c its = with_lists name c (change_group shard take_
             let there : slice_get (group_of shard c).waiting (suc place) ≡ Some e =
             sym (at_front (group_of shard c).waiting place) ∙ sym (ap (λ es. slice_get es place) t.waiting) ∙ sym (ap (λ (x : Group). slice_get x.waiting place) is.1) ∙ at in
             subst (λ j. HasAsked name (change_group shard take_committed c) j (front_of g (change_group shard take_committed c) + 1 + place) k e) (sym is.0)
-            (asked_alike name c (change_group shard take_committed c) shard (front_of shard c + 1 + suc place) (front_of g (change_group shard take_committed c) + 1 + place) k e refl refl
+            (asked_alike name c (change_group shard take_committed c) shard (front_of shard c + 1 + suc place) (front_of g (change_group shard take_committed c) + 1 + place) k e refl refl refl refl
             (next_place (front_of shard c) place ∙ ap (λ f. f + 1 + place) (sym front)) (its.asked shard (suc place) k e there by))

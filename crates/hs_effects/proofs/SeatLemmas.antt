@@ -1,8 +1,9 @@
 -- An answer changes its own session alone, and what an operation asks for rests on its own session alone.
-use Rattle.std.proofs.Common.{◌≡◌, ◌∙◌, sym, ap, subst, inl, inr, ℕ, Bool, true, false, cond, map, List, Option, Some, None, refl, is_some}
+use Rattle.std.proofs.Common.{◌≡◌, ◌∙◌, sym, ap, subst, inl, inr, ℕ, Bool, true, false, cond, map, List, Option, Some, None, refl, is_some, [], ◌∷◌, is_none}
+use Rattle.std.specs.Option.{option_map, option_or}
 use Rattle.std.specs.List.{list_all}
 use Rattle.std.specs.Prelude.{unwrap_or}
-use Rattle.hs_effects.specs.Logged.{IsCalled, IsEntryOf}
+use Rattle.hs_effects.specs.Logged.{IsCalled, IsEntryOf, IsOwn}
 use Rattle.hs_effects.proofs.LookLemmas.{insert_other, name_exact, remove_other, set_other}
 use Rattle.hs_entry.specs.declared.entry.Entry.{Entry}
 use Rattle.hs_entry.specs.declared.entry.Entry.TheVariants as kind
@@ -15,7 +16,13 @@ use Rattle.hs_model.specs.declared.op.Op.TheVariants as op
 use Rattle.hs_model.specs.declared.reply.Reply.{Reply}
 use Rattle.hs_model.specs.Judge.{given_address}
 use Rattle.hs_ops.specs.Answers.{is_done, seated, seats_after}
-use Rattle.hs_ops.specs.Speaking.{asked_block, helds, least_epoch}
+use Rattle.hs_ops.specs.Speaking.{asked_block, helds, judging_shard, least_epoch}
+use Rattle.hs_ops.specs.Views.{as_session}
+use Rattle.hs_limits.specs.declared.limits.Limits.{Limits}
+use Rattle.hs_limits.specs.declared.shape.Shape.{Shape}
+use Rattle.hs_limits.specs.Shape.{shard_of}
+use Rattle.hs_model.specs.declared.reply.Reply.TheVariants as reply
+use Rattle.hs_model.specs.Refusals.{first, handles_full_in, no_handle_in, refused_when, too_long, too_many}
 use Rattle.hs_tokens.specs.Seats.{Seat, Seats, held_at, name_cmp, new_seat, nothing, put_seat, seat_of}
 
 some_differ : (a b : List ℕ) → (Some a ≡ Some b → ⊥) → b ≡ a → ⊥
@@ -106,3 +113,38 @@ entry_on name a b line (op.Look session key) entry same asks = asks
 entry_on name a b line (op.Forget session handle) entry same asks = asks
 entry_on name a b line (op.Name session handle) entry same asks = asks
 entry_on name a b line op.Stat entry same asks = asks
+
+judging_seats : (n : ℕ) (a b : Seats) (o : Op) → IsSameFor o a b → judging_shard n b o ≡ judging_shard n a o
+judging_seats n a b (op.Open session) same = refl
+judging_seats n a b (op.Close session) same = refl
+judging_seats n a b (op.Write session payload handles address) same = refl
+judging_seats n a b (op.Read session handle) same =
+    ap (λ seat. unwrap_or (option_or None (option_map (shard_of n) (option_map (λ (held : Held). held.address) (held_at seat handle)))) 0) (same session refl)
+judging_seats n a b (op.Look session key) same = refl
+judging_seats n a b (op.Root session key handle) same = refl
+judging_seats n a b (op.Drop key) same = refl
+judging_seats n a b (op.Forget session handle) same = refl
+judging_seats n a b (op.Name session handle) same = refl
+judging_seats n a b op.Delete same = refl
+judging_seats n a b op.Stat same = refl
+
+pub judging_on : (x y : Shape) (a b : Seats) (o : Op) → IsSameFor o a b → y ≡ x → judging_shard y.shards b o ≡ judging_shard x.shards a o
+judging_on x y a b o same e = ap (λ (z : Shape). judging_shard z.shards b o) e ∙ judging_seats x.shards a b o same
+
+own_seats : (limits : Limits) (a b : Seats) (o : Op) → IsSameFor o a b → IsOwn limits a o → IsOwn limits b o
+own_seats limits a b (op.Write session payload handles address) same own =
+    subst (λ seat. first (refused_when (is_none (option_map as_session seat)) (reply.NoSession session) ∷ too_long payload ∷ too_many handles ∷ no_handle_in (option_map as_session seat) handles ∷ handles_full_in limits (option_map as_session seat) 1 ∷ []) ≡ None) (sym (same session refl)) own
+own_seats limits a b (op.Root session key handle) same own =
+    subst (λ seat. first (refused_when (is_none (option_map as_session seat)) (reply.NoSession session) ∷ no_handle_in (option_map as_session seat) (handle ∷ []) ∷ []) ≡ None) (sym (same session refl)) own
+own_seats limits a b (op.Open session) same own = tt
+own_seats limits a b (op.Close session) same own = tt
+own_seats limits a b (op.Read session handle) same own = tt
+own_seats limits a b (op.Look session key) same own = tt
+own_seats limits a b (op.Drop key) same own = tt
+own_seats limits a b (op.Forget session handle) same own = tt
+own_seats limits a b (op.Name session handle) same own = tt
+own_seats limits a b op.Delete same own = tt
+own_seats limits a b op.Stat same own = tt
+
+pub own_on : (k m : Limits) (a b : Seats) (o : Op) → IsSameFor o a b → m ≡ k → IsOwn k a o → IsOwn m b o
+own_on k m a b o same e own = subst (λ (limits : Limits). IsOwn limits b o) (sym e) (own_seats k a b o same own)

@@ -48,18 +48,18 @@ at_low (y ∷ xs) zero x e = omega arith
 at_low (y ∷ xs) (suc place) x e = let low = at_low xs place x e in grind (arith, common_steps, low)
 
 renewed_orderly : (name : List ℕ → Address) (shard : ℕ) (members : Members) (c : Core) → IsOrderly name c → IsOrderly name (change_group shard (renew members) c)
-renewed_orderly name shard members c its = with_lists name c (change_group shard (renew members) c) its refl refl (λ g place k e at by. go g place k e at by (group_changed shard (renew members) c g))
+renewed_orderly name shard members c its = with_lists name c (change_group shard (renew members) c) its refl refl refl refl (λ g place k e at by. go g place k e at by (group_changed shard (renew members) c g))
   where
     go : (g place k : ℕ) (e : Entry) → slice_get (group_of g (change_group shard (renew members) c)).waiting place ≡ Some e → asked_by e ≡ Some k
         → (group_of g (change_group shard (renew members) c) ≡ group_of g c) ⊎ ((g ≡ shard) × (group_of g (change_group shard (renew members) c) ≡ renew members (group_of shard c)))
         → HasAsked name (change_group shard (renew members) c) g (front_of g (change_group shard (renew members) c) + 1 + place) k e
     go g place k e at by (inl same) =
-        asked_alike name c (change_group shard (renew members) c) g (front_of g c + 1 + place) (front_of g (change_group shard (renew members) c) + 1 + place) k e refl refl
+        asked_alike name c (change_group shard (renew members) c) g (front_of g c + 1 + place) (front_of g (change_group shard (renew members) c) + 1 + place) k e refl refl refl refl
         (ap (λ (x : Group). x.front + 1 + place) (sym same)) (its.asked g place k e (sym (ap (λ (x : Group). slice_get x.waiting place) same) ∙ at) by)
     go g place k e at by (inr is) =
         let there : slice_get (renew members (group_of shard c)).waiting place ≡ Some e = sym (ap (λ (x : Group). slice_get x.waiting place) is.1) ∙ at in
         subst (λ j. HasAsked name (change_group shard (renew members) c) j (front_of g (change_group shard (renew members) c) + 1 + place) k e) (sym is.0)
-        (asked_alike name c (change_group shard (renew members) c) shard (front_of shard c + 1 + place) (front_of g (change_group shard (renew members) c) + 1 + place) k e refl refl
+        (asked_alike name c (change_group shard (renew members) c) shard (front_of shard c + 1 + place) (front_of g (change_group shard (renew members) c) + 1 + place) k e refl refl refl refl
         (ap (λ (x : Group). x.front + 1 + place) (sym is.1)) (its.asked shard place k e (at_cut _ (group_of shard c).waiting place e there) by))
 
 -- ---- operations that start again
@@ -75,6 +75,13 @@ module _ (name : List ℕ → Address) (shard : ℕ) (c : Core) (its : IsOrderly
   again_operation w = go (w.shard == shard && not (is_within last w.wait))
     where
       go : (b : Bool) → (cond b (record w { wait = wait.View }) w).operation ≡ w.operation
+      go true = refl
+      go false = refl
+
+  again_shard : (w : Waiting) → (again w).shard ≡ w.shard
+  again_shard w = go (w.shard == shard && not (is_within last w.wait))
+    where
+      go : (b : Bool) → (cond b (record w { wait = wait.View }) w).shard ≡ w.shard
       go true = refl
       go false = refl
 
@@ -101,9 +108,9 @@ module _ (name : List ℕ → Address) (shard : ℕ) (c : Core) (its : IsOrderly
   pending_again l w e =
       let x = was l w e in
       let p = its.pending l x.old x.at in
-      let there : IsPending name (restart shard c) l (record x.old { operation = x.old.operation }) = record { of_line = p.of_line; counted = p.counted; opened = p.opened; called = p.called } in
+      let there : IsPending name (restart shard c) l (record x.old { operation = x.old.operation }) = record { of_line = p.of_line; counted = p.counted; opened = p.opened; called = p.called; judges = p.judges } in
       let back : IsPending name (restart shard c) l (record x.old { operation = w.operation }) = subst (λ (o : Operation). IsPending name (restart shard c) l (record x.old { operation = o })) (sym (same_operation l w x)) there in
-      record { of_line = back.of_line; counted = back.counted; opened = back.opened; called = back.called }
+      record { of_line = back.of_line; counted = back.counted; opened = back.opened; called = back.called; judges = sym (ap (λ (y : Waiting). y.shard) x.is) ∙ again_shard x.old ∙ back.judges }
 
   alone_again : (l m : ℕ) (v w : Waiting) (q : List ℕ) → operation_of l (restart shard c) ≡ Some v → operation_of m (restart shard c) ≡ Some w → session_in v ≡ Some q → session_in w ≡ Some q → l ≡ m
   alone_again l m v w q e f s t =
@@ -139,6 +146,7 @@ module _ (name : List ℕ → Address) (shard : ℕ) (c : Core) (its : IsOrderly
         waits = h.waits;
         judges = h.judges;
         asks = h.asks;
+        own = h.own;
       }
 
   pub restarted_orderly : IsOrderly name (restart shard c)
@@ -153,10 +161,10 @@ view_began name shard c its =
     let three : Core = restart shard two in
     let four : Core = post (renewal (group_of shard three)) three in
     own_orderly name shard (kind.View (view_of shard four.members)) four refl
-    (alike_orderly name three four (record { operations = refl; sessions = refl; waiting = λ g. refl; front = λ g. refl })
+    (alike_orderly name three four (record { operations = refl; sessions = refl; limits = refl; shape = refl; waiting = λ g. refl; front = λ g. refl })
     (restarted_orderly name shard two
     (renewed_orderly name shard c.members one
-    (alike_orderly name c one (record { operations = refl; sessions = refl; waiting = λ g. refl; front = λ g. refl }) its))))
+    (alike_orderly name c one (record { operations = refl; sessions = refl; limits = refl; shape = refl; waiting = λ g. refl; front = λ g. refl }) its))))
 
 pub view_changed : (name : List ℕ → Address) (shard : ℕ) (c : Core) → IsOrderly name c → IsOrderly name (change_view shard c)
 view_changed name shard c its = go (has_good shard c.members)
