@@ -1,4 +1,5 @@
 mod BeginLemmas
+mod DropLemmas
 mod EffectLemmas
 mod EndingLemmas
 mod EnterLemmas

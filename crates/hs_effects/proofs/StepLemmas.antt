@@ -122,9 +122,10 @@ module _ (name : List ℕ → Address) (v : OpView) (line : ℕ) where
   unfolding block_entry
   write_asks session payload handles address passes called pending (Some number) entry e = absurd (cc e)
   write_asks session payload handles address passes called true None entry e = absurd (cc e)
-  write_asks session payload handles address passes called false None entry e =
-      (inl (sym (proposed_is (kind.Block line (least_epoch (helds v.seats session handles)) (spell (asked_block v.seats session payload handles))) entry e), called (has_block v session payload handles address passes)),
-      own_if v (op.Write session payload handles address) passes)
+  write_asks session payload handles address passes called false None entry e = (
+    inl (sym (proposed_is (kind.Block line (least_epoch (helds v.seats session handles)) (spell (asked_block v.seats session payload handles))) entry e), called (has_block v session payload handles address passes)),
+    own_if v (op.Write session payload handles address) passes,
+  )
 
   read_asks : (session : List ℕ) (handle : ℕ) (told : Reply) (present : Option ℕ) → Asks name v line (op.Read session handle) (read_or (step.Answer told) present)
   read_asks session handle told None entry e = absurd (cc e)

@@ -1,3 +1,4 @@
+pub mod Answered
 pub mod Lawful
 pub mod Logged
 pub mod Taking
