@@ -11,6 +11,7 @@ mod LawfulLemmas
 mod LookLemmas
 mod OrderlyLemmas
 mod QuietLemmas
+mod RefusedLemmas
 mod SeatLemmas
 mod StepLemmas
 mod SweepLemmas
