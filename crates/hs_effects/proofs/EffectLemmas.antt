@@ -254,7 +254,7 @@ effect_orderly name shard number entry c its e =
     resumed_orderly name shard (wakes entry (named entry c) (after_entry shard entry effect here)) (wakes_idle entry (named entry c) (after_entry shard entry effect here)) (after_entry shard entry effect here)
     (behind_orderly name shard here its_here entry effect (λ line by. alike_free first here line beside (taken_free name shard number line entry c its e by)))
 
-next_orderly : (name : List ℕ → Address) (shard : ℕ) (c : Core) → IsOrderly name c → IsOrderly name (commit_next shard c)
+pub next_orderly : (name : List ℕ → Address) (shard : ℕ) (c : Core) → IsOrderly name c → IsOrderly name (commit_next shard c)
 next_orderly name shard c its = go (committed (group_of shard c)) refl
   where
     go : (o : Option (ℕ × Entry)) → committed (group_of shard c) ≡ o → IsOrderly name (change_with o (λ (e : ℕ × Entry). take_effect shard e.1) c)

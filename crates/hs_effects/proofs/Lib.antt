@@ -1,4 +1,5 @@
 mod BeginLemmas
+mod CommitLemmas
 mod DropLemmas
 mod EffectLemmas
 mod EndingLemmas

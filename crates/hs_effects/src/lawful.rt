@@ -1,10 +1,11 @@
 //! The catalogues stay folds of a lawful history.
 ghost use Rattle.std.specs.Prelude.{ℕ, ◌<◌, List};
 ghost use Rattle.hs_answered.specs.Standing.{IsFolded};
-ghost use Rattle.hs_core.specs.Effects.{take_effect};
+ghost use Rattle.hs_core.specs.Effects.{commit, take_effect};
 ghost use Rattle.hs_core.specs.Looking.{shape_of};
 ghost use Rattle.hs_core.specs.State.{Core};
-ghost use Rattle.hs_effects.specs.Lawful.{IsLawful, MayFollow};
+ghost use Rattle.hs_effects.specs.Lawful.{IsLawful, MayComeAll, MayFollow, committed_count, folds_after};
+ghost use Rattle.hs_effects.specs.Logged.{IsOrderly};
 ghost use Rattle.hs_effects.specs.Taking.{IsNamed, folds_behind, next_deed, setting_of, taken};
 ghost use Rattle.hs_entry.specs.declared.entry.Entry.{Entry};
 ghost use Rattle.hs_fold.specs.Runs.Facts.{Catalogue as Folded};
@@ -31,4 +32,13 @@ pub fn an_entry_keeps_a_lawful_store()
         → IsLawful name core cs
         → MayFollow (setting_of name core) cs (next_deed shard entry core) →
         DoesItsPart (setting_of name core) cs (next_deed shard entry core) }
+{}
+
+/// So do all entries of a shard that are committed, one after another, where operations and entries are
+/// in order and each may come.
+pub fn all_that_is_committed_keeps_a_lawful_store()
+    ensures { (name : List ℕ → Address) (cs : List Folded) (core : Core) (shard : ℕ)
+        → IsOrderly name core → IsLawful name core cs
+        → MayComeAll (committed_count shard core) name shard core cs →
+        IsLawful name (commit shard core) (folds_after (committed_count shard core) name shard core cs) }
 {}
