@@ -15,16 +15,18 @@ ghost use Rattle.hs_roots.specs.Roots.{retained_of};
 
 use hs_answered::views_show_the_store;
 
-/// A Drop that is committed while its key is retained: its operation is judged at that moment, told the
-/// judge's reply with its deed, and the store is the one that the judge leaves.
+/// A Drop that is committed while its key is retained: its operation is judged at that moment, told
+/// the judge's reply with its deed, and the store is the one that the judge leaves.
 pub fn a_drop_is_answered_at_its_effect()
-    ensures { (name : List ℕ → Address) (cs : List Folded) (core : Core) (shard number line : ℕ) (key : List ℕ)
+    ensures { (name : List ℕ → Address) (cs : List Folded) (core : Core) (shard number line : ℕ)
+        (key : List ℕ)
         → IsLawful name core cs → IsOrderly name core
         → let entry = kind.Drop line key in
         committed (group_of shard core) ≡ Some (number, entry)
         → MayFollow (setting_of name core) cs (next_deed shard entry core)
         → IsSome (retained_of key (catalogue_of shard core).roots) →
-        IsAnsweredBy cs (folds_behind name cs shard entry core) core (heard shard entry core) line (op.Drop key) }
+        IsAnsweredBy cs (folds_behind name cs shard entry core) core (heard shard entry core) line
+        (op.Drop key) }
 {
     views_show_the_store();
 }

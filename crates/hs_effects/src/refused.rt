@@ -19,17 +19,20 @@ ghost use Rattle.hs_replica.specs.Group.{committed};
 
 use hs_answered::an_answer_is_the_judges;
 
-/// An entry that is refused at its effect: where what its operation sees behind it refuses that too,
-/// the operation is told that refusal, which is the judge's at the store behind the entry.
+/// An entry that is refused at its effect: where what its operation sees behind it refuses that
+/// too, the operation is told that refusal, which is the judge's at the store behind the entry.
 pub fn a_refused_entry_is_judged_at_its_effect()
-    ensures { (name : List ℕ → Address) (cs : List Folded) (core : Core) (shard number line : ℕ) (entry : Entry) (w : Waiting) (r : Reply)
+    ensures { (name : List ℕ → Address) (cs : List Folded) (core : Core) (shard number line : ℕ)
+        (entry : Entry) (w : Waiting) (r : Reply)
         → IsFolded core cs → shard < (shape_of core).shards → IsOrderly name core
         → committed (group_of shard core) ≡ Some (number, entry)
         → asked_by entry ≡ Some line → operation_of line core ≡ Some w
         → (done_by shard entry core).effect.what ≡ what.Refused
         → IsAddressed core.sessions w.operation.op
-        → refusal_of (view_for w.shard w.operation.op (taken shard entry core)) w.operation.op ≡ Some r →
-        IsJudged (folds_behind name cs shard entry core) (taken shard entry core) (heard shard entry core) line w.operation.op }
+        → refusal_of (view_for w.shard w.operation.op (taken shard entry core)) w.operation.op
+        ≡ Some r →
+        IsJudged (folds_behind name cs shard entry core) (taken shard entry core)
+        (heard shard entry core) line w.operation.op }
 {
     an_answer_is_the_judges();
 }

@@ -17,16 +17,21 @@ ghost use Rattle.hs_limits.specs.declared.delta.Delta.{Delta};
 use hs_answered::views_show_the_store;
 
 /// A Got that takes effect and ends the last round of a run is a sweep: the shard tells it with the
-/// reply of the plain store, `done` stands directly behind it where every shard has swept the epoch,
-/// and the store is the one that the sweep leaves. Any other Got tells nothing, and leaves the store.
+/// reply of the plain store, `done` stands directly behind it where every shard has swept the
+/// epoch, and the store is the one that the sweep leaves. Any other Got tells nothing, and leaves
+/// the store.
 pub fn a_got_is_silent_or_a_sweep()
-    ensures sweeps { (name : List ℕ → Address) (cs : List Folded) (core : Core) (shard sender epoch round total : ℕ) (deltas : List Delta)
+    ensures sweeps { (name : List ℕ → Address) (cs : List Folded) (core : Core)
+        (shard sender epoch round total : ℕ) (deltas : List Delta)
         → IsLawful name core cs
         → let entry = kind.Got sender epoch round total deltas in
         MayFollow (setting_of name core) cs (next_deed shard entry core)
-        → happening_by (setting_of name core) cs (next_deed shard entry core) ≡ Some (sweeping shard) →
-        HasSwept cs (folds_behind name cs shard entry core) core (take_effect shard entry core) shard }
-    ensures silent { (name : List ℕ → Address) (cs : List Folded) (core : Core) (shard sender epoch round total : ℕ) (deltas : List Delta)
+        → happening_by (setting_of name core) cs (next_deed shard entry core)
+        ≡ Some (sweeping shard) →
+        HasSwept cs (folds_behind name cs shard entry core) core
+        (take_effect shard entry core) shard }
+    ensures silent { (name : List ℕ → Address) (cs : List Folded) (core : Core)
+        (shard sender epoch round total : ℕ) (deltas : List Delta)
         → IsLawful name core cs
         → let entry = kind.Got sender epoch round total deltas in
         MayFollow (setting_of name core) cs (next_deed shard entry core)
@@ -36,17 +41,21 @@ pub fn a_got_is_silent_or_a_sweep()
     views_show_the_store();
 }
 
-/// An Enter that takes effect and that no operation asked for is told by its shard with the reply of
-/// the plain store, and the store is the one that the enter leaves; one that changes nothing is not
-/// told.
+/// An Enter that takes effect and that no operation asked for is told by its shard with the reply
+/// of the plain store, and the store is the one that the enter leaves; one that changes nothing is
+/// not told.
 pub fn an_enter_by_itself_is_told()
-    ensures enters { (name : List ℕ → Address) (cs : List Folded) (core : Core) (shard line epoch : ℕ)
+    ensures enters { (name : List ℕ → Address) (cs : List Folded) (core : Core)
+        (shard line epoch : ℕ)
         → IsLawful name core cs → operation_of line core ≡ None
         → let entry = kind.Enter line epoch in
         MayFollow (setting_of name core) cs (next_deed shard entry core)
-        → happening_by (setting_of name core) cs (next_deed shard entry core) ≡ Some (entering shard) →
-        HasHappened cs (folds_behind name cs shard entry core) core (take_effect shard entry core) shard (enters shard) [] }
-    ensures silent { (name : List ℕ → Address) (cs : List Folded) (core : Core) (shard line epoch : ℕ)
+        → happening_by (setting_of name core) cs (next_deed shard entry core)
+        ≡ Some (entering shard) →
+        HasHappened cs (folds_behind name cs shard entry core) core
+        (take_effect shard entry core) shard (enters shard) [] }
+    ensures silent { (name : List ℕ → Address) (cs : List Folded) (core : Core)
+        (shard line epoch : ℕ)
         → IsLawful name core cs → operation_of line core ≡ None
         → let entry = kind.Enter line epoch in
         MayFollow (setting_of name core) cs (next_deed shard entry core)
