@@ -1,0 +1,269 @@
+-- Entries that take effect keep the order, and each has the name of its block.
+use Rattle.std.proofs.Common.{◌≡◌, ◌∙◌, sym, ap, subst, ◌⊎◌, inl, inr, ℕ, zero, suc, ◌+◌, ◌-◌, ◌<◌, ◌≤◌, ◌==◌, Bool, true, false, cond, List, [], ◌∷◌, length, Option, Some, None, refl, is_some, arith, slice_get}
+use Rattle.std.proofs.lemmas.Bool.Decides.{nat_tests}
+use Rattle.std.proofs.lemmas.Grind.{common_steps}
+use Rattle.std.specs.Option.{option_and_then}
+use Rattle.std.specs.Prelude.{slice_index_or}
+use Rattle.hs_core.specs.Changing.{change_group, note, set_viewed}
+use Rattle.hs_core.specs.declared.wait.Wait.{Wait}
+use Rattle.hs_core.specs.declared.wait.Wait.TheVariants as wait
+use Rattle.hs_core.specs.declared.waiting.Waiting.{Waiting}
+use Rattle.hs_core.specs.Effects.{after_entry, commit, commit_next, is_for_view, note_enter, note_sweep, reach_view, take_effect, tell_enter, tell_operation, wakes}
+use Rattle.hs_core.specs.Entering.{is_enter_due, propose_due}
+use Rattle.hs_core.specs.Looking.{catalogue_of, front_of, group_of, operation_of, shape_of}
+use Rattle.hs_core.specs.Operating.{propose_entry, resume_where}
+use Rattle.hs_core.specs.Pending.{named}
+use Rattle.hs_core.specs.State.{Core}
+use Rattle.hs_core.specs.Words.{change_if, change_with, times}
+use Rattle.hs_desk.specs.declared.what.What.{What}
+use Rattle.hs_desk.specs.declared.what.What.TheVariants as what
+use Rattle.hs_effects.specs.Logged.{HasAsked, IsEntryOf, IsOrderly, asked_by}
+use Rattle.hs_effects.specs.Taking.{IsNamed, done_by, taken}
+use Rattle.hs_effects.proofs.GoingLemmas.{IsIdle, PassesIdle, going_orderly, resumed_orderly}
+use Rattle.hs_effects.proofs.GroupLemmas.{IsFirst, at_front, committed_first, group_changed}
+use Rattle.hs_effects.proofs.OrderlyLemmas.{Alike, IsFree, alike_free, alike_orderly, alike_same, committed_orderly, own_orderly, some_is}
+use Rattle.hs_effects.proofs.StepLemmas.{done_asks}
+use Rattle.hs_entry.specs.declared.entry.Entry.{Entry}
+use Rattle.hs_entry.specs.declared.entry.Entry.TheVariants as kind
+use Rattle.hs_fold.proofs.Shards.PlaceLemmas.{same-at}
+use Rattle.hs_journal.specs.declared.entry.Who.TheVariants as who
+use Rattle.hs_limits.specs.declared.address.Address.{Address}
+use Rattle.hs_model.specs.declared.deed.Deed.TheVariants as deed
+use Rattle.hs_model.specs.declared.op.Op.{Op}
+use Rattle.hs_model.specs.declared.op.Op.TheVariants as op
+use Rattle.hs_model.specs.declared.reply.Reply.TheVariants as reply
+use Rattle.hs_ops.specs.Operations.{effect_step}
+use Rattle.hs_ops.specs.Speaking.{wanted_address}
+use Rattle.hs_replica.specs.Group.{Group, commit_front, committed, new_group, take_committed}
+use Rattle.hs_shard.specs.declared.effect.Effect.{Effect}
+use Rattle.hs_tokens.specs.Seats.{Seats}
+
+-- ---- the name of an entry's block
+
+block_of : (name : List ℕ → Address) (seats : Seats) (line k least : ℕ) (bytes : List ℕ) (o : Op) → IsEntryOf name seats k o (kind.Block line least bytes) → wanted_address seats o ≡ Some (name bytes)
+block_of name seats line k least bytes (op.Write session payload handles address) asks = go asks
+  where
+    go : IsEntryOf name seats k (op.Write session payload handles address) (kind.Block line least bytes) → address ≡ Some (name bytes)
+    go (inl is) = is.1 ∙ ap (λ x. Some (name x)) (spelled is.0)
+      where
+        spelled : {l m : ℕ} {x : List ℕ} → kind.Block line least bytes ≡ kind.Block l m x → x ≡ bytes
+        spelled e = cc e
+    go (inr is) = absurd (cc is.1)
+block_of name seats line k least bytes (op.Root session key handle) asks = absurd (cc asks)
+block_of name seats line k least bytes (op.Drop key) asks = absurd (cc asks)
+block_of name seats line k least bytes op.Delete asks = absurd (cc asks.1)
+block_of name seats line k least bytes (op.Open session) asks = absurd asks
+block_of name seats line k least bytes (op.Close session) asks = absurd asks
+block_of name seats line k least bytes (op.Read session handle) asks = absurd asks
+block_of name seats line k least bytes (op.Look session key) asks = absurd asks
+block_of name seats line k least bytes (op.Forget session handle) asks = absurd asks
+block_of name seats line k least bytes (op.Name session handle) asks = absurd asks
+block_of name seats line k least bytes op.Stat asks = absurd asks
+
+pub listed_named : (name : List ℕ → Address) (c : Core) (shard place : ℕ) (entry : Entry) → IsOrderly name c → slice_get (group_of shard c).waiting place ≡ Some entry → IsNamed name entry c
+listed_named name c shard place (kind.Block line least bytes) its at =
+    let h = its.asked shard place line (kind.Block line least bytes) at refl in
+    ap (λ (o : Option Waiting). option_and_then (λ (w : Waiting). wanted_address c.sessions w.operation.op) o) h.at
+    ∙ block_of name c.sessions line line least bytes h.waiting.operation.op h.asks
+listed_named name c shard place (kind.View view) its at = refl
+listed_named name c shard place (kind.Mark line least block a) its at = refl
+listed_named name c shard place (kind.Root line held a key) its at = refl
+listed_named name c shard place (kind.Drop line key) its at = refl
+listed_named name c shard place (kind.Enter line epoch) its at = refl
+listed_named name c shard place (kind.Got from epoch round total deltas) its at = refl
+listed_named name c shard place (kind.Base view epoch swept round frames) its at = refl
+listed_named name c shard place (kind.KeptBlock born mark flags count bytes) its at = refl
+listed_named name c shard place (kind.KeptRoot created dropped counted address key) its at = refl
+listed_named name c shard place (kind.KeptRound way other epoch round total deltas) its at = refl
+
+pub committed_named : (name : List ℕ → Address) (c : Core) (shard number : ℕ) (entry : Entry) → IsOrderly name c → committed (group_of shard c) ≡ Some (number, entry) → IsNamed name entry c
+committed_named name c shard number entry its e = listed_named name c shard 0 entry its (committed_first (group_of shard c) number entry e).first
+
+-- ---- the line of an entry that is taken is free
+
+beyond : {X : Type 0} (none : X) (xs : List X) (k : ℕ) → (k < length xs) ⊎ (slice_index_or xs k none ≡ none)
+beyond none [] k = inr refl
+beyond none (x ∷ xs) zero = inl (omega arith)
+beyond none (x ∷ xs) (suc k) = go (beyond none xs k)
+  where
+    go : (k < length xs) ⊎ (slice_index_or xs k none ≡ none) → (suc k < length (x ∷ xs)) ⊎ (slice_index_or xs k none ≡ none)
+    go (inl l) = inl (grind (arith, common_steps, l))
+    go (inr e) = inr e
+
+taken_here : (shard number : ℕ) (entry : Entry) (c : Core) → committed (group_of shard c) ≡ Some (number, entry) → group_of shard (change_group shard take_committed c) ≡ take_committed (group_of shard c)
+taken_here shard number entry c e = go (beyond (new_group (shape_of c) shard 0 0 []) c.groups shard)
+  where
+    go : (shard < length c.groups) ⊎ (group_of shard c ≡ new_group (shape_of c) shard 0 0 []) → group_of shard (change_group shard take_committed c) ≡ take_committed (group_of shard c)
+    go (inl low) = same-at (new_group (shape_of c) shard 0 0 []) c.groups shard (take_committed (group_of shard c)) low
+    go (inr out) = absurd (nothing (ap (λ (x : Group). committed x) (sym out) ∙ e))
+      where
+        nothing : committed (new_group (shape_of c) shard 0 0 []) ≡ Some (number, entry) → ⊥
+        nothing e = cc e
+
+entry_number : (a b : ℕ) → wait.Entry a ≡ wait.Entry b → a ≡ b
+entry_number a b e = cc e
+
+taken_free : (name : List ℕ → Address) (shard number line : ℕ) (entry : Entry) (c : Core) → IsOrderly name c → committed (group_of shard c) ≡ Some (number, entry) → asked_by entry ≡ Some line
+    → IsFree (change_group shard take_committed c) line
+taken_free name shard number line entry c its e by = λ g place x at of. go g place x at of (group_changed shard take_committed c g)
+  where
+    one : IsFirst (group_of shard c) number entry
+    one = committed_first (group_of shard c) number entry e
+
+    h : HasAsked name c shard (front_of shard c + 1 + 0) line entry
+    h = its.asked shard 0 line entry one.first by
+
+    -- another entry of the line would stand at the same place
+    same_place : (g place : ℕ) (x : Entry) → slice_get (group_of g c).waiting place ≡ Some x → asked_by x ≡ Some line → (g ≡ shard) × (front_of g c + 1 + place ≡ front_of shard c + 1 + 0)
+    same_place g place x at of =
+        let k = its.asked g place line x at of in
+        let w : k.waiting ≡ h.waiting = some_is k.waiting h.waiting (sym k.at ∙ h.at) in
+        (sym k.judges ∙ ap (λ (y : Waiting). y.shard) w ∙ h.judges, entry_number _ _ (sym k.waits ∙ ap (λ (y : Waiting). y.wait) w ∙ h.waits))
+
+    go : (g place : ℕ) (x : Entry) → slice_get (group_of g (change_group shard take_committed c)).waiting place ≡ Some x → asked_by x ≡ Some line
+        → (group_of g (change_group shard take_committed c) ≡ group_of g c) ⊎ ((g ≡ shard) × (group_of g (change_group shard take_committed c) ≡ take_committed (group_of shard c))) → ⊥
+    go g place x at of (inl same) =
+        let there = same_place g place x (sym (ap (λ (y : Group). slice_get y.waiting place) same) ∙ at) of in
+        let here : take_committed (group_of shard c) ≡ group_of shard c = sym (taken_here shard number entry c e) ∙ subst (λ j. group_of j (change_group shard take_committed c) ≡ group_of j c) there.0 same in
+        let rises = one.taken.front in
+        let stays : (take_committed (group_of shard c)).front ≡ (group_of shard c).front = ap (λ (y : Group). y.front) here in
+        omega (arith, rises, stays)
+    go g place x at of (inr is) =
+        let there : slice_get (group_of shard c).waiting (suc place) ≡ Some x =
+        sym (at_front (group_of shard c).waiting place) ∙ sym (ap (λ es. slice_get es place) one.taken.waiting) ∙ sym (ap (λ (y : Group). slice_get y.waiting place) is.1) ∙ at in
+        let again = (same_place shard (suc place) x there of).1 in
+        omega (arith, again)
+
+-- ---- what is told of an entry
+
+sweep_alike : (shard removed : ℕ) (c : Core) → Alike c (note_sweep shard removed c)
+sweep_alike shard removed c = go _
+  where
+    first : Core
+    first = note (who.Shard shard) (deed.Swept shard) (reply.Sweep (catalogue_of shard c).swept removed) c
+
+    go : (b : Bool) → Alike c (change_if b (note who.Store deed.Nothing (reply.Done (catalogue_of shard c).swept)) (note (who.Shard shard) (deed.Swept shard) (reply.Sweep (catalogue_of shard c).swept removed) c))
+    go true = record { operations = refl; sessions = refl; limits = refl; shape = refl; waiting = λ g. refl; front = λ g. refl }
+    go false = record { operations = refl; sessions = refl; limits = refl; shape = refl; waiting = λ g. refl; front = λ g. refl }
+
+enter_alike : (shard : ℕ) (did : What) (c : Core) → Alike c (note_enter shard did c)
+enter_alike shard what.Nothing c = alike_same c
+enter_alike shard (what.Viewed view) c = alike_same c
+enter_alike shard what.Stored c = alike_same c
+enter_alike shard what.Marked c = alike_same c
+enter_alike shard what.Again c = alike_same c
+enter_alike shard what.Rooted c = alike_same c
+enter_alike shard what.Dropped c = alike_same c
+enter_alike shard (what.Entered epoch) c = record { operations = refl; sessions = refl; limits = refl; shape = refl; waiting = λ g. refl; front = λ g. refl }
+enter_alike shard what.Refused c = alike_same c
+
+pub due_orderly : (name : List ℕ → Address) (shard : ℕ) (c : Core) → IsOrderly name c → IsOrderly name (propose_due shard c)
+due_orderly name shard c its = go (is_enter_due shard c)
+  where
+    go : (b : Bool) → IsOrderly name (change_if b (propose_entry shard (kind.Enter 0 ((catalogue_of shard c).epoch + 1))) c)
+    go true = own_orderly name shard (kind.Enter 0 ((catalogue_of shard c).epoch + 1)) c refl its
+    go false = its
+
+view_idle : PassesIdle is_for_view
+view_idle w passes = go w.wait passes
+  where
+    go : (x : Wait) → is_for_view (record w { wait = x }) ≡ true → IsIdle x
+    go wait.View p = tt
+    go wait.Address p = tt
+    go wait.Room p = tt
+    go (wait.Bytes number) p = tt
+    go (wait.Entry number) p = absurd (cc p)
+
+wakes_idle : (entry : Entry) (a : Option Address) (c : Core) → PassesIdle (wakes entry a c)
+wakes_idle (kind.Block line least bytes) a c w passes = go w.wait passes
+  where
+    go : (x : Wait) → wakes (kind.Block line least bytes) a c (record w { wait = x }) ≡ true → IsIdle x
+    go wait.View p = tt
+    go wait.Address p = tt
+    go wait.Room p = tt
+    go (wait.Bytes number) p = tt
+    go (wait.Entry number) p = absurd (cc p)
+wakes_idle (kind.Root line held kept key) a c w passes = go w.wait passes
+  where
+    go : (x : Wait) → wakes (kind.Root line held kept key) a c (record w { wait = x }) ≡ true → IsIdle x
+    go wait.View p = tt
+    go wait.Address p = tt
+    go wait.Room p = tt
+    go (wait.Bytes number) p = tt
+    go (wait.Entry number) p = absurd (cc p)
+wakes_idle (kind.View view) a c w passes = absurd (cc passes)
+wakes_idle (kind.Mark line least block b) a c w passes = absurd (cc passes)
+wakes_idle (kind.Drop line key) a c w passes = absurd (cc passes)
+wakes_idle (kind.Enter line epoch) a c w passes = absurd (cc passes)
+wakes_idle (kind.Got from epoch round total deltas) a c w passes = absurd (cc passes)
+wakes_idle (kind.Base view epoch swept round frames) a c w passes = absurd (cc passes)
+wakes_idle (kind.KeptBlock born mark flags count bytes) a c w passes = absurd (cc passes)
+wakes_idle (kind.KeptRoot created dropped counted address key) a c w passes = absurd (cc passes)
+wakes_idle (kind.KeptRound way other epoch round total deltas) a c w passes = absurd (cc passes)
+
+-- ---- one entry, and all that are committed
+
+module _ (name : List ℕ → Address) (shard : ℕ) (c : Core) (its : IsOrderly name c) where
+  told_orderly : (line : ℕ) (did : What) → IsFree c line → IsOrderly name (tell_operation line did c)
+  told_orderly line did free = going_orderly (λ v o. effect_step v did o) (done_asks did) name line c its free
+
+  view_orderly : (view : ℕ) → IsOrderly name (reach_view shard view c)
+  view_orderly view = go (view == (group_of shard c).view)
+    where
+      viewed : IsOrderly name (set_viewed shard true c)
+      viewed = alike_orderly name c (set_viewed shard true c) (record { operations = refl; sessions = refl; limits = refl; shape = refl; waiting = λ g. refl; front = λ g. refl }) its
+
+      go : (b : Bool) → IsOrderly name (change_if b (λ x. resume_where shard is_for_view (set_viewed shard true x)) c)
+      go true = resumed_orderly name shard is_for_view view_idle (set_viewed shard true c) viewed
+      go false = its
+
+  enter_orderly : (line : ℕ) (did : What) → ((line == 0) ≡ false → IsFree c line) → IsOrderly name (tell_enter shard line did c)
+  enter_orderly line did free = go (operation_of line c) refl
+    where
+      counted : 1 ≤ line → (line == 0) ≡ false
+      counted low = grind (arith, nat_tests, low)
+
+      go : (o : Option Waiting) → operation_of line c ≡ o → IsOrderly name (cond (is_some o) (tell_operation line did c) (note_enter shard did c))
+      go None at = alike_orderly name c (note_enter shard did c) (enter_alike shard did c) its
+      go (Some u) at = told_orderly line did (free (counted ((its.pending line u at).counted)))
+
+  swept_orderly : (removed : Option ℕ) → IsOrderly name (propose_due shard (change_with removed (note_sweep shard) c))
+  swept_orderly None = due_orderly name shard c its
+  swept_orderly (Some n) = due_orderly name shard (note_sweep shard n c) (alike_orderly name c (note_sweep shard n c) (sweep_alike shard n c) its)
+
+  behind_orderly : (entry : Entry) (effect : Effect) → ((line : ℕ) → asked_by entry ≡ Some line → IsFree c line) → IsOrderly name (after_entry shard entry effect c)
+  behind_orderly (kind.View view) effect free = view_orderly view
+  behind_orderly (kind.Block line least bytes) effect free = told_orderly line effect.what (free line refl)
+  behind_orderly (kind.Mark line least block a) effect free = told_orderly line effect.what (free line refl)
+  behind_orderly (kind.Root line held a key) effect free = told_orderly line effect.what (free line refl)
+  behind_orderly (kind.Drop line key) effect free = told_orderly line effect.what (free line refl)
+  behind_orderly (kind.Enter line epoch) effect free = enter_orderly line effect.what (λ e. free line (ap (λ b. cond b None (Some line)) e))
+  behind_orderly (kind.Got from epoch round total deltas) effect free = swept_orderly effect.removed
+  behind_orderly (kind.Base view epoch swept round frames) effect free = its
+  behind_orderly (kind.KeptBlock born mark flags count bytes) effect free = its
+  behind_orderly (kind.KeptRoot created dropped counted address key) effect free = its
+  behind_orderly (kind.KeptRound way other epoch round total deltas) effect free = its
+
+pub effect_orderly : (name : List ℕ → Address) (shard number : ℕ) (entry : Entry) (c : Core) → IsOrderly name c → committed (group_of shard c) ≡ Some (number, entry) → IsOrderly name (take_effect shard entry c)
+effect_orderly name shard number entry c its e =
+    let first : Core = change_group shard take_committed c in
+    let here : Core = taken shard entry c in
+    let beside : Alike first here = record { operations = refl; sessions = refl; limits = refl; shape = refl; waiting = λ g. refl; front = λ g. refl } in
+    let its_here : IsOrderly name here = alike_orderly name first here beside (committed_orderly name shard c its) in
+    let effect : Effect = (done_by shard entry c).effect in
+    resumed_orderly name shard (wakes entry (named entry c) (after_entry shard entry effect here)) (wakes_idle entry (named entry c) (after_entry shard entry effect here)) (after_entry shard entry effect here)
+    (behind_orderly name shard here its_here entry effect (λ line by. alike_free first here line beside (taken_free name shard number line entry c its e by)))
+
+pub next_orderly : (name : List ℕ → Address) (shard : ℕ) (c : Core) → IsOrderly name c → IsOrderly name (commit_next shard c)
+next_orderly name shard c its = go (committed (group_of shard c)) refl
+  where
+    go : (o : Option (ℕ × Entry)) → committed (group_of shard c) ≡ o → IsOrderly name (change_with o (λ (e : ℕ × Entry). take_effect shard e.1) c)
+    go None e = its
+    go (Some x) e = effect_orderly name shard x.0 x.1 c its e
+
+times_orderly : (name : List ℕ → Address) (shard n : ℕ) (c : Core) → IsOrderly name c → IsOrderly name (times n (commit_next shard) c)
+times_orderly name shard zero c its = its
+times_orderly name shard (suc n) c its = times_orderly name shard n (commit_next shard c) (next_orderly name shard c its)
+
+pub commit_orderly : (name : List ℕ → Address) (shard : ℕ) (c : Core) → IsOrderly name c → IsOrderly name (commit shard c)
+commit_orderly name shard c its = times_orderly name shard (commit_front (group_of shard c) - front_of shard c) c its
