@@ -76,9 +76,14 @@ due_by line core (event.Start l peer) = None
 
 abbrev pub is_same_due : Due → Due → Bool
 is_same_due (Reporting p) (Reporting q) = p == q
+is_same_due (Reporting p) (Handling q n) = false
+is_same_due (Reporting p) (Nudging q) = false
+is_same_due (Handling p m) (Reporting q) = false
 is_same_due (Handling p m) (Handling q n) = m == n
+is_same_due (Handling p m) (Nudging q) = false
+is_same_due (Nudging p) (Reporting q) = false
+is_same_due (Nudging p) (Handling q n) = false
 is_same_due (Nudging p) (Nudging q) = p == q
-is_same_due due other = false
 
 -- whether an event of a line is what is due
 abbrev pub is_it : ℕ → Core → Due → Event → Bool
