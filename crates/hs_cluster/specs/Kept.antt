@@ -1,6 +1,6 @@
 -- What a cluster tells of its disks, where they tell their contents and each shard has one copy.
-use Rattle.std.specs.Prelude.{◌≡◌, ◌≤◌, ◌<◌, ◌-◌, ◌^◌, ℕ, ⊤, List, [], ◌∷◌, map, take, Option, Some, None, Result, OnOk}
-use Rattle.hs_cluster.specs.Disks.{DiskSeen, log_at}
+use Rattle.std.specs.Prelude.{◌≡◌, ◌≤◌, ◌<◌, ◌-◌, ◌^◌, ℕ, ⊤, List, [], ◌∷◌, take, Option, Some, None, Result, OnOk}
+use Rattle.hs_cluster.specs.Disks.{DiskSeen, log_at, stands_of}
 use Rattle.hs_cluster.specs.Running.{Running}
 use Rattle.hs_cluster.specs.declared.fault.ClusterFault.{ClusterFault}
 use Rattle.hs_desk.specs.declared.done.Done.{Done}
@@ -11,17 +11,13 @@ use Rattle.hs_events.specs.Reports.{TellsOf}
 use Rattle.hs_cluster.specs.SaneStub.{IsSane, appended_of}
 use Rattle.hs_events.specs.Whole.{Whole, floor, reach, step_whole}
 use Rattle.hs_fold.specs.Shards.Setting.{Numbered}
+use Rattle.hs_members.specs.Members.{IsPeer}
 use Rattle.hs_moments.specs.Machine.{runs}
 use Rattle.hs_moments.specs.Moments.{Keeps, ListsAtMoments}
 use Rattle.hs_moments.specs.WholeMachine.{IsFrontOf, last_of, whole_machine}
 use Rattle.hs_peerlog.specs.Lists.{HasLog, Keeping}
 use Rattle.hs_ports.specs.declared.disk.Side.{Side}
-use Rattle.hs_ports.specs.Disk.{Standing}
 use Rattle.hs_ports.specs.Moments.{disk_at}
-
--- what the disks hold
-abbrev pub stands_of : List DiskSeen → List Standing
-stands_of disks = map (λ disk. disk.stands) disks
 
 -- how much of a peer's list is on its disk at least: what it has sealed
 abbrev pub sealed_front : Whole → ℕ → Numbered
@@ -31,7 +27,7 @@ sealed_front c peer = take (floor c peer) (reach c peer)
 
 -- the log of each disk in use has just what is sealed of its peer's list, and the entry that was appended behind it waits
 pub record KeepsLogs (c : Whole) (logs : List (Option Keeping)) (disks : List DiskSeen) : Type 0 where
-  pub each : (peer : ℕ) (keeping : Keeping) → log_at logs peer ≡ Some keeping
+  pub each : (peer : ℕ) (keeping : Keeping) → IsPeer c.core.members.shape peer → log_at logs peer ≡ Some keeping
       → HasLog keeping (disk_at (stands_of disks) peer) (sealed_front c peer) (appended_of peer c.core)
 
 -- what a cluster keeps to go on: its core with the lists of the peers, the logs, and whatever a crash leaves
