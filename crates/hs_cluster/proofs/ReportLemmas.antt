@@ -2,7 +2,7 @@
 use Rattle.std.proofs.Common.{◌≡◌, ◌≢◌, ◌∙◌, ◌⊎◌, inl, inr, ap, sym, subst, ℕ, ◌-◌, ◌^◌, ◌<◌, ◌≤◌, Bool, true, false, List, [], ◌∷◌, length, map, Option, Some, None, refl, arith, suc}
 use Rattle.std.proofs.lemmas.Bool.{cases_eq}
 use Rattle.std.specs.Prelude.{Result, Ok, Err}
-use Rattle.hs_cluster.proofs.SaneHoles.{KeepsSealed, MayHave, after_may, done_is, done_may, failed_may, growing_beside, own_job, sealed_beside, sealed_may}
+use Rattle.hs_cluster.proofs.SaneHoles.{HasKept, KeepsSealed, MayHave, after_may, done_is, done_may, failed_may, growing_beside, own_job, sealed_beside, sealed_may}
 use Rattle.hs_cluster.specs.Disks.{DiskSeen, log_at, stands_of}
 use Rattle.hs_cluster.specs.Jobs.{Leaves, LeavesLog, Tries, Working, Works, is_own, list_after, try_of, waiting_after}
 use Rattle.hs_cluster.specs.Kept.{KeepsLogs, sealed_front}
@@ -114,7 +114,7 @@ module _ (c : Whole) (w : Working) (sane : IsSane c) (is : IsPeer c.core.members
           let has = logs.each w.peer keeping is at in
           let leaves = tries.each j keeping first at list waiting has in
           one_of_each w.before w.now w.peer (stands_of w.disks) (stands_of w.left) (IsOne list (list_after j list waiting)) (λ image. counts c w.peer ≡ true → Fine c image) (count_stands works.count) works.others leaves.moments
-          (λ image g counted. one_fine c list (list_after j list waiting) (sealed_may c w.peer sane is has.kept.numbered) (after_may c w.peer j sane is has.kept.numbered first) image g)
+          (λ image g counted. one_fine c list (list_after j list waiting) (sealed_may c w.peer sane is has.kept.numbered) (after_may c w.peer j sane is (record { keeping = keeping; seen = (disk_at (stands_of w.disks) w.peer).seen keeping.log.side; kept = has.kept }) first) image g)
 
   -- ---- its report
 
@@ -143,6 +143,9 @@ module _ (c : Whole) (w : Working) (sane : IsSane c) (is : IsPeer c.core.members
             let has = logs.each w.peer keeping is s in
             record { j = j; keeping = keeping; first = first; has = has; leaves = tries.each j keeping first s list waiting has }
 
+    kept_by : HasKept c w.peer
+    kept_by = record { keeping = did.keeping; seen = (disk_at (stands_of w.disks) w.peer).seen did.keeping.log.side; kept = did.has.kept }
+
     pub report_told : TellsOf done (Some list)
     report_told = did.leaves.told
 
@@ -151,11 +154,11 @@ module _ (c : Whole) (w : Working) (sane : IsSane c) (is : IsPeer c.core.members
       where
         go : (o : Option ℕ) → failed_disk done ≡ o → LeavesLog o (try_of w) did.j list waiting → Fine after image
         go None fine log =
-            fine_by after w.peer image (list_after did.j list waiting) (log.2.leaves image (record { sides = stands.sides })) (done_may c w.peer at did.j done sane is did.has.kept.numbered did.first answer fine there)
+            fine_by after w.peer image (list_after did.j list waiting) (log.2.leaves image (record { sides = stands.sides })) (done_may c w.peer at did.j done sane is kept_by did.first answer fine there)
         go (Some disk) fails log =
             one_fine after list (list_after did.j list waiting)
             (failed_may c w.peer at disk done list sane is answer fails there (sealed_may c w.peer sane is did.has.kept.numbered))
-            (failed_may c w.peer at disk done (list_after did.j list waiting) sane is answer fails there (after_may c w.peer did.j sane is did.has.kept.numbered did.first))
+            (failed_may c w.peer at disk done (list_after did.j list waiting) sane is answer fails there (after_may c w.peer did.j sane is kept_by did.first))
             image (did.leaves.moments.standing image (record { sides = stands.sides }))
 
     pub report_logs : c.core.ended ≡ None → (step (event.Report w.peer done) at c.core).ended ≡ None → KeepsLogs after w.after w.left
@@ -169,7 +172,7 @@ module _ (c : Whole) (w : Working) (sane : IsSane c) (is : IsPeer c.core.members
         own_log : (keeping : Keeping) → log_at w.after w.peer ≡ Some keeping → (o : Option ℕ) → failed_disk done ≡ o → LeavesLog o (try_of w) did.j list waiting
             → HasLog keeping (disk_at (stands_of w.left) w.peer) (sealed_front after w.peer) (appended_of w.peer after.core)
         own_log keeping kept None fine log =
-            let is_then = done_is c w.peer at did.j done sane is did.has.kept.numbered did.first answer fine going in
+            let is_then = done_is c w.peer at did.j done sane is kept_by did.first answer fine going in
             subst (λ k. HasLog k (disk_at (stands_of w.left) w.peer) (sealed_front after w.peer) (appended_of w.peer after.core)) (some_is log.0 keeping (sym log.1 ∙ kept))
             (subst (λ l. HasLog log.0 (disk_at (stands_of w.left) w.peer) l (appended_of w.peer after.core)) (sym is_then.0)
             (subst (λ e. HasLog log.0 (disk_at (stands_of w.left) w.peer) (list_after did.j list waiting) e) (sym is_then.1) log.2))

@@ -17,12 +17,18 @@ use Rattle.hs_fold.specs.Shards.Setting.{Numbered}
 use Rattle.hs_members.specs.Members.{IsPeer}
 use Rattle.hs_moments.specs.Moments.{Grows}
 use Rattle.hs_moments.specs.WholeMachine.{IsFrontOf, last_of, whole_machine}
-use Rattle.hs_peerlog.specs.Lists.{IsNumbered}
+use Rattle.hs_peerlog.specs.Lists.{IsKept, IsNumbered, Keeping}
 
 -- a list begins that of a peer, and is no shorter than what is sealed
 pub record MayHave (c : Whole) (peer : ℕ) (list : Numbered) : Type 0 where
   pub front : IsFrontOf peer list (reach c peer)
   pub long : floor c peer ≤ last_of list
+
+-- what is sealed, and the entry that was appended, are those of some log
+pub record HasKept (c : Whole) (peer : ℕ) : Type 0 where
+  pub keeping : Keeping
+  pub seen : List ℕ
+  pub kept : IsKept keeping seen (sealed_front c peer) (appended_of peer c.core)
 
 -- a peer of whose disk nothing is told keeps what is sealed
 pub record KeepsSealed (c after : Whole) (peer : ℕ) : Type 0 where
@@ -54,17 +60,17 @@ own_job c peer sane is = ?
 pub sealed_may : (c : Whole) (peer : ℕ) → IsSane c → IsPeer c.core.members.shape peer → IsNumbered (sealed_front c peer) → MayHave c peer (sealed_front c peer)
 sealed_may c peer sane is numbered = ?
 
-pub after_may : (c : Whole) (peer : ℕ) (j : Job) → IsSane c → IsPeer c.core.members.shape peer → IsNumbered (sealed_front c peer) → first_job peer c.core ≡ Some j
+pub after_may : (c : Whole) (peer : ℕ) (j : Job) → IsSane c → IsPeer c.core.members.shape peer → HasKept c peer → first_job peer c.core ≡ Some j
     → MayHave c peer (list_after j (sealed_front c peer) (appended_of peer c.core))
-after_may c peer j sane is numbered first = ?
+after_may c peer j sane is kept first = ?
 
 -- ---- behind its report
 
 -- the job was done: the peer's list still begins with what is on the disk then, and has no more sealed
-pub done_may : (c : Whole) (peer at : ℕ) (j : Job) (done : Done) → IsSane c → IsPeer c.core.members.shape peer → IsNumbered (sealed_front c peer) → first_job peer c.core ≡ Some j → is_answer c.core peer done ≡ true
+pub done_may : (c : Whole) (peer at : ℕ) (j : Job) (done : Done) → IsSane c → IsPeer c.core.members.shape peer → HasKept c peer → first_job peer c.core ≡ Some j → is_answer c.core peer done ≡ true
     → failed_disk done ≡ None → is_refused (step (event.Report peer done) at c.core).ended ≡ false
     → MayHave (step_whole (event.Report peer done) at c) peer (list_after j (sealed_front c peer) (appended_of peer c.core))
-done_may c peer at j done sane is numbered first answer fine there = ?
+done_may c peer at j done sane is kept first answer fine there = ?
 
 -- the disk failed: what began the list still does, and nothing is sealed
 pub failed_may : (c : Whole) (peer at disk : ℕ) (done : Done) (list : Numbered) → IsSane c → IsPeer c.core.members.shape peer → is_answer c.core peer done ≡ true → failed_disk done ≡ Some disk
@@ -72,8 +78,8 @@ pub failed_may : (c : Whole) (peer at disk : ℕ) (done : Done) (list : Numbered
 failed_may c peer at disk done list sane is answer fails there may = ?
 
 -- where the core goes on, just that is sealed then
-pub done_is : (c : Whole) (peer at : ℕ) (j : Job) (done : Done) → IsSane c → IsPeer c.core.members.shape peer → IsNumbered (sealed_front c peer) → first_job peer c.core ≡ Some j → is_answer c.core peer done ≡ true
+pub done_is : (c : Whole) (peer at : ℕ) (j : Job) (done : Done) → IsSane c → IsPeer c.core.members.shape peer → HasKept c peer → first_job peer c.core ≡ Some j → is_answer c.core peer done ≡ true
     → failed_disk done ≡ None → (step (event.Report peer done) at c.core).ended ≡ None
     → (sealed_front (step_whole (event.Report peer done) at c) peer ≡ list_after j (sealed_front c peer) (appended_of peer c.core))
     × (appended_of peer (step (event.Report peer done) at c.core) ≡ waiting_after j (appended_of peer c.core))
-done_is c peer at j done sane is numbered first answer fine going = ?
+done_is c peer at j done sane is kept first answer fine going = ?
