@@ -1,17 +1,18 @@
 -- What a job leaves of a log, by what the log's calls leave.
 use Rattle.std.proofs.Common.{◌≡◌, ◌∙◌, ◌⊎◌, inl, inr, ap, sym, subst, ℕ, ◌+◌, ◌<◌, ◌≤◌, Bool, true, false, List, [], ◌∷◌, length, Option, Some, None, refl, arith, zero, suc}
 use Rattle.std.specs.Option.{option_map}
-use Rattle.std.specs.Prelude.{Contains, IfOk, IfSome, OnOk, Result, Ok, Err, ◌==◌, if◌then◌else◌, slice_index_or}
-use Rattle.hs_cluster.specs.Jobs.{sealed_list}
+use Rattle.std.specs.Prelude.{Contains, IfOk, Result, Ok, Err, ◌==◌, if◌then◌else◌, slice_index_or}
+use Rattle.hs_cluster.specs.Jobs.{Leaves, LeavesLog, Try, list_after, sealed_list, waiting_after}
 use Rattle.hs_desk.specs.declared.done.Done.{Done}
 use Rattle.hs_desk.specs.declared.done.Done.TheVariants as done
+use Rattle.hs_desk.specs.declared.job.Job.{Job}
+use Rattle.hs_desk.specs.declared.job.Job.TheVariants as job
 use Rattle.hs_entry.specs.declared.entry.Entry.{Entry}
 use Rattle.hs_entry.specs.declared.entry.Entry.TheVariants.{Block}
 use Rattle.hs_entry.specs.declared.rank.Rank.{Rank}
-use Rattle.hs_events.specs.Reports.{HasBlock, LacksEntry, TellsOf}
+use Rattle.hs_events.specs.Asked.{failed_disk}
+use Rattle.hs_events.specs.Reports.{HasBlock, TellsOf}
 use Rattle.hs_fold.specs.Shards.Setting.{Numbered}
-use Rattle.hs_peerlog.proofs.ImageLemmas.{Since}
-use Rattle.hs_peerlog.proofs.StayLemmas.{stays}
 use Rattle.hs_peerlog.specs.Images.{GivesList, Is, IsOne, LeavesAll, LeavesEach, LeavesOnly}
 use Rattle.hs_peerlog.specs.Lists.{HasLog, IsKept, Keeping, numbered_entry}
 use Rattle.hs_ports.specs.declared.disk.Side.{Side}
@@ -60,11 +61,24 @@ pub first_of_two : (before now : ℕ) (old new : Standing) (list other : Numbere
 first_of_two before now old new list other run = weaker before now old new (Is list) (IsOne list other) (λ l h. inl h) run
 
 -- nothing was called
+abbrev pub Since : Standing → Type 0
+Since disk = (side : Side) (m : ℕ) → disk.last < m → disk.past m side ≡ disk.loose side
+
 pub stays_is : (disk : Standing) (now : ℕ) (list : Numbered) → disk.last ≤ now → Since disk → LeavesOnly disk list → LeavesEach now now disk disk (Is list)
-stays_is disk now list last since leaves = stays disk now list (Is list) last since leaves refl
+stays_is disk now list last since leaves = record {
+  later = omega arith;
+  last = last;
+  earlier = λ side m low fits. refl;
+  each = λ m high fits image left. record {
+    list = list;
+    read = leaves image (record { sides = λ side. subst (λ l. IsImage l (image side)) (since side m (omega (arith, last, high))) (left side) });
+    holds = refl;
+  };
+  standing = λ image left. record { list = list; read = leaves image left; holds = refl };
+}
 
 pub stays_one : (disk : Standing) (now : ℕ) (list other : Numbered) → disk.last ≤ now → Since disk → LeavesOnly disk list → LeavesEach now now disk disk (IsOne list other)
-stays_one disk now list other last since leaves = stays disk now list (IsOne list other) last since leaves (inl refl)
+stays_one disk now list other last since leaves = first_of_two now now disk disk list other (stays_is disk now list last since leaves)
 
 pub stays_all : (disk : Standing) (now : ℕ) → disk.last ≤ now → Since disk → LeavesAll now now disk disk
 stays_all disk now last since = record {
@@ -103,7 +117,7 @@ numbered_there (e ∷ es) number entry h = go (numbered_there es number entry) (
       where
         pair : e.0 ≡ number → e.1 ≡ entry → e ≡ (number, entry)
         pair p q = ap (λ n. (n, e.1)) p ∙ ap (λ x. (number, x)) q
-    go ih false is h = let later = ih h in (later.0 + 1, omega (arith, later.1), later.2)
+    go ih false is h = let later = ih h in (suc later.0, omega (arith, later.1), later.2)
 
 pub numbered_nowhere : (list : Numbered) (number : ℕ) → numbered_entry list number ≡ None → (entry : Entry) → Contains list (number, entry) → ⊥
 numbered_nowhere [] number h entry there = absurd (omega (arith, there.1))
@@ -129,3 +143,38 @@ tells_block list number op least bytes told h is =
 
 pub tells_gone : (list : Numbered) (number : ℕ) → numbered_entry list number ≡ None → TellsOf (done.Gone number) (Some list)
 tells_gone list number h = numbered_nowhere list number h
+
+pub tells_found : (list : Numbered) (number : ℕ) (entry : Entry) (E : Type 0) (result : Result Done E) → numbered_entry list number ≡ Some entry
+    → IfOk result (λ told. (op : ℕ) × (least : ℕ) × (bytes : List ℕ) × (entry ≡ Block op least bytes) × (told ≡ done.Bytes number bytes)) → IfOk result (λ told. TellsOf told (Some list))
+tells_found list number entry E (Err fault) there h = tt
+tells_found list number entry E (Ok told) there h = tells_block list number h.0 h.1 h.2 told (there ∙ ap (λ e. Some e) h.3) h.4
+
+-- ---- what a job leaves
+
+-- it was not done
+pub leaves_err : {E : Type 0} (t : Try) (j : Job) (list : Numbered) (waiting : Option Entry) (result : Result Done E) (fault : E) → result ≡ Err fault → LeavesEach t.before t.now t.old t.new (IsOne list (list_after j list waiting)) → Leaves t j list waiting result
+leaves_err {E = E} t j list waiting result fault is moments =
+    subst (λ r. Leaves {E = E} t j list waiting r) (sym is) (record { moments = moments; log = tt; told = tt })
+
+-- it was
+pub leaves_ok : {E : Type 0} (t : Try) (j k : Job) (list : Numbered) (waiting : Option Entry) (done : Done) (keeping : Keeping) → j ≡ k → t.kept ≡ Some keeping → failed_disk done ≡ None
+    → LeavesEach t.before t.now t.old t.new (IsOne list (list_after j list waiting)) → HasLog keeping t.new (list_after k list waiting) (waiting_after k waiting) → TellsOf done (Some list) → Leaves {E = E} t j list waiting (Ok done)
+leaves_ok t j k list waiting done keeping is kept fine moments has told = record {
+  moments = moments;
+  log = subst (λ o. LeavesLog o t j list waiting) (sym fine) (keeping, kept, subst (λ x. HasLog keeping t.new (list_after x list waiting) (waiting_after x waiting)) (sym is) has);
+  told = told;
+}
+
+-- it only read
+pub leaves_read : {E : Type 0} (now number : ℕ) (keeping : Keeping) (old new : Standing) (j : Job) (list : Numbered) (waiting : Option Entry) (result : Result Done E) → j ≡ job.Read number → new ≡ old → old.last ≤ now → Since old
+    → HasLog keeping old list waiting → IfOk result (λ done. failed_disk done ≡ None) → IfOk result (λ done. TellsOf done (Some list))
+    → Leaves {E = E} (record { before = now; now = now; slot = Some keeping; kept = Some keeping; old = old; new = new }) j list waiting result
+leaves_read {E = E} now number keeping old new j list waiting result is same last since has fine told =
+    subst (λ d. Leaves {E = E} (record { before = now; now = now; slot = Some keeping; kept = Some keeping; old = old; new = d }) j list waiting result) (sym same) (go result fine told)
+  where
+    moments : LeavesEach now now old old (IsOne list (list_after j list waiting))
+    moments = stays_one old now list (list_after j list waiting) last since has.leaves
+
+    go : (r : Result Done E) → IfOk r (λ done. failed_disk done ≡ None) → IfOk r (λ done. TellsOf done (Some list)) → Leaves {E = E} (record { before = now; now = now; slot = Some keeping; kept = Some keeping; old = old; new = old }) j list waiting r
+    go (Err fault) fine told = leaves_err (record { before = now; now = now; slot = Some keeping; kept = Some keeping; old = old; new = old }) j list waiting (Err fault) fault refl moments
+    go (Ok done) fine told = leaves_ok (record { before = now; now = now; slot = Some keeping; kept = Some keeping; old = old; new = old }) j (job.Read number) list waiting done keeping is refl fine moments has told
