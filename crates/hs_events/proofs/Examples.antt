@@ -4,7 +4,6 @@ use Rattle.std.specs.Prelude.{◌≡◌, refl, ℕ, ◌++◌, Bool, false, true,
 use Rattle.hs_events.specs.Commands.{AreOfCommand, LineAt}
 use Rattle.hs_events.specs.Course.{happened, items_of, steps}
 use Rattle.hs_events.specs.Due.{Events, is_walk, next_due, next_turn}
-use Rattle.hs_events.specs.Found.{Found}
 use Rattle.hs_events.specs.Reports.{failures, only_reads}
 use Rattle.hs_events.specs.Whole.{Whole, counts, floor, open_whole, reach, step_whole}
 use Rattle.hs_core.specs.declared.event.Event.TheVariants as event
@@ -13,7 +12,6 @@ use Rattle.hs_core.specs.State.{Core}
 use Rattle.hs_desk.specs.declared.done.Done.TheVariants as done
 use Rattle.hs_desk.specs.declared.job.Job.TheVariants as job
 use Rattle.hs_entry.specs.Entries.{rank_of}
-use Rattle.hs_entry.specs.declared.entry.Entry.{Entry}
 use Rattle.hs_entry.specs.declared.entry.Entry.TheVariants as kind
 use Rattle.hs_fold.specs.Shards.Setting.{Setting}
 use Rattle.hs_limits.specs.declared.address.Address.{Address}

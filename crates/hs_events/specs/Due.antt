@@ -2,7 +2,7 @@
 -- What a disk call came to is the disk's to say; all else follows from the core.
 use Rattle.std.specs.List.{list_any}
 use Rattle.std.specs.Option.{option_and_then, option_map, option_map_or, option_or}
-use Rattle.std.specs.Prelude.{Bool, List, None, Option, Some, [], drop, false, filter_map, find, if◌then◌else◌, is_none, is_some, length, nat_le, nat_lt, not, slice_get, take, true, ℕ, ◌&&◌, ◌++◌, ◌+◌, ◌==◌, ◌||◌, ◌∷◌}
+use Rattle.std.specs.Prelude.{Bool, List, None, Option, Some, [], drop, false, filter_map, find, if◌then◌else◌, is_none, is_some, length, nat_le, nat_lt, not, slice_get, take, true, ℕ, ◌&&◌, ◌++◌, ◌+◌, ◌==◌, ◌||◌, ◌∷◌, ◌≤◌}
 use Rattle.hs_core.specs.Asking.{no_peer, not_up}
 use Rattle.hs_core.specs.Looking.{first_job, known_of, oldest_message, open_work, shape_of, status_of}
 use Rattle.hs_core.specs.State.{Core}

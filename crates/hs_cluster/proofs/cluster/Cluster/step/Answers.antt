@@ -37,8 +37,8 @@ returns-in-Err-OpsFull-clause-does c =
     let new = c.step.new.self in
     let steps = rw c.in-Err-OpsFull.field-0-is at c.in-Err-OpsFull.ensures.steps in
     let is : new ≡ step c.args.event c.args.moment old = steps.done refl in
-    subst (λ (o : Running). Does ((c.args.event, c.args.moment) ∷ []) o (record { core = new; logs = c.self.inside.logs.items; course = c.reserve.new.self.course.items }) (Err cluster.OpsFull)) c.self.view_is
-    (event_refused c.args.event c.args.moment (record { core = old; logs = c.self.inside.logs.items; course = c.self.inside.course.items }) (record { core = new; logs = c.self.inside.logs.items; course = c.reserve.new.self.course.items }) is c.in_ok-reserve.ensures.items (err_ends new core.OpsFull steps.outcome))
+    subst (λ (o : Running). Does ((c.args.event, c.args.moment) ∷ []) o (record { core = new; logs = c.self.inside.logs.items; course = c.reserve.new.self.items }) (Err cluster.OpsFull)) c.self.view_is
+    (event_refused c.args.event c.args.moment (record { core = old; logs = c.self.inside.logs.items; course = c.self.inside.course.items }) (record { core = new; logs = c.self.inside.logs.items; course = c.reserve.new.self.items }) is c.in_ok-reserve.ensures.items (err_ends new core.OpsFull steps.outcome))
 
 pub returns-in-Err-ShardLost-clause-does : goal.returns-in-Err-ShardLost-clause-does
 returns-in-Err-ShardLost-clause-does c =
