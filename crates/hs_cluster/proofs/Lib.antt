@@ -6,5 +6,6 @@ pub mod JobLemmas
 pub mod LineLemmas
 pub mod ReportLemmas
 pub mod SaneHoles
+pub mod SaneLemmas
 pub mod ShowLemmas
 pub mod WalkLemmas

@@ -2,7 +2,7 @@
 use Rattle.std.proofs.Common.{◌≡◌, ◌≢◌, ◌∙◌, ◌⊎◌, inl, inr, ap, sym, subst, ℕ, ◌-◌, ◌^◌, ◌<◌, ◌≤◌, Bool, true, false, List, [], ◌∷◌, length, map, Option, Some, None, refl, arith, suc}
 use Rattle.std.proofs.lemmas.Bool.{cases_eq}
 use Rattle.std.specs.Prelude.{Result, Ok, Err}
-use Rattle.hs_cluster.proofs.SaneHoles.{HasKept, KeepsSealed, MayHave, after_may, done_is, done_may, failed_may, growing_beside, own_job, sealed_beside, sealed_may}
+use Rattle.hs_cluster.proofs.SaneLemmas.{HasKept, MayHave, after_may, done_is, done_may, failed_may, sealed_beside, sealed_may}
 use Rattle.hs_cluster.specs.Disks.{DiskSeen, log_at, stands_of}
 use Rattle.hs_cluster.specs.Jobs.{Leaves, LeavesLog, Tries, Working, Works, is_own, list_after, try_of, waiting_after}
 use Rattle.hs_cluster.specs.Kept.{KeepsLogs, sealed_front}
@@ -157,8 +157,8 @@ module _ (c : Whole) (w : Working) (sane : IsSane c) (is : IsPeer c.core.members
             fine_by after w.peer image (list_after did.j list waiting) (log.2.leaves image (record { sides = stands.sides })) (done_may c w.peer at did.j done sane is kept_by did.first answer fine there)
         go (Some disk) fails log =
             one_fine after list (list_after did.j list waiting)
-            (failed_may c w.peer at disk done list sane is answer fails there (sealed_may c w.peer sane is did.has.kept.numbered))
-            (failed_may c w.peer at disk done (list_after did.j list waiting) sane is answer fails there (after_may c w.peer did.j sane is kept_by did.first))
+            (failed_may c w.peer at disk done list sane answer fails there (sealed_may c w.peer sane is did.has.kept.numbered))
+            (failed_may c w.peer at disk done (list_after did.j list waiting) sane answer fails there (after_may c w.peer did.j sane is kept_by did.first))
             image (did.leaves.moments.standing image (record { sides = stands.sides }))
 
     pub report_logs : c.core.ended ≡ None → (step (event.Report w.peer done) at c.core).ended ≡ None → KeepsLogs after w.after w.left

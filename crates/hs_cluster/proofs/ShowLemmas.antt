@@ -4,7 +4,8 @@ use Rattle.std.proofs.lemmas.Bool.{cases_eq, cases_lt}
 use Rattle.std.specs.Prelude.{OnOk, Result, Ok, Err, ⊤, if◌then◌else◌}
 use Rattle.hs_cluster.proofs.EventLemmas.{still_going}
 use Rattle.hs_cluster.proofs.ReportLemmas.{call_fine, report_fine, report_logs, report_told}
-use Rattle.hs_cluster.proofs.SaneHoles.{growing_beside, growing_without_call, own_job, sane_stays, sealed_stays}
+use Rattle.hs_cluster.proofs.SaneHoles.{growing_beside, growing_without_call, sane_stays}
+use Rattle.hs_cluster.proofs.SaneLemmas.{own_job, sealed_stays}
 use Rattle.hs_cluster.specs.Calls.{Does, done_of, ran_out}
 use Rattle.hs_cluster.specs.declared.fault.ClusterFault.{ClusterFault}
 use Rattle.hs_cluster.specs.declared.fault.ClusterFault.TheVariants.{NoMemory}
@@ -37,7 +38,6 @@ use Rattle.hs_peerlog.specs.Lists.{HasLog, Keeping}
 use Rattle.hs_ports.specs.declared.disk.Side.{Side}
 use Rattle.hs_ports.specs.Disk.{IsImage, Standing}
 use Rattle.hs_ports.specs.Moments.{disk_at}
-use Rattle.hs_cluster.specs.Calls.{outcome_by}
 
 -- ---- runs of events
 
@@ -265,7 +265,7 @@ job_cut tells before now peer old new after disks left {E = E} result is since w
   lists = λ told c core can.
       let low : IsPeer c.core.members.shape peer = subst (λ (x : Core). IsPeer x.members.shape peer) (sym core) is in
       let w : Working = record { peer = peer; before = before; now = now; logs = old.logs; after = after; disks = disks; left = left } in
-      let own : is_own (first_job peer old.core) ≡ true = subst (λ x. is_own (first_job peer x) ≡ true) core (own_job c peer can.sane low) in
+      let own : is_own (first_job peer old.core) ≡ true = subst (λ x. is_own (first_job peer x) ≡ true) core (own_job c peer can.sane) in
       let done : Works w (first_job peer c.core) result = subst (λ x. Works w (first_job peer x) result) (sym core) (works told own) in
       let call = call_fine c w can.sane low can.logs can.keeps result done in
       call_lists c before now peer (stands_of disks) (stands_of left) (since told) can.keeps call (record { before = before; now = now; old = old; new = new; disks = disks; left = left }) refl refl refl refl;
@@ -304,7 +304,7 @@ job_shows tells before now peer old new after disks left E done r is was answer 
     did : tells → (c : Whole) → c.core ≡ old.core → CanGoOn c old.logs disks before → Works w (first_job peer c.core) (Ok {E = E} done)
     did told c core can =
         let low : IsPeer c.core.members.shape peer = subst (λ (x : Core). IsPeer x.members.shape peer) (sym core) is in
-        let own : is_own (first_job peer old.core) ≡ true = subst (λ x. is_own (first_job peer x) ≡ true) core (own_job c peer can.sane low) in
+        let own : is_own (first_job peer old.core) ≡ true = subst (λ x. is_own (first_job peer x) ≡ true) core (own_job c peer can.sane) in
         subst (λ x. Works w (first_job peer x) (Ok {E = E} done)) (sym core) (works told own)
 
     keeps_then : tells → (c : Whole) → c.core ≡ old.core → CanGoOn c old.logs disks before → is_refused (step e now c.core).ended ≡ false → Keeps whole_machine IsFrontOf last_of (step_whole e now c) now (stands_of left)
