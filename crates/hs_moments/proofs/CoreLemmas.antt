@@ -1,5 +1,5 @@
 -- The core is such a machine.
-use Rattle.std.proofs.Common.{◌≡◌, ◌∙◌, ap, sym, ℕ, zero, suc, ◌+◌, ◌*◌, ◌<◌, ◌≤◌, Bool, true, false, cond, List, [], ◌∷◌, ◌++◌, Option, Some, None, refl, arith, nat_lt, is_none}
+use Rattle.std.proofs.Common.{◌≡◌, ◌∙◌, ap, sym, ℕ, zero, suc, ◌+◌, ◌*◌, ◌≤◌, Bool, true, false, List, [], ◌∷◌, ◌++◌, Option, Some, None, refl, arith, nat_lt, is_none}
 use Rattle.std.proofs.lemmas.List.{append-nil, append_assoc}
 use Rattle.std.proofs.lemmas.List.Elements.{filter-append}
 use Rattle.std.specs.List.{range_with_len}
@@ -94,6 +94,9 @@ course_item shape core e same h =
     let items : course_of core_machine shape core (e ∷ []) ≡ items_between (begun_line e.0) core after e.1 ++ [] = λ i. (line i ++ (goods i ++ fronts i)) ++ [] in
     items ∙ sym (ap (λ b. (if b then [] else items_between (begun_line e.0) core after e.1) ++ []) h)
 
+joined : (xs ys more less : List CourseItem) → xs ++ [] ≡ ys ++ [] → more ≡ less → xs ++ more ≡ ys ++ less
+joined xs ys more less h g = ap (λ zs. zs ++ more) (sym (append-nil xs) ∙ h ∙ append-nil ys) ∙ ap (λ zs. ys ++ zs) g
+
 pub course_is : (shape : Shape) (core : Core) (es : Events) → core.members.shape ≡ shape → course_of core_machine shape core (happened core es) ≡ items_of core (happened core es)
 course_is shape core [] same = refl
 course_is shape core (e ∷ es) same = go (course_is shape (step e.0 e.1 core) es (shape_stays e.0 e.1 core ∙ same)) (is_refused (step e.0 e.1 core).ended) refl
@@ -103,9 +106,6 @@ course_is shape core (e ∷ es) same = go (course_is shape (step e.0 e.1 core) e
         → course_of core_machine shape core (if b then [] else e ∷ happened (step e.0 e.1 core) es) ≡ items_of core (if b then [] else e ∷ happened (step e.0 e.1 core) es)
     go ih true h = refl
     go ih false h = joined _ _ _ _ (course_item shape core e same h) ih
-
-    joined : (xs ys more less : List CourseItem) → xs ++ [] ≡ ys ++ [] → more ≡ less → xs ++ more ≡ ys ++ less
-    joined xs ys more less h g = ap (λ zs. zs ++ more) (sym (append-nil xs) ∙ h ∙ append-nil ys) ∙ ap (λ zs. ys ++ zs) g
 
 pub good_at : (core : Core) (es : Events) (from to m peer : ℕ) → MomentsRise from es to → IsPeer core.members.shape peer
     → good_from (is_good_status (status_of peer core)) (items_of core es) m peer ≡ is_good_status (status_of peer (core_at core es m))
