@@ -5,6 +5,7 @@ use Rattle.hs_events.specs.Commands.{AreOfCommand, LineAt}
 use Rattle.hs_events.specs.Course.{happened, items_of, steps}
 use Rattle.hs_events.specs.Due.{Events, is_walk, next_due, next_turn}
 use Rattle.hs_events.specs.Reports.{failures, only_reads}
+use Rattle.hs_events.specs.Taken.{taken_peer}
 use Rattle.hs_events.specs.Whole.{Whole, counts, floor, open_whole, reach, step_whole}
 use Rattle.hs_core.specs.declared.event.Event.TheVariants as event
 use Rattle.hs_core.specs.Opening.{Taken, open_core}
@@ -174,6 +175,10 @@ the_floor_before = refl
 the_floor : floor (run_whole whole (opening ++ (first_lines ++ last_line))) 0 ≡ 2
 unfolding gained addresses block_at read_block no_handle_in stale_in helds_of deed_of seats_after asked_for begin block_entry compared data_of go is_same_block judged_in mark_entry on_bytes on_effect refusals_of asked_block least_epoch rank_of
 the_floor = refl
+
+-- a disk without a log is not taken
+no_log_is_taken : taken_peer shape (None ∷ []) 0 ≡ None
+no_log_is_taken = refl
 
 -- ---- two copies: the log of the first was taken, and the second has none
 
