@@ -1,3 +1,4 @@
+pub mod Alone
 pub mod Asked
 pub mod Beginning
 pub mod Commands
@@ -5,5 +6,6 @@ pub mod Course
 pub mod Due
 pub mod Found
 pub mod Reports
+pub mod Sane
 pub mod Taken
 pub mod Whole

@@ -1,9 +1,20 @@
 pub mod AdvanceLemmas
+pub mod AloneEventLemmas
+pub mod AloneLemmas
+pub mod AloneReportLemmas
+pub mod AloneStepLemmas
 pub mod CoreLemmas
 pub mod CourseLemmas
 pub mod FrontLemmas
 pub mod HappenedLemmas
+pub mod JobLemmas
 pub mod JointLemmas
 pub mod JournalLemmas
 pub mod MomentLemmas
+pub mod MoveLemmas
+pub mod OpeningLemmas
+mod SaneExamples
+pub mod SaneLemmas
 pub mod SealLemmas
+pub mod StepsKeepLemmas
+pub mod WorkLemmas

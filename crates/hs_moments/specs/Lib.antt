@@ -6,3 +6,4 @@ pub mod Machine
 pub mod Moments
 pub mod Obeys
 pub mod WholeMachine
+pub mod Working

@@ -1,0 +1,119 @@
+-- A core of one copy a shard: each peer is good, leads its shard and has the jobs of what it has not sealed.
+use Rattle.std.specs.List.{All, enumerate_from}
+use Rattle.std.specs.Map.{values_of}
+use Rattle.std.specs.Option.{option_map_or}
+use Rattle.std.specs.Prelude.{◌≡◌, ◌⊎◌, ℕ, ◌<◌, ◌≤◌, Bool, true, false, List, [], ◌∷◌, ◌++◌, Option, Some, None, flat_map, length, slice_index_or}
+use Rattle.hs_core.specs.declared.task.Task.{Task}
+use Rattle.hs_core.specs.State.{Core}
+use Rattle.hs_desk.specs.declared.job.Job.TheVariants as job
+use Rattle.hs_entry.specs.declared.entry.Entry.{Entry}
+use Rattle.hs_entry.specs.Entries.{is_of_base}
+use Rattle.hs_limits.specs.declared.limits.PeerStatus.TheVariants.{Good}
+use Rattle.hs_limits.specs.declared.shape.Shape.{Shape}
+use Rattle.hs_members.specs.Members.{Members, status}
+use Rattle.hs_post.specs.declared.message.Message.{Message}
+use Rattle.hs_post.specs.declared.message.Message.TheVariants as message
+use Rattle.hs_post.specs.Pool.{Pool}
+use Rattle.hs_replica.specs.declared.replica.Replica.{Replica}
+use Rattle.hs_replica.specs.Group.{Group, entries_above, last_number, new_group, no_copy}
+
+-- ---- jobs
+
+-- an entry of this number, to be appended and then sealed, or a Read of it for the operation of a line
+pub record Queued : Type 0 where
+  pub number : ℕ
+  pub entry : Option Entry
+  pub line : ℕ
+
+abbrev pub seal_of : ℕ → Task
+seal_of number = record { job = job.Seal number; line = 0 }
+
+abbrev pub tasks_for : Queued → List Task
+tasks_for queued = by_kind queued.entry
+  where
+    by_kind : Option Entry → List Task
+    by_kind (Some entry) = record { job = job.Append queued.number entry; line = 0 } ∷ seal_of queued.number ∷ []
+    by_kind None = record { job = job.Read queued.number; line = queued.line } ∷ []
+
+abbrev pub entry_for : Queued → List (ℕ × Entry)
+entry_for queued = option_map_or (λ entry. (queued.number, entry) ∷ []) queued.entry []
+
+-- these are the jobs of these entries: each is appended and then sealed, with Reads before or behind
+pub record AreJobs (entries : List (ℕ × Entry)) (tasks : List Task) : Type 0 where
+  pub queue : List Queued
+  pub all : entries ≡ flat_map entry_for queue
+  pub jobs : tasks ≡ flat_map tasks_for queue
+
+-- and these, where the first entry was appended: its Seal comes first
+pub record AreBegun (entries : List (ℕ × Entry)) (tasks : List Task) : Type 0 where
+  pub first : ℕ × Entry
+  pub others : List (ℕ × Entry)
+  pub behind : List Task
+  pub all : entries ≡ first ∷ others
+  pub jobs : tasks ≡ seal_of first.0 ∷ behind
+  pub rest : AreJobs others behind
+
+abbrev pub HasJobs : List (ℕ × Entry) → List Task → Type 0
+HasJobs entries tasks = AreJobs entries tasks ⊎ AreBegun entries tasks
+
+-- ---- one shard
+
+-- the only copy of a shard
+abbrev pub own : Group → Replica
+own group = slice_index_or group.copies 0 no_copy
+
+-- it is good, the lead knows all that it has sealed, and nothing else was handed out
+pub record IsAlone (shape : Shape) (shard : ℕ) (group : Group) : Type 0 where
+  pub same_shape : group.shape ≡ shape
+  pub same_shard : group.shard ≡ shard
+  pub copies : group.copies ≡ own group ∷ []
+  pub good : (own group).good ≡ true
+  pub known : (own group).known ≡ (own group).sealed
+  pub handed : group.front ≤ (own group).sealed
+  pub within : (own group).sealed ≤ last_number group
+  pub long : length (own group).stamps ≡ last_number group
+
+-- all that is sealed took effect, and its peer has the jobs of the rest
+pub record IsSettled (group : Group) (tasks : List Task) : Type 0 where
+  pub settled : (own group).sealed ≡ group.front
+  pub jobs : HasJobs (entries_above (own group).sealed group) tasks
+
+-- a list has numbers from 1 on, no Base, and what waits at its end
+pub record IsCounted (list : List (ℕ × Entry)) (group : Group) : Type 0 where
+  pub taken : List Entry
+  pub counted : list ≡ enumerate_from 1 (taken ++ group.waiting)
+  pub handed : length taken ≡ group.front
+  pub plain : All (λ entry. is_of_base entry ≡ false) (taken ++ group.waiting)
+
+-- ---- all of them
+
+-- what of a core tells of lists and jobs
+pub record Face : Type 0 where
+  pub members : Members
+  pub groups : List Group
+  pub tasks : List (List Task)
+  pub pool : Pool
+
+abbrev pub face : Core → Face
+face core = record { members = core.members; groups = core.groups; tasks = core.tasks; pool = core.pool }
+
+abbrev pub group_in : ℕ → Face → Group
+group_in shard f = slice_index_or f.groups shard (new_group f.members.shape shard 0 0 [])
+
+abbrev pub tasks_in : ℕ → Face → List Task
+tasks_in peer f = slice_index_or f.tasks peer []
+
+-- copies say nothing to each other: only Rounds are under way
+abbrev pub is_round : Message → Bool
+is_round (message.Copy shard to view number entry) = false
+is_round (message.Have shard from to view sealed) = false
+is_round (message.Round from to epoch round total deltas) = true
+
+pub record AreAlone (f : Face) : Type 0 where
+  pub copies : f.members.shape.copies ≡ 1
+  pub groups : length f.groups ≡ f.members.shape.shards
+  pub tasks : length f.tasks ≡ f.members.shape.shards
+  pub statuses : length f.members.statuses ≡ f.members.shape.shards
+  pub good : (peer : ℕ) → peer < f.members.shape.shards → status peer f.members ≡ Good
+  pub rounds : All (λ m. is_round m ≡ true) (values_of f.pool.messages)
+  pub each : (shard : ℕ) → shard < f.members.shape.shards → IsAlone f.members.shape shard (group_in shard f)
