@@ -2,11 +2,11 @@
 use Rattle.std.proofs.Common.{◌≡◌, ◌≢◌, ◌∙◌, ◌⊎◌, inl, inr, ap, sym, subst, ℕ, ◌-◌, ◌^◌, ◌<◌, ◌≤◌, Bool, true, false, List, [], ◌∷◌, length, map, Option, Some, None, refl, arith, suc}
 use Rattle.std.proofs.lemmas.Bool.{cases_eq}
 use Rattle.std.specs.Prelude.{Result, Ok, Err}
-use Rattle.hs_cluster.proofs.SaneLemmas.{HasKept, MayHave, after_may, done_is, done_may, failed_may, sealed_beside, sealed_may}
+use Rattle.hs_cluster.proofs.HeldLemmas.{HasKept, MayHave, after_may, done_is, done_may, failed_may, sealed_beside, sealed_may}
 use Rattle.hs_cluster.specs.Disks.{DiskSeen, log_at, stands_of}
 use Rattle.hs_cluster.specs.Jobs.{Leaves, LeavesLog, Tries, Working, Works, is_own, list_after, try_of, waiting_after}
 use Rattle.hs_cluster.specs.Kept.{KeepsLogs, sealed_front}
-use Rattle.hs_cluster.specs.SaneStub.{IsSane, appended_of}
+use Rattle.hs_events.specs.Sane.{IsSane, appended_of}
 use Rattle.hs_core.specs.declared.event.Event.{Event}
 use Rattle.hs_core.specs.declared.event.Event.TheVariants as event
 use Rattle.hs_core.specs.Looking.{first_job}

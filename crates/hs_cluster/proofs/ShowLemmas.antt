@@ -1,11 +1,11 @@
 -- What events show of the disks: one event, and one run of them behind another.
-use Rattle.std.proofs.Common.{◌≡◌, ◌≢◌, ◌∙◌, ◌⊎◌, inl, inr, ap, sym, subst, ℕ, ◌-◌, ◌^◌, ◌<◌, ◌≤◌, Bool, true, false, List, [], ◌∷◌, ◌++◌, length, map, Option, Some, None, refl, arith, is_none, nat_lt, zero, suc}
+use Rattle.std.proofs.Common.{◌≡◌, ◌≢◌, ◌∙◌, ◌⊎◌, inl, inr, ap, sym, subst, ℕ, ◌-◌, ◌^◌, ◌<◌, ◌≤◌, Bool, true, false, List, [], ◌∷◌, ◌++◌, length, Option, Some, None, refl, arith, is_none, nat_lt}
 use Rattle.std.proofs.lemmas.Bool.{cases_eq, cases_lt}
 use Rattle.std.specs.Prelude.{OnOk, Result, Ok, Err, ⊤, if◌then◌else◌}
 use Rattle.hs_cluster.proofs.EventLemmas.{still_going}
 use Rattle.hs_cluster.proofs.ReportLemmas.{call_fine, report_fine, report_logs, report_told}
-use Rattle.hs_cluster.proofs.SaneHoles.{growing_beside, growing_without_call, sane_stays}
-use Rattle.hs_cluster.proofs.SaneLemmas.{own_job, sealed_stays}
+use Rattle.hs_moments.proofs.SaneLemmas.{growing_beside, growing_without_call, sane_stays}
+use Rattle.hs_cluster.proofs.HeldLemmas.{own_job, sealed_stays}
 use Rattle.hs_cluster.specs.Calls.{Does, done_of, ran_out}
 use Rattle.hs_cluster.specs.declared.fault.ClusterFault.{ClusterFault}
 use Rattle.hs_cluster.specs.declared.fault.ClusterFault.TheVariants.{NoMemory}
@@ -13,7 +13,7 @@ use Rattle.hs_cluster.specs.Disks.{DiskSeen, log_at, stands_of}
 use Rattle.hs_cluster.specs.Jobs.{Working, Works, is_own}
 use Rattle.hs_cluster.specs.Kept.{AreTold, CanGoOn, IsTold, KeepsLogs, LeavesLists, Shows, Span, sealed_front}
 use Rattle.hs_cluster.specs.Running.{Running}
-use Rattle.hs_cluster.specs.SaneStub.{IsSane, appended_of}
+use Rattle.hs_events.specs.Sane.{IsSane, appended_of}
 use Rattle.hs_core.specs.declared.event.Event.{Event}
 use Rattle.hs_core.specs.declared.event.Event.TheVariants as event
 use Rattle.hs_core.specs.Looking.{first_job}
@@ -23,7 +23,7 @@ use Rattle.hs_desk.specs.declared.done.Done.{Done}
 use Rattle.hs_desk.specs.declared.fault.CoreFault.{CoreFault}
 use Rattle.hs_events.proofs.GoingLemmas.{step_goes}
 use Rattle.hs_events.specs.Asked.{report_in}
-use Rattle.hs_events.specs.Course.{happened, is_refused, steps}
+use Rattle.hs_events.specs.Course.{happened, is_refused, items_of, steps}
 use Rattle.hs_events.specs.Due.{Events, MomentsRise, is_answer}
 use Rattle.hs_events.specs.Whole.{Whole, counts, step_whole}
 use Rattle.hs_fold.specs.Images.{IsLeft}
@@ -173,7 +173,7 @@ quiet_shows e now old new disks r quiet was does less = record {
         let unrefused : is_refused (step e now c.core).ended ≡ false = ap is_refused going in
         record {
           sane = sane_stays c e now can.sane going;
-          logs = quiet_logs c e now old.logs new.logs disks can.sane (ap (λ (x : Core). x.ended) core ∙ was) quiet going less can.logs;
+          listed = quiet_logs c e now old.logs new.logs disks can.sane (ap (λ (x : Core). x.ended) core ∙ was) quiet going less can.listed;
           keeps = quiet-keeps whole_machine IsFrontOf last_of c (step_whole e now c) now (stands_of disks) (λ peer. growing_without_call c e now peer can.sane quiet unrefused) can.keeps;
         }
 
@@ -267,7 +267,7 @@ job_cut tells before now peer old new after disks left {E = E} result is since w
       let w : Working = record { peer = peer; before = before; now = now; logs = old.logs; after = after; disks = disks; left = left } in
       let own : is_own (first_job peer old.core) ≡ true = subst (λ x. is_own (first_job peer x) ≡ true) core (own_job c peer can.sane) in
       let done : Works w (first_job peer c.core) result = subst (λ x. Works w (first_job peer x) result) (sym core) (works told own) in
-      let call = call_fine c w can.sane low can.logs can.keeps result done in
+      let call = call_fine c w can.sane low can.listed can.keeps result done in
       call_lists c before now peer (stands_of disks) (stands_of left) (since told) can.keeps call (record { before = before; now = now; old = old; new = new; disks = disks; left = left }) refl refl refl refl;
   goes_on = λ told c core can. tt;
 }
@@ -282,7 +282,7 @@ job_shows tells before now peer old new after disks left E done r is was answer 
   lists = λ told c core can.
       let low : IsPeer c.core.members.shape peer = subst (λ (x : Core). IsPeer x.members.shape peer) (sym core) is in
       let done_then = did told c core can in
-      let call = call_fine c w can.sane low can.logs can.keeps (Ok {E = E} done) done_then in
+      let call = call_fine c w can.sane low can.listed can.keeps (Ok {E = E} done) done_then in
       let answers : is_answer c.core peer done ≡ true = subst (λ x. is_answer x peer done ≡ true) (sym core) answer in
       record {
         earlier = call_earlier c before now peer (stands_of disks) (stands_of left) (since told) can.keeps call;
@@ -290,7 +290,7 @@ job_shows tells before now peer old new after disks left E done r is was answer 
         keeps = behind c e now (λ s. Keeps whole_machine IsFrontOf last_of s now (stands_of left)) r
             (call_keeps c before now peer (stands_of disks) (stands_of left) (since told) can.keeps call)
             (λ there. keeps_then told c core can there);
-        told = told_by c e now r (report_told c w can.sane low can.logs can.keeps done now E done_then answers);
+        told = told_by c e now r (report_told c w can.sane low can.listed can.keeps done now E done_then answers);
       };
   goes_on = λ told c core can. go r does told c core can;
 }
@@ -314,8 +314,8 @@ job_shows tells before now peer old new after disks left E done r is was answer 
         let answers : is_answer c.core peer done ≡ true = subst (λ x. is_answer x peer done ≡ true) (sym core) answer in
         call-keeps whole_machine IsFrontOf last_of c (step_whole e now c) before now peer (stands_of disks) (stands_of left) (λ image. counts c peer ≡ true → GivesFine whole_machine IsFrontOf last_of c peer image)
         (λ k differs. growing_beside c done now peer k can.sane answers differs there)
-        (call_fine c w can.sane low can.logs can.keeps (Ok {E = E} done) done_then)
-        (λ counted image stands. report_fine c w can.sane low can.logs can.keeps done now E done_then answers there image stands)
+        (call_fine c w can.sane low can.listed can.keeps (Ok {E = E} done) done_then)
+        (λ counted image stands. report_fine c w can.sane low can.listed can.keeps done now E done_then answers there image stands)
         can.keeps
 
     go : (r : Result ⊤ ClusterFault) → Does (done_of r (e, now)) old new r → tells → (c : Whole) → c.core ≡ old.core → CanGoOn c old.logs disks before → OnOk r (CanGoOn (runs whole_machine c (done_of r (e, now))) new.logs left now)
@@ -326,8 +326,8 @@ job_shows tells before now peer old new after disks left E done r is was answer 
         let answers : is_answer c.core peer done ≡ true = subst (λ x. is_answer x peer done ≡ true) (sym core) answer in
         record {
           sane = sane_stays c e now can.sane going;
-          logs = subst (λ l. KeepsLogs (step_whole e now c) l left) (sym kept)
-              (report_logs c w can.sane low can.logs can.keeps done now E (did told c core can) answers (ap (λ (x : Core). x.ended) core ∙ was) going);
+          listed = subst (λ l. KeepsLogs (step_whole e now c) l left) (sym kept)
+              (report_logs c w can.sane low can.listed can.keeps done now E (did told c core can) answers (ap (λ (x : Core). x.ended) core ∙ was) going);
           keeps = keeps_then told c core can (ap is_refused going);
         }
 
@@ -389,9 +389,15 @@ shows_then tells before mid now old here new disks between left r es fs does ris
     going : (c : Whole) → c.core ≡ old.core → (steps c.core es).ended ≡ None
     going c core = ap (λ x. (steps x es).ended) core ∙ ap (λ (x : Core). x.ended) (sym (does.core refl)) ∙ still_going es old here does
 
--- ---- disks of a type
+-- ---- what events leave
 
-pub since_of : {A : Type 0} (f : A → DiskSeen) (disks : List A) → ((disk : A) (side : Side) (m : ℕ) → (f disk).stands.last < m → (f disk).stands.past m side ≡ (f disk).stands.loose side) → Since (stands_of (map f disks))
-since_of f [] h k side m low = refl
-since_of f (d ∷ disks) h zero side m low = h d side m low
-since_of f (d ∷ disks) h (suc k) side m low = since_of f disks h k side m low
+-- where the logs alone differ
+pub does_same : (es : Events) (was old new : Running) (r : Result ⊤ ClusterFault) → was.core ≡ old.core → was.course ≡ old.course → Does es was new r → Does es old new r
+does_same es was old new r core course d = record {
+  course = d.course ∙ ap (λ xs. xs ++ items_of was.core es) course ∙ ap (λ c. old.course ++ items_of c es) core;
+  journal = d.journal ∙ ap (λ c. (steps c es).journal) core;
+  refused = d.refused ∙ ap (λ c. (steps c es).refused) core;
+  core = λ h. d.core h ∙ ap (λ c. steps c es) core;
+  outcome = d.outcome;
+  going = λ h. sym (ap (λ c. (steps c es).ended) core) ∙ d.going h;
+}

@@ -8,7 +8,7 @@ use Rattle.hs_events.specs.Asked.{report_in}
 use Rattle.hs_events.specs.Course.{happened}
 use Rattle.hs_events.specs.Due.{Events}
 use Rattle.hs_events.specs.Reports.{TellsOf}
-use Rattle.hs_cluster.specs.SaneStub.{IsSane, appended_of}
+use Rattle.hs_events.specs.Sane.{IsSane, appended_of}
 use Rattle.hs_events.specs.Whole.{Whole, floor, reach, step_whole}
 use Rattle.hs_fold.specs.Shards.Setting.{Numbered}
 use Rattle.hs_members.specs.Members.{IsPeer}
@@ -33,7 +33,7 @@ pub record KeepsLogs (c : Whole) (logs : List (Option Keeping)) (disks : List Di
 -- what a cluster keeps to go on: its core with the lists of the peers, the logs, and whatever a crash leaves
 pub record CanGoOn (c : Whole) (logs : List (Option Keeping)) (disks : List DiskSeen) (now : ℕ) : Type 0 where
   pub sane : IsSane c
-  pub logs : KeepsLogs c logs disks
+  pub listed : KeepsLogs c logs disks
   pub keeps : Keeps whole_machine IsFrontOf last_of c now (stands_of disks)
 
 -- ---- a call, or some

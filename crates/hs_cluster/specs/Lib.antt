@@ -4,5 +4,4 @@ pub mod Disks
 pub mod Jobs
 pub mod Kept
 pub mod Running
-pub mod SaneStub
 pub mod Settling

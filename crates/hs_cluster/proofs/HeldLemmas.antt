@@ -1,12 +1,14 @@
 -- What a peer's disk may hold before its first job and behind it, by the core's laws.
-use Rattle.std.proofs.Common.{◌≡◌, ◌≢◌, ◌∙◌, ap, sym, subst, ℕ, zero, suc, ◌+◌, ◌<◌, ◌≤◌, Bool, true, false, List, [], ◌∷◌, ◌++◌, length, take, drop, Option, Some, None, refl, arith}
+use Rattle.std.proofs.Common.{◌≡◌, ◌≢◌, ◌∙◌, ap, sym, subst, ℕ, zero, suc, ◌+◌, ◌*◌, ◌<◌, ◌≤◌, Bool, true, false, List, [], ◌∷◌, ◌++◌, length, take, drop, Option, Some, None, refl, arith}
 use Rattle.std.proofs.lemmas.List.{append-nil, append_assoc, length-append, length-take-le, take-append-drop, take-append-le}
 use Rattle.std.specs.Option.{option_map_or}
 use Rattle.std.specs.Prelude.{fold, ◌==◌}
-use Rattle.hs_cluster.proofs.SaneHoles.{after_reports, appended_beside, appended_stays, floor_within, growing_beside, growing_without_call, next_job}
+use Rattle.hs_moments.proofs.SaneLemmas.{after_reports, appended_beside, appended_stays, growing_beside, growing_without_call}
+use Rattle.hs_moments.proofs.WorkLemmas.{next_job, floor_within}
 use Rattle.hs_cluster.specs.Jobs.{is_own, list_after, sealed_list, waiting_after}
 use Rattle.hs_cluster.specs.Kept.{sealed_front}
-use Rattle.hs_cluster.specs.SaneStub.{HasReported, IsBehind, IsNextEntry, IsSane, NextJob, SealsNext, appended_of}
+use Rattle.hs_events.specs.Sane.{IsSane, appended_of}
+use Rattle.hs_moments.specs.Working.{HasReported, IsBehind, NextJob, SealsNext}
 use Rattle.hs_core.specs.declared.event.Event.{Event}
 use Rattle.hs_core.specs.declared.event.Event.TheVariants as event
 use Rattle.hs_core.specs.Looking.{first_job}
@@ -94,8 +96,14 @@ last_more es n e plain = go (record { view = 0; number = 0 }) es
 
 -- ---- before a job
 
+-- a peer of a store of one copy a shard has its shard's number
+floor_in : (c : Whole) (peer : ℕ) → IsSane c → IsPeer c.core.members.shape peer → floor c peer ≤ length (reach c peer)
+floor_in c peer sane is =
+    let one : c.core.members.shape.shards * c.core.members.shape.copies ≡ c.core.members.shape.shards * 1 = ap (λ n. c.core.members.shape.shards * n) sane.alone.copies in
+    floor_within c peer sane (omega (arith, is, one))
+
 front_length : (c : Whole) (peer : ℕ) → IsSane c → IsPeer c.core.members.shape peer → length (sealed_front c peer) ≡ floor c peer
-front_length c peer sane is = length-take-le (floor c peer) (reach c peer) (floor_within c peer sane is)
+front_length c peer sane is = length-take-le (floor c peer) (reach c peer) (floor_in c peer sane is)
 
 last_sealed : (c : Whole) (peer : ℕ) → IsSane c → IsPeer c.core.members.shape peer → IsNumbered (sealed_front c peer) → last_of (sealed_front c peer) ≡ floor c peer
 last_sealed c peer sane is numbered = last_numbered (sealed_front c peer) numbered ∙ front_length c peer sane is
@@ -276,7 +284,7 @@ done_is c peer at j told sane is kept first answer fine going =
 
     -- no more is sealed
     same_front : IsFrontOf peer (reach c peer) (reach new peer) → floor new peer ≡ floor c peer → sealed_front new peer ≡ sealed_front c peer
-    same_front front same = ap (λ n. take n (reach new peer)) same ∙ take_grown (floor c peer) (reach c peer) (reach new peer) (floor_within c peer sane is) front
+    same_front front same = ap (λ n. take n (reach new peer)) same ∙ take_grown (floor c peer) (reach c peer) (reach new peer) (floor_in c peer sane is) front
 
     read : (number : ℕ) → is_read_of number j ≡ true → IsFrontOf peer (reach c peer) (reach new peer) → floor new peer ≡ floor c peer → appended_of peer new.core ≡ None
         → (sealed_front new peer ≡ list_after j (sealed_front c peer) (appended_of peer c.core)) × (appended_of peer new.core ≡ waiting_after j (appended_of peer c.core))
@@ -308,7 +316,7 @@ done_is c peer at j told sane is kept first answer fine going =
 
 keeps_sealed : (c new : Whole) (peer : ℕ) → IsSane c → IsPeer c.core.members.shape peer → IsFrontOf peer (reach c peer) (reach new peer) → floor new peer ≡ floor c peer → appended_of peer new.core ≡ appended_of peer c.core → KeepsSealed c new peer
 keeps_sealed c new peer sane is front same appended = record {
-  sealed = ap (λ n. take n (reach new peer)) same ∙ take_grown (floor c peer) (reach c peer) (reach new peer) (floor_within c peer sane is) front;
+  sealed = ap (λ n. take n (reach new peer)) same ∙ take_grown (floor c peer) (reach c peer) (reach new peer) (floor_in c peer sane is) front;
   appended = appended;
 }
 
