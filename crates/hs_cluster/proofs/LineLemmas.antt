@@ -2,7 +2,12 @@
 use Rattle.std.proofs.Common.{◌≡◌, ◌∙◌, ap, sym, subst, ℕ, ◌≤◌, Bool, true, false, List, [], ◌∷◌, ◌++◌, Option, Some, None, refl, arith}
 use Rattle.std.specs.Prelude.{Result, Ok, Err, ⊤, is_ok, not, if◌then◌else◌}
 use Rattle.hs_cluster.proofs.EventLemmas.{does_then, nothing_done}
+use Rattle.hs_cluster.proofs.ShowLemmas.{any_shows, quiet_shows}
 use Rattle.hs_cluster.proofs.WalkLemmas.{rise_one}
+use Rattle.hs_cluster.specs.Disks.{DiskSeen, log_at}
+use Rattle.hs_cluster.specs.Kept.{Shows, Span}
+use Rattle.hs_events.specs.Asked.{report_in}
+use Rattle.hs_peerlog.specs.Lists.{Keeping}
 use Rattle.hs_cluster.specs.Calls.{Does, RunsLine, done_of, ran_out}
 use Rattle.hs_events.specs.Commands.{AreOfCommand, BeginsWith, LineAt}
 use Rattle.hs_events.specs.declared.due.Due.{Due}
@@ -120,3 +125,17 @@ runs_settle name line before now old new r Kept walks = record { events = walks.
 pub runs_also : (name : List ℕ → Address) (line : ℕ) (asked : Command) (before now : ℕ) (old new : Running) (r : Result ⊤ ClusterFault) (Kept Also : Events → Type 0) → ((es : Events) → Kept es → Also es)
     → RunsLine name line asked before now old new r Kept → RunsLine name line asked before now old new r Also
 runs_also name line asked before now old new r Kept Also f runs = record { events = runs.events; due = runs.due; rises = runs.rises; does = runs.does; kept = f runs.events runs.kept }
+
+-- a line that is one event without a call, whatever the disks
+pub runs_quiet : (name : List ℕ → Address) (line : ℕ) (asked meant : Command) (now : ℕ) (old new : Running) (disks : List DiskSeen) (r : Result ⊤ ClusterFault) (e : Event) → asked ≡ meant
+    → (BeginsWith (record { line = line; core = old.core; events = done_of r (e, now); whole = is_ok r }) e (λ core. None) → AreOfCommand name (record { line = line; core = old.core; events = done_of r (e, now); whole = is_ok r }) meant)
+    → report_in e ≡ None → old.core.ended ≡ None → Does (done_of r (e, now)) old new r → ((p : ℕ) (keeping : Keeping) → log_at new.logs p ≡ Some keeping → log_at old.logs p ≡ Some keeping)
+    → RunsLine name line asked now now old new r (Shows ⊤ (record { before = now; now = now; old = old; new = new; disks = disks; left = disks }) r)
+runs_quiet name line asked meant now old new disks r e same is quiet was does less =
+    let kept = quiet_shows e now old new disks r quiet was does less in
+    subst (λ c. RunsLine name line c now now old new r (Shows ⊤ (record { before = now; now = now; old = old; new = new; disks = disks; left = disks }) r)) (sym same)
+    (runs_one name line meant now now old new r e now (Shows ⊤ (record { before = now; now = now; old = old; new = new; disks = disks; left = disks }) r) is (omega arith) (omega arith) does kept)
+
+-- so for disks of any type
+pub runs_any : (tells : Type 0) (name : List ℕ → Address) (line : ℕ) (asked : Command) (before now : ℕ) (old new : Running) (span : Span) (r : Result ⊤ ClusterFault) → RunsLine name line asked before now old new r (Shows ⊤ span r) → RunsLine name line asked before now old new r (Shows tells span r)
+runs_any tells name line asked before now old new span r runs = runs_also name line asked before now old new r (Shows ⊤ span r) (Shows tells span r) (λ es shows. any_shows tells span r es shows) runs

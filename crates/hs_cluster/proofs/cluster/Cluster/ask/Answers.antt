@@ -1,0 +1,20 @@
+use Rattle.std.proofs.Common.{◌≡◌, ◌∙◌, None, ap, arith, refl, subst, sym, Some}
+use Rattle.hs_cluster.proofs.LineLemmas.{runs_quiet}
+use Rattle.hs_cluster.specs.Disks.{log_at}
+use Rattle.hs_core.specs.declared.event.Event.{Event}
+use Rattle.hs_core.specs.declared.event.Event.TheVariants as event
+use Rattle.hs_events.specs.Asked.{addressed}
+use Rattle.hs_events.specs.Commands.{BeginsWith}
+use Rattle.hs_model.specs.declared.command.Command.TheVariants as command
+use Rattle.hs_cluster.specs.Running.{Running}
+use Rattle.hs_cluster.proofs.cluster.Cluster.ask.Goals as goal
+
+pub returns-clause-runs : goal.returns-clause-runs
+returns-clause-runs g c = λ disks.
+    let name = g.A.Addresser.name c.args.naming.now in
+    let old = c.args.self.now in
+    let e : Event = event.Line c.args.line c.in_ok-op.field-0 in
+    let op = c.in_ok-op.ensures.ok ∙ ap (λ (r : Running). addressed name r.core.sessions c.args.op) c.self.view_is in
+    runs_quiet name c.args.line (command.Client c.args.op) (command.Client c.args.op) c.args.moment old c.step.new.self disks c.step.result e refl
+    (subst (λ o. BeginsWith _ e (λ core. None) → BeginsWith _ (event.Line c.args.line o) (λ core. None)) op (λ h. h)) refl c.requires.going c.step.ensures.does
+    (λ p keeping at. subst (λ l. log_at l p ≡ Some keeping) c.step.ensures.logs at)
