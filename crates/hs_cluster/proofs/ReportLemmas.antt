@@ -14,6 +14,7 @@ use Rattle.hs_core.specs.State.{Core}
 use Rattle.hs_core.specs.Step.{step}
 use Rattle.hs_desk.specs.declared.done.Done.{Done}
 use Rattle.hs_desk.specs.declared.job.Job.{Job}
+use Rattle.hs_entry.specs.declared.entry.Entry.{Entry}
 use Rattle.hs_events.proofs.GoingLemmas.{step_goes}
 use Rattle.hs_events.specs.Asked.{failed_disk}
 use Rattle.hs_events.specs.Course.{is_refused}
@@ -80,7 +81,7 @@ module _ (c : Whole) (w : Working) (sane : IsSane c) (is : IsPeer c.core.members
   abbrev list : Numbered
   list = sealed_front c w.peer
 
-  abbrev waiting : Option _
+  abbrev waiting : Option Entry
   waiting = appended_of w.peer c.core
 
   count_stands : length w.left ≡ length w.disks → length (stands_of w.left) ≡ length (stands_of w.disks)
@@ -118,7 +119,7 @@ module _ (c : Whole) (w : Working) (sane : IsSane c) (is : IsPeer c.core.members
 
   -- ---- its report
 
-  module _ (done : Done) (at : ℕ) (E : Type 0) (works : Works w (first_job w.peer c.core) (Ok {E = E} done)) (answer : is_answer c.core w.peer done ≡ true) where
+  module _ (done : Done) (at : ℕ) (E : Type 0) (works : Works {E = E} w (first_job w.peer c.core) (Ok done)) (answer : is_answer c.core w.peer done ≡ true) where
     abbrev after : Whole
     after = step_whole (event.Report w.peer done) at c
 
@@ -128,12 +129,12 @@ module _ (c : Whole) (w : Working) (sane : IsSane c) (is : IsPeer c.core.members
       keeping : Keeping
       first : first_job w.peer c.core ≡ Some j
       has : HasLog keeping (disk_at (stands_of w.disks) w.peer) list waiting
-      leaves : Leaves (try_of w) j list waiting (Ok {E = E} done)
+      leaves : Leaves {E = E} (try_of w) j list waiting (Ok done)
 
     did : Did
     did = go (first_job w.peer c.core) refl (log_at w.logs w.peer) refl
       where
-        tries : Tries (try_of w) (first_job w.peer c.core) (Ok {E = E} done)
+        tries : Tries {E = E} (try_of w) (first_job w.peer c.core) (Ok done)
         tries = works.tries (keeps.called w.peer)
 
         go : (todo : Option Job) → first_job w.peer c.core ≡ todo → (slot : Option Keeping) → log_at w.logs w.peer ≡ slot → Did

@@ -52,14 +52,14 @@ runs_core c (e ∷ es) = runs_core (step_whole e.0 e.1 c) es
 -- a core that has ended stays, so what a core that goes on has behind it was not refused
 goes_unrefused : (core : Core) (es : Events) → (steps core es).ended ≡ None → is_refused core.ended ≡ false
 goes_unrefused core [] h = ap is_refused h
-goes_unrefused core (e ∷ es) h = go core.ended refl
+goes_unrefused core (e ∷ es) h = go (goes_unrefused core es) core.ended refl
   where
-    go : (o : Option CoreFault) → core.ended ≡ o → is_refused core.ended ≡ false
-    go None is = ap is_refused is
-    go (Some fault) is =
+    go : ((steps core es).ended ≡ None → is_refused core.ended ≡ false) → (o : Option CoreFault) → core.ended ≡ o → is_refused core.ended ≡ false
+    go ih None is = ap is_refused is
+    go ih (Some fault) is =
         let ended : is_none core.ended ≡ false = ap is_none is in
         let same : step e.0 e.1 core ≡ core = rw ended refl in
-        goes_unrefused core es (ap (λ x. (steps x es).ended) (sym same) ∙ h)
+        ih (ap (λ x. (steps x es).ended) (sym same) ∙ h)
 
 happened_then : (core : Core) (es fs : Events) → (steps core es).ended ≡ None → happened core (es ++ fs) ≡ es ++ happened (steps core es) fs
 happened_then core [] fs h = refl
@@ -275,14 +275,14 @@ job_cut tells before now peer old new after disks left {E = E} result is since w
 -- the job was done, and its report came, unless memory ran out or it was refused
 pub job_shows : (tells : Type 0) (before now peer : ℕ) (old new : Running) (after : List (Option Keeping)) (disks left : List DiskSeen) (E : Type 0) (done : Done) (r : Result ⊤ ClusterFault) → IsPeer old.core.members.shape peer
     → old.core.ended ≡ None → is_answer old.core peer done ≡ true → (tells → Since (stands_of disks))
-    → (tells → is_own (first_job peer old.core) ≡ true → Works (record { peer = peer; before = before; now = now; logs = old.logs; after = after; disks = disks; left = left }) (first_job peer old.core) (Ok {E = E} done))
+    → (tells → is_own (first_job peer old.core) ≡ true → Works {E = E} (record { peer = peer; before = before; now = now; logs = old.logs; after = after; disks = disks; left = left }) (first_job peer old.core) (Ok done))
     → new.logs ≡ after → Does (done_of r (event.Report peer done, now)) old new r
     → Shows tells (record { before = before; now = now; old = old; new = new; disks = disks; left = left }) r (done_of r (event.Report peer done, now))
 job_shows tells before now peer old new after disks left E done r is was answer since works kept does = record {
   lists = λ told c core can.
       let low : IsPeer c.core.members.shape peer = subst (λ (x : Core). IsPeer x.members.shape peer) (sym core) is in
       let done_then = did told c core can in
-      let call = call_fine c w can.sane low can.listed can.keeps (Ok {E = E} done) done_then in
+      let call = call_fine c w can.sane low can.listed can.keeps (Ok done) done_then in
       let answers : is_answer c.core peer done ≡ true = subst (λ x. is_answer x peer done ≡ true) (sym core) answer in
       record {
         earlier = call_earlier c before now peer (stands_of disks) (stands_of left) (since told) can.keeps call;
@@ -301,11 +301,11 @@ job_shows tells before now peer old new after disks left E done r is was answer 
     w : Working
     w = record { peer = peer; before = before; now = now; logs = old.logs; after = after; disks = disks; left = left }
 
-    did : tells → (c : Whole) → c.core ≡ old.core → CanGoOn c old.logs disks before → Works w (first_job peer c.core) (Ok {E = E} done)
+    did : tells → (c : Whole) → c.core ≡ old.core → CanGoOn c old.logs disks before → Works {E = E} w (first_job peer c.core) (Ok done)
     did told c core can =
         let low : IsPeer c.core.members.shape peer = subst (λ (x : Core). IsPeer x.members.shape peer) (sym core) is in
         let own : is_own (first_job peer old.core) ≡ true = subst (λ x. is_own (first_job peer x) ≡ true) core (own_job c peer can.sane) in
-        subst (λ x. Works w (first_job peer x) (Ok {E = E} done)) (sym core) (works told own)
+        subst (λ x. Works {E = E} w (first_job peer x) (Ok done)) (sym core) (works told own)
 
     keeps_then : tells → (c : Whole) → c.core ≡ old.core → CanGoOn c old.logs disks before → is_refused (step e now c.core).ended ≡ false → Keeps whole_machine IsFrontOf last_of (step_whole e now c) now (stands_of left)
     keeps_then told c core can there =
@@ -314,7 +314,7 @@ job_shows tells before now peer old new after disks left E done r is was answer 
         let answers : is_answer c.core peer done ≡ true = subst (λ x. is_answer x peer done ≡ true) (sym core) answer in
         call-keeps whole_machine IsFrontOf last_of c (step_whole e now c) before now peer (stands_of disks) (stands_of left) (λ image. counts c peer ≡ true → GivesFine whole_machine IsFrontOf last_of c peer image)
         (λ k differs. growing_beside c done now peer k can.sane answers differs there)
-        (call_fine c w can.sane low can.listed can.keeps (Ok {E = E} done) done_then)
+        (call_fine c w can.sane low can.listed can.keeps (Ok done) done_then)
         (λ counted image stands. report_fine c w can.sane low can.listed can.keeps done now E done_then answers there image stands)
         can.keeps
 
@@ -341,7 +341,7 @@ moments_then : (c : Whole) (es fs : Events) (before mid now : ℕ) (between left
     → ((k m : ℕ) (side : Side) → m ≤ mid → m < 2 ^ 64 - 1 → (disk_at left k).past m side ≡ (disk_at between k).past m side)
     → ListsAtMoments whole_machine IsFrontOf last_of c es before mid between → ListsAtMoments whole_machine IsFrontOf last_of (runs whole_machine c es) fs mid now left
     → ListsAtMoments whole_machine IsFrontOf last_of c (es ++ fs) before now left
-moments_then c es fs before mid now between left rise then earlier one two = record {
+moments_then c es fs before mid now between left rise on earlier one two = record {
   fine = λ m k low high fits counted image is_left. elim (cases_lt mid m) [
     | inl above ↦ late m k above high fits counted image is_left
     | inr le ↦ early m k low le fits counted image is_left
@@ -357,7 +357,7 @@ moments_then c es fs before mid now between left rise then earlier one two = rec
     early : (m k : ℕ) → before < m → m ≤ mid → m < 2 ^ 64 - 1 → counts (state_at whole_machine c (es ++ fs) m) k ≡ true → (image : Side → List ℕ) → IsLeft (disk_at left k) m image
         → GivesFine whole_machine IsFrontOf last_of (state_at whole_machine c (es ++ fs) m) k image
     early m k low le fits counted image is_left =
-        let same : state_at whole_machine c (es ++ fs) m ≡ state_at whole_machine c es m = ap (λ xs. runs whole_machine c xs) (until_low m mid now es fs le then) in
+        let same : state_at whole_machine c (es ++ fs) m ≡ state_at whole_machine c es m = ap (λ xs. runs whole_machine c xs) (until_low m mid now es fs le on) in
         subst (λ s. GivesFine whole_machine IsFrontOf last_of s k image) (sym same)
         (one.fine m k low le fits (subst (λ s. counts s k ≡ true) same counted) image (record { sides = λ side. subst (λ x. IsImage x (image side)) (earlier k m side le fits) (is_left.sides side) }))
 
@@ -365,7 +365,7 @@ pub shows_then : (tells : Type 0) (before mid now : ℕ) (old here new : Running
     → Shows tells (record { before = before; now = mid; old = old; new = here; disks = disks; left = between }) (Ok tt) es
     → Shows tells (record { before = mid; now = now; old = here; new = new; disks = between; left = left }) r fs
     → Shows tells (record { before = before; now = now; old = old; new = new; disks = disks; left = left }) r (es ++ fs)
-shows_then tells before mid now old here new disks between left r es fs does rise then first second = record {
+shows_then tells before mid now old here new disks between left r es fs does rise on first second = record {
   lists = λ told c core can.
       let one = first.lists told c core can in
       let two = second.lists told (runs whole_machine c es) (core_then c core) (first.goes_on told c core can) in
@@ -374,7 +374,7 @@ shows_then tells before mid now old here new disks between left r es fs does ris
       record {
         earlier = λ k m side low fits. two.earlier k m side (let ticks = rises_to before mid es rise in omega (arith, low, ticks)) fits ∙ one.earlier k m side low fits;
         moments = subst (λ xs. ListsAtMoments whole_machine IsFrontOf last_of c xs before now (stands_of left)) (sym all)
-            (moments_then c es (happened (runs whole_machine c es).core fs) before mid now (stands_of between) (stands_of left) rise (happened_rise (runs whole_machine c es).core mid now fs then) two.earlier
+            (moments_then c es (happened (runs whole_machine c es).core fs) before mid now (stands_of between) (stands_of left) rise (happened_rise (runs whole_machine c es).core mid now fs on) two.earlier
             (subst (λ xs. ListsAtMoments whole_machine IsFrontOf last_of c xs before mid (stands_of between)) mine one.moments) two.moments);
         keeps = subst (λ s. Keeps whole_machine IsFrontOf last_of s now (stands_of left)) (sym (ap (λ xs. runs whole_machine c xs) all ∙ runs_append c es (happened (runs whole_machine c es).core fs))) two.keeps;
         told = told_then c es fs one.told two.told;

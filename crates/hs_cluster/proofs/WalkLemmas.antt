@@ -39,6 +39,13 @@ deliver_is_it line core peer message = rw (same_number line) (same_number messag
 pub nudge_is_it : (line : ℕ) (core : Core) (peer : ℕ) → is_it line core (Nudging peer) (event.Nudge line peer) ≡ true
 nudge_is_it line core peer = rw (same_number line) (same_number peer)
 
+-- by what is due
+pub deliver_of : (line : ℕ) (core : Core) (d : Due) (peer message : ℕ) → d ≡ Handling peer message → is_it line core d (event.Deliver line message) ≡ true
+deliver_of line core d peer message is = subst (λ x. is_it line core x (event.Deliver line message) ≡ true) (sym is) (deliver_is_it line core peer message)
+
+pub nudge_of : (line : ℕ) (core : Core) (d : Due) (peer : ℕ) → d ≡ Nudging peer → is_it line core d (event.Nudge line peer) ≡ true
+nudge_of line core d peer is = subst (λ x. is_it line core x (event.Nudge line peer) ≡ true) (sym is) (nudge_is_it line core peer)
+
 -- ---- moments
 
 pub rise_then : (from mid to : ℕ) (es fs : Events) → MomentsRise from es mid → MomentsRise mid fs to → MomentsRise from (es ++ fs) to

@@ -22,7 +22,7 @@ returns-in_err-move_on-clause-walks g c =
     subst (λ r. RunsWalk c.args.nudges c.args.line c.args.watch.now c.move_on.new.watch c.args.self.now c.move_on.new.self r (Shows g.D.Disk.tells (record { before = c.args.watch.now; now = c.move_on.new.watch; old = c.args.self.now; new = c.move_on.new.self; disks = map f c.args.disks.now; left = map f c.move_on.new.disks }) r))
     (sym (p.1 ∙ ap (λ (e : ClusterFault). Err e) p.2)) (one_last _ _ _ _ _ _ _ _ _ _ _ _ _ _ c.loop-step.invariant.walked
     (ap (λ (r : Running). due_with c.args.nudges c.loop-step.place r.core) (sym c.self.view_is) ∙ sym c.due_of.ensures.value ∙ c.in-Some.is) c.in_err-move_on.ensures.does
-    (λ es fs d rise then one two. shows_then g.D.Disk.tells c.args.watch.now c.loop-step.watch c.move_on.new.watch c.args.self.now c.loop-step.self c.move_on.new.self (map f c.args.disks.now) (map f c.loop-step.disks) (map f c.move_on.new.disks) _ es fs d rise then one two))
+    (λ es fs d rise on one two. shows_then g.D.Disk.tells c.args.watch.now c.loop-step.watch c.move_on.new.watch c.args.self.now c.loop-step.self c.move_on.new.self (map f c.args.disks.now) (map f c.loop-step.disks) (map f c.move_on.new.disks) _ es fs d rise on one two))
 
 pub loop-step-preserved : goal.loop-step-preserved
 loop-step-preserved g c =
@@ -41,7 +41,7 @@ loop-step-preserved g c =
     record {
       walked = subst (λ (p : Place). HasWalked c.args.nudges c.args.line c.args.watch.now c.move_on.new.watch c.args.self.now new p
           (Shows g.D.Disk.tells (record { before = c.args.watch.now; now = c.move_on.new.watch; old = c.args.self.now; new = new; disks = map f c.args.disks.now; left = map f c.move_on.new.disks }) (Ok tt))) (sym next)
-          (one_more _ _ _ _ _ _ _ _ _ _ _ _ _ inv.walked is does (λ es fs d rise then one two. shows_then g.D.Disk.tells c.args.watch.now c.loop-step.watch c.move_on.new.watch c.args.self.now c.loop-step.self c.move_on.new.self (map f c.args.disks.now) (map f c.loop-step.disks) (map f c.move_on.new.disks) (Ok tt) es fs d rise then one two));
+          (one_more _ _ _ _ _ _ _ _ _ _ _ _ _ inv.walked is does (λ es fs d rise on one two. shows_then g.D.Disk.tells c.args.watch.now c.loop-step.watch c.move_on.new.watch c.args.self.now c.loop-step.self c.move_on.new.self (map f c.args.disks.now) (map f c.loop-step.disks) (map f c.move_on.new.disks) (Ok tt) es fs d rise on one two));
       going = still_going _ _ _ does.does;
       ready = c.in_ok-move_on.ensures.ready;
       count = c.move_on.ensures.count ∙ inv.count;

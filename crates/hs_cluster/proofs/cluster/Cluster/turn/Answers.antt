@@ -41,7 +41,7 @@ returns-in-Some-clause-runs g c = λ name.
     let is : turn_behind c.args.peer mid.core ≡ Some c.in-Some.due = ap (λ (r : Running). turn_behind c.args.peer r.core) (sym c.self.view_is) ∙ sym c.turn_behind.ensures.value ∙ c.in-Some.is in
     let one = any_shows g.D.Disk.tells _ (Ok tt) _ (quiet_shows e start old mid (map f c.args.disks.now) (Ok tt) refl c.requires.going first (λ p keeping at. subst (λ l. log_at l p ≡ Some keeping) c.step.ensures.logs at)) in
     runs_turn name c.args.line c.args.peer start c.do_due.new.watch start old mid new c.in-Some.due r _ _ (omega arith) first is c.do_due.ensures.does
-    (λ fs rise then. shows_then g.D.Disk.tells start start c.do_due.new.watch old mid new (map f c.args.disks.now) (map f c.args.disks.now) (map f c.do_due.new.disks) r ((e, start) ∷ []) fs first (omega arith, omega arith) rise one then)
+    (λ fs rise on. shows_then g.D.Disk.tells start start c.do_due.new.watch old mid new (map f c.args.disks.now) (map f c.args.disks.now) (map f c.do_due.new.disks) r ((e, start) ∷ []) fs first (omega arith, omega arith) rise one on)
 
 pub returns-in-None-clause-runs : goal.returns-in-None-clause-runs
 returns-in-None-clause-runs g c = λ name.
