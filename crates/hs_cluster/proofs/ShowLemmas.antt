@@ -6,7 +6,7 @@ use Rattle.hs_cluster.proofs.EventLemmas.{still_going}
 use Rattle.hs_cluster.proofs.ReportLemmas.{call_fine, report_fine, report_logs, report_told}
 use Rattle.hs_moments.proofs.SaneLemmas.{growing_beside, growing_without_call, sane_stays}
 use Rattle.hs_cluster.proofs.HeldLemmas.{own_job, sealed_stays}
-use Rattle.hs_cluster.specs.Calls.{Does, done_of, ran_out}
+use Rattle.hs_cluster.specs.Calls.{Does, done_of, outcome_by, ran_out}
 use Rattle.hs_cluster.specs.declared.fault.ClusterFault.{ClusterFault}
 use Rattle.hs_cluster.specs.declared.fault.ClusterFault.TheVariants.{NoMemory}
 use Rattle.hs_cluster.specs.Disks.{DiskSeen, log_at, stands_of}
@@ -400,4 +400,14 @@ does_same es was old new r core course d = record {
   core = λ h. d.core h ∙ ap (λ c. steps c es) core;
   outcome = d.outcome;
   going = λ h. sym (ap (λ c. (steps c es).ended) core) ∙ d.going h;
+}
+
+pub does_after : (es : Events) (old new after : Running) (r : Result ⊤ ClusterFault) → after.core ≡ new.core → after.course ≡ new.course → Does es old new r → Does es old after r
+does_after es old new after r core course d = record {
+  course = course ∙ d.course;
+  journal = ap (λ (c : Core). c.journal) core ∙ d.journal;
+  refused = ap (λ (c : Core). c.refused) core ∙ d.refused;
+  core = λ h. core ∙ d.core h;
+  outcome = λ h. d.outcome h ∙ ap (λ (c : Core). outcome_by c.ended) (sym core);
+  going = d.going;
 }

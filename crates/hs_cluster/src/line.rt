@@ -132,11 +132,22 @@ impl Cluster {
         ensures moment { self.new.core.moment ≤ moment }
     {
         self.step(Event::Fail { line, peer }, moment)?;
+        self.put_out(peer);
+        Ok(())
+    }
+
+    /// The disk of a peer is out of use.
+    #[tactic(auto, using(crate::proofs::DiskLemmas::dropped_fewer))]
+    fn put_out(&mut self, peer: u8)
+        ensures core { self.new.core ≡ self.old.core }
+        ensures course { self.new.course ≡ self.old.course }
+        ensures logs { (p : ℕ) (keeping : Keeping) → log_at self.new.logs p ≡ Some keeping
+            → log_at self.old.logs p ≡ Some keeping }
+    {
         let place = usize::from(peer);
         if place < self.logs.len() {
             self.logs[place] = None;
         }
-        Ok(())
     }
 
     /// A turn of a peer, where it is not refused: its first job with its report, else the handling

@@ -22,7 +22,7 @@ returns-in_default-clause-does g c = λ line.
     (ap (λ (r : Running). r.course) c.self.view_is) (ap (λ (r : Running). r.core) c.self.view_is)
     (job_cut g.D.Disk.tells c.args.watch.now c.do_job-done.new.watch c.args.peer c.args.self.now _ c.do_job-done.new.logs.items (map f c.args.disks.now) (map f c.do_job-done.new.disks) c.do_job-done.result c.requires.peer
     (λ told. since_of f c.args.disks.now (g.met.D.Disk.since told))
-    (λ told. subst (λ (r : Running). is_own (first_job c.args.peer r.core) ≡ true → Works (record {
+    (λ told. subst (λ (r : Running). is_own (first_job c.args.peer r.core) ≡ true → Works {E = ClusterFault} (record {
         peer = c.args.peer;
         before = c.args.watch.now;
         now = c.do_job-done.new.watch;
@@ -47,7 +47,7 @@ returns-clause-does g c = λ line.
     event_due line (Reporting c.args.peer) c.args.watch.now now old new e now c.step.result _ (report_is_it line old.core c.args.peer c.in-Ok.done answer) c.do_job-done.ensures.ticks (omega arith) does
     (job_shows g.D.Disk.tells c.args.watch.now now c.args.peer old new c.do_job-done.new.logs.items (map f c.args.disks.now) (map f c.do_job-done.new.disks) ClusterFault c.in-Ok.done c.step.result c.requires.peer c.requires.going answer
     (λ told. since_of f c.args.disks.now (g.met.D.Disk.since told))
-    (λ told. subst (λ (r : Running). is_own (first_job c.args.peer r.core) ≡ true → Works (record {
+    (λ told. subst (λ (r : Running). is_own (first_job c.args.peer r.core) ≡ true → Works {E = ClusterFault} (record {
         peer = c.args.peer;
         before = c.args.watch.now;
         now = c.do_job-done.new.watch;

@@ -22,11 +22,12 @@ returns-in_err-step-clause-runs g c = λ name.
     let new = c.step.new.self in
     let start = c.args.watch.now in
     let e : Event = event.Turn c.args.line c.args.peer in
-    let does = subst (λ k. Does (done_of (Err _) (e, k)) old new (Err _)) c.now.ensures.value c.in_err-step.ensures.does in
+    let fault = c.in_err-step.field-0.0 in
+    let does : Does (done_of (Err fault) (e, start)) old new (Err fault) = subst (λ k. Does (done_of (Err fault) (e, k)) old new (Err fault)) c.now.ensures.value c.in_err-step.ensures.does in
     subst (λ r. RunsLine name c.args.line (command.Turn c.args.peer) start start old new r (Shows g.D.Disk.tells (record { before = start; now = start; old = old; new = new; disks = map f c.args.disks.now; left = map f c.args.disks.now }) r))
     (sym (p.1 ∙ ap (λ (x : ClusterFault). Err x) p.2))
-    (runs_turn_cut name c.args.line c.args.peer start start start old new _ _ (omega arith) (omega arith) does
-    (any_shows g.D.Disk.tells _ _ _ (quiet_shows e start old new (map f c.args.disks.now) _ refl c.requires.going does (λ p keeping at. subst (λ l. log_at l p ≡ Some keeping) c.step.ensures.logs at))))
+    (runs_turn_cut name c.args.line c.args.peer start start start old new fault _ (omega arith) (omega arith) does
+    (any_shows g.D.Disk.tells (record { before = start; now = start; old = old; new = new; disks = map f c.args.disks.now; left = map f c.args.disks.now }) (Err fault) (done_of (Err fault) (e, start)) (quiet_shows e start old new (map f c.args.disks.now) (Err fault) refl c.requires.going does (λ p keeping at. subst (λ l. log_at l p ≡ Some keeping) c.step.ensures.logs at))))
 
 pub returns-in-Some-clause-runs : goal.returns-in-Some-clause-runs
 returns-in-Some-clause-runs g c = λ name.
