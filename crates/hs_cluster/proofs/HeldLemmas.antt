@@ -296,15 +296,17 @@ done_is c peer at j told sane is kept first answer fine going =
     go : (d : Done) → answers peer j d ≡ true → failed_disk d ≡ None → HasReported c new peer d → IsFrontOf peer (reach c peer) (reach new peer)
         → (sealed_front new peer ≡ list_after j (sealed_front c peer) (appended_of peer c.core)) × (appended_of peer new.core ≡ waiting_after j (appended_of peer c.core))
     go (done.Stored number) a f h front =
-        let appends = append_is number j a in
-        (same_front front h.0 ∙ ap (λ x. list_after x (sealed_front c peer) (appended_of peer c.core)) (sym appends.1),
-            h.1 appends.0 (first ∙ ap (λ x. Some x) appends.1) ∙ ap (λ x. waiting_after x (appended_of peer c.core)) (sym appends.1))
+        let appends = append_is number j a in (
+          same_front front h.0 ∙ ap (λ x. list_after x (sealed_front c peer) (appended_of peer c.core)) (sym appends.1),
+          h.1 appends.0 (first ∙ ap (λ x. Some x) appends.1) ∙ ap (λ x. waiting_after x (appended_of peer c.core)) (sym appends.1),
+        )
     go (done.Sealed number) a f h front =
         let seals : j ≡ job.Seal number = seal_is number j a in
         let n : SealsNext c peer number = subst (λ x. NextJob c peer x) seals next in
-        let s = sealing c peer number sane is kept n in
-        (ap (λ k. take k (reach new peer)) h.0 ∙ take_grown number (reach c peer) (reach new peer) (seal_within c peer number sane is n) front ∙ sym s.list ∙ ap (λ x. list_after x (sealed_front c peer) (appended_of peer c.core)) (sym seals),
-            h.1 ∙ ap (λ x. waiting_after x (appended_of peer c.core)) (sym seals))
+        let s = sealing c peer number sane is kept n in (
+          ap (λ k. take k (reach new peer)) h.0 ∙ take_grown number (reach c peer) (reach new peer) (seal_within c peer number sane is n) front ∙ sym s.list ∙ ap (λ x. list_after x (sealed_front c peer) (appended_of peer c.core)) (sym seals),
+          h.1 ∙ ap (λ x. waiting_after x (appended_of peer c.core)) (sym seals),
+        )
     go (done.Bytes number bytes) a f h front = read number a front h.0 h.1
     go (done.Gone number) a f h front = read number a front h.0 h.1
     go done.Emptied a f h front = absurd h

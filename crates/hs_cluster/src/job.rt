@@ -47,13 +47,13 @@ pub(crate) fn do_job<D: Disk>(
     ensures disks { length disks.new ≡ length disks.old }
     // A job that needs the log of its peer alone: what it leaves of its disk, and of no other.
     ensures works { D.tells → is_own (first_job peer core.now) ≡ true → Works (record {
-        peer = peer;
-        before = watch.old;
-        now = watch.new;
-        logs = logs.old.items;
-        after = logs.new.items;
-        disks = map (λ disk. seen_as (D.size disk) (D.stands disk) (D.faults disk)) disks.old;
-        left = map (λ disk. seen_as (D.size disk) (D.stands disk) (D.faults disk)) disks.new;
+      peer = peer;
+      before = watch.old;
+      now = watch.new;
+      logs = logs.old.items;
+      after = logs.new.items;
+      disks = map (λ disk. seen_as (D.size disk) (D.stands disk) (D.faults disk)) disks.old;
+      left = map (λ disk. seen_as (D.size disk) (D.stands disk) (D.faults disk)) disks.new;
     }) (first_job peer core.now) result }
     ensures ticks { watch.old ≤ watch.new }
 {
@@ -145,12 +145,12 @@ fn do_usual<D: Disk>(
     ensures ready { OnOk result
         (IsSlotReady D.tells slot.new (D.size disk.new) (D.stands disk.new)) }
     ensures tries { D.tells → (D.stands disk.old).last ≤ watch.old → Tries (record {
-        before = watch.old;
-        now = watch.new;
-        slot = slot.old;
-        kept = slot.new;
-        old = D.stands disk.old;
-        new = D.stands disk.new;
+      before = watch.old;
+      now = watch.new;
+      slot = slot.old;
+      kept = slot.new;
+      old = D.stands disk.old;
+      new = D.stands disk.new;
     }) (Some job.now) result }
     ensures ticks { watch.old ≤ watch.new }
 {

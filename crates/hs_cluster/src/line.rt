@@ -41,12 +41,12 @@ impl Cluster {
             → RunsLine (A.name naming.now) line command watch.old watch.new
             self.old self.new result
             (Shows D.tells (record {
-                before = watch.old;
-                now = watch.new;
-                old = self.old;
-                new = self.new;
-                disks = map (λ disk. seen_as (D.size disk) (D.stands disk) (D.faults disk)) disks.old;
-                left = map (λ disk. seen_as (D.size disk) (D.stands disk) (D.faults disk)) disks.new;
+              before = watch.old;
+              now = watch.new;
+              old = self.old;
+              new = self.new;
+              disks = map (λ disk. seen_as (D.size disk) (D.stands disk) (D.faults disk)) disks.old;
+              left = map (λ disk. seen_as (D.size disk) (D.stands disk) (D.faults disk)) disks.new;
             }) result) }
         ensures ended { (fault : CoreFault) → self.old.core.ended ≡ Some fault
             → (result ≡ Err (of_core fault)) × (self.new ≡ self.old)
@@ -97,12 +97,12 @@ impl Cluster {
         ensures runs { (disks : List DiskSeen) → RunsLine (A.name naming.now) line
             (command.Client op) moment moment self.old self.new result
             (Shows ⊤ (record {
-                before = moment;
-                now = moment;
-                old = self.old;
-                new = self.new;
-                disks = disks;
-                left = disks;
+              before = moment;
+              now = moment;
+              old = self.old;
+              new = self.new;
+              disks = disks;
+              left = disks;
             }) result) }
         ensures logs { self.new.logs ≡ self.old.logs }
         ensures shape { self.new.core.members.shape ≡ self.old.core.members.shape }
@@ -119,12 +119,12 @@ impl Cluster {
         ensures runs { (name : List ℕ → Address) (disks : List DiskSeen)
             → RunsLine name line (command.Fail peer) moment moment self.old self.new result
             (Shows ⊤ (record {
-                before = moment;
-                now = moment;
-                old = self.old;
-                new = self.new;
-                disks = disks;
-                left = disks;
+              before = moment;
+              now = moment;
+              old = self.old;
+              new = self.new;
+              disks = disks;
+              left = disks;
             }) result) }
         ensures logs { (p : ℕ) (keeping : Keeping) → log_at self.new.logs p ≡ Some keeping
             → log_at self.old.logs p ≡ Some keeping }
@@ -168,12 +168,12 @@ impl Cluster {
         ensures runs { (name : List ℕ → Address) → RunsLine name line (command.Turn peer)
             watch.old watch.new self.old self.new result
             (Shows D.tells (record {
-                before = watch.old;
-                now = watch.new;
-                old = self.old;
-                new = self.new;
-                disks = map (λ disk. seen_as (D.size disk) (D.stands disk) (D.faults disk)) disks.old;
-                left = map (λ disk. seen_as (D.size disk) (D.stands disk) (D.faults disk)) disks.new;
+              before = watch.old;
+              now = watch.new;
+              old = self.old;
+              new = self.new;
+              disks = map (λ disk. seen_as (D.size disk) (D.stands disk) (D.faults disk)) disks.old;
+              left = map (λ disk. seen_as (D.size disk) (D.stands disk) (D.faults disk)) disks.new;
             }) result) }
         ensures ready { OnOk result (AreReady D.tells self.new.logs
             (map (λ disk. seen_as (D.size disk) (D.stands disk) (D.faults disk)) disks.new)) }

@@ -35,12 +35,12 @@ impl Cluster {
             (map (λ disk. seen_as (D.size disk) (D.stands disk) (D.faults disk)) disks.old) }
         ensures walks { RunsWalk nudges line watch.old watch.new self.old self.new result
             (Shows D.tells (record {
-                before = watch.old;
-                now = watch.new;
-                old = self.old;
-                new = self.new;
-                disks = map (λ disk. seen_as (D.size disk) (D.stands disk) (D.faults disk)) disks.old;
-                left = map (λ disk. seen_as (D.size disk) (D.stands disk) (D.faults disk)) disks.new;
+              before = watch.old;
+              now = watch.new;
+              old = self.old;
+              new = self.new;
+              disks = map (λ disk. seen_as (D.size disk) (D.stands disk) (D.faults disk)) disks.old;
+              left = map (λ disk. seen_as (D.size disk) (D.stands disk) (D.faults disk)) disks.new;
             }) result) }
         ensures ready { OnOk result (AreReady D.tells self.new.logs
             (map (λ disk. seen_as (D.size disk) (D.stands disk) (D.faults disk)) disks.new)) }
@@ -82,12 +82,12 @@ impl Cluster {
             (map (λ disk. seen_as (D.size disk) (D.stands disk) (D.faults disk)) disks.old) }
         ensures does { DoesDue line due watch.old watch.new self.old self.new result
             (Shows D.tells (record {
-                before = watch.old;
-                now = watch.new;
-                old = self.old;
-                new = self.new;
-                disks = map (λ disk. seen_as (D.size disk) (D.stands disk) (D.faults disk)) disks.old;
-                left = map (λ disk. seen_as (D.size disk) (D.stands disk) (D.faults disk)) disks.new;
+              before = watch.old;
+              now = watch.new;
+              old = self.old;
+              new = self.new;
+              disks = map (λ disk. seen_as (D.size disk) (D.stands disk) (D.faults disk)) disks.old;
+              left = map (λ disk. seen_as (D.size disk) (D.stands disk) (D.faults disk)) disks.new;
             }) result) }
         ensures place { OnOk result (place.new
             ≡ place_after due (raises_known self.old.core self.new.core) place.old) }
@@ -124,12 +124,12 @@ impl Cluster {
             (map (λ disk. seen_as (D.size disk) (D.stands disk) (D.faults disk)) disks.old) }
         ensures does { DoesDue line due watch.old watch.new self.old self.new result
             (Shows D.tells (record {
-                before = watch.old;
-                now = watch.new;
-                old = self.old;
-                new = self.new;
-                disks = map (λ disk. seen_as (D.size disk) (D.stands disk) (D.faults disk)) disks.old;
-                left = map (λ disk. seen_as (D.size disk) (D.stands disk) (D.faults disk)) disks.new;
+              before = watch.old;
+              now = watch.new;
+              old = self.old;
+              new = self.new;
+              disks = map (λ disk. seen_as (D.size disk) (D.stands disk) (D.faults disk)) disks.old;
+              left = map (λ disk. seen_as (D.size disk) (D.stands disk) (D.faults disk)) disks.new;
             }) result) }
         ensures ready { OnOk result (AreReady D.tells self.new.logs
             (map (λ disk. seen_as (D.size disk) (D.stands disk) (D.faults disk)) disks.new)) }
@@ -165,12 +165,12 @@ impl Cluster {
         ensures does { (line : ℕ) → DoesDue line (Reporting peer) watch.old watch.new
             self.old self.new result
             (Shows D.tells (record {
-                before = watch.old;
-                now = watch.new;
-                old = self.old;
-                new = self.new;
-                disks = map (λ disk. seen_as (D.size disk) (D.stands disk) (D.faults disk)) disks.old;
-                left = map (λ disk. seen_as (D.size disk) (D.stands disk) (D.faults disk)) disks.new;
+              before = watch.old;
+              now = watch.new;
+              old = self.old;
+              new = self.new;
+              disks = map (λ disk. seen_as (D.size disk) (D.stands disk) (D.faults disk)) disks.old;
+              left = map (λ disk. seen_as (D.size disk) (D.stands disk) (D.faults disk)) disks.new;
             }) result) }
         ensures ready { OnOk result (AreReady D.tells self.new.logs
             (map (λ disk. seen_as (D.size disk) (D.stands disk) (D.faults disk)) disks.new)) }

@@ -42,12 +42,12 @@ pub(crate) fn do_own<D: Disk>(
         → (list : Numbered) (waiting : Option Entry)
         → HasLog log.old (D.stands disk.old) list waiting
         → Leaves (record {
-            before = watch.old;
-            now = watch.new;
-            slot = Some log.old;
-            kept = Some log.new;
-            old = D.stands disk.old;
-            new = D.stands disk.new;
+          before = watch.old;
+          now = watch.new;
+          slot = Some log.old;
+          kept = Some log.new;
+          old = D.stands disk.old;
+          new = D.stands disk.new;
         }) job.now list waiting result }
     ensures ticks { watch.old ≤ watch.new }
     ensures cause { IsCaused (D.faults disk.old) (D.faults disk.new) result }

@@ -29,13 +29,13 @@ returns-in-Append-clause-works g c = λ told own.
     let place : c.from-place.result ≡ c.args.peer = grind (arith, common_steps) in
     let first : Some c.in-Some.job.now ≡ first_job c.args.peer c.args.core.now = first_of (search rules, grind (arith, common_steps)) in
     subst (λ k. Works (record {
-        peer = k;
-        before = c.args.watch.now;
-        now = c.do_usual.new.watch;
-        logs = c.args.logs.now.items;
-        after = slice_set c.args.logs.now.items c.from-place.result c.do_usual.new.slot;
-        disks = map f c.args.disks.now;
-        left = map f (slice_set c.args.disks.now c.from-place.result c.do_usual.new.disk);
+      peer = k;
+      before = c.args.watch.now;
+      now = c.do_usual.new.watch;
+      logs = c.args.logs.now.items;
+      after = slice_set c.args.logs.now.items c.from-place.result c.do_usual.new.slot;
+      disks = map f c.args.disks.now;
+      left = map f (slice_set c.args.disks.now c.from-place.result c.do_usual.new.disk);
     }) (first_job c.args.peer c.args.core.now) c.do_usual.result) place
     (works_at c.args.logs.now.items c.args.disks.now f c.from-place.result c.args.watch.now c.do_usual.new.watch c.index_mut-in-Append.result.now c.do_usual.new.slot c.index-disks-place-in-Append.result c.do_usual.new.disk
     (Some c.in-Some.job.now) (first_job c.args.peer c.args.core.now) c.do_usual.result item low_logs low first (c.do_usual.ensures.tries told))

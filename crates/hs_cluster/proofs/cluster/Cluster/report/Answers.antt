@@ -23,13 +23,13 @@ returns-in_default-clause-does g c = λ line.
     (job_cut g.D.Disk.tells c.args.watch.now c.do_job-done.new.watch c.args.peer c.args.self.now _ c.do_job-done.new.logs.items (map f c.args.disks.now) (map f c.do_job-done.new.disks) c.do_job-done.result c.requires.peer
     (λ told. since_of f c.args.disks.now (g.met.D.Disk.since told))
     (λ told. subst (λ (r : Running). is_own (first_job c.args.peer r.core) ≡ true → Works {E = ClusterFault} (record {
-        peer = c.args.peer;
-        before = c.args.watch.now;
-        now = c.do_job-done.new.watch;
-        logs = r.logs;
-        after = c.do_job-done.new.logs.items;
-        disks = map f c.args.disks.now;
-        left = map f c.do_job-done.new.disks;
+      peer = c.args.peer;
+      before = c.args.watch.now;
+      now = c.do_job-done.new.watch;
+      logs = r.logs;
+      after = c.do_job-done.new.logs.items;
+      disks = map f c.args.disks.now;
+      left = map f c.do_job-done.new.disks;
     }) (first_job c.args.peer r.core) c.do_job-done.result) c.self.view_is (c.do_job-done.ensures.works told)))
 
 pub returns-clause-does : goal.returns-clause-does
@@ -42,18 +42,18 @@ returns-clause-does g c = λ line.
     let core = ap (λ (r : Running). r.core) c.self.view_is in
     let answer : is_answer old.core c.args.peer c.in-Ok.done ≡ true = subst (λ x. is_answer x c.args.peer c.in-Ok.done ≡ true) core c.in-Ok.ensures.answer in
     let does : Does (done_of c.step.result (e, now)) old new c.step.result =
-        subst (λ k. Does (done_of c.step.result (e, k)) old new c.step.result) c.now.ensures.value
-        (does_same (done_of c.step.result (e, c.now.result)) _ old new c.step.result core (ap (λ (r : Running). r.course) c.self.view_is) c.step.ensures.does) in
+    subst (λ k. Does (done_of c.step.result (e, k)) old new c.step.result) c.now.ensures.value
+    (does_same (done_of c.step.result (e, c.now.result)) _ old new c.step.result core (ap (λ (r : Running). r.course) c.self.view_is) c.step.ensures.does) in
     event_due line (Reporting c.args.peer) c.args.watch.now now old new e now c.step.result _ (report_is_it line old.core c.args.peer c.in-Ok.done answer) c.do_job-done.ensures.ticks (omega arith) does
     (job_shows g.D.Disk.tells c.args.watch.now now c.args.peer old new c.do_job-done.new.logs.items (map f c.args.disks.now) (map f c.do_job-done.new.disks) ClusterFault c.in-Ok.done c.step.result c.requires.peer c.requires.going answer
     (λ told. since_of f c.args.disks.now (g.met.D.Disk.since told))
     (λ told. subst (λ (r : Running). is_own (first_job c.args.peer r.core) ≡ true → Works {E = ClusterFault} (record {
-        peer = c.args.peer;
-        before = c.args.watch.now;
-        now = c.do_job-done.new.watch;
-        logs = r.logs;
-        after = c.do_job-done.new.logs.items;
-        disks = map f c.args.disks.now;
-        left = map f c.do_job-done.new.disks;
+      peer = c.args.peer;
+      before = c.args.watch.now;
+      now = c.do_job-done.new.watch;
+      logs = r.logs;
+      after = c.do_job-done.new.logs.items;
+      disks = map f c.args.disks.now;
+      left = map f c.do_job-done.new.disks;
     }) (first_job c.args.peer r.core) (Ok c.in-Ok.done)) c.self.view_is (c.in-Ok.ensures.works told))
     c.step.ensures.logs does)
