@@ -1,11 +1,19 @@
 -- Logs and disks of several peers, of which one has a call.
-use Rattle.std.proofs.Common.{◌≡◌, ◌≢◌, ◌⊎◌, inl, inr, ◌∙◌, ap, sym, subst, ℕ, zero, suc, ◌<◌, List, [], ◌∷◌, Option, Some, None, map, length, refl, arith}
+use Rattle.std.proofs.Common.{◌≡◌, ◌≢◌, ◌⊎◌, inl, inr, ◌∙◌, ap, sym, subst, ℕ, zero, suc, ◌<◌, ◌≤◌, List, [], ◌∷◌, Option, Some, None, map, length, refl, arith}
 use Rattle.std.proofs.lemmas.List.{get_or-set_same, get_or-set_other, map-set}
 use Rattle.std.proofs.lemmas.Bool.{cases_eq}
 use Rattle.std.specs.Prelude.{OnOk, Result, Ok, Err, slice_index_or, slice_set}
-use Rattle.hs_cluster.specs.Disks.{AreReady, DiskSeen, IsSlotReady, log_at, seen_at}
+use Rattle.hs_cluster.specs.Disks.{AreReady, DiskSeen, IsSlotReady, log_at, seen_at, stands_of}
+use Rattle.hs_cluster.proofs.JobLemmas.{Since, leaves_err, stays_all, stays_one}
+use Rattle.hs_cluster.specs.Jobs.{Tries, Try, Works, list_after}
+use Rattle.hs_desk.specs.declared.done.Done.{Done}
+use Rattle.hs_desk.specs.declared.job.Job.{Job}
 use Rattle.hs_peerlog.specs.Lists.{IsReady, Keeping}
+use Rattle.hs_moments.specs.Moments.{Since as SinceAll}
+use Rattle.hs_ports.specs.declared.disk.Side.{Side}
+use Rattle.hs_ports.specs.Disk.{Standing}
 use Rattle.hs_ports.specs.MemoryDisk.{untold}
+use Rattle.hs_ports.specs.Moments.{disk_at}
 
 abbrev no_disk : DiskSeen
 no_disk = record { size = λ side. 0; stands = untold; faults = 0 }
@@ -81,3 +89,76 @@ at_ok (Err e) p f = tt
 pub always_ok : {T E : Type 0} {Q : Type 0} (r : Result T E) → Q → OnOk r Q
 always_ok (Ok x) q = q
 always_ok (Err e) q = tt
+
+-- ---- a job on one of the disks
+
+stands_at : {A : Type 0} (f : A → DiskSeen) (disks : List A) (k : ℕ) (d : A) → k < length disks → disk_at (stands_of (map f disks)) k ≡ (f (slice_index_or disks k d)).stands
+stands_at f [] k d low = absurd (omega (arith, low))
+stands_at f (x ∷ xs) zero d low = refl
+stands_at f (x ∷ xs) (suc k) d low = stands_at f xs k d (omega (arith, low))
+
+length_set : {A : Type 0} (xs : List A) (k : ℕ) (x : A) → length (slice_set xs k x) ≡ length xs
+length_set [] k x = refl
+length_set (y ∷ xs) zero x = refl
+length_set (y ∷ xs) (suc k) x = ap (λ n. suc n) (length_set xs k x)
+
+length_map : {A B : Type 0} (f : A → B) (xs : List A) → length (map f xs) ≡ length xs
+length_map f [] = refl
+length_map f (x ∷ xs) = ap (λ n. suc n) (length_map f xs)
+
+stands_set : {A : Type 0} (f : A → DiskSeen) (disks : List A) (k : ℕ) (disk : A) → k < length disks → disk_at (stands_of (map f (slice_set disks k disk))) k ≡ (f disk).stands
+stands_set f disks k disk low =
+    stands_at f (slice_set disks k disk) k disk (subst (λ n. k < n) (sym (length_set disks k disk)) low) ∙ ap (λ d. (f d).stands) (get_or-set_same disks k disk disk low)
+
+stands_other : {A : Type 0} (f : A → DiskSeen) (disks : List A) (k p : ℕ) (disk : A) → p ≢ k → disk_at (stands_of (map f (slice_set disks k disk))) p ≡ disk_at (stands_of (map f disks)) p
+stands_other f [] k p disk differs = refl
+stands_other f (x ∷ xs) zero zero disk differs = absurd (differs refl)
+stands_other f (x ∷ xs) zero (suc p) disk differs = refl
+stands_other f (x ∷ xs) (suc k) zero disk differs = refl
+stands_other f (x ∷ xs) (suc k) (suc p) disk differs = stands_other f xs k p disk (λ e. differs (ap (λ n. suc n) e))
+
+-- what was tried on the disk of a peer was tried there, and all others stay
+pub works_at : {A E : Type 0} (logs : List (Option Keeping)) (disks : List A) (f : A → DiskSeen) (peer before now : ℕ) (slot kept : Option Keeping) (d disk : A) (had todo : Option Job) (result : Result Done E)
+    → slot ≡ log_at logs peer → peer < length logs → peer < length disks → had ≡ todo
+    → ((f (slice_index_or disks peer d)).stands.last ≤ before → Tries (record { before = before; now = now; slot = slot; kept = kept; old = (f (slice_index_or disks peer d)).stands; new = (f disk).stands }) had result)
+    → Works (record { peer = peer; before = before; now = now; logs = logs; after = slice_set logs peer kept; disks = map f disks; left = map f (slice_set disks peer disk) }) todo result
+works_at logs disks f peer before now slot kept d disk had todo result is low within job_is tries = record {
+  tries = λ last. subst (λ (t : Try). Tries t todo result) same (subst (λ o. Tries (trying slot kept (f (slice_index_or disks peer d)).stands (f disk).stands) o result) job_is (tries (subst (λ (s : Standing). s.last ≤ before) old_is last)));
+  count = length_map f (slice_set disks peer disk) ∙ length_set disks peer disk ∙ sym (length_map f disks);
+  logs = λ p differs. get_or-set_other logs peer p kept None differs;
+  others = λ p differs. stands_other f disks peer p disk differs;
+}
+  where
+    old_is : disk_at (stands_of (map f disks)) peer ≡ (f (slice_index_or disks peer d)).stands
+    old_is = stands_at f disks peer d within
+
+    trying : Option Keeping → Option Keeping → Standing → Standing → Try
+    trying s k o n = record { before = before; now = now; slot = s; kept = k; old = o; new = n }
+
+    same : trying slot kept (f (slice_index_or disks peer d)).stands (f disk).stands
+        ≡ trying (log_at logs peer) (log_at (slice_set logs peer kept) peer) (disk_at (stands_of (map f disks)) peer) (disk_at (stands_of (map f (slice_set disks peer disk))) peer)
+    same =
+        ap (λ s. trying s kept (f (slice_index_or disks peer d)).stands (f disk).stands) is
+        ∙ ap (λ k. trying (log_at logs peer) k (f (slice_index_or disks peer d)).stands (f disk).stands) (sym (get_or-set_same logs peer kept None low))
+        ∙ ap (λ o. trying (log_at logs peer) (log_at (slice_set logs peer kept) peer) o (f disk).stands) (sym old_is)
+        ∙ ap (λ n. trying (log_at logs peer) (log_at (slice_set logs peer kept) peer) (disk_at (stands_of (map f disks)) peer) n) (sym (stands_set f disks peer disk within))
+
+-- nothing was tried
+pub works_nothing : {A E : Type 0} (logs : List (Option Keeping)) (disks : List A) (f : A → DiskSeen) (peer now : ℕ) (todo : Option Job) (fault : E) → Since (disk_at (stands_of (map f disks)) peer)
+    → Works {E = E} (record { peer = peer; before = now; now = now; logs = logs; after = logs; disks = map f disks; left = map f disks }) todo (Err fault)
+works_nothing logs disks f peer now todo fault since = record {
+  tries = λ last. record {
+    idle = λ h. stays_all (disk_at (stands_of (map f disks)) peer) now last since;
+    cut = λ h. tt;
+    each = λ j keeping first at list waiting has. leaves_err _ j list waiting (Err fault) fault refl (stays_one (disk_at (stands_of (map f disks)) peer) now list (list_after j list waiting) last since has.leaves);
+  };
+  count = refl;
+  logs = λ p differs. refl;
+  others = λ p differs. refl;
+}
+
+-- at a moment behind its last call each disk leaves what it leaves now
+pub since_of : {A : Type 0} (f : A → DiskSeen) (disks : List A) → ((disk : A) (side : Side) (m : ℕ) → (f disk).stands.last < m → (f disk).stands.past m side ≡ (f disk).stands.loose side) → SinceAll (stands_of (map f disks))
+since_of f [] h k side m low = refl
+since_of f (d ∷ disks) h zero side m low = h d side m low
+since_of f (d ∷ disks) h (suc k) side m low = since_of f disks h k side m low

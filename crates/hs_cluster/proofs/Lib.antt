@@ -2,5 +2,9 @@ pub mod DeltaLemmas
 pub mod DiskLemmas
 pub mod EventLemmas
 pub mod FindLemmas
+pub mod HeldLemmas
+pub mod JobLemmas
 pub mod LineLemmas
+pub mod ReportLemmas
+pub mod ShowLemmas
 pub mod WalkLemmas

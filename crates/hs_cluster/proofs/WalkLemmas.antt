@@ -39,6 +39,13 @@ deliver_is_it line core peer message = rw (same_number line) (same_number messag
 pub nudge_is_it : (line : ℕ) (core : Core) (peer : ℕ) → is_it line core (Nudging peer) (event.Nudge line peer) ≡ true
 nudge_is_it line core peer = rw (same_number line) (same_number peer)
 
+-- by what is due
+pub deliver_of : (line : ℕ) (core : Core) (d : Due) (peer message : ℕ) → d ≡ Handling peer message → is_it line core d (event.Deliver line message) ≡ true
+deliver_of line core d peer message is = subst (λ x. is_it line core x (event.Deliver line message) ≡ true) (sym is) (deliver_is_it line core peer message)
+
+pub nudge_of : (line : ℕ) (core : Core) (d : Due) (peer : ℕ) → d ≡ Nudging peer → is_it line core d (event.Nudge line peer) ≡ true
+nudge_of line core d peer is = subst (λ x. is_it line core x (event.Nudge line peer) ≡ true) (sym is) (nudge_is_it line core peer)
+
 -- ---- moments
 
 pub rise_then : (from mid to : ℕ) (es fs : Events) → MomentsRise from es mid → MomentsRise mid fs to → MomentsRise from (es ++ fs) to
@@ -80,8 +87,8 @@ move_one due line place core d e is it = rw (is, it) refl
 
 -- ---- beginning, going on and ending
 
-pub none_walked : (nudges : Bool) (line before : ℕ) (old : Running) → old.core.ended ≡ None → HasWalked nudges line before before old old first_place
-none_walked nudges line before old ended = record {
+pub none_walked : (nudges : Bool) (line before : ℕ) (old : Running) (Kept : Events → Type 0) → old.core.ended ≡ None → Kept [] → HasWalked nudges line before before old old first_place Kept
+none_walked nudges line before old Kept ended kept = record {
   events = [];
   walked = refl;
   rises = omega arith;
@@ -93,15 +100,17 @@ none_walked nudges line before old ended = record {
     outcome = λ h. ap outcome_by (sym ended);
     going = λ h. absurd (both h);
   };
+  kept = kept;
 }
   where
     both : false ≡ true → ⊥
     both e = grind arith
 
 -- what is due is done
-pub one_more : (nudges : Bool) (line before mid now : ℕ) (old here new : Running) (place : Place) (d : Due) → HasWalked nudges line before mid old here place → due_with nudges place here.core ≡ Some d
-    → DoesDue line d mid now here new (Ok tt) → HasWalked nudges line before now old new (place_after d (raises_known here.core new.core) place)
-one_more nudges line before mid now old here new place d so_far due does =
+pub one_more : (nudges : Bool) (line before mid now : ℕ) (old here new : Running) (place : Place) (d : Due) (Kept Then All : Events → Type 0) → HasWalked nudges line before mid old here place Kept → due_with nudges place here.core ≡ Some d
+    → DoesDue line d mid now here new (Ok tt) Then → ((es fs : Events) → Does es old here (Ok tt) → MomentsRise before es mid → MomentsRise mid fs now → Kept es → Then fs → All (es ++ fs))
+    → HasWalked nudges line before now old new (place_after d (raises_known here.core new.core) place) All
+one_more nudges line before mid now old here new place d Kept Then All so_far due does all =
     let e : Event × ℕ = does.event in
     let core : new.core ≡ step e.0 e.1 here.core = does.does.core refl in
     record {
@@ -111,17 +120,20 @@ one_more nudges line before mid now old here new place d so_far due does =
           ∙ ap (λ c. Some (record { place = place_after d (raises_known here.core c) place; core = c })) (sym core);
       rises = rise_then before mid now so_far.events (e ∷ []) so_far.rises (does.after, does.up_to);
       does = does_then so_far.events (e ∷ []) old here new (Ok tt) so_far.does does.does;
+      kept = all so_far.events (e ∷ []) so_far.does so_far.rises (does.after, does.up_to) so_far.kept does.kept;
     }
 
 -- what is due was the last, since the core ended by it, or memory ran out
-pub one_last : (nudges : Bool) (line before mid now : ℕ) (old here new : Running) (place : Place) (d : Due) (fault : ClusterFault) → HasWalked nudges line before mid old here place → due_with nudges place here.core ≡ Some d
-    → DoesDue line d mid now here new (Err fault) → RunsWalk nudges line before now old new (Err fault)
-one_last nudges line before mid now old here new place d fault so_far due does = record {
+pub one_last : (nudges : Bool) (line before mid now : ℕ) (old here new : Running) (place : Place) (d : Due) (fault : ClusterFault) (Kept Then All : Events → Type 0) → HasWalked nudges line before mid old here place Kept → due_with nudges place here.core ≡ Some d
+    → DoesDue line d mid now here new (Err fault) Then → ((es fs : Events) → Does es old here (Ok tt) → MomentsRise before es mid → MomentsRise mid fs now → Kept es → Then fs → All (es ++ fs))
+    → RunsWalk nudges line before now old new (Err fault) All
+one_last nudges line before mid now old here new place d fault Kept Then All so_far due does all = record {
   events = so_far.events ++ done_of (Err fault) does.event;
   due = ap (λ w. option_map_or (λ at. true) w false) (then_walk (due_with nudges) line (record { place = first_place; core = old.core }) (record { place = place; core = here.core }) so_far.events (done_of (Err fault) does.event) so_far.walked)
       ∙ last (ran_out {T = ⊤} (Err fault)) does.due_is;
   rises = rise_then before mid now so_far.events (done_of (Err fault) does.event) so_far.rises (rise_one mid now (Err fault) does.event does.after does.up_to);
   does = does_then so_far.events (done_of (Err fault) does.event) old here new (Err fault) so_far.does does.does;
+  kept = all so_far.events (done_of (Err fault) does.event) so_far.does so_far.rises (rise_one mid now (Err fault) does.event does.after does.up_to) so_far.kept does.kept;
 }
   where
     e : Event × ℕ
@@ -132,17 +144,18 @@ one_last nudges line before mid now old here new place d fault so_far due does =
     last false h = ap (λ w. option_map_or (λ at. true) w false) (move_one (due_with nudges) line place here.core d e due (h refl))
 
 -- nothing is due any more
-pub walk_ends : (nudges : Bool) (line before now : ℕ) (old new : Running) (place : Place) → HasWalked nudges line before now old new place → due_with nudges place new.core ≡ None → RunsWalk nudges line before now old new (Ok tt)
-walk_ends nudges line before now old new place so_far due = record {
+pub walk_ends : (nudges : Bool) (line before now : ℕ) (old new : Running) (place : Place) (Kept : Events → Type 0) → HasWalked nudges line before now old new place Kept → due_with nudges place new.core ≡ None → RunsWalk nudges line before now old new (Ok tt) Kept
+walk_ends nudges line before now old new place Kept so_far due = record {
   events = so_far.events;
   due = ap (λ w. option_map_or (λ at. is_none (due_with nudges at.place at.core)) w false) so_far.walked ∙ ap is_none due;
   rises = so_far.rises;
   does = so_far.does;
+  kept = so_far.kept;
 }
 
 -- it is given up
-pub walk_stops : (nudges : Bool) (line before now : ℕ) (old new : Running) (place : Place) → HasWalked nudges line before now old new place → RunsWalk nudges line before now old new (Err NoMemory)
-walk_stops nudges line before now old new place so_far = record {
+pub walk_stops : (nudges : Bool) (line before now : ℕ) (old new : Running) (place : Place) (Kept All : Events → Type 0) → HasWalked nudges line before now old new place Kept → ((es : Events) → Kept es → All es) → RunsWalk nudges line before now old new (Err NoMemory) All
+walk_stops nudges line before now old new place Kept All so_far all = record {
   events = so_far.events;
   due = ap (λ w. option_map_or (λ at. true) w false) so_far.walked;
   rises = so_far.rises;
@@ -154,6 +167,7 @@ walk_stops nudges line before now old new place so_far = record {
     outcome = λ h. absurd (both h);
     going = λ h. ap (λ (c : Core). c.ended) (sym (so_far.does.core refl)) ∙ still_going so_far.events old new so_far.does;
   };
+  kept = all so_far.events so_far.kept;
 }
   where
     both : true ≡ false → ⊥
@@ -175,14 +189,20 @@ raised_is before after knowns shape is =
     (λ k low. ap (λ n. nat_lt n (known_of k after)) (at_from_zero (λ peer. known_of peer before) 0 knowns (before.members.shape.shards * before.members.shape.copies) k is low))
 
 -- nothing was done, since memory ran out
-pub nothing_due : (line : ℕ) (d : Due) (before now : ℕ) (old new : Running) → old.core.ended ≡ None → before ≤ now → new.course ≡ old.course → new.core ≡ old.core → DoesDue line d before now old new (Err NoMemory)
-nothing_due line d before now old new going ticks course core = record {
+pub nothing_due : (line : ℕ) (d : Due) (before now : ℕ) (old new : Running) (Kept : Events → Type 0) → old.core.ended ≡ None → before ≤ now → new.course ≡ old.course → new.core ≡ old.core → Kept [] → DoesDue line d before now old new (Err NoMemory) Kept
+nothing_due line d before now old new Kept going ticks course core kept = record {
   event = (event.Turn 0 0, before);
   due_is = λ h. absurd (both h);
   after = omega arith;
   up_to = ticks;
   does = nothing_done old new course (ap (λ (c : Core). c.journal) core) (ap (λ (c : Core). c.refused) core) going;
+  kept = kept;
 }
   where
     both : true ≡ false → ⊥
     both e = grind arith
+
+-- an event was done as what was due
+pub event_due : (line : ℕ) (d : Due) (before now : ℕ) (old new : Running) (e : Event) (k : ℕ) (r : Result ⊤ ClusterFault) (Kept : Events → Type 0) → is_it line old.core d e ≡ true → before ≤ k → k ≤ now → Does (done_of r (e, k)) old new r
+    → Kept (done_of r (e, k)) → DoesDue line d before now old new r Kept
+event_due line d before now old new e k r Kept is low high does kept = record { event = (e, k); due_is = λ h. is; after = low; up_to = high; does = does; kept = kept }

@@ -49,9 +49,10 @@ pub record Does (events : Events) (old new : Running) (result : Result ⊤ Clust
 abbrev pub done_of : Result ⊤ ClusterFault → Event × ℕ → Events
 done_of result e = if ran_out result then [] else e ∷ []
 
--- a line has the events that are due for it and no others, or a front of them where it was cut short; each with its moment
-pub record RunsLine (name : List ℕ → Address) (line : ℕ) (asked : Command) (before now : ℕ) (old new : Running) (result : Result ⊤ ClusterFault) : Type 0 where
+-- a line has the events that are due for it and no others, or a front of them where it was cut short; each with its moment. Kept: what they show of the disks
+pub record RunsLine (name : List ℕ → Address) (line : ℕ) (asked : Command) (before now : ℕ) (old new : Running) (result : Result ⊤ ClusterFault) (Kept : Events → Type 0) : Type 0 where
   pub events : Events
   pub due : AreOfCommand name (record { line = line; core = old.core; events = events; whole = is_ok result }) asked
   pub rises : MomentsRise before events now
   pub does : Does events old new result
+  pub kept : Kept events

@@ -1,5 +1,5 @@
 -- The disks that are handed to a cluster.
-use Rattle.std.specs.Prelude.{◌≡◌, ℕ, List, Option, None, Some, IfSome, slice_index_or}
+use Rattle.std.specs.Prelude.{◌≡◌, ℕ, List, map, Option, None, Some, IfSome, slice_index_or}
 use Rattle.hs_peerlog.specs.Lists.{IsReady, Keeping}
 use Rattle.hs_ports.specs.declared.disk.Side.{Side}
 use Rattle.hs_ports.specs.Disk.{Standing}
@@ -14,6 +14,10 @@ pub record DiskSeen : Type 0 where
 -- from the words of its type
 abbrev pub seen_as : (Side → ℕ) → Standing → ℕ → DiskSeen
 seen_as size stands faults = record { size = size; stands = stands; faults = faults }
+
+-- what they hold
+abbrev pub stands_of : List DiskSeen → List Standing
+stands_of disks = map (λ disk. disk.stands) disks
 
 -- the disk of a peer
 abbrev pub seen_at : List DiskSeen → ℕ → DiskSeen

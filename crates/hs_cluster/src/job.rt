@@ -1,7 +1,9 @@
 //! The first job of a peer.
-ghost use Rattle.std.specs.Prelude.{◌≡◌, ◌*◌, ◌+◌, ◌≤◌, ℕ, length, map, true, IfOk, IsOkUnless, OnOk};
+ghost use Rattle.std.specs.Prelude.{◌≡◌, ◌*◌, ◌+◌, ◌≤◌, ℕ, Some, length, map, true, IfOk, IsOkUnless, OnOk};
 ghost use Rattle.hs_cluster.specs.declared.fault.ClusterFault.TheVariants.{NoMemory};
 ghost use Rattle.hs_cluster.specs.Disks.{AreReady, IsSlotReady, seen_as};
+ghost use Rattle.hs_cluster.specs.Jobs.{Tries, Works, is_own};
+ghost use Rattle.hs_core.specs.Looking.{first_job};
 ghost use Rattle.hs_events.specs.Due.{is_answer};
 ghost use Rattle.hs_desk.specs.Answers.{answers};
 ghost use Rattle.hs_desk.specs.declared.job.Job.TheVariants as job;
@@ -43,6 +45,16 @@ pub(crate) fn do_job<D: Disk>(
         (map (λ disk. seen_as (D.size disk) (D.stands disk) (D.faults disk)) disks.new)) }
     ensures logs { length logs.new.items ≡ length logs.old.items }
     ensures disks { length disks.new ≡ length disks.old }
+    // A job that needs the log of its peer alone: what it leaves of its disk, and of no other.
+    ensures works { D.tells → is_own (first_job peer core.now) ≡ true → Works (record {
+      peer = peer;
+      before = watch.old;
+      now = watch.new;
+      logs = logs.old.items;
+      after = logs.new.items;
+      disks = map (λ disk. seen_as (D.size disk) (D.stands disk) (D.faults disk)) disks.old;
+      left = map (λ disk. seen_as (D.size disk) (D.stands disk) (D.faults disk)) disks.new;
+    }) (first_job peer core.now) result }
     ensures ticks { watch.old ≤ watch.new }
 {
     let Some(job) = core.first_job(peer) else {
@@ -132,6 +144,14 @@ fn do_usual<D: Disk>(
     ensures only { IsOkUnless result NoMemory }
     ensures ready { OnOk result
         (IsSlotReady D.tells slot.new (D.size disk.new) (D.stands disk.new)) }
+    ensures tries { D.tells → (D.stands disk.old).last ≤ watch.old → Tries (record {
+      before = watch.old;
+      now = watch.new;
+      slot = slot.old;
+      kept = slot.new;
+      old = D.stands disk.old;
+      new = D.stands disk.new;
+    }) (Some job.now) result }
     ensures ticks { watch.old ≤ watch.new }
 {
     let Some(log) = slot.take() else {

@@ -1,8 +1,9 @@
 //! One line of a script.
-ghost use Rattle.std.specs.Prelude.{◌≡◌, ◌*◌, ◌<◌, ◌≤◌, ℕ, Err, List, None, Some, false, length, map, true, IfSome, OnOk};
+ghost use Rattle.std.specs.Prelude.{◌≡◌, ◌*◌, ◌<◌, ◌≤◌, ⊤, ℕ, Err, List, None, Some, false, length, map, true, IfSome, OnOk};
 ghost use Rattle.hs_cluster.specs.Calls.{RunsLine, of_core};
 ghost use Rattle.hs_events.specs.Commands.{is_served, uses_disks};
-ghost use Rattle.hs_cluster.specs.Disks.{AreReady, log_at, seen_as};
+ghost use Rattle.hs_cluster.specs.Disks.{AreReady, DiskSeen, log_at, seen_as};
+ghost use Rattle.hs_cluster.specs.Kept.{Shows};
 ghost use Rattle.hs_desk.specs.declared.fault.CoreFault.{CoreFault};
 ghost use Rattle.hs_limits.specs.declared.address.Address.{Address};
 ghost use Rattle.hs_model.specs.declared.command.Command.TheVariants as command;
@@ -38,7 +39,15 @@ impl Cluster {
         // nothing is said.
         ensures runs { self.old.core.ended ≡ None → is_served command ≡ true
             → RunsLine (A.name naming.now) line command watch.old watch.new
-            self.old self.new result }
+            self.old self.new result
+            (Shows D.tells (record {
+              before = watch.old;
+              now = watch.new;
+              old = self.old;
+              new = self.new;
+              disks = map (λ disk. seen_as (D.size disk) (D.stands disk) (D.faults disk)) disks.old;
+              left = map (λ disk. seen_as (D.size disk) (D.stands disk) (D.faults disk)) disks.new;
+            }) result) }
         ensures ended { (fault : CoreFault) → self.old.core.ended ≡ Some fault
             → (result ≡ Err (of_core fault)) × (self.new ≡ self.old)
             × (disks.new ≡ disks.old) × (watch.new ≡ watch.old) }
@@ -85,8 +94,16 @@ impl Cluster {
         requires going { self.old.core.ended ≡ None }
         requires line { self.old.core.last_line < line }
         requires moment { self.old.core.moment ≤ moment }
-        ensures runs { RunsLine (A.name naming.now) line (command.Client op) moment moment
-            self.old self.new result }
+        ensures runs { (disks : List DiskSeen) → RunsLine (A.name naming.now) line
+            (command.Client op) moment moment self.old self.new result
+            (Shows ⊤ (record {
+              before = moment;
+              now = moment;
+              old = self.old;
+              new = self.new;
+              disks = disks;
+              left = disks;
+            }) result) }
         ensures logs { self.new.logs ≡ self.old.logs }
         ensures shape { self.new.core.members.shape ≡ self.old.core.members.shape }
         ensures moment { self.new.core.moment ≤ moment }
@@ -99,19 +116,38 @@ impl Cluster {
     fn fail(&mut self, line: u64, peer: u8, moment: u64) -> Result<(), ClusterFault>
         requires going { self.old.core.ended ≡ None }
         requires moment { self.old.core.moment ≤ moment }
-        ensures runs { (name : List ℕ → Address) → RunsLine name line (command.Fail peer)
-            moment moment self.old self.new result }
+        ensures runs { (name : List ℕ → Address) (disks : List DiskSeen)
+            → RunsLine name line (command.Fail peer) moment moment self.old self.new result
+            (Shows ⊤ (record {
+              before = moment;
+              now = moment;
+              old = self.old;
+              new = self.new;
+              disks = disks;
+              left = disks;
+            }) result) }
         ensures logs { (p : ℕ) (keeping : Keeping) → log_at self.new.logs p ≡ Some keeping
             → log_at self.old.logs p ≡ Some keeping }
         ensures shape { self.new.core.members.shape ≡ self.old.core.members.shape }
         ensures moment { self.new.core.moment ≤ moment }
     {
         self.step(Event::Fail { line, peer }, moment)?;
+        self.put_out(peer);
+        Ok(())
+    }
+
+    /// The disk of a peer is out of use.
+    #[tactic(auto, using(crate::proofs::DiskLemmas::dropped_fewer))]
+    fn put_out(&mut self, peer: u8)
+        ensures core { self.new.core ≡ self.old.core }
+        ensures course { self.new.course ≡ self.old.course }
+        ensures logs { (p : ℕ) (keeping : Keeping) → log_at self.new.logs p ≡ Some keeping
+            → log_at self.old.logs p ≡ Some keeping }
+    {
         let place = usize::from(peer);
         if place < self.logs.len() {
             self.logs[place] = None;
         }
-        Ok(())
     }
 
     /// A turn of a peer, where it is not refused: its first job with its report, else the handling
@@ -130,7 +166,15 @@ impl Cluster {
         requires ready { AreReady D.tells self.old.logs
             (map (λ disk. seen_as (D.size disk) (D.stands disk) (D.faults disk)) disks.old) }
         ensures runs { (name : List ℕ → Address) → RunsLine name line (command.Turn peer)
-            watch.old watch.new self.old self.new result }
+            watch.old watch.new self.old self.new result
+            (Shows D.tells (record {
+              before = watch.old;
+              now = watch.new;
+              old = self.old;
+              new = self.new;
+              disks = map (λ disk. seen_as (D.size disk) (D.stands disk) (D.faults disk)) disks.old;
+              left = map (λ disk. seen_as (D.size disk) (D.stands disk) (D.faults disk)) disks.new;
+            }) result) }
         ensures ready { OnOk result (AreReady D.tells self.new.logs
             (map (λ disk. seen_as (D.size disk) (D.stands disk) (D.faults disk)) disks.new)) }
         ensures count { length disks.new ≡ length disks.old }

@@ -3,6 +3,7 @@ ghost use Rattle.std.specs.List.{list_any};
 ghost use Rattle.std.specs.Prelude.{◌≡◌, ◌*◌, ◌<◌, ◌≤◌, ℕ, None, length, map, nat_lt, slice_index_or, IfSome, OnOk};
 ghost use Rattle.hs_events.specs.declared.due.Due.TheVariants.{Reporting};
 ghost use Rattle.hs_cluster.specs.Disks.{AreReady, seen_as};
+ghost use Rattle.hs_cluster.specs.Kept.{Shows};
 ghost use Rattle.hs_events.specs.Due.{place_after, raises_known};
 ghost use Rattle.hs_cluster.specs.Settling.{DoesDue, RunsWalk, due_with};
 ghost use Rattle.hs_events.specs.Due.{IsDueOf, peer_due};
@@ -32,7 +33,15 @@ impl Cluster {
             ≡ self.old.core.members.shape.shards * self.old.core.members.shape.copies }
         requires ready { AreReady D.tells self.old.logs
             (map (λ disk. seen_as (D.size disk) (D.stands disk) (D.faults disk)) disks.old) }
-        ensures walks { RunsWalk nudges line watch.old watch.new self.old self.new result }
+        ensures walks { RunsWalk nudges line watch.old watch.new self.old self.new result
+            (Shows D.tells (record {
+              before = watch.old;
+              now = watch.new;
+              old = self.old;
+              new = self.new;
+              disks = map (λ disk. seen_as (D.size disk) (D.stands disk) (D.faults disk)) disks.old;
+              left = map (λ disk. seen_as (D.size disk) (D.stands disk) (D.faults disk)) disks.new;
+            }) result) }
         ensures ready { OnOk result (AreReady D.tells self.new.logs
             (map (λ disk. seen_as (D.size disk) (D.stands disk) (D.faults disk)) disks.new)) }
         ensures count { length disks.new ≡ length disks.old }
@@ -71,7 +80,15 @@ impl Cluster {
             ≡ self.old.core.members.shape.shards * self.old.core.members.shape.copies }
         requires ready { AreReady D.tells self.old.logs
             (map (λ disk. seen_as (D.size disk) (D.stands disk) (D.faults disk)) disks.old) }
-        ensures does { DoesDue line due watch.old watch.new self.old self.new result }
+        ensures does { DoesDue line due watch.old watch.new self.old self.new result
+            (Shows D.tells (record {
+              before = watch.old;
+              now = watch.new;
+              old = self.old;
+              new = self.new;
+              disks = map (λ disk. seen_as (D.size disk) (D.stands disk) (D.faults disk)) disks.old;
+              left = map (λ disk. seen_as (D.size disk) (D.stands disk) (D.faults disk)) disks.new;
+            }) result) }
         ensures place { OnOk result (place.new
             ≡ place_after due (raises_known self.old.core self.new.core) place.old) }
         ensures ready { OnOk result (AreReady D.tells self.new.logs
@@ -105,7 +122,15 @@ impl Cluster {
             ≡ self.old.core.members.shape.shards * self.old.core.members.shape.copies }
         requires ready { AreReady D.tells self.old.logs
             (map (λ disk. seen_as (D.size disk) (D.stands disk) (D.faults disk)) disks.old) }
-        ensures does { DoesDue line due watch.old watch.new self.old self.new result }
+        ensures does { DoesDue line due watch.old watch.new self.old self.new result
+            (Shows D.tells (record {
+              before = watch.old;
+              now = watch.new;
+              old = self.old;
+              new = self.new;
+              disks = map (λ disk. seen_as (D.size disk) (D.stands disk) (D.faults disk)) disks.old;
+              left = map (λ disk. seen_as (D.size disk) (D.stands disk) (D.faults disk)) disks.new;
+            }) result) }
         ensures ready { OnOk result (AreReady D.tells self.new.logs
             (map (λ disk. seen_as (D.size disk) (D.stands disk) (D.faults disk)) disks.new)) }
         ensures count { length disks.new ≡ length disks.old }
@@ -138,7 +163,15 @@ impl Cluster {
         requires ready { AreReady D.tells self.old.logs
             (map (λ disk. seen_as (D.size disk) (D.stands disk) (D.faults disk)) disks.old) }
         ensures does { (line : ℕ) → DoesDue line (Reporting peer) watch.old watch.new
-            self.old self.new result }
+            self.old self.new result
+            (Shows D.tells (record {
+              before = watch.old;
+              now = watch.new;
+              old = self.old;
+              new = self.new;
+              disks = map (λ disk. seen_as (D.size disk) (D.stands disk) (D.faults disk)) disks.old;
+              left = map (λ disk. seen_as (D.size disk) (D.stands disk) (D.faults disk)) disks.new;
+            }) result) }
         ensures ready { OnOk result (AreReady D.tells self.new.logs
             (map (λ disk. seen_as (D.size disk) (D.stands disk) (D.faults disk)) disks.new)) }
         ensures count { length disks.new ≡ length disks.old }

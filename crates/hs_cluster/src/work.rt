@@ -1,10 +1,17 @@
 //! One job on the disk of a peer.
-ghost use Rattle.std.specs.Prelude.{◌≡◌, ◌+◌, ◌≤◌, ℕ, None, Some, true, false, is_some, IfOk, OnOk};
+ghost use Rattle.std.specs.Prelude.{◌≡◌, ◌+◌, ◌≤◌, ℕ, List, Option, None, Some, true, false, is_some, IfOk, IfErr, OnOk};
+ghost use Rattle.hs_cluster.specs.Jobs.{Leaves, sealed_list};
 ghost use Rattle.hs_desk.specs.Answers.{answers};
 ghost use Rattle.hs_desk.specs.declared.done.Done.TheVariants as done;
 ghost use Rattle.hs_desk.specs.declared.job.Job.TheVariants as job;
+ghost use Rattle.hs_entry.specs.declared.entry.Entry.{Entry};
+ghost use Rattle.hs_entry.specs.declared.entry.Entry.TheVariants.{Block};
+ghost use Rattle.hs_events.specs.Asked.{failed_disk};
+ghost use Rattle.hs_events.specs.Reports.{TellsOf};
+ghost use Rattle.hs_fold.specs.Shards.Setting.{Numbered};
 ghost use Rattle.hs_peerlog.specs.Caused.{IsCaused};
-ghost use Rattle.hs_peerlog.specs.Lists.{IsReady};
+ghost use Rattle.hs_peerlog.specs.Images.{Is, IsOne, LeavesEach};
+ghost use Rattle.hs_peerlog.specs.Lists.{HasLog, IsKept, IsReady};
 ghost use Rattle.hs_shard.specs.Facts.{pointers_at};
 
 use crate::readable::is_readable;
@@ -30,6 +37,18 @@ pub(crate) fn do_own<D: Disk>(
     ensures ready { OnOk result (IsReady D.tells log.new (D.size disk.new log.new.log.side)
         (D.stands disk.new)) }
     ensures answer { (peer : ℕ) → IfOk result (λ told. answers peer job.now told ≡ true) }
+    // Each moment leaves the list before the job or the one behind it, Err too.
+    ensures leaves { D.tells → (D.stands disk.old).last ≤ watch.old
+        → (list : Numbered) (waiting : Option Entry)
+        → HasLog log.old (D.stands disk.old) list waiting
+        → Leaves (record {
+          before = watch.old;
+          now = watch.new;
+          slot = Some log.old;
+          kept = Some log.new;
+          old = D.stands disk.old;
+          new = D.stands disk.new;
+        }) job.now list waiting result }
     ensures ticks { watch.old ≤ watch.new }
     ensures cause { IsCaused (D.faults disk.old) (D.faults disk.new) result }
 {
@@ -64,6 +83,14 @@ pub(crate) fn append_entry<D: Disk>(
         (D.stands disk.old) }
     ensures ready { OnOk result (IsReady D.tells log.new (D.size disk.new log.new.log.side)
         (D.stands disk.new)) }
+    ensures list { D.tells → (D.stands disk.old).last ≤ watch.old
+        → (list : Numbered) (waiting : Option Entry)
+        → HasLog log.old (D.stands disk.old) list waiting
+        → OnOk result (HasLog log.new (D.stands disk.new) list (Some entry.now)) }
+    ensures any_moment { D.tells → (D.stands disk.old).last ≤ watch.old
+        → (list : Numbered) (waiting : Option Entry)
+        → HasLog log.old (D.stands disk.old) list waiting
+        → LeavesEach watch.old watch.new (D.stands disk.old) (D.stands disk.new) (Is list) }
     ensures ticks { watch.old ≤ watch.new }
     ensures cause { IsCaused (D.faults disk.old) (D.faults disk.new) result }
 {
@@ -98,6 +125,15 @@ fn seal_entry<D: Disk>(
         (D.stands disk.old) }
     ensures ready { OnOk result (IsReady D.tells log.new (D.size disk.new log.new.log.side)
         (D.stands disk.new)) }
+    ensures list { D.tells → (D.stands disk.old).last ≤ watch.old
+        → (list : Numbered) (waiting : Option Entry)
+        → HasLog log.old (D.stands disk.old) list waiting
+        → OnOk result (HasLog log.new (D.stands disk.new) (sealed_list list waiting) None) }
+    ensures any_moment { D.tells → (D.stands disk.old).last ≤ watch.old
+        → (list : Numbered) (waiting : Option Entry)
+        → HasLog log.old (D.stands disk.old) list waiting
+        → LeavesEach watch.old watch.new (D.stands disk.old) (D.stands disk.new)
+        (IsOne list (sealed_list list waiting)) }
     ensures ticks { watch.old ≤ watch.new }
     ensures cause { IsCaused (D.faults disk.old) (D.faults disk.new) result }
 {
@@ -107,8 +143,8 @@ fn seal_entry<D: Disk>(
     }
 }
 
-/// The block of the entry of a number. Where no such block is kept it is gone, unless the shard still
-/// has it: then the disk does not give its list.
+/// The block of the entry of a number. Where no such entry is kept it is gone, unless the shard still
+/// has it: then the disk does not give its list. A number of another entry does not follow the log.
 fn read_block<D: Disk>(
     log: &PeerLog,
     disk: &mut D,
@@ -122,15 +158,36 @@ fn read_block<D: Disk>(
     ensures answer { (peer : ℕ) → IfOk result (λ told. answers peer (job.Read number) told ≡ true) }
     ensures gone { IfOk result (λ told. told ≡ done.Gone number
         → is_some (pointers_at number catalogue.now.blocks) ≡ false) }
+    ensures same { D.tells → D.stands disk.new ≡ D.stands disk.old }
+    ensures told { D.tells → (list : Numbered) (waiting : Option Entry)
+        → IsKept log.now ((D.stands disk.old).seen log.now.log.side) list waiting
+        → IfOk result (λ told. TellsOf told (Some list)) }
+    ensures done { IfOk result (λ told. failed_disk told ≡ None) }
     ensures cause { IsCaused (D.faults disk.old) (D.faults disk.new) result }
 {
-    if let Some(Entry::Block { bytes, .. }) = log.read_entry(disk, number)? {
-        return Ok(Done::Bytes { number, bytes });
+    match log.read_entry(disk, number)? {
+        Some(entry) => block_of(number, entry),
+        None => {
+            if is_stored(catalogue, number) {
+                return Err(LogFault::NotALog { at: number });
+            }
+            Ok(Done::Gone { number })
+        }
     }
-    if is_stored(catalogue, number) {
-        return Err(LogFault::NotALog { at: number });
+}
+
+/// What a Read tells of an entry, where it is a block's.
+fn block_of(number: u64, entry: Entry) -> Result<Done, LogFault>
+    ensures value { (op least : ℕ) (bytes : List ℕ) → entry ≡ Block op least bytes
+        → IfOk result (λ told. told ≡ done.Bytes number bytes) }
+    ensures some { IfOk result (λ told. (op : ℕ) × (least : ℕ) × (bytes : List ℕ)
+        × (entry ≡ Block op least bytes) × (told ≡ done.Bytes number bytes)) }
+    ensures not_disk { IfErr result (λ fault. fault ≡ LogFault.NoMemory) }
+{
+    match entry {
+        Entry::Block { bytes, .. } => Ok(Done::Bytes { number, bytes }),
+        _ => Err(LogFault::NoMemory),
     }
-    Ok(Done::Gone { number })
 }
 
 /// Whether a present block was stored by the entry of a number.

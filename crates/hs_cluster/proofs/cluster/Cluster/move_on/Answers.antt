@@ -1,6 +1,11 @@
-use Rattle.std.proofs.Common.{◌≡◌, ◌∙◌, ◌*◌, ap, map}
+use Rattle.std.proofs.Common.{◌≡◌, ◌≤◌, ◌∙◌, ◌*◌, [], ap, arith, map, refl}
 use Rattle.std.specs.List.{range_with_len}
-use Rattle.hs_cluster.proofs.WalkLemmas.{raised_is}
+use Rattle.hs_cluster.proofs.ShowLemmas.{any_shows, none_shows}
+use Rattle.hs_cluster.proofs.WalkLemmas.{nothing_due, raised_is}
+use Rattle.hs_cluster.specs.declared.fault.ClusterFault.TheVariants.{NoMemory}
+use Rattle.hs_cluster.specs.Disks.{DiskSeen, seen_as}
+use Rattle.hs_cluster.specs.Kept.{Shows}
+use Rattle.std.specs.Prelude.{Err}
 use Rattle.hs_events.specs.Due.{place_after, raises_known}
 use Rattle.hs_cluster.specs.Running.{Running}
 use Rattle.hs_core.specs.Looking.{known_of}
@@ -16,3 +21,11 @@ returns-clause-place g c =
     c.place_after.ensures
     ∙ ap (λ b. place_after c.args.due b c.args.place.now)
     (c.raises_known-raised.ensures ∙ raised_is old c.self-2.inside.core c.as_slice.result.now shape knowns ∙ ap (λ (r : Running). raises_known old r.core) c.self-2.view_is)
+
+pub returns-in_default-clause-does : goal.returns-in_default-clause-does
+returns-in_default-clause-does g c =
+    let f : g.row.D.Denot → DiskSeen = λ disk. seen_as (g.D.Disk.size disk) (g.D.Disk.stands disk) (g.D.Disk.faults disk) in
+    let old = c.args.self.now in
+    let now = c.args.watch.now in
+    nothing_due c.args.line c.args.due now now old old _ c.requires.going (omega arith) refl refl
+    (any_shows g.D.Disk.tells (record { before = now; now = now; old = old; new = old; disks = map f c.args.disks.now; left = map f c.args.disks.now }) (Err NoMemory) [] (none_shows now old old (map f c.args.disks.now)))

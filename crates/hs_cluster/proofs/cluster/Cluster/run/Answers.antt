@@ -1,5 +1,100 @@
+use Rattle.std.proofs.Common.{◌≡◌, Some, map, refl, subst, sym}
 use Rattle.hs_cluster.proofs.DiskLemmas.{always_ok, ready_fewer}
+use Rattle.hs_cluster.proofs.LineLemmas.{runs_any, runs_quiet, runs_settle}
+use Rattle.std.specs.Prelude.{⊤}
+use Rattle.hs_cluster.specs.Calls.{Does, RunsLine, done_of}
+use Rattle.hs_cluster.specs.Disks.{DiskSeen, log_at, seen_as}
+use Rattle.hs_cluster.specs.Kept.{Shows}
+use Rattle.hs_core.specs.declared.event.Event.{Event}
+use Rattle.hs_core.specs.declared.event.Event.TheVariants as event
+use Rattle.hs_model.specs.declared.command.Command.TheVariants as command
 use Rattle.hs_cluster.proofs.cluster.Cluster.run.Goals as goal
 
 pub returns-in-Fail-clause-ready : goal.returns-in-Fail-clause-ready
 returns-in-Fail-clause-ready g c = always_ok c.fail.result (ready_fewer _ c.args.self.now.logs c.fail.new.self.logs _ c.requires.ready c.fail.ensures.logs)
+
+pub returns-in-Nudge-clause-runs : goal.returns-in-Nudge-clause-runs
+returns-in-Nudge-clause-runs g c = λ going served.
+    let f : g.row.D.Denot → DiskSeen = λ disk. seen_as (g.D.Disk.size disk) (g.D.Disk.stands disk) (g.D.Disk.faults disk) in
+    let name = g.A.Addresser.name c.args.naming.now in
+    let e : Event = event.Nudge c.args.line c.in-Nudge.peer in
+    let does = subst (λ k. Does (done_of c.step.result (e, k)) c.args.self.now c.step.new.self c.step.result) c.now-moment.ensures.value c.step.ensures.does in
+    runs_any g.D.Disk.tells name c.args.line c.args.command c.args.watch.now c.args.watch.now c.args.self.now c.step.new.self _ c.step.result
+    (runs_quiet name c.args.line c.args.command (command.Nudge c.in-Nudge.peer) c.args.watch.now c.args.self.now c.step.new.self (map f c.args.disks.now) c.step.result e c.in-Nudge.is (λ h. h) refl going does
+    (λ p keeping at. subst (λ l. log_at l p ≡ Some keeping) c.step.ensures.logs at))
+
+pub returns-in-Deliver-clause-runs : goal.returns-in-Deliver-clause-runs
+returns-in-Deliver-clause-runs g c = λ going served.
+    let f : g.row.D.Denot → DiskSeen = λ disk. seen_as (g.D.Disk.size disk) (g.D.Disk.stands disk) (g.D.Disk.faults disk) in
+    let name = g.A.Addresser.name c.args.naming.now in
+    let e : Event = event.Deliver c.args.line c.in-Deliver.message in
+    let does = subst (λ k. Does (done_of c.step-in-Deliver.result (e, k)) c.args.self.now c.step-in-Deliver.new.self c.step-in-Deliver.result) c.now-moment.ensures.value c.step-in-Deliver.ensures.does in
+    runs_any g.D.Disk.tells name c.args.line c.args.command c.args.watch.now c.args.watch.now c.args.self.now c.step-in-Deliver.new.self _ c.step-in-Deliver.result
+    (runs_quiet name c.args.line c.args.command (command.Deliver c.in-Deliver.message) c.args.watch.now c.args.self.now c.step-in-Deliver.new.self (map f c.args.disks.now) c.step-in-Deliver.result e c.in-Deliver.is (λ h. h) refl going does
+    (λ p keeping at. subst (λ l. log_at l p ≡ Some keeping) c.step-in-Deliver.ensures.logs at))
+
+pub returns-in-Lose-clause-runs : goal.returns-in-Lose-clause-runs
+returns-in-Lose-clause-runs g c = λ going served.
+    let f : g.row.D.Denot → DiskSeen = λ disk. seen_as (g.D.Disk.size disk) (g.D.Disk.stands disk) (g.D.Disk.faults disk) in
+    let name = g.A.Addresser.name c.args.naming.now in
+    let e : Event = event.Lose c.args.line c.in-Lose.message in
+    let does = subst (λ k. Does (done_of c.step-in-Lose.result (e, k)) c.args.self.now c.step-in-Lose.new.self c.step-in-Lose.result) c.now-moment.ensures.value c.step-in-Lose.ensures.does in
+    runs_any g.D.Disk.tells name c.args.line c.args.command c.args.watch.now c.args.watch.now c.args.self.now c.step-in-Lose.new.self _ c.step-in-Lose.result
+    (runs_quiet name c.args.line c.args.command (command.Lose c.in-Lose.message) c.args.watch.now c.args.self.now c.step-in-Lose.new.self (map f c.args.disks.now) c.step-in-Lose.result e c.in-Lose.is (λ h. h) refl going does
+    (λ p keeping at. subst (λ l. log_at l p ≡ Some keeping) c.step-in-Lose.ensures.logs at))
+
+pub returns-in-Repeat-clause-runs : goal.returns-in-Repeat-clause-runs
+returns-in-Repeat-clause-runs g c = λ going served.
+    let f : g.row.D.Denot → DiskSeen = λ disk. seen_as (g.D.Disk.size disk) (g.D.Disk.stands disk) (g.D.Disk.faults disk) in
+    let name = g.A.Addresser.name c.args.naming.now in
+    let e : Event = event.Repeat c.args.line c.in-Repeat.message in
+    let does = subst (λ k. Does (done_of c.step-in-Repeat.result (e, k)) c.args.self.now c.step-in-Repeat.new.self c.step-in-Repeat.result) c.now-moment.ensures.value c.step-in-Repeat.ensures.does in
+    runs_any g.D.Disk.tells name c.args.line c.args.command c.args.watch.now c.args.watch.now c.args.self.now c.step-in-Repeat.new.self _ c.step-in-Repeat.result
+    (runs_quiet name c.args.line c.args.command (command.Repeat c.in-Repeat.message) c.args.watch.now c.args.self.now c.step-in-Repeat.new.self (map f c.args.disks.now) c.step-in-Repeat.result e c.in-Repeat.is (λ h. h) refl going does
+    (λ p keeping at. subst (λ l. log_at l p ≡ Some keeping) c.step-in-Repeat.ensures.logs at))
+
+pub returns-in-Start-clause-runs : goal.returns-in-Start-clause-runs
+returns-in-Start-clause-runs g c = λ going served.
+    let f : g.row.D.Denot → DiskSeen = λ disk. seen_as (g.D.Disk.size disk) (g.D.Disk.stands disk) (g.D.Disk.faults disk) in
+    let name = g.A.Addresser.name c.args.naming.now in
+    let e : Event = event.Start c.args.line c.in-Start.peer in
+    let does = subst (λ k. Does (done_of c.step-in-Start.result (e, k)) c.args.self.now c.step-in-Start.new.self c.step-in-Start.result) c.now-moment.ensures.value c.step-in-Start.ensures.does in
+    runs_any g.D.Disk.tells name c.args.line c.args.command c.args.watch.now c.args.watch.now c.args.self.now c.step-in-Start.new.self _ c.step-in-Start.result
+    (runs_quiet name c.args.line c.args.command (command.Start c.in-Start.peer) c.args.watch.now c.args.self.now c.step-in-Start.new.self (map f c.args.disks.now) c.step-in-Start.result e c.in-Start.is (λ h. h) refl going does
+    (λ p keeping at. subst (λ l. log_at l p ≡ Some keeping) c.step-in-Start.ensures.logs at))
+
+pub returns-in-Settle-clause-runs : goal.returns-in-Settle-clause-runs
+returns-in-Settle-clause-runs g c = λ going served.
+    let f : g.row.D.Denot → DiskSeen = λ disk. seen_as (g.D.Disk.size disk) (g.D.Disk.stands disk) (g.D.Disk.faults disk) in
+    let name = g.A.Addresser.name c.args.naming.now in
+    subst (λ x. RunsLine name c.args.line x c.args.watch.now c.settle.new.watch c.args.self.now c.settle.new.self c.settle.result
+    (Shows g.D.Disk.tells (record { before = c.args.watch.now; now = c.settle.new.watch; old = c.args.self.now; new = c.settle.new.self; disks = map f c.args.disks.now; left = map f c.settle.new.disks }) c.settle.result)) (sym c.in-Settle.is)
+    (runs_settle name c.args.line c.args.watch.now c.settle.new.watch c.args.self.now c.settle.new.self c.settle.result _ c.settle.ensures.walks)
+
+pub returns-in-Turn-clause-runs : goal.returns-in-Turn-clause-runs
+returns-in-Turn-clause-runs g c = λ going served.
+    let f : g.row.D.Denot → DiskSeen = λ disk. seen_as (g.D.Disk.size disk) (g.D.Disk.stands disk) (g.D.Disk.faults disk) in
+    let name = g.A.Addresser.name c.args.naming.now in
+    subst (λ x. RunsLine name c.args.line x c.args.watch.now c.turn.new.watch c.args.self.now c.turn.new.self c.turn.result
+    (Shows g.D.Disk.tells (record { before = c.args.watch.now; now = c.turn.new.watch; old = c.args.self.now; new = c.turn.new.self; disks = map f c.args.disks.now; left = map f c.turn.new.disks }) c.turn.result)) (sym c.in-Turn.is)
+    (c.turn.ensures.runs name)
+
+pub returns-in-Client-clause-runs : goal.returns-in-Client-clause-runs
+returns-in-Client-clause-runs g c = λ going served.
+    let f : g.row.D.Denot → DiskSeen = λ disk. seen_as (g.D.Disk.size disk) (g.D.Disk.stands disk) (g.D.Disk.faults disk) in
+    let name = g.A.Addresser.name c.args.naming.now in
+    runs_any g.D.Disk.tells name c.args.line c.args.command c.args.watch.now c.args.watch.now c.args.self.now c.ask.new.self _ c.ask.result
+    (subst (λ x. RunsLine name c.args.line x c.args.watch.now c.args.watch.now c.args.self.now c.ask.new.self c.ask.result
+    (Shows ⊤ (record { before = c.args.watch.now; now = c.args.watch.now; old = c.args.self.now; new = c.ask.new.self; disks = map f c.args.disks.now; left = map f c.args.disks.now }) c.ask.result)) (sym c.in-Client.is)
+    (subst (λ k. RunsLine name c.args.line (command.Client c.in-Client.op) k k c.args.self.now c.ask.new.self c.ask.result
+    (Shows ⊤ (record { before = k; now = k; old = c.args.self.now; new = c.ask.new.self; disks = map f c.args.disks.now; left = map f c.args.disks.now }) c.ask.result)) c.now-moment.ensures.value (c.ask.ensures.runs (map f c.args.disks.now))))
+
+pub returns-in-Fail-clause-runs : goal.returns-in-Fail-clause-runs
+returns-in-Fail-clause-runs g c = λ going served.
+    let f : g.row.D.Denot → DiskSeen = λ disk. seen_as (g.D.Disk.size disk) (g.D.Disk.stands disk) (g.D.Disk.faults disk) in
+    let name = g.A.Addresser.name c.args.naming.now in
+    runs_any g.D.Disk.tells name c.args.line c.args.command c.args.watch.now c.args.watch.now c.args.self.now c.fail.new.self _ c.fail.result
+    (subst (λ x. RunsLine name c.args.line x c.args.watch.now c.args.watch.now c.args.self.now c.fail.new.self c.fail.result
+    (Shows ⊤ (record { before = c.args.watch.now; now = c.args.watch.now; old = c.args.self.now; new = c.fail.new.self; disks = map f c.args.disks.now; left = map f c.args.disks.now }) c.fail.result)) (sym c.in-Fail.is)
+    (subst (λ k. RunsLine name c.args.line (command.Fail c.in-Fail.peer) k k c.args.self.now c.fail.new.self c.fail.result
+    (Shows ⊤ (record { before = k; now = k; old = c.args.self.now; new = c.fail.new.self; disks = map f c.args.disks.now; left = map f c.args.disks.now }) c.fail.result)) c.now-moment.ensures.value (c.fail.ensures.runs name (map f c.args.disks.now))))

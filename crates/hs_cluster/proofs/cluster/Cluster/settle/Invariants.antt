@@ -1,11 +1,20 @@
 use Rattle.std.proofs.Common.{◌≡◌, ◌*◌, ◌≤◌, None, length, map}
 use Rattle.hs_cluster.specs.Disks.{AreReady, seen_as}
+use Rattle.hs_cluster.specs.Kept.{Shows}
 use Rattle.hs_cluster.specs.Settling.{HasWalked}
+use Rattle.std.specs.Prelude.{Ok}
 use Rattle.hs_cluster.proofs.cluster.Cluster.settle.Given as goal
 
 abbrev pub invariant-loop-step : goal.invariant-loop-step
 invariant-loop-step g l = record {
-  walked : HasWalked l.nudges l.line l.fn.watch l.watch l.fn.self l.self l.place;
+  walked : HasWalked l.nudges l.line l.fn.watch l.watch l.fn.self l.self l.place (Shows g.D.Disk.tells (record {
+    before = l.fn.watch;
+    now = l.watch;
+    old = l.fn.self;
+    new = l.self;
+    disks = map (λ disk. seen_as (g.D.Disk.size disk) (g.D.Disk.stands disk) (g.D.Disk.faults disk)) l.fn.disks;
+    left = map (λ disk. seen_as (g.D.Disk.size disk) (g.D.Disk.stands disk) (g.D.Disk.faults disk)) l.disks;
+  }) (Ok tt));
   going : l.self.core.ended ≡ None;
   ready : AreReady g.D.Disk.tells l.self.logs (map (λ disk. seen_as (g.D.Disk.size disk) (g.D.Disk.stands disk) (g.D.Disk.faults disk)) l.disks);
   count : length l.disks ≡ length l.fn.disks;

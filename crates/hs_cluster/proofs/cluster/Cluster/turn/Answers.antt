@@ -1,13 +1,57 @@
-use Rattle.std.proofs.Common.{◌≡◌, ◌≤◌, ◌∙◌, ap, sym, subst, arith, Some}
-use Rattle.hs_cluster.proofs.LineLemmas.{runs_turn}
-use Rattle.hs_events.specs.Due.{turn_behind}
+use Rattle.std.proofs.Common.{◌≡◌, ◌≤◌, ◌∙◌, ◌∷◌, [], ap, arith, map, refl, sym, subst, Some}
+use Rattle.std.proofs.lemmas.Result.{err_from_is_err_and}
+use Rattle.std.specs.Prelude.{Err, Ok}
+use Rattle.hs_cluster.proofs.LineLemmas.{runs_turn, runs_turn_alone, runs_turn_cut}
+use Rattle.hs_cluster.proofs.ShowLemmas.{any_shows, quiet_shows, shows_then}
+use Rattle.hs_cluster.specs.Calls.{Does, RunsLine, done_of}
+use Rattle.hs_cluster.specs.declared.fault.ClusterFault.{ClusterFault}
+use Rattle.hs_cluster.specs.Disks.{DiskSeen, log_at, seen_as}
+use Rattle.hs_cluster.specs.Kept.{Shows}
 use Rattle.hs_cluster.specs.Running.{Running}
-use Rattle.hs_cluster.specs.Settling.{DoesDue}
+use Rattle.hs_core.specs.declared.event.Event.{Event}
+use Rattle.hs_core.specs.declared.event.Event.TheVariants as event
+use Rattle.hs_events.specs.Due.{turn_behind}
+use Rattle.hs_model.specs.declared.command.Command.TheVariants as command
 use Rattle.hs_cluster.proofs.cluster.Cluster.turn.Goals as goal
+
+pub returns-in_err-step-clause-runs : goal.returns-in_err-step-clause-runs
+returns-in_err-step-clause-runs g c = λ name.
+    let f : g.row.D.Denot → DiskSeen = λ disk. seen_as (g.D.Disk.size disk) (g.D.Disk.stands disk) (g.D.Disk.faults disk) in
+    let p = err_from_is_err_and c.from_residual.result c.from_residual.ensures.1 in
+    let old = c.args.self.now in
+    let new = c.step.new.self in
+    let start = c.args.watch.now in
+    let e : Event = event.Turn c.args.line c.args.peer in
+    let fault = c.in_err-step.field-0.0 in
+    let does : Does (done_of (Err fault) (e, start)) old new (Err fault) = subst (λ k. Does (done_of (Err fault) (e, k)) old new (Err fault)) c.now.ensures.value c.in_err-step.ensures.does in
+    subst (λ r. RunsLine name c.args.line (command.Turn c.args.peer) start start old new r (Shows g.D.Disk.tells (record { before = start; now = start; old = old; new = new; disks = map f c.args.disks.now; left = map f c.args.disks.now }) r))
+    (sym (p.1 ∙ ap (λ (x : ClusterFault). Err x) p.2))
+    (runs_turn_cut name c.args.line c.args.peer start start start old new fault _ (omega arith) (omega arith) does
+    (any_shows g.D.Disk.tells (record { before = start; now = start; old = old; new = new; disks = map f c.args.disks.now; left = map f c.args.disks.now }) (Err fault) (done_of (Err fault) (e, start)) (quiet_shows e start old new (map f c.args.disks.now) (Err fault) refl c.requires.going does (λ p keeping at. subst (λ l. log_at l p ≡ Some keeping) c.step.ensures.logs at))))
 
 pub returns-in-Some-clause-runs : goal.returns-in-Some-clause-runs
 returns-in-Some-clause-runs g c = λ name.
-    let low : c.args.watch.now ≤ c.now.result = omega (arith, c.now.ensures.value) in
-    let is : turn_behind c.args.peer c.step.new.self.core ≡ Some c.in-Some.due = ap (λ (r : Running). turn_behind c.args.peer r.core) (sym c.self.view_is) ∙ sym c.turn_behind.ensures.value ∙ c.in-Some.is in
-    runs_turn name c.args.line c.args.peer c.args.watch.now c.do_due.new.watch c.now.result c.args.self.now c.step.new.self c.do_due.new.self c.in-Some.due c.do_due.result low c.in_ok-step.ensures.does is
-    (subst (λ m. DoesDue c.args.line c.in-Some.due m c.do_due.new.watch c.step.new.self c.do_due.new.self c.do_due.result) (sym c.now.ensures.value) c.do_due.ensures.does)
+    let f : g.row.D.Denot → DiskSeen = λ disk. seen_as (g.D.Disk.size disk) (g.D.Disk.stands disk) (g.D.Disk.faults disk) in
+    let old = c.args.self.now in
+    let mid = c.step.new.self in
+    let new = c.do_due.new.self in
+    let start = c.args.watch.now in
+    let r = c.do_due.result in
+    let e : Event = event.Turn c.args.line c.args.peer in
+    let first : Does ((e, start) ∷ []) old mid (Ok tt) = subst (λ k. Does ((e, k) ∷ []) old mid (Ok tt)) c.now.ensures.value c.in_ok-step.ensures.does in
+    let is : turn_behind c.args.peer mid.core ≡ Some c.in-Some.due = ap (λ (r : Running). turn_behind c.args.peer r.core) (sym c.self.view_is) ∙ sym c.turn_behind.ensures.value ∙ c.in-Some.is in
+    let one = any_shows g.D.Disk.tells _ (Ok tt) _ (quiet_shows e start old mid (map f c.args.disks.now) (Ok tt) refl c.requires.going first (λ p keeping at. subst (λ l. log_at l p ≡ Some keeping) c.step.ensures.logs at)) in
+    runs_turn name c.args.line c.args.peer start c.do_due.new.watch start old mid new c.in-Some.due r _ _ (omega arith) first is c.do_due.ensures.does
+    (λ fs rise on. shows_then g.D.Disk.tells start start c.do_due.new.watch old mid new (map f c.args.disks.now) (map f c.args.disks.now) (map f c.do_due.new.disks) r ((e, start) ∷ []) fs first (omega arith, omega arith) rise one on)
+
+pub returns-in-None-clause-runs : goal.returns-in-None-clause-runs
+returns-in-None-clause-runs g c = λ name.
+    let f : g.row.D.Denot → DiskSeen = λ disk. seen_as (g.D.Disk.size disk) (g.D.Disk.stands disk) (g.D.Disk.faults disk) in
+    let old = c.args.self.now in
+    let new = c.step.new.self in
+    let start = c.args.watch.now in
+    let e : Event = event.Turn c.args.line c.args.peer in
+    let first : Does ((e, start) ∷ []) old new (Ok tt) = subst (λ k. Does ((e, k) ∷ []) old new (Ok tt)) c.now.ensures.value c.in_ok-step.ensures.does in
+    runs_turn_alone name c.args.line c.args.peer start start start old new _ (omega arith) (omega arith) first
+    (ap (λ (r : Running). turn_behind c.args.peer r.core) (sym c.self.view_is) ∙ sym c.turn_behind.ensures.value ∙ c.in-None.is)
+    (any_shows g.D.Disk.tells _ (Ok tt) _ (quiet_shows e start old new (map f c.args.disks.now) (Ok tt) refl c.requires.going first (λ p keeping at. subst (λ l. log_at l p ≡ Some keeping) c.step.ensures.logs at)))

@@ -1,0 +1,59 @@
+use Rattle.std.proofs.Common.{◌≡◌, ◌≤◌, ap, arith, map, subst, true}
+use Rattle.std.specs.Prelude.{Ok}
+use Rattle.hs_cluster.proofs.DiskLemmas.{since_of}
+use Rattle.hs_cluster.proofs.ShowLemmas.{does_same, job_cut, job_shows}
+use Rattle.hs_cluster.proofs.WalkLemmas.{event_due, nothing_due, report_is_it}
+use Rattle.hs_cluster.specs.Calls.{Does, done_of}
+use Rattle.hs_cluster.specs.declared.fault.ClusterFault.{ClusterFault}
+use Rattle.hs_cluster.specs.Disks.{DiskSeen, seen_as}
+use Rattle.hs_cluster.specs.Jobs.{Works, is_own}
+use Rattle.hs_cluster.specs.Running.{Running}
+use Rattle.hs_core.specs.declared.event.Event.{Event}
+use Rattle.hs_core.specs.declared.event.Event.TheVariants as event
+use Rattle.hs_core.specs.Looking.{first_job}
+use Rattle.hs_events.specs.declared.due.Due.TheVariants.{Reporting}
+use Rattle.hs_events.specs.Due.{is_answer}
+use Rattle.hs_cluster.proofs.cluster.Cluster.report.Goals as goal
+
+pub returns-in_default-clause-does : goal.returns-in_default-clause-does
+returns-in_default-clause-does g c = λ line.
+    let f : g.row.D.Denot → DiskSeen = λ disk. seen_as (g.D.Disk.size disk) (g.D.Disk.stands disk) (g.D.Disk.faults disk) in
+    nothing_due line (Reporting c.args.peer) c.args.watch.now c.do_job-done.new.watch c.args.self.now _ _ c.requires.going c.do_job-done.ensures.ticks
+    (ap (λ (r : Running). r.course) c.self.view_is) (ap (λ (r : Running). r.core) c.self.view_is)
+    (job_cut g.D.Disk.tells c.args.watch.now c.do_job-done.new.watch c.args.peer c.args.self.now _ c.do_job-done.new.logs.items (map f c.args.disks.now) (map f c.do_job-done.new.disks) c.do_job-done.result c.requires.peer
+    (λ told. since_of f c.args.disks.now (g.met.D.Disk.since told))
+    (λ told. subst (λ (r : Running). is_own (first_job c.args.peer r.core) ≡ true → Works {E = ClusterFault} (record {
+      peer = c.args.peer;
+      before = c.args.watch.now;
+      now = c.do_job-done.new.watch;
+      logs = r.logs;
+      after = c.do_job-done.new.logs.items;
+      disks = map f c.args.disks.now;
+      left = map f c.do_job-done.new.disks;
+    }) (first_job c.args.peer r.core) c.do_job-done.result) c.self.view_is (c.do_job-done.ensures.works told)))
+
+pub returns-clause-does : goal.returns-clause-does
+returns-clause-does g c = λ line.
+    let f : g.row.D.Denot → DiskSeen = λ disk. seen_as (g.D.Disk.size disk) (g.D.Disk.stands disk) (g.D.Disk.faults disk) in
+    let old = c.args.self.now in
+    let new = c.step.new.self in
+    let now = c.do_job-done.new.watch in
+    let e : Event = event.Report c.args.peer c.in-Ok.done in
+    let core = ap (λ (r : Running). r.core) c.self.view_is in
+    let answer : is_answer old.core c.args.peer c.in-Ok.done ≡ true = subst (λ x. is_answer x c.args.peer c.in-Ok.done ≡ true) core c.in-Ok.ensures.answer in
+    let does : Does (done_of c.step.result (e, now)) old new c.step.result =
+    subst (λ k. Does (done_of c.step.result (e, k)) old new c.step.result) c.now.ensures.value
+    (does_same (done_of c.step.result (e, c.now.result)) _ old new c.step.result core (ap (λ (r : Running). r.course) c.self.view_is) c.step.ensures.does) in
+    event_due line (Reporting c.args.peer) c.args.watch.now now old new e now c.step.result _ (report_is_it line old.core c.args.peer c.in-Ok.done answer) c.do_job-done.ensures.ticks (omega arith) does
+    (job_shows g.D.Disk.tells c.args.watch.now now c.args.peer old new c.do_job-done.new.logs.items (map f c.args.disks.now) (map f c.do_job-done.new.disks) ClusterFault c.in-Ok.done c.step.result c.requires.peer c.requires.going answer
+    (λ told. since_of f c.args.disks.now (g.met.D.Disk.since told))
+    (λ told. subst (λ (r : Running). is_own (first_job c.args.peer r.core) ≡ true → Works {E = ClusterFault} (record {
+      peer = c.args.peer;
+      before = c.args.watch.now;
+      now = c.do_job-done.new.watch;
+      logs = r.logs;
+      after = c.do_job-done.new.logs.items;
+      disks = map f c.args.disks.now;
+      left = map f c.do_job-done.new.disks;
+    }) (first_job c.args.peer r.core) (Ok c.in-Ok.done)) c.self.view_is (c.in-Ok.ensures.works told))
+    c.step.ensures.logs does)

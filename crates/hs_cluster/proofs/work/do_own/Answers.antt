@@ -1,0 +1,35 @@
+use Rattle.std.proofs.Common.{refl, Some, true}
+use Rattle.std.proofs.lemmas.Result.{err_from_is_err_and}
+use Rattle.hs_cluster.proofs.JobLemmas.{first_of_two, leaves_err, leaves_ok, leaves_read, stays_one}
+use Rattle.hs_cluster.specs.Jobs.{list_after}
+use Rattle.hs_desk.specs.declared.done.Done.TheVariants as done
+use Rattle.hs_desk.specs.declared.job.Job.TheVariants as job
+use Rattle.hs_peerlog.specs.declared.fault.LogFault.TheVariants.{NoMemory}
+use Rattle.hs_cluster.proofs.work.do_own.Goals as goal
+
+pub returns-in_err-append_entry-in-Append-clause-leaves : goal.returns-in_err-append_entry-in-Append-clause-leaves
+returns-in_err-append_entry-in-Append-clause-leaves g c = λ told last list waiting has.
+    let p = err_from_is_err_and c.from_residual.result c.from_residual.ensures.1 in
+    leaves_err _ c.args.job.now list waiting c.from_residual.result p.0 p.1
+    (first_of_two c.args.watch.now c.append_entry.new.watch (g.D.Disk.stands c.args.disk.now) (g.D.Disk.stands c.append_entry.new.disk) list (list_after c.args.job.now list waiting) (c.append_entry.ensures.any_moment told last list waiting has))
+
+pub returns-in_ok-append_entry-in-Append-clause-leaves : goal.returns-in_ok-append_entry-in-Append-clause-leaves
+returns-in_ok-append_entry-in-Append-clause-leaves g c = λ told last list waiting has.
+    leaves_ok _ c.args.job.now _ list waiting (done.Stored c.in-Append.number) c.append_entry.new.log c.in-Append.is refl refl
+    (first_of_two c.args.watch.now c.append_entry.new.watch (g.D.Disk.stands c.args.disk.now) (g.D.Disk.stands c.append_entry.new.disk) list (list_after c.args.job.now list waiting) (c.append_entry.ensures.any_moment told last list waiting has))
+    (c.in_ok-append_entry-in-Append.ensures.list told last list waiting has) tt
+
+pub returns-in-Read-clause-leaves : goal.returns-in-Read-clause-leaves
+returns-in-Read-clause-leaves g c = λ told last list waiting has.
+    leaves_read c.args.watch.now c.in-Read.number c.args.log.now (g.D.Disk.stands c.args.disk.now) (g.D.Disk.stands c.read_block.new.disk) c.args.job.now list waiting c.read_block.result c.in-Read.is (c.read_block.ensures.same told) last
+    (g.met.D.Disk.since told c.args.disk.now) has c.read_block.ensures.done (c.read_block.ensures.told told list waiting has.kept)
+
+pub returns-in-Copy-clause-leaves : goal.returns-in-Copy-clause-leaves
+returns-in-Copy-clause-leaves g c = λ told last list waiting has.
+    leaves_err _ c.args.job.now list waiting _ NoMemory refl
+    (stays_one (g.D.Disk.stands c.args.disk.now) c.args.watch.now list (list_after c.args.job.now list waiting) last (g.met.D.Disk.since told c.args.disk.now) has.leaves)
+
+pub returns-in-Reclaim-clause-leaves : goal.returns-in-Reclaim-clause-leaves
+returns-in-Reclaim-clause-leaves g c = λ told last list waiting has.
+    leaves_ok _ c.args.job.now job.Reclaim list waiting (done.Stepped true) c.args.log.now c.in-Reclaim.is refl refl
+    (stays_one (g.D.Disk.stands c.args.disk.now) c.args.watch.now list (list_after c.args.job.now list waiting) last (g.met.D.Disk.since told c.args.disk.now) has.leaves) has tt

@@ -1,0 +1,107 @@
+-- What a job leaves of a log, and of its disk at each moment.
+use Rattle.std.specs.Prelude.{◌≡◌, ◌≢◌, ◌⊎◌, ◌≤◌, ℕ, Bool, true, false, List, [], length, Option, Some, None, Result, IfOk}
+use Rattle.hs_cluster.specs.Disks.{DiskSeen, log_at, stands_of}
+use Rattle.hs_desk.specs.declared.done.Done.{Done}
+use Rattle.hs_desk.specs.declared.job.Job.{Job}
+use Rattle.hs_desk.specs.declared.job.Job.TheVariants as job
+use Rattle.hs_entry.specs.declared.entry.Entry.{Entry}
+use Rattle.hs_events.specs.Asked.{failed_disk}
+use Rattle.hs_events.specs.Reports.{TellsOf}
+use Rattle.hs_fold.specs.Shards.Setting.{Numbered}
+use Rattle.hs_peerlog.specs.Images.{IsOne, LeavesAll, LeavesEach}
+use Rattle.hs_peerlog.specs.Lists.{HasLog, Keeping, with_waiting}
+use Rattle.hs_ports.specs.Disk.{Standing}
+use Rattle.hs_ports.specs.Moments.{disk_at}
+
+-- ---- the list behind a job
+
+-- with the entry that waits, where one does
+abbrev pub sealed_list : Numbered → Option Entry → Numbered
+sealed_list list None = list
+sealed_list list (Some entry) = with_waiting list entry
+
+abbrev pub list_after : Job → Numbered → Option Entry → Numbered
+list_after (job.Append number entry) list waiting = list
+list_after (job.Seal number) list waiting = sealed_list list waiting
+list_after (job.Read number) list waiting = list
+list_after job.Reset list waiting = []
+list_after (job.Copy from number) list waiting = list
+list_after job.Reclaim list waiting = list
+
+-- the entry that waits behind it
+abbrev pub waiting_after : Job → Option Entry → Option Entry
+waiting_after (job.Append number entry) waiting = Some entry
+waiting_after (job.Seal number) waiting = None
+waiting_after (job.Read number) waiting = waiting
+waiting_after job.Reset waiting = None
+waiting_after (job.Copy from number) waiting = waiting
+waiting_after job.Reclaim waiting = waiting
+
+-- whether a job needs the log of its peer alone; so where there is none
+abbrev pub is_own : Option Job → Bool
+is_own None = true
+is_own (Some (job.Append number entry)) = true
+is_own (Some (job.Seal number)) = true
+is_own (Some (job.Read number)) = true
+is_own (Some job.Reset) = false
+is_own (Some (job.Copy from number)) = false
+is_own (Some job.Reclaim) = true
+
+-- ---- a job that was tried on the disk of a peer
+
+-- the moment, the log where the disk is in use, and what the disk holds, before it and behind it
+pub record Try : Type 0 where
+  pub before : ℕ
+  pub now : ℕ
+  pub slot : Option Keeping
+  pub kept : Option Keeping
+  pub old : Standing
+  pub new : Standing
+
+-- what was done is on the disk; a disk whose call failed is out of use
+abbrev pub LeavesLog : Option ℕ → Try → Job → Numbered → Option Entry → Type 0
+LeavesLog None t j list waiting =
+    (keeping : Keeping) × (t.kept ≡ Some keeping) × HasLog keeping t.new (list_after j list waiting) (waiting_after j waiting)
+LeavesLog (Some disk) t j list waiting = t.kept ≡ None
+
+-- each moment leaves the list before the job or the one behind it; and what was read is of the list
+pub record Leaves {E : Type 0} (t : Try) (j : Job) (list : Numbered) (waiting : Option Entry) (result : Result Done E) : Type 0 where
+  pub moments : LeavesEach t.before t.now t.old t.new (IsOne list (list_after j list waiting))
+  pub log : IfOk result (λ done. LeavesLog (failed_disk done) t j list waiting)
+  pub told : IfOk result (λ done. TellsOf done (Some list))
+
+-- so with the list that the log has; without a job, or without a log, nothing is done, and the disk stays as it is
+pub record Tries {E : Type 0} (t : Try) (todo : Option Job) (result : Result Done E) : Type 0 where
+  pub idle : (todo ≡ None) ⊎ (t.slot ≡ None) → LeavesAll t.before t.now t.old t.new
+  pub cut : (todo ≡ None) ⊎ (t.slot ≡ None) → IfOk result (λ done. ⊥)
+  pub each : (j : Job) (keeping : Keeping) → todo ≡ Some j → t.slot ≡ Some keeping
+      → (list : Numbered) (waiting : Option Entry) → HasLog keeping t.old list waiting → Leaves t j list waiting result
+
+-- ---- on one disk of several
+
+-- the peer, the moment, the logs and the disks, before it and behind it
+pub record Working : Type 0 where
+  pub peer : ℕ
+  pub before : ℕ
+  pub now : ℕ
+  pub logs : List (Option Keeping)
+  pub after : List (Option Keeping)
+  pub disks : List DiskSeen
+  pub left : List DiskSeen
+
+abbrev pub try_of : Working → Try
+try_of w = record {
+  before = w.before;
+  now = w.now;
+  slot = log_at w.logs w.peer;
+  kept = log_at w.after w.peer;
+  old = disk_at (stands_of w.disks) w.peer;
+  new = disk_at (stands_of w.left) w.peer;
+}
+
+-- a job was tried there, and every other disk stays, with its log
+pub record Works {E : Type 0} (w : Working) (todo : Option Job) (result : Result Done E) : Type 0 where
+  pub tries : (disk_at (stands_of w.disks) w.peer).last ≤ w.before → Tries (try_of w) todo result
+  pub count : length w.left ≡ length w.disks
+  pub logs : (p : ℕ) → p ≢ w.peer → log_at w.after p ≡ log_at w.logs p
+  pub others : (p : ℕ) → p ≢ w.peer → disk_at (stands_of w.left) p ≡ disk_at (stands_of w.disks) p

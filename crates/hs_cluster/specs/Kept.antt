@@ -1,0 +1,72 @@
+-- What a cluster tells of its disks, where they tell their contents and each shard has one copy.
+use Rattle.std.specs.Prelude.{◌≡◌, ◌≤◌, ◌<◌, ◌-◌, ◌^◌, ℕ, ⊤, List, [], ◌∷◌, take, Option, Some, None, Result, OnOk}
+use Rattle.hs_cluster.specs.Disks.{DiskSeen, log_at, stands_of}
+use Rattle.hs_cluster.specs.Running.{Running}
+use Rattle.hs_cluster.specs.declared.fault.ClusterFault.{ClusterFault}
+use Rattle.hs_desk.specs.declared.done.Done.{Done}
+use Rattle.hs_events.specs.Asked.{report_in}
+use Rattle.hs_events.specs.Course.{happened}
+use Rattle.hs_events.specs.Due.{Events}
+use Rattle.hs_events.specs.Reports.{TellsOf}
+use Rattle.hs_events.specs.Sane.{IsSane, appended_of}
+use Rattle.hs_events.specs.Whole.{Whole, floor, reach, step_whole}
+use Rattle.hs_fold.specs.Shards.Setting.{Numbered}
+use Rattle.hs_members.specs.Members.{IsPeer}
+use Rattle.hs_moments.specs.Machine.{runs}
+use Rattle.hs_moments.specs.Moments.{Keeps, ListsAtMoments}
+use Rattle.hs_moments.specs.WholeMachine.{IsFrontOf, last_of, whole_machine}
+use Rattle.hs_peerlog.specs.Lists.{HasLog, Keeping}
+use Rattle.hs_ports.specs.declared.disk.Side.{Side}
+use Rattle.hs_ports.specs.Moments.{disk_at}
+
+-- how much of a peer's list is on its disk at least: what it has sealed
+abbrev pub sealed_front : Whole → ℕ → Numbered
+sealed_front c peer = take (floor c peer) (reach c peer)
+
+-- ---- between two calls
+
+-- the log of each disk in use has just what is sealed of its peer's list, and the entry that was appended behind it waits
+pub record KeepsLogs (c : Whole) (logs : List (Option Keeping)) (disks : List DiskSeen) : Type 0 where
+  pub each : (peer : ℕ) (keeping : Keeping) → IsPeer c.core.members.shape peer → log_at logs peer ≡ Some keeping
+      → HasLog keeping (disk_at (stands_of disks) peer) (sealed_front c peer) (appended_of peer c.core)
+
+-- what a cluster keeps to go on: its core with the lists of the peers, the logs, and whatever a crash leaves
+pub record CanGoOn (c : Whole) (logs : List (Option Keeping)) (disks : List DiskSeen) (now : ℕ) : Type 0 where
+  pub sane : IsSane c
+  pub listed : KeepsLogs c logs disks
+  pub keeps : Keeps whole_machine IsFrontOf last_of c now (stands_of disks)
+
+-- ---- a call, or some
+
+-- the moment, the cluster and the disks before it and behind it
+pub record Span : Type 0 where
+  pub before : ℕ
+  pub now : ℕ
+  pub old : Running
+  pub new : Running
+  pub disks : List DiskSeen
+  pub left : List DiskSeen
+
+-- what a report tells of a block is so of the list of its peer
+abbrev pub IsTold : Whole → Option (ℕ × Done) → Type 0
+IsTold c None = ⊤
+IsTold c (Some report) = TellsOf report.1 (Some (sealed_front c report.0))
+
+abbrev pub AreTold : Whole → Events → Type 0
+AreTold c [] = ⊤
+AreTold c (e ∷ es) = IsTold c (report_in e.0) × AreTold (step_whole e.0 e.1 c) es
+
+-- at each moment, and from then on, a disk that counts has a list that begins its peer's list and has at least what is sealed of it;
+-- what was so of earlier moments is so still
+pub record LeavesLists (c : Whole) (events : Events) (span : Span) : Type 0 where
+  pub earlier : (peer m : ℕ) (side : Side) → m ≤ span.before → m < 2 ^ 64 - 1
+      → (disk_at (stands_of span.left) peer).past m side ≡ (disk_at (stands_of span.disks) peer).past m side
+  pub moments : ListsAtMoments whole_machine IsFrontOf last_of c (happened c.core events) span.before span.now (stands_of span.left)
+  pub keeps : Keeps whole_machine IsFrontOf last_of (runs whole_machine c (happened c.core events)) span.now (stands_of span.left)
+  pub told : AreTold c events
+
+-- so of the events of a call, for the lists with which it began; and behind it the cluster keeps what it needs to go on
+pub record Shows (tells : Type 0) (span : Span) (result : Result ⊤ ClusterFault) (events : Events) : Type 0 where
+  pub lists : tells → (c : Whole) → c.core ≡ span.old.core → CanGoOn c span.old.logs span.disks span.before → LeavesLists c events span
+  pub goes_on : tells → (c : Whole) → c.core ≡ span.old.core → CanGoOn c span.old.logs span.disks span.before
+      → OnOk result (CanGoOn (runs whole_machine c events) span.new.logs span.left span.now)
