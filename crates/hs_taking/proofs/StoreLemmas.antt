@@ -129,9 +129,9 @@ pub no_other : {T : Type 0} (tells : Type 0) (shape : Shape) (old new : List Dis
 no_other tells shape old new (Ok t) only = tt
 no_other tells shape old new (Err fault) only = subst (λ f. IsOther tells shape old new f) (sym only) tt
 
-pub no_wrong : {T : Type 0} {P : Type 0} (r : Result T TakeFault) → IsOkUnless r NoMemory → IfErr r (λ fault. (at : ℕ) (found : Header) → fault ≡ WrongShape at found → P)
-no_wrong (Ok t) only = tt
-no_wrong (Err fault) only = λ at found is. cc (sym only ∙ is)
+pub no_wrong : {T : Type 0} (P : Type 0) (r : Result T TakeFault) → IsOkUnless r NoMemory → IfErr r (λ fault. (at : ℕ) (found : Header) → fault ≡ WrongShape at found → P)
+no_wrong P (Ok t) only = tt
+no_wrong P (Err fault) only = λ at found is. cc (sym only ∙ is)
 
 pub other_rose : {T : Type 0} (tells : Type 0) (shape : Shape) (old via new : List DiskSeen) (views : List (Option Viewing)) (total : ℕ) (r : Result T TakeFault)
     → ((peer : ℕ) → peer < total → IsViewed tells shape peer (seen_at old peer) (seen_at via peer) (slice_index_or views peer None)) → ((peer : ℕ) → peer < total → (seen_at via peer).faults ≤ (seen_at new peer).faults) → tells

@@ -37,7 +37,7 @@ pub returns-clause-other : goal.returns-clause-other
 returns-clause-other g c = no_other g.D.Disk.tells c.args.shape _ _ c.take_all.result c.take_all.ensures.only
 
 pub returns-clause-unwritten : goal.returns-clause-unwritten
-returns-clause-unwritten g c = no_wrong c.take_all.result c.take_all.ensures.only
+returns-clause-unwritten g c = no_wrong _ c.take_all.result c.take_all.ensures.only
 
 pub returns-clause-own : goal.returns-clause-own
 returns-clause-own g c =
