@@ -1,24 +1,20 @@
 -- What events leave of a cluster.
 use Rattle.std.proofs.Common.{◌≡◌, ◌∙◌, ap, sym, ℕ, ◌+◌, ◌*◌, ◌<◌, Bool, true, false, List, [], ◌∷◌, ◌++◌, Option, Some, None, map, refl, subst, arith, zero, suc}
 use Rattle.std.proofs.lemmas.List.{append-nil, append_assoc}
-use Rattle.std.specs.List.{range_with_len}
-use Rattle.std.specs.Option.{option_map_or}
-use Rattle.std.specs.Prelude.{flat_map, slice_index_or, Result, Ok, Err, ⊤}
+use Rattle.std.specs.Prelude.{Result, Ok, Err, if◌then◌else◌, ⊤}
 use Rattle.hs_cluster.specs.Calls.{Does, outcome_by, ran_out}
-use Rattle.hs_events.specs.Course.{change_item, event_items, items_between, items_of, steps, took_items}
+use Rattle.hs_events.specs.Course.{event_items, is_refused, items_between, items_of, steps}
 use Rattle.hs_cluster.specs.declared.fault.ClusterFault.{ClusterFault}
+use Rattle.hs_cluster.specs.declared.fault.ClusterFault.TheVariants as cluster
 use Rattle.hs_cluster.specs.declared.fault.ClusterFault.TheVariants.{NoMemory}
 use Rattle.hs_events.specs.Due.{Events}
 use Rattle.hs_cluster.specs.Running.{Running}
 use Rattle.hs_core.specs.Calls.{begun_line, outcome_of}
 use Rattle.hs_core.specs.declared.event.Event.{Event}
-use Rattle.hs_core.specs.Looking.{front_of, status_of}
 use Rattle.hs_core.specs.State.{Core}
 use Rattle.hs_core.specs.Step.{step}
 use Rattle.hs_desk.specs.declared.fault.CoreFault.{CoreFault}
-use Rattle.hs_members.specs.Members.{is_good_status}
-use Rattle.hs_model.specs.declared.course.CourseItem.{CourseItem}
-use Rattle.hs_model.specs.declared.course.CourseItem.TheVariants as item
+use Rattle.hs_desk.specs.declared.fault.CoreFault.TheVariants as fault
 use Rattle.hs_events.proofs.RunLemmas.{items_append, steps_append}
 
 -- ---- what they leave
@@ -107,8 +103,18 @@ err_ends core fault h = go core.ended refl
         let is : outcome_of core ≡ Err other = rw e refl in
         e ∙ ap (λ f. Some f) (same other (h ∙ is))
 
+-- one that happened, with its items
 pub event_done : (event : Event) (moment : ℕ) (old new : Running) (line : Option ℕ) (result : Result ⊤ ClusterFault) → new.core ≡ step event moment old.core → line ≡ begun_line event
-    → new.course ≡ old.course ++ items_between line old.core new.core moment → result ≡ outcome_by new.core.ended → ran_out result ≡ false → Does ((event, moment) ∷ []) old new result
-event_done event moment old new line result core begun course outcome there =
+    → new.course ≡ old.course ++ items_between line old.core new.core moment → is_refused new.core.ended ≡ false → result ≡ outcome_by new.core.ended → ran_out result ≡ false → Does ((event, moment) ∷ []) old new result
+event_done event moment old new line result core begun course happened outcome there =
+    let h : is_refused (step event moment old.core).ended ≡ false = ap (λ (c : Core). is_refused c.ended) (sym core) ∙ happened in
     one_done (event, moment) old new result
-    (course ∙ ap (λ l. old.course ++ items_between l old.core new.core moment) begun ∙ ap (λ c. old.course ++ items_between (begun_line event) old.core c moment) core) core outcome there
+    (course ∙ ap (λ l. old.course ++ items_between l old.core new.core moment) begun ∙ ap (λ c. old.course ++ items_between (begun_line event) old.core c moment) core
+    ∙ ap (λ b. old.course ++ (if b then [] else items_between (begun_line event) old.core (step event moment old.core) moment)) (sym h)) core outcome there
+
+-- one that was refused, with none
+pub event_refused : (event : Event) (moment : ℕ) (old new : Running) → new.core ≡ step event moment old.core → new.course ≡ old.course → new.core.ended ≡ Some fault.OpsFull → Does ((event, moment) ∷ []) old new (Err cluster.OpsFull)
+event_refused event moment old new core course ended =
+    let h : is_refused (step event moment old.core).ended ≡ true = ap (λ (c : Core). is_refused c.ended) (sym core) ∙ ap is_refused ended in
+    one_done (event, moment) old new (Err cluster.OpsFull)
+    (course ∙ sym (append-nil old.course) ∙ ap (λ b. old.course ++ (if b then [] else items_between (begun_line event) old.core (step event moment old.core) moment)) (sym h)) core (ap outcome_by (sym ended)) refl

@@ -5,13 +5,13 @@ ghost use Rattle.hs_core.specs.Calls.{IsNextLine, last_line_after};
 
 use crate::{Cluster, ClusterFault};
 use hs_core::Event;
-use hs_events::{begun_line, fronts_of, goods_of, note_event};
 use hs_desk::CoreFault;
+use hs_events::{begun_line, fronts_of, goods_of, note_event};
 
 impl Cluster {
     /// Does one event at a moment, and notes its items of the course, for which room is made before
-    /// it.
-    #[tactic(auto, using(crate::proofs::EventLemmas::nothing_done, crate::proofs::EventLemmas::one_done, crate::proofs::GoingLemmas::step_goes))]
+    /// it. Where the journal had no room for its entries it has not happened, and there are none.
+    #[tactic(auto, using(crate::proofs::EventLemmas::nothing_done, crate::proofs::EventLemmas::one_done, hs_events::proofs::GoingLemmas::step_goes))]
     pub(crate) fn step(&mut self, event: Event, moment: u64) -> Result<(), ClusterFault>
         requires going { self.old.core.ended ≡ None }
         requires moment { self.old.core.moment ≤ moment }
@@ -35,10 +35,7 @@ impl Cluster {
                 note_event(&self.core, line, &goods, &fronts, &mut self.course, moment);
                 Ok(())
             }
-            Err(CoreFault::OpsFull) => {
-                note_event(&self.core, line, &goods, &fronts, &mut self.course, moment);
-                Err(ClusterFault::OpsFull)
-            }
+            Err(CoreFault::OpsFull) => Err(ClusterFault::OpsFull),
             Err(CoreFault::ShardLost { shard }) => {
                 note_event(&self.core, line, &goods, &fronts, &mut self.course, moment);
                 Err(ClusterFault::ShardLost { shard })

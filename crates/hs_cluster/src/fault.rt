@@ -44,3 +44,11 @@ impl From<AllocError> for ClusterFault {
         ClusterFault::NoMemory
     }
 }
+
+impl From<hs_events::NoMemory> for ClusterFault {
+    ghost from_gives = { λ _ fault. fault ≡ NoMemory };
+
+    fn from(_error: hs_events::NoMemory) -> ClusterFault {
+        ClusterFault::NoMemory
+    }
+}

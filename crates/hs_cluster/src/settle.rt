@@ -11,8 +11,8 @@ ghost use Rattle.hs_members.specs.Members.{IsPeer, all_peers};
 
 use crate::job::do_job;
 use crate::{Cluster, ClusterFault};
-use hs_events::{Due, Place, knowns_of, next_due, next_turn, peers_of, place_after, raises_known};
 use hs_core::{Core, Event};
+use hs_events::{Due, Place, knowns_of, next_due, next_turn, peers_of, place_after, raises_known};
 use hs_ports::{Disk, Watch};
 
 impl Cluster {

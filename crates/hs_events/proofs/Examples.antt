@@ -1,17 +1,19 @@
--- A run over one shard with one copy: its events, its course, its lists, and that these events are the ones due.
+-- A run over one shard with one copy: its events, its course, its lists, that these events are the ones due, and what happens where the journal is full. A store of two copies, of which one was set aside.
 use Rattle.std.specs.List.{range_with_len}
 use Rattle.std.specs.Prelude.{◌≡◌, refl, ℕ, ◌++◌, Bool, false, true, List, [], ◌∷◌, map, Option, Some, None}
 use Rattle.hs_events.specs.Commands.{AreOfCommand, LineAt}
-use Rattle.hs_events.specs.Course.{items_of, steps}
+use Rattle.hs_events.specs.Course.{happened, items_of, steps}
 use Rattle.hs_events.specs.Due.{Events, is_walk, next_due, next_turn}
-use Rattle.hs_events.specs.Reports.{failures}
-use Rattle.hs_events.specs.Whole.{Whole, floor, reach, step_whole}
+use Rattle.hs_events.specs.Reports.{failures, only_reads}
+use Rattle.hs_events.specs.Whole.{Whole, counts, floor, open_whole, reach, step_whole}
 use Rattle.hs_core.specs.declared.event.Event.TheVariants as event
 use Rattle.hs_core.specs.Opening.{Taken, open_core}
 use Rattle.hs_core.specs.State.{Core}
 use Rattle.hs_desk.specs.declared.done.Done.TheVariants as done
-use Rattle.hs_entry.specs.declared.entry.Entry.{Entry}
+use Rattle.hs_desk.specs.declared.job.Job.TheVariants as job
+use Rattle.hs_entry.specs.Entries.{rank_of}
 use Rattle.hs_entry.specs.declared.entry.Entry.TheVariants as kind
+use Rattle.hs_fold.specs.Shards.Setting.{Setting}
 use Rattle.hs_limits.specs.declared.address.Address.{Address}
 use Rattle.hs_limits.specs.declared.shape.Shape.{Shape}
 use Rattle.hs_limits.specs.Limits.{greatest_limits}
@@ -114,25 +116,87 @@ an_append_costs : failures false 0 opened ((event.Report 0 (done.Failed 0), 1) �
 unfolding gained addresses block_at read_block no_handle_in stale_in helds_of deed_of seats_after asked_for begin block_entry compared data_of go is_same_block judged_in mark_entry on_bytes on_effect refusals_of asked_block least_epoch
 an_append_costs = refl
 
+-- a failed copy costs the disk that is read nothing, where the disks tell nothing; the one that is written it does
+a_copy_reads : only_reads 0 (job.Copy 0 1) ≡ true
+a_copy_reads = refl
+
+a_copy_writes : only_reads 1 (job.Copy 0 1) ≡ false
+a_copy_writes = refl
+
+-- ---- a full journal
+
+abbrev opened_full : Core
+opened_full = open_core shape (record greatest_limits { ops = 1 }) opens_with 0
+
+abbrev two_lines : Events
+two_lines = (event.Line 1 (op.Open a), 5) ∷ (event.Line 2 op.Stat, 6) ∷ []
+
+-- the second line is refused: it has not happened, and the course doesn't tell of it
+one_happened : happened opened_full two_lines ≡ (event.Line 1 (op.Open a), 5) ∷ []
+unfolding gained addresses block_at read_block no_handle_in stale_in helds_of deed_of seats_after asked_for begin block_entry compared data_of go is_same_block judged_in mark_entry on_bytes on_effect refusals_of asked_block least_epoch
+one_happened = refl
+
+its_course : items_of opened_full two_lines ≡ item.Begun 1 5 ∷ []
+unfolding gained addresses block_at read_block no_handle_in stale_in helds_of deed_of seats_after asked_for begin block_entry compared data_of go is_same_block judged_in mark_entry on_bytes on_effect refusals_of asked_block least_epoch
+its_course = refl
+
 -- ---- the lists
 
 abbrev run_whole : Whole → Events → Whole
 run_whole c [] = c
 run_whole c (e ∷ es) = run_whole (step_whole e.0 e.1 c) es
 
--- as opening makes them: the View waits
+-- opening found a blank disk
+abbrev set : Setting
+set = record { name = λ bytes. its_address; limits = greatest_limits; shape = shape }
+
 abbrev whole : Whole
-whole = record { core = opened; lists = λ peer. (1, kind.View 1) ∷ []; adds = λ peer. []; aside = λ peer. false }
+whole = open_whole set (record { logs = Some [] ∷ []; lost = []; good = true ∷ []; opened = 0 })
+
+its_core : whole.core ≡ opened
+unfolding gained addresses block_at read_block no_handle_in stale_in helds_of deed_of seats_after asked_for begin block_entry compared data_of go is_same_block judged_in mark_entry on_bytes on_effect refusals_of asked_block least_epoch rank_of
+its_core = refl
+
+-- as the core opens the View waits
+the_view : reach whole 0 ≡ (1, kind.View 1) ∷ []
+unfolding gained addresses block_at read_block no_handle_in stale_in helds_of deed_of seats_after asked_for begin block_entry compared data_of go is_same_block judged_in mark_entry on_bytes on_effect refusals_of asked_block least_epoch rank_of
+the_view = refl
 
 -- the list grows when an entry is proposed, and its floor when that is sealed
 the_list : reach (run_whole whole (opening ++ first_lines)) 0 ≡ (1, kind.View 1) ∷ (2, kind.Block 2 281474976710655 spelling) ∷ []
-unfolding gained addresses block_at read_block no_handle_in stale_in helds_of deed_of seats_after asked_for begin block_entry compared data_of go is_same_block judged_in mark_entry on_bytes on_effect refusals_of asked_block least_epoch
+unfolding gained addresses block_at read_block no_handle_in stale_in helds_of deed_of seats_after asked_for begin block_entry compared data_of go is_same_block judged_in mark_entry on_bytes on_effect refusals_of asked_block least_epoch rank_of
 the_list = refl
 
 the_floor_before : floor (run_whole whole (opening ++ first_lines)) 0 ≡ 1
-unfolding gained addresses block_at read_block no_handle_in stale_in helds_of deed_of seats_after asked_for begin block_entry compared data_of go is_same_block judged_in mark_entry on_bytes on_effect refusals_of asked_block least_epoch
+unfolding gained addresses block_at read_block no_handle_in stale_in helds_of deed_of seats_after asked_for begin block_entry compared data_of go is_same_block judged_in mark_entry on_bytes on_effect refusals_of asked_block least_epoch rank_of
 the_floor_before = refl
 
 the_floor : floor (run_whole whole (opening ++ (first_lines ++ last_line))) 0 ≡ 2
-unfolding gained addresses block_at read_block no_handle_in stale_in helds_of deed_of seats_after asked_for begin block_entry compared data_of go is_same_block judged_in mark_entry on_bytes on_effect refusals_of asked_block least_epoch
+unfolding gained addresses block_at read_block no_handle_in stale_in helds_of deed_of seats_after asked_for begin block_entry compared data_of go is_same_block judged_in mark_entry on_bytes on_effect refusals_of asked_block least_epoch rank_of
 the_floor = refl
+
+-- ---- two copies: the log of the first was taken, and the second has none
+
+abbrev both : Whole
+both = open_whole (record { name = λ bytes. its_address; limits = greatest_limits; shape = record { shards = 1; copies = 2 } })
+    (record { logs = Some ((1, kind.View 1) ∷ []) ∷ None ∷ []; lost = []; good = true ∷ false ∷ []; opened = 0 })
+
+of_the_first : reach both 0 ≡ (1, kind.View 1) ∷ (2, kind.View 2) ∷ []
+unfolding gained addresses block_at read_block no_handle_in stale_in helds_of deed_of seats_after asked_for begin block_entry compared data_of go is_same_block judged_in mark_entry on_bytes on_effect refusals_of asked_block least_epoch rank_of
+of_the_first = refl
+
+its_floor : floor both 0 ≡ 1
+unfolding gained addresses block_at read_block no_handle_in stale_in helds_of deed_of seats_after asked_for begin block_entry compared data_of go is_same_block judged_in mark_entry on_bytes on_effect refusals_of asked_block least_epoch rank_of
+its_floor = refl
+
+it_counts : counts both 0 ≡ true
+unfolding gained addresses block_at read_block no_handle_in stale_in helds_of deed_of seats_after asked_for begin block_entry compared data_of go is_same_block judged_in mark_entry on_bytes on_effect refusals_of asked_block least_epoch rank_of
+it_counts = refl
+
+of_the_second : reach both 1 ≡ []
+unfolding gained addresses block_at read_block no_handle_in stale_in helds_of deed_of seats_after asked_for begin block_entry compared data_of go is_same_block judged_in mark_entry on_bytes on_effect refusals_of asked_block least_epoch rank_of
+of_the_second = refl
+
+it_counts_as_blank : counts both 1 ≡ false
+unfolding gained addresses block_at read_block no_handle_in stale_in helds_of deed_of seats_after asked_for begin block_entry compared data_of go is_same_block judged_in mark_entry on_bytes on_effect refusals_of asked_block least_epoch rank_of
+it_counts_as_blank = refl

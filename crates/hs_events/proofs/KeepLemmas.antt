@@ -1,31 +1,30 @@
 -- Every event is made of a few single changes: what each of these keeps, every event keeps.
-use Rattle.std.proofs.Common.{◌≡◌, ◌∙◌, ap, sym, ℕ, zero, suc, ◌+◌, ◌-◌, Bool, true, false, List, [], ◌∷◌, Option, Some, None, refl}
+use Rattle.std.proofs.Common.{◌≡◌, ℕ, zero, suc, ◌+◌, ◌-◌, Bool, true, false, List, [], ◌∷◌, Option, Some, None, refl}
 use Rattle.std.specs.BTreeMap.{insert_entry, is_at}
-use Rattle.std.specs.Map.{remove_entry, set_value}
+use Rattle.std.specs.Map.{set_value}
 use Rattle.std.specs.Ordering.{nat_cmp}
-use Rattle.std.specs.Prelude.{map, drop, is_some}
+use Rattle.std.specs.Prelude.{drop, is_some}
 use Rattle.hs_core.specs.Asking.{deliver, lose, nudge, nudge_good, send_again, send_round, send_rounds, unless_refused, with_down, with_message, with_up, no_peer, not_up, not_down}
-use Rattle.hs_core.specs.Changing.{add_entry_tasks, add_operation, add_task, change_group, change_pool, change_rejoin, end_operation, note, post, put_operation, refuse, set_catalogue, set_rejoin, set_status, set_tasks, set_viewed}
+use Rattle.hs_core.specs.Changing.{add_entry_tasks, add_operation, add_task, change_group, change_rejoin, end_operation, note, post, set_catalogue, set_rejoin, set_status, set_tasks, set_viewed}
 use Rattle.hs_core.specs.declared.event.Event.{Event}
 use Rattle.hs_core.specs.declared.event.Event.TheVariants as event
 use Rattle.hs_core.specs.declared.task.Task.{Task}
 use Rattle.hs_core.specs.declared.wait.Wait.{Wait}
 use Rattle.hs_core.specs.declared.wait.Wait.TheVariants as wait
 use Rattle.hs_core.specs.declared.waiting.Waiting.{Waiting}
-use Rattle.hs_core.specs.Delivering.{handle, is_new_round, on_copy, take_copy, take_have}
-use Rattle.hs_core.specs.Effects.{after_entry, commit, commit_next, is_for_view, note_enter, note_sweep, reach_view, round_messages, take_effect, tell_enter, tell_operation, wakes}
+use Rattle.hs_core.specs.Delivering.{handle, take_copy}
+use Rattle.hs_core.specs.Effects.{after_entry, commit, commit_next, is_for_view, note_enter, note_sweep, reach_view, round_messages, take_effect, tell_enter, tell_operation}
 use Rattle.hs_core.specs.Entering.{is_enter_due, propose_due}
 use Rattle.hs_core.specs.Failing.{commit_rest, fail_disk, go_down, leave}
-use Rattle.hs_core.specs.Joining.{begin_joining, follow_lead, is_level_with_lead, join, join_if_level, joining_peers, start}
-use Rattle.hs_core.specs.Looking.{catalogue_of, first_task, front_of, group_of, home, lead_of, operation_of, rejoin_of, shape_of, status_of, tasks_of}
+use Rattle.hs_core.specs.Joining.{begin_joining, follow_lead, join, join_if_level, joining_peers, start}
+use Rattle.hs_core.specs.Looking.{catalogue_of, first_task, front_of, group_of, home, lead_of, operation_of, shape_of, tasks_of}
 use Rattle.hs_core.specs.Operating.{add_read, answer, begin_line, busy_line, carry_out, go_on_with, lines_where, propose_entry, resume, resume_where, take_step, wait_for, what_holds}
-use Rattle.hs_core.specs.Pending.{named}
 use Rattle.hs_core.specs.Reporting.{on_report, take_report, tell_bytes}
 use Rattle.hs_core.specs.Seeing.{pointers_for, view_for}
 use Rattle.hs_core.specs.State.{Core}
 use Rattle.hs_core.specs.Step.{do_event}
-use Rattle.hs_core.specs.Views.{begin_view, change_view, restart, restarted}
-use Rattle.hs_core.specs.Words.{change_if, change_with, each, times, ◌▸◌}
+use Rattle.hs_core.specs.Views.{begin_view, change_view}
+use Rattle.hs_core.specs.Words.{change_if, change_with, each, times}
 use Rattle.hs_desk.specs.Answers.{answers}
 use Rattle.hs_desk.specs.declared.done.Done.{Done}
 use Rattle.hs_desk.specs.declared.done.Done.TheVariants as done
@@ -52,7 +51,7 @@ use Rattle.hs_post.specs.declared.message.Message.{Message}
 use Rattle.hs_post.specs.declared.message.Message.TheVariants as message
 use Rattle.hs_post.specs.Pool.{Pool, is_full, message_at}
 use Rattle.hs_rejoin.specs.Rejoin.{Rejoin, follow}
-use Rattle.hs_replica.specs.Group.{Group, commit_front, committed, last_number, on_copied, on_emptied, on_have, on_sealed, proposal, propose, renew, send_all, take_committed, take_entry}
+use Rattle.hs_replica.specs.Group.{commit_front, committed, last_number, on_copied, on_emptied, on_have, on_sealed, proposal, propose, renew, take_committed, take_entry}
 use Rattle.hs_rounds.specs.Rounds.{sent_back}
 use Rattle.hs_shard.specs.Rounds.{messages}
 use Rattle.hs_shard.specs.declared.effect.Effect.{Effect}

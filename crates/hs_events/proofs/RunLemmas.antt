@@ -1,20 +1,10 @@
 -- Events one after another.
-use Rattle.std.proofs.Common.{◌≡◌, ◌∙◌, ap, sym, ℕ, ◌+◌, ◌*◌, ◌<◌, Bool, true, false, List, [], ◌∷◌, ◌++◌, Option, Some, None, map, refl, subst, arith, zero, suc}
-use Rattle.std.proofs.lemmas.List.{append-nil, append_assoc}
-use Rattle.std.specs.List.{range_with_len}
-use Rattle.std.specs.Option.{option_map_or}
-use Rattle.std.specs.Prelude.{flat_map, slice_index_or, Result, Ok, Err, ⊤}
-use Rattle.hs_events.specs.Course.{change_item, event_items, items_between, items_of, steps, took_items}
+use Rattle.std.proofs.Common.{◌≡◌, ◌∙◌, ap, sym, [], ◌∷◌, ◌++◌, refl}
+use Rattle.std.proofs.lemmas.List.{append_assoc}
+use Rattle.hs_events.specs.Course.{event_items, items_of, steps}
 use Rattle.hs_events.specs.Due.{Events}
-use Rattle.hs_core.specs.Calls.{begun_line, outcome_of}
-use Rattle.hs_core.specs.declared.event.Event.{Event}
-use Rattle.hs_core.specs.Looking.{front_of, status_of}
 use Rattle.hs_core.specs.State.{Core}
 use Rattle.hs_core.specs.Step.{step}
-use Rattle.hs_desk.specs.declared.fault.CoreFault.{CoreFault}
-use Rattle.hs_members.specs.Members.{is_good_status}
-use Rattle.hs_model.specs.declared.course.CourseItem.{CourseItem}
-use Rattle.hs_model.specs.declared.course.CourseItem.TheVariants as item
 
 pub steps_append : (core : Core) (es fs : Events) → steps core (es ++ fs) ≡ steps (steps core es) fs
 steps_append core [] fs = refl

@@ -1,16 +1,13 @@
 -- The turn that is due behind `turn P`.
-use Rattle.std.proofs.Common.{◌≡◌, ◌∙◌, ap, ℕ, ◌<◌, ◌≤◌, ◌||◌, Bool, true, false, [], ◌∷◌, Option, Some, None, length, refl, arith, is_some, nat_le}
+use Rattle.std.proofs.Common.{◌≡◌, ap, ℕ, ◌<◌, ◌≤◌, Bool, true, false, [], ◌∷◌, None, length, refl, arith, is_some, nat_le}
 use Rattle.std.proofs.lemmas.Bool.Decides.{nat_tests}
-use Rattle.hs_events.specs.declared.due.Due.{Due}
 use Rattle.hs_events.specs.Due.{turn_behind, turn_of}
 use Rattle.hs_core.specs.Asking.{no_peer, not_up}
 use Rattle.hs_core.specs.Looking.{status_of}
 use Rattle.hs_core.specs.State.{Core}
-use Rattle.hs_desk.specs.declared.fault.CoreFault.{CoreFault}
 use Rattle.hs_limits.specs.declared.limits.PeerStatus.{PeerStatus}
 use Rattle.hs_limits.specs.declared.limits.PeerStatus.TheVariants.{Good, Joining, Down}
 use Rattle.hs_members.specs.Members.{is_down}
-use Rattle.hs_model.specs.declared.reply.Reply.{Reply}
 use Rattle.hs_model.specs.Refusals.{first}
 
 le-is : (k m : ℕ) → k ≤ m → nat_le k m ≡ true

@@ -2,7 +2,7 @@
 -- What a disk call came to is the disk's to say; all else follows from the core.
 use Rattle.std.specs.List.{list_any}
 use Rattle.std.specs.Option.{option_and_then, option_map, option_map_or, option_or}
-use Rattle.std.specs.Prelude.{Bool, List, None, Option, Some, [], drop, false, filter_map, find, if◌then◌else◌, is_none, is_some, length, nat_le, nat_lt, not, slice_get, take, true, ℕ, ◌&&◌, ◌++◌, ◌+◌, ◌==◌, ◌||◌, ◌∷◌}
+use Rattle.std.specs.Prelude.{Bool, List, None, Option, Some, [], drop, false, filter_map, find, if◌then◌else◌, is_none, is_some, length, nat_le, nat_lt, not, slice_get, take, true, ℕ, ◌&&◌, ◌++◌, ◌+◌, ◌==◌, ◌||◌, ◌∷◌, ◌≤◌}
 use Rattle.hs_core.specs.Asking.{no_peer, not_up}
 use Rattle.hs_core.specs.Looking.{first_job, known_of, oldest_message, open_work, shape_of, status_of}
 use Rattle.hs_core.specs.State.{Core}
@@ -76,9 +76,14 @@ due_by line core (event.Start l peer) = None
 
 abbrev pub is_same_due : Due → Due → Bool
 is_same_due (Reporting p) (Reporting q) = p == q
+is_same_due (Reporting p) (Handling q n) = false
+is_same_due (Reporting p) (Nudging q) = false
+is_same_due (Handling p m) (Reporting q) = false
 is_same_due (Handling p m) (Handling q n) = m == n
+is_same_due (Handling p m) (Nudging q) = false
+is_same_due (Nudging p) (Reporting q) = false
+is_same_due (Nudging p) (Handling q n) = false
 is_same_due (Nudging p) (Nudging q) = p == q
-is_same_due due other = false
 
 -- whether an event of a line is what is due
 abbrev pub is_it : ℕ → Core → Due → Event → Bool

@@ -1,6 +1,6 @@
 -- The core beside the whole list of each peer: what a disk may hold is said of these.
 use Rattle.std.specs.Option.{option_and_then}
-use Rattle.std.specs.Prelude.{ℕ, ◌+◌, ◌-◌, ◌++◌, ◌==◌, ◌&&◌, Bool, not, List, [], length, take, drop, Option, Some, None, if◌then◌else◌}
+use Rattle.std.specs.Prelude.{ℕ, ◌-◌, ◌++◌, ◌==◌, ◌&&◌, Bool, not, [], length, take, drop, Option, Some, None, if◌then◌else◌}
 use Rattle.hs_events.specs.Asked.{report_in}
 use Rattle.hs_events.specs.Due.{is_answer}
 use Rattle.hs_core.specs.declared.event.Event.{Event}

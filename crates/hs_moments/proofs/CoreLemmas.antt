@@ -1,16 +1,16 @@
 -- The core is such a machine.
-use Rattle.std.proofs.Common.{◌≡◌, ◌∙◌, ap, sym, ℕ, zero, suc, ◌+◌, ◌*◌, ◌<◌, ◌≤◌, Bool, true, false, cond, List, [], ◌∷◌, ◌++◌, Option, Some, None, refl, arith, nat_lt, is_none}
+use Rattle.std.proofs.Common.{◌≡◌, ◌∙◌, ap, sym, ℕ, zero, suc, ◌+◌, ◌*◌, ◌≤◌, Bool, true, false, List, [], ◌∷◌, ◌++◌, Option, Some, None, refl, arith, nat_lt, is_none}
 use Rattle.std.proofs.lemmas.List.{append-nil, append_assoc}
 use Rattle.std.proofs.lemmas.List.Elements.{filter-append}
 use Rattle.std.specs.List.{range_with_len}
 use Rattle.std.specs.Option.{option_map_or}
-use Rattle.std.specs.Prelude.{flat_map, ⊤}
+use Rattle.std.specs.Prelude.{flat_map, if◌then◌else◌, ⊤}
 use Rattle.hs_events.proofs.GoingLemmas.{step_goes}
 use Rattle.hs_events.proofs.RangeLemmas.{flat_map_range_more}
 use Rattle.hs_events.specs.Due.{MomentsRise}
-use Rattle.hs_events.specs.Course.{change_item, event_items, items_of, steps, took_items}
+use Rattle.hs_events.specs.Course.{change_item, event_items, happened, is_refused, items_between, items_of, steps, took_items}
 use Rattle.hs_events.specs.Due.{Events}
-use Rattle.hs_core.specs.Calls.{last_line_after}
+use Rattle.hs_core.specs.Calls.{begun_line, last_line_after}
 use Rattle.hs_core.specs.declared.event.Event.{Event}
 use Rattle.hs_core.specs.Looking.{front_of, status_of}
 use Rattle.hs_core.specs.State.{Core}
@@ -25,6 +25,7 @@ use Rattle.hs_model.specs.declared.course.CourseItem.TheVariants as item
 use Rattle.hs_moments.proofs.AdvanceLemmas.{journal-tells}
 use Rattle.hs_moments.proofs.CourseLemmas.{good-tells, taken-tells}
 use Rattle.hs_moments.proofs.FrontLemmas.{fronts_rise}
+use Rattle.hs_moments.proofs.HappenedLemmas.{happened_rise, items_happened, journal_happened}
 use Rattle.hs_moments.proofs.JournalLemmas.{added_at, entries_after, journal_after}
 use Rattle.hs_moments.specs.Answers.{added}
 use Rattle.hs_moments.specs.CoreMachine.{core_at, core_machine}
@@ -39,8 +40,8 @@ runs_are : (core : Core) (es : Events) → runs core_machine core es ≡ steps c
 runs_are core [] = refl
 runs_are core (e ∷ es) = runs_are (step e.0 e.1 core) es
 
-pub state_is : (core : Core) (es : Events) (m : ℕ) → state_at core_machine core es m ≡ core_at core es m
-state_is core es m = runs_are core (until m es)
+pub state_is : (core : Core) (es : Events) (m : ℕ) → state_at core_machine core (happened core es) m ≡ core_at core es m
+state_is core es m = runs_are core (until m (happened core es))
 
 rises_are : (from to : ℕ) (es : Events) → MomentsRise from es to → Rises core_machine from es to
 rises_are from to [] h = h
@@ -80,30 +81,44 @@ shape_stays e at core = go (is_none core.ended) refl
     go true h = (step_goes e at core (ended_none core.ended h)).shape
     go false h = rw h refl
 
-course_is : (shape : Shape) (core : Core) (es : Events) → core.members.shape ≡ shape → course_of core_machine shape core es ≡ items_of core es
-course_is shape core [] same = refl
-course_is shape core (e ∷ es) same =
+-- those of one event that happened
+course_item : (shape : Shape) (core : Core) (e : Event × ℕ) → core.members.shape ≡ shape → is_refused (step e.0 e.1 core).ended ≡ false
+    → course_of core_machine shape core (e ∷ []) ≡ event_items core e ++ []
+course_item shape core e same h =
     let after : Core = step e.0 e.1 core in
     let goods = goods_are (λ peer. is_good_status (status_of peer core)) (λ peer. is_good_status (status_of peer after)) e.1 (shape.shards * shape.copies)
     ∙ ap (λ (s : Shape). flat_map (λ peer. change_item (is_good_status (status_of peer core)) (is_good_status (status_of peer after)) peer e.1) (range_with_len 0 (s.shards * s.copies))) (sym same) in
     let fronts = fronts_are (λ shard. front_of shard core) (λ shard. front_of shard after) e.1 shape.shards
     ∙ ap (λ (s : Shape). flat_map (λ shard. took_items shard (front_of shard core) (front_of shard after) e.1) (range_with_len 0 s.shards)) (sym same) in
     let line = begun_are (core_machine.begins e.0) e.1 in
-    let rest = course_is shape after es (shape_stays e.0 e.1 core ∙ same) in
-    λ i. (line i ++ (goods i ++ fronts i)) ++ rest i
+    let items : course_of core_machine shape core (e ∷ []) ≡ items_between (begun_line e.0) core after e.1 ++ [] = λ i. (line i ++ (goods i ++ fronts i)) ++ [] in
+    items ∙ sym (ap (λ b. (if b then [] else items_between (begun_line e.0) core after e.1) ++ []) h)
+
+joined : (xs ys more less : List CourseItem) → xs ++ [] ≡ ys ++ [] → more ≡ less → xs ++ more ≡ ys ++ less
+joined xs ys more less h g = ap (λ zs. zs ++ more) (sym (append-nil xs) ∙ h ∙ append-nil ys) ∙ ap (λ zs. ys ++ zs) g
+
+pub course_is : (shape : Shape) (core : Core) (es : Events) → core.members.shape ≡ shape → course_of core_machine shape core (happened core es) ≡ items_of core (happened core es)
+course_is shape core [] same = refl
+course_is shape core (e ∷ es) same = go (course_is shape (step e.0 e.1 core) es (shape_stays e.0 e.1 core ∙ same)) (is_refused (step e.0 e.1 core).ended) refl
+  where
+    go : course_of core_machine shape (step e.0 e.1 core) (happened (step e.0 e.1 core) es) ≡ items_of (step e.0 e.1 core) (happened (step e.0 e.1 core) es)
+        → (b : Bool) → is_refused (step e.0 e.1 core).ended ≡ b
+        → course_of core_machine shape core (if b then [] else e ∷ happened (step e.0 e.1 core) es) ≡ items_of core (if b then [] else e ∷ happened (step e.0 e.1 core) es)
+    go ih true h = refl
+    go ih false h = joined _ _ _ _ (course_item shape core e same h) ih
 
 pub good_at : (core : Core) (es : Events) (from to m peer : ℕ) → MomentsRise from es to → IsPeer core.members.shape peer
     → good_from (is_good_status (status_of peer core)) (items_of core es) m peer ≡ is_good_status (status_of peer (core_at core es m))
 good_at core es from to m peer rises low =
-    ap (λ items. good_from (is_good_status (status_of peer core)) items m peer) (sym (course_is core.members.shape core es refl))
-    ∙ good-tells core_machine core.members.shape core es from to m peer low (rises_are from to es rises)
+    ap (λ items. good_from (is_good_status (status_of peer core)) items m peer) (sym (course_is core.members.shape core es refl ∙ items_happened core es))
+    ∙ good-tells core_machine core.members.shape core (happened core es) from to m peer low (rises_are from to (happened core es) (happened_rise core from to es rises))
     ∙ ap (λ c. is_good_status (status_of peer c)) (state_is core es m)
 
 pub taken_at : (core : Core) (es : Events) (from to m shard : ℕ) → MomentsRise from es to → IsShard core.members.shape shard
     → taken_from (front_of shard core) (items_of core es) m shard ≡ front_of shard (core_at core es m)
 taken_at core es from to m shard rises low =
-    ap (λ items. taken_from (front_of shard core) items m shard) (sym (course_is core.members.shape core es refl))
-    ∙ taken-tells core_machine core.members.shape (λ c e k g. (fronts_rise e k c).each g) core es from to m shard low (rises_are from to es rises)
+    ap (λ items. taken_from (front_of shard core) items m shard) (sym (course_is core.members.shape core es refl ∙ items_happened core es))
+    ∙ taken-tells core_machine core.members.shape (λ c e k g. (fronts_rise e k c).each g) core (happened core es) from to m shard low (rises_are from to (happened core es) (happened_rise core from to es rises))
     ∙ ap (λ c. front_of shard c) (state_is core es m)
 
 -- ---- the journal
@@ -135,13 +150,13 @@ pub journal_at : (core : Core) (es : Events) (from to m : ℕ) → core.entries 
     → (core_at core es m).journal ≡ below m (steps core es).journal
 journal_at core es from to m between rises old =
     ap (λ (c : Core). c.journal) (sym (state_is core es m))
-    ∙ journal-tells core_machine IsBetween (λ c e at. added e at c) (λ peer list all. ⊤) (λ list. 0) core.members.shape obeys core es from to m between (rises_are from to es rises)
-    ∙ ap (λ j. j ++ below m (entries_so_far core es)) (sym old)
-    ∙ sym (filter-append (λ (entry : JournalEntry). nat_lt entry.moment m) core.journal (entries_so_far core es))
-    ∙ ap (below m) (sym (journal_all core es between))
+    ∙ journal-tells core_machine IsBetween (λ c e at. added e at c) (λ peer list all. ⊤) (λ list. 0) core.members.shape obeys core (happened core es) from to m between (rises_are from to (happened core es) (happened_rise core from to es rises))
+    ∙ ap (λ j. j ++ below m (entries_so_far core (happened core es))) (sym old)
+    ∙ sym (filter-append (λ (entry : JournalEntry). nat_lt entry.moment m) core.journal (entries_so_far core (happened core es)))
+    ∙ ap (below m) (sym (journal_all core (happened core es) between) ∙ journal_happened core es)
 
 pub entries_at : (core : Core) (es : Events) (m : ℕ) → core.entries ≡ [] → (core_at core es m).entries ≡ []
-entries_at core es m between = go core (until m es) between
+entries_at core es m between = go core (until m (happened core es)) between
   where
     go : (c : Core) (fs : Events) → c.entries ≡ [] → (steps c fs).entries ≡ []
     go c [] h = h

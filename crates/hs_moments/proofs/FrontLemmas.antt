@@ -1,6 +1,5 @@
 -- How many entries of a shard have taken effect never falls.
-use Rattle.std.proofs.Common.{◌≡◌, ◌∙◌, ap, sym, ℕ, zero, suc, ◌+◌, ◌≤◌, ◌==◌, ◌&&◌, not, Bool, true, false, cond, List, [], ◌∷◌, Option, Some, None, refl, arith, length, nat_lt, is_none}
-use Rattle.std.specs.Option.{option_map, option_map_or}
+use Rattle.std.proofs.Common.{◌≡◌, ℕ, zero, suc, ◌+◌, ◌≤◌, ◌==◌, ◌&&◌, not, Bool, true, false, List, [], ◌∷◌, Option, Some, None, refl, arith, length, nat_lt, is_none}
 use Rattle.std.specs.Prelude.{slice_get, slice_index_or, slice_set}
 use Rattle.hs_events.proofs.KeepLemmas.{Leaves, ReportLeaves, keeps_do, with_line}
 use Rattle.hs_core.specs.Changing.{change_group, change_pool}
@@ -12,7 +11,7 @@ use Rattle.hs_core.specs.Step.{begin_event, do_event, end_event, line_of, run_ev
 use Rattle.hs_core.specs.Words.{change_if}
 use Rattle.hs_entry.specs.declared.entry.Entry.{Entry}
 use Rattle.hs_post.specs.Pool.{is_empty, restart_numbers}
-use Rattle.hs_replica.specs.Group.{Group, commit_front, committed, hears, lead, lead_takes, new_group, on_copied, on_emptied, on_have, on_sealed, propose, renew, take_committed, take_entry}
+use Rattle.hs_replica.specs.Group.{Group, commit_front, hears, lead, lead_takes, new_group, on_copied, on_emptied, on_have, on_sealed, propose, renew, take_committed, take_entry}
 
 pub record FrontsRise (old new : Core) : Type 0 where
   pub each : (shard : ℕ) → front_of shard old ≤ front_of shard new

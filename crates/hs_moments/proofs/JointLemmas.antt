@@ -1,20 +1,17 @@
 -- How the moments of a run go on by a line, and by what is printed of it.
-use Rattle.std.proofs.Common.{◌≡◌, inl, inr, ℕ, ◌*◌, ◌-◌, ◌^◌, ◌<◌, ◌≤◌, Bool, true, false, cond, ◌&&◌, ◌==◌, List, [], ◌∷◌, ◌++◌, refl, sym, ap, subst, ◌∙◌, arith, nat_lt, filter}
+use Rattle.std.proofs.Common.{◌≡◌, inl, inr, ℕ, ◌-◌, ◌^◌, ◌<◌, ◌≤◌, Bool, true, false, cond, ◌&&◌, ◌==◌, List, [], ◌∷◌, ◌++◌, refl, sym, ap, subst, ◌∙◌, arith, nat_lt}
 use Rattle.std.specs.Prelude.{All}
 use Rattle.std.proofs.lemmas.Bool.{cases_lt}
 use Rattle.std.proofs.lemmas.List.Elements.{All-weaker, All-head, All-tail}
 use Rattle.hs_limits.specs.declared.shape.Shape.{Shape}
 use Rattle.hs_model.specs.declared.course.CourseItem.{CourseItem}
 use Rattle.hs_model.specs.declared.course.CourseItem.TheVariants as item
-use Rattle.hs_ports.specs.declared.disk.Side.{Side}
 use Rattle.hs_ports.specs.Disk.{IsImage, Standing}
-use Rattle.hs_ports.specs.Moments.{disk_at}
 use Rattle.hs_entry.specs.declared.entry.Entry.{Entry}
 use Rattle.hs_journal.specs.declared.entry.JournalEntry.{JournalEntry}
-use Rattle.hs_fold.specs.Good.{is_good, good_after, good_from, taken_after, taken_from, taken_below}
-use Rattle.hs_fold.specs.Images.{IsLeft}
+use Rattle.hs_fold.specs.Good.{good_after, good_from, taken_after, taken_from}
 use Rattle.hs_moments.specs.Machine.{Machine}
-use Rattle.hs_moments.specs.Moments.{IsStanding, Since, Keeps, GivesFine}
+use Rattle.hs_moments.specs.Moments.{Since}
 use Rattle.hs_moments.specs.Joint.{below, moment_of, Tells, AtMoment, Rests, Advances, Holds}
 use Rattle.hs_moments.proofs.MomentLemmas.{le-is, later-keeps}
 use Rattle.hs_moments.proofs.CourseLemmas.{good-append, taken-append}

@@ -2,6 +2,7 @@ pub mod AdvanceLemmas
 pub mod CoreLemmas
 pub mod CourseLemmas
 pub mod FrontLemmas
+pub mod HappenedLemmas
 pub mod JointLemmas
 pub mod JournalLemmas
 pub mod MomentLemmas

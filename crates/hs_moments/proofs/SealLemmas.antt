@@ -1,7 +1,5 @@
 -- How many entries a peer has sealed is changed by reports alone.
-use Rattle.std.proofs.Common.{◌≡◌, ◌∙◌, ap, sym, ℕ, zero, suc, ◌+◌, ◌-◌, ◌==◌, ◌&&◌, not, Bool, true, false, List, [], ◌∷◌, Option, Some, None, refl, arith, length, map, max, nat_lt, is_none}
-use Rattle.std.specs.List.{enumerate_from}
-use Rattle.std.specs.Option.{option_map, option_map_or}
+use Rattle.std.proofs.Common.{◌≡◌, ◌∙◌, ℕ, zero, suc, ◌+◌, ◌-◌, ◌==◌, ◌&&◌, not, Bool, true, false, List, [], ◌∷◌, Option, Some, None, refl, arith, length, max, nat_lt, is_none}
 use Rattle.std.specs.Prelude.{slice_get, slice_index_or, slice_set}
 use Rattle.hs_events.proofs.KeepLemmas.{Leaves, keeps_begin, keeps_delivered, keeps_failed, keeps_lost, keeps_nudged, keeps_repeated, keeps_started, keeps_turn}
 use Rattle.hs_events.specs.Asked.{report_in}
@@ -14,10 +12,10 @@ use Rattle.hs_core.specs.Step.{begin_event, do_event, end_event, line_of, run_ev
 use Rattle.hs_core.specs.Words.{change_if}
 use Rattle.hs_desk.specs.declared.done.Done.{Done}
 use Rattle.hs_entry.specs.declared.entry.Entry.{Entry}
-use Rattle.hs_members.specs.Members.{Members, is_good_status, status}
+use Rattle.hs_members.specs.Members.{Members}
 use Rattle.hs_post.specs.Pool.{is_empty, restart_numbers}
 use Rattle.hs_replica.specs.declared.replica.Replica.{Replica}
-use Rattle.hs_replica.specs.Group.{Group, change_copy, commit_front, committed, copy_of, first_peer, hears, lead, lead_takes, new_group, no_copy, on_have, propose, renew, stamp, take_committed, take_entry, tell, tell_from}
+use Rattle.hs_replica.specs.Group.{Group, change_copy, commit_front, copy_of, first_peer, hears, lead, lead_takes, new_group, no_copy, on_have, propose, renew, stamp, take_committed, take_entry, tell_from}
 
 -- of each peer as many are sealed
 pub record SealsStay (old new : Core) : Type 0 where

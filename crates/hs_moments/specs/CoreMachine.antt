@@ -1,6 +1,6 @@
 -- The core as a machine over events, without lists; and the core at a moment of a run.
 use Rattle.std.specs.Prelude.{ℕ, [], false}
-use Rattle.hs_events.specs.Course.{steps}
+use Rattle.hs_events.specs.Course.{happened, steps}
 use Rattle.hs_events.specs.Due.{Events}
 use Rattle.hs_core.specs.Calls.{begun_line}
 use Rattle.hs_core.specs.declared.event.Event.{Event}
@@ -22,6 +22,6 @@ core_machine = record {
   begins = begun_line;
 }
 
--- the core behind the events of a run below a moment
+-- the core behind the events of a run below a moment, as far as they happened
 abbrev pub core_at : Core → Events → ℕ → Core
-core_at core events moment = steps core (until moment events)
+core_at core events moment = steps core (until moment (happened core events))

@@ -1,5 +1,5 @@
 -- The course that a machine's events give.
-use Rattle.std.specs.Prelude.{ℕ, ◌*◌, Bool, true, false, if◌then◌else◌, List, [], ◌∷◌, ◌++◌, Option, None, Some, nat_lt}
+use Rattle.std.specs.Prelude.{ℕ, ◌*◌, Bool, if◌then◌else◌, List, [], ◌∷◌, ◌++◌, Option, None, Some, nat_lt}
 use Rattle.std.proofs.Common.{zero, suc}
 use Rattle.hs_limits.specs.declared.shape.Shape.{Shape}
 use Rattle.hs_model.specs.declared.course.CourseItem.{CourseItem}

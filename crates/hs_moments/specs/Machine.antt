@@ -1,5 +1,5 @@
 -- One machine over events, as what stands above it sees it. Its state has the whole lists of its peers; the value of the core's type is this state without them.
-use Rattle.std.specs.Prelude.{◌≡◌, ℕ, ◌≤◌, List, [], ◌∷◌, Bool, true, Option, if◌then◌else◌, nat_lt}
+use Rattle.std.specs.Prelude.{ℕ, ◌≤◌, List, [], ◌∷◌, Bool, Option, if◌then◌else◌, nat_lt}
 use Rattle.hs_entry.specs.declared.entry.Entry.{Entry}
 use Rattle.hs_journal.specs.declared.entry.JournalEntry.{JournalEntry}
 

@@ -1,8 +1,7 @@
 //! The journal of a run.
 ghost use Rattle.std.specs.Prelude.{◌≡◌, ℕ, [], ◌++◌, All};
-ghost use Rattle.hs_events.specs.Due.{MomentsRise};
-ghost use Rattle.hs_events.specs.Course.{steps};
-ghost use Rattle.hs_events.specs.Due.{Events};
+ghost use Rattle.hs_events.specs.Course.{happened, steps};
+ghost use Rattle.hs_events.specs.Due.{Events, MomentsRise};
 ghost use Rattle.hs_core.specs.declared.event.Event.{Event};
 ghost use Rattle.hs_core.specs.State.{Core};
 ghost use Rattle.hs_core.specs.Step.{step};
@@ -12,8 +11,8 @@ ghost use Rattle.hs_moments.specs.Joint.{below};
 
 /// An event appends to the journal, at its own moment. So the journal of the core at a moment of a run
 /// is what the whole journal has below it, where all that was there before the run is below it. Between
-/// two events no entry waits to be appended.
-#[tactic(auto, using(crate::proofs::JournalLemmas::journal_after, crate::proofs::JournalLemmas::added_at, crate::proofs::JournalLemmas::entries_after, crate::proofs::CoreLemmas::journal_at, crate::proofs::CoreLemmas::entries_at))]
+/// two events no entry waits to be appended. What the journal had no room for is in none of them.
+#[tactic(auto, using(crate::proofs::JournalLemmas::journal_after, crate::proofs::JournalLemmas::added_at, crate::proofs::JournalLemmas::entries_after, crate::proofs::CoreLemmas::journal_at, crate::proofs::CoreLemmas::entries_at, crate::proofs::HappenedLemmas::journal_happened))]
 pub fn the_journal_tells_each_moment()
     ensures added { (core : Core) (event : Event) (moment : ℕ)
         → (step event moment core).journal ≡ core.journal ++ added event moment core }
@@ -26,4 +25,6 @@ pub fn the_journal_tells_each_moment()
         → (core_at core events moment).journal ≡ below moment (steps core events).journal }
     ensures none { (core : Core) (events : Events) (moment : ℕ) → core.entries ≡ []
         → (core_at core events moment).entries ≡ [] }
+    ensures happened { (core : Core) (events : Events)
+        → (steps core (happened core events)).journal ≡ (steps core events).journal }
 {}

@@ -1,10 +1,10 @@
 use Rattle.std.proofs.Common.{◌≡◌, ◌∙◌, ap, sym, subst, refl, ◌*◌, ◌++◌, ◌∷◌, [], ℕ, List, None, map}
 use Rattle.std.specs.List.{range_with_len}
 use Rattle.std.specs.Prelude.{Result, Ok, Err}
-use Rattle.hs_cluster.proofs.EventLemmas.{err_ends, event_done, ok_goes}
+use Rattle.hs_cluster.proofs.EventLemmas.{err_ends, event_done, event_refused, ok_goes}
 use Rattle.hs_events.proofs.GoingLemmas.{step_goes}
 use Rattle.hs_cluster.specs.Calls.{Does, outcome_by}
-use Rattle.hs_events.specs.Course.{items_between}
+use Rattle.hs_events.specs.Course.{is_refused, items_between}
 use Rattle.hs_cluster.specs.declared.fault.ClusterFault.TheVariants as cluster
 use Rattle.hs_cluster.specs.Running.{Running}
 use Rattle.hs_core.specs.Looking.{front_of, status_of}
@@ -29,23 +29,16 @@ returns-in-Ok-clause-does c =
     subst (λ (o : Running). Does ((c.args.event, c.args.moment) ∷ []) o (record { core = new; logs = c.self.inside.logs.items; course = c.note_event.new.course.items }) (Ok tt)) c.self.view_is
     (event_done c.args.event c.args.moment (record { core = old; logs = c.self.inside.logs.items; course = c.self.inside.course.items }) (record { core = new; logs = c.self.inside.logs.items; course = c.note_event.new.course.items }) c.begun_line-line.result (Ok tt) is c.begun_line-line.ensures
     (c.note_event.ensures.items old shape goods fronts ∙ ap (λ (xs : List CourseItem). xs ++ items_between c.begun_line-line.result old new c.args.moment) c.in_ok-reserve.ensures.items)
-    (ap outcome_by (sym (ok_goes new c.in-Ok.field-0 c.in-Ok.ensures.steps.outcome))) refl)
+    (ap is_refused (ok_goes new c.in-Ok.field-0 c.in-Ok.ensures.steps.outcome)) (ap outcome_by (sym (ok_goes new c.in-Ok.field-0 c.in-Ok.ensures.steps.outcome))) refl)
 
 pub returns-in-Err-OpsFull-clause-does : goal.returns-in-Err-OpsFull-clause-does
 returns-in-Err-OpsFull-clause-does c =
     let old = c.self.inside.core in
     let new = c.step.new.self in
     let steps = rw c.in-Err-OpsFull.field-0-is at c.in-Err-OpsFull.ensures.steps in
-    let going : old.ended ≡ None = ap (λ (r : Running). r.core.ended) c.self.view_is ∙ c.requires.going in
     let is : new ≡ step c.args.event c.args.moment old = steps.done refl in
-    let shape : old.members.shape ≡ new.members.shape = sym (ap (λ (x : Core). x.members.shape) is ∙ (step_goes c.args.event c.args.moment old going).shape) in
-    let same : c.shape-shape.result ≡ new.members.shape = c.shape-shape.ensures.value ∙ shape in
-    let goods = c.in_ok-goods.ensures ∙ ap (λ (s : Shape). map (λ peer. is_good_status (status_of peer old)) (range_with_len 0 (s.shards * s.copies))) same in
-    let fronts = c.in_ok-fronts.ensures ∙ ap (λ (s : Shape). map (λ shard. front_of shard old) (range_with_len 0 s.shards)) same in
-    subst (λ (o : Running). Does ((c.args.event, c.args.moment) ∷ []) o (record { core = new; logs = c.self.inside.logs.items; course = c.note_event-in-Err-OpsFull.new.course.items }) (Err cluster.OpsFull)) c.self.view_is
-    (event_done c.args.event c.args.moment (record { core = old; logs = c.self.inside.logs.items; course = c.self.inside.course.items }) (record { core = new; logs = c.self.inside.logs.items; course = c.note_event-in-Err-OpsFull.new.course.items }) c.begun_line-line.result (Err cluster.OpsFull) is c.begun_line-line.ensures
-    (c.note_event-in-Err-OpsFull.ensures.items old shape goods fronts ∙ ap (λ (xs : List CourseItem). xs ++ items_between c.begun_line-line.result old new c.args.moment) c.in_ok-reserve.ensures.items)
-    (ap outcome_by (sym (err_ends new core.OpsFull steps.outcome))) refl)
+    subst (λ (o : Running). Does ((c.args.event, c.args.moment) ∷ []) o (record { core = new; logs = c.self.inside.logs.items; course = c.reserve.new.self.items }) (Err cluster.OpsFull)) c.self.view_is
+    (event_refused c.args.event c.args.moment (record { core = old; logs = c.self.inside.logs.items; course = c.self.inside.course.items }) (record { core = new; logs = c.self.inside.logs.items; course = c.reserve.new.self.items }) is c.in_ok-reserve.ensures.items (err_ends new core.OpsFull steps.outcome))
 
 pub returns-in-Err-ShardLost-clause-does : goal.returns-in-Err-ShardLost-clause-does
 returns-in-Err-ShardLost-clause-does c =
@@ -61,4 +54,4 @@ returns-in-Err-ShardLost-clause-does c =
     subst (λ (o : Running). Does ((c.args.event, c.args.moment) ∷ []) o (record { core = new; logs = c.self.inside.logs.items; course = c.note_event-in-Err-ShardLost.new.course.items }) (Err (cluster.ShardLost c.in-Err-ShardLost.shard))) c.self.view_is
     (event_done c.args.event c.args.moment (record { core = old; logs = c.self.inside.logs.items; course = c.self.inside.course.items }) (record { core = new; logs = c.self.inside.logs.items; course = c.note_event-in-Err-ShardLost.new.course.items }) c.begun_line-line.result (Err (cluster.ShardLost c.in-Err-ShardLost.shard)) is c.begun_line-line.ensures
     (c.note_event-in-Err-ShardLost.ensures.items old shape goods fronts ∙ ap (λ (xs : List CourseItem). xs ++ items_between c.begun_line-line.result old new c.args.moment) c.in_ok-reserve.ensures.items)
-    (ap outcome_by (sym (err_ends new (core.ShardLost c.in-Err-ShardLost.shard) steps.outcome))) refl)
+    (ap is_refused (err_ends new (core.ShardLost c.in-Err-ShardLost.shard) steps.outcome)) (ap outcome_by (sym (err_ends new (core.ShardLost c.in-Err-ShardLost.shard) steps.outcome))) refl)
