@@ -1,13 +1,10 @@
 -- Which peer of a shard is chosen.
-use Rattle.std.proofs.Common.{◌≡◌, ◌∙◌, ap, sym, subst, ℕ, suc, ◌+◌, ◌*◌, ◌-◌, ◌<◌, ◌≤◌, List, Option, Some, None, drop, length, take, refl, arith}
+use Rattle.std.proofs.Common.{◌≡◌, ◌∙◌, ap, sym, ℕ, suc, ◌+◌, ◌*◌, ◌-◌, ◌<◌, ◌≤◌, List, Option, Some, None, drop, length, take, arith}
 use Rattle.std.proofs.Math.Nat.{mul-le-mul_right, suc-mul}
-use Rattle.std.proofs.lemmas.List.{length-drop, length-take-le}
 use Rattle.std.proofs.lemmas.List.Quantifiers.{position-Some}
-use Rattle.std.specs.Prelude.{unwrap_or}
 use Rattle.hs_coldstart.specs.Choose.{choose, is_greatest}
 use Rattle.hs_entry.specs.declared.rank.Rank.{Rank}
 use Rattle.hs_limits.specs.declared.shape.Shape.{Shape}
-use Rattle.hs_limits.specs.Shape.{IsShape, peer_of}
 
 -- the peers of a shard are peers
 pub shard_within : (shape : Shape) (shard : ℕ) → shard < shape.shards → shard * shape.copies + shape.copies ≤ shape.shards * shape.copies

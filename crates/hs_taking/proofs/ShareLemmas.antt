@@ -8,12 +8,12 @@ use Rattle.std.proofs.lemmas.List.Quantifiers.{all_pairs_push}
 use Rattle.std.proofs.Math.ListN.{get_or-append}
 use Rattle.std.specs.List.{AllPairs}
 use Rattle.std.specs.Option.{option_map_or}
-use Rattle.std.specs.Prelude.{flat_map, slice_index_or, slice_set}
-use Rattle.hs_fold.specs.Shards.Setting.{Numbered, Setting}
+use Rattle.std.specs.Prelude.{slice_index_or, slice_set}
+use Rattle.hs_fold.specs.Shards.Setting.{Setting}
 use Rattle.hs_memory.specs.Forget.{apply_all}
 use Rattle.hs_peerlog.proofs.ImageLemmas.{Since}
 use Rattle.hs_peerlog.proofs.StayLemmas.{then-each}
-use Rattle.hs_peerlog.specs.Images.{Is, LeavesAll, LeavesEach, LeavesOnly}
+use Rattle.hs_peerlog.specs.Images.{Is, LeavesAll}
 use Rattle.hs_peerlog.specs.Lists.{Keeping}
 use Rattle.hs_peerlog.specs.Views.{Viewing}
 use Rattle.hs_ports.specs.Disk.{Standing}
@@ -222,12 +222,12 @@ module _ {A : Type 0} (f : A → DiskSeen) (tells : Type 0) (set : Setting) (bef
             | inr there ↦ subst (λ z. IsLostAt tells later is z) (contains_one (i, m) y there) (lost_here m e)
           ];
           once = subst (λ ys. AllPairs IsLater ys) (sym same) (all_pairs_push IsLater (all_lost was) (i, m) so_far.once (λ k z less.
-            let h = so_far.lost (slice_index_or (all_lost was) k z) (Contains-get_or (all_lost was) k z less) in
-            let w = h.within in
-            let u = h.up_to in
-            let t = one.ticks in
-            let v = one.moment m e in
-            (omega (arith, u, t, v), λ eq. omega (arith, w, eq, count))));
+              let h = so_far.lost (slice_index_or (all_lost was) k z) (Contains-get_or (all_lost was) k z less) in
+              let w = h.within in
+              let u = h.up_to in
+              let t = one.ticks in
+              let v = one.moment m e in
+              (omega (arith, u, t, v), λ eq. omega (arith, w, eq, count))));
           old_in = λ y has. subst (λ ys. Contains ys y) (sym same) (Contains-append_left (all_lost was) ((i, m) ∷ []) y has);
           new_in = λ some. (m, subst (λ ys. Contains ys (i, m)) (sym same) (Contains-push (all_lost was) (i, m)));
         }

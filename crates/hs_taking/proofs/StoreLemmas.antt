@@ -1,26 +1,23 @@
 -- From the disks as they were to what a store opens with.
-use Rattle.std.proofs.Common.{◌≡◌, ◌∙◌, ap, sym, subst, ℕ, ◌+◌, ◌-◌, ◌^◌, ◌<◌, ◌≤◌, true, false, min, List, length, Option, Some, None, Result, Ok, Err, is_some, refl, arith, inl, inr}
+use Rattle.std.proofs.Common.{◌≡◌, ◌∙◌, ap, sym, subst, ℕ, ◌<◌, ◌≤◌, List, length, Option, Some, None, Result, Ok, Err, is_some, refl, arith, inl, inr}
 use Rattle.std.specs.Prelude.{IfErr, IfOk, IsOkUnless, OnOk, slice_index_or}
 use Rattle.hs_fold.specs.Shards.Setting.{Numbered, Setting}
 use Rattle.hs_limits.specs.declared.shape.Shape.{Shape}
-use Rattle.hs_memory.specs.Forget.{apply_all}
 use Rattle.hs_peerlog.proofs.StayLemmas.{then-each}
 use Rattle.hs_peerlog.specs.declared.fault.LogFault.TheVariants as log
-use Rattle.hs_peerlog.specs.Images.{Is, LeavesAll, LeavesEach, LeavesOnly}
+use Rattle.hs_peerlog.specs.Images.{Is, LeavesAll, LeavesOnly}
 use Rattle.hs_peerlog.specs.Opening.{refusal_in}
 use Rattle.hs_peerlog.specs.Views.{Viewing}
 use Rattle.hs_ports.specs.declared.disk.Side.{Side}
 use Rattle.hs_ports.specs.Disk.{Standing}
 use Rattle.hs_ports.specs.Fault.{HasRisen}
-use Rattle.hs_shard.specs.Facts.{empty_catalogue}
 use Rattle.hs_side.specs.Current.{list_in}
 use Rattle.hs_side.specs.declared.header.Header.{Header}
 use Rattle.hs_taking.specs.declared.fault.TakeFault.{TakeFault}
 use Rattle.hs_taking.specs.declared.fault.TakeFault.TheVariants.{WrongShape, NoMemory}
-use Rattle.hs_taking.specs.declared.shares.Share.{Share}
 use Rattle.hs_taking.specs.declared.shares.Taking.{Taking}
-use Rattle.hs_taking.specs.Disks.{DiskSeen, log_at, seen_at}
-use Rattle.hs_taking.specs.Shares.{HasShare, HasTaken, IsLostAt, IsShare, Span, Taken, share_at}
+use Rattle.hs_taking.specs.Disks.{DiskSeen, seen_at}
+use Rattle.hs_taking.specs.Shares.{HasShare, HasTaken, IsLostAt, Span, Taken, share_at}
 use Rattle.hs_taking.specs.Store.{HasRead}
 use Rattle.hs_taking.specs.Viewed.{IsOnlyRead, IsOther, IsUnread, IsViewed}
 

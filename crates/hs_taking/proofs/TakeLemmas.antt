@@ -1,9 +1,7 @@
 -- Taking the log of one disk.
-use Rattle.std.proofs.Common.{◌≡◌, ◌∙◌, ap, sym, subst, ℕ, ◌+◌, ◌==◌, ◌&&◌, ◌≤◌, Bool, true, false, not, cond, eqb, List, [], ◌∷◌, Option, Some, None, is_some, IsSome, refl, arith, inl, inr, if◌then◌else◌}
+use Rattle.std.proofs.Common.{◌≡◌, ◌∙◌, ap, sym, ℕ, ◌==◌, ◌&&◌, true, false, not, cond, [], ◌∷◌, Option, Some, None, is_some, IsSome, refl, arith, inl, inr, if◌then◌else◌}
 use Rattle.std.proofs.lemmas.Bool.Decides.{eqb_tells}
-use Rattle.std.specs.Option.{option_map}
-use Rattle.std.specs.Prelude.{IfSome, Result, Ok, Err, IsErrOf}
-use Rattle.hs_entry.specs.declared.entry.Entry.{Entry}
+use Rattle.std.specs.Prelude.{Result, Err}
 use Rattle.hs_entry.specs.declared.entry.Entry.TheVariants as kind
 use Rattle.hs_entry.specs.declared.rank.Rank.{Rank}
 use Rattle.hs_entry.specs.Entries.{rank_of}
@@ -14,11 +12,10 @@ use Rattle.hs_peerlog.proofs.StayLemmas.{stays}
 use Rattle.hs_peerlog.specs.Caused.{IsOutside}
 use Rattle.hs_peerlog.specs.declared.fault.LogFault.{LogFault}
 use Rattle.hs_peerlog.specs.declared.fault.LogFault.TheVariants.{NotALog, WrongShape, Disk, NoMemory}
-use Rattle.hs_peerlog.specs.Images.{Is, LeavesEach, LeavesOnly}
+use Rattle.hs_peerlog.specs.Images.{Is}
 use Rattle.hs_peerlog.specs.Lists.{Keeping}
 use Rattle.hs_peerlog.specs.Opening.{IsRefusal}
 use Rattle.hs_peerlog.specs.Views.{HasView, Viewing}
-use Rattle.hs_ports.specs.Disk.{Standing}
 use Rattle.hs_ports.specs.Fault.{HasRisen, IsCausedBy}
 use Rattle.hs_shard.specs.Facts.{Catalogue}
 use Rattle.hs_side.specs.Current.{list_in}
@@ -26,7 +23,7 @@ use Rattle.hs_taking.specs.declared.loading.Loaded.{Loaded}
 use Rattle.hs_taking.specs.declared.shares.Share.{Share}
 use Rattle.hs_taking.specs.Disks.{DiskSeen}
 use Rattle.hs_taking.specs.Loaded.{IsLoaded, is_memory}
-use Rattle.hs_taking.specs.Shares.{HasItsLog, IsLostDisk, IsShare, KeepsDisk}
+use Rattle.hs_taking.specs.Shares.{HasItsLog, IsShare, KeepsDisk}
 use Rattle.hs_taking.specs.Viewed.{IsViewOf}
 
 none_is_not : {A : Type 0} (x : A) → None ≡ Some x → ⊥

@@ -1,10 +1,9 @@
 -- Reading the disks one after another.
-use Rattle.std.proofs.Common.{◌≡◌, ◌≢◌, ◌∙◌, ◌⊎◌, inl, inr, ap, sym, subst, ℕ, zero, suc, ◌+◌, ◌*◌, ◌<◌, ◌≤◌, Bool, true, false, List, [], ◌∷◌, ◌++◌, take, drop, map, length, Option, Some, None, Result, Ok, Err, IsSome, refl, arith, if◌then◌else◌}
+use Rattle.std.proofs.Common.{◌≡◌, ◌∙◌, inl, inr, ap, sym, subst, ℕ, ◌+◌, ◌*◌, ◌<◌, ◌≤◌, Bool, true, false, List, [], ◌∷◌, ◌++◌, take, drop, map, length, Option, Some, None, Result, Ok, Err, IsSome, refl, arith, if◌then◌else◌}
 use Rattle.std.proofs.lemmas.Bool.{cases_eq}
 use Rattle.std.proofs.lemmas.List.{get_or_push}
 use Rattle.std.proofs.Math.ListN.{get_or-append}
 use Rattle.std.specs.Prelude.{slice_index_or, slice_set, IfSome}
-use Rattle.hs_fold.specs.Shards.Setting.{Numbered}
 use Rattle.hs_limits.proofs.FieldLemmas.{bind_ok}
 use Rattle.hs_limits.specs.declared.shape.Shape.{Shape}
 use Rattle.hs_limits.specs.Fields.{◌>>=◌}
@@ -12,12 +11,10 @@ use Rattle.hs_peerlog.proofs.ImageLemmas.{Since, image-is, list-same}
 use Rattle.hs_peerlog.proofs.OpenLemmas.{no-call, then-calls}
 use Rattle.hs_peerlog.specs.declared.fault.LogFault.{LogFault}
 use Rattle.hs_peerlog.specs.declared.fault.LogFault.TheVariants as log
-use Rattle.hs_peerlog.specs.Images.{LeavesAll, LeavesOnly}
 use Rattle.hs_peerlog.specs.Opening.{is_own, refusal_in, refused_head, refused_log}
-use Rattle.hs_peerlog.specs.Views.{HasView, Viewing}
+use Rattle.hs_peerlog.specs.Views.{Viewing}
 use Rattle.hs_ports.specs.declared.disk.Side.{Side}
 use Rattle.hs_ports.specs.Disk.{settled}
-use Rattle.hs_ports.specs.Fault.{HasRisen}
 use Rattle.hs_side.specs.Current.{current, header_in, list_in}
 use Rattle.hs_side.specs.declared.header.Header.{Header}
 use Rattle.hs_side.specs.Follow.{start}
@@ -26,7 +23,7 @@ use Rattle.hs_taking.proofs.DiskLemmas.{seen_here, seen_is, seen_there}
 use Rattle.hs_taking.specs.declared.fault.TakeFault.{TakeFault}
 use Rattle.hs_taking.specs.declared.fault.TakeFault.TheVariants.{WrongShape, NoMemory}
 use Rattle.hs_taking.specs.Disks.{DiskSeen, seen_at}
-use Rattle.hs_taking.specs.Viewed.{HasViewed, IsFirstOther, IsOnlyRead, IsOther, IsOtherAt, IsUnread, IsViewed, IsViewOf}
+use Rattle.hs_taking.specs.Viewed.{HasViewed, IsFirstOther, IsOnlyRead, IsOther, IsOtherAt, IsViewed, IsViewOf}
 
 -- ---- what is no log has no list
 
@@ -171,13 +168,15 @@ module _ {A : Type 0} (f : A → DiskSeen) (tells : Type 0) (shape : Shape) (bef
       let stay : AreViewed tells shape old after views = views_stay views so_far (omega (arith, count)) in
       let here : IsViewed tells shape i (seen_at old i) (seen_at after i) view =
       subst (λ (s : DiskSeen). IsViewed tells shape i (seen_at old i) s view) (sym (seen_here f disks i x low)) (subst (λ (s : DiskSeen). IsViewed tells shape i s (f x) view) (was read) one) in
-      record { each = λ peer within. elim (cases_eq peer i) [
-        | inl same ↦ subst (λ p. IsViewed tells shape p (seen_at old p) (seen_at after p) (slice_index_or (views ++ view ∷ []) p None)) (sym same)
-            (subst (λ v. IsViewed tells shape i (seen_at old i) (seen_at after i) v) (sym (get_or_push views view None i count)) here)
-        | inr differs ↦
-            let less : peer < length views = let l = long views view in omega (arith, within, differs, count, l) in
-            subst (λ v. IsViewed tells shape peer (seen_at old peer) (seen_at after peer) v) (sym (get_or-append views (view ∷ []) None peer less)) (stay.each peer less)
-      ] }
+      record {
+        each = λ peer within. elim (cases_eq peer i) [
+          | inl same ↦ subst (λ p. IsViewed tells shape p (seen_at old p) (seen_at after p) (slice_index_or (views ++ view ∷ []) p None)) (sym same)
+              (subst (λ v. IsViewed tells shape i (seen_at old i) (seen_at after i) v) (sym (get_or_push views view None i count)) here)
+          | inr differs ↦
+              let less : peer < length views = let l = long views view in omega (arith, within, differs, count, l) in
+              subst (λ v. IsViewed tells shape peer (seen_at old peer) (seen_at after peer) v) (sym (get_or-append views (view ∷ []) None peer less)) (stay.each peer less)
+        ];
+      }
     where
       long : (views : List (Option Viewing)) (view : Option Viewing) → length (views ++ view ∷ []) ≡ length views + 1
       long [] view = refl

@@ -167,9 +167,7 @@ fn take_peer<A: Addresser, D: Disk>(
     let Some(view) = view else {
         return Ok(empty_share(alloc, shape, limits, peer, shard));
     };
-    match take_log(
-        alloc, naming, view, disk, watch, shape, limits, peer, shard,
-    ) {
+    match take_log(alloc, naming, view, disk, watch, shape, limits, peer, shard) {
         Ok(Recovered { log, loaded }) => {
             *slot = Some(log);
             Ok(Share {

@@ -9,9 +9,9 @@ ghost use Rattle.hs_taking.specs.Disks.{AreReady, seen_as, seen_at};
 ghost use Rattle.hs_taking.specs.Store.{HasRead};
 ghost use Rattle.hs_taking.specs.Viewed.{IsOnlyRead, IsOther};
 
+use crate::TakeFault;
 use crate::shares::{Taking, take_all};
 use crate::viewing::view_all;
-use crate::TakeFault;
 use hs_block::Addresser;
 use hs_limits::{Limits, Shape};
 use hs_ports::{Disk, Watch};

@@ -1,9 +1,7 @@
-use Rattle.std.proofs.Common.{◌≡◌, ◌∙◌, ◌+◌, ap, arith, drop, refl, sym, take, Some, None}
-use Rattle.std.proofs.lemmas.Grind.{common_steps}
+use Rattle.std.proofs.Common.{◌∙◌, ◌+◌, ap, arith, sym}
 use Rattle.std.specs.Prelude.{unwrap_or}
-use Rattle.hs_coldstart.specs.Choose.{choose}
 use Rattle.hs_limits.specs.Shape.{peer_of}
-use Rattle.hs_taking.proofs.ChoiceLemmas.{chosen_within, choice_is, part_is}
+use Rattle.hs_taking.proofs.ChoiceLemmas.{choice_is, part_is}
 use Rattle.hs_taking.proofs.choosing.taken_peer.Goals as goal
 
 pub returns-in-Some-clause-value : goal.returns-in-Some-clause-value

@@ -1,4 +1,4 @@
-use Rattle.std.proofs.Common.{◌≡◌, ◌≤◌, ℕ}
+use Rattle.std.proofs.Common.{◌≡◌}
 use Rattle.hs_peerlog.specs.Views.{HasView}
 use Rattle.hs_ports.specs.declared.disk.Side.{Side}
 use Rattle.hs_shard.specs.Facts.{empty_catalogue}

@@ -1,11 +1,8 @@
-use Rattle.std.proofs.Common.{◌≡◌, ◌∙◌, ◌+◌, ◌*◌, ◌++◌, ◌∷◌, ◌<◌, ◌≤◌, [], ℕ, List, None, Option, Some, ap, arith, is_some, length, map, refl, replicate, subst, sym}
+use Rattle.std.proofs.Common.{◌≡◌, ◌∙◌, ◌+◌, ◌*◌, ◌++◌, ◌∷◌, ◌<◌, ◌≤◌, [], ℕ, List, None, ap, arith, is_some, length, map, refl, replicate, subst, sym}
 use Rattle.std.proofs.lemmas.Grind.{common_steps}
 use Rattle.std.specs.Prelude.{IfSome, slice_index_or, slice_set}
 use Rattle.hs_fold.specs.Shards.Setting.{Setting}
 use Rattle.hs_memory.specs.Forget.{apply_all}
-use Rattle.hs_peerlog.proofs.ImageLemmas.{Since}
-use Rattle.hs_peerlog.specs.Lists.{Keeping}
-use Rattle.hs_peerlog.specs.Views.{Viewing}
 use Rattle.hs_shard.specs.Facts.{empty_catalogue}
 use Rattle.hs_side.specs.Current.{list_in}
 use Rattle.hs_taking.proofs.DiskLemmas.{no_log, no_log_at, none_ready, ready_slot, seen_is}
@@ -13,7 +10,7 @@ use Rattle.hs_taking.proofs.ShareLemmas.{OneTaken, none_taken, one_taken}
 use Rattle.hs_taking.proofs.StepLemmas.{at_any, counted_more, rest_more}
 use Rattle.hs_taking.specs.declared.shares.Share.{Share}
 use Rattle.hs_taking.specs.Disks.{AreReady, DiskSeen, log_at, seen_as, seen_at}
-use Rattle.hs_taking.specs.Shares.{HasTaken, IsShare, Span, Taken}
+use Rattle.hs_taking.specs.Shares.{HasTaken, IsShare}
 use Rattle.hs_taking.specs.Viewed.{IsViewOf}
 use Rattle.hs_taking.proofs.shares.take_all.Goals as goal
 

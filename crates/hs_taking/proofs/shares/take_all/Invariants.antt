@@ -1,4 +1,4 @@
-use Rattle.std.proofs.Common.{◌≡◌, ◌*◌, ◌<◌, ◌≤◌, ℕ, length, map}
+use Rattle.std.proofs.Common.{◌≡◌, ◌*◌, ◌≤◌, ℕ, length, map}
 use Rattle.hs_taking.specs.Disks.{AreReady, seen_as, seen_at}
 use Rattle.hs_taking.specs.Shares.{HasTaken}
 use Rattle.hs_taking.proofs.shares.take_all.Given as goal

@@ -1,10 +1,10 @@
-use Rattle.std.proofs.Common.{◌≡◌, ◌∙◌, ap, arith, refl, subst, sym, IsSome, Some, None, is_some}
+use Rattle.std.proofs.Common.{◌≡◌, ◌∙◌, ap, refl, subst, sym, Some, None}
 use Rattle.std.specs.Prelude.{IfSome}
 use Rattle.hs_memory.specs.Forget.{apply_all}
 use Rattle.hs_peerlog.specs.Lists.{HasLog, Keeping}
 use Rattle.hs_shard.specs.Facts.{empty_catalogue}
 use Rattle.hs_side.specs.Current.{list_in}
-use Rattle.hs_taking.proofs.TakeLemmas.{lost_rises, lost_shared, no_log_has, none_shared, one_shared, still_kept}
+use Rattle.hs_taking.proofs.TakeLemmas.{lost_rises, lost_shared, none_shared, one_shared, still_kept}
 use Rattle.hs_taking.specs.declared.shares.Share.{Share}
 use Rattle.hs_taking.specs.Disks.{DiskSeen, seen_as}
 use Rattle.hs_taking.specs.Viewed.{IsViewOf}

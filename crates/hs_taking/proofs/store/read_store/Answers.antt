@@ -1,6 +1,6 @@
-use Rattle.std.proofs.Common.{◌≡◌, ◌∙◌, ◌*◌, ◌<◌, ◌≤◌, ℕ, List, None, arith, length, map, subst, sym}
+use Rattle.std.proofs.Common.{◌≡◌, ◌<◌, ℕ, List, None, arith, length, map, subst, sym}
 use Rattle.std.proofs.lemmas.Grind.{common_steps}
-use Rattle.std.specs.Prelude.{IfOk, slice_index_or}
+use Rattle.std.specs.Prelude.{slice_index_or}
 use Rattle.hs_fold.specs.Shards.Setting.{Setting}
 use Rattle.hs_taking.proofs.StoreLemmas.{no_other, no_wrong, other_rose, read_ok}
 use Rattle.hs_taking.proofs.ViewLemmas.{view_of}

@@ -1,5 +1,4 @@
-use Rattle.std.proofs.Common.{◌≡◌, ◌≤◌, ◌∙◌, ap, refl, sym, subst, Some}
-use Rattle.hs_fold.specs.Shards.Setting.{Numbered}
+use Rattle.std.proofs.Common.{◌≤◌, ◌∙◌, ap, refl, sym, subst}
 use Rattle.hs_peerlog.proofs.StayLemmas.{stays}
 use Rattle.hs_peerlog.specs.Images.{Is, LeavesEach, LeavesOnly}
 use Rattle.hs_peerlog.specs.Opening.{refusal_in}
