@@ -14,6 +14,7 @@ use Rattle.hs_ports.specs.declared.disk.Side.{Side}
 use Rattle.hs_ports.specs.Disk.{Standing}
 use Rattle.hs_ports.specs.MemoryDisk.{untold}
 use Rattle.hs_ports.specs.Moments.{disk_at}
+pub use Rattle.hs_taking.proofs.DiskLemmas.{ready_slot, slot_at}
 
 abbrev no_disk : DiskSeen
 no_disk = record { size = λ side. 0; stands = untold; faults = 0 }
@@ -23,49 +24,6 @@ some_is x y e = cc
 
 none_is_not : {A : Type 0} (x : A) → None ≡ Some x → ⊥
 none_is_not x e = grind arith
-
--- one of them may go on
-pub slot_at : {A : Type 0} (tells : Type 0) (logs : List (Option Keeping)) (disks : List A) (f : A → DiskSeen) (peer : ℕ) (slot : Option Keeping) (d : A)
-    → AreReady tells logs (map f disks) → slot ≡ log_at logs peer → peer < length disks → IsSlotReady tells slot (f (slice_index_or disks peer d)).size (f (slice_index_or disks peer d)).stands
-slot_at tells logs disks f peer None d ready is low = tt
-slot_at {A = A} tells logs disks f peer (Some keeping) d ready is low =
-    subst (λ (s : DiskSeen). IsReady tells keeping (s.size keeping.log.side) s.stands) (at disks peer low) (ready.each peer keeping (sym is))
-  where
-    at : (xs : List A) (k : ℕ) → k < length xs → seen_at (map f xs) k ≡ f (slice_index_or xs k d)
-    at [] k low = absurd (omega (arith, low))
-    at (x ∷ xs) zero low = refl
-    at (x ∷ xs) (suc k) low = at xs k (omega (arith, low))
-
--- the log of a peer went on, or is out of use, and its disk stands as that left it
-pub ready_slot : {A : Type 0} (tells : Type 0) (logs : List (Option Keeping)) (disks : List A) (f : A → DiskSeen) (peer : ℕ) (slot : Option Keeping) (disk : A)
-    → AreReady tells logs (map f disks) → peer < length logs → peer < length disks → IsSlotReady tells slot (f disk).size (f disk).stands
-    → AreReady tells (slice_set logs peer slot) (map f (slice_set disks peer disk))
-ready_slot {A = A} tells logs disks f peer slot disk ready low within here =
-    subst (λ seen. AreReady tells (slice_set logs peer slot) seen) (sym (map-set f disks peer disk)) (record {
-      each = λ other kept is. elim (cases_eq other peer) [
-        | inl same ↦ at other kept is same
-        | inr differs ↦ subst (λ (d : DiskSeen). IsReady tells kept (d.size kept.log.side) d.stands) (sym (get_or-set_other (map f disks) peer other (f disk) no_disk differs))
-            (ready.each other kept (sym (get_or-set_other logs peer other slot None differs) ∙ is))
-      ];
-    })
-  where
-    long : (xs : List A) → length (map f xs) ≡ length xs
-    long [] = refl
-    long (x ∷ xs) = ap (λ n. suc n) (long xs)
-
-    within_map : peer < length (map f disks)
-    within_map = let e = long disks in omega (arith, within, e)
-
-    by : (s : Option Keeping) (kept : Keeping) → s ≡ Some kept → IsSlotReady tells s (f disk).size (f disk).stands → IsReady tells kept ((f disk).size kept.log.side) (f disk).stands
-    by None kept e h = absurd (none_is_not kept e)
-    by (Some k) kept e h = subst (λ (l : Keeping). IsReady tells l ((f disk).size l.log.side) (f disk).stands) (some_is k kept e) h
-
-    at : (other : ℕ) (kept : Keeping) → log_at (slice_set logs peer slot) other ≡ Some kept → other ≡ peer
-        → IsReady tells kept ((seen_at (slice_set (map f disks) peer (f disk)) other).size kept.log.side) (seen_at (slice_set (map f disks) peer (f disk)) other).stands
-    at other kept is same =
-        let k : slot ≡ Some kept = sym (get_or-set_same logs peer slot None low) ∙ ap (λ p. log_at (slice_set logs peer slot) p) (sym same) ∙ is in
-        let d : f disk ≡ seen_at (slice_set (map f disks) peer (f disk)) other = sym (get_or-set_same (map f disks) peer (f disk) no_disk within_map) ∙ ap (λ p. seen_at (slice_set (map f disks) peer (f disk)) p) (sym same) in
-        subst (λ (s : DiskSeen). IsReady tells kept (s.size kept.log.side) s.stands) d (by slot kept k here)
 
 -- the logs that are kept still may go on
 pub ready_fewer : (tells : Type 0) (logs fewer : List (Option Keeping)) (disks : List DiskSeen) → AreReady tells logs disks

@@ -1,11 +1,11 @@
 mod CloseLemmas
 mod EntryLemmas
-mod ImageLemmas
+pub mod ImageLemmas
 mod ListLemmas
 mod MakeLemmas
 mod NumberedLemmas
-mod OpenLemmas
+pub mod OpenLemmas
 mod PlaceLemmas
 mod ResetLemmas
 mod SoleLemmas
-mod StayLemmas
+pub mod StayLemmas

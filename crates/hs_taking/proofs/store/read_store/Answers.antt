@@ -1,0 +1,55 @@
+use Rattle.std.proofs.Common.{◌≡◌, ◌<◌, ℕ, List, None, arith, length, map, subst, sym}
+use Rattle.std.proofs.lemmas.Grind.{common_steps}
+use Rattle.std.specs.Prelude.{slice_index_or}
+use Rattle.hs_fold.specs.Shards.Setting.{Setting}
+use Rattle.hs_taking.proofs.StoreLemmas.{no_other, no_wrong, other_rose, read_ok}
+use Rattle.hs_taking.proofs.ViewLemmas.{view_of}
+use Rattle.hs_taking.specs.Disks.{DiskSeen, seen_as, seen_at}
+use Rattle.hs_taking.specs.Viewed.{IsViewed}
+use Rattle.hs_taking.proofs.store.read_store.Goals as goal
+
+pub take_all-requires-clause-viewed : goal.take_all-requires-clause-viewed
+take_all-requires-clause-viewed g c =
+    let f : g.row.D.Denot → DiskSeen = λ disk. seen_as (g.D.Disk.size disk) (g.D.Disk.stands disk) (g.D.Disk.faults disk) in
+    let old : List DiskSeen = map f c.args.disks.now in
+    let via : List DiskSeen = map f c.view_all.new.disks in
+    λ peer within.
+    let low : peer < length c.args.disks.now = omega (arith, within, c.requires.count) in
+    let viewed = subst (λ vs. IsViewed g.D.Disk.tells c.args.shape peer (seen_at old peer) (seen_at via peer) (slice_index_or vs peer None)) (sym c.as_slice.ensures.value) (c.in-Ok.ensures.viewed peer low) in
+    view_of g.D.Disk.tells c.args.shape peer (seen_at old peer) (seen_at via peer) (slice_index_or c.as_slice.result.now peer None) (c.view_all.ensures.read peer low).seen viewed.some
+
+pub returns-clause-read : goal.returns-clause-read
+returns-clause-read g c =
+    let f : g.row.D.Denot → DiskSeen = λ disk. seen_as (g.D.Disk.size disk) (g.D.Disk.stands disk) (g.D.Disk.faults disk) in
+    let old : List DiskSeen = map f c.args.disks.now in
+    let via : List DiskSeen = map f c.view_all.new.disks in
+    let new : List DiskSeen = map f c.take_all.new.disks in
+    let set : Setting = record { name = g.A.Addresser.name c.args.naming.now; limits = c.args.limits; shape = c.args.shape } in
+    λ one.
+    let total : length c.args.disks.now ≡ c.args.shape.shards = grind (arith, common_steps) in
+    let within : (peer : ℕ) → peer < c.args.shape.shards → peer < length c.args.disks.now = λ peer low. omega (arith, low, total) in
+    read_ok g.D.Disk.tells set c.args.watch.now c.view_all.new.watch c.take_all.new.watch c.args.shape.shards old via new c.as_slice.result.now c.take_all.result c.view_all.ensures.ticks
+    (λ peer low. c.view_all.ensures.read peer (within peer low))
+    (λ peer low. subst (λ vs. IsViewed g.D.Disk.tells c.args.shape peer (seen_at old peer) (seen_at via peer) (slice_index_or vs peer None)) (sym c.as_slice.ensures.value) (c.in-Ok.ensures.viewed peer (within peer low)))
+    c.take_all.ensures.shares (c.take_all.ensures.taken one)
+
+pub returns-clause-other : goal.returns-clause-other
+returns-clause-other g c = no_other g.D.Disk.tells c.args.shape _ _ c.take_all.result c.take_all.ensures.only
+
+pub returns-clause-unwritten : goal.returns-clause-unwritten
+returns-clause-unwritten g c = no_wrong _ c.take_all.result c.take_all.ensures.only
+
+pub returns-clause-own : goal.returns-clause-own
+returns-clause-own g c =
+    let f : g.row.D.Denot → DiskSeen = λ disk. seen_as (g.D.Disk.size disk) (g.D.Disk.stands disk) (g.D.Disk.faults disk) in
+    let via : List DiskSeen = map f c.view_all.new.disks in
+    let same : length c.view_all.new.disks ≡ length c.args.disks.now = c.view_all.ensures.count in
+    other_rose g.D.Disk.tells c.args.shape (map f c.args.disks.now) via (map f c.take_all.new.disks) c.in-Ok.views.items (length c.args.disks.now) c.take_all.result (λ peer low. c.in-Ok.ensures.viewed peer low)
+    (λ peer low. c.take_all.ensures.counted peer (subst (λ n. peer < n) (sym same) low))
+
+pub returns-clause-counted : goal.returns-clause-counted
+returns-clause-counted g c = λ peer low.
+    let same : length c.view_all.new.disks ≡ length c.args.disks.now = c.view_all.ensures.count in
+    let a = (c.view_all.ensures.read peer low).counted in
+    let b = c.take_all.ensures.counted peer (subst (λ n. peer < n) (sym same) low) in
+    omega (arith, a, b)

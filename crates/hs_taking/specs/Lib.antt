@@ -1,0 +1,5 @@
+pub mod Disks
+pub mod Loaded
+pub mod Shares
+pub mod Store
+pub mod Viewed

@@ -1,0 +1,14 @@
+//! Which logs a store opens with, and what they amount to.
+#![tactic(auto)]
+
+mod choosing;
+mod fault;
+mod loading;
+mod shares;
+mod store;
+mod taking;
+mod viewing;
+
+pub use fault::TakeFault;
+pub use shares::{Share, Taking};
+pub use store::read_store;

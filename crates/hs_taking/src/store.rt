@@ -1,0 +1,80 @@
+//! The logs that a store opens with.
+ghost use Rattle.std.specs.Prelude.{◌≡◌, ◌*◌, ◌<◌, ◌≤◌, ℕ, Some, length, map, IfErr, IfOk, OnOk};
+ghost use Rattle.hs_limits.specs.Shape.{IsShape};
+ghost use Rattle.hs_peerlog.specs.declared.fault.LogFault.TheVariants as log;
+ghost use Rattle.hs_peerlog.specs.Opening.{refusal_in};
+ghost use Rattle.hs_ports.specs.Fault.{HasRisen};
+ghost use Rattle.hs_side.specs.declared.header.Header.{Header};
+ghost use Rattle.hs_taking.specs.Disks.{AreReady, seen_as, seen_at};
+ghost use Rattle.hs_taking.specs.Store.{HasRead};
+ghost use Rattle.hs_taking.specs.Viewed.{IsOnlyRead, IsOther};
+
+use crate::TakeFault;
+use crate::shares::{Taking, take_all};
+use crate::viewing::view_all;
+use hs_block::Addresser;
+use hs_limits::{Limits, Shape};
+use hs_ports::{Disk, Watch};
+use std::alloc::Global;
+
+/// Reads every disk of a store before it writes any, and takes for each shard the log of greatest
+/// rank: recovers it, and applies it whole. A disk of another store, or of another peer, ends it
+/// before anything is written: the first one whose count stands. A disk that fails, or is no log, is
+/// out of use, and so is each other one of a shard with several copies.
+pub fn read_store<A: Addresser, D: Disk>(
+    alloc: Global,
+    naming: &A,
+    disks: &mut [D],
+    watch: &mut Watch,
+    shape: Shape,
+    limits: Limits,
+) -> Result<Taking, TakeFault>
+    requires shape { IsShape shape }
+    requires count { length disks.old ≡ shape.shards * shape.copies }
+    ensures read { shape.copies ≡ 1 → IfOk result (λ taking. HasRead D.tells
+        (record { name = A.name naming.now; limits = limits; shape = shape })
+        (record {
+          before = watch.old;
+          now = watch.new;
+          old = map (λ disk. seen_as (D.size disk) (D.stands disk) (D.faults disk)) disks.old;
+          new = map (λ disk. seen_as (D.size disk) (D.stands disk) (D.faults disk)) disks.new;
+        }) (record { logs = taking.logs.items; shares = taking.shares.items })) }
+
+    // A disk of another store: which one, and that there is none where the logs are taken.
+    ensures other { IfErr result (IsOther D.tells shape
+        (map (λ disk. seen_as (D.size disk) (D.stands disk) (D.faults disk)) disks.old)
+        (map (λ disk. seen_as (D.size disk) (D.stands disk) (D.faults disk)) disks.new)) }
+    ensures unwritten { IfErr result (λ fault. (at : ℕ) (found : Header)
+        → fault ≡ TakeFault.WrongShape at found → (peer : ℕ) → peer < length disks.old
+        → IsOnlyRead D.tells watch.old watch.new
+        (seen_at (map (λ disk. seen_as (D.size disk) (D.stands disk) (D.faults disk)) disks.old)
+        peer)
+        (seen_at (map (λ disk. seen_as (D.size disk) (D.stands disk) (D.faults disk)) disks.new)
+        peer)) }
+    ensures own { D.tells → OnOk result ((peer : ℕ) (found : Header) → peer < length disks.old
+        → refusal_in shape peer (seen_at (map (λ disk. seen_as (D.size disk) (D.stands disk)
+        (D.faults disk)) disks.old) peer).stands.seen ≡ Some (log.WrongShape found)
+        → HasRisen (seen_at (map (λ disk. seen_as (D.size disk) (D.stands disk) (D.faults disk))
+        disks.old) peer).faults
+        (seen_at (map (λ disk. seen_as (D.size disk) (D.stands disk) (D.faults disk)) disks.new)
+        peer).faults) }
+
+    ensures ready { IfOk result (λ taking. AreReady D.tells taking.logs.items
+        (map (λ disk. seen_as (D.size disk) (D.stands disk) (D.faults disk)) disks.new)) }
+    ensures shares { IfOk result (λ taking. length taking.shares.items ≡ shape.shards) }
+    ensures logs { IfOk result (λ taking. length taking.logs.items
+        ≡ shape.shards * shape.copies) }
+    ensures counted { (peer : ℕ) → peer < length disks.old
+        → (seen_at (map (λ disk. seen_as (D.size disk) (D.stands disk) (D.faults disk)) disks.old)
+        peer).faults
+        ≤ (seen_at (map (λ disk. seen_as (D.size disk) (D.stands disk) (D.faults disk)) disks.new)
+        peer).faults }
+    ensures count { length disks.new ≡ length disks.old }
+    ensures ticks { watch.old ≤ watch.new }
+{
+    let views = match view_all(alloc, disks, watch, shape) {
+        Ok(views) => views,
+        Err(fault) => return Err(fault),
+    };
+    take_all(alloc, naming, views.as_slice(), disks, watch, shape, limits)
+}
