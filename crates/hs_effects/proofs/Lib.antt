@@ -10,6 +10,7 @@ mod GoingLemmas
 mod GroupLemmas
 mod LawfulLemmas
 mod LookLemmas
+mod OnceLemmas
 mod OrderlyLemmas
 mod QuietLemmas
 mod RefusedLemmas

@@ -17,7 +17,8 @@ use Rattle.hs_events.specs.Course.{change_item}
 use Rattle.hs_moments.specs.Course.{begun_items, good_items, front_items, items_of, course_of}
 use Rattle.hs_moments.specs.Machine.{Machine, runs, until, state_at, Rises}
 use Rattle.hs_moments.specs.Moments.{Keeps, ListsAtMoments}
-use Rattle.hs_moments.specs.Joint.{below, moment_of, Tells, Rests, Advances}
+use Rattle.hs_journal.specs.Moments.{below}
+use Rattle.hs_moments.specs.Joint.{moment_of, Tells, Rests, Advances}
 use Rattle.hs_moments.specs.Obeys.{Obeys, entries_of}
 use Rattle.hs_moments.proofs.MomentLemmas.{lt-is, le-is, until-all}
 use Rattle.hs_moments.proofs.CourseLemmas.{good-append, taken-append, good-tells, taken-tells}

@@ -31,7 +31,7 @@ use Rattle.hs_moments.specs.Answers.{added}
 use Rattle.hs_moments.specs.CoreMachine.{core_at, core_machine}
 use Rattle.hs_moments.specs.Course.{begun_items, course_of, front_items, good_items}
 use Rattle.hs_moments.specs.Machine.{Rises, runs, state_at, until}
-use Rattle.hs_moments.specs.Joint.{below}
+use Rattle.hs_journal.specs.Moments.{below}
 use Rattle.hs_moments.specs.Obeys.{Obeys, entries_of}
 
 -- ---- runs

@@ -12,7 +12,8 @@ use Rattle.hs_journal.specs.declared.entry.JournalEntry.{JournalEntry}
 use Rattle.hs_fold.specs.Good.{good_after, good_from, taken_after, taken_from}
 use Rattle.hs_moments.specs.Machine.{Machine}
 use Rattle.hs_moments.specs.Moments.{Since}
-use Rattle.hs_moments.specs.Joint.{below, moment_of, Tells, AtMoment, Rests, Advances, Holds}
+use Rattle.hs_journal.specs.Moments.{below}
+use Rattle.hs_moments.specs.Joint.{moment_of, Tells, AtMoment, Rests, Advances, Holds}
 use Rattle.hs_moments.proofs.MomentLemmas.{le-is, later-keeps}
 use Rattle.hs_moments.proofs.CourseLemmas.{good-append, taken-append}
 

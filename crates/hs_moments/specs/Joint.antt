@@ -1,5 +1,5 @@
 -- What the top call needs of the cluster: at each moment a core, what the course and the journal say of it, and the lists of the disks then.
-use Rattle.std.specs.Prelude.{◌≡◌, ℕ, ◌*◌, ◌-◌, ◌^◌, ◌<◌, ◌≤◌, ◌+◌, true, List, [], ◌∷◌, ◌++◌, Option, None, Some, All, filter, nat_lt}
+use Rattle.std.specs.Prelude.{◌≡◌, ℕ, ◌*◌, ◌-◌, ◌^◌, ◌<◌, ◌≤◌, ◌+◌, true, List, [], ◌∷◌, ◌++◌, Option, None, Some, All}
 use Rattle.hs_limits.specs.declared.shape.Shape.{Shape}
 use Rattle.hs_model.specs.declared.course.CourseItem.{CourseItem}
 use Rattle.hs_model.specs.declared.course.CourseItem.TheVariants as item
@@ -7,15 +7,12 @@ use Rattle.hs_ports.specs.declared.disk.Side.{Side}
 use Rattle.hs_ports.specs.Disk.{Standing}
 use Rattle.hs_ports.specs.Moments.{disk_at}
 use Rattle.hs_entry.specs.declared.entry.Entry.{Entry}
+use Rattle.hs_journal.specs.Moments.{below}
 use Rattle.hs_journal.specs.declared.entry.JournalEntry.{JournalEntry}
 use Rattle.hs_fold.specs.Good.{is_good, taken_below}
 use Rattle.hs_fold.specs.Images.{IsLeft}
 use Rattle.hs_moments.specs.Machine.{Machine}
 use Rattle.hs_moments.specs.Moments.{Keeps, GivesFine}
-
--- the entries of a journal that were made below a moment
-abbrev pub below : ℕ → List JournalEntry → List JournalEntry
-below moment journal = filter (λ entry. nat_lt entry.moment moment) journal
 
 -- the moment of an item
 abbrev pub moment_of : CourseItem → ℕ

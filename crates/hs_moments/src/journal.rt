@@ -7,7 +7,7 @@ ghost use Rattle.hs_core.specs.State.{Core};
 ghost use Rattle.hs_core.specs.Step.{step};
 ghost use Rattle.hs_moments.specs.Answers.{added};
 ghost use Rattle.hs_moments.specs.CoreMachine.{core_at};
-ghost use Rattle.hs_moments.specs.Joint.{below};
+ghost use Rattle.hs_journal.specs.Moments.{below};
 
 /// An event appends to the journal, at its own moment. So the journal of the core at a moment of a run
 /// is what the whole journal has below it, where all that was there before the run is below it. Between

@@ -18,7 +18,7 @@ use Rattle.hs_waiting.specs.Waits.{EntryWaits}
 use Rattle.hs_stops.specs.Effect.{AreStanding, MayBeAdded, with_entry}
 use Rattle.hs_stops.specs.Left.{HasFewRecords, MayBeLeft, TookEffect}
 use Rattle.hs_stops.specs.Lists.{Lists, settled, settled_catalogues, settled_from, waiting}
-use Rattle.hs_stops.specs.Pending.{MayPend}
+use Rattle.hs_fold.specs.Shards.Outstanding.{MayPend}
 use Rattle.hs_stops.specs.Start.{Start}
 use Rattle.hs_stops.proofs.ListLemmas.{IsLawful}
 

@@ -17,7 +17,8 @@ use Rattle.hs_fold.specs.Runs.Opened.{catalogues, store_of}
 use Rattle.hs_fold.proofs.OneListLemmas.{one-chosen}
 use Rattle.hs_fold.proofs.PrefixLemmas.{last-length}
 use Rattle.hs_journal.specs.declared.entry.JournalEntry.{JournalEntry}
-use Rattle.hs_moments.specs.Joint.{AtMoment, below}
+use Rattle.hs_journal.specs.Moments.{below}
+use Rattle.hs_moments.specs.Joint.{AtMoment}
 use Rattle.hs_moments.specs.Machine.{Machine}
 use Rattle.hs_moments.specs.Moments.{GivesFine}
 use Rattle.hs_moments.specs.WholeMachine.{IsFrontOf, last_of}
@@ -25,7 +26,7 @@ use Rattle.hs_side.specs.Current.{list_in}
 use Rattle.hs_sound.specs.Stay.{AreSoundAlong}
 use Rattle.hs_stops.specs.Left.{AreFronts, MayBeLeft}
 use Rattle.hs_stops.specs.Lists.{Lists}
-use Rattle.hs_stops.specs.Pending.{MayPend, pending, pending_of}
+use Rattle.hs_fold.specs.Shards.Outstanding.{MayPend, pending, pending_of}
 use Rattle.hs_stops.specs.Reopens.{Reopens, image_logs, pending_at}
 use Rattle.hs_stops.specs.Stands.{GoodPeersCount, Stands, StandsWhereGood, lists_of}
 use Rattle.hs_stops.specs.Start.{IsAwaited, Start, events_in, store_after}

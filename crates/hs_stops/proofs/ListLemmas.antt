@@ -23,7 +23,7 @@ use Rattle.hs_waiting.specs.Lists.{MayAllWait, pending_deeds}
 use Rattle.hs_waiting.proofs.ListLemmas.{gives_whole, runs}
 use Rattle.hs_stops.specs.Left.{AreFronts, EachLineOnce, MayBeLeft, TookEffect}
 use Rattle.hs_stops.specs.Lists.{Lists, settled, settled_catalogues, settled_from, whole_from}
-use Rattle.hs_stops.specs.Pending.{MayPend, pending}
+use Rattle.hs_fold.specs.Shards.Outstanding.{MayPend, pending}
 use Rattle.hs_stops.specs.Start.{Start, events_in, store_after}
 use Rattle.hs_stops.proofs.PartLemmas.{parted, parted_awaited, parted_count, parted_done, parted_few, parted_lines, parted_pending, parted_views, parted_wait, parted_whole}
 use Rattle.hs_stops.proofs.SessionLemmas.{all_left, legal_left}

@@ -18,7 +18,7 @@ use Rattle.hs_sound.specs.Stay.{AreSoundAlong}
 use Rattle.hs_waiting.specs.Waits.{EntryWaits}
 use Rattle.hs_stops.specs.Left.{MayBeLeft, TookEffect}
 use Rattle.hs_stops.specs.Lists.{Lists, settled, settled_catalogues, settled_from, waiting, whole_from}
-use Rattle.hs_stops.specs.Pending.{MayPend}
+use Rattle.hs_fold.specs.Shards.Outstanding.{MayPend}
 use Rattle.hs_stops.specs.Start.{Start}
 use Rattle.hs_stops.proofs.EffectLemmas.{front_gone}
 use Rattle.hs_stops.proofs.ListLemmas.{IsLawful}

@@ -25,7 +25,7 @@ use Rattle.hs_waiting.specs.Lists.{MayAllWait}
 use Rattle.hs_waiting.specs.Waits.{EntryWaits}
 use Rattle.hs_stops.specs.Left.{AreFronts, MayBeLeft}
 use Rattle.hs_stops.specs.Lists.{Lists, settled_catalogues, settled_from, waiting, whole_from}
-use Rattle.hs_stops.specs.Pending.{MayPend, pending, pending_of}
+use Rattle.hs_fold.specs.Shards.Outstanding.{MayPend, pending, pending_of}
 use Rattle.hs_stops.proofs.ThinLemmas.{Thins, thins_append, thins_front, thins_pairs}
 use Rattle.hs_stops.proofs.WalkLemmas.{EachFew, few_along, pending_parts}
 

@@ -2,7 +2,7 @@
 use Rattle.std.proofs.Common.{ℕ, inl, inr}
 use Rattle.hs_entry.specs.declared.entry.Entry.{Entry}
 use Rattle.hs_entry.specs.declared.entry.Entry.TheVariants as kind
-use Rattle.hs_stops.specs.Pending.{MayPend}
+use Rattle.hs_fold.specs.Shards.Outstanding.{MayPend}
 
 pub pend_from : (One Other : ℕ → Type 0) → ((line : ℕ) → One line → Other line) → (entry : Entry) → MayPend One entry → MayPend Other entry
 pend_from One Other f (kind.View view) p = p

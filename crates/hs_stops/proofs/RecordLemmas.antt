@@ -31,7 +31,7 @@ use Rattle.hs_fold.specs.Runs.Rounds.{advance, advanced, count_root, end_round, 
 use Rattle.hs_fold.proofs.Shards.LawfulLemmas.{pairs-from, pairs-to}
 use Rattle.hs_stops.specs.Left.{EachLineOnce, HasFewRecords}
 use Rattle.hs_stops.specs.Lists.{Lists, waiting, whole_from}
-use Rattle.hs_stops.specs.Pending.{pending, pending_of}
+use Rattle.hs_fold.specs.Shards.Outstanding.{pending, pending_of}
 use Rattle.hs_stops.specs.Start.{Start}
 use Rattle.hs_stops.specs.Suffices.{all_asked, asked_lines, roots_in, with_asked}
 use Rattle.hs_stops.proofs.PartLemmas.{lines_append, one_pending}

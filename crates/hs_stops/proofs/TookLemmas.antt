@@ -25,7 +25,7 @@ use Rattle.hs_waiting.proofs.ListLemmas.{gives_whole}
 use Rattle.hs_stops.specs.Effect.{AreStillDue, IsStillDue, deed_of, one_more}
 use Rattle.hs_stops.specs.Left.{AllWait, AreFronts, MayBeLeft, TookEffect}
 use Rattle.hs_stops.specs.Lists.{Lists, settled, settled_catalogues, waiting}
-use Rattle.hs_stops.specs.Pending.{pending}
+use Rattle.hs_fold.specs.Shards.Outstanding.{pending}
 use Rattle.hs_stops.specs.Start.{Start, events_in, store_after}
 use Rattle.hs_stops.proofs.EffectLemmas.{back_there, later_back, later_fronts, one_deed, settled_count, there_low}
 use Rattle.hs_stops.proofs.ListLemmas.{lists_few, lists_happen, lists_sound, lists_stand, settled_is}

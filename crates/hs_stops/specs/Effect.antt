@@ -15,7 +15,7 @@ use Rattle.hs_journal.specs.declared.entry.JournalEntry.{JournalEntry}
 use Rattle.hs_limits.specs.Shape.{IsShape}
 use Rattle.hs_stops.specs.Left.{MayBeLeft, TookEffect}
 use Rattle.hs_stops.specs.Lists.{Lists, settled_catalogues, waiting}
-use Rattle.hs_stops.specs.Pending.{MayPend}
+use Rattle.hs_fold.specs.Shards.Outstanding.{MayPend}
 use Rattle.hs_stops.specs.Start.{Start}
 use Rattle.hs_waiting.specs.Waits.{EntryWaits}
 

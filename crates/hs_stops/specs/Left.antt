@@ -14,7 +14,7 @@ use Rattle.hs_journal.specs.declared.entry.JournalEntry.{JournalEntry}
 use Rattle.hs_model.specs.Run.{IsLegal}
 use Rattle.hs_model.specs.Store.{reborn}
 use Rattle.hs_stops.specs.Lists.{Lists, settled, settled_catalogues, waiting, whole_from}
-use Rattle.hs_stops.specs.Pending.{MayPend, pending}
+use Rattle.hs_fold.specs.Shards.Outstanding.{MayPend, pending}
 use Rattle.hs_stops.specs.Start.{Start, events_in, store_after}
 use Rattle.hs_waiting.specs.Waits.{EntryWaits}
 

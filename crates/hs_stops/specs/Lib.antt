@@ -1,7 +1,6 @@
 pub mod Effect
 pub mod Left
 pub mod Lists
-pub mod Pending
 pub mod Reopens
 pub mod Stands
 pub mod Start

@@ -12,7 +12,7 @@ use Rattle.hs_fold.specs.Shards.Setting.{Numbered}
 use Rattle.hs_journal.specs.declared.entry.JournalEntry.{JournalEntry}
 use Rattle.hs_model.specs.Store.{reborn}
 use Rattle.hs_side.specs.Current.{list_in}
-use Rattle.hs_stops.specs.Pending.{MayPend, pending}
+use Rattle.hs_fold.specs.Shards.Outstanding.{MayPend, pending}
 use Rattle.hs_stops.specs.Start.{IsAwaited, Start, events_in, store_after}
 
 -- the logs of images, and what is pending of them: the entries behind the last that took effect below the moment

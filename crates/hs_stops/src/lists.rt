@@ -11,7 +11,7 @@ ghost use Rattle.hs_model.specs.Store.{reborn};
 ghost use Rattle.hs_sound.specs.Stay.{AreSoundAlong};
 ghost use Rattle.hs_stops.specs.Left.{AreFronts, EachLineOnce, MayBeLeft, TookEffect};
 ghost use Rattle.hs_stops.specs.Lists.{Lists};
-ghost use Rattle.hs_stops.specs.Pending.{MayPend, pending};
+ghost use Rattle.hs_fold.specs.Shards.Outstanding.{MayPend, pending};
 ghost use Rattle.hs_stops.specs.Start.{IsAwaited, Start, events_in, store_after};
 
 /// Of each shard a front of its list that has all that took effect: together they stand at the store
