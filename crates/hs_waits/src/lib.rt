@@ -1,0 +1,8 @@
+//! The lines that wait for something, in order.
+#![tactic(auto)]
+
+mod cause;
+mod lines;
+
+pub use cause::Cause;
+pub use lines::{Lines, earlier};
