@@ -11,7 +11,12 @@ use Rattle.std.specs.declared.ops.Bound.TheVariants.{Included, Unbounded}
 use Rattle.std.specs.Cmp.{IsTotalOrder, ranks, tied_then, unsigned_tied}
 use Rattle.std.specs.List.{list_any}
 use Rattle.std.specs.Ordering.{MatchOrdering, is_eq, is_gt, nat_cmp, ordering_reverse, ordering_then}
-use Rattle.std.specs.Prelude.{not, ◌==◌}
+use Rattle.std.specs.Prelude.{not, ◌==◌, OnOk, Result, ⊤}
+use Rattle.std.proofs.lemmas.Result.{on_ok_weaker}
+use Rattle.std.specs.Option.{option_map_or}
+use Rattle.std.specs.declared.alloc.AllocError.{AllocError}
+use Rattle.hs_waits.specs.Causes.{AreWaits, is_same, waits}
+use Rattle.hs_waits.specs.declared.cause.Cause.{Cause}
 use Rattle.hs_waits.specs.Lines.{AreKept, IsFirstFrom, changed, has, pair_cmp, tied}
 
 with_true : (b x : Bool) → cond b true x ≡ (b || x)
@@ -112,3 +117,28 @@ module _ {K : Type 0} (cmp : K → K → Ordering) (o : IsTotalOrder cmp) (s : B
 -- of keys that are alike
 pub kept_alike : {K : Type 0} (cmp : K → K → Ordering) (keys others : ℕ → Option K) (lines : List (K × ℕ)) → AreKept cmp keys lines → ((n : ℕ) → others n ≡ keys n) → AreKept cmp others lines
 kept_alike cmp keys others lines are same key n = are key n ∙ ap (λ x. tied cmp x key) (sym (same n))
+
+-- ---- causes
+
+module _ (cmp : Cause → Cause → Ordering) (told : (a b : Cause) → is_eq (cmp a b) ≡ is_same a b) where
+  pub waits_alike : (lines : List (Cause × ℕ)) (c : Cause) (n : ℕ) → waits lines c n ≡ has cmp lines c n
+  waits_alike lines c n = any_alike (λ e. is_same c e.0 && n == e.1) (is_at (pair_cmp cmp (c, n))) lines (λ e. ap (λ b. b && n == e.1) (sym (told c e.0)) ∙ sym (at_pair cmp c e.0 n e.1))
+
+  tied_alike : (d : Option Cause) (c : Cause) → option_map_or (λ d. is_same d c) d false ≡ tied cmp d c
+  tied_alike None c = refl
+  tied_alike (Some d) c = sym (told d c)
+
+  pub waits_from : (causes : ℕ → Option Cause) (lines : List (Cause × ℕ)) → AreKept cmp causes lines → AreWaits causes lines
+  waits_from causes lines are c n = waits_alike lines c n ∙ are c n ∙ sym (tied_alike (causes n) c)
+
+  waits_to : (causes : ℕ → Option Cause) (lines : List (Cause × ℕ)) → AreWaits causes lines → AreKept cmp causes lines
+  waits_to causes lines are c n = sym (waits_alike lines c n) ∙ are c n ∙ tied_alike (causes n) c
+
+  pub waits_changed : (causes : ℕ → Option Cause) (old new : List (Cause × ℕ)) (line : ℕ) (from to : Option Cause) (result : Result ⊤ AllocError)
+      → ((keys : ℕ → Option Cause) → AreKept cmp keys old → keys line ≡ from → OnOk result (AreKept cmp (changed line to keys) new))
+      → AreWaits causes old → causes line ≡ from → OnOk result (AreWaits (changed line to causes) new)
+  waits_changed causes old new line from to result h are own = on_ok_weaker result (waits_from (changed line to causes) new) (h causes (waits_to causes old are) own)
+
+  pub first_waits : (lines : List (Cause × ℕ)) (c : Cause) (from : ℕ) (first : Option ℕ) → IsFirstFrom from (has cmp lines c) first → IsFirstFrom from (waits lines c) first
+  first_waits lines c from None h = λ n far. waits_alike lines c n ∙ h n far
+  first_waits lines c from (Some k) h = (h.0, waits_alike lines c k ∙ h.1, λ n far passes. h.2 n far (sym (waits_alike lines c n) ∙ passes))

@@ -3,6 +3,8 @@
 
 mod cause;
 mod lines;
+mod waits;
 
 pub use cause::Cause;
 pub use lines::{Lines, earlier};
+pub use waits::Waits;
