@@ -86,6 +86,6 @@ returns-clause-ok c =
     let view = kind.View (view_of was.shard old.members) in
     let number : c.last_number-number.result ≡ last_number (renew old.members was) + 1 = c.last_number-number.ensures ∙ ap last_number group ∙ proposed_number view (renew old.members was) in
     let last : c.last_number-number.result - 1 ≡ last_number (renew old.members was) = omega (arith, number) in
-    let again : c.restart.new.operations.entries ≡ map (λ e. (e.0, restarted shard (last_number (renew old.members was)) e.1)) old.operations
-    = c.restart.ensures ∙ ap (λ n. map (λ e. (e.0, restarted shard n e.1)) old.operations) (c.saturating_sub.ensures ∙ last) in
+    let again : c.restart.new.self ≡ map (λ e. (e.0, restarted shard (last_number (renew old.members was)) e.1)) old.operations
+    = c.in_ok-restart.ensures ∙ ap (λ n. map (λ e. (e.0, restarted shard n e.1)) old.operations) (c.saturating_sub.ensures ∙ last) in
     rw (← c.self.view_is) (rw (c.from-place.ensures, group, pool, again) refl)
