@@ -76,13 +76,13 @@ table_moved line new name cause t s u es are named caused same_map same_waits as
     let last : u.map.entries ≡ old = ap (λ m. m.entries) (then_map ∙ same_map) in
     let at : (n : ℕ) → found_in es n ≡ changed line new (found_in old) n = subst (λ (es' : List (ℕ × Waiting)). (n : ℕ) → found_in es n ≡ changed line new (found_in es') n) last (at_changed line new u.map.entries es found) in
     let sessions : AreKept name_cmp (changed line (option_and_then session_in new) (λ n. option_and_then session_in (found_in old n))) u.sessions
-        = subst (λ (x : List (List ℕ × ℕ)). AreKept name_cmp (changed line (option_and_then session_in new) (λ n. option_and_then session_in (found_in old n))) x) (sym then_sessions)
-        (subst (λ (x : Option (List ℕ)). AreKept name_cmp (changed line x (λ n. option_and_then session_in (found_in old n))) s.sessions) named (asks are.sessions)) in
+    = subst (λ (x : List (List ℕ × ℕ)). AreKept name_cmp (changed line (option_and_then session_in new) (λ n. option_and_then session_in (found_in old n))) x) (sym then_sessions)
+    (subst (λ (x : Option (List ℕ)). AreKept name_cmp (changed line x (λ n. option_and_then session_in (found_in old n))) s.sessions) named (asks are.sessions)) in
     let before : AreWaits (λ n. option_and_then cause_of (found_in s.map.entries n)) s.waits
-        = subst (λ (x : List (Cause × ℕ)). AreWaits (λ n. option_and_then cause_of (found_in s.map.entries n)) x) (sym same_waits)
-        (waits_alike (λ n. option_and_then cause_of (found_in old n)) (λ n. option_and_then cause_of (found_in s.map.entries n)) t.waits are.waits (λ n. ap (λ m. option_and_then cause_of (found_in m.entries n)) same_map)) in
+    = subst (λ (x : List (Cause × ℕ)). AreWaits (λ n. option_and_then cause_of (found_in s.map.entries n)) x) (sym same_waits)
+    (waits_alike (λ n. option_and_then cause_of (found_in old n)) (λ n. option_and_then cause_of (found_in s.map.entries n)) t.waits are.waits (λ n. ap (λ m. option_and_then cause_of (found_in m.entries n)) same_map)) in
     let causes : AreWaits (changed line (option_and_then cause_of new) (λ n. option_and_then cause_of (found_in s.map.entries n))) u.waits
-        = subst (λ (x : Option Cause). AreWaits (changed line x (λ n. option_and_then cause_of (found_in s.map.entries n))) u.waits) caused (waits before) in
+    = subst (λ (x : Option Cause). AreWaits (changed line x (λ n. option_and_then cause_of (found_in s.map.entries n))) u.waits) caused (waits before) in
     record {
       sessions = kept_alike name_cmp (changed line (option_and_then session_in new) (λ n. option_and_then session_in (found_in old n))) (λ n. option_and_then session_in (found_in es n)) u.sessions sessions (λ n. ap (option_and_then session_in) (at n) ∙ key_changed session_in line new (found_in old) n);
       waits = waits_alike (changed line (option_and_then cause_of new) (λ n. option_and_then cause_of (found_in s.map.entries n))) (λ n. option_and_then cause_of (found_in es n)) u.waits causes
@@ -156,7 +156,7 @@ table_waits line what t u es w cause are found caused same_map same_sessions mov
     let put : wait_in line what old ≡ set_value (is_at (nat_cmp line)) old new = rw found refl in
     let set : es ≡ set_value (is_at (nat_cmp line)) old new = made ∙ ap (λ m. wait_in line what m.entries) same_map ∙ put in
     let causes : AreWaits (changed line (cause_of new) (λ n. option_and_then cause_of (found_in old n))) u.waits
-        = subst (λ (x : Option Cause). AreWaits (changed line x (λ n. option_and_then cause_of (found_in old n))) u.waits) caused (moved are.waits) in
+    = subst (λ (x : Option Cause). AreWaits (changed line x (λ n. option_and_then cause_of (found_in old n))) u.waits) caused (moved are.waits) in
     let names : AreKept name_cmp (λ n. option_and_then session_in (found_in old n)) u.sessions = subst (λ (x : List (List ℕ × ℕ)). AreKept name_cmp (λ n. option_and_then session_in (found_in old n)) x) (sym same_sessions) are.sessions in
     record {
       sessions = kept_alike name_cmp (λ n. option_and_then session_in (found_in old n)) (λ n. option_and_then session_in (found_in es n)) u.sessions names
@@ -249,7 +249,7 @@ rest_step k w cause rest before all old new is caused sorted among are change =
     let here : found_in all k ≡ Some w = among k w (ap (λ es. found_in es k) is ∙ at_here k w rest) in
     let ordered : IsStrictlySortedBy nat_cmp (k ∷ keys_of rest) = subst (λ (es : List (ℕ × Waiting)). IsStrictlySortedBy nat_cmp (keys_of es)) is sorted in
     rest_next k w rest all new ordered here
-        (subst (λ (es : List (ℕ × Waiting)). AreWaits (changed k (cause_of w) (causes_but es all)) new) is (subst (λ (x : Option Cause). AreWaits (changed k x (causes_but before all)) new) caused moved))
+    (subst (λ (es : List (ℕ × Waiting)). AreWaits (changed k (cause_of w) (causes_but es all)) new) is (subst (λ (x : Option Cause). AreWaits (changed k x (causes_but before all)) new) caused moved))
 
 pub among_step : (k : ℕ) (w : Waiting) (rest before all : List (ℕ × Waiting)) → before ≡ (k, w) ∷ rest → IsStrictlySortedBy nat_cmp (keys_of before)
     → ((n : ℕ) (x : Waiting) → found_in before n ≡ Some x → found_in all n ≡ Some x) → (n : ℕ) (x : Waiting) → found_in rest n ≡ Some x → found_in all n ≡ Some x

@@ -132,13 +132,12 @@ impl Table {
     fn move_session(&mut self, line: u64, new: Option<Name>) -> Result<(), NoMemory>
         ensures map { self.new.map ≡ self.old.map }
         ensures waits { self.new.waits ≡ self.old.waits }
-        ensures ok {
-            AreKept name_cmp (λ n. option_and_then session_in (found_in self.old.map.entries n))
-                self.old.sessions
+        ensures ok { AreKept name_cmp (λ n. option_and_then session_in (found_in self.old.map.entries n))
+            self.old.sessions
             → OnOk result (AreKept name_cmp
-                (changed line new
-                (λ n. option_and_then session_in (found_in self.old.map.entries n)))
-                self.new.sessions) }
+            (changed line new
+            (λ n. option_and_then session_in (found_in self.old.map.entries n)))
+            self.new.sessions) }
     {
         let old = self.session_at(line)?;
         self.sessions.change(line, old, new)?;
@@ -149,10 +148,9 @@ impl Table {
     fn move_wait(&mut self, line: u64, new: Option<Cause>) -> Result<(), NoMemory>
         ensures map { self.new.map ≡ self.old.map }
         ensures sessions { self.new.sessions ≡ self.old.sessions }
-        ensures ok {
-            AreWaits (λ n. option_and_then cause_of (found_in self.old.map.entries n)) self.old.waits
+        ensures ok { AreWaits (λ n. option_and_then cause_of (found_in self.old.map.entries n)) self.old.waits
             → OnOk result (AreWaits (changed line new
-                (λ n. option_and_then cause_of (found_in self.old.map.entries n))) self.new.waits) }
+            (λ n. option_and_then cause_of (found_in self.old.map.entries n))) self.new.waits) }
     {
         let old = self.cause_at(line);
         self.waits.change(line, old, new)?;

@@ -93,7 +93,7 @@ module _ {K : Type 0} (cmp : K → K → Ordering) (o : IsTotalOrder cmp) (s : B
       let back : cmp key x.0 ≡ Equal = tied_back o x.0 key same in
       let above : is_gt (nat_cmp from x.1) ≡ false = rw back at (first_is_in x t e).0.0 in
       let moved : has cmp s.keys key x.1 ≡ has cmp s.keys x.0 x.1
-          = any_alike (is_at (pair_cmp cmp (key, x.1))) (is_at (pair_cmp cmp (x.0, x.1))) s.keys (λ y. ap (λ c. is_eq (ordering_then c (nat_cmp x.1 y.1))) (o.congr key x.0 y.0 back)) in
+      = any_alike (is_at (pair_cmp cmp (key, x.1))) (is_at (pair_cmp cmp (x.0, x.1))) s.keys (λ y. ap (λ c. is_eq (ordering_then c (nat_cmp x.1 y.1))) (o.congr key x.0 y.0 back)) in
       (up_from from x.1 above, moved ∙ (first_is_in x t e).1, λ n h found. least n (first_is_least x t e n h found) same)
     where
       least : (n : ℕ) → is_gt (pair_cmp cmp x (key, n)) ≡ false → cmp x.0 key ≡ Equal → x.1 ≤ n

@@ -63,5 +63,4 @@ impl Waits {
 /// The order tells all causes apart.
 fn told_apart()
     ensures { (a b : Cause) → is_eq (⟦<Cause as Ord>⟧.cmp a b) ≡ is_same a b }
-{
-}
+{}

@@ -27,13 +27,13 @@ loop-line-preserved c =
     let so_far = c.loop-line.lines.items in
     let lines : c.if-is_woken.lines.items ≡ cond (passes p es k) (so_far ++ k ∷ []) so_far
     = elim c.if-is_woken.branch [
-      then-is_woken+in_ok-push w ↦
-        (let holds : passes p es k ≡ true = sym c.is_woken.ensures ∙ w.if-is_woken.true in
-        let pushed : w.push.new.self.items ≡ so_far ++ k ∷ [] = grind (arith, common_steps) in
-        rw (holds, w.lines-is) pushed)
+      | then-is_woken+in_ok-push w ↦
+          (let holds : passes p es k ≡ true = sym c.is_woken.ensures ∙ w.if-is_woken.true in
+          let pushed : w.push.new.self.items ≡ so_far ++ k ∷ [] = grind (arith, common_steps) in
+          rw (holds, w.lines-is) pushed)
       | else-is_woken w ↦
-        (let fails : passes p es k ≡ false = sym c.is_woken.ensures ∙ w.if-is_woken.false in
-        rw (fails, w.lines-is) refl)
+          (let fails : passes p es k ≡ false = sym c.is_woken.ensures ∙ w.if-is_woken.false in
+          rw (fails, w.lines-is) refl)
     ] in
     rw c.in_ok-from.ensures.value
     (woken_more c.if-is_woken.lines.items so_far (lines_from c.loop-line.from p es) (lines_where shard (wakes entry address core) core) (lines_from (k + 1) p es) k (passes p es k) c.loop-line.invariant
