@@ -1,5 +1,5 @@
 //! The operations without an answer.
-ghost use Rattle.std.specs.Prelude.{◌≡◌, ◌==◌, [], Some, find, length, map, IfOk, OnOk};
+ghost use Rattle.std.specs.Prelude.{◌≡◌, ◌==◌, [], Some, find, length, map, IfNone, IfOk, OnOk};
 ghost use Rattle.std.specs.BTreeMap.{insert_entry, is_at};
 ghost use Rattle.std.specs.List.Sorted.{IsStrictlySortedBy};
 ghost use Rattle.std.specs.Map.{keys_of, remove_entry};
@@ -85,6 +85,7 @@ impl Operations {
     pub(crate) fn end(&mut self, line: u64) -> Result<Option<Waiting>, NoMemory>
         ensures value { IfOk result (λ waiting. waiting ≡ found_in self.old line) }
         ensures rest { OnOk result (self.new ≡ remove_entry (is_at (nat_cmp line)) self.old) }
+        ensures same { IfOk result (λ waiting. IfNone waiting (self.new ≡ self.old)) }
     {
         let done = self.table.end(line);
         if done.is_err() {

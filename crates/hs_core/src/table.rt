@@ -1,5 +1,5 @@
 //! The operations without an answer, with their lines by session and by what they wait for.
-ghost use Rattle.std.specs.Prelude.{◌≡◌, [], Some, None, IfOk, OnOk, map};
+ghost use Rattle.std.specs.Prelude.{◌≡◌, [], Some, None, IfNone, IfOk, OnOk, map};
 ghost use Rattle.std.specs.BTreeMap.{insert_entry, is_at};
 ghost use Rattle.std.specs.Map.{lookup, remove_entry};
 ghost use Rattle.std.specs.Option.{option_and_then};
@@ -71,6 +71,7 @@ impl Table {
         ensures map { OnOk result (self.new.map.entries
             ≡ remove_entry (is_at (nat_cmp line)) self.old.map.entries) }
         ensures index { OnOk result (IsIndexed self.new) }
+        ensures same { IfOk result (λ waiting. IfNone waiting (self.new.map.entries ≡ self.old.map.entries)) }
     {
         self.move_session(line, None)?;
         self.move_wait(line, None)?;
