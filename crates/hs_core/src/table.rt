@@ -71,7 +71,8 @@ impl Table {
         ensures map { OnOk result (self.new.map.entries
             ≡ remove_entry (is_at (nat_cmp line)) self.old.map.entries) }
         ensures index { OnOk result (IsIndexed self.new) }
-        ensures same { IfOk result (λ waiting. IfNone waiting (self.new.map.entries ≡ self.old.map.entries)) }
+        ensures same { IfOk result
+            (λ waiting. IfNone waiting (self.new.map.entries ≡ self.old.map.entries)) }
     {
         self.move_session(line, None)?;
         self.move_wait(line, None)?;
