@@ -15,6 +15,7 @@ use Rattle.hs_core.specs.declared.wait.Wait.{Wait}
 use Rattle.hs_core.specs.declared.wait.Wait.TheVariants as wait
 use Rattle.hs_core.specs.declared.waiting.Waiting.{Waiting}
 use Rattle.hs_core.specs.Going.{aim_of, answer_with, carry_by, given_by, go_by, gains_by, holds_by, judge_in, judged_by, next_step, seats_by, set_wait, sight_of, step_by, view_by}
+use Rattle.hs_core.specs.Indexing.{wait_in}
 use Rattle.hs_core.specs.Looking.{group_of, lead_of, operation_of, shape_of}
 use Rattle.hs_core.specs.Operating.{add_read, begin_line, busy_line, propose_entry, take_step, wait_for, what_holds}
 use Rattle.hs_core.specs.Seeing.{pointers_for, view_for}
@@ -36,6 +37,14 @@ use Rattle.hs_tokens.specs.Seats.{Seats}
 -- what it is given to hold where it is answered
 abbrev gains : Waiting → Core → List Held
 gains w core = gained (view_for w.shard w.operation.op core) (pointers_for w.shard w.operation.op core) w.operation.op
+
+-- the operation of a line waits
+pub waits_in : (line : ℕ) (what : Wait) (core : Core) (operations : List (ℕ × Waiting)) → operations ≡ wait_in line what core.operations → record core { operations = operations } ≡ set_wait line what core
+waits_in line what core operations made = ap (λ ops. record core { operations = ops }) made ∙ go (operation_of line core) refl
+  where
+    go : (o : Option Waiting) → operation_of line core ≡ o → record core { operations = wait_in line what core.operations } ≡ set_wait line what core
+    go None e = rw e refl
+    go (Some w) e = rw e refl
 
 -- ---- what a step asks for, where the operation stands after the step already
 

@@ -4,6 +4,7 @@ mod Driving
 mod EntryLemmas
 mod Examples
 mod GoingLemmas
+mod IndexLemmas
 mod JoinLemmas
 mod JoiningLemmas
 mod KeptLemmas
@@ -19,3 +20,5 @@ mod SightLemmas
 mod StatusLemmas
 mod StepLemmas
 mod ViewLemmas
+mod WakeLemmas
+mod WalkLemmas

@@ -8,6 +8,7 @@ pub mod Entering
 pub mod Failing
 pub mod Going
 pub mod Handing
+pub mod Indexing
 pub mod Joining
 pub mod Keeping
 pub mod Looking

@@ -26,7 +26,7 @@ impl Core {
         ensures { result ≡ option_map (λ w. aim_of w.shard w.operation.op self.now)
             (operation_of line self.now) }
     {
-        match self.operations.get(&line) {
+        match self.operations.get(line) {
             Some(waiting) => Some(self.aim_of(waiting.shard, &waiting.operation)),
             None => None,
         }

@@ -24,7 +24,7 @@ impl Core {
         ensures kept { Kept (record self.old { last_line = line }) self.new }
     {
         self.set_line(line);
-        let busy = self.busy_line(&op);
+        let busy = self.busy_line(&op)?;
         let mut operation = Operation::begin(self.alloc, line, op)?;
         let shard = operation.shard(&self.sessions, self.shape());
         // Each operation is judged by a shard of the store.
@@ -83,7 +83,6 @@ impl Core {
         ensures ok { OnOk result (self.new ≡ add_operation line waiting self.old) }
         ensures kept { Kept self.old self.new }
     {
-        self.operations.insert(line, waiting)?;
-        Ok(())
+        self.operations.put(line, waiting)
     }
 }

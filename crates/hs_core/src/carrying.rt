@@ -36,8 +36,7 @@ impl Core {
             OpStep::Compare { number } => self.compare(line, aim.shard, number),
             OpStep::Wait => {
                 let what = self.holds_by(aim);
-                self.set_wait(line, what);
-                Ok(())
+                self.set_wait(line, what)
             }
         }
     }
@@ -49,7 +48,7 @@ impl Core {
             ≡ (self.old ▸ change_with (operation_of line self.old) (answer_with line reply helds))) }
         ensures kept { Kept self.old self.new }
     {
-        let Some(waiting) = self.operations.remove(&line) else {
+        let Some(waiting) = self.operations.end(line)? else {
             return Ok(());
         };
         let deed = waiting.operation.into_deed(&self.sessions, &reply)?;
@@ -68,7 +67,7 @@ impl Core {
         let Some(number) = self.next_number(shard) else {
             return Err(NoMemory);
         };
-        self.set_wait(line, Wait::Entry { number });
+        self.set_wait(line, Wait::Entry { number })?;
         self.propose_entry(shard, entry)
     }
 
@@ -80,7 +79,7 @@ impl Core {
         ensures kept { Kept self.old self.new }
     {
         let lead = self.lead(shard);
-        self.set_wait(line, Wait::Bytes { number });
+        self.set_wait(line, Wait::Bytes { number })?;
         if let Some(peer) = lead {
             let job = Job::Read { number };
             self.add_task(peer, Task { job, line })?;
@@ -88,14 +87,12 @@ impl Core {
         Ok(())
     }
 
-    /// The operation of a line waits. It takes no memory.
-    fn set_wait(&mut self, line: u64, what: Wait)
-        ensures ok { self.new ≡ set_wait line what self.old }
+    /// The operation of a line waits.
+    fn set_wait(&mut self, line: u64, what: Wait) -> Result<(), NoMemory>
+        ensures ok { OnOk result (self.new ≡ set_wait line what self.old) }
         ensures kept { Kept self.old self.new }
     {
-        if let Some(waiting) = self.operations.get_mut(&line) {
-            waiting.wait = what;
-        }
+        self.operations.set_wait(line, what)
     }
 
     /// The number of the next entry of a shard's list. None where there is no such number. It takes

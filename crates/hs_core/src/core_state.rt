@@ -7,8 +7,9 @@ ghost use Rattle.hs_members.specs.Members.{IsPeer, IsShard};
 ghost use Rattle.hs_replica.specs.Group.{IsHome};
 ghost use Rattle.hs_tokens.specs.Seats.{held_at, seat_of};
 
+use crate::Task;
+use crate::operations::Operations;
 use crate::queue::Queue;
-use crate::{Task, Waiting};
 use hs_desk::{CoreFault, Job};
 use hs_journal::{Journal, JournalEntry};
 use hs_limits::{Held, Limits, Name, PeerStatus, Shape};
@@ -19,7 +20,6 @@ use hs_replica::Group;
 use hs_shard::Catalogue;
 use hs_tokens::Sessions;
 use std::alloc::Global;
-use std::collections::BTreeMap;
 use std::marker::Model;
 
 /// All shards, peers, sessions, operations, messages and jobs of a store, and what was answered.
@@ -38,7 +38,7 @@ pub struct Core {
     pub(crate) steps: Vec<Option<Job>>,
     pub(crate) pool: Pool,
     pub(crate) sessions: Sessions,
-    pub(crate) operations: BTreeMap<u64, Waiting>,
+    pub(crate) operations: Operations,
     pub(crate) journal: Journal,
     pub(crate) entries: Vec<JournalEntry>,
     pub(crate) refused: Vec<JournalEntry>,
@@ -66,7 +66,7 @@ impl Model for Core {
       rejoins = a.rejoins.items;
       pool = a.pool;
       sessions = a.sessions.seats;
-      operations = a.operations.entries;
+      operations = a.operations;
       journal = a.journal.entries;
       entries = a.entries.items;
       refused = a.refused.items;

@@ -88,13 +88,13 @@ impl Core {
         let roots = self.catalogues[usize::from(aim.shard)].roots();
         let view = sight.view(aim, None, self.limits, &self.sessions, roots);
         let pointers = sight.pointers.as_slice();
-        judge_in(self.alloc, &mut self.operations, line, &view, pointers, how)
+        self.operations.judge(line, &view, pointers, how)
     }
 }
 
 /// The operation of a line takes its next step by what it sees, with the pointers that the catalogue
 /// has.
-fn judge_in(
+pub(crate) fn judge_in(
     alloc: Global,
     operations: &mut BTreeMap<u64, Waiting>,
     line: u64,

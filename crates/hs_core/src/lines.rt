@@ -1,51 +1,45 @@
 //! The lines of operations without an answer, by what they are or wait for.
-ghost use Rattle.std.specs.Prelude.{◌≡◌, false, find, is_some, Some, IfOk};
-ghost use Rattle.std.specs.Option.{option_copied, option_map, option_map_or};
+ghost use Rattle.std.specs.Prelude.{◌≡◌, ◌+◌, ◌<◌, ◌^◌, ◌==◌, ◌&&◌, false, is_some, IfOk};
+ghost use Rattle.std.specs.List.Sorted.{IsStrictlySortedBy};
+ghost use Rattle.std.specs.Map.{keys_of};
+ghost use Rattle.std.specs.Option.{option_map_or};
+ghost use Rattle.std.specs.Ordering.{nat_cmp};
 ghost use Rattle.hs_core.specs.Effects.{is_for_address, is_for_room, is_for_view, wakes};
+ghost use Rattle.hs_core.specs.Indexing.{may_wake, may_wake_by_block, passes, waits_for, waits_for_block};
 ghost use Rattle.hs_core.specs.Looking.{operation_of};
-ghost use Rattle.hs_core.specs.Operating.{busy_line, is_of, lines_where};
+ghost use Rattle.hs_core.specs.Operating.{busy_line, lines_where};
 ghost use Rattle.hs_core.specs.Pending.{is_address};
 ghost use Rattle.hs_core.specs.Reporting.{is_reading};
-ghost use Rattle.hs_journal.specs.Order.{session_of};
 ghost use Rattle.hs_ops.specs.Speaking.{wanted_address};
+ghost use Rattle.hs_waits.specs.Lines.{IsFirstFrom};
+ghost use Rattle.hs_waits.specs.declared.cause.Cause.TheVariants as cause;
 
 use crate::aim::{puts_root, writes_block};
+use crate::causes::session_of;
 use crate::no_memory::NoMemory;
 use crate::{Core, Wait, Waiting};
 use hs_entry::Entry;
-use hs_limits::{Address, Name};
+use hs_limits::Address;
 use hs_model::Op;
+use hs_waits::{Cause, earlier};
 
 impl Core {
     /// Whether the operation of a line has no answer. It takes no memory.
     pub(crate) fn is_awaited(&self, line: u64) -> bool
         ensures { result ≡ is_some (operation_of line self.now) }
     {
-        self.operations.contains_key(&line)
+        self.operations.get(line).is_some()
     }
 
     /// The line of the operation without an answer of the session that asks. None exactly where
-    /// there is none. It takes no memory.
-    pub(crate) fn busy_line(&self, op: &Op) -> Option<u64>
-        ensures { result ≡ busy_line op.now self.now }
+    /// there is none.
+    pub(crate) fn busy_line(&self, op: &Op) -> Result<Option<u64>, NoMemory>
+        ensures { IfOk result (λ busy. busy ≡ busy_line op.now self.now) }
     {
         match session_of(op) {
-            Some(name) => self.line_of(name),
-            None => None,
+            Some(name) => self.operations.line_of(name),
+            None => Ok(None),
         }
-    }
-
-    /// The first line of a session's operations without an answer. It takes no memory.
-    fn line_of(&self, name: &Name) -> Option<u64>
-        ensures { result
-            ≡ option_map (λ e. e.0) (find (λ e. is_of name.now e.1) self.now.operations) }
-    {
-        for (line, waiting) in &self.operations {
-            if is_of(name, waiting) {
-                return Some(*line);
-            }
-        }
-        None
     }
 
     /// The lines of a shard's operations that wait for a View, ascending.
@@ -53,12 +47,22 @@ impl Core {
         ensures { IfOk result (λ lines. lines.items ≡ lines_where shard is_for_view self.now) }
     {
         let mut lines = Vec::new(self.alloc);
-        for (line, waiting) in &self.operations {
-            if waiting.shard == shard && is_for_view(waiting) {
-                lines.push(*line)?;
-            }
+        let mut from = 0;
+        while let Some(line) = self.next_for_view(shard, from) {
+            lines.push(line)?;
+            from = next_line(line)?;
         }
         Ok(lines)
+    }
+
+    /// The first line from this one on of an operation that waits for a View. None exactly where there
+    /// is none. It takes no memory.
+    fn next_for_view(&self, shard: u8, from: u64) -> Option<u64>
+        ensures first { IsFirstFrom from
+            (passes (waits_for (cause.View shard)) self.now.operations) result }
+        ensures ordered { IsStrictlySortedBy nat_cmp (keys_of self.now.operations) }
+    {
+        self.operations.first(Cause::View { shard }, from)
     }
 
     /// The lines of a shard's operations that wait for such an entry, ascending; `address` is that of
@@ -73,12 +77,78 @@ impl Core {
             ≡ lines_where shard (wakes entry.now address self.now) self.now) }
     {
         let mut lines = Vec::new(self.alloc);
-        for (line, waiting) in &self.operations {
-            if waiting.shard == shard && self.wakes(entry, address, waiting) {
-                lines.push(*line)?;
+        let mut from = 0;
+        while let Some(line) = self.next_candidate(shard, entry, address, from) {
+            if self.is_woken(shard, entry, address, line) {
+                lines.push(line)?;
             }
+            from = next_line(line)?;
         }
         Ok(lines)
+    }
+
+    /// The first line from this one on of an operation that such an entry may wake. None exactly where
+    /// there is none. It takes no memory.
+    fn next_candidate(
+        &self,
+        shard: u8,
+        entry: &Entry,
+        address: Option<Address>,
+        from: u64,
+    ) -> Option<u64>
+        ensures first { IsFirstFrom from
+            (passes (may_wake shard entry.now address) self.now.operations) result }
+        ensures ordered { IsStrictlySortedBy nat_cmp (keys_of self.now.operations) }
+    {
+        let root = self.operations.first(Cause::RootRoom { shard }, from);
+        match entry {
+            Entry::Block { .. } => self.next_for_block(shard, address, from),
+            Entry::Root { .. } => root,
+            Entry::View { .. }
+            | Entry::Mark { .. }
+            | Entry::Drop { .. }
+            | Entry::Enter { .. }
+            | Entry::Got { .. }
+            | Entry::Base { .. }
+            | Entry::KeptBlock { .. }
+            | Entry::KeptRoot { .. }
+            | Entry::KeptRound { .. } => None,
+        }
+    }
+
+    /// The first line from this one on of an operation that a Block may wake. None exactly where there
+    /// is none. It takes no memory.
+    fn next_for_block(&self, shard: u8, address: Option<Address>, from: u64) -> Option<u64>
+        ensures { IsFirstFrom from (passes (may_wake_by_block shard address) self.now.operations)
+            result }
+    {
+        let room = self.operations.first(Cause::BlockRoom { shard }, from);
+        let other = self.operations.first(Cause::Other { shard }, from);
+        earlier(room, earlier(self.next_named(shard, address, from), other))
+    }
+
+    /// The first line from this one on of a write that waits for the Block of its address. None
+    /// exactly where there is none. It takes no memory.
+    fn next_named(&self, shard: u8, address: Option<Address>, from: u64) -> Option<u64>
+        ensures { IsFirstFrom from (passes (waits_for_block shard address) self.now.operations)
+            result }
+    {
+        match address {
+            Some(address) => self.operations.first(Cause::Block { shard, address }, from),
+            None => None,
+        }
+    }
+
+    /// Whether the operation of a line is of this shard and waits for such an entry. It takes no
+    /// memory.
+    fn is_woken(&self, shard: u8, entry: &Entry, address: Option<Address>, line: u64) -> bool
+        ensures { result ≡ passes (λ w. w.shard == shard && wakes entry.now address self.now w)
+            self.now.operations line }
+    {
+        match self.operations.get(line) {
+            Some(waiting) => waiting.shard == shard && self.wakes(entry, address, waiting),
+            None => false,
+        }
     }
 
     /// Whether an operation waits for such an entry.
@@ -129,7 +199,7 @@ impl Core {
         ensures { result ≡ option_map_or (λ w. is_reading number w.wait)
             (operation_of line self.now) false }
     {
-        match self.operations.get(&line) {
+        match self.operations.get(line) {
             Some(waiting) => is_reading(number, waiting.wait),
             None => false,
         }
@@ -146,13 +216,6 @@ fn is_reading(number: u64, wait: Wait) -> bool
     }
 }
 
-/// Whether an operation waits for a View.
-fn is_for_view(waiting: &Waiting) -> bool
-    ensures { result ≡ is_for_view waiting.now }
-{
-    matches!(waiting.wait, Wait::View)
-}
-
 /// Whether an operation waits for room.
 fn is_for_room(waiting: &Waiting) -> bool
     ensures { result ≡ is_for_room waiting.now }
@@ -160,31 +223,13 @@ fn is_for_room(waiting: &Waiting) -> bool
     matches!(waiting.wait, Wait::Room)
 }
 
-/// Whether an operation is of a session.
-fn is_of(name: &Name, waiting: &Waiting) -> bool
-    ensures { result ≡ is_of name.now waiting.now }
+/// The line after one; where there is none it counts as want of memory.
+fn next_line(line: u64) -> Result<u64, NoMemory>
+    ensures value { IfOk result (λ next. next ≡ line + 1) }
+    ensures fits { line < 2 ^ 64 }
 {
-    match session_of(waiting.operation.op()) {
-        Some(session) => name == session,
-        None => false,
-    }
-}
-
-/// The session that asks for an operation.
-fn session_of(op: &Op) -> Option<&Name>
-    ensures { option_copied result ≡ session_of (Some op.now) }
-{
-    match op {
-        Op::Open { session } => Some(session),
-        Op::Close { session } => Some(session),
-        Op::Write { session, .. } => Some(session),
-        Op::Read { session, .. } => Some(session),
-        Op::Look { session, .. } => Some(session),
-        Op::Root { session, .. } => Some(session),
-        Op::Drop { .. } => None,
-        Op::Forget { session, .. } => Some(session),
-        Op::Name { session, .. } => Some(session),
-        Op::Delete => None,
-        Op::Stat => None,
+    match line.checked_add(1) {
+        Some(next) => Ok(next),
+        None => Err(NoMemory),
     }
 }

@@ -12,6 +12,7 @@ use crate::lists::Lists;
 use crate::new_core::{no_rejoins, no_steps};
 use crate::new_lists::new_lists;
 use crate::no_memory::NoMemory;
+use crate::operations::Operations;
 use hs_desk::{CoreFault, Job};
 use hs_journal::Journal;
 use hs_limits::{Limits, Shape};
@@ -19,7 +20,6 @@ use hs_rejoin::Rejoin;
 use hs_shard::Catalogue;
 use hs_tokens::Sessions;
 use std::alloc::Global;
-use std::collections::BTreeMap;
 
 impl Core {
     /// Opens a core. By shard it takes the catalogue of the taken log, that log's view and the number
@@ -135,7 +135,7 @@ fn core_of(
         steps,
         pool,
         sessions: Sessions::new(alloc, limits),
-        operations: BTreeMap::new(alloc),
+        operations: Operations::new(alloc),
         journal: Journal::new(alloc, limits.ops),
         entries: Vec::new(alloc),
         refused: Vec::new(alloc),

@@ -39,7 +39,7 @@ impl Core {
         ensures { result ≡ option_and_then (λ w. wanted_address self.now.sessions w.operation.op)
             (operation_of line self.now) }
     {
-        match self.operations.get(&line) {
+        match self.operations.get(line) {
             Some(waiting) => waiting.operation.address(&self.sessions),
             None => None,
         }

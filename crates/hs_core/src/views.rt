@@ -67,14 +67,14 @@ impl Core {
         let Ok(()) = told else {
             return Err(NoMemory);
         };
-        restart(&mut self.operations, shard, number.saturating_sub(1));
+        self.operations.restart(shard, number.saturating_sub(1))?;
         Ok(number)
     }
 }
 
 /// The operations of a shard start again, but for one whose entry still stands in the lead's list, of
 /// which this is the last number. It takes no memory.
-fn restart(operations: &mut BTreeMap<u64, Waiting>, shard: u8, last: u64)
+pub(crate) fn restart(operations: &mut BTreeMap<u64, Waiting>, shard: u8, last: u64)
     ensures { operations.new.entries
         ≡ map (λ e. (e.0, restarted shard last e.1)) operations.old.entries }
 {

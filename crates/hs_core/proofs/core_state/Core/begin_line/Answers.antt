@@ -17,6 +17,6 @@ returns-clause-ok c =
     let place : c.shard-shard.result ≡ judging_shard first.members.shape.shards first.sessions operation.op = grind (arith, common_steps, c.shard-shard.ensures, c.shape.ensures.value) in
     let about : c.aim_of-aim.result ≡ aim_of c.shard-shard.result operation.op first = grind (arith, common_steps, c.aim_of-aim.ensures) in
     on_ok_weaker c.carry_out.result
-    (begun_from c.args.line c.args.op c.args.self.now first c.judge_first.new.self c.add_operation.new.self c.carry_out.new.self operation c.judge_first.new.operation c.shard-shard.result c.aim_of-aim.result c.busy_line-busy.result judged.step judged.helds
-    c.set_line.ensures made place about c.busy_line-busy.ensures its.step its.helds its.after its.same c.in_ok-add_operation.ensures.ok)
+    (begun_from c.args.line c.args.op c.args.self.now first c.judge_first.new.self c.add_operation.new.self c.carry_out.new.self operation c.judge_first.new.operation c.shard-shard.result c.aim_of-aim.result c.in_ok-busy.busy judged.step judged.helds
+    c.set_line.ensures made place about c.in_ok-busy.ensures its.step its.helds its.after its.same c.in_ok-add_operation.ensures.ok)
     c.carry_out.ensures.ok

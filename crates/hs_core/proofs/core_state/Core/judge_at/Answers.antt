@@ -14,20 +14,20 @@ returns-clause-step c w e =
     let core = c.args.self.now in
     let how = c.args.how.now in
     let aim = c.args.aim in
-    let found : lookup (is_at (nat_cmp c.args.line)) c.self.inside.operations.entries ≡ Some w = grind (arith, common_steps, e) in
+    let found : lookup (is_at (nat_cmp c.args.line)) c.self.inside.operations ≡ Some w = grind (arith, common_steps, e) in
     let pointers : c.as_slice-pointers.result.now ≡ (sight_of aim core).pointers = grind (arith, common_steps) in
     let view : c.view-view.result ≡ view_by (sight_of aim core) aim None core = grind (arith, common_steps) in
-    IfOk-weaker c.judge_in.result (λ (j : Judged). j.step ≡ next_step how c.as_slice-pointers.result.now c.view-view.result w.operation) (λ (j : Judged). j.step ≡ step_by how aim None core w.operation)
+    IfOk-weaker c.judge.result (λ (j : Judged). j.step ≡ next_step how c.as_slice-pointers.result.now c.view-view.result w.operation) (λ (j : Judged). j.step ≡ step_by how aim None core w.operation)
     (λ j h. h ∙ ap (λ ps. next_step how ps c.view-view.result w.operation) pointers ∙ ap (λ v. next_step how (sight_of aim core).pointers v w.operation) view)
-    (c.judge_in.ensures.step w found)
+    (c.judge.ensures.step w found)
 
 pub returns-clause-helds : goal.returns-clause-helds
 returns-clause-helds c w e =
     let core = c.args.self.now in
     let aim = c.args.aim in
-    let found : lookup (is_at (nat_cmp c.args.line)) c.self.inside.operations.entries ≡ Some w = grind (arith, common_steps, e) in
+    let found : lookup (is_at (nat_cmp c.args.line)) c.self.inside.operations ≡ Some w = grind (arith, common_steps, e) in
     let pointers : c.as_slice-pointers.result.now ≡ (sight_of aim core).pointers = grind (arith, common_steps) in
     let view : c.view-view.result ≡ view_by (sight_of aim core) aim None core = grind (arith, common_steps) in
-    IfOk-weaker c.judge_in.result (λ (j : Judged). j.helds ≡ given_by j.step (gained c.view-view.result c.as_slice-pointers.result.now w.operation.op)) (λ (j : Judged). j.helds ≡ given_by j.step (gains_by aim None core w.operation.op))
+    IfOk-weaker c.judge.result (λ (j : Judged). j.helds ≡ given_by j.step (gained c.view-view.result c.as_slice-pointers.result.now w.operation.op)) (λ (j : Judged). j.helds ≡ given_by j.step (gains_by aim None core w.operation.op))
     (λ j h. h ∙ ap (λ ps. given_by j.step (gained c.view-view.result ps w.operation.op)) pointers ∙ ap (λ v. given_by j.step (gained v (sight_of aim core).pointers w.operation.op)) view)
-    (c.judge_in.ensures.helds w found)
+    (c.judge.ensures.helds w found)

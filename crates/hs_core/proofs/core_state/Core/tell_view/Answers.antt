@@ -73,6 +73,24 @@ invariant_of-self-2 c =
       journal = is.journal;
     })
 
+pub invariant_of-self-in_err-restart : goal.invariant_of-self-in_err-restart
+invariant_of-self-in_err-restart c =
+    let old : Core = view c.self.inside in
+    let shard = c.args.shard in
+    let within : IsShard (shape_of old) shard = rw (← c.self.view_is) at c.requires in
+    let is = c.self.invariant in
+    let g : Group = c.on_view-told.new.self in
+    let item : c.index_mut-group.result.now ≡ group_of shard old = grind (arith, common_steps) in
+    let kept : KeepsFront (group_of shard old) g = rw (← item) c.on_view-told.ensures.kept in
+    let renews : Renews old.members g old.rejoins shard c.self.inside.steps.items c.renew_steps.new.steps.items = rw (← c.as_slice.ensures.value) c.renew_steps.ensures.renewed in
+    rw c.from-place.ensures (record {
+      kept = core_after old _ shard g is.kept within kept refl refl refl (length-set c.self.inside.viewed.items shard false) refl refl;
+      fronts = fronts_after old _ shard g c.self.inside.fronts.items is.kept within is.fronts kept refl refl;
+      steps = steps_after old _ shard g c.self.inside.steps.items _ is.kept (core_after old _ shard g is.kept within kept refl refl refl (length-set c.self.inside.viewed.items shard false) refl refl) within is.steps refl refl renews (λ k d. refl);
+      sessions = is.sessions;
+      journal = is.journal;
+    })
+
 pub returns-clause-ok : goal.returns-clause-ok
 returns-clause-ok c =
     let old : Core = view c.self.inside in
@@ -86,6 +104,6 @@ returns-clause-ok c =
     let view = kind.View (view_of was.shard old.members) in
     let number : c.last_number-number.result ≡ last_number (renew old.members was) + 1 = c.last_number-number.ensures ∙ ap last_number group ∙ proposed_number view (renew old.members was) in
     let last : c.last_number-number.result - 1 ≡ last_number (renew old.members was) = omega (arith, number) in
-    let again : c.restart.new.operations.entries ≡ map (λ e. (e.0, restarted shard (last_number (renew old.members was)) e.1)) old.operations
-    = c.restart.ensures ∙ ap (λ n. map (λ e. (e.0, restarted shard n e.1)) old.operations) (c.saturating_sub.ensures ∙ last) in
+    let again : c.restart.new.self ≡ map (λ e. (e.0, restarted shard (last_number (renew old.members was)) e.1)) old.operations
+    = c.in_ok-restart.ensures ∙ ap (λ n. map (λ e. (e.0, restarted shard n e.1)) old.operations) (c.saturating_sub.ensures ∙ last) in
     rw (← c.self.view_is) (rw (c.from-place.ensures, group, pool, again) refl)
