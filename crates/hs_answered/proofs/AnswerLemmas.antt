@@ -1,11 +1,12 @@
 -- What an answer by the view alone leaves, and its deed, are those of the plain store's judge.
-use Rattle.std.proofs.Common.{◌≡◌, ℕ, ◌⊎◌, inl, inr, Bool, true, false, cond, List, [], ◌∷◌, Option, Some, None, refl, sym, ap, ◌∙◌, subst, slice_index, unwrap_or}
+use Rattle.std.proofs.Common.{◌≡◌, ℕ, ◌⊎◌, inl, inr, Bool, true, false, cond, List, [], ◌∷◌, Option, Some, None, refl, sym, ap, ◌∙◌, subst, length, slice_index, unwrap_or}
 use Rattle.std.proofs.lemmas.Bool.{false≢true}
 use Rattle.std.proofs.lemmas.Map.Made.{lookup-map_values}
 use Rattle.std.specs.BTreeMap.{insert_entry, is_at}
+use Rattle.std.specs.List.{range_with_len}
 use Rattle.std.specs.Map.{remove_entry, set_value}
 use Rattle.std.specs.Option.{option_map, option_or}
-use Rattle.hs_answered.proofs.RefusalLemmas.{Refuses, first_refuses, store_refuses, view_refuses}
+use Rattle.hs_answered.proofs.RefusalLemmas.{IsOfKind, Stops, busy_stops, store_stops, they_stop, view_stops}
 use Rattle.hs_answered.proofs.ShownLemmas.{held_is}
 use Rattle.hs_limits.specs.declared.address.Address.{Address}
 use Rattle.hs_limits.specs.declared.address.Held.{Held}
@@ -15,32 +16,37 @@ use Rattle.hs_model.specs.declared.op.Op.{Op}
 use Rattle.hs_model.specs.declared.op.Op.TheVariants as op
 use Rattle.hs_model.specs.declared.reply.Reply.{Reply}
 use Rattle.hs_model.specs.declared.reply.Reply.TheVariants as reply
-use Rattle.hs_model.specs.Judge.{Judged, address_of, forgetting, granted, judge, judged, kept_address, nothing, refusals, refused, roots_with, written_reply}
+use Rattle.hs_model.specs.Judge.{Judged, address_of, bytes_of, forgetting, granted, held_or, judge, judged, kept_address, nothing, pointers_at, refusals, refused, roots_with, written_reply}
 use Rattle.hs_model.specs.Refusals.{first}
-use Rattle.hs_model.specs.Store.{Root, Session, Store, hold_all, holding_all, new_session, next_of, put_session, retained_at, root_epoch, session_at, text_cmp, with_roots, with_sessions}
+use Rattle.hs_model.specs.Store.{held_at as store_held}
+use Rattle.hs_model.specs.Store.{Root, Session, Store, block_at, helds_of, hold_all, holding_all, new_session, next_of, put_session, retained_at, root_epoch, session_at, text_cmp, with_roots, with_sessions}
 use Rattle.hs_model.proofs.MapLemmas.{map-insert_entry, map-set_value}
 use Rattle.hs_ops.specs.Answers.{deed_of, gained, is_done, root_address, seats_after}
-use Rattle.hs_ops.specs.Going.{at_once, judged_in}
-use Rattle.hs_ops.specs.Refusals.{refusal_of, refusals_of}
+use Rattle.hs_ops.specs.Going.{at_once, judged_in, read_reply}
+use Rattle.hs_ops.specs.Refusals.{refusal_of}
 use Rattle.hs_ops.specs.Views.{OpView, as_session, kept_in, now_in, open_in}
 use Rattle.hs_roots.specs.declared.root.RootRecord.{RootRecord}
 use Rattle.hs_shown.specs.Showing.{Shows, as_sessions}
-use Rattle.hs_tokens.specs.Seats.{Seat, Seats, hold, name_cmp, new_seat, put_seat, seat_of, with_held, with_helds, without_handle}
+use Rattle.hs_tokens.specs.Seats.{Seat, Seats, held_at, hold, name_cmp, new_seat, put_seat, seat_of, with_held, with_helds, without_handle}
 
 -- what hs_shown says of answers
 abbrev pub ByTheView : Type 0
 ByTheView = (limits : Limits) (s : Store) (o : Op) (v : OpView) (r : Reply) → Shows limits s o v → judged_in v o ≡ Some r → (judge limits s o).reply ≡ r
+
+abbrev pub ByTheBytes : Type 0
+ByTheBytes = (limits : Limits) (s : Store) (v : OpView) (name : List ℕ) (handle : ℕ) → Shows limits s (op.Read name handle) v → refusal_of v (op.Read name handle) ≡ None
+    → read_reply v name (bytes_of (block_at s (address_of s name handle))) ≡ (judge limits s (op.Read name handle)).reply
 
 some_is : {A : Type 0} (x y : A) → Some x ≡ Some y → x ≡ y
 some_is x y e = cc
 
 -- ---- the judge
 
-judge_refused : (limits : Limits) (s : Store) (o : Op) (r : Reply) → first (refusals limits s o) ≡ Some r → judge limits s o ≡ refused o s r
+pub judge_refused : (limits : Limits) (s : Store) (o : Op) (r : Reply) → first (refusals limits s o) ≡ Some r → judge limits s o ≡ refused o s r
 unfolding judge
 judge_refused limits s o r e = ap (λ (x : Option Reply). judged s o x) e
 
-judge_granted : (limits : Limits) (s : Store) (o : Op) → first (refusals limits s o) ≡ None → judge limits s o ≡ granted s o
+pub judge_granted : (limits : Limits) (s : Store) (o : Op) → first (refusals limits s o) ≡ None → judge limits s o ≡ granted s o
 unfolding judge
 judge_granted limits s o e = ap (λ (x : Option Reply). judged s o x) e
 
@@ -62,8 +68,14 @@ granted_done s (op.Name name handle) = refl
 granted_done s op.Delete = refl
 granted_done s op.Stat = refl
 
-refused_first : (rows : List (Option Reply)) (r : Reply) → Refuses (first rows) → first rows ≡ Some r → is_done r ≡ false
-refused_first rows r h e = subst (λ x. Refuses x) e h
+stops_at : (x : Option Reply) (r : Reply) → IsOfKind Stops x → x ≡ Some r → is_done r ≡ false
+stops_at x r h e = subst (λ y. IsOfKind Stops y) e h
+
+pub view_refusal_stops : (v : OpView) (o : Op) (r : Reply) → refusal_of v o ≡ Some r → is_done r ≡ false
+view_refusal_stops v o r e = stops_at (refusal_of v o) r (view_stops Stops they_stop v o (busy_stops v)) e
+
+pub store_refusal_stops : (limits : Limits) (s : Store) (o : Op) (r : Reply) → first (refusals limits s o) ≡ Some r → is_done r ≡ false
+store_refusal_stops limits s o r e = stops_at (first (refusals limits s o)) r (store_stops Stops they_stop limits s o) e
 
 mapped_done : {A : Type 0} (x : Option A) (r : Reply) → option_map (λ (y : A). reply.Ok) x ≡ Some r → is_done r ≡ true
 mapped_done None r e = cc e
@@ -88,7 +100,7 @@ module _ (s : Store) (seats : Seats) (same : s.sessions ≡ as_sessions seats) w
   unchanged : with_sessions s (as_sessions seats) ≡ s
   unchanged = ap (λ x. with_sessions s x) (sym same)
 
-  session_is : (name : List ℕ) → session_at s name ≡ option_map as_session (seat_of name seats)
+  pub session_is : (name : List ℕ) → session_at s name ≡ option_map as_session (seat_of name seats)
   session_is name =
       ap (λ (x : List (List ℕ × Session)). session_at (with_sessions s x) name) same ∙ lookup-map_values as_session (is_at (text_cmp name)) seats
 
@@ -214,45 +226,68 @@ module _ (limits : Limits) (s : Store) (v : OpView) (pointers : List Address) wh
 
   -- ---- what is refused
 
-  refusal_leaves : (o : Op) (r : Reply) → Shows limits s o v → is_done r ≡ false → Leaves s o v pointers r (refused o s r)
+  refusal_leaves : (o : Op) (r : Reply) → s.sessions ≡ as_sessions v.seats → is_done r ≡ false → Leaves s o v pointers r (refused o s r)
   unfolding deed_of seats_after
-  refusal_leaves o r shows e = record {
+  refusal_leaves o r same e = record {
     deed = rw e refl;
-    store = rw e (unchanged s v.seats shows.sessions);
+    store = rw e (unchanged s v.seats same);
   }
 
-  -- ---- both
+  -- ---- either
+
+  -- a refusal leaves what the judge leaves, where he refuses so too
+  pub refused_leaves : (o : Op) (r : Reply) → s.sessions ≡ as_sessions v.seats → is_done r ≡ false → (judge limits s o).reply ≡ r → Leaves s o v pointers r (judge limits s o)
+  refused_leaves o r same stops e = by_first (first (refusals limits s o)) refl
+    where
+      by_first : (x : Option Reply) → first (refusals limits s o) ≡ x → Leaves s o v pointers r (judge limits s o)
+      by_first None f = absurd (false≢true (sym stops ∙ ap (λ q. is_done q) (sym e ∙ ap (λ (j : Judged). j.reply) (judge_granted limits s o f)) ∙ granted_done s o))
+      by_first (Some q) f =
+          let told : q ≡ r = sym (ap (λ (j : Judged). j.reply) (judge_refused limits s o q f)) ∙ e in
+          subst (λ j. Leaves s o v pointers r j) (sym (judge_refused limits s o r (f ∙ ap (λ x. Some x) told))) (refusal_leaves o r same stops)
+
+  -- what is granted leaves what the judge leaves, where he refuses nothing
+  pub granted_leaves : (o : Op) (r : Reply) → is_done (judge limits s o).reply ≡ true → Leaves s o v pointers r (granted s o) → Leaves s o v pointers r (judge limits s o)
+  granted_leaves o r done leaves = by_first (first (refusals limits s o)) refl
+    where
+      by_first : (x : Option Reply) → first (refusals limits s o) ≡ x → Leaves s o v pointers r (judge limits s o)
+      by_first None f = subst (λ j. Leaves s o v pointers r j) (sym (judge_granted limits s o f)) leaves
+      by_first (Some q) f =
+          absurd (false≢true (sym (store_refusal_stops limits s o q f) ∙ ap (λ (j : Judged). is_done j.reply) (sym (judge_refused limits s o q f)) ∙ done))
 
   split_or : (a b : Option Reply) (r : Reply) → option_or a b ≡ Some r → (a ≡ Some r) ⊎ ((a ≡ None) × (b ≡ Some r))
   split_or None b r e = inr (refl, e)
   split_or (Some q) b r e = inl e
-
-  judged_refusal : (o : Op) (r : Reply) → refusal_of v o ≡ Some r → judged_in v o ≡ Some r
-  unfolding judged_in
-  judged_refusal o r e = rw e refl
 
   pub leaves : ByTheView → (o : Op) (r : Reply) → Shows limits s o v → judged_in v o ≡ Some r → Leaves s o v pointers r (judge limits s o)
   unfolding judged_in
   leaves law o r shows e = by_parts (split_or (refusal_of v o) (at_once v o) r e)
     where
       by_parts : (refusal_of v o ≡ Some r) ⊎ ((refusal_of v o ≡ None) × (at_once v o ≡ Some r)) → Leaves s o v pointers r (judge limits s o)
-      by_parts (inl stops) = by_first (first (refusals limits s o)) refl
-        where
-          refuses : is_done r ≡ false
-          refuses = refused_first (refusals_of v o) r (first_refuses (refusals_of v o) (view_refuses v o)) stops
+      by_parts (inl stops) = refused_leaves o r shows.sessions (view_refusal_stops v o r stops) (law limits s o v r shows e)
+      by_parts (inr passes) =
+          granted_leaves o r (ap (λ q. is_done q) (law limits s o v r shows e) ∙ at_once_done v o r passes.1) (at_once_leaves o r shows passes.1)
 
-          by_first : (x : Option Reply) → first (refusals limits s o) ≡ x → Leaves s o v pointers r (judge limits s o)
-          by_first None f =
-              let same : (granted s o).reply ≡ r = sym (ap (λ (j : Judged). j.reply) (judge_granted limits s o f)) ∙ law limits s o v r shows e in
-              absurd (false≢true (sym refuses ∙ sym (ap (λ q. is_done q) same) ∙ granted_done s o))
-          by_first (Some q) f =
-              let same : q ≡ r = sym (ap (λ (j : Judged). j.reply) (judge_refused limits s o q f)) ∙ law limits s o v r shows e in
-              subst (λ j. Leaves s o v pointers r j) (sym (judge_refused limits s o r (f ∙ ap (λ x. Some x) same))) (refusal_leaves o r shows refuses)
-      by_parts (inr passes) = by_first (first (refusals limits s o)) refl
-        where
-          by_first : (x : Option Reply) → first (refusals limits s o) ≡ x → Leaves s o v pointers r (judge limits s o)
-          by_first None f = subst (λ j. Leaves s o v pointers r j) (sym (judge_granted limits s o f)) (at_once_leaves o r shows passes.1)
-          by_first (Some q) f =
-              let same : q ≡ r = sym (ap (λ (j : Judged). j.reply) (judge_refused limits s o q f)) ∙ law limits s o v r shows e in
-              let never : is_done q ≡ false = refused_first (refusals limits s o) q (first_refuses (refusals limits s o) (store_refuses limits s o)) f in
-              absurd (false≢true (sym never ∙ ap (λ x. is_done x) same ∙ at_once_done v o r passes.1))
+  -- ---- reads
+
+  -- whatever bytes are told, the deed and the store are those of a read
+  reads : (name : List ℕ) (handle : ℕ) (bytes : List ℕ) → Shows limits s (op.Read name handle) v → pointers ≡ pointers_at s (address_of s name handle)
+      → Leaves s (op.Read name handle) v pointers (read_reply v name bytes) (granted s (op.Read name handle))
+  unfolding granted deed_of seats_after gained
+  reads name handle bytes shows same = record {
+    deed =
+        ap (λ (held : Option Held). deed.ReadBlock name (unwrap_or held nothing).address (unwrap_or held nothing).epoch (range_with_len (next_of (open_in v name)) v.pointers)) (sym held)
+        ∙ ap (λ (n : ℕ). deed.ReadBlock name (address_of s name handle) (held_or s name handle).epoch (range_with_len (next_of (open_in v name)) n)) (shows.pointers (address_of s name handle) refl)
+        ∙ ap (λ (x : Option Session). deed.ReadBlock name (address_of s name handle) (held_or s name handle).epoch (range_with_len (next_of x) (length (pointers_at s (address_of s name handle))))) (sym (session_is s v.seats shows.sessions name));
+    store =
+        hold_is s v.seats shows.sessions name (helds_of pointers (unwrap_or (held_at (seat_of name v.seats) handle) nothing).epoch)
+        ∙ ap (λ (held : Option Held). hold_all s name (helds_of pointers (unwrap_or held nothing).epoch)) (sym held)
+        ∙ ap (λ (all : List Address). hold_all s name (helds_of all (held_or s name handle).epoch)) same;
+  }
+    where
+      held : store_held s name handle ≡ held_at (seat_of name v.seats) handle
+      held = held_is s v.seats shows.sessions name handle
+
+  pub read_leaves : ByTheBytes → (name : List ℕ) (handle : ℕ) (bytes : List ℕ) → Shows limits s (op.Read name handle) v → pointers ≡ pointers_at s (address_of s name handle)
+      → refusal_of v (op.Read name handle) ≡ None → Leaves s (op.Read name handle) v pointers (read_reply v name bytes) (judge limits s (op.Read name handle))
+  read_leaves law name handle bytes shows same free =
+      granted_leaves (op.Read name handle) (read_reply v name bytes) (ap (λ q. is_done q) (sym (law limits s v name handle shows free))) (reads name handle bytes shows same)

@@ -1,6 +1,10 @@
-mod AnswerLemmas
-mod CoreLemmas
+pub mod AnswerLemmas
+pub mod CollisionLemmas
+pub mod CoreLemmas
+pub mod EarlyLemmas
 mod MemoryLemmas
-mod RefusalLemmas
+pub mod RefusalLemmas
 mod RootLemmas
-mod ShownLemmas
+pub mod ShownLemmas
+pub mod StepLemmas
+pub mod TellingLemmas

@@ -1,2 +1,4 @@
+pub mod Asked
 pub mod Judged
 pub mod Standing
+pub mod Telling

@@ -13,7 +13,7 @@ ghost use Rattle.hs_model.specs.declared.reply.Reply.{Reply};
 ghost use Rattle.hs_ops.specs.Going.{judged_in};
 ghost use Rattle.hs_ops.specs.Speaking.{judging_shard};
 
-use hs_shown::an_answer_by_the_view_is_the_stores;
+use hs_shown::{an_answer_by_the_view_is_the_stores, bytes_are_answered_as_the_store_does};
 
 /// An operation that is answered by what it sees of the core: the entry of its line has the reply and
 /// the deed of the plain store's judge, and the store of the core afterwards is the one that the judge
@@ -31,4 +31,5 @@ pub fn an_answer_is_the_judges()
         IsJudged cs core (begin_line line o core) line o }
 {
     an_answer_by_the_view_is_the_stores();
+    bytes_are_answered_as_the_store_does();
 }

@@ -3,8 +3,14 @@
 
 mod answered;
 mod busy;
+mod reading;
 mod shown;
+mod stepping;
+mod writing;
 
 pub use answered::an_answer_is_the_judges;
 pub use busy::a_busy_session_is_told;
+pub use reading::a_read_is_the_judges;
 pub use shown::views_show_the_store;
+pub use stepping::a_step_that_answers_is_the_judges;
+pub use writing::a_write_is_the_judges;

@@ -1,0 +1,82 @@
+-- A core that opens is in turn.
+use Rattle.std.proofs.Common.{◌≡◌, ℕ, [], Option, Some, None, not, refl, ap, ◌∙◌, arith}
+use Rattle.hs_core.specs.Changing.{note}
+use Rattle.hs_core.specs.Looking.{shape_of, shards_of, status_of}
+use Rattle.hs_core.specs.Opening.{Taken, begin_views, new_core, note_down, note_if_down, open_core}
+use Rattle.hs_core.specs.State.{Core}
+use Rattle.hs_core.specs.Views.{change_view}
+use Rattle.hs_journal.specs.declared.entry.JournalEntry.{JournalEntry}
+use Rattle.hs_journal.specs.declared.entry.Who.TheVariants as who
+use Rattle.hs_journal.specs.Events.{client_op}
+use Rattle.hs_journal.specs.Order.{IsAt, IsOfLine, IsOrdered}
+use Rattle.hs_limits.specs.declared.limits.Limits.{Limits}
+use Rattle.hs_limits.specs.declared.shape.Shape.{Shape}
+use Rattle.hs_members.specs.Members.{all_peers, is_good_status}
+use Rattle.hs_model.specs.declared.command.Command.{Command}
+use Rattle.hs_model.specs.declared.deed.Deed.TheVariants as deed
+use Rattle.hs_model.specs.declared.op.Op.{Op}
+use Rattle.hs_model.specs.declared.reply.Reply.TheVariants as reply
+use Rattle.hs_told.proofs.DuringLemmas.{During, stirs}
+use Rattle.hs_told.proofs.OrderLemmas.{ended}
+use Rattle.hs_told.proofs.StirLemmas.{stays_change_view, stays_each, stays_if, store_only}
+use Rattle.hs_told.specs.InTurn.{IsInTurn}
+use Rattle.hs_told.specs.Part.{asking, part_of}
+use Rattle.hs_told.specs.Turns.{Turns}
+
+nothing_at : (i : ℕ) (e : JournalEntry) → IsAt [] i e → ⊥
+nothing_at i e at = cc at
+
+no_line : (i n : ℕ) → IsOfLine [] i n → ⊥
+no_line i n x = nothing_at i x.entry x.at
+
+nothing_told : (commands : ℕ → Option Command) → IsOrdered commands []
+nothing_told commands = record {
+  named = λ i n x. absurd (no_line i n x);
+  once = λ i j n x y. absurd (no_line i n x);
+  alone = λ i k session x s d l m v w. absurd (no_line i k x);
+  busy = λ i k session f a h s d l v. absurd (nothing_at i f a);
+  only_busy = λ i k l f a h b. absurd (nothing_at i f a);
+  prompt = λ i j k m x p y lt. absurd (no_line i k x);
+  prompt_busy = λ i j k m l f a h b y lt. absurd (nothing_at i f a);
+  moments = λ i j f g a b le. absurd (nothing_at i f a);
+}
+
+nobody : (n : ℕ) (o : Op) → asking [] n ≡ Some o → ⊥
+nobody n o h = cc h
+
+first_turns : (commands : ℕ → Option Command) (moment : ℕ) → client_op (commands 0) ≡ None → Turns commands 1 moment [] (asking [])
+first_turns commands moment none = record {
+  ordered = nothing_told commands;
+  begun = λ i n x. absurd (no_line i n x);
+  until = λ i e a. absurd (nothing_at i e a);
+  below = λ n o h. absurd (nobody n o h);
+  unanswered = λ n o h i x. nobody n o h;
+  each = λ k o low h. absurd (let e : k ≡ 0 = omega (arith, low) in let f : client_op (commands k) ≡ None = ap (λ n. client_op (commands n)) e ∙ none in cc (f, h));
+  asked = λ n o h. absurd (nobody n o h);
+  alone = λ m n o p name h i s t. absurd (nobody m o h);
+}
+
+pub opened_turn : (commands : ℕ → Option Command) (shape : Shape) (limits : Limits) (taken : Taken) (moment : ℕ) → client_op (commands 0) ≡ None → IsInTurn commands (open_core shape limits taken moment)
+opened_turn commands shape limits taken moment none = ended commands 0 (note_down (begin_views core)) noted
+  where
+    core : Core
+    core = new_core shape limits taken moment
+
+    new : During commands 1 0 (part_of core)
+    new = record {
+      turns = first_turns commands moment none;
+      journal = nothing_told commands;
+      apart = tt;
+      opened = λ n o name h s. absurd (nobody n o h);
+      clean = refl;
+      at = refl;
+    }
+
+    viewed : During commands 1 0 (part_of (begin_views core))
+    viewed = stays_each (stirs commands 1 0) (shards_of core) change_view core (λ shard x q. stays_change_view (stirs commands 1 0) shard x q) new
+
+    noted : During commands 1 0 (part_of (note_down (begin_views core)))
+    noted =
+        stays_each (stirs commands 1 0) (all_peers (shape_of (begin_views core))) note_if_down (begin_views core)
+        (λ peer x q. stays_if (stirs commands 1 0) (not (is_good_status (status_of peer x))) (note who.Store deed.Nothing (reply.Down peer 0)) x
+        (λ y k. (stirs commands 1 0).notes who.Store deed.Nothing (reply.Down peer 0) y (store_only (stirs commands 1 0)) k) q) viewed

@@ -1,0 +1,5 @@
+pub mod Apart
+pub mod InTurn
+pub mod Lines
+pub mod Part
+pub mod Turns
