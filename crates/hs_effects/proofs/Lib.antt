@@ -1,5 +1,7 @@
+mod AnsweredLemmas
 mod BeginLemmas
 mod CommitLemmas
+mod DeleteLemmas
 mod DropLemmas
 mod EffectLemmas
 mod EndingLemmas

@@ -1,12 +1,14 @@
 //! What entries that take effect do to the plain store of the core's catalogues and sessions.
 #![tactic(auto)]
 
+mod deleted;
 mod dropped;
 mod lawful;
 mod logged;
 mod refused;
 mod shards;
 
+pub use deleted::a_delete_is_answered_at_its_effect;
 pub use dropped::a_drop_is_answered_at_its_effect;
 pub use lawful::{all_that_is_committed_keeps_a_lawful_store, an_entry_keeps_a_lawful_store};
 pub use logged::operations_wait_for_their_entries;
