@@ -1,5 +1,6 @@
 mod AnsweredLemmas
 mod BeginLemmas
+mod BlockLemmas
 mod CommitLemmas
 mod DeleteLemmas
 mod DropLemmas
