@@ -1,5 +1,5 @@
 -- An operation that is answered by the effect of its entry, whatever its kind.
-use Rattle.std.proofs.Common.{◌≡◌, ◌∙◌, sym, ap, ℕ, Bool, true, false, List, [], ◌∷◌, ◌++◌, Option, Some, None, refl}
+use Rattle.std.proofs.Common.{◌≡◌, ◌∙◌, sym, ap, ℕ, true, List, [], ◌∷◌, ◌++◌, Option, Some, None, refl}
 use Rattle.std.proofs.lemmas.Bool.{false≢true}
 use Rattle.std.specs.Option.{option_map_or}
 use Rattle.hs_answered.specs.Judged.{entry_of, judged_at}
@@ -75,7 +75,7 @@ module _ (core : Core) (shard line : ℕ) (entry : Entry) (w : Waiting) (o : Op)
       ∙ ap (λ x. tell_operation line x here) does
       ∙ ap (λ (x : Option Waiting). change_with x (λ u. take_step line u (effect_step (view_for u.shard u.operation.op here) did u.operation)) here) at
       ∙ ap (λ s. take_step line w s here) (answered_step (view_for w.shard w.operation.op here) w.operation.line did w.operation.op r
-          (ap (λ k. effect_reply (view_for k w.operation.op here) did w.operation.op) judges ∙ ap (λ p. effect_reply (view_for shard p here) did p) is ∙ e))
+      (ap (λ k. effect_reply (view_for k w.operation.op here) did w.operation.op) judges ∙ ap (λ p. effect_reply (view_for shard p here) did p) is ∙ e))
 
   -- it is the judge's, where its reply, its deed and its sessions are
   pub by_parts : (cs behind : List Folded) → asked_by entry ≡ Some line → operation_of line core ≡ Some w → w.shard ≡ shard → w.operation.op ≡ o → (done_by shard entry core).effect.what ≡ did

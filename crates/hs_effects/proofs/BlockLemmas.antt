@@ -1,12 +1,11 @@
 -- A Block that stores its block.
-use Rattle.std.proofs.Common.{◌≡◌, ◌∙◌, sym, ap, subst, inl, inr, ℕ, ◌+◌, Bool, true, false, cond, not, ◌&&◌, ◌||◌, ◌==◌, List, [], ◌∷◌, length, map, Option, Some, None, is_some, is_none, Result, Ok, Err, refl, arith, nat_le, nat_lt, slice_index, unwrap_or}
-use Rattle.std.proofs.lemmas.Bool.{eqb-true, eq-eqb}
+use Rattle.std.proofs.Common.{◌≡◌, ◌∙◌, sym, ap, subst, inl, inr, ℕ, ◌+◌, Bool, true, false, cond, not, ◌&&◌, ◌||◌, ◌==◌, List, [], ◌∷◌, length, map, Option, Some, None, is_some, is_none, Ok, refl, arith, nat_le, nat_lt, slice_index, unwrap_or}
 use Rattle.std.proofs.lemmas.Map.Made.{lookup-map_values}
 use Rattle.std.specs.BTreeMap.{is_at}
 use Rattle.std.specs.Map.{lookup}
-use Rattle.std.specs.Option.{option_and_then, option_map}
+use Rattle.std.specs.Option.{option_map}
 use Rattle.hs_answered.specs.Judged.{judged_at}
-use Rattle.hs_answered.specs.Standing.{IsFolded, store_with}
+use Rattle.hs_answered.specs.Standing.{store_with}
 use Rattle.hs_answered.proofs.AnswerLemmas.{hold_is, session_is}
 use Rattle.hs_answered.proofs.ShownLemmas.{held_is}
 use Rattle.hs_core.specs.declared.waiting.Waiting.{Waiting}
@@ -40,7 +39,6 @@ use Rattle.hs_limits.specs.Shape.{shard_of}
 use Rattle.hs_limits.specs.declared.address.Address.{Address}
 use Rattle.hs_limits.specs.declared.address.Held.{Held}
 use Rattle.hs_limits.specs.declared.limits.Limits.{Limits}
-use Rattle.hs_limits.specs.declared.spelling.SpellingFault.{SpellingFault}
 use Rattle.hs_memory.specs.Forget.{forget, known_of}
 use Rattle.hs_model.specs.declared.deed.Deed.TheVariants as deed
 use Rattle.hs_model.specs.declared.op.Op.{Op}

@@ -4,10 +4,8 @@ use Rattle.std.proofs.lemmas.Bool.{eqb-true, false≢true, le-ltb, lt-leb}
 use Rattle.hs_answered.specs.Judged.{judged_at}
 use Rattle.hs_answered.specs.Standing.{store_with}
 use Rattle.hs_answered.proofs.AnswerLemmas.{judge_granted}
-use Rattle.hs_core.specs.declared.waiting.Waiting.{Waiting}
-use Rattle.hs_core.specs.Looking.{catalogue_of, front_of, group_of, operation_of, shape_of}
+use Rattle.hs_core.specs.Looking.{catalogue_of, front_of, group_of, shape_of}
 use Rattle.hs_core.specs.State.{Core}
-use Rattle.hs_desk.specs.declared.what.What.{What}
 use Rattle.hs_desk.specs.declared.what.What.TheVariants as what
 use Rattle.hs_effects.specs.Answered.{IsAnsweredBy, heard}
 use Rattle.hs_effects.specs.Lawful.{IsLawful, MayFollow}
@@ -21,9 +19,7 @@ use Rattle.hs_effects.proofs.SweepLemmas.{ByViews, epoch_before, left_of, store_
 use Rattle.hs_entry.specs.declared.entry.Entry.{Entry}
 use Rattle.hs_entry.specs.declared.entry.Entry.TheVariants as kind
 use Rattle.hs_fold.specs.Runs.Facts.{Catalogue as Folded}
-use Rattle.hs_fold.specs.Runs.Fits.{catalogue_at}
 use Rattle.hs_fold.specs.Runs.Opened.{store_of}
-use Rattle.hs_fold.specs.Runs.Rounds.{may_enter}
 use Rattle.hs_fold.specs.Shards.Happening.{Happening, happen_by}
 use Rattle.hs_fold.specs.Shards.Happening.{enters as entering}
 use Rattle.hs_joint.specs.Along.{happening_by}
@@ -33,7 +29,7 @@ use Rattle.hs_model.specs.declared.op.Op.TheVariants as op
 use Rattle.hs_model.specs.declared.reply.Reply.{Reply}
 use Rattle.hs_model.specs.declared.reply.Reply.TheVariants as reply
 use Rattle.hs_model.specs.Inner.{enter}
-use Rattle.hs_model.specs.Judge.{Judged, deleted, granted, refusals}
+use Rattle.hs_model.specs.Judge.{deleted, granted, refusals}
 use Rattle.hs_model.specs.Refusals.{first, refused_when}
 use Rattle.hs_model.specs.Store.{Store, with_sessions}
 use Rattle.hs_ops.specs.Answers.{deed_of, seats_after}
