@@ -13,6 +13,7 @@ mod GoingLemmas
 mod GroupLemmas
 mod LawfulLemmas
 mod LookLemmas
+mod MarkLemmas
 mod OrderlyLemmas
 mod QuietLemmas
 mod RefusedLemmas
