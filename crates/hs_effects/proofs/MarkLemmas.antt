@@ -1,14 +1,12 @@
 -- A Mark that gives the block which is there.
-use Rattle.std.proofs.Common.{◌≡◌, ◌∙◌, sym, ap, subst, inl, inr, ℕ, ◌+◌, Bool, true, false, cond, not, ◌&&◌, ◌||◌, ◌==◌, List, [], ◌∷◌, length, map, Option, Some, None, is_some, is_none, Result, Ok, Err, refl, arith, nat_le, nat_lt, slice_index, unwrap_or}
-use Rattle.std.proofs.lemmas.Bool.{eqb-true, eq-eqb}
+use Rattle.std.proofs.Common.{◌≡◌, ◌∙◌, sym, ap, subst, ℕ, ◌+◌, Bool, true, false, cond, not, ◌==◌, List, [], ◌∷◌, Option, Some, None, is_some, refl, nat_le, slice_index}
 use Rattle.std.proofs.lemmas.Map.Made.{lookup-map_values}
 use Rattle.std.specs.BTreeMap.{insert_entry, is_at}
 use Rattle.std.specs.Map.{lookup}
 use Rattle.std.specs.Option.{option_map, option_map_or}
 use Rattle.hs_answered.specs.Judged.{judged_at}
-use Rattle.hs_answered.specs.Standing.{IsFolded, store_with}
+use Rattle.hs_answered.specs.Standing.{store_with}
 use Rattle.hs_answered.proofs.AnswerLemmas.{hold_is, session_is}
-use Rattle.hs_answered.proofs.ShownLemmas.{held_is}
 use Rattle.hs_core.specs.declared.waiting.Waiting.{Waiting}
 use Rattle.hs_core.specs.Looking.{catalogue_of, front_of, group_of, operation_of, shape_of}
 use Rattle.hs_core.specs.Seeing.{view_for}
@@ -16,31 +14,23 @@ use Rattle.hs_core.specs.State.{Core}
 use Rattle.hs_desk.specs.declared.what.What.TheVariants as what
 use Rattle.hs_effects.specs.Answered.{IsAnsweredBy, heard}
 use Rattle.hs_effects.specs.Lawful.{IsLawful, MayFollow}
-use Rattle.hs_effects.specs.Logged.{HasAsked, IsEntryOf, IsOrderly}
-use Rattle.hs_effects.specs.Taking.{IsNamed, done_by, folds_behind, next_deed, setting_of, taken}
+use Rattle.hs_effects.specs.Logged.{HasAsked, IsOrderly}
+use Rattle.hs_effects.specs.Taking.{done_by, folds_behind, next_deed, setting_of, taken}
 use Rattle.hs_effects.proofs.AnsweredLemmas.{by_parts, granted_is, seats_behind}
-use Rattle.hs_effects.proofs.EffectLemmas.{committed_named}
 use Rattle.hs_effects.proofs.FoldLemmas.{memory_at, taken_folds}
 use Rattle.hs_effects.proofs.GroupLemmas.{committed_first}
 use Rattle.hs_effects.proofs.SweepLemmas.{ByViews, epoch_before, epoch_left, epoch_seen, store_is}
 use Rattle.hs_entry.specs.declared.entry.Entry.{Entry}
 use Rattle.hs_entry.specs.declared.entry.Entry.TheVariants as kind
 use Rattle.hs_fold.specs.Runs.Facts.{Catalogue as Folded}
-use Rattle.hs_fold.specs.Runs.Facts.{Facts as FoldedFacts, plain}
+use Rattle.hs_fold.specs.Runs.Facts.{Facts as FoldedFacts}
 use Rattle.hs_fold.specs.Runs.Fits.{catalogue_at}
 use Rattle.hs_fold.specs.Runs.Opened.{store_of}
 use Rattle.hs_fold.specs.Shards.Change.{gives}
 use Rattle.hs_fold.specs.Shards.Happening.{Happening, changes, happen_by, mark_happens}
-use Rattle.hs_fold.specs.Shards.Setting.{shard_in}
 use Rattle.hs_joint.specs.Along.{happening_by}
-use Rattle.hs_limits.specs.Block.{Block, spell}
-use Rattle.hs_limits.specs.Limits.{greatest_limits}
-use Rattle.hs_limits.specs.Reading.{read_block}
-use Rattle.hs_limits.specs.Shape.{shard_of}
 use Rattle.hs_limits.specs.declared.address.Address.{Address}
-use Rattle.hs_limits.specs.declared.address.Held.{Held}
 use Rattle.hs_limits.specs.declared.limits.Limits.{Limits}
-use Rattle.hs_limits.specs.declared.spelling.SpellingFault.{SpellingFault}
 use Rattle.hs_memory.specs.Forget.{forget, known_of}
 use Rattle.hs_model.specs.declared.deed.Deed.TheVariants as deed
 use Rattle.hs_model.specs.declared.op.Op.{Op}
@@ -48,21 +38,20 @@ use Rattle.hs_model.specs.declared.op.Op.TheVariants as op
 use Rattle.hs_model.specs.declared.reply.Reply.{Reply}
 use Rattle.hs_model.specs.declared.reply.Reply.TheVariants as reply
 use Rattle.hs_model.specs.declared.store.StoredBlock.{StoredBlock}
-use Rattle.hs_model.specs.Judge.{Judged, address_of, given_address, granted, judge, nothing, written, written_deed, wrote}
+use Rattle.hs_model.specs.Judge.{Judged, given_address, granted, judge, written, written_deed, wrote}
 use Rattle.hs_model.specs.Refusals.{is_block}
-use Rattle.hs_model.specs.Store.{Session, Store, address_cmp, block_at, blocks_with, epoch_at, hold_all, next_of, session_at, shard_at, with_block, with_sessions}
+use Rattle.hs_model.specs.Store.{Session, Store, address_cmp, block_at, blocks_with, epoch_at, hold_all, next_of, session_at, with_block, with_sessions}
 use Rattle.hs_ops.specs.Answers.{deed_of, gained, is_done, seats_after}
 use Rattle.hs_ops.specs.Going.{effect_reply}
 use Rattle.hs_ops.specs.Refusals.{refusal_of}
-use Rattle.hs_ops.specs.Speaking.{asked_block, judging_shard}
+use Rattle.hs_ops.specs.Speaking.{judging_shard}
 use Rattle.hs_ops.specs.Views.{OpView, now_in, open_in}
 use Rattle.hs_replica.specs.Group.{committed}
 use Rattle.hs_shard.specs.declared.facts.Facts.{Facts}
-use Rattle.hs_shard.specs.Apply.{named_as}
 use Rattle.hs_shard.specs.Clients.{Applied, change_at, give, mark_block, only}
-use Rattle.hs_shard.specs.Facts.{Catalogue, facts_at, has_room, is_fresh, is_mine}
+use Rattle.hs_shard.specs.Facts.{Catalogue, facts_at, is_fresh}
 use Rattle.hs_shown.specs.Showing.{Shows, as_sessions}
-use Rattle.hs_tokens.specs.Seats.{Seats, found}
+use Rattle.hs_tokens.specs.Seats.{Seats}
 
 -- what hs_shown says of a block that was there
 abbrev pub ByMarked : Type 0
@@ -200,7 +189,7 @@ module _ (views : ByViews) (law : ByMarked) (name : List ℕ → Address) (cs : 
         store_is views name cs core shard entry its may refl
         ∙ ap (λ (x : Option Happening). with_sessions (happen_by (store_of cs) x) (as_sessions core.sessions)) happens
         ∙ ap (λ b. with_sessions (cond b (record (store_of cs) { given = insert_entry address_cmp (store_of cs).given a (epoch_at (store_of cs) a) }) (store_of cs)) (as_sessions core.sessions))
-            (ap (λ n. nat_le n (least + 1)) epoch_is ∙ tests.fresh)
+        (ap (λ n. nat_le n (least + 1)) epoch_is ∙ tests.fresh)
         ∙ ap (λ x. record s { blocks = blocks_with x s.blocks a (written s session payload handles) (epoch_at s a); given = insert_entry address_cmp s.given a (epoch_at s a) }) (sym present)
 
     leaves : store_with behind (seats_behind shard o r here) ≡ (wrote s session a (written s session payload handles)).store
