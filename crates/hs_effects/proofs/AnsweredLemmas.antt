@@ -37,14 +37,17 @@ use Rattle.hs_tokens.specs.Seats.{Seats}
 
 -- ---- the judge
 
--- what is answered as done was granted
-pub granted_is : (limits : Limits) (s : Store) (o : Op) → is_done (judge limits s o).reply ≡ true → judge limits s o ≡ granted s o
-granted_is limits s o done = by_first (first (refusals limits s o)) refl
+-- what is answered as done was not refused, and so granted
+pub none_refused : (limits : Limits) (s : Store) (o : Op) → is_done (judge limits s o).reply ≡ true → first (refusals limits s o) ≡ None
+none_refused limits s o done = by_first (first (refusals limits s o)) refl
   where
-    by_first : (x : Option Reply) → first (refusals limits s o) ≡ x → judge limits s o ≡ granted s o
-    by_first None f = judge_granted limits s o f
+    by_first : (x : Option Reply) → first (refusals limits s o) ≡ x → first (refusals limits s o) ≡ None
+    by_first None f = f
     by_first (Some q) f =
         absurd (false≢true (sym (store_refusal_stops limits s o q f) ∙ ap (λ (j : Judged). is_done j.reply) (sym (judge_refused limits s o q f)) ∙ done))
+
+pub granted_is : (limits : Limits) (s : Store) (o : Op) → is_done (judge limits s o).reply ≡ true → judge limits s o ≡ granted s o
+granted_is limits s o done = judge_granted limits s o (none_refused limits s o done)
 
 -- ---- the answer
 

@@ -17,6 +17,7 @@ mod MarkLemmas
 mod OrderlyLemmas
 mod QuietLemmas
 mod RefusedLemmas
+mod RootLemmas
 mod SeatLemmas
 mod StepLemmas
 mod SweepLemmas
