@@ -1,5 +1,8 @@
+mod AnsweredLemmas
 mod BeginLemmas
+mod BlockLemmas
 mod CommitLemmas
+mod DeleteLemmas
 mod DropLemmas
 mod EffectLemmas
 mod EndingLemmas
@@ -10,10 +13,12 @@ mod GoingLemmas
 mod GroupLemmas
 mod LawfulLemmas
 mod LookLemmas
+mod MarkLemmas
 mod OnceLemmas
 mod OrderlyLemmas
 mod QuietLemmas
 mod RefusedLemmas
+mod RootLemmas
 mod SeatLemmas
 mod StepLemmas
 mod SweepLemmas

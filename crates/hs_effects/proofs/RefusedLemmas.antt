@@ -49,7 +49,7 @@ same_line : (l line : ℕ) → Some l ≡ Some line → l ≡ line
 same_line l line e = cc e
 
 -- the operation of an entry's line hears of it
-heard_by : (shard line : ℕ) (entry : Entry) (effect : Effect) (c : Core) (w : Waiting) → asked_by entry ≡ Some line → operation_of line c ≡ Some w → after_entry shard entry effect c ≡ tell_operation line effect.what c
+pub heard_by : (shard line : ℕ) (entry : Entry) (effect : Effect) (c : Core) (w : Waiting) → asked_by entry ≡ Some line → operation_of line c ≡ Some w → after_entry shard entry effect c ≡ tell_operation line effect.what c
 heard_by shard line (kind.Block l least bytes) effect c w by at = ap (λ k. tell_operation k effect.what c) (same_line l line by)
 heard_by shard line (kind.Mark l least block a) effect c w by at = ap (λ k. tell_operation k effect.what c) (same_line l line by)
 heard_by shard line (kind.Root l held a key) effect c w by at = ap (λ k. tell_operation k effect.what c) (same_line l line by)

@@ -151,6 +151,13 @@ module _ (views : ByViews) (name : List ℕ → Address) (cs : List Folded) (cor
   pub epoch_before : slice_index s.epochs shard ≡ old.epoch
   epoch_before = sym (ap (λ (ks : List ℕ). slice_index ks shard) before.epochs) ∙ get_or-map (λ (c : Catalogue). c.epoch) core.catalogues shard none 0 low
 
+  -- the epoch of the shard before and behind it, as views have it
+  pub epoch_seen : slice_index (map (λ (c : Catalogue). c.epoch) core.catalogues) shard ≡ old.epoch
+  epoch_seen = get_or-map (λ (c : Catalogue). c.epoch) core.catalogues shard none 0 low
+
+  pub epoch_left : slice_index (map (λ (c : Catalogue). c.epoch) here.catalogues) shard ≡ new.epoch
+  epoch_left = get_or-map (λ (c : Catalogue). c.epoch) here.catalogues shard none 0 low_here ∙ ap (λ (c : Catalogue). c.epoch) at_here
+
   pub swept_before : slice_index s.swept shard ≡ old.swept
   swept_before = sym (ap (λ (ks : List ℕ). slice_index ks shard) before.swept) ∙ get_or-map (λ (c : Catalogue). c.swept) core.catalogues shard none 0 low
 
