@@ -212,7 +212,7 @@ module _ (views : ByViews) (law : ByRooted) (name : List ℕ → Address) (cs : 
         ap (λ n. (nat_le n (f.epoch + 1) && is_none (key_taken s key f.address)) && is_none (roots_full greatest_limits s key)) epoch_is
         ∙ ap (λ b. (b && is_none (key_taken s key f.address)) && is_none (roots_full greatest_limits s key)) tests.fresh
         ∙ ap (λ x. is_none x && is_none (roots_full greatest_limits s key))
-            (ap (λ a. key_taken s key a) same_address ∙ not_taken core.limits s session key handle (none_refused core.limits s o (ap (λ q. is_done q) (sym replies))))
+        (ap (λ a. key_taken s key a) same_address ∙ not_taken core.limits s session key handle (none_refused core.limits s o (ap (λ q. is_done q) (sym replies))))
         ∙ ap (λ x. is_none x) roomy
 
     put_is : t ≡ (rooted s key (address_of s session handle)).store
