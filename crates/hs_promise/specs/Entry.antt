@@ -1,7 +1,6 @@
 -- The store at entry: which logs count of the disks as they were.
 use Rattle.std.specs.Prelude.{Bool, List, None, Option, [], false, filter, if◌then◌else◌, length, not, true, ℕ, ◌&&◌, ◌++◌, ◌+◌, ◌==◌, ◌∷◌, ◌≡◌}
 use Rattle.hs_fold.specs.Runs.Opened.{opened}
-use Rattle.hs_fold.specs.Runs.Sound.{AreSound}
 use Rattle.hs_fold.specs.Shards.Course.{begins}
 use Rattle.hs_fold.specs.Shards.Images.{Image}
 use Rattle.hs_fold.specs.Shards.Setting.{Numbered}
@@ -12,6 +11,7 @@ use Rattle.hs_ports.specs.Disk.{IsImage, Standing}
 use Rattle.hs_ports.specs.Moments.{disk_at}
 use Rattle.hs_ports.specs.declared.disk.Side.{Side}
 use Rattle.hs_side.specs.Current.{list_in}
+use Rattle.hs_sound.specs.Stay.{AreSoundAlong}
 use Rattle.hs_promise.specs.Ending.{ending_of}
 use Rattle.hs_journal.specs.Notes.{is_first_noted}
 use Rattle.hs_events.specs.Taken.{or_blank, taken_items, taken_lists}
@@ -40,7 +40,7 @@ entry_store S r = opened S.set (or_blank (entry_logs S r))
 
 -- they are sound
 abbrev pub IsSoundAtEntry : Script → Ran → Type 0
-IsSoundAtEntry S r = AreSound S.set (taken_lists S.set.shape (entry_logs S r))
+IsSoundAtEntry S r = AreSoundAlong S.set (taken_lists S.set.shape (entry_logs S r))
 
 -- whatever a disk that counts may have left at entry has the list that is read of it
 abbrev pub OneListAtEntry : Script → Ran → Type 0

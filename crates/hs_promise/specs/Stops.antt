@@ -4,13 +4,13 @@ use Rattle.hs_entry.specs.declared.entry.Entry.{Entry}
 use Rattle.hs_fold.specs.Good.{taken_below}
 use Rattle.hs_fold.specs.Images.{image_at}
 use Rattle.hs_fold.specs.Runs.Opened.{opened}
-use Rattle.hs_fold.specs.Runs.Sound.{AreSound}
 use Rattle.hs_fold.specs.Shards.Happening.{Happening, happen_all, happenings}
 use Rattle.hs_fold.specs.Shards.Images.{AreGoodImages, Image, IsGoodImage, Stop}
 use Rattle.hs_fold.specs.Shards.Pending.{AreOneRun, changing_lines}
 use Rattle.hs_fold.specs.Shards.Setting.{Numbered}
 use Rattle.hs_model.specs.Store.{Store, reborn}
 use Rattle.hs_side.specs.Current.{list_in}
+use Rattle.hs_sound.specs.Stay.{AreSoundAlong}
 use Rattle.hs_promise.specs.Answers.{events_in, store_after}
 use Rattle.hs_promise.specs.Awaited.{IsAwaited}
 use Rattle.hs_promise.specs.Entry.{counted_course, is_aside}
@@ -36,7 +36,7 @@ pub record Reopens (S : Script) (entry : Store) (r : Ran) (moment : ℕ) (images
   pub stands : opened S.set (or_blank (image_logs images))
       ≡ reborn (happen_all (store_after S entry (below moment r.journal)) (happenings (pending_at S r moment images)))
   pub legal : AreOneRun S.set.limits entry (events_in S entry (below moment r.journal)) (happenings (pending_at S r moment images))
-  pub sound : AreSound S.set (taken_lists S.set.shape (image_logs images))
+  pub sound : AreSoundAlong S.set (taken_lists S.set.shape (image_logs images))
   pub awaited : All (λ e. MayPend (IsAwaited S r moment) e.0) (pending_at S r moment images)
   pub once : AllPairs (λ one other. one ≢ other) (changing_lines (pending_at S r moment images))
 
