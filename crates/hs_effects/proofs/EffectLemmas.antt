@@ -313,8 +313,8 @@ effect_orderly name shard number entry c its e =
     let here : Core = taken shard entry c in
     let its_first : IsOrderly name first = committed_orderly name shard c its in
     let its_here : IsOrderly name here = with_lists name first here its_first refl refl refl refl
-        (λ g place k x at by. asked_alike name first here g (front_of g first + 1 + place) (front_of g here + 1 + place) k x refl refl refl refl refl (its_first.asked g place k x at by))
-        (taken_room name shard number entry c its e) in
+    (λ g place k x at by. asked_alike name first here g (front_of g first + 1 + place) (front_of g here + 1 + place) k x refl refl refl refl refl (its_first.asked g place k x at by))
+    (taken_room name shard number entry c its e) in
     let effect : Effect = (done_by shard entry c).effect in
     resumed_orderly name shard (wakes entry (named entry c) (after_entry shard entry effect here)) (wakes_idle entry (named entry c) (after_entry shard entry effect here)) (after_entry shard entry effect here)
     (behind_orderly name shard here its_here entry effect (λ line by g place x at of. taken_free name shard number line entry c its e by g place x at of))

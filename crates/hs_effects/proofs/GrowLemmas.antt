@@ -143,16 +143,15 @@ module _ (a : Applied) where
   ends None = same a.catalogue
   ends (Some at) = ends_by at (is_last a.catalogue.run)
 
+one_more : (turns : ℕ) (a : Applied) (b : Bool) → Shrinks (end_open a.catalogue.run.opened a).catalogue (advance turns (end_open a.catalogue.run.opened a)).catalogue
+    → Shrinks a.catalogue (cond b (advance turns (end_open a.catalogue.run.opened a)) a).catalogue
+one_more turns a true rest =
+    both a.catalogue (end_open a.catalogue.run.opened a).catalogue (advance turns (end_open a.catalogue.run.opened a)).catalogue (ends a a.catalogue.run.opened) rest
+one_more turns a false rest = same a.catalogue
+
 advances : (turns : ℕ) (a : Applied) → Shrinks a.catalogue (advance turns a).catalogue
 advances zero a = same a.catalogue
-advances (suc turns) a = go (complete a.catalogue.run)
-  where
-    on : Applied
-    on = end_open a.catalogue.run.opened a
-
-    go : (b : Bool) → Shrinks a.catalogue (cond b (advance turns (end_open a.catalogue.run.opened a)) a).catalogue
-    go true = both a.catalogue on.catalogue (advance turns on).catalogue (ends a a.catalogue.run.opened) (advances turns on)
-    go false = same a.catalogue
+advances (suc turns) a = one_more turns a (complete a.catalogue.run) (advances turns (end_open a.catalogue.run.opened a))
 
 -- ---- an entry
 
@@ -186,8 +185,8 @@ marks_one entry least number a c = go (not (option_map_or (λ (f : Facts). f.num
     go true q = stays entry c c (same c)
     go false true = stays entry c c (same c)
     go false false = stays entry c (record c { blocks = change_at a (give c.epoch) c.blocks }) (record {
-        blocks = le_is (length (change_at a (give c.epoch) c.blocks)) (length c.blocks) (length_put a (option_map (give c.epoch) (facts_in a c.blocks)) c.blocks);
-        roots = le_same (retained_count c.roots);
+      blocks = le_is (length (change_at a (give c.epoch) c.blocks)) (length c.blocks) (length_put a (option_map (give c.epoch) (facts_in a c.blocks)) c.blocks);
+      roots = le_same (retained_count c.roots);
     })
 
 puts_one : (line epoch held : ℕ) (kept a : Address) (key of : List ℕ) (c : Catalogue) → Grows (kind.Root line epoch kept of) c (put_root held a key c).catalogue
@@ -204,8 +203,8 @@ drops_one entry key c = go (is_none (retained_of key c.roots))
     go : (p : Bool) → Grows entry c (cond p (only what.Refused c) (only what.Dropped (record c { roots = map (dropping key c.epoch) c.roots }))).catalogue
     go true = stays entry c c (same c)
     go false = stays entry c (record c { roots = map (dropping key c.epoch) c.roots }) (record {
-        blocks = le_same (length c.blocks);
-        roots = count_map (λ (r : RootRecord). is_none r.dropped) (dropping key c.epoch) (drops key c.epoch) c.roots;
+      blocks = le_same (length c.blocks);
+      roots = count_map (λ (r : RootRecord). is_none r.dropped) (dropping key c.epoch) (drops key c.epoch) c.roots;
     })
 
 enters_one : (entry : Entry) (epoch : ℕ) (c : Catalogue) → Grows entry c (enter epoch c).catalogue

@@ -155,7 +155,7 @@ below m n e = go (nat_lt m n) refl e
     go false f g = absurd (cc g)
 
 never : (p : Entry → Bool) (a entry : Entry) → entry ≡ a → p a ≡ false → p entry ≡ true → ⊥
-never p a entry is no yes = cc (sym no ∙ ap p (sym is) ∙ yes)
+never p a entry is not_it it_is = cc (sym not_it ∙ ap p (sym is) ∙ it_is)
 
 neither : (c : Core) (shard : ℕ) (a entry : Entry) → entry ≡ a → is_block a ≡ false → is_root a ≡ false → HasPlace c shard entry
 neither c shard a entry is b r = record { blocks = λ e. absurd (never is_block a entry is b e); roots = λ e. absurd (never is_root a entry is r e) }

@@ -43,8 +43,8 @@ module _ (name : List ℕ → Address) (core : Core) (shard number : ℕ) (entry
   has_below : (p : Entry → Bool) (held limit : ℕ) → p entry ≡ true → Fit (count_by p (group_of shard core).waiting) held limit → nat_lt (held + 0) limit ≡ true
   has_below p held limit is fit =
       let counts : count_by p (group_of shard core).waiting ≡ 1 + count_by p (drop 1 (group_of shard core).waiting) =
-          first_counts p (group_of shard core).waiting entry (committed_first (group_of shard core) number entry leads).first
-          ∙ ap (λ b. cond b 1 0 + count_by p (drop 1 (group_of shard core).waiting)) is in
+      first_counts p (group_of shard core).waiting entry (committed_first (group_of shard core) number entry leads).first
+      ∙ ap (λ b. cond b 1 0 + count_by p (drop 1 (group_of shard core).waiting)) is in
       let low = one_fits (count_by p (drop 1 (group_of shard core).waiting)) held limit (subst (λ n. Fit n held limit) counts fit) in
       lt-ltb (held + 0) limit (omega (arith, low))
 

@@ -8,7 +8,6 @@ ghost use Rattle.hs_limits.specs.declared.address.Address.{Address};
 
 /// No two entries that have not taken effect are of one line: the operation of a line waits for one
 /// entry, in one shard.
-#[tactic(auto, using(crate::proofs::OnceLemmas::once))]
 pub fn no_line_waits_twice()
     ensures { (name : List ℕ → Address) (core : Core) → IsOrderly name core
         → (shard i : ℕ) (entry : Entry) (other j : ℕ) (second : Entry) (line : ℕ)
