@@ -12,12 +12,14 @@ use Rattle.hs_core.specs.Looking.{operation_of, shape_of}
 use Rattle.hs_core.specs.Operating.{answer, begin_line, busy_line, is_of, take_step}
 use Rattle.hs_core.specs.Seeing.{pointers_for, view_for}
 use Rattle.hs_core.specs.State.{Core}
-use Rattle.hs_effects.specs.Logged.{AreOnce, IsCalled, IsOrderly, IsPending}
+use Rattle.hs_effects.specs.Logged.{AreOnce, IsCalled, IsEntryOf, IsOrderly, IsOwn, IsPending}
 use Rattle.hs_effects.proofs.GoingLemmas.{stepped}
 use Rattle.hs_effects.proofs.LookLemmas.{found_insert, gone, insert_other, number_exact, once_insert, once_remove, remove_other}
 use Rattle.hs_effects.proofs.OrderlyLemmas.{IsFree, changed_orderly, session_in, some_is}
 use Rattle.hs_effects.proofs.SeatLemmas.{seats_other}
-use Rattle.hs_effects.proofs.StepLemmas.{going_asks}
+use Rattle.hs_effects.proofs.RoomLemmas.{HasPlace, placed}
+use Rattle.hs_effects.proofs.StepLemmas.{Passes, going_asks}
+use Rattle.hs_entry.specs.declared.entry.Entry.{Entry}
 use Rattle.hs_journal.specs.Order.{session_of}
 use Rattle.hs_limits.specs.declared.address.Address.{Address}
 use Rattle.hs_model.specs.declared.op.Op.{Op}
@@ -212,6 +214,7 @@ module _ (name : List ℕ → Address) (line : ℕ) (o : Op) (c : Core) (its : I
     shape = refl;
     waiting = λ g. refl;
     front = λ g. refl;
+    catalogue = λ g. refl;
     others = λ l d. remove_other nat_cmp number_exact with_it.operations line l d ∙ insert_other nat_cmp number_exact c.operations line l w d;
     once = once_remove line with_it.operations added_once;
     here = λ y e. absurd (none y e);
@@ -249,6 +252,7 @@ module _ (name : List ℕ → Address) (line : ℕ) (o : Op) (c : Core) (its : I
     shape = refl;
     waiting = λ g. refl;
     front = λ g. refl;
+    catalogue = λ g. refl;
     others = λ l d. insert_other nat_cmp number_exact c.operations line l w d;
     once = added_once;
     here = λ u e. subst (λ x. IsPending name with_it line x) (is_it u e) pending;
@@ -269,6 +273,11 @@ module _ (name : List ℕ → Address) (line : ℕ) (o : Op) (c : Core) (its : I
   unfolding begin
   begin_is r j = ap (λ (x : Option Reply). option_map_or step.Answer x (go v line o)) j
 
+  soon : (entry : Entry) → IsEntryOf name c.sessions line o entry × IsOwn c.limits c.sessions o × Passes v entry → IsEntryOf name c.sessions line o entry × IsOwn c.limits c.sessions o × HasPlace with_it shard entry
+  soon entry is =
+      let p : HasPlace begun shard entry = placed name c.sessions line begun shard o entry is.0 is.2 in
+      (is.0, is.1, record { blocks = p.blocks; roots = p.roots })
+
   pub begun_orderly : IsOrderly name (begin_line line o c)
   begun_orderly = by_judge (judged_in v o) refl
     where
@@ -278,4 +287,4 @@ module _ (name : List ℕ → Address) (line : ℕ) (o : Op) (c : Core) (its : I
           (answered (record w { operation = after_step (step.Answer r) w.operation }) r refl j)
       by_judge None j =
           stepped name with_it line (added j) (λ g place e at by. free g place e at by) w (found_insert line c.operations w) (go_step v w.operation)
-          (λ entry e. going_asks name v w.operation called entry e)
+          (λ entry e. soon entry (going_asks name v w.operation called entry e))

@@ -1,9 +1,9 @@
 -- Entries that take effect keep the order, and each has the name of its block.
-use Rattle.std.proofs.Common.{◌≡◌, ◌∙◌, sym, ap, subst, ◌⊎◌, inl, inr, ℕ, zero, suc, ◌+◌, ◌-◌, ◌<◌, ◌≤◌, ◌==◌, Bool, true, false, cond, List, [], ◌∷◌, length, Option, Some, None, refl, is_some, arith, slice_get}
+use Rattle.std.proofs.Common.{◌≡◌, ◌∙◌, sym, ap, subst, ◌⊎◌, inl, inr, ℕ, zero, suc, ◌+◌, ◌-◌, ◌<◌, ◌≤◌, ◌==◌, Bool, true, false, cond, List, [], ◌∷◌, length, count_by, drop, Option, Some, None, refl, is_some, arith, slice_get}
 use Rattle.std.proofs.lemmas.Bool.Decides.{nat_tests}
 use Rattle.std.proofs.lemmas.Grind.{common_steps}
 use Rattle.std.specs.Option.{option_and_then}
-use Rattle.std.specs.Prelude.{slice_index_or}
+use Rattle.std.specs.Prelude.{slice_index_or, slice_set}
 use Rattle.hs_core.specs.Changing.{change_group, note, set_viewed}
 use Rattle.hs_core.specs.declared.wait.Wait.{Wait}
 use Rattle.hs_core.specs.declared.wait.Wait.TheVariants as wait
@@ -18,14 +18,18 @@ use Rattle.hs_core.specs.Words.{change_if, change_with, times}
 use Rattle.hs_desk.specs.declared.what.What.{What}
 use Rattle.hs_desk.specs.declared.what.What.TheVariants as what
 use Rattle.hs_effects.specs.Logged.{HasAsked, IsEntryOf, IsOrderly, asked_by}
+use Rattle.hs_effects.specs.Room.{Fit, HasRoom}
 use Rattle.hs_effects.specs.Taking.{IsNamed, done_by, taken}
 use Rattle.hs_effects.proofs.GoingLemmas.{IsIdle, PassesIdle, going_orderly, resumed_orderly}
-use Rattle.hs_effects.proofs.GroupLemmas.{IsFirst, at_front, committed_first, group_changed}
-use Rattle.hs_effects.proofs.OrderlyLemmas.{Alike, IsFree, alike_free, alike_orderly, alike_same, committed_orderly, own_orderly, some_is}
+use Rattle.hs_effects.proofs.GroupLemmas.{IsFirst, at_front, committed_first, group_changed, set_at}
+use Rattle.hs_effects.proofs.GrowLemmas.{Grows, applied_grows}
+use Rattle.hs_effects.proofs.LookLemmas.{one_or_other}
+use Rattle.hs_effects.proofs.OrderlyLemmas.{Alike, IsFree, alike_orderly, alike_same, asked_alike, committed_orderly, own_orderly, some_is, with_lists}
+use Rattle.hs_effects.proofs.RoomLemmas.{alike_room, first_counts, one_less}
 use Rattle.hs_effects.proofs.StepLemmas.{done_asks}
 use Rattle.hs_entry.specs.declared.entry.Entry.{Entry}
 use Rattle.hs_entry.specs.declared.entry.Entry.TheVariants as kind
-use Rattle.hs_fold.proofs.Shards.PlaceLemmas.{same-at}
+use Rattle.hs_fold.proofs.Shards.PlaceLemmas.{other-at, same-at}
 use Rattle.hs_journal.specs.declared.entry.Who.TheVariants as who
 use Rattle.hs_limits.specs.declared.address.Address.{Address}
 use Rattle.hs_model.specs.declared.deed.Deed.TheVariants as deed
@@ -35,7 +39,10 @@ use Rattle.hs_model.specs.declared.reply.Reply.TheVariants as reply
 use Rattle.hs_ops.specs.Operations.{effect_step}
 use Rattle.hs_ops.specs.Speaking.{wanted_address}
 use Rattle.hs_replica.specs.Group.{Group, commit_front, committed, new_group, take_committed}
+use Rattle.hs_replica.specs.Kinds.{is_block, is_root}
+use Rattle.hs_roots.specs.Roots.{retained_count}
 use Rattle.hs_shard.specs.declared.effect.Effect.{Effect}
+use Rattle.hs_shard.specs.Facts.{Catalogue, empty_catalogue}
 use Rattle.hs_tokens.specs.Seats.{Seats}
 
 -- ---- the name of an entry's block
@@ -143,8 +150,8 @@ sweep_alike shard removed c = go _
     first = note (who.Shard shard) (deed.Swept shard) (reply.Sweep (catalogue_of shard c).swept removed) c
 
     go : (b : Bool) → Alike c (change_if b (note who.Store deed.Nothing (reply.Done (catalogue_of shard c).swept)) (note (who.Shard shard) (deed.Swept shard) (reply.Sweep (catalogue_of shard c).swept removed) c))
-    go true = record { operations = refl; sessions = refl; limits = refl; shape = refl; waiting = λ g. refl; front = λ g. refl }
-    go false = record { operations = refl; sessions = refl; limits = refl; shape = refl; waiting = λ g. refl; front = λ g. refl }
+    go true = record { operations = refl; sessions = refl; limits = refl; shape = refl; waiting = λ g. refl; front = λ g. refl; catalogue = λ g. refl }
+    go false = record { operations = refl; sessions = refl; limits = refl; shape = refl; waiting = λ g. refl; front = λ g. refl; catalogue = λ g. refl }
 
 enter_alike : (shard : ℕ) (did : What) (c : Core) → Alike c (note_enter shard did c)
 enter_alike shard what.Nothing c = alike_same c
@@ -154,7 +161,7 @@ enter_alike shard what.Marked c = alike_same c
 enter_alike shard what.Again c = alike_same c
 enter_alike shard what.Rooted c = alike_same c
 enter_alike shard what.Dropped c = alike_same c
-enter_alike shard (what.Entered epoch) c = record { operations = refl; sessions = refl; limits = refl; shape = refl; waiting = λ g. refl; front = λ g. refl }
+enter_alike shard (what.Entered epoch) c = record { operations = refl; sessions = refl; limits = refl; shape = refl; waiting = λ g. refl; front = λ g. refl; catalogue = λ g. refl }
 enter_alike shard what.Refused c = alike_same c
 
 pub due_orderly : (name : List ℕ → Address) (shard : ℕ) (c : Core) → IsOrderly name c → IsOrderly name (propose_due shard c)
@@ -211,7 +218,7 @@ module _ (name : List ℕ → Address) (shard : ℕ) (c : Core) (its : IsOrderly
   view_orderly view = go (view == (group_of shard c).view)
     where
       viewed : IsOrderly name (set_viewed shard true c)
-      viewed = alike_orderly name c (set_viewed shard true c) (record { operations = refl; sessions = refl; limits = refl; shape = refl; waiting = λ g. refl; front = λ g. refl }) its
+      viewed = alike_orderly name c (set_viewed shard true c) (record { operations = refl; sessions = refl; limits = refl; shape = refl; waiting = λ g. refl; front = λ g. refl; catalogue = λ g. refl }) its
 
       go : (b : Bool) → IsOrderly name (change_if b (λ x. resume_where shard is_for_view (set_viewed shard true x)) c)
       go true = resumed_orderly name shard is_for_view view_idle (set_viewed shard true c) viewed
@@ -244,15 +251,73 @@ module _ (name : List ℕ → Address) (shard : ℕ) (c : Core) (its : IsOrderly
   behind_orderly (kind.KeptRoot created dropped counted address key) effect free = its
   behind_orderly (kind.KeptRound way other epoch round total deltas) effect free = its
 
+same_le : (m n k : ℕ) → m ≡ n → m ≤ n + k
+same_le m n k e = omega (arith, e)
+
+-- what is taken leaves its place, and adds no more than that to its shard
+taken_room : (name : List ℕ → Address) (shard number : ℕ) (entry : Entry) (c : Core) → IsOrderly name c → committed (group_of shard c) ≡ Some (number, entry) → (g : ℕ) → HasRoom (taken shard entry c) g
+taken_room name shard number entry c its e g = go (one_or_other g shard)
+  where
+    here : Core
+    here = taken shard entry c
+
+    done : Catalogue
+    done = (done_by shard entry c).catalogue
+
+    one : IsFirst (group_of shard c) number entry
+    one = committed_first (group_of shard c) number entry e
+
+    grows : Grows entry (catalogue_of shard c) done
+    grows = applied_grows (front_of shard c + 1) entry (named entry c) (catalogue_of shard c)
+
+    list_is : (group_of shard here).waiting ≡ drop 1 (group_of shard c).waiting
+    list_is = ap (λ (x : Group). x.waiting) (taken_here shard number entry c e) ∙ one.taken.waiting
+
+    none : Catalogue
+    none = empty_catalogue (shape_of c) shard
+
+    -- whatever is counted of a catalogue
+    held_is : (f : Catalogue → ℕ) (more : ℕ) → f done ≤ f (catalogue_of shard c) + more → f (catalogue_of shard here) ≤ f (catalogue_of shard c) + more
+    held_is f more low = by (set_at none c.catalogues shard done)
+      where
+        by : (slice_index_or (slice_set c.catalogues shard done) shard none ≡ done) ⊎ (slice_index_or (slice_set c.catalogues shard done) shard none ≡ slice_index_or c.catalogues shard none)
+            → f (catalogue_of shard here) ≤ f (catalogue_of shard c) + more
+        by (inl set) = subst (λ k. k ≤ f (catalogue_of shard c) + more) (sym (ap f set)) low
+        by (inr old) = same_le (f (catalogue_of shard here)) (f (catalogue_of shard c)) more (ap f old)
+
+    fits : (p : Entry → Bool) (f : Catalogue → ℕ) (limit : ℕ) → f done ≤ f (catalogue_of shard c) + cond (p entry) 1 0 → Fit (count_by p (group_of shard c).waiting) (f (catalogue_of shard c)) limit
+        → Fit (count_by p (group_of shard here).waiting) (f (catalogue_of shard here)) limit
+    fits p f limit low fit =
+        subst (λ es. Fit (count_by p es) (f (catalogue_of shard here)) limit) (sym list_is)
+        (one_less (count_by p (drop 1 (group_of shard c).waiting)) (cond (p entry) 1 0) (f (catalogue_of shard c)) (f (catalogue_of shard here)) limit (held_is f (cond (p entry) 1 0) low)
+        (subst (λ n. Fit n (f (catalogue_of shard c)) limit) (first_counts p (group_of shard c).waiting entry one.first) fit))
+
+    at_shard : HasRoom here shard
+    at_shard = record {
+      blocks = fits is_block (λ x. length x.blocks) c.limits.blocks grows.blocks (its.roomy shard).blocks;
+      roots = fits is_root (λ x. retained_count x.roots) c.limits.roots grows.roots (its.roomy shard).roots;
+    }
+
+    list_other : (g ≡ shard → ⊥) → (group_of g (change_group shard take_committed c) ≡ group_of g c) ⊎ ((g ≡ shard) × (group_of g (change_group shard take_committed c) ≡ take_committed (group_of shard c)))
+        → (group_of g here).waiting ≡ (group_of g c).waiting
+    list_other d (inl same) = ap (λ (x : Group). x.waiting) same
+    list_other d (inr is) = absurd (d is.0)
+
+    go : (g ≡ shard) ⊎ (g ≡ shard → ⊥) → HasRoom (taken shard entry c) g
+    go (inl is) = subst (λ j. HasRoom (taken shard entry c) j) (sym is) at_shard
+    go (inr d) = alike_room c here g refl (list_other d (group_changed shard take_committed c g)) (other-at (empty_catalogue (shape_of c) g) c.catalogues shard g done d) (its.roomy g)
+
 pub effect_orderly : (name : List ℕ → Address) (shard number : ℕ) (entry : Entry) (c : Core) → IsOrderly name c → committed (group_of shard c) ≡ Some (number, entry) → IsOrderly name (take_effect shard entry c)
 effect_orderly name shard number entry c its e =
     let first : Core = change_group shard take_committed c in
     let here : Core = taken shard entry c in
-    let beside : Alike first here = record { operations = refl; sessions = refl; limits = refl; shape = refl; waiting = λ g. refl; front = λ g. refl } in
-    let its_here : IsOrderly name here = alike_orderly name first here beside (committed_orderly name shard c its) in
+    let its_first : IsOrderly name first = committed_orderly name shard c its in
+    let its_here : IsOrderly name here = with_lists name first here its_first refl refl refl refl
+    (λ g place k x at by. asked_alike name first here g (front_of g first + 1 + place) (front_of g here + 1 + place) k x refl refl refl refl refl (its_first.asked g place k x at by))
+    (taken_room name shard number entry c its e) in
     let effect : Effect = (done_by shard entry c).effect in
     resumed_orderly name shard (wakes entry (named entry c) (after_entry shard entry effect here)) (wakes_idle entry (named entry c) (after_entry shard entry effect here)) (after_entry shard entry effect here)
-    (behind_orderly name shard here its_here entry effect (λ line by. alike_free first here line beside (taken_free name shard number line entry c its e by)))
+    (behind_orderly name shard here its_here entry effect (λ line by g place x at of. taken_free name shard number line entry c its e by g place x at of))
 
 pub next_orderly : (name : List ℕ → Address) (shard : ℕ) (c : Core) → IsOrderly name c → IsOrderly name (commit_next shard c)
 next_orderly name shard c its = go (committed (group_of shard c)) refl

@@ -25,20 +25,20 @@ use Rattle.hs_shard.specs.Rounds.{advance, advanced, each_block, end_open, enter
 
 -- ---- blocks
 
-length_each : (f : Facts → Facts) (blocks : BlockList) → length (each_block f blocks) ≡ length blocks
+pub length_each : (f : Facts → Facts) (blocks : BlockList) → length (each_block f blocks) ≡ length blocks
 length_each f blocks = length-map blocks (λ (e : Address × Facts). (e.0, f e.1))
 
-length_put : (a : Address) (f : Option Facts) (blocks : BlockList) → length (put_facts a f blocks) ≡ length blocks
+pub length_put : (a : Address) (f : Option Facts) (blocks : BlockList) → length (put_facts a f blocks) ≡ length blocks
 length_put a None blocks = refl
 length_put a (Some f) blocks = length-set_value (is_at (address_cmp a)) blocks f
 
-length_settle : (round : ℕ) (ds : List Delta) (blocks : BlockList) → length (settle round ds blocks) ≡ length blocks
+pub length_settle : (round : ℕ) (ds : List Delta) (blocks : BlockList) → length (settle round ds blocks) ≡ length blocks
 length_settle round [] blocks = refl
 length_settle round (d ∷ ds) blocks =
     length_settle round ds (change_at d.address (move_count round d.amount) blocks)
     ∙ length_put d.address (option_map (move_count round d.amount) (facts_in d.address blocks)) blocks
 
-gone_and_left : (epoch : ℕ) (blocks : BlockList) → gone_count epoch blocks + length (sweep_blocks epoch blocks) ≡ length blocks
+pub gone_and_left : (epoch : ℕ) (blocks : BlockList) → gone_count epoch blocks + length (sweep_blocks epoch blocks) ≡ length blocks
 gone_and_left epoch blocks =
     let left : List (Address × Facts) = filter (λ (e : Address × Facts). not (is_gone epoch e.1)) blocks in
     let gone : length (filter (λ (e : Address × Facts). is_gone epoch e.1) blocks) ≡ gone_count epoch blocks = length-filter (λ (e : Address × Facts). is_gone epoch e.1) blocks in
@@ -96,7 +96,7 @@ sweep_removes at a above = record {
   risen = above;
 }
 
-length_searched : (at : ℕ × ℕ) (a : Applied) → length (searched at.0 at.1 a.effect (settled at.1 a.catalogue)).catalogue.blocks ≡ length a.catalogue.blocks
+pub length_searched : (at : ℕ × ℕ) (a : Applied) → length (searched at.0 at.1 a.effect (settled at.1 a.catalogue)).catalogue.blocks ≡ length a.catalogue.blocks
 length_searched at a = length_each (find_zero at.0) (settled at.1 a.catalogue).blocks ∙ length_settle at.1 (received a.catalogue.run) a.catalogue.blocks
 
 -- rounds end, and with them no run, or one

@@ -1,5 +1,5 @@
 -- Every event keeps the order.
-use Rattle.std.proofs.Common.{◌≡◌, ◌∙◌, sym, ap, subst, ℕ, zero, suc, ◌+◌, ◌==◌, ◌&&◌, Bool, true, false, cond, not, max, drop, length, map, List, [], ◌∷◌, Option, Some, None, refl, is_none, nat_lt, slice_get}
+use Rattle.std.proofs.Common.{◌≡◌, ◌∙◌, sym, ap, subst, inl, count_by, ℕ, zero, suc, ◌+◌, ◌==◌, ◌&&◌, Bool, true, false, cond, not, max, drop, length, map, List, [], ◌∷◌, Option, Some, None, refl, is_none, nat_lt, slice_get}
 use Rattle.std.specs.BTreeMap.{is_at}
 use Rattle.std.specs.Map.{lookup}
 use Rattle.std.specs.Ordering.{nat_cmp}
@@ -55,6 +55,7 @@ use Rattle.hs_post.specs.declared.message.Message.TheVariants as message
 use Rattle.hs_post.specs.Pool.{is_empty, is_full, message_at, restart_numbers, without}
 use Rattle.hs_rejoin.specs.Rejoin.{copied, emptied, follow}
 use Rattle.hs_replica.specs.Group.{Group, change_copy, have, on_copied, on_emptied, on_have, on_sealed, take_entry}
+use Rattle.hs_replica.specs.Kinds.{is_block, is_root}
 use Rattle.hs_rounds.specs.Rounds.{sent_back}
 use Rattle.hs_shard.specs.Rounds.{messages}
 
@@ -75,7 +76,7 @@ module _ (name : List ℕ → Address) where
   -- ---- what touches none of it
 
   tasks_orderly : (peer number : ℕ) (entry : Entry) (c : Core) → O c → O (add_entry_tasks peer number entry c)
-  tasks_orderly peer number entry c its = alike_orderly name c (add_entry_tasks peer number entry c) (record { operations = refl; sessions = refl; limits = refl; shape = refl; waiting = λ g. refl; front = λ g. refl }) its
+  tasks_orderly peer number entry c its = alike_orderly name c (add_entry_tasks peer number entry c) (record { operations = refl; sessions = refl; limits = refl; shape = refl; waiting = λ g. refl; front = λ g. refl; catalogue = λ g. refl }) its
 
   each_alike : {B : Type 0} (ys : List B) (f : B → Core → Core) (c : Core) → ((y : B) (x : Core) → Alike x (f y x)) → Alike c (each ys f c)
   each_alike [] f c h = alike_same c
@@ -87,15 +88,15 @@ module _ (name : List ℕ → Address) where
       go : (lead : Option ℕ) → O (change_with lead (λ l x. each (joining_peers shard x) (λ peer. change_rejoin peer (follow l)) x) c)
       go None = its
       go (Some l) = alike_orderly name c (each (joining_peers shard c) (λ peer. change_rejoin peer (follow l)) c)
-          (each_alike (joining_peers shard c) (λ peer. change_rejoin peer (follow l)) c (λ peer x. record { operations = refl; sessions = refl; limits = refl; shape = refl; waiting = λ g. refl; front = λ g. refl })) its
+          (each_alike (joining_peers shard c) (λ peer. change_rejoin peer (follow l)) c (λ peer x. record { operations = refl; sessions = refl; limits = refl; shape = refl; waiting = λ g. refl; front = λ g. refl; catalogue = λ g. refl })) its
 
   refused_orderly : (line : ℕ) (r : Reply) (c : Core) → O c → O (refuse line r c)
-  refused_orderly line r c its = alike_orderly name c (refuse line r c) (record { operations = refl; sessions = refl; limits = refl; shape = refl; waiting = λ g. refl; front = λ g. refl }) its
+  refused_orderly line r c its = alike_orderly name c (refuse line r c) (record { operations = refl; sessions = refl; limits = refl; shape = refl; waiting = λ g. refl; front = λ g. refl; catalogue = λ g. refl }) its
 
   -- ---- peers that fail, start and join
 
   status_alike : (peer : ℕ) (c : Core) → Alike c (leave peer c)
-  status_alike peer c = record { operations = refl; sessions = refl; limits = refl; shape = refl; waiting = λ g. refl; front = λ g. refl }
+  status_alike peer c = record { operations = refl; sessions = refl; limits = refl; shape = refl; waiting = λ g. refl; front = λ g. refl; catalogue = λ g. refl }
 
   rest_orderly : (shard : ℕ) (c : Core) → O c → O (commit_rest shard c)
   rest_orderly shard c its = if_orderly _ (commit shard) c its (λ h. commit_orderly name shard c h)
@@ -108,24 +109,24 @@ module _ (name : List ℕ → Address) where
 
       rejoined : (b : Bool) {x : Core} → O x → O (change_if b (λ core. each (joining_peers (home peer c) core) begin_joining core) x)
       rejoined b {x} h = if_orderly b (λ core. each (joining_peers (home peer c) core) begin_joining core) x h
-          (λ h. alike_orderly name x (each (joining_peers (home peer c) x) begin_joining x) (each_alike (joining_peers (home peer c) x) begin_joining x (λ p y. record { operations = refl; sessions = refl; limits = refl; shape = refl; waiting = λ g. refl; front = λ g. refl })) h)
+          (λ h. alike_orderly name x (each (joining_peers (home peer c) x) begin_joining x) (each_alike (joining_peers (home peer c) x) begin_joining x (λ p y. record { operations = refl; sessions = refl; limits = refl; shape = refl; waiting = λ g. refl; front = λ g. refl; catalogue = λ g. refl })) h)
 
       last : (b : Bool) {x : Core} → O x → O (change_if b (commit_rest (home peer c)) x)
       last b {x} h = if_orderly b (commit_rest (home peer c)) x h (λ h. rest_orderly (home peer c) x h)
 
   failed_orderly : (peer : ℕ) (c : Core) → O c → O (fail_disk peer c)
   failed_orderly peer c its = down_orderly peer (note who.Store deed.Nothing (reply.Down peer c.event_line) c)
-      (alike_orderly name c (note who.Store deed.Nothing (reply.Down peer c.event_line) c) (record { operations = refl; sessions = refl; limits = refl; shape = refl; waiting = λ g. refl; front = λ g. refl }) its)
+      (alike_orderly name c (note who.Store deed.Nothing (reply.Down peer c.event_line) c) (record { operations = refl; sessions = refl; limits = refl; shape = refl; waiting = λ g. refl; front = λ g. refl; catalogue = λ g. refl }) its)
 
   started_orderly : (peer : ℕ) (c : Core) → O c → O (start peer c)
-  started_orderly peer c its = alike_orderly name c (start peer c) (record { operations = refl; sessions = refl; limits = refl; shape = refl; waiting = λ g. refl; front = λ g. refl }) its
+  started_orderly peer c its = alike_orderly name c (start peer c) (record { operations = refl; sessions = refl; limits = refl; shape = refl; waiting = λ g. refl; front = λ g. refl; catalogue = λ g. refl }) its
 
   joined_orderly : (peer : ℕ) (c : Core) → O c → O (join peer c)
   joined_orderly peer c its =
       let good : Core = set_rejoin peer None (set_status peer Good c) in
       let viewed : Core = change_view (home peer c) good in
       commit_orderly name (home peer c) (follow_lead (home peer c) viewed)
-      (follow_orderly (home peer c) viewed (view_changed name (home peer c) good (alike_orderly name c good (record { operations = refl; sessions = refl; limits = refl; shape = refl; waiting = λ g. refl; front = λ g. refl }) its)))
+      (follow_orderly (home peer c) viewed (view_changed name (home peer c) good (alike_orderly name c good (record { operations = refl; sessions = refl; limits = refl; shape = refl; waiting = λ g. refl; front = λ g. refl; catalogue = λ g. refl }) its)))
 
   level_orderly : (peer : ℕ) (c : Core) → O c → O (join_if_level peer c)
   level_orderly peer c its = if_orderly (is_level_with_lead peer c) (join peer) c its (λ h. joined_orderly peer c h)
@@ -156,7 +157,7 @@ module _ (name : List ℕ → Address) where
       (λ h. own_orderly name to (kind.Got from epoch round total deltas) c refl h)
 
   delivered_orderly : (number : ℕ) (m : Message) (c : Core) → O c → O (deliver number m c)
-  delivered_orderly number m c its = handled_orderly m (change_pool (without number) c) (alike_orderly name c (change_pool (without number) c) (record { operations = refl; sessions = refl; limits = refl; shape = refl; waiting = λ g. refl; front = λ g. refl }) its)
+  delivered_orderly number m c its = handled_orderly m (change_pool (without number) c) (alike_orderly name c (change_pool (without number) c) (record { operations = refl; sessions = refl; limits = refl; shape = refl; waiting = λ g. refl; front = λ g. refl; catalogue = λ g. refl }) its)
 
   message_orderly : (line number : ℕ) (f : Message → Core → Core) (c : Core) → O c → ((m : Message) → O (f m c)) → O (with_message line number f c)
   message_orderly line number f c its h = go (message_at number c.pool) refl
@@ -170,7 +171,7 @@ module _ (name : List ℕ → Address) where
     where
       go : (b : Bool) → O (cond b (refuse line (reply.PoolFull c.pool.limit) c) (post (m ∷ []) c))
       go true = refused_orderly line (reply.PoolFull c.pool.limit) c its
-      go false = alike_orderly name c (post (m ∷ []) c) (record { operations = refl; sessions = refl; limits = refl; shape = refl; waiting = λ g. refl; front = λ g. refl }) its
+      go false = alike_orderly name c (post (m ∷ []) c) (record { operations = refl; sessions = refl; limits = refl; shape = refl; waiting = λ g. refl; front = λ g. refl; catalogue = λ g. refl }) its
 
   -- ---- lines of peers
 
@@ -186,10 +187,10 @@ module _ (name : List ℕ → Address) where
     where
       go : (o : Option (ℕ × ℕ)) → Alike c (change_with o (λ at. post (round_messages shard (messages (catalogue_of shard c).shape.shards at.0 at.1 (catalogue_of shard c).run))) c)
       go None = alike_same c
-      go (Some at) = record { operations = refl; sessions = refl; limits = refl; shape = refl; waiting = λ g. refl; front = λ g. refl }
+      go (Some at) = record { operations = refl; sessions = refl; limits = refl; shape = refl; waiting = λ g. refl; front = λ g. refl; catalogue = λ g. refl }
 
   nudged_orderly : (peer : ℕ) (c : Core) → O c → O (nudge_good peer c)
-  nudged_orderly peer c its = if_orderly _ (nudge peer) c its (λ h. alike_orderly name _ _ (record { operations = refl; sessions = refl; limits = refl; shape = refl; waiting = λ g. refl; front = λ g. refl })
+  nudged_orderly peer c its = if_orderly _ (nudge peer) c its (λ h. alike_orderly name _ _ (record { operations = refl; sessions = refl; limits = refl; shape = refl; waiting = λ g. refl; front = λ g. refl; catalogue = λ g. refl })
       (if_orderly _ (λ x. send_rounds (home peer c) (propose_due (home peer c) x)) c h (λ h.
       let due : Core = propose_due (home peer c) c in
       alike_orderly name due (send_rounds (home peer c) due) (alike_both due (send_round 1 (home peer c) due) (send_rounds (home peer c) due) (round_alike 1 (home peer c) due) (round_alike 0 (home peer c) (send_round 1 (home peer c) due)))
@@ -225,17 +226,17 @@ module _ (name : List ℕ → Address) where
       let sent : Core = post (have peer number (group_of (home peer c) c)) c in
       let sealed : Core = change_group (home peer c) (on_sealed peer number) sent in
       commit_orderly name (home peer c) sealed (alike_orderly name sent sealed (group_alike (home peer c) (on_sealed peer number) sent refl refl)
-      (alike_orderly name c sent (record { operations = refl; sessions = refl; limits = refl; shape = refl; waiting = λ g. refl; front = λ g. refl }) its))
+      (alike_orderly name c sent (record { operations = refl; sessions = refl; limits = refl; shape = refl; waiting = λ g. refl; front = λ g. refl; catalogue = λ g. refl }) its))
   taken_orderly peer line (done.Bytes number bytes) c its = bytes_orderly line number (Some bytes) c its
   taken_orderly peer line (done.Gone number) c its = bytes_orderly line number None c its
   taken_orderly peer line done.Emptied c its =
       let one : Core = change_rejoin peer emptied c in
       let two : Core = change_group (home peer c) (on_emptied peer) one in
-      level_orderly peer two (alike_orderly name one two (group_alike (home peer c) (on_emptied peer) one refl refl) (alike_orderly name c one (record { operations = refl; sessions = refl; limits = refl; shape = refl; waiting = λ g. refl; front = λ g. refl }) its))
+      level_orderly peer two (alike_orderly name one two (group_alike (home peer c) (on_emptied peer) one refl refl) (alike_orderly name c one (record { operations = refl; sessions = refl; limits = refl; shape = refl; waiting = λ g. refl; front = λ g. refl; catalogue = λ g. refl }) its))
   taken_orderly peer line (done.Copied number) c its =
       let one : Core = change_rejoin peer (copied number) c in
       let two : Core = change_group (home peer c) (on_copied peer number) one in
-      level_orderly peer two (alike_orderly name one two (group_alike (home peer c) (on_copied peer number) one refl refl) (alike_orderly name c one (record { operations = refl; sessions = refl; limits = refl; shape = refl; waiting = λ g. refl; front = λ g. refl }) its))
+      level_orderly peer two (alike_orderly name one two (group_alike (home peer c) (on_copied peer number) one refl refl) (alike_orderly name c one (record { operations = refl; sessions = refl; limits = refl; shape = refl; waiting = λ g. refl; front = λ g. refl; catalogue = λ g. refl }) its))
   taken_orderly peer line (done.Stepped switched) c its = its
   taken_orderly peer line (done.Failed disk) c its = failed_orderly disk c its
 
@@ -244,7 +245,7 @@ module _ (name : List ℕ → Address) where
     where
       taken : (task : Task) → O (take_report peer task.line d (set_tasks peer (drop 1 (tasks_of peer c)) c))
       taken task = taken_orderly peer task.line d (set_tasks peer (drop 1 (tasks_of peer c)) c)
-          (alike_orderly name c (set_tasks peer (drop 1 (tasks_of peer c)) c) (record { operations = refl; sessions = refl; limits = refl; shape = refl; waiting = λ g. refl; front = λ g. refl }) its)
+          (alike_orderly name c (set_tasks peer (drop 1 (tasks_of peer c)) c) (record { operations = refl; sessions = refl; limits = refl; shape = refl; waiting = λ g. refl; front = λ g. refl; catalogue = λ g. refl }) its)
 
       go : (o : Option Task) → first_task peer c ≡ o → O (on_report peer d c)
       go None e = rw e its
@@ -261,7 +262,7 @@ module _ (name : List ℕ → Address) where
   done_orderly (event.Report peer d) c its may = report_orderly peer d c its
   done_orderly (event.Turn line peer) c its may = unless_orderly line (no_peer peer c ∷ not_up peer c ∷ []) (λ core. core) c its its
   done_orderly (event.Deliver line number) c its may = message_orderly line number (deliver number) c its (λ m. delivered_orderly number m c its)
-  done_orderly (event.Lose line number) c its may = message_orderly line number (lose number) c its (λ m. alike_orderly name c (lose number m c) (record { operations = refl; sessions = refl; limits = refl; shape = refl; waiting = λ g. refl; front = λ g. refl }) its)
+  done_orderly (event.Lose line number) c its may = message_orderly line number (lose number) c its (λ m. alike_orderly name c (lose number m c) (record { operations = refl; sessions = refl; limits = refl; shape = refl; waiting = λ g. refl; front = λ g. refl; catalogue = λ g. refl }) its)
   done_orderly (event.Repeat line number) c its may = message_orderly line number (send_again line) c its (λ m. again_orderly line m c its)
   done_orderly (event.Nudge line peer) c its may = unless_orderly line (no_peer peer c ∷ not_up peer c ∷ []) (nudge_good peer) c its (nudged_orderly peer c its)
   done_orderly (event.Fail line peer) c its may = unless_orderly line (no_peer peer c ∷ not_up peer c ∷ []) (go_down peer) c its (down_orderly peer c its)
@@ -273,15 +274,15 @@ module _ (name : List ℕ → Address) where
   began_alike line moment c = go ((c.event_line == 0 && not (line == 0)) && is_empty c.pool)
     where
       go : (b : Bool) → Alike c (record (change_if b (change_pool restart_numbers) c) { moment = moment; event_line = cond (line == 0) c.event_line line })
-      go true = record { operations = refl; sessions = refl; limits = refl; shape = refl; waiting = λ g. refl; front = λ g. refl }
-      go false = record { operations = refl; sessions = refl; limits = refl; shape = refl; waiting = λ g. refl; front = λ g. refl }
+      go true = record { operations = refl; sessions = refl; limits = refl; shape = refl; waiting = λ g. refl; front = λ g. refl; catalogue = λ g. refl }
+      go false = record { operations = refl; sessions = refl; limits = refl; shape = refl; waiting = λ g. refl; front = λ g. refl; catalogue = λ g. refl }
 
   ended_alike : (c : Core) → Alike c (end_event c)
   ended_alike c = go (nat_lt c.limits.ops (length c.journal + length c.entries))
     where
       go : (b : Bool) → Alike c (cond b (refuse_entries c) (keep_entries c))
-      go true = record { operations = refl; sessions = refl; limits = refl; shape = refl; waiting = λ g. refl; front = λ g. refl }
-      go false = record { operations = refl; sessions = refl; limits = refl; shape = refl; waiting = λ g. refl; front = λ g. refl }
+      go true = record { operations = refl; sessions = refl; limits = refl; shape = refl; waiting = λ g. refl; front = λ g. refl; catalogue = λ g. refl }
+      go false = record { operations = refl; sessions = refl; limits = refl; shape = refl; waiting = λ g. refl; front = λ g. refl; catalogue = λ g. refl }
 
   may_alike : (e : Event) (a b : Core) → Alike a b → MayBegin name e a → MayBegin name e b
   may_alike (event.Line line o) a b same may = record {
@@ -325,6 +326,7 @@ module _ (name : List ℕ → Address) where
     pending = λ line w at. absurd (cc at);
     alone = λ l m v w q e f s t. absurd (cc e);
     asked = λ g place line e at by. absurd (nothing place e (sym (ap (λ es. slice_get es place) (none_wait shape taken _ g _ refl)) ∙ at));
+    roomy = λ g. record { blocks = inl (ap (λ es. count_by is_block es) (none_wait shape taken _ g _ refl)); roots = inl (ap (λ es. count_by is_root es) (none_wait shape taken _ g _ refl)) };
   }
     where
       nothing : (place : ℕ) (e : Entry) → slice_get [] place ≡ Some e → ⊥
@@ -337,7 +339,7 @@ module _ (name : List ℕ → Address) where
 
   down_noted : (peer : ℕ) (c : Core) → O c → O (note_if_down peer c)
   down_noted peer c its = if_orderly _ (note who.Store deed.Nothing (reply.Down peer 0)) c its
-      (λ h. alike_orderly name c (note who.Store deed.Nothing (reply.Down peer 0) c) (record { operations = refl; sessions = refl; limits = refl; shape = refl; waiting = λ g. refl; front = λ g. refl }) h)
+      (λ h. alike_orderly name c (note who.Store deed.Nothing (reply.Down peer 0) c) (record { operations = refl; sessions = refl; limits = refl; shape = refl; waiting = λ g. refl; front = λ g. refl; catalogue = λ g. refl }) h)
 
   pub open_orderly : (shape : Shape) (limits : Limits) (taken : Taken) (moment : ℕ) → O (open_core shape limits taken moment)
   open_orderly shape limits taken moment =

@@ -17,7 +17,8 @@ use Rattle.hs_effects.specs.Logged.{AreOnce, HasAsked, IsEntryOf, IsOrderly, IsO
 use Rattle.hs_effects.specs.Taking.{taken}
 use Rattle.hs_effects.proofs.LookLemmas.{each_found, found_set, number_exact, remove_other, same_number, set_other}
 use Rattle.hs_effects.proofs.OrderlyLemmas.{Alike, IsFree, alike_orderly, alike_same, answered_orderly, proposed_orderly, some_is, waits_orderly}
-use Rattle.hs_effects.proofs.StepLemmas.{AsksWith, going_asks}
+use Rattle.hs_effects.proofs.RoomLemmas.{HasPlace, placed}
+use Rattle.hs_effects.proofs.StepLemmas.{AsksWith, Passes, going_asks}
 use Rattle.hs_entry.specs.declared.entry.Entry.{Entry}
 use Rattle.hs_limits.specs.declared.address.Address.{Address}
 use Rattle.hs_model.specs.declared.op.Op.{Op}
@@ -60,10 +61,11 @@ entry_line name seats line k op.Stat entry asks by = absurd asks
 module _ (name : List ℕ → Address) (c : Core) (line : ℕ) (its : IsOrderly name c) (free : IsFree c line) (u : Waiting) (at : operation_of line c ≡ Some u) where
   -- w is u at another stage
   module _ (w : Waiting) (same : w.operation.op ≡ u.operation.op) (lines : w.operation.line ≡ u.operation.line) (places : w.shard ≡ u.shard) where
-    proposes : (entry : Entry) → IsEntryOf name c.sessions line w.operation.op entry × IsOwn c.limits c.sessions w.operation.op
+    proposes : (entry : Entry) → IsEntryOf name c.sessions line w.operation.op entry × IsOwn c.limits c.sessions w.operation.op × HasPlace c w.shard entry
         → IsOrderly name (propose_entry w.shard entry (wait_for line w (wait.Entry (last_number (group_of w.shard c) + 1)) c))
     proposes entry asks = proposed_orderly name w.shard entry waits (waits_orderly name c line its free u at waiting same lines places) (λ k by.
         subst (λ j. HasAsked name waits w.shard (last_number (group_of w.shard c) + 1) j entry) (sym (entry_line name c.sessions line k w.operation.op entry asks.0 by)) here)
+        (record { blocks = asks.2.blocks; roots = asks.2.roots })
       where
         waiting : Waiting
         waiting = record w { wait = wait.Entry (last_number (group_of w.shard c) + 1) }
@@ -77,9 +79,9 @@ module _ (name : List ℕ → Address) (c : Core) (line : ℕ) (its : IsOrderly 
     -- a Read is put into a queue
     reads : (number : ℕ) (lead : Option ℕ) (x : Core) → Alike x (change_with lead (add_read number line) x)
     reads number None x = alike_same x
-    reads number (Some peer) x = record { operations = refl; sessions = refl; limits = refl; shape = refl; waiting = λ g. refl; front = λ g. refl }
+    reads number (Some peer) x = record { operations = refl; sessions = refl; limits = refl; shape = refl; waiting = λ g. refl; front = λ g. refl; catalogue = λ g. refl }
 
-    carried : (taken : OpStep) → ((entry : Entry) → taken ≡ step.Propose entry → IsEntryOf name c.sessions line w.operation.op entry × IsOwn c.limits c.sessions w.operation.op) → IsOrderly name (carry_out line w taken c)
+    carried : (taken : OpStep) → ((entry : Entry) → taken ≡ step.Propose entry → IsEntryOf name c.sessions line w.operation.op entry × IsOwn c.limits c.sessions w.operation.op × HasPlace c w.shard entry) → IsOrderly name (carry_out line w taken c)
     carried (step.Answer told) asks = answered_orderly name c line its free u at w told same
     carried (step.Propose entry) asks = proposes entry (asks entry refl)
     carried (step.Compare number) asks =
@@ -88,17 +90,25 @@ module _ (name : List ℕ → Address) (c : Core) (line : ℕ) (its : IsOrderly 
         (waits_orderly name c line its free u at (record w { wait = wait.Bytes number }) same lines places)
     carried step.Wait asks = waits_orderly name c line its free u at (record w { wait = what_holds w c }) same lines places
 
-  pub stepped : (taken : OpStep) → ((entry : Entry) → taken ≡ step.Propose entry → IsEntryOf name c.sessions line u.operation.op entry × IsOwn c.limits c.sessions u.operation.op) → IsOrderly name (take_step line u taken c)
+  pub stepped : (taken : OpStep) → ((entry : Entry) → taken ≡ step.Propose entry → IsEntryOf name c.sessions line u.operation.op entry × IsOwn c.limits c.sessions u.operation.op × HasPlace c u.shard entry) → IsOrderly name (take_step line u taken c)
   stepped taken asks = carried (record u { operation = after_step taken u.operation }) refl refl refl taken asks
 
 pub going_orderly : (next : OpView → Operation → OpStep) → AsksWith next → (name : List ℕ → Address) (line : ℕ) (c : Core) → IsOrderly name c → IsFree c line → IsOrderly name (go_on_with next line c)
 going_orderly next asks name line c its free = go (operation_of line c) refl
   where
+    here : (u : Waiting) → operation_of line c ≡ Some u → (entry : Entry)
+        → IsEntryOf name c.sessions u.operation.line u.operation.op entry × IsOwn c.limits c.sessions u.operation.op × Passes (view_for u.shard u.operation.op c) entry
+        → IsEntryOf name c.sessions line u.operation.op entry × IsOwn c.limits c.sessions u.operation.op × HasPlace c u.shard entry
+    here u at entry is = (
+      subst (λ k. IsEntryOf name c.sessions k u.operation.op entry) ((its.pending line u at).of_line) is.0,
+      is.1,
+      placed name c.sessions u.operation.line c u.shard u.operation.op entry is.0 is.2,
+    )
+
     go : (o : Option Waiting) → operation_of line c ≡ o → IsOrderly name (change_with o (λ w. take_step line w (next (view_for w.shard w.operation.op c) w.operation)) c)
     go None at = its
     go (Some u) at = stepped name c line its free u at (next (view_for u.shard u.operation.op c) u.operation)
-        (λ entry e. subst (λ k. IsEntryOf name c.sessions k u.operation.op entry × IsOwn c.limits c.sessions u.operation.op) ((its.pending line u at).of_line)
-        (asks name (view_for u.shard u.operation.op c) u.operation ((its.pending line u at).called) entry e))
+        (λ entry e. here u at entry (asks name (view_for u.shard u.operation.op c) u.operation ((its.pending line u at).called) entry e))
 
 -- ---- which lines may go on
 

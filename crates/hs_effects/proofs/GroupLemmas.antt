@@ -10,7 +10,7 @@ use Rattle.hs_entry.specs.declared.entry.Entry.{Entry}
 use Rattle.hs_fold.proofs.Shards.PlaceLemmas.{other-at}
 use Rattle.hs_replica.specs.Group.{Group, commit_front, committed, lead, lead_takes, new_group, propose, take_committed}
 
-set_at : {X : Type 0} (none : X) (xs : List X) (k : ℕ) (d : X) → (slice_index_or (slice_set xs k d) k none ≡ d) ⊎ (slice_index_or (slice_set xs k d) k none ≡ slice_index_or xs k none)
+pub set_at : {X : Type 0} (none : X) (xs : List X) (k : ℕ) (d : X) → (slice_index_or (slice_set xs k d) k none ≡ d) ⊎ (slice_index_or (slice_set xs k d) k none ≡ slice_index_or xs k none)
 set_at none [] k d = inr refl
 set_at none (x ∷ xs) zero d = inl refl
 set_at none (x ∷ xs) (suc k) d = set_at none xs k d

@@ -11,6 +11,7 @@ mod EventLemmas
 mod FoldLemmas
 mod GoingLemmas
 mod GroupLemmas
+mod GrowLemmas
 mod LawfulLemmas
 mod LookLemmas
 mod MarkLemmas
@@ -18,6 +19,8 @@ mod OnceLemmas
 mod OrderlyLemmas
 mod QuietLemmas
 mod RefusedLemmas
+mod RoomLemmas
+mod RoomyLemmas
 mod RootLemmas
 mod SeatLemmas
 mod StepLemmas

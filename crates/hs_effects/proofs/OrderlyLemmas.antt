@@ -6,14 +6,16 @@ use Rattle.std.specs.Ordering.{nat_cmp}
 use Rattle.hs_core.specs.Changing.{add_entry_tasks, change_group, end_operation, post, put_operation}
 use Rattle.hs_core.specs.declared.wait.Wait.TheVariants as wait
 use Rattle.hs_core.specs.declared.waiting.Waiting.{Waiting}
-use Rattle.hs_core.specs.Looking.{front_of, group_of, lead_of, operation_of, shape_of}
+use Rattle.hs_core.specs.Looking.{catalogue_of, front_of, group_of, lead_of, operation_of, shape_of}
 use Rattle.hs_core.specs.Operating.{answer, propose_entry}
 use Rattle.hs_core.specs.Seeing.{pointers_for, view_for}
 use Rattle.hs_core.specs.State.{Core}
 use Rattle.hs_core.specs.Words.{change_with}
+use Rattle.hs_effects.specs.Room.{HasRoom}
 use Rattle.hs_effects.specs.Logged.{AreOnce, HasAsked, IsCalled, IsEntryOf, IsOrderly, IsOwn, IsPending, asked_by}
 use Rattle.hs_effects.proofs.GroupLemmas.{IsTaken, at_end, at_front, group_changed, propose_front, taken_or_same}
 use Rattle.hs_effects.proofs.LookLemmas.{found_set, gone, number_exact, once_remove, once_set, one_or_other, remove_other, set_other}
+use Rattle.hs_effects.proofs.RoomLemmas.{HasPlace, alike_room, committed_room, listed_room, own_place}
 use Rattle.hs_effects.proofs.SeatLemmas.{called_on, entry_on, judging_on, own_on, seats_other}
 use Rattle.hs_entry.specs.declared.entry.Entry.{Entry}
 use Rattle.hs_journal.specs.Order.{session_of}
@@ -45,6 +47,7 @@ pub record ChangesAt (name : List ℕ → Address) (a b : Core) (line : ℕ) : T
   pub shape : shape_of b ≡ shape_of a
   pub waiting : (g : ℕ) → (group_of g b).waiting ≡ (group_of g a).waiting
   pub front : (g : ℕ) → front_of g b ≡ front_of g a
+  pub catalogue : (g : ℕ) → catalogue_of g b ≡ catalogue_of g a
   pub others : (l : ℕ) → (l ≡ line → ⊥) → operation_of l b ≡ operation_of l a
   pub once : AreOnce b.operations
   pub here : (w : Waiting) → operation_of line b ≡ Some w → IsPending name b line w
@@ -100,7 +103,7 @@ module _ (name : List ℕ → Address) (a b : Core) (line : ℕ) (its : IsOrderl
           }
 
   pub changed_orderly : IsOrderly name b
-  changed_orderly = record { once = ch.once; pending = pending_on; alone = alone_on; asked = asked_on }
+  changed_orderly = record { once = ch.once; pending = pending_on; alone = alone_on; asked = asked_on; roomy = λ g. alike_room a b g ch.limits (ch.waiting g) (ch.catalogue g) (its.roomy g) }
 
 -- ---- an answer, and a wait
 
@@ -111,6 +114,7 @@ module _ (name : List ℕ → Address) (c : Core) (line : ℕ) (its : IsOrderly 
     shape = refl;
     waiting = λ g. refl;
     front = λ g. refl;
+    catalogue = λ g. refl;
     others = λ l d. remove_other nat_cmp number_exact c.operations line l d;
     once = once_remove line c.operations its.once;
     here = λ v e. absurd (none v e);
@@ -128,6 +132,7 @@ module _ (name : List ℕ → Address) (c : Core) (line : ℕ) (its : IsOrderly 
     shape = refl;
     waiting = λ g. refl;
     front = λ g. refl;
+    catalogue = λ g. refl;
     others = λ l d. set_other nat_cmp number_exact c.operations line l w d;
     once = once_set line c.operations w its.once;
     here = λ v e. subst (λ x. IsPending name (put_operation line w c) line x) (found v e) pending;
@@ -159,6 +164,7 @@ pub record Alike (a b : Core) : Type 0 where
   pub shape : shape_of b ≡ shape_of a
   pub waiting : (g : ℕ) → (group_of g b).waiting ≡ (group_of g a).waiting
   pub front : (g : ℕ) → front_of g b ≡ front_of g a
+  pub catalogue : (g : ℕ) → catalogue_of g b ≡ catalogue_of g a
 
 pub alike_both : (a b c : Core) → Alike a b → Alike b c → Alike a c
 alike_both a b c p q = record {
@@ -168,10 +174,11 @@ alike_both a b c p q = record {
   shape = q.shape ∙ p.shape;
   waiting = λ g. q.waiting g ∙ p.waiting g;
   front = λ g. q.front g ∙ p.front g;
+  catalogue = λ g. q.catalogue g ∙ p.catalogue g;
 }
 
 pub alike_same : (c : Core) → Alike c c
-alike_same c = record { operations = refl; sessions = refl; limits = refl; shape = refl; waiting = λ g. refl; front = λ g. refl }
+alike_same c = record { operations = refl; sessions = refl; limits = refl; shape = refl; waiting = λ g. refl; front = λ g. refl; catalogue = λ g. refl }
 
 at_same : (a b : Core) (line : ℕ) → b.operations ≡ a.operations → operation_of line b ≡ operation_of line a
 at_same a b line e = ap (λ (es : List (ℕ × Waiting)). lookup (is_at (nat_cmp line)) es) e
@@ -202,25 +209,27 @@ asked_alike name a b shard number other line entry e f x z n h = record {
 -- operations and sessions are the same, and the entries are told
 pub with_lists : (name : List ℕ → Address) (a b : Core) → IsOrderly name a → b.operations ≡ a.operations → b.sessions ≡ a.sessions → b.limits ≡ a.limits → shape_of b ≡ shape_of a
     → ((shard place k : ℕ) (entry : Entry) → slice_get (group_of shard b).waiting place ≡ Some entry → asked_by entry ≡ Some k → HasAsked name b shard (front_of shard b + 1 + place) k entry)
-    → IsOrderly name b
-with_lists name a b its e f x z asked = record {
+    → ((shard : ℕ) → HasRoom b shard) → IsOrderly name b
+with_lists name a b its e f x z asked roomy = record {
   once = subst (λ (es : List (ℕ × Waiting)). AreOnce es) (sym e) its.once;
   pending = λ line w at. pending_alike name a b line w f z (its.pending line w (sym (at_same a b line e) ∙ at));
   alone = λ l m v w q x y s t. its.alone l m v w q (sym (at_same a b l e) ∙ x) (sym (at_same a b m e) ∙ y) s t;
   asked = asked;
+  roomy = roomy;
 }
 
 pub alike_orderly : (name : List ℕ → Address) (a b : Core) → Alike a b → IsOrderly name a → IsOrderly name b
 alike_orderly name a b same its = with_lists name a b its same.operations same.sessions same.limits same.shape (λ shard place k entry at by.
     asked_alike name a b shard (front_of shard a + 1 + place) (front_of shard b + 1 + place) k entry same.operations same.sessions same.limits same.shape (ap (λ f. f + 1 + place) (sym (same.front shard)))
     (its.asked shard place k entry (sym (ap (λ es. slice_get es place) (same.waiting shard)) ∙ at) by))
+    (λ g. alike_room a b g same.limits (same.waiting g) (same.catalogue g) (its.roomy g))
 
 pub alike_free : (a b : Core) (line : ℕ) → Alike a b → IsFree a line → IsFree b line
 alike_free a b line same free = λ shard place entry at by. free shard place entry (sym (ap (λ es. slice_get es place) (same.waiting shard)) ∙ at) by
 
 -- a list changes, but not what waits in it
 pub group_alike : (shard : ℕ) (f : Group → Group) (c : Core) → (f (group_of shard c)).waiting ≡ (group_of shard c).waiting → (f (group_of shard c)).front ≡ (group_of shard c).front → Alike c (change_group shard f c)
-group_alike shard f c e n = record { operations = refl; sessions = refl; limits = refl; shape = refl; waiting = λ g. waits g (group_changed shard f c g); front = λ g. fronts g (group_changed shard f c g) }
+group_alike shard f c e n = record { operations = refl; sessions = refl; limits = refl; shape = refl; waiting = λ g. waits g (group_changed shard f c g); front = λ g. fronts g (group_changed shard f c g); catalogue = λ g. refl }
   where
     waits : (g : ℕ) → (group_of g (change_group shard f c) ≡ group_of g c) ⊎ ((g ≡ shard) × (group_of g (change_group shard f c) ≡ f (group_of shard c))) → (group_of g (change_group shard f c)).waiting ≡ (group_of g c).waiting
     waits g (inl s) = ap (λ (x : Group). x.waiting) s
@@ -235,9 +244,11 @@ group_alike shard f c e n = record { operations = refl; sessions = refl; limits 
 place_is : (front more : ℕ) → front + more + 1 ≡ front + 1 + more
 place_is front more = omega arith
 
-module _ (name : List ℕ → Address) (shard : ℕ) (entry : Entry) (c : Core) (its : IsOrderly name c) (new : (k : ℕ) → asked_by entry ≡ Some k → HasAsked name c shard (last_number (group_of shard c) + 1) k entry) where
+module _ (name : List ℕ → Address) (shard : ℕ) (entry : Entry) (c : Core) (its : IsOrderly name c) (new : (k : ℕ) → asked_by entry ≡ Some k → HasAsked name c shard (last_number (group_of shard c) + 1) k entry)
+    (place_for : HasPlace c shard entry) where
   listed_orderly : IsOrderly name (change_group shard (propose entry) c)
   listed_orderly = with_lists name c (change_group shard (propose entry) c) its refl refl refl refl (λ g place k e at by. go g place k e at by (group_changed shard (propose entry) c g))
+      (listed_room shard entry c place_for its.roomy)
     where
       more : (place k : ℕ) (e : Entry) → (slice_get (group_of shard c).waiting place ≡ Some e) ⊎ ((place ≡ length (group_of shard c).waiting) × (entry ≡ e)) → asked_by e ≡ Some k
           → HasAsked name c shard (front_of shard c + 1 + place) k e
@@ -268,15 +279,15 @@ module _ (name : List ℕ → Address) (shard : ℕ) (entry : Entry) (c : Core) 
       sent = post (proposal entry (group_of shard c)) (change_group shard (propose entry) c)
 
       go : (lead : Option ℕ) → Alike (change_group shard (propose entry) c) (change_with lead (λ peer. add_entry_tasks peer (last_number (group_of shard c) + 1) entry) sent)
-      go None = record { operations = refl; sessions = refl; limits = refl; shape = refl; waiting = λ g. refl; front = λ g. refl }
-      go (Some peer) = record { operations = refl; sessions = refl; limits = refl; shape = refl; waiting = λ g. refl; front = λ g. refl }
+      go None = record { operations = refl; sessions = refl; limits = refl; shape = refl; waiting = λ g. refl; front = λ g. refl; catalogue = λ g. refl }
+      go (Some peer) = record { operations = refl; sessions = refl; limits = refl; shape = refl; waiting = λ g. refl; front = λ g. refl; catalogue = λ g. refl }
 
   pub proposed_orderly : IsOrderly name (propose_entry shard entry c)
   proposed_orderly = alike_orderly name (change_group shard (propose entry) c) (propose_entry shard entry c) sent_alike listed_orderly
 
 -- an entry that no operation asked for
 pub own_orderly : (name : List ℕ → Address) (shard : ℕ) (entry : Entry) (c : Core) → asked_by entry ≡ None → IsOrderly name c → IsOrderly name (propose_entry shard entry c)
-own_orderly name shard entry c none its = proposed_orderly name shard entry c its (λ k by. absurd (cc (sym none ∙ by)))
+own_orderly name shard entry c none its = proposed_orderly name shard entry c its (λ k by. absurd (cc (sym none ∙ by))) (own_place c shard entry none)
 
 -- ---- an entry takes effect
 
@@ -285,6 +296,7 @@ next_place front place = omega arith
 
 pub committed_orderly : (name : List ℕ → Address) (shard : ℕ) (c : Core) → IsOrderly name c → IsOrderly name (change_group shard take_committed c)
 committed_orderly name shard c its = with_lists name c (change_group shard take_committed c) its refl refl refl refl (λ g place k e at by. go g place k e at by (group_changed shard take_committed c g))
+    (committed_room shard c its.roomy)
   where
     as_before : (g place k : ℕ) (e : Entry) → group_of g (change_group shard take_committed c) ≡ group_of g c → slice_get (group_of g (change_group shard take_committed c)).waiting place ≡ Some e → asked_by e ≡ Some k
         → HasAsked name (change_group shard take_committed c) g (front_of g (change_group shard take_committed c) + 1 + place) k e

@@ -4,6 +4,7 @@ use Rattle.std.proofs.lemmas.Bool.{ltb-false}
 use Rattle.std.specs.List.{list_all}
 use Rattle.std.specs.Option.{option_map, option_map_or, option_or}
 use Rattle.hs_effects.specs.Logged.{HasBlock, IsCalled, IsEntryOf, IsOwn}
+use Rattle.hs_effects.proofs.RoomLemmas.{takes_place}
 use Rattle.hs_desk.specs.declared.what.What.{What}
 use Rattle.hs_entry.specs.declared.entry.Entry.{Entry}
 use Rattle.hs_entry.specs.declared.entry.Entry.TheVariants as kind
@@ -112,41 +113,49 @@ own_if v op.Stat e = tt
 
 -- ---- going on
 
+-- an entry that takes a place is proposed where the view has room
+abbrev pub Passes : OpView → Entry → Type 0
+Passes v entry = takes_place entry ≡ true → v.pending ≡ false
+
+placeless : (v : OpView) (a entry : Entry) → step.Propose a ≡ step.Propose entry → takes_place a ≡ false → Passes v entry
+placeless v a entry e none takes = absurd (cc (sym none ∙ ap (λ x. takes_place x) (proposed_is a entry e) ∙ takes))
+
 -- a step proposes what the operation asks for
 abbrev pub Asks : (List ℕ → Address) → OpView → ℕ → Op → OpStep → Type 0
-Asks name v line o taken = (entry : Entry) → taken ≡ step.Propose entry → IsEntryOf name v.seats line o entry × IsOwn v.limits v.seats o
+Asks name v line o taken = (entry : Entry) → taken ≡ step.Propose entry → IsEntryOf name v.seats line o entry × IsOwn v.limits v.seats o × Passes v entry
 
 module _ (name : List ℕ → Address) (v : OpView) (line : ℕ) where
   write_asks : (session payload handles : List ℕ) (address : Option Address) → refusal_of v (op.Write session payload handles address) ≡ None → IsCalled name v.seats (op.Write session payload handles address)
-      → (pending : Bool) (present : Option ℕ) → Asks name v line (op.Write session payload handles address) (read_or (propose_unless pending (block_entry v line session payload handles)) present)
+      → (pending : Bool) → v.pending ≡ pending → (present : Option ℕ) → Asks name v line (op.Write session payload handles address) (read_or (propose_unless pending (block_entry v line session payload handles)) present)
   unfolding block_entry
-  write_asks session payload handles address passes called pending (Some number) entry e = absurd (cc e)
-  write_asks session payload handles address passes called true None entry e = absurd (cc e)
-  write_asks session payload handles address passes called false None entry e = (
+  write_asks session payload handles address passes called pending is (Some number) entry e = absurd (cc e)
+  write_asks session payload handles address passes called true is None entry e = absurd (cc e)
+  write_asks session payload handles address passes called false is None entry e = (
     inl (sym (proposed_is (kind.Block line (least_epoch (helds v.seats session handles)) (spell (asked_block v.seats session payload handles))) entry e), called (has_block v session payload handles address passes)),
     own_if v (op.Write session payload handles address) passes,
+    (λ takes. is),
   )
 
   read_asks : (session : List ℕ) (handle : ℕ) (told : Reply) (present : Option ℕ) → Asks name v line (op.Read session handle) (read_or (step.Answer told) present)
   read_asks session handle told None entry e = absurd (cc e)
   read_asks session handle told (Some number) entry e = absurd (cc e)
 
-  root_asks : (session key : List ℕ) (handle : ℕ) → refusal_of v (op.Root session key handle) ≡ None → (pending : Bool) → Asks name v line (op.Root session key handle) (propose_unless pending (root_entry v line session key handle))
-  root_asks session key handle passes true entry e = absurd (cc e)
-  root_asks session key handle passes false entry e = (sym (proposed_is (root_entry v line session key handle) entry e), own_if v (op.Root session key handle) passes)
+  root_asks : (session key : List ℕ) (handle : ℕ) → refusal_of v (op.Root session key handle) ≡ None → (pending : Bool) → v.pending ≡ pending → Asks name v line (op.Root session key handle) (propose_unless pending (root_entry v line session key handle))
+  root_asks session key handle passes true is entry e = absurd (cc e)
+  root_asks session key handle passes false is entry e = (sym (proposed_is (root_entry v line session key handle) entry e), own_if v (op.Root session key handle) passes, (λ takes. is))
 
   asked_asks : (o : Op) → refusal_of v o ≡ None → IsCalled name v.seats o → Asks name v line o (asked_for v line o)
   unfolding asked_for
   asked_asks (op.Open session) passes called entry e = absurd (cc e)
   asked_asks (op.Close session) passes called entry e = absurd (cc e)
-  asked_asks (op.Write session payload handles address) passes called entry e = write_asks session payload handles address passes called v.pending v.present entry e
+  asked_asks (op.Write session payload handles address) passes called entry e = write_asks session payload handles address passes called v.pending refl v.present entry e
   asked_asks (op.Read session handle) passes called entry e = read_asks session handle _ v.present entry e
   asked_asks (op.Look session key) passes called entry e = absurd (cc e)
-  asked_asks (op.Root session key handle) passes called entry e = root_asks session key handle passes v.pending entry e
-  asked_asks (op.Drop key) passes called entry e = (sym (proposed_is (kind.Drop line key) entry e), tt)
+  asked_asks (op.Root session key handle) passes called entry e = root_asks session key handle passes v.pending refl entry e
+  asked_asks (op.Drop key) passes called entry e = (sym (proposed_is (kind.Drop line key) entry e), tt, placeless v (kind.Drop line key) entry e refl)
   asked_asks (op.Forget session handle) passes called entry e = absurd (cc e)
   asked_asks (op.Name session handle) passes called entry e = absurd (cc e)
-  asked_asks op.Delete passes called entry e = ((slice_index v.epochs 0 + 1, sym (proposed_is (kind.Enter line (slice_index v.epochs 0 + 1)) entry e)), tt)
+  asked_asks op.Delete passes called entry e = ((slice_index v.epochs 0 + 1, sym (proposed_is (kind.Enter line (slice_index v.epochs 0 + 1)) entry e)), tt, placeless v (kind.Enter line (slice_index v.epochs 0 + 1)) entry e refl)
   asked_asks op.Stat passes called entry e = absurd (cc e)
 
   -- where there is an answer nothing is proposed
@@ -178,7 +187,7 @@ module _ (name : List ℕ → Address) (v : OpView) (line : ℕ) where
       → Asks name v line (op.Write session payload handles address) (cond same (step.Propose (mark_entry v line number session handles address)) (step.Answer reply.Collision))
   unfolding mark_entry
   mark_asks session payload handles address number passes true entry e =
-      (inr (number, sym (proposed_is (mark_entry v line number session handles address) entry e)), own_if v (op.Write session payload handles address) passes)
+      (inr (number, sym (proposed_is (mark_entry v line number session handles address) entry e)), own_if v (op.Write session payload handles address) passes, placeless v (mark_entry v line number session handles address) entry e refl)
   mark_asks session payload handles address number passes false entry e = absurd (cc e)
 
   compared_asks : (number : ℕ) (bytes : Option (List ℕ)) (pointers : List Address) (o : Op) → refusal_of v o ≡ None → IsCalled name v.seats o → Asks name v line o (compared v line number bytes pointers o)

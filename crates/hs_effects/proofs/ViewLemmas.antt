@@ -18,6 +18,7 @@ use Rattle.hs_effects.specs.Logged.{HasAsked, IsOrderly, IsPending, asked_by}
 use Rattle.hs_effects.proofs.GroupLemmas.{group_changed}
 use Rattle.hs_effects.proofs.LookLemmas.{found_map, once_map}
 use Rattle.hs_effects.proofs.OrderlyLemmas.{alike_orderly, asked_alike, own_orderly, session_in, some_is, with_lists}
+use Rattle.hs_effects.proofs.RoomLemmas.{alike_room, cut_room}
 use Rattle.hs_entry.specs.declared.entry.Entry.{Entry}
 use Rattle.hs_entry.specs.declared.entry.Entry.TheVariants as kind
 use Rattle.hs_limits.specs.declared.address.Address.{Address}
@@ -49,6 +50,7 @@ at_low (y ∷ xs) (suc place) x e = let low = at_low xs place x e in grind (arit
 
 renewed_orderly : (name : List ℕ → Address) (shard : ℕ) (members : Members) (c : Core) → IsOrderly name c → IsOrderly name (change_group shard (renew members) c)
 renewed_orderly name shard members c its = with_lists name c (change_group shard (renew members) c) its refl refl refl refl (λ g place k e at by. go g place k e at by (group_changed shard (renew members) c g))
+    (cut_room shard _ (renew members) c refl its.roomy)
   where
     go : (g place k : ℕ) (e : Entry) → slice_get (group_of g (change_group shard (renew members) c)).waiting place ≡ Some e → asked_by e ≡ Some k
         → (group_of g (change_group shard (renew members) c) ≡ group_of g c) ⊎ ((g ≡ shard) × (group_of g (change_group shard (renew members) c) ≡ renew members (group_of shard c)))
@@ -150,7 +152,7 @@ module _ (name : List ℕ → Address) (shard : ℕ) (c : Core) (its : IsOrderly
       }
 
   pub restarted_orderly : IsOrderly name (restart shard c)
-  restarted_orderly = record { once = once_map again c.operations its.once; pending = pending_again; alone = alone_again; asked = asked_again }
+  restarted_orderly = record { once = once_map again c.operations its.once; pending = pending_again; alone = alone_again; asked = asked_again; roomy = λ g. alike_room c (restart shard c) g refl refl refl (its.roomy g) }
 
 -- ---- the view
 
@@ -161,10 +163,10 @@ view_began name shard c its =
     let three : Core = restart shard two in
     let four : Core = post (renewal (group_of shard three)) three in
     own_orderly name shard (kind.View (view_of shard four.members)) four refl
-    (alike_orderly name three four (record { operations = refl; sessions = refl; limits = refl; shape = refl; waiting = λ g. refl; front = λ g. refl })
+    (alike_orderly name three four (record { operations = refl; sessions = refl; limits = refl; shape = refl; waiting = λ g. refl; front = λ g. refl; catalogue = λ g. refl })
     (restarted_orderly name shard two
     (renewed_orderly name shard c.members one
-    (alike_orderly name c one (record { operations = refl; sessions = refl; limits = refl; shape = refl; waiting = λ g. refl; front = λ g. refl }) its))))
+    (alike_orderly name c one (record { operations = refl; sessions = refl; limits = refl; shape = refl; waiting = λ g. refl; front = λ g. refl; catalogue = λ g. refl }) its))))
 
 pub view_changed : (name : List ℕ → Address) (shard : ℕ) (c : Core) → IsOrderly name c → IsOrderly name (change_view shard c)
 view_changed name shard c its = go (has_good shard c.members)

@@ -12,6 +12,7 @@ use Rattle.hs_core.specs.declared.waiting.Waiting.{Waiting}
 use Rattle.hs_core.specs.Looking.{front_of, group_of, operation_of, shape_of}
 use Rattle.hs_core.specs.State.{Core}
 use Rattle.hs_core.specs.Step.{step}
+use Rattle.hs_effects.specs.Room.{HasRoom}
 use Rattle.hs_entry.specs.declared.entry.Entry.{Entry}
 use Rattle.hs_entry.specs.declared.entry.Entry.TheVariants as kind
 use Rattle.hs_journal.specs.Order.{session_of}
@@ -110,13 +111,14 @@ abbrev pub AreOnce : {X : Type 0} → List (ℕ × X) → Type 0
 AreOnce [] = Unit {0}
 AreOnce (e ∷ es) = (lookup (is_at (nat_cmp e.0)) es ≡ None) × AreOnce es
 
--- operations without an answer, and entries that have not taken effect, as they stand between any two changes: no line has two, no session has two, and each entry is what its operation waits for
+-- operations without an answer, and entries that have not taken effect, as they stand between any two changes: no line has two, no session has two, each entry is what its operation waits for, and there is room for each
 pub record IsOrderly (name : List ℕ → Address) (core : Core) : Type 0 where
   pub once : AreOnce core.operations
   pub pending : (line : ℕ) (w : Waiting) → operation_of line core ≡ Some w → IsPending name core line w
   pub alone : (l m : ℕ) (v w : Waiting) (session : List ℕ) → operation_of l core ≡ Some v → operation_of m core ≡ Some w
       → session_of (Some v.operation.op) ≡ Some session → session_of (Some w.operation.op) ≡ Some session → l ≡ m
   pub asked : AreAsked name core
+  pub roomy : (shard : ℕ) → HasRoom core shard
 
 -- a client's line is new, is not 0, and asks for a write with the address of its block
 pub record IsNewLine (name : List ℕ → Address) (core : Core) (line : ℕ) (o : Op) : Type 0 where

@@ -13,10 +13,11 @@ ghost use Rattle.hs_limits.specs.declared.limits.Limits.{Limits};
 ghost use Rattle.hs_limits.specs.declared.shape.Shape.{Shape};
 
 /// As the core opens, and behind every event, whatever the number of copies: no line and no session
-/// has two operations without an answer, each is of an open session, and each entry that has not
-/// taken effect and that a client asked for is what its operation asks for and waits for. So the
-/// address that the core finds for an entry is the name of its block (`named`). Of a client's line
-/// it is asked that it is new and that a write has the name of its block.
+/// has two operations without an answer, each is of an open session, each entry that has not taken
+/// effect and that a client asked for is what its operation asks for and waits for, and there is
+/// room for the Blocks and Roots that have not taken effect. So the address that the core finds for
+/// an entry is the name of its block (`named`). Of a client's line it is asked that it is new and
+/// that a write has the name of its block.
 pub fn operations_wait_for_their_entries()
     ensures opened { (name : List ℕ → Address) (shape : Shape) (limits : Limits) (found : Taken)
         (moment : ℕ) →
