@@ -5,17 +5,28 @@ use hs_core::Core;
 use hs_desk::CoreFault;
 use std::alloc::Global;
 
-/// The session that writes the blocks.
-pub const WRITER: u32 = 0;
+/// The session that writes the first blocks. Each of the next ones writes as many others.
+pub const WRITER: u32 = 100_000;
+
+/// How many blocks a session writes: as many handles it holds then.
+const GROUP: u32 = 1_024;
 
 /// Stores so many blocks, one after another, each up to its answer.
 pub fn store(alloc: Global, core: &mut Core, blocks: u32) -> Result<(), CoreFault> {
-    open(alloc, core, WRITER)?;
     for block in 0..blocks {
-        write(alloc, core, WRITER, block)?;
+        store_one(alloc, core, block)?;
         drive(alloc, core, true)?;
     }
     Ok(())
+}
+
+/// Asks for one of them, in the session that writes it.
+fn store_one(alloc: Global, core: &mut Core, block: u32) -> Result<(), CoreFault> {
+    let writer = WRITER.saturating_add(block / GROUP);
+    if block % GROUP == 0 {
+        open(alloc, core, writer)?;
+    }
+    write(alloc, core, writer, block)
 }
 
 /// As many writes of other blocks, each in a session of its own: the first peer has sealed their
