@@ -14,14 +14,16 @@ use Rattle.hs_core.specs.Looking.{catalogue_of, front_of, group_of, operation_of
 use Rattle.hs_core.specs.Seeing.{view_for}
 use Rattle.hs_core.specs.State.{Core}
 use Rattle.hs_desk.specs.declared.what.What.TheVariants as what
-use Rattle.hs_effects.specs.Answered.{IsAnsweredBy, heard}
+use Rattle.hs_effects.specs.Answered.{HasAnswer, IsAnsweredBy, heard}
 use Rattle.hs_effects.specs.Lawful.{IsLawful, MayFollow}
-use Rattle.hs_effects.specs.Logged.{HasAsked, IsEntryOf, IsOrderly}
+use Rattle.hs_effects.specs.Logged.{HasAsked, IsEntryOf, IsOrderly, IsOwn}
 use Rattle.hs_effects.specs.Taking.{IsNamed, done_by, folds_behind, next_deed, setting_of, taken}
 use Rattle.hs_effects.proofs.AnsweredLemmas.{by_parts, granted_is, none_refused, seats_behind}
 use Rattle.hs_effects.proofs.EffectLemmas.{committed_named}
 use Rattle.hs_effects.proofs.FoldLemmas.{memory_at, taken_folds}
+use Rattle.hs_effects.proofs.FreeLemmas.{root_free}
 use Rattle.hs_effects.proofs.GroupLemmas.{committed_first}
+use Rattle.hs_effects.proofs.RoomyLemmas.{root_room}
 use Rattle.hs_effects.proofs.SweepLemmas.{ByViews, epoch_before, epoch_left, epoch_seen, store_is}
 use Rattle.hs_entry.specs.declared.entry.Entry.{Entry}
 use Rattle.hs_entry.specs.declared.entry.Entry.TheVariants as kind
@@ -136,8 +138,7 @@ module _ (views : ByViews) (law : ByRooted) (name : List ℕ → Address) (cs : 
   o = op.Root session key handle
 
   module _ (its : IsLawful name core cs) (order : IsOrderly name core) (leads : committed (group_of shard core) ≡ Some (number, entry)) (may : MayFollow (setting_of name core) cs (next_deed shard entry core))
-      (w : Waiting) (at : operation_of line core ≡ Some w) (is : w.operation.op ≡ o) (did : (done_by shard entry core).effect.what ≡ what.Rooted)
-      (free : refusal_of (view_for shard o core) o ≡ None) where
+      (w : Waiting) (at : operation_of line core ≡ Some w) (is : w.operation.op ≡ o) (did : (done_by shard entry core).effect.what ≡ what.Rooted) where
     abbrev here : Core
     here = taken shard entry core
 
@@ -170,6 +171,16 @@ module _ (views : ByViews) (law : ByRooted) (name : List ℕ → Address) (cs : 
 
     tests : IsPut f.epoch f.address key old
     tests = put_tests f.epoch f.address key old did
+
+    -- what its operation saw before refuses nothing
+    own : IsOwn core.limits core.sessions o
+    own = subst (λ (x : Op). IsOwn core.limits core.sessions x) (ap (λ (x : Waiting). x.operation.op) (some_same h.waiting w (sym h.at ∙ at)) ∙ is) h.own
+
+    free : refusal_of v o ≡ None
+    free =
+        root_free v session key handle (record { roots = old.roots; limit = greatest_limits.roots }) refl own
+        (ap (λ n. nat_le n (f.epoch + 1)) (epoch_seen views name cs core shard entry its may refl) ∙ tests.fresh)
+        tests.free (root_room name core shard number line f.epoch f.address key order leads session handle)
 
     epoch_is : root_epoch s key ≡ old.epoch
     epoch_is = ap (λ k. slice_index s.epochs k) (sym shows.judging) ∙ epoch_before views name cs core shard entry its may refl
@@ -226,7 +237,56 @@ module _ (views : ByViews) (law : ByRooted) (name : List ℕ → Address) (cs : 
     unfolding seats_after gained
     leaves = put_is
 
-    pub rooted_answer : IsAnsweredBy cs behind core (heard shard entry core) line o
+    rooted_answer : IsAnsweredBy cs behind core (heard shard entry core) line o
     rooted_answer =
         by_parts core shard line entry w o what.Rooted reply.Ok cs behind refl at judges is did refl (taken_folds name cs core shard entry its.folded may.of refl)
         (rooted s key (address_of s session handle)) says refl deeds leaves
+
+-- ---- the operation of its line
+
+-- an operation that asks for a Root is a root of what its handle stands for
+record IsRootOp (seats : Seats) (line epoch : ℕ) (a : Address) (key : List ℕ) (o : Op) : Type 0 where
+  pub session : List ℕ
+  pub handle : ℕ
+  pub is : o ≡ op.Root session key handle
+  pub asks : kind.Root line (found seats session handle).epoch (found seats session handle).address key ≡ kind.Root line epoch a key
+
+root_op : (name : List ℕ → Address) (seats : Seats) (line epoch : ℕ) (a : Address) (key : List ℕ) (o : Op) → IsEntryOf name seats line o (kind.Root line epoch a key) → IsRootOp seats line epoch a key o
+root_op name seats line epoch a key (op.Root session other handle) asks =
+    let same : key ≡ other = cc asks in
+    record {
+      session = session;
+      handle = handle;
+      is = ap (λ k. op.Root session k handle) (sym same);
+      asks = ap (λ k. kind.Root line (found seats session handle).epoch (found seats session handle).address k) same ∙ sym asks;
+    }
+root_op name seats line epoch a key (op.Write session payload handles address) asks = go asks
+  where
+    go : IsEntryOf name seats line (op.Write session payload handles address) (kind.Root line epoch a key) → IsRootOp seats line epoch a key (op.Write session payload handles address)
+    go (inl is) = absurd (cc is.0)
+    go (inr is) = absurd (cc is.1)
+root_op name seats line epoch a key (op.Drop other) asks = absurd (cc asks)
+root_op name seats line epoch a key op.Delete asks = absurd (cc asks.1)
+root_op name seats line epoch a key (op.Open session) asks = absurd asks
+root_op name seats line epoch a key (op.Close session) asks = absurd asks
+root_op name seats line epoch a key (op.Read session handle) asks = absurd asks
+root_op name seats line epoch a key (op.Look session other) asks = absurd asks
+root_op name seats line epoch a key (op.Forget session handle) asks = absurd asks
+root_op name seats line epoch a key (op.Name session handle) asks = absurd asks
+root_op name seats line epoch a key op.Stat asks = absurd asks
+
+pub root_answer : ByViews → ByRooted → (name : List ℕ → Address) (cs : List Folded) (core : Core) (shard number line epoch : ℕ) (a : Address) (key : List ℕ) → IsLawful name core cs → IsOrderly name core
+    → committed (group_of shard core) ≡ Some (number, kind.Root line epoch a key) → MayFollow (setting_of name core) cs (next_deed shard (kind.Root line epoch a key) core)
+    → (done_by shard (kind.Root line epoch a key) core).effect.what ≡ what.Rooted
+    → HasAnswer cs (folds_behind name cs shard (kind.Root line epoch a key) core) core (heard shard (kind.Root line epoch a key) core) line
+root_answer views law name cs core shard number line epoch a key its order leads may did =
+    let h = order.asked shard 0 line (kind.Root line epoch a key) (committed_first (group_of shard core) number (kind.Root line epoch a key) leads).first refl in
+    let r = root_op name core.sessions line epoch a key h.waiting.operation.op h.asks in
+    let by : (e : Entry) → Type 0 = λ e. committed (group_of shard core) ≡ Some (number, e) → MayFollow (setting_of name core) cs (next_deed shard e core) → (done_by shard e core).effect.what ≡ what.Rooted
+    → IsAnsweredBy cs (folds_behind name cs shard e core) core (heard shard e core) line (op.Root r.session key r.handle) in
+    let answers = subst by r.asks (λ first may did. rooted_answer views law name cs core shard number line r.session key r.handle its order first may h.waiting h.at r.is did) leads may did in
+    record {
+      waiting = h.waiting;
+      at = h.at;
+      answered = subst (λ (o : Op). IsAnsweredBy cs (folds_behind name cs shard (kind.Root line epoch a key) core) core (heard shard (kind.Root line epoch a key) core) line o) (sym r.is) answers;
+    }

@@ -1,8 +1,10 @@
 -- An operation that is answered by the effect of its entry.
-use Rattle.std.specs.Prelude.{◌≡◌, ℕ, List, [], ◌∷◌, ◌++◌}
+use Rattle.std.specs.Prelude.{◌≡◌, ℕ, List, [], ◌∷◌, ◌++◌, Some}
 use Rattle.hs_answered.specs.Judged.{entry_of, judged_at}
 use Rattle.hs_answered.specs.Standing.{IsFolded, store_with}
+use Rattle.hs_core.specs.declared.waiting.Waiting.{Waiting}
 use Rattle.hs_core.specs.Effects.{after_entry}
+use Rattle.hs_core.specs.Looking.{operation_of}
 use Rattle.hs_core.specs.State.{Core}
 use Rattle.hs_effects.specs.Taking.{done_by, taken}
 use Rattle.hs_entry.specs.declared.entry.Entry.{Entry}
@@ -18,3 +20,9 @@ pub record IsAnsweredBy (cs behind : List Folded) (before after : Core) (line : 
   pub told : after.entries ≡ before.entries ++ entry_of line before.moment (judged_at cs before o) ∷ []
   pub left : store_with behind after.sessions ≡ (judged_at cs before o).store
   pub folded : IsFolded after behind
+
+-- a line had an operation without an answer, and it was answered so
+pub record HasAnswer (cs behind : List Folded) (before after : Core) (line : ℕ) : Type 0 where
+  pub waiting : Waiting
+  pub at : operation_of line before ≡ Some waiting
+  pub answered : IsAnsweredBy cs behind before after line waiting.operation.op
