@@ -1,21 +1,24 @@
 -- What an operation saw before its entry takes effect refuses nothing.
-use Rattle.std.proofs.Common.{◌≡◌, ◌∙◌, sym, ap, subst, inl, inr, ℕ, ◌+◌, ◌≤◌, Bool, true, false, cond, not, ◌&&◌, List, [], ◌∷◌, fold, map, min, Option, Some, None, is_none, is_some, refl, arith, bytes_eq, nat_le, nat_lt, unwrap_or}
-use Rattle.std.proofs.lemmas.Bool.{leb-true, le-ltb}
+use Rattle.std.proofs.Common.{◌≡◌, ◌∙◌, sym, ap, subst, inl, inr, ℕ, zero, suc, ◌+◌, ◌≤◌, ◌<◌, Bool, true, false, cond, not, ◌&&◌, List, [], ◌∷◌, fold, length, map, min, Option, Some, None, is_none, is_some, refl, arith, bytes_eq, nat_le, nat_lt, slice_index_or, unwrap_or}
+use Rattle.std.proofs.lemmas.Bool.{leb-true, le-ltb, ltb-false}
+use Rattle.std.proofs.lemmas.List.{length-map}
 use Rattle.std.specs.Option.{option_map, option_map_or}
-use Rattle.hs_effects.specs.Logged.{HasBlock, IsEntryOf, IsOwn}
-use Rattle.hs_effects.proofs.StepLemmas.{head_none, held_same, join_none, rest_none}
-use Rattle.hs_entry.specs.declared.entry.Entry.TheVariants as kind
+use Rattle.hs_effects.specs.Answered.{HoldAddresses}
+use Rattle.hs_effects.specs.Logged.{HasBlock, IsOwn}
+use Rattle.hs_effects.proofs.StepLemmas.{all_held, head_none, held_same, join_none, not_when, rest_none}
+use Rattle.hs_limits.specs.Block.{HasAddresses, IsBlock}
 use Rattle.hs_limits.specs.declared.address.Address.{Address}
 use Rattle.hs_limits.specs.declared.address.Held.{Held}
+use Rattle.hs_limits.specs.declared.limits.Limits.{Limits}
 use Rattle.hs_limits.specs.declared.limits.TheConstants.{LAST_EPOCH}
-use Rattle.hs_model.specs.declared.op.Op.{Op}
+use Rattle.hs_limits.specs.declared.spelling.TheConstants.{MOST_BYTES, MOST_POINTERS}
 use Rattle.hs_model.specs.declared.op.Op.TheVariants as op
 use Rattle.hs_model.specs.declared.reply.Reply.{Reply}
 use Rattle.hs_model.specs.declared.reply.Reply.TheVariants as reply
 use Rattle.hs_model.specs.Refusals.{first, no_handle_in, refused_when, stale_handle, stale_in, too_long, too_many}
-use Rattle.hs_model.specs.Store.{held_in}
+use Rattle.hs_model.specs.Store.{Session, held_in}
 use Rattle.hs_ops.specs.Refusals.{differs, is_busy, kept_otherwise, no_more_handles, no_room_for_block, no_room_for_root, not_held, not_open, outdated, refusal_of, refusals_of}
-use Rattle.hs_ops.specs.Speaking.{helds, least_epoch}
+use Rattle.hs_ops.specs.Speaking.{asked_block, helds, least_epoch}
 use Rattle.hs_ops.specs.Views.{OpView, as_session, kept_in, now_in, open_in}
 use Rattle.hs_roots.specs.Refusals.{put_refusal}
 use Rattle.hs_roots.specs.Roots.{Retention}
@@ -98,3 +101,36 @@ write_free v session payload handles address idle own fresh room =
     (join_none (no_more_handles v session 1) _ more
     (join_none (outdated v session handles) _ (none_stale v.seats session (now_in v) LAST_EPOCH handles (leb-true (now_in v) (least_epoch (helds v.seats session handles) + 1) fresh))
     (join_none (no_room_for_block v) [] room refl)))))))
+
+-- one that is not refused for what its session holds has a block
+pub own_block : (limits : Limits) (seats : Seats) (session payload handles : List ℕ) (address : Option Address) → IsOwn limits seats (op.Write session payload handles address) → HasBlock seats session payload handles
+unfolding no_handle_in
+own_block limits seats session payload handles address own =
+    let open_one : Option Session = option_map as_session (seat_of session seats) in
+    let after_open = rest_none (refused_when (is_none open_one) (reply.NoSession session)) _ own in
+    let after_long = rest_none (too_long payload) _ after_open in
+    let held = head_none (no_handle_in open_one handles) _ (rest_none (too_many handles) _ after_long) in
+    record {
+      held = all_held (seat_of session seats) handles held;
+      few = ltb-false MOST_POINTERS (length handles) (not_when _ _ (head_none (too_many handles) _ after_long));
+      short = ltb-false MOST_BYTES (length payload) (not_when _ _ (head_none (too_long payload) _ after_open));
+    }
+
+-- it has the addresses of its handles
+pub are_addressed : (seats : Seats) (session payload : List ℕ) → HoldAddresses seats → (handles : List ℕ) → HasAddresses (asked_block seats session payload handles)
+unfolding asked_block
+are_addressed seats session payload all handles = each handles
+  where
+    each : (hs : List ℕ) (k : ℕ) (d : Address) → k < length (map (λ held. held.address) (helds seats session hs)) → length (slice_index_or (map (λ held. held.address) (helds seats session hs)) k d).0 ≡ 32
+    each [] k d less = absurd (omega (arith, less))
+    each (h ∷ hs) zero d less = all session h
+    each (h ∷ hs) (suc k) d less = each hs k d (omega (arith, less))
+
+-- and is within its bounds
+pub is_bounded : (seats : Seats) (session payload handles : List ℕ) → HasBlock seats session payload handles → IsBlock (asked_block seats session payload handles)
+unfolding asked_block
+is_bounded seats session payload handles its =
+    let outer = length-map (helds seats session handles) (λ (held : Held). held.address) in
+    let inner = length-map handles (λ handle. found seats session handle) in
+    let few = its.few in
+    record { pointers = omega (arith, outer, inner, few); bytes = its.short }

@@ -40,7 +40,7 @@ pub rest_none : (o : Option Reply) (rest : List (Option Reply)) → first (o ∷
 rest_none None rest e = e
 rest_none (Some r) rest e = absurd (cc e)
 
-not_when : (b : Bool) (r : Reply) → refused_when b r ≡ None → b ≡ false
+pub not_when : (b : Bool) (r : Reply) → refused_when b r ≡ None → b ≡ false
 not_when true r e = absurd (cc e)
 not_when false r e = refl
 
@@ -50,7 +50,7 @@ pub held_same : (seat : Option Seat) (handle : ℕ) → held_in (option_map as_s
 held_same None handle = refl
 held_same (Some seat) handle = refl
 
-all_held : (seat : Option Seat) (handles : List ℕ) → first (map (λ handle. no_such_handle (option_map as_session seat) handle) handles) ≡ None → list_all (λ handle. is_some (held_at seat handle)) handles ≡ true
+pub all_held : (seat : Option Seat) (handles : List ℕ) → first (map (λ handle. no_such_handle (option_map as_session seat) handle) handles) ≡ None → list_all (λ handle. is_some (held_at seat handle)) handles ≡ true
 all_held seat [] e = refl
 all_held seat (h ∷ handles) e = go (held_at seat h) (held_same seat h) e (all_held seat handles)
   where

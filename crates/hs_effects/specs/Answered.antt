@@ -1,5 +1,5 @@
 -- An operation that is answered by the effect of its entry.
-use Rattle.std.specs.Prelude.{◌≡◌, ℕ, List, [], ◌∷◌, ◌++◌, Some}
+use Rattle.std.specs.Prelude.{◌≡◌, ℕ, List, [], ◌∷◌, ◌++◌, Some, length}
 use Rattle.hs_answered.specs.Judged.{entry_of, judged_at}
 use Rattle.hs_answered.specs.Standing.{IsFolded, store_with}
 use Rattle.hs_core.specs.declared.waiting.Waiting.{Waiting}
@@ -10,6 +10,7 @@ use Rattle.hs_effects.specs.Taking.{done_by, taken}
 use Rattle.hs_entry.specs.declared.entry.Entry.{Entry}
 use Rattle.hs_fold.specs.Runs.Facts.{Catalogue as Folded}
 use Rattle.hs_model.specs.declared.op.Op.{Op}
+use Rattle.hs_tokens.specs.Seats.{Seats, found}
 
 -- an entry of a shard has taken effect, and its operation has heard of it; what waited for that has not gone on yet
 abbrev pub heard : ℕ → Entry → Core → Core
@@ -26,3 +27,7 @@ pub record HasAnswer (cs behind : List Folded) (before after : Core) (line : ℕ
   pub waiting : Waiting
   pub at : operation_of line before ≡ Some waiting
   pub answered : IsAnsweredBy cs behind before after line waiting.operation.op
+
+-- each handle of an open session stands for an address of 32 bytes, as every address that a program holds
+abbrev pub HoldAddresses : Seats → Type 0
+HoldAddresses seats = (session : List ℕ) (handle : ℕ) → length (found seats session handle).address.0 ≡ 32
