@@ -17,7 +17,7 @@ use Rattle.hs_effects.specs.Answered.{HasAnswer, HoldAddresses, IsAnsweredBy, he
 use Rattle.hs_effects.specs.Lawful.{IsLawful, MayFollow}
 use Rattle.hs_effects.specs.Logged.{HasAsked, IsEntryOf, IsOrderly, IsOwn}
 use Rattle.hs_effects.specs.Taking.{IsNamed, done_by, folds_behind, next_deed, setting_of, taken}
-use Rattle.hs_effects.proofs.AnsweredLemmas.{by_parts, granted_is, seats_behind}
+use Rattle.hs_effects.proofs.AnsweredLemmas.{by_parts, granted_is, has_answer, not_full, seats_behind, some_same}
 use Rattle.hs_effects.proofs.EffectLemmas.{committed_named}
 use Rattle.hs_effects.proofs.FoldLemmas.{memory_at, taken_folds}
 use Rattle.hs_effects.proofs.FreeLemmas.{are_addressed, is_bounded, own_block, write_free}
@@ -100,13 +100,6 @@ some_of f (Some x) = refl
 none_of : {A : Type 0} (x : Option A) → is_some x ≡ false → x ≡ None
 none_of None e = refl
 none_of (Some x) e = absurd (cc e)
-
-not_full : (b : Bool) → true ≡ not b → b ≡ false
-not_full false e = refl
-not_full true e = absurd (cc e)
-
-some_same : {A : Type 0} (x y : A) → Some x ≡ Some y → x ≡ y
-some_same x y e = cc e
 
 -- an operation that asks for a Block is the write of its block
 record IsBlockOp (name : List ℕ → Address) (seats : Seats) (least : ℕ) (bytes : List ℕ) (o : Op) : Type 0 where
@@ -332,9 +325,5 @@ pub block_answer : ByViews → ByStored → (name : List ℕ → Address) (cs : 
 block_answer views law name cs core shard number line least bytes its order all leads may did =
     let h = order.asked shard 0 line (kind.Block line least bytes) (committed_first (group_of shard core) number (kind.Block line least bytes) leads).first refl in
     let b = block_op name core.sessions line least bytes h.waiting.operation.op h.asks in
-    record {
-      waiting = h.waiting;
-      at = h.at;
-      answered = subst (λ (o : Op). IsAnsweredBy cs (folds_behind name cs shard (kind.Block line least bytes) core) core (heard shard (kind.Block line least bytes) core) line o) (sym b.is)
-      (stored_answer views law name cs core shard number line least bytes b.session b.payload b.handles its order leads may h.waiting h.at b.is b.since b.spells all did);
-    }
+    has_answer cs (folds_behind name cs shard (kind.Block line least bytes) core) core (heard shard (kind.Block line least bytes) core) line h.waiting (op.Write b.session b.payload b.handles (Some (name bytes))) h.at b.is
+    (stored_answer views law name cs core shard number line least bytes b.session b.payload b.handles its order leads may h.waiting h.at b.is b.since b.spells all did)

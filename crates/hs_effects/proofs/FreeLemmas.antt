@@ -1,8 +1,8 @@
 -- What an operation saw before its entry takes effect refuses nothing.
-use Rattle.std.proofs.Common.{◌≡◌, ◌∙◌, sym, ap, subst, inl, inr, ℕ, zero, suc, ◌+◌, ◌≤◌, ◌<◌, Bool, true, false, cond, not, ◌&&◌, List, [], ◌∷◌, fold, length, map, min, Option, Some, None, is_none, is_some, refl, arith, bytes_eq, nat_le, nat_lt, slice_index_or, unwrap_or}
+use Rattle.std.proofs.Common.{◌≡◌, ◌∙◌, ap, subst, ℕ, zero, suc, ◌+◌, ◌≤◌, ◌<◌, Bool, true, false, cond, not, List, [], ◌∷◌, fold, length, map, min, Option, Some, None, is_none, is_some, refl, arith, bytes_eq, nat_le, slice_index_or, unwrap_or}
 use Rattle.std.proofs.lemmas.Bool.{leb-true, le-ltb, ltb-false}
 use Rattle.std.proofs.lemmas.List.{length-map}
-use Rattle.std.specs.Option.{option_map, option_map_or}
+use Rattle.std.specs.Option.{option_map}
 use Rattle.hs_effects.specs.Answered.{HoldAddresses}
 use Rattle.hs_effects.specs.Logged.{HasBlock, IsOwn}
 use Rattle.hs_effects.proofs.StepLemmas.{all_held, head_none, held_same, join_none, not_when, rest_none}
@@ -13,7 +13,6 @@ use Rattle.hs_limits.specs.declared.limits.Limits.{Limits}
 use Rattle.hs_limits.specs.declared.limits.TheConstants.{LAST_EPOCH}
 use Rattle.hs_limits.specs.declared.spelling.TheConstants.{MOST_BYTES, MOST_POINTERS}
 use Rattle.hs_model.specs.declared.op.Op.TheVariants as op
-use Rattle.hs_model.specs.declared.reply.Reply.{Reply}
 use Rattle.hs_model.specs.declared.reply.Reply.TheVariants as reply
 use Rattle.hs_model.specs.Refusals.{first, no_handle_in, refused_when, stale_handle, stale_in, too_long, too_many}
 use Rattle.hs_model.specs.Store.{Session, held_in}

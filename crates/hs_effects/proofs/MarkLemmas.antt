@@ -16,7 +16,7 @@ use Rattle.hs_effects.specs.Answered.{HasAnswer, IsAnsweredBy, IsWritten, heard}
 use Rattle.hs_effects.specs.Lawful.{IsLawful, MayFollow}
 use Rattle.hs_effects.specs.Logged.{HasAsked, IsCalled, IsEntryOf, IsOrderly, IsOwn}
 use Rattle.hs_effects.specs.Taking.{done_by, folds_behind, next_deed, setting_of, taken}
-use Rattle.hs_effects.proofs.AnsweredLemmas.{by_parts, granted_is, seats_behind}
+use Rattle.hs_effects.proofs.AnsweredLemmas.{by_parts, granted_is, has_answer, seats_behind, some_same}
 use Rattle.hs_effects.proofs.FoldLemmas.{memory_at, taken_folds}
 use Rattle.hs_effects.proofs.FreeLemmas.{own_block, write_free}
 use Rattle.hs_effects.proofs.GroupLemmas.{committed_first}
@@ -92,9 +92,6 @@ some_there block (Some f) e = refl
 no_room_asked : (x : Option ℕ) (room : Bool) (r : Reply) → is_some x ≡ true → refused_when (is_none x && not room) r ≡ None
 no_room_asked None room r e = absurd (cc e)
 no_room_asked (Some number) room r e = refl
-
-some_same : {A : Type 0} (x y : A) → Some x ≡ Some y → x ≡ y
-some_same x y e = cc e
 
 grants : (s : Store) (session payload handles : List ℕ) (a : Address) → granted s (op.Write session payload handles (Some a)) ≡ wrote s session a (written s session payload handles)
 unfolding granted
@@ -276,9 +273,5 @@ pub mark_answer : ByViews → ByMarked → (name : List ℕ → Address) (cs : L
 mark_answer views law name cs core shard number line least block a its order written leads may did =
     let h = order.asked shard 0 line (kind.Mark line least block a) (committed_first (group_of shard core) number (kind.Mark line least block a) leads).first refl in
     let m = mark_op name core.limits core.sessions line least block a h.waiting.operation.op h.asks (order.pending line h.waiting h.at).called h.own in
-    record {
-      waiting = h.waiting;
-      at = h.at;
-      answered = subst (λ (o : Op). IsAnsweredBy cs (folds_behind name cs shard (kind.Mark line least block a) core) core (heard shard (kind.Mark line least block a) core) line o) (sym m.is)
-      (by_there views law name cs core shard number line least block a m.session m.payload m.handles its order leads may h.waiting h.at m.is m.since did written);
-    }
+    has_answer cs (folds_behind name cs shard (kind.Mark line least block a) core) core (heard shard (kind.Mark line least block a) core) line h.waiting (op.Write m.session m.payload m.handles (Some a)) h.at m.is
+    (by_there views law name cs core shard number line least block a m.session m.payload m.handles its order leads may h.waiting h.at m.is m.since did written)
