@@ -1,5 +1,5 @@
 -- An operation that is answered by the effect of its entry, whatever its kind.
-use Rattle.std.proofs.Common.{◌≡◌, ◌∙◌, sym, ap, ℕ, true, List, [], ◌∷◌, ◌++◌, Option, Some, None, refl}
+use Rattle.std.proofs.Common.{◌≡◌, ◌∙◌, sym, ap, subst, ℕ, Bool, true, false, not, List, [], ◌∷◌, ◌++◌, Option, Some, None, refl}
 use Rattle.std.proofs.lemmas.Bool.{false≢true}
 use Rattle.std.specs.Option.{option_map_or}
 use Rattle.hs_answered.specs.Judged.{entry_of, judged_at}
@@ -13,7 +13,7 @@ use Rattle.hs_core.specs.Seeing.{pointers_for, view_for}
 use Rattle.hs_core.specs.State.{Core}
 use Rattle.hs_core.specs.Words.{change_with}
 use Rattle.hs_desk.specs.declared.what.What.{What}
-use Rattle.hs_effects.specs.Answered.{IsAnsweredBy, heard}
+use Rattle.hs_effects.specs.Answered.{HasAnswer, IsAnsweredBy, heard}
 use Rattle.hs_effects.specs.Logged.{asked_by}
 use Rattle.hs_effects.specs.Taking.{done_by, taken}
 use Rattle.hs_effects.proofs.FoldLemmas.{quiet_folds}
@@ -34,6 +34,15 @@ use Rattle.hs_ops.specs.Going.{effect_reply, go, on_effect}
 use Rattle.hs_ops.specs.Operations.{after_step, effect_step}
 use Rattle.hs_ops.specs.Views.{OpView}
 use Rattle.hs_tokens.specs.Seats.{Seats}
+
+-- ---- plain facts
+
+pub some_same : {A : Type 0} (x y : A) → Some x ≡ Some y → x ≡ y
+some_same x y e = cc e
+
+pub not_full : (b : Bool) → true ≡ not b → b ≡ false
+not_full false e = refl
+not_full true e = absurd (cc e)
 
 -- ---- the judge
 
@@ -102,3 +111,7 @@ module _ (core : Core) (shard line : ℕ) (entry : Entry) (w : Waiting) (o : Op)
 
       told : heard shard entry core ≡ answer line (record w { operation = after_step (step.Answer r) w.operation }) r here
       told = heard_is by at judges is does e
+
+-- the operation of a line was answered so, whatever it was
+pub has_answer : (cs behind : List Folded) (before after : Core) (line : ℕ) (w : Waiting) (o : Op) → operation_of line before ≡ Some w → w.operation.op ≡ o → IsAnsweredBy cs behind before after line o → HasAnswer cs behind before after line
+has_answer cs behind before after line w o at is answered = record { waiting = w; at = at; answered = subst (λ (x : Op). IsAnsweredBy cs behind before after line x) (sym is) answered }

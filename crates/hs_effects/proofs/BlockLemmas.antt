@@ -13,14 +13,16 @@ use Rattle.hs_core.specs.Looking.{catalogue_of, front_of, group_of, operation_of
 use Rattle.hs_core.specs.Seeing.{view_for}
 use Rattle.hs_core.specs.State.{Core}
 use Rattle.hs_desk.specs.declared.what.What.TheVariants as what
-use Rattle.hs_effects.specs.Answered.{IsAnsweredBy, heard}
+use Rattle.hs_effects.specs.Answered.{HasAnswer, HoldAddresses, IsAnsweredBy, heard}
 use Rattle.hs_effects.specs.Lawful.{IsLawful, MayFollow}
-use Rattle.hs_effects.specs.Logged.{HasAsked, IsEntryOf, IsOrderly}
+use Rattle.hs_effects.specs.Logged.{HasAsked, IsEntryOf, IsOrderly, IsOwn}
 use Rattle.hs_effects.specs.Taking.{IsNamed, done_by, folds_behind, next_deed, setting_of, taken}
-use Rattle.hs_effects.proofs.AnsweredLemmas.{by_parts, granted_is, seats_behind}
+use Rattle.hs_effects.proofs.AnsweredLemmas.{by_parts, granted_is, has_answer, not_full, seats_behind, some_same}
 use Rattle.hs_effects.proofs.EffectLemmas.{committed_named}
 use Rattle.hs_effects.proofs.FoldLemmas.{memory_at, taken_folds}
+use Rattle.hs_effects.proofs.FreeLemmas.{are_addressed, is_bounded, own_block, write_free}
 use Rattle.hs_effects.proofs.GroupLemmas.{committed_first}
+use Rattle.hs_effects.proofs.RoomyLemmas.{block_room}
 use Rattle.hs_effects.proofs.SweepLemmas.{ByViews, epoch_before, epoch_left, epoch_seen, store_is}
 use Rattle.hs_entry.specs.declared.entry.Entry.{Entry}
 use Rattle.hs_entry.specs.declared.entry.Entry.TheVariants as kind
@@ -35,6 +37,7 @@ use Rattle.hs_joint.specs.Along.{happening_by}
 use Rattle.hs_limits.specs.Block.{Block, spell}
 use Rattle.hs_limits.specs.Limits.{greatest_limits}
 use Rattle.hs_limits.specs.Reading.{read_block}
+use Rattle.hs_limits.proofs.ReadingLemmas.{read_again}
 use Rattle.hs_limits.specs.Shape.{shard_of}
 use Rattle.hs_limits.specs.declared.address.Address.{Address}
 use Rattle.hs_limits.specs.declared.address.Held.{Held}
@@ -52,7 +55,7 @@ use Rattle.hs_model.specs.Store.{Session, Store, address_cmp, block_at, blocks_i
 use Rattle.hs_ops.specs.Answers.{deed_of, gained, is_done, seats_after}
 use Rattle.hs_ops.specs.Going.{effect_reply}
 use Rattle.hs_ops.specs.Refusals.{refusal_of}
-use Rattle.hs_ops.specs.Speaking.{asked_block, judging_shard}
+use Rattle.hs_ops.specs.Speaking.{asked_block, helds, judging_shard, least_epoch}
 use Rattle.hs_ops.specs.Views.{OpView, now_in, open_in}
 use Rattle.hs_replica.specs.Group.{committed}
 use Rattle.hs_shard.specs.declared.facts.Facts.{Facts}
@@ -98,18 +101,40 @@ none_of : {A : Type 0} (x : Option A) → is_some x ≡ false → x ≡ None
 none_of None e = refl
 none_of (Some x) e = absurd (cc e)
 
-not_full : (b : Bool) → true ≡ not b → b ≡ false
-not_full false e = refl
-not_full true e = absurd (cc e)
+-- an operation that asks for a Block is the write of its block
+record IsBlockOp (name : List ℕ → Address) (seats : Seats) (least : ℕ) (bytes : List ℕ) (o : Op) : Type 0 where
+  pub session : List ℕ
+  pub payload : List ℕ
+  pub handles : List ℕ
+  pub is : o ≡ op.Write session payload handles (Some (name bytes))
+  pub since : least ≡ least_epoch (helds seats session handles)
+  pub spells : bytes ≡ spell (asked_block seats session payload handles)
 
-some_same : {A : Type 0} (x y : A) → Some x ≡ Some y → x ≡ y
-some_same x y e = cc e
-
-spelled : (name : List ℕ → Address) (seats : Seats) (line l least : ℕ) (bytes session payload handles : List ℕ) (address : Option Address)
-    → IsEntryOf name seats line (op.Write session payload handles address) (kind.Block l least bytes)
-    → (bytes ≡ spell (asked_block seats session payload handles)) × (address ≡ Some (name (spell (asked_block seats session payload handles))))
-spelled name seats line l least bytes session payload handles address (inl is) = (cc is.0, is.1)
-spelled name seats line l least bytes session payload handles address (inr is) = absurd (cc is.1)
+block_op : (name : List ℕ → Address) (seats : Seats) (line least : ℕ) (bytes : List ℕ) (o : Op) → IsEntryOf name seats line o (kind.Block line least bytes) → IsBlockOp name seats least bytes o
+block_op name seats line least bytes (op.Write session payload handles address) asks = go asks
+  where
+    go : IsEntryOf name seats line (op.Write session payload handles address) (kind.Block line least bytes) → IsBlockOp name seats least bytes (op.Write session payload handles address)
+    go (inl is) =
+        let spelled : bytes ≡ spell (asked_block seats session payload handles) = cc is.0 in
+        record {
+          session = session;
+          payload = payload;
+          handles = handles;
+          is = ap (λ a. op.Write session payload handles a) (is.1 ∙ ap (λ bs. Some (name bs)) (sym spelled));
+          since = cc is.0;
+          spells = spelled;
+        }
+    go (inr is) = absurd (cc is.1)
+block_op name seats line least bytes (op.Root session key handle) asks = absurd (cc asks)
+block_op name seats line least bytes (op.Drop key) asks = absurd (cc asks)
+block_op name seats line least bytes op.Delete asks = absurd (cc asks.1)
+block_op name seats line least bytes (op.Open session) asks = absurd asks
+block_op name seats line least bytes (op.Close session) asks = absurd asks
+block_op name seats line least bytes (op.Read session handle) asks = absurd asks
+block_op name seats line least bytes (op.Look session key) asks = absurd asks
+block_op name seats line least bytes (op.Forget session handle) asks = absurd asks
+block_op name seats line least bytes (op.Name session handle) asks = absurd asks
+block_op name seats line least bytes op.Stat asks = absurd asks
 
 grants : (s : Store) (session payload handles : List ℕ) (a : Address) → granted s (op.Write session payload handles (Some a)) ≡ wrote s session a (written s session payload handles)
 unfolding granted
@@ -134,8 +159,8 @@ module _ (views : ByViews) (law : ByStored) (name : List ℕ → Address) (cs : 
   asked = asked_block core.sessions session payload handles
 
   module _ (its : IsLawful name core cs) (order : IsOrderly name core) (leads : committed (group_of shard core) ≡ Some (number, entry)) (may : MayFollow (setting_of name core) cs (next_deed shard entry core))
-      (w : Waiting) (at : operation_of line core ≡ Some w) (is : w.operation.op ≡ o) (reads : read_block bytes ≡ Ok asked) (did : (done_by shard entry core).effect.what ≡ what.Stored)
-      (free : refusal_of (view_for shard o core) o ≡ None) where
+      (w : Waiting) (at : operation_of line core ≡ Some w) (is : w.operation.op ≡ o) (least_is : least ≡ least_epoch (helds core.sessions session handles)) (spelled : bytes ≡ spell asked)
+      (all : HoldAddresses core.sessions) (did : (done_by shard entry core).effect.what ≡ what.Stored) where
     abbrev here : Core
     here = taken shard entry core
 
@@ -166,6 +191,14 @@ module _ (views : ByViews) (law : ByStored) (name : List ℕ → Address) (cs : 
     shows : Shows core.limits s o v
     shows = subst (λ k. Shows core.limits s o (view_for k o core)) place (views cs core o its.folded refl)
 
+    own : IsOwn core.limits core.sessions o
+    own = subst (λ (x : Op). IsOwn core.limits core.sessions x) (ap (λ (x : Waiting). x.operation.op) (some_same h.waiting w (sym h.at ∙ at)) ∙ is) h.own
+
+    reads : read_block bytes ≡ Ok asked
+    reads =
+        ap (λ bs. read_block bs) spelled
+        ∙ read_again asked (is_bounded core.sessions session payload handles (own_block core.limits core.sessions session payload handles (Some a) own)) (are_addressed core.sessions session payload all handles)
+
     called : IsNamed name entry core
     called = committed_named name core shard number entry order leads
 
@@ -176,6 +209,13 @@ module _ (views : ByViews) (law : ByStored) (name : List ℕ → Address) (cs : 
 
     tests : IsStored least a old × ((store_block (front_of shard core + 1) least a (Ok asked) old).catalogue.epoch ≡ old.epoch)
     tests = stored_tests (front_of shard core + 1) least a asked old (ap (λ x. x.effect.what) (sym done_is) ∙ did)
+
+    -- what its operation saw before refuses nothing
+    free : refusal_of v o ≡ None
+    free =
+        write_free v session payload handles (Some a) refl own
+        (ap (λ k. nat_le (now_in v) (k + 1)) (sym least_is) ∙ ap (λ n. nat_le n (least + 1)) (epoch_seen views name cs core shard entry its may called) ∙ tests.0.fresh)
+        (block_room name core shard number line least bytes order leads session payload handles (Some a))
 
     absent : block_at s a ≡ None
     absent = none_of (block_at s a) (sym (shows.present a refl) ∙ some_of (λ (f : Facts). f.number) (facts_at a old) ∙ tests.0.absent)
@@ -273,7 +313,17 @@ module _ (views : ByViews) (law : ByStored) (name : List ℕ → Address) (cs : 
         ∙ ap (λ n. hold_all t session (record { address = a; epoch = n } ∷ [])) (same_now ∙ now_is)
         ∙ ap (λ (x : Store). hold_all x session (record { address = a; epoch = epoch_at s a } ∷ [])) stored_is
 
-    pub stored_answer : IsAnsweredBy cs behind core (heard shard entry core) line o
+    stored_answer : IsAnsweredBy cs behind core (heard shard entry core) line o
     stored_answer =
         by_parts core shard line entry w o what.Stored r cs behind refl at judges is did told (taken_folds name cs core shard entry its.folded may.of called)
         (wrote s session a (written s session payload handles)) says (replies ∙ ap (λ (j : Judged). j.reply) says) deeds leaves
+
+pub block_answer : ByViews → ByStored → (name : List ℕ → Address) (cs : List Folded) (core : Core) (shard number line least : ℕ) (bytes : List ℕ) → IsLawful name core cs → IsOrderly name core → HoldAddresses core.sessions
+    → committed (group_of shard core) ≡ Some (number, kind.Block line least bytes) → MayFollow (setting_of name core) cs (next_deed shard (kind.Block line least bytes) core)
+    → (done_by shard (kind.Block line least bytes) core).effect.what ≡ what.Stored
+    → HasAnswer cs (folds_behind name cs shard (kind.Block line least bytes) core) core (heard shard (kind.Block line least bytes) core) line
+block_answer views law name cs core shard number line least bytes its order all leads may did =
+    let h = order.asked shard 0 line (kind.Block line least bytes) (committed_first (group_of shard core) number (kind.Block line least bytes) leads).first refl in
+    let b = block_op name core.sessions line least bytes h.waiting.operation.op h.asks in
+    has_answer cs (folds_behind name cs shard (kind.Block line least bytes) core) core (heard shard (kind.Block line least bytes) core) line h.waiting (op.Write b.session b.payload b.handles (Some (name bytes))) h.at b.is
+    (stored_answer views law name cs core shard number line least bytes b.session b.payload b.handles its order leads may h.waiting h.at b.is b.since b.spells all did)

@@ -9,6 +9,7 @@ mod EndingLemmas
 mod EnterLemmas
 mod EventLemmas
 mod FoldLemmas
+mod FreeLemmas
 mod GoingLemmas
 mod GroupLemmas
 mod GrowLemmas

@@ -1,59 +1,50 @@
 -- A Root that retains its address.
-use Rattle.std.proofs.Common.{◌≡◌, ◌∙◌, sym, ap, subst, inl, inr, ℕ, ◌+◌, Bool, true, false, cond, not, ◌&&◌, ◌||◌, ◌==◌, List, [], ◌∷◌, length, map, Option, Some, None, is_some, is_none, Result, Ok, Err, refl, arith, nat_le, nat_lt, slice_index, unwrap_or}
+use Rattle.std.proofs.Common.{◌≡◌, ◌∙◌, sym, ap, subst, inl, inr, ℕ, ◌+◌, Bool, true, false, cond, not, ◌&&◌, ◌||◌, ◌==◌, List, [], ◌∷◌, length, Option, Some, None, is_some, is_none, refl, arith, nat_le, nat_lt, slice_index, unwrap_or}
 use Rattle.std.proofs.lemmas.Bool.{eq-eqb, leb-false, lt-ltb}
-use Rattle.std.proofs.lemmas.Map.Made.{lookup-map_values}
-use Rattle.std.specs.BTreeMap.{insert_entry, is_at}
-use Rattle.std.specs.Map.{lookup}
-use Rattle.std.specs.Option.{option_map, option_map_or}
+use Rattle.std.specs.Option.{option_map}
 use Rattle.hs_answered.specs.Judged.{judged_at}
-use Rattle.hs_answered.specs.Standing.{IsFolded, store_with}
-use Rattle.hs_answered.proofs.AnswerLemmas.{hold_is, session_is}
+use Rattle.hs_answered.specs.Standing.{store_with}
 use Rattle.hs_answered.proofs.ShownLemmas.{held_is}
 use Rattle.hs_core.specs.declared.waiting.Waiting.{Waiting}
 use Rattle.hs_core.specs.Looking.{catalogue_of, front_of, group_of, operation_of, shape_of}
 use Rattle.hs_core.specs.Seeing.{view_for}
 use Rattle.hs_core.specs.State.{Core}
 use Rattle.hs_desk.specs.declared.what.What.TheVariants as what
-use Rattle.hs_effects.specs.Answered.{IsAnsweredBy, heard}
+use Rattle.hs_effects.specs.Answered.{HasAnswer, IsAnsweredBy, heard}
 use Rattle.hs_effects.specs.Lawful.{IsLawful, MayFollow}
-use Rattle.hs_effects.specs.Logged.{HasAsked, IsEntryOf, IsOrderly}
-use Rattle.hs_effects.specs.Taking.{IsNamed, done_by, folds_behind, next_deed, setting_of, taken}
-use Rattle.hs_effects.proofs.AnsweredLemmas.{by_parts, granted_is, none_refused, seats_behind}
-use Rattle.hs_effects.proofs.EffectLemmas.{committed_named}
-use Rattle.hs_effects.proofs.FoldLemmas.{memory_at, taken_folds}
+use Rattle.hs_effects.specs.Logged.{HasAsked, IsEntryOf, IsOrderly, IsOwn}
+use Rattle.hs_effects.specs.Taking.{done_by, folds_behind, next_deed, setting_of, taken}
+use Rattle.hs_effects.proofs.AnsweredLemmas.{by_parts, granted_is, has_answer, none_refused, not_full, seats_behind, some_same}
+use Rattle.hs_effects.proofs.FoldLemmas.{taken_folds}
+use Rattle.hs_effects.proofs.FreeLemmas.{root_free}
 use Rattle.hs_effects.proofs.GroupLemmas.{committed_first}
-use Rattle.hs_effects.proofs.SweepLemmas.{ByViews, epoch_before, epoch_left, epoch_seen, store_is}
+use Rattle.hs_effects.proofs.RoomyLemmas.{root_room}
+use Rattle.hs_effects.proofs.SweepLemmas.{ByViews, epoch_before, epoch_seen, store_is}
 use Rattle.hs_entry.specs.declared.entry.Entry.{Entry}
 use Rattle.hs_entry.specs.declared.entry.Entry.TheVariants as kind
 use Rattle.hs_fold.specs.Runs.Facts.{Catalogue as Folded}
-use Rattle.hs_fold.specs.Runs.Facts.{Facts as FoldedFacts, plain}
-use Rattle.hs_fold.specs.Runs.Fits.{catalogue_at}
 use Rattle.hs_fold.specs.Runs.Opened.{store_of}
 use Rattle.hs_fold.specs.Shards.Happening.{Happening, changes, happen_by}
-use Rattle.hs_fold.specs.Shards.Setting.{shard_in}
 use Rattle.hs_joint.specs.Along.{happening_by}
 use Rattle.hs_limits.specs.declared.address.Address.{Address}
 use Rattle.hs_limits.specs.declared.address.Held.{Held}
 use Rattle.hs_limits.specs.declared.limits.Limits.{Limits}
-use Rattle.hs_memory.specs.Forget.{forget, known_of}
 use Rattle.hs_model.specs.declared.deed.Deed.TheVariants as deed
 use Rattle.hs_model.specs.declared.op.Op.{Op}
 use Rattle.hs_model.specs.declared.op.Op.TheVariants as op
 use Rattle.hs_model.specs.declared.reply.Reply.{Reply}
 use Rattle.hs_model.specs.declared.reply.Reply.TheVariants as reply
-use Rattle.hs_model.specs.Judge.{Judged, address_of, granted, judge, nothing, refusals, rooted, roots_with}
+use Rattle.hs_model.specs.Judge.{address_of, granted, judge, nothing, refusals, rooted, roots_with}
 use Rattle.hs_model.specs.Refusals.{first, key_taken, no_handle, no_session, refused_when, roots_full, stale}
 use Rattle.hs_model.specs.Store.{Root, Store, retained_at, root_epoch, roots_in, with_roots, with_sessions}
 use Rattle.hs_ops.specs.Answers.{deed_of, gained, is_done, seats_after}
 use Rattle.hs_ops.specs.Going.{effect_reply}
 use Rattle.hs_ops.specs.Refusals.{refusal_of}
-use Rattle.hs_ops.specs.Speaking.{asked_block, judging_shard}
-use Rattle.hs_ops.specs.Views.{OpView, now_in, open_in}
+use Rattle.hs_ops.specs.Speaking.{judging_shard}
+use Rattle.hs_ops.specs.Views.{OpView}
 use Rattle.hs_replica.specs.Group.{committed}
-use Rattle.hs_shard.specs.declared.facts.Facts.{Facts}
-use Rattle.hs_shard.specs.Apply.{named_as}
 use Rattle.hs_shard.specs.Clients.{only, put_root, root_refusal}
-use Rattle.hs_shard.specs.Facts.{Catalogue, facts_at, has_room, is_fresh, is_mine}
+use Rattle.hs_shard.specs.Facts.{Catalogue, is_fresh}
 use Rattle.hs_shown.specs.Showing.{Shows, as_sessions}
 use Rattle.hs_tokens.specs.Seats.{Seats, found}
 use Rattle.hs_fold.specs.Shards.Change.{keeps, may_keep}
@@ -87,19 +78,12 @@ put_tests held a key c e = go (shard_of_key c.shape.shards key == c.shard) (is_f
     go true true true fe re w = absurd (cc w)
     go true true false fe re w = record { fresh = fe; free = re }
 
-not_full : (b : Bool) → true ≡ not b → b ≡ false
-not_full false e = refl
-not_full true e = absurd (cc e)
-
 below : (a b : ℕ) → is_some (cond (nat_le a b) (Some (RootsFull a)) None) ≡ false → nat_lt (b + 0) a ≡ true
 below a b e = go (nat_le a b) refl e
   where
     go : (x : Bool) → nat_le a b ≡ x → is_some (cond x (Some (RootsFull a)) None) ≡ false → nat_lt (b + 0) a ≡ true
     go true xe w = absurd (cc w)
     go false xe w = let less = leb-false a b xe in lt-ltb (b + 0) a (omega (arith, less))
-
-some_same : {A : Type 0} (x y : A) → Some x ≡ Some y → x ≡ y
-some_same x y e = cc e
 
 first_none : (x : Option Reply) (rest : List (Option Reply)) → first (x ∷ rest) ≡ None → (x ≡ None) × (first rest ≡ None)
 first_none None rest e = (refl, e)
@@ -136,8 +120,7 @@ module _ (views : ByViews) (law : ByRooted) (name : List ℕ → Address) (cs : 
   o = op.Root session key handle
 
   module _ (its : IsLawful name core cs) (order : IsOrderly name core) (leads : committed (group_of shard core) ≡ Some (number, entry)) (may : MayFollow (setting_of name core) cs (next_deed shard entry core))
-      (w : Waiting) (at : operation_of line core ≡ Some w) (is : w.operation.op ≡ o) (did : (done_by shard entry core).effect.what ≡ what.Rooted)
-      (free : refusal_of (view_for shard o core) o ≡ None) where
+      (w : Waiting) (at : operation_of line core ≡ Some w) (is : w.operation.op ≡ o) (did : (done_by shard entry core).effect.what ≡ what.Rooted) where
     abbrev here : Core
     here = taken shard entry core
 
@@ -170,6 +153,16 @@ module _ (views : ByViews) (law : ByRooted) (name : List ℕ → Address) (cs : 
 
     tests : IsPut f.epoch f.address key old
     tests = put_tests f.epoch f.address key old did
+
+    -- what its operation saw before refuses nothing
+    own : IsOwn core.limits core.sessions o
+    own = subst (λ (x : Op). IsOwn core.limits core.sessions x) (ap (λ (x : Waiting). x.operation.op) (some_same h.waiting w (sym h.at ∙ at)) ∙ is) h.own
+
+    free : refusal_of v o ≡ None
+    free =
+        root_free v session key handle (record { roots = old.roots; limit = greatest_limits.roots }) refl own
+        (ap (λ n. nat_le n (f.epoch + 1)) (epoch_seen views name cs core shard entry its may refl) ∙ tests.fresh)
+        tests.free (root_room name core shard number line f.epoch f.address key order leads session handle)
 
     epoch_is : root_epoch s key ≡ old.epoch
     epoch_is = ap (λ k. slice_index s.epochs k) (sym shows.judging) ∙ epoch_before views name cs core shard entry its may refl
@@ -226,7 +219,52 @@ module _ (views : ByViews) (law : ByRooted) (name : List ℕ → Address) (cs : 
     unfolding seats_after gained
     leaves = put_is
 
-    pub rooted_answer : IsAnsweredBy cs behind core (heard shard entry core) line o
+    rooted_answer : IsAnsweredBy cs behind core (heard shard entry core) line o
     rooted_answer =
         by_parts core shard line entry w o what.Rooted reply.Ok cs behind refl at judges is did refl (taken_folds name cs core shard entry its.folded may.of refl)
         (rooted s key (address_of s session handle)) says refl deeds leaves
+
+-- ---- the operation of its line
+
+-- an operation that asks for a Root is a root of what its handle stands for
+record IsRootOp (seats : Seats) (line epoch : ℕ) (a : Address) (key : List ℕ) (o : Op) : Type 0 where
+  pub session : List ℕ
+  pub handle : ℕ
+  pub is : o ≡ op.Root session key handle
+  pub asks : kind.Root line (found seats session handle).epoch (found seats session handle).address key ≡ kind.Root line epoch a key
+
+root_op : (name : List ℕ → Address) (seats : Seats) (line epoch : ℕ) (a : Address) (key : List ℕ) (o : Op) → IsEntryOf name seats line o (kind.Root line epoch a key) → IsRootOp seats line epoch a key o
+root_op name seats line epoch a key (op.Root session other handle) asks =
+    let same : key ≡ other = cc asks in
+    record {
+      session = session;
+      handle = handle;
+      is = ap (λ k. op.Root session k handle) (sym same);
+      asks = ap (λ k. kind.Root line (found seats session handle).epoch (found seats session handle).address k) same ∙ sym asks;
+    }
+root_op name seats line epoch a key (op.Write session payload handles address) asks = go asks
+  where
+    go : IsEntryOf name seats line (op.Write session payload handles address) (kind.Root line epoch a key) → IsRootOp seats line epoch a key (op.Write session payload handles address)
+    go (inl is) = absurd (cc is.0)
+    go (inr is) = absurd (cc is.1)
+root_op name seats line epoch a key (op.Drop other) asks = absurd (cc asks)
+root_op name seats line epoch a key op.Delete asks = absurd (cc asks.1)
+root_op name seats line epoch a key (op.Open session) asks = absurd asks
+root_op name seats line epoch a key (op.Close session) asks = absurd asks
+root_op name seats line epoch a key (op.Read session handle) asks = absurd asks
+root_op name seats line epoch a key (op.Look session other) asks = absurd asks
+root_op name seats line epoch a key (op.Forget session handle) asks = absurd asks
+root_op name seats line epoch a key (op.Name session handle) asks = absurd asks
+root_op name seats line epoch a key op.Stat asks = absurd asks
+
+pub root_answer : ByViews → ByRooted → (name : List ℕ → Address) (cs : List Folded) (core : Core) (shard number line epoch : ℕ) (a : Address) (key : List ℕ) → IsLawful name core cs → IsOrderly name core
+    → committed (group_of shard core) ≡ Some (number, kind.Root line epoch a key) → MayFollow (setting_of name core) cs (next_deed shard (kind.Root line epoch a key) core)
+    → (done_by shard (kind.Root line epoch a key) core).effect.what ≡ what.Rooted
+    → HasAnswer cs (folds_behind name cs shard (kind.Root line epoch a key) core) core (heard shard (kind.Root line epoch a key) core) line
+root_answer views law name cs core shard number line epoch a key its order leads may did =
+    let h = order.asked shard 0 line (kind.Root line epoch a key) (committed_first (group_of shard core) number (kind.Root line epoch a key) leads).first refl in
+    let r = root_op name core.sessions line epoch a key h.waiting.operation.op h.asks in
+    let by : (e : Entry) → Type 0 = λ e. committed (group_of shard core) ≡ Some (number, e) → MayFollow (setting_of name core) cs (next_deed shard e core) → (done_by shard e core).effect.what ≡ what.Rooted
+    → IsAnsweredBy cs (folds_behind name cs shard e core) core (heard shard e core) line (op.Root r.session key r.handle) in
+    let answers = subst by r.asks (λ first may did. rooted_answer views law name cs core shard number line r.session key r.handle its order first may h.waiting h.at r.is did) leads may did in
+    has_answer cs (folds_behind name cs shard (kind.Root line epoch a key) core) core (heard shard (kind.Root line epoch a key) core) line h.waiting (op.Root r.session key r.handle) h.at r.is answers

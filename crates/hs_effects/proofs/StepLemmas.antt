@@ -32,25 +32,25 @@ use Rattle.hs_tokens.specs.Seats.{Seat, held_at, seat_of}
 proposed_is : (a b : Entry) → step.Propose a ≡ step.Propose b → a ≡ b
 proposed_is a b e = cc
 
-head_none : (o : Option Reply) (rest : List (Option Reply)) → first (o ∷ rest) ≡ None → o ≡ None
+pub head_none : (o : Option Reply) (rest : List (Option Reply)) → first (o ∷ rest) ≡ None → o ≡ None
 head_none None rest e = refl
 head_none (Some r) rest e = absurd (cc e)
 
-rest_none : (o : Option Reply) (rest : List (Option Reply)) → first (o ∷ rest) ≡ None → first rest ≡ None
+pub rest_none : (o : Option Reply) (rest : List (Option Reply)) → first (o ∷ rest) ≡ None → first rest ≡ None
 rest_none None rest e = e
 rest_none (Some r) rest e = absurd (cc e)
 
-not_when : (b : Bool) (r : Reply) → refused_when b r ≡ None → b ≡ false
+pub not_when : (b : Bool) (r : Reply) → refused_when b r ≡ None → b ≡ false
 not_when true r e = absurd (cc e)
 not_when false r e = refl
 
 -- ---- a write that is not refused has a block
 
-held_same : (seat : Option Seat) (handle : ℕ) → held_in (option_map as_session seat) handle ≡ held_at seat handle
+pub held_same : (seat : Option Seat) (handle : ℕ) → held_in (option_map as_session seat) handle ≡ held_at seat handle
 held_same None handle = refl
 held_same (Some seat) handle = refl
 
-all_held : (seat : Option Seat) (handles : List ℕ) → first (map (λ handle. no_such_handle (option_map as_session seat) handle) handles) ≡ None → list_all (λ handle. is_some (held_at seat handle)) handles ≡ true
+pub all_held : (seat : Option Seat) (handles : List ℕ) → first (map (λ handle. no_such_handle (option_map as_session seat) handle) handles) ≡ None → list_all (λ handle. is_some (held_at seat handle)) handles ≡ true
 all_held seat [] e = refl
 all_held seat (h ∷ handles) e = go (held_at seat h) (held_same seat h) e (all_held seat handles)
   where
@@ -80,7 +80,7 @@ has_block v session payload handles address e =
       short = ltb-false MOST_BYTES (length payload) (not_when _ _ short);
     }
 
-join_none : (o : Option Reply) (rest : List (Option Reply)) → o ≡ None → first rest ≡ None → first (o ∷ rest) ≡ None
+pub join_none : (o : Option Reply) (rest : List (Option Reply)) → o ≡ None → first rest ≡ None → first (o ∷ rest) ≡ None
 join_none o rest e r = ap (λ (x : Option Reply). first (x ∷ rest)) e ∙ r
 
 -- nor is one that is not refused refused for its session

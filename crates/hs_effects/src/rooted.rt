@@ -1,41 +1,31 @@
 //! A Root that retains its address answers its operation as the plain store does.
-ghost use Rattle.std.specs.Prelude.{◌≡◌, ℕ, List, Some, None};
-ghost use Rattle.hs_core.specs.declared.waiting.Waiting.{Waiting};
-ghost use Rattle.hs_core.specs.Looking.{group_of, operation_of};
-ghost use Rattle.hs_core.specs.Seeing.{view_for};
+ghost use Rattle.std.specs.Prelude.{◌≡◌, ℕ, List, Some};
+ghost use Rattle.hs_core.specs.Looking.{group_of};
 ghost use Rattle.hs_core.specs.State.{Core};
 ghost use Rattle.hs_desk.specs.declared.what.What.TheVariants as what;
-ghost use Rattle.hs_effects.specs.Answered.{IsAnsweredBy, heard};
+ghost use Rattle.hs_effects.specs.Answered.{HasAnswer, heard};
 ghost use Rattle.hs_effects.specs.Lawful.{IsLawful, MayFollow};
 ghost use Rattle.hs_effects.specs.Logged.{IsOrderly};
 ghost use Rattle.hs_effects.specs.Taking.{done_by, folds_behind, next_deed, setting_of};
 ghost use Rattle.hs_entry.specs.declared.entry.Entry.TheVariants as kind;
 ghost use Rattle.hs_fold.specs.Runs.Facts.{Catalogue as Folded};
 ghost use Rattle.hs_limits.specs.declared.address.Address.{Address};
-ghost use Rattle.hs_model.specs.declared.op.Op.TheVariants as op;
-ghost use Rattle.hs_ops.specs.Refusals.{refusal_of};
 ghost use Rattle.hs_replica.specs.Group.{committed};
-ghost use Rattle.hs_tokens.specs.Seats.{found};
 
 use hs_answered::views_show_the_store;
 use hs_shown::an_effect_is_the_stores;
 
-/// A Root that retains what its handle stands for, where what its operation saw before it refuses
-/// nothing: the operation is answered with the judge's deed, and the store is the one that the judge
-/// leaves.
+/// A Root that retains its address: the operation of its line is answered with the judge's deed, and
+/// the store is the one that the judge leaves.
 pub fn a_root_is_answered_at_its_effect()
     ensures { (name : List ℕ → Address) (cs : List Folded) (core : Core)
-        (shard number line : ℕ) (session key : List ℕ) (handle : ℕ) (w : Waiting)
+        (shard number line epoch : ℕ) (a : Address) (key : List ℕ)
         → IsLawful name core cs → IsOrderly name core
-        → let f = found core.sessions session handle in
-        let entry = kind.Root line f.epoch f.address key in
-        let o = op.Root session key handle in
+        → let entry = kind.Root line epoch a key in
         committed (group_of shard core) ≡ Some (number, entry)
         → MayFollow (setting_of name core) cs (next_deed shard entry core)
-        → operation_of line core ≡ Some w → w.operation.op ≡ o
-        → (done_by shard entry core).effect.what ≡ what.Rooted
-        → refusal_of (view_for shard o core) o ≡ None →
-        IsAnsweredBy cs (folds_behind name cs shard entry core) core (heard shard entry core) line o }
+        → (done_by shard entry core).effect.what ≡ what.Rooted →
+        HasAnswer cs (folds_behind name cs shard entry core) core (heard shard entry core) line }
 {
     views_show_the_store();
     an_effect_is_the_stores();

@@ -1,6 +1,6 @@
-use Rattle.hs_effects.proofs.MarkLemmas.{marked_answer}
+use Rattle.hs_effects.proofs.MarkLemmas.{mark_answer}
 use Rattle.hs_effects.proofs.marked.a_present_block_is_answered_at_its_effect.Goals as goal
 
 pub returns : goal.returns
-returns c = λ name cs core shard number line least block a session payload handles w stored its order first may at is did free present same.
-    marked_answer c.views_show_the_store.ensures.shown c.an_effect_is_the_stores.ensures.marked name cs core shard number line least block a session payload handles its order first may w at is did free stored present same
+returns c = λ name cs core shard number line least block a its order written first may did.
+    mark_answer c.views_show_the_store.ensures.shown c.an_effect_is_the_stores.ensures.marked name cs core shard number line least block a its order written first may did
