@@ -1,0 +1,1 @@
+use Rattle.hs_cluster.proofs.cluster.Cluster.open.Goals as goal
