@@ -61,7 +61,7 @@ counted : (n : ℕ) (list : Numbered) → GoOn n list → (entries : List Entry)
 counted n [] g = ([], refl, All-nil (λ (e : Entry). is_of_base e ≡ false))
 counted n (e ∷ es) g =
     let rest = counted (n + 1) es g.2 in
-    (e.1 ∷ rest.0, λ i. (g.0 i, e.1) ∷ rest.1 i, All-cons (λ (x : Entry). is_of_base x ≡ false) e.1 rest.0 g.1 rest.2)
+    (e.1 ∷ rest.0, (λ i. (g.0 i, e.1) ∷ rest.1 i), All-cons (λ (x : Entry). is_of_base x ≡ false) e.1 rest.0 g.1 rest.2)
 
 from_one : (list : Numbered) → GoOn 0 list → IsFromOne list
 from_one list g = let c = counted 0 list g in record { entries = c.0; counted = c.1; plain = c.2 }

@@ -110,7 +110,10 @@ pub opened : (tells : Type 0) (set : Setting) (span : Span) (begun cluster : Run
     → HasTurned tells (record { before = at; now = span.now; old = begun; new = cluster; disks = disks; left = span.new }) → HasOpened tells set span cluster
 opened tells set span begun cluster at disks begins turned = record { begun = begun; opened = at; disks = disks; begins = begins; turned = turned }
 
+err_is_not : (fault : ClusterFault) (r : Result ⊤ ClusterFault) → r ≡ Err fault → r ≡ Ok tt → ⊥
+err_is_not fault r is e = cc (sym is ∙ e)
+
 -- the core goes on only where the turns came to Ok
 pub ready_then : {P : Type 0} (r : Result ⊤ ClusterFault) (ended : Option CoreFault) → r ≡ outcome_by ended → OnOk r P → ended ≡ None → P
 ready_then (Ok x) ended is p going = p
-ready_then (Err fault) ended is p going = cc (is ∙ ap outcome_by going)
+ready_then (Err fault) ended is p going = absurd (err_is_not fault (Err fault) refl (is ∙ ap outcome_by going))

@@ -83,7 +83,7 @@ impl Cluster {
             Ok(cluster) => cluster,
             Err(fault) => return Err(fault),
         };
-        if cluster.core.ended().is_some() {
+        if let Some(_) = cluster.ended() {
             return Ok(cluster);
         }
         let done = cluster.settle(disks, watch, 0, false);
