@@ -1,6 +1,8 @@
 use Rattle.std.proofs.Common.{◌≡◌, ◌∙◌, map, sym, subst, ◌<◌, length}
 use Rattle.std.proofs.lemmas.List.{length-map}
 use Rattle.hs_cluster.proofs.BeginLemmas.{begins_ok, closed_memory, closed_of, unwritten_memory, unwritten_of}
+use Rattle.hs_cluster.proofs.GoingOnLemmas.{opens_found}
+use Rattle.hs_cluster.proofs.TurnedLemmas.{not_turned, opened, ready_then, turned}
 use Rattle.hs_cluster.specs.Disks.{DiskSeen, seen_as}
 use Rattle.hs_fold.specs.Shards.Setting.{Setting}
 use Rattle.hs_taking.specs.Shares.{Span, Taken}
