@@ -115,27 +115,27 @@ bad_items (share ∷ shares) = go share.lost (bad_items shares)
 -- ---- all that was taken
 
 module _ (tells : Type 0) (set : Setting) (span : Span) (taken : Taken) (one : set.shape.copies ≡ 1) (h : HasRead tells set span taken) (shares : length taken.shares ≡ set.shape.shards) (logs : length taken.logs ≡ set.shape.shards * set.shape.copies) (ticks : span.before ≤ span.now) where
-  abbrev count : ℕ
+  abbrev pub count : ℕ
   count = set.shape.shards
 
   peers : set.shape.shards * set.shape.copies ≡ set.shape.shards
   peers = ap (λ n. set.shape.shards * n) one ∙ omega arith
 
-  abbrev fold_of : ℕ → Numbered → Catalogue
+  abbrev pub fold_of : ℕ → Numbered → Catalogue
   fold_of peer = apply_all set.name (empty_catalogue set.shape peer)
 
   abbrev Kept : ℕ → Type 0
   Kept peer = IsShare tells (fold_of peer) (list_in (seen_at span.old peer).stands.seen) (log_at taken.logs peer) (share_at taken peer)
 
-  has : (peer : ℕ) → peer < count → HasShare tells set span taken peer
+  pub has : (peer : ℕ) → peer < count → HasShare tells set span taken peer
   has peer low = h.each peer (omega (arith, low, shares))
 
   -- the log that was read
-  abbrev log_by : (peer : ℕ) → (peer < count) ⊎ (count ≤ peer) → Option Numbered
+  abbrev pub log_by : (peer : ℕ) → (peer < count) ⊎ (count ≤ peer) → Option Numbered
   log_by peer (inl low) = (has peer low).share.log
   log_by peer (inr high) = None
 
-  abbrev log_of : ℕ → Option Numbered
+  abbrev pub log_of : ℕ → Option Numbered
   log_of peer = log_by peer (cases_lt peer count)
 
   kept_at : (peer : ℕ) → peer < count → (s : Kept peer) × (s.log ≡ log_of peer)

@@ -1,5 +1,5 @@
 -- What a core has as it opens.
-use Rattle.std.proofs.Common.{◌≡◌, ◌∙◌, ℕ, ◌+◌, Bool, true, false, List, [], ◌∷◌, refl, length, nat_lt, not}
+use Rattle.std.proofs.Common.{◌≡◌, ◌∙◌, ap, ℕ, ◌+◌, Bool, true, false, List, [], ◌∷◌, refl, length, nat_lt, not}
 use Rattle.hs_core.specs.Changing.{note}
 use Rattle.hs_core.specs.Looking.{shape_of, shards_of, status_of}
 use Rattle.hs_core.specs.Opening.{Taken, begin_views, new_core, note_down, note_if_down, open_core}
@@ -67,3 +67,17 @@ opens_so shape limits taken moment =
     let b : Core = begin_views a in
     let c : Core = note_down b in
     then_stays a c (end_event c) (then_stays a b c (each_stays change_view (λ k x. keeps_change_view leaves k x) (shards_of a) a) (each_stays note_if_down noted_stays (all_peers (shape_of b)) b)) (ends c)
+
+-- over these lists
+pub core_opens : (shape : Shape) (limits : Limits) (made taken : Taken) (moment : ℕ) (core : Core) → core ≡ open_core shape limits made moment
+    → made.catalogues ≡ taken.catalogues → made.views ≡ taken.views → made.lengths ≡ taken.lengths → made.good ≡ taken.good → core ≡ open_core shape limits taken moment
+core_opens shape limits made taken moment core is catalogues views lengths good = is ∙ ap (λ (x : Taken). open_core shape limits x moment) same
+  where
+    same : made ≡ taken
+    same = λ i. record { catalogues = catalogues i; views = views i; lengths = lengths i; good = good i }
+
+pub shape_opens : (shape : Shape) (limits : Limits) (taken : Taken) (moment : ℕ) (core : Core) → core ≡ open_core shape limits taken moment → core.members.shape ≡ shape
+shape_opens shape limits taken moment core is = ap (λ (c : Core). c.members.shape) is ∙ (opens_so shape limits taken moment).shape
+
+pub moment_opens : (shape : Shape) (limits : Limits) (taken : Taken) (moment : ℕ) (core : Core) → core ≡ open_core shape limits taken moment → core.moment ≡ moment
+moment_opens shape limits taken moment core is = ap (λ (c : Core). c.moment) is ∙ (opens_so shape limits taken moment).moment

@@ -152,7 +152,6 @@ fn ran_out(done: Result<(), ClusterFault>) -> bool
 }
 
 /// The core over the logs that were taken.
-#[tactic(auto, using(crate::proofs::OpenedLemmas::opens_so))]
 fn begun(
     alloc: Global,
     shape: Shape,
@@ -201,7 +200,11 @@ fn goods_in(alloc: Global, logs: &[Option<PeerLog>]) -> Result<Vec<bool>, AllocE
 fn views_in(alloc: Global, shares: &[Share]) -> Result<Vec<u64>, AllocError>
     ensures { IfOk result (λ views. views.items ≡ map (λ share. share.rank.view) shares.now) }
 {
-    shares.iter().map(|share| share.rank.view).collect(alloc)
+    let mut views = Vec::new(alloc);
+    for share in shares {
+        views.push(share.rank.view)?;
+    }
+    Ok(views)
 }
 
 /// The numbers of their last entries.
@@ -209,7 +212,11 @@ fn lengths_in(alloc: Global, shares: &[Share]) -> Result<Vec<u64>, AllocError>
     ensures { IfOk result (λ lengths. lengths.items
         ≡ map (λ share. share.rank.number) shares.now) }
 {
-    shares.iter().map(|share| share.rank.number).collect(alloc)
+    let mut lengths = Vec::new(alloc);
+    for share in shares {
+        lengths.push(share.rank.number)?;
+    }
+    Ok(lengths)
 }
 
 /// Their catalogues.
@@ -217,15 +224,14 @@ fn catalogues_in(alloc: Global, shares: Vec<Share>) -> Result<Vec<Catalogue>, Al
     ensures { IfOk result (λ catalogues. catalogues.items
         ≡ map (λ share. share.catalogue) shares.items) }
 {
-    shares.into_iter().map(|share| share.catalogue).collect(alloc)
+    shares
+        .into_iter()
+        .map(|share| share.catalogue)
+        .collect(alloc)
 }
 
 /// How a course begins: with the taken logs, and then the peers of these that were lost.
-fn first_course(
-    alloc: Global,
-    shares: &[Share],
-    entry: u64,
-) -> Result<Vec<CourseItem>, AllocError>
+fn first_course(alloc: Global, shares: &[Share], entry: u64) -> Result<Vec<CourseItem>, AllocError>
     ensures { IfOk result (λ course. course.items
         ≡ flat_map (took_of entry) shares.now ++ flat_map bad_of shares.now) }
 {

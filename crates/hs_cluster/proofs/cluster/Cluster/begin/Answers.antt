@@ -1,8 +1,6 @@
 use Rattle.std.proofs.Common.{◌≡◌, ◌∙◌, map, sym, subst, ◌<◌, length}
 use Rattle.std.proofs.lemmas.List.{length-map}
 use Rattle.hs_cluster.proofs.BeginLemmas.{begins_ok, closed_memory, closed_of, unwritten_memory, unwritten_of}
-use Rattle.hs_cluster.proofs.GoingOnLemmas.{opens_found}
-use Rattle.hs_cluster.proofs.TurnedLemmas.{not_turned, opened, ready_then, turned}
 use Rattle.hs_cluster.specs.Disks.{DiskSeen, seen_as}
 use Rattle.hs_fold.specs.Shards.Setting.{Setting}
 use Rattle.hs_taking.specs.Shares.{Span, Taken}
@@ -14,7 +12,7 @@ returns-clause-begins g c =
     let set : Setting = record { name = g.A.Addresser.name c.args.naming.now; limits = c.args.limits; shape = c.args.shape } in
     let span : Span = record { before = c.args.watch.now; now = c.read_store.new.watch; old = map f c.args.disks.now; new = map f c.read_store.new.disks } in
     let taken : Taken = record { logs = c.in-Ok.taking.logs.items; shares = c.in-Ok.taking.shares.items } in
-    begins_ok g.D.Disk.tells set span taken c.now-entry.result c.now-moment.result c.begun.result c.now-entry.ensures.value c.now-moment.ensures.value
+    begins_ok g.D.Disk.tells set span taken c.now-entry.result c.now.result c.begun.result c.now-entry.ensures.value c.now.ensures.value
     c.in-Ok.ensures.read c.in-Ok.ensures.shares c.in-Ok.ensures.logs c.read_store.ensures.ticks
     (length-map c.args.disks.now f ∙ c.requires.count)
     (length-map c.read_store.new.disks f ∙ c.read_store.ensures.count ∙ sym (length-map c.args.disks.now f))
