@@ -1,10 +1,16 @@
+pub mod BeginLemmas
 pub mod DeltaLemmas
 pub mod DiskLemmas
 pub mod EventLemmas
 pub mod FindLemmas
+pub mod FoundLemmas
+pub mod GoingOnLemmas
 pub mod HeldLemmas
 pub mod JobLemmas
 pub mod LineLemmas
+pub mod OpenedLemmas
+pub mod OpeningMoves
 pub mod ReportLemmas
 pub mod ShowLemmas
+pub mod TurnedLemmas
 pub mod WalkLemmas

@@ -1,7 +1,9 @@
 pub mod Ascending
+pub mod Begins
 pub mod Calls
 pub mod Disks
 pub mod Jobs
 pub mod Kept
+pub mod Opens
 pub mod Running
 pub mod Settling

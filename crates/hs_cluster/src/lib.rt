@@ -6,6 +6,7 @@ mod event;
 mod fault;
 mod job;
 mod line;
+mod opening;
 mod readable;
 mod settle;
 mod work;

@@ -1,0 +1,328 @@
+-- Behind opening's reading a store of one copy may go on, and its turns are put behind that.
+use Rattle.std.proofs.Common.{◌≡◌, ◌∙◌, ◌⊎◌, inl, inr, ap, sym, subst, ℕ, zero, suc, ◌+◌, ◌-◌, ◌*◌, ◌^◌, ◌<◌, ◌≤◌, not, Bool, true, false, List, [], ◌∷◌, ◌++◌, Option, Some, None, refl, arith, length, nat_lt, is_none, is_some, if◌then◌else◌}
+use Rattle.std.proofs.lemmas.Bool.{cases_lt}
+use Rattle.std.proofs.lemmas.List.{get_or_past, take_at}
+use Rattle.std.proofs.lemmas.List.Elements.{All-cons, All-nil}
+use Rattle.std.specs.List.{All, enumerate_from}
+use Rattle.std.specs.Prelude.{IfOk, OnOk, Result, Ok, Err, take}
+use Rattle.hs_cluster.proofs.FoundLemmas.{begins_so, finds, found, is_empty, opens_so, was_read}
+use Rattle.hs_cluster.proofs.OpeningMoves.{all_good, jobs_first, same_members, sealed_first}
+use Rattle.hs_cluster.specs.Begins.{Begins, HasOpened, HasTurned, begun_course, opened_with}
+use Rattle.hs_cluster.specs.Calls.{outcome_by}
+use Rattle.hs_cluster.specs.declared.fault.ClusterFault.{ClusterFault}
+use Rattle.hs_cluster.specs.Kept.{AreTold, CanGoOn, KeepsLogs, LeavesLists, sealed_front}
+use Rattle.hs_cluster.specs.Opens.{AreSound, Finds, IsFound, Opens}
+use Rattle.hs_cluster.specs.Running.{Running}
+use Rattle.hs_core.specs.Looking.{group_of, home, shape_of, tasks_of}
+use Rattle.hs_core.specs.Opening.{Taken as Opened, open_core}
+use Rattle.hs_core.specs.State.{Core}
+use Rattle.hs_core.specs.Step.{step}
+use Rattle.hs_desk.specs.declared.fault.CoreFault.{CoreFault}
+use Rattle.hs_entry.specs.declared.entry.Entry.{Entry}
+use Rattle.hs_entry.specs.Entries.{is_of_base, rank_of}
+use Rattle.hs_events.specs.Beginning.{first_items}
+use Rattle.hs_events.specs.Course.{happened, items_of, steps}
+use Rattle.hs_events.specs.Due.{Events, MomentsRise, is_walk, next_turn}
+use Rattle.hs_events.specs.Found.{Found, first_core, opened_list, opens_with, starts_good}
+use Rattle.hs_events.specs.Sane.{IsFromOne, IsSane, appended_of}
+use Rattle.hs_events.specs.Whole.{Whole, counts, floor, grown, open_whole, reach}
+use Rattle.hs_fold.proofs.PrefixLemmas.{last-length}
+use Rattle.hs_fold.specs.Images.{IsLeft}
+use Rattle.hs_fold.specs.Shards.Setting.{Numbered, Setting}
+use Rattle.hs_members.specs.Members.{IsPeer, Members}
+use Rattle.hs_model.specs.declared.course.CourseItem.{CourseItem}
+use Rattle.hs_moments.proofs.AloneEventLemmas.{home_here}
+use Rattle.hs_moments.proofs.HappenedLemmas.{happened_rise}
+use Rattle.hs_moments.proofs.MomentLemmas.{le-is}
+use Rattle.hs_moments.proofs.OpeningLemmas.{opening_is_sane}
+use Rattle.hs_moments.proofs.WorkLemmas.{floor_alone, none_appended, reach_sane}
+use Rattle.hs_moments.specs.Machine.{runs, state_at, until}
+use Rattle.hs_moments.specs.Moments.{GivesFine, IsStanding, Keeps, ListsAtMoments}
+use Rattle.hs_moments.specs.WholeMachine.{IsFrontOf, last_of, whole_machine}
+use Rattle.hs_peerlog.specs.Images.{GivesList, Is, LeavesOnly}
+use Rattle.hs_peerlog.specs.Lists.{GoOn, HasLog, Keeping}
+use Rattle.hs_ports.specs.declared.disk.Side.{Side}
+use Rattle.hs_ports.specs.Disk.{IsImage, Standing}
+use Rattle.hs_ports.specs.MemoryDisk.{untold}
+use Rattle.hs_ports.specs.Moments.{disk_at}
+use Rattle.hs_replica.specs.Group.{entries_above, length_of}
+use Rattle.hs_side.specs.Current.{list_in}
+use Rattle.hs_taking.specs.Disks.{DiskSeen, log_at, seen_at, stands_of}
+use Rattle.hs_taking.specs.Shares.{Span, Taken}
+use Rattle.hs_taking.specs.Store.{HasRead}
+
+-- ---- lists, disks, events
+
+false_is_not : false ≡ true → ⊥
+false_is_not e = cc e
+
+-- entries that go on by one have numbers, and no Base is among them
+counted : (n : ℕ) (list : Numbered) → GoOn n list → (entries : List Entry) × (list ≡ enumerate_from (n + 1) entries) × All (λ entry. is_of_base entry ≡ false) entries
+counted n [] g = ([], refl, All-nil (λ (e : Entry). is_of_base e ≡ false))
+counted n (e ∷ es) g =
+    let rest = counted (n + 1) es g.2 in
+    (e.1 ∷ rest.0, (λ i. (g.0 i, e.1) ∷ rest.1 i), All-cons (λ (x : Entry). is_of_base x ≡ false) e.1 rest.0 g.1 rest.2)
+
+from_one : (list : Numbered) → GoOn 0 list → IsFromOne list
+from_one list g = let c = counted 0 list g in record { entries = c.0; counted = c.1; plain = c.2 }
+
+from_empty : IsFromOne []
+from_empty = record { entries = []; counted = refl; plain = All-nil (λ (e : Entry). is_of_base e ≡ false) }
+
+stands_seen : (disks : List DiskSeen) (k : ℕ) → disk_at (stands_of disks) k ≡ (seen_at disks k).stands
+stands_seen [] k = refl
+stands_seen (d ∷ disks) zero = refl
+stands_seen (d ∷ disks) (suc k) = stands_seen disks k
+
+-- events at a moment or behind it are not below it
+none_below : (m from to : ℕ) (es : Events) → m ≤ from → MomentsRise from es to → until m es ≡ []
+none_below m from to [] low rises = refl
+none_below m from to (e ∷ es) low rises =
+    let is : nat_lt e.1 m ≡ false = le-is e.1 m (let above = rises.0 in omega (arith, low, above)) in
+    ap (λ b. if b then e ∷ until m es else []) is
+
+-- a core that goes on went on before
+going_before : (core : Core) (es : Events) → (steps core es).ended ≡ None → core.ended ≡ None
+going_before core [] h = h
+going_before core (e ∷ es) h = go (going_before core es) core.ended refl
+  where
+    go : ((steps core es).ended ≡ None → core.ended ≡ None) → (o : Option CoreFault) → core.ended ≡ o → core.ended ≡ None
+    go ih None is = is
+    go ih (Some fault) is =
+        let ended : is_none core.ended ≡ false = ap is_none is in
+        let same : step e.0 e.1 core ≡ core = rw ended refl in
+        ih (ap (λ x. (steps x es).ended) (sym same) ∙ h)
+
+-- a log is in use
+kept_by : (o : Option Keeping) → is_some o ≡ true → (keeping : Keeping) × (o ≡ Some keeping)
+kept_by None e = absurd (false_is_not e)
+kept_by (Some keeping) e = (keeping, refl)
+
+-- ---- right before the first turn
+
+module _ (tells : Type 0) (set : Setting) (span : Span) (taken : Taken) (one : set.shape.copies ≡ 1) (h : HasRead tells set span taken) (shares : length taken.shares ≡ set.shape.shards) (logs : length taken.logs ≡ set.shape.shards * set.shape.copies) (ticks : span.before ≤ span.now)
+    (olds : length span.old ≡ set.shape.shards * set.shape.copies) (news : length span.new ≡ length span.old) where
+  abbrev count : ℕ
+  count = set.shape.shards
+
+  peers : set.shape.shards * set.shape.copies ≡ set.shape.shards
+  peers = ap (λ n. set.shape.shards * n) one ∙ omega arith
+
+  abbrev f : Found
+  f = found tells set span taken one h shares logs ticks
+
+  all : Finds tells set span f taken.logs
+  all = finds tells set span taken one h shares logs ticks
+
+  of : (p : ℕ) → p < count → IsFound tells set span f taken.logs p
+  of p low = all.each p (omega (arith, low, peers))
+
+  abbrev c : Whole
+  c = open_whole set f
+
+  new_past : (p : ℕ) → count ≤ p → (seen_at span.new p).stands ≡ untold
+  new_past p high = ap (λ (d : DiskSeen). d.stands) (get_or_past span.new p (record { size = λ side. 0; stands = untold; faults = 0 }) (omega (arith, high, peers, olds, news)))
+
+  old_past : (p : ℕ) → count ≤ p → (seen_at span.old p).stands ≡ untold
+  old_past p high = ap (λ (d : DiskSeen). d.stands) (get_or_past span.old p (record { size = λ side. 0; stands = untold; faults = 0 }) (omega (arith, high, peers, olds)))
+
+  module _ (told : tells) (sound : AreSound span.before span.old) (going : (first_core set f).ended ≡ None) where
+    abbrev core : Core
+    core = first_core set f
+
+    good : (p : ℕ) → p < count → starts_good f p ≡ true
+    good p low = all_good set f one all.goods going p low
+
+    slot : (p : ℕ) → p < count → (keeping : Keeping) × (log_at taken.logs p ≡ Some keeping)
+    slot p low = kept_by (log_at taken.logs p) (sym (of p low).good ∙ good p low)
+
+    log_is : (p : ℕ) (low : p < count) → (keeping : Keeping) → log_at taken.logs p ≡ Some keeping → HasLog keeping (seen_at span.new p).stands (opened_list set f p) None
+    log_is p low keeping at = (of p low).log told (sound.called p) keeping at
+
+    numbered : (p : ℕ) → p < count → GoOn 0 (opened_list set f p)
+    numbered p low = let s = slot p low in (log_is p low s.0 s.1).kept.numbered
+
+    sane : IsSane c
+    sane = opening_is_sane set f one going (λ p low. from_one (opened_list set f p) (numbered p low)) all.goods
+
+    within : (p : ℕ) → p < count → p < core.members.shape.shards
+    within p low = subst (λ (m : Members). p < m.shape.shards) (sym (same_members set f one all.goods going)) low
+
+    -- the list of a peer begins with what was read
+    begins : (p : ℕ) → p < count → IsFrontOf p (opened_list set f p) (reach c p)
+    begins p low = (rest, reach_sane c p sane ∙ ap (λ b. if b then grown (group_of (home p core) core) p (opened_list set f (home p core)) else []) (good p low) ∙ ap (λ k. opened_list set f k ++ rest) (home_here core p sane.alone.copies))
+      where
+        rest : Numbered
+        rest = take (length_of (group_of (home p core) core) p - length (opened_list set f (home p core))) (entries_above (length (opened_list set f (home p core))) (group_of (home p core) core))
+
+    floor_is : (p : ℕ) → p < count → floor c p ≡ last_of (opened_list set f p)
+    floor_is p low = floor_alone c p sane.alone (within p low) ∙ sealed_first set f one all.goods going p low
+
+    sealed_is : (p : ℕ) → p < count → sealed_front c p ≡ opened_list set f p
+    sealed_is p low =
+        let front = begins p low in
+        let long : floor c p ≡ length (opened_list set f p) = floor_is p low ∙ last-length (opened_list set f p) (numbered p low) in
+        ap (λ xs. take (floor c p) xs) front.1 ∙ take_at (opened_list set f p) front.0 (floor c p) (sym long)
+
+    appended_is : (p : ℕ) → p < count → appended_of p core ≡ None
+    appended_is p low = none_appended core p sane.alone (within p low) (jobs_first set f one all.goods going p low)
+
+    listed : KeepsLogs c taken.logs span.new
+    listed = record {
+      each = λ p keeping is at.
+          let low : p < count = peer_low p is in
+          subst (λ d. HasLog keeping d (sealed_front c p) (appended_of p core)) (sym (stands_seen span.new p))
+          (subst (λ list. HasLog keeping (seen_at span.new p).stands list (appended_of p core)) (sym (sealed_is p low))
+          (subst (λ w. HasLog keeping (seen_at span.new p).stands (opened_list set f p) w) (sym (appended_is p low)) (log_is p low keeping at)));
+    }
+      where
+        peer_low : (p : ℕ) → IsPeer core.members.shape p → p < count
+        peer_low p is =
+            let there : p < set.shape.shards * set.shape.copies = subst (λ (m : Members). p < m.shape.shards * m.shape.copies) (same_members set f one all.goods going) is in
+            omega (arith, there, peers)
+
+    -- ---- what a stop leaves
+
+    counted_low : (p : ℕ) → counts c p ≡ true → p < count
+    counted_low p is = elim (cases_lt p count) [
+      | inl low ↦ low
+      | inr high ↦
+          let aside : starts_good f p ≡ false = get_or_past f.good p false (let goods = all.goods in omega (arith, goods, peers, high)) in
+          absurd (false_is_not (sym (ap (λ b. not (not b)) aside) ∙ is))
+    ]
+
+    fine_at : (p : ℕ) → p < count → (image : Side → List ℕ) → list_in image ≡ Some (opened_list set f p) → GivesFine whole_machine IsFrontOf last_of c p image
+    fine_at p low image is = record {
+      list = opened_list set f p;
+      read = is;
+      front = begins p low;
+      long = let e = floor_is p low in omega (arith, e);
+    }
+
+    only : (p : ℕ) → p < count → LeavesOnly (seen_at span.old p).stands (opened_list set f p)
+    only p low = let s = slot p low in sound.only p (opened_list set f p) (was_read tells set span taken one h shares logs ticks p low s.0 s.1 told)
+
+    called : (p : ℕ) → (disk_at (stands_of span.new) p).last ≤ span.now
+    called p = subst (λ (d : Standing). d.last ≤ span.now) (sym (stands_seen span.new p)) (elim (cases_lt p count) [
+      | inl low ↦ ((of p low).disk.moments told (sound.called p) (opened_list set f p) (only p low)).last
+      | inr high ↦ subst (λ (d : Standing). d.last ≤ span.now) (sym (new_past p high)) (omega arith)
+    ])
+
+    keeps : Keeps whole_machine IsFrontOf last_of c span.now (stands_of span.new)
+    keeps = record {
+      called = called;
+      fine = λ p is image stands.
+          let low : p < count = counted_low p is in
+          let s = slot p low in
+          let there : IsStanding (seen_at span.new p).stands image = subst (λ d. IsStanding d image) (stands_seen span.new p) stands in
+          fine_at p low image ((log_is p low s.0 s.1).leaves image (record { sides = there.sides }));
+    }
+
+    pub can_go_on : CanGoOn c taken.logs span.new span.now
+    can_go_on = record { sane = sane; listed = listed; keeps = keeps }
+
+    -- from entry on
+    pub read_earlier : (p m : ℕ) (side : Side) → m ≤ span.before → m < 2 ^ 64 - 1 → (disk_at (stands_of span.new) p).past m side ≡ (disk_at (stands_of span.old) p).past m side
+    read_earlier p m side low fits =
+        ap (λ (d : Standing). d.past m side) (stands_seen span.new p) ∙ at ∙ sym (ap (λ (d : Standing). d.past m side) (stands_seen span.old p))
+      where
+        at : (seen_at span.new p).stands.past m side ≡ (seen_at span.old p).stands.past m side
+        at = elim (cases_lt p count) [
+          | inl below ↦ ((of p below).disk.moments told (sound.called p) (opened_list set f p) (only p below)).earlier side m low fits
+          | inr high ↦ ap (λ (d : Standing). d.past m side) (new_past p high) ∙ sym (ap (λ (d : Standing). d.past m side) (old_past p high))
+        ]
+
+    pub read_moments : (m p : ℕ) → span.before < m → m < 2 ^ 64 - 1 → counts c p ≡ true → (image : Side → List ℕ) → IsLeft (disk_at (stands_of span.new) p) m image → GivesFine whole_machine IsFrontOf last_of c p image
+    read_moments m p after fits is image left =
+        let low : p < count = counted_low p is in
+        let there : IsLeft (seen_at span.new p).stands m image = subst (λ d. IsLeft d m image) (stands_seen span.new p) left in
+        let gives : GivesList (Is (opened_list set f p)) image = ((of p low).disk.moments told (sound.called p) (opened_list set f p) (only p low)).each m after fits image there.sides in
+        fine_at p low image (gives.read ∙ ap (λ (l : Numbered). Some l) gives.holds)
+
+-- ---- and the turns
+
+-- the lists of the turns are put behind those of the reading
+joined : (c : Whole) (es : Events) (before mid now : ℕ) (old between left : List DiskSeen) (begun cluster : Running) → before ≤ mid → MomentsRise mid es now
+    → ((p m : ℕ) (side : Side) → m ≤ before → m < 2 ^ 64 - 1 → (disk_at (stands_of between) p).past m side ≡ (disk_at (stands_of old) p).past m side)
+    → ((m p : ℕ) → before < m → m < 2 ^ 64 - 1 → counts c p ≡ true → (image : Side → List ℕ) → IsLeft (disk_at (stands_of between) p) m image → GivesFine whole_machine IsFrontOf last_of c p image)
+    → LeavesLists c es (record { before = mid; now = now; old = begun; new = cluster; disks = between; left = left })
+    → LeavesLists c es (record { before = before; now = now; old = begun; new = cluster; disks = old; left = left })
+joined c es before mid now old between left begun cluster ticks rises earlier moments turns = record {
+  earlier = λ p m side low fits. turns.earlier p m side (omega (arith, low, ticks)) fits ∙ earlier p m side low fits;
+  moments = record {
+    fine = λ m p after high fits counted image is_left. elim (cases_lt mid m) [
+      | inl above ↦ turns.moments.fine m p above high fits counted image is_left
+      | inr le ↦ early m p after le fits counted image is_left
+    ];
+  };
+  keeps = turns.keeps;
+  told = turns.told;
+}
+  where
+    early : (m p : ℕ) → before < m → m ≤ mid → m < 2 ^ 64 - 1 → counts (state_at whole_machine c (happened c.core es) m) p ≡ true → (image : Side → List ℕ) → IsLeft (disk_at (stands_of left) p) m image
+        → GivesFine whole_machine IsFrontOf last_of (state_at whole_machine c (happened c.core es) m) p image
+    early m p after le fits counted image is_left =
+        let same : state_at whole_machine c (happened c.core es) m ≡ c = ap (λ xs. runs whole_machine c xs) (none_below m mid now (happened c.core es) le (happened_rise c.core mid now es rises)) in
+        subst (λ s. GivesFine whole_machine IsFrontOf last_of s p image) (sym same)
+        (moments m p after fits (subst (λ s. counts s p ≡ true) same counted) image (record { sides = λ side. subst (λ x. IsImage x (image side)) (turns.earlier p m side le fits) (is_left.sides side) }))
+
+-- ---- all of it
+
+module _ (tells : Type 0) (set : Setting) (span : Span) (cluster : Running) (one : set.shape.copies ≡ 1) (o : HasOpened tells set span cluster) where
+  abbrev mid : Span
+  mid = record { before = span.before; now = o.opened; old = span.old; new = o.disks }
+
+  abbrev b : Begins tells set (record { before = span.before; now = o.opened; old = span.old; new = o.disks }) o.begun
+  b = o.begins
+
+  read : HasRead tells set (record { before = span.before; now = o.opened; old = span.old; new = o.disks }) o.begins.taken
+  read = o.begins.read one
+
+  abbrev opened_found : Found
+  opened_found = found tells set mid b.taken one read b.shares b.count b.ticks
+
+  core_is : first_core set opened_found ≡ o.begun.core
+  core_is = ap (λ (x : Opened). open_core set.shape set.limits x o.opened) (opens_so tells set mid b.taken one read b.shares b.count b.ticks) ∙ sym b.core
+
+  course_is : o.begun.course ≡ first_items set.shape opened_found span.before
+  course_is = b.course ∙ sym (begins_so tells set mid b.taken one read b.shares b.count b.ticks span.before)
+
+  can : tells → AreSound span.before span.old → (first_core set opened_found).ended ≡ None → CanGoOn (open_whole set opened_found) o.begun.logs o.disks o.opened
+  can told sound going =
+      subst (λ l. CanGoOn (open_whole set opened_found) l o.disks o.opened) (sym b.logs)
+      (can_go_on tells set mid b.taken one read b.shares b.count b.ticks b.disks b.left told sound going)
+
+  lists : tells → AreSound span.before span.old → (first_core set opened_found).ended ≡ None
+      → LeavesLists (open_whole set opened_found) o.turned.events (record { before = span.before; now = span.now; old = o.begun; new = cluster; disks = span.old; left = span.new })
+  lists told sound going =
+      joined (open_whole set opened_found) o.turned.events span.before o.opened span.now span.old o.disks span.new o.begun cluster b.ticks o.turned.rises
+      (read_earlier tells set mid b.taken one read b.shares b.count b.ticks b.disks b.left told sound going)
+      (read_moments tells set mid b.taken one read b.shares b.count b.ticks b.disks b.left told sound going)
+      (o.turned.shows.lists told (open_whole set opened_found) core_is (can told sound going))
+
+  goes_on : tells → AreSound span.before span.old → cluster.core.ended ≡ None → CanGoOn (runs whole_machine (open_whole set opened_found) o.turned.events) cluster.logs span.new span.now
+  goes_on told sound on =
+      let going : (first_core set opened_found).ended ≡ None =
+      going_before (first_core set opened_found) o.turned.events (ap (λ x. (steps x o.turned.events).ended) core_is ∙ ap (λ (x : Core). x.ended) (sym o.turned.core) ∙ on) in
+      subst (λ e. OnOk (outcome_by e) (CanGoOn (runs whole_machine (open_whole set opened_found) o.turned.events) cluster.logs span.new span.now)) on
+      (o.turned.shows.goes_on told (open_whole set opened_found) core_is (can told sound going))
+
+  -- what was found is told of the core over what was taken
+  pub opens_found : Opens tells set span cluster
+  opens_found = record {
+    found = opened_found;
+    begun = o.begun;
+    disks = o.disks;
+    finds = subst (λ l. Finds tells set mid opened_found l) (sym b.logs) (finds tells set mid b.taken one read b.shares b.count b.ticks);
+    events = o.turned.events;
+    due = subst (λ x. is_walk next_turn true 0 x o.turned.events ≡ true) (sym core_is) o.turned.due;
+    rises = o.turned.rises;
+    core = o.turned.core ∙ ap (λ x. steps x o.turned.events) (sym core_is);
+    course = o.turned.course ∙ (λ i. course_is i ++ items_of (sym core_is i) o.turned.events);
+    lists = lists;
+    goes_on = goes_on;
+  }
+
+pub opens_ok : (tells : Type 0) (set : Setting) (span : Span) (r : Result Running ClusterFault) → set.shape.copies ≡ 1 → IfOk r (HasOpened tells set span) → IfOk r (Opens tells set span)
+opens_ok tells set span (Ok cluster) one o = opens_found tells set span cluster one o
+opens_ok tells set span (Err fault) one o = tt

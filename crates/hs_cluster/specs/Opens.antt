@@ -1,0 +1,82 @@
+-- What opening a cluster promises, of a store of one copy a shard.
+use Rattle.std.specs.List.{AllPairs}
+use Rattle.std.specs.Prelude.{◌≡◌, ◌⊎◌, ◌++◌, ◌<◌, ◌≤◌, ℕ, List, length, Contains, Option, None, Some, IsSome, false, is_some, true, slice_index_or}
+use Rattle.hs_cluster.specs.Kept.{CanGoOn, LeavesLists}
+use Rattle.hs_cluster.specs.Running.{Running}
+use Rattle.hs_core.specs.State.{Core}
+use Rattle.hs_events.specs.Beginning.{first_items}
+use Rattle.hs_events.specs.Course.{items_of, steps}
+use Rattle.hs_events.specs.Due.{Events, MomentsRise, is_walk, next_turn}
+use Rattle.hs_events.specs.Found.{Found, first_core, opened_list, starts_good}
+use Rattle.hs_events.specs.Taken.{is_taken, peer_count}
+use Rattle.hs_events.specs.Whole.{open_whole}
+use Rattle.hs_fold.specs.Shards.Setting.{Numbered, Setting}
+use Rattle.hs_moments.specs.Machine.{runs}
+use Rattle.hs_moments.specs.WholeMachine.{whole_machine}
+use Rattle.hs_peerlog.specs.Images.{LeavesOnly}
+use Rattle.hs_peerlog.specs.Lists.{HasLog, Keeping}
+use Rattle.hs_ports.specs.Fault.{HasRisen}
+use Rattle.hs_side.specs.Current.{list_in}
+use Rattle.hs_taking.specs.Disks.{DiskSeen, log_at, seen_at}
+use Rattle.hs_taking.specs.Shares.{IsLater, IsLostDisk, KeepsDisk, Span}
+
+-- ---- what was found
+
+-- what the disk of a peer was read as
+abbrev pub log_in : Found → ℕ → Option Numbered
+log_in found peer = slice_index_or found.logs peer None
+
+-- of one peer, from entry to the opening of the core, with the logs that are in use then
+pub record IsFound (tells : Type 0) (set : Setting) (span : Span) (found : Found) (logs : List (Option Keeping)) (peer : ℕ) : Type 0 where
+  -- its log is what its disk reads as at entry, or its disk failed and counts as having none
+  pub read : tells → (log_in found peer ≡ list_in (seen_at span.old peer).stands.seen)
+      ⊎ ((log_in found peer ≡ None) × HasRisen (seen_at span.old peer).faults (seen_at span.new peer).faults)
+  -- it is good where its log is in use, which is one that was read; any other had none, or it was lost since
+  pub good : starts_good found peer ≡ is_some (log_at logs peer)
+  pub kept : starts_good found peer ≡ true → IsSome (log_in found peer)
+  pub aside : starts_good found peer ≡ false → (log_in found peer ≡ None) ⊎ ((moment : ℕ) × Contains found.lost (peer, moment))
+  -- the calls on its disk leave its list as it is, at each moment; and the log has it, right before the first turn
+  pub disk : KeepsDisk tells span.before span.now (seen_at span.old peer) (seen_at span.new peer)
+  pub log : tells → (seen_at span.old peer).stands.last ≤ span.before → (keeping : Keeping) → log_at logs peer ≡ Some keeping
+      → HasLog keeping (seen_at span.new peer).stands (opened_list set found peer) None
+
+-- a peer of a taken log whose disk failed before the core was opened, and when
+pub record IsLostLog (tells : Type 0) (set : Setting) (span : Span) (found : Found) (x : ℕ × ℕ) : Type 0 where
+  pub taken : is_taken set.shape found.logs x.0 ≡ true
+  pub bad : starts_good found x.0 ≡ false
+  pub later : span.before ≤ x.1
+  pub up_to : x.1 ≤ span.now
+  pub disk : IsLostDisk tells span.before (seen_at span.old x.0) (seen_at span.new x.0) x.1
+
+pub record Finds (tells : Type 0) (set : Setting) (span : Span) (found : Found) (slots : List (Option Keeping)) : Type 0 where
+  pub logs : length found.logs ≡ peer_count set.shape
+  pub goods : length found.good ≡ peer_count set.shape
+  pub opened : found.opened ≡ span.now
+  pub later : span.before ≤ span.now
+  pub each : (peer : ℕ) → peer < peer_count set.shape → IsFound tells set span found slots peer
+  pub lost : (x : ℕ × ℕ) → Contains found.lost x → IsLostLog tells set span found x
+  pub once : AllPairs IsLater found.lost
+
+-- ---- all of it
+
+-- no call of a disk is ahead, and what it reads as is what a stop leaves, whatever that leaves
+pub record AreSound (before : ℕ) (disks : List DiskSeen) : Type 0 where
+  pub called : (peer : ℕ) → (seen_at disks peer).stands.last ≤ before
+  pub only : (peer : ℕ) (list : Numbered) → list_in (seen_at disks peer).stands.seen ≡ Some list → LeavesOnly (seen_at disks peer).stands list
+
+-- the core over what was found; then the turns that were due, until nobody had one
+pub record Opens (tells : Type 0) (set : Setting) (span : Span) (cluster : Running) : Type 0 where
+  pub found : Found
+  -- the cluster and the disks right before the first turn
+  pub begun : Running
+  pub disks : List DiskSeen
+  pub finds : Finds tells set (record { before = span.before; now = found.opened; old = span.old; new = disks }) found begun.logs
+  pub events : Events
+  pub due : is_walk next_turn true 0 (first_core set found) events ≡ true
+  pub rises : MomentsRise found.opened events span.now
+  pub core : cluster.core ≡ steps (first_core set found) events
+  pub course : cluster.course ≡ first_items set.shape found span.before ++ items_of (first_core set found) events
+  -- where the core was opened: the lists at each moment from entry on, and behind all of it the cluster may go on
+  pub lists : tells → AreSound span.before span.old → (first_core set found).ended ≡ None
+      → LeavesLists (open_whole set found) events (record { before = span.before; now = span.now; old = begun; new = cluster; disks = span.old; left = span.new })
+  pub goes_on : tells → AreSound span.before span.old → cluster.core.ended ≡ None → CanGoOn (runs whole_machine (open_whole set found) events) cluster.logs span.new span.now

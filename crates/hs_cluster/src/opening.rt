@@ -1,0 +1,278 @@
+//! Opening a cluster.
+ghost use Rattle.std.specs.Prelude.{◌≡◌, ◌*◌, ◌++◌, ◌<◌, ◌≤◌, ℕ, None, flat_map, is_some, length, map, IfErr, IfOk};
+ghost use Rattle.hs_cluster.specs.Begins.{Begins, HasOpened, IsClosed, bad_of, begun_course, of_taking, opened_with, took_of};
+ghost use Rattle.hs_cluster.specs.Calls.{ran_out};
+ghost use Rattle.hs_cluster.specs.Disks.{AreReady, seen_as, seen_at};
+ghost use Rattle.hs_cluster.specs.Opens.{Opens};
+ghost use Rattle.hs_core.specs.Opening.{open_core};
+ghost use Rattle.hs_limits.specs.Shape.{IsShape};
+ghost use Rattle.hs_side.specs.declared.header.Header.{Header};
+ghost use Rattle.hs_taking.specs.Viewed.{IsOnlyRead};
+
+use crate::{Cluster, ClusterFault};
+use hs_block::Addresser;
+use hs_core::Core;
+use hs_limits::{Limits, Shape};
+use hs_model::CourseItem;
+use hs_peerlog::PeerLog;
+use hs_ports::{Disk, Watch};
+use hs_shard::Catalogue;
+use hs_taking::{Share, TakeFault, Taking, read_store};
+use std::alloc::{AllocError, Global};
+
+impl From<TakeFault> for ClusterFault {
+    ghost from_gives = { λ taken fault. fault ≡ of_taking taken };
+
+    fn from(taken: TakeFault) -> ClusterFault {
+        match taken {
+            TakeFault::WrongShape { peer, found } => ClusterFault::WrongShape { peer, found },
+            TakeFault::NoMemory => ClusterFault::NoMemory,
+        }
+    }
+}
+
+impl Cluster {
+    /// Opens a cluster: reads every disk, takes the log of each shard, opens the core over them, and
+    /// does turns until nobody has one. A disk that fails, or is no log, is out of use. A disk of
+    /// another store, or of another peer, ends it before anything is written. Where the core has ended
+    /// the cluster has what was noted. Of several copies of a shard one log alone is in use.
+    pub fn open<A: Addresser, D: Disk>(
+        alloc: Global,
+        shape: Shape,
+        limits: Limits,
+        naming: &A,
+        disks: &mut [D],
+        watch: &mut Watch,
+    ) -> Result<Cluster, ClusterFault>
+        requires shape { IsShape shape }
+        requires count { length disks.old ≡ shape.shards * shape.copies }
+        ensures opens { shape.copies ≡ 1 → IfOk result (Opens D.tells
+            (record { name = A.name naming.now; limits = limits; shape = shape })
+            (record {
+              before = watch.old;
+              now = watch.new;
+              old = map (λ disk. seen_as (D.size disk) (D.stands disk) (D.faults disk)) disks.old;
+              new = map (λ disk. seen_as (D.size disk) (D.stands disk) (D.faults disk)) disks.new;
+            })) }
+        ensures opened { IfOk result (HasOpened D.tells
+            (record { name = A.name naming.now; limits = limits; shape = shape })
+            (record {
+              before = watch.old;
+              now = watch.new;
+              old = map (λ disk. seen_as (D.size disk) (D.stands disk) (D.faults disk)) disks.old;
+              new = map (λ disk. seen_as (D.size disk) (D.stands disk) (D.faults disk)) disks.new;
+            })) }
+        ensures closed { IfErr result (IsClosed D.tells shape
+            (map (λ disk. seen_as (D.size disk) (D.stands disk) (D.faults disk)) disks.old)
+            (map (λ disk. seen_as (D.size disk) (D.stands disk) (D.faults disk)) disks.new)) }
+        ensures unwritten { IfErr result (λ fault. (at : ℕ) (found : Header)
+            → fault ≡ ClusterFault.WrongShape at found → (peer : ℕ) → peer < length disks.old
+            → IsOnlyRead D.tells watch.old watch.new
+            (seen_at (map (λ disk. seen_as (D.size disk) (D.stands disk) (D.faults disk))
+            disks.old) peer)
+            (seen_at (map (λ disk. seen_as (D.size disk) (D.stands disk) (D.faults disk))
+            disks.new) peer)) }
+        ensures ready { IfOk result (λ cluster. cluster.core.ended ≡ None
+            → AreReady D.tells cluster.logs
+            (map (λ disk. seen_as (D.size disk) (D.stands disk) (D.faults disk)) disks.new)) }
+        ensures shape { IfOk result (λ cluster. cluster.core.members.shape ≡ shape) }
+        ensures count { length disks.new ≡ length disks.old }
+        ensures ticks { watch.old ≤ watch.new }
+    {
+        let mut cluster = match Cluster::begin(alloc, shape, limits, naming, disks, watch) {
+            Ok(cluster) => cluster,
+            Err(fault) => return Err(fault),
+        };
+        if let Some(_) = cluster.ended() {
+            return Ok(cluster);
+        }
+        let done = cluster.settle(disks, watch, 0, false);
+        if ran_out(done) {
+            return Err(ClusterFault::NoMemory);
+        }
+        Ok(cluster)
+    }
+
+    /// Opens the core over the logs of the disks, before the first turn.
+    fn begin<A: Addresser, D: Disk>(
+        alloc: Global,
+        shape: Shape,
+        limits: Limits,
+        naming: &A,
+        disks: &mut [D],
+        watch: &mut Watch,
+    ) -> Result<Cluster, ClusterFault>
+        requires shape { IsShape shape }
+        requires count { length disks.old ≡ shape.shards * shape.copies }
+        ensures begins { IfOk result (Begins D.tells
+            (record { name = A.name naming.now; limits = limits; shape = shape })
+            (record {
+              before = watch.old;
+              now = watch.new;
+              old = map (λ disk. seen_as (D.size disk) (D.stands disk) (D.faults disk)) disks.old;
+              new = map (λ disk. seen_as (D.size disk) (D.stands disk) (D.faults disk)) disks.new;
+            })) }
+        ensures closed { IfErr result (IsClosed D.tells shape
+            (map (λ disk. seen_as (D.size disk) (D.stands disk) (D.faults disk)) disks.old)
+            (map (λ disk. seen_as (D.size disk) (D.stands disk) (D.faults disk)) disks.new)) }
+        ensures unwritten { IfErr result (λ fault. (at : ℕ) (found : Header)
+            → fault ≡ ClusterFault.WrongShape at found → (peer : ℕ) → peer < length disks.old
+            → IsOnlyRead D.tells watch.old watch.new
+            (seen_at (map (λ disk. seen_as (D.size disk) (D.stands disk) (D.faults disk))
+            disks.old) peer)
+            (seen_at (map (λ disk. seen_as (D.size disk) (D.stands disk) (D.faults disk))
+            disks.new) peer)) }
+        ensures ready { IfOk result (λ cluster. AreReady D.tells cluster.logs
+            (map (λ disk. seen_as (D.size disk) (D.stands disk) (D.faults disk)) disks.new)) }
+        ensures shape { IfOk result (λ cluster. cluster.core.members.shape ≡ shape) }
+        ensures moment { IfOk result (λ cluster. cluster.core.moment ≡ watch.new) }
+        ensures count { length disks.new ≡ length disks.old }
+        ensures ticks { watch.old ≤ watch.new }
+    {
+        let entry = watch.now();
+        let taking = match read_store(alloc, naming, disks, watch, shape, limits) {
+            Ok(taking) => taking,
+            Err(fault) => return Err(ClusterFault::from(fault)),
+        };
+        begun(alloc, shape, limits, taking, entry, watch.now())
+    }
+}
+
+/// Whether memory ran out.
+fn ran_out(done: Result<(), ClusterFault>) -> bool
+    ensures { result ≡ ran_out done }
+{
+    match done {
+        Ok(()) => false,
+        Err(ClusterFault::NoMemory) => true,
+        Err(ClusterFault::WrongShape { .. })
+        | Err(ClusterFault::ShardLost { .. })
+        | Err(ClusterFault::OpsFull) => false,
+    }
+}
+
+/// The core over the logs that were taken.
+fn begun(
+    alloc: Global,
+    shape: Shape,
+    limits: Limits,
+    taking: Taking,
+    entry: u64,
+    moment: u64,
+) -> Result<Cluster, ClusterFault>
+    requires shape { IsShape shape }
+    requires logs { length taking.logs.items ≡ shape.shards * shape.copies }
+    requires shares { length taking.shares.items ≡ shape.shards }
+    ensures core { IfOk result (λ cluster. cluster.core ≡ open_core shape limits (opened_with
+        (record { logs = taking.logs.items; shares = taking.shares.items })) moment) }
+    ensures logs { IfOk result (λ cluster. cluster.logs ≡ taking.logs.items) }
+    ensures course { IfOk result (λ cluster. cluster.course ≡ begun_course entry
+        (record { logs = taking.logs.items; shares = taking.shares.items })) }
+    ensures shape { IfOk result (λ cluster. cluster.core.members.shape ≡ shape) }
+    ensures moment { IfOk result (λ cluster. cluster.core.moment ≡ moment) }
+    ensures only { IfErr result (λ fault. fault ≡ ClusterFault.NoMemory) }
+{
+    let Taking { logs, shares } = taking;
+    let course = first_course(alloc, shares.as_slice(), entry)?;
+    let good = goods_in(alloc, logs.as_slice())?;
+    let views = views_in(alloc, shares.as_slice())?;
+    let lengths = lengths_in(alloc, shares.as_slice())?;
+    let catalogues = catalogues_in(alloc, shares)?;
+    let core = Core::open(
+        alloc, shape, limits, catalogues, views, lengths, good, moment,
+    )?;
+    Ok(Cluster {
+        alloc,
+        core,
+        logs,
+        course,
+    })
+}
+
+/// Which peers are good: those whose log is in use.
+fn goods_in(alloc: Global, logs: &[Option<PeerLog>]) -> Result<Vec<bool>, AllocError>
+    ensures { IfOk result (λ goods. goods.items ≡ map (λ log. is_some log) logs.now) }
+{
+    logs.iter().map(|log| log.is_some()).collect(alloc)
+}
+
+/// The views of the taken logs.
+fn views_in(alloc: Global, shares: &[Share]) -> Result<Vec<u64>, AllocError>
+    ensures { IfOk result (λ views. views.items ≡ map (λ share. share.rank.view) shares.now) }
+{
+    let mut views = Vec::new(alloc);
+    for share in shares {
+        views.push(share.rank.view)?;
+    }
+    Ok(views)
+}
+
+/// The numbers of their last entries.
+fn lengths_in(alloc: Global, shares: &[Share]) -> Result<Vec<u64>, AllocError>
+    ensures { IfOk result (λ lengths. lengths.items
+        ≡ map (λ share. share.rank.number) shares.now) }
+{
+    let mut lengths = Vec::new(alloc);
+    for share in shares {
+        lengths.push(share.rank.number)?;
+    }
+    Ok(lengths)
+}
+
+/// Their catalogues.
+fn catalogues_in(alloc: Global, shares: Vec<Share>) -> Result<Vec<Catalogue>, AllocError>
+    ensures { IfOk result (λ catalogues. catalogues.items
+        ≡ map (λ share. share.catalogue) shares.items) }
+{
+    shares
+        .into_iter()
+        .map(|share| share.catalogue)
+        .collect(alloc)
+}
+
+/// How a course begins: with the taken logs, and then the peers of these that were lost.
+fn first_course(alloc: Global, shares: &[Share], entry: u64) -> Result<Vec<CourseItem>, AllocError>
+    ensures { IfOk result (λ course. course.items
+        ≡ flat_map (took_of entry) shares.now ++ flat_map bad_of shares.now) }
+{
+    let mut course = Vec::new(alloc);
+    'tooks: for share in shares {
+        note_took(share, entry, &mut course)?;
+    }
+    'losses: for share in shares {
+        note_lost(share, &mut course)?;
+    }
+    Ok(course)
+}
+
+/// Notes the log that was taken of a shard, where there was one.
+fn note_took(share: &Share, entry: u64, course: &mut Vec<CourseItem>) -> Result<(), AllocError>
+    ensures { IfOk result (λ done. course.new.items ≡ course.old.items ++ took_of entry share.now) }
+{
+    if let Some(number) = share.took {
+        course.reserve(2)?;
+        course.push_reserved(CourseItem::Good {
+            peer: share.peer,
+            moment: entry,
+        });
+        course.push_reserved(CourseItem::Took {
+            shard: share.shard,
+            number,
+            moment: entry,
+        });
+    }
+    Ok(())
+}
+
+/// Notes that a log was lost, where it was.
+fn note_lost(share: &Share, course: &mut Vec<CourseItem>) -> Result<(), AllocError>
+    ensures { IfOk result (λ done. course.new.items ≡ course.old.items ++ bad_of share.now) }
+{
+    if let Some(moment) = share.lost {
+        course.push(CourseItem::Bad {
+            peer: share.peer,
+            moment,
+        })?;
+    }
+    Ok(())
+}
