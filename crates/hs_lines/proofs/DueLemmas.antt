@@ -37,36 +37,44 @@ Fits core (Nudging peer) = first (no_peer peer core ∷ not_up peer core ∷ [])
 
 found_at : (q : Message → Bool) (es : List (ℕ × Message)) (n : ℕ) → option_map (λ e. e.0) (find (λ e. q e.1) es) ≡ Some n → message_refusal n (lookup (is_at (nat_cmp n)) es) ≡ None
 found_at q [] n h = absurd (cc h)
-found_at q ((k, m) ∷ es) n h = by_key (is_at (nat_cmp n) k) refl
+found_at q ((k, m) ∷ es) n h = by_key (λ g. found_at q es n g) (is_at (nat_cmp n) k) refl
   where
-    by_test : (b : Bool) → q m ≡ b → is_at (nat_cmp n) k ≡ false → message_refusal n (lookup (is_at (nat_cmp n)) es) ≡ None
-    by_test true t off =
+    by_test : (option_map (λ e. e.0) (find (λ e. q e.1) es) ≡ Some n → message_refusal n (lookup (is_at (nat_cmp n)) es) ≡ None)
+        → (b : Bool) → q m ≡ b → is_at (nat_cmp n) k ≡ false → message_refusal n (lookup (is_at (nat_cmp n)) es) ≡ None
+    by_test again true t off =
         let first_one : Some k ≡ Some n = subst (λ b. option_map (λ e. e.0) (if b then Some (k, m) else find (λ e. q e.1) es) ≡ Some n) t h in
         let same : k ≡ n = cc first_one in
         let here : is_at (nat_cmp n) n ≡ true = ap is_eq (tied_itself nat_cmp_total n) in
         let both : true ≡ false = sym here ∙ ap (λ j. is_at (nat_cmp n) j) (sym same) ∙ off in
         absurd (cc both)
-    by_test false t off = found_at q es n (subst (λ b. option_map (λ e. e.0) (if b then Some (k, m) else find (λ e. q e.1) es) ≡ Some n) t h)
+    by_test again false t off = again (subst (λ b. option_map (λ e. e.0) (if b then Some (k, m) else find (λ e. q e.1) es) ≡ Some n) t h)
 
-    by_key : (b : Bool) → is_at (nat_cmp n) k ≡ b → message_refusal n (lookup (is_at (nat_cmp n)) ((k, m) ∷ es)) ≡ None
-    by_key true at = rw at refl
-    by_key false off = rw off (by_test (q m) refl off)
+    by_key : (option_map (λ e. e.0) (find (λ e. q e.1) es) ≡ Some n → message_refusal n (lookup (is_at (nat_cmp n)) es) ≡ None)
+        → (b : Bool) → is_at (nat_cmp n) k ≡ b → message_refusal n (lookup (is_at (nat_cmp n)) ((k, m) ∷ es)) ≡ None
+    by_key again true at = rw at refl
+    by_key again false off = rw off (by_test again (q m) refl off)
 
 find_holds : (q : ℕ → Bool) (xs : List ℕ) (x : ℕ) → find q xs ≡ Some x → q x ≡ true
 find_holds q [] x h = absurd (cc h)
-find_holds q (y ∷ ys) x h = go (q y) refl
+find_holds q (y ∷ ys) x h = go (λ g. find_holds q ys x g) (q y) refl
   where
-    go : (b : Bool) → q y ≡ b → q x ≡ true
-    go true t = let same : Some y ≡ Some x = subst (λ b. (if b then Some y else find q ys) ≡ Some x) t h in ap q (sym (let s : y ≡ x = cc same in s)) ∙ t
-    go false t = find_holds q ys x (subst (λ b. (if b then Some y else find q ys) ≡ Some x) t h)
+    go : (find q ys ≡ Some x → q x ≡ true) → (b : Bool) → q y ≡ b → q x ≡ true
+    go again true t = let same : Some y ≡ Some x = subst (λ b. (if b then Some y else find q ys) ≡ Some x) t h in ap q (sym (let s : y ≡ x = cc same in s)) ∙ t
+    go again false t = again (subst (λ b. (if b then Some y else find q ys) ≡ Some x) t h)
+
+keeps_some : (f : ℕ → Option Due) (x : ℕ) (xs : List ℕ) (y : Due) → f x ≡ Some y → filter_map f (x ∷ xs) ≡ y ∷ filter_map f xs
+keeps_some f x xs y e = rw e refl
+
+drops_none : (f : ℕ → Option Due) (x : ℕ) (xs : List ℕ) → f x ≡ None → filter_map f (x ∷ xs) ≡ filter_map f xs
+drops_none f x xs e = rw e refl
 
 first_some : (f : ℕ → Option Due) (d : Due) (xs : List ℕ) → slice_get (filter_map f xs) 0 ≡ Some d → (x : ℕ) × (f x ≡ Some d)
 first_some f d [] h = absurd (cc h)
-first_some f d (x ∷ xs) h = go (f x) refl
+first_some f d (x ∷ xs) h = go (λ g. first_some f d xs g) (f x) refl
   where
-    go : (o : Option Due) → f x ≡ o → (x : ℕ) × (f x ≡ Some d)
-    go (Some y) e = let head : Some y ≡ Some d = subst (λ ys. slice_get ys 0 ≡ Some d) (rw e refl) h in (x, e ∙ head)
-    go None e = first_some f d xs (subst (λ ys. slice_get ys 0 ≡ Some d) (rw e refl) h)
+    go : (slice_get (filter_map f xs) 0 ≡ Some d → (x : ℕ) × (f x ≡ Some d)) → (o : Option Due) → f x ≡ o → (x : ℕ) × (f x ≡ Some d)
+    go again (Some y) e = let head : Some y ≡ Some d = subst (λ ys. slice_get ys 0 ≡ Some d) (keeps_some f x xs y e) h in (x, e ∙ head)
+    go again None e = again (subst (λ ys. slice_get ys 0 ≡ Some d) (drops_none f x xs e) h)
 
 -- ---- turns
 

@@ -1,3 +1,4 @@
 pub mod DueLemmas
 pub mod LineLemmas
+pub mod NewLemmas
 pub mod StepLemmas

@@ -1,6 +1,6 @@
 -- The events of lines are events that may begin, and with their moments events that may come.
 use Rattle.std.proofs.Common.{◌≡◌, ◌⊎◌, inl, inr, ◌∙◌, ap, sym, subst, ℕ, ◌+◌, ◌<◌, ◌≤◌, ◌==◌, ◌&&◌, ◌++◌, Bool, true, false, not, List, [], ◌∷◌, Option, Some, None, IsSome, refl, length, is_none, ◌||◌, arith}
-use Rattle.std.proofs.lemmas.Bool.{cases_eq}
+use Rattle.std.proofs.lemmas.Bool.{cases_eq, ne_eqb}
 use Rattle.std.proofs.lemmas.Bool.Decides.{nat_tests}
 use Rattle.std.specs.Option.{option_and_then, option_map, option_map_or}
 use Rattle.std.specs.Prelude.{if◌then◌else◌}
@@ -78,7 +78,7 @@ module _ (commands : ℕ → Option Command) where
   part_moves line core e at up p = up_moved core (step e at core) line up (step_moves e at line core (part_line line core e p))
 
   -- some events may begin, and the line is then still one that may go on
-  record Goes (line : ℕ) (core : Core) (es : Events) : Type 0 where
+  pub record Goes (line : ℕ) (core : Core) (es : Events) : Type 0 where
     pub begin : AllBegin commands core es
     pub up : IsUpTo commands (steps core es) line
 
@@ -86,26 +86,29 @@ module _ (commands : ℕ → Option Command) where
   walk_goes : (due : Place → Core → Option Due) → ((place : Place) (core : Core) (d : Due) → due place core ≡ Some d → Fits core d)
       → (line : ℕ) (at : Walked) (es : Events) (end : Walked) → walk due line at es ≡ Some end → IsUpTo commands at.core line → Goes line at.core es
   walk_goes due fits line at [] end h up = record { begin = tt; up = up }
-  walk_goes due fits line at (e ∷ es) end h up = by_due (due at.place at.core) refl h
+  walk_goes due fits line at (e ∷ es) end h up = by_due (λ next g p. walk_goes due fits line next es end g p) (due at.place at.core) refl h
     where
+      Again : Type 0
+      Again = (next : Walked) → walk due line next es ≡ Some end → IsUpTo commands next.core line → Goes line next.core es
+
       after : Core
       after = step e.0 e.1 at.core
 
       behind : Due → Walked
       behind d = record { place = place_after d (raises_known at.core after) at.place; core = after }
 
-      by_it : (d : Due) (b : Bool) → due at.place at.core ≡ Some d → is_it line at.core d e.0 ≡ b
+      by_it : Again → (d : Due) (b : Bool) → due at.place at.core ≡ Some d → is_it line at.core d e.0 ≡ b
           → option_and_then (λ next. walk due line next es) (if b then Some (behind d) else None) ≡ Some end → Goes line at.core (e ∷ es)
-      by_it d true is it k =
+      by_it again d true is it k =
           let p : IsPart line at.core e.0 = is_part line at.core d e.0 (fits at.place at.core d is) it in
-          let rest : Goes line after es = walk_goes due fits line (behind d) es end k (part_moves line at.core e.0 e.1 up p) in
+          let rest : Goes line after es = again (behind d) k (part_moves line at.core e.0 e.1 up p) in
           record { begin = (λ going. part_begins line at.core e.0 up p, rest.begin); up = rest.up }
-      by_it d false is it k = absurd (cc k)
+      by_it again d false is it k = absurd (cc k)
 
-      by_due : (o : Option Due) → due at.place at.core ≡ o
+      by_due : Again → (o : Option Due) → due at.place at.core ≡ o
           → option_and_then (λ next. walk due line next es) (option_and_then (λ d. if is_it line at.core d e.0 then Some (behind d) else None) o) ≡ Some end → Goes line at.core (e ∷ es)
-      by_due None is k = absurd (cc k)
-      by_due (Some d) is k = by_it d (is_it line at.core d e.0) is refl k
+      by_due again None is k = absurd (cc k)
+      by_due again (Some d) is k = by_it again d (is_it line at.core d e.0) is refl k
 
   pub settle_goes : (whole : Bool) (line : ℕ) (core : Core) (es : Events) → is_walk next_due whole line core es ≡ true → IsUpTo commands core line → Goes line core es
   settle_goes whole line core es h up = by_end (walk next_due line (record { place = first_place; core = core }) es) refl h
@@ -129,8 +132,11 @@ module _ (commands : ℕ → Option Command) where
       by_it false it k = absurd (cc k)
   one_goes line core whole (Some d) (e ∷ f ∷ es) fits h up = by_it (is_it line core d e.0) h
     where
-      by_it : (b : Bool) → (b && false) ≡ true → Goes line core (e ∷ f ∷ es)
-      by_it true k = absurd (cc k)
+      more : (length (f ∷ es) == 0) ≡ false
+      more = ne_eqb (length (f ∷ es)) 0 (λ n. omega (arith, n))
+
+      by_it : (b : Bool) → (b && (length (f ∷ es) == 0)) ≡ true → Goes line core (e ∷ f ∷ es)
+      by_it true k = let both : false ≡ true = sym more ∙ k in absurd (cc both)
       by_it false k = absurd (cc k)
 
   -- ---- a line
@@ -207,7 +213,7 @@ module _ (commands : ℕ → Option Command) where
       may : (c : Command) (e : Event) → commands at.line ≡ Some c → client_op (Some c) ≡ None → OtherMay commands at.core at.line e
       may c e is none =
           let u : IsUpTo commands at.core at.line = up (Some c) is none in
-          record { upward = u.upward; next = u.next; nobody = u.nobody; once = inl (its.above, subst (λ o. IsSome o) (sym is) tt) }
+          record { upward = u.upward; next = u.next; nobody = u.nobody; once = inl (its.above, subst (λ o. IsSome o) (sym is) refl) }
 
       nothing : (core : Core) (d : Due) → None ≡ Some d → Fits core d
       nothing core d h = absurd (cc h)
