@@ -18,7 +18,7 @@ use Rattle.hs_desk.specs.declared.job.Job.{Job}
 use Rattle.hs_events.specs.declared.due.Due.{Due}
 use Rattle.hs_events.specs.declared.due.Due.TheVariants.{Reporting, Handling, Nudging}
 use Rattle.hs_events.specs.declared.due.Place.{Place}
-use Rattle.hs_events.specs.Due.{due_by, is_it, is_same_due, next_due, next_good, next_nudge, next_nudger, next_turn, turn_behind, turn_of}
+use Rattle.hs_events.specs.Due.{is_it, is_same_due, next_due, next_good, next_nudge, next_nudger, next_turn, turn_behind, turn_of}
 use Rattle.hs_limits.specs.declared.limits.PeerStatus.{PeerStatus}
 use Rattle.hs_limits.specs.declared.limits.PeerStatus.TheVariants.{Good, Joining, Down}
 use Rattle.hs_members.specs.Members.{all_peers, is_down, is_good_status}

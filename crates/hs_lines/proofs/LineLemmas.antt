@@ -1,7 +1,6 @@
 -- The events of lines are events that may begin, and with their moments events that may come.
 use Rattle.std.proofs.Common.{◌≡◌, ◌⊎◌, inl, inr, ◌∙◌, ap, sym, subst, ℕ, ◌+◌, ◌<◌, ◌≤◌, ◌==◌, ◌&&◌, ◌++◌, Bool, true, false, not, List, [], ◌∷◌, Option, Some, None, IsSome, refl, length, is_none, ◌||◌, arith}
 use Rattle.std.proofs.lemmas.Bool.{cases_eq, ne_eqb}
-use Rattle.std.proofs.lemmas.Bool.Decides.{nat_tests}
 use Rattle.std.specs.Option.{option_and_then, option_map, option_map_or}
 use Rattle.std.specs.Prelude.{if◌then◌else◌}
 use Rattle.hs_core.specs.declared.event.Event.{Event}
@@ -10,11 +9,11 @@ use Rattle.hs_core.specs.State.{Core}
 use Rattle.hs_core.specs.Step.{line_of, step}
 use Rattle.hs_events.proofs.GoingLemmas.{step_goes}
 use Rattle.hs_events.specs.Asked.{addressed}
-use Rattle.hs_events.specs.Commands.{AreOfCommand, AreOfLine, BeginsWith, LineAt}
+use Rattle.hs_events.specs.Commands.{AreOfLine, BeginsWith, LineAt}
 use Rattle.hs_events.specs.Course.{steps}
 use Rattle.hs_events.specs.declared.due.Due.{Due}
 use Rattle.hs_events.specs.declared.due.Place.{Place}
-use Rattle.hs_events.specs.Due.{Events, MomentsRise, Walked, first_place, is_it, is_one, is_walk, move, next_due, place_after, raises_known, turn_behind, walk}
+use Rattle.hs_events.specs.Due.{Events, MomentsRise, Walked, first_place, is_it, is_one, is_walk, next_due, place_after, raises_known, turn_behind, walk}
 use Rattle.hs_journal.specs.Events.{client_op}
 use Rattle.hs_limits.specs.declared.address.Address.{Address}
 use Rattle.hs_lines.proofs.DueLemmas.{Fits, IsPart, behind_fits, is_part, next_fits, part_line}
@@ -117,6 +116,13 @@ module _ (commands : ℕ → Option Command) where
           → option_map_or (λ at. not whole || is_none (next_due at.place at.core)) o false ≡ true → Goes line core es
       by_end None e k = absurd (cc k)
       by_end (Some end) e k = walk_goes next_due next_fits line (record { place = first_place; core = core }) es end e up
+
+  pub opening_goes : (whole : Bool) (core : Core) (es : Events) → client_op (commands 0) ≡ None → core.event_line ≡ 0 → is_walk next_due whole 0 core es ≡ true → Goes 0 core es
+  opening_goes whole core es none zero walks =
+      settle_goes whole 0 core es walks (record { upward = omega (arith, zero); next = λ k low high. absurd (omega (arith, high)); nobody = none })
+
+  pub first_next : (whole : Bool) (core : Core) (es : Events) → client_op (commands 0) ≡ None → core.event_line ≡ 0 → is_walk next_due whole 0 core es ≡ true → IsNext commands (steps core es) 1
+  first_next whole core es none zero walks = up_next (steps core es) 0 (opening_goes whole core es none zero walks).up
 
   one_goes : (line : ℕ) (core : Core) (whole : Bool) (o : Option Due) (es : Events) → ((d : Due) → o ≡ Some d → Fits core d)
       → is_one o whole line core es ≡ true → IsUpTo commands core line → Goes line core es
@@ -248,9 +254,10 @@ module _ (commands : ℕ → Option Command) where
   -- with their moments
   pub all_come : (core : Core) (es : Events) (from to : ℕ) → (core.ended ≡ None → core.moment ≤ from) → MomentsRise from es to → AllBegin commands core es → AllMayCome commands core es
   all_come core [] from to low rise a = tt
-  all_come core (e ∷ es) from to low rise a =
-      ((λ going. record { later = let l : core.moment ≤ from = low going in let r : from ≤ e.1 = rise.0 in omega (arith, l, r); begins = a.0 going }),
-      all_come (step e.0 e.1 core) es e.1 to (λ going. let at : (step e.0 e.1 core).moment ≡ e.1 = (step_goes e.0 e.1 core (went e.0 e.1 core going)).moment in omega (arith, at)) rise.1 a.1)
+  all_come core (e ∷ es) from to low rise a = (
+    (λ going. record { later = let l : core.moment ≤ from = low going in let r : from ≤ e.1 = rise.0 in omega (arith, l, r); begins = a.0 going }),
+    all_come (step e.0 e.1 core) es e.1 to (λ going. let at : (step e.0 e.1 core).moment ≡ e.1 = (step_goes e.0 e.1 core (went e.0 e.1 core going)).moment in omega (arith, at)) rise.1 a.1,
+  )
 
 pub lines_begin : (s : Script) (line : ℕ) (core : Core) (lines : List Events) → IsNext s.commands core line → AreLines s line core lines → AllBegin s.commands core (all_events lines)
 lines_begin s line core [] its are = tt

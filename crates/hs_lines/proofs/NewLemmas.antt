@@ -1,10 +1,7 @@
 -- Clients' lines are new, and a write comes with the address of its block.
-use Rattle.std.proofs.Common.{◌≡◌, ◌∙◌, ap, sym, subst, ℕ, ◌+◌, ◌<◌, ◌≤◌, ◌++◌, Bool, true, false, not, ◌||◌, List, [], ◌∷◌, Option, Some, None, refl, length, is_none, arith}
+use Rattle.std.proofs.Common.{◌≡◌, ◌∙◌, sym, subst, ℕ, ◌+◌, ◌<◌, ◌++◌, Bool, true, false, not, ◌||◌, List, [], ◌∷◌, Option, Some, None, refl, length, is_none, arith}
 use Rattle.std.proofs.lemmas.Bool.{ne_eqb}
-use Rattle.std.specs.BTreeMap.{is_at}
-use Rattle.std.specs.Map.{lookup}
 use Rattle.std.specs.Option.{option_and_then, option_map_or}
-use Rattle.std.specs.Ordering.{nat_cmp}
 use Rattle.std.specs.Prelude.{if◌then◌else◌, ◌==◌, ◌&&◌}
 use Rattle.hs_core.specs.declared.event.Event.{Event}
 use Rattle.hs_core.specs.declared.event.Event.TheVariants as event
@@ -12,14 +9,14 @@ use Rattle.hs_core.specs.declared.waiting.Waiting.{Waiting}
 use Rattle.hs_core.specs.Looking.{operation_of}
 use Rattle.hs_core.specs.State.{Core}
 use Rattle.hs_core.specs.Step.{step}
-use Rattle.hs_effects.specs.Logged.{IsCalled, IsNewLine, MayBegin, MayBeginAll}
+use Rattle.hs_effects.specs.Logged.{IsCalled, MayBegin, MayBeginAll}
 use Rattle.hs_events.proofs.AddressLemmas.{address_found}
 use Rattle.hs_events.specs.Asked.{addressed}
 use Rattle.hs_events.specs.Commands.{AreOfLine, BeginsWith, LineAt}
 use Rattle.hs_events.specs.Course.{steps}
 use Rattle.hs_events.specs.declared.due.Due.{Due}
 use Rattle.hs_events.specs.declared.due.Place.{Place}
-use Rattle.hs_events.specs.Due.{Events, Walked, first_place, is_it, is_one, is_walk, move, next_due, place_after, raises_known, turn_behind, walk}
+use Rattle.hs_events.specs.Due.{Events, Walked, first_place, is_it, is_one, is_walk, next_due, place_after, raises_known, turn_behind, walk}
 use Rattle.hs_limits.specs.declared.address.Address.{Address}
 use Rattle.hs_lines.proofs.LineLemmas.{Passes, line_passes}
 use Rattle.hs_lines.specs.Script.{AreLines, IsNext, Script, all_events}
@@ -170,6 +167,6 @@ lines_new s stays line core (es ∷ next ∷ rest) turn its may are =
     let at : LineAt = record { line = line; core = core; events = es; whole = true } in
     let first : Passes s.commands at = line_passes s.commands s.name at its are.0.events in
     let behind : IsInTurn s.commands (steps core es) =
-        subst (λ c. IsInTurn s.commands c) (same_steps core es) (stays core es turn (come_first s.commands core es (all_events (next ∷ rest)) may)) in
+    subst (λ c. IsInTurn s.commands c) (same_steps core es) (stays core es turn (come_first s.commands core es (all_events (next ∷ rest)) may)) in
     all_new s.name core es (all_events (next ∷ rest)) (line_new s.name s.commands at turn its.above are.0.events)
     (lines_new s stays (line + 1) (steps core es) (next ∷ rest) behind (first.next refl are.0.going) (come_rest s.commands core es (all_events (next ∷ rest)) may) are.1)
