@@ -1,0 +1,4 @@
+pub mod DueLemmas
+pub mod LineLemmas
+pub mod NewLemmas
+pub mod StepLemmas
