@@ -1,5 +1,5 @@
 -- What every single change keeps, each event keeps: what is asked of the changes, of the core, and of the event.
-use Rattle.std.specs.Prelude.{◌≡◌, ℕ, ◌+◌, ◌≤◌, true, List, [], Option, Some, None, count_by, length}
+use Rattle.std.specs.Prelude.{◌≡◌, ℕ, ◌+◌, ◌<◌, ◌≤◌, true, List, [], Option, Some, None, count_by, length}
 use Rattle.hs_along.specs.Changes.{IsBeside, IsIdle, told_at_once}
 use Rattle.hs_core.specs.declared.event.Event.{Event}
 use Rattle.hs_core.specs.declared.event.Event.TheVariants as event
@@ -9,7 +9,7 @@ use Rattle.hs_core.specs.Asking.{send_round}
 use Rattle.hs_core.specs.Changing.{change_pool, note, refuse}
 use Rattle.hs_core.specs.Delivering.{is_new_round}
 use Rattle.hs_core.specs.Entering.{is_enter_due}
-use Rattle.hs_core.specs.Looking.{catalogue_of, first_task, group_of, operation_of}
+use Rattle.hs_core.specs.Looking.{catalogue_of, first_task, group_of, operation_of, shape_of}
 use Rattle.hs_core.specs.Operating.{begin_line, go_on_with, propose_entry, resume}
 use Rattle.hs_core.specs.Seeing.{pointers_for}
 use Rattle.hs_core.specs.State.{Core}
@@ -60,10 +60,10 @@ pub record Walks (name : List ℕ → Address) (MayLine : ℕ → Op → Core �
   pub told : (line number : ℕ) (bytes : Option (List ℕ)) (w : Waiting) (c : Core) → operation_of line c ≡ Some w → w.wait ≡ wait.Bytes number → MayTell number bytes w c → Q c
       → Q (go_on_with (λ v o. bytes_step v bytes (pointers_for w.shard w.operation.op c) o) line c)
   -- an entry takes effect, by which no shard has more root records than it takes
-  pub effect : (shard number : ℕ) (entry : Entry) (c : Core) → committed (group_of shard c) ≡ Some (number, entry) → ((g : ℕ) → length (catalogue_of g (taken shard entry c)).roots ≤ most_records) → Q c
+  pub effect : (shard number : ℕ) (entry : Entry) (c : Core) → shard < (shape_of c).shards → committed (group_of shard c) ≡ Some (number, entry) → ((g : ℕ) → length (catalogue_of g (taken shard entry c)).roots ≤ most_records) → Q c
       → Q (told_at_once shard entry c)
   -- a due Enter is proposed; a new Round that was under way is proposed as a Got; a shard sends a round again
-  pub due : (shard : ℕ) (c : Core) → is_enter_due shard c ≡ true → Q c → Q (propose_entry shard (kind.Enter 0 ((catalogue_of shard c).epoch + 1)) c)
+  pub due : (shard : ℕ) (c : Core) → shard < (shape_of c).shards → is_enter_due shard c ≡ true → Q c → Q (propose_entry shard (kind.Enter 0 ((catalogue_of shard c).epoch + 1)) c)
   pub round : (number from to epoch round total : ℕ) (deltas : List Delta) (c : Core) → message_at number c.pool ≡ Some (message.Round from to epoch round total deltas)
       → is_new_round to from epoch round (change_pool (without number) c) ≡ true → Q c → Q (propose_entry to (kind.Got from epoch round total deltas) (change_pool (without number) c))
   pub again : (back shard : ℕ) (c : Core) → Q c → Q (send_round back shard c)
@@ -71,7 +71,7 @@ pub record Walks (name : List ℕ → Address) (MayLine : ℕ → Op → Core �
 -- and so does a first view, in a shard in whose list nothing waits, while there is no operation
 pub record WalksOpen (name : List ℕ → Address) (MayLine : ℕ → Op → Core → Type 0) (MayTell : ℕ → Option (List ℕ) → Waiting → Core → Type 0) (MayRefuse : ℕ → Type 0) (Q : Core → Type 0) : Type 0 where
   pub walks : Walks name MayLine MayTell MayRefuse Q
-  pub opens : (shard : ℕ) (c : Core) → (group_of shard c).waiting ≡ [] → c.operations ≡ [] → Q c → Q (begin_view shard c)
+  pub opens : (shard : ℕ) (c : Core) → shard < (shape_of c).shards → (group_of shard c).waiting ≡ [] → c.operations ≡ [] → Q c → Q (begin_view shard c)
 
 -- ---- the event
 
