@@ -97,7 +97,7 @@ beyond none (x ∷ xs) (suc k) = go (beyond none xs k)
     go (inl l) = inl (grind (arith, common_steps, l))
     go (inr e) = inr e
 
-taken_here : (shard number : ℕ) (entry : Entry) (c : Core) → committed (group_of shard c) ≡ Some (number, entry) → group_of shard (change_group shard take_committed c) ≡ take_committed (group_of shard c)
+pub taken_here : (shard number : ℕ) (entry : Entry) (c : Core) → committed (group_of shard c) ≡ Some (number, entry) → group_of shard (change_group shard take_committed c) ≡ take_committed (group_of shard c)
 taken_here shard number entry c e = go (beyond (new_group (shape_of c) shard 0 0 []) c.groups shard)
   where
     go : (shard < length c.groups) ⊎ (group_of shard c ≡ new_group (shape_of c) shard 0 0 []) → group_of shard (change_group shard take_committed c) ≡ take_committed (group_of shard c)
@@ -171,7 +171,7 @@ due_orderly name shard c its = go (is_enter_due shard c)
     go true = own_orderly name shard (kind.Enter 0 ((catalogue_of shard c).epoch + 1)) c refl its
     go false = its
 
-view_idle : PassesIdle is_for_view
+pub view_idle : PassesIdle is_for_view
 view_idle w passes = go w.wait passes
   where
     go : (x : Wait) → is_for_view (record w { wait = x }) ≡ true → IsIdle x
@@ -181,7 +181,7 @@ view_idle w passes = go w.wait passes
     go (wait.Bytes number) p = tt
     go (wait.Entry number) p = absurd (cc p)
 
-wakes_idle : (entry : Entry) (a : Option Address) (c : Core) → PassesIdle (wakes entry a c)
+pub wakes_idle : (entry : Entry) (a : Option Address) (c : Core) → PassesIdle (wakes entry a c)
 wakes_idle (kind.Block line least bytes) a c w passes = go w.wait passes
   where
     go : (x : Wait) → wakes (kind.Block line least bytes) a c (record w { wait = x }) ≡ true → IsIdle x
