@@ -1,15 +1,15 @@
 -- Entries that take effect one after another keep what each of the changes keeps.
-use Rattle.std.proofs.Common.{◌≡◌, ◌≢◌, ◌∙◌, sym, ap, subst, ◌⊎◌, inl, inr, ℕ, zero, suc, ◌+◌, ◌-◌, ◌<◌, ◌≤◌, ◌==◌, Bool, true, false, cond, List, [], ◌∷◌, ◌++◌, arith, count_by, drop, length, take, Option, Some, None, refl, slice_get}
+use Rattle.std.proofs.Common.{◌≡◌, ◌∙◌, sym, ap, subst, ◌⊎◌, inl, inr, ℕ, zero, suc, ◌+◌, ◌-◌, ◌<◌, ◌≤◌, ◌==◌, Bool, true, false, cond, List, [], ◌∷◌, arith, count_by, drop, length, take, Option, Some, None, refl, slice_get}
 use Rattle.std.proofs.lemmas.List.{length-append, take-append-le}
-use Rattle.std.proofs.lemmas.List.Sums.{sum_by-cons, sum_by-take-le}
+use Rattle.std.proofs.lemmas.List.Sums.{sum_by-cons}
 use Rattle.std.specs.Prelude.{slice_index_or, slice_set}
 use Rattle.hs_along.specs.Changes.{told_at_once, tells_at_once}
 use Rattle.hs_along.specs.Walks.{Walks}
 use Rattle.hs_along.proofs.BesideLemmas.{beside_viewed}
-use Rattle.hs_along.proofs.GrownLemmas.{Grown, grown_both, grown_catalogue, grown_goes, grown_proposes, grown_same, grown_still, grown_tells}
+use Rattle.hs_along.proofs.GrownLemmas.{Grown, grown_both, grown_catalogue, grown_goes, grown_proposes, grown_still, grown_tells}
 use Rattle.hs_along.proofs.IdleLemmas.{is_idle}
 use Rattle.hs_along.proofs.RecordLemmas.{AddsRecords, applied_adds}
-use Rattle.hs_core.specs.Changing.{change_group, set_viewed}
+use Rattle.hs_core.specs.Changing.{set_viewed}
 use Rattle.hs_core.specs.declared.waiting.Waiting.{Waiting}
 use Rattle.hs_core.specs.Effects.{after_entry, commit, commit_next, is_for_view, take_effect, wakes}
 use Rattle.hs_core.specs.Entering.{is_enter_due, propose_due}
@@ -33,7 +33,7 @@ use Rattle.hs_limits.specs.declared.address.Address.{Address}
 use Rattle.hs_limits.specs.declared.shape.Shape.{Shape}
 use Rattle.hs_model.specs.declared.op.Op.{Op}
 use Rattle.hs_ops.specs.Operations.{go_step}
-use Rattle.hs_replica.specs.Group.{Group, commit_front, committed, take_committed}
+use Rattle.hs_replica.specs.Group.{Group, commit_front, committed}
 use Rattle.hs_replica.specs.Kinds.{is_root}
 use Rattle.hs_shard.specs.declared.effect.Effect.{Effect}
 use Rattle.hs_shard.specs.Facts.{Catalogue, empty_catalogue}
@@ -46,6 +46,28 @@ pub record Fits (shard n : ℕ) (c : Core) : Type 0 where
   pub long : n ≤ length (group_of shard c).waiting
   pub here : length (catalogue_of shard c).roots + count_by is_root (take n (group_of shard c).waiting) ≤ most_records
   pub all : (g : ℕ) → length (catalogue_of g c).roots ≤ most_records
+
+-- numbers
+pub part_fits : (n k most : ℕ) → n + k ≤ most → n ≤ most
+part_fits n k most h = omega (arith, h)
+
+pub less_fits : (n less more most : ℕ) → n + more ≤ most → less ≤ more → n + less ≤ most
+less_fits n less more most h l = omega (arith, h, l)
+
+one_fits : (now held one rest all most : ℕ) → now ≤ held + one → held + all ≤ most → all ≡ one + rest → now + rest ≤ most
+one_fits now held one rest all most a h e = omega (arith, a, h, e)
+
+same_more : (m n k : ℕ) → m ≡ n → m ≤ n + k
+same_more m n k e = omega (arith, e)
+
+less_long : (n k : ℕ) → suc n ≤ k → n ≤ k
+less_long n k h = omega (arith, h)
+
+more_long : (n a b k : ℕ) → b ≡ a + k → n ≤ a → n ≤ b
+more_long n a b k e h = omega (arith, e, h)
+
+rest_long : (n all rest now : ℕ) → all ≡ suc rest → now ≡ rest → suc n ≤ all → n ≤ now
+rest_long n all rest now e f h = omega (arith, e, f, h)
 
 counted : (entry : Entry) (entries : List Entry) → count_by is_root (entry ∷ entries) ≡ cond (is_root entry) 1 0 + count_by is_root entries
 counted entry entries = sum_by-cons (λ (e : Entry). cond (is_root e) 1 0) entry entries
@@ -68,8 +90,8 @@ fewer (suc n) (entry ∷ entries) =
 fits_less : (shard n : ℕ) (c : Core) → Fits shard (suc n) c → Fits shard n c
 fits_less shard n c f = record {
   of = f.of;
-  long = let long = f.long in omega (arith, long);
-  here = let here = f.here in let less = fewer n (group_of shard c).waiting in omega (arith, here, less);
+  long = less_long n (length (group_of shard c).waiting) f.long;
+  here = less_fits (length (catalogue_of shard c).roots) (count_by is_root (take n (group_of shard c).waiting)) (count_by is_root (take (suc n) (group_of shard c).waiting)) most_records f.here (fewer n (group_of shard c).waiting);
   all = f.all;
 }
 
@@ -80,7 +102,7 @@ fits_grown shard n a b p f =
     let same : take n (group_of shard b).waiting ≡ take n (group_of shard a).waiting = ap (take n) more.1 ∙ take-append-le n (group_of shard a).waiting more.0 f.long in
     record {
       of = subst (λ (s : Shape). shard < s.shards) (sym p.shape) f.of;
-      long = let l = ap length more.1 in let sum = length-append (group_of shard a).waiting more.0 in let long = f.long in omega (arith, l, sum, long);
+      long = more_long n (length (group_of shard a).waiting) (length (group_of shard b).waiting) (length more.0) (ap length more.1 ∙ length-append (group_of shard a).waiting more.0) f.long;
       here = subst (λ (c : Catalogue). length c.roots + count_by is_root (take n (group_of shard b).waiting) ≤ most_records) (sym (grown_catalogue a b p shard))
           (subst (λ ws. length (catalogue_of shard a).roots + count_by is_root ws ≤ most_records) (sym same) f.here);
       all = λ g. subst (λ (c : Catalogue). length c.roots ≤ most_records) (sym (grown_catalogue a b p g)) (f.all g);
@@ -93,7 +115,7 @@ module _ (shard number : ℕ) (entry : Entry) (c : Core) (next : committed (grou
   one = committed_first (group_of shard c) number entry next
 
   waits_then : (group_of shard (taken shard entry c)).waiting ≡ drop 1 (group_of shard c).waiting
-  waits_then = ap (λ (x : Group). x.waiting) (taken_here shard number entry c next) ∙ (committed_first (group_of shard c) number entry next).taken.waiting
+  waits_then = ap (λ (x : Group). x.waiting) (taken_here shard number entry c next) ∙ one.taken.waiting
 
   -- its shard's catalogue is the one behind it, or as it was
   records_then : length (catalogue_of shard (taken shard entry c)).roots ≤ length (catalogue_of shard c).roots + cond (is_root entry) 1 0
@@ -111,7 +133,7 @@ module _ (shard number : ℕ) (entry : Entry) (c : Core) (next : committed (grou
       by : (slice_index_or (slice_set c.catalogues shard done) shard none ≡ done) ⊎ (slice_index_or (slice_set c.catalogues shard done) shard none ≡ slice_index_or c.catalogues shard none)
           → length (catalogue_of shard (taken shard entry c)).roots ≤ length (catalogue_of shard c).roots + cond (is_root entry) 1 0
       by (inl set) = subst (λ (x : Catalogue). length x.roots ≤ length (catalogue_of shard c).roots + cond (is_root entry) 1 0) (sym set) adds
-      by (inr old) = let same = ap (λ (x : Catalogue). length x.roots) old in omega (arith, same)
+      by (inr old) = same_more (length (catalogue_of shard (taken shard entry c)).roots) (length (catalogue_of shard c).roots) (cond (is_root entry) 1 0) (ap (λ (x : Catalogue). length x.roots) old)
 
   records_other : (g : ℕ) → (g ≡ shard → ⊥) → catalogue_of g (taken shard entry c) ≡ catalogue_of g c
   records_other g d = other-at (empty_catalogue (shape_of c) g) c.catalogues shard g (done_by shard entry c).catalogue d
@@ -123,14 +145,10 @@ module _ (shard number : ℕ) (entry : Entry) (c : Core) (next : committed (grou
       rest = drop 1 (group_of shard c).waiting
 
       waits : (group_of shard c).waiting ≡ entry ∷ drop 1 (group_of shard c).waiting
-      waits = first_is (group_of shard c).waiting entry (committed_first (group_of shard c) number entry next).first
+      waits = first_is (group_of shard c).waiting entry one.first
 
       long : n ≤ length (group_of shard (taken shard entry c)).waiting
-      long =
-          let now = ap length waits_then in
-          let before = ap length waits in
-          let all = f.long in
-          omega (arith, now, before, all)
+      long = rest_long n (length (group_of shard c).waiting) (length (drop 1 (group_of shard c).waiting)) (length (group_of shard (taken shard entry c)).waiting) (ap length waits) (ap length waits_then) f.long
 
       count : count_by is_root (take (suc n) (group_of shard c).waiting) ≡ cond (is_root entry) 1 0 + count_by is_root (take n rest)
       count = ap (λ ws. count_by is_root (take (suc n) ws)) waits ∙ counted entry (take n rest)
@@ -140,21 +158,18 @@ module _ (shard number : ℕ) (entry : Entry) (c : Core) (next : committed (grou
 
       here : length (catalogue_of shard (taken shard entry c)).roots + count_by is_root (take n (group_of shard (taken shard entry c)).waiting) ≤ most_records
       here =
-          let a = records_then in
-          let b = f.here in
-          let d = count in
-          let e = now in
-          omega (arith, a, b, d, e)
+          subst (λ k. length (catalogue_of shard (taken shard entry c)).roots + k ≤ most_records) (sym now)
+          (one_fits (length (catalogue_of shard (taken shard entry c)).roots) (length (catalogue_of shard c).roots) (cond (is_root entry) 1 0) (count_by is_root (take n rest)) (count_by is_root (take (suc n) (group_of shard c).waiting)) most_records records_then f.here count)
 
       all : (g : ℕ) → (g ≡ shard) ⊎ (g ≡ shard → ⊥) → length (catalogue_of g (taken shard entry c)).roots ≤ most_records
-      all g (inl same) = subst (λ k. length (catalogue_of k (taken shard entry c)).roots ≤ most_records) (sym same) (let h = here in omega (arith, h))
+      all g (inl same) = subst (λ k. length (catalogue_of k (taken shard entry c)).roots ≤ most_records) (sym same) (part_fits (length (catalogue_of shard (taken shard entry c)).roots) (count_by is_root (take n (group_of shard (taken shard entry c)).waiting)) most_records here)
       all g (inr d) = subst (λ (x : Catalogue). length x.roots ≤ most_records) (sym (records_other g d)) (f.all g)
 
 -- ---- what goes on behind it
 
 module _ {name : List ℕ → Address} {MayLine : ℕ → Op → Core → Type 0} {MayTell : ℕ → Option (List ℕ) → Waiting → Core → Type 0} {MayRefuse : ℕ → Type 0} {Q : Core → Type 0} (W : Walks name MayLine MayTell MayRefuse Q) where
   -- Q holds, and only entries have come behind since
-  abbrev Holds : Core → Core → Type 0
+  abbrev pub Holds : Core → Core → Type 0
   Holds s c = Q c × Grown s c
 
   goes_each : (s : Core) (lines : List ℕ) (c : Core) → Holds s c → AreReady c lines → Holds s (each lines resume c)
