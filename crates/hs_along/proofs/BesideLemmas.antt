@@ -1,6 +1,6 @@
 -- Changes beside a run: of one peer, of messages that are lost or sent again, and how an event begins and ends.
-use Rattle.std.proofs.Common.{◌≡◌, ◌∙◌, sym, ap, subst, ℕ, ◌+◌, ◌<◌, ◌==◌, ◌&&◌, Bool, true, false, cond, not, All, Contains, filter, List, [], ◌∷◌, ◌++◌, append-nil, arith, length, nat_lt, Option, Some, IfSome, refl}
-use Rattle.std.proofs.lemmas.List.{get_or-set_same}
+use Rattle.std.proofs.Common.{◌≡◌, ◌∙◌, sym, ap, subst, ℕ, ◌+◌, ◌<◌, ◌≤◌, ◌==◌, ◌&&◌, Bool, true, false, cond, not, All, Contains, filter, List, [], ◌∷◌, ◌++◌, append-nil, arith, length, nat_lt, Option, Some, IfSome, refl}
+use Rattle.std.proofs.lemmas.List.{get_or-set_same, set_past}
 use Rattle.std.proofs.lemmas.List.Elements.{All-cons, All-contains, All-contains_itself, All-head, All-tail, All-weaker}
 use Rattle.std.proofs.lemmas.Map.Views.{All-map-remove_entry, All-values-insert_entry, IfSome-lookup_from_All}
 use Rattle.std.specs.BTreeMap.{is_at}
@@ -9,7 +9,7 @@ use Rattle.std.specs.Ordering.{nat_cmp}
 use Rattle.std.specs.Prelude.{slice_index_or}
 use Rattle.hs_along.specs.Changes.{IsBeside}
 use Rattle.hs_along.proofs.AloneLemmas.{within}
-use Rattle.hs_core.specs.Changing.{change_group, change_pool, post, set_tasks, set_viewed}
+use Rattle.hs_core.specs.Changing.{add_entry_tasks, change_group, change_pool, post, set_tasks, set_viewed}
 use Rattle.hs_core.specs.declared.event.Event.{Event}
 use Rattle.hs_core.specs.declared.task.Task.{Task}
 use Rattle.hs_core.specs.declared.waiting.Waiting.{Waiting}
@@ -17,11 +17,13 @@ use Rattle.hs_core.specs.Effects.{commit}
 use Rattle.hs_core.specs.Failing.{commit_rest, go_down, leave}
 use Rattle.hs_core.specs.Joining.{begin_joining, joining_peers, start}
 use Rattle.hs_core.specs.Looking.{catalogue_of, group_of, home, lead_of, shape_of, status_of}
+use Rattle.hs_core.specs.Operating.{propose_entry}
 use Rattle.hs_core.specs.State.{Core}
 use Rattle.hs_core.specs.Step.{end_event, keep_entries, line_of, refuse_entries}
 use Rattle.hs_core.specs.Views.{begin_view, change_view}
-use Rattle.hs_core.specs.Words.{change_if, each}
+use Rattle.hs_core.specs.Words.{change_if, change_with, each}
 use Rattle.hs_effects.proofs.OrderlyLemmas.{Alike, group_alike}
+use Rattle.hs_entry.specs.declared.entry.Entry.{Entry}
 use Rattle.hs_events.specs.Alone.{AreAlone, face, is_round}
 use Rattle.hs_journal.specs.declared.entry.JournalEntry.{JournalEntry}
 use Rattle.hs_limits.specs.declared.limits.Limits.{Limits}
@@ -29,9 +31,10 @@ use Rattle.hs_limits.specs.declared.limits.PeerStatus.TheVariants.{Down}
 use Rattle.hs_limits.specs.declared.shape.Shape.{Shape}
 use Rattle.hs_members.specs.Members.{has_good, is_good_status, status}
 use Rattle.hs_moments.proofs.AloneEventLemmas.{begun, has_good_is, home_here}
+use Rattle.hs_moments.proofs.AloneStepLemmas.{lead_nowhere, nowhere}
 use Rattle.hs_post.specs.declared.message.Message.{Message}
 use Rattle.hs_post.specs.Pool.{Pool, is_empty, is_for_peer, is_full, message_at, restart_numbers, send, without}
-use Rattle.hs_replica.specs.Group.{Group, is_peer, new_group}
+use Rattle.hs_replica.specs.Group.{Group, is_peer, last_number, new_group, proposal, propose}
 use Rattle.hs_shard.specs.Facts.{Catalogue, empty_catalogue}
 use Rattle.hs_tokens.specs.Seats.{Seats}
 
@@ -169,6 +172,14 @@ beside_start peer c = beside_still c (start peer c) refl refl
 
 beside_leave : (peer : ℕ) (c : Core) → IsBeside c (leave peer c)
 beside_leave peer c = beside_kept c (leave peer c) refl (known_kept c.pool.messages c.pool.messages (λ e. not (is_for_peer peer e.1)) (known_same c.pool.messages))
+
+-- what is proposed in a shard that there is not
+pub beside_nowhere : (shard : ℕ) (entry : Entry) (c : Core) → AreAlone (face c) → c.members.shape.shards ≤ shard → IsBeside c (propose_entry shard entry c)
+beside_nowhere shard entry c h high =
+    subst (λ (o : Option ℕ). IsBeside c (change_with o (λ peer. add_entry_tasks peer (last_number (group_of shard c) + 1) entry) (post (proposal entry (group_of shard c)) (change_group shard (propose entry) c)))) (sym (lead_nowhere c shard h high))
+    (subst (λ (g : Group). IsBeside c (post (proposal entry g) (change_group shard (propose entry) c))) (sym (nowhere c shard h high))
+    (beside_still c (post (proposal entry (new_group c.members.shape shard 0 0 [])) (change_group shard (propose entry) c))
+    (ap (λ gs. record (kept_of c) { groups = gs }) (set_past c.groups shard (propose entry (group_of shard c)) (let k = h.groups in omega (arith, k, high)))) refl))
 
 -- ---- a peer goes down, and its shard is lost with it
 

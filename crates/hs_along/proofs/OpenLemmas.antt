@@ -1,14 +1,13 @@
 -- A core as it opens: what its first views and the changes beside a run keep.
-use Rattle.std.proofs.Common.{◌≡◌, ◌∙◌, sym, ap, subst, ◌⊎◌, inl, inr, ℕ, zero, suc, ◌+◌, ◌<◌, ◌≤◌, Bool, true, false, cond, not, List, [], ◌∷◌, ◌++◌, arith, map, Option, Some, None, refl}
+use Rattle.std.proofs.Common.{◌≡◌, ◌∙◌, sym, ap, subst, ◌⊎◌, inl, inr, ℕ, zero, suc, ◌+◌, ◌<◌, ◌≤◌, Bool, true, false, not, List, [], ◌∷◌, arith, map, Option, Some, None, refl}
 use Rattle.std.specs.List.{range_with_len}
 use Rattle.std.specs.Prelude.{slice_index_or}
-use Rattle.hs_along.specs.Walks.{Walks, WalksOpen}
+use Rattle.hs_along.specs.Walks.{WalksOpen}
 use Rattle.hs_along.proofs.BesideLemmas.{beside_ended}
 use Rattle.hs_core.specs.Changing.{add_entry_tasks, change_group, note, post, set_viewed}
 use Rattle.hs_core.specs.declared.waiting.Waiting.{Waiting}
-use Rattle.hs_core.specs.Looking.{group_of, lead_of, shape_of, shards_of, status_of}
+use Rattle.hs_core.specs.Looking.{group_of, lead_of, shape_of, status_of}
 use Rattle.hs_core.specs.Opening.{Taken, begin_views, new_core, note_down, note_if_down, open_core, taken_group}
-use Rattle.hs_core.specs.Operating.{propose_entry}
 use Rattle.hs_core.specs.State.{Core}
 use Rattle.hs_core.specs.Step.{end_event}
 use Rattle.hs_core.specs.Views.{begin_view, change_view, restart}
@@ -16,7 +15,6 @@ use Rattle.hs_core.specs.Words.{change_if, change_with, each}
 use Rattle.hs_effects.proofs.GroupLemmas.{group_changed}
 use Rattle.hs_entry.specs.declared.entry.Entry.{Entry}
 use Rattle.hs_entry.specs.declared.entry.Entry.TheVariants as kind
-use Rattle.hs_journal.specs.declared.entry.JournalEntry.{JournalEntry}
 use Rattle.hs_journal.specs.declared.entry.Who.TheVariants as who
 use Rattle.hs_limits.specs.declared.address.Address.{Address}
 use Rattle.hs_limits.specs.declared.limits.Limits.{Limits}
@@ -49,15 +47,15 @@ other_list shard f c g d = go (group_changed shard f c g)
     go (inr is) = absurd (d is.0)
 
 -- the jobs of an entry are beside
-record HasJobs (a b : Core) : Type 0 where
+record AddsJobs (a b : Core) : Type 0 where
   pub members : b.members ≡ a.members
   pub groups : b.groups ≡ a.groups
   pub operations : b.operations ≡ a.operations
   pub refused : b.refused ≡ a.refused
 
-has_jobs : (lead : Option ℕ) (number : ℕ) (entry : Entry) (c : Core) → HasJobs c (change_with lead (λ peer. add_entry_tasks peer number entry) c)
-has_jobs None number entry c = record { members = refl; groups = refl; operations = refl; refused = refl }
-has_jobs (Some peer) number entry c = record { members = refl; groups = refl; operations = refl; refused = refl }
+adds_jobs : (lead : Option ℕ) (number : ℕ) (entry : Entry) (c : Core) → AddsJobs c (change_with lead (λ peer. add_entry_tasks peer number entry) c)
+adds_jobs None number entry c = record { members = refl; groups = refl; operations = refl; refused = refl }
+adds_jobs (Some peer) number entry c = record { members = refl; groups = refl; operations = refl; refused = refl }
 
 above : (from g : ℕ) → from + 1 ≤ g → g ≡ from → ⊥
 above from g le same = absurd (omega (arith, le, same))
@@ -82,20 +80,20 @@ new_viewed from shape c n = record {
     sent : Core
     sent = post (renewal (group_of from restarted)) restarted
 
-    view : Entry
-    view = kind.View (view_of from sent.members)
+    entry : Entry
+    entry = kind.View (view_of from sent.members)
 
     listed : Core
-    listed = change_group from (propose view) sent
+    listed = change_group from (propose entry) sent
 
-    jobs : HasJobs (post (proposal view (group_of from sent)) listed) (begin_view from c)
-    jobs = has_jobs (lead_of from sent) (last_number (group_of from sent) + 1) view (post (proposal view (group_of from sent)) listed)
+    jobs : AddsJobs (post (proposal entry (group_of from sent)) listed) (begin_view from c)
+    jobs = adds_jobs (lead_of from sent) (last_number (group_of from sent) + 1) entry (post (proposal entry (group_of from sent)) listed)
 
     same_list : (g : ℕ) → from + 1 ≤ g → (group_of g (begin_view from c)).waiting ≡ (group_of g c).waiting
     same_list g le =
         ap (λ (m : Members). (slice_index_or (begin_view from c).groups g (new_group m.shape g 0 0 [])).waiting) jobs.members
         ∙ ap (λ (gs : List Group). (slice_index_or gs g (new_group (shape_of listed) g 0 0 [])).waiting) jobs.groups
-        ∙ ap (λ (x : Group). x.waiting) (other_list from (propose view) sent g (above from g le))
+        ∙ ap (λ (x : Group). x.waiting) (other_list from (propose entry) sent g (above from g le))
         ∙ ap (λ (x : Group). x.waiting) (other_list from (renew c.members) (set_viewed from false c) g (above from g le))
 
 new_passed : (from : ℕ) (shape : Shape) (c : Core) → IsNew from shape c → IsNew (from + 1) shape c
@@ -104,9 +102,6 @@ new_passed from shape c n = record { same_shape = n.same_shape; waits = λ g le.
 -- ---- a core as it opens
 
 module _ {name : List ℕ → Address} {MayLine : ℕ → Op → Core → Type 0} {MayTell : ℕ → Option (List ℕ) → Waiting → Core → Type 0} {MayRefuse : ℕ → Type 0} {Q : Core → Type 0} (V : WalksOpen name MayLine MayTell MayRefuse Q) where
-  W : Walks name MayLine MayTell MayRefuse Q
-  W = V.walks
-
   view_opens : (from : ℕ) (shape : Shape) (c : Core) → from < shape.shards → IsNew from shape c → Q c → Q (change_view from c) × IsNew (from + 1) shape (change_view from c)
   view_opens from shape c low n q = go (has_good from c.members)
     where

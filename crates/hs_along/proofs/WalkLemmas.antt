@@ -1,8 +1,9 @@
 -- What each of the changes keeps, each event keeps.
-use Rattle.std.proofs.Common.{◌≡◌, ◌∙◌, sym, ap, subst, ℕ, ◌<◌, Bool, true, false, cond, List, [], ◌∷◌, Option, Some, None, refl}
+use Rattle.std.proofs.Common.{◌≡◌, ◌∙◌, sym, ap, subst, inl, inr, ℕ, ◌<◌, Bool, true, false, cond, List, [], ◌∷◌, Option, Some, None, refl}
+use Rattle.std.proofs.lemmas.Bool.{cases_lt}
 use Rattle.hs_along.specs.Walks.{HasRecordRoom, MayEvent, MayReport, Walks}
-use Rattle.hs_along.proofs.AloneLemmas.{is_a_round, within}
-use Rattle.hs_along.proofs.BesideLemmas.{beside_again, beside_begun, beside_down, beside_ended, beside_silent, beside_start, beside_without}
+use Rattle.hs_along.proofs.AloneLemmas.{is_a_round, taken_out, within}
+use Rattle.hs_along.proofs.BesideLemmas.{beside_again, beside_begun, beside_down, beside_ended, beside_nowhere, beside_silent, beside_start, beside_without}
 use Rattle.hs_along.proofs.CommitLemmas.{due_goes}
 use Rattle.hs_along.proofs.GrownLemmas.{grown_same}
 use Rattle.hs_along.proofs.ReportLemmas.{report_goes}
@@ -95,7 +96,12 @@ module _ {name : List ℕ → Address} {MayLine : ℕ → Op → Core → Type 0
   deliver_goes number (message.Round from to epoch round total deltas) c h at q = go (is_new_round to from epoch round (change_pool (without number) c)) refl
     where
       go : (b : Bool) → is_new_round to from epoch round (change_pool (without number) c) ≡ b → Q (change_if b (propose_entry to (kind.Got from epoch round total deltas)) (change_pool (without number) c))
-      go true new = W.round number from to epoch round total deltas c at new q
+      go true new = elim (cases_lt to c.members.shape.shards) [
+        | inl low ↦ W.round number from to epoch round total deltas c low at new q
+        | inr high ↦
+            let x : Core = change_pool (without number) c in
+            W.beside x (propose_entry to (kind.Got from epoch round total deltas) x) (beside_nowhere to (kind.Got from epoch round total deltas) x (taken_out c number h) high) (W.beside c x (beside_without number c) q)
+      ]
       go false old = W.beside c (change_pool (without number) c) (beside_without number c) q
 
   again_goes : (line number : ℕ) (m : Message) (c : Core) → MayRefuse line → message_at number c.pool ≡ Some m → Q c → Q (send_again line m c)
