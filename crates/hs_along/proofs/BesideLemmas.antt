@@ -45,7 +45,7 @@ abbrev pub IsKnown : List (ℕ × Message) → Message → Type 0
 IsKnown es m = is_round m ≡ true → Contains (values_of es) m
 
 pub known_same : (es : List (ℕ × Message)) → All (IsKnown es) (values_of es)
-known_same es = All-weaker (λ m. Contains (values_of es) m) (IsKnown es) (λ m h r. h) (values_of es) (All-contains_itself (values_of es))
+known_same es = All-weaker (Contains (values_of es)) (IsKnown es) (λ m h r. h) (values_of es) (All-contains_itself (values_of es))
 
 known_both : (xs ys zs : List (ℕ × Message)) → All (IsKnown xs) (values_of ys) → All (IsKnown ys) (values_of zs) → All (IsKnown xs) (values_of zs)
 known_both xs ys zs p q = All-weaker (IsKnown ys) (IsKnown xs) (λ m h r. All-contains (IsKnown xs) (values_of ys) m p (h r) r) (values_of zs) q

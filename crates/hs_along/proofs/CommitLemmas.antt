@@ -13,7 +13,7 @@ use Rattle.hs_core.specs.Changing.{set_viewed}
 use Rattle.hs_core.specs.declared.waiting.Waiting.{Waiting}
 use Rattle.hs_core.specs.Effects.{after_entry, commit, commit_next, is_for_view, take_effect, wakes}
 use Rattle.hs_core.specs.Entering.{is_enter_due, propose_due}
-use Rattle.hs_core.specs.Looking.{catalogue_of, front_of, group_of, operation_of, shape_of}
+use Rattle.hs_core.specs.Looking.{catalogue_of, front_of, group_of, shape_of}
 use Rattle.hs_core.specs.Operating.{lines_where, propose_entry, resume, resume_where}
 use Rattle.hs_core.specs.Pending.{named}
 use Rattle.hs_core.specs.State.{Core}
@@ -60,6 +60,12 @@ one_fits now held one rest all most a h e = omega (arith, a, h, e)
 same_more : (m n k : ℕ) → m ≡ n → m ≤ n + k
 same_more m n k e = omega (arith, e)
 
+at_least_none : (n : ℕ) → 0 ≤ n
+at_least_none n = omega arith
+
+one_more : (one less more p q : ℕ) → p ≡ one + less → q ≡ one + more → less ≤ more → p ≤ q
+one_more one less more p q e f h = omega (arith, e, f, h)
+
 less_long : (n k : ℕ) → suc n ≤ k → n ≤ k
 less_long n k h = omega (arith, h)
 
@@ -78,13 +84,11 @@ first_is [] entry e = absurd (cc e)
 first_is (x ∷ entries) entry e = ap (λ y. y ∷ entries) (some_is x entry e)
 
 fewer : (n : ℕ) (entries : List Entry) → count_by is_root (take n entries) ≤ count_by is_root (take (suc n) entries)
-fewer zero entries = omega arith
-fewer (suc n) [] = omega arith
+fewer zero entries = at_least_none (count_by is_root (take 1 entries))
+fewer (suc n) [] = at_least_none 0
 fewer (suc n) (entry ∷ entries) =
-    let one = counted entry (take n entries) in
-    let two = counted entry (take (suc n) entries) in
-    let rest = fewer n entries in
-    omega (arith, one, two, rest)
+    one_more (cond (is_root entry) 1 0) (count_by is_root (take n entries)) (count_by is_root (take (suc n) entries)) (count_by is_root (take (suc n) (entry ∷ entries))) (count_by is_root (take (suc (suc n)) (entry ∷ entries)))
+    (counted entry (take n entries)) (counted entry (take (suc n) entries)) (fewer n entries)
 
 -- one fewer
 fits_less : (shard n : ℕ) (c : Core) → Fits shard (suc n) c → Fits shard n c

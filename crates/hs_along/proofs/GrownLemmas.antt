@@ -8,7 +8,7 @@ use Rattle.hs_core.specs.declared.wait.Wait.TheVariants as wait
 use Rattle.hs_core.specs.declared.waiting.Waiting.{Waiting}
 use Rattle.hs_core.specs.Effects.{note_enter, note_sweep, tell_enter, tell_operation}
 use Rattle.hs_core.specs.Looking.{catalogue_of, group_of, lead_of, operation_of, shape_of}
-use Rattle.hs_core.specs.Operating.{add_read, answer, carry_out, go_on_with, propose_entry, wait_for, what_holds}
+use Rattle.hs_core.specs.Operating.{add_read, answer, carry_out, go_on_with, propose_entry, take_step, wait_for, what_holds}
 use Rattle.hs_core.specs.Seeing.{view_for}
 use Rattle.hs_core.specs.State.{Core}
 use Rattle.hs_core.specs.Words.{change_if, change_with}
@@ -96,12 +96,11 @@ grown_carries line w step.Wait c = grown_waits line w (what_holds w c) c
 pub grown_goes : (next : OpView → Operation → OpStep) (line : ℕ) (c : Core) → Grown c (go_on_with next line c)
 grown_goes next line c = go (operation_of line c)
   where
-    judged : Waiting → OpStep
-    judged w = next (view_for w.shard w.operation.op c) w.operation
-
-    go : (o : Option Waiting) → Grown c (change_with o (λ w. carry_out line (record w { operation = after_step (next (view_for w.shard w.operation.op c) w.operation) w.operation }) (next (view_for w.shard w.operation.op c) w.operation)) c)
+    go : (o : Option Waiting) → Grown c (change_with o (λ w. take_step line w (next (view_for w.shard w.operation.op c) w.operation)) c)
     go None = grown_same c
-    go (Some w) = grown_carries line (record w { operation = after_step (judged w) w.operation }) (judged w) c
+    go (Some w) =
+        let taken : OpStep = next (view_for w.shard w.operation.op c) w.operation in
+        grown_carries line (record w { operation = after_step taken w.operation }) taken c
 
 -- ---- what is told of an entry
 

@@ -152,9 +152,6 @@ module _ {name : List ℕ → Address} {MayLine : ℕ → Op → Core → Type 0
       → ((w : Waiting) → IsReadFor p number c w → MayTell number bytes w c) → Q c → Q (tell_bytes line number bytes (set_tasks p tasks c))
   bytes_goes p number line bytes tasks c first may q = go (operation_of line c) refl
     where
-      x : Core
-      x = set_tasks p tasks c
-
       q_x : Q (set_tasks p tasks c)
       q_x = W.beside c (set_tasks p tasks c) (beside_tasks p tasks c) q
 
