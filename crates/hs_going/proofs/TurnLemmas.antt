@@ -6,9 +6,10 @@ use Rattle.hs_core.specs.Looking.{first_job, oldest_message, shape_of}
 use Rattle.hs_core.specs.State.{Core}
 use Rattle.hs_desk.specs.declared.fault.CoreFault.{CoreFault}
 use Rattle.hs_desk.specs.declared.job.Job.{Job}
+use Rattle.hs_events.specs.declared.due.Due.{Due}
 use Rattle.hs_events.specs.declared.due.Due.TheVariants.{Reporting, Handling}
 use Rattle.hs_events.specs.declared.due.Place.{Place}
-use Rattle.hs_events.specs.Due.{next_turn, turn_of}
+use Rattle.hs_events.specs.Due.{next_due, next_nudge, next_turn, turn_of}
 use Rattle.hs_events.specs.Whole.{Whole}
 use Rattle.hs_going.specs.Causes.{NothingWaits}
 use Rattle.hs_going.specs.Moving.{IsMoving}
@@ -76,3 +77,12 @@ module _ (name : List ℕ → Address) (c : Whole) (place : Place) (m : IsMoving
 
   pub quiet_waits : NothingWaits c.core
   quiet_waits = nothing_waits name c m idle
+
+-- ---- a settle that has come to its end
+
+no_turn : (a b : Option Due) → option_or a b ≡ None → a ≡ None
+no_turn None b e = refl
+no_turn (Some due) b e = absurd (cc e)
+
+pub settled_waits : (name : List ℕ → Address) (c : Whole) (place : Place) → IsMoving name c → next_due place c.core ≡ None → NothingWaits c.core
+settled_waits name c place m done = quiet_waits name c place m (no_turn (next_turn place c.core) (next_nudge place c.core) done)
