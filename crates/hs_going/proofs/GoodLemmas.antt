@@ -1,5 +1,5 @@
 -- What holds at each step of an event: each operation has its cause, but for those that go on later in it.
-use Rattle.std.proofs.Common.{◌≡◌, ◌∙◌, sym, ap, subst, ◌⊎◌, inl, inr, ℕ, ◌+◌, ◌-◌, ◌<◌, ◌≤◌, Bool, false, List, length, Option, Some, None, refl, arith, slice_index, unwrap_or}
+use Rattle.std.proofs.Common.{◌≡◌, ◌∙◌, sym, ap, subst, ◌⊎◌, inl, inr, ℕ, ◌+◌, ◌-◌, ◌<◌, ◌≤◌, Bool, true, false, List, length, Option, Some, None, refl, arith, slice_index, unwrap_or}
 use Rattle.std.proofs.Math.Nat.{mod-lt}
 use Rattle.std.specs.BTreeMap.{is_at}
 use Rattle.std.specs.Map.{lookup}
@@ -28,6 +28,7 @@ use Rattle.hs_joint.proofs.HistoryLemmas.{shape_some}
 use Rattle.hs_limits.specs.declared.address.Address.{Address}
 use Rattle.hs_limits.specs.Shape.{IsShape, shard_of, shard_of_key}
 use Rattle.hs_members.specs.Members.{Members}
+use Rattle.hs_model.specs.declared.reply.Reply.{Reply}
 use Rattle.hs_ops.specs.declared.step.OpStep.{OpStep}
 use Rattle.hs_ops.specs.declared.step.OpStep.TheVariants as step
 use Rattle.hs_ops.specs.Operations.{Operation, after_step}
