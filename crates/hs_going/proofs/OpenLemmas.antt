@@ -198,11 +198,11 @@ event_ended c = by_room (nat_lt c.limits.ops (length c.journal + length c.entrie
 
 pub range_among : (from n g : ℕ) → from ≤ g → g < from + n → IsAmong g (range_with_len from n)
 range_among from zero g low high = absurd (omega (arith, low, high))
-range_among from (suc n) g low high = by_first (cases_eq g from)
+range_among from (suc n) g low high = by_first (cases_eq g from) (λ above. range_among (from + 1) n g above (omega (arith, high)))
   where
-    by_first : (g ≡ from) ⊎ (g ≡ from → ⊥) → (g ≡ from) ⊎ IsAmong g (range_with_len (from + 1) n)
-    by_first (inl is) = inl is
-    by_first (inr d) = inr (range_among (from + 1) n g (omega (arith, low, d)) (omega (arith, high)))
+    by_first : (g ≡ from) ⊎ (g ≡ from → ⊥) → (from + 1 ≤ g → IsAmong g (range_with_len (from + 1) n)) → (g ≡ from) ⊎ IsAmong g (range_with_len (from + 1) n)
+    by_first (inl is) later = inl is
+    by_first (inr d) later = inr (later (omega (arith, low, d)))
 
 module _ (shape : Shape) (limits : Limits) (taken : Taken) (moment : ℕ) where
   abbrev new : Core
