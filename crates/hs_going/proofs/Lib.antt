@@ -1,0 +1,14 @@
+mod BeginLemmas
+mod BesideLemmas
+mod EffectLemmas
+mod EventLemmas
+mod GoodLemmas
+mod ListLemmas
+mod OpenLemmas
+mod ReportLemmas
+mod RestLemmas
+mod SealLemmas
+mod StayLemmas
+mod TakenLemmas
+mod TurnLemmas
+mod WaitLemmas
