@@ -1,0 +1,2 @@
+//! What single changes keep, each event keeps.
+#![tactic(auto)]
