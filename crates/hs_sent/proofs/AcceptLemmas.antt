@@ -1,7 +1,6 @@
 -- A Got that a shard would accept it would accept still behind another entry of its list.
 use Rattle.std.proofs.Common.{◌≡◌, ◌∙◌, sym, ap, subst, ◌⊎◌, inl, inr, ℕ, zero, suc, ◌+◌, ◌<◌, ◌==◌, ◌&&◌, ◌||◌, Bool, true, false, cond, Option, Some, None, is_none, is_some, length, refl, arith, nat_lt}
-use Rattle.std.proofs.lemmas.Bool.{and_from, and_parts, and_right, eq-eqb, eqb-true, ltb-true}
-use Rattle.std.proofs.lemmas.Bool.Decides.{nat_tests}
+use Rattle.std.proofs.lemmas.Bool.{and_from, and_parts, and_right, eq-eqb, eqb-true, lt-ltb, ltb-true, or_cases}
 use Rattle.std.specs.BTreeMap.{insert_entry}
 use Rattle.hs_entry.specs.declared.entry.Entry.{Entry}
 use Rattle.hs_entry.specs.declared.entry.Entry.TheVariants as kind
@@ -16,7 +15,6 @@ use Rattle.hs_fold.specs.Runs.Rounds.{enter as enter_here}
 use Rattle.hs_joint.proofs.GotLemmas.{stays_open}
 use Rattle.hs_joint.proofs.GotLookups.{each_of_all, kept_is_old, logged_or_old}
 use Rattle.hs_waiting.proofs.EpochLemmas.{client_still}
-use Rattle.hs_waiting.proofs.GotStayLemmas.{or_true}
 use Rattle.hs_sent.specs.Sent.{got_of}
 
 -- ---- which rounds may come
@@ -40,12 +38,12 @@ abbrev IsFirst : Catalogue → Place → Type 0
 IsFirst c q = (q.epoch ≡ c.epoch + 1) × (q.round ≡ 0)
 
 due_cases : (c : Catalogue) (q : Place) → is_due c q.epoch q.round ≡ true → IsOpen c q ⊎ IsNext c q ⊎ IsFirst c q
-due_cases c q d = elim (or_true (is_running c && (q.epoch == c.epoch && (q.round == c.round || q.round == c.round + 1))) (q.epoch == c.epoch + 1 && q.round == 0) d) [
+due_cases c q d = elim (or_cases (is_running c && (q.epoch == c.epoch && (q.round == c.round || q.round == c.round + 1))) (q.epoch == c.epoch + 1 && q.round == 0) d) [
   | inl o ↦ (
       let a = and_parts (is_running c) (q.epoch == c.epoch && (q.round == c.round || q.round == c.round + 1)) o in
       let b = and_parts (q.epoch == c.epoch) (q.round == c.round || q.round == c.round + 1) a.1 in
       let e = eqb-true q.epoch c.epoch b.0 in
-      elim (or_true (q.round == c.round) (q.round == c.round + 1) b.1) [ inl r ↦ inl (a.0, e, eqb-true q.round c.round r) | inr r ↦ inr (inl (a.0, e, eqb-true q.round (c.round + 1) r)) ]
+      elim (or_cases (q.round == c.round) (q.round == c.round + 1) b.1) [ inl r ↦ inl (a.0, e, eqb-true q.round c.round r) | inr r ↦ inr (inl (a.0, e, eqb-true q.round (c.round + 1) r)) ]
       )
   | inr o ↦ (let a = and_parts (q.epoch == c.epoch + 1) (q.round == 0) o in inr (inr (eqb-true q.epoch (c.epoch + 1) a.0, eqb-true q.round 0 a.1)))
 ]
@@ -174,7 +172,7 @@ entered_still n epoch c q ok = go (may_enter c epoch) refl
         let idle = eqb-true c.swept c.epoch (and_parts (epoch == c.epoch + 1) (c.swept == c.epoch) e).1 in
         let p = parts_of n c q ok in
         let first = first_of c q idle (due_cases c q p.2) in
-        let runs : nat_lt c.swept (c.epoch + 1) ≡ true = grind (arith, nat_tests, idle) in
+        let runs : nat_lt c.swept (c.epoch + 1) ≡ true = lt-ltb c.swept (c.epoch + 1) (omega (arith, idle)) in
         let here : IsOpen (enter_epoch n c) q = (runs, first.0, first.1) in
         let none = still_none c.got (from_round (c.epoch + 1) 0 c.got) q (λ body f. kept_is_old (c.epoch + 1) 0 c.got q body f) p.1 in
         let now = accepted_by n (enter_epoch n c) q p.0 none (due_open (enter_epoch n c) q here) in

@@ -1,10 +1,10 @@
 -- Each single change of a core leaves each Round and each Got as sent.
-use Rattle.std.proofs.Common.{◌≡◌, ◌∙◌, sym, ap, subst, ◌⊎◌, inl, inr, ℕ, zero, suc, ◌+◌, ◌<◌, ◌==◌, ◌&&◌, ◌||◌, Bool, true, false, cond, not, List, [], ◌∷◌, ◌++◌, All, IfSome, Contains, length, map, take, Option, Some, None, is_none, is_some, refl, slice_get, nat_lt}
+use Rattle.std.proofs.Common.{◌≡◌, ◌∙◌, sym, ap, subst, ◌⊎◌, inl, inr, ℕ, zero, suc, ◌<◌, ◌==◌, ◌&&◌, Bool, true, false, cond, not, List, [], ◌∷◌, ◌++◌, IfSome, Contains, length, map, take, Option, Some, None, is_none, is_some, refl, slice_get}
 use Rattle.std.proofs.lemmas.Bool.{and_from, and_parts, eq-eqb, lt-ltb, or_parts}
 use Rattle.std.proofs.lemmas.List.Elements.{All-contains, All-nil, All-weaker}
 use Rattle.std.proofs.lemmas.Map.Views.{All-map-remove_entry, IfSome-lookup_from_All}
 use Rattle.std.specs.BTreeMap.{is_at}
-use Rattle.std.specs.List.{list_all, list_any, range_with_len}
+use Rattle.std.specs.List.{list_all, list_any}
 use Rattle.std.specs.Map.{values_of}
 use Rattle.std.specs.Ordering.{nat_cmp}
 use Rattle.std.specs.Prelude.{nat_le, slice_index_or}
@@ -19,7 +19,7 @@ use Rattle.hs_core.specs.Effects.{note_enter, note_sweep, round_messages, tell_e
 use Rattle.hs_core.specs.Looking.{catalogue_of, group_of, operation_of, shape_of}
 use Rattle.hs_core.specs.Opening.{Taken, new_core, taken_group}
 use Rattle.hs_core.specs.Operating.{begin_line, busy_line, go_on_with, propose_entry, resume, take_step}
-use Rattle.hs_core.specs.Seeing.{pointers_for, view_for}
+use Rattle.hs_core.specs.Seeing.{view_for}
 use Rattle.hs_core.specs.State.{Core}
 use Rattle.hs_core.specs.Views.{begin_view, restart}
 use Rattle.hs_core.specs.Words.{change_if, change_with}
@@ -61,7 +61,7 @@ use Rattle.hs_post.specs.declared.message.Message.{Message}
 use Rattle.hs_post.specs.declared.message.Message.TheVariants as message
 use Rattle.hs_post.specs.Pool.{message_at, without}
 use Rattle.hs_replica.specs.declared.replica.Replica.{Replica}
-use Rattle.hs_replica.specs.Group.{Group, committed, copies_above, entries_above, new_group, others, renew, renewal}
+use Rattle.hs_replica.specs.Group.{Group, committed, copies_above, entries_above, others, renew, renewal}
 use Rattle.hs_replica.specs.Kinds.{is_got}
 use Rattle.hs_rounds.specs.declared.body.RoundBody.{RoundBody}
 use Rattle.hs_rounds.specs.declared.place.Place.{Place}
@@ -72,7 +72,7 @@ use Rattle.hs_shard.specs.Facts.{Catalogue}
 use Rattle.hs_shard.specs.Rounds.{is_due, messages}
 use Rattle.hs_sent.specs.Sent.{AreSent, HasGot, IsOfSent, WasSent, got_of}
 use Rattle.hs_sent.proofs.AcceptLemmas.{accepted_by}
-use Rattle.hs_sent.proofs.CarryLemmas.{AreCalled, MayCome, are_called, carried_sent, going_sent, no_got, no_got_sent, posted_sent, proposed_sent}
+use Rattle.hs_sent.proofs.CarryLemmas.{AreCalled, are_called, carried_sent, going_sent, no_got, no_got_sent, posted_sent, proposed_sent}
 use Rattle.hs_sent.proofs.MemoryLemmas.{memory_of}
 use Rattle.hs_sent.proofs.PoolLemmas.{of_all, of_each}
 use Rattle.hs_sent.proofs.SendLemmas.{due_alike, messages_kept}

@@ -1,5 +1,5 @@
 -- Single changes of a core leave its Rounds and Gots as sent.
-use Rattle.std.proofs.Common.{◌≡◌, ◌∙◌, sym, ap, subst, ◌⊎◌, inl, inr, ℕ, ◌+◌, List, [], ◌∷◌, ◌++◌, All, length, map, Option, Some, None, refl, slice_get, true}
+use Rattle.std.proofs.Common.{◌≡◌, ◌∙◌, sym, ap, subst, ◌⊎◌, inl, inr, ℕ, ◌+◌, List, All, length, Option, Some, None, refl, slice_get, true}
 use Rattle.std.specs.Map.{values_of}
 use Rattle.hs_core.specs.Changing.{add_entry_tasks, change_group, post}
 use Rattle.hs_core.specs.declared.wait.Wait.TheVariants as wait

@@ -1,5 +1,5 @@
 -- What an entry sends as it takes effect in memory: rounds that the run behind it keeps as sent.
-use Rattle.std.proofs.Common.{◌≡◌, ◌∙◌, sym, ap, subst, inl, inr, ℕ, zero, suc, ◌+◌, ◌==◌, ◌&&◌, ◌||◌, Bool, true, false, cond, not, List, [], ◌∷◌, ◌++◌, find, flat_map, length, slice_get, Option, Some, None, is_none, is_some, Result, Ok, Err, refl, arith, nat_lt}
+use Rattle.std.proofs.Common.{◌≡◌, ◌∙◌, sym, ap, subst, inl, inr, ℕ, zero, suc, ◌+◌, ◌==◌, ◌&&◌, ◌||◌, Bool, true, false, cond, not, List, [], ◌∷◌, ◌++◌, find, length, slice_get, Option, Some, None, is_none, is_some, Result, Ok, Err, refl, arith, nat_lt}
 use Rattle.std.proofs.lemmas.Bool.{and_parts, eqb-true, lt-ltb}
 use Rattle.std.specs.List.{range_with_len}
 use Rattle.std.specs.Option.{option_and_then, option_map_or}
@@ -13,7 +13,7 @@ use Rattle.hs_limits.specs.declared.spelling.SpellingFault.{SpellingFault}
 use Rattle.hs_limits.specs.Block.{Block}
 use Rattle.hs_limits.specs.Reading.{read_block}
 use Rattle.hs_limits.specs.Shape.{shard_of_key}
-use Rattle.hs_model.proofs.Members.{Member, contains_from_member, member-append}
+use Rattle.hs_model.proofs.Members.{Member, contains_from_member}
 use Rattle.hs_roots.specs.Roots.{retained_of}
 use Rattle.hs_roots.specs.Roots.{drop_root as without_root, put_root as with_root}
 use Rattle.hs_rounds.specs.declared.body.RoundBody.{RoundBody}
@@ -24,19 +24,17 @@ use Rattle.hs_rounds.specs.Rounds.{is_last as is_last_run}
 use Rattle.hs_fold.specs.Runs.Catalogue.{apply as fold_entry}
 use Rattle.hs_fold.specs.Runs.Facts.{Catalogue as Folded}
 use Rattle.hs_fold.specs.Runs.Fits.{HasSent}
-use Rattle.hs_fold.specs.Runs.Happening.{IsClients}
 use Rattle.hs_fold.specs.Runs.Own.{IsOwn}
 use Rattle.hs_fold.specs.Runs.Rounds as fold
 use Rattle.hs_fold.specs.Runs.Rounds.{run_of}
 use Rattle.hs_fold.proofs.Runs.MemoryLemmas.{run-complete, run-got, run-last}
 use Rattle.hs_memory.specs.Forget.{forget, reading}
 use Rattle.hs_memory.proofs.RunLemmas.{entered_alike, got_alike}
-use Rattle.hs_shard.specs.declared.effect.Effect.{Effect}
 use Rattle.hs_shard.specs.declared.effect.Sent.{Sent}
 use Rattle.hs_shard.specs.Apply.{apply, named_as}
 use Rattle.hs_shard.specs.Clients.{Applied, change_at, drop_root, give, mark_block, new_facts, only, put_root, root_refusal, store_block, with_block}
 use Rattle.hs_shard.specs.Facts.{Catalogue, facts_at, has_room, is_fresh, is_mine}
-use Rattle.hs_shard.specs.Rounds.{advance, advanced, end_open, end_round, enter, enter_epoch, entered, first_deltas, get_round, is_accepted, is_due, log_got, may_enter, message_to, messages, next_deltas, next_total, search, searched, settled, swept}
+use Rattle.hs_shard.specs.Rounds.{advance, advanced, end_open, end_round, enter, enter_epoch, entered, get_round, is_accepted, is_due, log_got, may_enter, message_to, messages, next_deltas, next_total, searched, settled, swept}
 use Rattle.hs_shard.proofs.AdvanceLemmas.{advance_done, advance_more}
 use Rattle.hs_sent.specs.Sent.{got_of}
 use Rattle.hs_sent.proofs.PoolLemmas.{of_all}

@@ -1,12 +1,12 @@
 -- Behind an entry that takes effect what waits was sent, and would be accepted still; and so what it sends.
-use Rattle.std.proofs.Common.{◌≡◌, ◌∙◌, sym, ap, subst, ◌⊎◌, inl, inr, ℕ, zero, suc, ◌+◌, ◌<◌, ◌≤◌, ◌&&◌, Bool, true, false, cond, List, [], ◌∷◌, ◌++◌, All, length, Option, Some, None, refl, arith, slice_get, nat_lt}
+use Rattle.std.proofs.Common.{◌≡◌, ◌∙◌, sym, ap, subst, ◌⊎◌, inl, inr, ℕ, suc, ◌+◌, ◌<◌, ◌&&◌, Bool, true, false, cond, List, [], ◌∷◌, ◌++◌, length, Some, refl, arith, slice_get, nat_lt}
 use Rattle.std.proofs.lemmas.Bool.{and_parts}
 use Rattle.std.proofs.lemmas.List.Elements.{All-weaker}
 use Rattle.std.specs.Map.{values_of}
 use Rattle.hs_answered.specs.Standing.{IsFolded}
 use Rattle.hs_core.specs.Changing.{change_group}
 use Rattle.hs_core.specs.Effects.{round_messages}
-use Rattle.hs_core.specs.Looking.{catalogue_of, front_of, group_of, shape_of}
+use Rattle.hs_core.specs.Looking.{front_of, group_of, shape_of}
 use Rattle.hs_core.specs.Pending.{named}
 use Rattle.hs_core.specs.State.{Core}
 use Rattle.hs_effects.specs.Lawful.{IsLawful}

@@ -15,7 +15,7 @@ use Rattle.hs_limits.specs.declared.delta.Delta.{Delta}
 use Rattle.hs_rounds.specs.declared.body.RoundBody.{RoundBody}
 use Rattle.hs_rounds.specs.declared.place.Place.{Place}
 use Rattle.hs_waiting.specs.Waits.{EntryWaits}
-use Rattle.hs_sent.specs.Sent.{AreSent, HasGot, WasSent}
+use Rattle.hs_sent.specs.Sent.{AreSent, HasGot}
 use Rattle.hs_sent.proofs.WasLemmas.{kept_now}
 
 module _ (name : List ℕ → Address) (cs : List Folded) (core : Core) (lawful : IsLawful name core cs) (sent : AreSent (setting_of name core) lawful.lawful.history core) where

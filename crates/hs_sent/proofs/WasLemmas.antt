@@ -1,5 +1,5 @@
 -- A round that was sent: to which shards, and what its sender keeps of it now.
-use Rattle.std.proofs.Common.{◌≡◌, ◌∙◌, sym, ap, subst, ℕ, ◌<◌, zero, suc, List, [], ◌∷◌, ◌++◌, length, true, refl, arith, append-nil, append_assoc}
+use Rattle.std.proofs.Common.{◌≡◌, ◌∙◌, sym, ap, subst, ℕ, ◌<◌, zero, suc, List, [], ◌∷◌, ◌++◌, length, true, arith, append-nil, append_assoc}
 use Rattle.std.proofs.lemmas.Grind.{common_steps}
 use Rattle.std.proofs.lemmas.Option.{slice_get_within}
 use Rattle.hs_limits.specs.Shape.{IsShape}
