@@ -64,7 +64,7 @@ pub record Walks (name : List ℕ → Address) (MayLine : ℕ → Op → Core �
       → Q (told_at_once shard entry c)
   -- a due Enter is proposed; a new Round that was under way is proposed as a Got; a shard sends a round again
   pub due : (shard : ℕ) (c : Core) → shard < (shape_of c).shards → is_enter_due shard c ≡ true → Q c → Q (propose_entry shard (kind.Enter 0 ((catalogue_of shard c).epoch + 1)) c)
-  pub round : (number from to epoch round total : ℕ) (deltas : List Delta) (c : Core) → message_at number c.pool ≡ Some (message.Round from to epoch round total deltas)
+  pub round : (number from to epoch round total : ℕ) (deltas : List Delta) (c : Core) → to < (shape_of c).shards → message_at number c.pool ≡ Some (message.Round from to epoch round total deltas)
       → is_new_round to from epoch round (change_pool (without number) c) ≡ true → Q c → Q (propose_entry to (kind.Got from epoch round total deltas) (change_pool (without number) c))
   pub again : (back shard : ℕ) (c : Core) → Q c → Q (send_round back shard c)
 

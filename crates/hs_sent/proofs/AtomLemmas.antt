@@ -1,5 +1,5 @@
 -- Each single change of a core leaves each Round and each Got as sent.
-use Rattle.std.proofs.Common.{◌≡◌, ◌∙◌, sym, ap, subst, ◌⊎◌, inl, inr, ℕ, zero, suc, ◌<◌, ◌==◌, ◌&&◌, Bool, true, false, cond, not, List, [], ◌∷◌, ◌++◌, IfSome, Contains, length, map, take, Option, Some, None, is_none, is_some, refl, slice_get}
+use Rattle.std.proofs.Common.{◌≡◌, ◌∙◌, sym, ap, subst, ◌⊎◌, inl, inr, ℕ, zero, suc, ◌<◌, ◌==◌, ◌&&◌, Bool, true, false, cond, not, List, [], ◌∷◌, ◌++◌, IfSome, Contains, length, Option, Some, None, is_none, is_some, refl, slice_get}
 use Rattle.std.proofs.lemmas.Bool.{and_from, and_parts, eq-eqb, lt-ltb, or_parts}
 use Rattle.std.proofs.lemmas.List.Elements.{All-contains, All-nil, All-weaker}
 use Rattle.std.proofs.lemmas.Map.Views.{All-map-remove_entry, IfSome-lookup_from_All}
@@ -7,7 +7,7 @@ use Rattle.std.specs.BTreeMap.{is_at}
 use Rattle.std.specs.List.{list_all, list_any}
 use Rattle.std.specs.Map.{values_of}
 use Rattle.std.specs.Ordering.{nat_cmp}
-use Rattle.std.specs.Prelude.{nat_le, slice_index_or}
+use Rattle.std.specs.Prelude.{nat_le}
 use Rattle.hs_answered.specs.Standing.{IsFolded}
 use Rattle.hs_along.specs.Changes.{IsBeside, tells_at_once, told_at_once}
 use Rattle.hs_core.specs.Asking.{send_round}
@@ -17,7 +17,7 @@ use Rattle.hs_core.specs.declared.waiting.Waiting.{Waiting}
 use Rattle.hs_core.specs.Delivering.{is_new_round}
 use Rattle.hs_core.specs.Effects.{note_enter, note_sweep, round_messages, tell_enter, tell_operation}
 use Rattle.hs_core.specs.Looking.{catalogue_of, group_of, operation_of, shape_of}
-use Rattle.hs_core.specs.Opening.{Taken, new_core, taken_group}
+use Rattle.hs_core.specs.Opening.{Taken, new_core}
 use Rattle.hs_core.specs.Operating.{begin_line, busy_line, go_on_with, propose_entry, resume, take_step}
 use Rattle.hs_core.specs.Seeing.{view_for}
 use Rattle.hs_core.specs.State.{Core}
@@ -28,10 +28,12 @@ use Rattle.hs_desk.specs.declared.what.What.TheVariants as what
 use Rattle.hs_effects.specs.Lawful.{IsLawful}
 use Rattle.hs_effects.specs.Logged.{IsCalled, IsOrderly}
 use Rattle.hs_effects.specs.Taking.{done_by, next_deed, setting_of, taken}
+use Rattle.hs_effects.proofs.EventLemmas.{none_wait}
 use Rattle.hs_effects.proofs.GroupLemmas.{group_changed}
 use Rattle.hs_effects.proofs.LawfulLemmas.{set_same}
 use Rattle.hs_effects.proofs.QuietLemmas.{Quiet, both, carried_quiet, going_quiet, proposed_quiet, sweep_quiet, told_enter_quiet, told_quiet, with_quiet}
 use Rattle.hs_effects.proofs.StepLemmas.{done_asks, going_asks, told_asks}
+use Rattle.hs_effects.proofs.ViewLemmas.{at_cut}
 use Rattle.hs_entry.specs.declared.entry.Entry.{Entry}
 use Rattle.hs_entry.specs.declared.entry.Entry.TheVariants as kind
 use Rattle.hs_events.specs.Alone.{is_round}
@@ -183,13 +185,6 @@ module _ (name : List ℕ → Address) (history : List Deed) where
       of_all (IsOfSent set history) (λ (x : ℕ × Replica). copies_above x.0 (length x.1.stamps) group)
       (λ x y j. of_each (IsOfSent set history) (λ (e : ℕ × Entry). message.Copy group.shard x.0 group.view e.0 e.1) (λ e. tt) (entries_above (length x.1.stamps) group) y j) (others group) m k
 
-  cut_at : (k : ℕ) (xs : List Entry) (at : ℕ) (x : Entry) → slice_get (take k xs) at ≡ Some x → slice_get xs at ≡ Some x
-  cut_at zero [] at x e = e
-  cut_at zero (y ∷ ys) at x e = absurd (cc e)
-  cut_at (suc k) [] at x e = e
-  cut_at (suc k) (y ∷ ys) zero x e = e
-  cut_at (suc k) (y ∷ ys) (suc at) x e = cut_at k ys at x e
-
   renewed : (set : Setting) (shard : ℕ) (c : Core) → AreSent set history c → AreSent set history (change_group shard (renew c.members) c)
   renewed set shard c s = record {
     messages = s.messages;
@@ -205,7 +200,7 @@ module _ (name : List ℕ → Address) (history : List Deed) where
           by (inl same) = sym (ap (λ (x : Group). slice_get x.waiting at) same) ∙ h
           by (inr is) =
               let cut : slice_get (renew c.members (group_of shard c)).waiting at ≡ Some e = sym (ap (λ (x : Group). slice_get x.waiting at) is.1) ∙ h in
-              subst (λ j. slice_get (group_of j c).waiting at ≡ Some e) (sym is.0) (cut_at _ (group_of shard c).waiting at e cut)
+              subst (λ j. slice_get (group_of j c).waiting at ≡ Some e) (sym is.0) (at_cut _ (group_of shard c).waiting at e cut)
 
   pub sent_opens : (c : Core) → AreSent (setting_of name c) history c → (shard : ℕ) → AreSent (setting_of name (begin_view shard c)) history (begin_view shard c)
   sent_opens c s shard = on_quiet name history c (begin_view shard c) quiet there
@@ -237,11 +232,6 @@ module _ (name : List ℕ → Address) (history : List Deed) where
 
   -- ---- as the core opens
 
-  none_wait : (shape : Shape) (found : Taken) (shards : List ℕ) (g : ℕ) (none : Group) → none.waiting ≡ [] → (slice_index_or (map (taken_group shape found) shards) g none).waiting ≡ []
-  none_wait shape found [] g none e = e
-  none_wait shape found (k ∷ shards) zero none e = refl
-  none_wait shape found (k ∷ shards) (suc g) none e = none_wait shape found shards g none e
-
   pub sent_new : (shape : Shape) (limits : Limits) (found : Taken) (moment : ℕ) → AreSent (setting_of name (new_core shape limits found moment)) history (new_core shape limits found moment)
   sent_new shape limits found moment = record {
     messages = All-nil (IsOfSent (setting_of name (new_core shape limits found moment)) history);
@@ -255,7 +245,7 @@ module _ (name : List ℕ → Address) (history : List Deed) where
       nothing (suc at) e f = cc f
 
       never : (g at : ℕ) (e : Entry) → slice_get (group_of g (new_core shape limits found moment)).waiting at ≡ Some e → ⊥
-      never g at e h = nothing at e (sym (ap (λ es. slice_get es at) (none_wait shape found _ g _ refl)) ∙ h)
+      never g at e h = nothing at e (sym (ap (λ es. slice_get es at) (none_wait name shape found _ g _ refl)) ∙ h)
 
 -- ---- an entry takes effect
 

@@ -175,7 +175,7 @@ pub record EndsOnce (shards : ℕ) (c : Folded) (entry : Entry) : Type 0 where
   pub gets : (place : Place) (told : RoundBody) → entry ≡ got_of place told → fold.is_accepted shards c place ≡ true → fold.is_complete shards (fold.log_got place told c) ≡ true → fold.is_last shards (fold.log_got place told c) ≡ false
       → have_told shards c.epoch (c.round + 1) (from_round c.epoch (c.round + 1) (fold.log_got place told c).got) ≡ false
 
-second_false : (a b : Bool) → a ≡ true → a && b ≡ false → b ≡ false
+pub second_false : (a b : Bool) → a ≡ true → a && b ≡ false → b ≡ false
 second_false true b e f = f
 second_false false b e f = cc e
 

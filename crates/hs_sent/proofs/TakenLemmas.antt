@@ -44,7 +44,7 @@ use Rattle.hs_sent.proofs.AcceptLemmas.{Spares, entry_still}
 use Rattle.hs_sent.proofs.LastLemmas.{none_later}
 use Rattle.hs_sent.proofs.MemoryLemmas.{memory_of}
 use Rattle.hs_sent.proofs.PoolLemmas.{all_sent}
-use Rattle.hs_sent.proofs.SendLemmas.{AreKept, EndsOnce, entry_kept}
+use Rattle.hs_sent.proofs.SendLemmas.{AreKept, EndsOnce, entry_kept, second_false}
 use Rattle.hs_sent.proofs.WasLemmas.{is_now, kept_now, was_more}
 
 -- ---- what waits behind it
@@ -142,10 +142,6 @@ module _ (set : Setting) (history : List Deed) (shard number : ℕ) (entry : Ent
     }
 
 -- ---- what stands behind a lawful history
-
-second_false : (a b : Bool) → a ≡ true → a && b ≡ false → b ≡ false
-second_false true b e f = f
-second_false false b e f = cc e
 
 module _ (name : List ℕ → Address) (cs : List Folded) (core : Core) (lawful : IsLawful name core cs) (s : AreSent (setting_of name core) lawful.lawful.history core)
     (shard number : ℕ) (entry : Entry) (low : shard < (shape_of core).shards) (at_first : committed (group_of shard core) ≡ Some (number, entry)) where
