@@ -295,7 +295,7 @@ module _ (name : List ℕ → Address) (set : Setting) (history : List Deed) (sh
   tells_sent (kind.KeptRoot created dropped counted address key) effect = s
   tells_sent (kind.KeptRound way other epoch round total deltas) effect = s
 
-pub tells_quiet : (shard : ℕ) (entry : Entry) (effect : Effect) (core : Core) → Quiet core (tells_at_once shard entry effect core)
+tells_quiet : (shard : ℕ) (entry : Entry) (effect : Effect) (core : Core) → Quiet core (tells_at_once shard entry effect core)
 tells_quiet shard (kind.View view) effect core = record { catalogues = refl; members = refl; limits = refl; moment = refl }
 tells_quiet shard (kind.Block line least bytes) effect core = told_quiet line effect.what core
 tells_quiet shard (kind.Mark line least block a) effect core = told_quiet line effect.what core

@@ -1,6 +1,5 @@
 pub mod AcceptLemmas
 pub mod AtomLemmas
-pub mod BehindLemmas
 pub mod CarryLemmas
 pub mod LastLemmas
 pub mod MemoryLemmas

@@ -38,10 +38,6 @@ few_back : (set : Setting) (cs : List Folded) (one more : List Deed) → KeepFew
 few_back set cs [] more f = f
 few_back set cs (d ∷ one) more f = few_back set (follow set cs d) one more f.1
 
-pub few_append : (set : Setting) (cs : List Folded) (one more : List Deed) → KeepFewRecords set cs one → KeepFewRecords set (follow_all set cs one) more → KeepFewRecords set cs (one ++ more)
-few_append set cs [] more f g = g
-few_append set cs (d ∷ one) more f g = (f.0, few_append set (follow set cs d) one more f.1 g)
-
 -- ---- a round that was sent
 
 -- what is kept now was sent
