@@ -38,8 +38,7 @@ module _ (name : List ℕ → Address) (cs : List Folded) (core : Core) (lawful 
   got_waits shard at from epoch round total deltas there =
       let place : Place = record { epoch = epoch; round = round; from = from } in
       let told : RoundBody = record { total = total; deltas = deltas } in
-      let low : from < set.shape.shards = (sent.gots shard at place told there).of in
-      (
+      let low : from < set.shape.shards = (sent.gots shard at place told there).of in (
         subst (λ n. from < n) (sym lawful.folded.shards) low,
         subst (λ (x : List Folded). HasSent (catalogue_at x from).sent shard epoch round told) lawful.lawful.gives (got_kept shard at place told there),
       )
