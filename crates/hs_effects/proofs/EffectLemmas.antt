@@ -97,7 +97,7 @@ beyond none (x ∷ xs) (suc k) = go (beyond none xs k)
     go (inl l) = inl (grind (arith, common_steps, l))
     go (inr e) = inr e
 
-taken_here : (shard number : ℕ) (entry : Entry) (c : Core) → committed (group_of shard c) ≡ Some (number, entry) → group_of shard (change_group shard take_committed c) ≡ take_committed (group_of shard c)
+pub taken_here : (shard number : ℕ) (entry : Entry) (c : Core) → committed (group_of shard c) ≡ Some (number, entry) → group_of shard (change_group shard take_committed c) ≡ take_committed (group_of shard c)
 taken_here shard number entry c e = go (beyond (new_group (shape_of c) shard 0 0 []) c.groups shard)
   where
     go : (shard < length c.groups) ⊎ (group_of shard c ≡ new_group (shape_of c) shard 0 0 []) → group_of shard (change_group shard take_committed c) ≡ take_committed (group_of shard c)

@@ -1,0 +1,36 @@
+//! What is present was stored by an entry that took effect.
+ghost use Rattle.std.specs.Prelude.{◌≡◌, ◌<◌, ℕ, List, Some};
+ghost use Rattle.hs_along.specs.Changes.{IsBeside, told_at_once};
+ghost use Rattle.hs_core.specs.Looking.{group_of, shape_of};
+ghost use Rattle.hs_core.specs.Operating.{begin_line, go_on_with, propose_entry};
+ghost use Rattle.hs_core.specs.State.{Core};
+ghost use Rattle.hs_effects.specs.Lawful.{IsLawful};
+ghost use Rattle.hs_effects.specs.Taking.{folds_behind};
+ghost use Rattle.hs_entry.specs.declared.entry.Entry.{Entry};
+ghost use Rattle.hs_fold.specs.Runs.Facts.{Catalogue as Folded};
+ghost use Rattle.hs_limits.specs.declared.address.Address.{Address};
+ghost use Rattle.hs_model.specs.declared.op.Op.{Op};
+ghost use Rattle.hs_ops.specs.Operations.{Operation};
+ghost use Rattle.hs_ops.specs.Views.{OpView};
+ghost use Rattle.hs_ops.specs.declared.step.OpStep.{OpStep};
+ghost use Rattle.hs_replica.specs.Group.{committed};
+ghost use Rattle.hs_rests.specs.Rests.{AreStored};
+
+/// Where each present block was stored by an entry that took effect, so it is behind each change of
+/// which an event is made: behind an entry that takes effect, with what is told of it at once; where
+/// an operation goes on, or is begun; where an entry is proposed; and beside all of that.
+pub fn what_is_present_was_stored()
+    ensures beside { (cs : List Folded) (before after : Core)
+        → AreStored before cs → IsBeside before after → AreStored after cs }
+    ensures effect { (name : List ℕ → Address) (cs : List Folded) (core : Core) (shard number : ℕ)
+        (entry : Entry)
+        → IsLawful name core cs → AreStored core cs → shard < (shape_of core).shards
+        → committed (group_of shard core) ≡ Some (number, entry) →
+        AreStored (told_at_once shard entry core) (folds_behind name cs shard entry core) }
+    ensures goes { (cs : List Folded) (core : Core) (next : OpView → Operation → OpStep) (line : ℕ)
+        → AreStored core cs → AreStored (go_on_with next line core) cs }
+    ensures line { (cs : List Folded) (core : Core) (line : ℕ) (o : Op)
+        → AreStored core cs → AreStored (begin_line line o core) cs }
+    ensures proposed { (cs : List Folded) (core : Core) (shard : ℕ) (entry : Entry)
+        → AreStored core cs → AreStored (propose_entry shard entry core) cs }
+{}
