@@ -108,7 +108,7 @@ any_member test (x ∷ es) e = go (test x) refl e (any_member test es)
     go true is f ih = (x, inl refl, is)
     go false is f ih = let r = ih f in (r.0, inr r.1, r.2)
 
-past : (cs : List Folded) (k : ℕ) → length cs ≤ k → catalogue_at cs k ≡ empty_catalogue
+pub past : (cs : List Folded) (k : ℕ) → length cs ≤ k → catalogue_at cs k ≡ empty_catalogue
 past [] k l = refl
 past (c ∷ cs) zero l = absurd (omega (arith, l))
 past (c ∷ cs) (suc k) l = past cs k (grind (arith, common_steps, l))

@@ -4,6 +4,7 @@ pub mod FollowLemmas
 pub mod GroundLemmas
 pub mod HeldLemmas
 pub mod ListLemmas
+pub mod OpenLemmas
 pub mod RestLemmas
 pub mod StoredLemmas
 pub mod ValidLemmas

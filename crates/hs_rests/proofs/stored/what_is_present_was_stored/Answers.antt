@@ -1,5 +1,12 @@
+use Rattle.hs_rests.proofs.OpenLemmas.{list_numbers, stored_new}
 use Rattle.hs_rests.proofs.StoredLemmas.{stored_beside, stored_effect, stored_goes, stored_line, stored_proposed}
 use Rattle.hs_rests.proofs.stored.what_is_present_was_stored.Goals as goal
+
+pub returns-clause-listed : goal.returns-clause-listed
+returns-clause-listed c = λ at list numbered a facts found. list_numbers at list numbered a facts found
+
+pub returns-clause-opened : goal.returns-clause-opened
+returns-clause-opened c = λ cs shape limits found moment each stored. stored_new cs shape limits found moment each stored
 
 pub returns-clause-beside : goal.returns-clause-beside
 returns-clause-beside c = λ cs before after stored beside. stored_beside cs before after stored beside
