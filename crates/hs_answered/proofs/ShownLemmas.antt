@@ -122,7 +122,7 @@ puts_one op.Stat key e = cc e
 
 -- ---- the judging shard is one of the store
 
-pub judging_low : (shards : ℕ) → 0 < shards → (key : Option (List ℕ)) (a : Option Address) → unwrap_or (option_or (option_map (shard_of_key shards) key) (option_map (shard_of shards) a)) 0 < shards
+judging_low : (shards : ℕ) → 0 < shards → (key : Option (List ℕ)) (a : Option Address) → unwrap_or (option_or (option_map (shard_of_key shards) key) (option_map (shard_of shards) a)) 0 < shards
 judging_low shards some (Some key) a = mod-lt (slice_index key (length key - 1)) some
 judging_low shards some None (Some a) = mod-lt (slice_index a.0 31) some
 judging_low shards some None None = some

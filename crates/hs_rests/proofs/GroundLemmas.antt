@@ -1,12 +1,13 @@
 -- What an operation proposes rests on what is there.
-use Rattle.std.proofs.Common.{◌≡◌, ◌∙◌, sym, ap, subst, inl, inr, ℕ, ◌+◌, ◌<◌, ◌≤◌, true, false, List, [], ◌∷◌, length, map, Option, Some, None, Ok, refl, arith, nat_lt, slice_index}
+use Rattle.std.proofs.Common.{◌≡◌, ◌∙◌, sym, ap, subst, inl, inr, ℕ, ◌+◌, ◌<◌, ◌≤◌, true, false, List, [], ◌∷◌, length, map, Option, Some, None, Ok, refl, arith, nat_lt, slice_index, ◌-◌, unwrap_or}
+use Rattle.std.proofs.Math.Nat.{mod-lt}
 use Rattle.std.proofs.lemmas.Bool.{and_parts}
 use Rattle.std.proofs.lemmas.Map.Made.{lookup-map_values}
 use Rattle.std.specs.BTreeMap.{is_at}
-use Rattle.std.specs.Option.{option_map, option_map_or}
+use Rattle.std.specs.Option.{option_map, option_map_or, option_or}
 use Rattle.std.specs.Prelude.{Contains, bytes_eq, is_some}
 use Rattle.hs_answered.specs.Standing.{IsFolded, store_with}
-use Rattle.hs_answered.proofs.ShownLemmas.{judging_low, shown}
+use Rattle.hs_answered.proofs.ShownLemmas.{shown}
 use Rattle.hs_core.specs.Looking.{catalogue_of, front_of, shape_of}
 use Rattle.hs_core.specs.Seeing.{pointers_for, view_for}
 use Rattle.hs_core.specs.State.{Core}
@@ -29,6 +30,7 @@ use Rattle.hs_laws.specs.Valid.{least_epoch as lowest_epoch}
 use Rattle.hs_laws.proofs.EpochLemmas.{nat_le_from}
 use Rattle.hs_limits.specs.Block.{Block, spell}
 use Rattle.hs_limits.specs.Reading.{read_block}
+use Rattle.hs_limits.specs.Shape.{shard_of, shard_of_key}
 use Rattle.hs_limits.specs.declared.address.Address.{Address}
 use Rattle.hs_limits.proofs.ReadingLemmas.{read_again}
 use Rattle.hs_memory.specs.Forget.{forget, known_of}
@@ -45,6 +47,12 @@ use Rattle.hs_shard.specs.declared.facts.Facts.{Facts}
 use Rattle.hs_shard.specs.Facts.{Catalogue, facts_at}
 use Rattle.hs_tokens.specs.Seats.{found, held_at, seat_of}
 use Rattle.hs_waiting.specs.Waits.{EnterWaits}
+
+-- the shard that judges is one of the store's
+judging_low : (shards : ℕ) → 0 < shards → (key : Option (List ℕ)) (a : Option Address) → unwrap_or (option_or (option_map (shard_of_key shards) key) (option_map (shard_of shards) a)) 0 < shards
+judging_low shards some (Some key) a = mod-lt (slice_index key (length key - 1)) some
+judging_low shards some None (Some a) = mod-lt (slice_index a.0 31) some
+judging_low shards some None None = some
 
 same_block : (a b : Block) → Ok a ≡ Ok b → a ≡ b
 same_block a b e = cc e
