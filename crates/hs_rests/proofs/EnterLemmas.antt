@@ -135,9 +135,6 @@ module _ (set : Setting) (history : List Deed) (shape : IsShape set.shape) (fit 
   g : GoesAll set (shape_some set.shape shape) (no_entries set) history
   g = history_goes set (shape_some set.shape shape) (shape_few set.shape shape) history fit records
 
-  pub history_epochs : AreEpochsInStep (store_of (follow_all set (no_entries set) history))
-  history_epochs = g.valid.epochs
-
   -- a shard from which a round has come has entered its epoch
   has_entered : (shard : ℕ) → shard < set.shape.shards → (x : Place × RoundBody) → Member x (catalogue_at (follow_all set (no_entries set) history) shard).got
       → (x.0.from < set.shape.shards) × (x.0.epoch ≤ (catalogue_at (follow_all set (no_entries set) history) x.0.from).epoch)

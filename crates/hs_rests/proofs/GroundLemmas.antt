@@ -1,5 +1,5 @@
 -- What an operation proposes rests on what is there.
-use Rattle.std.proofs.Common.{◌≡◌, ◌∙◌, sym, ap, subst, inl, inr, ℕ, ◌+◌, ◌<◌, ◌≤◌, true, false, List, [], ◌∷◌, length, map, Option, Some, None, Ok, refl, arith, nat_lt, slice_index, ◌-◌, unwrap_or}
+use Rattle.std.proofs.Common.{◌≡◌, ◌∙◌, sym, ap, subst, inl, inr, ℕ, ◌+◌, ◌<◌, ◌≤◌, true, false, List, [], ◌∷◌, length, map, Option, Some, None, Ok, Result, refl, arith, nat_lt, slice_index, ◌-◌, unwrap_or}
 use Rattle.std.proofs.Math.Nat.{mod-lt}
 use Rattle.std.proofs.lemmas.Bool.{and_parts}
 use Rattle.std.proofs.lemmas.Map.Made.{lookup-map_values}
@@ -32,6 +32,7 @@ use Rattle.hs_limits.specs.Block.{Block, spell}
 use Rattle.hs_limits.specs.Reading.{read_block}
 use Rattle.hs_limits.specs.Shape.{shard_of, shard_of_key}
 use Rattle.hs_limits.specs.declared.address.Address.{Address}
+use Rattle.hs_limits.specs.declared.spelling.SpellingFault.{SpellingFault}
 use Rattle.hs_limits.proofs.ReadingLemmas.{read_again}
 use Rattle.hs_memory.specs.Forget.{forget, known_of}
 use Rattle.hs_model.specs.declared.op.Op.{Op}
@@ -54,8 +55,8 @@ judging_low shards some (Some key) a = mod-lt (slice_index key (length key - 1))
 judging_low shards some None (Some a) = mod-lt (slice_index a.0 31) some
 judging_low shards some None None = some
 
-same_block : (a b : Block) → Ok a ≡ Ok b → a ≡ b
-same_block a b e = cc e
+same_block : (read : Result Block SpellingFault) (a b : Block) → read ≡ Ok a → read ≡ Ok b → a ≡ b
+same_block read a b e f = cc (sym e ∙ f)
 
 same_number : (m n : ℕ) → Some m ≡ Some n → m ≡ n
 same_number m n e = cc e
@@ -118,7 +119,7 @@ module _ (name : List ℕ → Address) (cs : List Folded) (core : Core) (folded 
       block_rests fresh block e pointer among =
           let asked : Block = asked_block core.sessions session payload handles in
           let reads : read_block (spell asked) ≡ Ok asked = read_again asked (is_bounded core.sessions session payload handles has) (are_addressed core.sessions session payload holds handles) in
-          let same : block ≡ asked = same_block block asked (sym e ∙ reads) in
+          let same : block ≡ asked = same_block (read_block (spell asked)) block asked e reads in
           pointer_rests cs core.sessions valid session payload handles c.epoch has lowest (nat_le_from c.epoch (least_epoch (helds core.sessions session handles) + 1) fresh) pointer
           (subst (λ (b : Block). Contains b.pointers pointer) same among)
 
@@ -159,10 +160,9 @@ module _ (name : List ℕ → Address) (cs : List Folded) (core : Core) (folded 
       ordinary = refl;
       names = tt;
       waits = λ fresh. (
-          let e : ℕ = (found core.sessions session handle).epoch in
-          let up = nat_le_from c.epoch (e + 1) fresh in
+          let up = nat_le_from c.epoch ((found core.sessions session handle).epoch + 1) fresh in
           let low = lowest in
-          held_rests cs core.sessions valid session handle e some (omega arith) (omega (arith, low, up))
+          held_rests cs core.sessions valid session handle (found core.sessions session handle).epoch some (omega arith) (omega (arith, low, up))
           );
     }
 
