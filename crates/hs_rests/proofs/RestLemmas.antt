@@ -105,8 +105,8 @@ rests_again cs c rests back shard =
 
 -- ---- as the core opens
 
-pub rests_new : (cs : List Folded) (shape : Shape) (limits : Limits) (taken : Taken) (moment : ℕ) → AreResting (new_core shape limits taken moment) cs
-rests_new cs shape limits taken moment shard place entry at = absurd (nothing place (sym (ap (λ (es : List Entry). slice_get es place) (none_wait (λ bytes. record { 0 = bytes }) shape taken _ shard _ refl)) ∙ at))
+pub rests_new : (cs : List Folded) (shape : Shape) (limits : Limits) (found : Taken) (moment : ℕ) → AreResting (new_core shape limits found moment) cs
+rests_new cs shape limits found moment shard place entry at = absurd (nothing place (sym (ap (λ (es : List Entry). slice_get es place) (none_wait (λ bytes. record { 0 = bytes }) shape found _ shard _ refl)) ∙ at))
   where
     nothing : (k : ℕ) → slice_get [] k ≡ Some entry → ⊥
     nothing zero e = cc e
