@@ -110,7 +110,7 @@ taken_here shard number entry c e = go (beyond (new_group (shape_of c) shard 0 0
 entry_number : (a b : ℕ) → wait.Entry a ≡ wait.Entry b → a ≡ b
 entry_number a b e = cc e
 
-taken_free : (name : List ℕ → Address) (shard number line : ℕ) (entry : Entry) (c : Core) → IsOrderly name c → committed (group_of shard c) ≡ Some (number, entry) → asked_by entry ≡ Some line
+pub taken_free : (name : List ℕ → Address) (shard number line : ℕ) (entry : Entry) (c : Core) → IsOrderly name c → committed (group_of shard c) ≡ Some (number, entry) → asked_by entry ≡ Some line
     → IsFree (change_group shard take_committed c) line
 taken_free name shard number line entry c its e by = λ g place x at of. go g place x at of (group_changed shard take_committed c g)
   where
