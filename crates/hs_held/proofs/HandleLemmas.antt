@@ -1,5 +1,5 @@
 -- What the handles of open sessions stand for, as sessions come, go and gain handles.
-use Rattle.std.proofs.Common.{◌≡◌, subst, ℕ, Bool, true, false, cond, map, List, [], ◌∷◌, Option, Some, None, refl, unwrap_or}
+use Rattle.std.proofs.Common.{◌≡◌, ℕ, Bool, true, false, cond, map, List, [], ◌∷◌, Option, Some, None, refl, unwrap_or}
 use Rattle.std.proofs.lemmas.List.{length-replicate}
 use Rattle.std.specs.BTreeMap.{is_at}
 use Rattle.std.specs.List.{AllByRecursion}

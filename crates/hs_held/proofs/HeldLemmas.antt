@@ -1,5 +1,5 @@
 -- Each single change of a core leaves its sessions and its shards addresses of 32 bytes.
-use Rattle.std.proofs.Common.{◌≡◌, ◌∙◌, sym, ap, subst, inl, inr, ℕ, ◌+◌, ◌<◌, ◌≤◌, ◌==◌, Bool, true, false, cond, List, [], ◌∷◌, Option, Some, None, Ok, refl, arith, is_some, slice_get}
+use Rattle.std.proofs.Common.{◌≡◌, ◌∙◌, sym, ap, subst, inl, inr, ℕ, ◌+◌, ◌≤◌, ◌==◌, Bool, true, false, cond, List, Option, Some, None, Ok, refl, arith, is_some, slice_get}
 use Rattle.std.proofs.lemmas.Bool.{false≢true}
 use Rattle.std.proofs.lemmas.Bool.Decides.{nat_tests}
 use Rattle.std.specs.List.{AllByRecursion}
@@ -29,7 +29,7 @@ use Rattle.hs_held.proofs.AllLemmas.{all_set, some_is}
 use Rattle.hs_held.proofs.AnswerLemmas.{bytes_stops, from_stops}
 use Rattle.hs_held.proofs.CatalogueLemmas.{Brings, applied_keeps}
 use Rattle.hs_held.proofs.GainLemmas.{IsGivenWhole, gained_whole, name_whole, pointers_whole, shard_keeps}
-use Rattle.hs_held.proofs.HandleLemmas.{AreWhole, after_stands, asked_whole, hold_addresses}
+use Rattle.hs_held.proofs.HandleLemmas.{after_stands, asked_whole, hold_addresses}
 use Rattle.hs_journal.specs.declared.entry.Who.TheVariants as who
 use Rattle.hs_limits.specs.Block.{Block, spell}
 use Rattle.hs_limits.specs.Reading.{read_block}

@@ -1,5 +1,5 @@
 -- A Mark that is proposed by the bytes of its block is of the block that its line writes, and so is one that gives its block.
-use Rattle.std.proofs.Common.{◌≡◌, ◌∙◌, sym, ap, subst, ℕ, ◌<◌, ◌==◌, ◌&&◌, Bool, true, false, not, map, List, [], ◌∷◌, ◌++◌, length, Option, Some, None, Ok, refl, arith, bytes_eq, is_none, slice_get, slice_index, unwrap_or}
+use Rattle.std.proofs.Common.{◌≡◌, ◌∙◌, sym, ap, subst, ℕ, ◌+◌, ◌<◌, ◌==◌, ◌&&◌, Bool, true, false, not, map, List, [], ◌∷◌, ◌++◌, length, Option, Some, None, Ok, refl, bytes_eq, is_none, slice_get, slice_index, unwrap_or}
 use Rattle.std.proofs.Math.Nat.{mod-lt}
 use Rattle.std.proofs.lemmas.Bool.{eqb-true}
 use Rattle.std.proofs.lemmas.Map.Made.{lookup-map_values}
@@ -55,7 +55,7 @@ use Rattle.hs_limits.specs.Shape.{shard_of}
 use Rattle.hs_limits.specs.declared.address.Address.{Address}
 use Rattle.hs_limits.specs.declared.address.Held.{Held}
 use Rattle.hs_limits.specs.declared.spelling.SpellingFault.{SpellingFault}
-use Rattle.hs_memory.specs.Forget.{forget, known_of}
+use Rattle.hs_memory.specs.Forget.{known_of}
 use Rattle.hs_model.specs.declared.op.Op.{Op}
 use Rattle.hs_model.specs.declared.op.Op.TheVariants as op
 use Rattle.hs_model.specs.declared.store.StoredBlock.{StoredBlock}

@@ -32,7 +32,7 @@ use Rattle.hs_effects.proofs.SeatLemmas.{IsSameFor, block_same, seats_other}
 use Rattle.hs_entry.specs.declared.entry.Entry.{Entry}
 use Rattle.hs_entry.specs.declared.entry.Entry.TheVariants as kind
 use Rattle.hs_fold.proofs.Shards.PlaceLemmas.{other-at, same-at}
-use Rattle.hs_fold.specs.Runs.Facts.{Catalogue as Folded, Facts as FoldedFacts}
+use Rattle.hs_fold.specs.Runs.Facts.{Catalogue as Folded}
 use Rattle.hs_fold.specs.Runs.Facts.{empty_catalogue, facts_at}
 use Rattle.hs_fold.specs.Runs.Fits.{catalogue_at}
 use Rattle.hs_fold.specs.Runs.History.{applied}

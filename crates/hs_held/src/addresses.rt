@@ -37,7 +37,7 @@ pub fn handles_stand_for_addresses()
 
 /// Where names have 32 bytes, each change keeps it so. A core opens so, where its catalogues are so
 /// (`opened`); a view that begins keeps it, an entry that is proposed, a client's line, an operation
-/// that goes on or is told any bytes, an entry that takes effect and is told, and what is beside.
+/// that goes on or is told any bytes, an entry that takes effect, and what is beside.
 pub fn each_change_keeps_addresses()
     ensures opened { (shape : Shape) (limits : Limits) (found : Taken) (moment : ℕ)
         → AllByRecursion KeepsAddresses found.catalogues →
