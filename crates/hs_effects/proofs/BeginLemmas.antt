@@ -51,7 +51,7 @@ rest_none None rest e = e
 rest_none (Some r) rest e = absurd (cc e)
 
 -- the session is open, and has no other operation
-record IsAlone (v : OpView) (q : List ℕ) : Type 0 where
+pub record IsAlone (v : OpView) (q : List ℕ) : Type 0 where
   pub opened : IsSome (seat_of q v.seats)
   pub free : v.busy ≡ None
 
@@ -84,7 +84,7 @@ not_refused v o e = go (refusal_of v o) e
     go (Some r) e = absurd (cc e)
 
 -- one that isn't answered at once is of an open session that has no other
-unanswered_alone : (v : OpView) (o : Op) (q : List ℕ) → judged_in v o ≡ None → session_of (Some o) ≡ Some q → IsAlone v q
+pub unanswered_alone : (v : OpView) (o : Op) (q : List ℕ) → judged_in v o ≡ None → session_of (Some o) ≡ Some q → IsAlone v q
 unfolding judged_in refusals_of
 unanswered_alone v (op.Open n) q e s = absurd (never (refusal_of v (op.Open n)) e)
   where
