@@ -46,28 +46,28 @@ abbrev pub OfEach : (ℕ → Type 0) → List (ℕ × Waiting) → Type 0
 OfEach P operations = (n : ℕ) (w : Waiting) → lookup (is_at (nat_cmp n)) operations ≡ Some w → P n
 
 module _ (P : ℕ → Type 0) (operations : List (ℕ × Waiting)) (its : OfEach P operations) where
-  lines_set : (line : ℕ) (w was : Waiting) → lookup (is_at (nat_cmp line)) operations ≡ Some was → OfEach P (set_value (is_at (nat_cmp line)) operations w)
+  pub lines_set : (line : ℕ) (w was : Waiting) → lookup (is_at (nat_cmp line)) operations ≡ Some was → OfEach P (set_value (is_at (nat_cmp line)) operations w)
   lines_set line w was at n u e = go (one_or_other n line)
     where
       go : (n ≡ line) ⊎ (n ≡ line → ⊥) → P n
       go (inl is) = subst P (sym is) (its line was at)
       go (inr d) = its n u (sym (set_other nat_cmp number_exact operations line n w d) ∙ e)
 
-  lines_remove : (line : ℕ) (was : Waiting) → lookup (is_at (nat_cmp line)) operations ≡ Some was → OfEach P (remove_entry (is_at (nat_cmp line)) operations)
+  pub lines_remove : (line : ℕ) (was : Waiting) → lookup (is_at (nat_cmp line)) operations ≡ Some was → OfEach P (remove_entry (is_at (nat_cmp line)) operations)
   lines_remove line was at n u e = go (one_or_other n line)
     where
       go : (n ≡ line) ⊎ (n ≡ line → ⊥) → P n
       go (inl is) = subst P (sym is) (its line was at)
       go (inr d) = its n u (sym (remove_other nat_cmp number_exact operations line n d) ∙ e)
 
-  lines_insert : (line : ℕ) (w : Waiting) → P line → OfEach P (insert_entry nat_cmp operations line w)
+  pub lines_insert : (line : ℕ) (w : Waiting) → P line → OfEach P (insert_entry nat_cmp operations line w)
   lines_insert line w new n u e = go (one_or_other n line)
     where
       go : (n ≡ line) ⊎ (n ≡ line → ⊥) → P n
       go (inl is) = subst P (sym is) new
       go (inr d) = its n u (sym (insert_other nat_cmp number_exact operations line n w d) ∙ e)
 
-  lines_map : (f : Waiting → Waiting) → OfEach P (map (λ (e : ℕ × Waiting). (e.0, f e.1)) operations)
+  pub lines_map : (f : Waiting → Waiting) → OfEach P (map (λ (e : ℕ × Waiting). (e.0, f e.1)) operations)
   lines_map f n u e = go (lookup (is_at (nat_cmp n)) operations) refl (sym (found_map f (is_at (nat_cmp n)) operations) ∙ e)
     where
       go : (o : Option Waiting) → lookup (is_at (nat_cmp n)) operations ≡ o → option_map f o ≡ Some u → P n

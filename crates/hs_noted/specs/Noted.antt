@@ -1,6 +1,6 @@
 -- What the entries of a core's journal stand for, and which events are of their line's command.
 use Rattle.std.specs.List.{AllByRecursion}
-use Rattle.std.specs.Prelude.{◌≡◌, ◌⊎◌, ℕ, ◌*◌, ◌<◌, ◌≤◌, List, [], ◌∷◌, Option, Some, None, IsSome, length}
+use Rattle.std.specs.Prelude.{◌≡◌, ◌⊎◌, ℕ, ◌*◌, ◌<◌, ◌≤◌, ◌++◌, List, [], ◌∷◌, Option, Some, None, IsSome, length}
 use Rattle.hs_core.specs.declared.event.Event.{Event}
 use Rattle.hs_core.specs.declared.event.Event.TheVariants as event
 use Rattle.hs_core.specs.declared.waiting.Waiting.{Waiting}
@@ -19,7 +19,8 @@ use Rattle.hs_limits.specs.declared.shape.Shape.{Shape}
 use Rattle.hs_model.specs.declared.command.Command.{Command}
 use Rattle.hs_model.specs.declared.command.Command.TheVariants as command
 use Rattle.hs_model.specs.declared.deed.Deed.TheVariants as deed
-use Rattle.hs_told.specs.InTurn.{refusal_in}
+use Rattle.hs_model.specs.declared.reply.Reply.{Reply}
+use Rattle.hs_told.specs.InTurn.{refusal_in, told_of}
 
 -- ---- entries
 
@@ -34,7 +35,7 @@ StandsFor commands shape limits last entry = stands_for entry.who
 
 -- ---- a core between two events
 
--- there is a list for each shard and a status for each peer, and the pool has its limit; an operation without an answer is of a client's line, which is not above the last one; each entry stands for what it may, also of those that found the journal full
+-- there is a list for each shard and a status for each peer, and the pool has its limit; an operation without an answer is of a client's line, which is not above the last one; each entry stands for what it may, also of those that found the journal full, which none did while the core goes on
 pub record IsNoted (commands : ℕ → Option Command) (core : Core) : Type 0 where
   pub groups : length core.groups ≡ (shape_of core).shards
   pub peers : length core.members.statuses ≡ (shape_of core).shards * (shape_of core).copies
@@ -43,6 +44,7 @@ pub record IsNoted (commands : ℕ → Option Command) (core : Core) : Type 0 wh
   pub journal : AllByRecursion (StandsFor commands (shape_of core) core.limits core.event_line) core.journal
   pub refused : AllByRecursion (StandsFor commands (shape_of core) core.limits core.event_line) core.refused
   pub quiet : core.entries ≡ []
+  pub going : core.ended ≡ None → core.refused ≡ []
 
 -- ---- events
 
@@ -89,3 +91,31 @@ IsOwnEvent commands core (event.Start line peer) = IsOfItsLine commands core (ev
 abbrev pub AllAreOwn : (ℕ → Option Command) → Core → List (Event × ℕ) → Type 0
 AllAreOwn commands core [] = Unit {0}
 AllAreOwn commands core (e ∷ es) = (core.ended ≡ None → IsOwnEvent commands core e.0) × AllAreOwn commands (step e.0 e.1 core) es
+
+-- ---- what an event adds
+
+-- an event is no client's line
+abbrev pub IsNoClients : Event → Type 0
+IsNoClients (event.Line line o) = ⊥
+IsNoClients (event.Report peer d) = Unit {0}
+IsNoClients (event.Turn line peer) = Unit {0}
+IsNoClients (event.Deliver line number) = Unit {0}
+IsNoClients (event.Lose line number) = Unit {0}
+IsNoClients (event.Repeat line number) = Unit {0}
+IsNoClients (event.Nudge line peer) = Unit {0}
+IsNoClients (event.Fail line peer) = Unit {0}
+IsNoClients (event.Start line peer) = Unit {0}
+
+-- the refusal of a line that is no client's, as it is told
+abbrev pub refusal_entry : ℕ → ℕ → Reply → JournalEntry
+refusal_entry line moment refusal = record { who = who.Line line; moment = moment; deed = deed.Nothing; reply = refusal }
+
+-- an entry that is of a line is of a client's
+abbrev pub IsOfClient : (ℕ → Option Command) → JournalEntry → Type 0
+IsOfClient commands entry = (n : ℕ) → entry.who ≡ who.Line n → IsSome (client_op (commands n))
+
+-- what is told is what was told before and then such entries
+pub record Adds (P : JournalEntry → Type 0) (before after : Core) : Type 0 where
+  pub more : List JournalEntry
+  pub told : told_of after ≡ told_of before ++ more
+  pub each : AllByRecursion P more

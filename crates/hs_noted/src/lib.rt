@@ -1,0 +1,8 @@
+//! What the entries of the core's journal stand for, and why lines that are no client's are refused.
+#![tactic(auto)]
+
+mod notes;
+mod refusals;
+
+pub use notes::each_entry_has_its_cause;
+pub use refusals::a_refusal_comes_where_its_row_says;
