@@ -1,5 +1,5 @@
 -- Every event that is of its line keeps a core noted.
-use Rattle.std.proofs.Common.{◌≡◌, ◌∙◌, sym, ap, subst, ◌⊎◌, inl, inr, ℕ, ◌+◌, ◌*◌, ◌<◌, ◌≤◌, ◌==◌, Bool, true, false, cond, List, [], ◌∷◌, ◌++◌, length, Option, Some, None, IsSome, refl, arith, is_none, nat_le, nat_lt}
+use Rattle.std.proofs.Common.{◌≡◌, ◌∙◌, sym, ap, subst, ◌⊎◌, inl, inr, ℕ, ◌+◌, ◌*◌, ◌<◌, ◌≤◌, ◌==◌, Bool, true, false, cond, List, [], ◌∷◌, length, Option, Some, None, IsSome, refl, arith, is_none, nat_le, nat_lt}
 use Rattle.std.proofs.lemmas.Bool.{eqb-true, leb-false, leb-true}
 use Rattle.std.specs.List.{AllByRecursion}
 use Rattle.hs_core.specs.Asking.{deliver, lose, no_peer, not_down, not_up, nudge_good, send_again, unless_refused, with_message}
@@ -13,7 +13,6 @@ use Rattle.hs_core.specs.Looking.{operation_of, shape_of}
 use Rattle.hs_core.specs.State.{Core}
 use Rattle.hs_core.specs.Step.{begin_event, do_event, end_event, keep_entries, line_of, refuse_entries, run_event, step}
 use Rattle.hs_core.specs.Words.{change_if}
-use Rattle.hs_desk.specs.declared.done.Done.{Done}
 use Rattle.hs_desk.specs.declared.fault.CoreFault.{CoreFault}
 use Rattle.hs_desk.specs.declared.fault.CoreFault.TheVariants as fault
 use Rattle.hs_journal.specs.declared.entry.JournalEntry.{JournalEntry}
@@ -28,12 +27,12 @@ use Rattle.hs_model.specs.declared.deed.Deed.TheVariants as deed
 use Rattle.hs_model.specs.declared.reply.Reply.{Reply}
 use Rattle.hs_model.specs.declared.reply.Reply.TheVariants as reply
 use Rattle.hs_model.specs.Refusals.{first, refused_when}
-use Rattle.hs_noted.proofs.AsideLemmas.{Aside, aside_pool, aside_post}
+use Rattle.hs_noted.proofs.AsideLemmas.{aside_post}
 use Rattle.hs_noted.proofs.NotingLemmas.{During, all_append, all_later, on_aside, on_note}
 use Rattle.hs_noted.proofs.WalkLemmas.{stays_deliver, stays_down, stays_line, stays_lose, stays_nudge, stays_report, stays_start}
-use Rattle.hs_noted.specs.Noted.{AllAreOwn, IsNoted, IsOfItsLine, IsOfPeer, IsOwnEvent, StandsFor, command_in}
+use Rattle.hs_noted.specs.Noted.{AllAreOwn, IsNoted, IsOfPeer, IsOwnEvent, StandsFor, command_in}
 use Rattle.hs_post.specs.declared.message.Message.{Message}
-use Rattle.hs_post.specs.Pool.{is_full, message_at, restart_numbers, without}
+use Rattle.hs_post.specs.Pool.{is_full, message_at, restart_numbers}
 use Rattle.hs_told.proofs.OrderLemmas.{same_refusal}
 use Rattle.hs_told.specs.InTurn.{after_all, message_refusal, refusal_in, repeat_refusal}
 

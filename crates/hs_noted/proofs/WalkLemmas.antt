@@ -1,10 +1,9 @@
 -- Every event leaves what the entries stand for.
-use Rattle.std.proofs.Common.{◌≡◌, ◌∙◌, sym, ap, subst, ◌⊎◌, inl, inr, ℕ, zero, suc, ◌+◌, ◌*◌, ◌-◌, ◌<◌, ◌≤◌, ◌==◌, Bool, true, false, cond, drop, length, List, [], ◌∷◌, Option, Some, None, IsSome, refl, arith, is_some}
+use Rattle.std.proofs.Common.{◌≡◌, ◌∙◌, sym, ap, subst, ◌⊎◌, inl, inr, ℕ, zero, suc, ◌+◌, ◌*◌, ◌-◌, ◌<◌, ◌≤◌, Bool, true, false, cond, drop, length, List, [], ◌∷◌, Option, Some, None, refl, arith, is_some}
 use Rattle.std.proofs.lemmas.Grind.{common_steps}
 use Rattle.std.specs.Prelude.{slice_index_or}
 use Rattle.hs_core.specs.Asking.{deliver, lose, nudge, nudge_good, send_rounds}
 use Rattle.hs_core.specs.Changing.{add_operation, change_group, change_pool, change_rejoin, note, post, put_operation, set_catalogue, set_rejoin, set_status, set_tasks, set_viewed}
-use Rattle.hs_core.specs.declared.task.Task.{Task}
 use Rattle.hs_core.specs.declared.wait.Wait.TheVariants as wait
 use Rattle.hs_core.specs.declared.waiting.Waiting.{Waiting}
 use Rattle.hs_core.specs.Delivering.{handle, is_new_round, take_copy}
@@ -37,7 +36,6 @@ use Rattle.hs_members.specs.Members.{has_good, is_good_status, view_of}
 use Rattle.hs_model.specs.declared.command.Command.{Command}
 use Rattle.hs_model.specs.declared.deed.Deed.TheVariants as deed
 use Rattle.hs_model.specs.declared.op.Op.{Op}
-use Rattle.hs_model.specs.declared.reply.Reply.{Reply}
 use Rattle.hs_model.specs.declared.reply.Reply.TheVariants as reply
 use Rattle.hs_noted.proofs.AsideLemmas.{Aside, aside_both, aside_catalogue, aside_copy, aside_due, aside_follow, aside_group, aside_joining, aside_leave, aside_pool, aside_post, aside_propose, aside_read, aside_rounds, aside_start, aside_status, aside_viewed, aside_with}
 use Rattle.hs_noted.proofs.NotingLemmas.{During, IsClients, on_answer, on_aside, on_begin, on_done, on_down, on_enter, on_restart, on_sweep, on_wait}

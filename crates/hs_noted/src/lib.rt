@@ -1,4 +1,4 @@
-//! What the entries of the core's journal stand for, and why lines that are no client's are refused.
+//! What the entries of a journal stand for, and why lines that are no client's are refused.
 #![tactic(auto)]
 
 mod notes;

@@ -11,12 +11,11 @@ ghost use Rattle.hs_model.specs.declared.command.Command.{Command};
 ghost use Rattle.hs_noted.specs.Noted.{AllAreOwn, IsNoted, IsOwnEvent, StandsFor};
 ghost use Rattle.hs_told.specs.InTurn.{after_all};
 
-/// Each entry stands for what it may: of a line, that a client asks on it and the line was begun, or
-/// the refusal that its command may have, with the number of peers and the limit of the pool; of a
-/// shard, an enter or a sweep of a shard that there is; of no one, that a run is done, or that a peer
-/// is down, with a line that is not above the last one. So it is as a core opens, with a flag for each
-/// peer, and behind each event of its line (`opened`, `event`, `events`), in the journal and in what
-/// found it full.
+/// Each entry stands for what it may. One of a line tells a client's answer, or the refusal that the
+/// line's command may have, and the line was begun; one of a shard, an enter or a sweep of a shard
+/// that there is; any other, that a run is done, or that a peer is down, with a line that was begun.
+/// So it is as a core opens with a flag for each peer, and behind each event of its line (`opened`,
+/// `event`, `events`), in the journal and in what found it full.
 pub fn each_entry_has_its_cause()
     ensures opened { (commands : ℕ → Option Command) (shape : Shape) (limits : Limits)
         (found : Taken) (moment : ℕ) → length found.good ≡ shape.shards * shape.copies →

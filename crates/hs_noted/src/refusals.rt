@@ -1,5 +1,5 @@
 //! Why a line that is no client's is refused.
-ghost use Rattle.std.specs.Prelude.{◌≡◌, ◌++◌, ℕ, List, [], ◌∷◌, Option, Some, None};
+ghost use Rattle.std.specs.Prelude.{◌≡◌, ◌++◌, ℕ, [], ◌∷◌, Option, Some, None};
 ghost use Rattle.hs_core.specs.State.{Core};
 ghost use Rattle.hs_core.specs.Step.{line_of, step};
 ghost use Rattle.hs_core.specs.declared.event.Event.{Event};
@@ -8,7 +8,7 @@ ghost use Rattle.hs_model.specs.declared.reply.Reply.{Reply};
 ghost use Rattle.hs_noted.specs.Noted.{Adds, IsNoClients, IsNoted, IsOfClient, refusal_entry};
 ghost use Rattle.hs_told.specs.InTurn.{refusal_in, told_of};
 
-/// An event that is refused (`refusal_in`: no such peer, a peer that is down or that is not, no such
+/// An event that is refused (`refusal_in`: no such peer, a peer that is down or is not, no such
 /// message, a full pool) tells just that, under its line (`tells`). One that is not, and is no
 /// client's line, tells nothing of a line but answers on clients' lines (`only`).
 pub fn a_refusal_comes_where_its_row_says()
