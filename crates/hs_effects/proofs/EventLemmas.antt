@@ -320,7 +320,7 @@ module _ (name : List ℕ → Address) where
   none_wait shape taken (s ∷ shards) zero none e = refl
   none_wait shape taken (s ∷ shards) (suc g) none e = none_wait shape taken shards g none e
 
-  new_orderly : (shape : Shape) (limits : Limits) (taken : Taken) (moment : ℕ) → O (new_core shape limits taken moment)
+  pub new_orderly : (shape : Shape) (limits : Limits) (taken : Taken) (moment : ℕ) → O (new_core shape limits taken moment)
   new_orderly shape limits taken moment = record {
     once = tt;
     pending = λ line w at. absurd (cc at);
