@@ -11,9 +11,9 @@ ghost use Rattle.hs_model.specs.declared.command.Command.{Command};
 ghost use Rattle.hs_noted.specs.Noted.{AllAreOwn, IsNoted, IsOwnEvent, StandsFor};
 ghost use Rattle.hs_told.specs.InTurn.{after_all};
 
-/// Each entry stands for what it may. One of a line tells a client's answer, or the refusal that the
-/// line's command may have, and the line was begun; one of a shard, an enter or a sweep of a shard
-/// that there is; any other, that a run is done, or that a peer is down, with a line that was begun.
+/// Each entry stands for what it may. One of a line tells a client's answer, or the refusal that
+/// the line's command may have, and the line was begun; one of a shard, an enter or a sweep of a
+/// shard that there is; any other, that a run is done, or that a peer is down, with a line begun.
 /// So it is as a core opens with a flag for each peer, and behind each event of its line (`opened`,
 /// `event`, `events`), in the journal and in what found it full.
 pub fn each_entry_has_its_cause()
