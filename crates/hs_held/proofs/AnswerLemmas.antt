@@ -31,7 +31,7 @@ answer_is r told e = cc e
 
 module _ (v : OpView) (line : ℕ) (session payload handles : List ℕ) (address : Option Address) (told : Reply) where
   refused_stops : (r : Reply) → refusal_of v (op.Write session payload handles address) ≡ Some r → step.Answer r ≡ step.Answer told → is_done told ≡ false
-  refused_stops r f e = subst (λ q. is_done q ≡ false) (answer_is r told e) (view_refusal_stops v o r f)
+  refused_stops r f e = subst (λ q. is_done q ≡ false) (answer_is r told e) (view_refusal_stops v (op.Write session payload handles address) r f)
 
   go_stops : go v line (op.Write session payload handles address) ≡ step.Answer told → is_done told ≡ false
   unfolding go judged_in asked_for
