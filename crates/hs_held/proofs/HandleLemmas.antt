@@ -8,7 +8,6 @@ use Rattle.std.specs.Ordering.{nat_cmp}
 use Rattle.hs_effects.specs.Answered.{HoldAddresses}
 use Rattle.hs_held.specs.Held.{Has32Bytes, StandForAddresses}
 use Rattle.hs_held.proofs.AllLemmas.{each_found, each_insert, each_remove, each_set}
-use Rattle.hs_limits.specs.declared.address.Address.{Address}
 use Rattle.hs_limits.specs.declared.address.Held.{Held}
 use Rattle.hs_model.specs.declared.op.Op.{Op}
 use Rattle.hs_model.specs.declared.op.Op.TheVariants as op

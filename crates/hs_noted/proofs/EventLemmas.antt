@@ -207,19 +207,22 @@ ended commands shape limits last c p = go (nat_lt c.limits.ops (length c.journal
 abbrev pub line_then : ℕ → Core → ℕ
 line_then line core = cond (line == 0) core.event_line line
 
+itself : (n : ℕ) → n ≤ n
+itself n = omega arith
+
 line_below : (line : ℕ) (core : Core) → line ≤ line_then line core
 line_below line core = go (line == 0) refl
   where
     go : (b : Bool) → (line == 0) ≡ b → line ≤ cond b core.event_line line
     go true z = let e : line ≡ 0 = eqb-true line 0 z in omega (arith, e)
-    go false z = omega arith
+    go false z = itself line
 
 module _ (commands : ℕ → Option Command) (core : Core) (its : IsNoted commands core) (goes : core.ended ≡ None) where
   over : (line : ℕ) → core.event_line ≤ line → core.event_line ≤ line_then line core
   over line low = go (line == 0)
     where
       go : (b : Bool) → core.event_line ≤ cond b core.event_line line
-      go true = omega arith
+      go true = itself core.event_line
       go false = low
 
   begun : (line moment : ℕ) → core.event_line ≤ line_then line core → During commands (shape_of core) core.limits (line_then line core) (begin_event line moment core)
@@ -265,7 +268,7 @@ module _ (commands : ℕ → Option Command) (core : Core) (its : IsNoted comman
   -- the last line does not fall
   upward : (e : Event) → IsOwnEvent commands core e → core.event_line ≤ line_then (line_of e) core
   upward (event.Line line o) may = over line may.0
-  upward (event.Report peer d) may = omega arith
+  upward (event.Report peer d) may = itself core.event_line
   upward (event.Turn line peer) may = over line may.0
   upward (event.Deliver line number) may = over line may.0
   upward (event.Lose line number) may = over line may.0

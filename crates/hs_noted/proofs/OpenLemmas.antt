@@ -3,6 +3,7 @@ use Rattle.std.proofs.Common.{◌≡◌, ◌∙◌, sym, subst, ℕ, zero, suc, 
 use Rattle.std.proofs.lemmas.List.{length-map}
 use Rattle.std.proofs.lemmas.List.FromFn.{length-map-range_with_len}
 use Rattle.std.specs.List.{AllByRecursion, range_with_len}
+use Rattle.std.specs.Prelude.{if◌then◌else◌}
 use Rattle.hs_core.specs.Changing.{note}
 use Rattle.hs_core.specs.Looking.{shape_of, shards_of, status_of}
 use Rattle.hs_core.specs.Opening.{Taken, begin_views, new_core, note_down, note_if_down, open_core, taken_group}
@@ -21,7 +22,6 @@ use Rattle.hs_noted.proofs.EventLemmas.{ended}
 use Rattle.hs_noted.proofs.NotingLemmas.{During, on_down}
 use Rattle.hs_noted.proofs.WalkLemmas.{stays_change_view, stays_each}
 use Rattle.hs_noted.specs.Noted.{IsNoted}
-use Rattle.std.specs.Prelude.{if◌then◌else◌}
 
 -- numbers of a range are below its end
 range_low : (n from top : ℕ) → from + n ≤ top → AllByRecursion (λ k. k < top) (range_with_len from n)

@@ -1,5 +1,5 @@
 -- A line that is no client's is told its refusal where it is refused, and nothing of a line is told otherwise but clients' answers.
-use Rattle.std.proofs.Common.{◌≡◌, ◌∙◌, sym, ap, subst, ℕ, ◌+◌, ◌==◌, ◌++◌, Bool, true, false, cond, List, [], ◌∷◌, length, Option, Some, None, IsSome, refl, is_none, map, nat_lt}
+use Rattle.std.proofs.Common.{◌≡◌, ◌∙◌, sym, ap, subst, ℕ, ◌+◌, ◌==◌, ◌++◌, Bool, true, false, cond, List, [], ◌∷◌, length, Option, Some, None, IsSome, refl, is_none, nat_lt}
 use Rattle.std.proofs.lemmas.List.{append-nil}
 use Rattle.std.specs.BTreeMap.{is_at}
 use Rattle.std.specs.List.{AllByRecursion}
@@ -23,7 +23,6 @@ use Rattle.hs_journal.specs.Events.{client_op}
 use Rattle.hs_model.specs.declared.command.Command.{Command}
 use Rattle.hs_model.specs.declared.deed.Deed.{Deed}
 use Rattle.hs_model.specs.declared.deed.Deed.TheVariants as deed
-use Rattle.hs_model.specs.declared.op.Op.{Op}
 use Rattle.hs_model.specs.declared.reply.Reply.{Reply}
 use Rattle.hs_noted.proofs.NotingLemmas.{OfEach, all_append, lines_map, lines_remove, lines_set}
 use Rattle.hs_noted.specs.Noted.{Adds, IsNoClients, IsNoted, IsOfClient, refusal_entry}
