@@ -28,7 +28,7 @@ SeatStands seat = AllByRecursion (λ (h : ℕ × Held). Has32Bytes h.1.address) 
 
 -- the zero address has its bytes too
 pub nothing_is : Has32Bytes nothing.address
-nothing_is = length-replicate 32 0
+nothing_is = length-replicate {A = ℕ} 32 0
 
 helds_more : (helds : List Held) (seat : Seat) → AreWhole helds → SeatStands seat → SeatStands (with_helds helds seat)
 helds_more [] seat w h = h
