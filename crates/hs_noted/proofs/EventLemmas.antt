@@ -8,11 +8,13 @@ use Rattle.hs_core.specs.declared.event.Event.{Event}
 use Rattle.hs_core.specs.declared.event.Event.TheVariants as event
 use Rattle.hs_core.specs.Failing.{go_down}
 use Rattle.hs_core.specs.Joining.{start}
+use Rattle.hs_core.specs.declared.wait.Wait.TheVariants as wait
 use Rattle.hs_core.specs.declared.waiting.Waiting.{Waiting}
 use Rattle.hs_core.specs.Looking.{operation_of, shape_of}
 use Rattle.hs_core.specs.State.{Core}
 use Rattle.hs_core.specs.Step.{begin_event, do_event, end_event, keep_entries, line_of, refuse_entries, run_event, step}
 use Rattle.hs_core.specs.Words.{change_if}
+use Rattle.hs_desk.specs.declared.done.Done.{Done}
 use Rattle.hs_desk.specs.declared.fault.CoreFault.{CoreFault}
 use Rattle.hs_desk.specs.declared.fault.CoreFault.TheVariants as fault
 use Rattle.hs_journal.specs.declared.entry.JournalEntry.{JournalEntry}
@@ -28,9 +30,11 @@ use Rattle.hs_model.specs.declared.reply.Reply.{Reply}
 use Rattle.hs_model.specs.declared.reply.Reply.TheVariants as reply
 use Rattle.hs_model.specs.Refusals.{first, refused_when}
 use Rattle.hs_noted.proofs.AsideLemmas.{aside_post}
-use Rattle.hs_noted.proofs.NotingLemmas.{During, all_append, all_later, on_aside, on_note}
+use Rattle.hs_noted.proofs.NotingLemmas.{During, all_append, all_later, during_tells, on_aside, on_begin, on_down, on_note}
 use Rattle.hs_noted.proofs.WalkLemmas.{stays_deliver, stays_down, stays_line, stays_lose, stays_nudge, stays_report, stays_start}
 use Rattle.hs_noted.specs.Noted.{AllAreOwn, IsNoted, IsOfPeer, IsOwnEvent, StandsFor, command_in}
+use Rattle.hs_ops.specs.Operations.{new_operation}
+use Rattle.hs_ops.specs.Speaking.{judging_shard}
 use Rattle.hs_post.specs.declared.message.Message.{Message}
 use Rattle.hs_post.specs.Pool.{is_full, message_at, restart_numbers}
 use Rattle.hs_told.proofs.OrderLemmas.{same_refusal}
@@ -106,14 +110,14 @@ module _ (commands : ℕ → Option Command) (shape : Shape) (limits : Limits) (
 
 -- ---- rows and messages
 
-by_rows : (P : Core → Type 0) (line : ℕ) (rows : List (Option Reply)) (f : Core → Core) (c : Core) → ((r : Reply) → first rows ≡ Some r → P (refuse line r c)) → P (f c) → P (unless_refused line rows f c)
+pub by_rows : (P : Core → Type 0) (line : ℕ) (rows : List (Option Reply)) (f : Core → Core) (c : Core) → ((r : Reply) → first rows ≡ Some r → P (refuse line r c)) → P (f c) → P (unless_refused line rows f c)
 by_rows P line rows f c refused does = go (first rows) refl
   where
     go : (o : Option Reply) → first rows ≡ o → P (unless_refused line rows f c)
     go (Some r) e = rw e (refused r e)
     go None e = rw e does
 
-by_message : (P : Core → Type 0) (line number : ℕ) (f : Message → Core → Core) (c : Core) → (message_at number c.pool ≡ None → P (refuse line (reply.NoMessage number) c)) → ((m : Message) → message_at number c.pool ≡ Some m → P (f m c)) → P (with_message line number f c)
+pub by_message : (P : Core → Type 0) (line number : ℕ) (f : Message → Core → Core) (c : Core) → (message_at number c.pool ≡ None → P (refuse line (reply.NoMessage number) c)) → ((m : Message) → message_at number c.pool ≡ Some m → P (f m c)) → P (with_message line number f c)
 by_message P line number f c refused does = go (message_at number c.pool) refl
   where
     go : (o : Option Message) → message_at number c.pool ≡ o → P (with_message line number f c)
@@ -146,23 +150,29 @@ module _ (commands : ℕ → Option Command) (shape : Shape) (limits : Limits) (
           (ap (λ o. repeat_refusal number c o) at ∙ ap (λ b. cond b (Some (reply.PoolFull c.pool.limit)) None) full)
       go false free = on_aside commands shape limits last c (post (m ∷ []) c) (aside_post (m ∷ []) c) p
 
+  upto : (n : ℕ) → n ≡ last → n ≤ last
+  upto n e = omega (arith, e)
+
   done_stays : (e : Event) (c : Core) → MayHere e c → D c → D (do_event e c)
-  done_stays (event.Line line o) c may p = stays_line commands shape limits last line o c may p
-  done_stays (event.Report peer d) c may p = stays_report commands shape limits last peer d c may p
+  done_stays (event.Line line o) c may p = stays_line (during_tells commands shape limits last) line o c
+      (on_begin commands shape limits last line (record { operation = new_operation line o; shard = judging_shard (shape_of c).shards c.sessions o; wait = wait.View }) (record c { last_line = line }) may
+      (on_aside commands shape limits last c (record c { last_line = line }) (record { limits = refl; shape = refl; groups = refl; peers = refl; pool = refl; line = refl; operations = refl; journal = refl; refused = refl; entries = refl }) p))
+  done_stays (event.Report peer d) c may p = stays_report (during_tells commands shape limits last) peer d c
+      (λ disk is x q. on_down commands shape limits last disk x.event_line x (subst (λ (y : Done). IsOfPeer shape y) is may) (upto x.event_line q.line) q) p
   done_stays (event.Turn line peer) c may p = by_rows D line (no_peer peer c ∷ not_up peer c ∷ []) (λ x. x) c
       (λ r s. refusing commands shape limits last c p (event.Turn line peer) may.0 may.1 r s) p
   done_stays (event.Deliver line number) c may p = by_message D line number (deliver number) c
-      (λ e. refusing commands shape limits last c p (event.Deliver line number) may.0 may.1 (reply.NoMessage number) (ap (λ o. message_refusal number o) e)) (λ m e. stays_deliver commands shape limits last number m c p)
+      (λ e. refusing commands shape limits last c p (event.Deliver line number) may.0 may.1 (reply.NoMessage number) (ap (λ o. message_refusal number o) e)) (λ m e. stays_deliver (during_tells commands shape limits last) number m c p)
   done_stays (event.Lose line number) c may p = by_message D line number (lose number) c
-      (λ e. refusing commands shape limits last c p (event.Lose line number) may.0 may.1 (reply.NoMessage number) (ap (λ o. message_refusal number o) e)) (λ m e. stays_lose commands shape limits last number m c p)
+      (λ e. refusing commands shape limits last c p (event.Lose line number) may.0 may.1 (reply.NoMessage number) (ap (λ o. message_refusal number o) e)) (λ m e. stays_lose (during_tells commands shape limits last) number m c p)
   done_stays (event.Repeat line number) c may p = by_message D line number (send_again line) c
       (λ e. refusing commands shape limits last c p (event.Repeat line number) may.0 may.1 (reply.NoMessage number) (ap (λ o. repeat_refusal number c o) e)) (λ m e. again_stays line number c m e may p)
   done_stays (event.Nudge line peer) c may p = by_rows D line (no_peer peer c ∷ not_up peer c ∷ []) (nudge_good peer) c
-      (λ r s. refusing commands shape limits last c p (event.Nudge line peer) may.0 may.1 r s) (stays_nudge commands shape limits last peer c p)
+      (λ r s. refusing commands shape limits last c p (event.Nudge line peer) may.0 may.1 r s) (stays_nudge (during_tells commands shape limits last) peer c p)
   done_stays (event.Fail line peer) c may p = by_rows D line (no_peer peer c ∷ not_up peer c ∷ []) (go_down peer) c
-      (λ r s. refusing commands shape limits last c p (event.Fail line peer) may.0 may.1 r s) (stays_down commands shape limits last peer c p)
+      (λ r s. refusing commands shape limits last c p (event.Fail line peer) may.0 may.1 r s) (stays_down (during_tells commands shape limits last) peer c p)
   done_stays (event.Start line peer) c may p = by_rows D line (no_peer peer c ∷ not_down peer c ∷ []) (start peer) c
-      (λ r s. refusing commands shape limits last c p (event.Start line peer) may.0 may.1 r s) (stays_start commands shape limits last peer c p)
+      (λ r s. refusing commands shape limits last c p (event.Start line peer) may.0 may.1 r s) (stays_start (during_tells commands shape limits last) peer c p)
 
 -- ---- an event ends
 

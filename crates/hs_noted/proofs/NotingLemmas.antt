@@ -25,6 +25,7 @@ use Rattle.hs_model.specs.declared.deed.Deed.TheVariants as deed
 use Rattle.hs_model.specs.declared.reply.Reply.{Reply}
 use Rattle.hs_model.specs.declared.reply.Reply.TheVariants as reply
 use Rattle.hs_noted.proofs.AsideLemmas.{Aside}
+use Rattle.hs_noted.proofs.WalkLemmas.{Tells}
 use Rattle.hs_noted.specs.Noted.{StandsFor}
 use Rattle.hs_ops.specs.Answers.{deed_of}
 
@@ -169,6 +170,19 @@ module _ (commands : ℕ → Option Command) (shape : Shape) (limits : Limits) (
 
   pub on_down : (peer line : ℕ) (c : Core) → peer < shape.shards * shape.copies → line ≤ last → D c → D (note who.Store deed.Nothing (reply.Down peer line) c)
   on_down peer line c low upto p = on_note (record { who = who.Store; moment = c.moment; deed = deed.Nothing; reply = reply.Down peer line }) c (refl, Down peer line refl low upto) p
+
+  -- so each change of which events are made, but for the note of a peer that is down
+  pub during_tells : Tells shape (λ (c : Core). During commands shape limits last c)
+  during_tells = record {
+    beside = on_aside;
+    groups = λ c p. p.groups;
+    waits = on_wait;
+    answers = λ line w was told c at calm p. on_answer line w was told c at p;
+    restarts = on_restart;
+    sweeps = λ shard epoch removed c low p. on_sweep shard (reply.Sweep epoch removed) c low p;
+    enters = λ shard epoch c low p. on_enter shard (reply.Enter epoch) c low p;
+    dones = on_done;
+  }
 
 -- ---- a later line
 

@@ -19,7 +19,7 @@ use Rattle.hs_model.specs.declared.command.Command.{Command}
 use Rattle.hs_model.specs.declared.deed.Deed.TheVariants as deed
 use Rattle.hs_model.specs.declared.reply.Reply.TheVariants as reply
 use Rattle.hs_noted.proofs.EventLemmas.{ended}
-use Rattle.hs_noted.proofs.NotingLemmas.{During, on_down}
+use Rattle.hs_noted.proofs.NotingLemmas.{During, during_tells, on_down}
 use Rattle.hs_noted.proofs.WalkLemmas.{stays_change_view, stays_each}
 use Rattle.hs_noted.specs.Noted.{IsNoted}
 
@@ -47,8 +47,8 @@ module _ (commands : ℕ → Option Command) (shape : Shape) (limits : Limits) (
   }
 
   viewed : D (begin_views (new_core shape limits found moment))
-  viewed = stays_each commands shape limits 0 (shards_of (new_core shape limits found moment)) change_view (new_core shape limits found moment)
-      (λ shard x q. stays_change_view commands shape limits 0 shard x q) new
+  viewed = stays_each (during_tells commands shape limits 0) (shards_of (new_core shape limits found moment)) change_view (new_core shape limits found moment)
+      (λ shard x q. stays_change_view (during_tells commands shape limits 0) shard x q) new
 
   down_one : (peer : ℕ) (c : Core) → peer < shape.shards * shape.copies → D c → D (note_if_down peer c)
   down_one peer c low p = go (not (is_good_status (status_of peer c)))

@@ -49,7 +49,7 @@ begins line moment core = go _
     go true = record { journal = refl; refused = refl; entries = refl; operations = refl }
     go false = record { journal = refl; refused = refl; entries = refl; operations = refl }
 
-ended_told : (x : Core) → x.refused ≡ [] → told_of (end_event x) ≡ x.journal ++ x.entries
+pub ended_told : (x : Core) → x.refused ≡ [] → told_of (end_event x) ≡ x.journal ++ x.entries
 ended_told x none = go (nat_lt x.limits.ops (length x.journal + length x.entries))
   where
     go : (b : Bool) → told_of (cond b (refuse_entries x) (keep_entries x)) ≡ x.journal ++ x.entries
@@ -60,17 +60,17 @@ module _ (commands : ℕ → Option Command) (core : Core) (its : IsNoted comman
   abbrev b : Core
   b = begin_event (line_of e) moment core
 
-  runs : step e moment core ≡ run_event e moment core
+  pub runs : step e moment core ≡ run_event e moment core
   runs = ap (λ x. change_if (is_none x) (run_event e moment) core) goes
 
-  at_first : Begins core (begin_event (line_of e) moment core)
+  pub at_first : Begins core (begin_event (line_of e) moment core)
   at_first = begins (line_of e) moment core
 
   -- nothing was refused so far, and nothing was told of this event
-  clean : (begin_event (line_of e) moment core).refused ≡ []
+  pub clean : (begin_event (line_of e) moment core).refused ≡ []
   clean = at_first.refused ∙ its.going goes
 
-  before_is : told_of core ≡ core.journal
+  pub before_is : told_of core ≡ core.journal
   before_is = ap (λ (es : List JournalEntry). core.journal ++ es) (its.going goes) ∙ append-nil core.journal
 
   -- ---- it is refused

@@ -1,6 +1,6 @@
 -- What the entries of a core's journal stand for, and which events are of their line's command.
 use Rattle.std.specs.List.{AllByRecursion}
-use Rattle.std.specs.Prelude.{◌≡◌, ◌⊎◌, ℕ, ◌*◌, ◌<◌, ◌≤◌, ◌++◌, List, [], ◌∷◌, Option, Some, None, IsSome, length}
+use Rattle.std.specs.Prelude.{◌≡◌, ◌⊎◌, ℕ, ◌*◌, ◌<◌, ◌≤◌, ◌++◌, List, [], ◌∷◌, Option, Some, None, IsSome, length, true}
 use Rattle.hs_core.specs.declared.event.Event.{Event}
 use Rattle.hs_core.specs.declared.event.Event.TheVariants as event
 use Rattle.hs_core.specs.declared.waiting.Waiting.{Waiting}
@@ -9,6 +9,7 @@ use Rattle.hs_core.specs.State.{Core}
 use Rattle.hs_core.specs.Step.{line_of, step}
 use Rattle.hs_desk.specs.declared.done.Done.{Done}
 use Rattle.hs_desk.specs.declared.done.Done.TheVariants as done
+use Rattle.hs_events.specs.Due.{is_answer}
 use Rattle.hs_journal.specs.declared.entry.JournalEntry.{JournalEntry}
 use Rattle.hs_journal.specs.declared.entry.Who.{Who}
 use Rattle.hs_journal.specs.declared.entry.Who.TheVariants as who
@@ -91,6 +92,23 @@ IsOwnEvent commands core (event.Start line peer) = IsOfItsLine commands core (ev
 abbrev pub AllAreOwn : (ℕ → Option Command) → Core → List (Event × ℕ) → Type 0
 AllAreOwn commands core [] = Unit {0}
 AllAreOwn commands core (e ∷ es) = (core.ended ≡ None → IsOwnEvent commands core e.0) × AllAreOwn commands (step e.0 e.1 core) es
+
+-- a report answers the first job of its peer
+abbrev pub IsAnswering : Core → Event → Type 0
+IsAnswering core (event.Line line o) = Unit {0}
+IsAnswering core (event.Report peer d) = is_answer core peer d ≡ true
+IsAnswering core (event.Turn line peer) = Unit {0}
+IsAnswering core (event.Deliver line number) = Unit {0}
+IsAnswering core (event.Lose line number) = Unit {0}
+IsAnswering core (event.Repeat line number) = Unit {0}
+IsAnswering core (event.Nudge line peer) = Unit {0}
+IsAnswering core (event.Fail line peer) = Unit {0}
+IsAnswering core (event.Start line peer) = Unit {0}
+
+-- so each of some events, and the core goes on where it comes
+abbrev pub AllAnswer : Core → List (Event × ℕ) → Type 0
+AllAnswer core [] = Unit {0}
+AllAnswer core (e ∷ es) = (core.ended ≡ None) × IsAnswering core e.0 × AllAnswer (step e.0 e.1 core) es
 
 -- ---- what an event adds
 
