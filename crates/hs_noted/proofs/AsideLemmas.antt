@@ -73,7 +73,16 @@ aside_each (y ∷ ys) f c h = aside_both c (f y c) (each ys f (f y c)) (h y c) (
 
 pub aside_group : (shard : ℕ) (f : Group → Group) (c : Core) → Aside c (change_group shard f c)
 aside_group shard f c = record {
-  limits = refl; shape = refl; groups = length-set c.groups shard (f (group_of shard c)); peers = refl; pool = refl; line = refl; operations = refl; journal = refl; refused = refl; entries = refl;
+  limits = refl;
+  shape = refl;
+  groups = length-set c.groups shard (f (group_of shard c));
+  peers = refl;
+  pool = refl;
+  line = refl;
+  operations = refl;
+  journal = refl;
+  refused = refl;
+  entries = refl;
 }
 
 pub aside_catalogue : (shard : ℕ) (x : Catalogue) (c : Core) → Aside c (set_catalogue shard x c)
@@ -84,7 +93,16 @@ aside_viewed shard x c = record { limits = refl; shape = refl; groups = refl; pe
 
 pub aside_status : (peer : ℕ) (x : PeerStatus) (c : Core) → Aside c (set_status peer x c)
 aside_status peer x c = record {
-  limits = refl; shape = refl; groups = refl; peers = length-set c.members.statuses peer x; pool = refl; line = refl; operations = refl; journal = refl; refused = refl; entries = refl;
+  limits = refl;
+  shape = refl;
+  groups = refl;
+  peers = length-set c.members.statuses peer x;
+  pool = refl;
+  line = refl;
+  operations = refl;
+  journal = refl;
+  refused = refl;
+  entries = refl;
 }
 
 -- another pool of the same limit
@@ -153,10 +171,28 @@ aside_copy shard peer number entry c =
 
 pub aside_start : (peer : ℕ) (c : Core) → Aside c (start peer c)
 aside_start peer c = record {
-  limits = refl; shape = refl; groups = refl; peers = length-set c.members.statuses peer Joining; pool = refl; line = refl; operations = refl; journal = refl; refused = refl; entries = refl;
+  limits = refl;
+  shape = refl;
+  groups = refl;
+  peers = length-set c.members.statuses peer Joining;
+  pool = refl;
+  line = refl;
+  operations = refl;
+  journal = refl;
+  refused = refl;
+  entries = refl;
 }
 
 pub aside_leave : (peer : ℕ) (c : Core) → Aside c (leave peer c)
 aside_leave peer c = record {
-  limits = refl; shape = refl; groups = refl; peers = length-set c.members.statuses peer Down; pool = refl; line = refl; operations = refl; journal = refl; refused = refl; entries = refl;
+  limits = refl;
+  shape = refl;
+  groups = refl;
+  peers = length-set c.members.statuses peer Down;
+  pool = refl;
+  line = refl;
+  operations = refl;
+  journal = refl;
+  refused = refl;
+  entries = refl;
 }

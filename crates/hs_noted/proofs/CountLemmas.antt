@@ -136,7 +136,9 @@ failed_counts shape disk n before peer failed c answered p = go (first_task peer
 
     noted : Counts shape disk m before (note who.Store deed.Nothing (reply.Down failed one.event_line) one)
     noted = record {
-      groups = p.groups; journal = p.journal; refused = p.refused;
+      groups = p.groups;
+      journal = p.journal;
+      refused = p.refused;
       count =
           count_more disk c.entries (record { who = who.Store; moment = c.moment; deed = deed.Nothing; reply = reply.Down failed one.event_line }) ∙ ap (λ k. k + cond (failed == disk) 1 0) p.count;
     }

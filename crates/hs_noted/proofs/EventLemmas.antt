@@ -206,9 +206,14 @@ ended commands shape limits last c p = go (nat_lt c.limits.ops (length c.journal
     go : (b : Bool) → IsNoted commands (cond b (refuse_entries c) (keep_entries c))
     go true = record { groups = groups; peers = peers; pool = pool; asking = asking; journal = own c.journal p.journal; refused = own c.entries p.entries; quiet = refl; going = λ e. absurd (full e) }
     go false = record {
-      groups = groups; peers = peers; pool = pool; asking = asking;
+      groups = groups;
+      peers = peers;
+      pool = pool;
+      asking = asking;
       journal = all_append (StandsFor commands (shape_of c) c.limits c.event_line) c.journal c.entries (own c.journal p.journal) (own c.entries p.entries);
-      refused = nothing; quiet = refl; going = λ e. p.refused;
+      refused = nothing;
+      quiet = refl;
+      going = λ e. p.refused;
     }
 
 -- ---- an event begins
@@ -249,12 +254,28 @@ module _ (commands : ℕ → Option Command) (core : Core) (its : IsNoted comman
 
       go : (b : Bool) → During commands (shape_of core) core.limits (line_then line core) (record (change_if b (change_pool restart_numbers) core) { moment = moment; event_line = cond (line == 0) core.event_line line })
       go true = record {
-        shaped = refl; limited = refl; groups = its.groups; peers = its.peers; pool = its.pool; line = refl; asking = λ n w at. (lift n (its.asking n w at).0, (its.asking n w at).1);
-        journal = up core.journal its.journal; refused = its.going goes; entries = none;
+        shaped = refl;
+        limited = refl;
+        groups = its.groups;
+        peers = its.peers;
+        pool = its.pool;
+        line = refl;
+        asking = λ n w at. (lift n (its.asking n w at).0, (its.asking n w at).1);
+        journal = up core.journal its.journal;
+        refused = its.going goes;
+        entries = none;
       }
       go false = record {
-        shaped = refl; limited = refl; groups = its.groups; peers = its.peers; pool = its.pool; line = refl; asking = λ n w at. (lift n (its.asking n w at).0, (its.asking n w at).1);
-        journal = up core.journal its.journal; refused = its.going goes; entries = none;
+        shaped = refl;
+        limited = refl;
+        groups = its.groups;
+        peers = its.peers;
+        pool = its.pool;
+        line = refl;
+        asking = λ n w at. (lift n (its.asking n w at).0, (its.asking n w at).1);
+        journal = up core.journal its.journal;
+        refused = its.going goes;
+        entries = none;
       }
 
   -- ---- any event

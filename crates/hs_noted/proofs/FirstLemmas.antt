@@ -84,7 +84,9 @@ one_told disk n m peer c its = subst (λ (x : Members). Told disk (n + cond (is_
     go : (b : Bool) → Told disk (n + cond (not b && peer == disk) 1 0) m (change_if (not b) (note who.Store deed.Nothing (reply.Down peer 0)) c)
     go true = record { members = its.members; journal = its.journal; refused = its.refused; count = its.count ∙ sym (nothing n) }
     go false = record {
-      members = its.members; journal = its.journal; refused = its.refused;
+      members = its.members;
+      journal = its.journal;
+      refused = its.refused;
       count =
           count_more disk c.entries (record { who = who.Store; moment = c.moment; deed = deed.Nothing; reply = reply.Down peer 0 }) ∙ ap (λ k. k + cond (peer == disk) 1 0) its.count;
     }

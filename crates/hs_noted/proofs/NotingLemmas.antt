@@ -1,5 +1,5 @@
 -- While an event is done, each single change leaves what the entries stand for.
-use Rattle.std.proofs.Common.{◌≡◌, ◌∙◌, sym, subst, ◌⊎◌, inl, inr, ℕ, ◌+◌, ◌*◌, ◌<◌, ◌≤◌, List, [], ◌∷◌, ◌++◌, length, map, Option, Some, None, IsSome, refl, arith}
+use Rattle.std.proofs.Common.{◌≡◌, ◌∙◌, sym, subst, ◌⊎◌, inl, inr, ℕ, ◌*◌, ◌<◌, ◌≤◌, List, [], ◌∷◌, ◌++◌, length, map, Option, Some, None, IsSome, refl, arith}
 use Rattle.std.specs.BTreeMap.{insert_entry, is_at}
 use Rattle.std.specs.List.{AllByRecursion}
 use Rattle.std.specs.Map.{lookup, remove_entry, set_value}
@@ -117,7 +117,16 @@ module _ (commands : ℕ → Option Command) (shape : Shape) (limits : Limits) (
   -- other operations wait
   with_operations : (c : Core) (operations : List (ℕ × Waiting)) → OfEach (IsClients commands shape limits last) operations → D c → D (record c { operations = operations })
   with_operations c operations each p = record {
-    shaped = p.shaped; limited = p.limited; groups = p.groups; peers = p.peers; pool = p.pool; line = p.line; asking = each; journal = p.journal; refused = p.refused; entries = p.entries;
+    shaped = p.shaped;
+    limited = p.limited;
+    groups = p.groups;
+    peers = p.peers;
+    pool = p.pool;
+    line = p.line;
+    asking = each;
+    journal = p.journal;
+    refused = p.refused;
+    entries = p.entries;
   }
 
   pub on_wait : (line : ℕ) (w was : Waiting) (c : Core) → operation_of line c ≡ Some was → D c → D (put_operation line w c)
@@ -134,7 +143,15 @@ module _ (commands : ℕ → Option Command) (shape : Shape) (limits : Limits) (
   -- an entry more
   pub on_note : (entry : JournalEntry) (c : Core) → Stands commands shape limits last entry → D c → D (record c { entries = c.entries ++ entry ∷ [] })
   on_note entry c stands p = record {
-    shaped = p.shaped; limited = p.limited; groups = p.groups; peers = p.peers; pool = p.pool; line = p.line; asking = p.asking; journal = p.journal; refused = p.refused;
+    shaped = p.shaped;
+    limited = p.limited;
+    groups = p.groups;
+    peers = p.peers;
+    pool = p.pool;
+    line = p.line;
+    asking = p.asking;
+    journal = p.journal;
+    refused = p.refused;
     entries = all_append (Stands commands shape limits last) c.entries (entry ∷ []) p.entries (stands, tt);
   }
 
@@ -148,7 +165,12 @@ module _ (commands : ℕ → Option Command) (shape : Shape) (limits : Limits) (
 
   pub on_answer : (line : ℕ) (w was : Waiting) (told : Reply) (c : Core) → operation_of line c ≡ Some was → D c → D (answer line w told c)
   on_answer line w was told c at p = record {
-    shaped = p.shaped; limited = p.limited; groups = p.groups; peers = p.peers; pool = p.pool; line = p.line;
+    shaped = p.shaped;
+    limited = p.limited;
+    groups = p.groups;
+    peers = p.peers;
+    pool = p.pool;
+    line = p.line;
     asking = lines_remove (IsClients commands shape limits last) c.operations p.asking line was at;
     journal = p.journal;
     refused = p.refused;

@@ -22,7 +22,6 @@ use Rattle.hs_journal.specs.declared.entry.Who.TheVariants as who
 use Rattle.hs_journal.specs.Events.{client_op}
 use Rattle.hs_model.specs.declared.command.Command.{Command}
 use Rattle.hs_model.specs.declared.deed.Deed.{Deed}
-use Rattle.hs_model.specs.declared.deed.Deed.TheVariants as deed
 use Rattle.hs_model.specs.declared.reply.Reply.{Reply}
 use Rattle.hs_noted.proofs.NotingLemmas.{OfEach, all_append, lines_map, lines_remove, lines_set}
 use Rattle.hs_noted.specs.Noted.{Adds, IsNoClients, IsNoted, IsOfClient, refusal_entry}
