@@ -8,7 +8,7 @@ use Rattle.hs_core.specs.declared.event.Event.TheVariants as event
 use Rattle.hs_core.specs.State.{Core}
 use Rattle.hs_core.specs.Step.{step}
 use Rattle.hs_events.specs.Asked.{addressed}
-use Rattle.hs_events.specs.Commands.{AreOfCommand, AreOfLine, BeginsWith, LineAt}
+use Rattle.hs_events.specs.Commands.{AreOfCommand, AreOfLine, BeginsWith}
 use Rattle.hs_events.specs.declared.due.Due.{Due}
 use Rattle.hs_events.specs.declared.due.Place.{Place}
 use Rattle.hs_events.specs.Due.{Events, Walked, first_place, is_one, is_walk, next_due, turn_behind, walk}

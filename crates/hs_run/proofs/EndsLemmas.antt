@@ -1,10 +1,10 @@
 -- Why a script's run ended, wherever it did.
-use Rattle.std.proofs.Common.{◌≡◌, ◌⊎◌, ℕ, ◌+◌, ◌-◌, ◌<◌, ◌≤◌, Bool, true, false, List, [], ◌∷◌, ◌++◌, length, take, drop, Option, Some, None, Result, Ok, Err, refl, sym, ap, subst, ◌∙◌, arith, length-append, length-take, inl, inr}
+use Rattle.std.proofs.Common.{◌≡◌, ℕ, ◌+◌, ◌-◌, ◌<◌, ◌≤◌, Bool, true, false, List, [], ◌∷◌, ◌++◌, length, take, drop, Option, Some, None, Result, Ok, Err, refl, sym, ap, subst, ◌∙◌, arith, length-append, length-take, inl, inr}
 use Rattle.std.proofs.lemmas.Bool.{cases_lt, false≢true, true≢false}
 use Rattle.std.proofs.lemmas.List.{get_or-take}
 use Rattle.std.proofs.Math.Seq.{take-append-add}
-use Rattle.std.specs.Prelude.{IfErr, IfSome, ⊤, is_ok}
-use Rattle.hs_cluster.specs.Calls.{Does, of_core, outcome_by, ran_out}
+use Rattle.std.specs.Prelude.{IfErr, ⊤, is_ok}
+use Rattle.hs_cluster.specs.Calls.{outcome_by, ran_out}
 use Rattle.hs_cluster.specs.declared.fault.ClusterFault.{ClusterFault}
 use Rattle.hs_cluster.specs.declared.fault.ClusterFault.TheVariants as cluster
 use Rattle.hs_desk.specs.declared.fault.CoreFault.{CoreFault}
@@ -25,9 +25,9 @@ use Rattle.hs_run.specs.declared.stop.Stop.{Stop}
 use Rattle.hs_run.specs.declared.stop.Stop.TheVariants as stop
 use Rattle.hs_run.specs.Causes.{EndsBy}
 use Rattle.hs_run.specs.Lines.{HasNoFeed, Overflows, Halts}
-use Rattle.hs_run.specs.OneLine.{Bad, Blank, Commanded, DoesLine, IsOpeningPut, Printing, RunsCommand, Stretch, Unread}
+use Rattle.hs_run.specs.OneLine.{Bad, Blank, Commanded, DoesLine, IsOpeningPut, Printing, Stretch, Unread}
 use Rattle.hs_run.specs.Reading.{IsReadThrough}
-use Rattle.hs_run.specs.Stopping.{IsPutStop, end_of, of_cluster, status_of}
+use Rattle.hs_run.specs.Stopping.{IsPutStop, end_of, status_of}
 use Rattle.hs_cluster.specs.Running.{Running}
 use Rattle.hs_run.proofs.AdvanceLemmas.{Advanced}
 use Rattle.hs_run.proofs.CaseLemmas.{if_any}

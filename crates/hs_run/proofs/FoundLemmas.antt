@@ -1,35 +1,33 @@
 -- What opening found, as hs_promise says it, and the run right behind opening.
-use Rattle.std.proofs.Common.{◌≡◌, ◌⊎◌, inl, inr, ◌∙◌, ap, sym, subst, ℕ, ◌<◌, ◌≤◌, ◌*◌, ◌==◌, Bool, true, false, cond, not, List, [], ◌∷◌, ◌++◌, Option, Some, None, refl, arith, length}
+use Rattle.std.proofs.Common.{◌≡◌, inl, inr, ◌∙◌, ap, sym, subst, ℕ, ◌≤◌, ◌*◌, ◌==◌, Bool, true, false, cond, not, List, [], ◌∷◌, ◌++◌, Option, Some, None, refl, arith, length}
 use Rattle.std.proofs.lemmas.Bool.{cases_lt, eqb-true, false≢true}
 use Rattle.std.proofs.lemmas.List.{append-nil, get_or_past}
 use Rattle.std.proofs.lemmas.List.Elements.{Contains-get_or}
 use Rattle.std.specs.Option.{option_map_or}
-use Rattle.std.specs.Prelude.{All, Contains, IsSome, find, slice_index_or}
+use Rattle.std.specs.Prelude.{All, Contains, find, slice_index_or}
 use Rattle.hs_cluster.proofs.OpenedLemmas.{opens_so}
 use Rattle.hs_cluster.specs.Disks.{AreReady, DiskSeen}
-use Rattle.hs_cluster.specs.Opens.{Finds, IsFound, IsLostLog, Opens}
+use Rattle.hs_cluster.specs.Opens.{Finds, IsLostLog, Opens}
 use Rattle.hs_cluster.specs.Running.{Running}
 use Rattle.hs_core.specs.State.{Core}
 use Rattle.hs_entry.specs.Entries.{rank_of}
 use Rattle.hs_events.specs.Beginning.{first_items}
 use Rattle.hs_events.specs.Course.{items_of, steps}
 use Rattle.hs_events.specs.Due.{Events, MomentsRise, next_turn}
-use Rattle.hs_events.specs.Found.{Found, first_core, opens_with, starts_good}
+use Rattle.hs_events.specs.Found.{Found, first_core, opens_with}
 use Rattle.hs_events.specs.Taken.{is_best, is_taken, peer_count, taken_list, taken_peer}
 use Rattle.hs_fold.specs.Opened.{outranks}
 use Rattle.hs_fold.specs.Shards.Setting.{Numbered, Setting}
 use Rattle.hs_limits.specs.declared.shape.Shape.{Shape}
 use Rattle.hs_members.specs.Members.{home_of, peers_of}
 use Rattle.hs_model.specs.declared.command.Command.{Command}
-use Rattle.hs_model.specs.declared.course.CourseItem.{CourseItem}
 use Rattle.hs_peerlog.specs.Lists.{Keeping}
 use Rattle.hs_ports.specs.Objects.{Objects}
-use Rattle.hs_promise.specs.Found.{HasFound, IsLeftBehind, IsLostBefore, IsSetAside}
-use Rattle.hs_promise.specs.Run.{DiskRose, Ran, Script}
-use Rattle.hs_promise.specs.Story.{Story, all_events}
+use Rattle.hs_promise.specs.Found.{HasFound, IsLostBefore}
+use Rattle.hs_promise.specs.Run.{Ran}
 use Rattle.hs_taking.specs.Shares.{Span}
-use Rattle.hs_run.specs.Between.{IsReadyAt, Point}
-use Rattle.hs_run.specs.Going.{Begun, HasAnswered, IsBehind, story_of}
+use Rattle.hs_run.specs.Between.{IsReadyAt}
+use Rattle.hs_run.specs.Going.{HasAnswered, IsBehind}
 use Rattle.hs_run.proofs.AnsweredLemmas.{answered_opens, answered_steps}
 use Rattle.hs_run.proofs.LastLineLemmas.{steps_later, steps_up, walk_up}
 

@@ -1,5 +1,5 @@
 -- Lines that were gone past, as the run goes on.
-use Rattle.std.proofs.Common.{◌≡◌, ◌∙◌, ap, sym, subst, ℕ, ◌+◌, ◌-◌, ◌^◌, ◌<◌, ◌≤◌, Bool, true, false, List, [], ◌∷◌, ◌++◌, Option, Some, None, refl, arith, length, take}
+use Rattle.std.proofs.Common.{◌≡◌, ◌∙◌, ap, sym, subst, ℕ, ◌+◌, ◌≤◌, Bool, true, List, [], ◌∷◌, ◌++◌, Option, arith, length, take}
 use Rattle.std.proofs.lemmas.List.{append_assoc}
 use Rattle.std.specs.Prelude.{flat_map}
 use Rattle.hs_core.specs.State.{Core}
@@ -11,7 +11,7 @@ use Rattle.hs_ports.specs.Objects.{IsSinkBehind, Objects}
 use Rattle.hs_ports.specs.Putting.{PutsFront, got_by}
 use Rattle.hs_ports.specs.Sink.{bytes_of, followed}
 use Rattle.hs_promise.specs.Ending.{ending_of}
-use Rattle.hs_promise.specs.Lines.{AreLines, IsBegunLine, IsOnTime, IsPrintedBefore}
+use Rattle.hs_promise.specs.Lines.{AreLines, IsBegunLine, IsOnTime}
 use Rattle.hs_promise.specs.Run.{Ran, Script}
 use Rattle.hs_script.specs.Text.{text}
 use Rattle.hs_run.specs.Going.{AreGone, IsFirstBy, IsGoneLine, Sight, ran_by}

@@ -1,5 +1,5 @@
 -- Lines that are bad.
-use Rattle.std.proofs.Common.{◌≡◌, ◌∙◌, ap, Bool, true, false, refl}
+use Rattle.std.proofs.Common.{◌≡◌, ◌∙◌, ap, true, false, refl}
 use Rattle.std.proofs.lemmas.Bool.{true≢false}
 use Rattle.hs_events.specs.Commands.{is_served}
 use Rattle.hs_model.specs.declared.command.Command.{Command}

@@ -3,7 +3,7 @@ use Rattle.std.proofs.Common.{◌≡◌, ap, sym, subst, ℕ, suc, ◌≤◌, Bo
 use Rattle.std.proofs.lemmas.Bool.{false≢true}
 use Rattle.std.specs.Option.{option_and_then, option_map_or}
 use Rattle.std.specs.Prelude.{IfSome, unwrap_or, ◌||◌, ⊤, if◌then◌else◌}
-use Rattle.hs_core.specs.Calls.{begun_line, last_line_after}
+use Rattle.hs_core.specs.Calls.{begun_line}
 use Rattle.hs_core.specs.declared.event.Event.{Event}
 use Rattle.hs_core.specs.declared.event.Event.TheVariants as event
 use Rattle.hs_core.specs.State.{Core}

@@ -1,11 +1,11 @@
 -- A run behind one line more.
-use Rattle.std.proofs.Common.{◌≡◌, ◌∙◌, ap, sym, subst, ℕ, ◌+◌, ◌-◌, ◌^◌, ◌<◌, ◌≤◌, Bool, true, false, List, [], ◌∷◌, ◌++◌, Option, Some, None, Result, Ok, Err, refl, arith, length, length-append, drop, take}
+use Rattle.std.proofs.Common.{◌≡◌, ◌∙◌, ap, sym, subst, ℕ, ◌+◌, ◌-◌, ◌≤◌, Bool, true, false, List, [], ◌∷◌, ◌++◌, Option, Some, None, Result, Ok, Err, refl, arith, length, length-append, drop, take}
 use Rattle.std.proofs.lemmas.Bool.{true≢false}
 use Rattle.std.proofs.lemmas.Grind.{flat_map-append}
 use Rattle.std.proofs.lemmas.List.{append-nil, append_assoc, drop_all, drop_at}
-use Rattle.std.specs.Prelude.{IfErr, flat_map, is_ok, ⊤}
+use Rattle.std.specs.Prelude.{is_ok, ⊤}
 use Rattle.hs_cluster.proofs.WalkLemmas.{rise_then}
-use Rattle.hs_cluster.specs.Calls.{Does, outcome_by, ran_out}
+use Rattle.hs_cluster.specs.Calls.{outcome_by, ran_out}
 use Rattle.hs_cluster.specs.declared.fault.ClusterFault.{ClusterFault}
 use Rattle.hs_core.specs.State.{Core}
 use Rattle.hs_desk.specs.declared.fault.CoreFault.{CoreFault}
@@ -19,20 +19,19 @@ use Rattle.hs_journal.specs.declared.entry.JournalEntry.{JournalEntry}
 use Rattle.hs_limits.specs.declared.address.Address.{Address}
 use Rattle.hs_model.specs.declared.command.Command.{Command}
 use Rattle.hs_model.specs.declared.course.CourseItem.{CourseItem}
-use Rattle.hs_ports.specs.Objects.{IsSinkBehind, Objects}
 use Rattle.hs_ports.specs.Putting.{got_by}
 use Rattle.hs_ports.specs.Sink.{bytes_of, followed}
 use Rattle.hs_promise.specs.Lines.{IsBegunLine, IsOnTime}
 use Rattle.hs_promise.specs.Story.{all_events}
-use Rattle.hs_script.specs.Reading.{Reading, blank, command_in, commands, reading, says}
+use Rattle.hs_script.specs.Reading.{blank, command_in, commands, reading, says}
 use Rattle.hs_script.specs.Text.{text}
 use Rattle.hs_run.specs.declared.stop.Stop.{Stop}
 use Rattle.hs_run.specs.Between.{Point}
-use Rattle.hs_run.specs.Going.{AreGone, AreRead, Begun, HasAnswered, HasGone, IsBehind, IsPrinted, IsPutSoFar, core_behind, ran_by, script_by, story_of}
+use Rattle.hs_run.specs.Going.{AreGone, AreRead, Begun, HasAnswered, HasGone, IsPrinted, IsPutSoFar, core_behind, ran_by, script_by, story_of}
 use Rattle.hs_run.specs.OneLine.{RunsCommand}
 use Rattle.hs_run.specs.Puts.{Puts}
 use Rattle.hs_run.specs.Stopping.{end_of}
-use Rattle.hs_run.proofs.AnsweredLemmas.{HasAdded, answered_on, answered_steps, has_added}
+use Rattle.hs_run.proofs.AnsweredLemmas.{answered_on, answered_steps, has_added}
 use Rattle.hs_run.proofs.GoneLemmas.{events_of, gone_later, gone_more}
 use Rattle.hs_run.proofs.LateLemmas.{front_none}
 use Rattle.hs_run.proofs.PrintedLemmas.{followed_nothing, printed_more, put_more_so_far, stamped_none}

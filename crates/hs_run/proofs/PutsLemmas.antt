@@ -1,6 +1,6 @@
 -- What is put of what was written out before.
-use Rattle.std.proofs.Common.{◌≡◌, ◌∙◌, ap, sym, subst, ℕ, List, [], Option, Result, Ok, Err, refl, arith, length, take, take_all}
-use Rattle.std.specs.Prelude.{IfErr, IfOk, IsOkUnless, OnErr, OnOk, ⊤}
+use Rattle.std.proofs.Common.{◌≡◌, ◌∙◌, ap, sym, subst, ℕ, List, Option, Result, Ok, Err, refl, arith, length, take_all}
+use Rattle.std.specs.Prelude.{IfErr, IsOkUnless, OnErr, OnOk, ⊤}
 use Rattle.hs_ports.specs.Putting.{PutsFront, got_by}
 use Rattle.hs_ports.specs.Sink.{bytes_of, followed}
 use Rattle.hs_run.specs.declared.stop.Stop.{Stop}

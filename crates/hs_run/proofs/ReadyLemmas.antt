@@ -1,5 +1,5 @@
 -- A cluster that goes on may be asked the next line.
-use Rattle.std.proofs.Common.{◌≡◌, ◌∙◌, ap, sym, subst, ℕ, ◌+◌, ◌*◌, ◌<◌, ◌≤◌, Bool, true, false, List, [], ◌∷◌, ◌++◌, Option, Some, None, Result, Ok, Err, refl, arith, length, length-append}
+use Rattle.std.proofs.Common.{◌≡◌, ◌∙◌, ap, sym, subst, ℕ, ◌+◌, ◌*◌, ◌≤◌, false, List, [], ◌∷◌, Result, Ok, Err, refl, arith, length, length-append}
 use Rattle.std.specs.Prelude.{OnOk, is_ok, ⊤}
 use Rattle.hs_cluster.specs.Calls.{outcome_by, ran_out}
 use Rattle.hs_cluster.specs.declared.fault.ClusterFault.{ClusterFault}
@@ -7,7 +7,6 @@ use Rattle.hs_cluster.specs.Disks.{AreReady}
 use Rattle.hs_core.specs.State.{Core}
 use Rattle.hs_events.specs.Course.{steps}
 use Rattle.hs_events.specs.Due.{Events}
-use Rattle.hs_journal.specs.declared.entry.JournalEntry.{JournalEntry}
 use Rattle.hs_limits.specs.declared.address.Address.{Address}
 use Rattle.hs_limits.specs.declared.shape.Shape.{Shape}
 use Rattle.hs_model.specs.declared.command.Command.{Command}
@@ -16,7 +15,7 @@ use Rattle.hs_moments.proofs.JournalLemmas.{journal_after}
 use Rattle.hs_moments.specs.Answers.{added}
 use Rattle.hs_run.specs.declared.stop.Stop.{Stop}
 use Rattle.hs_run.specs.Between.{IsReadyAt, Point}
-use Rattle.hs_run.specs.OneLine.{RunsCommand, Stretch}
+use Rattle.hs_run.specs.OneLine.{RunsCommand}
 use Rattle.hs_run.specs.Stopping.{end_of}
 use Rattle.hs_run.proofs.LastLineLemmas.{command_up, steps_up}
 use Rattle.hs_run.proofs.PassedLemmas.{going_of}

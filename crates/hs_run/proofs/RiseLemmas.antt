@@ -1,5 +1,5 @@
 -- Moments of events that never fall.
-use Rattle.std.proofs.Common.{◌≡◌, ℕ, ◌≤◌, [], ◌∷◌, arith}
+use Rattle.std.proofs.Common.{ℕ, ◌≤◌, [], ◌∷◌, arith}
 use Rattle.hs_events.specs.Due.{Events, MomentsRise}
 use Rattle.hs_run.specs.Going.{IsFirstBy}
 

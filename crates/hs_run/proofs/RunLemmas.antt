@@ -1,26 +1,21 @@
 -- What is said of a run that came to its end, from its opening on.
-use Rattle.std.proofs.Common.{◌≡◌, ◌⊎◌, inl, inr, ◌∙◌, ap, sym, subst, ℕ, ◌+◌, ◌<◌, ◌≤◌, Bool, true, false, List, [], ◌∷◌, ◌++◌, Option, Some, None, Result, Ok, Err, refl, arith, drop, length, map}
-use Rattle.std.proofs.lemmas.Bool.{false≢true, true≢false}
-use Rattle.std.proofs.lemmas.List.{length-map}
+use Rattle.std.proofs.Common.{◌≡◌, ◌⊎◌, inl, inr, ◌∙◌, ap, sym, subst, ℕ, ◌+◌, ◌≤◌, Bool, true, false, List, [], ◌∷◌, ◌++◌, Option, Some, None, Result, Ok, Err, refl, arith, length}
+use Rattle.std.proofs.lemmas.Bool.{true≢false}
 use Rattle.std.proofs.lemmas.List.Elements.{All-nil}
-use Rattle.std.specs.Prelude.{IfErr, IfSome, IsErrOf, if◌then◌else◌, is_ok, ⊤}
+use Rattle.std.specs.Prelude.{IfErr, IfSome, if◌then◌else◌, is_ok, ⊤}
 use Rattle.hs_cluster.specs.Begins.{IsClosed}
 use Rattle.hs_cluster.specs.Calls.{outcome_by}
 use Rattle.hs_cluster.specs.declared.fault.ClusterFault.{ClusterFault}
 use Rattle.hs_cluster.specs.declared.fault.ClusterFault.TheVariants as cluster
 use Rattle.hs_cluster.specs.Disks.{DiskSeen}
 use Rattle.hs_cluster.specs.Running.{Running}
-use Rattle.hs_core.specs.State.{Core}
-use Rattle.hs_events.specs.Course.{steps}
 use Rattle.hs_events.specs.Due.{Events}
 use Rattle.hs_journal.specs.declared.entry.JournalEntry.{JournalEntry}
-use Rattle.hs_journal.specs.Moments.{below}
 use Rattle.hs_limits.specs.declared.address.Address.{Address}
 use Rattle.hs_limits.specs.declared.shape.Shape.{Shape}
 use Rattle.hs_model.specs.declared.command.Command.{Command}
-use Rattle.hs_ports.specs.Fault.{HasRisen}
-use Rattle.hs_ports.specs.Objects.{IsDuring, IsSinkBehind, KeepsTime, Objects, PutsHere}
-use Rattle.hs_ports.specs.Putting.{IsPut, PutsFront, got_by}
+use Rattle.hs_ports.specs.Objects.{KeepsTime, Objects}
+use Rattle.hs_ports.specs.Putting.{IsPut, PutsFront}
 use Rattle.hs_ports.specs.Sink.{bytes_of, followed}
 use Rattle.hs_ports.specs.Source.{before}
 use Rattle.hs_promise.specs.declared.status.Status.{Status}
@@ -28,30 +23,27 @@ use Rattle.hs_promise.specs.declared.status.Status.TheVariants as status
 use Rattle.hs_promise.specs.Ending.{Ending, ending_of}
 use Rattle.hs_promise.specs.Ends.{Ends, HasEnded}
 use Rattle.hs_promise.specs.Found.{HasFound}
-use Rattle.hs_promise.specs.Machine.{NeverOpened}
-use Rattle.hs_promise.specs.Run.{Ran, Script}
+use Rattle.hs_promise.specs.Run.{Ran}
 use Rattle.hs_script.specs.Lines.{lines_of}
-use Rattle.hs_script.specs.Reading.{commands, commands_of, reading, says}
-use Rattle.hs_script.specs.Scripts.{IsBad}
+use Rattle.hs_script.specs.Reading.{commands, commands_of}
 use Rattle.hs_script.specs.Text.{text}
 use Rattle.hs_side.specs.declared.header.Header.{Header}
 use Rattle.hs_run.specs.declared.stop.Stop.{Stop}
 use Rattle.hs_run.specs.declared.stop.Stop.TheVariants as stop
 use Rattle.hs_run.specs.Between.{Point}
 use Rattle.hs_run.specs.Causes.{EndsBy, StopCause}
-use Rattle.hs_run.specs.Ended.{journal_in, ran_at, refused_in}
-use Rattle.hs_run.specs.Going.{AreRead, Begun, Between, HasAnswered, HasGone, HasRun, HasStopped, IsBehind, IsBetween, IsPrinted, IsPutSoFar, IsSoFar, Opened, Unopened, Within, script_by, story_of}
+use Rattle.hs_run.specs.Ended.{ran_at, refused_in}
+use Rattle.hs_run.specs.Going.{AreRead, Begun, Between, HasRun, IsBehind, IsBetween, IsPrinted, IsPutSoFar, Opened, Unopened, Within, script_by, story_of}
 use Rattle.hs_run.specs.Machine.{Goes, IsOfCluster}
 use Rattle.hs_run.specs.OneLine.{IsOpeningPut, Printing, RunsCommand, Stretch}
-use Rattle.hs_run.specs.Puts.{IsStamped, Puts}
-use Rattle.hs_run.specs.Served.{HasCauses, PrintsText, Served}
+use Rattle.hs_run.specs.Puts.{Puts}
+use Rattle.hs_run.specs.Served.{HasCauses, PrintsText}
 use Rattle.hs_run.specs.Stopping.{IsPutStop, end_of, of_cluster, status_of}
 use Rattle.hs_run.proofs.EndingLemmas.{none_bad}
 use Rattle.hs_run.proofs.EndsLemmas.{IsWithin, end_within}
-use Rattle.hs_run.proofs.PassedLemmas.{answered_more, end_ok, going_of, put_so_far, put_whole}
+use Rattle.hs_run.proofs.PassedLemmas.{answered_more, put_so_far, put_whole}
 use Rattle.hs_run.proofs.PrintedLemmas.{printed_more, printed_none, put_more_so_far}
 use Rattle.hs_run.proofs.ReadLemmas.{read_untold}
-use Rattle.hs_run.proofs.RiseLemmas.{rise_le}
 use Rattle.hs_run.proofs.WentLemmas.{IsPlain, goes_between, goes_unopened, goes_within}
 
 -- ---- the commands of a script, or those of the lines that were read

@@ -1,10 +1,9 @@
 -- The loop over the lines of a script.
-use Rattle.std.proofs.Common.{◌≡◌, ◌∙◌, ap, sym, subst, ℕ, ◌+◌, ◌-◌, ◌^◌, ◌≤◌, Bool, true, false, List, [], ◌∷◌, ◌++◌, Option, Some, None, Result, Ok, Err, refl, arith, length}
+use Rattle.std.proofs.Common.{◌≡◌, ◌∙◌, ap, sym, subst, ℕ, ◌+◌, ◌-◌, ◌^◌, ◌≤◌, true, false, List, [], ◌∷◌, ◌++◌, Option, Some, None, Result, Ok, Err, refl, arith, length}
 use Rattle.std.proofs.lemmas.Bool.{false≢true, true≢false}
 use Rattle.std.specs.Prelude.{IfSome, is_ok, ⊤}
 use Rattle.hs_events.specs.Due.{Events}
 use Rattle.hs_limits.specs.declared.address.Address.{Address}
-use Rattle.hs_model.specs.declared.command.Command.{Command}
 use Rattle.hs_script.specs.Reading.{Reading, command_in, commands, reading}
 use Rattle.hs_script.specs.Lines.{lines_of}
 use Rattle.hs_script.specs.Scripts.{input_limit, is_bad}
@@ -18,7 +17,7 @@ use Rattle.hs_run.specs.declared.stop.Stop.TheVariants as stop
 use Rattle.hs_run.specs.Between.{Point}
 use Rattle.hs_run.specs.Going.{AreRead, Begun, Between, HasGone, HasStopped, IsBetween, IsSoFar, Within}
 use Rattle.hs_run.specs.Lines.{Halts}
-use Rattle.hs_run.specs.OneLine.{Bad, Blank, Commanded, DoesLine, RunsCommand, Stretch, Unread}
+use Rattle.hs_run.specs.OneLine.{Bad, Blank, Commanded, DoesLine, Stretch, Unread}
 use Rattle.hs_run.proofs.EndingLemmas.{none_bad}
 use Rattle.hs_run.proofs.EndsLemmas.{IsWithin, end_within, says_good}
 use Rattle.hs_run.proofs.PassedLemmas.{blank_gone, command_gone}

@@ -1,19 +1,16 @@
 -- A whole run, with its opening.
-use Rattle.std.proofs.Common.{◌≡◌, ◌⊎◌, inl, inr, ◌∙◌, ap, sym, subst, ℕ, ◌*◌, ◌≤◌, Bool, true, false, List, [], ◌∷◌, Option, Some, None, Result, Ok, Err, refl, arith, length, map}
-use Rattle.std.proofs.lemmas.List.{length-map}
+use Rattle.std.proofs.Common.{◌≡◌, ◌∙◌, ap, sym, subst, ℕ, ◌≤◌, true, List, [], Option, Some, None, Result, Err, refl, arith, length}
 use Rattle.std.proofs.lemmas.List.Elements.{All-nil}
-use Rattle.std.specs.Prelude.{All, IfSome, is_ok, ⊤}
+use Rattle.std.specs.Prelude.{IfSome, is_ok, ⊤}
 use Rattle.hs_cluster.specs.Begins.{IsClosed}
 use Rattle.hs_cluster.specs.Calls.{outcome_by}
 use Rattle.hs_cluster.specs.declared.fault.ClusterFault.{ClusterFault}
 use Rattle.hs_cluster.specs.Disks.{DiskSeen}
 use Rattle.hs_cluster.specs.Running.{Running}
 use Rattle.hs_events.specs.Due.{Events}
-use Rattle.hs_limits.specs.declared.address.Address.{Address}
-use Rattle.hs_limits.specs.declared.shape.Shape.{Shape}
 use Rattle.hs_fold.specs.Shards.Setting.{Setting}
 use Rattle.hs_model.specs.declared.command.Command.{Command}
-use Rattle.hs_ports.specs.Objects.{IsSinkBehind, KeepsTime, Objects}
+use Rattle.hs_ports.specs.Objects.{KeepsTime, Objects}
 use Rattle.hs_ports.specs.Putting.{got_by}
 use Rattle.hs_ports.specs.Sink.{bytes_of}
 use Rattle.hs_ports.specs.Watch.{next_moment}

@@ -1,17 +1,15 @@
 -- A run that stopped went as hs_promise says, but for what its reports cost.
-use Rattle.std.proofs.Common.{◌≡◌, ◌⊎◌, inl, inr, ◌∙◌, ap, sym, subst, ℕ, ◌+◌, ◌<◌, ◌≤◌, Bool, true, false, List, [], ◌∷◌, ◌++◌, Option, Some, None, Result, Ok, Err, refl, arith, length, length-append}
+use Rattle.std.proofs.Common.{◌≡◌, ◌∙◌, ap, sym, subst, ℕ, ◌+◌, ◌≤◌, Bool, true, false, List, [], ◌∷◌, ◌++◌, Option, Some, None, Result, Ok, Err, refl, arith, length, length-append}
 use Rattle.std.proofs.lemmas.Bool.{false≢true, true≢false}
-use Rattle.std.proofs.lemmas.List.{append-nil}
 use Rattle.std.specs.Prelude.{IfErr, IfSome, if◌then◌else◌, is_ok, ⊤}
-use Rattle.hs_cluster.specs.Calls.{Does, of_core, outcome_by, ran_out}
+use Rattle.hs_cluster.specs.Calls.{outcome_by, ran_out}
 use Rattle.hs_cluster.specs.declared.fault.ClusterFault.{ClusterFault}
 use Rattle.hs_cluster.specs.declared.fault.ClusterFault.TheVariants as cluster
-use Rattle.hs_cluster.specs.Running.{Running}
 use Rattle.hs_core.specs.State.{Core}
 use Rattle.hs_desk.specs.declared.fault.CoreFault.{CoreFault}
 use Rattle.hs_desk.specs.declared.fault.CoreFault.TheVariants as core
 use Rattle.hs_events.specs.Course.{steps}
-use Rattle.hs_events.specs.Due.{Events, MomentsRise, is_walk, next_turn}
+use Rattle.hs_events.specs.Due.{Events, MomentsRise, next_turn}
 use Rattle.hs_events.specs.Found.{first_core}
 use Rattle.hs_events.specs.Reports.{failures}
 use Rattle.hs_journal.specs.declared.entry.JournalEntry.{JournalEntry}
@@ -24,8 +22,8 @@ use Rattle.hs_promise.specs.Found.{HasFound}
 use Rattle.hs_promise.specs.Lines.{IsBegunLine}
 use Rattle.hs_promise.specs.Machine.{EndsAs, Went, opening_is_whole}
 use Rattle.hs_promise.specs.Run.{DiskRose, Ran, Script}
-use Rattle.hs_promise.specs.Story.{Story, all_events, last_core}
-use Rattle.hs_script.specs.Reading.{command_in, commands, reading, says}
+use Rattle.hs_promise.specs.Story.{Story, all_events}
+use Rattle.hs_script.specs.Reading.{commands, reading, says}
 use Rattle.hs_run.specs.declared.stop.Stop.{Stop}
 use Rattle.hs_run.specs.declared.stop.Stop.TheVariants as stop
 use Rattle.hs_run.specs.Between.{Point}
@@ -33,7 +31,7 @@ use Rattle.hs_run.specs.Ended.{ran_at}
 use Rattle.hs_run.specs.Going.{AreRead, Begun, HasGone, IsBehind, core_behind, script_by, story_of}
 use Rattle.hs_run.specs.Machine.{Goes}
 use Rattle.hs_run.specs.OneLine.{IsOpeningPut, Printing, RunsCommand}
-use Rattle.hs_run.specs.Stopping.{IsPutStop, end_of, of_cluster, status_of}
+use Rattle.hs_run.specs.Stopping.{IsPutStop, end_of, status_of}
 use Rattle.hs_run.proofs.CutLemmas.{command_short, walk_cut}
 use Rattle.hs_run.proofs.EndsLemmas.{IsWithin, no_shape}
 use Rattle.hs_run.proofs.GoneLemmas.{begun_same, lines_as, lines_with}

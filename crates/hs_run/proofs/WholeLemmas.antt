@@ -1,33 +1,28 @@
 -- A run over what a cluster opened with.
-use Rattle.std.proofs.Common.{◌≡◌, ◌∙◌, ap, sym, subst, ℕ, ◌*◌, ◌≤◌, Bool, true, false, List, [], ◌∷◌, ◌++◌, Option, Some, None, Result, refl, arith, length, map}
+use Rattle.std.proofs.Common.{◌≡◌, ◌∙◌, ap, sym, subst, ℕ, ◌*◌, ◌≤◌, List, [], Option, Some, None, refl, arith, length, map}
 use Rattle.std.proofs.lemmas.List.{length-map}
-use Rattle.std.specs.Prelude.{IfSome, ⊤}
-use Rattle.hs_cluster.specs.Disks.{AreReady, DiskSeen}
+use Rattle.std.specs.Prelude.{IfSome}
+use Rattle.hs_cluster.specs.Disks.{AreReady}
 use Rattle.hs_cluster.specs.Opens.{Opens}
 use Rattle.hs_cluster.specs.Running.{Running}
-use Rattle.hs_events.specs.Due.{Events}
 use Rattle.hs_fold.specs.Shards.Setting.{Setting}
 use Rattle.hs_limits.specs.declared.address.Address.{Address}
 use Rattle.hs_limits.specs.declared.shape.Shape.{Shape}
 use Rattle.hs_model.specs.declared.command.Command.{Command}
 use Rattle.hs_ports.specs.Objects.{Objects}
 use Rattle.hs_promise.specs.declared.status.Status.{Status}
-use Rattle.hs_promise.specs.Ending.{ending_of}
-use Rattle.hs_promise.specs.Run.{Ran}
-use Rattle.hs_promise.specs.Story.{all_events}
 use Rattle.hs_taking.specs.Shares.{Span}
-use Rattle.hs_run.specs.declared.stop.Stop.{Stop}
 use Rattle.hs_run.specs.Between.{IsReadyAt, Point}
 use Rattle.hs_run.specs.Causes.{EndsBy, StopCause}
 use Rattle.hs_run.specs.Ended.{ran_at}
-use Rattle.hs_run.specs.Going.{Begun, Between, HasRun, HasStopped, IsBehind, Opened, StartsAt, Unopened, Within, story_of}
+use Rattle.hs_run.specs.Going.{Begun, Between, HasRun, IsBehind, Opened, StartsAt, Unopened, Within}
 use Rattle.hs_run.specs.Machine.{IsOfCluster}
 use Rattle.hs_run.specs.OneLine.{Stretch}
 use Rattle.hs_run.specs.Served.{Served}
 use Rattle.hs_run.specs.Stopping.{status_of}
 use Rattle.hs_run.proofs.FoundLemmas.{has_found, opened_behind, opened_ready}
 use Rattle.hs_run.proofs.RiseLemmas.{rise_le}
-use Rattle.hs_run.proofs.RunLemmas.{FoundBy, HasPrinted, chosen, chosen_told, goes_run, printed_run, run_shape}
+use Rattle.hs_run.proofs.RunLemmas.{FoundBy, chosen, chosen_told, goes_run, printed_run, run_shape}
 use Rattle.hs_run.proofs.TopLemmas.{behind_on, served_run, since_of}
 
 -- as many disks as before

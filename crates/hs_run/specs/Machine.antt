@@ -1,5 +1,5 @@
 -- What is shown of a run on a cluster of the machine's word on it.
-use Rattle.std.specs.Prelude.{IfSome, List, None, Option, Some, [], length, if◌then◌else◌, true, ℕ, ◌≡◌}
+use Rattle.std.specs.Prelude.{None, Option, Some, [], length, if◌then◌else◌, true, ◌≡◌}
 use Rattle.hs_events.specs.Course.{steps}
 use Rattle.hs_events.specs.Due.{MomentsRise, is_walk, next_turn}
 use Rattle.hs_events.specs.Found.{first_core}

@@ -1,4 +1,4 @@
-use Rattle.std.proofs.Common.{◌≡◌, ◌∙◌, ap, sym, subst, refl, arith, List, ℕ, length, drop}
+use Rattle.std.proofs.Common.{◌≡◌, ◌∙◌, subst, List, ℕ, drop}
 use Rattle.std.proofs.lemmas.List.{take_rest}
 use Rattle.hs_script.specs.Text.{text}
 use Rattle.hs_run.specs.Puts.{Puts}

@@ -1,4 +1,4 @@
-use Rattle.std.proofs.Common.{◌≡◌, ◌∙◌, ap, sym, refl, arith, ◌+◌, ◌<◌, ◌≤◌, length, length-drop}
+use Rattle.std.proofs.Common.{◌≡◌, ◌∙◌, sym, refl, arith, ◌+◌, ◌<◌, ◌≤◌, length, length-drop}
 use Rattle.std.proofs.lemmas.Bool.{false≢true}
 
 use Rattle.hs_run.specs.Reader.{cost, held_of, line_of}

@@ -1,4 +1,4 @@
-use Rattle.std.proofs.Common.{◌≡◌, ◌∙◌, ap, sym, subst, refl, arith}
+use Rattle.std.proofs.Common.{◌∙◌, refl}
 use Rattle.hs_run.specs.Going.{Opened, Unopened}
 use Rattle.hs_run.proofs.CaseLemmas.{if_any}
 use Rattle.hs_run.proofs.EndsLemmas.{ends_opening}

@@ -1,4 +1,4 @@
-use Rattle.std.proofs.Common.{◌≡◌, ◌≤◌, ◌∙◌, ap, sym, subst, refl, arith, length, map, List, ℕ, Option, None, Err}
+use Rattle.std.proofs.Common.{◌≡◌, ◌∙◌, ap, sym, subst, refl, arith, map, ℕ, Option, None, Err}
 use Rattle.std.proofs.lemmas.List.{length-map}
 use Rattle.hs_cluster.specs.Disks.{DiskSeen, seen_as}
 use Rattle.hs_fold.specs.Shards.Setting.{Setting}

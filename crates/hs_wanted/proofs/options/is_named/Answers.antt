@@ -1,5 +1,5 @@
-use Rattle.std.proofs.Common.{◌≡◌, ◌∙◌, ap, sym, refl, arith, bytes_eq, Bool}
-use Rattle.std.specs.Prelude.{string_bytes, ◌||◌}
+use Rattle.std.proofs.Common.{◌∙◌, ap, sym, arith, bytes_eq}
+use Rattle.std.specs.Prelude.{string_bytes}
 use Rattle.hs_wanted.proofs.OptionLemmas.{few_named, two_named}
 use Rattle.hs_wanted.proofs.options.is_named.Goals as goal
 

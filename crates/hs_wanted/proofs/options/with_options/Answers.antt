@@ -1,4 +1,4 @@
-use Rattle.std.proofs.Common.{◌≡◌, ◌∙◌, ap, sym, refl, arith, List, ℕ, Option, Some, [], ◌∷◌, if◌then◌else◌}
+use Rattle.std.proofs.Common.{◌∙◌, ap, sym, arith, List, ℕ, Option, Some, []}
 use Rattle.std.specs.Prelude.{string_bytes}
 use Rattle.hs_limits.specs.declared.limits.Limits.{Limits}
 use Rattle.hs_script.specs.CommandLine.{with_options}

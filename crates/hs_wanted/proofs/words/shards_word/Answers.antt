@@ -1,4 +1,4 @@
-use Rattle.std.proofs.Common.{◌≡◌, ◌∙◌, sym}
+use Rattle.std.proofs.Common.{◌∙◌, sym}
 use Rattle.hs_wanted.proofs.ShapeLemmas.{shards_among}
 use Rattle.hs_wanted.proofs.words.shards_word.Goals as goal
 

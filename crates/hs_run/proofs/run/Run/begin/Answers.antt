@@ -1,5 +1,4 @@
-use Rattle.std.proofs.Common.{◌≡◌, ◌∙◌, ap, sym, subst, refl, arith}
-use Rattle.hs_script.specs.Reading.{says}
+use Rattle.std.proofs.Common.{◌∙◌, sym, refl}
 use Rattle.hs_run.specs.OneLine.{Bad, Blank, Commanded, Unread}
 use Rattle.hs_run.proofs.KindLemmas.{bad_said, unserved_bad}
 use Rattle.hs_run.proofs.ReadyLemmas.{blank_ready}

@@ -1,5 +1,4 @@
-use Rattle.std.proofs.Common.{◌≡◌, ◌∙◌, ap, sym, subst, refl, drop, List, ℕ, Option, Result}
-use Rattle.std.specs.Prelude.{⊤}
+use Rattle.std.proofs.Common.{◌∙◌, ap}
 use Rattle.hs_cluster.specs.Calls.{outcome_by}
 use Rattle.hs_run.specs.Stopping.{end_of}
 use Rattle.hs_run.proofs.PutsLemmas.{ended_printed}

@@ -1,4 +1,4 @@
-use Rattle.std.proofs.Common.{◌≡◌, ◌∙◌, ◌+◌, ap, sym, refl, arith, length, map}
+use Rattle.std.proofs.Common.{◌∙◌, ◌+◌, ap, sym, refl, arith, length, map}
 use Rattle.std.proofs.lemmas.List.{length-map}
 use Rattle.hs_cluster.specs.Disks.{DiskSeen, seen_as}
 use Rattle.hs_run.specs.Between.{Point}
