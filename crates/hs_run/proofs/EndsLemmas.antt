@@ -149,15 +149,15 @@ no_shape (Some (core.ShardLost shard)) peer found e = cc
 no_shape (Some core.NoMemory) peer found e = cc
 
 did_within : (did : Result ⊤ ClusterFault) (y : ⊤) (ended : Option CoreFault) → (ran_out did ≡ false → did ≡ outcome_by ended) → is_ok (end_of did (Ok y)) ≡ false → IsWithin (end_of did (Ok y))
-did_within (Ok x) y ended says cut = absurd (true≢false cut)
-did_within (Err (cluster.WrongShape peer found)) y ended says cut = absurd (no_shape ended peer found (says refl))
-did_within (Err (cluster.ShardLost shard)) y ended says cut = tt
-did_within (Err cluster.OpsFull) y ended says cut = tt
-did_within (Err cluster.NoMemory) y ended says cut = tt
+did_within (Ok x) y ended told cut = absurd (true≢false cut)
+did_within (Err (cluster.WrongShape peer found)) y ended told cut = absurd (no_shape ended peer found (told refl))
+did_within (Err (cluster.ShardLost shard)) y ended told cut = tt
+did_within (Err cluster.OpsFull) y ended told cut = tt
+did_within (Err cluster.NoMemory) y ended told cut = tt
 
 pub end_within : (did : Result ⊤ ClusterFault) (put : Result ⊤ Stop) (ended : Option CoreFault) → (ran_out did ≡ false → did ≡ outcome_by ended) → IfErr put IsPutStop → is_ok (end_of did put) ≡ false → IsWithin (end_of did put)
-end_within did (Ok x) ended says only cut = did_within did x ended says cut
-end_within did (Err halt) ended says only cut = put_within halt only
+end_within did (Ok x) ended told only cut = did_within did x ended told cut
+end_within did (Err halt) ended told only cut = put_within halt only
 
 -- behind a line that was begun
 within_ended : (result : Result ⊤ Stop) (lines : List (List ℕ)) (line : ℕ) (taken rest : List ℕ) → IsWithin result → (line ≡ 0 → taken ≡ []) → length taken ≤ input_limit → HasEnded (status_of result line) lines line taken rest

@@ -173,8 +173,8 @@ gone_line b read lines at line es mid new gone rises core going course number ar
 -- a line of this command, by other names of its number and of its end
 pub line_is : (name name' : List ℕ → Address) (line n : ℕ) (core : Core) (es : Events) (whole w : Bool) (asked : Command) (o : Option Command) → name' ≡ name → n ≡ line → w ≡ whole → o ≡ Some asked
     → AreOfCommand name (record { line = line; core = core; events = es; whole = whole }) asked → AreOfLine name' (record { line = n; core = core; events = es; whole = w }) o
-line_is name name' line n core es whole w asked o named number same says h =
-    subst (λ (c : Option Command). AreOfLine name' (record { line = n; core = core; events = es; whole = w }) c) (sym says)
+line_is name name' line n core es whole w asked o named number same there h =
+    subst (λ (c : Option Command). AreOfLine name' (record { line = n; core = core; events = es; whole = w }) c) (sym there)
     (subst (λ (f : List ℕ → Address). AreOfCommand f (record { line = n; core = core; events = es; whole = w }) asked) (sym named)
     (subst (λ (k : ℕ). AreOfCommand name (record { line = k; core = core; events = es; whole = w }) asked) (sym number)
     (subst (λ (v : Bool). AreOfCommand name (record { line = line; core = core; events = es; whole = v }) asked) (sym same) h)))

@@ -1,8 +1,11 @@
 -- What is put of what was written out before.
-use Rattle.std.proofs.Common.{◌≡◌, ◌∙◌, ap, sym, subst, ℕ, List, Option, Result, Ok, Err, refl, arith, length, take_all}
+use Rattle.std.proofs.Common.{◌≡◌, ◌∙◌, ap, sym, subst, ℕ, ◌-◌, List, [], ◌++◌, Option, Result, Ok, Err, refl, arith, length, drop, take, take_all}
+use Rattle.std.proofs.lemmas.List.{take_rest}
 use Rattle.std.specs.Prelude.{IfErr, IsOkUnless, OnErr, OnOk, ⊤}
+use Rattle.hs_journal.specs.declared.entry.JournalEntry.{JournalEntry}
 use Rattle.hs_ports.specs.Putting.{PutsFront, got_by}
 use Rattle.hs_ports.specs.Sink.{bytes_of, followed}
+use Rattle.hs_script.specs.Text.{text}
 use Rattle.hs_run.specs.declared.stop.Stop.{Stop}
 use Rattle.hs_run.specs.declared.stop.Stop.TheVariants as stop
 use Rattle.hs_run.specs.Puts.{IsStamped, Puts, PutsAll, PutsLate}
@@ -61,3 +64,8 @@ ended_printed did put result P is h = subst (λ (r : Result ⊤ Stop). OnOk r P)
     go (Err fault) (Ok y) h = tt
     go (Ok x) (Err halt) h = tt
     go (Err fault) (Err halt) h = tt
+
+-- what is written behind nothing of the entries from a place on
+pub written_text : (out before : List ℕ) (entries journal : List JournalEntry) (k : ℕ) → out ≡ before ++ text (take (length entries - k) (drop k entries)) → before ≡ [] → entries ≡ journal → out ≡ text (drop k journal)
+written_text out before entries journal k is none same =
+    is ∙ ap (λ (front : List ℕ). front ++ text (take (length entries - k) (drop k entries))) none ∙ ap text (take_rest entries k ∙ ap (λ (j : List JournalEntry). drop k j) same)

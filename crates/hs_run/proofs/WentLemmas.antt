@@ -94,26 +94,26 @@ put_ends stop.OpsFull ended line only = absurd only
 put_ends stop.InputFull ended line only = absurd only
 
 did_ends : (did : Result ⊤ ClusterFault) (y : ⊤) (ended : Option CoreFault) (line : ℕ) → (ran_out did ≡ false → did ≡ outcome_by ended) → is_ok (end_of did (Ok y)) ≡ false → EndsAs (ending_of (status_of (end_of did (Ok y)) line)) ended
-did_ends (Ok x) y ended line says cut = absurd (true≢false cut)
-did_ends (Err (cluster.WrongShape peer found)) y ended line says cut = absurd (no_shape ended peer found (says refl))
-did_ends (Err (cluster.ShardLost shard)) y ended line says cut = record {
+did_ends (Ok x) y ended line told cut = absurd (true≢false cut)
+did_ends (Err (cluster.WrongShape peer found)) y ended line told cut = absurd (no_shape ended peer found (told refl))
+did_ends (Err (cluster.ShardLost shard)) y ended line told cut = record {
   opened = refl;
   past = λ past. absurd (false≢true past);
   full = λ full. absurd (false≢true full);
-  lost = shard_ended ended shard (says refl);
+  lost = shard_ended ended shard (told refl);
 }
-did_ends (Err cluster.OpsFull) y ended line says cut = record {
+did_ends (Err cluster.OpsFull) y ended line told cut = record {
   opened = refl;
   past = λ past. absurd (false≢true past);
-  full = λ full. full_ended ended (says refl);
+  full = λ full. full_ended ended (told refl);
   lost = tt;
 }
-did_ends (Err cluster.NoMemory) y ended line says cut = put_ends stop.NoMemory ended line tt
+did_ends (Err cluster.NoMemory) y ended line told cut = put_ends stop.NoMemory ended line tt
 
 ends_within : (did : Result ⊤ ClusterFault) (put : Result ⊤ Stop) (ended : Option CoreFault) (line : ℕ) → (ran_out did ≡ false → did ≡ outcome_by ended) → IfErr put IsPutStop → is_ok (end_of did put) ≡ false
     → EndsAs (ending_of (status_of (end_of did put) line)) ended
-ends_within did (Ok x) ended line says only cut = did_ends did x ended line says cut
-ends_within did (Err halt) ended line says only cut = put_ends halt ended line only
+ends_within did (Ok x) ended line told only cut = did_ends did x ended line told cut
+ends_within did (Err halt) ended line told only cut = put_ends halt ended line only
 
 past_within : (result : Result ⊤ Stop) (line : ℕ) → IsWithin result → (ending_of (status_of result line)).past ≡ false
 past_within (Ok x) line h = absurd h

@@ -1,5 +1,5 @@
 //! A run of a script over its cluster, and what one line does to it.
-ghost use Rattle.std.specs.Prelude.{◌≡◌, ◌+◌, ◌<◌, ◌^◌, ◌≤◌, drop, length, map, IfErr, OnOk};
+ghost use Rattle.std.specs.Prelude.{◌≡◌, ◌+◌, ◌<◌, ◌^◌, ◌≤◌, drop, length, map, true, IfErr, OnOk};
 ghost use Rattle.hs_cluster.specs.Disks.{seen_as};
 ghost use Rattle.hs_events.specs.Commands.{is_served};
 ghost use Rattle.hs_run.specs.Between.{IsReadyAt};

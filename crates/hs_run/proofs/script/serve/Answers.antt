@@ -68,7 +68,7 @@ returns-in-Err-begin-clause-cause g c = record {
 pub serving-init : goal.serving-init
 serving-init g c = record {
   goes = λ b named begun. so_far_none b _ _ begun;
-  read = if_any _ _ (λ script is. read_none_of script _ _ c.requires.held c.requires.cost c.requires.line is);
+  read = if_any _ _ (λ script is. read_none_of script c.args.reader.now (g.S.Source.left c.args.source.now) c.args.run.now.line c.requires.held c.requires.cost c.requires.line is);
   ready = c.requires.ready;
   printed = c.requires.printed;
   over = λ is. absurd (false≢true (sym c.requires.ended ∙ is));
