@@ -109,4 +109,3 @@ served_more script n n' pending' cost' ended' line before next good begun = rw b
   within = next.within;
   good = good_more (lines_of script) n line next.at good before;
 })
-

@@ -58,9 +58,11 @@ module _ (s : Sight) (mid later : ℕ) (bytes : List ℕ) (got : Option (List (�
 pub gone_more : (s : Sight) (line : ℕ) (core : Core) (lines : List Events) (es : Events) (n : ℕ) (c : Core) → n ≡ line + length lines → c ≡ steps core (events_of lines)
     → AreGone s line core lines → IsGoneLine s (record { line = n; core = c; events = es; whole = true }) → AreGone s line core (lines ++ es ∷ [])
 gone_more s line core [] es n c number same h last =
-    let there : n ≡ line = omega (arith, number) in
-    (subst (λ (k : ℕ). IsGoneLine s (record { line = k; core = core; events = es; whole = true })) there
-    (subst (λ (d : Core). IsGoneLine s (record { line = n; core = d; events = es; whole = true })) same last), tt)
+    let there : n ≡ line = omega (arith, number) in (
+      subst (λ (k : ℕ). IsGoneLine s (record { line = k; core = core; events = es; whole = true })) there
+          (subst (λ (d : Core). IsGoneLine s (record { line = n; core = d; events = es; whole = true })) same last),
+      tt,
+    )
 gone_more s line core (l ∷ ls) es n c number same h last =
     (h.0, gone_more s (line + 1) (steps core l) ls es n c (omega (arith, number)) (same ∙ steps_append core l (events_of ls)) h.1 last)
 

@@ -1,5 +1,5 @@
 -- What is said of a run that came to its end, from its opening on.
-use Rattle.std.proofs.Common.{◌≡◌, ◌⊎◌, inl, inr, ◌∙◌, ap, sym, subst, ℕ, ◌+◌, ◌≤◌, Bool, true, false, List, [], ◌∷◌, ◌++◌, Option, Some, None, Result, Ok, Err, refl, arith, length}
+use Rattle.std.proofs.Common.{◌≡◌, ◌⊎◌, inl, inr, ◌∙◌, ap, sym, subst, ℕ, ◌≤◌, Bool, true, false, List, [], ◌∷◌, ◌++◌, Option, Some, None, Result, Ok, Err, refl, arith, length}
 use Rattle.std.proofs.lemmas.Bool.{true≢false}
 use Rattle.std.proofs.lemmas.List.Elements.{All-nil}
 use Rattle.std.specs.Prelude.{IfErr, IfSome, if◌then◌else◌, is_ok, ⊤}
@@ -89,26 +89,35 @@ FoundBy b = (commands : ℕ → Option Command) (r : Ran) (lines : List Events) 
 
 pub goes_run : (tells : Type 0) (name : List ℕ → Address) (b : Begun) (part : Stretch) (new : Objects) → b.set.name ≡ name → IsBehind b [] part.old → FoundBy b → part.new.now ≡ new.moment → part.new.got ≡ new.got
     → HasRun tells name b b.old.left part → (commands : ℕ → Option Command) × IsOfCluster (script_by b commands) (ran_at (status_of part.result part.new.line) part.new.line (Some part.new.cluster) b.old new)
-goes_run tells name b part new named behind found now got (Unopened put cut same zero) = (chosen b.old.left [], record {
-  script = chosen_told b.old.left [];
-  how = Some (story_of b []);
-  went = subst (λ (c : Running). Goes (script_by b (chosen b.old.left [])) (ran_at (status_of part.result part.new.line) part.new.line (Some c) b.old new) (story_of b [])) (sym same)
-      (goes_unopened b part.old part.result part.new.line new (record { before = part.old.now; now = part.new.now; old = part.old.got; new = part.new.got }) (chosen b.old.left []) behind (let there = now in let later = put.puts.late.later in omega (arith, later, there)) zero cut put
-      (found (chosen b.old.left []) (ran_at (status_of part.result part.new.line) part.new.line (Some part.old.cluster) b.old new) [] refl));
-})
-goes_run tells name b part new named behind found now got (Opened mid opened (Between so_far stops)) = (chosen b.old.left so_far.read, record {
-  script = chosen_told b.old.left so_far.read;
-  how = Some (story_of b so_far.lines);
-  went = goes_between b so_far.read so_far.lines part.new (status_of part.result part.new.line) new (chosen b.old.left so_far.read) now got so_far.gone (chosen_read b.old.left so_far.read so_far.said)
-      (found (chosen b.old.left so_far.read) (ran_at (status_of part.result part.new.line) part.new.line (Some part.new.cluster) b.old new) so_far.lines refl) (plain_between part.result part.new.line stops);
-})
-goes_run tells name b part new named behind found now got (Opened mid opened (Within at read lines line asked gone said says_so cut runs)) = (chosen b.old.left (read ++ line ∷ []), record {
-  script = chosen_told b.old.left (read ++ line ∷ []);
-  how = Some (story_of b (lines ++ runs.runs.events ∷ []));
-  went = goes_within tells name b read lines at part.new line asked part.result named gone says_so cut runs (within_of tells name asked (record { old = at; new = part.new; result = part.result }) cut runs)
-      new (chosen b.old.left (read ++ line ∷ [])) now got (chosen_read b.old.left (read ++ line ∷ []) said)
-      (found (chosen b.old.left (read ++ line ∷ [])) (ran_at (status_of part.result part.new.line) part.new.line (Some part.new.cluster) b.old new) (lines ++ runs.runs.events ∷ []) refl);
-})
+goes_run tells name b part new named behind found now got (Unopened put cut same zero) = (
+  chosen b.old.left [],
+  record {
+    script = chosen_told b.old.left [];
+    how = Some (story_of b []);
+    went = subst (λ (c : Running). Goes (script_by b (chosen b.old.left [])) (ran_at (status_of part.result part.new.line) part.new.line (Some c) b.old new) (story_of b [])) (sym same)
+        (goes_unopened b part.old part.result part.new.line new (record { before = part.old.now; now = part.new.now; old = part.old.got; new = part.new.got }) (chosen b.old.left []) behind (let there = now in let later = put.puts.late.later in omega (arith, later, there)) zero cut put
+        (found (chosen b.old.left []) (ran_at (status_of part.result part.new.line) part.new.line (Some part.old.cluster) b.old new) [] refl));
+  },
+)
+goes_run tells name b part new named behind found now got (Opened mid opened (Between so_far stops)) = (
+  chosen b.old.left so_far.read,
+  record {
+    script = chosen_told b.old.left so_far.read;
+    how = Some (story_of b so_far.lines);
+    went = goes_between b so_far.read so_far.lines part.new (status_of part.result part.new.line) new (chosen b.old.left so_far.read) now got so_far.gone (chosen_read b.old.left so_far.read so_far.said)
+        (found (chosen b.old.left so_far.read) (ran_at (status_of part.result part.new.line) part.new.line (Some part.new.cluster) b.old new) so_far.lines refl) (plain_between part.result part.new.line stops);
+  },
+)
+goes_run tells name b part new named behind found now got (Opened mid opened (Within at read lines line asked gone said says_so cut runs)) = (
+  chosen b.old.left (read ++ line ∷ []),
+  record {
+    script = chosen_told b.old.left (read ++ line ∷ []);
+    how = Some (story_of b (lines ++ runs.runs.events ∷ []));
+    went = goes_within tells name b read lines at part.new line asked part.result named gone says_so cut runs (within_of tells name asked (record { old = at; new = part.new; result = part.result }) cut runs)
+        new (chosen b.old.left (read ++ line ∷ [])) now got (chosen_read b.old.left (read ++ line ∷ []) said)
+        (found (chosen b.old.left (read ++ line ∷ [])) (ran_at (status_of part.result part.new.line) part.new.line (Some part.new.cluster) b.old new) (lines ++ runs.runs.events ∷ []) refl);
+  },
+)
 
 -- ---- what it printed
 

@@ -131,13 +131,16 @@ module _ (tells : Type 0) (set : Setting) (disks left : List DiskSeen) (fault : 
 
   pub closed_served : length new.disks ≡ length old.disks → old.moment ≤ new.moment → old.sink_faults ≤ new.sink_faults → old.source_faults ≤ new.source_faults
       → (asked : ℕ → Option Command) × Served (record { set = set; commands = asked }) (ran_at (status_of (Err (of_cluster fault)) 0) 0 None old new)
-  closed_served handed later sink source = (chosen old.left [], record {
-    script = chosen_told old.left [];
-    handed_back = handed;
-    prints = closed_prints (chosen old.left []);
-    time = closed_time later;
-    sink = sink;
-    source = source;
-    causes = closed_causes tells set.shape disks left fault old new closed;
-    ends = if_any (λ told. IfSome new.left (Ends (ran_at (status_of (Err (of_cluster fault)) 0) 0 None old new) told)) old.left (λ told is. closed_by tells set.shape disks left fault old new told closed unread is);
-  })
+  closed_served handed later sink source = (
+    chosen old.left [],
+    record {
+      script = chosen_told old.left [];
+      handed_back = handed;
+      prints = closed_prints (chosen old.left []);
+      time = closed_time later;
+      sink = sink;
+      source = source;
+      causes = closed_causes tells set.shape disks left fault old new closed;
+      ends = if_any (λ told. IfSome new.left (Ends (ran_at (status_of (Err (of_cluster fault)) 0) 0 None old new) told)) old.left (λ told is. closed_by tells set.shape disks left fault old new told closed unread is);
+    },
+  )

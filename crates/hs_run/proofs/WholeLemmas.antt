@@ -72,8 +72,10 @@ module _ (tells : Type 0) (set : Setting) (span : Span) (running : Running) (ope
 
     pub whole_served : (ending : Status) → ending ≡ status_of part.result part.new.line → length new.disks ≡ length old.disks → StopCause old.source_faults new.source_faults old.sink_faults new.sink_faults part.result
         → IfSome old.left (λ told. EndsBy told new.left part.result part.new.line) → (commands : ℕ → Option Command) × Served (record { set = set; commands = commands }) (ran_at ending part.new.line (Some part.new.cluster) old new)
-    whole_served ending is handed cause ends = subst (λ (s : Status). (commands : ℕ → Option Command) × Served (record { set = set; commands = commands }) (ran_at s part.new.line (Some part.new.cluster) old new)) (sym is)
-        (chosen old.left [], served_run (record { set = set; old = old; found = opens.found; opening = opens.events }) (chosen old.left []) part.result part.new.line part.new.cluster new (chosen_told old.left []) handed
-        (printed_run tells set.name (record { set = set; old = old; found = opens.found; opening = opens.events }) part new behind (since_of (record { set = set; old = old; found = opens.found; opening = opens.events }) [] part.old behind) was now got ran)
-        (subst (λ (n : ℕ). old.moment ≤ n) now (later_run tells set.name (record { set = set; old = old; found = opens.found; opening = opens.events }) old.left part behind ran))
-        cause (λ peer found stops. run_shape tells set.name (record { set = set; old = old; found = opens.found; opening = opens.events }) old.left part peer found ran stops) ends)
+    whole_served ending is handed cause ends = subst (λ (s : Status). (commands : ℕ → Option Command) × Served (record { set = set; commands = commands }) (ran_at s part.new.line (Some part.new.cluster) old new)) (sym is) (
+      chosen old.left [],
+      served_run (record { set = set; old = old; found = opens.found; opening = opens.events }) (chosen old.left []) part.result part.new.line part.new.cluster new (chosen_told old.left []) handed
+          (printed_run tells set.name (record { set = set; old = old; found = opens.found; opening = opens.events }) part new behind (since_of (record { set = set; old = old; found = opens.found; opening = opens.events }) [] part.old behind) was now got ran)
+          (subst (λ (n : ℕ). old.moment ≤ n) now (later_run tells set.name (record { set = set; old = old; found = opens.found; opening = opens.events }) old.left part behind ran))
+          cause (λ peer found stops. run_shape tells set.name (record { set = set; old = old; found = opens.found; opening = opens.events }) old.left part peer found ran stops) ends,
+    )

@@ -1,6 +1,5 @@
 use Rattle.std.proofs.Common.{◌≡◌, ◌∙◌, sym, refl, arith, ◌+◌, ◌<◌, ◌≤◌, length, length-drop}
 use Rattle.std.proofs.lemmas.Bool.{false≢true}
-
 use Rattle.hs_run.specs.Reader.{cost, held_of, line_of}
 use Rattle.hs_run.proofs.AdvanceLemmas.{advanced, high_more, left_more, low_more, none_left, nothing_left, served_more}
 use Rattle.hs_run.proofs.CaseLemmas.{if_any, if_told}
@@ -52,7 +51,7 @@ returns-in-Err-begin-clause-goes g c = λ b named begun.
     let read = rw c.if-not-more.false at c.in-Ok.ensures.read in
     let spends = c.in-Ok.ensures.spends in
     let next : IsNextOf (g.S.Source.left c.args.source.now) c.serving.run.line (line_of c.advance.new.self) = if_told _ _ _ c.serving.invariant.read (λ script told.
-        command_next script _ _ (advanced script _ _ _ _ _ _ _ _ told spends _ read c.in-Ok.ensures.stays).at) in
+    command_next script _ _ (advanced script _ _ _ _ _ _ _ _ told spends _ read c.in-Ok.ensures.stays).at) in
     stopped_line _ _ b _ _ _ _ (line_of c.advance.new.self) _ named (c.serving.invariant.goes b named begun) next refl (rw c.line.ensures at c.in-Err-begin.ensures.does)
 
 pub returns-in-Err-begin-clause-cause : goal.returns-in-Err-begin-clause-cause
@@ -88,7 +87,7 @@ serving-preserved g c =
     record {
       goes = λ b named begun.
           let next : IsNextOf (g.S.Source.left c.args.source.now) c.serving.run.line (line_of c.advance.new.self) = if_told _ _ _ c.serving.invariant.read (λ script told.
-              command_next script _ _ (advanced script _ _ _ _ _ _ _ _ told spends _ read c.in-Ok.ensures.stays).at) in
+          command_next script _ _ (advanced script _ _ _ _ _ _ _ _ told spends _ read c.in-Ok.ensures.stays).at) in
           so_far_more _ _ b _ _ _ (line_of c.advance.new.self) _ named (c.serving.invariant.goes b named begun) next refl does;
       read = if_told _ _ _ c.serving.invariant.read (λ script told.
           let next = advanced script _ _ _ _ _ _ _ _ told spends _ read c.in-Ok.ensures.stays in
