@@ -25,9 +25,7 @@ pub(crate) fn long_between(least: u64, most: u64, word: &[u8]) -> Option<u64>
     ensures { result ≡ number_between least most word.now }
 {
     match number_up_to(most, word) {
-        Some(number) => {
-            if number < least { None } else { Some(number) }
-        }
+        Some(number) => { if number < least { None } else { Some(number) } }
         None => None,
     }
 }
