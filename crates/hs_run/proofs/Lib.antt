@@ -20,6 +20,7 @@ pub mod RiseLemmas
 pub mod RunLemmas
 pub mod ServeLemmas
 pub mod SpendsLemmas
+pub mod StatusLemmas
 pub mod TellingLemmas
 pub mod TopLemmas
 pub mod WentLemmas

@@ -11,3 +11,4 @@ pub mod Reader
 pub mod Reading
 pub mod Served
 pub mod Stopping
+pub mod Words

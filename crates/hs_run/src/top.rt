@@ -21,6 +21,7 @@ use hs_block::Addresser;
 use hs_cluster::Cluster;
 use hs_limits::{Limits, Shape};
 use hs_ports::{Disk, Sink, Source, Watch};
+use hs_promise::Status;
 use std::alloc::Global;
 
 /// How many bytes a script may have.
@@ -97,6 +98,9 @@ pub fn run_script_on<A: Addresser, S: Source, K: Sink, D: Disk>(
     requires shape { IsShape shape }
     requires copies { shape.copies ≡ 1 }
     requires count { length disks.old ≡ shape.shards * shape.copies }
+
+    // Some run was begun.
+    ensures begun { result.status ≡ Status.Usage → ⊥ }
 
     // It is the machine's run, but for what its reports cost.
     ensures machine { (commands : ℕ → Option Command) × IsOfCluster

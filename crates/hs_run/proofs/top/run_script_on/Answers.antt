@@ -11,11 +11,15 @@ use Rattle.hs_run.specs.Served.{Served}
 use Rattle.hs_run.specs.Stopping.{of_cluster, status_of}
 use Rattle.hs_run.specs.declared.stop.Stop.{Stop}
 use Rattle.hs_taking.specs.Shares.{Span}
+use Rattle.hs_run.proofs.StatusLemmas.{never_usage}
 use Rattle.hs_run.proofs.TopLemmas.{closed_goes, closed_served}
 use Rattle.hs_run.proofs.WholeLemmas.{handed_count, run_ready, whole_goes, whole_served}
 use Rattle.hs_run.proofs.top.run_script_on.Goals as goal
 
 -- ---- no core was opened
+
+pub returns-in-Err-clause-begun : goal.returns-in-Err-clause-begun
+returns-in-Err-clause-begun g c = λ is. never_usage _ _ (sym c.status_of.ensures ∙ is)
 
 pub returns-in-Err-clause-machine : goal.returns-in-Err-clause-machine
 returns-in-Err-clause-machine g c =
@@ -39,6 +43,9 @@ returns-in-Err-clause-served g c =
     (handed_count _ _ _ c.open.ensures.count) c.open.ensures.ticks (omega arith) (omega arith))
 
 -- ---- its script was run
+
+pub returns-clause-begun : goal.returns-clause-begun
+returns-clause-begun g c = λ is. never_usage _ _ (sym c.status_of-2.ensures ∙ is)
 
 pub go-ended-requires : goal.go-ended-requires
 go-ended-requires g c =
