@@ -64,7 +64,7 @@ proposed_quiet shard entry c = go (lead_of shard c)
     go None = record { catalogues = refl; members = refl; limits = refl; moment = refl }
     go (Some peer) = record { catalogues = refl; members = refl; limits = refl; moment = refl }
 
-carried_quiet : (line : ℕ) (w : Waiting) (taken : OpStep) (c : Core) → Quiet c (carry_out line w taken c)
+pub carried_quiet : (line : ℕ) (w : Waiting) (taken : OpStep) (c : Core) → Quiet c (carry_out line w taken c)
 carried_quiet line w (step.Answer told) c = record { catalogues = refl; members = refl; limits = refl; moment = refl }
 carried_quiet line w (step.Propose entry) c =
     let waits : Core = wait_for line w (wait.Entry (last_number (group_of w.shard c) + 1)) c in

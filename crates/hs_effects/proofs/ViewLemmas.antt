@@ -156,7 +156,7 @@ module _ (name : List ℕ → Address) (shard : ℕ) (c : Core) (its : IsOrderly
 
 -- ---- the view
 
-view_began : (name : List ℕ → Address) (shard : ℕ) (c : Core) → IsOrderly name c → IsOrderly name (begin_view shard c)
+pub view_began : (name : List ℕ → Address) (shard : ℕ) (c : Core) → IsOrderly name c → IsOrderly name (begin_view shard c)
 view_began name shard c its =
     let one : Core = set_viewed shard false c in
     let two : Core = change_group shard (renew c.members) one in

@@ -1,6 +1,6 @@
 mod BeginLemmas
 pub mod BesideLemmas
-mod BusyLemmas
+pub mod BusyLemmas
 mod BytesLemmas
 pub mod CalmLemmas
 mod DuringLemmas
@@ -8,7 +8,7 @@ mod LineLemmas
 mod OpenedLemmas
 mod OperationLemmas
 mod OrderLemmas
-mod SaidLemmas
+pub mod SaidLemmas
 mod SeatLemmas
 pub mod StirLemmas
 pub mod TurnLemmas

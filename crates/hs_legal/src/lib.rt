@@ -1,0 +1,6 @@
+//! The journal of a core is a legal run of the plain store: laws, each a function without parameters whose clauses are the law.
+#![tactic(auto)]
+
+mod told;
+
+pub use told::each_event_is_told;

@@ -1,0 +1,65 @@
+//! What is told is a legal run of the plain store, behind opening and behind each event.
+ghost use Rattle.std.specs.Prelude.{◌≡◌, ℕ, List, []};
+ghost use Rattle.hs_along.specs.Walks.{HasRecordRoom};
+ghost use Rattle.hs_answered.specs.Standing.{store_with};
+ghost use Rattle.hs_answered.specs.Telling.{Judging, events_in};
+ghost use Rattle.hs_core.specs.declared.event.Event.{Event};
+ghost use Rattle.hs_core.specs.Opening.{Taken, open_core};
+ghost use Rattle.hs_core.specs.State.{Core};
+ghost use Rattle.hs_core.specs.Step.{step};
+ghost use Rattle.hs_events.specs.Sane.{IsSane};
+ghost use Rattle.hs_events.specs.Whole.{Whole};
+ghost use Rattle.hs_fold.specs.Runs.Facts.{Catalogue as Folded};
+ghost use Rattle.hs_held.specs.Held.{GivesAddresses};
+ghost use Rattle.hs_laws.specs.Valid.{IsValid};
+ghost use Rattle.hs_legal.specs.Opens.{MayOpen};
+ghost use Rattle.hs_legal.specs.Standing.{IsStanding, MayStand};
+ghost use Rattle.hs_limits.specs.declared.shape.Shape.{Shape};
+ghost use Rattle.hs_model.specs.Run.{IsLegal, run};
+ghost use Rattle.hs_model.specs.Store.{Store};
+ghost use Rattle.hs_told.specs.InTurn.{told_of};
+
+use hs_answered::{a_read_is_the_judges, a_step_that_answers_is_the_judges, a_write_is_the_judges};
+use hs_answered::{an_answer_is_the_judges, views_show_the_store};
+use hs_effects::{a_delete_is_answered_at_its_effect, a_drop_is_answered_at_its_effect};
+use hs_effects::{a_got_is_silent_or_a_sweep, an_enter_by_itself_is_told};
+use hs_effects::{a_new_block_is_answered_at_its_effect, a_present_block_is_answered_at_its_effect};
+use hs_effects::a_root_is_answered_at_its_effect;
+
+/// A core that opens stands for some folds, from the store of the folds with which it opened
+/// (`opens`), where these are of a lawful history. An event that may come leaves a core that
+/// stands, from the same store, for some folds (`event`): on a sane store of one copy a shard, where
+/// the root records and the Roots that wait are few, and the journal had room so far. Of a core that
+/// stands and has told an event whole, the journal, with what found it full, is a legal run
+/// of the plain store from that store on, and leaves the store of the folds and the open sessions
+/// (`legal`).
+pub fn each_event_is_told()
+    ensures opens { (by : Judging) (shape : Shape) (taken : Taken) (moment : ℕ) (cs : List Folded)
+        → GivesAddresses by.name → MayOpen by shape taken moment cs →
+        (after : List Folded)
+        × IsStanding by (store_with cs []) (open_core shape by.limits taken moment) after }
+    ensures event { (by : Judging) (start : Store) (whole : Whole) (event : Event) (moment : ℕ)
+        (cs : List Folded)
+        → GivesAddresses by.name → IsValid start
+        → IsSane whole → HasRecordRoom whole.core → whole.core.refused ≡ []
+        → MayStand by start event whole.core → IsStanding by start whole.core cs →
+        (after : List Folded) × IsStanding by start (step event moment whole.core) after }
+    ensures legal { (by : Judging) (start : Store) (core : Core) (cs : List Folded)
+        → IsStanding by start core cs → core.entries ≡ [] →
+        IsLegal by.limits start (events_in by start (told_of core))
+        × (run by.limits start (events_in by start (told_of core))
+        ≡ store_with cs core.sessions) }
+{
+    a_step_that_answers_is_the_judges();
+    an_answer_is_the_judges();
+    a_read_is_the_judges();
+    a_write_is_the_judges();
+    views_show_the_store();
+    a_new_block_is_answered_at_its_effect();
+    a_present_block_is_answered_at_its_effect();
+    a_root_is_answered_at_its_effect();
+    a_drop_is_answered_at_its_effect();
+    a_delete_is_answered_at_its_effect();
+    an_enter_by_itself_is_told();
+    a_got_is_silent_or_a_sweep();
+}
