@@ -166,15 +166,12 @@ module _ (views : ByViews) (steps : Steps) (laws : Entries) (by : Judging) (cs :
 
   tells_block : (line least : ℕ) (bytes : List ℕ) → committed (group_of shard core) ≡ Some (number, kind.Block line least bytes) → MayFollow (setting_of by.name core) cs (next_deed shard (kind.Block line least bytes) core)
       → TellsOn by cs (folds_behind by.name cs shard (kind.Block line least bytes) core) core (heard shard (kind.Block line least bytes) core)
-  tells_block line least bytes leads may = by_what (stored_or (front_of shard core + 1) least (named_as (named entry core)) (read_block bytes) (catalogue_of shard core))
+  tells_block line least bytes leads may = by_what (stored_or (front_of shard core + 1) least (named_as (named (kind.Block line least bytes) core)) (read_block bytes) (catalogue_of shard core))
     where
-      entry : Entry
-      entry = kind.Block line least bytes
-
       by_what : ((done_by shard (kind.Block line least bytes) core).effect.what ≡ what.Stored) ⊎ IsQuiet (done_by shard (kind.Block line least bytes) core).effect.what
           → TellsOn by cs (folds_behind by.name cs shard (kind.Block line least bytes) core) core (heard shard (kind.Block line least bytes) core)
-      by_what (inl did) = has entry leads may line refl (laws.stores by.name cs core shard number line least bytes its.lawful its.orderly its.holds leads may did)
-      by_what (inr quiet) = goes_on entry leads may line refl quiet (same_fold entry leads may
+      by_what (inl did) = has (kind.Block line least bytes) leads may line refl (laws.stores by.name cs core shard number line least bytes its.lawful its.orderly its.holds leads may did)
+      by_what (inr quiet) = goes_on (kind.Block line least bytes) leads may line refl quiet (same_fold (kind.Block line least bytes) leads may
           (block_same by.name (shape_of core) shard (catalogue_at cs shard) (front_of shard core + 1) least (by.name bytes) (read_block bytes) (subst (λ (w : What). IsQuiet w) did_is quiet)))
         where
           did_is : (done_by shard (kind.Block line least bytes) core).effect.what ≡ (store_block (front_of shard core + 1) least (by.name bytes) (read_block bytes) (forget (shape_of core) shard (catalogue_at cs shard))).effect.what
@@ -236,12 +233,12 @@ module _ (views : ByViews) (steps : Steps) (laws : Entries) (by : Judging) (cs :
   -- ---- an Enter
 
   module _ (line epoch : ℕ) (leads : committed (group_of shard core) ≡ Some (number, kind.Enter line epoch)) (may : MayFollow (setting_of by.name core) cs (next_deed shard (kind.Enter line epoch) core)) where
-    abbrev entry : Entry
-    entry = kind.Enter line epoch
+    abbrev asked_entry : Entry
+    asked_entry = kind.Enter line epoch
 
     -- whether it changes something, in memory as in the fold
     both_enter : memory_may_enter epoch (catalogue_of shard core) ≡ may_enter (catalogue_at cs shard) epoch
-    both_enter = ap (λ (c : Catalogue). memory_may_enter epoch c) (mem entry leads may)
+    both_enter = ap (λ (c : Catalogue). memory_may_enter epoch c) (mem asked_entry leads may)
 
     happens : (b : Bool) → may_enter (catalogue_at cs shard) epoch ≡ b → happening_by (setting_of by.name core) cs (next_deed shard (kind.Enter line epoch) core) ≡ cond b (Some (entering shard)) None
     happens b e = ap (λ (x : Bool). cond x (Some (entering shard)) None) e
@@ -251,10 +248,10 @@ module _ (views : ByViews) (steps : Steps) (laws : Entries) (by : Judging) (cs :
     at_once = resumed_none shard (told_at_once shard (kind.Enter line epoch) core)
 
     journal : (told_at_once shard (kind.Enter line epoch) core).journal ≡ core.journal
-    journal = ap (λ (b : Books). b.journal) (at_once_books shard entry (done_by shard entry core).effect (taken shard entry core))
+    journal = ap (λ (b : Books). b.journal) (at_once_books shard asked_entry (done_by shard asked_entry core).effect (taken shard asked_entry core))
 
     refused : (told_at_once shard (kind.Enter line epoch) core).refused ≡ core.refused
-    refused = ap (λ (b : Books). b.refused) (at_once_books shard entry (done_by shard entry core).effect (taken shard entry core))
+    refused = ap (λ (b : Books). b.refused) (at_once_books shard asked_entry (done_by shard asked_entry core).effect (taken shard asked_entry core))
 
     -- no operation asked for it
     by_itself : operation_of line core ≡ None → TellsOn by cs (folds_behind by.name cs shard (kind.Enter line epoch) core) core (told_at_once shard (kind.Enter line epoch) core)
