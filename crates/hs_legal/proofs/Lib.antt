@@ -1,3 +1,4 @@
+pub mod AskedLemmas
 pub mod CommandLemmas
 pub mod EffectLemmas
 pub mod EpochLemmas

@@ -1,20 +1,25 @@
 //! What is told is a legal run of the plain store, behind opening and behind each event.
-ghost use Rattle.std.specs.Prelude.{◌≡◌, ℕ, List, []};
+ghost use Rattle.std.specs.Prelude.{◌≡◌, ◌≤◌, ℕ, List, [], Some, None};
 ghost use Rattle.hs_along.specs.Walks.{HasRecordRoom};
 ghost use Rattle.hs_answered.specs.Standing.{store_with};
 ghost use Rattle.hs_answered.specs.Telling.{Judging, events_in};
 ghost use Rattle.hs_core.specs.declared.event.Event.{Event};
+ghost use Rattle.hs_core.specs.Looking.{operation_of};
 ghost use Rattle.hs_core.specs.Opening.{Taken, open_core};
 ghost use Rattle.hs_core.specs.State.{Core};
 ghost use Rattle.hs_core.specs.Step.{step};
+ghost use Rattle.hs_events.specs.Asked.{addressed};
 ghost use Rattle.hs_events.specs.Sane.{IsSane};
 ghost use Rattle.hs_events.specs.Whole.{Whole};
 ghost use Rattle.hs_fold.specs.Runs.Facts.{Catalogue as Folded};
 ghost use Rattle.hs_held.specs.Held.{GivesAddresses};
+ghost use Rattle.hs_journal.specs.Events.{client_op};
 ghost use Rattle.hs_laws.specs.Valid.{IsValid};
+ghost use Rattle.hs_legal.specs.Commands.{IsLineOf};
 ghost use Rattle.hs_legal.specs.Opens.{MayOpen};
 ghost use Rattle.hs_legal.specs.Standing.{IsStanding, MayStand};
 ghost use Rattle.hs_limits.specs.declared.shape.Shape.{Shape};
+ghost use Rattle.hs_model.specs.declared.op.Op.{Op};
 ghost use Rattle.hs_model.specs.Run.{IsLegal, run};
 ghost use Rattle.hs_model.specs.Store.{Store};
 ghost use Rattle.hs_told.specs.InTurn.{told_of};
@@ -25,6 +30,14 @@ use hs_effects::{a_delete_is_answered_at_its_effect, a_drop_is_answered_at_its_e
 use hs_effects::{a_got_is_silent_or_a_sweep, an_enter_by_itself_is_told};
 use hs_effects::{a_new_block_is_answered_at_its_effect, a_present_block_is_answered_at_its_effect};
 use hs_effects::a_root_is_answered_at_its_effect;
+
+/// The event of a script's line comes as its command asks, where it is new and comes with the
+/// address of its block.
+pub fn a_line_asks_as_its_command()
+    ensures { (by : Judging) (core : Core) (line : ℕ) (said : Op)
+        → client_op (by.commands line) ≡ Some said → operation_of line core ≡ None → 1 ≤ line →
+        IsLineOf by core line (addressed by.name core.sessions said) }
+{}
 
 /// A core that opens stands for some folds, from the store of the folds with which it opened
 /// (`opens`), where these are of a lawful history. An event that may come leaves a core that
