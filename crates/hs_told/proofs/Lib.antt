@@ -1,14 +1,14 @@
-mod BeginLemmas
+pub mod BeginLemmas
 pub mod BesideLemmas
 pub mod BusyLemmas
-mod BytesLemmas
+pub mod BytesLemmas
 pub mod CalmLemmas
-mod DuringLemmas
-mod LineLemmas
-mod OpenedLemmas
-mod OperationLemmas
-mod OrderLemmas
+pub mod DuringLemmas
+pub mod LineLemmas
+pub mod OpenedLemmas
+pub mod OperationLemmas
+pub mod OrderLemmas
 pub mod SaidLemmas
-mod SeatLemmas
+pub mod SeatLemmas
 pub mod StirLemmas
 pub mod TurnLemmas
