@@ -1,4 +1,5 @@
 pub mod AskedLemmas
+pub mod ComingLemmas
 pub mod CommandLemmas
 pub mod EffectLemmas
 pub mod EpochLemmas

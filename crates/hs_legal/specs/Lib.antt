@@ -1,4 +1,5 @@
 pub mod Bytes
+pub mod Coming
 pub mod Commands
 pub mod Epochs
 pub mod Opens

@@ -3,4 +3,4 @@
 
 mod told;
 
-pub use told::{a_line_asks_as_its_command, each_event_is_told};
+pub use told::{a_line_asks_as_its_command, an_event_may_come_to_it, each_event_is_told};

@@ -8,6 +8,7 @@ ghost use Rattle.hs_core.specs.Looking.{operation_of};
 ghost use Rattle.hs_core.specs.Opening.{Taken, open_core};
 ghost use Rattle.hs_core.specs.State.{Core};
 ghost use Rattle.hs_core.specs.Step.{step};
+ghost use Rattle.hs_effects.specs.Logged.{MayBegin};
 ghost use Rattle.hs_events.specs.Asked.{addressed};
 ghost use Rattle.hs_events.specs.Sane.{IsSane};
 ghost use Rattle.hs_events.specs.Whole.{Whole};
@@ -15,6 +16,7 @@ ghost use Rattle.hs_fold.specs.Runs.Facts.{Catalogue as Folded};
 ghost use Rattle.hs_held.specs.Held.{GivesAddresses};
 ghost use Rattle.hs_journal.specs.Events.{client_op};
 ghost use Rattle.hs_laws.specs.Valid.{IsValid};
+ghost use Rattle.hs_legal.specs.Coming.{ComesAddressed, ReportsBlocks};
 ghost use Rattle.hs_legal.specs.Commands.{IsLineOf};
 ghost use Rattle.hs_legal.specs.Opens.{MayOpen};
 ghost use Rattle.hs_legal.specs.Standing.{IsStanding, MayStand};
@@ -22,7 +24,7 @@ ghost use Rattle.hs_limits.specs.declared.shape.Shape.{Shape};
 ghost use Rattle.hs_model.specs.declared.op.Op.{Op};
 ghost use Rattle.hs_model.specs.Run.{IsLegal, run};
 ghost use Rattle.hs_model.specs.Store.{Store};
-ghost use Rattle.hs_told.specs.InTurn.{told_of};
+ghost use Rattle.hs_told.specs.InTurn.{MayCome, told_of};
 
 use hs_answered::{a_read_is_the_judges, a_step_that_answers_is_the_judges, a_write_is_the_judges};
 use hs_answered::{an_answer_is_the_judges, views_show_the_store};
@@ -37,6 +39,15 @@ pub fn a_line_asks_as_its_command()
     ensures { (by : Judging) (core : Core) (line : ℕ) (said : Op)
         → client_op (by.commands line) ≡ Some said → operation_of line core ≡ None → 1 ≤ line →
         IsLineOf by core line (addressed by.name core.sessions said) }
+{}
+
+/// An event that may come (hs_told) and may begin (hs_effects), where a write has the address of its
+/// block, and a report the bytes of its block, may come to a core that stands.
+pub fn an_event_may_come_to_it()
+    ensures { (by : Judging) (start : Store) (core : Core) (event : Event) (moment : ℕ)
+        → MayCome by.commands core event moment → MayBegin by.name event core
+        → ComesAddressed by event core → ReportsBlocks by start event core →
+        MayStand by start event core }
 {}
 
 /// A core that opens stands for some folds, from the store of the folds with which it opened
