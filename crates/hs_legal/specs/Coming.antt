@@ -1,5 +1,5 @@
 -- An event that may come to a core that stands, in the words of what is asked of it elsewhere.
-use Rattle.std.specs.Prelude.{◌≡◌, ℕ, List, Some}
+use Rattle.std.specs.Prelude.{◌≡◌, List, Some}
 use Rattle.hs_along.specs.Walks.{MayReport}
 use Rattle.hs_answered.specs.Standing.{store_with}
 use Rattle.hs_answered.specs.Telling.{Judging}
