@@ -1,5 +1,5 @@
 -- A core stands as it opens.
-use Rattle.std.proofs.Common.{◌≡◌, ◌∙◌, sym, ap, subst, inr, ℕ, zero, suc, ◌<◌, List, [], map, Some, None, refl, slice_get}
+use Rattle.std.proofs.Common.{◌≡◌, ◌∙◌, sym, ap, subst, inr, ℕ, zero, suc, ◌<◌, false, List, [], map, Some, None, refl, slice_get}
 use Rattle.std.specs.BTreeMap.{is_at}
 use Rattle.std.specs.Map.{lookup}
 use Rattle.std.specs.Ordering.{nat_cmp}
