@@ -21,7 +21,6 @@ use Rattle.hs_limits.specs.declared.shape.Shape.{Shape}
 use Rattle.hs_limits.specs.Shape.{IsShape}
 use Rattle.hs_members.specs.Members.{Members}
 use Rattle.hs_sent.proofs.AtomLemmas.{set_on}
-use Rattle.hs_sent.proofs.WasLemmas.{few_append}
 use Rattle.hs_waiting.proofs.ListLemmas.{fit_append, follow_append}
 
 -- the catalogues of two cores, and what they are set up with, are the same
@@ -67,6 +66,10 @@ lawful_on name a b cs like its = record {
 
 -- ---- an entry more
 
+few_on : (set : Setting) (cs : List Folded) (one more : List Deed) → KeepFewRecords set cs one → KeepFewRecords set (follow_all set cs one) more → KeepFewRecords set cs (one ++ more)
+few_on set cs [] more f g = g
+few_on set cs (d ∷ one) more f g = (f.0, few_on set (follow set cs d) one more f.1 g)
+
 there : (set : Setting) (cs : List Folded) (its : AreOfHistory set cs) (deed : Deed) → MayFollow set cs deed → MayFollow set (follow_all set (no_entries set) its.history) deed
 there set cs its deed may = subst (λ (ds : List Folded). MayFollow set ds deed) (sym its.gives) may
 
@@ -78,7 +81,7 @@ more_fits set cs its deed may =
 pub more_records : (set : Setting) (cs : List Folded) (its : AreOfHistory set cs) (deed : Deed) → MayFollow set cs deed → KeepFewRecords set (no_entries set) (its.history ++ deed ∷ [])
 more_records set cs its deed may =
     let m : MayFollow set (follow_all set (no_entries set) its.history) deed = there set cs its deed may in
-    few_append set (no_entries set) its.history (deed ∷ []) its.records (m.records, tt)
+    few_on set (no_entries set) its.history (deed ∷ []) its.records (m.records, tt)
 
 pub more_gives : (set : Setting) (cs : List Folded) (its : AreOfHistory set cs) (deed : Deed) → follow_all set (no_entries set) (its.history ++ deed ∷ []) ≡ follow set cs deed
 more_gives set cs its deed = follow_append set (no_entries set) its.history (deed ∷ []) ∙ ap (λ (ds : List Folded). follow set ds deed) its.gives

@@ -50,9 +50,10 @@ use Rattle.hs_legal.proofs.MuteLemmas.{Books, Words, at_once_quiet, proposed_boo
 use Rattle.hs_legal.proofs.OrderLemmas.{again_alike, beside_alike, orderly_again, orderly_beside, orderly_downed, orderly_due, orderly_effect, orderly_goes, orderly_line, orderly_refused, orderly_round, orderly_told}
 use Rattle.hs_legal.proofs.StepLemmas.{tells_goes, tells_told}
 use Rattle.hs_legal.proofs.TellLemmas.{TellsOn, silent_on, telling_on}
-use Rattle.hs_legal.specs.Bytes.{AreOfBlock, TellsItsBlock, told_so_far}
+use Rattle.hs_legal.specs.Bytes.{AreOfBlock, TellsItsBlock}
 use Rattle.hs_legal.specs.Commands.{IsLineOf, IsNobodys, IsOfCommand}
 use Rattle.hs_legal.specs.Standing.{IsStanding}
+use Rattle.hs_legal.specs.Telling.{told_so_far}
 use Rattle.hs_limits.specs.declared.address.Address.{Address}
 use Rattle.hs_limits.specs.declared.delta.Delta.{Delta}
 use Rattle.hs_limits.specs.declared.limits.Limits.{Limits}

@@ -13,9 +13,8 @@ use Rattle.hs_fold.specs.Runs.Facts.{Catalogue as Folded}
 use Rattle.hs_journal.specs.declared.entry.JournalEntry.{JournalEntry}
 use Rattle.hs_journal.specs.declared.entry.Who.TheVariants as who
 use Rattle.hs_journal.specs.Events.{event_at}
-use Rattle.hs_legal.specs.Bytes.{told_so_far}
 use Rattle.hs_legal.specs.Commands.{AreCommanded, IsOfCommand}
-use Rattle.hs_legal.specs.Standing.{IsTelling}
+use Rattle.hs_legal.specs.Telling.{IsTelling, told_so_far}
 use Rattle.hs_limits.specs.declared.limits.Limits.{Limits}
 use Rattle.hs_model.specs.declared.deed.Deed.TheVariants as deed
 use Rattle.hs_model.specs.declared.op.Op.{Op}

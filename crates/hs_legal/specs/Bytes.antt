@@ -1,26 +1,16 @@
 -- Bytes that a report tells, as those of the block that the plain store has.
-use Rattle.std.specs.Prelude.{◌≡◌, ℕ, ◌++◌, List, Option, Some}
+use Rattle.std.specs.Prelude.{◌≡◌, ℕ, List, Option, Some}
 use Rattle.hs_answered.specs.Asked.{HasBytes}
-use Rattle.hs_answered.specs.Telling.{Judging, events_in}
+use Rattle.hs_answered.specs.Telling.{Judging}
 use Rattle.hs_core.specs.declared.waiting.Waiting.{Waiting}
 use Rattle.hs_core.specs.Seeing.{view_for}
 use Rattle.hs_core.specs.State.{Core}
-use Rattle.hs_journal.specs.declared.entry.JournalEntry.{JournalEntry}
+use Rattle.hs_legal.specs.Telling.{store_so_far}
 use Rattle.hs_model.specs.declared.op.Op.{Op}
 use Rattle.hs_model.specs.declared.op.Op.TheVariants as op
 use Rattle.hs_model.specs.Judge.{address_of, given_address}
-use Rattle.hs_model.specs.Run.{run}
 use Rattle.hs_model.specs.Store.{Store, block_at}
 use Rattle.hs_ops.specs.Operations.{wanted_number}
-use Rattle.hs_told.specs.InTurn.{told_of}
-
--- what was told up to now: the journal, what found it full, and what the event has told so far
-abbrev pub told_so_far : Core → List JournalEntry
-told_so_far core = told_of core ++ core.entries
-
--- the plain store after the events of that, from a store on
-abbrev pub store_so_far : Judging → Store → Core → Store
-store_so_far by start core = run by.limits start (events_in by start (told_so_far core))
 
 -- bytes are those of the block that an operation looks at: of a write only where the entry that it reads is still the one that stored it
 abbrev pub AreOfBlock : Store → Core → Option (List ℕ) → Waiting → Op → Type 0

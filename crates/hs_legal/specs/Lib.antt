@@ -4,3 +4,4 @@ pub mod Commands
 pub mod Epochs
 pub mod Opens
 pub mod Standing
+pub mod Telling

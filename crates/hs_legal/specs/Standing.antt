@@ -1,8 +1,7 @@
 -- A core whose journal is a legal run of the plain store, and all that keeps it so.
 use Rattle.std.specs.Prelude.{◌≡◌, List}
 use Rattle.hs_along.specs.Walks.{MayEvent}
-use Rattle.hs_answered.specs.Standing.{store_with}
-use Rattle.hs_answered.specs.Telling.{Judging, Tells}
+use Rattle.hs_answered.specs.Telling.{Judging}
 use Rattle.hs_core.specs.declared.event.Event.{Event}
 use Rattle.hs_core.specs.State.{Core}
 use Rattle.hs_effects.specs.Lawful.{IsLawful}
@@ -10,16 +9,13 @@ use Rattle.hs_effects.specs.Logged.{IsOrderly}
 use Rattle.hs_effects.specs.Taking.{setting_of}
 use Rattle.hs_fold.specs.Runs.Facts.{Catalogue as Folded}
 use Rattle.hs_held.specs.Held.{AreAddressed, AreWritten}
-use Rattle.hs_legal.specs.Bytes.{TellsItsBlock, told_so_far}
+use Rattle.hs_legal.specs.Bytes.{TellsItsBlock}
 use Rattle.hs_legal.specs.Commands.{AreCommanded, IsLineOf, IsNobodys}
 use Rattle.hs_legal.specs.Epochs.{HaveEpochs}
+use Rattle.hs_legal.specs.Telling.{IsTelling}
 use Rattle.hs_model.specs.Store.{Store}
 use Rattle.hs_rests.specs.Rests.{AreResting, AreStored}
 use Rattle.hs_sent.specs.Sent.{AreSent}
-
--- what was told up to now is a legal run from a store on, with its answers, to the store of these folds and the open sessions
-abbrev pub IsTelling : Judging → Store → Core → List Folded → Type 0
-IsTelling by start core cs = Tells by start (told_so_far core) (store_with cs core.sessions)
 
 -- the folds are those of a lawful history, of which all that waits may come, and the journal tells it
 pub record IsStanding (by : Judging) (start : Store) (core : Core) (cs : List Folded) : Type 0 where
