@@ -72,9 +72,9 @@ module _ (set : Setting) (old : Lists) (MayLine : ℕ → Op → Core → Type 0
     due = λ shard c low due s.
         stays c (propose_entry shard (kind.Enter 0 ((catalogue_of shard c).epoch + 1)) c) s (keeps.due shard c s.cs low due s.holds)
         (proposes_entry shard (kind.Enter 0 ((catalogue_of shard c).epoch + 1)) c (λ views. refl));
-    round = λ number from to epoch round total deltas c at new s.
+    round = λ number from to epoch round total deltas c low at new s.
         let x : Core = change_pool (without number) c in
-        stays c (propose_entry to (kind.Got from epoch round total deltas) x) s (keeps.round number from to epoch round total deltas c s.cs at new s.holds)
+        stays c (propose_entry to (kind.Got from epoch round total deltas) x) s (keeps.round number from to epoch round total deltas c s.cs low at new s.holds)
         (proposes_both c x (propose_entry to (kind.Got from epoch round total deltas) x) (proposes_as c x refl refl (λ g. refl)) (proposes_entry to (kind.Got from epoch round total deltas) x (λ views. refl)));
     again = λ back shard c s. stays c (send_round back shard c) s (keeps.again back shard c s.cs s.holds) (proposes_round back shard c);
   }

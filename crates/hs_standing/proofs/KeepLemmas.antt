@@ -51,6 +51,6 @@ pub record Keeps (name : List ℕ → Address) (MayLine : ℕ → Op → Core �
   pub effect : (shard number : ℕ) (entry : Entry) (c : Core) (cs : List Folded) → shard < (shape_of c).shards → committed (group_of shard c) ≡ Some (number, entry) → TakesFewRecords shard entry c → P c cs
       → P (told_at_once shard entry c) (folds_behind name cs shard entry c)
   pub due : (shard : ℕ) (c : Core) (cs : List Folded) → shard < (shape_of c).shards → is_enter_due shard c ≡ true → P c cs → P (propose_entry shard (kind.Enter 0 ((catalogue_of shard c).epoch + 1)) c) cs
-  pub round : (number from to epoch round total : ℕ) (deltas : List Delta) (c : Core) (cs : List Folded) → message_at number c.pool ≡ Some (message.Round from to epoch round total deltas)
+  pub round : (number from to epoch round total : ℕ) (deltas : List Delta) (c : Core) (cs : List Folded) → to < (shape_of c).shards → message_at number c.pool ≡ Some (message.Round from to epoch round total deltas)
       → is_new_round to from epoch round (change_pool (without number) c) ≡ true → P c cs → P (propose_entry to (kind.Got from epoch round total deltas) (change_pool (without number) c)) cs
   pub again : (back shard : ℕ) (c : Core) (cs : List Folded) → P c cs → P (send_round back shard c) cs

@@ -49,6 +49,7 @@ pub record CoreStands (start : Start) (core : Core) (cs : List Folded) : Type 0 
 -- it is sane and answers in order, its core stands with the folds of what took effect of its lists, views never fall, and no shard has too many root records
 pub record WholeStands (start : Start) (c : Whole) : Type 0 where
   pub shape : shape_of c.core ≡ start.set.shape
+  pub limits : c.core.limits ≡ start.set.limits
   pub sane : IsSane c
   pub turn : IsInTurn start.commands c.core
   pub cs : List Folded

@@ -1,0 +1,14 @@
+pub mod QuietLemmas
+pub mod ProposeLemmas
+pub mod KeepLemmas
+pub mod GoLemmas
+pub mod JoinLemmas
+pub mod SettleLemmas
+pub mod WaitLemmas
+pub mod StandLemmas
+pub mod GrewLemmas
+pub mod EventLemmas
+pub mod BegunLemmas
+pub mod MomentLemmas
+pub mod ViewLemmas
+pub mod OpeningLemmas
