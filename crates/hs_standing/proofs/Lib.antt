@@ -12,3 +12,4 @@ pub mod BegunLemmas
 pub mod MomentLemmas
 pub mod ViewLemmas
 pub mod OpeningLemmas
+pub mod ReopenLemmas

@@ -1,5 +1,5 @@
 -- A whole that opens well stands.
-use Rattle.std.proofs.Common.{◌≡◌, ◌∙◌, ap, sym, subst, inl, inr, ℕ, zero, suc, ◌+◌, ◌*◌, ◌-◌, ◌<◌, ◌≤◌, not, Bool, true, false, List, [], ◌∷◌, ◌++◌, Option, None, refl, arith, length, take, drop, append-nil, take-append-drop}
+use Rattle.std.proofs.Common.{◌≡◌, ◌∙◌, ap, sym, subst, inl, inr, ℕ, zero, suc, ◌+◌, ◌*◌, ◌-◌, ◌<◌, ◌≤◌, not, Bool, true, false, List, [], ◌∷◌, ◌++◌, Option, None, refl, arith, length, map, take, drop, append-nil, take-append-drop}
 use Rattle.std.proofs.lemmas.List.{take_at}
 use Rattle.std.proofs.lemmas.List.Elements.{All-from_recursion, All-get_or, recursion_from_All}
 use Rattle.std.proofs.lemmas.List.FromFn.{get_or-map-range_with_len, length-enumerate_from}
@@ -22,6 +22,7 @@ use Rattle.hs_fold.specs.Prefix.{last_of}
 use Rattle.hs_fold.specs.Runs.Facts.{Catalogue as Folded}
 use Rattle.hs_fold.specs.Runs.History.{no_entries}
 use Rattle.hs_fold.specs.Runs.Opened.{catalogues}
+use Rattle.hs_fold.specs.Shards.Images.{Stop}
 use Rattle.hs_fold.specs.Shards.Setting.{Numbered, Setting}
 use Rattle.hs_fold.specs.Shards.Sound.{HasRisingViews, views_of, with_view}
 use Rattle.hs_journal.specs.Events.{client_op}
@@ -41,7 +42,7 @@ use Rattle.hs_standing.proofs.SettleLemmas.{within_as}
 use Rattle.hs_standing.proofs.ViewLemmas.{IsFirstView, OpensOn, opens_on}
 use Rattle.hs_standing.specs.Opening.{OpensWell, opened_folds, opened_lists}
 use Rattle.hs_standing.specs.Settled.{AreSettled}
-use Rattle.hs_standing.specs.Standing.{CoreStands}
+use Rattle.hs_standing.specs.Standing.{AreBegun, CoreStands}
 use Rattle.hs_stops.proofs.SaneLemmas.{waits_in_core}
 use Rattle.hs_stops.specs.Lists.{Lists, settled_from, whole_from}
 use Rattle.hs_stops.specs.Stands.{lists_of}
@@ -111,9 +112,6 @@ views_low es rising = (views_up (record { view = 0; number = 0 }) es (pairs-from
 -- ---- with Views of one view behind it
 
 module _ (view : ℕ) where
-  abbrev AreViews : List Entry → Type 0
-  AreViews ws = AllByRecursion (λ (e : Entry). e ≡ kind.View view) ws
-
   views_same : (n : ℕ) (ws : List Entry) → AllByRecursion (λ (e : Entry). e ≡ kind.View view) ws → AllByRecursion (λ (v : ℕ). v ≡ view) (views_of (enumerate_from n ws))
   views_same n [] h = tt
   views_same n (w ∷ ws) h = subst (λ (x : Entry). AllByRecursion (λ (v : ℕ). v ≡ view) (with_view x (views_of (enumerate_from (n + 1) ws)))) (sym h.0) (refl, views_same (n + 1) ws h.1)
@@ -180,6 +178,10 @@ module _ (start : Start) (found : Found) (w : OpensWell start found) where
   abbrev fresh : Core
   fresh = new_core start.set.shape start.set.limits (opens_with start.set found) found.opened
 
+  -- its members, before views rise
+  abbrev known : Members
+  known = members_at start.set.shape (opens_with start.set found).views (opens_with start.set found).good
+
   sane : IsSane (open_whole start.set found)
   sane = opening_is_sane start.set found w.one w.going w.lists w.many
 
@@ -228,9 +230,6 @@ module _ (start : Start) (found : Found) (w : OpensWell start found) where
       by_good true h = refl
       by_good false h = absurd (cc h)
 
-  group : ℕ → Group
-  group g = group_of g (first_core start.set found)
-
   list_is : (g : ℕ) → g < start.set.shape.shards → (open_whole start.set found).lists g ≡ grown (group_of g first) g (opened_list start.set found g)
   list_is g low =
       ap (λ b. if b then grown (group_of (home g first) first) g (opened_list start.set found (home g first)) else []) (good_is g low)
@@ -256,14 +255,8 @@ module _ (start : Start) (found : Found) (w : OpensWell start found) where
   view_up : (g : ℕ) → g < start.set.shape.shards → (rank_of (opened_list start.set found g)).view ≤ view_of g fresh.members
   view_up g low = by_good (has_good g known) (first_is ∙ ap (λ n. if has_good g known then n + 1 else n) rank_is)
     where
-      views : List ℕ
-      views = (opens_with start.set found).views
-
-      known : Members
-      known = members_at start.set.shape (opens_with start.set found).views (opens_with start.set found).good
-
-      first_is : view_of g fresh.members ≡ first_view (members_at start.set.shape (opens_with start.set found).views (opens_with start.set found).good) (opens_with start.set found).views g
-      first_is = get_or-map-range_with_len (first_view (members_at start.set.shape (opens_with start.set found).views (opens_with start.set found).good) (opens_with start.set found).views) 0 start.set.shape.shards g g 0 low (omega arith)
+      first_is : view_of g fresh.members ≡ first_view known (opens_with start.set found).views g
+      first_is = get_or-map-range_with_len (first_view known (opens_with start.set found).views) 0 start.set.shape.shards g g 0 low (omega arith)
 
       rank_is : slice_index (opens_with start.set found).views g ≡ (rank_of (opened_list start.set found g)).view
       rank_is = get_or-map-range_with_len (λ shard. (rank_of (opened_list start.set found shard)).view) 0 start.set.shape.shards g g 0 low (omega arith)
@@ -302,6 +295,10 @@ module _ (start : Start) (found : Found) (w : OpensWell start found) where
     records = w.sound.records;
     gives = w.sound.sound.lawful.gives;
   }
+
+  -- no line was begun
+  pub opened_begun : (stop : Stop) → AreBegun start stop (first_core start.set found)
+  opened_begun stop line some low client = (let none = opens.line in absurd (omega (arith, some, low, none)))
 
   pub opened_stands : (P : Core → List Folded → Type 0) → ((core : Core) (cs : List Folded) → P core cs → CoreStands start core cs) → OpensInTurn → P (first_core start.set found) (opened_folds start.set found) → StandsWith start P (open_whole start.set found)
   opened_stands P suffices turn holds = record {

@@ -58,13 +58,15 @@ IsFirstView members g entry = entry ≡ kind.View (view_of g members)
 pub record OpensOn (a b : Core) : Type 0 where
   pub members : b.members ≡ a.members
   pub limits : b.limits ≡ a.limits
+  pub line : b.event_line ≡ a.event_line
   pub front : (g : ℕ) → front_of g b ≡ front_of g a
   pub views : (g : ℕ) → AllByRecursion (IsFirstView a.members g) (group_of g b).waiting
 
-opens_alike : (a b d : Core) → OpensOn a b → d.members ≡ b.members → d.limits ≡ b.limits → ((g : ℕ) → group_of g d ≡ group_of g b) → OpensOn a d
-opens_alike a b d o members limits same = record {
+opens_alike : (a b d : Core) → OpensOn a b → d.members ≡ b.members → d.limits ≡ b.limits → d.event_line ≡ b.event_line → ((g : ℕ) → group_of g d ≡ group_of g b) → OpensOn a d
+opens_alike a b d o members limits line same = record {
   members = members ∙ o.members;
   limits = limits ∙ o.limits;
+  line = line ∙ o.line;
   front = λ g. ap (λ (y : Group). y.front) (same g) ∙ o.front g;
   views = λ g. subst (λ (y : Group). AllByRecursion (IsFirstView a.members g) y.waiting) (sym (same g)) (o.views g);
 }
@@ -74,6 +76,7 @@ opens_renew : (a b : Core) (s : ℕ) → OpensOn a b → OpensOn a (change_group
 opens_renew a b s o = record {
   members = o.members;
   limits = o.limits;
+  line = o.line;
   front = λ g. elim (group_changed s (renew b.members) b g) [
     | inl same ↦ ap (λ (y : Group). y.front) same ∙ o.front g
     | inr is ↦ ap (λ (y : Group). y.front) is.1 ∙ o.front g
@@ -100,6 +103,7 @@ module _ (a b : Core) (s : ℕ) (o : OpensOn a b) where
   proposed = record {
     members = o.members;
     limits = o.limits;
+    line = o.line;
     front = λ g. elim (group_changed s (propose (kind.View (view_of s b.members))) b g) [
       | inl same ↦ ap (λ (y : Group). y.front) same ∙ o.front g
       | inr is ↦ ap (λ (y : Group). y.front) is.1 ∙ propose_front (kind.View (view_of s b.members)) (group_of g b) ∙ o.front g
@@ -112,9 +116,9 @@ module _ (a b : Core) (s : ℕ) (o : OpensOn a b) where
   }
 
   opens_lead : (l : Option ℕ) → OpensOn a (change_with l (λ peer. add_entry_tasks peer (last_number (group_of s b) + 1) (kind.View (view_of s b.members))) (post (proposal (kind.View (view_of s b.members)) (group_of s b)) one))
-  opens_lead None = opens_alike a one (post (proposal (kind.View (view_of s b.members)) (group_of s b)) one) proposed refl refl (λ g. refl)
+  opens_lead None = opens_alike a one (post (proposal (kind.View (view_of s b.members)) (group_of s b)) one) proposed refl refl refl (λ g. refl)
   opens_lead (Some peer) =
-      opens_alike a one (add_entry_tasks peer (last_number (group_of s b) + 1) (kind.View (view_of s b.members)) (post (proposal (kind.View (view_of s b.members)) (group_of s b)) one)) proposed refl refl (λ g. refl)
+      opens_alike a one (add_entry_tasks peer (last_number (group_of s b) + 1) (kind.View (view_of s b.members)) (post (proposal (kind.View (view_of s b.members)) (group_of s b)) one)) proposed refl refl refl (λ g. refl)
 
   opens_propose : OpensOn a (propose_entry s (kind.View (view_of s b.members)) b)
   opens_propose = opens_lead (lead_of s b)
@@ -125,9 +129,9 @@ opens_begin a b s o =
     let y : Core = change_group s (renew x.members) x in
     let z : Core = restart s y in
     let w : Core = post (renewal (group_of s z)) z in
-    let at_x : OpensOn a x = opens_alike a b x o refl refl (λ g. refl) in
+    let at_x : OpensOn a x = opens_alike a b x o refl refl refl (λ g. refl) in
     let at_y : OpensOn a y = opens_renew a x s at_x in
-    let at_w : OpensOn a w = opens_alike a y w at_y refl refl (λ g. refl) in
+    let at_w : OpensOn a w = opens_alike a y w at_y refl refl refl (λ g. refl) in
     opens_propose a w s at_w
 
 opens_if : (v : Bool) (f : Core → Core) (a b : Core) → (OpensOn a b → OpensOn a (f b)) → OpensOn a b → OpensOn a (change_if v f b)
@@ -142,16 +146,16 @@ opens_end : (a b : Core) → OpensOn a b → OpensOn a (end_event b)
 opens_end a b o = by_room (nat_lt b.limits.ops (length b.journal + length b.entries))
   where
     by_room : (full : Bool) → OpensOn a (if full then refuse_entries b else keep_entries b)
-    by_room true = opens_alike a b (refuse_entries b) o refl refl (λ g. refl)
-    by_room false = opens_alike a b (keep_entries b) o refl refl (λ g. refl)
+    by_room true = opens_alike a b (refuse_entries b) o refl refl refl (λ g. refl)
+    by_room false = opens_alike a b (keep_entries b) o refl refl refl (λ g. refl)
 
 pub opens_on : (shape : Shape) (limits : Limits) (taken : Taken) (moment : ℕ) → ((g : ℕ) → (group_of g (new_core shape limits taken moment)).waiting ≡ []) → OpensOn (new_core shape limits taken moment) (open_core shape limits taken moment)
 opens_on shape limits taken moment none =
     let a : Core = new_core shape limits taken moment in
     let b : Core = begin_views a in
     let d : Core = note_down b in
-    let new : OpensOn a a = record { members = refl; limits = refl; front = λ g. refl; views = λ g. subst (λ es. AllByRecursion (IsFirstView a.members g) es) (sym (none g)) tt } in
+    let new : OpensOn a a = record { members = refl; limits = refl; line = refl; front = λ g. refl; views = λ g. subst (λ es. AllByRecursion (IsFirstView a.members g) es) (sym (none g)) tt } in
     let viewed : OpensOn a b = opens_each (shards_of a) change_view a a (λ s x o. opens_if (has_good s x.members) (begin_view s) a x (opens_begin a x s) o) new in
     let noted : OpensOn a d = opens_each (all_peers (shape_of b)) note_if_down a b
-    (λ p x o. opens_if (not (is_good_status (status_of p x))) (note who.Store deed.Nothing (reply.Down p 0)) a x (λ k. opens_alike a x (note who.Store deed.Nothing (reply.Down p 0) x) k refl refl (λ g. refl)) o) viewed in
+    (λ p x o. opens_if (not (is_good_status (status_of p x))) (note who.Store deed.Nothing (reply.Down p 0)) a x (λ k. opens_alike a x (note who.Store deed.Nothing (reply.Down p 0) x) k refl refl refl (λ g. refl)) o) viewed in
     opens_end a d noted

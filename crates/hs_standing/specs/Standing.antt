@@ -62,6 +62,10 @@ pub record WholeStands (start : Start) (c : Whole) : Type 0 where
 abbrev pub AreBegun : Start → Stop → Core → Type 0
 AreBegun start stop core = (line : ℕ) → 1 ≤ line → line ≤ core.event_line → IsSome (client_op (start.commands line)) → IsBegun stop.course line stop.moment
 
+-- this is the state of a run at a moment
+abbrev pub IsStateAt : Whole → Whole → Type 0
+IsStateAt state c = c ≡ state
+
 -- ---- events
 
 -- an event may come, and as May asks; where the core goes on behind it, no shard has too many root records then

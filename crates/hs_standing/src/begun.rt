@@ -1,0 +1,22 @@
+//! Lines that were begun.
+ghost use Rattle.std.specs.Prelude.{◌≡◌, ◌<◌, ℕ, Contains, None, false};
+ghost use Rattle.hs_core.specs.declared.event.Event.{Event};
+ghost use Rattle.hs_core.specs.State.{Core};
+ghost use Rattle.hs_core.specs.Step.{step};
+ghost use Rattle.hs_events.specs.Course.{event_items, is_refused};
+ghost use Rattle.hs_fold.specs.Shards.Images.{Stop};
+ghost use Rattle.hs_model.specs.declared.course.CourseItem.{CourseItem};
+ghost use Rattle.hs_standing.specs.Standing.{AreBegun};
+ghost use Rattle.hs_stops.specs.Start.{Start};
+ghost use Rattle.hs_told.specs.InTurn.{MayCome};
+
+/// Where each client's line up to the last one was begun below the moment of a stop, so it is behind an
+/// event of a moment below that, which may come and happened, and whose items the course has.
+pub fn each_line_was_begun()
+    ensures { (start : Start) (stop : Stop) (core : Core) (event : Event) (moment : ℕ)
+        → core.ended ≡ None → MayCome start.commands core event moment
+        → is_refused (step event moment core).ended ≡ false → moment < stop.moment
+        → ((i : CourseItem) → Contains (event_items core (event, moment)) i → Contains stop.course i)
+        → AreBegun start stop core →
+        AreBegun start stop (step event moment core) }
+{}
