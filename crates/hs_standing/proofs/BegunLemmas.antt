@@ -1,7 +1,6 @@
 -- Each client's line up to the last one was begun, and where a shard has no good peer its store has ended.
-use Rattle.std.proofs.Common.{◌≡◌, ◌⊎◌, ◌∙◌, ap, sym, subst, inl, inr, ℕ, zero, suc, ◌+◌, ◌<◌, ◌≤◌, ◌==◌, not, Bool, true, false, cond, List, [], ◌∷◌, ◌++◌, Option, Some, None, refl, arith, length, nat_lt}
+use Rattle.std.proofs.Common.{◌≡◌, ◌⊎◌, ◌∙◌, ap, sym, subst, inl, inr, ℕ, zero, suc, ◌+◌, ◌<◌, ◌≤◌, ◌==◌, not, Bool, true, false, [], ◌∷◌, Option, Some, None, refl, arith}
 use Rattle.std.proofs.lemmas.Bool.{cases_eq, cases_lt, ne_eqb}
-use Rattle.std.proofs.lemmas.List.Elements.{Contains-append_left, Contains-append_right}
 use Rattle.std.specs.List.{range_with_len}
 use Rattle.std.specs.Option.{option_map}
 use Rattle.std.specs.Prelude.{Contains, IsSome, find, if◌then◌else◌}
@@ -13,7 +12,7 @@ use Rattle.hs_core.specs.State.{Core}
 use Rattle.hs_core.specs.Step.{do_event, end_event, line_of, step}
 use Rattle.hs_desk.specs.declared.fault.CoreFault.{CoreFault}
 use Rattle.hs_desk.specs.declared.fault.CoreFault.TheVariants as fault
-use Rattle.hs_events.specs.Course.{event_items, is_refused, items_between, items_of}
+use Rattle.hs_events.specs.Course.{event_items, is_refused, items_between}
 use Rattle.hs_events.specs.Due.{Events}
 use Rattle.hs_events.specs.Sane.{IsSane}
 use Rattle.hs_events.specs.Whole.{Whole, step_whole}
@@ -35,7 +34,7 @@ use Rattle.hs_moments.specs.Machine.{runs}
 use Rattle.hs_moments.specs.WholeMachine.{whole_machine}
 use Rattle.hs_standing.specs.Standing.{AreBegun}
 use Rattle.hs_stops.specs.Start.{Start}
-use Rattle.hs_told.specs.InTurn.{ClientMay, MayBegin, MayCome, NoneBetween, OtherMay}
+use Rattle.hs_told.specs.InTurn.{ClientMay, MayBegin, NoneBetween, OtherMay}
 
 -- ---- lines
 

@@ -1,12 +1,11 @@
 -- A whole that stands does so behind an event, while its core goes on: whatever is known of a core and its folds that suffices, and that every single change keeps.
-use Rattle.std.proofs.Common.{◌≡◌, ◌∙◌, ap, sym, subst, ℕ, ◌+◌, ◌<◌, ◌≤◌, List, [], ◌++◌, Option, None, refl, arith, length, take, drop, append-nil, take-append-drop}
+use Rattle.std.proofs.Common.{◌≡◌, ◌∙◌, ap, sym, subst, ℕ, ◌+◌, ◌<◌, ◌≤◌, List, [], ◌++◌, None, refl, arith, take, drop, append-nil, take-append-drop}
 use Rattle.std.proofs.lemmas.List.{take-append-le}
 use Rattle.std.proofs.lemmas.List.Elements.{All-from_recursion, recursion_from_All}
-use Rattle.std.specs.List.{enumerate_from}
-use Rattle.std.specs.Prelude.{All, AllPairs}
+use Rattle.std.specs.Prelude.{AllPairs}
 use Rattle.hs_along.specs.Walks.{HasRecordRoom}
 use Rattle.hs_core.specs.declared.event.Event.{Event}
-use Rattle.hs_core.specs.Looking.{front_of, group_of, shape_of}
+use Rattle.hs_core.specs.Looking.{front_of, shape_of}
 use Rattle.hs_core.specs.State.{Core}
 use Rattle.hs_core.specs.Step.{step}
 use Rattle.hs_events.specs.Sane.{IsSane}
@@ -21,14 +20,14 @@ use Rattle.hs_limits.specs.declared.shape.Shape.{Shape}
 use Rattle.hs_moments.proofs.CoreLemmas.{limits_at, shape_at}
 use Rattle.hs_moments.proofs.SaneLemmas.{sane_stays}
 use Rattle.hs_moments.specs.WholeMachine.{whole_machine}
-use Rattle.hs_standing.proofs.GoLemmas.{GoesOn, ListGoesOn}
+use Rattle.hs_standing.proofs.GoLemmas.{ListGoesOn}
 use Rattle.hs_standing.proofs.GrewLemmas.{Grew, grew}
 use Rattle.hs_standing.proofs.JoinLemmas.{StandsWithin}
 use Rattle.hs_standing.proofs.SettleLemmas.{settled_alike, within_as}
 use Rattle.hs_standing.specs.Settled.{AreSettled}
 use Rattle.hs_standing.specs.Standing.{CoreStands, WholeStands}
 use Rattle.hs_stops.proofs.SaneLemmas.{front_within, waits_in_core}
-use Rattle.hs_stops.specs.Lists.{Lists, waiting}
+use Rattle.hs_stops.specs.Lists.{Lists}
 use Rattle.hs_stops.specs.Stands.{lists_of}
 use Rattle.hs_stops.specs.Start.{Start}
 use Rattle.hs_told.specs.InTurn.{IsInTurn}

@@ -1,27 +1,25 @@
 -- What the single changes keep of a core and its folds, beside lists that go on, each event keeps.
-use Rattle.std.proofs.Common.{◌≡◌, subst, ℕ, ◌+◌, ◌<◌, List, Option, refl}
-use Rattle.hs_along.specs.Changes.{IsBeside, IsIdle, told_at_once}
+use Rattle.std.proofs.Common.{subst, ℕ, ◌+◌, ◌<◌, List, Option, refl}
+use Rattle.hs_along.specs.Changes.{told_at_once}
 use Rattle.hs_along.specs.Walks.{Walks}
 use Rattle.hs_core.specs.Changing.{change_pool, note, refuse}
 use Rattle.hs_core.specs.Asking.{send_round}
 use Rattle.hs_core.specs.declared.waiting.Waiting.{Waiting}
-use Rattle.hs_core.specs.Looking.{catalogue_of, shape_of}
+use Rattle.hs_core.specs.Looking.{catalogue_of}
 use Rattle.hs_core.specs.Operating.{begin_line, go_on_with, propose_entry, resume}
 use Rattle.hs_core.specs.Seeing.{pointers_for}
 use Rattle.hs_core.specs.State.{Core}
 use Rattle.hs_effects.specs.Lawful.{MayFollow}
-use Rattle.hs_effects.specs.Taking.{done_by, folds_behind, next_deed, setting_of, taken}
+use Rattle.hs_effects.specs.Taking.{done_by, folds_behind, next_deed, taken}
 use Rattle.hs_entry.specs.declared.entry.Entry.{Entry}
 use Rattle.hs_entry.specs.declared.entry.Entry.TheVariants as kind
 use Rattle.hs_fold.specs.Runs.Facts.{Catalogue as Folded}
 use Rattle.hs_fold.specs.Runs.History.{follow}
 use Rattle.hs_fold.specs.Shards.Setting.{Setting}
 use Rattle.hs_journal.specs.declared.entry.Who.TheVariants as who
-use Rattle.hs_limits.specs.declared.delta.Delta.{Delta}
 use Rattle.hs_limits.specs.declared.shape.Shape.{Shape}
 use Rattle.hs_model.specs.declared.deed.Deed.TheVariants as deed
 use Rattle.hs_model.specs.declared.op.Op.{Op}
-use Rattle.hs_model.specs.declared.reply.Reply.{Reply}
 use Rattle.hs_model.specs.declared.reply.Reply.TheVariants as reply
 use Rattle.hs_ops.specs.Operations.{bytes_step, go_step}
 use Rattle.hs_post.specs.Pool.{without}

@@ -1,10 +1,10 @@
 -- At each moment of a run its whole stands, as long as each shard has its good peer.
-use Rattle.std.proofs.Common.{◌≡◌, ◌∙◌, ap, sym, subst, inl, inr, ℕ, ◌<◌, ◌≤◌, Bool, true, false, cond, List, [], ◌∷◌, ◌++◌, Option, Some, None, refl, arith, nat_lt}
+use Rattle.std.proofs.Common.{◌≡◌, ◌∙◌, ap, sym, subst, inl, inr, ℕ, ◌<◌, Bool, true, false, cond, List, [], ◌∷◌, Option, Some, None, refl, nat_lt}
 use Rattle.std.proofs.lemmas.Bool.{cases_lt}
 use Rattle.std.proofs.lemmas.List.Elements.{Contains-append_left, Contains-append_right}
-use Rattle.std.specs.Prelude.{Contains, if◌then◌else◌}
+use Rattle.std.specs.Prelude.{Contains}
 use Rattle.hs_along.proofs.WalkLemmas.{walks_step}
-use Rattle.hs_along.specs.Walks.{HasRecordRoom, MayEvent}
+use Rattle.hs_along.specs.Walks.{MayEvent}
 use Rattle.hs_core.specs.declared.event.Event.{Event}
 use Rattle.hs_core.specs.declared.waiting.Waiting.{Waiting}
 use Rattle.hs_core.specs.Looking.{status_of}
@@ -31,7 +31,7 @@ use Rattle.hs_standing.proofs.JoinLemmas.{StandsWithin, joined}
 use Rattle.hs_standing.proofs.KeepLemmas.{Keeps}
 use Rattle.hs_standing.proofs.StandLemmas.{NoLineWaitsTwice, whole_stands}
 use Rattle.hs_standing.specs.Standing.{AllMayStand, AreBegun, CoreStands, MayStand}
-use Rattle.hs_stops.specs.Stands.{Stands, StandsWhereGood, lists_of}
+use Rattle.hs_stops.specs.Stands.{StandsWhereGood, lists_of}
 use Rattle.hs_stops.specs.Start.{Start}
 use Rattle.hs_told.specs.InTurn.{IsInTurn, MayCome}
 

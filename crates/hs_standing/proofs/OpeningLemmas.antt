@@ -1,11 +1,10 @@
 -- A whole that opens well stands.
-use Rattle.std.proofs.Common.{◌≡◌, ◌∙◌, ap, sym, subst, inl, inr, ℕ, zero, suc, ◌+◌, ◌*◌, ◌-◌, ◌<◌, ◌≤◌, not, Bool, true, false, List, [], ◌∷◌, ◌++◌, Option, None, refl, arith, length, map, take, drop, append-nil, take-append-drop}
+use Rattle.std.proofs.Common.{◌≡◌, ◌∙◌, ap, sym, subst, ℕ, zero, suc, ◌+◌, ◌-◌, ◌<◌, ◌≤◌, not, Bool, true, false, List, [], ◌∷◌, ◌++◌, Option, None, refl, arith, length, map, take, drop, take-append-drop}
 use Rattle.std.proofs.lemmas.List.{take_at}
-use Rattle.std.proofs.lemmas.List.Elements.{All-from_recursion, All-get_or, recursion_from_All}
+use Rattle.std.proofs.lemmas.List.Elements.{All-from_recursion, recursion_from_All}
 use Rattle.std.proofs.lemmas.List.FromFn.{get_or-map-range_with_len, length-enumerate_from}
 use Rattle.std.specs.List.{AllByRecursion, enumerate_from, range_with_len}
-use Rattle.std.specs.Prelude.{All, AllPairs, fold, if◌then◌else◌, slice_index, slice_index_or}
-use Rattle.hs_along.specs.Walks.{HasRecordRoom}
+use Rattle.std.specs.Prelude.{AllPairs, fold, if◌then◌else◌, slice_index, slice_index_or}
 use Rattle.hs_core.specs.Looking.{front_of, group_of, home, shape_of}
 use Rattle.hs_core.specs.Opening.{Taken, first_view, new_core, open_core, taken_group}
 use Rattle.hs_core.specs.State.{Core}
@@ -15,7 +14,7 @@ use Rattle.hs_entry.specs.declared.rank.Rank.{Rank}
 use Rattle.hs_entry.specs.Entries.{rank_after, rank_of}
 use Rattle.hs_events.specs.Found.{Found, first_core, opened_list, opens_with, starts_good}
 use Rattle.hs_events.specs.Sane.{IsFromOne, IsSane}
-use Rattle.hs_events.specs.Whole.{Whole, grown, open_whole, reach}
+use Rattle.hs_events.specs.Whole.{grown, open_whole, reach}
 use Rattle.hs_fold.proofs.Shards.LawfulLemmas.{PairsBy, each-from, pairs-append, pairs-from, pairs-to}
 use Rattle.hs_fold.specs.Lawful.{Deed, list_at}
 use Rattle.hs_fold.specs.Prefix.{last_of}
@@ -35,11 +34,10 @@ use Rattle.hs_moments.proofs.OpeningLemmas.{opening_is_sane}
 use Rattle.hs_moments.proofs.WorkLemmas.{last_is, reach_sane}
 use Rattle.hs_moments.specs.WholeMachine.{whole_machine}
 use Rattle.hs_replica.specs.Group.{Group, entries_above, length_of, new_group}
-use Rattle.hs_sound.specs.Stay.{AreSoundAlong}
 use Rattle.hs_standing.proofs.EventLemmas.{StandsWith}
 use Rattle.hs_standing.proofs.GoLemmas.{views_append}
 use Rattle.hs_standing.proofs.SettleLemmas.{within_as}
-use Rattle.hs_standing.proofs.ViewLemmas.{IsFirstView, OpensOn, opens_on}
+use Rattle.hs_standing.proofs.ViewLemmas.{OpensOn, opens_on}
 use Rattle.hs_standing.specs.Opening.{OpensWell, opened_folds, opened_lists}
 use Rattle.hs_standing.specs.Settled.{AreSettled}
 use Rattle.hs_standing.specs.Standing.{AreBegun, CoreStands}

@@ -1,15 +1,15 @@
 -- A whole that stands has what is asked where a run may stop.
-use Rattle.std.proofs.Common.{◌≡◌, ◌∙◌, ap, sym, subst, inl, inr, ℕ, zero, suc, ◌+◌, ◌<◌, ◌≤◌, ◌==◌, true, false, List, [], ◌∷◌, ◌++◌, Option, Some, None, refl, arith, length, take, append-nil, count_by}
+use Rattle.std.proofs.Common.{◌≡◌, ◌∙◌, ap, sym, subst, inl, inr, ℕ, zero, suc, ◌+◌, ◌<◌, ◌≤◌, false, List, [], ◌∷◌, ◌++◌, Some, None, refl, arith, length, take, append-nil, count_by}
 use Rattle.std.proofs.lemmas.Bool.{cases_eq, ne_eqb}
 use Rattle.std.proofs.lemmas.List.{length-map}
 use Rattle.std.proofs.lemmas.List.Elements.{All-from_recursion, recursion_from_All}
 use Rattle.std.specs.List.{AllByRecursion}
 use Rattle.std.specs.Option.{option_map}
-use Rattle.std.specs.Prelude.{All, IsSome, if◌then◌else◌, slice_get, slice_index_or}
+use Rattle.std.specs.Prelude.{IsSome, if◌then◌else◌, slice_get, slice_index_or}
 use Rattle.hs_answered.specs.Standing.{store_with}
 use Rattle.hs_answered.specs.Telling.{Tells}
 use Rattle.hs_core.specs.declared.waiting.Waiting.{Waiting}
-use Rattle.hs_core.specs.Looking.{front_of, group_of, operation_of, shape_of}
+use Rattle.hs_core.specs.Looking.{front_of, group_of, shape_of}
 use Rattle.hs_core.specs.State.{Core}
 use Rattle.hs_effects.specs.Logged.{HasAsked, IsOrderly, asked_by}
 use Rattle.hs_entry.specs.declared.entry.Entry.{Entry}
@@ -34,7 +34,6 @@ use Rattle.hs_journal.specs.Order.{IsOfLine}
 use Rattle.hs_limits.specs.declared.address.Address.{Address}
 use Rattle.hs_limits.specs.declared.shape.Shape.{Shape}
 use Rattle.hs_memory.specs.Forget.{record_of}
-use Rattle.hs_model.specs.declared.op.Op.{Op}
 use Rattle.hs_model.specs.Store.{reborn}
 use Rattle.hs_moments.proofs.WorkLemmas.{last_of_front}
 use Rattle.hs_moments.specs.WholeMachine.{whole_machine}
@@ -42,14 +41,13 @@ use Rattle.hs_replica.specs.Kinds.{is_root}
 use Rattle.hs_shard.specs.Facts.{Catalogue, empty_catalogue}
 use Rattle.hs_standing.proofs.SettleLemmas.{folds_at, forget_at, settled_at, within_as}
 use Rattle.hs_standing.proofs.WaitLemmas.{NoneTwice, all_waits, lines_apart, roots_are, same_asked}
-use Rattle.hs_standing.specs.Settled.{AreSettled}
-use Rattle.hs_standing.specs.Standing.{AreBegun, CoreStands, WholeStands, judging_of}
+use Rattle.hs_standing.specs.Standing.{AreBegun, WholeStands, judging_of}
 use Rattle.hs_stops.proofs.RecordLemmas.{few_wait, lines_once}
 use Rattle.hs_stops.proofs.SaneLemmas.{front_sealed, front_within, good_counts, reach_numbered, waits_in_core}
 use Rattle.hs_stops.specs.Left.{HasFewRecords, MayBeLeft, TookEffect}
-use Rattle.hs_stops.specs.Lists.{Lists, settled, settled_catalogues, settled_from, waiting}
+use Rattle.hs_stops.specs.Lists.{Lists, settled, settled_catalogues, waiting}
 use Rattle.hs_stops.specs.Stands.{Stands, lists_of}
-use Rattle.hs_stops.specs.Start.{IsAwaited, Start, store_after}
+use Rattle.hs_stops.specs.Start.{IsAwaited, Start}
 use Rattle.hs_stops.specs.Suffices.{roots_in}
 use Rattle.hs_told.specs.InTurn.{told_of}
 use Rattle.hs_told.specs.Part.{asking}

@@ -1,5 +1,5 @@
 -- What took effect of the lists of all shards, as folds.
-use Rattle.std.specs.Prelude.{◌≡◌, ℕ, ◌≤◌, List, All, AllPairs}
+use Rattle.std.specs.Prelude.{◌≡◌, ◌≤◌, List, All, AllPairs}
 use Rattle.hs_fold.specs.Lawful.{Ascends, Deed}
 use Rattle.hs_fold.specs.Runs.Facts.{Catalogue as Folded}
 use Rattle.hs_fold.specs.Runs.History.{FitAll, follow_all, no_entries}
