@@ -13,3 +13,4 @@ pub mod MomentLemmas
 pub mod ViewLemmas
 pub mod OpeningLemmas
 pub mod ReopenLemmas
+pub mod FirstLemmas

@@ -30,7 +30,7 @@ use Rattle.hs_standing.proofs.EventLemmas.{StandsWith, begins, ends_standing}
 use Rattle.hs_standing.proofs.JoinLemmas.{StandsWithin, joined}
 use Rattle.hs_standing.proofs.KeepLemmas.{Keeps}
 use Rattle.hs_standing.proofs.StandLemmas.{NoLineWaitsTwice, whole_stands}
-use Rattle.hs_standing.specs.Standing.{AllMayStand, AreBegun, CoreStands, MayStand}
+use Rattle.hs_standing.specs.Standing.{AllMayKeep, AreBegun, CoreStands, MayKeep}
 use Rattle.hs_stops.specs.Stands.{StandsWhereGood, lists_of}
 use Rattle.hs_stops.specs.Start.{Start}
 use Rattle.hs_told.specs.InTurn.{IsInTurn, MayCome}
@@ -43,7 +43,7 @@ module _ (start : Start) (MayLine : ℕ → Op → Core → Type 0) (MayTell : �
     (suffices : (core : Core) (cs : List Folded) → P core cs → CoreStands start core cs) (keeps : Keeps start.set.name MayLine MayTell MayRefuse P) (stays : StaysInTurn) where
   -- ---- one event
 
-  pub event_stands : (c : Whole) (e : Event) (at : ℕ) → StandsWith start P c → MayStand start (MayEvent MayLine MayTell MayRefuse) c.core e at → (step e at c.core).ended ≡ None → StandsWith start P (step_whole e at c)
+  pub event_stands : (c : Whole) (e : Event) (at : ℕ) → StandsWith start P c → MayKeep start (MayEvent MayLine MayTell MayRefuse) c.core e at → (step e at c.core).ended ≡ None → StandsWith start P (step_whole e at c)
   event_stands c e at s may going =
       let behind : StandsWithin start.set (lists_of whole_machine c) P (step e at c.core) =
       walks_step (joined start.set (lists_of whole_machine c) MayLine MayTell MayRefuse P keeps) c e at s.whole.sane s.whole.few (s.whole.turn.going s.whole.sane.going) may.may (begins start P c s) in
@@ -51,7 +51,7 @@ module _ (start : Start) (MayLine : ℕ → Op → Core → Type 0) (MayTell : �
 
   -- ---- some, one after another
 
-  pub all_stand : (c : Whole) (es : Events) → StandsWith start P c → AllMayStand start (MayEvent MayLine MayTell MayRefuse) c.core es → (steps c.core es).ended ≡ None → StandsWith start P (runs whole_machine c es)
+  pub all_stand : (c : Whole) (es : Events) → StandsWith start P c → AllMayKeep start (MayEvent MayLine MayTell MayRefuse) c.core es → (steps c.core es).ended ≡ None → StandsWith start P (runs whole_machine c es)
   all_stand c [] s may going = s
   all_stand c (e ∷ es) s may going = all_stand (step_whole e.0 e.1 c) es (event_stands c e.0 e.1 s (may.0 s.whole.sane.going) (went_on (step e.0 e.1 c.core) es going)) may.1 going
     where
@@ -74,7 +74,7 @@ module _ (start : Start) (MayLine : ℕ → Op → Core → Type 0) (MayTell : �
     stands_now : (c : Whole) → StandsWith start P c → AreBegun start stop c.core → StandsWhereGood whole_machine start stop c
     stands_now c s begun good = whole_stands start c s.whole stop begun alone
 
-    pub moments_stand : (c : Whole) (es : Events) → StandsWith start P c → AllMayStand start (MayEvent MayLine MayTell MayRefuse) c.core es → AreBegun start stop c.core
+    pub moments_stand : (c : Whole) (es : Events) → StandsWith start P c → AllMayKeep start (MayEvent MayLine MayTell MayRefuse) c.core es → AreBegun start stop c.core
         → ((i : CourseItem) → Contains (items_of c.core es) i → Contains stop.course i) → StandsWhereGood whole_machine start stop (state_at whole_machine c (happened c.core es) stop.moment)
     moments_stand c [] s may begun inside = stands_now c s begun
     moments_stand c (e ∷ es) s may begun inside =
@@ -87,7 +87,7 @@ module _ (start : Start) (MayLine : ℕ → Op → Core → Type 0) (MayTell : �
         by_end : LaterStands → is_refused (step e.0 e.1 c.core).ended ≡ false → e.1 < stop.moment → (o : Option CoreFault) → (step e.0 e.1 c.core).ended ≡ o
             → StandsWhereGood whole_machine start stop (state_at whole_machine (step_whole e.0 e.1 c) (happened (step e.0 e.1 c.core) es) stop.moment)
         by_end later told below None going =
-            let m : MayStand start (MayEvent MayLine MayTell MayRefuse) c.core e.0 e.1 = may.0 s.whole.sane.going in
+            let m : MayKeep start (MayEvent MayLine MayTell MayRefuse) c.core e.0 e.1 = may.0 s.whole.sane.going in
             later (event_stands c e.0 e.1 s m going)
             (event_begun start stop c.core e.0 e.1 s.whole.sane.going m.comes.begins told below (λ i has. inside i (Contains-append_left (event_items c.core e) (items_of (step e.0 e.1 c.core) es) i has)) begun)
         by_end later told below (Some f) ended = lost c e.0 e.1 (until stop.moment (happened (step e.0 e.1 c.core) es)) f s told ended

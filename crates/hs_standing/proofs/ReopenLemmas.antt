@@ -23,7 +23,7 @@ use Rattle.hs_standing.proofs.MomentLemmas.{StaysInTurn, moments_stand}
 use Rattle.hs_standing.proofs.OpeningLemmas.{OpensInTurn, opened_begun, opened_stands}
 use Rattle.hs_standing.proofs.StandLemmas.{NoLineWaitsTwice, whole_stands}
 use Rattle.hs_standing.specs.Opening.{OpensWell, opened_folds}
-use Rattle.hs_standing.specs.Standing.{AllMayStand, AreBegun, CoreStands, IsStateAt, WholeStands}
+use Rattle.hs_standing.specs.Standing.{AllMayKeep, AreBegun, CoreStands, IsStateAt, WholeStands}
 use Rattle.hs_stops.proofs.ImageLemmas.{images_reopen}
 use Rattle.hs_stops.specs.Reopens.{Reopens}
 use Rattle.hs_stops.specs.Stands.{StandsWhereGood}
@@ -46,14 +46,14 @@ reopens_there start stop journal images c alone shape one peers at stands begun 
 
 module _ (start : Start) (MayLine : ℕ → Op → Core → Type 0) (MayTell : ℕ → Option (List ℕ) → Waiting → Core → Type 0) (MayRefuse : ℕ → Type 0) (P : Core → List Folded → Type 0)
     (suffices : (core : Core) (cs : List Folded) → P core cs → CoreStands start core cs) (keeps : Keeps start.set.name MayLine MayTell MayRefuse P) (stays : StaysInTurn) (opens : OpensInTurn) (alone : NoLineWaitsTwice) where
-  pub run_stands : (stop : Stop) (found : Found) (es : Events) → OpensWell start found → P (first_core start.set found) (opened_folds start.set found) → AllMayStand start (MayEvent MayLine MayTell MayRefuse) (first_core start.set found) es
+  pub run_stands : (stop : Stop) (found : Found) (es : Events) → OpensWell start found → P (first_core start.set found) (opened_folds start.set found) → AllMayKeep start (MayEvent MayLine MayTell MayRefuse) (first_core start.set found) es
       → ((i : CourseItem) → Contains (items_of (first_core start.set found) es) i → Contains stop.course i)
       → StandsWhereGood whole_machine start stop (state_at whole_machine (open_whole start.set found) (happened (first_core start.set found) es) stop.moment)
   run_stands stop found es well holds may inside =
       moments_stand start MayLine MayTell MayRefuse P suffices keeps stays alone stop (open_whole start.set found) es (opened_stands start found well P suffices opens holds) may (opened_begun start found well stop) inside
 
   pub run_reopens : (stop : Stop) (found : Found) (es : Events) (journal : List JournalEntry) (images : List Image) → OpensWell start found → P (first_core start.set found) (opened_folds start.set found)
-      → AllMayStand start (MayEvent MayLine MayTell MayRefuse) (first_core start.set found) es → ((i : CourseItem) → Contains (items_of (first_core start.set found) es) i → Contains stop.course i)
+      → AllMayKeep start (MayEvent MayLine MayTell MayRefuse) (first_core start.set found) es → ((i : CourseItem) → Contains (items_of (first_core start.set found) es) i → Contains stop.course i)
       → IsShape start.set.shape → length stop.disks ≡ start.set.shape.shards
       → AtMoment whole_machine (IsStateAt (state_at whole_machine (open_whole start.set found) (happened (first_core start.set found) es) stop.moment)) IsFrontOf last_of start.set.shape stop.course journal stop.moment stop.disks
       → AreGoodImages start.set.shape stop images → Reopens start stop (below stop.moment journal) images

@@ -69,12 +69,12 @@ IsStateAt state c = c ≡ state
 -- ---- events
 
 -- an event may come, and as May asks; where the core goes on behind it, no shard has too many root records then
-pub record MayStand (start : Start) (May : Event → Core → Type 0) (core : Core) (event : Event) (moment : ℕ) : Type 0 where
+pub record MayKeep (start : Start) (May : Event → Core → Type 0) (core : Core) (event : Event) (moment : ℕ) : Type 0 where
   pub comes : MayCome start.commands core event moment
   pub may : May event core
   pub room : (step event moment core).ended ≡ None → HasRecordRoom (step event moment core)
 
 -- so each of some, as long as the core goes on
-abbrev pub AllMayStand : Start → (Event → Core → Type 0) → Core → Events → Type 0
-AllMayStand start May core [] = Unit {0}
-AllMayStand start May core (e ∷ es) = (core.ended ≡ None → MayStand start May core e.0 e.1) × AllMayStand start May (step e.0 e.1 core) es
+abbrev pub AllMayKeep : Start → (Event → Core → Type 0) → Core → Events → Type 0
+AllMayKeep start May core [] = Unit {0}
+AllMayKeep start May core (e ∷ es) = (core.ended ≡ None → MayKeep start May core e.0 e.1) × AllMayKeep start May (step e.0 e.1 core) es
