@@ -1,7 +1,8 @@
 -- Each client's line up to the last one was begun, and where a shard has no good peer its store has ended.
 use Rattle.std.proofs.Common.{◌≡◌, ◌⊎◌, ◌∙◌, ap, sym, subst, inl, inr, ℕ, zero, suc, ◌+◌, ◌<◌, ◌≤◌, ◌==◌, not, Bool, true, false, [], ◌∷◌, Option, Some, None, refl, arith}
 use Rattle.std.proofs.lemmas.Bool.{cases_eq, cases_lt, ne_eqb}
-use Rattle.std.specs.List.{range_with_len}
+use Rattle.std.proofs.lemmas.List.Elements.{Contains-append_left, Contains-append_right}
+use Rattle.std.specs.List.{AllByRecursion, range_with_len}
 use Rattle.std.specs.Option.{option_map}
 use Rattle.std.specs.Prelude.{Contains, IsSome, find, if◌then◌else◌}
 use Rattle.hs_core.specs.Calls.{begun_line}
@@ -12,7 +13,7 @@ use Rattle.hs_core.specs.State.{Core}
 use Rattle.hs_core.specs.Step.{do_event, end_event, line_of, step}
 use Rattle.hs_desk.specs.declared.fault.CoreFault.{CoreFault}
 use Rattle.hs_desk.specs.declared.fault.CoreFault.TheVariants as fault
-use Rattle.hs_events.specs.Course.{event_items, is_refused, items_between}
+use Rattle.hs_events.specs.Course.{event_items, is_refused, items_between, items_of, steps}
 use Rattle.hs_events.specs.Due.{Events}
 use Rattle.hs_events.specs.Sane.{IsSane}
 use Rattle.hs_events.specs.Whole.{Whole, step_whole}
@@ -22,7 +23,7 @@ use Rattle.hs_journal.specs.Events.{client_op}
 use Rattle.hs_limits.specs.declared.limits.PeerStatus.{PeerStatus}
 use Rattle.hs_limits.specs.declared.limits.PeerStatus.TheVariants.{Good, Joining, Down}
 use Rattle.hs_limits.specs.declared.shape.Shape.{Shape}
-use Rattle.hs_lines.proofs.StepLemmas.{step_ended, step_line}
+use Rattle.hs_lines.proofs.StepLemmas.{step_ended, step_line, went}
 use Rattle.hs_members.specs.Members.{Members, has_good, is_good_status, status}
 use Rattle.hs_model.specs.declared.command.Command.{Command}
 use Rattle.hs_model.specs.declared.course.CourseItem.{CourseItem}
@@ -34,7 +35,7 @@ use Rattle.hs_moments.specs.Machine.{runs}
 use Rattle.hs_moments.specs.WholeMachine.{whole_machine}
 use Rattle.hs_standing.specs.Standing.{AreBegun}
 use Rattle.hs_stops.specs.Start.{Start}
-use Rattle.hs_told.specs.InTurn.{ClientMay, MayBegin, NoneBetween, OtherMay}
+use Rattle.hs_told.specs.InTurn.{AllMayCome, ClientMay, MayBegin, NoneBetween, OtherMay}
 
 -- ---- lines
 
@@ -131,6 +132,23 @@ event_begun start stop core (event.Fail line p) at going may happened below insi
     quiet_begun start stop core (event.Fail line p) at going may happened below inside (begins_none start.commands core (event.Fail line p) may refl) before
 event_begun start stop core (event.Start line p) at going may happened below inside before =
     quiet_begun start stop core (event.Start line p) at going may happened below inside (begins_none start.commands core (event.Start line p) may refl) before
+
+-- ---- events, one after another
+
+-- a core that goes on behind some events went on before
+pub went_on : (core : Core) (es : Events) → (steps core es).ended ≡ None → core.ended ≡ None
+went_on core [] h = h
+went_on core (e ∷ es) h = went e.0 e.1 core (went_on (step e.0 e.1 core) es h)
+
+pub all_begun : (start : Start) (stop : Stop) (core : Core) (es : Events) → (steps core es).ended ≡ None → AllMayCome start.commands core es → AllByRecursion (λ (e : Event × ℕ). e.1 < stop.moment) es
+    → ((i : CourseItem) → Contains (items_of core es) i → Contains stop.course i) → AreBegun start stop core → AreBegun start stop (steps core es)
+all_begun start stop core [] going may below inside before = before
+all_begun start stop core (e ∷ es) going may below inside before =
+    let next : (step e.0 e.1 core).ended ≡ None = went_on (step e.0 e.1 core) es going in
+    let now : core.ended ≡ None = went e.0 e.1 core next in
+    all_begun start stop (step e.0 e.1 core) es going may.1 below.1 (λ i has. inside i (Contains-append_right (event_items core e) (items_of (step e.0 e.1 core) es) i has))
+    (event_begun start stop core e.0 e.1 now (may.0 now).begins (ap (λ (o : Option CoreFault). is_refused o) next) below.0
+    (λ i has. inside i (Contains-append_left (event_items core e) (items_of (step e.0 e.1 core) es) i has)) before)
 
 -- ---- a store that has ended
 

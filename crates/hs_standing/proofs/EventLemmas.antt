@@ -25,17 +25,12 @@ use Rattle.hs_standing.proofs.GrewLemmas.{Grew, grew}
 use Rattle.hs_standing.proofs.JoinLemmas.{StandsWithin}
 use Rattle.hs_standing.proofs.SettleLemmas.{settled_alike, within_as}
 use Rattle.hs_standing.specs.Settled.{AreSettled}
-use Rattle.hs_standing.specs.Standing.{CoreStands, WholeStands}
+use Rattle.hs_standing.specs.Standing.{CoreStands, StandsWith}
 use Rattle.hs_stops.proofs.SaneLemmas.{front_within, waits_in_core}
 use Rattle.hs_stops.specs.Lists.{Lists}
 use Rattle.hs_stops.specs.Stands.{lists_of}
 use Rattle.hs_stops.specs.Start.{Start}
 use Rattle.hs_told.specs.InTurn.{IsInTurn}
-
--- and P is known of its core with these folds
-pub record StandsWith (start : Start) (P : Core → List Folded → Type 0) (c : Whole) : Type 0 where
-  pub whole : WholeStands start c
-  pub holds : P c.core whole.cs
 
 -- ---- as an event begins
 

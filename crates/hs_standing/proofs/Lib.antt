@@ -13,4 +13,3 @@ pub mod MomentLemmas
 pub mod ViewLemmas
 pub mod OpeningLemmas
 pub mod ReopenLemmas
-pub mod FirstLemmas

@@ -17,7 +17,6 @@ use Rattle.hs_events.specs.Whole.{Whole, step_whole}
 use Rattle.hs_fold.specs.Runs.Facts.{Catalogue as Folded}
 use Rattle.hs_fold.specs.Shards.Images.{Stop}
 use Rattle.hs_limits.specs.declared.shape.Shape.{Shape}
-use Rattle.hs_lines.proofs.StepLemmas.{went}
 use Rattle.hs_members.specs.Members.{is_good_status}
 use Rattle.hs_model.specs.declared.command.Command.{Command}
 use Rattle.hs_model.specs.declared.course.CourseItem.{CourseItem}
@@ -25,12 +24,12 @@ use Rattle.hs_model.specs.declared.op.Op.{Op}
 use Rattle.hs_moments.proofs.MomentLemmas.{le-is}
 use Rattle.hs_moments.specs.Machine.{runs, state_at, until}
 use Rattle.hs_moments.specs.WholeMachine.{whole_machine}
-use Rattle.hs_standing.proofs.BegunLemmas.{ended_stays, event_begun, good_goes}
-use Rattle.hs_standing.proofs.EventLemmas.{StandsWith, begins, ends_standing}
+use Rattle.hs_standing.proofs.BegunLemmas.{ended_stays, event_begun, good_goes, went_on}
+use Rattle.hs_standing.proofs.EventLemmas.{begins, ends_standing}
 use Rattle.hs_standing.proofs.JoinLemmas.{StandsWithin, joined}
 use Rattle.hs_standing.proofs.KeepLemmas.{Keeps}
 use Rattle.hs_standing.proofs.StandLemmas.{NoLineWaitsTwice, whole_stands}
-use Rattle.hs_standing.specs.Standing.{AllMayKeep, AreBegun, CoreStands, MayKeep}
+use Rattle.hs_standing.specs.Standing.{AllMayKeep, AreBegun, CoreStands, MayKeep, StandsWith}
 use Rattle.hs_stops.specs.Stands.{StandsWhereGood, lists_of}
 use Rattle.hs_stops.specs.Start.{Start}
 use Rattle.hs_told.specs.InTurn.{IsInTurn, MayCome}
@@ -54,10 +53,6 @@ module _ (start : Start) (MayLine : ℕ → Op → Core → Type 0) (MayTell : �
   pub all_stand : (c : Whole) (es : Events) → StandsWith start P c → AllMayKeep start (MayEvent MayLine MayTell MayRefuse) c.core es → (steps c.core es).ended ≡ None → StandsWith start P (runs whole_machine c es)
   all_stand c [] s may going = s
   all_stand c (e ∷ es) s may going = all_stand (step_whole e.0 e.1 c) es (event_stands c e.0 e.1 s (may.0 s.whole.sane.going) (went_on (step e.0 e.1 c.core) es going)) may.1 going
-    where
-      went_on : (core : Core) (es : Events) → (steps core es).ended ≡ None → core.ended ≡ None
-      went_on core [] h = h
-      went_on core (e ∷ es) h = went e.0 e.1 core (went_on (step e.0 e.1 core) es h)
 
   -- ---- at each moment
 

@@ -34,13 +34,12 @@ use Rattle.hs_moments.proofs.OpeningLemmas.{opening_is_sane}
 use Rattle.hs_moments.proofs.WorkLemmas.{last_is, reach_sane}
 use Rattle.hs_moments.specs.WholeMachine.{whole_machine}
 use Rattle.hs_replica.specs.Group.{Group, entries_above, length_of, new_group}
-use Rattle.hs_standing.proofs.EventLemmas.{StandsWith}
 use Rattle.hs_standing.proofs.GoLemmas.{views_append}
 use Rattle.hs_standing.proofs.SettleLemmas.{within_as}
 use Rattle.hs_standing.proofs.ViewLemmas.{OpensOn, opens_on}
 use Rattle.hs_standing.specs.Opening.{OpensWell, opened_folds, opened_lists}
 use Rattle.hs_standing.specs.Settled.{AreSettled}
-use Rattle.hs_standing.specs.Standing.{AreBegun, CoreStands}
+use Rattle.hs_standing.specs.Standing.{AreBegun, CoreStands, StandsWith}
 use Rattle.hs_stops.proofs.SaneLemmas.{waits_in_core}
 use Rattle.hs_stops.specs.Lists.{Lists, settled_from, whole_from}
 use Rattle.hs_stops.specs.Stands.{lists_of}

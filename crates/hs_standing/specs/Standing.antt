@@ -58,6 +58,11 @@ pub record WholeStands (start : Start) (c : Whole) : Type 0 where
   pub views : (shard : ℕ) → shard < start.set.shape.shards → HasRisingViews (reach c shard)
   pub few : HasRecordRoom c.core
 
+-- and P is known of its core with these folds
+pub record StandsWith (start : Start) (P : Core → List Folded → Type 0) (c : Whole) : Type 0 where
+  pub whole : WholeStands start c
+  pub holds : P c.core whole.cs
+
 -- each client's line up to the last one was begun below the moment of a stop
 abbrev pub AreBegun : Start → Stop → Core → Type 0
 AreBegun start stop core = (line : ℕ) → 1 ≤ line → line ≤ core.event_line → IsSome (client_op (start.commands line)) → IsBegun stop.course line stop.moment
