@@ -51,7 +51,7 @@ rest_none None rest e = e
 rest_none (Some r) rest e = absurd (cc e)
 
 -- the session is open, and has no other operation
-record IsAlone (v : OpView) (q : List ℕ) : Type 0 where
+pub record IsAlone (v : OpView) (q : List ℕ) : Type 0 where
   pub opened : IsSome (seat_of q v.seats)
   pub free : v.busy ≡ None
 
@@ -84,7 +84,7 @@ not_refused v o e = go (refusal_of v o) e
     go (Some r) e = absurd (cc e)
 
 -- one that isn't answered at once is of an open session that has no other
-unanswered_alone : (v : OpView) (o : Op) (q : List ℕ) → judged_in v o ≡ None → session_of (Some o) ≡ Some q → IsAlone v q
+pub unanswered_alone : (v : OpView) (o : Op) (q : List ℕ) → judged_in v o ≡ None → session_of (Some o) ≡ Some q → IsAlone v q
 unfolding judged_in refusals_of
 unanswered_alone v (op.Open n) q e s = absurd (never (refusal_of v (op.Open n)) e)
   where
@@ -122,7 +122,7 @@ taken_first v n q rest opened s = go (seat_of n v.seats) (subst (λ k. IsSome (s
     go None h = absurd (cc h)
     go (Some seat) h = refl
 
-busy_refused : (v : OpView) (o : Op) (q : List ℕ) (other : ℕ) → session_of (Some o) ≡ Some q → IsSome (seat_of q v.seats) → v.busy ≡ Some other → (r : Reply) → judged_in v o ≡ Some r → is_done r ≡ false
+pub busy_refused : (v : OpView) (o : Op) (q : List ℕ) (other : ℕ) → session_of (Some o) ≡ Some q → IsSome (seat_of q v.seats) → v.busy ≡ Some other → (r : Reply) → judged_in v o ≡ Some r → is_done r ≡ false
 unfolding refusals_of
 busy_refused v o q other s opened busy r e = by_op o s e
   where
@@ -176,7 +176,7 @@ line_is c o q t = go o t
     go op.Delete t = absurd (cc t)
     go op.Stat t = absurd (cc t)
 
-busy_by : (c : Core) (m : ℕ) (w : Waiting) (o : Op) (q : List ℕ) → operation_of m c ≡ Some w → session_in w ≡ Some q → session_of (Some o) ≡ Some q → busy_line o c ≡ None → ⊥
+pub busy_by : (c : Core) (m : ℕ) (w : Waiting) (o : Op) (q : List ℕ) → operation_of m c ≡ Some w → session_in w ≡ Some q → session_of (Some o) ≡ Some q → busy_line o c ≡ None → ⊥
 busy_by c m w o q at s t none = clash (find (λ (e : ℕ × Waiting). is_of q e.1) c.operations) (found_by (is_of q) m w c.operations at (is_of_own q w s)) (sym (line_is c o q t) ∙ none)
   where
     clash : (found : Option (ℕ × Waiting)) → IsSome found → option_map (λ (e : ℕ × Waiting). e.0) found ≡ None → ⊥
@@ -246,7 +246,7 @@ module _ (name : List ℕ → Address) (line : ℕ) (o : Op) (c : Core) (its : I
           by_session None t = other (λ f. cc (sym t ∙ f))
           by_session (Some n) t = by_name n t (bytes_eq n q) refl
 
-  added : judged_in v o ≡ None → IsOrderly name with_it
+  pub added : judged_in v o ≡ None → IsOrderly name with_it
   added j = changed_orderly name c with_it line its free (record {
     limits = refl;
     shape = refl;

@@ -42,7 +42,7 @@ use Rattle.hs_tokens.specs.Seats.{Seats}
 
 -- ---- the operation of an Enter
 
-delete_op : (name : List ℕ → Address) (seats : Seats) (line k epoch : ℕ) (o : Op) → IsEntryOf name seats k o (kind.Enter line epoch) → o ≡ op.Delete
+pub delete_op : (name : List ℕ → Address) (seats : Seats) (line k epoch : ℕ) (o : Op) → IsEntryOf name seats k o (kind.Enter line epoch) → o ≡ op.Delete
 delete_op name seats line k epoch op.Delete asks = refl
 delete_op name seats line k epoch (op.Write session payload handles address) asks = go asks
   where
@@ -90,7 +90,7 @@ entered_then : (b : Bool) (epoch : ℕ) → cond b (what.Entered epoch) what.Ref
 entered_then true epoch e = refl
 entered_then false epoch e = absurd (cc e)
 
-by_line : (line epoch : ℕ) → 1 ≤ line → asked_by (kind.Enter line epoch) ≡ Some line
+pub by_line : (line epoch : ℕ) → 1 ≤ line → asked_by (kind.Enter line epoch) ≡ Some line
 by_line line epoch counted = go (line == 0) refl
   where
     go : (b : Bool) → (line == 0) ≡ b → cond b None (Some line) ≡ Some line

@@ -57,7 +57,7 @@ use Rattle.hs_tokens.specs.Seats.{Seats}
 same_key : (line k : ℕ) (key other : List ℕ) → kind.Drop line key ≡ kind.Drop k other → op.Drop other ≡ op.Drop key
 same_key line k key other e = cc
 
-drop_op : (name : List ℕ → Address) (seats : Seats) (line k : ℕ) (key : List ℕ) (o : Op) → IsEntryOf name seats k o (kind.Drop line key) → o ≡ op.Drop key
+pub drop_op : (name : List ℕ → Address) (seats : Seats) (line k : ℕ) (key : List ℕ) (o : Op) → IsEntryOf name seats k o (kind.Drop line key) → o ≡ op.Drop key
 drop_op name seats line k key (op.Drop other) asks = same_key line k key other asks
 drop_op name seats line k key (op.Write session payload handles address) asks = go asks
   where

@@ -97,7 +97,7 @@ beyond none (x ∷ xs) (suc k) = go (beyond none xs k)
     go (inl l) = inl (grind (arith, common_steps, l))
     go (inr e) = inr e
 
-taken_here : (shard number : ℕ) (entry : Entry) (c : Core) → committed (group_of shard c) ≡ Some (number, entry) → group_of shard (change_group shard take_committed c) ≡ take_committed (group_of shard c)
+pub taken_here : (shard number : ℕ) (entry : Entry) (c : Core) → committed (group_of shard c) ≡ Some (number, entry) → group_of shard (change_group shard take_committed c) ≡ take_committed (group_of shard c)
 taken_here shard number entry c e = go (beyond (new_group (shape_of c) shard 0 0 []) c.groups shard)
   where
     go : (shard < length c.groups) ⊎ (group_of shard c ≡ new_group (shape_of c) shard 0 0 []) → group_of shard (change_group shard take_committed c) ≡ take_committed (group_of shard c)
@@ -110,7 +110,7 @@ taken_here shard number entry c e = go (beyond (new_group (shape_of c) shard 0 0
 entry_number : (a b : ℕ) → wait.Entry a ≡ wait.Entry b → a ≡ b
 entry_number a b e = cc e
 
-taken_free : (name : List ℕ → Address) (shard number line : ℕ) (entry : Entry) (c : Core) → IsOrderly name c → committed (group_of shard c) ≡ Some (number, entry) → asked_by entry ≡ Some line
+pub taken_free : (name : List ℕ → Address) (shard number line : ℕ) (entry : Entry) (c : Core) → IsOrderly name c → committed (group_of shard c) ≡ Some (number, entry) → asked_by entry ≡ Some line
     → IsFree (change_group shard take_committed c) line
 taken_free name shard number line entry c its e by = λ g place x at of. go g place x at of (group_changed shard take_committed c g)
   where
@@ -143,7 +143,7 @@ taken_free name shard number line entry c its e by = λ g place x at of. go g pl
 
 -- ---- what is told of an entry
 
-sweep_alike : (shard removed : ℕ) (c : Core) → Alike c (note_sweep shard removed c)
+pub sweep_alike : (shard removed : ℕ) (c : Core) → Alike c (note_sweep shard removed c)
 sweep_alike shard removed c = go _
   where
     first : Core
@@ -171,7 +171,7 @@ due_orderly name shard c its = go (is_enter_due shard c)
     go true = own_orderly name shard (kind.Enter 0 ((catalogue_of shard c).epoch + 1)) c refl its
     go false = its
 
-view_idle : PassesIdle is_for_view
+pub view_idle : PassesIdle is_for_view
 view_idle w passes = go w.wait passes
   where
     go : (x : Wait) → is_for_view (record w { wait = x }) ≡ true → IsIdle x
@@ -181,7 +181,7 @@ view_idle w passes = go w.wait passes
     go (wait.Bytes number) p = tt
     go (wait.Entry number) p = absurd (cc p)
 
-wakes_idle : (entry : Entry) (a : Option Address) (c : Core) → PassesIdle (wakes entry a c)
+pub wakes_idle : (entry : Entry) (a : Option Address) (c : Core) → PassesIdle (wakes entry a c)
 wakes_idle (kind.Block line least bytes) a c w passes = go w.wait passes
   where
     go : (x : Wait) → wakes (kind.Block line least bytes) a c (record w { wait = x }) ≡ true → IsIdle x
@@ -211,7 +211,7 @@ wakes_idle (kind.KeptRound way other epoch round total deltas) a c w passes = ab
 -- ---- one entry, and all that are committed
 
 module _ (name : List ℕ → Address) (shard : ℕ) (c : Core) (its : IsOrderly name c) where
-  told_orderly : (line : ℕ) (did : What) → IsFree c line → IsOrderly name (tell_operation line did c)
+  pub told_orderly : (line : ℕ) (did : What) → IsFree c line → IsOrderly name (tell_operation line did c)
   told_orderly line did free = going_orderly (λ v o. effect_step v did o) (done_asks did) name line c its free
 
   view_orderly : (view : ℕ) → IsOrderly name (reach_view shard view c)
@@ -224,7 +224,7 @@ module _ (name : List ℕ → Address) (shard : ℕ) (c : Core) (its : IsOrderly
       go true = resumed_orderly name shard is_for_view view_idle (set_viewed shard true c) viewed
       go false = its
 
-  enter_orderly : (line : ℕ) (did : What) → ((line == 0) ≡ false → IsFree c line) → IsOrderly name (tell_enter shard line did c)
+  pub enter_orderly : (line : ℕ) (did : What) → ((line == 0) ≡ false → IsFree c line) → IsOrderly name (tell_enter shard line did c)
   enter_orderly line did free = go (operation_of line c) refl
     where
       counted : 1 ≤ line → (line == 0) ≡ false
@@ -255,7 +255,7 @@ same_le : (m n k : ℕ) → m ≡ n → m ≤ n + k
 same_le m n k e = omega (arith, e)
 
 -- what is taken leaves its place, and adds no more than that to its shard
-taken_room : (name : List ℕ → Address) (shard number : ℕ) (entry : Entry) (c : Core) → IsOrderly name c → committed (group_of shard c) ≡ Some (number, entry) → (g : ℕ) → HasRoom (taken shard entry c) g
+pub taken_room : (name : List ℕ → Address) (shard number : ℕ) (entry : Entry) (c : Core) → IsOrderly name c → committed (group_of shard c) ≡ Some (number, entry) → (g : ℕ) → HasRoom (taken shard entry c) g
 taken_room name shard number entry c its e g = go (one_or_other g shard)
   where
     here : Core

@@ -315,12 +315,12 @@ module _ (name : List ℕ → Address) where
 
   -- ---- as the core opens
 
-  none_wait : (shape : Shape) (taken : Taken) (shards : List ℕ) (g : ℕ) (none : Group) → none.waiting ≡ [] → (slice_index_or (map (taken_group shape taken) shards) g none).waiting ≡ []
+  pub none_wait : (shape : Shape) (taken : Taken) (shards : List ℕ) (g : ℕ) (none : Group) → none.waiting ≡ [] → (slice_index_or (map (taken_group shape taken) shards) g none).waiting ≡ []
   none_wait shape taken [] g none e = e
   none_wait shape taken (s ∷ shards) zero none e = refl
   none_wait shape taken (s ∷ shards) (suc g) none e = none_wait shape taken shards g none e
 
-  new_orderly : (shape : Shape) (limits : Limits) (taken : Taken) (moment : ℕ) → O (new_core shape limits taken moment)
+  pub new_orderly : (shape : Shape) (limits : Limits) (taken : Taken) (moment : ℕ) → O (new_core shape limits taken moment)
   new_orderly shape limits taken moment = record {
     once = tt;
     pending = λ line w at. absurd (cc at);

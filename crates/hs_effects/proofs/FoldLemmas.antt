@@ -89,7 +89,7 @@ module _ (name : List ℕ → Address) (cs : List Folded) (core : Core) (shard :
   pub low_here : shard < length cs
   low_here = subst (λ n. shard < n) (sym folded.shards) low
 
-  own_here : IsOwn shape.shards shard c
+  pub own_here : IsOwn shape.shards shard c
   own_here = subst (λ k. IsOwn shape.shards k c) (zero_left shard) (own_at shape.shards 0 cs folded.own shard low_here)
 
   pub memory_at : catalogue_of shard core ≡ forget shape shard c

@@ -153,7 +153,7 @@ go_on_other next line m c d = go (operation_of line c)
     go None = refl
     go (Some u) = carried_other (record u { operation = after_step (next (view_for u.shard u.operation.op c) u.operation) u.operation }) (next (view_for u.shard u.operation.op c) u.operation)
 
-ready_on : (c : Core) (line : ℕ) (rest : List ℕ) → AllByRecursion (λ m. m ≡ line → ⊥) rest → AreReady c rest → AreReady (resume line c) rest
+pub ready_on : (c : Core) (line : ℕ) (rest : List ℕ) → AllByRecursion (λ m. m ≡ line → ⊥) rest → AreReady c rest → AreReady (resume line c) rest
 ready_on c line [] apart ready = tt
 ready_on c line (m ∷ rest) apart ready =
     (ready.0, (λ w e. ready.1 w (sym (go_on_other go_step line m c apart.0) ∙ e)), ready_on c line rest apart.1 ready.2)
@@ -186,7 +186,7 @@ apart_lines shard test k (e ∷ es) none = go (is_at (nat_cmp k) e.0) refl none 
         at_own = rw (same_number k) refl
     go false i n false ih = ih n
 
-ready_lines : (shard : ℕ) (test : Waiting → Bool) → PassesIdle test → (c : Core) (es : List (ℕ × Waiting)) → AreOnce es → AllByRecursion (λ (e : ℕ × Waiting). operation_of e.0 c ≡ Some e.1) es
+pub ready_lines : (shard : ℕ) (test : Waiting → Bool) → PassesIdle test → (c : Core) (es : List (ℕ × Waiting)) → AreOnce es → AllByRecursion (λ (e : ℕ × Waiting). operation_of e.0 c ≡ Some e.1) es
     → AreReady c (map (λ (e : ℕ × Waiting). e.0) (filter (λ e. e.1.shard == shard && test e.1) es))
 ready_lines shard test idle c [] once all = tt
 ready_lines shard test idle c (e ∷ es) once all = go (e.1.shard == shard) (test e.1) refl (ready_lines shard test idle c es once.1 all.1)

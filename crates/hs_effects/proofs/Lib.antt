@@ -1,29 +1,29 @@
-mod AnsweredLemmas
-mod BeginLemmas
-mod BlockLemmas
-mod CommitLemmas
-mod DeleteLemmas
-mod DropLemmas
-mod EffectLemmas
-mod EndingLemmas
-mod EnterLemmas
-mod EventLemmas
-mod FoldLemmas
-mod FreeLemmas
-mod GoingLemmas
-mod GroupLemmas
-mod GrowLemmas
-mod LawfulLemmas
-mod LookLemmas
-mod MarkLemmas
-mod OnceLemmas
-mod OrderlyLemmas
-mod QuietLemmas
-mod RefusedLemmas
-mod RoomLemmas
-mod RoomyLemmas
-mod RootLemmas
-mod SeatLemmas
-mod StepLemmas
-mod SweepLemmas
-mod ViewLemmas
+pub mod AnsweredLemmas
+pub mod BeginLemmas
+pub mod BlockLemmas
+pub mod CommitLemmas
+pub mod DeleteLemmas
+pub mod DropLemmas
+pub mod EffectLemmas
+pub mod EndingLemmas
+pub mod EnterLemmas
+pub mod EventLemmas
+pub mod FoldLemmas
+pub mod FreeLemmas
+pub mod GoingLemmas
+pub mod GroupLemmas
+pub mod GrowLemmas
+pub mod LawfulLemmas
+pub mod LookLemmas
+pub mod MarkLemmas
+pub mod OnceLemmas
+pub mod OrderlyLemmas
+pub mod QuietLemmas
+pub mod RefusedLemmas
+pub mod RoomLemmas
+pub mod RoomyLemmas
+pub mod RootLemmas
+pub mod SeatLemmas
+pub mod StepLemmas
+pub mod SweepLemmas
+pub mod ViewLemmas

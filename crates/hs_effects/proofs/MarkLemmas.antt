@@ -63,12 +63,12 @@ ByMarked = (limits : Limits) (s : Store) (v : OpView) (name payload handles : Li
 
 -- ---- what marking means
 
-record IsMarked (least block : ℕ) (a : Address) (c : Catalogue) : Type 0 where
+pub record IsMarked (least block : ℕ) (a : Address) (c : Catalogue) : Type 0 where
   pub there : option_map_or (λ (f : Facts). f.number == block) (facts_at a c) false ≡ true
   pub fresh : is_fresh least c ≡ true
   pub epoch : (mark_block least block a c).catalogue.epoch ≡ c.epoch
 
-marked_tests : (least block : ℕ) (a : Address) (c : Catalogue) → (mark_block least block a c).effect.what ≡ what.Marked → IsMarked least block a c
+pub marked_tests : (least block : ℕ) (a : Address) (c : Catalogue) → (mark_block least block a c).effect.what ≡ what.Marked → IsMarked least block a c
 marked_tests least block a c e = go (option_map_or (λ (f : Facts). f.number == block) (facts_at a c) false) (is_fresh least c) refl refl e
   where
     by : Bool → Bool → Applied

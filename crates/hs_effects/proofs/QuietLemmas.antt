@@ -44,7 +44,7 @@ if_quiet : (b : Bool) (f : Core → Core) (c : Core) → ((x : Core) → Quiet x
 if_quiet true f c h = h c
 if_quiet false f c h = same c
 
-with_quiet : {B : Type 0} (o : Option B) (f : B → Core → Core) (c : Core) → ((y : B) (x : Core) → Quiet x (f y x)) → Quiet c (change_with o f c)
+pub with_quiet : {B : Type 0} (o : Option B) (f : B → Core → Core) (c : Core) → ((y : B) (x : Core) → Quiet x (f y x)) → Quiet c (change_with o f c)
 with_quiet None f c h = same c
 with_quiet (Some y) f c h = h y c
 
@@ -64,7 +64,7 @@ proposed_quiet shard entry c = go (lead_of shard c)
     go None = record { catalogues = refl; members = refl; limits = refl; moment = refl }
     go (Some peer) = record { catalogues = refl; members = refl; limits = refl; moment = refl }
 
-carried_quiet : (line : ℕ) (w : Waiting) (taken : OpStep) (c : Core) → Quiet c (carry_out line w taken c)
+pub carried_quiet : (line : ℕ) (w : Waiting) (taken : OpStep) (c : Core) → Quiet c (carry_out line w taken c)
 carried_quiet line w (step.Answer told) c = record { catalogues = refl; members = refl; limits = refl; moment = refl }
 carried_quiet line w (step.Propose entry) c =
     let waits : Core = wait_for line w (wait.Entry (last_number (group_of w.shard c) + 1)) c in
@@ -88,7 +88,7 @@ resumed_quiet shard test c = each_quiet (lines_where shard test c) resume c (λ 
 due_quiet : (shard : ℕ) (c : Core) → Quiet c (propose_due shard c)
 due_quiet shard c = if_quiet (is_enter_due shard c) (propose_entry shard (kind.Enter 0 ((catalogue_of shard c).epoch + 1))) c (λ x. proposed_quiet shard (kind.Enter 0 ((catalogue_of shard c).epoch + 1)) x)
 
-sweep_quiet : (shard removed : ℕ) (c : Core) → Quiet c (note_sweep shard removed c)
+pub sweep_quiet : (shard removed : ℕ) (c : Core) → Quiet c (note_sweep shard removed c)
 sweep_quiet shard removed c =
     both c _ _ (record { catalogues = refl; members = refl; limits = refl; moment = refl })
     (if_quiet _ _ _ (λ x. record { catalogues = refl; members = refl; limits = refl; moment = refl }))
@@ -104,10 +104,10 @@ enter_quiet shard what.Dropped c = same c
 enter_quiet shard (what.Entered epoch) c = record { catalogues = refl; members = refl; limits = refl; moment = refl }
 enter_quiet shard what.Refused c = same c
 
-told_quiet : (line : ℕ) (did : What) (c : Core) → Quiet c (tell_operation line did c)
+pub told_quiet : (line : ℕ) (did : What) (c : Core) → Quiet c (tell_operation line did c)
 told_quiet line did c = going_quiet (λ v o. effect_step v did o) line c
 
-told_enter_quiet : (shard line : ℕ) (did : What) (c : Core) → Quiet c (tell_enter shard line did c)
+pub told_enter_quiet : (shard line : ℕ) (did : What) (c : Core) → Quiet c (tell_enter shard line did c)
 told_enter_quiet shard line did c = go (is_some (operation_of line c))
   where
     go : (b : Bool) → Quiet c (cond b (tell_operation line did c) (note_enter shard did c))

@@ -65,7 +65,7 @@ block_in seat payload handles = record { pointers = map (λ held. held.address) 
 abbrev pub IsSameFor : Op → Seats → Seats → Type 0
 IsSameFor o a b = (q : List ℕ) → session_of (Some o) ≡ Some q → seat_of q b ≡ seat_of q a
 
-block_same : (a b : Seats) (name payload handles : List ℕ) → seat_of name b ≡ seat_of name a → asked_block a name payload handles ≡ asked_block b name payload handles
+pub block_same : (a b : Seats) (name payload handles : List ℕ) → seat_of name b ≡ seat_of name a → asked_block a name payload handles ≡ asked_block b name payload handles
 unfolding asked_block block_in helds_in
 block_same a b name payload handles e = ap (λ seat. block_in seat payload handles) (sym e)
 

@@ -28,7 +28,7 @@ use Rattle.hs_replica.specs.Group.{Group, last_number, renew, renewal}
 
 -- ---- a list that is cut
 
-at_cut : {X : Type 0} (k : ℕ) (xs : List X) (place : ℕ) (x : X) → slice_get (take k xs) place ≡ Some x → slice_get xs place ≡ Some x
+pub at_cut : {X : Type 0} (k : ℕ) (xs : List X) (place : ℕ) (x : X) → slice_get (take k xs) place ≡ Some x → slice_get xs place ≡ Some x
 at_cut zero xs place x e = absurd (nothing place e)
   where
     nothing : (p : ℕ) → slice_get (take 0 xs) p ≡ Some x → ⊥
@@ -156,7 +156,7 @@ module _ (name : List ℕ → Address) (shard : ℕ) (c : Core) (its : IsOrderly
 
 -- ---- the view
 
-view_began : (name : List ℕ → Address) (shard : ℕ) (c : Core) → IsOrderly name c → IsOrderly name (begin_view shard c)
+pub view_began : (name : List ℕ → Address) (shard : ℕ) (c : Core) → IsOrderly name c → IsOrderly name (begin_view shard c)
 view_began name shard c its =
     let one : Core = set_viewed shard false c in
     let two : Core = change_group shard (renew c.members) one in

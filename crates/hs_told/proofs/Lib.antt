@@ -1,14 +1,14 @@
-mod BeginLemmas
+pub mod BeginLemmas
 pub mod BesideLemmas
-mod BusyLemmas
-mod BytesLemmas
+pub mod BusyLemmas
+pub mod BytesLemmas
 pub mod CalmLemmas
-mod DuringLemmas
-mod LineLemmas
-mod OpenedLemmas
-mod OperationLemmas
-mod OrderLemmas
-mod SaidLemmas
-mod SeatLemmas
+pub mod DuringLemmas
+pub mod LineLemmas
+pub mod OpenedLemmas
+pub mod OperationLemmas
+pub mod OrderLemmas
+pub mod SaidLemmas
+pub mod SeatLemmas
 pub mod StirLemmas
 pub mod TurnLemmas

@@ -156,7 +156,7 @@ begun_part line moment core =
     ap (λ (p : Part). record p { moment = moment; event_line = if line == 0 then core.event_line else line })
     (beside_if _ (change_pool restart_numbers) core (λ x. refl))
 
-same_refusal : (e : Event) (line moment : ℕ) (core : Core) → refusal_in e (begin_event line moment core) ≡ refusal_in e core
+pub same_refusal : (e : Event) (line moment : ℕ) (core : Core) → refusal_in e (begin_event line moment core) ≡ refusal_in e core
 same_refusal e line moment core = go _ e
   where
     go : (b : Bool) (e : Event) → refusal_in e (record (change_if b (change_pool restart_numbers) core) { moment = moment; event_line = if line == 0 then core.event_line else line }) ≡ refusal_in e core
