@@ -1,3 +1,4 @@
+-- Lemmas, which crates above also cite.
 pub mod AnsweredLemmas
 pub mod BeginLemmas
 pub mod BlockLemmas

@@ -1,3 +1,4 @@
+-- Lemmas, which crates above also cite.
 pub mod BeginLemmas
 pub mod BesideLemmas
 pub mod BusyLemmas
