@@ -1,5 +1,5 @@
 -- A whole that stands does so behind an event, while its core goes on: whatever is known of a core and its folds that suffices, and that every single change keeps.
-use Rattle.std.proofs.Common.{◌≡◌, ◌∙◌, ap, sym, subst, ℕ, ◌+◌, ◌<◌, ◌≤◌, List, [], ◌++◌, None, refl, arith, take, drop, append-nil, take-append-drop}
+use Rattle.std.proofs.Common.{◌≡◌, ◌∙◌, ap, sym, subst, ℕ, ◌<◌, ◌≤◌, List, [], ◌++◌, None, refl, arith, take, drop, append-nil, take-append-drop}
 use Rattle.std.proofs.lemmas.List.{take-append-le}
 use Rattle.std.proofs.lemmas.List.Elements.{All-from_recursion, recursion_from_All}
 use Rattle.std.specs.Prelude.{AllPairs}

@@ -11,5 +11,6 @@ pub mod EventLemmas
 pub mod BegunLemmas
 pub mod MomentLemmas
 pub mod ViewLemmas
+pub mod FirstLemmas
 pub mod OpeningLemmas
 pub mod ReopenLemmas

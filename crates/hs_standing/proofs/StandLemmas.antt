@@ -125,8 +125,8 @@ module _ (start : Start) (c : Whole) (s : WholeStands start c) where
   few shard low =
       let within : shard < length s.cs = (let count = s.stands.folded.shards in let here = low_in shard low in omega (arith, count, here)) in
       let memory = ap (λ (cats : List Catalogue). length (slice_index_or cats shard (empty_catalogue (shape_of c.core) shard)).roots) s.stands.folded.catalogues
-          ∙ ap (λ (x : Catalogue). length x.roots) (forget_at (shape_of c.core) s.cs shard within (empty_catalogue (shape_of c.core) shard))
-          ∙ length-map (catalogue_at s.cs shard).roots record_of in
+      ∙ ap (λ (x : Catalogue). length x.roots) (forget_at (shape_of c.core) s.cs shard within (empty_catalogue (shape_of c.core) shard))
+      ∙ length-map (catalogue_at s.cs shard).roots record_of in
       let fold : length (catalogue_at s.cs shard).roots ≡ length (catalogue_of (shard_in start.set shard) (take (front_of shard c.core) (reach c shard))).roots =
       ap (λ (ds : List Folded). length (catalogue_at ds shard).roots) (sym s.settled.folds) ∙ ap (λ (x : Folded). length x.roots) (folds_at start.set lists shard low) in
       let roots : roots_in (waiting lists shard) ≡ count_by is_root (group_of shard c.core).waiting =

@@ -114,9 +114,9 @@ module _ (all : List Entry) where
       by_asked (Some line) e rest = (
         each-from (λ other. IsFrom all (k + 1) other) (λ other. line ≢ other) (asked_lines (enumerate_from (n + 1) ws))
             (λ other f same.
-              let up = f.high in
-              let here : k ≡ f.place = once k f.place line w f.entry (first_at k w ws h) f.at e (f.asks ∙ ap (λ (m : ℕ). Some m) (sym same)) in
-              omega (arith, up, here))
+            let up = f.high in
+            let here : k ≡ f.place = once k f.place line w f.entry (first_at k w ws h) f.at e (f.asks ∙ ap (λ (m : ℕ). Some m) (sym same)) in
+            omega (arith, up, here))
             (lines_from (n + 1) (k + 1) ws (rest_of k w ws h)),
         rest,
       )
@@ -167,10 +167,10 @@ module _ (lists : Lists) (ws : ℕ → List Entry) (number : ℕ → ℕ) (count
         (each-from (λ line. IsFrom (ws k) 0 line) (λ line. AllByRecursion (λ other. line ≢ other) (all_asked lists (k + 1) n)) (asked_lines (waiting lists k))
         (λ line f. each-from (λ other. IsOfShard ws (k + 1) count other) (λ other. line ≢ other) (all_asked lists (k + 1) n)
         (λ other g same.
-          let up = g.from in
-          let both = once k g.shard f.place g.of.place line f.entry g.of.entry low g.within f.at g.of.at f.asks (g.of.asks ∙ ap (λ (m : ℕ). Some m) (sym same)) in
-          let here : k ≡ g.shard = both.0 in
-          omega (arith, up, here))
+        let up = g.from in
+        let both = once k g.shard f.place g.of.place line f.entry g.of.entry low g.within f.at g.of.at f.asks (g.of.asks ∙ ap (λ (m : ℕ). Some m) (sym same)) in
+        let here : k ≡ g.shard = both.0 in
+        omega (arith, up, here))
         (lines_of (k + 1) n next))
         (lines_here k low))
 
