@@ -14,3 +14,5 @@ pub mod ViewLemmas
 pub mod FirstLemmas
 pub mod OpeningLemmas
 pub mod ReopenLemmas
+pub mod TakenLemmas
+pub mod RunLemmas
