@@ -19,7 +19,7 @@ use Rattle.hs_run.proofs.top.run_script_on.Goals as goal
 -- ---- no core was opened
 
 pub returns-in-Err-clause-begun : goal.returns-in-Err-clause-begun
-returns-in-Err-clause-begun g c = λ is. never_usage _ _ (sym c.status_of.ensures ∙ is)
+returns-in-Err-clause-begun g c = λ is. never_usage (Err c.of_cluster.result) 0 (sym c.status_of.ensures ∙ is)
 
 pub returns-in-Err-clause-machine : goal.returns-in-Err-clause-machine
 returns-in-Err-clause-machine g c =
@@ -45,7 +45,7 @@ returns-in-Err-clause-served g c =
 -- ---- its script was run
 
 pub returns-clause-begun : goal.returns-clause-begun
-returns-clause-begun g c = λ is. never_usage _ _ (sym c.status_of-2.ensures ∙ is)
+returns-clause-begun g c = λ is. never_usage c.go-ended.result c.go-ended.new.run.line (sym c.status_of-2.ensures ∙ is)
 
 pub go-ended-requires : goal.go-ended-requires
 go-ended-requires g c =
