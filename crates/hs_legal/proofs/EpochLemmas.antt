@@ -238,8 +238,11 @@ epochs_taken shard entry c its = epochs_by c (change_group shard take_committed 
             → ((k : ℕ) × (slice_get (group_of g c).waiting k ≡ Some e)) ⊎ IsWithin c.limits e
         by_taken is there (inl same) = inl (place, subst (λ (k : ℕ). slice_get (group_of k c).waiting place ≡ Some e) (sym is) (sym (ap (λ (x : Group). slice_get x.waiting place) same) ∙ there))
         by_taken is there (inr t) =
-            inl (suc place, subst (λ (k : ℕ). slice_get (group_of k c).waiting (suc place) ≡ Some e) (sym is)
-            (sym (at_front (group_of shard c).waiting place) ∙ sym (ap (λ (es : List Entry). slice_get es place) t.waiting) ∙ there))
+            inl (
+              suc place,
+              subst (λ (k : ℕ). slice_get (group_of k c).waiting (suc place) ≡ Some e) (sym is)
+                  (sym (at_front (group_of shard c).waiting place) ∙ sym (ap (λ (es : List Entry). slice_get es place) t.waiting) ∙ there),
+            )
 
         by_group : (group_of g (change_group shard take_committed c) ≡ group_of g c) ⊎ ((g ≡ shard) × (group_of g (change_group shard take_committed c) ≡ take_committed (group_of shard c)))
             → ((k : ℕ) × (slice_get (group_of g c).waiting k ≡ Some e)) ⊎ IsWithin c.limits e

@@ -26,6 +26,7 @@ use Rattle.hs_fold.specs.Runs.Facts.{Catalogue as Folded}
 use Rattle.hs_held.proofs.OpenLemmas.{held_new, held_opens, written_new, written_opens}
 use Rattle.hs_held.specs.Held.{GivesAddresses}
 use Rattle.hs_joint.proofs.HistoryLemmas.{history_goes, shape_few, shape_some}
+use Rattle.hs_laws.proofs.ValidLemmas.{is_from_valid}
 use Rattle.hs_laws.specs.Valid.{IsValid}
 use Rattle.hs_legal.proofs.EpochLemmas.{IsWithin, epochs_by}
 use Rattle.hs_legal.proofs.HistoryLemmas.{Likewise, from_quiet, lawful_on}
@@ -138,7 +139,7 @@ module _ (by : Judging) (shape : Shape) (taken : Taken) (moment : ℕ) where
 pub folds_valid : (name : List ℕ → Address) (core : Core) (cs : List Folded) → IsLawful name core cs → IsValid (store_with cs [])
 folds_valid name core cs its =
     subst (λ (ds : List Folded). IsValid (store_with ds [])) its.lawful.gives
-    (history_goes (setting_of name core) (shape_some (shape_of core) its.folded.valid) (shape_few (shape_of core) its.folded.valid) its.lawful.history its.lawful.fits its.lawful.records).valid
+    (is_from_valid _ (history_goes (setting_of name core) (shape_some (shape_of core) its.folded.valid) (shape_few (shape_of core) its.folded.valid) its.lawful.history its.lawful.fits its.lawful.records).valid)
 
 module _ (views : ByViews) (steps : Steps) (laws : Entries) (by : Judging) (names : GivesAddresses by.name) where
   opens_standing : (start : Store) → IsValid start → WalksOpen by.name (λ line o c. IsLineOf by c line o) (TellsItsBlock by start) (IsNobodys by) (λ c. (cs : List Folded) × IsStanding by start c cs)

@@ -26,12 +26,16 @@ ghost use Rattle.hs_model.specs.Run.{IsLegal, run};
 ghost use Rattle.hs_model.specs.Store.{Store};
 ghost use Rattle.hs_told.specs.InTurn.{MayCome, told_of};
 
-use hs_answered::{a_read_is_the_judges, a_step_that_answers_is_the_judges, a_write_is_the_judges};
-use hs_answered::{an_answer_is_the_judges, views_show_the_store};
-use hs_effects::{a_delete_is_answered_at_its_effect, a_drop_is_answered_at_its_effect};
-use hs_effects::{a_got_is_silent_or_a_sweep, an_enter_by_itself_is_told};
-use hs_effects::{a_new_block_is_answered_at_its_effect, a_present_block_is_answered_at_its_effect};
-use hs_effects::a_root_is_answered_at_its_effect;
+use hs_answered::{
+    a_read_is_the_judges, a_step_that_answers_is_the_judges, a_write_is_the_judges,
+    an_answer_is_the_judges, views_show_the_store,
+};
+use hs_effects::{
+    a_delete_is_answered_at_its_effect, a_drop_is_answered_at_its_effect,
+    a_got_is_silent_or_a_sweep, a_new_block_is_answered_at_its_effect,
+    a_present_block_is_answered_at_its_effect, a_root_is_answered_at_its_effect,
+    an_enter_by_itself_is_told,
+};
 
 /// The event of a script's line comes as its command asks, where it is new and comes with the
 /// address of its block.

@@ -1,0 +1,9 @@
+pub mod AloneLemmas
+pub mod BesideLemmas
+pub mod CommitLemmas
+pub mod GrownLemmas
+pub mod IdleLemmas
+pub mod OpenLemmas
+pub mod RecordLemmas
+pub mod ReportLemmas
+pub mod WalkLemmas

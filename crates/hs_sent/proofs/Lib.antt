@@ -1,0 +1,10 @@
+pub mod AcceptLemmas
+pub mod AtomLemmas
+pub mod CarryLemmas
+pub mod LastLemmas
+pub mod MemoryLemmas
+pub mod PoolLemmas
+pub mod SendLemmas
+pub mod TakenLemmas
+pub mod WaitLemmas
+pub mod WasLemmas
