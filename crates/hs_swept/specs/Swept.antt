@@ -1,13 +1,15 @@
 -- What a journal tells of a deletion: its sweeps, and where a run is done.
-use Rattle.std.specs.Prelude.{◌≡◌, ℕ, ◌+◌, List, take}
+use Rattle.std.specs.Prelude.{◌≡◌, ℕ, ◌+◌, List, ◌∷◌, slice_index, take}
 use Rattle.hs_answered.specs.Telling.{Judging, events_in}
+use Rattle.hs_effects.specs.Telling.{done_entries, shard_entry}
 use Rattle.hs_journal.specs.declared.entry.JournalEntry.{JournalEntry}
 use Rattle.hs_journal.specs.declared.entry.Who.TheVariants as who
 use Rattle.hs_journal.specs.Order.{IsAt}
 use Rattle.hs_laws.specs.Kept.{AllSwept, SweepIsExact}
 use Rattle.hs_model.specs.declared.deed.Deed.TheVariants as deed
 use Rattle.hs_model.specs.declared.reply.Reply.TheVariants as reply
-use Rattle.hs_model.specs.Run.{run}
+use Rattle.hs_model.specs.Inner.{sweep}
+use Rattle.hs_model.specs.Run.{run, step, sweeps}
 use Rattle.hs_model.specs.Store.{Store}
 
 -- the plain store at a place of entries: behind the entries before it
@@ -43,3 +45,14 @@ pub record AreSwept (by : Judging) (start : Store) (entries : List JournalEntry)
   pub sweeps : SweepsExactly by start entries
   pub done : (place epoch : ℕ) → EndsRun by start entries place epoch → IsDoneAt entries (place + 1) epoch
   pub only_done : (place epoch : ℕ) → IsDoneAt entries place epoch → (before : ℕ) × (place ≡ before + 1) × EndsRun by start entries before epoch
+
+-- ---- of what a journal is made
+
+-- an entry that tells neither of a sweep nor that a run is done
+pub record IsOther (e : JournalEntry) : Type 0 where
+  pub no_sweep : (shard : ℕ) → e.deed ≡ deed.Swept shard → ⊥
+  pub no_done : (epoch : ℕ) → e.reply ≡ reply.Done epoch → ⊥
+
+-- what a shard that sweeps tells, with the answer of the plain store, and directly behind it that the run is done where every shard has swept the epoch
+abbrev pub sweep_entries : Judging → Store → ℕ → ℕ → List JournalEntry
+sweep_entries by s shard moment = shard_entry shard moment (step by.limits s (sweeps shard)) ∷ done_entries moment (slice_index s.epochs shard) (sweep s shard)
