@@ -109,8 +109,7 @@ module _ (by : Judging) where
               let r : (before : ℕ) × (k.0 ≡ before + 1) × EndsRun by mid back before epoch =
               two.only_done k.0 epoch (record { entry = d.entry; at = sym (get_back front back place k.0 k.1) ∙ d.at; tells = d.tells }) in
               let here : length front + r.0 ≡ length front + r.0 = refl in
-              let next : length front + r.0 + 1 ≡ length front + (r.0 + 1) = omega arith in
-              (
+              let next : length front + r.0 + 1 ≡ length front + (r.0 + 1) = omega arith in (
                 length front + r.0,
                 omega (arith, k.1, r.1),
                 ends_same mid start back (front ++ back) r.0 (length front + r.0) epoch (get_back front back (length front + r.0) r.0 here) (back_store (length front + r.0) r.0 here) (back_store (length front + r.0 + 1) (r.0 + 1) next) r.2,
