@@ -1,5 +1,5 @@
 -- What a shard that sweeps tells, and an entry of anything else.
-use Rattle.std.proofs.Common.{◌≡◌, ◌∙◌, ◌⊎◌, ◌≢◌, inl, inr, sym, ap, subst, ℕ, zero, suc, ◌+◌, ◌<◌, ◌≤◌, Bool, true, false, List, [], ◌∷◌, Some, None, refl, length, arith, tests, slice_get, slice_index, nat_le, nat_lt, if◌then◌else◌}
+use Rattle.std.proofs.Common.{◌≡◌, ◌∙◌, ◌⊎◌, ◌≢◌, inl, inr, sym, ap, subst, ℕ, zero, suc, ◌+◌, ◌<◌, ◌≤◌, Bool, true, false, List, [], ◌∷◌, Some, refl, length, arith, tests, slice_get, slice_index, nat_le, nat_lt, if◌then◌else◌}
 use Rattle.std.proofs.lemmas.Bool.{and_from, and_parts}
 use Rattle.std.proofs.lemmas.Grind.{common_steps}
 use Rattle.std.proofs.lemmas.List.{set-get_or, set-set}
@@ -7,7 +7,7 @@ use Rattle.std.proofs.lemmas.List.Elements.{All-set}
 use Rattle.std.specs.List.{list_all}
 use Rattle.std.specs.Prelude.{All, IsTrue, slice_set}
 use Rattle.hs_answered.specs.Telling.{Judging}
-use Rattle.hs_effects.specs.Telling.{done_entries, shard_entry}
+use Rattle.hs_effects.specs.Telling.{shard_entry}
 use Rattle.hs_journal.specs.declared.entry.JournalEntry.{JournalEntry}
 use Rattle.hs_journal.specs.declared.entry.Who.TheVariants as who
 use Rattle.hs_laws.proofs.EnterLemmas.{set-at}
@@ -16,7 +16,6 @@ use Rattle.hs_laws.proofs.SweepKeeps.{MaySweep, may_sweep-gives}
 use Rattle.hs_laws.specs.Distinct.{HasDistinctAddresses}
 use Rattle.hs_laws.specs.Kept.{AllSwept, SweepIsExact}
 use Rattle.hs_laws.specs.Valid.{AreEpochsInStep, IsValid}
-use Rattle.hs_model.specs.declared.deed.Deed.{Deed}
 use Rattle.hs_model.specs.declared.deed.Deed.TheVariants as deed
 use Rattle.hs_model.specs.declared.reply.Reply.{Reply}
 use Rattle.hs_model.specs.declared.reply.Reply.TheVariants as reply
@@ -24,7 +23,7 @@ use Rattle.hs_model.specs.Inner.{may_sweep, sweep}
 use Rattle.hs_model.specs.Run.{step, sweeps}
 use Rattle.hs_model.specs.Store.{Store}
 use Rattle.hs_swept.proofs.ExactLemmas.{Blocks, Given, none_is_some, some_is, swept_by}
-use Rattle.hs_swept.specs.Swept.{AreSwept, EndsRun, IsDoneAt, IsOther, SweepsExactly, store_before, sweep_entries}
+use Rattle.hs_swept.specs.Swept.{AreSwept, EndsRun, IsDoneAt, IsOther, SweepsExactly, sweep_entries}
 
 -- ---- numbers of a list
 

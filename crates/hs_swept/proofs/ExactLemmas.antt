@@ -14,7 +14,6 @@ use Rattle.hs_limits.specs.declared.limits.Limits.{Limits}
 use Rattle.hs_model.specs.declared.deed.Deed.{Deed}
 use Rattle.hs_model.specs.declared.deed.Deed.TheVariants as deed
 use Rattle.hs_model.specs.declared.reply.Reply.{Reply}
-use Rattle.hs_model.specs.declared.reply.Reply.TheVariants as reply
 use Rattle.hs_model.specs.Inner.{sweep}
 use Rattle.hs_model.specs.Run.{Event, run, step}
 use Rattle.hs_model.specs.Store.{Store}
