@@ -16,13 +16,13 @@ use Rattle.hs_events.specs.Sane.{IsSane}
 use Rattle.hs_events.specs.Whole.{Whole, step_whole}
 use Rattle.hs_fold.specs.Runs.Facts.{Catalogue as Folded}
 use Rattle.hs_journal.specs.declared.entry.JournalEntry.{JournalEntry}
+use Rattle.hs_legal.proofs.ComingLemmas.{may_stand}
 use Rattle.hs_legal.specs.Coming.{ComesAddressed, ReportsBlocks}
 use Rattle.hs_legal.specs.Standing.{IsStanding, MayStand}
-use Rattle.hs_legal.proofs.ComingLemmas.{may_stand}
 use Rattle.hs_lines.proofs.StepLemmas.{step_ended, went}
 use Rattle.hs_model.specs.Store.{Store}
 use Rattle.hs_told.proofs.OrderLemmas.{step_turn}
-use Rattle.hs_told.specs.InTurn.{AllMayCome, IsInTurn, MayCome, told_of}
+use Rattle.hs_told.specs.InTurn.{AllMayCome, MayCome, told_of}
 
 -- what an event that may come leaves, as hs_legal has it, and what hs_moments says of a sane store
 pub record Keeping (by : Judging) (start : Store) : Type 0 where

@@ -1,12 +1,10 @@
 //! What is told of a script's lines is a legal run of the plain store, in the order of a journal.
-ghost use Rattle.std.specs.Prelude.{◌≡◌, ◌<◌, ℕ, Bool, true, List, [], None, length};
+ghost use Rattle.std.specs.Prelude.{◌≡◌, ◌<◌, ℕ, Bool, true, List, [], length};
 ghost use Rattle.hs_answered.specs.Standing.{store_with};
-ghost use Rattle.hs_answered.specs.Telling.{Judging};
 ghost use Rattle.hs_answers.specs.Answered.{AreAnswers, IsAskedAlong, IsReady, judging_of, steps_whole};
-ghost use Rattle.hs_core.specs.Opening.{open_core};
 ghost use Rattle.hs_events.specs.Course.{steps};
 ghost use Rattle.hs_events.specs.Due.{Events, MomentsRise, is_walk, next_due};
-ghost use Rattle.hs_events.specs.Found.{Found, first_core, opened_list, opens_with};
+ghost use Rattle.hs_events.specs.Found.{Found, opened_list, opens_with};
 ghost use Rattle.hs_events.specs.Sane.{IsFromOne};
 ghost use Rattle.hs_events.specs.Taken.{peer_count};
 ghost use Rattle.hs_events.specs.Whole.{Whole, open_whole};

@@ -1,4 +1,4 @@
-use Rattle.std.proofs.Common.{◌≡◌, sym, subst, ℕ, List, []}
+use Rattle.std.proofs.Common.{sym, subst, List, []}
 use Rattle.hs_answered.specs.Standing.{store_with}
 use Rattle.hs_answered.specs.Telling.{Judging}
 use Rattle.hs_answers.proofs.AddressedLemmas.{lines_addressed, settle_addressed}
@@ -7,7 +7,6 @@ use Rattle.hs_answers.proofs.ReadyLemmas.{Keeping, all_ready, are_answers, core_
 use Rattle.hs_answers.specs.Answered.{AreAnswers, IsReady, judging_of, steps_whole}
 use Rattle.hs_core.specs.State.{Core}
 use Rattle.hs_events.specs.Found.{first_core, opens_with}
-use Rattle.hs_events.specs.Whole.{open_whole}
 use Rattle.hs_fold.specs.Runs.Facts.{Catalogue as Folded}
 use Rattle.hs_legal.specs.Standing.{IsStanding}
 use Rattle.hs_lines.specs.Script.{IsNext, all_events}
@@ -32,9 +31,9 @@ returns-clause-opening c = λ s limits start whole done es to names valid ready 
       sane = λ d e moment sane going. c.what_is_sane_stays_so.ensures d e moment sane going;
     } in (
       all_ready by start keeping whole es ready
-      (c.a_scripts_events_may_come.ensures.opening s.commands done whole.core es to none zero rise walks)
-      (c.a_scripts_lines_are_new.ensures.opening s.name done whole.core es walks)
-      (settle_addressed by done 0 whole.core es walks) along,
+          (c.a_scripts_events_may_come.ensures.opening s.commands done whole.core es to none zero rise walks)
+          (c.a_scripts_lines_are_new.ensures.opening s.name done whole.core es walks)
+          (settle_addressed by done 0 whole.core es walks) along,
       subst (λ (d : Core). IsNext s.commands d 1) (sym (core_behind whole es)) (c.a_scripts_events_may_come.ensures.first s.commands done whole.core es none zero walks),
     )
 
