@@ -33,7 +33,8 @@ use hs_told::answers_stay_in_order;
 /// entry, with its answers, in the order of a journal; so it is behind the lines (`answers`).
 pub fn a_script_is_answered()
     ensures opens { (s : Script) (set : Setting) (found : Found) (cs : List Folded)
-        → set.shape.copies ≡ 1 → ((shard : ℕ) → shard < set.shape.shards → IsFromOne (opened_list set found shard))
+        → set.shape.copies ≡ 1
+        → ((shard : ℕ) → shard < set.shape.shards → IsFromOne (opened_list set found shard))
         → length found.good ≡ peer_count set.shape → client_op (s.commands 0) ≡ None
         → GivesAddresses s.name
         → MayOpen (judging_of s set.limits) set.shape (opens_with set found) found.opened cs →
