@@ -1,4 +1,4 @@
-use Rattle.hs_sent.proofs.AtomLemmas.{sent_again, sent_beside, sent_due, sent_effect, sent_goes, sent_line, sent_new, sent_opens, sent_round, sent_told}
+use Rattle.hs_sent.proofs.AtomLemmas.{sent_again, sent_beside, sent_downed, sent_due, sent_effect, sent_goes, sent_line, sent_new, sent_opens, sent_refused, sent_round, sent_told}
 use Rattle.hs_sent.proofs.kept.what_was_sent_is_kept.Goals as goal
 
 pub returns-clause-opened : goal.returns-clause-opened
@@ -9,6 +9,12 @@ returns-clause-view c = λ name history core shard sent. sent_opens name history
 
 pub returns-clause-beside : goal.returns-clause-beside
 returns-clause-beside c = λ name history a b sent same. sent_beside name history a b sent same
+
+pub returns-clause-downed : goal.returns-clause-downed
+returns-clause-downed c = λ name history core peer line sent. sent_downed name history core sent peer line
+
+pub returns-clause-refused : goal.returns-clause-refused
+returns-clause-refused c = λ name history core line refusal sent. sent_refused name history core sent line refusal
 
 pub returns-clause-line : goal.returns-clause-line
 returns-clause-line c = λ name history core line o sent called. sent_line name history core sent line o called

@@ -1,0 +1,2 @@
+pub mod AddressedLemmas
+pub mod ReadyLemmas

@@ -1,0 +1,10 @@
+pub mod AllLemmas
+pub mod AnswerLemmas
+pub mod CatalogueLemmas
+pub mod GainLemmas
+pub mod HandleLemmas
+pub mod HeldLemmas
+pub mod LineLemmas
+pub mod OpenLemmas
+pub mod ToldLemmas
+pub mod WrittenLemmas

@@ -1,0 +1,17 @@
+pub mod AskedLemmas
+pub mod ComingLemmas
+pub mod CommandLemmas
+pub mod EffectLemmas
+pub mod EpochLemmas
+pub mod EventLemmas
+pub mod HistoryLemmas
+pub mod Laws
+pub mod LineLemmas
+pub mod MuteLemmas
+pub mod OpenLemmas
+pub mod OrderLemmas
+pub mod SameLemmas
+pub mod SayLemmas
+pub mod StandingLemmas
+pub mod StepLemmas
+pub mod TellLemmas

@@ -1,0 +1,10 @@
+pub mod AskLemmas
+pub mod EnterLemmas
+pub mod FollowLemmas
+pub mod GroundLemmas
+pub mod HeldLemmas
+pub mod ListLemmas
+pub mod OpenLemmas
+pub mod RestLemmas
+pub mod StoredLemmas
+pub mod ValidLemmas

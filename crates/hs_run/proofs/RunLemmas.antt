@@ -1,0 +1,318 @@
+-- What is said of a run that came to its end, from its opening on.
+use Rattle.std.proofs.Common.{◌≡◌, ◌⊎◌, inl, inr, ◌∙◌, ap, sym, subst, ℕ, ◌≤◌, Bool, true, false, List, [], ◌∷◌, ◌++◌, Option, Some, None, Result, Ok, Err, refl, arith, length}
+use Rattle.std.proofs.lemmas.Bool.{true≢false}
+use Rattle.std.proofs.lemmas.List.Elements.{All-nil}
+use Rattle.std.specs.Prelude.{IfErr, IfSome, if◌then◌else◌, is_ok, ⊤}
+use Rattle.hs_cluster.specs.Begins.{IsClosed}
+use Rattle.hs_cluster.specs.Calls.{outcome_by}
+use Rattle.hs_cluster.specs.declared.fault.ClusterFault.{ClusterFault}
+use Rattle.hs_cluster.specs.declared.fault.ClusterFault.TheVariants as cluster
+use Rattle.hs_cluster.specs.Disks.{DiskSeen}
+use Rattle.hs_cluster.specs.Running.{Running}
+use Rattle.hs_events.specs.Due.{Events}
+use Rattle.hs_journal.specs.declared.entry.JournalEntry.{JournalEntry}
+use Rattle.hs_limits.specs.declared.address.Address.{Address}
+use Rattle.hs_limits.specs.declared.shape.Shape.{Shape}
+use Rattle.hs_model.specs.declared.command.Command.{Command}
+use Rattle.hs_ports.specs.Objects.{KeepsTime, Objects}
+use Rattle.hs_ports.specs.Putting.{IsPut, PutsFront}
+use Rattle.hs_ports.specs.Sink.{bytes_of, followed}
+use Rattle.hs_ports.specs.Source.{before}
+use Rattle.hs_promise.specs.declared.status.Status.{Status}
+use Rattle.hs_promise.specs.declared.status.Status.TheVariants as status
+use Rattle.hs_promise.specs.Ending.{Ending, ending_of}
+use Rattle.hs_promise.specs.Ends.{Ends, HasEnded}
+use Rattle.hs_promise.specs.Found.{HasFound}
+use Rattle.hs_promise.specs.Run.{Ran}
+use Rattle.hs_script.specs.Lines.{lines_of}
+use Rattle.hs_script.specs.Reading.{commands, commands_of}
+use Rattle.hs_script.specs.Text.{text}
+use Rattle.hs_side.specs.declared.header.Header.{Header}
+use Rattle.hs_run.specs.declared.stop.Stop.{Stop}
+use Rattle.hs_run.specs.declared.stop.Stop.TheVariants as stop
+use Rattle.hs_run.specs.Between.{Point}
+use Rattle.hs_run.specs.Causes.{EndsBy, StopCause}
+use Rattle.hs_run.specs.Ended.{ran_at, refused_in}
+use Rattle.hs_run.specs.Going.{AreRead, Begun, Between, HasRun, IsBehind, IsBetween, IsPrinted, IsPutSoFar, Opened, Unopened, Within, script_by, story_of}
+use Rattle.hs_run.specs.Machine.{Goes, IsOfCluster}
+use Rattle.hs_run.specs.OneLine.{IsOpeningPut, Printing, RunsCommand, Stretch}
+use Rattle.hs_run.specs.Puts.{Puts}
+use Rattle.hs_run.specs.Served.{HasCauses, PrintsText}
+use Rattle.hs_run.specs.Stopping.{IsPutStop, end_of, of_cluster, status_of}
+use Rattle.hs_run.proofs.EndingLemmas.{none_bad}
+use Rattle.hs_run.proofs.EndsLemmas.{IsWithin, end_within}
+use Rattle.hs_run.proofs.PassedLemmas.{answered_more, put_so_far, put_whole}
+use Rattle.hs_run.proofs.PrintedLemmas.{printed_more, printed_none, put_more_so_far}
+use Rattle.hs_run.proofs.ReadLemmas.{read_untold}
+use Rattle.hs_run.proofs.WentLemmas.{IsPlain, goes_between, goes_unopened, goes_within}
+
+-- ---- the commands of a script, or those of the lines that were read
+
+abbrev pub chosen : Option (List ℕ) → List (List ℕ) → ℕ → Option Command
+chosen None read = commands_of read
+chosen (Some told) read = commands told
+
+pub chosen_told : (script : Option (List ℕ)) (read : List (List ℕ)) → IfSome script (λ told. (n : ℕ) → chosen script read n ≡ commands told n)
+chosen_told None read = tt
+chosen_told (Some told) read = λ n. refl
+
+chosen_read : (script : Option (List ℕ)) (read : List (List ℕ)) → IfSome script (λ told. AreRead (commands told) read) → AreRead (chosen script read) read
+chosen_read None read said = read_untold read
+chosen_read (Some told) read said = said
+
+-- ---- by how it stopped
+
+plain_between : (result : Result ⊤ Stop) (line : ℕ) → IsBetween result → IsPlain (ending_of (status_of result line))
+plain_between (Ok x) line h = record { opened = refl; empty = refl; none = refl }
+plain_between (Err (stop.WrongShape peer found)) line h = absurd h
+plain_between (Err (stop.ShardLost shard)) line h = absurd h
+plain_between (Err stop.BadLine) line h = record { opened = refl; empty = refl; none = refl }
+plain_between (Err stop.ReadFault) line h = record { opened = refl; empty = refl; none = refl }
+plain_between (Err stop.WriteFault) line h = absurd h
+plain_between (Err stop.NoMemory) line h = record { opened = refl; empty = refl; none = refl }
+plain_between (Err stop.OpsFull) line h = absurd h
+plain_between (Err stop.InputFull) line h = record { opened = refl; empty = refl; none = refl }
+
+within_of : (tells : Type 0) (name : List ℕ → Address) (asked : Command) (part : Stretch) → is_ok part.result ≡ false → RunsCommand tells name asked part → IsWithin part.result
+within_of tells name asked part cut runs = subst (λ (r : Result ⊤ Stop). IsWithin r) (sym runs.ended)
+    (end_within runs.did runs.put part.new.cluster.core.ended runs.runs.does.outcome runs.only (ap (λ (r : Result ⊤ Stop). is_ok r) (sym runs.ended) ∙ cut))
+
+opening_within : (running : Running) (part : Printing) (result : Result ⊤ Stop) → is_ok result ≡ false → IsOpeningPut running part result → IsWithin result
+opening_within running part result cut put = subst (λ (r : Result ⊤ Stop). IsWithin r) (sym put.ended)
+    (end_within (outcome_by running.core.ended) put.put running.core.ended (λ h. refl) put.only (ap (λ (r : Result ⊤ Stop). is_ok r) (sym put.ended) ∙ cut))
+
+-- ---- it is the machine's
+
+-- whatever was asked, this is what opening found
+abbrev pub FoundBy : Begun → Type 0
+FoundBy b = (commands : ℕ → Option Command) (r : Ran) (lines : List Events) → r.old.moment ≡ b.old.moment → HasFound (script_by b commands) r (story_of b lines)
+
+pub goes_run : (tells : Type 0) (name : List ℕ → Address) (b : Begun) (part : Stretch) (new : Objects) → b.set.name ≡ name → IsBehind b [] part.old → FoundBy b → part.new.now ≡ new.moment → part.new.got ≡ new.got
+    → HasRun tells name b b.old.left part → (commands : ℕ → Option Command) × IsOfCluster (script_by b commands) (ran_at (status_of part.result part.new.line) part.new.line (Some part.new.cluster) b.old new)
+goes_run tells name b part new named behind found now got (Unopened put cut same zero) = (
+  chosen b.old.left [],
+  record {
+    script = chosen_told b.old.left [];
+    how = Some (story_of b []);
+    went = subst (λ (c : Running). Goes (script_by b (chosen b.old.left [])) (ran_at (status_of part.result part.new.line) part.new.line (Some c) b.old new) (story_of b [])) (sym same)
+        (goes_unopened b part.old part.result part.new.line new (record { before = part.old.now; now = part.new.now; old = part.old.got; new = part.new.got }) (chosen b.old.left []) behind (let there = now in let later = put.puts.late.later in omega (arith, later, there)) zero cut put
+        (found (chosen b.old.left []) (ran_at (status_of part.result part.new.line) part.new.line (Some part.old.cluster) b.old new) [] refl));
+  },
+)
+goes_run tells name b part new named behind found now got (Opened mid opened (Between so_far stops)) = (
+  chosen b.old.left so_far.read,
+  record {
+    script = chosen_told b.old.left so_far.read;
+    how = Some (story_of b so_far.lines);
+    went = goes_between b so_far.read so_far.lines part.new (status_of part.result part.new.line) new (chosen b.old.left so_far.read) now got so_far.gone (chosen_read b.old.left so_far.read so_far.said)
+        (found (chosen b.old.left so_far.read) (ran_at (status_of part.result part.new.line) part.new.line (Some part.new.cluster) b.old new) so_far.lines refl) (plain_between part.result part.new.line stops);
+  },
+)
+goes_run tells name b part new named behind found now got (Opened mid opened (Within at read lines line asked gone said says_so cut runs)) = (
+  chosen b.old.left (read ++ line ∷ []),
+  record {
+    script = chosen_told b.old.left (read ++ line ∷ []);
+    how = Some (story_of b (lines ++ runs.runs.events ∷ []));
+    went = goes_within tells name b read lines at part.new line asked part.result named gone says_so cut runs (within_of tells name asked (record { old = at; new = part.new; result = part.result }) cut runs)
+        new (chosen b.old.left (read ++ line ∷ [])) now got (chosen_read b.old.left (read ++ line ∷ []) said)
+        (found (chosen b.old.left (read ++ line ∷ [])) (ran_at (status_of part.result part.new.line) part.new.line (Some part.new.cluster) b.old new) (lines ++ runs.runs.events ∷ []) refl);
+  },
+)
+
+-- ---- what it printed
+
+-- within the limit, and printed so far; whole, where nothing else is said
+pub record HasPrinted (limit : ℕ) (old new : Objects) (journal : List JournalEntry) (ending : Ending) : Type 0 where
+  pub fits : length journal ≤ limit
+  pub so_far : IsPutSoFar old new.moment new.got journal
+  pub whole : ending.short ≡ false → bytes_of new.got ≡ followed (bytes_of old.got) (text journal)
+
+short_put : (did : Result ⊤ ClusterFault) (put : Result ⊤ Stop) (line : ℕ) → IfErr put IsPutStop → (ending_of (status_of (end_of did put) line)).short ≡ false → put ≡ Ok tt
+short_put did (Ok x) line only h = refl
+short_put did (Err (stop.WrongShape peer found)) line only h = absurd only
+short_put did (Err (stop.ShardLost shard)) line only h = absurd only
+short_put did (Err stop.BadLine) line only h = absurd only
+short_put did (Err stop.ReadFault) line only h = absurd only
+short_put did (Err stop.WriteFault) line only h = absurd (true≢false h)
+short_put did (Err stop.NoMemory) line only h = absurd (true≢false h)
+short_put did (Err stop.OpsFull) line only h = absurd only
+short_put did (Err stop.InputFull) line only h = absurd only
+
+-- what opening answered
+module _ (b : Begun) (at : Point) (now : ℕ) (got : Option (List (ℕ × ℕ))) (put : Result ⊤ Stop) (behind : IsBehind b [] at) (since : b.old.moment ≤ at.now) (puts : Puts at.now now (text at.cluster.core.journal) b.old.got got put) where
+  opening_so_far : IsPutSoFar b.old now got at.cluster.core.journal
+  opening_so_far = put_more_so_far b.old b.old.moment at.now now b.old.got got [] at.cluster.core.journal (omega arith) since (All-nil (λ (entry : JournalEntry). entry.moment ≤ b.old.moment)) behind.answered.dated (printed_none b.old) put puts
+
+  pub opening_printed : put ≡ Ok tt → IsPrinted b.old now got at.cluster.core.journal
+  opening_printed is = printed_more b.old b.old.moment at.now now b.old.got got [] at.cluster.core.journal (omega arith) since (All-nil (λ (entry : JournalEntry). entry.moment ≤ b.old.moment)) behind.answered.dated (printed_none b.old)
+      (subst (λ (r : Result ⊤ Stop). Puts at.now now (text at.cluster.core.journal) b.old.got got r) is puts)
+
+pub printed_run : (tells : Type 0) (name : List ℕ → Address) (b : Begun) (part : Stretch) (new : Objects) → IsBehind b [] part.old → b.old.moment ≤ part.old.now → part.old.got ≡ b.old.got → part.new.now ≡ new.moment → part.new.got ≡ new.got
+    → HasRun tells name b b.old.left part → HasPrinted b.set.limits.ops b.old new part.new.cluster.core.journal (ending_of (status_of part.result part.new.line))
+printed_run tells name b part new behind since was now got (Unopened put cut same zero) = record {
+  fits = subst (λ (c : Running). length c.core.journal ≤ b.set.limits.ops) (sym same) behind.answered.fits;
+  so_far = subst (λ (c : Running). IsPutSoFar b.old new.moment new.got c.core.journal) (sym same) (as_new (opening_so_far b part.old part.new.now part.new.got put.put behind since puts));
+  whole = λ short. sym_got (subst (λ (c : Running). IsPrinted b.old part.new.now part.new.got c.core.journal) (sym same) (opening_printed b part.old part.new.now part.new.got put.put behind since puts (short_put (outcome_by part.old.cluster.core.ended) put.put part.new.line put.only
+      (ap (λ (r : Result ⊤ Stop). (ending_of (status_of r part.new.line)).short) (sym put.ended) ∙ short)))).put;
+}
+  where
+    puts : Puts part.old.now part.new.now (text part.old.cluster.core.journal) b.old.got part.new.got put.put
+    puts = subst (λ (g : Option (List (ℕ × ℕ))). Puts part.old.now part.new.now (text part.old.cluster.core.journal) g part.new.got put.put) was put.puts
+
+    as_new : IsPutSoFar b.old part.new.now part.new.got part.old.cluster.core.journal → IsPutSoFar b.old new.moment new.got part.old.cluster.core.journal
+    as_new h = subst (λ (g : Option (List (ℕ × ℕ))). IsPutSoFar b.old new.moment g part.old.cluster.core.journal) got (subst (λ (n : ℕ). IsPutSoFar b.old n part.new.got part.old.cluster.core.journal) now h)
+
+    sym_got : bytes_of part.new.got ≡ followed (bytes_of b.old.got) (text part.new.cluster.core.journal) → bytes_of new.got ≡ followed (bytes_of b.old.got) (text part.new.cluster.core.journal)
+    sym_got h = ap bytes_of (sym got) ∙ h
+printed_run tells name b part new behind since was now got (Opened mid opened (Between so_far stops)) = record {
+  fits = so_far.gone.behind.answered.fits;
+  so_far = subst (λ (g : Option (List (ℕ × ℕ))). IsPutSoFar b.old new.moment g part.new.cluster.core.journal) got (subst (λ (n : ℕ). IsPutSoFar b.old n part.new.got part.new.cluster.core.journal) now so_far.gone.printed.so_far);
+  whole = λ short. ap bytes_of (sym got) ∙ so_far.gone.printed.put;
+}
+printed_run tells name b part new behind since was now got (Opened mid opened (Within at read lines line asked gone said says_so cut runs)) = record {
+  fits = subst (λ (j : List JournalEntry). length j ≤ b.set.limits.ops) (sym runs.runs.does.journal) (answered_more b read lines at runs.runs.events runs.mid part.new gone runs.runs.rises runs.runs.does.journal runs.put runs.puts).fits;
+  so_far = subst (λ (g : Option (List (ℕ × ℕ))). IsPutSoFar b.old new.moment g part.new.cluster.core.journal) got (subst (λ (n : ℕ). IsPutSoFar b.old n part.new.got part.new.cluster.core.journal) now
+      (put_so_far b read lines at runs.runs.events runs.mid part.new gone runs.runs.rises runs.runs.does.journal runs.put runs.puts));
+  whole = λ short. ap bytes_of (sym got) ∙ (put_whole b read lines at runs.runs.events runs.mid part.new gone runs.runs.rises runs.runs.does.journal runs.put runs.puts
+      (short_put runs.did runs.put part.new.line runs.only (ap (λ (r : Result ⊤ Stop). (ending_of (status_of r part.new.line)).short) (sym runs.ended) ∙ short))).put;
+}
+
+pub put_by : (short : Bool) (old : Option (List ℕ)) (bytes : List ℕ) (new : Option (List ℕ)) → PutsFront old bytes new → (short ≡ false → new ≡ followed old bytes) → IsPut short old bytes new
+put_by true old bytes new front whole = front
+put_by false old bytes new front whole = whole refl
+
+pub prints_run : (b : Begun) (commands : ℕ → Option Command) (ending : Status) (line : ℕ) (running : Running) (new : Objects) → HasPrinted b.set.limits.ops b.old new running.core.journal (ending_of ending)
+    → PrintsText (script_by b commands) (ran_at ending line (Some running) b.old new)
+prints_run b commands ending line running new h = record {
+  fits = h.fits;
+  printed = put_by (ending_of ending).short (bytes_of b.old.got) (text running.core.journal) (bytes_of new.got) h.so_far.front h.whole;
+  in_time = λ m behind during. h.so_far.in_time m behind during.above during.early;
+}
+
+pub time_run : (old new : Objects) (journal : List JournalEntry) → old.moment ≤ new.moment → IsPutSoFar old new.moment new.got journal → KeepsTime old new
+time_run old new journal later h = record { later = later; puts = record { more = h.stamped.more; put = h.stamped.put; stamped = h.stamped.stamped } }
+
+-- ---- its causes
+
+refused_none : (ending : Status) (running : Option Running) → (ending_of ending).full ≡ false → refused_in ending running ≡ []
+refused_none ending None h = refl
+refused_none ending (Some running) h = ap (λ (full : Bool). if full then running.core.refused else []) h
+
+read_stop : (result : Result ⊤ Stop) (line : ℕ) → status_of result line ≡ status.ReadFault → result ≡ Err stop.ReadFault
+read_stop (Ok x) line is = absurd cc
+read_stop (Err (stop.WrongShape peer found)) line is = absurd cc
+read_stop (Err (stop.ShardLost shard)) line is = absurd cc
+read_stop (Err stop.BadLine) line is = absurd cc
+read_stop (Err stop.ReadFault) line is = refl
+read_stop (Err stop.WriteFault) line is = absurd cc
+read_stop (Err stop.NoMemory) line is = absurd cc
+read_stop (Err stop.OpsFull) line is = absurd cc
+read_stop (Err stop.InputFull) line is = absurd cc
+
+write_stop : (result : Result ⊤ Stop) (line : ℕ) → status_of result line ≡ status.WriteFault → result ≡ Err stop.WriteFault
+write_stop (Ok x) line is = absurd cc
+write_stop (Err (stop.WrongShape peer found)) line is = absurd cc
+write_stop (Err (stop.ShardLost shard)) line is = absurd cc
+write_stop (Err stop.BadLine) line is = absurd cc
+write_stop (Err stop.ReadFault) line is = absurd cc
+write_stop (Err stop.WriteFault) line is = refl
+write_stop (Err stop.NoMemory) line is = absurd cc
+write_stop (Err stop.OpsFull) line is = absurd cc
+write_stop (Err stop.InputFull) line is = absurd cc
+
+-- a run of a core finds no disk of another store
+within_shape : (result : Result ⊤ Stop) (line peer : ℕ) (found : Header) → IsWithin result → status_of result line ≡ status.WrongShape peer found → ⊥
+within_shape (Ok x) line peer found h is = h
+within_shape (Err (stop.WrongShape p f)) line peer found h is = h
+within_shape (Err (stop.ShardLost shard)) line peer found h is = cc
+within_shape (Err stop.BadLine) line peer found h is = h
+within_shape (Err stop.ReadFault) line peer found h is = h
+within_shape (Err stop.WriteFault) line peer found h is = cc
+within_shape (Err stop.NoMemory) line peer found h is = cc
+within_shape (Err stop.OpsFull) line peer found h is = cc
+within_shape (Err stop.InputFull) line peer found h is = h
+
+between_shape : (result : Result ⊤ Stop) (line peer : ℕ) (found : Header) → IsBetween result → status_of result line ≡ status.WrongShape peer found → ⊥
+between_shape (Ok x) line peer found h is = cc
+between_shape (Err (stop.WrongShape p f)) line peer found h is = h
+between_shape (Err (stop.ShardLost shard)) line peer found h is = h
+between_shape (Err stop.BadLine) line peer found h is = cc
+between_shape (Err stop.ReadFault) line peer found h is = cc
+between_shape (Err stop.WriteFault) line peer found h is = h
+between_shape (Err stop.NoMemory) line peer found h is = cc
+between_shape (Err stop.OpsFull) line peer found h is = h
+between_shape (Err stop.InputFull) line peer found h is = cc
+
+pub run_shape : (tells : Type 0) (name : List ℕ → Address) (b : Begun) (script : Option (List ℕ)) (part : Stretch) (peer : ℕ) (found : Header) → HasRun tells name b script part → status_of part.result part.new.line ≡ status.WrongShape peer found → ⊥
+run_shape tells name b script part peer found (Unopened put cut same zero) is = within_shape part.result part.new.line peer found (opening_within part.old.cluster (record { before = part.old.now; now = part.new.now; old = part.old.got; new = part.new.got }) part.result cut put) is
+run_shape tells name b script part peer found (Opened mid opened (Between so_far stops)) is = between_shape part.result part.new.line peer found stops is
+run_shape tells name b script part peer found (Opened mid opened (Within at read lines line asked gone said says_so cut runs)) is =
+    within_shape part.result part.new.line peer found (within_of tells name asked (record { old = at; new = part.new; result = part.result }) cut runs) is
+
+pub causes_run : (result : Result ⊤ Stop) (line : ℕ) (running : Running) (old new : Objects) → StopCause old.source_faults new.source_faults old.sink_faults new.sink_faults result
+    → ((peer : ℕ) (found : Header) → status_of result line ≡ status.WrongShape peer found → ⊥) → HasCauses (ran_at (status_of result line) line (Some running) old new)
+causes_run result line running old new cause shape = record {
+  refused = refused_none (status_of result line) (Some running);
+  read = λ is. cause.read (read_stop result line is);
+  write = λ is. cause.write (write_stop result line is);
+  shape = λ peer found is. absurd (shape peer found is);
+}
+
+-- ---- in its script
+
+some_list : (x y : List ℕ) → Some x ≡ Some y → x ≡ y
+some_list x y e = cc
+
+pub ends_run : (result : Result ⊤ Stop) (line : ℕ) (running : Option Running) (old new : Objects) (script : List ℕ) → EndsBy script new.left result line → IfSome new.left (Ends (ran_at (status_of result line) line running old new) script)
+ends_run result line running old new script h = go new.left h.parted h.cause
+  where
+    go : (left : Option (List ℕ)) → before h.taken left ≡ Some script → IfSome left (HasEnded (status_of result line) (lines_of script) line h.taken) → IfSome left (Ends (ran_at (status_of result line) line running old new) script)
+    go None parted cause = tt
+    go (Some rest) parted cause = record { taken = h.taken; parted = some_list (h.taken ++ rest) script parted; good = h.good; within = h.within; cause = cause }
+
+-- ---- no core was opened
+
+pub closed_ends : (tells : Type 0) (shape : Shape) (disks left : List DiskSeen) (fault : ClusterFault) → IsClosed tells shape disks left fault
+    → ((ending_of (status_of (Err (of_cluster fault)) 0)).closed ≡ true) ⊎ ((ending_of (status_of (Err (of_cluster fault)) 0)).wanting ≡ true)
+closed_ends tells shape disks left (cluster.WrongShape peer found) h = inl refl
+closed_ends tells shape disks left (cluster.ShardLost shard) h = absurd h
+closed_ends tells shape disks left cluster.OpsFull h = absurd h
+closed_ends tells shape disks left cluster.NoMemory h = inr refl
+
+closed_ended : (tells : Type 0) (shape : Shape) (disks left : List DiskSeen) (fault : ClusterFault) (lines : List (List ℕ)) (rest : List ℕ) → IsClosed tells shape disks left fault → HasEnded (status_of (Err (of_cluster fault)) 0) lines 0 [] rest
+closed_ended tells shape disks left (cluster.WrongShape peer found) lines rest h = (refl, refl)
+closed_ended tells shape disks left (cluster.ShardLost shard) lines rest h = absurd h
+closed_ended tells shape disks left cluster.OpsFull lines rest h = absurd h
+closed_ended tells shape disks left cluster.NoMemory lines rest h = omega arith
+
+pub closed_by : (tells : Type 0) (shape : Shape) (disks left : List DiskSeen) (fault : ClusterFault) (old new : Objects) (script : List ℕ) → IsClosed tells shape disks left fault → new.left ≡ old.left → old.left ≡ Some script
+    → IfSome new.left (Ends (ran_at (status_of (Err (of_cluster fault)) 0) 0 None old new) script)
+closed_by tells shape disks left fault old new script closed same told = go new.left (same ∙ told)
+  where
+    go : (o : Option (List ℕ)) → o ≡ Some script → IfSome o (Ends (ran_at (status_of (Err (of_cluster fault)) 0) 0 None old new) script)
+    go None is = tt
+    go (Some rest) is = record {
+      taken = [];
+      parted = some_list rest script is;
+      good = λ n low bad. none_bad (lines_of script) n bad.line low bad.at;
+      within = omega arith;
+      cause = closed_ended tells shape disks left fault (lines_of script) rest closed;
+    }
+
+pub closed_causes : (tells : Type 0) (shape : Shape) (disks left : List DiskSeen) (fault : ClusterFault) (old new : Objects) → IsClosed tells shape disks left fault → HasCauses (ran_at (status_of (Err (of_cluster fault)) 0) 0 None old new)
+closed_causes tells shape disks left (cluster.WrongShape peer found) old new h = record { refused = λ none. refl; read = λ is. absurd (not_read peer found is); write = λ is. absurd (not_write peer found is); shape = λ p f is. refl }
+  where
+    not_read : (p : ℕ) (f : Header) → status.WrongShape p f ≡ status.ReadFault → ⊥
+    not_read p f e = cc
+
+    not_write : (p : ℕ) (f : Header) → status.WrongShape p f ≡ status.WriteFault → ⊥
+    not_write p f e = cc
+closed_causes tells shape disks left (cluster.ShardLost shard) old new h = absurd h
+closed_causes tells shape disks left cluster.OpsFull old new h = absurd h
+closed_causes tells shape disks left cluster.NoMemory old new h = record { refused = λ none. refl; read = λ is. absurd (not_read is); write = λ is. absurd (not_write is); shape = λ p f is. refl }
+  where
+    not_read : status.NoMemory ≡ status.ReadFault → ⊥
+    not_read e = cc
+
+    not_write : status.NoMemory ≡ status.WriteFault → ⊥
+    not_write e = cc

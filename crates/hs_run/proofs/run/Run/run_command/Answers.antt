@@ -1,0 +1,62 @@
+use Rattle.std.proofs.Common.{◌∙◌, ◌+◌, ap, sym, refl, arith, length, map}
+use Rattle.std.proofs.lemmas.List.{length-map}
+use Rattle.hs_cluster.specs.Disks.{DiskSeen, seen_as}
+use Rattle.hs_run.specs.Between.{Point}
+use Rattle.hs_run.specs.OneLine.{RunsCommand}
+use Rattle.hs_run.proofs.PutsLemmas.{ended_printed}
+use Rattle.hs_run.proofs.ReadyLemmas.{command_ready, journal_grows}
+use Rattle.hs_run.proofs.run.Run.run_command.Goals as goal
+
+pub run-did-requires : goal.run-did-requires
+run-did-requires g c =
+    let f : g.row.D.Denot → DiskSeen = λ disk. seen_as (g.D.Disk.size disk) (g.D.Disk.stands disk) (g.D.Disk.faults disk) in
+    let last = c.requires.ready.last in
+    record {
+      line = omega (arith, last);
+      moment = c.requires.ready.moment;
+      count = sym (length-map c.args.disks.now f) ∙ c.requires.ready.count;
+      ready = c.requires.ready.ready;
+    }
+
+pub print-put-requires : goal.print-put-requires
+print-put-requires g c =
+    let runs = c.run-did.ensures.runs c.requires.ready.going c.requires.served in
+    let grows = journal_grows c.args.self.now.cluster.core runs.events in
+    let same = ap length runs.does.journal in
+    let printed = c.requires.printed in
+    omega (arith, grows, same, printed)
+
+pub returns-clause-runs : goal.returns-clause-runs
+returns-clause-runs g c = record {
+  mid = c.run-did.new.watch;
+  did = c.run-did.result;
+  put = c.print-put.result;
+  served = c.requires.served;
+  line = refl;
+  runs = c.run-did.ensures.runs c.requires.ready.going c.requires.served;
+  puts = rw c.requires.printed at c.print-put.ensures.puts;
+  only = c.print-put.ensures.only;
+  ended = c.end_of.ensures;
+}
+
+pub returns-clause-ready : goal.returns-clause-ready
+returns-clause-ready g c =
+    let f : g.row.D.Denot → DiskSeen = λ disk. seen_as (g.D.Disk.size disk) (g.D.Disk.stands disk) (g.D.Disk.faults disk) in
+    let old : Point = record { now = c.args.watch.now; cluster = c.args.self.now.cluster; disks = map f c.args.disks.now; got = g.K.Sink.got c.args.sink.now; line = c.args.self.now.line } in
+    let new : Point = record { now = c.print-put.new.watch; cluster = c.run-did.new.self; disks = map f c.run-did.new.disks; got = g.K.Sink.got c.print-put.new.sink; line = c.args.self.now.line + 1 } in
+    let runs : RunsCommand g.D.Disk.tells (g.A.Addresser.name c.args.naming.now) c.args.command (record { old = old; new = new; result = c.end_of.result }) = record {
+      mid = c.run-did.new.watch;
+      did = c.run-did.result;
+      put = c.print-put.result;
+      served = c.requires.served;
+      line = refl;
+      runs = c.run-did.ensures.runs c.requires.ready.going c.requires.served;
+      puts = rw c.requires.printed at c.print-put.ensures.puts;
+      only = c.print-put.ensures.only;
+      ended = c.end_of.ensures;
+    } in
+    command_ready g.D.Disk.tells (g.A.Addresser.name c.args.naming.now) c.args.command old new c.end_of.result c.requires.ready runs c.run-did.ensures.ready c.run-did.ensures.moment c.run-did.ensures.shape
+    (length-map c.run-did.new.disks f ∙ c.run-did.ensures.count ∙ sym (length-map c.args.disks.now f))
+
+pub returns-clause-printed : goal.returns-clause-printed
+returns-clause-printed g c = ended_printed c.run-did.result c.print-put.result _ _ c.end_of.ensures c.print-put.ensures.printed

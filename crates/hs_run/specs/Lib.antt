@@ -1,0 +1,14 @@
+pub mod Between
+pub mod Causes
+pub mod Ended
+pub mod Faults
+pub mod Going
+pub mod Lines
+pub mod Machine
+pub mod OneLine
+pub mod Puts
+pub mod Reader
+pub mod Reading
+pub mod Served
+pub mod Stopping
+pub mod Words

@@ -1,0 +1,66 @@
+//! A run of a script on the disks of a store, as the words of its command line ask.
+ghost use Rattle.std.specs.Prelude.{◌≡◌, ℕ, None, length, map, string_bytes, IfSome, Option};
+ghost use Rattle.hs_model.specs.declared.command.Command.{Command};
+ghost use Rattle.hs_ports.specs.Objects.{handed};
+ghost use Rattle.hs_promise.specs.Promise.{IsUsage};
+ghost use Rattle.hs_promise.specs.Run.{script_of};
+ghost use Rattle.hs_run.specs.Ended.{ran_of};
+ghost use Rattle.hs_run.specs.Machine.{IsOfCluster};
+ghost use Rattle.hs_run.specs.Served.{Served};
+ghost use Rattle.hs_run.specs.Words.{built_of};
+
+use crate::Ended;
+use crate::top::run_script_on;
+use crate::words::built_of;
+use hs_block::Addresser;
+use hs_ports::{Disk, Sink, Source, Watch};
+use hs_promise::Status;
+use std::alloc::Global;
+
+/// Runs the script that the source has, as the words ask, on the disks of a store, one for each peer,
+/// and puts what is answered into the sink.
+pub fn run_on_cluster<A: Addresser, S: Source, K: Sink, D: Disk>(
+    alloc: Global,
+    words: &[String],
+    naming: &A,
+    source: &mut S,
+    sink: &mut K,
+    disks: &mut [D],
+    watch: &mut Watch,
+) -> Ended
+    // A run ends as Usage exactly where the words are outside the language, or ask for what isn't
+    // built, or the disks are not as many as they ask for.
+    ensures usage { built_of (map (λ word. string_bytes word) words.now) (length disks.old) ≡ None
+        → IsUsage (ran_of result
+        (handed watch.old (map (λ disk. (D.stands disk, D.faults disk)) disks.old)
+        (K.got sink.old, K.faults sink.old) (S.left source.old, S.faults source.old))
+        (handed watch.new (map (λ disk. (D.stands disk, D.faults disk)) disks.new)
+        (K.got sink.new, K.faults sink.new) (S.left source.new, S.faults source.new))) }
+    ensures only_usage { result.status ≡ Status.Usage
+        → built_of (map (λ word. string_bytes word) words.now) (length disks.old) ≡ None }
+    ensures machine { IfSome (built_of (map (λ word. string_bytes word) words.now) (length disks.old)) (λ wanted.
+        (commands : ℕ → Option Command) × IsOfCluster (script_of (A.name naming.now) wanted commands)
+        (ran_of result
+        (handed watch.old (map (λ disk. (D.stands disk, D.faults disk)) disks.old)
+        (K.got sink.old, K.faults sink.old) (S.left source.old, S.faults source.old))
+        (handed watch.new (map (λ disk. (D.stands disk, D.faults disk)) disks.new)
+        (K.got sink.new, K.faults sink.new) (S.left source.new, S.faults source.new)))) }
+    ensures served { IfSome (built_of (map (λ word. string_bytes word) words.now) (length disks.old)) (λ wanted.
+        (commands : ℕ → Option Command) × Served (script_of (A.name naming.now) wanted commands)
+        (ran_of result
+        (handed watch.old (map (λ disk. (D.stands disk, D.faults disk)) disks.old)
+        (K.got sink.old, K.faults sink.old) (S.left source.old, S.faults source.old))
+        (handed watch.new (map (λ disk. (D.stands disk, D.faults disk)) disks.new)
+        (K.got sink.new, K.faults sink.new) (S.left source.new, S.faults source.new)))) }
+{
+    match built_of(words, disks.len()) {
+        Some((shape, limits)) => {
+            run_script_on(alloc, shape, limits, naming, source, sink, disks, watch)
+        }
+        None => Ended {
+            status: Status::Usage,
+            line: 0,
+            cluster: None,
+        },
+    }
+}

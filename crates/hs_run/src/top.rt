@@ -1,0 +1,147 @@
+//! A run of a script on the disks of a store.
+ghost use Rattle.std.specs.Prelude.{◌≡◌, ◌*◌, ◌<◌, ◌^◌, ℕ, None, length, map, Option, IfSome};
+ghost use Rattle.hs_cluster.specs.Disks.{seen_as};
+ghost use Rattle.hs_limits.specs.Shape.{IsShape};
+ghost use Rattle.hs_model.specs.declared.command.Command.{Command};
+ghost use Rattle.hs_ports.specs.Objects.{handed};
+ghost use Rattle.hs_promise.specs.Run.{script_of};
+ghost use Rattle.hs_run.specs.Between.{IsReadyAt};
+ghost use Rattle.hs_run.specs.Causes.{EndsBy, StopCause};
+ghost use Rattle.hs_run.specs.Ended.{ran_of};
+ghost use Rattle.hs_run.specs.Going.{Begun, HasRun, StartsAt};
+ghost use Rattle.hs_run.specs.Machine.{IsOfCluster};
+ghost use Rattle.hs_run.specs.Served.{Served};
+
+use crate::Ended;
+use crate::reader::Reader;
+use crate::run::Run;
+use crate::script::serve;
+use crate::stop::{Stop, of_cluster, status_of};
+use hs_block::Addresser;
+use hs_cluster::Cluster;
+use hs_limits::{Limits, Shape};
+use hs_ports::{Disk, Sink, Source, Watch};
+use hs_promise::Status;
+use std::alloc::Global;
+
+/// How many bytes a script may have.
+const INPUT_MOST: u64 = 4_294_967_296;
+
+/// Prints what opening has answered, and then runs the script.
+fn go<A: Addresser, S: Source, K: Sink, D: Disk>(
+    run: &mut Run,
+    naming: &A,
+    source: &mut S,
+    disks: &mut [D],
+    sink: &mut K,
+    watch: &mut Watch,
+) -> Result<(), Stop>
+    requires printed { run.old.printed ≡ 0 }
+    requires line { run.old.line ≡ 0 }
+    requires ready { run.old.cluster.core.ended ≡ None → IsReadyAt D.tells (record {
+      now = watch.old;
+      cluster = run.old.cluster;
+      disks = map (λ disk. seen_as (D.size disk) (D.stands disk) (D.faults disk)) disks.old;
+      got = K.got sink.old;
+      line = run.old.line;
+    }) }
+    ensures runs { (b : Begun) → StartsAt b (A.name naming.now) (record {
+      now = watch.old;
+      cluster = run.old.cluster;
+      disks = map (λ disk. seen_as (D.size disk) (D.stands disk) (D.faults disk)) disks.old;
+      got = K.got sink.old;
+      line = run.old.line;
+    }) → HasRun D.tells (A.name naming.now) b (S.left source.old) (record {
+      old = record {
+        now = watch.old;
+        cluster = run.old.cluster;
+        disks = map (λ disk. seen_as (D.size disk) (D.stands disk) (D.faults disk)) disks.old;
+        got = K.got sink.old;
+        line = run.old.line;
+      };
+      new = record {
+        now = watch.new;
+        cluster = run.new.cluster;
+        disks = map (λ disk. seen_as (D.size disk) (D.stands disk) (D.faults disk)) disks.new;
+        got = K.got sink.new;
+        line = run.new.line;
+      };
+      result = result;
+    }) }
+    ensures ends { IfSome (S.left source.old) (λ script. EndsBy script (S.left source.new) result
+        run.new.line) }
+    ensures few { run.new.line < 2 ^ 63 }
+    ensures count { length disks.new ≡ length disks.old }
+    ensures cause { StopCause (S.faults source.old) (S.faults source.new) (K.faults sink.old)
+        (K.faults sink.new) result }
+{
+    match run.print_opening(sink, watch) {
+        Ok(()) => {}
+        Err(stop) => return Err(stop),
+    }
+    let mut reader = Reader::new(run.alloc, INPUT_MOST);
+    serve(run, &mut reader, naming, source, disks, sink, watch)
+}
+
+/// Runs the script that the source has on the disks of a store of one copy a shard, one disk for each
+/// peer, and puts what is answered into the sink.
+pub fn run_script_on<A: Addresser, S: Source, K: Sink, D: Disk>(
+    alloc: Global,
+    shape: Shape,
+    limits: Limits,
+    naming: &A,
+    source: &mut S,
+    sink: &mut K,
+    disks: &mut [D],
+    watch: &mut Watch,
+) -> Ended
+    requires shape { IsShape shape }
+    requires copies { shape.copies ≡ 1 }
+    requires count { length disks.old ≡ shape.shards * shape.copies }
+
+    // Some run was begun.
+    ensures begun { result.status ≡ Status.Usage → ⊥ }
+
+    // It is the machine's run, but for what its reports cost.
+    ensures machine { (commands : ℕ → Option Command) × IsOfCluster
+        (script_of (A.name naming.now) (record { shape = shape; limits = limits }) commands)
+        (ran_of result
+        (handed watch.old (map (λ disk. (D.stands disk, D.faults disk)) disks.old)
+        (K.got sink.old, K.faults sink.old) (S.left source.old, S.faults source.old))
+        (handed watch.new (map (λ disk. (D.stands disk, D.faults disk)) disks.new)
+        (K.got sink.new, K.faults sink.new) (S.left source.new, S.faults source.new))) }
+
+    // What was read, answered and printed, and why it ended.
+    ensures served { (commands : ℕ → Option Command) × Served
+        (script_of (A.name naming.now) (record { shape = shape; limits = limits }) commands)
+        (ran_of result
+        (handed watch.old (map (λ disk. (D.stands disk, D.faults disk)) disks.old)
+        (K.got sink.old, K.faults sink.old) (S.left source.old, S.faults source.old))
+        (handed watch.new (map (λ disk. (D.stands disk, D.faults disk)) disks.new)
+        (K.got sink.new, K.faults sink.new) (S.left source.new, S.faults source.new))) }
+{
+    let cluster = match Cluster::open(alloc, shape, limits, naming, disks, watch) {
+        Ok(cluster) => cluster,
+        Err(fault) => {
+            return Ended {
+                status: status_of(Err(of_cluster(fault)), 0),
+                line: 0,
+                cluster: None,
+            };
+        }
+    };
+    let mut run = Run::new(alloc, cluster);
+    let ended = go(&mut run, naming, source, disks, sink, watch);
+    let Run {
+        alloc: _,
+        cluster,
+        printed: _,
+        line,
+        bytes: _,
+    } = run;
+    Ended {
+        status: status_of(ended, line),
+        line,
+        cluster: Some(cluster),
+    }
+}

@@ -1,0 +1,4 @@
+pub mod Opening
+pub mod Run
+pub mod Settled
+pub mod Standing

@@ -1,0 +1,8 @@
+//! What a journal tells of a deletion: laws, each a function without parameters whose clauses are the law.
+#![tactic(auto)]
+
+mod done;
+mod sweeps;
+
+pub use done::done_stands_behind_its_sweep;
+pub use sweeps::each_sweep_is_exact;

@@ -1,0 +1,8 @@
+//! What the words of the command line of a script ask for.
+#![tactic(auto)]
+
+mod number;
+mod options;
+mod words;
+
+pub use words::wanted_of;
