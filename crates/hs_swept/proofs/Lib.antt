@@ -1,3 +1,4 @@
+pub mod ApartLemmas
 pub mod DoneLemmas
 pub mod ExactLemmas
 pub mod JoinLemmas
