@@ -177,7 +177,7 @@ module _ {State Event : Type 0} (M : Machine State Event) (Sane : State → Type
         ∙ ap (λ es. reborn (happen_all (store_after start (M.journal c)) (happenings es))) (sym pending_is);
     legal = subst (λ es. AreOneRun set.limits start.entry (events_in start (M.journal c)) (happenings es)) (sym pending_is)
         (lists_legal start (M.journal c) (IsAwaited start stop (M.journal c)) lists shape stands.took stands.left some count fine);
-    sound = images_along.sound;
+    sound = images_along;
     awaited = subst (λ es. All (λ (e : Entry × Option Happening). MayPend (IsAwaited start stop (M.journal c)) e.0) es) (sym pending_is)
         (lists_awaited start (M.journal c) (IsAwaited start stop (M.journal c)) lists shape stands.took stands.left some count fine);
     once = subst (λ es. AllPairs (λ (one other : ℕ). one ≢ other) (changing_lines es)) (sym pending_is)
