@@ -3,7 +3,7 @@ use Rattle.std.proofs.Common.{◌≡◌, ◌∙◌, ap, subst, ℕ, ◌++◌, Li
 use Rattle.hs_along.proofs.WalkLemmas.{walks_step}
 use Rattle.hs_along.specs.Walks.{HasRecordRoom}
 use Rattle.hs_answered.specs.Standing.{store_with}
-use Rattle.hs_answered.specs.Telling.{Judging, Tells, events_in}
+use Rattle.hs_answered.specs.Telling.{Judging, Tells}
 use Rattle.hs_core.specs.declared.event.Event.{Event}
 use Rattle.hs_core.specs.State.{Core}
 use Rattle.hs_core.specs.Step.{step}
@@ -17,7 +17,6 @@ use Rattle.hs_laws.specs.Valid.{IsValid}
 use Rattle.hs_legal.proofs.Laws.{Entries, Steps}
 use Rattle.hs_legal.proofs.StandingLemmas.{walks_standing}
 use Rattle.hs_legal.specs.Standing.{IsStanding, MayStand}
-use Rattle.hs_model.specs.Run.{IsLegal, run}
 use Rattle.hs_model.specs.Store.{Store}
 use Rattle.hs_told.specs.InTurn.{told_of}
 
@@ -27,10 +26,6 @@ event_stands views steps laws by names start valid whole event moment sane room 
     walks_step (walks_standing views steps laws by names start valid) whole event moment sane room clean may stands
 
 -- a journal that is told whole
-told_whole : (by : Judging) (start : Store) (core : Core) (cs : List Folded) → IsStanding by start core cs → core.entries ≡ [] → Tells by start (told_of core) (store_with cs core.sessions)
+pub told_whole : (by : Judging) (start : Store) (core : Core) (cs : List Folded) → IsStanding by start core cs → core.entries ≡ [] → Tells by start (told_of core) (store_with cs core.sessions)
 told_whole by start core cs its none =
     subst (λ (entries : List JournalEntry). Tells by start entries (store_with cs core.sessions)) (ap (λ (entries : List JournalEntry). told_of core ++ entries) none ∙ append-nil (told_of core)) its.tells
-
-pub is_legal : (by : Judging) (start : Store) (core : Core) (cs : List Folded) → IsStanding by start core cs → core.entries ≡ []
-    → IsLegal by.limits start (events_in by start (told_of core)) × (run by.limits start (events_in by start (told_of core)) ≡ store_with cs core.sessions)
-is_legal by start core cs its none = let t : Tells by start (told_of core) (store_with cs core.sessions) = told_whole by start core cs its none in (t.legal, t.left)

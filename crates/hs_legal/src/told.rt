@@ -2,7 +2,7 @@
 ghost use Rattle.std.specs.Prelude.{◌≡◌, ◌≤◌, ℕ, List, [], Some, None};
 ghost use Rattle.hs_along.specs.Walks.{HasRecordRoom};
 ghost use Rattle.hs_answered.specs.Standing.{store_with};
-ghost use Rattle.hs_answered.specs.Telling.{Judging, events_in};
+ghost use Rattle.hs_answered.specs.Telling.{Judging, Tells};
 ghost use Rattle.hs_core.specs.declared.event.Event.{Event};
 ghost use Rattle.hs_core.specs.Looking.{operation_of};
 ghost use Rattle.hs_core.specs.Opening.{Taken, open_core};
@@ -22,7 +22,6 @@ ghost use Rattle.hs_legal.specs.Opens.{MayOpen};
 ghost use Rattle.hs_legal.specs.Standing.{IsStanding, MayStand};
 ghost use Rattle.hs_limits.specs.declared.shape.Shape.{Shape};
 ghost use Rattle.hs_model.specs.declared.op.Op.{Op};
-ghost use Rattle.hs_model.specs.Run.{IsLegal, run};
 ghost use Rattle.hs_model.specs.Store.{Store};
 ghost use Rattle.hs_told.specs.InTurn.{MayCome, told_of};
 
@@ -59,8 +58,8 @@ pub fn an_event_may_come_to_it()
 /// stands, from the same store, for some folds (`event`): on a sane store of one copy a shard, where
 /// the root records and the Roots that wait are few, and the journal had room so far. Of a core that
 /// stands and has told an event whole, the journal, with what found it full, is a legal run
-/// of the plain store from that store on, and leaves the store of the folds and the open sessions
-/// (`legal`).
+/// of the plain store from that store on, with its answers, and leaves the store of the folds and the
+/// open sessions (`tells`).
 pub fn each_event_is_told()
     ensures opens { (by : Judging) (shape : Shape) (taken : Taken) (moment : ℕ) (cs : List Folded)
         → GivesAddresses by.name → MayOpen by shape taken moment cs →
@@ -72,11 +71,9 @@ pub fn each_event_is_told()
         → IsSane whole → HasRecordRoom whole.core → whole.core.refused ≡ []
         → MayStand by start event whole.core → IsStanding by start whole.core cs →
         (after : List Folded) × IsStanding by start (step event moment whole.core) after }
-    ensures legal { (by : Judging) (start : Store) (core : Core) (cs : List Folded)
+    ensures tells { (by : Judging) (start : Store) (core : Core) (cs : List Folded)
         → IsStanding by start core cs → core.entries ≡ [] →
-        IsLegal by.limits start (events_in by start (told_of core))
-        × (run by.limits start (events_in by start (told_of core))
-        ≡ store_with cs core.sessions) }
+        Tells by start (told_of core) (store_with cs core.sessions) }
 {
     a_step_that_answers_is_the_judges();
     an_answer_is_the_judges();

@@ -1,4 +1,4 @@
-use Rattle.hs_legal.proofs.EventLemmas.{event_stands, is_legal}
+use Rattle.hs_legal.proofs.EventLemmas.{event_stands, told_whole}
 use Rattle.hs_legal.proofs.Laws.{Entries, Steps}
 use Rattle.hs_legal.proofs.OpenLemmas.{opened}
 use Rattle.hs_legal.proofs.told.each_event_is_told.Goals as goal
@@ -47,5 +47,5 @@ returns-clause-event c = λ by start whole event moment cs names valid sane room
     } in
     event_stands c.views_show_the_store.ensures.shown steps laws by names start valid whole event moment sane room clean may (cs, stands)
 
-pub returns-clause-legal : goal.returns-clause-legal
-returns-clause-legal c = λ by start core cs stands whole. is_legal by start core cs stands whole
+pub returns-clause-tells : goal.returns-clause-tells
+returns-clause-tells c = λ by start core cs stands whole. told_whole by start core cs stands whole
