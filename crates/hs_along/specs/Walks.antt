@@ -1,5 +1,5 @@
 -- What every single change keeps, each event keeps: what is asked of the changes, of the core, and of the event.
-use Rattle.std.specs.Prelude.{◌≡◌, ℕ, ◌+◌, ◌<◌, ◌≤◌, true, List, [], Option, Some, None, count_by, length}
+use Rattle.std.specs.Prelude.{◌≡◌, ℕ, ◌+◌, ◌<◌, ◌≤◌, true, List, [], Option, Some, None, length}
 use Rattle.hs_along.specs.Changes.{IsBeside, IsIdle, told_at_once}
 use Rattle.hs_core.specs.declared.event.Event.{Event}
 use Rattle.hs_core.specs.declared.event.Event.TheVariants as event
@@ -11,6 +11,7 @@ use Rattle.hs_core.specs.Delivering.{is_new_round}
 use Rattle.hs_core.specs.Entering.{is_enter_due}
 use Rattle.hs_core.specs.Looking.{catalogue_of, first_task, group_of, operation_of, shape_of}
 use Rattle.hs_core.specs.Operating.{begin_line, go_on_with, propose_entry, resume}
+pub use Rattle.hs_core.specs.Records.{HasRecordRoom}
 use Rattle.hs_core.specs.Seeing.{pointers_for}
 use Rattle.hs_core.specs.State.{Core}
 use Rattle.hs_core.specs.Views.{begin_view}
@@ -32,14 +33,7 @@ use Rattle.hs_ops.specs.Operations.{bytes_step}
 use Rattle.hs_post.specs.declared.message.Message.TheVariants as message
 use Rattle.hs_post.specs.Pool.{message_at, without}
 use Rattle.hs_replica.specs.Group.{committed}
-use Rattle.hs_replica.specs.Kinds.{is_root}
 use Rattle.hs_limits.specs.declared.delta.Delta.{Delta}
-
--- ---- the core
-
--- the root records that there are and the Roots that wait are no more than a shard takes
-abbrev pub HasRecordRoom : Core → Type 0
-HasRecordRoom core = (shard : ℕ) → length (catalogue_of shard core).roots + count_by is_root (group_of shard core).waiting ≤ most_records
 
 -- ---- the changes
 

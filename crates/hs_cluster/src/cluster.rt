@@ -4,6 +4,7 @@ ghost use Rattle.std.specs.Prelude.{◌≡◌};
 use hs_core::Core;
 use hs_desk::CoreFault;
 use hs_journal::Journal;
+use hs_limits::ListOf;
 use hs_model::CourseItem;
 use hs_peerlog::PeerLog;
 use std::alloc::Global;
@@ -44,6 +45,16 @@ impl Cluster {
         ensures { result.now ≡ self.now.course }
     {
         self.course.as_slice()
+    }
+
+    /// The core, and what happened beside the answers: all that is asked of a cluster at its end. The
+    /// logs are dropped. It takes no memory.
+    pub fn into_parts(self) -> (Core, ListOf<CourseItem>)
+        ensures core { result.0 ≡ self.core }
+        ensures course { result.1 ≡ self.course }
+    {
+        let Cluster { core, course, .. } = self;
+        (core, ListOf::from_vec(course))
     }
 
     /// Why the core has ended. None exactly until a fault has ended it. It takes no memory.

@@ -14,6 +14,7 @@ mod NowhereLemmas
 mod OpenLemmas
 mod PeerExamples
 mod RangeLemmas
+mod RecordLemmas
 mod ReportLemmas
 mod SeatLemmas
 mod SightLemmas

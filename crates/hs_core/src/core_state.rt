@@ -12,7 +12,7 @@ use crate::operations::Operations;
 use crate::queue::Queue;
 use hs_desk::{CoreFault, Job};
 use hs_journal::{Journal, JournalEntry};
-use hs_limits::{Held, Limits, Name, PeerStatus, Shape};
+use hs_limits::{Held, Limits, ListOf, Name, PeerStatus, Shape};
 use hs_members::{Members, home_of};
 use hs_post::Pool;
 use hs_rejoin::Rejoin;
@@ -120,6 +120,18 @@ impl Core {
         ensures { result.now ≡ self.now.refused }
     {
         self.refused.as_slice()
+    }
+
+    /// What was answered, and the entries that the event refused as OpsFull would have made: all that
+    /// is asked of a core at its end. It takes no memory.
+    pub fn into_told(self) -> (Journal, ListOf<JournalEntry>)
+        ensures journal { result.0.entries ≡ self.journal }
+        ensures refused { result.1 ≡ self.refused }
+    {
+        let Core {
+            journal, refused, ..
+        } = self;
+        (journal, ListOf::from_vec(refused))
     }
 
     /// What a peer is. It takes no memory.

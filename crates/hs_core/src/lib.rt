@@ -29,6 +29,7 @@ mod opening;
 mod operations;
 mod pending;
 mod queue;
+mod records;
 mod reporting;
 mod resuming;
 mod seating;

@@ -2,6 +2,7 @@
 ghost use Rattle.std.specs.Prelude.{◌≡◌, ◌≤◌, OnErr, OnOk, Some, true};
 ghost use Rattle.hs_core.specs.Calls.{GivesUp, GoesOn, IsNextLine, Steps, last_line_after, outcome_of, ran_out};
 ghost use Rattle.hs_core.specs.Keeping.{Kept, Moves, Stays};
+ghost use Rattle.hs_core.specs.Records.{HasRecordRoom};
 ghost use Rattle.hs_core.specs.Step.{begin_event, do_event, is_first_line, line_of, run_event};
 ghost use Rattle.hs_desk.specs.declared.fault.CoreFault.TheVariants as fault;
 
@@ -15,7 +16,8 @@ impl Core {
     /// where there is no memory (NoMemory) the core has ended, and every later call answers the same
     /// fault and changes nothing. After ShardLost the event has happened, and its entries stand in the
     /// journal; after the others the journal is as it was. A number that has no next one counts as
-    /// want of memory, and so does an entry that its catalogue can't take.
+    /// want of memory, and so do an entry that its catalogue can't take, and more root records of a
+    /// shard, with the Roots that wait, than it takes.
     pub fn step(&mut self, event: Event, moment: u64) -> Result<(), CoreFault>
         requires moment { self.old.moment ≤ moment }
         requires line { IsNextLine self.old event }
@@ -24,6 +26,8 @@ impl Core {
         ensures gave_up { ran_out self.old result ≡ true
             → GivesUp event moment self.old self.new }
         ensures goes { GoesOn event moment self.old self.new }
+        // Where the core goes on, no shard has more root records than it takes.
+        ensures room { OnOk result (HasRecordRoom self.new) }
     {
         if let Some(fault) = self.ended {
             return Err(fault);
@@ -84,9 +88,11 @@ impl Core {
         ensures ok { OnOk result (self.new ≡ run_event event moment self.old) }
         ensures kept { OnErr result (Stays self.old self.new) }
         ensures moves { Moves event moment self.old self.new }
+        ensures room { OnOk result (HasRecordRoom self.new) }
     {
         self.begin_event(line_of(&event), moment);
         self.do_event(event)?;
+        self.record_room()?;
         self.end_event()
     }
 
