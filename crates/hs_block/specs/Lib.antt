@@ -1,4 +1,5 @@
 pub mod Names
+pub mod Sizes
 pub mod Refusal
 pub use Rattle.hex.specs.Hex
 pub use Rattle.hs_limits.specs.Block

@@ -2,6 +2,7 @@
 ghost use Rattle.std.specs.Prelude.{◌≡◌, ℕ, ◌-◌, ◌≤◌, List, ◌++◌, length, replicate};
 ghost use Rattle.hs_limits.specs.declared.address.Address.{Address};
 ghost use Rattle.hs_block.specs.Names.{sha_name, tail_name};
+ghost use Rattle.hs_block.specs.Sizes.{sha_names_are_sized, tail_names_are_sized};
 
 use hs_limits::Address;
 use sha2::{Digest, Sha256};
@@ -10,6 +11,9 @@ use sha2::{Digest, Sha256};
 pub trait Addresser {
     // The address that this naming gives these bytes.
     ghost name: { Self → List ℕ → Address };
+
+    /// Each address has 32 bytes.
+    ghost sized: { (naming : Self) (bytes : List ℕ) → length (name naming bytes).0 ≡ 32 };
 
     /// The address of the bytes.
     fn address(&self, bytes: &[u8]) -> Address
@@ -23,6 +27,8 @@ pub struct ShaNames;
 impl Addresser for ShaNames {
     ghost name = { λ _ bytes. sha_name bytes };
 
+    ghost sized = { λ _ bytes. sha_names_are_sized bytes };
+
     fn address(&self, bytes: &[u8]) -> Address {
         Address(Sha256::digest(bytes))
     }
@@ -34,6 +40,8 @@ pub struct TailNames;
 
 impl Addresser for TailNames {
     ghost name = { λ _ bytes. tail_name bytes };
+
+    ghost sized = { λ _ bytes. tail_names_are_sized bytes };
 
     fn address(&self, bytes: &[u8]) -> Address {
         Address(behind_zeros(&bytes[bytes.len().saturating_sub(32)..]))
