@@ -1,5 +1,6 @@
--- What a cluster tells of its disks, where they tell their contents and each shard has one copy.
+-- What a cluster tells of its disks: the counts of any, and the contents, where they tell them and each shard has one copy.
 use Rattle.std.specs.Prelude.{◌≡◌, ◌≤◌, ◌<◌, ◌-◌, ◌^◌, ℕ, ⊤, List, [], ◌∷◌, take, Option, Some, None, Result, OnOk}
+use Rattle.hs_cluster.specs.Counts.{AreCounted}
 use Rattle.hs_cluster.specs.Disks.{DiskSeen, log_at, stands_of}
 use Rattle.hs_cluster.specs.Running.{Running}
 use Rattle.hs_cluster.specs.declared.fault.ClusterFault.{ClusterFault}
@@ -65,8 +66,9 @@ pub record LeavesLists (c : Whole) (events : Events) (span : Span) : Type 0 wher
   pub keeps : Keeps whole_machine IsFrontOf last_of (runs whole_machine c (happened c.core events)) span.now (stands_of span.left)
   pub told : AreTold c events
 
--- so of the events of a call, for the lists with which it began; and behind it the cluster keeps what it needs to go on
+-- so of the events of a call, for the lists with which it began; behind it the cluster keeps what it needs to go on. And what the events report of failed calls is at the counts
 pub record Shows (tells : Type 0) (span : Span) (result : Result ⊤ ClusterFault) (events : Events) : Type 0 where
+  pub counted : AreCounted span.old.core events span.disks span.left
   pub lists : tells → (c : Whole) → c.core ≡ span.old.core → CanGoOn c span.old.logs span.disks span.before → LeavesLists c events span
   pub goes_on : tells → (c : Whole) → c.core ≡ span.old.core → CanGoOn c span.old.logs span.disks span.before
       → OnOk result (CanGoOn (runs whole_machine c events) span.new.logs span.left span.now)

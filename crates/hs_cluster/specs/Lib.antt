@@ -1,6 +1,7 @@
 pub mod Ascending
 pub mod Begins
 pub mod Calls
+pub mod Counts
 pub mod Disks
 pub mod Jobs
 pub mod Kept

@@ -1,6 +1,7 @@
 -- What opening a cluster promises, of a store of one copy a shard.
 use Rattle.std.specs.List.{AllPairs}
 use Rattle.std.specs.Prelude.{◌≡◌, ◌⊎◌, ◌++◌, ◌<◌, ◌≤◌, ℕ, List, length, Contains, Option, None, Some, IsSome, false, is_some, true, slice_index_or}
+use Rattle.hs_cluster.specs.Counts.{AreCounted, NoneFalls}
 use Rattle.hs_cluster.specs.Kept.{CanGoOn, LeavesLists}
 use Rattle.hs_cluster.specs.Running.{Running}
 use Rattle.hs_core.specs.State.{Core}
@@ -76,6 +77,9 @@ pub record Opens (tells : Type 0) (set : Setting) (span : Span) (cluster : Runni
   pub rises : MomentsRise found.opened events span.now
   pub core : cluster.core ≡ steps (first_core set found) events
   pub course : cluster.course ≡ first_items set.shape found span.before ++ items_of (first_core set found) events
+  -- no count fell before the turns, and what these report of failed calls is at the counts
+  pub falls : NoneFalls span.old disks
+  pub counted : AreCounted (first_core set found) events disks span.new
   -- where the core was opened: the lists at each moment from entry on, and behind all of it the cluster may go on
   pub lists : tells → AreSound span.before span.old → (first_core set found).ended ≡ None
       → LeavesLists (open_whole set found) events (record { before = span.before; now = span.now; old = begun; new = cluster; disks = span.old; left = span.new })
