@@ -34,3 +34,7 @@ NoneFalls old new = (disk : ℕ) → (seen_at old disk).faults ≤ (seen_at new 
 pub record AreCounted (core : Core) (events : Events) (old new : List DiskSeen) : Type 0 where
   pub later : NoneFalls old new
   pub failed : (disk : ℕ) → RoseBy (failures false disk core events) (seen_at old disk).faults (seen_at new disk).faults
+
+-- and by as many as the reports tell of reads too
+abbrev pub AreAllCounted : Core → Events → List DiskSeen → List DiskSeen → Type 0
+AreAllCounted core events old new = (disk : ℕ) → RoseBy (failures true disk core events) (seen_at old disk).faults (seen_at new disk).faults

@@ -6,5 +6,9 @@ pub mod Disks
 pub mod Jobs
 pub mod Kept
 pub mod Opens
+pub mod Rooms
 pub mod Running
+pub mod RunsOn
 pub mod Settling
+pub mod Shown
+pub mod Unopened
