@@ -4,7 +4,6 @@ use Rattle.hs_cluster.specs.Counts.{AreAllCounted, AreCounted}
 use Rattle.hs_cluster.specs.Disks.{DiskSeen, log_at, stands_of}
 use Rattle.hs_cluster.specs.Rooms.{HaveRecordRoom}
 use Rattle.hs_cluster.specs.Running.{Running}
-use Rattle.hs_cluster.specs.Shown.{AreShown, HaveSeen}
 use Rattle.hs_cluster.specs.declared.fault.ClusterFault.{ClusterFault}
 use Rattle.hs_core.specs.Looking.{catalogue_of, first_job, home}
 use Rattle.hs_desk.specs.declared.done.Done.{Done}
@@ -82,8 +81,7 @@ AreStored c [] = ⊤
 AreStored c (e ∷ es) = IsStored c × AreStored (step_whole e.0 e.1 c) es
 
 -- what the events of a call show. Of whatever disks: what they report of failed calls is at the counts, and a core that goes on has room.
--- Of those that tell their contents, for the lists with which the call began: the lists at each moment; behind it the cluster keeps what it needs to go on;
--- reads too cost what is reported of failed calls; and what is told of blocks is so of what stops may have left
+-- Of those that tell their contents, for the lists with which the call began: the lists at each moment; behind it the cluster keeps what it needs to go on; and reads too cost what is reported of failed calls
 pub record Shows (tells : Type 0) (span : Span) (result : Result ⊤ ClusterFault) (events : Events) : Type 0 where
   pub counted : AreCounted span.old.core events span.disks span.left
   pub rooms : HaveRecordRoom span.old.core events
@@ -92,5 +90,3 @@ pub record Shows (tells : Type 0) (span : Span) (result : Result ⊤ ClusterFaul
       → OnOk result (CanGoOn (runs whole_machine c events) span.new.logs span.left span.now)
   pub read : tells → (c : Whole) → c.core ≡ span.old.core → CanGoOn c span.old.logs span.disks span.before → AreStored c events
       → AreAllCounted span.old.core events span.disks span.left
-  pub shown : tells → (entry : ℕ) (c : Whole) → c.core ≡ span.old.core → CanGoOn c span.old.logs span.disks span.before → HaveSeen entry (stands_of span.disks)
-      → AreShown entry (stands_of span.left) events × HaveSeen entry (stands_of span.left)

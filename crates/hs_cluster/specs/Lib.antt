@@ -10,5 +10,4 @@ pub mod Rooms
 pub mod Running
 pub mod RunsOn
 pub mod Settling
-pub mod Shown
 pub mod Unopened

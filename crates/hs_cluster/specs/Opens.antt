@@ -7,7 +7,6 @@ use Rattle.hs_cluster.specs.declared.fault.ClusterFault.{ClusterFault}
 use Rattle.hs_cluster.specs.Kept.{AreStored, CanGoOn, LeavesLists}
 use Rattle.hs_cluster.specs.Rooms.{HaveRecordRoom}
 use Rattle.hs_cluster.specs.Running.{Running}
-use Rattle.hs_cluster.specs.Shown.{AreShown, HaveSeen}
 use Rattle.hs_core.specs.State.{Core}
 use Rattle.hs_events.specs.Beginning.{first_items}
 use Rattle.hs_events.specs.Course.{items_of, steps}
@@ -22,7 +21,7 @@ use Rattle.hs_peerlog.specs.Images.{LeavesOnly}
 use Rattle.hs_peerlog.specs.Lists.{HasLog, Keeping}
 use Rattle.hs_ports.specs.Fault.{HasRisen}
 use Rattle.hs_side.specs.Current.{list_in}
-use Rattle.hs_taking.specs.Disks.{DiskSeen, log_at, seen_at, stands_of}
+use Rattle.hs_taking.specs.Disks.{DiskSeen, log_at, seen_at}
 use Rattle.hs_taking.specs.Shares.{IsLater, IsLostDisk, KeepsDisk, Span}
 
 -- ---- what was found
@@ -95,5 +94,3 @@ pub record Opens (tells : Type 0) (set : Setting) (span : Span) (cluster : Runni
   pub goes_on : tells → AreSound span.before span.old → OnOk done (CanGoOn (runs whole_machine (open_whole set found) events) cluster.logs span.new span.now)
   pub read : tells → AreSound span.before span.old → (first_core set found).ended ≡ None → AreStored (open_whole set found) events
       → AreAllCounted (first_core set found) events disks span.new
-  pub shown : tells → AreSound span.before span.old → (first_core set found).ended ≡ None
-      → AreShown span.before (stands_of span.new) events × HaveSeen span.before (stands_of span.new)
