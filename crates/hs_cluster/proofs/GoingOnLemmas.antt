@@ -9,6 +9,7 @@ use Rattle.hs_cluster.proofs.FoundLemmas.{begins_so, finds, found, is_empty, ope
 use Rattle.hs_cluster.proofs.OpeningMoves.{all_good, jobs_first, same_members, sealed_first}
 use Rattle.hs_cluster.specs.Begins.{Begins, HasOpened, HasTurned, begun_course, opened_with}
 use Rattle.hs_cluster.specs.Calls.{outcome_by}
+use Rattle.hs_cluster.specs.Counts.{AreCounted}
 use Rattle.hs_cluster.specs.declared.fault.ClusterFault.{ClusterFault}
 use Rattle.hs_cluster.specs.Kept.{AreTold, CanGoOn, KeepsLogs, LeavesLists, sealed_front}
 use Rattle.hs_cluster.specs.Opens.{AreSound, Finds, IsFound, Opens}
@@ -319,6 +320,8 @@ module _ (tells : Type 0) (set : Setting) (span : Span) (cluster : Running) (one
     rises = o.turned.rises;
     core = o.turned.core ∙ ap (λ x. steps x o.turned.events) (sym core_is);
     course = o.turned.course ∙ (λ i. course_is i ++ items_of (sym core_is i) o.turned.events);
+    falls = b.falls;
+    counted = subst (λ x. AreCounted x o.turned.events o.disks span.new) (sym core_is) o.turned.shows.counted;
     lists = lists;
     goes_on = goes_on;
   }

@@ -1,4 +1,5 @@
 pub mod BeginLemmas
+pub mod CountLemmas
 pub mod DeltaLemmas
 pub mod DiskLemmas
 pub mod EventLemmas

@@ -2,6 +2,7 @@
 use Rattle.std.proofs.Common.{◌≡◌, ◌≢◌, ◌∙◌, ◌⊎◌, inl, inr, ap, sym, subst, ℕ, ◌-◌, ◌^◌, ◌<◌, ◌≤◌, Bool, true, false, List, [], ◌∷◌, ◌++◌, length, Option, Some, None, refl, arith, is_none, nat_lt}
 use Rattle.std.proofs.lemmas.Bool.{cases_eq, cases_lt}
 use Rattle.std.specs.Prelude.{OnOk, Result, Ok, Err, ⊤, if◌then◌else◌}
+use Rattle.hs_cluster.proofs.CountLemmas.{counted_none, counted_one, counted_quiet, counted_still, counted_then}
 use Rattle.hs_cluster.proofs.EventLemmas.{still_going}
 use Rattle.hs_cluster.proofs.ReportLemmas.{call_fine, report_fine, report_logs, report_told}
 use Rattle.hs_moments.proofs.SaneLemmas.{growing_beside, growing_without_call, sane_stays}
@@ -9,6 +10,7 @@ use Rattle.hs_cluster.proofs.HeldLemmas.{own_job, sealed_stays}
 use Rattle.hs_cluster.specs.Calls.{Does, done_of, outcome_by, ran_out}
 use Rattle.hs_cluster.specs.declared.fault.ClusterFault.{ClusterFault}
 use Rattle.hs_cluster.specs.declared.fault.ClusterFault.TheVariants.{NoMemory}
+use Rattle.hs_cluster.specs.Counts.{HasPaid, NoneFalls}
 use Rattle.hs_cluster.specs.Disks.{DiskSeen, log_at, stands_of}
 use Rattle.hs_cluster.specs.Jobs.{Working, Works, is_own}
 use Rattle.hs_cluster.specs.Kept.{AreTold, CanGoOn, IsTold, KeepsLogs, LeavesLists, Shows, Span, sealed_front}
@@ -156,6 +158,7 @@ pub quiet_shows : (e : Event) (now : ℕ) (old new : Running) (disks : List Disk
     → ((p : ℕ) (keeping : Keeping) → log_at new.logs p ≡ Some keeping → log_at old.logs p ≡ Some keeping)
     → Shows ⊤ (record { before = now; now = now; old = old; new = new; disks = disks; left = disks }) r (done_of r (e, now))
 quiet_shows e now old new disks r quiet was does less = record {
+  counted = counted_quiet old.core e now r disks quiet;
   lists = λ told c core can. record {
     earlier = λ peer m side low fits. refl;
     moments = record { fine = λ m peer low high fits counted image left. absurd (omega (arith, low, high)) };
@@ -180,6 +183,7 @@ quiet_shows e now old new disks r quiet was does less = record {
 -- nothing was done, and nothing came
 pub none_shows : (now : ℕ) (old new : Running) (disks : List DiskSeen) → Shows ⊤ (record { before = now; now = now; old = old; new = new; disks = disks; left = disks }) (Err NoMemory) []
 none_shows now old new disks = record {
+  counted = counted_still old.core disks;
   lists = λ told c core can. record {
     earlier = λ peer m side low fits. refl;
     moments = record { fine = λ m peer low high fits counted image left. absurd (omega (arith, low, high)) };
@@ -191,6 +195,7 @@ none_shows now old new disks = record {
 
 pub begin_shows : (tells : Type 0) (now : ℕ) (old : Running) (disks : List DiskSeen) → Shows tells (record { before = now; now = now; old = old; new = old; disks = disks; left = disks }) (Ok tt) []
 begin_shows tells now old disks = record {
+  counted = counted_still old.core disks;
   lists = λ told c core can. record {
     earlier = λ peer m side low fits. refl;
     moments = record { fine = λ m peer low high fits counted image left. absurd (omega (arith, low, high)) };
@@ -202,11 +207,11 @@ begin_shows tells now old disks = record {
 
 -- whatever the disks tell
 pub any_shows : (tells : Type 0) (span : Span) (r : Result ⊤ ClusterFault) (es : Events) → Shows ⊤ span r es → Shows tells span r es
-any_shows tells span r es shows = record { lists = λ told. shows.lists tt; goes_on = λ told. shows.goes_on tt }
+any_shows tells span r es shows = record { counted = shows.counted; lists = λ told. shows.lists tt; goes_on = λ told. shows.goes_on tt }
 
 -- it is given up
 pub cut_shows : (tells : Type 0) (span : Span) (fault : ClusterFault) (es : Events) → Shows tells span (Ok tt) es → Shows tells span (Err fault) es
-cut_shows tells span fault es shows = record { lists = shows.lists; goes_on = λ told c core can. tt }
+cut_shows tells span fault es shows = record { counted = shows.counted; lists = shows.lists; goes_on = λ told c core can. tt }
 
 -- ---- a call and its report
 
@@ -260,8 +265,10 @@ module _ (c : Whole) (before now peer : ℕ) (disks left : List Standing) (since
 pub job_cut : (tells : Type 0) (before now peer : ℕ) (old new : Running) (after : List (Option Keeping)) (disks left : List DiskSeen) {E : Type 0} (result : Result Done E) → IsPeer old.core.members.shape peer
     → (tells → Since (stands_of disks))
     → (tells → is_own (first_job peer old.core) ≡ true → Works (record { peer = peer; before = before; now = now; logs = old.logs; after = after; disks = disks; left = left }) (first_job peer old.core) result)
+    → NoneFalls disks left
     → Shows tells (record { before = before; now = now; old = old; new = new; disks = disks; left = left }) (Err NoMemory) []
-job_cut tells before now peer old new after disks left {E = E} result is since works = record {
+job_cut tells before now peer old new after disks left {E = E} result is since works falls = record {
+  counted = counted_none old.core disks left falls;
   lists = λ told c core can.
       let low : IsPeer c.core.members.shape peer = subst (λ (x : Core). IsPeer x.members.shape peer) (sym core) is in
       let w : Working = record { peer = peer; before = before; now = now; logs = old.logs; after = after; disks = disks; left = left } in
@@ -276,9 +283,10 @@ job_cut tells before now peer old new after disks left {E = E} result is since w
 pub job_shows : (tells : Type 0) (before now peer : ℕ) (old new : Running) (after : List (Option Keeping)) (disks left : List DiskSeen) (E : Type 0) (done : Done) (r : Result ⊤ ClusterFault) → IsPeer old.core.members.shape peer
     → old.core.ended ≡ None → is_answer old.core peer done ≡ true → (tells → Since (stands_of disks))
     → (tells → is_own (first_job peer old.core) ≡ true → Works {E = E} (record { peer = peer; before = before; now = now; logs = old.logs; after = after; disks = disks; left = left }) (first_job peer old.core) (Ok done))
-    → new.logs ≡ after → Does (done_of r (event.Report peer done, now)) old new r
+    → new.logs ≡ after → Does (done_of r (event.Report peer done, now)) old new r → NoneFalls disks left → HasPaid old.core peer done disks left
     → Shows tells (record { before = before; now = now; old = old; new = new; disks = disks; left = left }) r (done_of r (event.Report peer done, now))
-job_shows tells before now peer old new after disks left E done r is was answer since works kept does = record {
+job_shows tells before now peer old new after disks left E done r is was answer since works kept does falls paid = record {
+  counted = counted_one old.core (event.Report peer done) now r disks left falls paid;
   lists = λ told c core can.
       let low : IsPeer c.core.members.shape peer = subst (λ (x : Core). IsPeer x.members.shape peer) (sym core) is in
       let done_then = did told c core can in
@@ -366,6 +374,7 @@ pub shows_then : (tells : Type 0) (before mid now : ℕ) (old here new : Running
     → Shows tells (record { before = mid; now = now; old = here; new = new; disks = between; left = left }) r fs
     → Shows tells (record { before = before; now = now; old = old; new = new; disks = disks; left = left }) r (es ++ fs)
 shows_then tells before mid now old here new disks between left r es fs does rise on first second = record {
+  counted = counted_then old.core here.core es fs disks between left (does.core refl) first.counted second.counted;
   lists = λ told c core can.
       let one = first.lists told c core can in
       let two = second.lists told (runs whole_machine c es) (core_then c core) (first.goes_on told c core can) in

@@ -2,6 +2,7 @@
 use Rattle.std.specs.Option.{option_map_or}
 use Rattle.std.specs.Prelude.{◌≡◌, ◌*◌, ◌++◌, ◌∷◌, ◌<◌, ◌≤◌, ℕ, ⊤, List, [], flat_map, is_some, length, map, None, Ok, Some, true}
 use Rattle.hs_cluster.specs.Calls.{outcome_by}
+use Rattle.hs_cluster.specs.Counts.{NoneFalls}
 use Rattle.hs_cluster.specs.declared.fault.ClusterFault.{ClusterFault}
 use Rattle.hs_cluster.specs.declared.fault.ClusterFault.TheVariants as fault
 use Rattle.hs_cluster.specs.Kept.{Shows, Span as Turns}
@@ -69,6 +70,7 @@ pub record Begins (tells : Type 0) (set : Setting) (span : Span) (cluster : Runn
       → HasRisen (seen_at span.old peer).faults (seen_at span.new peer).faults
   pub count : length taken.logs ≡ set.shape.shards * set.shape.copies
   pub ticks : span.before ≤ span.now
+  pub falls : NoneFalls span.old span.new
   pub disks : length span.old ≡ set.shape.shards * set.shape.copies
   pub left : length span.new ≡ length span.old
   pub logs : cluster.logs ≡ taken.logs

@@ -1,10 +1,12 @@
 //! The first job of a peer.
-ghost use Rattle.std.specs.Prelude.{◌≡◌, ◌*◌, ◌+◌, ◌≤◌, ℕ, Some, length, map, true, IfOk, IsOkUnless, OnOk};
+ghost use Rattle.std.specs.Prelude.{◌≡◌, ◌*◌, ◌+◌, ◌≤◌, ℕ, Some, length, map, true, false, IfOk, IsOkUnless, OnOk};
 ghost use Rattle.hs_cluster.specs.declared.fault.ClusterFault.TheVariants.{NoMemory};
-ghost use Rattle.hs_cluster.specs.Disks.{AreReady, IsSlotReady, seen_as};
+ghost use Rattle.hs_cluster.specs.Counts.{HasPaid, IsCopyPaid, IsPaid, NoneFalls};
+ghost use Rattle.hs_cluster.specs.Disks.{AreReady, IsSlotReady, seen_as, seen_at};
 ghost use Rattle.hs_cluster.specs.Jobs.{Tries, Works, is_own};
 ghost use Rattle.hs_core.specs.Looking.{first_job};
 ghost use Rattle.hs_events.specs.Due.{is_answer};
+ghost use Rattle.hs_events.specs.Reports.{only_reads};
 ghost use Rattle.hs_desk.specs.Answers.{answers};
 ghost use Rattle.hs_desk.specs.declared.job.Job.TheVariants as job;
 ghost use Rattle.hs_members.specs.Members.{IsPeer};
@@ -55,6 +57,13 @@ pub(crate) fn do_job<D: Disk>(
       disks = map (λ disk. seen_as (D.size disk) (D.stands disk) (D.faults disk)) disks.old;
       left = map (λ disk. seen_as (D.size disk) (D.stands disk) (D.faults disk)) disks.new;
     }) (first_job peer core.now) result }
+    // No count falls. That of a disk whose failed call is told rose, but for a job that only read.
+    ensures later { NoneFalls
+        (map (λ disk. seen_as (D.size disk) (D.stands disk) (D.faults disk)) disks.old)
+        (map (λ disk. seen_as (D.size disk) (D.stands disk) (D.faults disk)) disks.new) }
+    ensures paid { IfOk result (λ done. HasPaid core.now peer done
+        (map (λ disk. seen_as (D.size disk) (D.stands disk) (D.faults disk)) disks.old)
+        (map (λ disk. seen_as (D.size disk) (D.stands disk) (D.faults disk)) disks.new)) }
     ensures ticks { watch.old ≤ watch.new }
 {
     let Some(job) = core.first_job(peer) else {
@@ -86,7 +95,7 @@ pub(crate) fn do_job<D: Disk>(
 }
 
 /// Copies the entry of a number from the disk of another peer.
-#[tactic(auto, using(crate::proofs::DiskLemmas::slot_at, crate::proofs::DiskLemmas::ready_slot))]
+#[tactic(auto, using(crate::proofs::DiskLemmas::slot_at, crate::proofs::DiskLemmas::ready_slot, crate::proofs::CountLemmas::falls_not, crate::proofs::CountLemmas::read_failed))]
 fn do_copy<D: Disk>(
     logs: &mut Vec<Option<PeerLog>>,
     disks: &mut [D],
@@ -105,6 +114,14 @@ fn do_copy<D: Disk>(
         (map (λ disk. seen_as (D.size disk) (D.stands disk) (D.faults disk)) disks.new)) }
     ensures logs { length logs.new.items ≡ length logs.old.items }
     ensures disks { length disks.new ≡ length disks.old }
+    ensures later { NoneFalls
+        (map (λ disk. seen_as (D.size disk) (D.stands disk) (D.faults disk)) disks.old)
+        (map (λ disk. seen_as (D.size disk) (D.stands disk) (D.faults disk)) disks.new) }
+    ensures paid { IfOk result (IsCopyPaid from peer
+        (seen_at (map (λ disk. seen_as (D.size disk) (D.stands disk) (D.faults disk)) disks.old)
+        peer).faults
+        (seen_at (map (λ disk. seen_as (D.size disk) (D.stands disk) (D.faults disk)) disks.new)
+        peer).faults) }
     ensures ticks { watch.old ≤ watch.new }
 {
     let source = usize::from(from);
@@ -152,6 +169,9 @@ fn do_usual<D: Disk>(
       old = D.stands disk.old;
       new = D.stands disk.new;
     }) (Some job.now) result }
+    ensures later { D.faults disk.old ≤ D.faults disk.new }
+    ensures paid { (at : ℕ) → only_reads at job.now ≡ false
+        → IfOk result (IsPaid peer (D.faults disk.old) (D.faults disk.new)) }
     ensures ticks { watch.old ≤ watch.new }
 {
     let Some(log) = slot.take() else {
@@ -183,6 +203,8 @@ fn do_reset<D: Disk>(
     ensures only { IsOkUnless result NoMemory }
     ensures ready { OnOk result
         (IsSlotReady D.tells slot.new (D.size disk.new) (D.stands disk.new)) }
+    ensures later { D.faults disk.old ≤ D.faults disk.new }
+    ensures paid { IfOk result (IsPaid peer (D.faults disk.old) (D.faults disk.new)) }
     ensures ticks { watch.old ≤ watch.new }
 {
     *slot = None;
@@ -207,6 +229,7 @@ fn read_copy<D: Disk>(
 ) -> Result<Entry, LogFault>
     requires ready { IsSlotReady D.tells slot.old (D.size disk.old) (D.stands disk.old) }
     ensures ready { IsSlotReady D.tells slot.new (D.size disk.new) (D.stands disk.new) }
+    ensures later { D.faults disk.old ≤ D.faults disk.new }
 {
     let Some(log) = slot.take() else {
         return Err(LogFault::NoMemory);
@@ -222,6 +245,7 @@ fn read_sealed<D: Disk>(log: &PeerLog, disk: &mut D, number: u64) -> Result<Entr
         (D.stands disk.old) }
     ensures ready { OnOk result (IsReady D.tells log.now (D.size disk.new log.now.log.side)
         (D.stands disk.new)) }
+    ensures later { D.faults disk.old ≤ D.faults disk.new }
 {
     match log.read_entry(disk, number)? {
         Some(entry) => Ok(entry),
@@ -244,6 +268,8 @@ fn write_copy<D: Disk>(
     ensures only { IsOkUnless result NoMemory }
     ensures ready { OnOk result
         (IsSlotReady D.tells slot.new (D.size disk.new) (D.stands disk.new)) }
+    ensures later { D.faults disk.old ≤ D.faults disk.new }
+    ensures paid { IfOk result (IsPaid peer (D.faults disk.old) (D.faults disk.new)) }
     ensures ticks { watch.old ≤ watch.new }
 {
     let Some(log) = slot.take() else {

@@ -2,6 +2,7 @@
 ghost use Rattle.std.specs.Prelude.{◌≡◌, ◌*◌, ◌++◌, ◌<◌, ◌≤◌, ℕ, None, flat_map, is_some, length, map, IfErr, IfOk};
 ghost use Rattle.hs_cluster.specs.Begins.{Begins, HasOpened, IsClosed, bad_of, begun_course, of_taking, opened_with, took_of};
 ghost use Rattle.hs_cluster.specs.Calls.{ran_out};
+ghost use Rattle.hs_cluster.specs.Counts.{NoneFalls};
 ghost use Rattle.hs_cluster.specs.Disks.{AreReady, seen_as, seen_at};
 ghost use Rattle.hs_cluster.specs.Opens.{Opens};
 ghost use Rattle.hs_core.specs.Opening.{open_core};
@@ -76,6 +77,9 @@ impl Cluster {
             → AreReady D.tells cluster.logs
             (map (λ disk. seen_as (D.size disk) (D.stands disk) (D.faults disk)) disks.new)) }
         ensures shape { IfOk result (λ cluster. cluster.core.members.shape ≡ shape) }
+        ensures counted { NoneFalls
+            (map (λ disk. seen_as (D.size disk) (D.stands disk) (D.faults disk)) disks.old)
+            (map (λ disk. seen_as (D.size disk) (D.stands disk) (D.faults disk)) disks.new) }
         ensures count { length disks.new ≡ length disks.old }
         ensures ticks { watch.old ≤ watch.new }
     {
@@ -126,6 +130,9 @@ impl Cluster {
             (map (λ disk. seen_as (D.size disk) (D.stands disk) (D.faults disk)) disks.new)) }
         ensures shape { IfOk result (λ cluster. cluster.core.members.shape ≡ shape) }
         ensures moment { IfOk result (λ cluster. cluster.core.moment ≡ watch.new) }
+        ensures counted { NoneFalls
+            (map (λ disk. seen_as (D.size disk) (D.stands disk) (D.faults disk)) disks.old)
+            (map (λ disk. seen_as (D.size disk) (D.stands disk) (D.faults disk)) disks.new) }
         ensures count { length disks.new ≡ length disks.old }
         ensures ticks { watch.old ≤ watch.new }
     {

@@ -7,9 +7,9 @@ ghost use Rattle.hs_desk.specs.declared.job.Job.TheVariants as job;
 ghost use Rattle.hs_entry.specs.declared.entry.Entry.{Entry};
 ghost use Rattle.hs_entry.specs.declared.entry.Entry.TheVariants.{Block};
 ghost use Rattle.hs_events.specs.Asked.{failed_disk};
-ghost use Rattle.hs_events.specs.Reports.{TellsOf};
+ghost use Rattle.hs_events.specs.Reports.{TellsOf, only_reads};
 ghost use Rattle.hs_fold.specs.Shards.Setting.{Numbered};
-ghost use Rattle.hs_peerlog.specs.Caused.{IsCaused};
+ghost use Rattle.hs_peerlog.specs.Caused.{IsCaused, IsOutside};
 ghost use Rattle.hs_peerlog.specs.Images.{Is, IsOne, LeavesEach};
 ghost use Rattle.hs_peerlog.specs.Lists.{HasLog, IsKept, IsReady};
 ghost use Rattle.hs_shard.specs.Facts.{pointers_at};
@@ -49,6 +49,9 @@ pub(crate) fn do_own<D: Disk>(
           old = D.stands disk.old;
           new = D.stands disk.new;
         }) job.now list waiting result }
+    ensures done { IfOk result (λ told. failed_disk told ≡ None) }
+    // But for a read, a call that is refused is one that failed.
+    ensures refused { (at : ℕ) → only_reads at job.now ≡ false → IfErr result IsOutside }
     ensures ticks { watch.old ≤ watch.new }
     ensures cause { IsCaused (D.faults disk.old) (D.faults disk.new) result }
 {
@@ -91,6 +94,7 @@ pub(crate) fn append_entry<D: Disk>(
         → (list : Numbered) (waiting : Option Entry)
         → HasLog log.old (D.stands disk.old) list waiting
         → LeavesEach watch.old watch.new (D.stands disk.old) (D.stands disk.new) (Is list) }
+    ensures refused { IfErr result IsOutside }
     ensures ticks { watch.old ≤ watch.new }
     ensures cause { IsCaused (D.faults disk.old) (D.faults disk.new) result }
 {
@@ -115,6 +119,7 @@ fn is_next(log: &PeerLog, number: u64) -> bool
 }
 
 /// Seals the entry of a number, where it waits.
+#[tactic(auto, using(crate::proofs::CountLemmas::outside_disk))]
 fn seal_entry<D: Disk>(
     log: &mut PeerLog,
     disk: &mut D,
@@ -134,6 +139,7 @@ fn seal_entry<D: Disk>(
         → HasLog log.old (D.stands disk.old) list waiting
         → LeavesEach watch.old watch.new (D.stands disk.old) (D.stands disk.new)
         (IsOne list (sealed_list list waiting)) }
+    ensures refused { IfErr result IsOutside }
     ensures ticks { watch.old ≤ watch.new }
     ensures cause { IsCaused (D.faults disk.old) (D.faults disk.new) result }
 {
@@ -215,6 +221,7 @@ pub(crate) fn empty_disk<D: Disk>(
 ) -> Result<PeerLog, LogFault>
     ensures ready { IfOk result (λ log. IsReady D.tells log (D.size disk.new log.log.side)
         (D.stands disk.new)) }
+    ensures refused { IfErr result IsOutside }
     ensures ticks { watch.old ≤ watch.new }
     ensures cause { IsCaused (D.faults disk.old) (D.faults disk.new) result }
 {
@@ -244,6 +251,7 @@ pub(crate) fn keep_copy<D: Disk>(
         (D.stands disk.old) }
     ensures ready { OnOk result (IsReady D.tells log.new (D.size disk.new log.new.log.side)
         (D.stands disk.new)) }
+    ensures refused { IfErr result IsOutside }
     ensures ticks { watch.old ≤ watch.new }
     ensures cause { IsCaused (D.faults disk.old) (D.faults disk.new) result }
 {

@@ -1,5 +1,6 @@
 use Rattle.std.proofs.Common.{refl, Some, true}
 use Rattle.std.proofs.lemmas.Result.{err_from_is_err_and}
+use Rattle.hs_cluster.proofs.CountLemmas.{read_only}
 use Rattle.hs_cluster.proofs.JobLemmas.{first_of_two, leaves_err, leaves_ok, leaves_read, stays_one}
 use Rattle.hs_cluster.specs.Jobs.{list_after}
 use Rattle.hs_desk.specs.declared.done.Done.TheVariants as done
@@ -33,3 +34,6 @@ pub returns-in-Reclaim-clause-leaves : goal.returns-in-Reclaim-clause-leaves
 returns-in-Reclaim-clause-leaves g c = λ told last list waiting has.
     leaves_ok _ c.args.job.now job.Reclaim list waiting (done.Stepped true) c.args.log.now c.in-Reclaim.is refl refl
     (stays_one (g.D.Disk.stands c.args.disk.now) c.args.watch.now list (list_after c.args.job.now list waiting) last (g.met.D.Disk.since told c.args.disk.now) has.leaves) has tt
+
+pub returns-in-Read-clause-refused : goal.returns-in-Read-clause-refused
+returns-in-Read-clause-refused g c = λ at only. absurd (read_only at c.in-Read.number c.args.job.now c.in-Read.is only)

@@ -1,4 +1,5 @@
 use Rattle.std.proofs.Common.{◌≡◌, ◌∙◌, ap, is_some, map, sym}
+use Rattle.hs_cluster.proofs.CountLemmas.{falls_then}
 use Rattle.hs_cluster.proofs.GoingOnLemmas.{opens_found}
 use Rattle.hs_cluster.proofs.TurnedLemmas.{not_turned, opened, ready_then, turned}
 use Rattle.hs_cluster.specs.Begins.{HasOpened}
@@ -47,3 +48,13 @@ returns-clause-opens g c = λ one.
 pub returns-clause-ready : goal.returns-clause-ready
 returns-clause-ready g c = λ on.
     ready_then c.settle-done.result c.settle-done.new.self.core.ended (c.settle-done.ensures.walks.does.outcome (sym c.ran_out.ensures ∙ c.if-ran_out.false)) c.settle-done.ensures.ready on
+
+pub returns-clause-counted : goal.returns-clause-counted
+returns-clause-counted g c =
+    let f : g.row.D.Denot → DiskSeen = λ disk. seen_as (g.D.Disk.size disk) (g.D.Disk.stands disk) (g.D.Disk.faults disk) in
+    falls_then (map f c.args.disks.now) (map f c.begin.new.disks) (map f c.settle-done.new.disks) c.begin.ensures.counted c.settle-done.ensures.walks.kept.counted.later
+
+pub returns-then-ran_out-clause-counted : goal.returns-then-ran_out-clause-counted
+returns-then-ran_out-clause-counted g c =
+    let f : g.row.D.Denot → DiskSeen = λ disk. seen_as (g.D.Disk.size disk) (g.D.Disk.stands disk) (g.D.Disk.faults disk) in
+    falls_then (map f c.args.disks.now) (map f c.begin.new.disks) (map f c.settle-done.new.disks) c.begin.ensures.counted c.settle-done.ensures.walks.kept.counted.later

@@ -5,6 +5,7 @@ use Rattle.hs_cluster.proofs.ShowLemmas.{does_same, job_cut, job_shows}
 use Rattle.hs_cluster.proofs.WalkLemmas.{event_due, nothing_due, report_is_it}
 use Rattle.hs_cluster.specs.Calls.{Does, done_of}
 use Rattle.hs_cluster.specs.declared.fault.ClusterFault.{ClusterFault}
+use Rattle.hs_cluster.specs.Counts.{HasPaid}
 use Rattle.hs_cluster.specs.Disks.{DiskSeen, seen_as}
 use Rattle.hs_cluster.specs.Jobs.{Works, is_own}
 use Rattle.hs_cluster.specs.Running.{Running}
@@ -30,7 +31,8 @@ returns-in_default-clause-does g c = λ line.
       after = c.do_job-done.new.logs.items;
       disks = map f c.args.disks.now;
       left = map f c.do_job-done.new.disks;
-    }) (first_job c.args.peer r.core) c.do_job-done.result) c.self.view_is (c.do_job-done.ensures.works told)))
+    }) (first_job c.args.peer r.core) c.do_job-done.result) c.self.view_is (c.do_job-done.ensures.works told))
+    c.do_job-done.ensures.later)
 
 pub returns-clause-does : goal.returns-clause-does
 returns-clause-does g c = λ line.
@@ -56,4 +58,5 @@ returns-clause-does g c = λ line.
       disks = map f c.args.disks.now;
       left = map f c.do_job-done.new.disks;
     }) (first_job c.args.peer r.core) (Ok c.in-Ok.done)) c.self.view_is (c.in-Ok.ensures.works told))
-    c.step.ensures.logs does)
+    c.step.ensures.logs does c.do_job-done.ensures.later
+    (subst (λ (r : Running). HasPaid r.core c.args.peer c.in-Ok.done (map f c.args.disks.now) (map f c.do_job-done.new.disks)) c.self.view_is c.in-Ok.ensures.paid))
