@@ -19,6 +19,7 @@ pub mod ReadyLemmas
 pub mod RiseLemmas
 pub mod RunLemmas
 pub mod ServeLemmas
+pub mod ShownLemmas
 pub mod SpendsLemmas
 pub mod StatusLemmas
 pub mod TellingLemmas

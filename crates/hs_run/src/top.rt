@@ -1,5 +1,6 @@
 //! A run of a script on the disks of a store.
-ghost use Rattle.std.specs.Prelude.{◌≡◌, ◌*◌, ◌<◌, ◌^◌, ℕ, is_ok, length, map, true, Option, IfSome};
+ghost use Rattle.std.specs.Prelude.{◌≡◌, ◌*◌, ◌<◌, ◌^◌, ℕ, false, is_ok, length, map, true, Option, IfSome};
+ghost use Rattle.hs_cluster.specs.Calls.{outcome_by, ran_out};
 ghost use Rattle.hs_cluster.specs.Disks.{seen_as};
 ghost use Rattle.hs_limits.specs.Shape.{IsShape};
 ghost use Rattle.hs_model.specs.declared.command.Command.{Command};
@@ -44,6 +45,7 @@ fn go<A: Addresser, S: Source, K: Sink, D: Disk>(
       got = K.got sink.old;
       line = run.old.line;
     }) }
+    requires outcome { ran_out did ≡ false → did ≡ outcome_by run.old.cluster.core.ended }
     ensures runs { (b : Begun) → StartsAt D.tells b (A.name naming.now) did (record {
       now = watch.old;
       cluster = run.old.cluster;
