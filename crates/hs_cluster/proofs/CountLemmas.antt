@@ -4,7 +4,7 @@ use Rattle.std.proofs.lemmas.Bool.{cases_eq, cases_lt}
 use Rattle.std.specs.Option.{option_map_or}
 use Rattle.std.specs.Prelude.{◌==◌, ◌||◌, ⊤, IfErr, IfOk, IfSome, Result, Ok, Err, if◌then◌else◌, min, slice_index_or, slice_set}
 use Rattle.hs_cluster.specs.Calls.{done_of, ran_out}
-use Rattle.hs_cluster.specs.Counts.{AreCounted, HasPaid, IsCopyPaid, IsPaid, NoneFalls}
+use Rattle.hs_cluster.specs.Counts.{AreAllCounted, AreCounted, HasAllPaid, HasPaid, IsCopyPaid, IsPaid, NoneFalls}
 use Rattle.hs_cluster.specs.declared.fault.ClusterFault.{ClusterFault}
 use Rattle.hs_cluster.specs.Disks.{DiskSeen, seen_at}
 use Rattle.hs_core.specs.declared.event.Event.{Event}
@@ -133,6 +133,25 @@ costs_of disk peer core done h = go (failed_disk done) (option_map_or (only_read
     go (Some d) true h = absurd (no_truth (both_true (d == disk) false h).1)
     go (Some d) false h = (ap (λ n. Some n) (same_number d disk (both_true (d == disk) true h).0), refl)
 
+-- whose failed call is told, whatever the job
+all_costs_of : (disk peer : ℕ) (core : Core) (done : Done) → costs true disk core (event.Report peer done) ≡ true → failed_disk done ≡ Some disk
+all_costs_of disk peer core done h = go (failed_disk done) (option_map_or (only_reads disk) (first_job peer core) false) h
+  where
+    go : (o : Option ℕ) (reads : Bool) → (option_map_or (λ d. d == disk) o false && (true || not reads)) ≡ true → o ≡ Some disk
+    go None reads h = absurd (no_truth h)
+    go (Some d) reads h = ap (λ n. Some n) (same_number d disk (both_true (d == disk) (true || not reads) h).0)
+
+-- a job of whatever kind on the disk of its peer alone
+pub all_paid : (core : Core) (peer : ℕ) (done : Done) (old new : List DiskSeen) → IsPaid peer (seen_at old peer).faults (seen_at new peer).faults done → HasAllPaid core peer done old new
+all_paid core peer done old new paid = λ disk cost.
+    let both = subst (λ o. IfSome o (λ d. (d ≡ peer) × HasRisen (seen_at old peer).faults (seen_at new peer).faults)) (all_costs_of disk peer core done cost) paid in
+    subst (λ p. HasRisen (seen_at old p).faults (seen_at new p).faults) (sym both.0) both.1
+
+pub all_paid_result : {E : Type 0} (core : Core) (peer : ℕ) (result : Result Done E) (old new : List DiskSeen) → IfOk result (IsPaid peer (seen_at old peer).faults (seen_at new peer).faults)
+    → IfOk result (λ done. HasAllPaid core peer done old new)
+all_paid_result core peer (Ok done) old new paid = all_paid core peer done old new paid
+all_paid_result core peer (Err fault) old new paid = tt
+
 -- a job that is done on the disk of its peer alone
 pub job_paid : (core : Core) (peer : ℕ) (j : Job) (done : Done) (old new : List DiskSeen) → first_job peer core ≡ Some j
     → ((disk : ℕ) → only_reads disk j ≡ false → IsPaid peer (seen_at old peer).faults (seen_at new peer).faults done) → HasPaid core peer done old new
@@ -177,6 +196,11 @@ paid_at {E = E} f disks peer place d disk result same low paid =
 pub read_only : (disk number : ℕ) (j : Job) → j ≡ job.Read number → only_reads disk j ≡ false → ⊥
 read_only disk number j is only = no_truth (sym only ∙ ap (λ x. only_reads disk x) is)
 
+-- want of memory alone
+pub outside_memory : {T : Type 0} (result : Result T LogFault) → IfErr result (λ fault. fault ≡ log.NoMemory) → IfErr result IsOutside
+outside_memory (Ok x) h = tt
+outside_memory (Err fault) h = subst (λ f. IsOutside f) (sym h) tt
+
 -- a fault of the disk alone
 pub outside_disk : {T : Type 0} (result : Result T LogFault) → IfErr result (λ fault. fault ≡ log.Disk) → IfErr result IsOutside
 outside_disk (Ok x) h = tt
@@ -191,33 +215,52 @@ counted_none core old new later = record { later = later; failed = λ disk. rose
 pub counted_still : (core : Core) (disks : List DiskSeen) → AreCounted core [] disks disks
 counted_still core disks = counted_none core disks disks (falls_same disks)
 
+-- so of reads too
+pub all_none : (core : Core) (old new : List DiskSeen) → NoneFalls old new → AreAllCounted core [] old new
+all_none core old new later = λ disk. rose_none (2 ^ 64 - 1) (seen_at old disk).faults (seen_at new disk).faults (later disk)
+
+pub all_still : (core : Core) (disks : List DiskSeen) → AreAllCounted core [] disks disks
+all_still core disks = all_none core disks disks (falls_same disks)
+
 -- one event, unless memory ran out before it
-pub counted_one : (core : Core) (e : Event) (now : ℕ) (r : Result ⊤ ClusterFault) (old new : List DiskSeen) → NoneFalls old new
-    → ((disk : ℕ) → costs false disk core e ≡ true → HasRisen (seen_at old disk).faults (seen_at new disk).faults) → AreCounted core (done_of r (e, now)) old new
-counted_one core e now r old new later paid = record { later = later; failed = λ disk. by disk (ran_out r) }
+rose_one : (tells : Bool) (core : Core) (e : Event) (now : ℕ) (r : Result ⊤ ClusterFault) (old new : List DiskSeen) → NoneFalls old new
+    → ((disk : ℕ) → costs tells disk core e ≡ true → HasRisen (seen_at old disk).faults (seen_at new disk).faults)
+    → (disk : ℕ) → RoseBy (failures tells disk core (done_of r (e, now))) (seen_at old disk).faults (seen_at new disk).faults
+rose_one tells core e now r old new later paid = λ disk. by disk (ran_out r)
   where
-    one : (disk : ℕ) (b : Bool) → costs false disk core e ≡ b → RoseBy ((if b then 1 else 0) + 0) (seen_at old disk).faults (seen_at new disk).faults
+    one : (disk : ℕ) (b : Bool) → costs tells disk core e ≡ b → RoseBy ((if b then 1 else 0) + 0) (seen_at old disk).faults (seen_at new disk).faults
     one disk true cost = paid disk cost
     one disk false cost = rose_none (2 ^ 64 - 1) (seen_at old disk).faults (seen_at new disk).faults (later disk)
 
-    by : (disk : ℕ) (b : Bool) → RoseBy (failures false disk core (if b then [] else (e, now) ∷ [])) (seen_at old disk).faults (seen_at new disk).faults
+    by : (disk : ℕ) (b : Bool) → RoseBy (failures tells disk core (if b then [] else (e, now) ∷ [])) (seen_at old disk).faults (seen_at new disk).faults
     by disk true = rose_none (2 ^ 64 - 1) (seen_at old disk).faults (seen_at new disk).faults (later disk)
-    by disk false = one disk (costs false disk core e) refl
+    by disk false = one disk (costs tells disk core e) refl
+
+pub counted_one : (core : Core) (e : Event) (now : ℕ) (r : Result ⊤ ClusterFault) (old new : List DiskSeen) → NoneFalls old new
+    → ((disk : ℕ) → costs false disk core e ≡ true → HasRisen (seen_at old disk).faults (seen_at new disk).faults) → AreCounted core (done_of r (e, now)) old new
+counted_one core e now r old new later paid = record { later = later; failed = rose_one false core e now r old new later paid }
+
+pub all_one : (core : Core) (e : Event) (now : ℕ) (r : Result ⊤ ClusterFault) (old new : List DiskSeen) → NoneFalls old new
+    → ((disk : ℕ) → costs true disk core e ≡ true → HasRisen (seen_at old disk).faults (seen_at new disk).faults) → AreAllCounted core (done_of r (e, now)) old new
+all_one core e now r old new later paid = rose_one true core e now r old new later paid
 
 -- one that is no report
-quiet_costs : (disk : ℕ) (core : Core) (e : Event) → report_in e ≡ None → costs false disk core e ≡ false
-quiet_costs disk core (event.Line line o) quiet = refl
-quiet_costs disk core (event.Report peer done) quiet = absurd (some_is_not (peer, done) quiet)
-quiet_costs disk core (event.Turn line peer) quiet = refl
-quiet_costs disk core (event.Deliver line message) quiet = refl
-quiet_costs disk core (event.Lose line message) quiet = refl
-quiet_costs disk core (event.Repeat line message) quiet = refl
-quiet_costs disk core (event.Nudge line peer) quiet = refl
-quiet_costs disk core (event.Fail line peer) quiet = refl
-quiet_costs disk core (event.Start line peer) quiet = refl
+quiet_costs : (tells : Bool) (disk : ℕ) (core : Core) (e : Event) → report_in e ≡ None → costs tells disk core e ≡ false
+quiet_costs tells disk core (event.Line line o) quiet = refl
+quiet_costs tells disk core (event.Report peer done) quiet = absurd (some_is_not (peer, done) quiet)
+quiet_costs tells disk core (event.Turn line peer) quiet = refl
+quiet_costs tells disk core (event.Deliver line message) quiet = refl
+quiet_costs tells disk core (event.Lose line message) quiet = refl
+quiet_costs tells disk core (event.Repeat line message) quiet = refl
+quiet_costs tells disk core (event.Nudge line peer) quiet = refl
+quiet_costs tells disk core (event.Fail line peer) quiet = refl
+quiet_costs tells disk core (event.Start line peer) quiet = refl
 
 pub counted_quiet : (core : Core) (e : Event) (now : ℕ) (r : Result ⊤ ClusterFault) (disks : List DiskSeen) → report_in e ≡ None → AreCounted core (done_of r (e, now)) disks disks
-counted_quiet core e now r disks quiet = counted_one core e now r disks disks (falls_same disks) (λ disk cost. absurd (no_truth (sym (quiet_costs disk core e quiet) ∙ cost)))
+counted_quiet core e now r disks quiet = counted_one core e now r disks disks (falls_same disks) (λ disk cost. absurd (no_truth (sym (quiet_costs false disk core e quiet) ∙ cost)))
+
+pub all_quiet : (core : Core) (e : Event) (now : ℕ) (r : Result ⊤ ClusterFault) (disks : List DiskSeen) → report_in e ≡ None → AreAllCounted core (done_of r (e, now)) disks disks
+all_quiet core e now r disks quiet = all_one core e now r disks disks (falls_same disks) (λ disk cost. absurd (no_truth (sym (quiet_costs true disk core e quiet) ∙ cost)))
 
 -- some behind others
 pub failures_append : (tells : Bool) (disk : ℕ) (core : Core) (es fs : Events) → failures tells disk core (es ++ fs) ≡ failures tells disk core es + failures tells disk (steps core es) fs
@@ -232,13 +275,22 @@ failures_append tells disk core (e ∷ es) fs =
     shift : (a b c : ℕ) → a + (b + c) ≡ (a + b) + c
     shift a b c = omega arith
 
+rose_both : (tells : Bool) (core mid : Core) (es fs : Events) (disks between left : List DiskSeen) → mid ≡ steps core es
+    → ((disk : ℕ) → RoseBy (failures tells disk core es) (seen_at disks disk).faults (seen_at between disk).faults)
+    → ((disk : ℕ) → RoseBy (failures tells disk mid fs) (seen_at between disk).faults (seen_at left disk).faults)
+    → (disk : ℕ) → RoseBy (failures tells disk core (es ++ fs)) (seen_at disks disk).faults (seen_at left disk).faults
+rose_both tells core mid es fs disks between left is one two = λ disk.
+    subst (λ n. RoseBy n (seen_at disks disk).faults (seen_at left disk).faults) (sym (failures_append tells disk core es fs))
+    (rose_then (2 ^ 64 - 1) (seen_at disks disk).faults (seen_at between disk).faults (seen_at left disk).faults (failures tells disk core es) (failures tells disk (steps core es) fs)
+    (one disk) (subst (λ (c : Core). RoseBy (failures tells disk c fs) (seen_at between disk).faults (seen_at left disk).faults) is (two disk)))
+
+pub all_then : (core mid : Core) (es fs : Events) (disks between left : List DiskSeen) → mid ≡ steps core es → AreAllCounted core es disks between → AreAllCounted mid fs between left → AreAllCounted core (es ++ fs) disks left
+all_then core mid es fs disks between left is one two = rose_both true core mid es fs disks between left is one two
+
 pub counted_then : (core mid : Core) (es fs : Events) (disks between left : List DiskSeen) → mid ≡ steps core es → AreCounted core es disks between → AreCounted mid fs between left → AreCounted core (es ++ fs) disks left
 counted_then core mid es fs disks between left is one two = record {
   later = falls_then disks between left one.later two.later;
-  failed = λ disk.
-      subst (λ n. RoseBy n (seen_at disks disk).faults (seen_at left disk).faults) (sym (failures_append false disk core es fs))
-      (rose_then (2 ^ 64 - 1) (seen_at disks disk).faults (seen_at between disk).faults (seen_at left disk).faults (failures false disk core es) (failures false disk (steps core es) fs)
-      (one.failed disk) (subst (λ (c : Core). RoseBy (failures false disk c fs) (seen_at between disk).faults (seen_at left disk).faults) is (two.failed disk)));
+  failed = rose_both false core mid es fs disks between left is one.failed two.failed;
 }
 
 -- so from earlier disks too, where no count fell on the way

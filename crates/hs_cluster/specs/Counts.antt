@@ -24,6 +24,10 @@ IsCopyPaid from peer before now done = IfSome (failed_disk done) (λ disk. (disk
 abbrev pub HasPaid : Core → ℕ → Done → List DiskSeen → List DiskSeen → Type 0
 HasPaid core peer done old new = (disk : ℕ) → costs false disk core (Report peer done) ≡ true → HasRisen (seen_at old disk).faults (seen_at new disk).faults
 
+-- that of each disk whose failed call is told so
+abbrev pub HasAllPaid : Core → ℕ → Done → List DiskSeen → List DiskSeen → Type 0
+HasAllPaid core peer done old new = (disk : ℕ) → costs true disk core (Report peer done) ≡ true → HasRisen (seen_at old disk).faults (seen_at new disk).faults
+
 -- ---- events
 
 -- no count falls

@@ -1,14 +1,12 @@
 -- What a cluster tells of its disks: the counts of any, and the contents, where they tell them and each shard has one copy.
-use Rattle.std.specs.Prelude.{◌≡◌, ◌≤◌, ◌<◌, ◌-◌, ◌^◌, ℕ, ⊤, List, [], ◌∷◌, is_some, take, true, Contains, Option, Some, None, Result, OnOk}
+use Rattle.std.specs.Prelude.{◌≡◌, ◌≤◌, ◌<◌, ◌-◌, ◌^◌, ℕ, ⊤, List, [], ◌∷◌, take, Option, Some, None, Result, OnOk}
 use Rattle.hs_cluster.specs.Counts.{AreAllCounted, AreCounted}
 use Rattle.hs_cluster.specs.Disks.{DiskSeen, log_at, stands_of}
-use Rattle.hs_cluster.specs.Rooms.{HaveRecordRoom}
+use Rattle.hs_cluster.specs.Jobs.{HasStored}
 use Rattle.hs_cluster.specs.Running.{Running}
 use Rattle.hs_cluster.specs.declared.fault.ClusterFault.{ClusterFault}
 use Rattle.hs_core.specs.Looking.{catalogue_of, first_job, home}
 use Rattle.hs_desk.specs.declared.done.Done.{Done}
-use Rattle.hs_desk.specs.declared.job.Job.TheVariants as job
-use Rattle.hs_entry.specs.declared.entry.Entry.{Entry}
 use Rattle.hs_events.specs.Asked.{report_in}
 use Rattle.hs_events.specs.Course.{happened}
 use Rattle.hs_events.specs.Due.{Events}
@@ -23,7 +21,6 @@ use Rattle.hs_moments.specs.WholeMachine.{IsFrontOf, last_of, whole_machine}
 use Rattle.hs_peerlog.specs.Lists.{HasLog, Keeping}
 use Rattle.hs_ports.specs.declared.disk.Side.{Side}
 use Rattle.hs_ports.specs.Moments.{disk_at}
-use Rattle.hs_shard.specs.Facts.{pointers_at}
 
 -- how much of a peer's list is on its disk at least: what it has sealed
 abbrev pub sealed_front : Whole → ℕ → Numbered
@@ -71,20 +68,17 @@ pub record LeavesLists (c : Whole) (events : Events) (span : Span) : Type 0 wher
   pub keeps : Keeps whole_machine IsFrontOf last_of (runs whole_machine c (happened c.core events)) span.now (stands_of span.left)
   pub told : AreTold c events
 
--- what is sealed of the list of a peer has an entry of the number that it is to read, where its shard has a block that was stored by that
+-- what a peer is to read is in what is sealed of its list, where its shard still has it
 abbrev pub IsStored : Whole → Type 0
-IsStored c = (peer number : ℕ) → first_job peer c.core ≡ Some (job.Read number)
-    → is_some (pointers_at number (catalogue_of (home peer c.core) c.core).blocks) ≡ true → (entry : Entry) × Contains (sealed_front c peer) (number, entry)
+IsStored c = (peer : ℕ) → HasStored (first_job peer c.core) (catalogue_of (home peer c.core) c.core).blocks (sealed_front c peer)
 
 abbrev pub AreStored : Whole → Events → Type 0
 AreStored c [] = ⊤
 AreStored c (e ∷ es) = IsStored c × AreStored (step_whole e.0 e.1 c) es
 
--- what the events of a call show. Of whatever disks: what they report of failed calls is at the counts, and a core that goes on has room.
--- Of those that tell their contents, for the lists with which the call began: the lists at each moment; behind it the cluster keeps what it needs to go on; and reads too cost what is reported of failed calls
+-- what the events of a call show. Of whatever disks: what they report of failed calls is at the counts. Of those that tell their contents, for the lists with which the call began: the lists at each moment; behind it the cluster keeps what it needs to go on; and reads too cost what is reported of failed calls
 pub record Shows (tells : Type 0) (span : Span) (result : Result ⊤ ClusterFault) (events : Events) : Type 0 where
   pub counted : AreCounted span.old.core events span.disks span.left
-  pub rooms : HaveRecordRoom span.old.core events
   pub lists : tells → (c : Whole) → c.core ≡ span.old.core → CanGoOn c span.old.logs span.disks span.before → LeavesLists c events span
   pub goes_on : tells → (c : Whole) → c.core ≡ span.old.core → CanGoOn c span.old.logs span.disks span.before
       → OnOk result (CanGoOn (runs whole_machine c events) span.new.logs span.left span.now)

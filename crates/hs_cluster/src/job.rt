@@ -1,16 +1,19 @@
 //! The first job of a peer.
-ghost use Rattle.std.specs.Prelude.{◌≡◌, ◌*◌, ◌+◌, ◌≤◌, ℕ, Some, length, map, true, false, IfOk, IsOkUnless, OnOk};
+ghost use Rattle.std.specs.Prelude.{◌≡◌, ◌*◌, ◌+◌, ◌≤◌, ℕ, Option, Some, length, map, true, false, IfOk, IsOkUnless, OnOk};
 ghost use Rattle.hs_cluster.specs.declared.fault.ClusterFault.TheVariants.{NoMemory};
-ghost use Rattle.hs_cluster.specs.Counts.{HasPaid, IsCopyPaid, IsPaid, NoneFalls};
-ghost use Rattle.hs_cluster.specs.Disks.{AreReady, IsSlotReady, seen_as, seen_at};
-ghost use Rattle.hs_cluster.specs.Jobs.{Tries, Works, is_own};
-ghost use Rattle.hs_core.specs.Looking.{first_job};
+ghost use Rattle.hs_cluster.specs.Counts.{HasAllPaid, HasPaid, IsCopyPaid, IsPaid, NoneFalls};
+ghost use Rattle.hs_cluster.specs.Disks.{AreReady, IsSlotReady, log_at, seen_as, seen_at, stands_of};
+ghost use Rattle.hs_cluster.specs.Jobs.{HasStored, Tries, Works, is_own};
+ghost use Rattle.hs_core.specs.Looking.{catalogue_of, first_job, home};
+ghost use Rattle.hs_entry.specs.declared.entry.Entry.{Entry};
 ghost use Rattle.hs_events.specs.Due.{is_answer};
 ghost use Rattle.hs_events.specs.Reports.{only_reads};
 ghost use Rattle.hs_desk.specs.Answers.{answers};
 ghost use Rattle.hs_desk.specs.declared.job.Job.TheVariants as job;
 ghost use Rattle.hs_members.specs.Members.{IsPeer};
-ghost use Rattle.hs_peerlog.specs.Lists.{IsReady};
+ghost use Rattle.hs_fold.specs.Shards.Setting.{Numbered};
+ghost use Rattle.hs_peerlog.specs.Lists.{HasLog, IsReady, Keeping};
+ghost use Rattle.hs_ports.specs.Moments.{disk_at};
 
 use crate::ClusterFault;
 use crate::work::{do_own, empty_disk, keep_copy};
@@ -62,6 +65,17 @@ pub(crate) fn do_job<D: Disk>(
         (map (λ disk. seen_as (D.size disk) (D.stands disk) (D.faults disk)) disks.old)
         (map (λ disk. seen_as (D.size disk) (D.stands disk) (D.faults disk)) disks.new) }
     ensures paid { IfOk result (λ done. HasPaid core.now peer done
+        (map (λ disk. seen_as (D.size disk) (D.stands disk) (D.faults disk)) disks.old)
+        (map (λ disk. seen_as (D.size disk) (D.stands disk) (D.faults disk)) disks.new)) }
+    // Of a job that only read too, where the list of its log has what the catalogue says.
+    ensures read { D.tells → is_own (first_job peer core.now) ≡ true
+        → (list : Numbered) (waiting : Option Entry)
+        → ((keeping : Keeping) → log_at logs.old.items peer ≡ Some keeping
+        → HasLog keeping (disk_at (stands_of (map (λ disk. seen_as (D.size disk) (D.stands disk)
+        (D.faults disk)) disks.old)) peer) list waiting)
+        → HasStored (first_job peer core.now)
+        (catalogue_of (home peer core.now) core.now).blocks list
+        → IfOk result (λ done. HasAllPaid core.now peer done
         (map (λ disk. seen_as (D.size disk) (D.stands disk) (D.faults disk)) disks.old)
         (map (λ disk. seen_as (D.size disk) (D.stands disk) (D.faults disk)) disks.new)) }
     ensures ticks { watch.old ≤ watch.new }
@@ -171,6 +185,11 @@ fn do_usual<D: Disk>(
     }) (Some job.now) result }
     ensures later { D.faults disk.old ≤ D.faults disk.new }
     ensures paid { (at : ℕ) → only_reads at job.now ≡ false
+        → IfOk result (IsPaid peer (D.faults disk.old) (D.faults disk.new)) }
+    ensures read { D.tells → (list : Numbered) (waiting : Option Entry)
+        → ((keeping : Keeping) → slot.old ≡ Some keeping
+        → HasLog keeping (D.stands disk.old) list waiting)
+        → HasStored (Some job.now) catalogue.now.blocks list
         → IfOk result (IsPaid peer (D.faults disk.old) (D.faults disk.new)) }
     ensures ticks { watch.old ≤ watch.new }
 {

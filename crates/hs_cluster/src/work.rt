@@ -1,6 +1,6 @@
 //! One job on the disk of a peer.
 ghost use Rattle.std.specs.Prelude.{◌≡◌, ◌+◌, ◌≤◌, ℕ, List, Option, None, Some, true, false, is_some, IfOk, IfErr, OnOk};
-ghost use Rattle.hs_cluster.specs.Jobs.{Leaves, sealed_list};
+ghost use Rattle.hs_cluster.specs.Jobs.{HasStored, Leaves, sealed_list};
 ghost use Rattle.hs_desk.specs.Answers.{answers};
 ghost use Rattle.hs_desk.specs.declared.done.Done.TheVariants as done;
 ghost use Rattle.hs_desk.specs.declared.job.Job.TheVariants as job;
@@ -50,8 +50,12 @@ pub(crate) fn do_own<D: Disk>(
           new = D.stands disk.new;
         }) job.now list waiting result }
     ensures done { IfOk result (λ told. failed_disk told ≡ None) }
-    // But for a read, a call that is refused is one that failed.
+    // But for a read, a call that is refused is one that failed; and so is a read, where the list has
+    // what the catalogue says.
     ensures refused { (at : ℕ) → only_reads at job.now ≡ false → IfErr result IsOutside }
+    ensures failed { D.tells → (list : Numbered) (waiting : Option Entry)
+        → HasLog log.old (D.stands disk.old) list waiting
+        → HasStored (Some job.now) catalogue.now.blocks list → IfErr result IsOutside }
     ensures ticks { watch.old ≤ watch.new }
     ensures cause { IsCaused (D.faults disk.old) (D.faults disk.new) result }
 {
@@ -169,6 +173,9 @@ fn read_block<D: Disk>(
         → IsKept log.now ((D.stands disk.old).seen log.now.log.side) list waiting
         → IfOk result (λ told. TellsOf told (Some list)) }
     ensures done { IfOk result (λ told. failed_disk told ≡ None) }
+    ensures refused { D.tells → (list : Numbered) (waiting : Option Entry)
+        → IsKept log.now ((D.stands disk.old).seen log.now.log.side) list waiting
+        → HasStored (Some (job.Read number)) catalogue.now.blocks list → IfErr result IsOutside }
     ensures cause { IsCaused (D.faults disk.old) (D.faults disk.new) result }
 {
     match log.read_entry(disk, number)? {
