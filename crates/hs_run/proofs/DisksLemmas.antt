@@ -1,8 +1,9 @@
 -- What a run shows of its disks, in the words of its objects.
 use Rattle.std.proofs.Common.{◌≡◌, ◌⊎◌, inl, inr, ◌∙◌, ap, sym, subst, ℕ, zero, suc, ◌+◌, ◌-◌, ◌^◌, ◌<◌, ◌≤◌, false, List, [], ◌∷◌, None, refl, arith, length, map, min}
 use Rattle.std.specs.Prelude.{slice_index_or}
-use Rattle.hs_cluster.proofs.CountLemmas.{counted_before, faults_seen}
-use Rattle.hs_cluster.specs.Counts.{AreCounted, NoneFalls}
+use Rattle.hs_cluster.proofs.CountLemmas.{falls_then, faults_seen}
+use Rattle.hs_cluster.proofs.RunLemmas.{some_failed}
+use Rattle.hs_cluster.specs.Counts.{NoneFalls}
 use Rattle.hs_cluster.specs.Disks.{DiskSeen, seen_at, stands_of}
 use Rattle.hs_cluster.specs.Kept.{Span}
 use Rattle.hs_cluster.specs.RunsOn.{RunsOn}
@@ -62,18 +63,17 @@ falls_is old new disks left was is falls k =
     let low = falls k in
     omega (arith, a, b, low)
 
-module _ (tells : Type 0) (set : Setting) (span : Span) (found : Found) (events : Events) (shown : RunsOn tells set span found events) where
-  pub counted_from : AreCounted (first_core set found) events span.disks span.left
-  counted_from = counted_before (first_core set found) events span.disks shown.disks span.left shown.falls shown.counted
+-- a count that rose before the first turn
+pub risen_since : (tells : Type 0) (set : Setting) (span : Span) (found : Found) (events : Events) (shown : RunsOn tells set span found events) (k : ℕ) → HasRisen (seen_at span.disks k).faults (seen_at shown.disks k).faults → HasRisen (seen_at span.disks k).faults (seen_at span.left k).faults
+risen_since tells set span found events shown k rose = up_to (min ((seen_at span.disks k).faults + 1) (2 ^ 64 - 1)) (seen_at shown.disks k).faults (seen_at span.left k).faults rose (shown.counted.later k)
 
-  -- a count that rose before the first turn
-  pub risen_since : (k : ℕ) → HasRisen (seen_at span.disks k).faults (seen_at shown.disks k).faults → HasRisen (seen_at span.disks k).faults (seen_at span.left k).faults
-  risen_since k rose = up_to (min ((seen_at span.disks k).faults + 1) (2 ^ 64 - 1)) (seen_at shown.disks k).faults (seen_at span.left k).faults rose (shown.counted.later k)
+pub none_fell : (tells : Type 0) (set : Setting) (span : Span) (found : Found) (events : Events) → RunsOn tells set span found events → NoneFalls span.disks span.left
+none_fell tells set span found events shown = falls_then span.disks shown.disks span.left shown.falls shown.counted.later
 
 pub paid_by : (tells : Type 0) (set : Setting) (span : Span) (found : Found) (events : Events) (old new : Objects) → AreHanded old span.disks → AreHanded new span.left → RunsOn tells set span found events
     → (disk : ℕ) → RoseBy (failures false disk (first_core set found) events) (faults_at old.disk_faults disk) (faults_at new.disk_faults disk)
 paid_by tells set span found events old new was is shown disk =
-    rose_is (failures false disk (first_core set found) events) old new span.disks span.left was is disk ((counted_from tells set span found events shown).failed disk)
+    rose_is (failures false disk (first_core set found) events) old new span.disks span.left was is disk (some_failed tells set span found events shown disk)
 
 -- ---- what was read
 

@@ -6,7 +6,7 @@ use Rattle.std.proofs.lemmas.List.Elements.{Contains-get_or}
 use Rattle.std.specs.Option.{option_map_or}
 use Rattle.std.specs.Prelude.{All, Contains, find, is_ok, slice_index_or, ⊤}
 use Rattle.hs_cluster.proofs.OpenedLemmas.{opens_so}
-use Rattle.hs_cluster.proofs.RunLemmas.{can_opened, runs_opened}
+use Rattle.hs_cluster.proofs.RunLemmas.{runs_opened}
 use Rattle.hs_cluster.specs.Calls.{ran_out}
 use Rattle.hs_cluster.specs.declared.fault.ClusterFault.{ClusterFault}
 use Rattle.hs_cluster.specs.Disks.{AreReady, DiskSeen, stands_of}
@@ -36,6 +36,7 @@ use Rattle.hs_run.specs.Going.{IsOpened}
 use Rattle.hs_run.proofs.AnsweredLemmas.{answered_opens, answered_steps}
 use Rattle.hs_run.proofs.LastLineLemmas.{steps_later, steps_up, walk_up}
 use Rattle.hs_run.proofs.PassedLemmas.{going_of}
+use Rattle.hs_run.proofs.ShownLemmas.{can_first}
 
 -- ---- a taken log is one that was read
 
@@ -118,7 +119,7 @@ opened_so tells set span cluster did opens old disks got line entry left since =
   course = opens.course ∙ ap (λ (k : ℕ). first_items set.shape opens.found k ++ items_of (first_core set opens.found) opens.events) (sym entry);
   answered = answered_steps set.limits.ops (first_core set opens.found) opens.events opens.found.opened span.now (answered_opens set.shape set.limits (opens_with set opens.found) opens.found.opened) opens.rises;
   shown = as_span (runs_opened tells set span cluster did opens);
-  may = λ fine. may_span (can_opened tells set span cluster did opens fine);
+  may = λ fine. may_span (can_first tells set span cluster did opens fine);
   since = since;
 }
   where

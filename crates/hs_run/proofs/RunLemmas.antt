@@ -1,5 +1,5 @@
 -- What is said of a run that came to its end, from its opening on.
-use Rattle.std.proofs.Common.{◌≡◌, ◌∙◌, ap, sym, subst, ℕ, ◌≤◌, Bool, true, false, List, [], ◌∷◌, ◌++◌, Option, Some, None, Result, Ok, Err, refl, arith, length}
+use Rattle.std.proofs.Common.{◌≡◌, ◌∙◌, ap, sym, subst, ℕ, ◌<◌, ◌≤◌, Bool, true, false, List, [], ◌∷◌, ◌++◌, Option, Some, None, Result, Ok, Err, refl, arith, length}
 use Rattle.std.proofs.lemmas.Bool.{true≢false}
 use Rattle.std.proofs.lemmas.List.{append-nil}
 use Rattle.std.specs.Prelude.{IfErr, IfSome, if◌then◌else◌, is_ok, ⊤}
@@ -8,7 +8,10 @@ use Rattle.hs_cluster.specs.declared.fault.ClusterFault.{ClusterFault}
 use Rattle.hs_cluster.specs.Disks.{DiskSeen, stands_of}
 use Rattle.hs_cluster.specs.Running.{Running}
 use Rattle.hs_cluster.specs.RunsOn.{RunsOn}
+use Rattle.hs_core.specs.State.{Core}
 use Rattle.hs_events.specs.Due.{Events}
+use Rattle.hs_events.specs.Found.{first_core}
+use Rattle.hs_journal.specs.Events.{client_op}
 use Rattle.hs_journal.specs.declared.entry.JournalEntry.{JournalEntry}
 use Rattle.hs_limits.specs.declared.address.Address.{Address}
 use Rattle.hs_model.specs.declared.command.Command.{Command}
@@ -36,8 +39,8 @@ use Rattle.hs_run.specs.declared.stop.Stop.TheVariants as stop
 use Rattle.hs_run.specs.Between.{Point}
 use Rattle.hs_run.specs.Causes.{EndsBy, StopCause}
 use Rattle.hs_run.specs.Ended.{ran_at, refused_in}
-use Rattle.hs_run.specs.Going.{AreRead, Begun, Between, HasRun, IsBetween, IsOpened, IsPrinted, IsPutSoFar, Opened, Unopened, Within, script_by, span_to, story_of}
-use Rattle.hs_run.specs.Machine.{AreHanded, RunsOnDisks}
+use Rattle.hs_run.specs.Going.{AreRead, Begun, Between, HasRun, IsBetween, IsOpened, IsPrinted, IsPutSoFar, Opened, Unopened, Within, core_behind, script_by, span_to, story_of}
+use Rattle.hs_run.specs.Machine.{AreHanded, HasItsEnd, RunsOnDisks}
 use Rattle.hs_run.specs.OneLine.{IsOpeningPut, Printing, RunsCommand, Stretch}
 use Rattle.hs_run.specs.Puts.{Puts}
 use Rattle.hs_run.specs.Served.{HasCauses, PrintsText}
@@ -49,6 +52,7 @@ use Rattle.hs_run.proofs.PassedLemmas.{answered_more, put_so_far, put_whole}
 use Rattle.hs_run.proofs.ReadLemmas.{read_untold}
 use Rattle.hs_run.proofs.ShownLemmas.{later_shown, within_shown}
 use Rattle.hs_run.proofs.WentLemmas.{IsPlain, went_between, went_unopened, went_within}
+use Rattle.hs_run.proofs.WrittenLemmas.{first_going, longer, none_some, put_failed, snoc_is, snoc_some, write_stop}
 
 -- ---- the commands of a script, or those of the lines that were read
 
@@ -59,6 +63,10 @@ chosen (Some told) read = commands told
 pub chosen_told : (script : Option (List ℕ)) (read : List (List ℕ)) → IfSome script (λ told. (n : ℕ) → chosen script read n ≡ commands told n)
 chosen_told None read = tt
 chosen_told (Some told) read = λ n. refl
+
+chosen_first : (script : Option (List ℕ)) (read : List (List ℕ)) → client_op (chosen script read 0) ≡ None
+chosen_first None read = refl
+chosen_first (Some told) read = refl
 
 chosen_read : (script : Option (List ℕ)) (read : List (List ℕ)) → IfSome script (λ told. AreRead (commands told) read) → AreRead (chosen script read) read
 chosen_read None read said = read_untold read
@@ -76,6 +84,17 @@ plain_between (Err stop.WriteFault) line h = absurd h
 plain_between (Err stop.NoMemory) line h = record { opened = refl; empty = refl; none = refl }
 plain_between (Err stop.OpsFull) line h = absurd h
 plain_between (Err stop.InputFull) line h = record { opened = refl; empty = refl; none = refl }
+
+between_write : (result : Result ⊤ Stop) (line : ℕ) → IsBetween result → status_of result line ≡ status.WriteFault → ⊥
+between_write (Ok x) line h is = cc
+between_write (Err (stop.WrongShape peer found)) line h is = h
+between_write (Err (stop.ShardLost shard)) line h is = h
+between_write (Err stop.BadLine) line h is = cc
+between_write (Err stop.ReadFault) line h is = cc
+between_write (Err stop.WriteFault) line h is = h
+between_write (Err stop.NoMemory) line h is = cc
+between_write (Err stop.OpsFull) line h is = h
+between_write (Err stop.InputFull) line h is = cc
 
 within_of : (tells : Type 0) (name : List ℕ → Address) (asked : Command) (part : Stretch) → is_ok part.result ≡ false → RunsCommand tells name asked part → IsWithin part.result
 within_of tells name asked part cut runs = subst (λ (r : Result ⊤ Stop). IsWithin r) (sym runs.ended)
@@ -97,6 +116,8 @@ pub record IsOfStory (tells : Type 0) (S : Script) (r : Ran) : Type 0 where
   pub story : Story
   pub went : Went S r story
   pub runs : RunsOnDisks tells S r story
+  pub ended : HasItsEnd S r story
+  pub nobody : client_op (S.commands 0) ≡ None
 
 module _ (tells : Type 0) (name : List ℕ → Address) (did : Result ⊤ ClusterFault) (b : Begun) (part : Stretch) (new : Objects) (named : b.set.name ≡ name) (opened : IsOpened tells b did part.old) (found : FoundBy b)
     (now : part.new.now ≡ new.moment) (got : part.new.got ≡ new.got) (was : AreHanded b.old b.disks) (is : AreHanded new part.new.disks) where
@@ -114,13 +135,13 @@ module _ (tells : Type 0) (name : List ℕ → Address) (did : Result ⊤ Cluste
     shown = shown;
   }
 
-  pub story_run : HasRun tells name did b b.old.left part → (commands : ℕ → Option Command) × IsOfStory tells (script_by b commands) (ran_at (status_of part.result part.new.line) part.new.line (Some part.new.cluster) b.old new)
-  story_run (Unopened put cut same left zero) =
+  pub story_run : HasRun tells name did b b.old.left new.left part → (commands : ℕ → Option Command) × IsOfStory tells (script_by b commands) (ran_at (status_of part.result part.new.line) part.new.line (Some part.new.cluster) b.old new)
+  story_run (Unopened put cut same left zero unread) =
       let later : part.old.now ≤ part.new.now = put.puts.late.later in
       let shown : RunsOn tells b.set (record { before = b.old.moment; now = part.new.now; old = b.first; new = part.old.cluster; disks = b.disks; left = part.new.disks }) b.found (all_events (story_of b [])) =
       subst (λ (es : Events). RunsOn tells b.set (record { before = b.old.moment; now = part.new.now; old = b.first; new = part.old.cluster; disks = b.disks; left = part.new.disks }) b.found es) (sym (append-nil b.opening))
       (subst (λ (d : List DiskSeen). RunsOn tells b.set (record { before = b.old.moment; now = part.new.now; old = b.first; new = part.old.cluster; disks = b.disks; left = d }) b.found b.opening) (sym left)
-      (later_shown tells b part.old b.opening part.new.now later opened.since opened.shown)) in (
+      (later_shown tells b part.old b.opening part.new.now later opened.rises opened.since opened.shown)) in (
         chosen b.old.left [],
         record {
           script = chosen_told b.old.left [];
@@ -130,6 +151,8 @@ module _ (tells : Type 0) (name : List ℕ → Address) (did : Result ⊤ Cluste
               (found (chosen b.old.left []) (ran_at (status_of part.result part.new.line) part.new.line (Some part.old.cluster) b.old new) [] refl)
               (paid_by tells b.set _ b.found (all_events (story_of b [])) b.old new was is shown));
           runs = on_disks (chosen b.old.left []) (status_of part.result part.new.line) part.new.line (Some part.new.cluster) [] part.old.cluster (λ told. subst (λ (d : List DiskSeen). Since (stands_of d)) (sym left) (opened.since told)) shown;
+          ended = record { written = λ is front es there. absurd (snoc_some front es there); unread = λ some. unread };
+          nobody = chosen_first b.old.left [];
         },
       )
   story_run (Opened mid (Between so_far stops)) = (
@@ -141,6 +164,11 @@ module _ (tells : Type 0) (name : List ℕ → Address) (did : Result ⊤ Cluste
           (found (chosen b.old.left so_far.read) (ran_at (status_of part.result part.new.line) part.new.line (Some part.new.cluster) b.old new) so_far.lines refl) (plain_between part.result part.new.line stops)
           (paid_by tells b.set (span_to b part.new) b.found (all_events (story_of b so_far.lines)) b.old new was is so_far.shows.shown);
       runs = on_disks (chosen b.old.left so_far.read) (status_of part.result part.new.line) part.new.line (Some part.new.cluster) so_far.lines part.new.cluster so_far.shows.since so_far.shows.shown;
+      ended = record {
+        written = λ is. absurd (between_write part.result part.new.line stops is);
+        unread = λ some. absurd (none_some (first_core b.set b.found).ended (first_going (first_core b.set b.found) (all_events (story_of b so_far.lines)) (ap (λ (c : Core). c.ended) (sym so_far.gone.behind.core) ∙ so_far.gone.going)) some);
+      };
+      nobody = chosen_first b.old.left so_far.read;
     },
   )
   story_run (Opened mid (Within at read lines line asked gone shows said says_so cut runs)) =
@@ -154,6 +182,15 @@ module _ (tells : Type 0) (name : List ℕ → Address) (did : Result ⊤ Cluste
               (found (chosen b.old.left (read ++ line ∷ [])) (ran_at (status_of part.result part.new.line) part.new.line (Some part.new.cluster) b.old new) (lines ++ runs.runs.events ∷ []) refl)
               (paid_by tells b.set (span_to b part.new) b.found (all_events (story_of b (lines ++ runs.runs.events ∷ []))) b.old new was is shown);
           runs = on_disks (chosen b.old.left (read ++ line ∷ [])) (status_of part.result part.new.line) part.new.line (Some part.new.cluster) (lines ++ runs.runs.events ∷ []) part.new.cluster runs.since shown;
+          ended = record {
+            written = λ is front es there.
+                let failed : runs.put ≡ Err stop.WriteFault = put_failed runs.did runs.put part.new.line (ap (λ (r : Result ⊤ Stop). status_of r part.new.line) (sym runs.ended) ∙ is) in
+                let more : length at.cluster.core.journal < length part.new.cluster.core.journal = longer (length at.cluster.core.journal) part.new.cluster.core.journal (runs.some failed) in
+                subst (λ (ls : List Events). length (core_behind b ls).journal < length part.new.cluster.core.journal) (snoc_is lines front runs.runs.events es there)
+                (subst (λ (c : Core). length c.journal < length part.new.cluster.core.journal) gone.behind.core more);
+            unread = λ some. absurd (none_some (first_core b.set b.found).ended (first_going (first_core b.set b.found) (all_events (story_of b lines)) (ap (λ (c : Core). c.ended) (sym gone.behind.core) ∙ gone.going)) some);
+          };
+          nobody = chosen_first b.old.left (read ++ line ∷ []);
         },
       )
 
@@ -177,8 +214,8 @@ short_put did (Err stop.OpsFull) line only h = absurd only
 short_put did (Err stop.InputFull) line only h = absurd only
 
 pub printed_run : (tells : Type 0) (name : List ℕ → Address) (did : Result ⊤ ClusterFault) (b : Begun) (part : Stretch) (new : Objects) → IsOpened tells b did part.old → b.old.moment ≤ part.old.now → part.old.got ≡ b.old.got → part.new.now ≡ new.moment → part.new.got ≡ new.got
-    → HasRun tells name did b b.old.left part → HasPrinted b.set.limits.ops b.old new part.new.cluster.core.journal (ending_of (status_of part.result part.new.line))
-printed_run tells name did b part new opened since was now got (Unopened put cut same left zero) = record {
+    → HasRun tells name did b b.old.left new.left part → HasPrinted b.set.limits.ops b.old new part.new.cluster.core.journal (ending_of (status_of part.result part.new.line))
+printed_run tells name did b part new opened since was now got (Unopened put cut same left zero unread) = record {
   fits = subst (λ (c : Running). length c.core.journal ≤ b.set.limits.ops) (sym same) (subst (λ (j : List JournalEntry). length j ≤ b.set.limits.ops) (sym opened.journal) opened.answered.fits);
   so_far = subst (λ (c : Running). IsPutSoFar b.old new.moment new.got c.core.journal) (sym same) (as_new (opening_so_far tells b did part.old part.new.now part.new.got put.put opened since puts));
   whole = λ short. sym_got (subst (λ (c : Running). IsPrinted b.old part.new.now part.new.got c.core.journal) (sym same) (opening_printed tells b did part.old part.new.now part.new.got put.put opened since puts (short_put did put.put part.new.line put.only
@@ -238,17 +275,6 @@ read_stop (Err stop.NoMemory) line is = absurd cc
 read_stop (Err stop.OpsFull) line is = absurd cc
 read_stop (Err stop.InputFull) line is = absurd cc
 
-write_stop : (result : Result ⊤ Stop) (line : ℕ) → status_of result line ≡ status.WriteFault → result ≡ Err stop.WriteFault
-write_stop (Ok x) line is = absurd cc
-write_stop (Err (stop.WrongShape peer found)) line is = absurd cc
-write_stop (Err (stop.ShardLost shard)) line is = absurd cc
-write_stop (Err stop.BadLine) line is = absurd cc
-write_stop (Err stop.ReadFault) line is = absurd cc
-write_stop (Err stop.WriteFault) line is = refl
-write_stop (Err stop.NoMemory) line is = absurd cc
-write_stop (Err stop.OpsFull) line is = absurd cc
-write_stop (Err stop.InputFull) line is = absurd cc
-
 -- a run of a core finds no disk of another store
 within_shape : (result : Result ⊤ Stop) (line peer : ℕ) (found : Header) → IsWithin result → status_of result line ≡ status.WrongShape peer found → ⊥
 within_shape (Ok x) line peer found h is = h
@@ -272,12 +298,12 @@ between_shape (Err stop.NoMemory) line peer found h is = cc
 between_shape (Err stop.OpsFull) line peer found h is = h
 between_shape (Err stop.InputFull) line peer found h is = cc
 
-pub run_shape : (tells : Type 0) (name : List ℕ → Address) (did : Result ⊤ ClusterFault) (b : Begun) (script : Option (List ℕ)) (part : Stretch) (peer : ℕ) (found : Header) → (ran_out did ≡ false → did ≡ outcome_by part.old.cluster.core.ended) → HasRun tells name did b script part
+pub run_shape : (tells : Type 0) (name : List ℕ → Address) (did : Result ⊤ ClusterFault) (b : Begun) (script rest : Option (List ℕ)) (part : Stretch) (peer : ℕ) (found : Header) → (ran_out did ≡ false → did ≡ outcome_by part.old.cluster.core.ended) → HasRun tells name did b script rest part
     → status_of part.result part.new.line ≡ status.WrongShape peer found → ⊥
-run_shape tells name did b script part peer found outcome (Unopened put cut same left zero) is =
+run_shape tells name did b script rest part peer found outcome (Unopened put cut same left zero unread) is =
     within_shape part.result part.new.line peer found (opening_within did part.old.cluster (record { before = part.old.now; now = part.new.now; old = part.old.got; new = part.new.got }) part.result outcome cut put) is
-run_shape tells name did b script part peer found outcome (Opened mid (Between so_far stops)) is = between_shape part.result part.new.line peer found stops is
-run_shape tells name did b script part peer found outcome (Opened mid (Within at read lines line asked gone shows said says_so cut runs)) is =
+run_shape tells name did b script rest part peer found outcome (Opened mid (Between so_far stops)) is = between_shape part.result part.new.line peer found stops is
+run_shape tells name did b script rest part peer found outcome (Opened mid (Within at read lines line asked gone shows said says_so cut runs)) is =
     within_shape part.result part.new.line peer found (within_of tells name asked (record { old = at; new = part.new; result = part.result }) cut runs) is
 
 pub causes_run : (result : Result ⊤ Stop) (line : ℕ) (running : Running) (old new : Objects) → StopCause old.source_faults new.source_faults old.sink_faults new.sink_faults result

@@ -69,7 +69,7 @@ module _ (tells : Type 0) (b : Begun) (did : Result ⊤ ClusterFault) (at mid : 
         shown = subst (λ (es : Events). RunsOn tells b.set (span_to b mid) b.found es) (sym all_same)
             (subst (λ (c : Running). RunsOn tells b.set (span_to b (record mid { cluster = c })) b.found b.opening) (sym same)
             (subst (λ (d : List DiskSeen). RunsOn tells b.set (span_to b (record mid { cluster = at.cluster; disks = d })) b.found b.opening) (sym left)
-            (later_shown tells b at b.opening mid.now put.puts.late.later h.since h.shown)));
+            (later_shown tells b at b.opening mid.now put.puts.late.later h.rises h.since h.shown)));
         may = subst (λ (es : Events). CanRunOn tells b.set (span_to b mid) b.found es) (sym all_same)
             (subst (λ (c : Running). CanRunOn tells b.set (span_to b (record mid { cluster = c })) b.found b.opening) (sym same)
             (subst (λ (d : List DiskSeen). CanRunOn tells b.set (span_to b (record mid { cluster = at.cluster; disks = d })) b.found b.opening) (sym left)

@@ -183,11 +183,11 @@ pub record IsOpened (tells : Type 0) (b : Begun) (did : Result ⊤ ClusterFault)
   pub may : is_ok did ≡ true → CanRunOn tells b.set (span_to b at) b.found b.opening
   pub since : tells → Since (stands_of at.disks)
 
--- opening was not told whole, or did not come to its end: nothing was read; or the script was run behind it
-pub data HasRun (tells : Type 0) (name : List ℕ → Address) (did : Result ⊤ ClusterFault) (b : Begun) (script : Option (List ℕ)) (part : Stretch) : Type 0 where
+-- opening was not told whole, or did not come to its end: nothing was read, and this is left; or the script was run behind it
+pub data HasRun (tells : Type 0) (name : List ℕ → Address) (did : Result ⊤ ClusterFault) (b : Begun) (script left : Option (List ℕ)) (part : Stretch) : Type 0 where
   Unopened : IsOpeningPut did part.old.cluster (record { before = part.old.now; now = part.new.now; old = part.old.got; new = part.new.got }) part.result
-      → is_ok part.result ≡ false → part.new.cluster ≡ part.old.cluster → part.new.disks ≡ part.old.disks → part.new.line ≡ 0 → HasRun tells name did b script part
-  Opened : (mid : Point) → HasStopped tells name b script (record { old = mid; new = part.new; result = part.result }) → HasRun tells name did b script part
+      → is_ok part.result ≡ false → part.new.cluster ≡ part.old.cluster → part.new.disks ≡ part.old.disks → part.new.line ≡ 0 → left ≡ script → HasRun tells name did b script left part
+  Opened : (mid : Point) → HasStopped tells name b script (record { old = mid; new = part.new; result = part.result }) → HasRun tells name did b script left part
 
 -- what is put comes behind what the sink had got at entry
 pub record StartsAt (tells : Type 0) (b : Begun) (name : List ℕ → Address) (did : Result ⊤ ClusterFault) (at : Point) : Type 0 where

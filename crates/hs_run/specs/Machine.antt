@@ -1,21 +1,25 @@
 -- What is shown of a run on a cluster: that it is the machine's, and what its disks show.
-use Rattle.std.specs.Prelude.{All, IfSome, List, None, Option, map, true, ℕ, ◌+◌, ◌<◌, ◌≡◌}
+use Rattle.std.specs.Prelude.{All, IfSome, IsSome, List, None, Option, [], length, map, true, ℕ, ◌++◌, ◌+◌, ◌<◌, ◌∷◌, ◌≡◌}
 use Rattle.hs_cluster.specs.Disks.{DiskSeen, stands_of}
 use Rattle.hs_cluster.specs.Kept.{AreStored, Span}
 use Rattle.hs_cluster.specs.RunsOn.{RunsOn}
 use Rattle.hs_cluster.specs.Unopened.{LeavesAsTaken}
+use Rattle.hs_events.specs.Due.{Events}
 use Rattle.hs_events.specs.Found.{first_core}
 use Rattle.hs_events.specs.Reports.{failures}
 use Rattle.hs_events.specs.Taken.{peer_count}
 use Rattle.hs_events.specs.Whole.{open_whole}
+use Rattle.hs_journal.specs.Events.{client_op}
+use Rattle.hs_limits.specs.Shape.{IsShape}
 use Rattle.hs_moments.specs.Moments.{Since}
 use Rattle.hs_ports.specs.Objects.{Objects}
+use Rattle.hs_promise.specs.declared.status.Status.TheVariants as status
 use Rattle.hs_promise.specs.Entry.{MayStop}
 use Rattle.hs_promise.specs.Found.{IsReadAs, IsStillBehind}
 use Rattle.hs_promise.specs.Machine.{WentAs, loss_count}
 use Rattle.hs_promise.specs.Promise.{AreOfScript}
 use Rattle.hs_promise.specs.Run.{DiskRose, Ran, Script}
-use Rattle.hs_promise.specs.Story.{Story, all_events}
+use Rattle.hs_promise.specs.Story.{Story, all_events, last_core}
 use Rattle.hs_taking.specs.Shares.{Span as Taking}
 use Rattle.hs_run.specs.Served.{Served}
 
@@ -42,6 +46,12 @@ pub record IsOfItsDisks (S : Script) (r : Ran) (story : Story) : Type 0 where
   pub failed : MayStop S r → AreStored (open_whole S.set story.found) (all_events story) → (disk : ℕ)
       → DiskRose r (failures true disk (first_core S.set story.found) (all_events story) + loss_count story disk) disk
 
+-- a sink failed only where its line had answered something; and nothing was read where the core ended as it opened
+pub record HasItsEnd (S : Script) (r : Ran) (story : Story) : Type 0 where
+  pub written : r.ending ≡ status.WriteFault → (front : List Events) (es : Events) → story.lines ≡ front ++ es ∷ []
+      → length (last_core S (record story { lines = front })).journal < length r.journal
+  pub unread : IsSome (first_core S.set story.found).ended → r.new.left ≡ r.old.left
+
 -- no core was opened: the calls on each disk left its list as it was
 pub record IsUnopened (tells : Type 0) (r : Ran) : Type 0 where
   pub span : Taking
@@ -54,10 +64,16 @@ pub record IsUnopened (tells : Type 0) (r : Ran) : Type 0 where
 
 -- the run is the machine's on the events that are due, and on no others; this its disks show; and this is had of the promise without a word of the plain store
 pub record IsOfCluster (tells : Type 0) (S : Script) (r : Ran) : Type 0 where
+  pub shape : IsShape S.set.shape
+  pub one : S.set.shape.copies ≡ 1
+  pub count : length r.old.disks ≡ S.set.shape.shards
   pub script : AreOfScript S r
+  -- no command has the number 0
+  pub nobody : client_op (S.commands 0) ≡ None
   pub how : Option Story
   pub went : WentAs S r how
   pub told : tells → IfSome how (IsOfItsDisks S r)
   pub runs : IfSome how (RunsOnDisks tells S r)
+  pub ended : IfSome how (HasItsEnd S r)
   pub unopened : how ≡ None → IsUnopened tells r
   pub served : Served tells S r

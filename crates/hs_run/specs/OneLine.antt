@@ -1,5 +1,5 @@
 -- What one line of a script does to a run.
-use Rattle.std.specs.Prelude.{Err, IfErr, List, Ok, Option, Result, drop, length, true, ℕ, ⊤, ◌+◌, ◌≡◌}
+use Rattle.std.specs.Prelude.{Err, IfErr, List, Ok, Option, Result, drop, length, true, ℕ, ⊤, ◌+◌, ◌<◌, ◌≡◌}
 use Rattle.hs_cluster.specs.Calls.{RunsLine}
 use Rattle.hs_cluster.specs.declared.fault.ClusterFault.{ClusterFault}
 use Rattle.hs_cluster.specs.Disks.{stands_of}
@@ -35,6 +35,7 @@ pub record RunsCommand (tells : Type 0) (name : List ℕ → Address) (asked : C
   pub puts : Puts mid part.new.now (text (drop (length part.old.cluster.core.journal) part.new.cluster.core.journal)) part.old.got part.new.got put
   pub only : IfErr put IsPutStop
   pub ended : part.result ≡ end_of did put
+  pub some : put ≡ Err stop.WriteFault → 0 < length (text (drop (length part.old.cluster.core.journal) part.new.cluster.core.journal))
   pub since : tells → Since (stands_of part.new.disks)
 
 -- from one moment to another, with what a sink had got, and has

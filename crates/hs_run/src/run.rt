@@ -1,5 +1,5 @@
 //! A run of a script over its cluster, and what one line does to it.
-ghost use Rattle.std.specs.Prelude.{◌≡◌, ◌+◌, ◌<◌, ◌^◌, ◌≤◌, drop, length, map, true, IfErr, OnOk};
+ghost use Rattle.std.specs.Prelude.{◌≡◌, ◌+◌, ◌<◌, ◌^◌, ◌≤◌, drop, length, map, true, Err, IfErr, OnOk};
 ghost use Rattle.hs_cluster.specs.Disks.{seen_as};
 ghost use Rattle.hs_events.specs.Commands.{is_served};
 ghost use Rattle.hs_run.specs.Between.{IsReadyAt};
@@ -32,6 +32,8 @@ fn print<K: Sink>(
     ensures puts { Puts watch.old watch.new (text (drop printed.old cluster.now.core.journal))
         (K.got sink.old) (K.got sink.new) result }
     ensures only { IfErr result IsPutStop }
+    ensures some { result ≡ Err Stop.WriteFault
+        → 0 < length (text (drop printed.old cluster.now.core.journal)) }
     ensures printed { OnOk result (printed.new ≡ length cluster.now.core.journal) }
     ensures cause { SinkCause (K.faults sink.old) (K.faults sink.new) result }
 {

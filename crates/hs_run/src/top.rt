@@ -52,7 +52,7 @@ fn go<A: Addresser, S: Source, K: Sink, D: Disk>(
       disks = map (λ disk. seen_as (D.size disk) (D.stands disk) (D.faults disk)) disks.old;
       got = K.got sink.old;
       line = run.old.line;
-    }) → HasRun D.tells (A.name naming.now) did b (S.left source.old) (record {
+    }) → HasRun D.tells (A.name naming.now) did b (S.left source.old) (S.left source.new) (record {
       old = record {
         now = watch.old;
         cluster = run.old.cluster;

@@ -8,7 +8,7 @@ use Rattle.hs_run.proofs.top.go.Goals as goal
 -- ---- opening was not told whole, or did not come to its end
 
 pub returns-in-Err-clause-runs : goal.returns-in-Err-clause-runs
-returns-in-Err-clause-runs g c = λ b starts. Unopened c.in-Err.ensures.puts refl c.print_opening.ensures.cluster refl (c.print_opening.ensures.line ∙ c.requires.line)
+returns-in-Err-clause-runs g c = λ b starts. Unopened c.in-Err.ensures.puts refl c.print_opening.ensures.cluster refl (c.print_opening.ensures.line ∙ c.requires.line) refl
 
 pub returns-in-Err-clause-ends : goal.returns-in-Err-clause-ends
 returns-in-Err-clause-ends g c = if_any _ _ (λ script told. ends_opening script _ c.args.did _ _ _ _ c.requires.outcome told (c.print_opening.ensures.line ∙ c.requires.line) refl c.in-Err.ensures.puts)
