@@ -12,7 +12,7 @@ use Rattle.hs_cluster.specs.declared.fault.ClusterFault.{ClusterFault}
 use Rattle.hs_cluster.specs.declared.fault.ClusterFault.TheVariants.{NoMemory}
 use Rattle.hs_cluster.specs.Counts.{AreAllCounted, HasAllPaid, HasPaid, NoneFalls}
 use Rattle.hs_cluster.specs.Disks.{DiskSeen, log_at, stands_of}
-use Rattle.hs_cluster.specs.Jobs.{HasStored, Working, Works, is_own}
+use Rattle.hs_cluster.specs.Jobs.{HasStored, TellsBytes, Working, Works, is_own}
 use Rattle.hs_cluster.specs.Kept.{AreStored, AreTold, CanGoOn, IsTold, KeepsLogs, LeavesLists, Shows, Span, sealed_front}
 use Rattle.hs_cluster.specs.Rooms.{HaveRecordRoom}
 use Rattle.hs_cluster.specs.Running.{Running}
@@ -290,11 +290,11 @@ job_cut tells before now peer old new after disks left {E = E} result is since w
 pub job_shows : (tells : Type 0) (before now peer : ℕ) (old new : Running) (after : List (Option Keeping)) (disks left : List DiskSeen) (E : Type 0) (done : Done) (r : Result ⊤ ClusterFault) → IsPeer old.core.members.shape peer
     → old.core.ended ≡ None → is_answer old.core peer done ≡ true → (tells → Since (stands_of disks))
     → (tells → is_own (first_job peer old.core) ≡ true → Works {E = E} (record { peer = peer; before = before; now = now; logs = old.logs; after = after; disks = disks; left = left }) (first_job peer old.core) (Ok done))
-    → new.logs ≡ after → Does (done_of r (event.Report peer done, now)) old new r → NoneFalls disks left → HasPaid old.core peer done disks left
+    → new.logs ≡ after → Does (done_of r (event.Report peer done, now)) old new r → NoneFalls disks left → HasPaid old.core peer done disks left → TellsBytes done
     → (tells → is_own (first_job peer old.core) ≡ true → (list : Numbered) (waiting : Option Entry) → ((keeping : Keeping) → log_at old.logs peer ≡ Some keeping → HasLog keeping (disk_at (stands_of disks) peer) list waiting)
     → HasStored (first_job peer old.core) (catalogue_of (home peer old.core) old.core).blocks list → HasAllPaid old.core peer done disks left)
     → Shows tells (record { before = before; now = now; old = old; new = new; disks = disks; left = left }) r (done_of r (event.Report peer done, now))
-job_shows tells before now peer old new after disks left E done r is was answer since works kept does falls paid all = record {
+job_shows tells before now peer old new after disks left E done r is was answer since works kept does falls paid bytes all = record {
   counted = counted_one old.core (event.Report peer done) now r disks left falls paid;
   lists = λ told c core can.
       let low : IsPeer c.core.members.shape peer = subst (λ (x : Core). IsPeer x.members.shape peer) (sym core) is in
@@ -307,7 +307,7 @@ job_shows tells before now peer old new after disks left E done r is was answer 
         keeps = behind c e now (λ s. Keeps whole_machine IsFrontOf last_of s now (stands_of left)) r
             (call_keeps c before now peer (stands_of disks) (stands_of left) (since told) can.keeps call)
             (λ there. keeps_then told c core can there);
-        told = told_by c e now r (report_told c w can.sane low can.listed can.keeps done now E done_then answers);
+        told = told_by c e now r (report_told c w can.sane low can.listed can.keeps done now E done_then answers, bytes);
       };
   goes_on = λ told c core can. go r does told c core can;
   read = λ told c core can stored. read_then told c core can (ran_out r) stored;
@@ -332,7 +332,7 @@ job_shows tells before now peer old new after disks left E done r is was answer 
         let own : is_own (first_job peer old.core) ≡ true = subst (λ x. is_own (first_job peer x) ≡ true) core (own_job c peer can.sane) in
         all_one old.core e now (Ok tt) disks left falls
         (all told own (sealed_front c peer) (appended_of peer c.core) (λ keeping at. can.listed.each peer keeping low at)
-        (subst (λ x. HasStored (first_job peer x) (catalogue_of (home peer x) x).blocks (sealed_front c peer)) core (stored.0 peer)))
+        (subst (λ x. HasStored (first_job peer x) (catalogue_of (home peer x) x).blocks (sealed_front c peer)) core (stored.0 (ap (λ (x : Core). x.ended) core ∙ was) peer)))
 
     keeps_then : tells → (c : Whole) → c.core ≡ old.core → CanGoOn c old.logs disks before → is_refused (step e now c.core).ended ≡ false → Keeps whole_machine IsFrontOf last_of (step_whole e now c) now (stands_of left)
     keeps_then told c core can there =

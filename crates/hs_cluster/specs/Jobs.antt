@@ -1,7 +1,8 @@
 -- What a job leaves of a log, and of its disk at each moment.
-use Rattle.std.specs.Prelude.{◌≡◌, ◌≢◌, ◌⊎◌, ◌≤◌, ℕ, Bool, true, false, is_some, Contains, List, [], length, Option, Some, None, Result, IfOk}
+use Rattle.std.specs.Prelude.{◌≡◌, ◌≢◌, ◌⊎◌, ◌≤◌, ℕ, ⊤, Bool, true, false, is_some, slice_index, ◌<◌, Contains, List, [], length, Option, Some, None, Result, IfOk}
 use Rattle.hs_cluster.specs.Disks.{DiskSeen, log_at, stands_of}
 use Rattle.hs_desk.specs.declared.done.Done.{Done}
+use Rattle.hs_desk.specs.declared.done.Done.TheVariants as done
 use Rattle.hs_desk.specs.declared.job.Job.{Job}
 use Rattle.hs_desk.specs.declared.job.Job.TheVariants as job
 use Rattle.hs_entry.specs.declared.entry.Entry.{Entry}
@@ -47,6 +48,21 @@ is_own (Some (job.Read number)) = true
 is_own (Some job.Reset) = false
 is_own (Some (job.Copy from number)) = false
 is_own (Some job.Reclaim) = true
+
+-- bytes, and not just numbers
+abbrev pub AreBytes : List ℕ → Type 0
+AreBytes bytes = (i : ℕ) → slice_index bytes i < 256
+
+-- what a Read tells is bytes
+abbrev pub TellsBytes : Done → Type 0
+TellsBytes (done.Stored number) = ⊤
+TellsBytes (done.Sealed number) = ⊤
+TellsBytes (done.Bytes number bytes) = AreBytes bytes
+TellsBytes (done.Gone number) = ⊤
+TellsBytes done.Emptied = ⊤
+TellsBytes (done.Copied number) = ⊤
+TellsBytes (done.Stepped switched) = ⊤
+TellsBytes (done.Failed disk) = ⊤
 
 -- a list has an entry of the number that is to be read, where one of the blocks was stored by that
 abbrev pub HasStored : Option Job → BlockList → Numbered → Type 0

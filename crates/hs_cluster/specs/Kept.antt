@@ -2,7 +2,7 @@
 use Rattle.std.specs.Prelude.{◌≡◌, ◌≤◌, ◌<◌, ◌-◌, ◌^◌, ℕ, ⊤, List, [], ◌∷◌, take, Option, Some, None, Result, OnOk}
 use Rattle.hs_cluster.specs.Counts.{AreAllCounted, AreCounted}
 use Rattle.hs_cluster.specs.Disks.{DiskSeen, log_at, stands_of}
-use Rattle.hs_cluster.specs.Jobs.{HasStored}
+use Rattle.hs_cluster.specs.Jobs.{HasStored, TellsBytes}
 use Rattle.hs_cluster.specs.Running.{Running}
 use Rattle.hs_cluster.specs.declared.fault.ClusterFault.{ClusterFault}
 use Rattle.hs_core.specs.Looking.{catalogue_of, first_job, home}
@@ -50,10 +50,10 @@ pub record Span : Type 0 where
   pub disks : List DiskSeen
   pub left : List DiskSeen
 
--- what a report tells of a block is so of the list of its peer
+-- what a report tells of a block is so of the list of its peer, and is bytes
 abbrev pub IsTold : Whole → Option (ℕ × Done) → Type 0
 IsTold c None = ⊤
-IsTold c (Some report) = TellsOf report.1 (Some (sealed_front c report.0))
+IsTold c (Some report) = TellsOf report.1 (Some (sealed_front c report.0)) × TellsBytes report.1
 
 abbrev pub AreTold : Whole → Events → Type 0
 AreTold c [] = ⊤
@@ -74,7 +74,7 @@ IsStored c = (peer : ℕ) → HasStored (first_job peer c.core) (catalogue_of (h
 
 abbrev pub AreStored : Whole → Events → Type 0
 AreStored c [] = ⊤
-AreStored c (e ∷ es) = IsStored c × AreStored (step_whole e.0 e.1 c) es
+AreStored c (e ∷ es) = (c.core.ended ≡ None → IsStored c) × AreStored (step_whole e.0 e.1 c) es
 
 -- what the events of a call show. Of whatever disks: what they report of failed calls is at the counts. Of those that tell their contents, for the lists with which the call began: the lists at each moment; behind it the cluster keeps what it needs to go on; and reads too cost what is reported of failed calls
 pub record Shows (tells : Type 0) (span : Span) (result : Result ⊤ ClusterFault) (events : Events) : Type 0 where

@@ -18,9 +18,12 @@ use Rattle.hs_fold.specs.Shards.Setting.{Numbered, Setting}
 use Rattle.hs_moments.specs.Machine.{runs}
 use Rattle.hs_moments.specs.WholeMachine.{whole_machine}
 use Rattle.hs_peerlog.specs.Images.{LeavesOnly}
+use Rattle.hs_peerlog.specs.declared.fault.LogFault.TheVariants as log
 use Rattle.hs_peerlog.specs.Lists.{HasLog, Keeping}
+use Rattle.hs_peerlog.specs.Opening.{refusal_in}
 use Rattle.hs_ports.specs.Fault.{HasRisen}
 use Rattle.hs_side.specs.Current.{list_in}
+use Rattle.hs_side.specs.declared.header.Header.{Header}
 use Rattle.hs_taking.specs.Disks.{DiskSeen, log_at, seen_at}
 use Rattle.hs_taking.specs.Shares.{IsLater, IsLostDisk, KeepsDisk, Span}
 
@@ -75,6 +78,9 @@ pub record Opens (tells : Type 0) (set : Setting) (span : Span) (cluster : Runni
   pub begun : Running
   pub disks : List DiskSeen
   pub finds : Finds tells set (record { before = span.before; now = found.opened; old = span.old; new = disks }) found begun.logs
+  -- a disk of another store failed
+  pub own : tells → (peer : ℕ) (other : Header) → peer < length span.old → refusal_in set.shape peer (seen_at span.old peer).stands.seen ≡ Some (log.WrongShape other)
+      → HasRisen (seen_at span.old peer).faults (seen_at disks peer).faults
   pub events : Events
   pub due : is_walk next_turn (not (ran_out done)) 0 (first_core set found) events ≡ true
   pub rises : MomentsRise found.opened events span.now

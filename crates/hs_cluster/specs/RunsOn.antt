@@ -1,7 +1,7 @@
 -- What a run on disks shows, beside its events.
-use Rattle.std.specs.Prelude.{List, None, Option, ℕ, ◌≡◌}
+use Rattle.std.specs.Prelude.{List, None, Option, Some, length, ℕ, ◌<◌, ◌≡◌}
 use Rattle.hs_cluster.specs.Counts.{AreAllCounted, AreCounted, NoneFalls}
-use Rattle.hs_cluster.specs.Disks.{DiskSeen}
+use Rattle.hs_cluster.specs.Disks.{DiskSeen, seen_at}
 use Rattle.hs_cluster.specs.Kept.{AreStored, CanGoOn, LeavesLists, Span}
 use Rattle.hs_cluster.specs.Opens.{AreSound, Finds}
 use Rattle.hs_cluster.specs.Rooms.{HaveRecordRoom}
@@ -11,7 +11,11 @@ use Rattle.hs_events.specs.Whole.{open_whole}
 use Rattle.hs_fold.specs.Shards.Setting.{Setting}
 use Rattle.hs_moments.specs.Machine.{runs}
 use Rattle.hs_moments.specs.WholeMachine.{whole_machine}
+use Rattle.hs_peerlog.specs.declared.fault.LogFault.TheVariants as log
 use Rattle.hs_peerlog.specs.Lists.{Keeping}
+use Rattle.hs_peerlog.specs.Opening.{refusal_in}
+use Rattle.hs_ports.specs.Fault.{HasRisen}
+use Rattle.hs_side.specs.declared.header.Header.{Header}
 
 -- what opening found; that counts of faults rose as the reports tell; and of disks that tell their contents, and are sound at entry, the lists at each moment
 pub record RunsOn (tells : Type 0) (set : Setting) (span : Span) (found : Found) (events : Events) : Type 0 where
@@ -19,6 +23,9 @@ pub record RunsOn (tells : Type 0) (set : Setting) (span : Span) (found : Found)
   pub slots : List (Option Keeping)
   pub disks : List DiskSeen
   pub finds : Finds tells set (record { before = span.before; now = found.opened; old = span.disks; new = disks }) found slots
+  -- a disk of another store failed
+  pub own : tells → (peer : ℕ) (other : Header) → peer < length span.disks → refusal_in set.shape peer (seen_at span.disks peer).stands.seen ≡ Some (log.WrongShape other)
+      → HasRisen (seen_at span.disks peer).faults (seen_at disks peer).faults
   pub falls : NoneFalls span.disks disks
   pub counted : AreCounted (first_core set found) events disks span.left
   pub rooms : HaveRecordRoom (first_core set found) events

@@ -3,7 +3,7 @@ ghost use Rattle.std.specs.Prelude.{◌≡◌, ◌*◌, ◌+◌, ◌≤◌, ℕ,
 ghost use Rattle.hs_cluster.specs.declared.fault.ClusterFault.TheVariants.{NoMemory};
 ghost use Rattle.hs_cluster.specs.Counts.{HasAllPaid, HasPaid, IsCopyPaid, IsPaid, NoneFalls};
 ghost use Rattle.hs_cluster.specs.Disks.{AreReady, IsSlotReady, log_at, seen_as, seen_at, stands_of};
-ghost use Rattle.hs_cluster.specs.Jobs.{HasStored, Tries, Works, is_own};
+ghost use Rattle.hs_cluster.specs.Jobs.{HasStored, TellsBytes, Tries, Works, is_own};
 ghost use Rattle.hs_core.specs.Looking.{catalogue_of, first_job, home};
 ghost use Rattle.hs_entry.specs.declared.entry.Entry.{Entry};
 ghost use Rattle.hs_events.specs.Due.{is_answer};
@@ -45,6 +45,7 @@ pub(crate) fn do_job<D: Disk>(
     requires ready { AreReady D.tells logs.old.items
         (map (λ disk. seen_as (D.size disk) (D.stands disk) (D.faults disk)) disks.old) }
     ensures answer { IfOk result (λ done. is_answer core.now peer done ≡ true) }
+    ensures bytes { IfOk result TellsBytes }
     ensures only { IsOkUnless result NoMemory }
     ensures ready { OnOk result (AreReady D.tells logs.new.items
         (map (λ disk. seen_as (D.size disk) (D.stands disk) (D.faults disk)) disks.new)) }
@@ -123,6 +124,7 @@ fn do_copy<D: Disk>(
     requires ready { AreReady D.tells logs.old.items
         (map (λ disk. seen_as (D.size disk) (D.stands disk) (D.faults disk)) disks.old) }
     ensures answer { IfOk result (λ told. answers peer (job.Copy from number) told ≡ true) }
+    ensures bytes { IfOk result TellsBytes }
     ensures only { IsOkUnless result NoMemory }
     ensures ready { OnOk result (AreReady D.tells logs.new.items
         (map (λ disk. seen_as (D.size disk) (D.stands disk) (D.faults disk)) disks.new)) }
@@ -172,6 +174,7 @@ fn do_usual<D: Disk>(
 ) -> Result<Done, ClusterFault>
     requires ready { IsSlotReady D.tells slot.old (D.size disk.old) (D.stands disk.old) }
     ensures answer { IfOk result (λ told. answers peer job.now told ≡ true) }
+    ensures bytes { IfOk result TellsBytes }
     ensures only { IsOkUnless result NoMemory }
     ensures ready { OnOk result
         (IsSlotReady D.tells slot.new (D.size disk.new) (D.stands disk.new)) }
@@ -219,6 +222,7 @@ fn do_reset<D: Disk>(
     peer: u8,
 ) -> Result<Done, ClusterFault>
     ensures answer { IfOk result (λ told. answers peer job.Reset told ≡ true) }
+    ensures bytes { IfOk result TellsBytes }
     ensures only { IsOkUnless result NoMemory }
     ensures ready { OnOk result
         (IsSlotReady D.tells slot.new (D.size disk.new) (D.stands disk.new)) }
@@ -284,6 +288,7 @@ fn write_copy<D: Disk>(
     requires ready { IsSlotReady D.tells slot.old (D.size disk.old) (D.stands disk.old) }
     ensures answer { (from : ℕ) → IfOk result (λ told.
         answers peer (job.Copy from number) told ≡ true) }
+    ensures bytes { IfOk result TellsBytes }
     ensures only { IsOkUnless result NoMemory }
     ensures ready { OnOk result
         (IsSlotReady D.tells slot.new (D.size disk.new) (D.stands disk.new)) }

@@ -1,6 +1,6 @@
 //! One job on the disk of a peer.
 ghost use Rattle.std.specs.Prelude.{◌≡◌, ◌+◌, ◌≤◌, ℕ, List, Option, None, Some, true, false, is_some, IfOk, IfErr, OnOk};
-ghost use Rattle.hs_cluster.specs.Jobs.{HasStored, Leaves, sealed_list};
+ghost use Rattle.hs_cluster.specs.Jobs.{AreBytes, HasStored, Leaves, TellsBytes, sealed_list};
 ghost use Rattle.hs_desk.specs.Answers.{answers};
 ghost use Rattle.hs_desk.specs.declared.done.Done.TheVariants as done;
 ghost use Rattle.hs_desk.specs.declared.job.Job.TheVariants as job;
@@ -50,6 +50,7 @@ pub(crate) fn do_own<D: Disk>(
           new = D.stands disk.new;
         }) job.now list waiting result }
     ensures done { IfOk result (λ told. failed_disk told ≡ None) }
+    ensures bytes { IfOk result TellsBytes }
     // But for a read, a call that is refused is one that failed; and so is a read, where the list has
     // what the catalogue says.
     ensures refused { (at : ℕ) → only_reads at job.now ≡ false → IfErr result IsOutside }
@@ -173,6 +174,7 @@ fn read_block<D: Disk>(
         → IsKept log.now ((D.stands disk.old).seen log.now.log.side) list waiting
         → IfOk result (λ told. TellsOf told (Some list)) }
     ensures done { IfOk result (λ told. failed_disk told ≡ None) }
+    ensures bytes { IfOk result TellsBytes }
     ensures refused { D.tells → (list : Numbered) (waiting : Option Entry)
         → IsKept log.now ((D.stands disk.old).seen log.now.log.side) list waiting
         → HasStored (Some (job.Read number)) catalogue.now.blocks list → IfErr result IsOutside }
@@ -195,12 +197,22 @@ fn block_of(number: u64, entry: Entry) -> Result<Done, LogFault>
         → IfOk result (λ told. told ≡ done.Bytes number bytes) }
     ensures some { IfOk result (λ told. (op : ℕ) × (least : ℕ) × (bytes : List ℕ)
         × (entry ≡ Block op least bytes) × (told ≡ done.Bytes number bytes)) }
+    ensures bytes { IfOk result TellsBytes }
     ensures not_disk { IfErr result (λ fault. fault ≡ LogFault.NoMemory) }
 {
     match entry {
-        Entry::Block { bytes, .. } => Ok(Done::Bytes { number, bytes }),
+        Entry::Block { bytes, .. } => {
+            are_bytes(bytes.as_slice());
+            Ok(Done::Bytes { number, bytes })
+        }
         _ => Err(LogFault::NoMemory),
     }
+}
+
+/// Bytes are below 256, as every byte is.
+fn are_bytes(bytes: &[u8])
+    ensures { AreBytes bytes.now }
+{
 }
 
 /// Whether a present block was stored by the entry of a number.

@@ -42,3 +42,13 @@ pub returns-in-Err-clause-counted : goal.returns-in-Err-clause-counted
 returns-in-Err-clause-counted g c =
     let f : g.row.D.Denot → DiskSeen = λ disk. seen_as (g.D.Disk.size disk) (g.D.Disk.stands disk) (g.D.Disk.faults disk) in
     falls_within (map f c.args.disks.now) (map f c.read_store.new.disks) (λ peer low. c.read_store.ensures.counted peer (subst (λ n. peer < n) (length-map c.args.disks.now f) low))
+
+pub returns-clause-keeps : goal.returns-clause-keeps
+returns-clause-keeps g c =
+    let f : g.row.D.Denot → DiskSeen = λ disk. seen_as (g.D.Disk.size disk) (g.D.Disk.stands disk) (g.D.Disk.faults disk) in
+    record { each = λ peer low. c.read_store.ensures.keeps peer (subst (λ n. peer < n) (length-map c.args.disks.now f) low) }
+
+pub returns-in-Err-clause-keeps : goal.returns-in-Err-clause-keeps
+returns-in-Err-clause-keeps g c =
+    let f : g.row.D.Denot → DiskSeen = λ disk. seen_as (g.D.Disk.size disk) (g.D.Disk.stands disk) (g.D.Disk.faults disk) in
+    record { each = λ peer low. c.read_store.ensures.keeps peer (subst (λ n. peer < n) (length-map c.args.disks.now f) low) }

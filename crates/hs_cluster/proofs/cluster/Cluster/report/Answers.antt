@@ -63,7 +63,7 @@ returns-clause-does g c = λ line.
       left = map f c.do_job-done.new.disks;
     }) (first_job c.args.peer r.core) (Ok c.in-Ok.done)) c.self.view_is (c.in-Ok.ensures.works told))
     c.step.ensures.logs does c.do_job-done.ensures.later
-    (subst (λ (r : Running). HasPaid r.core c.args.peer c.in-Ok.done (map f c.args.disks.now) (map f c.do_job-done.new.disks)) c.self.view_is c.in-Ok.ensures.paid)
+    (subst (λ (r : Running). HasPaid r.core c.args.peer c.in-Ok.done (map f c.args.disks.now) (map f c.do_job-done.new.disks)) c.self.view_is c.in-Ok.ensures.paid) c.in-Ok.ensures.bytes
     (λ told. subst (λ (r : Running). is_own (first_job c.args.peer r.core) ≡ true → (list : Numbered) (waiting : Option Entry)
         → ((keeping : Keeping) → log_at r.logs c.args.peer ≡ Some keeping → HasLog keeping (disk_at (stands_of (map f c.args.disks.now)) c.args.peer) list waiting)
         → HasStored (first_job c.args.peer r.core) (catalogue_of (home c.args.peer r.core) r.core).blocks list → HasAllPaid r.core c.args.peer c.in-Ok.done (map f c.args.disks.now) (map f c.do_job-done.new.disks))
