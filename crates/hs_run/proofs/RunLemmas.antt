@@ -64,7 +64,7 @@ pub chosen_told : (script : Option (List ℕ)) (read : List (List ℕ)) → IfSo
 chosen_told None read = tt
 chosen_told (Some told) read = λ n. refl
 
-chosen_first : (script : Option (List ℕ)) (read : List (List ℕ)) → client_op (chosen script read 0) ≡ None
+pub chosen_first : (script : Option (List ℕ)) (read : List (List ℕ)) → client_op (chosen script read 0) ≡ None
 chosen_first None read = refl
 chosen_first (Some told) read = refl
 

@@ -36,12 +36,12 @@ pub record HasCauses (r : Ran) : Type 0 where
 pub record MayAllRise (r : Ran) (peer : ℕ) : Type 0 where
   pub each : (p : ℕ) → p < peer → faults_at r.old.disk_faults p < 2 ^ 64 - 1
 
--- hs_promise's word on disks of another store; that the first one is found is said where each count before it can rise
+-- hs_promise's word on disks of another store; that the first one is found is said where each count before it can rise, and that no disk was written where memory was not wanting
 pub record HasShapeCause (S : Script) (r : Ran) : Type 0 where
   pub only : (peer : ℕ) (found : Header) → r.ending ≡ status.WrongShape peer found → IsFoundOther S r peer found
   pub exact : (peer : ℕ) (found : Header) → IsFirstOther S r peer found → MayAllRise r peer → (DiskRose r 1 peer → ⊥)
       → (r.ending ≡ status.WrongShape peer found) ⊎ (r.ending ≡ status.NoMemory)
-  pub unwritten : (peer : ℕ) (found : Header) → IsFirstOther S r peer found → (DiskRose r 1 peer → ⊥) → NoneWritten r
+  pub unwritten : (peer : ℕ) (found : Header) → IsFirstOther S r peer found → (DiskRose r 1 peer → ⊥) → (r.ending ≡ status.NoMemory → ⊥) → NoneWritten r
 
 pub record Served (tells : Type 0) (S : Script) (r : Ran) : Type 0 where
   pub script : AreOfScript S r
