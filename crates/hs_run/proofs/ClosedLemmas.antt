@@ -28,7 +28,7 @@ use Rattle.hs_promise.specs.Ending.{ending_of}
 use Rattle.hs_promise.specs.Ends.{Ends, HasEnded}
 use Rattle.hs_promise.specs.Machine.{NeverOpened}
 use Rattle.hs_promise.specs.Run.{DiskRose, Ran, Script}
-use Rattle.hs_promise.specs.Shapes.{IsFirstOther, IsFoundOther, IsOther, NoneWritten}
+use Rattle.hs_promise.specs.Shapes.{IsFirstOther, IsFoundOther, IsOther, MayAllRise, NoneWritten}
 use Rattle.hs_script.specs.Lines.{lines_of}
 use Rattle.hs_side.specs.Current.{current, header_in}
 use Rattle.hs_side.specs.declared.header.Header.{Header}
@@ -36,7 +36,7 @@ use Rattle.hs_taking.specs.Shares.{Span as Taking}
 use Rattle.hs_taking.specs.Viewed.{IsOnlyRead}
 use Rattle.hs_run.specs.Ended.{ran_at}
 use Rattle.hs_run.specs.Machine.{AreHanded, IsOfCluster}
-use Rattle.hs_run.specs.Served.{HasCauses, HasShapeCause, MayAllRise, PrintsText, Served}
+use Rattle.hs_run.specs.Served.{HasCauses, HasShapeCause, PrintsText, Served}
 use Rattle.hs_run.specs.Stopping.{of_cluster, status_of}
 use Rattle.hs_run.proofs.CaseLemmas.{if_any}
 use Rattle.hs_run.proofs.DisksLemmas.{count_is, disk_is, falls_is, rose_is}
