@@ -93,10 +93,8 @@ module _ (tells : Type 0) (set : Setting) (span : Taking) (old new : Objects) (w
   refused_by : (peer : ℕ) (found : Header) → IsOther S r peer found → refusal_in set.shape peer (seen_at span.old peer).stands.seen ≡ Some (log.WrongShape found)
   refused_by peer found other =
       ap (λ (d : Standing). refusal_in set.shape peer d.seen) (sym (disk_is old span.old was peer))
-      ∙ refusal_of set.shape peer (disk_at old.disks peer).seen found (subst (λ (o : Objects). HasIt o) begins other.header) other.other
-    where
-      abbrev HasIt : Objects → Type 0
-      HasIt o = header_in ((disk_at o.disks peer).seen (current (disk_at o.disks peer).seen)) ≡ Ok (Some found)
+      ∙ refusal_of set.shape peer (disk_at old.disks peer).seen found
+      (subst (λ (o : Objects). header_in ((disk_at o.disks peer).seen (current (disk_at o.disks peer).seen)) ≡ Ok (Some found)) begins other.header) other.other
 
   low_of : (peer : ℕ) (found : Header) → IsOther S r peer found → peer < length span.old
   low_of peer found other = let low = other.within in let there = ap (λ (o : Objects). length o.disks) begins in omega (arith, low, there, handed)
