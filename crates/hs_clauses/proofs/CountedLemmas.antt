@@ -1,5 +1,5 @@
 -- Which course counts, and what that of the logs at entry tells.
-use Rattle.std.proofs.Common.{◌≡◌, ◌∙◌, ◌⊎◌, inl, inr, ap, sym, ℕ, ◌<◌, ◌==◌, ◌&&◌, Bool, true, false, List, [], Option, Some, None, refl, length, is_some, true≢false, arith, if◌then◌else◌}
+use Rattle.std.proofs.Common.{◌≡◌, ◌∙◌, ◌⊎◌, inl, inr, ap, sym, subst, ℕ, ◌<◌, ◌==◌, ◌&&◌, Bool, true, false, List, [], Option, Some, None, refl, length, is_some, true≢false, arith, if◌then◌else◌}
 use Rattle.std.proofs.lemmas.Bool.{and_parts}
 use Rattle.std.specs.List.{AllByRecursion}
 use Rattle.std.specs.Prelude.{IsSome, filter, slice_index_or, unwrap_or}
@@ -54,7 +54,7 @@ module _ (S : Script) (r : Ran) (on : OnDisks S r) where
   entry_begins line m begun =
       none_begun (entry_course S r) line m
       (all_filter BeginsNone (still_counts r) (taken_items S.set.shape (entry_logs S r) r.old.moment)
-      (rw entry_pairs (pairs_begin_none (λ p. has_log (entry_logs S r) p) (λ p. number_at p) r.old.moment 0 S.set.shape.shards))) begun
+      (subst (λ (items : List CourseItem). AllByRecursion BeginsNone items) (sym entry_pairs) (pairs_begin_none (λ p. has_log (entry_logs S r) p) (λ p. number_at p) r.old.moment 0 S.set.shape.shards))) begun
 
   -- who is good by it has a log, which counts and took effect
   pub entry_rested : (m p : ℕ) → IsDuring r.old r.new m → p < S.set.shape.shards → counted_course S r ≡ entry_course S r → KeepsList r p → good_from false (counted_course S r) m p ≡ true → IsRested S r m p
@@ -67,8 +67,8 @@ module _ (S : Script) (r : Ran) (on : OnDisks S r) where
       bad no =
           ap (λ (items : List CourseItem). good_from false items m p) course_is
           ∙ none_good m p (filter (still_counts r) (pairs (λ p. has_log (entry_logs S r) p) (λ p. number_at p) r.old.moment 0 S.set.shape.shards))
-            (filter_none (still_counts r) p (pairs (λ p. has_log (entry_logs S r) p) (λ p. number_at p) r.old.moment 0 S.set.shape.shards)
-            (pairs_none (λ p. has_log (entry_logs S r) p) (λ p. number_at p) r.old.moment p 0 S.set.shape.shards no))
+          (filter_none (still_counts r) p (pairs (λ p. has_log (entry_logs S r) p) (λ p. number_at p) r.old.moment 0 S.set.shape.shards)
+          (pairs_none (λ p. has_log (entry_logs S r) p) (λ p. number_at p) r.old.moment p 0 S.set.shape.shards no))
 
       rests : has_log (entry_logs S r) p ≡ true → (list : Numbered) → slice_index_or (entry_logs S r) p None ≡ Some list → IsRested S r m p
       rests is list at =

@@ -71,7 +71,7 @@ module _ (S : Script) (r : Ran) (story : Story) (found : HasFound S r story) (on
   opens_good m p below low good =
       first_good m p
       ∙ ap (λ x. good_from (good_from x bads m p) changes m p)
-        (good_there (λ p. has_log story.found.logs p) (λ p. number_at p) r.old.moment m p 0 S.set.shape.shards false below (found.kept p good) (omega arith) (omega (arith, low)))
+      (good_there (λ p. has_log story.found.logs p) (λ p. number_at p) r.old.moment m p 0 S.set.shape.shards false below (found.kept p good) (omega arith) (omega (arith, low)))
       ∙ ap (λ x. good_from x changes m p) (bads_other story.found.lost m p true (not_lost p good))
       ∙ changes_good (λ q. is_taken S.set.shape story.found.logs q) (λ q. is_taken S.set.shape story.found.logs q || starts_good story.found q) story.found.opened m p (all_peers S.set.shape) true (unchanged p low)
 

@@ -124,7 +124,7 @@ module _ (S : Script) (r : Ran) (story : Story) (went : Went S r story) (asked :
     answered =
         ap (λ (c : Core). c.journal) (then_core m)
         ∙ journal_at (first_core S.set story.found) (all_events story) story.found.opened r.new.moment m (opens_noted S.set.shape S.set.limits (opens_with S.set story.found) story.found.opened).entries went.rises
-          (ap (λ (es : List JournalEntry). below m es) silent ∙ sym silent)
+        (ap (λ (es : List JournalEntry). below m es) silent ∙ sym silent)
         ∙ ap (λ (es : List JournalEntry). below m es) (sym went.journal)
 
     good_then : (p : ℕ) → p < S.set.shape.shards → good_from false (counted_course S r) m p ≡ is_good_status (status_of p (state_then S story m).core)
@@ -140,8 +140,8 @@ module _ (S : Script) (r : Ran) (story : Story) (went : Went S r story) (asked :
         ap (λ (is : List CourseItem). taken_from 0 is m g) (counted ∙ went.course)
         ∙ taken-append 0 (first_items S.set.shape story.found r.old.moment) items m g
         ∙ ap (λ x. taken_from x items m g)
-          (opens_took S r story went.found asked.on.one m g during.above low (went.found.kept g (good g low))
-          ∙ ap (λ (list : Numbered). (rank_of list).number) (sym (opened_taken g low)) ∙ sym (front_first S.set story.found g low))
+        (opens_took S r story went.found asked.on.one m g during.above low (went.found.kept g (good g low))
+        ∙ ap (λ (list : Numbered). (rank_of list).number) (sym (opened_taken g low)) ∙ sym (front_first S.set story.found g low))
         ∙ taken_at (first_core S.set story.found) (all_events story) story.found.opened r.new.moment m g went.rises (shard_first g low)
         ∙ ap (λ (c : Core). front_of g c) (sym (then_core m))
 

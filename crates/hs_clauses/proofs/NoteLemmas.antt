@@ -169,8 +169,8 @@ module _ (shape : Shape) (limits : Limits) (taken : Taken) (moment : ℕ) where
       let b : Core = begin_views (new_core shape limits taken moment) in
       ap (λ (x : Core). (end_event x).journal)
       (none_noted 0 ((shape_of b).shards * (shape_of b).copies) b (λ p low high.
-          ap (λ (m : Members). is_good_status (status p m)) viewed.members
-          ∙ good p (let is = ap (λ (m : Members). m.shape.shards * m.shape.copies) viewed.members in omega (arith, is, high))))
+      ap (λ (m : Members). is_good_status (status p m)) viewed.members
+      ∙ good p (let is = ap (λ (m : Members). m.shape.shards * m.shape.copies) viewed.members in omega (arith, is, high))))
       ∙ over b viewed.journal viewed.entries
     where
       over : (c : Core) → c.journal ≡ [] → c.entries ≡ [] → (end_event c).journal ≡ []
