@@ -3,6 +3,7 @@ use Rattle.std.proofs.Common.{◌≡◌, ◌∙◌, inl, inr, ap, sym, subst, �
 use Rattle.std.specs.List.{AllByRecursion}
 use Rattle.std.specs.Option.{option_and_then, option_map_or}
 use Rattle.std.specs.Prelude.{IsSome, flat_map, slice_index_or, unwrap_or}
+use Rattle.hs_clauses.proofs.ComingLemmas.{ComingLaws}
 use Rattle.hs_clauses.proofs.CountedLemmas.{counted_cases, entry_begins, entry_rested}
 use Rattle.hs_clauses.proofs.FoundLemmas.{many, number_at, opens_bad, opens_took}
 use Rattle.hs_clauses.proofs.ListLemmas.{log_counts, log_is, some_there}
@@ -11,7 +12,6 @@ use Rattle.hs_clauses.proofs.RestLemmas.{IsRested, rest_logs, rest_reopens}
 use Rattle.hs_clauses.proofs.TakenLemmas.{has_log, list_is}
 use Rattle.hs_clauses.specs.Shown.{IsShown, KeepsList, OnDisks}
 use Rattle.hs_answered.specs.Telling.{Judging}
-use Rattle.hs_core.specs.Opening.{Taken, open_core}
 use Rattle.hs_core.specs.State.{Core}
 use Rattle.hs_core.specs.Step.{step}
 use Rattle.hs_desk.specs.declared.fault.CoreFault.{CoreFault}
@@ -25,11 +25,7 @@ use Rattle.hs_fold.specs.Good.{IsBegun, good_from, taken_from}
 use Rattle.hs_fold.specs.Shards.Setting.{Numbered}
 use Rattle.hs_held.proofs.AllLemmas.{all_append}
 use Rattle.hs_journal.specs.declared.entry.JournalEntry.{JournalEntry}
-use Rattle.hs_journal.specs.Events.{client_op}
 use Rattle.hs_journal.specs.Order.{IsOrdered}
-use Rattle.hs_limits.specs.declared.limits.Limits.{Limits}
-use Rattle.hs_limits.specs.declared.shape.Shape.{Shape}
-use Rattle.hs_model.specs.declared.command.Command.{Command}
 use Rattle.hs_model.specs.declared.course.CourseItem.{CourseItem}
 use Rattle.hs_model.specs.Store.{Store}
 use Rattle.hs_ports.specs.Moments.{disk_at}
@@ -46,11 +42,6 @@ use Rattle.hs_promise.specs.Stops.{Stops}
 use Rattle.hs_promise.specs.Story.{Story, all_events, last_core}
 use Rattle.hs_side.specs.Current.{list_in}
 use Rattle.hs_told.specs.InTurn.{IsInTurn}
-
--- what hs_told says of a core that opens
-pub record OpeningLaws : Type 0 where
-  pub opens : (commands : ℕ → Option Command) (shape : Shape) (limits : Limits) (taken : Taken) (moment : ℕ) → client_op (commands 0) ≡ None → IsInTurn commands (open_core shape limits taken moment)
-  pub full : (commands : ℕ → Option Command) (core : Core) → IsInTurn commands core → IsOrdered commands (core.journal ++ core.refused)
 
 -- ---- behind a core that has ended there is no event
 
@@ -101,7 +92,7 @@ module _ (S : Script) (r : Ran) (story : Story) (on : OnDisks S r) (went : Went 
   pub journal_notes : AllByRecursion IsNote r.journal
   journal_notes = subst (λ (es : List JournalEntry). AllByRecursion IsNote es) (sym journal_is) (opens_noted S.set.shape S.set.limits (opens_with S.set story.found) story.found.opened).journal
 
-  module _ (laws : OpeningLaws) where
+  module _ (laws : ComingLaws) where
     turn : IsInTurn S.commands (first_core S.set story.found)
     turn = laws.opens S.commands S.set.shape S.set.limits (opens_with S.set story.found) story.found.opened on.nobody
 

@@ -3,6 +3,7 @@ pub mod AnswerLemmas
 pub mod AskedLemmas
 pub mod BlockLemmas
 pub mod CaseLemmas
+pub mod ComingLemmas
 pub mod CountedLemmas
 pub mod CourseLemmas
 pub mod EndedLemmas

@@ -1,29 +1,21 @@
--- A run may stop at each of its moments.
-use Rattle.std.proofs.Common.{◌≡◌, ◌∙◌, ◌⊎◌, inl, inr, ap, sym, subst, ℕ, ◌+◌, ◌*◌, ◌<◌, ◌==◌, ◌&&◌, ◌++◌, Bool, true, false, List, [], ◌∷◌, Option, None, refl, length, arith, if◌then◌else◌}
-use Rattle.std.proofs.lemmas.Bool.{ne_eqb}
+-- A run whose core goes on behind its opening may stop at each of its moments.
+use Rattle.std.proofs.Common.{◌≡◌, ◌∙◌, ◌⊎◌, inl, inr, ap, sym, subst, ℕ, ◌+◌, ◌*◌, ◌<◌, ◌==◌, ◌&&◌, Bool, true, false, List, [], ◌∷◌, None, refl, length, arith, if◌then◌else◌}
 use Rattle.std.proofs.lemmas.List.Elements.{Contains-append_right}
-use Rattle.std.specs.Prelude.{Contains, IsSome, filter, flat_map}
-use Rattle.hs_answered.specs.Telling.{Judging}
-use Rattle.hs_answers.proofs.AddressedLemmas.{LinesAsk, lines_addressed, settle_addressed}
-use Rattle.hs_answers.specs.Answered.{judging_of}
-use Rattle.hs_along.specs.Walks.{HasRecordRoom}
-use Rattle.hs_clauses.proofs.AlongLemmas.{all_keep, along_front, keep_append, room_between}
+use Rattle.std.specs.Prelude.{Contains, IsSome, filter}
+use Rattle.hs_clauses.proofs.AlongLemmas.{all_keep}
+use Rattle.hs_clauses.proofs.AskedLemmas.{IsAskedOf, run_opens}
+use Rattle.hs_clauses.proofs.ComingLemmas.{ComingLaws, addressed_all, come_all, new_all}
 use Rattle.hs_clauses.proofs.CourseLemmas.{some_course}
 use Rattle.hs_clauses.proofs.FitLemmas.{fits}
-use Rattle.hs_clauses.proofs.LineLemmas.{flat_same}
 use Rattle.hs_clauses.proofs.FoundLemmas.{opens_begins}
 use Rattle.hs_clauses.proofs.ListLemmas.{none_aside}
 use Rattle.hs_clauses.proofs.MomentLemmas.{at_moment, good, one_list, state_then}
-use Rattle.hs_clauses.proofs.AskedLemmas.{IsAskedOf, run_opens}
-use Rattle.hs_clauses.proofs.ReadyLemmas.{LawsHere, last_is, mid, mid_along, mid_is, mid_lines, mid_rises, mid_turn, next_line, no_line, opening_rises, opening_walks}
-use Rattle.hs_clauses.specs.Asked.{lined, start_of}
+use Rattle.hs_clauses.specs.Asked.{start_of}
 use Rattle.hs_clauses.specs.Shown.{HaveOneList, IsShown}
 use Rattle.hs_core.specs.State.{Core}
-use Rattle.hs_effects.specs.Logged.{MayBeginAll}
-use Rattle.hs_events.proofs.RunLemmas.{steps_append}
 use Rattle.hs_events.specs.Beginning.{first_items}
-use Rattle.hs_events.specs.Course.{happened, items_of, steps}
-use Rattle.hs_events.specs.Due.{Events, MomentsRise, is_walk, next_due}
+use Rattle.hs_events.specs.Course.{happened, items_of}
+use Rattle.hs_events.specs.Due.{Events}
 use Rattle.hs_events.specs.Found.{Found, first_core}
 use Rattle.hs_events.specs.Taken.{taken_items}
 use Rattle.hs_events.specs.Whole.{Whole, open_whole}
@@ -32,12 +24,8 @@ use Rattle.hs_fold.specs.Images.{image_at}
 use Rattle.hs_fold.specs.Shards.Course.{begins}
 use Rattle.hs_fold.specs.Shards.Images.{AreGoodImages, Image, IsGoodImage, Stop}
 use Rattle.hs_journal.specs.declared.entry.JournalEntry.{JournalEntry}
-use Rattle.hs_journal.specs.Events.{client_op}
 use Rattle.hs_journal.specs.Moments.{below}
-use Rattle.hs_limits.specs.declared.address.Address.{Address}
 use Rattle.hs_limits.specs.Shape.{IsShape}
-use Rattle.hs_lines.specs.Script.{AreLines, IsNext, Script as Lined, all_events as lines_events}
-use Rattle.hs_model.specs.declared.command.Command.{Command}
 use Rattle.hs_model.specs.declared.course.CourseItem.{CourseItem}
 use Rattle.hs_moments.proofs.OpeningLemmas.{opening_is_sane}
 use Rattle.hs_moments.specs.Joint.{AtMoment}
@@ -58,15 +46,11 @@ use Rattle.hs_stops.proofs.SaneLemmas.{good_counts, good_counts_after}
 use Rattle.hs_stops.specs.Reopens.{Reopens}
 use Rattle.hs_stops.specs.Stands.{GoodPeersCount}
 use Rattle.hs_stops.specs.Start.{Start}
-use Rattle.hs_told.specs.InTurn.{AllMayCome, IsInTurn}
 
--- what hs_lines, hs_legal and hs_standing say of events, in one place
-pub record EventLaws : Type 0 where
-  pub come_opening : (commands : ℕ → Option Command) (whole : Bool) (core : Core) (es : Events) (to : ℕ) → client_op (commands 0) ≡ None → core.event_line ≡ 0 → MomentsRise core.moment es to → is_walk next_due whole 0 core es ≡ true → AllMayCome commands core es
-  pub come_lines : (s : Lined) (line : ℕ) (core : Core) (lines : List Events) (to : ℕ) → IsNext s.commands core line → MomentsRise core.moment (lines_events lines) to → AreLines s line core lines → AllMayCome s.commands core (lines_events lines)
-  pub new_opening : (name : List ℕ → Address) (whole : Bool) (core : Core) (es : Events) → is_walk next_due whole 0 core es ≡ true → MayBeginAll name es core
-  pub new_lines : (s : Lined) (line : ℕ) (core : Core) (lines : List Events) (to : ℕ) → IsInTurn s.commands core → IsNext s.commands core line → MomentsRise core.moment (lines_events lines) to → AreLines s line core lines → MayBeginAll s.name (lines_events lines) core
-  pub asks : (by : Judging) → LinesAsk by
+-- what hs_standing says of runs, with what is said of events
+pub record StopLaws : Type 0 where
+  pub coming : ComingLaws
+  pub runs : (start : Start) (found : Found) → RunOpens start found → IsRunning start (open_whole start.set found)
   pub first : (start : Start) (stop : Stop) (found : Found) → RunOpens start found → AreBegun start stop (first_core start.set found)
   pub reopens : (start : Start) (stop : Stop) (c : Whole) (events : Events) (journal : List JournalEntry) (images : List Image) → IsShape start.set.shape → start.set.shape.copies ≡ 1 → length stop.disks ≡ start.set.shape.shards
       → IsRunning start c → AreBegun start stop c.core → AllMayKeep start (MayRun start) c.core events → ((i : CourseItem) → Contains (items_of c.core events) i → Contains stop.course i)
@@ -86,48 +70,15 @@ runs_count : (c : Whole) (es : Events) → GoodPeersCount whole_machine c → Go
 runs_count c [] h = h
 runs_count c (e ∷ es) h = runs_count (whole_machine.step c e.0 e.1) es (good_counts_after c e.0 e.1)
 
-module _ (laws : LawsHere) (own : EventLaws) (S : Script) (r : Ran) (story : Story) (went : Went S r story) (asked : IsAskedOf S r story) where
+-- its events keep it standing
+pub all_kept : ComingLaws → (S : Script) (r : Ran) (story : Story) → Went S r story → IsAskedOf S r story → AllMayKeep (start_of S r) (MayRun (start_of S r)) (first_core S.set story.found) (all_events story)
+all_kept laws S r story went asked =
+    all_keep (start_of S r) (first_core S.set story.found) (all_events story)
+    (come_all laws S r story went asked.on.nobody) (new_all laws S r story went asked.on.nobody) (addressed_all laws S r story went asked.on.nobody) asked.along asked.last
+
+module _ (laws : StopLaws) (S : Script) (r : Ran) (story : Story) (went : Went S r story) (asked : IsAskedOf S r story) where
   abbrev first : Core
   first = first_core S.set story.found
-
-  abbrev line_events : Events
-  line_events = flat_map (λ (line : Events). line) story.lines
-
-  abbrev by : Judging
-  by = judging_of (lined S r) S.set.limits
-
-  -- ---- its events keep it standing
-
-  keep_opening : AllMayKeep (start_of S r) (MayRun (start_of S r)) first story.opening
-  keep_opening =
-      all_keep (start_of S r) first story.opening
-      (own.come_opening S.commands false first story.opening r.new.moment asked.on.nobody (no_line laws S r story went asked) (opening_rises laws S r story went asked) (opening_walks laws S r story went asked))
-      (own.new_opening S.set.name false first story.opening (opening_walks laws S r story went asked))
-      (settle_addressed by false 0 first story.opening (opening_walks laws S r story went asked))
-      (along_front by (entry_store S r) first story.opening line_events asked.along)
-      (room_between (start_of S r) first story.opening line_events asked.along.room
-      (subst (λ (c : Core). c.ended ≡ None → HasRecordRoom c) (steps_append first story.opening line_events) asked.last))
-
-  mid_keep : AllMayKeep (start_of S r) (MayRun (start_of S r)) (mid laws S r story went asked).core (lines_events story.lines)
-  mid_keep =
-      let c : Core = (mid laws S r story went asked).core in
-      let next : IsNext S.commands c 1 = next_line laws S r story went asked in
-      let rise : MomentsRise c.moment (lines_events story.lines) r.new.moment = mid_rises laws S r story went asked in
-      let are : AreLines (lined S r) 1 c story.lines = mid_lines laws S r story went asked in
-      let new : MayBeginAll S.set.name (lines_events story.lines) c = own.new_lines (lined S r) 1 c story.lines r.new.moment (mid_turn laws S r story went asked) next rise are in
-      all_keep (start_of S r) c (lines_events story.lines)
-      (own.come_lines (lined S r) 1 c story.lines r.new.moment next rise are) new
-      (lines_addressed (lined S r) S.set.limits (own.asks by) 1 c story.lines next new are)
-      (mid_along laws S r story went asked)
-      (subst (λ (d : Core). d.ended ≡ None → HasRecordRoom d) (sym (last_is laws S r story went asked)) asked.last)
-
-  keep_lines : AllMayKeep (start_of S r) (MayRun (start_of S r)) (steps first story.opening) line_events
-  keep_lines =
-      subst (λ (es : Events). AllMayKeep (start_of S r) (MayRun (start_of S r)) (steps first story.opening) es) (sym (flat_same story.lines))
-      (subst (λ (c : Core). AllMayKeep (start_of S r) (MayRun (start_of S r)) c (lines_events story.lines)) (mid_is laws S r story went asked) mid_keep)
-
-  pub all_kept : AllMayKeep (start_of S r) (MayRun (start_of S r)) first (all_events story)
-  all_kept = keep_append (start_of S r) first story.opening line_events keep_opening keep_lines
 
   -- ---- the course
 
@@ -185,8 +136,8 @@ module _ (laws : LawsHere) (own : EventLaws) (S : Script) (r : Ran) (story : Sto
     reopen_at : (m : ℕ) → IsDuring r.old r.new m → (images : List Image) → AreGoodImages S.set.shape (stop_at S r m) images → ReopensAt S (entry_store S r) r m images
     reopen_at m d images good =
         fits S r m images (λ line begun. subst (λ (course : List CourseItem). IsBegun course line m) counted_is begun)
-        (own.reopens (start_of S r) (stop_at S r m) (open_whole S.set story.found) (all_events story) r.journal images asked.on.shape asked.on.one asked.on.left
-        (laws.runs (start_of S r) story.found opens) (own.first (start_of S r) (stop_at S r m) story.found opens) all_kept inside (at_each m d) good)
+        (laws.reopens (start_of S r) (stop_at S r m) (open_whole S.set story.found) (all_events story) r.journal images asked.on.shape asked.on.one asked.on.left
+        (laws.runs (start_of S r) story.found opens) (laws.first (start_of S r) (stop_at S r m) story.found opens) (all_kept laws.coming S r story went asked) inside (at_each m d) good)
 
     pub may_stop : Stops S (entry_store S r) r
     may_stop = record { logs = log_of; reopens = reopen_at }

@@ -7,6 +7,8 @@ ghost use Rattle.hs_promise.specs.Entry.{IsSoundAtEntry, entry_store};
 ghost use Rattle.hs_promise.specs.Run.{Ran, Script};
 
 use hs_answers::a_script_is_answered;
+use hs_legal::a_line_asks_as_its_command;
+use hs_lines::{a_scripts_events_may_come, a_scripts_lines_are_new};
 use hs_memory::catalogues_in_memory_are_folds;
 use hs_standing::a_run_goes_on;
 use hs_told::answers_stay_in_order;
@@ -24,6 +26,9 @@ pub fn a_run_is_answered()
 {
     a_script_is_answered();
     catalogues_in_memory_are_folds();
+    a_line_asks_as_its_command();
+    a_scripts_events_may_come();
+    a_scripts_lines_are_new();
     a_run_goes_on();
     answers_stay_in_order();
 }

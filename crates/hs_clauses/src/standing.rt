@@ -9,11 +9,10 @@ ghost use Rattle.hs_promise.specs.Story.{Story, all_events};
 ghost use Rattle.hs_standing.specs.Run.{MayRun, RunOpens};
 ghost use Rattle.hs_standing.specs.Standing.{AllMayKeep};
 
-use hs_answers::a_script_is_answered;
 use hs_legal::a_line_asks_as_its_command;
 use hs_lines::{a_scripts_events_may_come, a_scripts_lines_are_new};
 use hs_memory::catalogues_in_memory_are_folds;
-use hs_standing::{a_run_goes_on, each_moment_of_a_run_stands};
+use hs_told::answers_stay_in_order;
 
 /// A run on sound disks, with one copy of each shard, whose core goes on behind its opening, opens at
 /// the store at entry (`opens`), and each of its events may come and leaves it standing (`keeps`).
@@ -28,11 +27,9 @@ pub fn a_run_stands()
         AllMayKeep (start_of S r) (MayRun (start_of S r)) (first_core S.set story.found)
         (all_events story) }
 {
-    a_script_is_answered();
     catalogues_in_memory_are_folds();
     a_line_asks_as_its_command();
     a_scripts_events_may_come();
     a_scripts_lines_are_new();
-    a_run_goes_on();
-    each_moment_of_a_run_stands();
+    answers_stay_in_order();
 }

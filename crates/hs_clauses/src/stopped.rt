@@ -4,7 +4,6 @@ ghost use Rattle.hs_promise.specs.Entry.{MayStop, entry_store};
 ghost use Rattle.hs_promise.specs.Run.{Ran, Script};
 ghost use Rattle.hs_promise.specs.Stops.{Stops};
 
-use hs_answers::a_script_is_answered;
 use hs_legal::a_line_asks_as_its_command;
 use hs_lines::{a_scripts_events_may_come, a_scripts_lines_are_new};
 use hs_memory::catalogues_in_memory_are_folds;
@@ -18,7 +17,6 @@ pub fn a_run_may_stop()
     ensures { (S : Script) (r : Ran)
         → IsToldRun S r → MayStop S r → Stops S (entry_store S r) r }
 {
-    a_script_is_answered();
     catalogues_in_memory_are_folds();
     a_line_asks_as_its_command();
     a_scripts_events_may_come();

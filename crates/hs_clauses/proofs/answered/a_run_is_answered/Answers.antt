@@ -1,6 +1,6 @@
 use Rattle.hs_clauses.proofs.answered.a_run_is_answered.Goals as goal
 use Rattle.hs_clauses.proofs.CaseLemmas.{told_answers, told_full}
-use Rattle.hs_clauses.proofs.EndedLemmas.{OpeningLaws}
+use Rattle.hs_clauses.proofs.ComingLemmas.{ComingLaws}
 use Rattle.hs_clauses.proofs.ReadyLemmas.{LawsHere}
 
 pub returns-clause-valid : goal.returns-clause-valid
@@ -16,8 +16,18 @@ returns-clause-answers c = λ S r run sound.
       memory = c.catalogues_in_memory_are_folds.ensures.list;
       runs = c.a_run_goes_on.ensures.opens;
     } in
-    let first : OpeningLaws = record { opens = c.answers_stay_in_order.ensures.opens; full = c.answers_stay_in_order.ensures.with_refused } in
-    told_answers laws first S r run sound
+    let coming : ComingLaws = record {
+      opens = c.answers_stay_in_order.ensures.opens;
+      turns = c.answers_stay_in_order.ensures.events;
+      full = c.answers_stay_in_order.ensures.with_refused;
+      come_opening = c.a_scripts_events_may_come.ensures.opening;
+      next_first = c.a_scripts_events_may_come.ensures.first;
+      come_lines = c.a_scripts_events_may_come.ensures.lines;
+      new_opening = c.a_scripts_lines_are_new.ensures.opening;
+      new_lines = c.a_scripts_lines_are_new.ensures.lines;
+      asks = c.a_line_asks_as_its_command.ensures;
+    } in
+    told_answers laws coming S r run sound
 
 pub returns-clause-full : goal.returns-clause-full
 returns-clause-full c = λ S r run sound.
@@ -29,5 +39,15 @@ returns-clause-full c = λ S r run sound.
       memory = c.catalogues_in_memory_are_folds.ensures.list;
       runs = c.a_run_goes_on.ensures.opens;
     } in
-    let first : OpeningLaws = record { opens = c.answers_stay_in_order.ensures.opens; full = c.answers_stay_in_order.ensures.with_refused } in
-    told_full laws first S r run sound
+    let coming : ComingLaws = record {
+      opens = c.answers_stay_in_order.ensures.opens;
+      turns = c.answers_stay_in_order.ensures.events;
+      full = c.answers_stay_in_order.ensures.with_refused;
+      come_opening = c.a_scripts_events_may_come.ensures.opening;
+      next_first = c.a_scripts_events_may_come.ensures.first;
+      come_lines = c.a_scripts_events_may_come.ensures.lines;
+      new_opening = c.a_scripts_lines_are_new.ensures.opening;
+      new_lines = c.a_scripts_lines_are_new.ensures.lines;
+      asks = c.a_line_asks_as_its_command.ensures;
+    } in
+    told_full laws coming S r run sound
