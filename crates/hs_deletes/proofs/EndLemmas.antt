@@ -14,34 +14,31 @@ pub record Keeps (a b : Core) : Type 0 where
   pub journal : b.journal ≡ a.journal
   pub refused : b.refused ≡ a.refused
 
-keeps_same : (a b : Core) → b.journal ≡ a.journal → b.refused ≡ a.refused → Keeps a b
-keeps_same a b journal refused = record { journal = journal; refused = refused }
-
 leaves : Leaves Keeps
 leaves = record {
-  same = λ c. keeps_same c c refl refl;
+  same = λ c. record { journal = refl; refused = refl };
   both = λ a b c f g. record { journal = g.journal ∙ f.journal; refused = g.refused ∙ f.refused };
-  catalogue = λ shard x c. keeps_same c _ refl refl;
-  viewed = λ shard x c. keeps_same c _ refl refl;
-  status = λ peer x c. keeps_same c _ refl refl;
-  tasks = λ peer x c. keeps_same c _ refl refl;
-  rejoin = λ peer x c. keeps_same c _ refl refl;
-  pool = λ x c. keeps_same c _ refl refl;
-  operations = λ x c. keeps_same c _ refl refl;
-  sessions = λ x c. keeps_same c _ refl refl;
-  noted = λ of did told c. keeps_same c _ refl refl;
-  proposes = λ shard entry c. keeps_same c _ refl refl;
-  takes = λ shard peer entry c. keeps_same c _ refl refl;
-  hears = λ shard from view sealed c. keeps_same c _ refl refl;
-  renews = λ shard c. keeps_same c _ refl refl;
-  commits = λ shard c. keeps_same c _ refl refl;
+  catalogue = λ shard x c. record { journal = refl; refused = refl };
+  viewed = λ shard x c. record { journal = refl; refused = refl };
+  status = λ peer x c. record { journal = refl; refused = refl };
+  tasks = λ peer x c. record { journal = refl; refused = refl };
+  rejoin = λ peer x c. record { journal = refl; refused = refl };
+  pool = λ x c. record { journal = refl; refused = refl };
+  operations = λ x c. record { journal = refl; refused = refl };
+  sessions = λ x c. record { journal = refl; refused = refl };
+  noted = λ of did told c. record { journal = refl; refused = refl };
+  proposes = λ shard entry c. record { journal = refl; refused = refl };
+  takes = λ shard peer entry c. record { journal = refl; refused = refl };
+  hears = λ shard from view sealed c. record { journal = refl; refused = refl };
+  renews = λ shard c. record { journal = refl; refused = refl };
+  commits = λ shard c. record { journal = refl; refused = refl };
 }
 
 report_leaves : ReportLeaves Keeps
 report_leaves = record {
-  seals = λ shard peer number c. keeps_same c _ refl refl;
-  empties = λ shard peer c. keeps_same c _ refl refl;
-  copies = λ shard peer number c. keeps_same c _ refl refl;
+  seals = λ shard peer number c. record { journal = refl; refused = refl };
+  empties = λ shard peer c. record { journal = refl; refused = refl };
+  copies = λ shard peer number c. record { journal = refl; refused = refl };
 }
 
 line_keeps : (e : Event) (c : Core) → Keeps c (with_line e c)

@@ -1,6 +1,7 @@
 pub mod EndLemmas
 pub mod EventLemmas
 pub mod GotLemmas
+pub mod MachineLemmas
 pub mod MereLemmas
 pub mod OpenLemmas
 pub mod PromiseLemmas

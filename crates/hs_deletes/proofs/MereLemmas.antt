@@ -48,7 +48,7 @@ module _ (commands : ℕ → Option Command) where
 
   pub plain_mere : (e : JournalEntry) → IsPlain commands e → IsMereRefusal commands e
   plain_mere e (inl spoken) = of_client e spoken.line spoken.of spoken.client
-  plain_mere e (inr other) n of nobody = other
+  plain_mere e (inr other) = λ n of nobody. other
 
   pub says_mere : (a b : Core) → Says (IsPlain commands) a b → AllByRecursion (IsMereRefusal commands) (told_so_far a) → AllByRecursion (IsMereRefusal commands) (told_so_far b)
   says_mere a b says mere =
@@ -115,7 +115,9 @@ module _ (commands : ℕ → Option Command) where
       where
         by_refusal : (x : Option Reply) → refusal_in e c ≡ x → AllByRecursion (IsMereRefusal commands) (told_so_far (do_event e c))
         by_refusal (Some r) is = refused_mere r is
-        by_refusal None free = (event_stays stirs_mere e c other free (record { asking = asking; told = mere })).told
+        by_refusal None free =
+            let there : Mere commands (part_of (do_event e c)) = event_stays stirs_mere e c other free (record { asking = asking; told = mere }) in
+            there.told
 
   -- the line of an event that is a client's
   abbrev pub HasClient : Event → Type 0

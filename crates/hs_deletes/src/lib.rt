@@ -2,7 +2,9 @@
 #![tactic(auto)]
 
 mod kept;
+mod machine;
 mod promised;
 
 pub use kept::{a_run_keeps_the_rule_of_done, each_event_keeps_the_rule_of_done};
+pub use machine::a_core_counts_right;
 pub use promised::a_run_deletes_as_promised;
