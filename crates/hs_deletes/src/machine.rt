@@ -10,8 +10,7 @@ ghost use Rattle.hs_legal.specs.Standing.{IsStanding};
 ghost use Rattle.hs_model.specs.Store.{Store};
 
 use hs_deletion::{
-    counts_of_catalogues_are_right, each_unreached_block_is_found,
-    no_reached_block_is_a_wrong_zero,
+    counts_of_catalogues_are_right, each_unreached_block_is_found, no_reached_block_is_a_wrong_zero,
 };
 use hs_joint::folds_follow_the_machine;
 
