@@ -83,17 +83,23 @@ module _ (blocks : Blocks) (given : Given) (views : ByViews) (steps : Steps) (la
         → AreSwept by (store_with cs c.sessions) (sweep_entries by (store_with cs c.sessions) shard c.moment)
     swept_piece swept = group_swept blocks given by s (told_valid by start (told_so_far c) s valid its.tells) (folded_apart cs c.sessions) shard c.moment swept.allowed
 
+    -- where it does
+    swept_rule : HasSwept cs (folds_behind by.name cs shard (kind.Got sender epoch round total deltas) c) c (take_effect shard (kind.Got sender epoch round total deltas) c) shard
+        → Rule by start c → Rule by start (told_at_once shard (kind.Got sender epoch round total deltas) c)
+    swept_rule swept rule mere =
+        subst (λ (es : List JournalEntry). AreSwept by start es) (sym (sweeps_told swept))
+        (joined by start (told_so_far c) (sweep_entries by (store_with cs c.sessions) shard c.moment) (rule front)
+        (subst (λ (t : Store). AreSwept by t (sweep_entries by (store_with cs c.sessions) shard c.moment)) (sym its.tells.left) (swept_piece swept)))
+      where
+        front : AllByRecursion (IsMereRefusal by.commands) (told_so_far c)
+        front = all_front (IsMereRefusal by.commands) (told_so_far c) (sweep_entries by (store_with cs c.sessions) shard c.moment)
+            (subst (λ (es : List JournalEntry). AllByRecursion (IsMereRefusal by.commands) es) (sweeps_told swept) mere)
+
     pub got_rule : Rule by start c → Rule by start (told_at_once shard (kind.Got sender epoch round total deltas) c)
     got_rule rule = by_test ends refl
       where
         by_test : (b : Bool) → ends ≡ b → Rule by start (told_at_once shard (kind.Got sender epoch round total deltas) c)
-        by_test true e mere =
-            let swept : HasSwept cs later c (take_effect shard got c) shard = laws.sweeps_last by.name cs c shard sender epoch round total deltas its.lawful may (happens true e) in
-            let more : List JournalEntry = sweep_entries by s shard c.moment in
-            let front : AllByRecursion (IsMereRefusal by.commands) (told_so_far c) =
-            all_front (IsMereRefusal by.commands) (told_so_far c) more (subst (λ (es : List JournalEntry). AllByRecursion (IsMereRefusal by.commands) es) (sweeps_told swept) mere) in
-            subst (λ (es : List JournalEntry). AreSwept by start es) (sym (sweeps_told swept))
-            (joined by start (told_so_far c) more (rule front) (subst (λ (t : Store). AreSwept by t (sweep_entries by (store_with cs c.sessions) shard c.moment)) (sym its.tells.left) (swept_piece swept)))
+        by_test true e = swept_rule (laws.sweeps_last by.name cs c shard sender epoch round total deltas its.lawful may (happens true e)) rule
         by_test false e =
             let quiet : IsSilent cs later c (take_effect shard got c) = laws.sweeps_nothing by.name cs c shard sender epoch round total deltas its.lawful may (happens false e) in
             rule_same by start c told (same_told c told books (sym mute.entries ∙ quiet.told)) rule
