@@ -11,13 +11,7 @@ pub fn shape_of(words: &[String]) -> Option<Shape>
     ensures { result ≡ shape_in (map (λ word. string_bytes word) words.now) }
 {
     match wanted(words) {
-        Some((shape, _)) => {
-            if shape.copies == 1 {
-                Some(shape)
-            } else {
-                None
-            }
-        }
+        Some((shape, _)) => { if shape.copies == 1 { Some(shape) } else { None } }
         None => None,
     }
 }

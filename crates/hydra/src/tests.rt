@@ -420,13 +420,11 @@ fn the_first_bad_line_has_a_cause(rt: HostRuntime) -> Result<(), Fail> {
             None,
         ),
         (
-            b"root a k.1 h0\nlook a k.1\ndrop k.1\nname a h0\nforget a h0\nclose a\ndelete"
-                .as_slice(),
+            b"root a k.1 h0\nlook a k.1\ndrop k.1\nname a h0\nforget a h0\nclose a\ndelete".as_slice(),
             None,
         ),
         (
-            b"turn 0\nnudge 255\nfail 1\nstart 1\ndeliver 18446744073709551615\nlose 1\nrepeat 1"
-                .as_slice(),
+            b"turn 0\nnudge 255\nfail 1\nstart 1\ndeliver 18446744073709551615\nlose 1\nrepeat 1".as_slice(),
             None,
         ),
         (b"opne a\nsettle a", Some(BadCause::Verb)),
