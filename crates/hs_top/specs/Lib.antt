@@ -1,3 +1,4 @@
 pub mod Calls
+pub mod Rest
 pub mod Status
 pub mod Words
