@@ -129,7 +129,9 @@ impl Core {
         ensures refused { result.1 ≡ self.refused }
     {
         let Core {
-            journal, refused, ..
+            journal,
+            refused,
+            ..
         } = self;
         (journal, ListOf::from_vec(refused))
     }
