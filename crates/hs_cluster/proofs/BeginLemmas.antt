@@ -4,6 +4,7 @@ use Rattle.std.specs.Prelude.{IfErr, IfOk}
 use Rattle.hs_cluster.specs.declared.fault.ClusterFault.{ClusterFault}
 use Rattle.hs_cluster.specs.declared.fault.ClusterFault.TheVariants as cluster
 use Rattle.hs_cluster.specs.Begins.{Begins, IsClosed, begun_course, of_taking, opened_with}
+use Rattle.hs_cluster.specs.Counts.{NoneFalls}
 use Rattle.hs_cluster.specs.Running.{Running}
 use Rattle.hs_core.specs.Opening.{open_core}
 use Rattle.hs_fold.specs.Shards.Setting.{Setting}
@@ -36,20 +37,21 @@ unwritten_memory P (Ok x) h = tt
 unwritten_memory P (Err fault) h = λ at found e. cc (sym h ∙ e)
 
 pub begins_ok : (tells : Type 0) (set : Setting) (span : Span) (taken : Taken) (entry moment : ℕ) (r : Result Running ClusterFault) → entry ≡ span.before → moment ≡ span.now → (set.shape.copies ≡ 1 → HasRead tells set span taken) → length taken.shares ≡ set.shape.shards
-    → length taken.logs ≡ set.shape.shards * set.shape.copies → span.before ≤ span.now → length span.old ≡ set.shape.shards * set.shape.copies → length span.new ≡ length span.old
+    → length taken.logs ≡ set.shape.shards * set.shape.copies → span.before ≤ span.now → length span.old ≡ set.shape.shards * set.shape.copies → length span.new ≡ length span.old → NoneFalls span.old span.new
     → (tells → (peer : ℕ) (found : Header) → peer < length span.old → refusal_in set.shape peer (seen_at span.old peer).stands.seen ≡ Some (log.WrongShape found) → HasRisen (seen_at span.old peer).faults (seen_at span.new peer).faults)
     → IfOk r (λ c. c.logs ≡ taken.logs) → IfOk r (λ c. c.core ≡ open_core set.shape set.limits (opened_with taken) moment) → IfOk r (λ c. c.course ≡ begun_course entry taken) → IfOk r (Begins tells set span)
-begins_ok tells set span taken entry moment (Ok c) first last read shares count ticks disks left own logs core course = record {
+begins_ok tells set span taken entry moment (Ok c) first last read shares count ticks disks left falls own logs core course = record {
   taken = taken;
   read = read;
   shares = shares;
   own = own;
   count = count;
   ticks = ticks;
+  falls = falls;
   disks = disks;
   left = left;
   logs = logs;
   core = core ∙ ap (λ m. open_core set.shape set.limits (opened_with taken) m) last;
   course = course ∙ ap (λ m. begun_course m taken) first;
 }
-begins_ok tells set span taken entry moment (Err fault) first last read shares count ticks disks left own logs core course = tt
+begins_ok tells set span taken entry moment (Err fault) first last read shares count ticks disks left falls own logs core course = tt

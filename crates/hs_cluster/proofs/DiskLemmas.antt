@@ -1,19 +1,22 @@
 -- Logs and disks of several peers, of which one has a call.
-use Rattle.std.proofs.Common.{◌≡◌, ◌≢◌, ◌⊎◌, inl, inr, ◌∙◌, ap, sym, subst, ℕ, zero, suc, ◌<◌, ◌≤◌, List, [], ◌∷◌, Option, Some, None, map, length, refl, arith}
+use Rattle.std.proofs.Common.{◌≡◌, ◌≢◌, ◌⊎◌, inl, inr, ◌∙◌, ap, sym, subst, ℕ, zero, suc, ◌<◌, ◌≤◌, Bool, true, false, List, [], ◌∷◌, Option, Some, None, map, length, refl, arith}
 use Rattle.std.proofs.lemmas.List.{get_or-set_same, get_or-set_other, map-set}
 use Rattle.std.proofs.lemmas.Bool.{cases_eq}
 use Rattle.std.specs.Prelude.{OnOk, Result, Ok, Err, slice_index_or, slice_set}
 use Rattle.hs_cluster.specs.Disks.{AreReady, DiskSeen, IsSlotReady, log_at, seen_at, stands_of}
 use Rattle.hs_cluster.proofs.JobLemmas.{Since, leaves_err, stays_all, stays_one}
-use Rattle.hs_cluster.specs.Jobs.{Tries, Try, Works, list_after}
+use Rattle.hs_cluster.specs.Jobs.{HasStored, Tries, Try, Works, is_own, list_after}
 use Rattle.hs_desk.specs.declared.done.Done.{Done}
 use Rattle.hs_desk.specs.declared.job.Job.{Job}
-use Rattle.hs_peerlog.specs.Lists.{IsReady, Keeping}
+use Rattle.hs_entry.specs.declared.entry.Entry.{Entry}
+use Rattle.hs_fold.specs.Shards.Setting.{Numbered}
+use Rattle.hs_peerlog.specs.Lists.{HasLog, IsReady, Keeping}
 use Rattle.hs_moments.specs.Moments.{Since as SinceAll}
 use Rattle.hs_ports.specs.declared.disk.Side.{Side}
 use Rattle.hs_ports.specs.Disk.{Standing}
 use Rattle.hs_ports.specs.MemoryDisk.{untold}
 use Rattle.hs_ports.specs.Moments.{disk_at}
+use Rattle.hs_shard.specs.Facts.{Catalogue}
 pub use Rattle.hs_taking.proofs.DiskLemmas.{ready_slot, slot_at}
 
 abbrev no_disk : DiskSeen
@@ -100,6 +103,26 @@ works_at logs disks f peer before now slot kept d disk had todo result is low wi
         ∙ ap (λ k. trying (log_at logs peer) k (f (slice_index_or disks peer d)).stands (f disk).stands) (sym (get_or-set_same logs peer kept None low))
         ∙ ap (λ o. trying (log_at logs peer) (log_at (slice_set logs peer kept) peer) o (f disk).stands) (sym old_is)
         ∙ ap (λ n. trying (log_at logs peer) (log_at (slice_set logs peer kept) peer) (disk_at (stands_of (map f disks)) peer) n) (sym (stands_set f disks peer disk within))
+
+-- the log of the disk of a peer has the list that is told of it by place
+pub log_read : {A : Type 0} (f : A → DiskSeen) (logs : List (Option Keeping)) (disks : List A) (peer place : ℕ) (slot : Option Keeping) (d : A) (list : Numbered) (waiting : Option Entry) → place ≡ peer → place < length disks → slot ≡ log_at logs place
+    → ((keeping : Keeping) → log_at logs peer ≡ Some keeping → HasLog keeping (disk_at (stands_of (map f disks)) peer) list waiting)
+    → (keeping : Keeping) → slot ≡ Some keeping → HasLog keeping (f (slice_index_or disks place d)).stands list waiting
+log_read f logs disks peer place slot d list waiting same low is has keeping at =
+    subst (λ s. HasLog keeping s list waiting) (stands_at f disks place d low)
+    (subst (λ p. HasLog keeping (disk_at (stands_of (map f disks)) p) list waiting) (sym same) (has keeping (ap (λ p. log_at logs p) (sym same) ∙ sym is ∙ at)))
+
+-- what is to be read is in a list, by the job and the catalogue that are at hand
+pub stored_as : (todo had : Option Job) (told held : Catalogue) (list : Numbered) → had ≡ todo → held ≡ told → HasStored todo told.blocks list → HasStored had held.blocks list
+stored_as todo had told held list job_is is stored =
+    subst (λ o. HasStored o held.blocks list) (sym job_is) (subst (λ (c : Catalogue). HasStored todo c.blocks list) (sym is) stored)
+
+-- a job that is not done on the disk of its peer alone
+pub not_own : (todo : Option Job) (j : Job) → todo ≡ Some j → is_own (Some j) ≡ false → is_own todo ≡ true → ⊥
+not_own todo j is not own = never (sym not ∙ ap is_own (sym is) ∙ own)
+  where
+    never : false ≡ true → ⊥
+    never e = cc e
 
 -- nothing was tried
 pub works_nothing : {A E : Type 0} (logs : List (Option Keeping)) (disks : List A) (f : A → DiskSeen) (peer now : ℕ) (todo : Option Job) (fault : E) → Since (disk_at (stands_of (map f disks)) peer)

@@ -2,15 +2,18 @@
 use Rattle.std.proofs.Common.{◌≡◌, ◌∙◌, ap, sym, ℕ, ◌+◌, ◌*◌, ◌<◌, Bool, true, false, List, [], ◌∷◌, ◌++◌, Option, Some, None, map, refl, subst, arith, zero, suc}
 use Rattle.std.proofs.lemmas.List.{append-nil, append_assoc}
 use Rattle.std.specs.Prelude.{Result, Ok, Err, if◌then◌else◌, ⊤}
+use Rattle.hs_cluster.proofs.RoomLemmas.{room_ended, room_one, rooms_then}
 use Rattle.hs_cluster.specs.Calls.{Does, outcome_by, ran_out}
 use Rattle.hs_events.specs.Course.{event_items, is_refused, items_between, items_of, steps}
 use Rattle.hs_cluster.specs.declared.fault.ClusterFault.{ClusterFault}
 use Rattle.hs_cluster.specs.declared.fault.ClusterFault.TheVariants as cluster
 use Rattle.hs_cluster.specs.declared.fault.ClusterFault.TheVariants.{NoMemory}
 use Rattle.hs_events.specs.Due.{Events}
+use Rattle.hs_cluster.specs.Rooms.{HaveRecordRoom}
 use Rattle.hs_cluster.specs.Running.{Running}
 use Rattle.hs_core.specs.Calls.{begun_line, outcome_of}
 use Rattle.hs_core.specs.declared.event.Event.{Event}
+use Rattle.hs_core.specs.Records.{HasRecordRoom}
 use Rattle.hs_core.specs.State.{Core}
 use Rattle.hs_core.specs.Step.{step}
 use Rattle.hs_desk.specs.declared.fault.CoreFault.{CoreFault}
@@ -27,20 +30,22 @@ nothing_done old new course journal refused ended = record {
   core = λ e. absurd (true_is_not_false e);
   outcome = λ e. absurd (true_is_not_false e);
   going = λ e. ended;
+  rooms = tt;
 }
   where
     true_is_not_false : true ≡ false → ⊥
     true_is_not_false e = grind arith
 
 pub one_done : (e : Event × ℕ) (old new : Running) (result : Result ⊤ ClusterFault) → new.course ≡ old.course ++ event_items old.core e → new.core ≡ step e.0 e.1 old.core → result ≡ outcome_by new.core.ended → ran_out result ≡ false
-    → Does (e ∷ []) old new result
-one_done e old new result course core outcome there = record {
+    → (new.core.ended ≡ None → HasRecordRoom new.core) → Does (e ∷ []) old new result
+one_done e old new result course core outcome there room = record {
   course = course ∙ ap (λ xs. old.course ++ xs) (sym (append-nil (event_items old.core e)));
   journal = ap (λ (c : Core). c.journal) core;
   refused = ap (λ (c : Core). c.refused) core;
   core = λ h. core;
   outcome = λ h. outcome;
   going = λ h. absurd (both (sym there ∙ h));
+  rooms = room_one e old.core new.core core room;
 }
   where
     both : false ≡ true → ⊥
@@ -66,6 +71,7 @@ does_then es fs old mid new result one two =
       core = λ h. two.core h ∙ last;
       outcome = two.outcome;
       going = λ h. ap (λ (c : Core). c.ended) (sym last) ∙ two.going h;
+      rooms = rooms_then old.core es fs one.rooms (subst (λ c. HaveRecordRoom c fs) core two.rooms);
     }
 
 -- ---- one event of a cluster
@@ -105,16 +111,17 @@ err_ends core fault h = go core.ended refl
 
 -- one that happened, with its items
 pub event_done : (event : Event) (moment : ℕ) (old new : Running) (line : Option ℕ) (result : Result ⊤ ClusterFault) → new.core ≡ step event moment old.core → line ≡ begun_line event
-    → new.course ≡ old.course ++ items_between line old.core new.core moment → is_refused new.core.ended ≡ false → result ≡ outcome_by new.core.ended → ran_out result ≡ false → Does ((event, moment) ∷ []) old new result
-event_done event moment old new line result core begun course happened outcome there =
+    → new.course ≡ old.course ++ items_between line old.core new.core moment → is_refused new.core.ended ≡ false → result ≡ outcome_by new.core.ended → ran_out result ≡ false
+    → (new.core.ended ≡ None → HasRecordRoom new.core) → Does ((event, moment) ∷ []) old new result
+event_done event moment old new line result core begun course happened outcome there room =
     let h : is_refused (step event moment old.core).ended ≡ false = ap (λ (c : Core). is_refused c.ended) (sym core) ∙ happened in
     one_done (event, moment) old new result
     (course ∙ ap (λ l. old.course ++ items_between l old.core new.core moment) begun ∙ ap (λ c. old.course ++ items_between (begun_line event) old.core c moment) core
-    ∙ ap (λ b. old.course ++ (if b then [] else items_between (begun_line event) old.core (step event moment old.core) moment)) (sym h)) core outcome there
+    ∙ ap (λ b. old.course ++ (if b then [] else items_between (begun_line event) old.core (step event moment old.core) moment)) (sym h)) core outcome there room
 
 -- one that was refused, with none
 pub event_refused : (event : Event) (moment : ℕ) (old new : Running) → new.core ≡ step event moment old.core → new.course ≡ old.course → new.core.ended ≡ Some fault.OpsFull → Does ((event, moment) ∷ []) old new (Err cluster.OpsFull)
 event_refused event moment old new core course ended =
     let h : is_refused (step event moment old.core).ended ≡ true = ap (λ (c : Core). is_refused c.ended) (sym core) ∙ ap is_refused ended in
     one_done (event, moment) old new (Err cluster.OpsFull)
-    (course ∙ sym (append-nil old.course) ∙ ap (λ b. old.course ++ (if b then [] else items_between (begun_line event) old.core (step event moment old.core) moment)) (sym h)) core (ap outcome_by (sym ended)) refl
+    (course ∙ sym (append-nil old.course) ∙ ap (λ b. old.course ++ (if b then [] else items_between (begun_line event) old.core (step event moment old.core) moment)) (sym h)) core (ap outcome_by (sym ended)) refl (room_ended new.core fault.OpsFull ended)

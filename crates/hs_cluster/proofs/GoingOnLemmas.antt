@@ -4,14 +4,17 @@ use Rattle.std.proofs.lemmas.Bool.{cases_lt}
 use Rattle.std.proofs.lemmas.List.{get_or_past, take_at}
 use Rattle.std.proofs.lemmas.List.Elements.{All-cons, All-nil}
 use Rattle.std.specs.List.{All, enumerate_from}
-use Rattle.std.specs.Prelude.{IfOk, OnOk, Result, Ok, Err, take}
+use Rattle.std.specs.Prelude.{OnOk, Result, Ok, Err, ⊤, take}
+use Rattle.hs_cluster.proofs.EventLemmas.{still_going}
 use Rattle.hs_cluster.proofs.FoundLemmas.{begins_so, finds, found, is_empty, opens_so, was_read}
 use Rattle.hs_cluster.proofs.OpeningMoves.{all_good, jobs_first, same_members, sealed_first}
 use Rattle.hs_cluster.specs.Begins.{Begins, HasOpened, HasTurned, begun_course, opened_with}
-use Rattle.hs_cluster.specs.Calls.{outcome_by}
+use Rattle.hs_cluster.specs.Calls.{Does, ran_out}
+use Rattle.hs_cluster.specs.Counts.{AreAllCounted, AreCounted}
 use Rattle.hs_cluster.specs.declared.fault.ClusterFault.{ClusterFault}
 use Rattle.hs_cluster.specs.Kept.{AreTold, CanGoOn, KeepsLogs, LeavesLists, sealed_front}
 use Rattle.hs_cluster.specs.Opens.{AreSound, Finds, IsFound, Opens}
+use Rattle.hs_cluster.specs.Rooms.{HaveRecordRoom}
 use Rattle.hs_cluster.specs.Running.{Running}
 use Rattle.hs_core.specs.Looking.{group_of, home, shape_of, tasks_of}
 use Rattle.hs_core.specs.Opening.{Taken as Opened, open_core}
@@ -268,7 +271,7 @@ joined c es before mid now old between left begun cluster ticks rises earlier mo
 
 -- ---- all of it
 
-module _ (tells : Type 0) (set : Setting) (span : Span) (cluster : Running) (one : set.shape.copies ≡ 1) (o : HasOpened tells set span cluster) where
+module _ (tells : Type 0) (set : Setting) (span : Span) (cluster : Running) (done : Result ⊤ ClusterFault) (one : set.shape.copies ≡ 1) (o : HasOpened tells set span cluster done) where
   abbrev mid : Span
   mid = record { before = span.before; now = o.opened; old = span.old; new = o.disks }
 
@@ -300,29 +303,41 @@ module _ (tells : Type 0) (set : Setting) (span : Span) (cluster : Running) (one
       (read_moments tells set mid b.taken one read b.shares b.count b.ticks b.disks b.left told sound going)
       (o.turned.shows.lists told (open_whole set opened_found) core_is (can told sound going))
 
-  goes_on : tells → AreSound span.before span.old → cluster.core.ended ≡ None → CanGoOn (runs whole_machine (open_whole set opened_found) o.turned.events) cluster.logs span.new span.now
-  goes_on told sound on =
-      let going : (first_core set opened_found).ended ≡ None =
-      going_before (first_core set opened_found) o.turned.events (ap (λ x. (steps x o.turned.events).ended) core_is ∙ ap (λ (x : Core). x.ended) (sym o.turned.core) ∙ on) in
-      subst (λ e. OnOk (outcome_by e) (CanGoOn (runs whole_machine (open_whole set opened_found) o.turned.events) cluster.logs span.new span.now)) on
-      (o.turned.shows.goes_on told (open_whole set opened_found) core_is (can told sound going))
+  goes_on : tells → AreSound span.before span.old → OnOk done (CanGoOn (runs whole_machine (open_whole set opened_found) o.turned.events) cluster.logs span.new span.now)
+  goes_on told sound = by done refl
+    where
+      by : (r : Result ⊤ ClusterFault) → done ≡ r → OnOk r (CanGoOn (runs whole_machine (open_whole set opened_found) o.turned.events) cluster.logs span.new span.now)
+      by (Err fault) is = tt
+      by (Ok x) is =
+          let does : Does o.turned.events o.begun cluster (Ok x) = subst (λ r. Does o.turned.events o.begun cluster r) is o.turned.does in
+          let going : (first_core set opened_found).ended ≡ None =
+          going_before (first_core set opened_found) o.turned.events (ap (λ c. (steps c o.turned.events).ended) core_is ∙ ap (λ (c : Core). c.ended) (sym (does.core refl)) ∙ still_going o.turned.events o.begun cluster does) in
+          subst (λ r. OnOk r (CanGoOn (runs whole_machine (open_whole set opened_found) o.turned.events) cluster.logs span.new span.now)) is
+          (o.turned.shows.goes_on told (open_whole set opened_found) core_is (can told sound going))
 
   -- what was found is told of the core over what was taken
-  pub opens_found : Opens tells set span cluster
+  pub opens_found : Opens tells set span cluster done
   opens_found = record {
     found = opened_found;
     begun = o.begun;
     disks = o.disks;
     finds = subst (λ l. Finds tells set mid opened_found l) (sym b.logs) (finds tells set mid b.taken one read b.shares b.count b.ticks);
+    own = b.own;
     events = o.turned.events;
-    due = subst (λ x. is_walk next_turn true 0 x o.turned.events ≡ true) (sym core_is) o.turned.due;
+    due = subst (λ x. is_walk next_turn (not (ran_out done)) 0 x o.turned.events ≡ true) (sym core_is) o.turned.due;
     rises = o.turned.rises;
-    core = o.turned.core ∙ ap (λ x. steps x o.turned.events) (sym core_is);
-    course = o.turned.course ∙ (λ i. course_is i ++ items_of (sym core_is i) o.turned.events);
+    core = λ there. o.turned.does.core there ∙ ap (λ x. steps x o.turned.events) (sym core_is);
+    outcome = o.turned.does.outcome;
+    going = λ out. ap (λ x. (steps x o.turned.events).ended) core_is ∙ o.turned.does.going out;
+    journal = o.turned.does.journal ∙ ap (λ x. (steps x o.turned.events).journal) (sym core_is);
+    refused = o.turned.does.refused ∙ ap (λ x. (steps x o.turned.events).refused) (sym core_is);
+    course = o.turned.does.course ∙ (λ i. course_is i ++ items_of (sym core_is i) o.turned.events);
+    falls = b.falls;
+    counted = subst (λ x. AreCounted x o.turned.events o.disks span.new) (sym core_is) o.turned.shows.counted;
+    rooms = subst (λ x. HaveRecordRoom x o.turned.events) (sym core_is) o.turned.does.rooms;
     lists = lists;
     goes_on = goes_on;
+    read = λ told sound going stored.
+        subst (λ x. AreAllCounted x o.turned.events o.disks span.new) (sym core_is)
+        (o.turned.shows.read told (open_whole set opened_found) core_is (can told sound going) stored);
   }
-
-pub opens_ok : (tells : Type 0) (set : Setting) (span : Span) (r : Result Running ClusterFault) → set.shape.copies ≡ 1 → IfOk r (HasOpened tells set span) → IfOk r (Opens tells set span)
-opens_ok tells set span (Ok cluster) one o = opens_found tells set span cluster one o
-opens_ok tells set span (Err fault) one o = tt

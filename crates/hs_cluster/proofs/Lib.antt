@@ -1,4 +1,5 @@
 pub mod BeginLemmas
+pub mod CountLemmas
 pub mod DeltaLemmas
 pub mod DiskLemmas
 pub mod EventLemmas
@@ -11,6 +12,8 @@ pub mod LineLemmas
 pub mod OpenedLemmas
 pub mod OpeningMoves
 pub mod ReportLemmas
+pub mod RoomLemmas
+pub mod RunLemmas
 pub mod ShowLemmas
 pub mod TurnedLemmas
 pub mod WalkLemmas

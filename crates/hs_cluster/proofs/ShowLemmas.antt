@@ -2,6 +2,7 @@
 use Rattle.std.proofs.Common.{◌≡◌, ◌≢◌, ◌∙◌, ◌⊎◌, inl, inr, ap, sym, subst, ℕ, ◌-◌, ◌^◌, ◌<◌, ◌≤◌, Bool, true, false, List, [], ◌∷◌, ◌++◌, length, Option, Some, None, refl, arith, is_none, nat_lt}
 use Rattle.std.proofs.lemmas.Bool.{cases_eq, cases_lt}
 use Rattle.std.specs.Prelude.{OnOk, Result, Ok, Err, ⊤, if◌then◌else◌}
+use Rattle.hs_cluster.proofs.CountLemmas.{all_none, all_one, all_quiet, all_still, all_then, counted_none, counted_one, counted_quiet, counted_still, counted_then}
 use Rattle.hs_cluster.proofs.EventLemmas.{still_going}
 use Rattle.hs_cluster.proofs.ReportLemmas.{call_fine, report_fine, report_logs, report_told}
 use Rattle.hs_moments.proofs.SaneLemmas.{growing_beside, growing_without_call, sane_stays}
@@ -9,24 +10,28 @@ use Rattle.hs_cluster.proofs.HeldLemmas.{own_job, sealed_stays}
 use Rattle.hs_cluster.specs.Calls.{Does, done_of, outcome_by, ran_out}
 use Rattle.hs_cluster.specs.declared.fault.ClusterFault.{ClusterFault}
 use Rattle.hs_cluster.specs.declared.fault.ClusterFault.TheVariants.{NoMemory}
+use Rattle.hs_cluster.specs.Counts.{AreAllCounted, HasAllPaid, HasPaid, NoneFalls}
 use Rattle.hs_cluster.specs.Disks.{DiskSeen, log_at, stands_of}
-use Rattle.hs_cluster.specs.Jobs.{Working, Works, is_own}
-use Rattle.hs_cluster.specs.Kept.{AreTold, CanGoOn, IsTold, KeepsLogs, LeavesLists, Shows, Span, sealed_front}
+use Rattle.hs_cluster.specs.Jobs.{HasStored, TellsBytes, Working, Works, is_own}
+use Rattle.hs_cluster.specs.Kept.{AreStored, AreTold, CanGoOn, IsTold, KeepsLogs, LeavesLists, Shows, Span, sealed_front}
+use Rattle.hs_cluster.specs.Rooms.{HaveRecordRoom}
 use Rattle.hs_cluster.specs.Running.{Running}
 use Rattle.hs_events.specs.Sane.{IsSane, appended_of}
 use Rattle.hs_core.specs.declared.event.Event.{Event}
 use Rattle.hs_core.specs.declared.event.Event.TheVariants as event
-use Rattle.hs_core.specs.Looking.{first_job}
+use Rattle.hs_core.specs.Looking.{catalogue_of, first_job, home}
 use Rattle.hs_core.specs.State.{Core}
 use Rattle.hs_core.specs.Step.{step}
 use Rattle.hs_desk.specs.declared.done.Done.{Done}
 use Rattle.hs_desk.specs.declared.fault.CoreFault.{CoreFault}
+use Rattle.hs_entry.specs.declared.entry.Entry.{Entry}
 use Rattle.hs_events.proofs.GoingLemmas.{step_goes}
 use Rattle.hs_events.specs.Asked.{report_in}
 use Rattle.hs_events.specs.Course.{happened, is_refused, items_of, steps}
 use Rattle.hs_events.specs.Due.{Events, MomentsRise, is_answer}
 use Rattle.hs_events.specs.Whole.{Whole, counts, step_whole}
 use Rattle.hs_fold.specs.Images.{IsLeft}
+use Rattle.hs_fold.specs.Shards.Setting.{Numbered}
 use Rattle.hs_limits.specs.declared.shape.Shape.{Shape}
 use Rattle.hs_members.specs.Members.{IsPeer}
 use Rattle.hs_moments.proofs.HappenedLemmas.{happened_rise}
@@ -41,11 +46,11 @@ use Rattle.hs_ports.specs.Moments.{disk_at}
 
 -- ---- runs of events
 
-runs_append : (c : Whole) (es fs : Events) → runs whole_machine c (es ++ fs) ≡ runs whole_machine (runs whole_machine c es) fs
+pub runs_append : (c : Whole) (es fs : Events) → runs whole_machine c (es ++ fs) ≡ runs whole_machine (runs whole_machine c es) fs
 runs_append c [] fs = refl
 runs_append c (e ∷ es) fs = runs_append (step_whole e.0 e.1 c) es fs
 
-runs_core : (c : Whole) (es : Events) → (runs whole_machine c es).core ≡ steps c.core es
+pub runs_core : (c : Whole) (es : Events) → (runs whole_machine c es).core ≡ steps c.core es
 runs_core c [] = refl
 runs_core c (e ∷ es) = runs_core (step_whole e.0 e.1 c) es
 
@@ -61,7 +66,7 @@ goes_unrefused core (e ∷ es) h = go (goes_unrefused core es) core.ended refl
         let same : step e.0 e.1 core ≡ core = rw ended refl in
         ih (ap (λ x. (steps x es).ended) (sym same) ∙ h)
 
-happened_then : (core : Core) (es fs : Events) → (steps core es).ended ≡ None → happened core (es ++ fs) ≡ es ++ happened (steps core es) fs
+pub happened_then : (core : Core) (es fs : Events) → (steps core es).ended ≡ None → happened core (es ++ fs) ≡ es ++ happened (steps core es) fs
 happened_then core [] fs h = refl
 happened_then core (e ∷ es) fs h =
     let there : is_refused (step e.0 e.1 core).ended ≡ false = goes_unrefused (step e.0 e.1 core) es h in
@@ -71,7 +76,7 @@ nil_append : (es : Events) → es ++ [] ≡ es
 nil_append [] = refl
 nil_append (e ∷ es) = ap (λ xs. e ∷ xs) (nil_append es)
 
-all_happened : (core : Core) (es : Events) → (steps core es).ended ≡ None → happened core es ≡ es
+pub all_happened : (core : Core) (es : Events) → (steps core es).ended ≡ None → happened core es ≡ es
 all_happened core es h = ap (λ xs. happened core xs) (sym (nil_append es)) ∙ happened_then core es [] h ∙ nil_append es
 
 -- ---- the events below a moment
@@ -86,7 +91,7 @@ until_low : (m from to : ℕ) (es fs : Events) → m ≤ from → MomentsRise fr
 until_low m from to [] fs low rises = none_below m from to fs low rises
 until_low m from to (e ∷ es) fs low rises = ap (λ xs. if nat_lt e.1 m then e ∷ xs else []) (until_low m from to es fs low rises)
 
-rises_to : (from to : ℕ) (es : Events) → MomentsRise from es to → from ≤ to
+pub rises_to : (from to : ℕ) (es : Events) → MomentsRise from es to → from ≤ to
 rises_to from to [] h = h
 rises_to from to (e ∷ es) h =
     let low = h.0 in
@@ -156,6 +161,7 @@ pub quiet_shows : (e : Event) (now : ℕ) (old new : Running) (disks : List Disk
     → ((p : ℕ) (keeping : Keeping) → log_at new.logs p ≡ Some keeping → log_at old.logs p ≡ Some keeping)
     → Shows ⊤ (record { before = now; now = now; old = old; new = new; disks = disks; left = disks }) r (done_of r (e, now))
 quiet_shows e now old new disks r quiet was does less = record {
+  counted = counted_quiet old.core e now r disks quiet;
   lists = λ told c core can. record {
     earlier = λ peer m side low fits. refl;
     moments = record { fine = λ m peer low high fits counted image left. absurd (omega (arith, low, high)) };
@@ -164,6 +170,7 @@ quiet_shows e now old new disks r quiet was does less = record {
     told = told_by c e now r (subst (λ o. IsTold c o) (sym quiet) tt);
   };
   goes_on = λ told c core can. go r does c core can;
+  read = λ told c core can stored. all_quiet old.core e now r disks quiet;
 }
   where
     go : (r : Result ⊤ ClusterFault) → Does (done_of r (e, now)) old new r → (c : Whole) → c.core ≡ old.core → CanGoOn c old.logs disks now → OnOk r (CanGoOn (runs whole_machine c (done_of r (e, now))) new.logs disks now)
@@ -180,6 +187,7 @@ quiet_shows e now old new disks r quiet was does less = record {
 -- nothing was done, and nothing came
 pub none_shows : (now : ℕ) (old new : Running) (disks : List DiskSeen) → Shows ⊤ (record { before = now; now = now; old = old; new = new; disks = disks; left = disks }) (Err NoMemory) []
 none_shows now old new disks = record {
+  counted = counted_still old.core disks;
   lists = λ told c core can. record {
     earlier = λ peer m side low fits. refl;
     moments = record { fine = λ m peer low high fits counted image left. absurd (omega (arith, low, high)) };
@@ -187,10 +195,12 @@ none_shows now old new disks = record {
     told = tt;
   };
   goes_on = λ told c core can. tt;
+  read = λ told c core can stored. all_still old.core disks;
 }
 
 pub begin_shows : (tells : Type 0) (now : ℕ) (old : Running) (disks : List DiskSeen) → Shows tells (record { before = now; now = now; old = old; new = old; disks = disks; left = disks }) (Ok tt) []
 begin_shows tells now old disks = record {
+  counted = counted_still old.core disks;
   lists = λ told c core can. record {
     earlier = λ peer m side low fits. refl;
     moments = record { fine = λ m peer low high fits counted image left. absurd (omega (arith, low, high)) };
@@ -198,15 +208,16 @@ begin_shows tells now old disks = record {
     told = tt;
   };
   goes_on = λ told c core can. can;
+  read = λ told c core can stored. all_still old.core disks;
 }
 
 -- whatever the disks tell
 pub any_shows : (tells : Type 0) (span : Span) (r : Result ⊤ ClusterFault) (es : Events) → Shows ⊤ span r es → Shows tells span r es
-any_shows tells span r es shows = record { lists = λ told. shows.lists tt; goes_on = λ told. shows.goes_on tt }
+any_shows tells span r es shows = record { counted = shows.counted; lists = λ told. shows.lists tt; goes_on = λ told. shows.goes_on tt; read = λ told. shows.read tt }
 
 -- it is given up
 pub cut_shows : (tells : Type 0) (span : Span) (fault : ClusterFault) (es : Events) → Shows tells span (Ok tt) es → Shows tells span (Err fault) es
-cut_shows tells span fault es shows = record { lists = shows.lists; goes_on = λ told c core can. tt }
+cut_shows tells span fault es shows = record { counted = shows.counted; lists = shows.lists; goes_on = λ told c core can. tt; read = shows.read }
 
 -- ---- a call and its report
 
@@ -260,8 +271,10 @@ module _ (c : Whole) (before now peer : ℕ) (disks left : List Standing) (since
 pub job_cut : (tells : Type 0) (before now peer : ℕ) (old new : Running) (after : List (Option Keeping)) (disks left : List DiskSeen) {E : Type 0} (result : Result Done E) → IsPeer old.core.members.shape peer
     → (tells → Since (stands_of disks))
     → (tells → is_own (first_job peer old.core) ≡ true → Works (record { peer = peer; before = before; now = now; logs = old.logs; after = after; disks = disks; left = left }) (first_job peer old.core) result)
+    → NoneFalls disks left
     → Shows tells (record { before = before; now = now; old = old; new = new; disks = disks; left = left }) (Err NoMemory) []
-job_cut tells before now peer old new after disks left {E = E} result is since works = record {
+job_cut tells before now peer old new after disks left {E = E} result is since works falls = record {
+  counted = counted_none old.core disks left falls;
   lists = λ told c core can.
       let low : IsPeer c.core.members.shape peer = subst (λ (x : Core). IsPeer x.members.shape peer) (sym core) is in
       let w : Working = record { peer = peer; before = before; now = now; logs = old.logs; after = after; disks = disks; left = left } in
@@ -270,15 +283,19 @@ job_cut tells before now peer old new after disks left {E = E} result is since w
       let call = call_fine c w can.sane low can.listed can.keeps result done in
       call_lists c before now peer (stands_of disks) (stands_of left) (since told) can.keeps call (record { before = before; now = now; old = old; new = new; disks = disks; left = left }) refl refl refl refl;
   goes_on = λ told c core can. tt;
+  read = λ told c core can stored. all_none old.core disks left falls;
 }
 
 -- the job was done, and its report came, unless memory ran out or it was refused
 pub job_shows : (tells : Type 0) (before now peer : ℕ) (old new : Running) (after : List (Option Keeping)) (disks left : List DiskSeen) (E : Type 0) (done : Done) (r : Result ⊤ ClusterFault) → IsPeer old.core.members.shape peer
     → old.core.ended ≡ None → is_answer old.core peer done ≡ true → (tells → Since (stands_of disks))
     → (tells → is_own (first_job peer old.core) ≡ true → Works {E = E} (record { peer = peer; before = before; now = now; logs = old.logs; after = after; disks = disks; left = left }) (first_job peer old.core) (Ok done))
-    → new.logs ≡ after → Does (done_of r (event.Report peer done, now)) old new r
+    → new.logs ≡ after → Does (done_of r (event.Report peer done, now)) old new r → NoneFalls disks left → HasPaid old.core peer done disks left → TellsBytes done
+    → (tells → is_own (first_job peer old.core) ≡ true → (list : Numbered) (waiting : Option Entry) → ((keeping : Keeping) → log_at old.logs peer ≡ Some keeping → HasLog keeping (disk_at (stands_of disks) peer) list waiting)
+    → HasStored (first_job peer old.core) (catalogue_of (home peer old.core) old.core).blocks list → HasAllPaid old.core peer done disks left)
     → Shows tells (record { before = before; now = now; old = old; new = new; disks = disks; left = left }) r (done_of r (event.Report peer done, now))
-job_shows tells before now peer old new after disks left E done r is was answer since works kept does = record {
+job_shows tells before now peer old new after disks left E done r is was answer since works kept does falls paid bytes all = record {
+  counted = counted_one old.core (event.Report peer done) now r disks left falls paid;
   lists = λ told c core can.
       let low : IsPeer c.core.members.shape peer = subst (λ (x : Core). IsPeer x.members.shape peer) (sym core) is in
       let done_then = did told c core can in
@@ -290,9 +307,10 @@ job_shows tells before now peer old new after disks left E done r is was answer 
         keeps = behind c e now (λ s. Keeps whole_machine IsFrontOf last_of s now (stands_of left)) r
             (call_keeps c before now peer (stands_of disks) (stands_of left) (since told) can.keeps call)
             (λ there. keeps_then told c core can there);
-        told = told_by c e now r (report_told c w can.sane low can.listed can.keeps done now E done_then answers);
+        told = told_by c e now r (report_told c w can.sane low can.listed can.keeps done now E done_then answers, bytes);
       };
   goes_on = λ told c core can. go r does told c core can;
+  read = λ told c core can stored. read_then told c core can (ran_out r) stored;
 }
   where
     e : Event
@@ -306,6 +324,15 @@ job_shows tells before now peer old new after disks left E done r is was answer 
         let low : IsPeer c.core.members.shape peer = subst (λ (x : Core). IsPeer x.members.shape peer) (sym core) is in
         let own : is_own (first_job peer old.core) ≡ true = subst (λ x. is_own (first_job peer x) ≡ true) core (own_job c peer can.sane) in
         subst (λ x. Works {E = E} w (first_job peer x) (Ok done)) (sym core) (works told own)
+
+    read_then : tells → (c : Whole) → c.core ≡ old.core → CanGoOn c old.logs disks before → (b : Bool) → AreStored c (if b then [] else (e, now) ∷ []) → AreAllCounted old.core (if b then [] else (e, now) ∷ []) disks left
+    read_then told c core can true stored = all_none old.core disks left falls
+    read_then told c core can false stored =
+        let low : IsPeer c.core.members.shape peer = subst (λ (x : Core). IsPeer x.members.shape peer) (sym core) is in
+        let own : is_own (first_job peer old.core) ≡ true = subst (λ x. is_own (first_job peer x) ≡ true) core (own_job c peer can.sane) in
+        all_one old.core e now (Ok tt) disks left falls
+        (all told own (sealed_front c peer) (appended_of peer c.core) (λ keeping at. can.listed.each peer keeping low at)
+        (subst (λ x. HasStored (first_job peer x) (catalogue_of (home peer x) x).blocks (sealed_front c peer)) core (stored.0 (ap (λ (x : Core). x.ended) core ∙ was) peer)))
 
     keeps_then : tells → (c : Whole) → c.core ≡ old.core → CanGoOn c old.logs disks before → is_refused (step e now c.core).ended ≡ false → Keeps whole_machine IsFrontOf last_of (step_whole e now c) now (stands_of left)
     keeps_then told c core can there =
@@ -333,11 +360,20 @@ job_shows tells before now peer old new after disks left E done r is was answer 
 
 -- ---- some events behind others
 
-told_then : (c : Whole) (es fs : Events) → AreTold c es → AreTold (runs whole_machine c es) fs → AreTold c (es ++ fs)
+pub told_then : (c : Whole) (es fs : Events) → AreTold c es → AreTold (runs whole_machine c es) fs → AreTold c (es ++ fs)
 told_then c [] fs one two = two
 told_then c (e ∷ es) fs one two = (one.0, told_then (step_whole e.0 e.1 c) es fs one.1 two)
 
-moments_then : (c : Whole) (es fs : Events) (before mid now : ℕ) (between left : List Standing) → MomentsRise before es mid → MomentsRise mid fs now
+-- what is to be read is there before each of both
+pub stored_front : (c : Whole) (es fs : Events) → AreStored c (es ++ fs) → AreStored c es
+stored_front c [] fs h = tt
+stored_front c (e ∷ es) fs h = (h.0, stored_front (step_whole e.0 e.1 c) es fs h.1)
+
+pub stored_back : (c : Whole) (es fs : Events) → AreStored c (es ++ fs) → AreStored (runs whole_machine c es) fs
+stored_back c [] fs h = h
+stored_back c (e ∷ es) fs h = stored_back (step_whole e.0 e.1 c) es fs h.1
+
+pub moments_then : (c : Whole) (es fs : Events) (before mid now : ℕ) (between left : List Standing) → MomentsRise before es mid → MomentsRise mid fs now
     → ((k m : ℕ) (side : Side) → m ≤ mid → m < 2 ^ 64 - 1 → (disk_at left k).past m side ≡ (disk_at between k).past m side)
     → ListsAtMoments whole_machine IsFrontOf last_of c es before mid between → ListsAtMoments whole_machine IsFrontOf last_of (runs whole_machine c es) fs mid now left
     → ListsAtMoments whole_machine IsFrontOf last_of c (es ++ fs) before now left
@@ -366,6 +402,7 @@ pub shows_then : (tells : Type 0) (before mid now : ℕ) (old here new : Running
     → Shows tells (record { before = mid; now = now; old = here; new = new; disks = between; left = left }) r fs
     → Shows tells (record { before = before; now = now; old = old; new = new; disks = disks; left = left }) r (es ++ fs)
 shows_then tells before mid now old here new disks between left r es fs does rise on first second = record {
+  counted = counted_then old.core here.core es fs disks between left (does.core refl) first.counted second.counted;
   lists = λ told c core can.
       let one = first.lists told c core can in
       let two = second.lists told (runs whole_machine c es) (core_then c core) (first.goes_on told c core can) in
@@ -381,6 +418,9 @@ shows_then tells before mid now old here new disks between left r es fs does ris
       };
   goes_on = λ told c core can.
       subst (λ s. OnOk r (CanGoOn s new.logs left now)) (sym (runs_append c es fs)) (second.goes_on told (runs whole_machine c es) (core_then c core) (first.goes_on told c core can));
+  read = λ told c core can stored.
+      all_then old.core here.core es fs disks between left (does.core refl) (first.read told c core can (stored_front c es fs stored))
+      (second.read told (runs whole_machine c es) (core_then c core) (first.goes_on told c core can) (stored_back c es fs stored));
 }
   where
     core_then : (c : Whole) → c.core ≡ old.core → (runs whole_machine c es).core ≡ here.core
@@ -400,6 +440,7 @@ does_same es was old new r core course d = record {
   core = λ h. d.core h ∙ ap (λ c. steps c es) core;
   outcome = d.outcome;
   going = λ h. sym (ap (λ c. (steps c es).ended) core) ∙ d.going h;
+  rooms = subst (λ c. HaveRecordRoom c es) core d.rooms;
 }
 
 pub does_after : (es : Events) (old new after : Running) (r : Result ⊤ ClusterFault) → after.core ≡ new.core → after.course ≡ new.course → Does es old new r → Does es old after r
@@ -410,4 +451,5 @@ does_after es old new after r core course d = record {
   core = λ h. core ∙ d.core h;
   outcome = λ h. d.outcome h ∙ ap (λ (c : Core). outcome_by c.ended) (sym core);
   going = d.going;
+  rooms = d.rooms;
 }

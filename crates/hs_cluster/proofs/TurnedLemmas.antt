@@ -1,20 +1,26 @@
 -- Opening's turns: where the core ended nobody has one any more.
-use Rattle.std.proofs.Common.{◌≡◌, ◌∙◌, ap, sym, subst, ℕ, Bool, true, false, List, [], ◌∷◌, Option, Some, None, refl, is_none, is_some, not, if◌then◌else◌, arith}
+use Rattle.std.proofs.Common.{◌≡◌, ◌∙◌, ap, sym, subst, ℕ, Bool, true, false, List, [], ◌∷◌, ◌+◌, Option, Some, None, refl, is_none, is_some, not, if◌then◌else◌, arith}
 use Rattle.std.proofs.lemmas.List.{append-nil}
-use Rattle.std.specs.Option.{option_and_then, option_map_or}
-use Rattle.std.specs.Prelude.{OnOk, Result, Ok, Err, ⊤, ◌||◌, is_ok}
+use Rattle.std.specs.Option.{option_and_then, option_map, option_map_or}
+use Rattle.std.specs.Prelude.{Result, Ok, Err, ⊤, ◌||◌, is_ok, length, nat_lt}
 use Rattle.hs_cluster.proofs.ShowLemmas.{begin_shows, cut_shows}
 use Rattle.hs_cluster.specs.Begins.{Begins, HasOpened, HasTurned}
 use Rattle.hs_cluster.specs.Calls.{of_core, outcome_by, ran_out}
 use Rattle.hs_cluster.specs.declared.fault.ClusterFault.{ClusterFault}
+use Rattle.hs_cluster.specs.declared.fault.ClusterFault.TheVariants as cluster
 use Rattle.hs_cluster.specs.Disks.{DiskSeen}
 use Rattle.hs_cluster.specs.Kept.{Shows, Span as Turns}
 use Rattle.hs_cluster.specs.Running.{Running}
 use Rattle.hs_cluster.specs.Settling.{RunsWalk}
 use Rattle.hs_desk.specs.declared.fault.CoreFault.{CoreFault}
+use Rattle.hs_desk.specs.declared.fault.CoreFault.TheVariants as ends
+use Rattle.hs_limits.specs.declared.limits.Limits.{Limits}
+use Rattle.hs_limits.specs.declared.shape.Shape.{Shape}
 use Rattle.hs_core.specs.declared.event.Event.{Event}
+use Rattle.hs_core.specs.Looking.{lost_shard}
+use Rattle.hs_core.specs.Opening.{Taken, begin_views, new_core, note_down, open_core}
 use Rattle.hs_core.specs.State.{Core}
-use Rattle.hs_core.specs.Step.{step}
+use Rattle.hs_core.specs.Step.{end_event, step}
 use Rattle.hs_events.specs.Course.{steps}
 use Rattle.hs_events.specs.declared.due.Due.{Due}
 use Rattle.hs_events.specs.declared.due.Place.{Place}
@@ -73,47 +79,79 @@ has_ended (Ok x) ended not is = cc not
 has_ended (Err fault) None not is = cc is
 has_ended (Err fault) (Some f) not is = refl
 
--- the turns that were done, whatever ended them but want of memory
-pub turned : (tells : Type 0) (turns : Turns) (r : Result ⊤ ClusterFault) → ran_out r ≡ false → RunsWalk false 0 turns.before turns.now turns.old turns.new r (Shows tells turns r) → HasTurned tells turns
-turned tells turns r there walks = record {
+-- turns that were cut short only by want of memory are whole
+whole : (core : Core) (es : Events) (r : Result ⊤ ClusterFault) → is_walk next_turn (is_ok r) 0 core es ≡ true → (ran_out r ≡ false → r ≡ outcome_by (steps core es).ended) → is_walk next_turn (not (ran_out r)) 0 core es ≡ true
+whole core es (Ok x) due outcome = due
+whole core es (Err (cluster.WrongShape peer found)) due outcome = ended_whole core es due (has_ended (Err (cluster.WrongShape peer found)) (steps core es).ended refl (outcome refl))
+whole core es (Err (cluster.ShardLost shard)) due outcome = ended_whole core es due (has_ended (Err (cluster.ShardLost shard)) (steps core es).ended refl (outcome refl))
+whole core es (Err cluster.OpsFull) due outcome = ended_whole core es due (has_ended (Err cluster.OpsFull) (steps core es).ended refl (outcome refl))
+whole core es (Err cluster.NoMemory) due outcome = due
+
+-- the turns that were done, whatever ended them
+pub turned : (tells : Type 0) (turns : Turns) (r : Result ⊤ ClusterFault) → RunsWalk false 0 turns.before turns.now turns.old turns.new r (Shows tells turns r) → HasTurned tells turns r
+turned tells turns r walks = record {
   events = walks.events;
-  due = whole (is_ok r) refl walks.due;
+  due = whole turns.old.core walks.events r walks.due (λ there. walks.does.outcome there ∙ ap (λ (c : Core). outcome_by c.ended) (walks.does.core there));
   rises = walks.rises;
-  core = walks.does.core there;
-  course = walks.does.course;
-  shows = subst (λ x. Shows tells turns x walks.events) (walks.does.outcome there) walks.kept;
+  does = walks.does;
+  shows = walks.kept;
 }
-  where
-    whole : (b : Bool) → is_ok r ≡ b → is_walk next_turn b 0 turns.old.core walks.events ≡ true → is_walk next_turn true 0 turns.old.core walks.events ≡ true
-    whole true e k = k
-    whole false e k = ended_whole turns.old.core walks.events k (ap (λ (c : Core). is_some c.ended) (sym (walks.does.core there)) ∙ has_ended r turns.new.core.ended e (walks.does.outcome there))
 
 -- of a core that had ended none was done
-pub not_turned : (tells : Type 0) (now : ℕ) (old : Running) (disks : List DiskSeen) → is_some old.core.ended ≡ true
-    → HasTurned tells (record { before = now; now = now; old = old; new = old; disks = disks; left = disks })
-not_turned tells now old disks ended = record {
+pub not_turned : (tells : Type 0) (now : ℕ) (old : Running) (disks : List DiskSeen) (ended : CoreFault) (fault : ClusterFault) → old.core.ended ≡ Some ended → fault ≡ of_core ended → (ended ≡ ends.NoMemory → ⊥)
+    → HasTurned tells (record { before = now; now = now; old = old; new = old; disks = disks; left = disks }) (Err fault)
+not_turned tells now old disks ended fault is same never = record {
   events = [];
-  due = ended_whole old.core [] refl ended;
+  due = short (not (ran_out none_done));
   rises = omega arith;
-  core = refl;
-  course = sym (append-nil old.course);
-  shows = by old.core.ended;
+  does = record {
+    course = sym (append-nil old.course);
+    journal = refl;
+    refused = refl;
+    core = λ there. refl;
+    outcome = λ there. ap (λ (f : ClusterFault). Err f) same ∙ ap outcome_by (sym is);
+    going = λ out. absurd (known ended never (sym (ap (λ (f : ClusterFault). ran_out {T = ⊤} (Err f)) same) ∙ out));
+    rooms = tt;
+  };
+  shows = cut_shows tells _ fault [] (begin_shows tells now old disks);
 }
   where
-    by : (o : Option CoreFault) → Shows tells (record { before = now; now = now; old = old; new = old; disks = disks; left = disks }) (outcome_by o) []
-    by None = begin_shows tells now old disks
-    by (Some f) = cut_shows tells _ (of_core f) [] (begin_shows tells now old disks)
+    none_done : Result ⊤ ClusterFault
+    none_done = Err fault
+
+    short : (b : Bool) → is_walk next_turn b 0 old.core [] ≡ true
+    short true = ended_whole old.core [] refl (ap is_some is)
+    short false = refl
+
+    false_is_not : false ≡ true → ⊥
+    false_is_not k = cc k
+
+    known : (f : CoreFault) → (f ≡ ends.NoMemory → ⊥) → ran_out {T = ⊤} (Err (of_core f)) ≡ true → ⊥
+    known ends.OpsFull other out = false_is_not out
+    known (ends.ShardLost shard) other out = false_is_not out
+    known ends.NoMemory other out = other refl
+
+-- a core that is opened has not ended for want of memory
+pub opens_so_far : (shape : Shape) (limits : Limits) (taken : Taken) (moment : ℕ) (c : Core) (ended : CoreFault) → c ≡ open_core shape limits taken moment → c.ended ≡ Some ended → ended ≡ ends.NoMemory → ⊥
+opens_so_far shape limits taken moment c ended is there none =
+    not_so (note_down (begin_views (new_core shape limits taken moment))) (sym (ap (λ (x : Core). x.ended) is) ∙ there ∙ ap (λ (f : CoreFault). Some f) none)
+  where
+    full : Some ends.OpsFull ≡ Some ends.NoMemory → ⊥
+    full e = cc e
+
+    lost : (o : Option ℕ) → option_map ends.ShardLost o ≡ Some ends.NoMemory → ⊥
+    lost None e = cc e
+    lost (Some shard) e = cc e
+
+    not_so : (c : Core) → (end_event c).ended ≡ Some ends.NoMemory → ⊥
+    not_so c = go (nat_lt c.limits.ops (length c.journal + length c.entries)) refl
+      where
+        go : (b : Bool) → nat_lt c.limits.ops (length c.journal + length c.entries) ≡ b → (end_event c).ended ≡ Some ends.NoMemory → ⊥
+        go true e = rw e (λ h. full h)
+        go false e = rw e (λ h. lost (lost_shard c) h)
 
 -- ---- opening, from its two parts
 
-pub opened : (tells : Type 0) (set : Setting) (span : Span) (begun cluster : Running) (at : ℕ) (disks : List DiskSeen) → Begins tells set (record { before = span.before; now = at; old = span.old; new = disks }) begun
-    → HasTurned tells (record { before = at; now = span.now; old = begun; new = cluster; disks = disks; left = span.new }) → HasOpened tells set span cluster
-opened tells set span begun cluster at disks begins turned = record { begun = begun; opened = at; disks = disks; begins = begins; turned = turned }
-
-err_is_not : (fault : ClusterFault) (r : Result ⊤ ClusterFault) → r ≡ Err fault → r ≡ Ok tt → ⊥
-err_is_not fault r is e = cc (sym is ∙ e)
-
--- the core goes on only where the turns came to Ok
-pub ready_then : {P : Type 0} (r : Result ⊤ ClusterFault) (ended : Option CoreFault) → r ≡ outcome_by ended → OnOk r P → ended ≡ None → P
-ready_then (Ok x) ended is p going = p
-ready_then (Err fault) ended is p going = absurd (err_is_not fault (Err fault) refl (is ∙ ap outcome_by going))
+pub opened : (tells : Type 0) (set : Setting) (span : Span) (begun cluster : Running) (done : Result ⊤ ClusterFault) (at : ℕ) (disks : List DiskSeen) → Begins tells set (record { before = span.before; now = at; old = span.old; new = disks }) begun
+    → HasTurned tells (record { before = at; now = span.now; old = begun; new = cluster; disks = disks; left = span.new }) done → HasOpened tells set span cluster done
+opened tells set span begun cluster done at disks begins turned = record { begun = begun; opened = at; disks = disks; begins = begins; turned = turned }

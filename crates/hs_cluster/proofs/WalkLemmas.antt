@@ -99,6 +99,7 @@ none_walked nudges line before old Kept ended kept = record {
     core = λ h. refl;
     outcome = λ h. ap outcome_by (sym ended);
     going = λ h. absurd (both h);
+    rooms = tt;
   };
   kept = kept;
 }
@@ -166,6 +167,7 @@ walk_stops nudges line before now old new place Kept All so_far all = record {
     core = λ h. so_far.does.core refl;
     outcome = λ h. absurd (both h);
     going = λ h. ap (λ (c : Core). c.ended) (sym (so_far.does.core refl)) ∙ still_going so_far.events old new so_far.does;
+    rooms = so_far.does.rooms;
   };
   kept = all so_far.events so_far.kept;
 }

@@ -1,14 +1,14 @@
 -- What a cluster begins with, from the logs that were taken, and its first turns.
 use Rattle.std.specs.Option.{option_map_or}
-use Rattle.std.specs.Prelude.{◌≡◌, ◌*◌, ◌++◌, ◌∷◌, ◌<◌, ◌≤◌, ℕ, ⊤, List, [], flat_map, is_some, length, map, None, Ok, Some, true}
-use Rattle.hs_cluster.specs.Calls.{outcome_by}
+use Rattle.std.specs.Prelude.{◌≡◌, ◌*◌, ◌++◌, ◌∷◌, ◌<◌, ◌≤◌, ℕ, ⊤, List, [], flat_map, is_some, length, map, not, None, Ok, Result, Some, true}
+use Rattle.hs_cluster.specs.Calls.{Does, ran_out}
+use Rattle.hs_cluster.specs.Counts.{NoneFalls}
 use Rattle.hs_cluster.specs.declared.fault.ClusterFault.{ClusterFault}
 use Rattle.hs_cluster.specs.declared.fault.ClusterFault.TheVariants as fault
 use Rattle.hs_cluster.specs.Kept.{Shows, Span as Turns}
 use Rattle.hs_cluster.specs.Running.{Running}
 use Rattle.hs_core.specs.Opening.{Taken as Opened, open_core}
 use Rattle.hs_core.specs.State.{Core}
-use Rattle.hs_events.specs.Course.{items_of, steps}
 use Rattle.hs_events.specs.Due.{Events, MomentsRise, is_walk, next_turn}
 use Rattle.hs_fold.specs.Shards.Setting.{Setting}
 use Rattle.hs_limits.specs.declared.shape.Shape.{Shape}
@@ -69,27 +69,27 @@ pub record Begins (tells : Type 0) (set : Setting) (span : Span) (cluster : Runn
       → HasRisen (seen_at span.old peer).faults (seen_at span.new peer).faults
   pub count : length taken.logs ≡ set.shape.shards * set.shape.copies
   pub ticks : span.before ≤ span.now
+  pub falls : NoneFalls span.old span.new
   pub disks : length span.old ≡ set.shape.shards * set.shape.copies
   pub left : length span.new ≡ length span.old
   pub logs : cluster.logs ≡ taken.logs
   pub core : cluster.core ≡ open_core set.shape set.limits (opened_with taken) span.now
   pub course : cluster.course ≡ begun_course span.before taken
 
--- ---- and the turns, until nobody has one
+-- ---- and the turns, until nobody has one, or memory runs out
 
--- turns were done until nobody had one, and this they show of the disks
-pub record HasTurned (tells : Type 0) (turns : Turns) : Type 0 where
+-- turns were done, and this they show of the disks
+pub record HasTurned (tells : Type 0) (turns : Turns) (done : Result ⊤ ClusterFault) : Type 0 where
   pub events : Events
-  pub due : is_walk next_turn true 0 turns.old.core events ≡ true
+  pub due : is_walk next_turn (not (ran_out done)) 0 turns.old.core events ≡ true
   pub rises : MomentsRise turns.before events turns.now
-  pub core : turns.new.core ≡ steps turns.old.core events
-  pub course : turns.new.course ≡ turns.old.course ++ items_of turns.old.core events
-  pub shows : Shows tells turns (outcome_by turns.new.core.ended) events
+  pub does : Does events turns.old turns.new done
+  pub shows : Shows tells turns done events
 
 -- the cluster, the moment and the disks right before the first turn, and the turns
-pub record HasOpened (tells : Type 0) (set : Setting) (span : Span) (cluster : Running) : Type 0 where
+pub record HasOpened (tells : Type 0) (set : Setting) (span : Span) (cluster : Running) (done : Result ⊤ ClusterFault) : Type 0 where
   pub begun : Running
   pub opened : ℕ
   pub disks : List DiskSeen
   pub begins : Begins tells set (record { before = span.before; now = opened; old = span.old; new = disks }) begun
-  pub turned : HasTurned tells (record { before = opened; now = span.now; old = begun; new = cluster; disks = disks; left = span.new })
+  pub turned : HasTurned tells (record { before = opened; now = span.now; old = begun; new = cluster; disks = disks; left = span.new }) done

@@ -5,6 +5,7 @@ use Rattle.hs_events.specs.Course.{items_of, steps}
 use Rattle.hs_cluster.specs.declared.fault.ClusterFault.{ClusterFault}
 use Rattle.hs_cluster.specs.declared.fault.ClusterFault.TheVariants as cluster
 use Rattle.hs_events.specs.Due.{Events, MomentsRise}
+use Rattle.hs_cluster.specs.Rooms.{HaveRecordRoom}
 use Rattle.hs_cluster.specs.Running.{Running}
 use Rattle.hs_core.specs.declared.event.Event.{Event}
 use Rattle.hs_core.specs.State.{Core}
@@ -36,7 +37,7 @@ ran_out (Err cluster.NoMemory) = true
 
 -- ---- events
 
--- what some events leave of a cluster whose core had not ended: the course, and what was answered; and, unless memory ran out at a later one, the core
+-- what some events leave of a cluster whose core had not ended: the course, and what was answered; and, unless memory ran out at a later one, the core; each core that went on has room
 pub record Does (events : Events) (old new : Running) (result : Result ⊤ ClusterFault) : Type 0 where
   pub course : new.course ≡ old.course ++ items_of old.core events
   pub journal : new.core.journal ≡ (steps old.core events).journal
@@ -44,6 +45,7 @@ pub record Does (events : Events) (old new : Running) (result : Result ⊤ Clust
   pub core : ran_out result ≡ false → new.core ≡ steps old.core events
   pub outcome : ran_out result ≡ false → result ≡ outcome_by new.core.ended
   pub going : ran_out result ≡ true → (steps old.core events).ended ≡ None
+  pub rooms : HaveRecordRoom old.core events
 
 -- an event is done, or memory ran out before it
 abbrev pub done_of : Result ⊤ ClusterFault → Event × ℕ → Events

@@ -1,7 +1,8 @@
 -- What a job leaves of a log, and of its disk at each moment.
-use Rattle.std.specs.Prelude.{◌≡◌, ◌≢◌, ◌⊎◌, ◌≤◌, ℕ, Bool, true, false, List, [], length, Option, Some, None, Result, IfOk}
+use Rattle.std.specs.Prelude.{◌≡◌, ◌≢◌, ◌⊎◌, ◌≤◌, ℕ, ⊤, Bool, true, false, is_some, slice_index, ◌<◌, Contains, List, [], length, Option, Some, None, Result, IfOk}
 use Rattle.hs_cluster.specs.Disks.{DiskSeen, log_at, stands_of}
 use Rattle.hs_desk.specs.declared.done.Done.{Done}
+use Rattle.hs_desk.specs.declared.done.Done.TheVariants as done
 use Rattle.hs_desk.specs.declared.job.Job.{Job}
 use Rattle.hs_desk.specs.declared.job.Job.TheVariants as job
 use Rattle.hs_entry.specs.declared.entry.Entry.{Entry}
@@ -12,6 +13,7 @@ use Rattle.hs_peerlog.specs.Images.{IsOne, LeavesAll, LeavesEach}
 use Rattle.hs_peerlog.specs.Lists.{HasLog, Keeping, with_waiting}
 use Rattle.hs_ports.specs.Disk.{Standing}
 use Rattle.hs_ports.specs.Moments.{disk_at}
+use Rattle.hs_shard.specs.Facts.{BlockList, pointers_at}
 
 -- ---- the list behind a job
 
@@ -46,6 +48,25 @@ is_own (Some (job.Read number)) = true
 is_own (Some job.Reset) = false
 is_own (Some (job.Copy from number)) = false
 is_own (Some job.Reclaim) = true
+
+-- bytes, and not just numbers
+abbrev pub AreBytes : List ℕ → Type 0
+AreBytes bytes = (i : ℕ) → slice_index bytes i < 256
+
+-- what a Read tells is bytes
+abbrev pub TellsBytes : Done → Type 0
+TellsBytes (done.Stored number) = ⊤
+TellsBytes (done.Sealed number) = ⊤
+TellsBytes (done.Bytes number bytes) = AreBytes bytes
+TellsBytes (done.Gone number) = ⊤
+TellsBytes done.Emptied = ⊤
+TellsBytes (done.Copied number) = ⊤
+TellsBytes (done.Stepped switched) = ⊤
+TellsBytes (done.Failed disk) = ⊤
+
+-- a list has an entry of the number that is to be read, where one of the blocks was stored by that
+abbrev pub HasStored : Option Job → BlockList → Numbered → Type 0
+HasStored todo blocks list = (number : ℕ) → todo ≡ Some (job.Read number) → is_some (pointers_at number blocks) ≡ true → (entry : Entry) × Contains list (number, entry)
 
 -- ---- a job that was tried on the disk of a peer
 

@@ -1,8 +1,11 @@
--- What a cluster tells of its disks, where they tell their contents and each shard has one copy.
+-- What a cluster tells of its disks: the counts of any, and the contents, where they tell them and each shard has one copy.
 use Rattle.std.specs.Prelude.{◌≡◌, ◌≤◌, ◌<◌, ◌-◌, ◌^◌, ℕ, ⊤, List, [], ◌∷◌, take, Option, Some, None, Result, OnOk}
+use Rattle.hs_cluster.specs.Counts.{AreAllCounted, AreCounted}
 use Rattle.hs_cluster.specs.Disks.{DiskSeen, log_at, stands_of}
+use Rattle.hs_cluster.specs.Jobs.{HasStored, TellsBytes}
 use Rattle.hs_cluster.specs.Running.{Running}
 use Rattle.hs_cluster.specs.declared.fault.ClusterFault.{ClusterFault}
+use Rattle.hs_core.specs.Looking.{catalogue_of, first_job, home}
 use Rattle.hs_desk.specs.declared.done.Done.{Done}
 use Rattle.hs_events.specs.Asked.{report_in}
 use Rattle.hs_events.specs.Course.{happened}
@@ -47,10 +50,10 @@ pub record Span : Type 0 where
   pub disks : List DiskSeen
   pub left : List DiskSeen
 
--- what a report tells of a block is so of the list of its peer
+-- what a report tells of a block is so of the list of its peer, and is bytes
 abbrev pub IsTold : Whole → Option (ℕ × Done) → Type 0
 IsTold c None = ⊤
-IsTold c (Some report) = TellsOf report.1 (Some (sealed_front c report.0))
+IsTold c (Some report) = TellsOf report.1 (Some (sealed_front c report.0)) × TellsBytes report.1
 
 abbrev pub AreTold : Whole → Events → Type 0
 AreTold c [] = ⊤
@@ -65,8 +68,19 @@ pub record LeavesLists (c : Whole) (events : Events) (span : Span) : Type 0 wher
   pub keeps : Keeps whole_machine IsFrontOf last_of (runs whole_machine c (happened c.core events)) span.now (stands_of span.left)
   pub told : AreTold c events
 
--- so of the events of a call, for the lists with which it began; and behind it the cluster keeps what it needs to go on
+-- what a peer is to read is in what is sealed of its list, where its shard still has it
+abbrev pub IsStored : Whole → Type 0
+IsStored c = (peer : ℕ) → HasStored (first_job peer c.core) (catalogue_of (home peer c.core) c.core).blocks (sealed_front c peer)
+
+abbrev pub AreStored : Whole → Events → Type 0
+AreStored c [] = ⊤
+AreStored c (e ∷ es) = (c.core.ended ≡ None → IsStored c) × AreStored (step_whole e.0 e.1 c) es
+
+-- what the events of a call show. Of whatever disks: what they report of failed calls is at the counts. Of those that tell their contents, for the lists with which the call began: the lists at each moment; behind it the cluster keeps what it needs to go on; and reads too cost what is reported of failed calls
 pub record Shows (tells : Type 0) (span : Span) (result : Result ⊤ ClusterFault) (events : Events) : Type 0 where
+  pub counted : AreCounted span.old.core events span.disks span.left
   pub lists : tells → (c : Whole) → c.core ≡ span.old.core → CanGoOn c span.old.logs span.disks span.before → LeavesLists c events span
   pub goes_on : tells → (c : Whole) → c.core ≡ span.old.core → CanGoOn c span.old.logs span.disks span.before
       → OnOk result (CanGoOn (runs whole_machine c events) span.new.logs span.left span.now)
+  pub read : tells → (c : Whole) → c.core ≡ span.old.core → CanGoOn c span.old.logs span.disks span.before → AreStored c events
+      → AreAllCounted span.old.core events span.disks span.left

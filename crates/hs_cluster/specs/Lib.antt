@@ -1,9 +1,13 @@
 pub mod Ascending
 pub mod Begins
 pub mod Calls
+pub mod Counts
 pub mod Disks
 pub mod Jobs
 pub mod Kept
 pub mod Opens
+pub mod Rooms
 pub mod Running
+pub mod RunsOn
 pub mod Settling
+pub mod Unopened

@@ -1,7 +1,11 @@
 -- What opening a cluster promises, of a store of one copy a shard.
 use Rattle.std.specs.List.{AllPairs}
-use Rattle.std.specs.Prelude.{◌≡◌, ◌⊎◌, ◌++◌, ◌<◌, ◌≤◌, ℕ, List, length, Contains, Option, None, Some, IsSome, false, is_some, true, slice_index_or}
-use Rattle.hs_cluster.specs.Kept.{CanGoOn, LeavesLists}
+use Rattle.std.specs.Prelude.{◌≡◌, ◌⊎◌, ◌++◌, ◌<◌, ◌≤◌, ℕ, ⊤, List, length, not, Contains, Option, None, Some, IsSome, OnOk, Result, false, is_some, true, slice_index_or}
+use Rattle.hs_cluster.specs.Calls.{outcome_by, ran_out}
+use Rattle.hs_cluster.specs.Counts.{AreAllCounted, AreCounted, NoneFalls}
+use Rattle.hs_cluster.specs.declared.fault.ClusterFault.{ClusterFault}
+use Rattle.hs_cluster.specs.Kept.{AreStored, CanGoOn, LeavesLists}
+use Rattle.hs_cluster.specs.Rooms.{HaveRecordRoom}
 use Rattle.hs_cluster.specs.Running.{Running}
 use Rattle.hs_core.specs.State.{Core}
 use Rattle.hs_events.specs.Beginning.{first_items}
@@ -14,9 +18,12 @@ use Rattle.hs_fold.specs.Shards.Setting.{Numbered, Setting}
 use Rattle.hs_moments.specs.Machine.{runs}
 use Rattle.hs_moments.specs.WholeMachine.{whole_machine}
 use Rattle.hs_peerlog.specs.Images.{LeavesOnly}
+use Rattle.hs_peerlog.specs.declared.fault.LogFault.TheVariants as log
 use Rattle.hs_peerlog.specs.Lists.{HasLog, Keeping}
+use Rattle.hs_peerlog.specs.Opening.{refusal_in}
 use Rattle.hs_ports.specs.Fault.{HasRisen}
 use Rattle.hs_side.specs.Current.{list_in}
+use Rattle.hs_side.specs.declared.header.Header.{Header}
 use Rattle.hs_taking.specs.Disks.{DiskSeen, log_at, seen_at}
 use Rattle.hs_taking.specs.Shares.{IsLater, IsLostDisk, KeepsDisk, Span}
 
@@ -64,19 +71,32 @@ pub record AreSound (before : ℕ) (disks : List DiskSeen) : Type 0 where
   pub called : (peer : ℕ) → (seen_at disks peer).stands.last ≤ before
   pub only : (peer : ℕ) (list : Numbered) → list_in (seen_at disks peer).stands.seen ≡ Some list → LeavesOnly (seen_at disks peer).stands list
 
--- the core over what was found; then the turns that were due, until nobody had one
-pub record Opens (tells : Type 0) (set : Setting) (span : Span) (cluster : Running) : Type 0 where
+-- the core over what was found; then the turns that were due, until nobody had one, or until memory ran out. Done: whether it goes on
+pub record Opens (tells : Type 0) (set : Setting) (span : Span) (cluster : Running) (done : Result ⊤ ClusterFault) : Type 0 where
   pub found : Found
   -- the cluster and the disks right before the first turn
   pub begun : Running
   pub disks : List DiskSeen
   pub finds : Finds tells set (record { before = span.before; now = found.opened; old = span.old; new = disks }) found begun.logs
+  -- a disk of another store failed
+  pub own : tells → (peer : ℕ) (other : Header) → peer < length span.old → refusal_in set.shape peer (seen_at span.old peer).stands.seen ≡ Some (log.WrongShape other)
+      → HasRisen (seen_at span.old peer).faults (seen_at disks peer).faults
   pub events : Events
-  pub due : is_walk next_turn true 0 (first_core set found) events ≡ true
+  pub due : is_walk next_turn (not (ran_out done)) 0 (first_core set found) events ≡ true
   pub rises : MomentsRise found.opened events span.now
-  pub core : cluster.core ≡ steps (first_core set found) events
+  pub core : ran_out done ≡ false → cluster.core ≡ steps (first_core set found) events
+  pub outcome : ran_out done ≡ false → done ≡ outcome_by cluster.core.ended
+  pub going : ran_out done ≡ true → (steps (first_core set found) events).ended ≡ None
+  pub journal : cluster.core.journal ≡ (steps (first_core set found) events).journal
+  pub refused : cluster.core.refused ≡ (steps (first_core set found) events).refused
   pub course : cluster.course ≡ first_items set.shape found span.before ++ items_of (first_core set found) events
+  -- no count fell before the turns; what these report of failed calls is at the counts, and a core that goes on has room
+  pub falls : NoneFalls span.old disks
+  pub counted : AreCounted (first_core set found) events disks span.new
+  pub rooms : HaveRecordRoom (first_core set found) events
   -- where the core was opened: the lists at each moment from entry on, and behind all of it the cluster may go on
   pub lists : tells → AreSound span.before span.old → (first_core set found).ended ≡ None
       → LeavesLists (open_whole set found) events (record { before = span.before; now = span.now; old = begun; new = cluster; disks = span.old; left = span.new })
-  pub goes_on : tells → AreSound span.before span.old → cluster.core.ended ≡ None → CanGoOn (runs whole_machine (open_whole set found) events) cluster.logs span.new span.now
+  pub goes_on : tells → AreSound span.before span.old → OnOk done (CanGoOn (runs whole_machine (open_whole set found) events) cluster.logs span.new span.now)
+  pub read : tells → AreSound span.before span.old → (first_core set found).ended ≡ None → AreStored (open_whole set found) events
+      → AreAllCounted (first_core set found) events disks span.new

@@ -1,14 +1,19 @@
 //! The first job of a peer.
-ghost use Rattle.std.specs.Prelude.{◌≡◌, ◌*◌, ◌+◌, ◌≤◌, ℕ, Some, length, map, true, IfOk, IsOkUnless, OnOk};
+ghost use Rattle.std.specs.Prelude.{◌≡◌, ◌*◌, ◌+◌, ◌≤◌, ℕ, Option, Some, length, map, true, false, IfOk, IsOkUnless, OnOk};
 ghost use Rattle.hs_cluster.specs.declared.fault.ClusterFault.TheVariants.{NoMemory};
-ghost use Rattle.hs_cluster.specs.Disks.{AreReady, IsSlotReady, seen_as};
-ghost use Rattle.hs_cluster.specs.Jobs.{Tries, Works, is_own};
-ghost use Rattle.hs_core.specs.Looking.{first_job};
+ghost use Rattle.hs_cluster.specs.Counts.{HasAllPaid, HasPaid, IsCopyPaid, IsPaid, NoneFalls};
+ghost use Rattle.hs_cluster.specs.Disks.{AreReady, IsSlotReady, log_at, seen_as, seen_at, stands_of};
+ghost use Rattle.hs_cluster.specs.Jobs.{HasStored, TellsBytes, Tries, Works, is_own};
+ghost use Rattle.hs_core.specs.Looking.{catalogue_of, first_job, home};
+ghost use Rattle.hs_entry.specs.declared.entry.Entry.{Entry};
 ghost use Rattle.hs_events.specs.Due.{is_answer};
+ghost use Rattle.hs_events.specs.Reports.{only_reads};
 ghost use Rattle.hs_desk.specs.Answers.{answers};
 ghost use Rattle.hs_desk.specs.declared.job.Job.TheVariants as job;
 ghost use Rattle.hs_members.specs.Members.{IsPeer};
-ghost use Rattle.hs_peerlog.specs.Lists.{IsReady};
+ghost use Rattle.hs_fold.specs.Shards.Setting.{Numbered};
+ghost use Rattle.hs_peerlog.specs.Lists.{HasLog, IsReady, Keeping};
+ghost use Rattle.hs_ports.specs.Moments.{disk_at};
 
 use crate::ClusterFault;
 use crate::work::{do_own, empty_disk, keep_copy};
@@ -40,6 +45,7 @@ pub(crate) fn do_job<D: Disk>(
     requires ready { AreReady D.tells logs.old.items
         (map (λ disk. seen_as (D.size disk) (D.stands disk) (D.faults disk)) disks.old) }
     ensures answer { IfOk result (λ done. is_answer core.now peer done ≡ true) }
+    ensures bytes { IfOk result TellsBytes }
     ensures only { IsOkUnless result NoMemory }
     ensures ready { OnOk result (AreReady D.tells logs.new.items
         (map (λ disk. seen_as (D.size disk) (D.stands disk) (D.faults disk)) disks.new)) }
@@ -55,6 +61,24 @@ pub(crate) fn do_job<D: Disk>(
       disks = map (λ disk. seen_as (D.size disk) (D.stands disk) (D.faults disk)) disks.old;
       left = map (λ disk. seen_as (D.size disk) (D.stands disk) (D.faults disk)) disks.new;
     }) (first_job peer core.now) result }
+    // No count falls. That of a disk whose failed call is told rose, but for a job that only read.
+    ensures later { NoneFalls
+        (map (λ disk. seen_as (D.size disk) (D.stands disk) (D.faults disk)) disks.old)
+        (map (λ disk. seen_as (D.size disk) (D.stands disk) (D.faults disk)) disks.new) }
+    ensures paid { IfOk result (λ done. HasPaid core.now peer done
+        (map (λ disk. seen_as (D.size disk) (D.stands disk) (D.faults disk)) disks.old)
+        (map (λ disk. seen_as (D.size disk) (D.stands disk) (D.faults disk)) disks.new)) }
+    // Of a job that only read too, where the list of its log has what the catalogue says.
+    ensures read { D.tells → is_own (first_job peer core.now) ≡ true
+        → (list : Numbered) (waiting : Option Entry)
+        → ((keeping : Keeping) → log_at logs.old.items peer ≡ Some keeping
+        → HasLog keeping (disk_at (stands_of (map (λ disk. seen_as (D.size disk) (D.stands disk)
+        (D.faults disk)) disks.old)) peer) list waiting)
+        → HasStored (first_job peer core.now)
+        (catalogue_of (home peer core.now) core.now).blocks list
+        → IfOk result (λ done. HasAllPaid core.now peer done
+        (map (λ disk. seen_as (D.size disk) (D.stands disk) (D.faults disk)) disks.old)
+        (map (λ disk. seen_as (D.size disk) (D.stands disk) (D.faults disk)) disks.new)) }
     ensures ticks { watch.old ≤ watch.new }
 {
     let Some(job) = core.first_job(peer) else {
@@ -86,7 +110,7 @@ pub(crate) fn do_job<D: Disk>(
 }
 
 /// Copies the entry of a number from the disk of another peer.
-#[tactic(auto, using(crate::proofs::DiskLemmas::slot_at, crate::proofs::DiskLemmas::ready_slot))]
+#[tactic(auto, using(crate::proofs::DiskLemmas::slot_at, crate::proofs::DiskLemmas::ready_slot, crate::proofs::CountLemmas::falls_not, crate::proofs::CountLemmas::read_failed))]
 fn do_copy<D: Disk>(
     logs: &mut Vec<Option<PeerLog>>,
     disks: &mut [D],
@@ -100,11 +124,20 @@ fn do_copy<D: Disk>(
     requires ready { AreReady D.tells logs.old.items
         (map (λ disk. seen_as (D.size disk) (D.stands disk) (D.faults disk)) disks.old) }
     ensures answer { IfOk result (λ told. answers peer (job.Copy from number) told ≡ true) }
+    ensures bytes { IfOk result TellsBytes }
     ensures only { IsOkUnless result NoMemory }
     ensures ready { OnOk result (AreReady D.tells logs.new.items
         (map (λ disk. seen_as (D.size disk) (D.stands disk) (D.faults disk)) disks.new)) }
     ensures logs { length logs.new.items ≡ length logs.old.items }
     ensures disks { length disks.new ≡ length disks.old }
+    ensures later { NoneFalls
+        (map (λ disk. seen_as (D.size disk) (D.stands disk) (D.faults disk)) disks.old)
+        (map (λ disk. seen_as (D.size disk) (D.stands disk) (D.faults disk)) disks.new) }
+    ensures paid { IfOk result (IsCopyPaid from peer
+        (seen_at (map (λ disk. seen_as (D.size disk) (D.stands disk) (D.faults disk)) disks.old)
+        peer).faults
+        (seen_at (map (λ disk. seen_as (D.size disk) (D.stands disk) (D.faults disk)) disks.new)
+        peer).faults) }
     ensures ticks { watch.old ≤ watch.new }
 {
     let source = usize::from(from);
@@ -141,6 +174,7 @@ fn do_usual<D: Disk>(
 ) -> Result<Done, ClusterFault>
     requires ready { IsSlotReady D.tells slot.old (D.size disk.old) (D.stands disk.old) }
     ensures answer { IfOk result (λ told. answers peer job.now told ≡ true) }
+    ensures bytes { IfOk result TellsBytes }
     ensures only { IsOkUnless result NoMemory }
     ensures ready { OnOk result
         (IsSlotReady D.tells slot.new (D.size disk.new) (D.stands disk.new)) }
@@ -152,6 +186,14 @@ fn do_usual<D: Disk>(
       old = D.stands disk.old;
       new = D.stands disk.new;
     }) (Some job.now) result }
+    ensures later { D.faults disk.old ≤ D.faults disk.new }
+    ensures paid { (at : ℕ) → only_reads at job.now ≡ false
+        → IfOk result (IsPaid peer (D.faults disk.old) (D.faults disk.new)) }
+    ensures read { D.tells → (list : Numbered) (waiting : Option Entry)
+        → ((keeping : Keeping) → slot.old ≡ Some keeping
+        → HasLog keeping (D.stands disk.old) list waiting)
+        → HasStored (Some job.now) catalogue.now.blocks list
+        → IfOk result (IsPaid peer (D.faults disk.old) (D.faults disk.new)) }
     ensures ticks { watch.old ≤ watch.new }
 {
     let Some(log) = slot.take() else {
@@ -180,9 +222,12 @@ fn do_reset<D: Disk>(
     peer: u8,
 ) -> Result<Done, ClusterFault>
     ensures answer { IfOk result (λ told. answers peer job.Reset told ≡ true) }
+    ensures bytes { IfOk result TellsBytes }
     ensures only { IsOkUnless result NoMemory }
     ensures ready { OnOk result
         (IsSlotReady D.tells slot.new (D.size disk.new) (D.stands disk.new)) }
+    ensures later { D.faults disk.old ≤ D.faults disk.new }
+    ensures paid { IfOk result (IsPaid peer (D.faults disk.old) (D.faults disk.new)) }
     ensures ticks { watch.old ≤ watch.new }
 {
     *slot = None;
@@ -207,6 +252,7 @@ fn read_copy<D: Disk>(
 ) -> Result<Entry, LogFault>
     requires ready { IsSlotReady D.tells slot.old (D.size disk.old) (D.stands disk.old) }
     ensures ready { IsSlotReady D.tells slot.new (D.size disk.new) (D.stands disk.new) }
+    ensures later { D.faults disk.old ≤ D.faults disk.new }
 {
     let Some(log) = slot.take() else {
         return Err(LogFault::NoMemory);
@@ -222,6 +268,7 @@ fn read_sealed<D: Disk>(log: &PeerLog, disk: &mut D, number: u64) -> Result<Entr
         (D.stands disk.old) }
     ensures ready { OnOk result (IsReady D.tells log.now (D.size disk.new log.now.log.side)
         (D.stands disk.new)) }
+    ensures later { D.faults disk.old ≤ D.faults disk.new }
 {
     match log.read_entry(disk, number)? {
         Some(entry) => Ok(entry),
@@ -241,9 +288,12 @@ fn write_copy<D: Disk>(
     requires ready { IsSlotReady D.tells slot.old (D.size disk.old) (D.stands disk.old) }
     ensures answer { (from : ℕ) → IfOk result (λ told.
         answers peer (job.Copy from number) told ≡ true) }
+    ensures bytes { IfOk result TellsBytes }
     ensures only { IsOkUnless result NoMemory }
     ensures ready { OnOk result
         (IsSlotReady D.tells slot.new (D.size disk.new) (D.stands disk.new)) }
+    ensures later { D.faults disk.old ≤ D.faults disk.new }
+    ensures paid { IfOk result (IsPaid peer (D.faults disk.old) (D.faults disk.new)) }
     ensures ticks { watch.old ≤ watch.new }
 {
     let Some(log) = slot.take() else {

@@ -13,3 +13,4 @@ mod work;
 
 pub use cluster::Cluster;
 pub use fault::ClusterFault;
+pub use opening::Opened;

@@ -1,9 +1,10 @@
 //! Opening a cluster.
-ghost use Rattle.std.specs.Prelude.{◌≡◌, ◌*◌, ◌++◌, ◌<◌, ◌≤◌, ℕ, None, flat_map, is_some, length, map, IfErr, IfOk};
+ghost use Rattle.std.specs.Prelude.{◌≡◌, ◌*◌, ◌++◌, ◌<◌, ◌≤◌, ℕ, None, flat_map, is_some, length, map, IfErr, IfOk, OnErr, OnOk};
 ghost use Rattle.hs_cluster.specs.Begins.{Begins, HasOpened, IsClosed, bad_of, begun_course, of_taking, opened_with, took_of};
-ghost use Rattle.hs_cluster.specs.Calls.{ran_out};
+ghost use Rattle.hs_cluster.specs.Counts.{NoneFalls};
 ghost use Rattle.hs_cluster.specs.Disks.{AreReady, seen_as, seen_at};
 ghost use Rattle.hs_cluster.specs.Opens.{Opens};
+ghost use Rattle.hs_cluster.specs.Unopened.{LeavesAsTaken};
 ghost use Rattle.hs_core.specs.Opening.{open_core};
 ghost use Rattle.hs_limits.specs.Shape.{IsShape};
 ghost use Rattle.hs_side.specs.declared.header.Header.{Header};
@@ -31,11 +32,20 @@ impl From<TakeFault> for ClusterFault {
     }
 }
 
+/// A cluster that was opened, and whether its core goes on: else why it has ended, or that memory ran
+/// out on the turns, so that the cluster is of use no more.
+#[derive(Drop)]
+pub struct Opened {
+    pub cluster: Cluster,
+    pub done: Result<(), ClusterFault>,
+}
+
 impl Cluster {
     /// Opens a cluster: reads every disk, takes the log of each shard, opens the core over them, and
     /// does turns until nobody has one. A disk that fails, or is no log, is out of use. A disk of
-    /// another store, or of another peer, ends it before anything is written. Where the core has ended
-    /// the cluster has what was noted. Of several copies of a shard one log alone is in use.
+    /// another store, or of another peer, ends it before anything is written. Where the core has ended,
+    /// or memory ran out on the turns, the cluster has what was answered so far. Of several copies of a
+    /// shard one log alone is in use.
     pub fn open<A: Addresser, D: Disk>(
         alloc: Global,
         shape: Shape,
@@ -43,25 +53,25 @@ impl Cluster {
         naming: &A,
         disks: &mut [D],
         watch: &mut Watch,
-    ) -> Result<Cluster, ClusterFault>
+    ) -> Result<Opened, ClusterFault>
         requires shape { IsShape shape }
         requires count { length disks.old ≡ shape.shards * shape.copies }
-        ensures opens { shape.copies ≡ 1 → IfOk result (Opens D.tells
+        ensures opens { shape.copies ≡ 1 → IfOk result (λ opened. Opens D.tells
             (record { name = A.name naming.now; limits = limits; shape = shape })
             (record {
               before = watch.old;
               now = watch.new;
               old = map (λ disk. seen_as (D.size disk) (D.stands disk) (D.faults disk)) disks.old;
               new = map (λ disk. seen_as (D.size disk) (D.stands disk) (D.faults disk)) disks.new;
-            })) }
-        ensures opened { IfOk result (HasOpened D.tells
+            }) opened.cluster opened.done) }
+        ensures opened { IfOk result (λ opened. HasOpened D.tells
             (record { name = A.name naming.now; limits = limits; shape = shape })
             (record {
               before = watch.old;
               now = watch.new;
               old = map (λ disk. seen_as (D.size disk) (D.stands disk) (D.faults disk)) disks.old;
               new = map (λ disk. seen_as (D.size disk) (D.stands disk) (D.faults disk)) disks.new;
-            })) }
+            }) opened.cluster opened.done) }
         ensures closed { IfErr result (IsClosed D.tells shape
             (map (λ disk. seen_as (D.size disk) (D.stands disk) (D.faults disk)) disks.old)
             (map (λ disk. seen_as (D.size disk) (D.stands disk) (D.faults disk)) disks.new)) }
@@ -72,10 +82,22 @@ impl Cluster {
             disks.old) peer)
             (seen_at (map (λ disk. seen_as (D.size disk) (D.stands disk) (D.faults disk))
             disks.new) peer)) }
-        ensures ready { IfOk result (λ cluster. cluster.core.ended ≡ None
-            → AreReady D.tells cluster.logs
-            (map (λ disk. seen_as (D.size disk) (D.stands disk) (D.faults disk)) disks.new)) }
-        ensures shape { IfOk result (λ cluster. cluster.core.members.shape ≡ shape) }
+        // Where no core was opened, the list of each disk is as it was.
+        ensures unopened { OnErr result (LeavesAsTaken D.tells (record {
+          before = watch.old;
+          now = watch.new;
+          old = map (λ disk. seen_as (D.size disk) (D.stands disk) (D.faults disk)) disks.old;
+          new = map (λ disk. seen_as (D.size disk) (D.stands disk) (D.faults disk)) disks.new;
+        })) }
+        ensures ready { IfOk result (λ opened. OnOk opened.done (AreReady D.tells
+            opened.cluster.logs
+            (map (λ disk. seen_as (D.size disk) (D.stands disk) (D.faults disk)) disks.new))) }
+        ensures shape { IfOk result (λ opened. opened.cluster.core.members.shape ≡ shape) }
+        ensures moment { IfOk result (λ opened. OnOk opened.done
+            (opened.cluster.core.moment ≤ watch.new)) }
+        ensures counted { NoneFalls
+            (map (λ disk. seen_as (D.size disk) (D.stands disk) (D.faults disk)) disks.old)
+            (map (λ disk. seen_as (D.size disk) (D.stands disk) (D.faults disk)) disks.new) }
         ensures count { length disks.new ≡ length disks.old }
         ensures ticks { watch.old ≤ watch.new }
     {
@@ -83,14 +105,14 @@ impl Cluster {
             Ok(cluster) => cluster,
             Err(fault) => return Err(fault),
         };
-        if let Some(_) = cluster.ended() {
-            return Ok(cluster);
+        if let Some(fault) = cluster.ended() {
+            return Ok(Opened {
+                cluster,
+                done: Err(ClusterFault::from(fault)),
+            });
         }
         let done = cluster.settle(disks, watch, 0, false);
-        if ran_out(done) {
-            return Err(ClusterFault::NoMemory);
-        }
-        Ok(cluster)
+        Ok(Opened { cluster, done })
     }
 
     /// Opens the core over the logs of the disks, before the first turn.
@@ -126,6 +148,15 @@ impl Cluster {
             (map (λ disk. seen_as (D.size disk) (D.stands disk) (D.faults disk)) disks.new)) }
         ensures shape { IfOk result (λ cluster. cluster.core.members.shape ≡ shape) }
         ensures moment { IfOk result (λ cluster. cluster.core.moment ≡ watch.new) }
+        ensures counted { NoneFalls
+            (map (λ disk. seen_as (D.size disk) (D.stands disk) (D.faults disk)) disks.old)
+            (map (λ disk. seen_as (D.size disk) (D.stands disk) (D.faults disk)) disks.new) }
+        ensures keeps { LeavesAsTaken D.tells (record {
+          before = watch.old;
+          now = watch.new;
+          old = map (λ disk. seen_as (D.size disk) (D.stands disk) (D.faults disk)) disks.old;
+          new = map (λ disk. seen_as (D.size disk) (D.stands disk) (D.faults disk)) disks.new;
+        }) }
         ensures count { length disks.new ≡ length disks.old }
         ensures ticks { watch.old ≤ watch.new }
     {
@@ -135,19 +166,6 @@ impl Cluster {
             Err(fault) => return Err(ClusterFault::from(fault)),
         };
         begun(alloc, shape, limits, taking, entry, watch.now())
-    }
-}
-
-/// Whether memory ran out.
-fn ran_out(done: Result<(), ClusterFault>) -> bool
-    ensures { result ≡ ran_out done }
-{
-    match done {
-        Ok(()) => false,
-        Err(ClusterFault::NoMemory) => true,
-        Err(ClusterFault::WrongShape { .. })
-        | Err(ClusterFault::ShardLost { .. })
-        | Err(ClusterFault::OpsFull) => false,
     }
 }
 

@@ -1,15 +1,15 @@
 //! One job on the disk of a peer.
 ghost use Rattle.std.specs.Prelude.{◌≡◌, ◌+◌, ◌≤◌, ℕ, List, Option, None, Some, true, false, is_some, IfOk, IfErr, OnOk};
-ghost use Rattle.hs_cluster.specs.Jobs.{Leaves, sealed_list};
+ghost use Rattle.hs_cluster.specs.Jobs.{AreBytes, HasStored, Leaves, TellsBytes, sealed_list};
 ghost use Rattle.hs_desk.specs.Answers.{answers};
 ghost use Rattle.hs_desk.specs.declared.done.Done.TheVariants as done;
 ghost use Rattle.hs_desk.specs.declared.job.Job.TheVariants as job;
 ghost use Rattle.hs_entry.specs.declared.entry.Entry.{Entry};
 ghost use Rattle.hs_entry.specs.declared.entry.Entry.TheVariants.{Block};
 ghost use Rattle.hs_events.specs.Asked.{failed_disk};
-ghost use Rattle.hs_events.specs.Reports.{TellsOf};
+ghost use Rattle.hs_events.specs.Reports.{TellsOf, only_reads};
 ghost use Rattle.hs_fold.specs.Shards.Setting.{Numbered};
-ghost use Rattle.hs_peerlog.specs.Caused.{IsCaused};
+ghost use Rattle.hs_peerlog.specs.Caused.{IsCaused, IsOutside};
 ghost use Rattle.hs_peerlog.specs.Images.{Is, IsOne, LeavesEach};
 ghost use Rattle.hs_peerlog.specs.Lists.{HasLog, IsKept, IsReady};
 ghost use Rattle.hs_shard.specs.Facts.{pointers_at};
@@ -49,6 +49,14 @@ pub(crate) fn do_own<D: Disk>(
           old = D.stands disk.old;
           new = D.stands disk.new;
         }) job.now list waiting result }
+    ensures done { IfOk result (λ told. failed_disk told ≡ None) }
+    ensures bytes { IfOk result TellsBytes }
+    // But for a read, a call that is refused is one that failed; and so is a read, where the list has
+    // what the catalogue says.
+    ensures refused { (at : ℕ) → only_reads at job.now ≡ false → IfErr result IsOutside }
+    ensures failed { D.tells → (list : Numbered) (waiting : Option Entry)
+        → HasLog log.old (D.stands disk.old) list waiting
+        → HasStored (Some job.now) catalogue.now.blocks list → IfErr result IsOutside }
     ensures ticks { watch.old ≤ watch.new }
     ensures cause { IsCaused (D.faults disk.old) (D.faults disk.new) result }
 {
@@ -91,6 +99,7 @@ pub(crate) fn append_entry<D: Disk>(
         → (list : Numbered) (waiting : Option Entry)
         → HasLog log.old (D.stands disk.old) list waiting
         → LeavesEach watch.old watch.new (D.stands disk.old) (D.stands disk.new) (Is list) }
+    ensures refused { IfErr result IsOutside }
     ensures ticks { watch.old ≤ watch.new }
     ensures cause { IsCaused (D.faults disk.old) (D.faults disk.new) result }
 {
@@ -115,6 +124,7 @@ fn is_next(log: &PeerLog, number: u64) -> bool
 }
 
 /// Seals the entry of a number, where it waits.
+#[tactic(auto, using(crate::proofs::CountLemmas::outside_disk))]
 fn seal_entry<D: Disk>(
     log: &mut PeerLog,
     disk: &mut D,
@@ -134,6 +144,7 @@ fn seal_entry<D: Disk>(
         → HasLog log.old (D.stands disk.old) list waiting
         → LeavesEach watch.old watch.new (D.stands disk.old) (D.stands disk.new)
         (IsOne list (sealed_list list waiting)) }
+    ensures refused { IfErr result IsOutside }
     ensures ticks { watch.old ≤ watch.new }
     ensures cause { IsCaused (D.faults disk.old) (D.faults disk.new) result }
 {
@@ -163,6 +174,10 @@ fn read_block<D: Disk>(
         → IsKept log.now ((D.stands disk.old).seen log.now.log.side) list waiting
         → IfOk result (λ told. TellsOf told (Some list)) }
     ensures done { IfOk result (λ told. failed_disk told ≡ None) }
+    ensures bytes { IfOk result TellsBytes }
+    ensures refused { D.tells → (list : Numbered) (waiting : Option Entry)
+        → IsKept log.now ((D.stands disk.old).seen log.now.log.side) list waiting
+        → HasStored (Some (job.Read number)) catalogue.now.blocks list → IfErr result IsOutside }
     ensures cause { IsCaused (D.faults disk.old) (D.faults disk.new) result }
 {
     match log.read_entry(disk, number)? {
@@ -182,12 +197,22 @@ fn block_of(number: u64, entry: Entry) -> Result<Done, LogFault>
         → IfOk result (λ told. told ≡ done.Bytes number bytes) }
     ensures some { IfOk result (λ told. (op : ℕ) × (least : ℕ) × (bytes : List ℕ)
         × (entry ≡ Block op least bytes) × (told ≡ done.Bytes number bytes)) }
+    ensures bytes { IfOk result TellsBytes }
     ensures not_disk { IfErr result (λ fault. fault ≡ LogFault.NoMemory) }
 {
     match entry {
-        Entry::Block { bytes, .. } => Ok(Done::Bytes { number, bytes }),
+        Entry::Block { bytes, .. } => {
+            are_bytes(bytes.as_slice());
+            Ok(Done::Bytes { number, bytes })
+        }
         _ => Err(LogFault::NoMemory),
     }
+}
+
+/// Bytes are below 256, as every byte is.
+fn are_bytes(bytes: &[u8])
+    ensures { AreBytes bytes.now }
+{
 }
 
 /// Whether a present block was stored by the entry of a number.
@@ -215,6 +240,7 @@ pub(crate) fn empty_disk<D: Disk>(
 ) -> Result<PeerLog, LogFault>
     ensures ready { IfOk result (λ log. IsReady D.tells log (D.size disk.new log.log.side)
         (D.stands disk.new)) }
+    ensures refused { IfErr result IsOutside }
     ensures ticks { watch.old ≤ watch.new }
     ensures cause { IsCaused (D.faults disk.old) (D.faults disk.new) result }
 {
@@ -244,6 +270,7 @@ pub(crate) fn keep_copy<D: Disk>(
         (D.stands disk.old) }
     ensures ready { OnOk result (IsReady D.tells log.new (D.size disk.new log.new.log.side)
         (D.stands disk.new)) }
+    ensures refused { IfErr result IsOutside }
     ensures ticks { watch.old ≤ watch.new }
     ensures cause { IsCaused (D.faults disk.old) (D.faults disk.new) result }
 {

@@ -1,5 +1,5 @@
 -- Events that are due, and then nothing any more, are due where they may stop before.
-use Rattle.std.proofs.Common.{◌≡◌, ℕ, Bool, true, false, List, [], ◌∷◌, Option, Some, None, refl, is_none, not}
+use Rattle.std.proofs.Common.{◌≡◌, sym, subst, ℕ, Bool, true, false, List, [], ◌∷◌, Option, Some, None, refl, is_none, not}
 use Rattle.std.proofs.lemmas.Bool.{true≢false}
 use Rattle.std.specs.Option.{option_map_or}
 use Rattle.std.specs.Prelude.{◌||◌}
@@ -25,6 +25,11 @@ walk_cut due line core es false h = go (walk due line (record { place = first_pl
     go : (at : Option Walked) → option_map_or (λ (w : Walked). not true || is_none (due w.place w.core)) at false ≡ true → option_map_or (λ (w : Walked). not false || is_none (due w.place w.core)) at false ≡ true
     go None k = k
     go (Some w) k = refl
+
+-- however it was cut short, where it needn't be whole
+pub walk_short : (due : Place → Core → Option Due) (line : ℕ) (core : Core) (es : Events) (was whole : Bool) → whole ≡ false → is_walk due was line core es ≡ true → is_walk due whole line core es ≡ true
+walk_short due line core es true whole none h = walk_cut due line core es whole h
+walk_short due line core es false whole none h = subst (λ (w : Bool). is_walk due w line core es ≡ true) (sym none) h
 
 -- ---- one event, and what is due behind it
 

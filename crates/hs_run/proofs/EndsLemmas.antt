@@ -218,10 +218,11 @@ module _ (script : List ℕ) (line : List ℕ) (n : ℕ) (held : List ℕ) (left
 
 -- ---- opening was not told whole, or the core had ended
 
-pub ends_opening : (script : List ℕ) (left : Option (List ℕ)) (running : Running) (part : Printing) (result : Result ⊤ Stop) (line : ℕ) → left ≡ Some script → line ≡ 0 → is_ok result ≡ false → IsOpeningPut running part result → EndsBy script left result line
-ends_opening script left running part result line told zero cut put =
+pub ends_opening : (script : List ℕ) (left : Option (List ℕ)) (did : Result ⊤ ClusterFault) (running : Running) (part : Printing) (result : Result ⊤ Stop) (line : ℕ) → (ran_out did ≡ false → did ≡ outcome_by running.core.ended) → left ≡ Some script → line ≡ 0
+    → is_ok result ≡ false → IsOpeningPut did running part result → EndsBy script left result line
+ends_opening script left did running part result line outcome told zero cut put =
     let stops : IsWithin result = subst (λ (r : Result ⊤ Stop). IsWithin r) (sym put.ended)
-    (end_within (outcome_by running.core.ended) put.put running.core.ended (λ h. refl) put.only (ap (λ (r : Result ⊤ Stop). is_ok r) (sym put.ended) ∙ cut)) in
+    (end_within did put.put running.core.ended outcome put.only (ap (λ (r : Result ⊤ Stop). is_ok r) (sym put.ended) ∙ cut)) in
     record {
       taken = [];
       parted = ap (before []) told;

@@ -1,19 +1,23 @@
 -- What opening found, as hs_promise says it, and the run right behind opening.
-use Rattle.std.proofs.Common.{◌≡◌, inl, inr, ◌∙◌, ap, sym, subst, ℕ, ◌≤◌, ◌*◌, ◌==◌, Bool, true, false, cond, not, List, [], ◌∷◌, ◌++◌, Option, Some, None, refl, arith, length}
+use Rattle.std.proofs.Common.{◌≡◌, inl, inr, ◌∙◌, ap, sym, subst, ℕ, ◌≤◌, ◌*◌, ◌==◌, Bool, true, false, cond, not, List, [], ◌∷◌, ◌++◌, Option, Some, None, Result, Ok, Err, refl, arith, length}
 use Rattle.std.proofs.lemmas.Bool.{cases_lt, eqb-true, false≢true}
-use Rattle.std.proofs.lemmas.List.{append-nil, get_or_past}
+use Rattle.std.proofs.lemmas.List.{get_or_past}
 use Rattle.std.proofs.lemmas.List.Elements.{Contains-get_or}
 use Rattle.std.specs.Option.{option_map_or}
-use Rattle.std.specs.Prelude.{All, Contains, find, slice_index_or}
+use Rattle.std.specs.Prelude.{All, Contains, find, is_ok, slice_index_or, ⊤}
 use Rattle.hs_cluster.proofs.OpenedLemmas.{opens_so}
-use Rattle.hs_cluster.specs.Disks.{AreReady, DiskSeen}
+use Rattle.hs_cluster.proofs.RunLemmas.{runs_opened}
+use Rattle.hs_cluster.specs.Calls.{ran_out}
+use Rattle.hs_cluster.specs.declared.fault.ClusterFault.{ClusterFault}
+use Rattle.hs_cluster.specs.Disks.{AreReady, DiskSeen, stands_of}
 use Rattle.hs_cluster.specs.Opens.{Finds, IsLostLog, Opens}
 use Rattle.hs_cluster.specs.Running.{Running}
+use Rattle.hs_cluster.specs.RunsOn.{CanRunOn, RunsOn}
 use Rattle.hs_core.specs.State.{Core}
 use Rattle.hs_entry.specs.Entries.{rank_of}
 use Rattle.hs_events.specs.Beginning.{first_items}
 use Rattle.hs_events.specs.Course.{items_of, steps}
-use Rattle.hs_events.specs.Due.{Events, MomentsRise, next_turn}
+use Rattle.hs_events.specs.Due.{Events, next_turn}
 use Rattle.hs_events.specs.Found.{Found, first_core, opens_with}
 use Rattle.hs_events.specs.Taken.{is_best, is_taken, peer_count, taken_list, taken_peer}
 use Rattle.hs_fold.specs.Opened.{outranks}
@@ -21,15 +25,18 @@ use Rattle.hs_fold.specs.Shards.Setting.{Numbered, Setting}
 use Rattle.hs_limits.specs.declared.shape.Shape.{Shape}
 use Rattle.hs_members.specs.Members.{home_of, peers_of}
 use Rattle.hs_model.specs.declared.command.Command.{Command}
+use Rattle.hs_moments.specs.Moments.{Since}
 use Rattle.hs_peerlog.specs.Lists.{Keeping}
 use Rattle.hs_ports.specs.Objects.{Objects}
 use Rattle.hs_promise.specs.Found.{HasFound, IsLostBefore}
 use Rattle.hs_promise.specs.Run.{Ran}
 use Rattle.hs_taking.specs.Shares.{Span}
 use Rattle.hs_run.specs.Between.{IsReadyAt}
-use Rattle.hs_run.specs.Going.{HasAnswered, IsBehind}
+use Rattle.hs_run.specs.Going.{IsOpened}
 use Rattle.hs_run.proofs.AnsweredLemmas.{answered_opens, answered_steps}
 use Rattle.hs_run.proofs.LastLineLemmas.{steps_later, steps_up, walk_up}
+use Rattle.hs_run.proofs.PassedLemmas.{going_of}
+use Rattle.hs_run.proofs.ShownLemmas.{can_first}
 
 -- ---- a taken log is one that was read
 
@@ -94,33 +101,56 @@ has_found tells set span found logs opening lines commands r entry finds = recor
 
 -- ---- behind opening
 
-pub opened_behind : (tells : Type 0) (set : Setting) (span : Span) (cluster : Running) (opens : Opens tells set span cluster) (old : Objects) (disks : List DiskSeen) (got : Option (List (ℕ × ℕ))) (line : ℕ) → old.moment ≡ span.before
-    → IsBehind (record { set = set; old = old; found = opens.found; opening = opens.events }) [] (record { now = span.now; cluster = cluster; disks = disks; got = got; line = line })
-opened_behind tells set span cluster opens old disks got line entry = record {
-  later = let low = opens.finds.later in omega (arith, entry, low);
-  opening = opens.due;
-  core = opens.core ∙ ap (λ (es : Events). steps (first_core set opens.found) es) (sym (append-nil opens.events));
-  course = opens.course ∙ ap (λ (k : ℕ). first_items set.shape opens.found k ++ items_of (first_core set opens.found) opens.events) (sym entry)
-      ∙ ap (λ (es : Events). first_items set.shape opens.found old.moment ++ items_of (first_core set opens.found) es) (sym (append-nil opens.events));
-  rises = subst (λ (es : Events). MomentsRise opens.found.opened es span.now) (sym (append-nil opens.events)) opens.rises;
-  answered = subst (λ (c : Core). HasAnswered set.limits.ops c span.now) (sym opens.core)
-      (answered_steps set.limits.ops (first_core set opens.found) opens.events opens.found.opened span.now (answered_opens set.shape set.limits (opens_with set opens.found) opens.found.opened) opens.rises);
-}
+pub ok_there : (did : Result ⊤ ClusterFault) → is_ok did ≡ true → ran_out did ≡ false
+ok_there (Ok x) fine = refl
+ok_there (Err fault) fine = absurd (false≢true fine)
 
--- where the core goes on, the cluster may be asked its first line
-pub opened_ready : (tells : Type 0) (set : Setting) (span : Span) (cluster : Running) (opens : Opens tells set span cluster) (disks : List DiskSeen) (got : Option (List (ℕ × ℕ))) (line : ℕ) → cluster.core.ended ≡ None
+pub opened_so : (tells : Type 0) (set : Setting) (span : Span) (cluster : Running) (did : Result ⊤ ClusterFault) (opens : Opens tells set span cluster did) (old : Objects) (disks : List DiskSeen) (got : Option (List (ℕ × ℕ))) (line : ℕ)
+    → old.moment ≡ span.before → disks ≡ span.new → (tells → Since (stands_of disks))
+    → IsOpened tells (record { set = set; old = old; disks = span.old; found = opens.found; first = opens.begun; opening = opens.events }) did (record { now = span.now; cluster = cluster; disks = disks; got = got; line = line })
+opened_so tells set span cluster did opens old disks got line entry left since = record {
+  later = let low = opens.finds.later in omega (arith, entry, low);
+  due = opens.due;
+  rises = opens.rises;
+  core = opens.core;
+  outcome = opens.outcome;
+  journal = opens.journal;
+  refused = opens.refused;
+  course = opens.course ∙ ap (λ (k : ℕ). first_items set.shape opens.found k ++ items_of (first_core set opens.found) opens.events) (sym entry);
+  answered = answered_steps set.limits.ops (first_core set opens.found) opens.events opens.found.opened span.now (answered_opens set.shape set.limits (opens_with set opens.found) opens.found.opened) opens.rises;
+  shown = as_span (runs_opened tells set span cluster did opens);
+  may = λ fine. may_span (can_first tells set span cluster did opens fine);
+  since = since;
+}
+  where
+    -- from the entry of the run, with the disks as they are
+    as_span : RunsOn tells set (record { before = span.before; now = span.now; old = opens.begun; new = cluster; disks = span.old; left = span.new }) opens.found opens.events
+        → RunsOn tells set (record { before = old.moment; now = span.now; old = opens.begun; new = cluster; disks = span.old; left = disks }) opens.found opens.events
+    as_span h =
+        subst (λ (k : ℕ). RunsOn tells set (record { before = k; now = span.now; old = opens.begun; new = cluster; disks = span.old; left = disks }) opens.found opens.events) (sym entry)
+        (subst (λ (d : List DiskSeen). RunsOn tells set (record { before = span.before; now = span.now; old = opens.begun; new = cluster; disks = span.old; left = d }) opens.found opens.events) (sym left) h)
+
+    may_span : CanRunOn tells set (record { before = span.before; now = span.now; old = opens.begun; new = cluster; disks = span.old; left = span.new }) opens.found opens.events
+        → CanRunOn tells set (record { before = old.moment; now = span.now; old = opens.begun; new = cluster; disks = span.old; left = disks }) opens.found opens.events
+    may_span h =
+        subst (λ (k : ℕ). CanRunOn tells set (record { before = k; now = span.now; old = opens.begun; new = cluster; disks = span.old; left = disks }) opens.found opens.events) (sym entry)
+        (subst (λ (d : List DiskSeen). CanRunOn tells set (record { before = span.before; now = span.now; old = opens.begun; new = cluster; disks = span.old; left = d }) opens.found opens.events) (sym left) h)
+
+-- where it came to its end, the cluster may be asked its first line
+pub opened_ready : (tells : Type 0) (set : Setting) (span : Span) (cluster : Running) (did : Result ⊤ ClusterFault) (opens : Opens tells set span cluster did) (disks : List DiskSeen) (got : Option (List (ℕ × ℕ))) (line : ℕ) → is_ok did ≡ true
     → length disks ≡ cluster.core.members.shape.shards * cluster.core.members.shape.copies → AreReady tells cluster.logs disks → IsReadyAt tells (record { now = span.now; cluster = cluster; disks = disks; got = got; line = line })
-opened_ready tells set span cluster opens disks got line going count ready =
+opened_ready tells set span cluster did opens disks got line fine count ready =
     let stays = opens_so set.shape set.limits (opens_with set opens.found) opens.found.opened in
+    let core : cluster.core ≡ steps (first_core set opens.found) opens.events = opens.core (ok_there did fine) in
     let none : (first_core set opens.found).last_line ≡ 0 = stays.last_line in
     let at : (first_core set opens.found).moment ≡ opens.found.opened = stays.moment in
     let last : (steps (first_core set opens.found) opens.events).last_line ≤ 0 =
-    steps_up 0 (first_core set opens.found) opens.events (omega (arith, none)) (walk_up 0 0 next_turn true (first_core set opens.found) opens.events opens.due) in
+    steps_up 0 (first_core set opens.found) opens.events (omega (arith, none)) (walk_up 0 0 next_turn (not (ran_out did)) (first_core set opens.found) opens.events opens.due) in
     let later : (steps (first_core set opens.found) opens.events).moment ≤ span.now = steps_later (first_core set opens.found) opens.events opens.found.opened span.now (omega (arith, at)) opens.rises in
     record {
-      going = going;
-      last = subst (λ (c : Core). c.last_line ≤ line) (sym opens.core) (omega (arith, last));
-      moment = subst (λ (c : Core). c.moment ≤ span.now) (sym opens.core) later;
+      going = going_of did cluster.core.ended fine (opens.outcome (ok_there did fine));
+      last = subst (λ (c : Core). c.last_line ≤ line) (sym core) (omega (arith, last));
+      moment = subst (λ (c : Core). c.moment ≤ span.now) (sym core) later;
       count = count;
       ready = ready;
     }

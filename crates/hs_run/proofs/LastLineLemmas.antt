@@ -112,7 +112,7 @@ command_up name line core es whole (command.Reclaim peer) h = absurd h
 
 -- ---- the core behind them
 
-ended_stays : (e : Event) (at : ℕ) (core : Core) (fault : CoreFault) → core.ended ≡ Some fault → step e at core ≡ core
+pub ended_stays : (e : Event) (at : ℕ) (core : Core) (fault : CoreFault) → core.ended ≡ Some fault → step e at core ≡ core
 ended_stays e at core fault h =
     let ended : is_none core.ended ≡ false = ap is_none h in
     rw ended refl

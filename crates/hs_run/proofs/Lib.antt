@@ -1,7 +1,9 @@
 pub mod AdvanceLemmas
 pub mod AnsweredLemmas
 pub mod CaseLemmas
+pub mod ClosedLemmas
 pub mod CutLemmas
+pub mod DisksLemmas
 pub mod EndingLemmas
 pub mod EndsLemmas
 pub mod FeedLemmas
@@ -11,6 +13,7 @@ pub mod KindLemmas
 pub mod LastLineLemmas
 pub mod LateLemmas
 pub mod LinesLemmas
+pub mod OpeningLemmas
 pub mod PassedLemmas
 pub mod PrintedLemmas
 pub mod PutsLemmas
@@ -19,9 +22,13 @@ pub mod ReadyLemmas
 pub mod RiseLemmas
 pub mod RunLemmas
 pub mod ServeLemmas
+pub mod ShapeLemmas
+pub mod ShownLemmas
+pub mod SoundLemmas
 pub mod SpendsLemmas
 pub mod StatusLemmas
 pub mod TellingLemmas
 pub mod TopLemmas
 pub mod WentLemmas
 pub mod WholeLemmas
+pub mod WrittenLemmas

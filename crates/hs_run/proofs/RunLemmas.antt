@@ -1,19 +1,22 @@
 -- What is said of a run that came to its end, from its opening on.
-use Rattle.std.proofs.Common.{◌≡◌, ◌⊎◌, inl, inr, ◌∙◌, ap, sym, subst, ℕ, ◌≤◌, Bool, true, false, List, [], ◌∷◌, ◌++◌, Option, Some, None, Result, Ok, Err, refl, arith, length}
+use Rattle.std.proofs.Common.{◌≡◌, ◌∙◌, ap, sym, subst, ℕ, ◌<◌, ◌≤◌, Bool, true, false, List, [], ◌∷◌, ◌++◌, Option, Some, None, Result, Ok, Err, refl, arith, length}
 use Rattle.std.proofs.lemmas.Bool.{true≢false}
-use Rattle.std.proofs.lemmas.List.Elements.{All-nil}
+use Rattle.std.proofs.lemmas.List.{append-nil}
 use Rattle.std.specs.Prelude.{IfErr, IfSome, if◌then◌else◌, is_ok, ⊤}
-use Rattle.hs_cluster.specs.Begins.{IsClosed}
-use Rattle.hs_cluster.specs.Calls.{outcome_by}
+use Rattle.hs_cluster.specs.Calls.{outcome_by, ran_out}
 use Rattle.hs_cluster.specs.declared.fault.ClusterFault.{ClusterFault}
-use Rattle.hs_cluster.specs.declared.fault.ClusterFault.TheVariants as cluster
-use Rattle.hs_cluster.specs.Disks.{DiskSeen}
+use Rattle.hs_cluster.specs.Disks.{DiskSeen, stands_of}
 use Rattle.hs_cluster.specs.Running.{Running}
+use Rattle.hs_cluster.specs.RunsOn.{RunsOn}
+use Rattle.hs_core.specs.State.{Core}
 use Rattle.hs_events.specs.Due.{Events}
+use Rattle.hs_events.specs.Found.{first_core}
+use Rattle.hs_journal.specs.Events.{client_op}
 use Rattle.hs_journal.specs.declared.entry.JournalEntry.{JournalEntry}
 use Rattle.hs_limits.specs.declared.address.Address.{Address}
-use Rattle.hs_limits.specs.declared.shape.Shape.{Shape}
 use Rattle.hs_model.specs.declared.command.Command.{Command}
+use Rattle.hs_moments.specs.Moments.{Since}
+use Rattle.hs_ports.specs.Disk.{Standing}
 use Rattle.hs_ports.specs.Objects.{KeepsTime, Objects}
 use Rattle.hs_ports.specs.Putting.{IsPut, PutsFront}
 use Rattle.hs_ports.specs.Sink.{bytes_of, followed}
@@ -23,7 +26,10 @@ use Rattle.hs_promise.specs.declared.status.Status.TheVariants as status
 use Rattle.hs_promise.specs.Ending.{Ending, ending_of}
 use Rattle.hs_promise.specs.Ends.{Ends, HasEnded}
 use Rattle.hs_promise.specs.Found.{HasFound}
-use Rattle.hs_promise.specs.Run.{Ran}
+use Rattle.hs_promise.specs.Machine.{Went}
+use Rattle.hs_promise.specs.Promise.{AreOfScript}
+use Rattle.hs_promise.specs.Run.{Ran, Script}
+use Rattle.hs_promise.specs.Story.{Story, all_events}
 use Rattle.hs_script.specs.Lines.{lines_of}
 use Rattle.hs_script.specs.Reading.{commands, commands_of}
 use Rattle.hs_script.specs.Text.{text}
@@ -33,18 +39,20 @@ use Rattle.hs_run.specs.declared.stop.Stop.TheVariants as stop
 use Rattle.hs_run.specs.Between.{Point}
 use Rattle.hs_run.specs.Causes.{EndsBy, StopCause}
 use Rattle.hs_run.specs.Ended.{ran_at, refused_in}
-use Rattle.hs_run.specs.Going.{AreRead, Begun, Between, HasRun, IsBehind, IsBetween, IsPrinted, IsPutSoFar, Opened, Unopened, Within, script_by, story_of}
-use Rattle.hs_run.specs.Machine.{Goes, IsOfCluster}
+use Rattle.hs_run.specs.Going.{AreRead, Begun, Between, HasRun, IsBetween, IsOpened, IsPrinted, IsPutSoFar, Opened, Unopened, Within, core_behind, script_by, span_to, story_of}
+use Rattle.hs_run.specs.Machine.{AreHanded, HasItsEnd, RunsOnDisks}
 use Rattle.hs_run.specs.OneLine.{IsOpeningPut, Printing, RunsCommand, Stretch}
 use Rattle.hs_run.specs.Puts.{Puts}
 use Rattle.hs_run.specs.Served.{HasCauses, PrintsText}
-use Rattle.hs_run.specs.Stopping.{IsPutStop, end_of, of_cluster, status_of}
-use Rattle.hs_run.proofs.EndingLemmas.{none_bad}
+use Rattle.hs_run.specs.Stopping.{IsPutStop, end_of, status_of}
+use Rattle.hs_run.proofs.DisksLemmas.{paid_by}
 use Rattle.hs_run.proofs.EndsLemmas.{IsWithin, end_within}
+use Rattle.hs_run.proofs.OpeningLemmas.{opening_printed, opening_so_far}
 use Rattle.hs_run.proofs.PassedLemmas.{answered_more, put_so_far, put_whole}
-use Rattle.hs_run.proofs.PrintedLemmas.{printed_more, printed_none, put_more_so_far}
 use Rattle.hs_run.proofs.ReadLemmas.{read_untold}
-use Rattle.hs_run.proofs.WentLemmas.{IsPlain, goes_between, goes_unopened, goes_within}
+use Rattle.hs_run.proofs.ShownLemmas.{later_shown, within_shown}
+use Rattle.hs_run.proofs.WentLemmas.{IsPlain, went_between, went_unopened, went_within}
+use Rattle.hs_run.proofs.WrittenLemmas.{first_going, longer, none_some, put_failed, snoc_is, snoc_some, write_stop}
 
 -- ---- the commands of a script, or those of the lines that were read
 
@@ -55,6 +63,10 @@ chosen (Some told) read = commands told
 pub chosen_told : (script : Option (List ℕ)) (read : List (List ℕ)) → IfSome script (λ told. (n : ℕ) → chosen script read n ≡ commands told n)
 chosen_told None read = tt
 chosen_told (Some told) read = λ n. refl
+
+chosen_first : (script : Option (List ℕ)) (read : List (List ℕ)) → client_op (chosen script read 0) ≡ None
+chosen_first None read = refl
+chosen_first (Some told) read = refl
 
 chosen_read : (script : Option (List ℕ)) (read : List (List ℕ)) → IfSome script (λ told. AreRead (commands told) read) → AreRead (chosen script read) read
 chosen_read None read said = read_untold read
@@ -73,13 +85,24 @@ plain_between (Err stop.NoMemory) line h = record { opened = refl; empty = refl;
 plain_between (Err stop.OpsFull) line h = absurd h
 plain_between (Err stop.InputFull) line h = record { opened = refl; empty = refl; none = refl }
 
+between_write : (result : Result ⊤ Stop) (line : ℕ) → IsBetween result → status_of result line ≡ status.WriteFault → ⊥
+between_write (Ok x) line h is = cc
+between_write (Err (stop.WrongShape peer found)) line h is = h
+between_write (Err (stop.ShardLost shard)) line h is = h
+between_write (Err stop.BadLine) line h is = cc
+between_write (Err stop.ReadFault) line h is = cc
+between_write (Err stop.WriteFault) line h is = h
+between_write (Err stop.NoMemory) line h is = cc
+between_write (Err stop.OpsFull) line h is = h
+between_write (Err stop.InputFull) line h is = cc
+
 within_of : (tells : Type 0) (name : List ℕ → Address) (asked : Command) (part : Stretch) → is_ok part.result ≡ false → RunsCommand tells name asked part → IsWithin part.result
 within_of tells name asked part cut runs = subst (λ (r : Result ⊤ Stop). IsWithin r) (sym runs.ended)
     (end_within runs.did runs.put part.new.cluster.core.ended runs.runs.does.outcome runs.only (ap (λ (r : Result ⊤ Stop). is_ok r) (sym runs.ended) ∙ cut))
 
-opening_within : (running : Running) (part : Printing) (result : Result ⊤ Stop) → is_ok result ≡ false → IsOpeningPut running part result → IsWithin result
-opening_within running part result cut put = subst (λ (r : Result ⊤ Stop). IsWithin r) (sym put.ended)
-    (end_within (outcome_by running.core.ended) put.put running.core.ended (λ h. refl) put.only (ap (λ (r : Result ⊤ Stop). is_ok r) (sym put.ended) ∙ cut))
+opening_within : (did : Result ⊤ ClusterFault) (running : Running) (part : Printing) (result : Result ⊤ Stop) → (ran_out did ≡ false → did ≡ outcome_by running.core.ended) → is_ok result ≡ false → IsOpeningPut did running part result → IsWithin result
+opening_within did running part result outcome cut put = subst (λ (r : Result ⊤ Stop). IsWithin r) (sym put.ended)
+    (end_within did put.put running.core.ended outcome put.only (ap (λ (r : Result ⊤ Stop). is_ok r) (sym put.ended) ∙ cut))
 
 -- ---- it is the machine's
 
@@ -87,37 +110,89 @@ opening_within running part result cut put = subst (λ (r : Result ⊤ Stop). Is
 abbrev pub FoundBy : Begun → Type 0
 FoundBy b = (commands : ℕ → Option Command) (r : Ran) (lines : List Events) → r.old.moment ≡ b.old.moment → HasFound (script_by b commands) r (story_of b lines)
 
-pub goes_run : (tells : Type 0) (name : List ℕ → Address) (b : Begun) (part : Stretch) (new : Objects) → b.set.name ≡ name → IsBehind b [] part.old → FoundBy b → part.new.now ≡ new.moment → part.new.got ≡ new.got
-    → HasRun tells name b b.old.left part → (commands : ℕ → Option Command) × IsOfCluster (script_by b commands) (ran_at (status_of part.result part.new.line) part.new.line (Some part.new.cluster) b.old new)
-goes_run tells name b part new named behind found now got (Unopened put cut same zero) = (
-  chosen b.old.left [],
-  record {
-    script = chosen_told b.old.left [];
-    how = Some (story_of b []);
-    went = subst (λ (c : Running). Goes (script_by b (chosen b.old.left [])) (ran_at (status_of part.result part.new.line) part.new.line (Some c) b.old new) (story_of b [])) (sym same)
-        (goes_unopened b part.old part.result part.new.line new (record { before = part.old.now; now = part.new.now; old = part.old.got; new = part.new.got }) (chosen b.old.left []) behind (let there = now in let later = put.puts.late.later in omega (arith, later, there)) zero cut put
-        (found (chosen b.old.left []) (ran_at (status_of part.result part.new.line) part.new.line (Some part.old.cluster) b.old new) [] refl));
-  },
-)
-goes_run tells name b part new named behind found now got (Opened mid opened (Between so_far stops)) = (
-  chosen b.old.left so_far.read,
-  record {
-    script = chosen_told b.old.left so_far.read;
-    how = Some (story_of b so_far.lines);
-    went = goes_between b so_far.read so_far.lines part.new (status_of part.result part.new.line) new (chosen b.old.left so_far.read) now got so_far.gone (chosen_read b.old.left so_far.read so_far.said)
-        (found (chosen b.old.left so_far.read) (ran_at (status_of part.result part.new.line) part.new.line (Some part.new.cluster) b.old new) so_far.lines refl) (plain_between part.result part.new.line stops);
-  },
-)
-goes_run tells name b part new named behind found now got (Opened mid opened (Within at read lines line asked gone said says_so cut runs)) = (
-  chosen b.old.left (read ++ line ∷ []),
-  record {
-    script = chosen_told b.old.left (read ++ line ∷ []);
-    how = Some (story_of b (lines ++ runs.runs.events ∷ []));
-    went = goes_within tells name b read lines at part.new line asked part.result named gone says_so cut runs (within_of tells name asked (record { old = at; new = part.new; result = part.result }) cut runs)
-        new (chosen b.old.left (read ++ line ∷ [])) now got (chosen_read b.old.left (read ++ line ∷ []) said)
-        (found (chosen b.old.left (read ++ line ∷ [])) (ran_at (status_of part.result part.new.line) part.new.line (Some part.new.cluster) b.old new) (lines ++ runs.runs.events ∷ []) refl);
-  },
-)
+-- it went as a story says, and this its disks show
+pub record IsOfStory (tells : Type 0) (S : Script) (r : Ran) : Type 0 where
+  pub script : AreOfScript S r
+  pub story : Story
+  pub went : Went S r story
+  pub runs : RunsOnDisks tells S r story
+  pub ended : HasItsEnd S r story
+  pub nobody : client_op (S.commands 0) ≡ None
+
+module _ (tells : Type 0) (name : List ℕ → Address) (did : Result ⊤ ClusterFault) (b : Begun) (part : Stretch) (new : Objects) (named : b.set.name ≡ name) (opened : IsOpened tells b did part.old) (found : FoundBy b)
+    (now : part.new.now ≡ new.moment) (got : part.new.got ≡ new.got) (was : AreHanded b.old b.disks) (is : AreHanded new part.new.disks) where
+  -- what its disks show, from what they showed by its last events
+  on_disks : (commands : ℕ → Option Command) (ending : Status) (line : ℕ) (cluster : Option Running) (lines : List Events) (last : Running) → (tells → Since (stands_of part.new.disks))
+      → RunsOn tells b.set (record { before = b.old.moment; now = part.new.now; old = b.first; new = last; disks = b.disks; left = part.new.disks }) b.found (all_events (story_of b lines))
+      → RunsOnDisks tells (script_by b commands) (ran_at ending line cluster b.old new) (story_of b lines)
+  on_disks commands ending line cluster lines last since shown = record {
+    span = record { before = b.old.moment; now = part.new.now; old = b.first; new = last; disks = b.disks; left = part.new.disks };
+    before = refl;
+    now = now;
+    old = was;
+    new = is;
+    since = λ told. subst (λ (d : List Standing). Since d) is.stands (since told);
+    shown = shown;
+  }
+
+  pub story_run : HasRun tells name did b b.old.left new.left part → (commands : ℕ → Option Command) × IsOfStory tells (script_by b commands) (ran_at (status_of part.result part.new.line) part.new.line (Some part.new.cluster) b.old new)
+  story_run (Unopened put cut same left zero unread) =
+      let later : part.old.now ≤ part.new.now = put.puts.late.later in
+      let shown : RunsOn tells b.set (record { before = b.old.moment; now = part.new.now; old = b.first; new = part.old.cluster; disks = b.disks; left = part.new.disks }) b.found (all_events (story_of b [])) =
+      subst (λ (es : Events). RunsOn tells b.set (record { before = b.old.moment; now = part.new.now; old = b.first; new = part.old.cluster; disks = b.disks; left = part.new.disks }) b.found es) (sym (append-nil b.opening))
+      (subst (λ (d : List DiskSeen). RunsOn tells b.set (record { before = b.old.moment; now = part.new.now; old = b.first; new = part.old.cluster; disks = b.disks; left = d }) b.found b.opening) (sym left)
+      (later_shown tells b part.old b.opening part.new.now later opened.rises opened.since opened.shown)) in (
+        chosen b.old.left [],
+        record {
+          script = chosen_told b.old.left [];
+          story = story_of b [];
+          went = subst (λ (c : Running). Went (script_by b (chosen b.old.left [])) (ran_at (status_of part.result part.new.line) part.new.line (Some c) b.old new) (story_of b [])) (sym same)
+              (went_unopened tells b did part.old part.result part.new.line new (record { before = part.old.now; now = part.new.now; old = part.old.got; new = part.new.got }) (chosen b.old.left []) opened (let there = now in omega (arith, later, there)) zero cut put
+              (found (chosen b.old.left []) (ran_at (status_of part.result part.new.line) part.new.line (Some part.old.cluster) b.old new) [] refl)
+              (paid_by tells b.set _ b.found (all_events (story_of b [])) b.old new was is shown));
+          runs = on_disks (chosen b.old.left []) (status_of part.result part.new.line) part.new.line (Some part.new.cluster) [] part.old.cluster (λ told. subst (λ (d : List DiskSeen). Since (stands_of d)) (sym left) (opened.since told)) shown;
+          ended = record { written = λ is front es there. absurd (snoc_some front es there); unread = λ some. unread };
+          nobody = chosen_first b.old.left [];
+        },
+      )
+  story_run (Opened mid (Between so_far stops)) = (
+    chosen b.old.left so_far.read,
+    record {
+      script = chosen_told b.old.left so_far.read;
+      story = story_of b so_far.lines;
+      went = went_between b so_far.read so_far.lines part.new (status_of part.result part.new.line) new (chosen b.old.left so_far.read) now got so_far.gone (chosen_read b.old.left so_far.read so_far.said)
+          (found (chosen b.old.left so_far.read) (ran_at (status_of part.result part.new.line) part.new.line (Some part.new.cluster) b.old new) so_far.lines refl) (plain_between part.result part.new.line stops)
+          (paid_by tells b.set (span_to b part.new) b.found (all_events (story_of b so_far.lines)) b.old new was is so_far.shows.shown);
+      runs = on_disks (chosen b.old.left so_far.read) (status_of part.result part.new.line) part.new.line (Some part.new.cluster) so_far.lines part.new.cluster so_far.shows.since so_far.shows.shown;
+      ended = record {
+        written = λ is. absurd (between_write part.result part.new.line stops is);
+        unread = λ some. absurd (none_some (first_core b.set b.found).ended (first_going (first_core b.set b.found) (all_events (story_of b so_far.lines)) (ap (λ (c : Core). c.ended) (sym so_far.gone.behind.core) ∙ so_far.gone.going)) some);
+      };
+      nobody = chosen_first b.old.left so_far.read;
+    },
+  )
+  story_run (Opened mid (Within at read lines line asked gone shows said says_so cut runs)) =
+      let shown : RunsOn tells b.set (span_to b part.new) b.found (all_events (story_of b (lines ++ runs.runs.events ∷ []))) = within_shown tells name b read lines at part.new asked part.result gone runs shows in (
+        chosen b.old.left (read ++ line ∷ []),
+        record {
+          script = chosen_told b.old.left (read ++ line ∷ []);
+          story = story_of b (lines ++ runs.runs.events ∷ []);
+          went = went_within tells name b read lines at part.new line asked part.result named gone says_so cut runs (within_of tells name asked (record { old = at; new = part.new; result = part.result }) cut runs)
+              new (chosen b.old.left (read ++ line ∷ [])) now got (chosen_read b.old.left (read ++ line ∷ []) said)
+              (found (chosen b.old.left (read ++ line ∷ [])) (ran_at (status_of part.result part.new.line) part.new.line (Some part.new.cluster) b.old new) (lines ++ runs.runs.events ∷ []) refl)
+              (paid_by tells b.set (span_to b part.new) b.found (all_events (story_of b (lines ++ runs.runs.events ∷ []))) b.old new was is shown);
+          runs = on_disks (chosen b.old.left (read ++ line ∷ [])) (status_of part.result part.new.line) part.new.line (Some part.new.cluster) (lines ++ runs.runs.events ∷ []) part.new.cluster runs.since shown;
+          ended = record {
+            written = λ is front es there.
+                let failed : runs.put ≡ Err stop.WriteFault = put_failed runs.did runs.put part.new.line (ap (λ (r : Result ⊤ Stop). status_of r part.new.line) (sym runs.ended) ∙ is) in
+                let more : length at.cluster.core.journal < length part.new.cluster.core.journal = longer (length at.cluster.core.journal) part.new.cluster.core.journal (runs.some failed) in
+                subst (λ (ls : List Events). length (core_behind b ls).journal < length part.new.cluster.core.journal) (snoc_is lines front runs.runs.events es there)
+                (subst (λ (c : Core). length c.journal < length part.new.cluster.core.journal) gone.behind.core more);
+            unread = λ some. absurd (none_some (first_core b.set b.found).ended (first_going (first_core b.set b.found) (all_events (story_of b lines)) (ap (λ (c : Core). c.ended) (sym gone.behind.core) ∙ gone.going)) some);
+          };
+          nobody = chosen_first b.old.left (read ++ line ∷ []);
+        },
+      )
 
 -- ---- what it printed
 
@@ -138,21 +213,12 @@ short_put did (Err stop.NoMemory) line only h = absurd (true≢false h)
 short_put did (Err stop.OpsFull) line only h = absurd only
 short_put did (Err stop.InputFull) line only h = absurd only
 
--- what opening answered
-module _ (b : Begun) (at : Point) (now : ℕ) (got : Option (List (ℕ × ℕ))) (put : Result ⊤ Stop) (behind : IsBehind b [] at) (since : b.old.moment ≤ at.now) (puts : Puts at.now now (text at.cluster.core.journal) b.old.got got put) where
-  opening_so_far : IsPutSoFar b.old now got at.cluster.core.journal
-  opening_so_far = put_more_so_far b.old b.old.moment at.now now b.old.got got [] at.cluster.core.journal (omega arith) since (All-nil (λ (entry : JournalEntry). entry.moment ≤ b.old.moment)) behind.answered.dated (printed_none b.old) put puts
-
-  pub opening_printed : put ≡ Ok tt → IsPrinted b.old now got at.cluster.core.journal
-  opening_printed is = printed_more b.old b.old.moment at.now now b.old.got got [] at.cluster.core.journal (omega arith) since (All-nil (λ (entry : JournalEntry). entry.moment ≤ b.old.moment)) behind.answered.dated (printed_none b.old)
-      (subst (λ (r : Result ⊤ Stop). Puts at.now now (text at.cluster.core.journal) b.old.got got r) is puts)
-
-pub printed_run : (tells : Type 0) (name : List ℕ → Address) (b : Begun) (part : Stretch) (new : Objects) → IsBehind b [] part.old → b.old.moment ≤ part.old.now → part.old.got ≡ b.old.got → part.new.now ≡ new.moment → part.new.got ≡ new.got
-    → HasRun tells name b b.old.left part → HasPrinted b.set.limits.ops b.old new part.new.cluster.core.journal (ending_of (status_of part.result part.new.line))
-printed_run tells name b part new behind since was now got (Unopened put cut same zero) = record {
-  fits = subst (λ (c : Running). length c.core.journal ≤ b.set.limits.ops) (sym same) behind.answered.fits;
-  so_far = subst (λ (c : Running). IsPutSoFar b.old new.moment new.got c.core.journal) (sym same) (as_new (opening_so_far b part.old part.new.now part.new.got put.put behind since puts));
-  whole = λ short. sym_got (subst (λ (c : Running). IsPrinted b.old part.new.now part.new.got c.core.journal) (sym same) (opening_printed b part.old part.new.now part.new.got put.put behind since puts (short_put (outcome_by part.old.cluster.core.ended) put.put part.new.line put.only
+pub printed_run : (tells : Type 0) (name : List ℕ → Address) (did : Result ⊤ ClusterFault) (b : Begun) (part : Stretch) (new : Objects) → IsOpened tells b did part.old → b.old.moment ≤ part.old.now → part.old.got ≡ b.old.got → part.new.now ≡ new.moment → part.new.got ≡ new.got
+    → HasRun tells name did b b.old.left new.left part → HasPrinted b.set.limits.ops b.old new part.new.cluster.core.journal (ending_of (status_of part.result part.new.line))
+printed_run tells name did b part new opened since was now got (Unopened put cut same left zero unread) = record {
+  fits = subst (λ (c : Running). length c.core.journal ≤ b.set.limits.ops) (sym same) (subst (λ (j : List JournalEntry). length j ≤ b.set.limits.ops) (sym opened.journal) opened.answered.fits);
+  so_far = subst (λ (c : Running). IsPutSoFar b.old new.moment new.got c.core.journal) (sym same) (as_new (opening_so_far tells b did part.old part.new.now part.new.got put.put opened since puts));
+  whole = λ short. sym_got (subst (λ (c : Running). IsPrinted b.old part.new.now part.new.got c.core.journal) (sym same) (opening_printed tells b did part.old part.new.now part.new.got put.put opened since puts (short_put did put.put part.new.line put.only
       (ap (λ (r : Result ⊤ Stop). (ending_of (status_of r part.new.line)).short) (sym put.ended) ∙ short)))).put;
 }
   where
@@ -164,12 +230,12 @@ printed_run tells name b part new behind since was now got (Unopened put cut sam
 
     sym_got : bytes_of part.new.got ≡ followed (bytes_of b.old.got) (text part.new.cluster.core.journal) → bytes_of new.got ≡ followed (bytes_of b.old.got) (text part.new.cluster.core.journal)
     sym_got h = ap bytes_of (sym got) ∙ h
-printed_run tells name b part new behind since was now got (Opened mid opened (Between so_far stops)) = record {
+printed_run tells name did b part new opened since was now got (Opened mid (Between so_far stops)) = record {
   fits = so_far.gone.behind.answered.fits;
   so_far = subst (λ (g : Option (List (ℕ × ℕ))). IsPutSoFar b.old new.moment g part.new.cluster.core.journal) got (subst (λ (n : ℕ). IsPutSoFar b.old n part.new.got part.new.cluster.core.journal) now so_far.gone.printed.so_far);
   whole = λ short. ap bytes_of (sym got) ∙ so_far.gone.printed.put;
 }
-printed_run tells name b part new behind since was now got (Opened mid opened (Within at read lines line asked gone said says_so cut runs)) = record {
+printed_run tells name did b part new opened since was now got (Opened mid (Within at read lines line asked gone shows said says_so cut runs)) = record {
   fits = subst (λ (j : List JournalEntry). length j ≤ b.set.limits.ops) (sym runs.runs.does.journal) (answered_more b read lines at runs.runs.events runs.mid part.new gone runs.runs.rises runs.runs.does.journal runs.put runs.puts).fits;
   so_far = subst (λ (g : Option (List (ℕ × ℕ))). IsPutSoFar b.old new.moment g part.new.cluster.core.journal) got (subst (λ (n : ℕ). IsPutSoFar b.old n part.new.got part.new.cluster.core.journal) now
       (put_so_far b read lines at runs.runs.events runs.mid part.new gone runs.runs.rises runs.runs.does.journal runs.put runs.puts));
@@ -209,17 +275,6 @@ read_stop (Err stop.NoMemory) line is = absurd cc
 read_stop (Err stop.OpsFull) line is = absurd cc
 read_stop (Err stop.InputFull) line is = absurd cc
 
-write_stop : (result : Result ⊤ Stop) (line : ℕ) → status_of result line ≡ status.WriteFault → result ≡ Err stop.WriteFault
-write_stop (Ok x) line is = absurd cc
-write_stop (Err (stop.WrongShape peer found)) line is = absurd cc
-write_stop (Err (stop.ShardLost shard)) line is = absurd cc
-write_stop (Err stop.BadLine) line is = absurd cc
-write_stop (Err stop.ReadFault) line is = absurd cc
-write_stop (Err stop.WriteFault) line is = refl
-write_stop (Err stop.NoMemory) line is = absurd cc
-write_stop (Err stop.OpsFull) line is = absurd cc
-write_stop (Err stop.InputFull) line is = absurd cc
-
 -- a run of a core finds no disk of another store
 within_shape : (result : Result ⊤ Stop) (line peer : ℕ) (found : Header) → IsWithin result → status_of result line ≡ status.WrongShape peer found → ⊥
 within_shape (Ok x) line peer found h is = h
@@ -243,10 +298,12 @@ between_shape (Err stop.NoMemory) line peer found h is = cc
 between_shape (Err stop.OpsFull) line peer found h is = h
 between_shape (Err stop.InputFull) line peer found h is = cc
 
-pub run_shape : (tells : Type 0) (name : List ℕ → Address) (b : Begun) (script : Option (List ℕ)) (part : Stretch) (peer : ℕ) (found : Header) → HasRun tells name b script part → status_of part.result part.new.line ≡ status.WrongShape peer found → ⊥
-run_shape tells name b script part peer found (Unopened put cut same zero) is = within_shape part.result part.new.line peer found (opening_within part.old.cluster (record { before = part.old.now; now = part.new.now; old = part.old.got; new = part.new.got }) part.result cut put) is
-run_shape tells name b script part peer found (Opened mid opened (Between so_far stops)) is = between_shape part.result part.new.line peer found stops is
-run_shape tells name b script part peer found (Opened mid opened (Within at read lines line asked gone said says_so cut runs)) is =
+pub run_shape : (tells : Type 0) (name : List ℕ → Address) (did : Result ⊤ ClusterFault) (b : Begun) (script rest : Option (List ℕ)) (part : Stretch) (peer : ℕ) (found : Header) → (ran_out did ≡ false → did ≡ outcome_by part.old.cluster.core.ended) → HasRun tells name did b script rest part
+    → status_of part.result part.new.line ≡ status.WrongShape peer found → ⊥
+run_shape tells name did b script rest part peer found outcome (Unopened put cut same left zero unread) is =
+    within_shape part.result part.new.line peer found (opening_within did part.old.cluster (record { before = part.old.now; now = part.new.now; old = part.old.got; new = part.new.got }) part.result outcome cut put) is
+run_shape tells name did b script rest part peer found outcome (Opened mid (Between so_far stops)) is = between_shape part.result part.new.line peer found stops is
+run_shape tells name did b script rest part peer found outcome (Opened mid (Within at read lines line asked gone shows said says_so cut runs)) is =
     within_shape part.result part.new.line peer found (within_of tells name asked (record { old = at; new = part.new; result = part.result }) cut runs) is
 
 pub causes_run : (result : Result ⊤ Stop) (line : ℕ) (running : Running) (old new : Objects) → StopCause old.source_faults new.source_faults old.sink_faults new.sink_faults result
@@ -269,50 +326,3 @@ ends_run result line running old new script h = go new.left h.parted h.cause
     go : (left : Option (List ℕ)) → before h.taken left ≡ Some script → IfSome left (HasEnded (status_of result line) (lines_of script) line h.taken) → IfSome left (Ends (ran_at (status_of result line) line running old new) script)
     go None parted cause = tt
     go (Some rest) parted cause = record { taken = h.taken; parted = some_list (h.taken ++ rest) script parted; good = h.good; within = h.within; cause = cause }
-
--- ---- no core was opened
-
-pub closed_ends : (tells : Type 0) (shape : Shape) (disks left : List DiskSeen) (fault : ClusterFault) → IsClosed tells shape disks left fault
-    → ((ending_of (status_of (Err (of_cluster fault)) 0)).closed ≡ true) ⊎ ((ending_of (status_of (Err (of_cluster fault)) 0)).wanting ≡ true)
-closed_ends tells shape disks left (cluster.WrongShape peer found) h = inl refl
-closed_ends tells shape disks left (cluster.ShardLost shard) h = absurd h
-closed_ends tells shape disks left cluster.OpsFull h = absurd h
-closed_ends tells shape disks left cluster.NoMemory h = inr refl
-
-closed_ended : (tells : Type 0) (shape : Shape) (disks left : List DiskSeen) (fault : ClusterFault) (lines : List (List ℕ)) (rest : List ℕ) → IsClosed tells shape disks left fault → HasEnded (status_of (Err (of_cluster fault)) 0) lines 0 [] rest
-closed_ended tells shape disks left (cluster.WrongShape peer found) lines rest h = (refl, refl)
-closed_ended tells shape disks left (cluster.ShardLost shard) lines rest h = absurd h
-closed_ended tells shape disks left cluster.OpsFull lines rest h = absurd h
-closed_ended tells shape disks left cluster.NoMemory lines rest h = omega arith
-
-pub closed_by : (tells : Type 0) (shape : Shape) (disks left : List DiskSeen) (fault : ClusterFault) (old new : Objects) (script : List ℕ) → IsClosed tells shape disks left fault → new.left ≡ old.left → old.left ≡ Some script
-    → IfSome new.left (Ends (ran_at (status_of (Err (of_cluster fault)) 0) 0 None old new) script)
-closed_by tells shape disks left fault old new script closed same told = go new.left (same ∙ told)
-  where
-    go : (o : Option (List ℕ)) → o ≡ Some script → IfSome o (Ends (ran_at (status_of (Err (of_cluster fault)) 0) 0 None old new) script)
-    go None is = tt
-    go (Some rest) is = record {
-      taken = [];
-      parted = some_list rest script is;
-      good = λ n low bad. none_bad (lines_of script) n bad.line low bad.at;
-      within = omega arith;
-      cause = closed_ended tells shape disks left fault (lines_of script) rest closed;
-    }
-
-pub closed_causes : (tells : Type 0) (shape : Shape) (disks left : List DiskSeen) (fault : ClusterFault) (old new : Objects) → IsClosed tells shape disks left fault → HasCauses (ran_at (status_of (Err (of_cluster fault)) 0) 0 None old new)
-closed_causes tells shape disks left (cluster.WrongShape peer found) old new h = record { refused = λ none. refl; read = λ is. absurd (not_read peer found is); write = λ is. absurd (not_write peer found is); shape = λ p f is. refl }
-  where
-    not_read : (p : ℕ) (f : Header) → status.WrongShape p f ≡ status.ReadFault → ⊥
-    not_read p f e = cc
-
-    not_write : (p : ℕ) (f : Header) → status.WrongShape p f ≡ status.WriteFault → ⊥
-    not_write p f e = cc
-closed_causes tells shape disks left (cluster.ShardLost shard) old new h = absurd h
-closed_causes tells shape disks left cluster.OpsFull old new h = absurd h
-closed_causes tells shape disks left cluster.NoMemory old new h = record { refused = λ none. refl; read = λ is. absurd (not_read is); write = λ is. absurd (not_write is); shape = λ p f is. refl }
-  where
-    not_read : status.NoMemory ≡ status.ReadFault → ⊥
-    not_read e = cc
-
-    not_write : status.NoMemory ≡ status.WriteFault → ⊥
-    not_write e = cc

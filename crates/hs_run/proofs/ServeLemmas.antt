@@ -15,7 +15,7 @@ use Rattle.hs_run.specs.Reading.{IsReadThrough}
 use Rattle.hs_run.specs.declared.stop.Stop.{Stop}
 use Rattle.hs_run.specs.declared.stop.Stop.TheVariants as stop
 use Rattle.hs_run.specs.Between.{Point}
-use Rattle.hs_run.specs.Going.{AreRead, Begun, Between, HasGone, HasStopped, IsBetween, IsSoFar, Within}
+use Rattle.hs_run.specs.Going.{AreRead, Begun, Between, HasGone, HasShown, HasStopped, IsBetween, IsSoFar, Within}
 use Rattle.hs_run.specs.Lines.{Halts}
 use Rattle.hs_run.specs.OneLine.{Bad, Blank, Commanded, DoesLine, Stretch, Unread}
 use Rattle.hs_run.proofs.EndingLemmas.{none_bad}
@@ -23,6 +23,7 @@ use Rattle.hs_run.proofs.EndsLemmas.{IsWithin, end_within, says_good}
 use Rattle.hs_run.proofs.PassedLemmas.{blank_gone, command_gone}
 use Rattle.hs_run.proofs.PrintedLemmas.{least}
 use Rattle.hs_run.proofs.ReadLemmas.{read_more, read_none}
+use Rattle.hs_run.proofs.ShownLemmas.{blank_shown, command_shown}
 
 -- a result that is a stop
 abbrev stop_err : Stop → Result ⊤ Stop
@@ -43,20 +44,22 @@ read_count b read lines at gone = gone.line ∙ sym gone.each
 
 -- ---- one line more
 
-pub so_far_more : (tells : Type 0) (name : List ℕ → Address) (b : Begun) (script : Option (List ℕ)) (at new : Point) (line : List ℕ) (result : Result ⊤ Stop) → b.set.name ≡ name → IsSoFar b script at → IsNextOf script at.line line → is_ok result ≡ true
-    → DoesLine tells name (reading line) (record { old = at; new = new; result = result }) → IsSoFar b script new
+pub so_far_more : (tells : Type 0) (name : List ℕ → Address) (b : Begun) (script : Option (List ℕ)) (at new : Point) (line : List ℕ) (result : Result ⊤ Stop) → b.set.name ≡ name → IsSoFar tells b script at → IsNextOf script at.line line → is_ok result ≡ true
+    → DoesLine tells name (reading line) (record { old = at; new = new; result = result }) → IsSoFar tells b script new
 so_far_more tells name b script at new line result named h next fine (Bad wrong same is) = absurd (true≢false (sym fine ∙ ap (λ (r : Result ⊤ Stop). is_ok r) is))
 so_far_more tells name b script at new line result named h next fine (Unread same is) = absurd (true≢false (sym fine ∙ ap (λ (r : Result ⊤ Stop). is_ok r) is))
 so_far_more tells name b script at new line result named h next fine (Blank said same is) = record {
   read = h.read ++ line ∷ [];
   lines = h.lines ++ [] ∷ [];
   gone = subst (λ (p : Point). HasGone b (h.read ++ line ∷ []) (h.lines ++ [] ∷ []) p) (sym same) (blank_gone b h.read h.lines at line h.gone said);
+  shows = subst (λ (p : Point). HasShown tells b (h.lines ++ [] ∷ []) p) (sym same) (blank_shown tells b h.lines at (at.line + 1) h.shows);
   said = said_more script h.read at.line line (read_count b h.read h.lines at h.gone) next h.said;
 }
 so_far_more tells name b script at new line result named h next fine (Commanded asked said runs) = record {
   read = h.read ++ line ∷ [];
   lines = h.lines ++ runs.runs.events ∷ [];
   gone = command_gone tells name b h.read h.lines at new line asked result named h.gone said fine runs;
+  shows = command_shown tells name b h.read h.lines at new asked result h.gone runs h.shows fine;
   said = said_more script h.read at.line line (read_count b h.read h.lines at h.gone) next h.said;
 }
 
@@ -74,22 +77,22 @@ halts_between stop.OpsFull left held budget left' held' budget' h = absurd h
 halts_between stop.InputFull left held budget left' held' budget' h = tt
 
 pub stopped_reading : (tells : Type 0) (name : List ℕ → Address) (b : Begun) (script : Option (List ℕ)) (start at : Point) (halt : Stop) (left : Option (List ℕ)) (held : List ℕ) (budget : ℕ) (left' : Option (List ℕ)) (held' : List ℕ) (budget' : ℕ)
-    → IsSoFar b script at → Halts halt left held budget left' held' budget' → HasStopped tells name b script (record { old = start; new = at; result = Err halt })
+    → IsSoFar tells b script at → Halts halt left held budget left' held' budget' → HasStopped tells name b script (record { old = start; new = at; result = Err halt })
 stopped_reading tells name b script start at halt left held budget left' held' budget' h halts = Between h (halts_between halt left held budget left' held' budget' halts)
 
-pub stopped_line : (tells : Type 0) (name : List ℕ → Address) (b : Begun) (script : Option (List ℕ)) (start at new : Point) (line : List ℕ) (result : Result ⊤ Stop) → b.set.name ≡ name → IsSoFar b script at → IsNextOf script at.line line → is_ok result ≡ false
+pub stopped_line : (tells : Type 0) (name : List ℕ → Address) (b : Begun) (script : Option (List ℕ)) (start at new : Point) (line : List ℕ) (result : Result ⊤ Stop) → b.set.name ≡ name → IsSoFar tells b script at → IsNextOf script at.line line → is_ok result ≡ false
     → DoesLine tells name (reading line) (record { old = at; new = new; result = result }) → HasStopped tells name b script (record { old = start; new = new; result = result })
 stopped_line tells name b script start at new line result named h next cut (Bad wrong same is) =
-    Between (subst (λ (p : Point). IsSoFar b script p) (sym same) h) (subst (λ (r : Result ⊤ Stop). IsBetween r) (sym is) tt)
+    Between (subst (λ (p : Point). IsSoFar tells b script p) (sym same) h) (subst (λ (r : Result ⊤ Stop). IsBetween r) (sym is) tt)
 stopped_line tells name b script start at new line result named h next cut (Unread same is) =
-    Between (subst (λ (p : Point). IsSoFar b script p) (sym same) h) (subst (λ (r : Result ⊤ Stop). IsBetween r) (sym is) tt)
+    Between (subst (λ (p : Point). IsSoFar tells b script p) (sym same) h) (subst (λ (r : Result ⊤ Stop). IsBetween r) (sym is) tt)
 stopped_line tells name b script start at new line result named h next cut (Blank said same is) = absurd (false≢true (sym cut ∙ ap (λ (r : Result ⊤ Stop). is_ok r) is))
 stopped_line tells name b script start at new line result named h next cut (Commanded asked said runs) =
-    Within at h.read h.lines line asked h.gone (said_more script h.read at.line line (read_count b h.read h.lines at h.gone) next h.said) said cut runs
+    Within at h.read h.lines line asked h.gone h.shows (said_more script h.read at.line line (read_count b h.read h.lines at h.gone) next h.said) said cut runs
 
 -- nothing is read yet
-pub so_far_none : (b : Begun) (script : Option (List ℕ)) (at : Point) → HasGone b [] [] at → IsSoFar b script at
-so_far_none b script at gone = record { read = []; lines = []; gone = gone; said = none script }
+pub so_far_none : (tells : Type 0) (b : Begun) (script : Option (List ℕ)) (at : Point) → HasGone b [] [] at → HasShown tells b [] at → IsSoFar tells b script at
+so_far_none tells b script at gone shows = record { read = []; lines = []; gone = gone; shows = shows; said = none script }
   where
     none : (o : Option (List ℕ)) → IfSome o (λ told. AreRead (commands told) [])
     none None = tt

@@ -1,83 +1,81 @@
--- A whole run, with its opening.
-use Rattle.std.proofs.Common.{◌≡◌, ◌∙◌, ap, sym, subst, ℕ, ◌≤◌, true, List, [], Option, Some, None, Result, Err, refl, arith, length}
-use Rattle.std.proofs.lemmas.List.Elements.{All-nil}
-use Rattle.std.specs.Prelude.{IfSome, is_ok, ⊤}
-use Rattle.hs_cluster.specs.Begins.{IsClosed}
-use Rattle.hs_cluster.specs.Calls.{outcome_by}
+-- A run right behind its opening.
+use Rattle.std.proofs.Common.{◌≡◌, ◌∙◌, ap, sym, subst, ℕ, ◌≤◌, Bool, true, false, List, [], ◌++◌, Option, Some, None, Result, Ok, Err, refl, arith, length, not}
+use Rattle.std.proofs.lemmas.List.{append-nil}
+use Rattle.std.specs.Prelude.{is_ok, ⊤}
+use Rattle.hs_cluster.specs.Calls.{outcome_by, ran_out}
 use Rattle.hs_cluster.specs.declared.fault.ClusterFault.{ClusterFault}
-use Rattle.hs_cluster.specs.Disks.{DiskSeen}
+use Rattle.hs_cluster.specs.Disks.{DiskSeen, stands_of}
 use Rattle.hs_cluster.specs.Running.{Running}
-use Rattle.hs_events.specs.Due.{Events}
-use Rattle.hs_fold.specs.Shards.Setting.{Setting}
-use Rattle.hs_model.specs.declared.command.Command.{Command}
-use Rattle.hs_ports.specs.Objects.{KeepsTime, Objects}
-use Rattle.hs_ports.specs.Putting.{got_by}
-use Rattle.hs_ports.specs.Sink.{bytes_of}
-use Rattle.hs_ports.specs.Watch.{next_moment}
-use Rattle.hs_promise.specs.Ending.{ending_of}
-use Rattle.hs_promise.specs.Ends.{Ends}
-use Rattle.hs_promise.specs.Machine.{NeverOpened}
+use Rattle.hs_cluster.specs.RunsOn.{CanRunOn, RunsOn}
+use Rattle.hs_core.specs.State.{Core}
+use Rattle.hs_events.specs.Beginning.{first_items}
+use Rattle.hs_events.specs.Course.{items_of, steps}
+use Rattle.hs_events.specs.Due.{Events, MomentsRise, is_walk, next_turn}
+use Rattle.hs_events.specs.Found.{first_core}
+use Rattle.hs_moments.specs.Moments.{Since}
 use Rattle.hs_promise.specs.Story.{all_events}
-use Rattle.hs_script.specs.Reading.{commands}
 use Rattle.hs_script.specs.Text.{text}
-use Rattle.hs_side.specs.declared.header.Header.{Header}
-use Rattle.hs_promise.specs.declared.status.Status.TheVariants as status
 use Rattle.hs_run.specs.declared.stop.Stop.{Stop}
 use Rattle.hs_run.specs.Between.{IsReadyAt, Point}
-use Rattle.hs_run.specs.Causes.{EndsBy, StopCause}
-use Rattle.hs_run.specs.Ended.{ran_at}
-use Rattle.hs_run.specs.Going.{Begun, HasAnswered, HasGone, IsBehind, IsPrinted, script_by, story_of}
-use Rattle.hs_run.specs.Machine.{IsOfCluster}
+use Rattle.hs_run.specs.Going.{Begun, HasAnswered, HasGone, HasShown, IsBehind, IsOpened, IsPrinted, span_to, story_of}
 use Rattle.hs_run.specs.OneLine.{IsOpeningPut, Printing}
 use Rattle.hs_run.specs.Puts.{Puts}
-use Rattle.hs_run.specs.Served.{PrintsText, Served}
-use Rattle.hs_run.specs.Stopping.{of_cluster, status_of}
 use Rattle.hs_run.proofs.AnsweredLemmas.{answered_on}
-use Rattle.hs_run.proofs.CaseLemmas.{if_any, if_told}
-use Rattle.hs_run.proofs.LateLemmas.{followed_none, front_none}
+use Rattle.hs_run.proofs.FoundLemmas.{ok_there}
+use Rattle.hs_run.proofs.OpeningLemmas.{opening_printed, since_opened}
 use Rattle.hs_run.proofs.PassedLemmas.{EndedWell, end_ok, going_of}
-use Rattle.hs_run.proofs.PrintedLemmas.{followed_nothing}
-use Rattle.hs_run.proofs.RiseLemmas.{rise_le, rise_on}
-use Rattle.hs_run.proofs.RunLemmas.{HasPrinted, causes_run, chosen, chosen_told, closed_by, closed_causes, closed_ends, ends_run, opening_printed, prints_run, put_by, time_run}
+use Rattle.hs_run.proofs.RiseLemmas.{rise_on}
+use Rattle.hs_run.proofs.ShownLemmas.{later_can, later_shown}
 
--- ---- behind opening, where it was told whole and the core goes on
+-- whether opening came to its end
+pub opened_ok : (did : Result ⊤ ClusterFault) (running : Running) (part : Printing) (result : Result ⊤ Stop) → is_ok result ≡ true → IsOpeningPut did running part result → is_ok did ≡ true
+opened_ok did running part result fine put = (end_ok did put.put (ap (λ (r : Result ⊤ Stop). is_ok r) (sym put.ended) ∙ fine)).whole
 
-pub since_of : (b : Begun) (lines : List Events) (at : Point) → IsBehind b lines at → b.old.moment ≤ at.now
-since_of b lines at h =
-    let one : b.old.moment ≤ b.found.opened = h.later in
-    let two : b.found.opened ≤ at.now = rise_le b.found.opened at.now (all_events (story_of b lines)) h.rises in
-    omega (arith, one, two)
+module _ (tells : Type 0) (b : Begun) (did : Result ⊤ ClusterFault) (at mid : Point) (result : Result ⊤ Stop) (same : mid.cluster ≡ at.cluster) where
+  all_same : all_events (story_of b []) ≡ b.opening
+  all_same = append-nil b.opening
 
-pub behind_on : (b : Begun) (at mid : Point) → mid.cluster ≡ at.cluster → at.now ≤ mid.now → IsBehind b [] at → IsBehind b [] mid
-behind_on b at mid same up h = record {
-  later = h.later;
-  opening = h.opening;
-  core = ap (λ (c : Running). c.core) same ∙ h.core;
-  course = ap (λ (c : Running). c.course) same ∙ h.course;
-  rises = rise_on b.found.opened at.now mid.now (all_events (story_of b [])) up h.rises;
-  answered = answered_on b.set.limits.ops mid.cluster.core at.now mid.now up (subst (λ (c : Running). HasAnswered b.set.limits.ops c.core at.now) (sym same) h.answered);
-}
+  pub opened_behind : IsOpened tells b did at → is_ok did ≡ true → at.now ≤ mid.now → IsBehind b [] mid
+  opened_behind h fine up = record {
+    later = h.later;
+    opening = ap (λ (w : Bool). is_walk next_turn (not w) 0 (first_core b.set b.found) b.opening) (sym (ok_there did fine)) ∙ h.due;
+    core = ap (λ (c : Running). c.core) same ∙ h.core (ok_there did fine) ∙ ap (λ (es : Events). steps (first_core b.set b.found) es) (sym all_same);
+    course = ap (λ (c : Running). c.course) same ∙ h.course ∙ ap (λ (es : Events). first_items b.set.shape b.found b.old.moment ++ items_of (first_core b.set b.found) es) (sym all_same);
+    rises = subst (λ (es : Events). MomentsRise b.found.opened es mid.now) (sym all_same) (rise_on b.found.opened at.now mid.now b.opening up h.rises);
+    answered = answered_on b.set.limits.ops mid.cluster.core at.now mid.now up
+        (subst (λ (c : Core). HasAnswered b.set.limits.ops c at.now) (sym (ap (λ (c : Running). c.core) same ∙ h.core (ok_there did fine))) h.answered);
+  }
 
-pub opened_gone : (b : Begun) (at mid : Point) (result : Result ⊤ Stop) → mid.cluster ≡ at.cluster → mid.line ≡ 0 → IsBehind b [] at → at.got ≡ b.old.got → is_ok result ≡ true
-    → IsOpeningPut at.cluster (record { before = at.now; now = mid.now; old = at.got; new = mid.got }) result → HasGone b [] [] mid
-opened_gone b at mid result same zero h was fine put =
-    let well : EndedWell (outcome_by at.cluster.core.ended) put.put = end_ok (outcome_by at.cluster.core.ended) put.put (ap (λ (r : Result ⊤ Stop). is_ok r) (sym put.ended) ∙ fine) in
-    let up : at.now ≤ mid.now = put.puts.late.later in
-    record {
-      behind = behind_on b at mid same up h;
-      going = ap (λ (c : Running). c.core.ended) same ∙ going_of (outcome_by at.cluster.core.ended) at.cluster.core.ended well.whole refl;
-      line = zero;
-      each = refl;
-      gone = λ commands said. tt;
-      printed = subst (λ (c : Running). IsPrinted b.old mid.now mid.got c.core.journal) (sym same)
-          (opening_printed b at mid.now mid.got put.put h (since_of b [] at h) (subst (λ (g : Option (List (ℕ × ℕ))). Puts at.now mid.now (text at.cluster.core.journal) g mid.got put.put) was put.puts) well.printed);
-    }
+  pub opened_gone : mid.line ≡ 0 → IsOpened tells b did at → at.got ≡ b.old.got → is_ok result ≡ true
+      → IsOpeningPut did at.cluster (record { before = at.now; now = mid.now; old = at.got; new = mid.got }) result → HasGone b [] [] mid
+  opened_gone zero h was fine put =
+      let well : EndedWell did put.put = end_ok did put.put (ap (λ (r : Result ⊤ Stop). is_ok r) (sym put.ended) ∙ fine) in
+      record {
+        behind = opened_behind h well.whole put.puts.late.later;
+        going = ap (λ (c : Running). c.core.ended) same ∙ going_of did at.cluster.core.ended well.whole (h.outcome well.there);
+        line = zero;
+        each = refl;
+        gone = λ commands said. tt;
+        printed = subst (λ (c : Running). IsPrinted b.old mid.now mid.got c.core.journal) (sym same)
+            (opening_printed tells b did at mid.now mid.got put.put h (since_opened tells b did at h)
+            (subst (λ (g : Option (List (ℕ × ℕ))). Puts at.now mid.now (text at.cluster.core.journal) g mid.got put.put) was put.puts) well.printed);
+      }
 
--- whether the core goes on
-pub opened_going : (running : Running) (part : Printing) (result : Result ⊤ Stop) → is_ok result ≡ true → IsOpeningPut running part result → running.core.ended ≡ None
-opened_going running part result fine put =
-    let well : EndedWell (outcome_by running.core.ended) put.put = end_ok (outcome_by running.core.ended) put.put (ap (λ (r : Result ⊤ Stop). is_ok r) (sym put.ended) ∙ fine) in
-    going_of (outcome_by running.core.ended) running.core.ended well.whole refl
+  pub opened_shown : mid.disks ≡ at.disks → IsOpened tells b did at → is_ok result ≡ true
+      → IsOpeningPut did at.cluster (record { before = at.now; now = mid.now; old = at.got; new = mid.got }) result → HasShown tells b [] mid
+  opened_shown left h fine put =
+      let well : EndedWell did put.put = end_ok did put.put (ap (λ (r : Result ⊤ Stop). is_ok r) (sym put.ended) ∙ fine) in
+      record {
+        shown = subst (λ (es : Events). RunsOn tells b.set (span_to b mid) b.found es) (sym all_same)
+            (subst (λ (c : Running). RunsOn tells b.set (span_to b (record mid { cluster = c })) b.found b.opening) (sym same)
+            (subst (λ (d : List DiskSeen). RunsOn tells b.set (span_to b (record mid { cluster = at.cluster; disks = d })) b.found b.opening) (sym left)
+            (later_shown tells b at b.opening mid.now put.puts.late.later h.rises h.since h.shown)));
+        may = subst (λ (es : Events). CanRunOn tells b.set (span_to b mid) b.found es) (sym all_same)
+            (subst (λ (c : Running). CanRunOn tells b.set (span_to b (record mid { cluster = c })) b.found b.opening) (sym same)
+            (subst (λ (d : List DiskSeen). CanRunOn tells b.set (span_to b (record mid { cluster = at.cluster; disks = d })) b.found b.opening) (sym left)
+            (later_can tells b at b.opening mid.now put.puts.late.later (h.may well.whole))));
+        since = λ told. subst (λ (d : List DiskSeen). Since (stands_of d)) (sym left) (h.since told);
+      }
 
 -- as ready as before, with what was put since
 pub ready_on : (tells : Type 0) (at mid : Point) → mid.cluster ≡ at.cluster → mid.disks ≡ at.disks → mid.line ≡ at.line → at.now ≤ mid.now → IsReadyAt tells at → IsReadyAt tells mid
@@ -91,56 +89,3 @@ ready_on tells at mid cluster disks line up h = subst (λ (c : Running). IsReady
       ready = h.ready;
     })))
 
--- ---- served
-
-pub served_run : (b : Begun) (asked : ℕ → Option Command) (result : Result ⊤ Stop) (line : ℕ) (running : Running) (new : Objects) → IfSome b.old.left (λ told. (n : ℕ) → asked n ≡ commands told n) → length new.disks ≡ length b.old.disks
-    → HasPrinted b.set.limits.ops b.old new running.core.journal (ending_of (status_of result line)) → b.old.moment ≤ new.moment → StopCause b.old.source_faults new.source_faults b.old.sink_faults new.sink_faults result
-    → ((peer : ℕ) (found : Header) → status_of result line ≡ status.WrongShape peer found → ⊥) → IfSome b.old.left (λ told. EndsBy told new.left result line) → Served (script_by b asked) (ran_at (status_of result line) line (Some running) b.old new)
-served_run b asked result line running new script handed printed later cause shape ends = record {
-  script = script;
-  handed_back = handed;
-  prints = prints_run b asked (status_of result line) line running new printed;
-  time = time_run b.old new running.core.journal later printed.so_far;
-  sink = cause.sink_later;
-  source = cause.source_later;
-  causes = causes_run result line running b.old new cause shape;
-  ends = if_told (λ told. EndsBy told new.left result line) (λ told. IfSome new.left (Ends (ran_at (status_of result line) line (Some running) b.old new) told)) b.old.left ends (λ told h. ends_run result line (Some running) b.old new told h);
-}
-
--- ---- no core was opened
-
-module _ (tells : Type 0) (set : Setting) (disks left : List DiskSeen) (fault : ClusterFault) (old new : Objects) (closed : IsClosed tells set.shape disks left fault) (unread : new.left ≡ old.left) (unput : new.got ≡ old.got) where
-  pub never_opened : NeverOpened (ran_at (status_of (Err (of_cluster fault)) 0) 0 None old new)
-  never_opened = record { cause = closed_ends tells set.shape disks left fault closed; journal = refl; refused = refl; course = refl; line = refl; unread = unread; unput = unput }
-
-  pub closed_goes : (asked : ℕ → Option Command) × IsOfCluster (record { set = set; commands = asked }) (ran_at (status_of (Err (of_cluster fault)) 0) 0 None old new)
-  closed_goes = (chosen old.left [], record { script = chosen_told old.left []; how = None; went = never_opened })
-
-  closed_prints : (asked : ℕ → Option Command) → PrintsText (record { set = set; commands = asked }) (ran_at (status_of (Err (of_cluster fault)) 0) 0 None old new)
-  closed_prints asked = record {
-    fits = omega arith;
-    printed = put_by (ending_of (status_of (Err (of_cluster fault)) 0)).short (bytes_of old.got) [] (bytes_of new.got) (front_none (bytes_of old.got) (bytes_of new.got) [] (ap bytes_of unput)) (λ whole. ap bytes_of unput ∙ sym (followed_none (bytes_of old.got)));
-    in_time = λ m behind during. front_none (bytes_of old.got) (bytes_of (got_by m new.got)) [] (ap (λ (g : Option (List (ℕ × ℕ))). bytes_of (got_by m g)) unput ∙ ap bytes_of (behind m (let above = during.above in omega (arith, above))));
-  }
-
-  closed_time : old.moment ≤ new.moment → KeepsTime old new
-  closed_time later = record {
-    later = later;
-    puts = record { more = []; put = unput ∙ sym (followed_nothing old.got); stamped = All-nil (λ (byte : ℕ × ℕ). (next_moment old.moment ≤ byte.1) × (byte.1 ≤ new.moment)) };
-  }
-
-  pub closed_served : length new.disks ≡ length old.disks → old.moment ≤ new.moment → old.sink_faults ≤ new.sink_faults → old.source_faults ≤ new.source_faults
-      → (asked : ℕ → Option Command) × Served (record { set = set; commands = asked }) (ran_at (status_of (Err (of_cluster fault)) 0) 0 None old new)
-  closed_served handed later sink source = (
-    chosen old.left [],
-    record {
-      script = chosen_told old.left [];
-      handed_back = handed;
-      prints = closed_prints (chosen old.left []);
-      time = closed_time later;
-      sink = sink;
-      source = source;
-      causes = closed_causes tells set.shape disks left fault old new closed;
-      ends = if_any (λ told. IfSome new.left (Ends (ran_at (status_of (Err (of_cluster fault)) 0) 0 None old new) told)) old.left (λ told is. closed_by tells set.shape disks left fault old new told closed unread is);
-    },
-  )

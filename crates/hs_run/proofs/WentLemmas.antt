@@ -1,6 +1,7 @@
--- A run that stopped went as hs_promise says, but for what its reports cost.
-use Rattle.std.proofs.Common.{◌≡◌, ◌∙◌, ap, sym, subst, ℕ, ◌+◌, ◌≤◌, Bool, true, false, List, [], ◌∷◌, ◌++◌, Option, Some, None, Result, Ok, Err, refl, arith, length, length-append}
+-- A run that stopped went as hs_promise says.
+use Rattle.std.proofs.Common.{◌≡◌, ◌∙◌, ap, sym, subst, ℕ, ◌+◌, ◌≤◌, Bool, true, false, List, [], ◌∷◌, ◌++◌, Option, Some, None, Result, Ok, Err, refl, arith, length, length-append, not}
 use Rattle.std.proofs.lemmas.Bool.{false≢true, true≢false}
+use Rattle.std.proofs.lemmas.List.{append-nil}
 use Rattle.std.specs.Prelude.{IfErr, IfSome, if◌then◌else◌, is_ok, ⊤}
 use Rattle.hs_cluster.specs.Calls.{outcome_by, ran_out}
 use Rattle.hs_cluster.specs.declared.fault.ClusterFault.{ClusterFault}
@@ -8,51 +9,39 @@ use Rattle.hs_cluster.specs.declared.fault.ClusterFault.TheVariants as cluster
 use Rattle.hs_core.specs.State.{Core}
 use Rattle.hs_desk.specs.declared.fault.CoreFault.{CoreFault}
 use Rattle.hs_desk.specs.declared.fault.CoreFault.TheVariants as core
-use Rattle.hs_events.specs.Course.{steps}
+use Rattle.hs_events.specs.Beginning.{first_items}
+use Rattle.hs_events.specs.Course.{items_of, steps}
 use Rattle.hs_events.specs.Due.{Events, MomentsRise, next_turn}
 use Rattle.hs_events.specs.Found.{first_core}
 use Rattle.hs_events.specs.Reports.{failures}
 use Rattle.hs_journal.specs.declared.entry.JournalEntry.{JournalEntry}
 use Rattle.hs_limits.specs.declared.address.Address.{Address}
 use Rattle.hs_model.specs.declared.command.Command.{Command}
-use Rattle.hs_ports.specs.Objects.{Objects}
+use Rattle.hs_ports.specs.Objects.{Objects, RoseBy, faults_at}
 use Rattle.hs_promise.specs.declared.status.Status.{Status}
 use Rattle.hs_promise.specs.Ending.{Ending, ending_of}
 use Rattle.hs_promise.specs.Found.{HasFound}
 use Rattle.hs_promise.specs.Lines.{IsBegunLine}
 use Rattle.hs_promise.specs.Machine.{EndsAs, Went, opening_is_whole}
-use Rattle.hs_promise.specs.Run.{DiskRose, Ran, Script}
 use Rattle.hs_promise.specs.Story.{Story, all_events}
 use Rattle.hs_script.specs.Reading.{commands, reading, says}
 use Rattle.hs_run.specs.declared.stop.Stop.{Stop}
 use Rattle.hs_run.specs.declared.stop.Stop.TheVariants as stop
 use Rattle.hs_run.specs.Between.{Point}
 use Rattle.hs_run.specs.Ended.{ran_at}
-use Rattle.hs_run.specs.Going.{AreRead, Begun, HasGone, IsBehind, core_behind, script_by, story_of}
-use Rattle.hs_run.specs.Machine.{Goes}
+use Rattle.hs_run.specs.Going.{AreRead, Begun, HasGone, IsOpened, core_behind, script_by, story_of}
 use Rattle.hs_run.specs.OneLine.{IsOpeningPut, Printing, RunsCommand}
 use Rattle.hs_run.specs.Stopping.{IsPutStop, end_of, status_of}
-use Rattle.hs_run.proofs.CutLemmas.{command_short, walk_cut}
-use Rattle.hs_run.proofs.EndsLemmas.{IsWithin, no_shape}
+use Rattle.hs_run.proofs.CutLemmas.{command_short, walk_cut, walk_short}
+use Rattle.hs_run.proofs.EndsLemmas.{IsWithin, end_within, no_shape}
 use Rattle.hs_run.proofs.GoneLemmas.{begun_same, lines_as, lines_with}
 use Rattle.hs_run.proofs.PassedLemmas.{asked_there, core_more, course_more, gone_before, line_begun, line_core, line_is, rises_more}
 use Rattle.hs_run.proofs.ReadLemmas.{read_last, read_less}
 use Rattle.hs_run.proofs.RiseLemmas.{rise_on}
 
--- with what its reports cost
-pub went_of : (S : Script) (r : Ran) (story : Story) → Goes S r story → ((disk : ℕ) → DiskRose r (failures false disk (first_core S.set story.found) (all_events story)) disk) → Went S r story
-went_of S r story goes paid = record {
-  found = goes.found;
-  opening = goes.opening;
-  lines = goes.lines;
-  line = goes.line;
-  rises = goes.rises;
-  journal = goes.journal;
-  refused = goes.refused;
-  course = goes.course;
-  ends = goes.ends;
-  failed = paid;
-}
+-- the count of each disk rose by the failures of it that these events report
+abbrev pub ArePaid : Begun → List Events → Objects → Type 0
+ArePaid b lines new = (disk : ℕ) → RoseBy (failures false disk (first_core b.set b.found) (all_events (story_of b lines))) (faults_at b.old.disk_faults disk) (faults_at new.disk_faults disk)
 
 -- ---- how it ended
 
@@ -128,10 +117,10 @@ past_within (Err stop.InputFull) line h = absurd h
 
 -- ---- between two lines
 
-pub goes_between : (b : Begun) (read : List (List ℕ)) (lines : List Events) (at : Point) (ending : Status) (new : Objects) (commands : ℕ → Option Command) → at.now ≡ new.moment → at.got ≡ new.got → HasGone b read lines at → AreRead commands read
-    → HasFound (script_by b commands) (ran_at ending at.line (Some at.cluster) b.old new) (story_of b lines) → IsPlain (ending_of ending)
-    → Goes (script_by b commands) (ran_at ending at.line (Some at.cluster) b.old new) (story_of b lines)
-goes_between b read lines at ending new commands now got gone said found plain = record {
+pub went_between : (b : Begun) (read : List (List ℕ)) (lines : List Events) (at : Point) (ending : Status) (new : Objects) (commands : ℕ → Option Command) → at.now ≡ new.moment → at.got ≡ new.got → HasGone b read lines at → AreRead commands read
+    → HasFound (script_by b commands) (ran_at ending at.line (Some at.cluster) b.old new) (story_of b lines) → IsPlain (ending_of ending) → ArePaid b lines new
+    → Went (script_by b commands) (ran_at ending at.line (Some at.cluster) b.old new) (story_of b lines)
+went_between b read lines at ending new commands now got gone said found plain paid = record {
   found = found;
   opening = walk_cut next_turn 0 (first_core b.set b.found) b.opening (opening_is_whole (ran_at ending at.line (Some at.cluster) b.old new) lines) gone.behind.opening;
   lines = lines_as (script_by b commands) b.old at.got (ran_at ending at.line (Some at.cluster) b.old new) refl (sym got) at.now 1 (steps (first_core b.set b.found) b.opening) lines (gone.gone commands said);
@@ -141,6 +130,7 @@ goes_between b read lines at ending new commands now got gone said found plain =
   refused = ap (λ (c : Core). if (ending_of ending).full then c.refused else []) gone.behind.core;
   course = gone.behind.course;
   ends = plain_ends (ending_of ending) (core_behind b lines).ended plain (λ past. ap (λ (c : Core). c.ended) (sym gone.behind.core) ∙ gone.going);
+  failed = paid;
 }
 
 -- ---- within a line
@@ -157,10 +147,10 @@ module _ (tells : Type 0) (name : List ℕ → Address) (b : Begun) (read : List
   cut_there : is_ok (end_of runs.did runs.put) ≡ false
   cut_there = ap (λ (r : Result ⊤ Stop). is_ok r) (sym runs.ended) ∙ cut
 
-  pub goes_within : (objects : Objects) (commands : ℕ → Option Command) → new.now ≡ objects.moment → new.got ≡ objects.got → AreRead commands (read ++ line ∷ [])
-      → HasFound (script_by b commands) (ran_at (status_of result new.line) new.line (Some new.cluster) b.old objects) (story_of b (lines ++ runs.runs.events ∷ []))
-      → Goes (script_by b commands) (ran_at (status_of result new.line) new.line (Some new.cluster) b.old objects) (story_of b (lines ++ runs.runs.events ∷ []))
-  goes_within objects commands now got said found = record {
+  pub went_within : (objects : Objects) (commands : ℕ → Option Command) → new.now ≡ objects.moment → new.got ≡ objects.got → AreRead commands (read ++ line ∷ [])
+      → HasFound (script_by b commands) (ran_at (status_of result new.line) new.line (Some new.cluster) b.old objects) (story_of b (lines ++ runs.runs.events ∷ [])) → ArePaid b (lines ++ runs.runs.events ∷ []) objects
+      → Went (script_by b commands) (ran_at (status_of result new.line) new.line (Some new.cluster) b.old objects) (story_of b (lines ++ runs.runs.events ∷ []))
+  went_within objects commands now got said found paid = record {
     found = found;
     opening = walk_cut next_turn 0 (first_core b.set b.found) b.opening (opening_is_whole (ran_at (status_of result new.line) new.line (Some new.cluster) b.old objects) (lines ++ runs.runs.events ∷ [])) gone.behind.opening;
     lines = lines_with (script_by b commands) b.old new.got (ran_at (status_of result new.line) new.line (Some new.cluster) b.old objects) refl (sym got) new.now 1 (steps (first_core b.set b.found) b.opening) lines runs.runs.events (length lines + 1) at.cluster.core
@@ -178,22 +168,37 @@ module _ (tells : Type 0) (name : List ℕ → Address) (b : Begun) (read : List
     course = course_more b read lines at runs.runs.events runs.mid new gone runs.runs.rises runs.runs.does.journal runs.put runs.puts runs.runs.does.course;
     ends = subst (λ (r : Result ⊤ Stop). EndsAs (ending_of (status_of r new.line)) (core_behind b (lines ++ runs.runs.events ∷ [])).ended) (sym runs.ended)
         (ends_within runs.did runs.put (core_behind b (lines ++ runs.runs.events ∷ [])).ended new.line (λ there. runs.runs.does.outcome there ∙ ap (λ (c : Core). outcome_by c.ended) (core_there there)) runs.only cut_there);
+    failed = paid;
   }
 
 -- ---- within opening
 
-pub goes_unopened : (b : Begun) (at : Point) (result : Result ⊤ Stop) (line : ℕ) (new : Objects) (part : Printing) (commands : ℕ → Option Command) → IsBehind b [] at → at.now ≤ new.moment → line ≡ 0 → is_ok result ≡ false → IsOpeningPut at.cluster part result
-    → HasFound (script_by b commands) (ran_at (status_of result line) line (Some at.cluster) b.old new) (story_of b [])
-    → Goes (script_by b commands) (ran_at (status_of result line) line (Some at.cluster) b.old new) (story_of b [])
-goes_unopened b at result line new part commands behind later zero cut put found = record {
+pub went_unopened : (tells : Type 0) (b : Begun) (did : Result ⊤ ClusterFault) (at : Point) (result : Result ⊤ Stop) (line : ℕ) (new : Objects) (part : Printing) (commands : ℕ → Option Command) → IsOpened tells b did at → at.now ≤ new.moment → line ≡ 0
+    → is_ok result ≡ false → IsOpeningPut did at.cluster part result → HasFound (script_by b commands) (ran_at (status_of result line) line (Some at.cluster) b.old new) (story_of b []) → ArePaid b [] new
+    → Went (script_by b commands) (ran_at (status_of result line) line (Some at.cluster) b.old new) (story_of b [])
+went_unopened tells b did at result line new part commands opened later zero cut put found paid = record {
   found = found;
-  opening = walk_cut next_turn 0 (first_core b.set b.found) b.opening (opening_is_whole (ran_at (status_of result line) line (Some at.cluster) b.old new) []) behind.opening;
+  opening = walk_short next_turn 0 (first_core b.set b.found) b.opening (not (ran_out did)) (opening_is_whole (ran_at (status_of result line) line (Some at.cluster) b.old new) []) none_past opened.due;
   lines = tt;
   line = zero;
-  rises = rise_on b.found.opened at.now new.moment (all_events (story_of b [])) later behind.rises;
-  journal = ap (λ (c : Core). c.journal) behind.core;
-  refused = ap (λ (c : Core). if (ending_of (status_of result line)).full then c.refused else []) behind.core;
-  course = behind.course;
+  rises = subst (λ (es : Events). MomentsRise b.found.opened es new.moment) (sym all_same) (rise_on b.found.opened at.now new.moment b.opening later opened.rises);
+  journal = opened.journal ∙ ap (λ (c : Core). c.journal) core_same;
+  refused = ap (λ (x : List JournalEntry). if (ending_of (status_of result line)).full then x else []) (opened.refused ∙ ap (λ (c : Core). c.refused) core_same);
+  course = opened.course ∙ ap (λ (es : Events). first_items b.set.shape b.found b.old.moment ++ items_of (first_core b.set b.found) es) (sym all_same);
   ends = subst (λ (r : Result ⊤ Stop). EndsAs (ending_of (status_of r line)) (core_behind b []).ended) (sym put.ended)
-      (ends_within (outcome_by at.cluster.core.ended) put.put (core_behind b []).ended line (λ there. ap (λ (c : Core). outcome_by c.ended) behind.core) put.only (ap (λ (r : Result ⊤ Stop). is_ok r) (sym put.ended) ∙ cut));
+      (ends_within did put.put (core_behind b []).ended line (λ there. opened.outcome there ∙ ap (λ (c : Core). outcome_by c.ended) (opened.core there ∙ core_same)) put.only (ap (λ (r : Result ⊤ Stop). is_ok r) (sym put.ended) ∙ cut));
+  failed = paid;
 }
+  where
+    all_same : all_events (story_of b []) ≡ b.opening
+    all_same = append-nil b.opening
+
+    core_same : steps (first_core b.set b.found) b.opening ≡ core_behind b []
+    core_same = ap (λ (es : Events). steps (first_core b.set b.found) es) (sym all_same)
+
+    within : IsWithin result
+    within = subst (λ (r : Result ⊤ Stop). IsWithin r) (sym put.ended)
+        (end_within did put.put (core_behind b []).ended (λ there. opened.outcome there ∙ ap (λ (c : Core). outcome_by c.ended) (opened.core there ∙ core_same)) put.only (ap (λ (r : Result ⊤ Stop). is_ok r) (sym put.ended) ∙ cut))
+
+    none_past : (ending_of (status_of result line)).past ≡ false
+    none_past = past_within result line within

@@ -1,5 +1,11 @@
 -- How far a run has gone between two lines.
-use Rattle.std.specs.Prelude.{All, Err, IfSome, List, None, Ok, Option, Result, Some, [], false, is_ok, length, true, ℕ, ⊤, ◌++◌, ◌+◌, ◌-◌, ◌<◌, ◌^◌, ◌∷◌, ◌≡◌, ◌≤◌}
+use Rattle.std.specs.Prelude.{All, Err, IfSome, List, None, Ok, Option, Result, Some, [], false, is_ok, length, not, true, ℕ, ⊤, ◌++◌, ◌+◌, ◌-◌, ◌<◌, ◌^◌, ◌∷◌, ◌≡◌, ◌≤◌}
+use Rattle.hs_cluster.specs.Calls.{outcome_by, ran_out}
+use Rattle.hs_cluster.specs.declared.fault.ClusterFault.{ClusterFault}
+use Rattle.hs_cluster.specs.Disks.{DiskSeen, stands_of}
+use Rattle.hs_cluster.specs.Kept.{Span}
+use Rattle.hs_cluster.specs.Running.{Running}
+use Rattle.hs_cluster.specs.RunsOn.{CanRunOn, RunsOn}
 use Rattle.hs_core.specs.State.{Core}
 use Rattle.hs_events.specs.Beginning.{first_items}
 use Rattle.hs_events.specs.Commands.{LineAt}
@@ -11,6 +17,7 @@ use Rattle.hs_journal.specs.declared.entry.JournalEntry.{JournalEntry}
 use Rattle.hs_journal.specs.Moments.{below}
 use Rattle.hs_limits.specs.declared.address.Address.{Address}
 use Rattle.hs_model.specs.declared.command.Command.{Command}
+use Rattle.hs_moments.specs.Moments.{Since}
 use Rattle.hs_ports.specs.Objects.{IsSinkBehind, Objects}
 use Rattle.hs_ports.specs.Putting.{PutsFront, got_by}
 use Rattle.hs_ports.specs.Sink.{bytes_of, followed}
@@ -29,11 +36,13 @@ use Rattle.hs_run.specs.Puts.{IsStamped}
 
 -- ---- what a run began with
 
--- what its store is set up with, its objects at entry, what opening found, and the events of opening
+-- what its store is set up with, its objects and disks at entry, what opening found, the cluster right before the first turn, and the events of opening
 pub record Begun : Type 0 where
   pub set : Setting
   pub old : Objects
+  pub disks : List DiskSeen
   pub found : Found
+  pub first : Running
   pub opening : Events
 
 abbrev pub story_of : Begun → List Events → Story
@@ -45,6 +54,10 @@ script_by b commands = record { set = b.set; commands = commands }
 -- the core behind opening and these lines
 abbrev pub core_behind : Begun → List Events → Core
 core_behind b lines = steps (first_core b.set b.found) (all_events (story_of b lines))
+
+-- from entry up to a point
+abbrev pub span_to : Begun → Point → Span
+span_to b at = record { before = b.old.moment; now = at.now; old = b.first; new = at.cluster; disks = b.disks; left = at.disks }
 
 -- these commands are what some lines say, the first of which is line 1
 abbrev pub AreRead : (ℕ → Option Command) → List (List ℕ) → Type 0
@@ -118,11 +131,18 @@ pub record HasGone (b : Begun) (read : List (List ℕ)) (lines : List Events) (a
       → AreGone (record { script = script_by b commands; old = b.old; now = at.now; got = at.got }) 1 (steps (first_core b.set b.found) b.opening) lines
   pub printed : IsPrinted b.old at.now at.got at.cluster.core.journal
 
+-- what is shown of the disks by opening and these lines, and that the cluster may go on; at moments behind its last call a disk has what it may leave now
+pub record HasShown (tells : Type 0) (b : Begun) (lines : List Events) (at : Point) : Type 0 where
+  pub shown : RunsOn tells b.set (span_to b at) b.found (all_events (story_of b lines))
+  pub may : CanRunOn tells b.set (span_to b at) b.found (all_events (story_of b lines))
+  pub since : tells → Since (stands_of at.disks)
+
 -- some lines were; where the script is told, they are its first ones
-pub record IsSoFar (b : Begun) (script : Option (List ℕ)) (at : Point) : Type 0 where
+pub record IsSoFar (tells : Type 0) (b : Begun) (script : Option (List ℕ)) (at : Point) : Type 0 where
   pub read : List (List ℕ)
   pub lines : List Events
   pub gone : HasGone b read lines at
+  pub shows : HasShown tells b lines at
   pub said : IfSome script (λ told. AreRead (commands told) read)
 
 -- ---- where it stopped
@@ -141,21 +161,36 @@ IsBetween (Err stop.InputFull) = ⊤
 
 -- between two lines, or within one that was begun
 pub data HasStopped (tells : Type 0) (name : List ℕ → Address) (b : Begun) (script : Option (List ℕ)) (part : Stretch) : Type 0 where
-  Between : IsSoFar b script part.new → IsBetween part.result → HasStopped tells name b script part
-  Within : (at : Point) (read : List (List ℕ)) (lines : List Events) (line : List ℕ) (asked : Command) → HasGone b read lines at
+  Between : IsSoFar tells b script part.new → IsBetween part.result → HasStopped tells name b script part
+  Within : (at : Point) (read : List (List ℕ)) (lines : List Events) (line : List ℕ) (asked : Command) → HasGone b read lines at → HasShown tells b lines at
       → IfSome script (λ told. AreRead (commands told) (read ++ line ∷ [])) → reading line ≡ says asked → is_ok part.result ≡ false
       → RunsCommand tells name asked (record { old = at; new = part.new; result = part.result }) → HasStopped tells name b script part
 
 -- ---- from its opening on
 
--- opening was not told whole, or the core had ended: nothing was read; or the script was run behind it
-pub data HasRun (tells : Type 0) (name : List ℕ → Address) (b : Begun) (script : Option (List ℕ)) (part : Stretch) : Type 0 where
-  Unopened : IsOpeningPut part.old.cluster (record { before = part.old.now; now = part.new.now; old = part.old.got; new = part.new.got }) part.result
-      → is_ok part.result ≡ false → part.new.cluster ≡ part.old.cluster → part.new.line ≡ 0 → HasRun tells name b script part
-  Opened : (mid : Point) → HasGone b [] [] mid → HasStopped tells name b script (record { old = mid; new = part.new; result = part.result }) → HasRun tells name b script part
+-- how a run begins: what opening found, what it did, and what that came to; where memory ran out on its turns the core is not the one behind them
+pub record IsOpened (tells : Type 0) (b : Begun) (did : Result ⊤ ClusterFault) (at : Point) : Type 0 where
+  pub later : b.old.moment ≤ b.found.opened
+  pub due : is_walk next_turn (not (ran_out did)) 0 (first_core b.set b.found) b.opening ≡ true
+  pub rises : MomentsRise b.found.opened b.opening at.now
+  pub core : ran_out did ≡ false → at.cluster.core ≡ steps (first_core b.set b.found) b.opening
+  pub outcome : ran_out did ≡ false → did ≡ outcome_by at.cluster.core.ended
+  pub journal : at.cluster.core.journal ≡ (steps (first_core b.set b.found) b.opening).journal
+  pub refused : at.cluster.core.refused ≡ (steps (first_core b.set b.found) b.opening).refused
+  pub course : at.cluster.course ≡ first_items b.set.shape b.found b.old.moment ++ items_of (first_core b.set b.found) b.opening
+  pub answered : HasAnswered b.set.limits.ops (steps (first_core b.set b.found) b.opening) at.now
+  pub shown : RunsOn tells b.set (span_to b at) b.found b.opening
+  pub may : is_ok did ≡ true → CanRunOn tells b.set (span_to b at) b.found b.opening
+  pub since : tells → Since (stands_of at.disks)
 
--- what a run begins with: its cluster is the one behind opening, and what is put comes behind what the sink had got
-pub record StartsAt (b : Begun) (name : List ℕ → Address) (at : Point) : Type 0 where
+-- opening was not told whole, or did not come to its end: nothing was read, and this is left; or the script was run behind it
+pub data HasRun (tells : Type 0) (name : List ℕ → Address) (did : Result ⊤ ClusterFault) (b : Begun) (script left : Option (List ℕ)) (part : Stretch) : Type 0 where
+  Unopened : IsOpeningPut did part.old.cluster (record { before = part.old.now; now = part.new.now; old = part.old.got; new = part.new.got }) part.result
+      → is_ok part.result ≡ false → part.new.cluster ≡ part.old.cluster → part.new.disks ≡ part.old.disks → part.new.line ≡ 0 → left ≡ script → HasRun tells name did b script left part
+  Opened : (mid : Point) → HasStopped tells name b script (record { old = mid; new = part.new; result = part.result }) → HasRun tells name did b script left part
+
+-- what is put comes behind what the sink had got at entry
+pub record StartsAt (tells : Type 0) (b : Begun) (name : List ℕ → Address) (did : Result ⊤ ClusterFault) (at : Point) : Type 0 where
   pub named : b.set.name ≡ name
-  pub behind : IsBehind b [] at
+  pub opened : IsOpened tells b did at
   pub got : at.got ≡ b.old.got

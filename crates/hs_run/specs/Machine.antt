@@ -1,36 +1,79 @@
--- What is shown of a run on a cluster of the machine's word on it.
-use Rattle.std.specs.Prelude.{None, Option, Some, [], length, if◌then◌else◌, true, ◌≡◌}
-use Rattle.hs_events.specs.Course.{steps}
-use Rattle.hs_events.specs.Due.{MomentsRise, is_walk, next_turn}
+-- What is shown of a run on a cluster: that it is the machine's, and what its disks show.
+use Rattle.std.specs.Prelude.{All, IfSome, IsSome, List, None, Option, [], length, map, true, ℕ, ◌++◌, ◌+◌, ◌<◌, ◌∷◌, ◌≡◌}
+use Rattle.hs_cluster.specs.Disks.{DiskSeen, stands_of}
+use Rattle.hs_cluster.specs.Kept.{AreStored, Span}
+use Rattle.hs_cluster.specs.RunsOn.{RunsOn}
+use Rattle.hs_cluster.specs.Unopened.{LeavesAsTaken}
+use Rattle.hs_events.specs.Due.{Events}
 use Rattle.hs_events.specs.Found.{first_core}
-use Rattle.hs_promise.specs.Course.{course_of}
-use Rattle.hs_promise.specs.Ending.{ending_of}
-use Rattle.hs_promise.specs.Found.{HasFound}
-use Rattle.hs_promise.specs.Lines.{AreLines}
-use Rattle.hs_promise.specs.Machine.{EndsAs, NeverOpened, opening_is_whole}
+use Rattle.hs_events.specs.Reports.{failures}
+use Rattle.hs_events.specs.Taken.{peer_count}
+use Rattle.hs_events.specs.Whole.{open_whole}
+use Rattle.hs_journal.specs.Events.{client_op}
+use Rattle.hs_limits.specs.Shape.{IsShape}
+use Rattle.hs_moments.specs.Moments.{Since}
+use Rattle.hs_ports.specs.Objects.{Objects}
+use Rattle.hs_promise.specs.declared.status.Status.TheVariants as status
+use Rattle.hs_promise.specs.Entry.{MayStop}
+use Rattle.hs_promise.specs.Found.{IsReadAs, IsStillBehind}
+use Rattle.hs_promise.specs.Machine.{WentAs, loss_count}
 use Rattle.hs_promise.specs.Promise.{AreOfScript}
-use Rattle.hs_promise.specs.Run.{Ran, Script}
+use Rattle.hs_promise.specs.Run.{DiskRose, Ran, Script}
 use Rattle.hs_promise.specs.Story.{Story, all_events, last_core}
+use Rattle.hs_taking.specs.Shares.{Span as Taking}
+use Rattle.hs_run.specs.Served.{Served}
 
--- a core was opened, and the run went as a story says: all that `Went` of hs_promise says but for what its reports cost
-pub record Goes (S : Script) (r : Ran) (story : Story) : Type 0 where
-  pub found : HasFound S r story
-  pub opening : is_walk next_turn (opening_is_whole r story.lines) 0 (first_core S.set story.found) story.opening ≡ true
-  pub lines : AreLines S r 1 (steps (first_core S.set story.found) story.opening) story.lines
-  pub line : r.line ≡ length story.lines
-  pub rises : MomentsRise story.found.opened (all_events story) r.new.moment
-  pub journal : r.journal ≡ (last_core S story).journal
-  pub refused : r.refused ≡ (if (ending_of r.ending).full then (last_core S story).refused else [])
-  pub course : r.course ≡ course_of S story r.old.moment
-  pub ends : EndsAs (ending_of r.ending) (last_core S story).ended
+-- the disks that a run was handed, as a cluster sees them
+pub record AreHanded (objects : Objects) (disks : List DiskSeen) : Type 0 where
+  pub stands : stands_of disks ≡ objects.disks
+  pub counts : map (λ disk. disk.faults) disks ≡ objects.disk_faults
 
--- there is a story of the run, or no core was opened
-abbrev pub GoesAs : Script → Ran → Option Story → Type 0
-GoesAs S r None = NeverOpened r
-GoesAs S r (Some story) = Goes S r story
+-- what a run that went as a story says shows of its disks; at moments behind its last call each has what it may leave now
+pub record RunsOnDisks (tells : Type 0) (S : Script) (r : Ran) (story : Story) : Type 0 where
+  pub span : Span
+  pub before : span.before ≡ r.old.moment
+  pub now : span.now ≡ r.new.moment
+  pub old : AreHanded r.old span.disks
+  pub new : AreHanded r.new span.left
+  pub since : tells → Since r.new.disks
+  pub shown : RunsOn tells S.set span story.found (all_events story)
 
--- the run is the machine's on the events that are due, and on no others
-pub record IsOfCluster (S : Script) (r : Ran) : Type 0 where
+-- hs_promise's word on disks that tell their contents, but for what reports are borne out by: what was read; and where a run may stop, that a lost disk stays as it
+-- is until the core is opened, and that each count rose by all failures, where what a peer is to read stands in its list
+pub record IsOfItsDisks (S : Script) (r : Ran) (story : Story) : Type 0 where
+  pub read : (peer : ℕ) → peer < peer_count S.set.shape → IsReadAs r story peer
+  pub still : MayStop S r → All (IsStillBehind r story) story.found.lost
+  pub failed : MayStop S r → AreStored (open_whole S.set story.found) (all_events story) → (disk : ℕ)
+      → DiskRose r (failures true disk (first_core S.set story.found) (all_events story) + loss_count story disk) disk
+
+-- a sink failed only where its line had answered something; and nothing was read where the core ended as it opened
+pub record HasItsEnd (S : Script) (r : Ran) (story : Story) : Type 0 where
+  pub written : r.ending ≡ status.WriteFault → (front : List Events) (es : Events) → story.lines ≡ front ++ es ∷ []
+      → length (last_core S (record story { lines = front })).journal < length r.journal
+  pub unread : IsSome (first_core S.set story.found).ended → r.new.left ≡ r.old.left
+
+-- no core was opened: the calls on each disk left its list as it was
+pub record IsUnopened (tells : Type 0) (r : Ran) : Type 0 where
+  pub span : Taking
+  pub before : span.before ≡ r.old.moment
+  pub now : span.now ≡ r.new.moment
+  pub old : AreHanded r.old span.old
+  pub new : AreHanded r.new span.new
+  pub since : tells → Since r.new.disks
+  pub taken : LeavesAsTaken tells span
+
+-- the run is the machine's on the events that are due, and on no others; this its disks show; and this is had of the promise without a word of the plain store
+pub record IsOfCluster (tells : Type 0) (S : Script) (r : Ran) : Type 0 where
+  pub shape : IsShape S.set.shape
+  pub one : S.set.shape.copies ≡ 1
+  pub count : length r.old.disks ≡ S.set.shape.shards
   pub script : AreOfScript S r
+  -- no command has the number 0
+  pub nobody : client_op (S.commands 0) ≡ None
   pub how : Option Story
-  pub went : GoesAs S r how
+  pub went : WentAs S r how
+  pub told : tells → IfSome how (IsOfItsDisks S r)
+  pub runs : IfSome how (RunsOnDisks tells S r)
+  pub ended : IfSome how (HasItsEnd S r)
+  pub unopened : how ≡ None → IsUnopened tells r
+  pub served : Served tells S r

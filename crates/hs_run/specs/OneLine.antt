@@ -1,12 +1,14 @@
 -- What one line of a script does to a run.
-use Rattle.std.specs.Prelude.{Err, IfErr, List, Ok, Option, Result, drop, length, true, ℕ, ⊤, ◌+◌, ◌≡◌}
-use Rattle.hs_cluster.specs.Calls.{RunsLine, outcome_by}
+use Rattle.std.specs.Prelude.{Err, IfErr, List, Ok, Option, Result, drop, length, true, ℕ, ⊤, ◌+◌, ◌<◌, ◌≡◌}
+use Rattle.hs_cluster.specs.Calls.{RunsLine}
 use Rattle.hs_cluster.specs.declared.fault.ClusterFault.{ClusterFault}
+use Rattle.hs_cluster.specs.Disks.{stands_of}
 use Rattle.hs_cluster.specs.Kept.{Shows}
 use Rattle.hs_cluster.specs.Running.{Running}
 use Rattle.hs_events.specs.Commands.{is_served}
 use Rattle.hs_limits.specs.declared.address.Address.{Address}
 use Rattle.hs_model.specs.declared.command.Command.{Command}
+use Rattle.hs_moments.specs.Moments.{Since}
 use Rattle.hs_script.specs.Reading.{Reading, blank, says}
 use Rattle.hs_script.specs.Scripts.{is_bad}
 use Rattle.hs_script.specs.Text.{text}
@@ -33,6 +35,8 @@ pub record RunsCommand (tells : Type 0) (name : List ℕ → Address) (asked : C
   pub puts : Puts mid part.new.now (text (drop (length part.old.cluster.core.journal) part.new.cluster.core.journal)) part.old.got part.new.got put
   pub only : IfErr put IsPutStop
   pub ended : part.result ≡ end_of did put
+  pub some : put ≡ Err stop.WriteFault → 0 < length (text (drop (length part.old.cluster.core.journal) part.new.cluster.core.journal))
+  pub since : tells → Since (stands_of part.new.disks)
 
 -- from one moment to another, with what a sink had got, and has
 pub record Printing : Type 0 where
@@ -41,12 +45,12 @@ pub record Printing : Type 0 where
   pub old : Option (List (ℕ × ℕ))
   pub new : Option (List (ℕ × ℕ))
 
--- what opening has answered was put; a core that had ended stops the run
-pub record IsOpeningPut (cluster : Running) (part : Printing) (result : Result ⊤ Stop) : Type 0 where
+-- what opening has answered was put; an opening that did not come to its end stops the run
+pub record IsOpeningPut (did : Result ⊤ ClusterFault) (cluster : Running) (part : Printing) (result : Result ⊤ Stop) : Type 0 where
   pub put : Result ⊤ Stop
   pub puts : Puts part.before part.now (text cluster.core.journal) part.old part.new put
   pub only : IfErr put IsPutStop
-  pub ended : result ≡ end_of (outcome_by cluster.core.ended) put
+  pub ended : result ≡ end_of did put
 
 -- a line, by what it says: a bad one and one that could not be read for want of memory leave all as it was; one that says nothing is gone past
 pub data DoesLine (tells : Type 0) (name : List ℕ → Address) (said : Reading) (part : Stretch) : Type 0 where

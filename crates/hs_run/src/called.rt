@@ -3,18 +3,16 @@ ghost use Rattle.std.specs.Prelude.{◌≡◌, ℕ, None, length, map, string_by
 ghost use Rattle.hs_model.specs.declared.command.Command.{Command};
 ghost use Rattle.hs_ports.specs.Objects.{handed};
 ghost use Rattle.hs_promise.specs.Promise.{IsUsage};
-ghost use Rattle.hs_promise.specs.Run.{script_of};
-ghost use Rattle.hs_run.specs.Ended.{ran_of};
+ghost use Rattle.hs_promise.specs.Run.{ran_of, script_of};
 ghost use Rattle.hs_run.specs.Machine.{IsOfCluster};
-ghost use Rattle.hs_run.specs.Served.{Served};
 ghost use Rattle.hs_run.specs.Words.{built_of};
 
-use crate::Ended;
+use crate::outcome::closed;
 use crate::top::run_script_on;
 use crate::words::built_of;
 use hs_block::Addresser;
 use hs_ports::{Disk, Sink, Source, Watch};
-use hs_promise::Status;
+use hs_promise::{Outcome, Status};
 use std::alloc::Global;
 
 /// Runs the script that the source has, as the words ask, on the disks of a store, one for each peer,
@@ -27,7 +25,7 @@ pub fn run_on_cluster<A: Addresser, S: Source, K: Sink, D: Disk>(
     sink: &mut K,
     disks: &mut [D],
     watch: &mut Watch,
-) -> Ended
+) -> Outcome
     // A run ends as Usage exactly where the words are outside the language, or ask for what isn't
     // built, or the disks are not as many as they ask for.
     ensures usage { built_of (map (λ word. string_bytes word) words.now) (length disks.old) ≡ None
@@ -38,15 +36,9 @@ pub fn run_on_cluster<A: Addresser, S: Source, K: Sink, D: Disk>(
         (K.got sink.new, K.faults sink.new) (S.left source.new, S.faults source.new))) }
     ensures only_usage { result.status ≡ Status.Usage
         → built_of (map (λ word. string_bytes word) words.now) (length disks.old) ≡ None }
-    ensures machine { IfSome (built_of (map (λ word. string_bytes word) words.now) (length disks.old)) (λ wanted.
-        (commands : ℕ → Option Command) × IsOfCluster (script_of (A.name naming.now) wanted commands)
-        (ran_of result
-        (handed watch.old (map (λ disk. (D.stands disk, D.faults disk)) disks.old)
-        (K.got sink.old, K.faults sink.old) (S.left source.old, S.faults source.old))
-        (handed watch.new (map (λ disk. (D.stands disk, D.faults disk)) disks.new)
-        (K.got sink.new, K.faults sink.new) (S.left source.new, S.faults source.new)))) }
-    ensures served { IfSome (built_of (map (λ word. string_bytes word) words.now) (length disks.old)) (λ wanted.
-        (commands : ℕ → Option Command) × Served (script_of (A.name naming.now) wanted commands)
+    // It is the machine's run, and what is promised of it without a word of the plain store.
+    ensures ran { IfSome (built_of (map (λ word. string_bytes word) words.now) (length disks.old)) (λ wanted.
+        (commands : ℕ → Option Command) × IsOfCluster D.tells (script_of (A.name naming.now) wanted commands)
         (ran_of result
         (handed watch.old (map (λ disk. (D.stands disk, D.faults disk)) disks.old)
         (K.got sink.old, K.faults sink.old) (S.left source.old, S.faults source.old))
@@ -57,10 +49,6 @@ pub fn run_on_cluster<A: Addresser, S: Source, K: Sink, D: Disk>(
         Some((shape, limits)) => {
             run_script_on(alloc, shape, limits, naming, source, sink, disks, watch)
         }
-        None => Ended {
-            status: Status::Usage,
-            line: 0,
-            cluster: None,
-        },
+        None => closed(alloc, Status::Usage, 0),
     }
 }

@@ -1,10 +1,7 @@
 //! Kinds of lines.
 ghost use Rattle.std.specs.Prelude.{◌≡◌};
-ghost use Rattle.hs_cluster.specs.Calls.{outcome_by};
 ghost use Rattle.hs_events.specs.Commands.{is_served};
 
-use hs_cluster::ClusterFault;
-use hs_desk::CoreFault;
 use hs_model::Command;
 
 /// Whether a line is served: so far all but those that ask to reclaim a disk.
@@ -22,15 +19,5 @@ pub(crate) fn is_served(command: &Command) -> bool
         | Command::Fail { .. }
         | Command::Start { .. } => true,
         Command::Reclaim { .. } => false,
-    }
-}
-
-/// Whether a core that was opened goes on.
-pub(crate) fn outcome_by(ended: Option<CoreFault>) -> Result<(), ClusterFault>
-    ensures { result ≡ outcome_by ended }
-{
-    match ended {
-        None => Ok(()),
-        Some(fault) => Err(ClusterFault::from(fault)),
     }
 }

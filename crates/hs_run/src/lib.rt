@@ -2,9 +2,8 @@
 #![tactic(auto)]
 
 mod called;
-mod ended;
 mod kinds;
-mod laws;
+mod outcome;
 mod put;
 mod reader;
 mod run;
@@ -14,6 +13,4 @@ mod top;
 mod words;
 
 pub use called::run_on_cluster;
-pub use ended::Ended;
-pub use laws::a_run_that_is_paid_is_the_machines;
 pub use top::run_script_on;

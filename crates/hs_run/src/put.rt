@@ -1,5 +1,5 @@
 //! What is put into the sink.
-ghost use Rattle.std.specs.Prelude.{◌≡◌, ◌++◌, OnOk, OnErr, IsOkUnless};
+ghost use Rattle.std.specs.Prelude.{◌≡◌, ◌++◌, ◌<◌, length, OnOk, OnErr, IsOkUnless};
 ghost use Rattle.hs_ports.specs.Putting.{PutsFront};
 ghost use Rattle.hs_ports.specs.Sink.{bytes_of, followed};
 ghost use Rattle.hs_script.specs.Text.{text};
@@ -21,6 +21,7 @@ pub(crate) fn put_all<K: Sink>(sink: &mut K, watch: &mut Watch, bytes: &[u8]) ->
     ensures all { OnOk result (PutsAll watch.new bytes.now (K.got sink.old) (K.got sink.new)) }
     ensures stamped { IsStamped watch.old watch.new (K.got sink.old) (K.got sink.new) }
     ensures err { IsOkUnless result Stop.WriteFault }
+    ensures some { OnErr result (0 < length bytes.now) }
     ensures cause { SinkCause (K.faults sink.old) (K.faults sink.new) result }
 {
     let mut done = 0;

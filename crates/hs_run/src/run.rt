@@ -1,5 +1,5 @@
 //! A run of a script over its cluster, and what one line does to it.
-ghost use Rattle.std.specs.Prelude.{◌≡◌, ◌+◌, ◌<◌, ◌^◌, ◌≤◌, drop, length, map, true, IfErr, OnOk};
+ghost use Rattle.std.specs.Prelude.{◌≡◌, ◌+◌, ◌<◌, ◌^◌, ◌≤◌, drop, length, map, true, Err, IfErr, OnOk};
 ghost use Rattle.hs_cluster.specs.Disks.{seen_as};
 ghost use Rattle.hs_events.specs.Commands.{is_served};
 ghost use Rattle.hs_run.specs.Between.{IsReadyAt};
@@ -10,11 +10,11 @@ ghost use Rattle.hs_run.specs.Stopping.{IsPutStop};
 ghost use Rattle.hs_script.specs.Reading.{reading};
 ghost use Rattle.hs_script.specs.Text.{text};
 
-use crate::kinds::{is_served, outcome_by};
+use crate::kinds::is_served;
 use crate::put::{put_all, write_lines};
 use crate::stop::{Stop, end_of};
 use hs_block::Addresser;
-use hs_cluster::Cluster;
+use hs_cluster::{Cluster, ClusterFault};
 use hs_model::Command;
 use hs_ports::{Disk, Sink, Watch};
 use hs_script::{ScriptFault, read_line};
@@ -32,6 +32,8 @@ fn print<K: Sink>(
     ensures puts { Puts watch.old watch.new (text (drop printed.old cluster.now.core.journal))
         (K.got sink.old) (K.got sink.new) result }
     ensures only { IfErr result IsPutStop }
+    ensures some { result ≡ Err Stop.WriteFault
+        → 0 < length (text (drop printed.old cluster.now.core.journal)) }
     ensures printed { OnOk result (printed.new ≡ length cluster.now.core.journal) }
     ensures cause { SinkCause (K.faults sink.old) (K.faults sink.new) result }
 {
@@ -72,14 +74,15 @@ impl Run {
         }
     }
 
-    /// Puts what opening has answered. It stops where the core has ended.
+    /// Puts what opening has answered. It stops where opening did not come to its end.
     pub(crate) fn print_opening<K: Sink>(
         &mut self,
+        did: Result<(), ClusterFault>,
         sink: &mut K,
         watch: &mut Watch,
     ) -> Result<(), Stop>
         requires { self.old.printed ≡ 0 }
-        ensures puts { IsOpeningPut self.old.cluster (record {
+        ensures puts { IsOpeningPut did self.old.cluster (record {
           before = watch.old;
           now = watch.new;
           old = K.got sink.old;
@@ -91,7 +94,6 @@ impl Run {
         ensures line { self.new.line ≡ self.old.line }
         ensures cause { SinkCause (K.faults sink.old) (K.faults sink.new) result }
     {
-        let did = outcome_by(self.cluster.ended());
         let put = print(
             &self.cluster,
             &mut self.printed,

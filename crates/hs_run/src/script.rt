@@ -3,7 +3,7 @@ ghost use Rattle.std.specs.Prelude.{◌≡◌, ◌<◌, ◌^◌, ◌≤◌, [], 
 ghost use Rattle.hs_cluster.specs.Disks.{seen_as};
 ghost use Rattle.hs_run.specs.Between.{IsReadyAt};
 ghost use Rattle.hs_run.specs.Causes.{EndsBy, StopCause};
-ghost use Rattle.hs_run.specs.Going.{Begun, HasGone, HasStopped};
+ghost use Rattle.hs_run.specs.Going.{Begun, HasGone, HasShown, HasStopped};
 ghost use Rattle.hs_run.specs.Reader.{cost, held_of};
 ghost use Rattle.hs_script.specs.Scripts.{input_limit};
 
@@ -39,6 +39,13 @@ pub(crate) fn serve<A: Addresser, S: Source, K: Sink, D: Disk>(
     // What was done, behind any beginning.
     ensures goes { (b : Begun) → b.set.name ≡ A.name naming.now
         → HasGone b [] [] (record {
+          now = watch.old;
+          cluster = run.old.cluster;
+          disks = map (λ disk. seen_as (D.size disk) (D.stands disk) (D.faults disk)) disks.old;
+          got = K.got sink.old;
+          line = run.old.line;
+        })
+        → HasShown D.tells b [] (record {
           now = watch.old;
           cluster = run.old.cluster;
           disks = map (λ disk. seen_as (D.size disk) (D.stands disk) (D.faults disk)) disks.old;

@@ -1,35 +1,35 @@
 //! A run of a script on the disks of a store.
-ghost use Rattle.std.specs.Prelude.{◌≡◌, ◌*◌, ◌<◌, ◌^◌, ℕ, None, length, map, Option, IfSome};
+ghost use Rattle.std.specs.Prelude.{◌≡◌, ◌*◌, ◌<◌, ◌^◌, ℕ, false, is_ok, length, map, true, Option, IfSome};
+ghost use Rattle.hs_cluster.specs.Calls.{outcome_by, ran_out};
 ghost use Rattle.hs_cluster.specs.Disks.{seen_as};
 ghost use Rattle.hs_limits.specs.Shape.{IsShape};
 ghost use Rattle.hs_model.specs.declared.command.Command.{Command};
 ghost use Rattle.hs_ports.specs.Objects.{handed};
-ghost use Rattle.hs_promise.specs.Run.{script_of};
+ghost use Rattle.hs_promise.specs.Run.{ran_of, script_of};
 ghost use Rattle.hs_run.specs.Between.{IsReadyAt};
 ghost use Rattle.hs_run.specs.Causes.{EndsBy, StopCause};
-ghost use Rattle.hs_run.specs.Ended.{ran_of};
 ghost use Rattle.hs_run.specs.Going.{Begun, HasRun, StartsAt};
 ghost use Rattle.hs_run.specs.Machine.{IsOfCluster};
-ghost use Rattle.hs_run.specs.Served.{Served};
 
-use crate::Ended;
+use crate::outcome::{closed, outcome_of};
 use crate::reader::Reader;
 use crate::run::Run;
 use crate::script::serve;
 use crate::stop::{Stop, of_cluster, status_of};
 use hs_block::Addresser;
-use hs_cluster::Cluster;
+use hs_cluster::{Cluster, ClusterFault, Opened};
 use hs_limits::{Limits, Shape};
 use hs_ports::{Disk, Sink, Source, Watch};
-use hs_promise::Status;
+use hs_promise::{Outcome, Status};
 use std::alloc::Global;
 
 /// How many bytes a script may have.
 const INPUT_MOST: u64 = 4_294_967_296;
 
-/// Prints what opening has answered, and then runs the script.
+/// Prints what opening has answered, and then runs the script, where opening came to its end.
 fn go<A: Addresser, S: Source, K: Sink, D: Disk>(
     run: &mut Run,
+    did: Result<(), ClusterFault>,
     naming: &A,
     source: &mut S,
     disks: &mut [D],
@@ -38,20 +38,21 @@ fn go<A: Addresser, S: Source, K: Sink, D: Disk>(
 ) -> Result<(), Stop>
     requires printed { run.old.printed ≡ 0 }
     requires line { run.old.line ≡ 0 }
-    requires ready { run.old.cluster.core.ended ≡ None → IsReadyAt D.tells (record {
+    requires ready { is_ok did ≡ true → IsReadyAt D.tells (record {
       now = watch.old;
       cluster = run.old.cluster;
       disks = map (λ disk. seen_as (D.size disk) (D.stands disk) (D.faults disk)) disks.old;
       got = K.got sink.old;
       line = run.old.line;
     }) }
-    ensures runs { (b : Begun) → StartsAt b (A.name naming.now) (record {
+    requires outcome { ran_out did ≡ false → did ≡ outcome_by run.old.cluster.core.ended }
+    ensures runs { (b : Begun) → StartsAt D.tells b (A.name naming.now) did (record {
       now = watch.old;
       cluster = run.old.cluster;
       disks = map (λ disk. seen_as (D.size disk) (D.stands disk) (D.faults disk)) disks.old;
       got = K.got sink.old;
       line = run.old.line;
-    }) → HasRun D.tells (A.name naming.now) b (S.left source.old) (record {
+    }) → HasRun D.tells (A.name naming.now) did b (S.left source.old) (S.left source.new) (record {
       old = record {
         now = watch.old;
         cluster = run.old.cluster;
@@ -75,7 +76,7 @@ fn go<A: Addresser, S: Source, K: Sink, D: Disk>(
     ensures cause { StopCause (S.faults source.old) (S.faults source.new) (K.faults sink.old)
         (K.faults sink.new) result }
 {
-    match run.print_opening(sink, watch) {
+    match run.print_opening(did, sink, watch) {
         Ok(()) => {}
         Err(stop) => return Err(stop),
     }
@@ -94,7 +95,7 @@ pub fn run_script_on<A: Addresser, S: Source, K: Sink, D: Disk>(
     sink: &mut K,
     disks: &mut [D],
     watch: &mut Watch,
-) -> Ended
+) -> Outcome
     requires shape { IsShape shape }
     requires copies { shape.copies ≡ 1 }
     requires count { length disks.old ≡ shape.shards * shape.copies }
@@ -102,17 +103,8 @@ pub fn run_script_on<A: Addresser, S: Source, K: Sink, D: Disk>(
     // Some run was begun.
     ensures begun { result.status ≡ Status.Usage → ⊥ }
 
-    // It is the machine's run, but for what its reports cost.
-    ensures machine { (commands : ℕ → Option Command) × IsOfCluster
-        (script_of (A.name naming.now) (record { shape = shape; limits = limits }) commands)
-        (ran_of result
-        (handed watch.old (map (λ disk. (D.stands disk, D.faults disk)) disks.old)
-        (K.got sink.old, K.faults sink.old) (S.left source.old, S.faults source.old))
-        (handed watch.new (map (λ disk. (D.stands disk, D.faults disk)) disks.new)
-        (K.got sink.new, K.faults sink.new) (S.left source.new, S.faults source.new))) }
-
-    // What was read, answered and printed, and why it ended.
-    ensures served { (commands : ℕ → Option Command) × Served
+    // It is the machine's run, with what its disks show; and what was read, answered and printed.
+    ensures ran { (commands : ℕ → Option Command) × IsOfCluster D.tells
         (script_of (A.name naming.now) (record { shape = shape; limits = limits }) commands)
         (ran_of result
         (handed watch.old (map (λ disk. (D.stands disk, D.faults disk)) disks.old)
@@ -120,18 +112,15 @@ pub fn run_script_on<A: Addresser, S: Source, K: Sink, D: Disk>(
         (handed watch.new (map (λ disk. (D.stands disk, D.faults disk)) disks.new)
         (K.got sink.new, K.faults sink.new) (S.left source.new, S.faults source.new))) }
 {
-    let cluster = match Cluster::open(alloc, shape, limits, naming, disks, watch) {
-        Ok(cluster) => cluster,
+    let opened = match Cluster::open(alloc, shape, limits, naming, disks, watch) {
+        Ok(opened) => opened,
         Err(fault) => {
-            return Ended {
-                status: status_of(Err(of_cluster(fault)), 0),
-                line: 0,
-                cluster: None,
-            };
+            return closed(alloc, status_of(Err(of_cluster(fault)), 0), limits.ops);
         }
     };
+    let Opened { cluster, done } = opened;
     let mut run = Run::new(alloc, cluster);
-    let ended = go(&mut run, naming, source, disks, sink, watch);
+    let ended = go(&mut run, done, naming, source, disks, sink, watch);
     let Run {
         alloc: _,
         cluster,
@@ -139,9 +128,5 @@ pub fn run_script_on<A: Addresser, S: Source, K: Sink, D: Disk>(
         line,
         bytes: _,
     } = run;
-    Ended {
-        status: status_of(ended, line),
-        line,
-        cluster: Some(cluster),
-    }
+    outcome_of(alloc, status_of(ended, line), line, cluster)
 }

@@ -1,5 +1,6 @@
 pub mod ChoiceLemmas
 pub mod DiskLemmas
+pub mod KeepLemmas
 pub mod LoadLemmas
 pub mod ShareLemmas
 pub mod StepLemmas

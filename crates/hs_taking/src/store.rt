@@ -6,6 +6,7 @@ ghost use Rattle.hs_peerlog.specs.Opening.{refusal_in};
 ghost use Rattle.hs_ports.specs.Fault.{HasRisen};
 ghost use Rattle.hs_side.specs.declared.header.Header.{Header};
 ghost use Rattle.hs_taking.specs.Disks.{AreReady, seen_as, seen_at};
+ghost use Rattle.hs_taking.specs.Shares.{KeepsDisk};
 ghost use Rattle.hs_taking.specs.Store.{HasRead};
 ghost use Rattle.hs_taking.specs.Viewed.{IsOnlyRead, IsOther};
 
@@ -69,6 +70,12 @@ pub fn read_store<A: Addresser, D: Disk>(
         peer).faults
         ≤ (seen_at (map (λ disk. seen_as (D.size disk) (D.stands disk) (D.faults disk)) disks.new)
         peer).faults }
+    // Whatever it answers, the list of each disk is as it was, at each moment.
+    ensures keeps { (peer : ℕ) → peer < length disks.old → KeepsDisk D.tells watch.old watch.new
+        (seen_at (map (λ disk. seen_as (D.size disk) (D.stands disk) (D.faults disk)) disks.old)
+        peer)
+        (seen_at (map (λ disk. seen_as (D.size disk) (D.stands disk) (D.faults disk)) disks.new)
+        peer) }
     ensures count { length disks.new ≡ length disks.old }
     ensures ticks { watch.old ≤ watch.new }
 {

@@ -5,4 +5,4 @@ mod number;
 mod options;
 mod words;
 
-pub use words::wanted_of;
+pub use words::{wanted, wanted_of};

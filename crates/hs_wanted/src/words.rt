@@ -31,7 +31,7 @@ pub fn wanted_of(words: &[String], disks: usize) -> Option<(Shape, Limits)>
 
 /// What `script DIR G R` and its options ask for, with any DIR that is not empty.
 #[tactic(auto, unfolding(hs_script::specs::CommandLine::wanted))]
-fn wanted(words: &[String]) -> Option<(Shape, Limits)>
+pub fn wanted(words: &[String]) -> Option<(Shape, Limits)>
     ensures exact { as_wanted result ≡ wanted (map (λ word. string_bytes word) words.now) }
     ensures shape { IfSome result (λ asked. IsShape asked.0) }
 {

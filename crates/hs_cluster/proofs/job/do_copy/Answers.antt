@@ -1,8 +1,9 @@
 use Rattle.std.proofs.Common.{◌≡◌, ◌<◌, arith, length, map, slice_set}
 use Rattle.std.proofs.lemmas.Grind.{common_steps}
 use Rattle.std.proofs.lemmas.List.{length-set}
+use Rattle.hs_cluster.proofs.CountLemmas.{copied_results, falls_not, falls_then, paid_at}
 use Rattle.hs_cluster.proofs.DiskLemmas.{at_ok, ready_slot, slot_at}
-use Rattle.hs_cluster.specs.Disks.{AreReady, DiskSeen, log_at, seen_as}
+use Rattle.hs_cluster.specs.Disks.{AreReady, DiskSeen, log_at, seen_as, seen_at}
 use Rattle.hs_cluster.proofs.job.do_copy.Goals as goal
 
 pub read_copy-requires : goal.read_copy-requires
@@ -35,3 +36,38 @@ returns-in-Ok-clause-ready g c =
     let low_logs : c.from-place.result < length logs = grind (arith, common_steps, length-set c.args.logs.now.items c.from-source.result c.read_copy.new.slot) in
     let low : c.from-place.result < length disks = grind (arith, common_steps, length-set c.args.disks.now c.from-source.result c.read_copy.new.disk) in
     at_ok c.write_copy.result c.write_copy.ensures.ready (λ here. ready_slot g.D.Disk.tells logs disks f c.from-place.result c.write_copy.new.slot c.write_copy.new.disk ready low_logs low here)
+
+-- ---- the counts
+
+pub returns-in-Ok-clause-later : goal.returns-in-Ok-clause-later
+returns-in-Ok-clause-later g c =
+    let f : g.row.D.Denot → DiskSeen = λ disk. seen_as (g.D.Disk.size disk) (g.D.Disk.stands disk) (g.D.Disk.faults disk) in
+    let disks = slice_set c.args.disks.now c.from-source.result c.read_copy.new.disk in
+    let in_disks : c.from-source.result < length c.args.disks.now = grind (arith, common_steps) in
+    let low : c.from-place.result < length disks = grind (arith, common_steps, length-set c.args.disks.now c.from-source.result c.read_copy.new.disk) in
+    falls_then (map f c.args.disks.now) (map f disks) (map f (slice_set disks c.from-place.result c.write_copy.new.disk))
+    (falls_not f c.args.disks.now c.from-source.result c.index-disks-source.result c.read_copy.new.disk in_disks c.read_copy.ensures.later)
+    (falls_not f disks c.from-place.result c.index-disks-place.result c.write_copy.new.disk low c.write_copy.ensures.later)
+
+pub returns-in-Ok-clause-paid : goal.returns-in-Ok-clause-paid
+returns-in-Ok-clause-paid g c =
+    let f : g.row.D.Denot → DiskSeen = λ disk. seen_as (g.D.Disk.size disk) (g.D.Disk.stands disk) (g.D.Disk.faults disk) in
+    let disks = slice_set c.args.disks.now c.from-source.result c.read_copy.new.disk in
+    let in_disks : c.from-source.result < length c.args.disks.now = grind (arith, common_steps) in
+    let low : c.from-place.result < length disks = grind (arith, common_steps, length-set c.args.disks.now c.from-source.result c.read_copy.new.disk) in
+    let place : c.from-place.result ≡ c.args.peer = grind (arith, common_steps) in
+    copied_results c.args.from c.args.peer (seen_at (map f c.args.disks.now) c.args.peer).faults (seen_at (map f disks) c.args.peer).faults (seen_at (map f (slice_set disks c.from-place.result c.write_copy.new.disk)) c.args.peer).faults c.write_copy.result
+    (falls_not f c.args.disks.now c.from-source.result c.index-disks-source.result c.read_copy.new.disk in_disks c.read_copy.ensures.later c.args.peer)
+    (paid_at f disks c.args.peer c.from-place.result c.index-disks-place.result c.write_copy.new.disk c.write_copy.result place low c.write_copy.ensures.paid)
+
+pub returns-in-Err-NoMemory-clause-later : goal.returns-in-Err-NoMemory-clause-later
+returns-in-Err-NoMemory-clause-later g c =
+    let f : g.row.D.Denot → DiskSeen = λ disk. seen_as (g.D.Disk.size disk) (g.D.Disk.stands disk) (g.D.Disk.faults disk) in
+    let in_disks : c.from-source.result < length c.args.disks.now = grind (arith, common_steps) in
+    falls_not f c.args.disks.now c.from-source.result c.index-disks-source.result c.read_copy.new.disk in_disks c.read_copy.ensures.later
+
+pub returns-in-Err-Disk-clause-later : goal.returns-in-Err-Disk-clause-later
+returns-in-Err-Disk-clause-later g c =
+    let f : g.row.D.Denot → DiskSeen = λ disk. seen_as (g.D.Disk.size disk) (g.D.Disk.stands disk) (g.D.Disk.faults disk) in
+    let in_disks : c.from-source.result < length c.args.disks.now = grind (arith, common_steps) in
+    falls_not f c.args.disks.now c.from-source.result c.index-disks-source.result c.read_copy.new.disk in_disks c.read_copy.ensures.later

@@ -1,10 +1,15 @@
-use Rattle.std.proofs.Common.{rules, ◌≡◌, ◌<◌, Some, arith, length, map, slice_set, subst}
+use Rattle.std.proofs.Common.{rules, ◌≡◌, ◌∙◌, ◌<◌, Some, ap, arith, length, map, refl, slice_set, subst, sym}
 use Rattle.std.proofs.lemmas.Grind.{common_steps}
-use Rattle.hs_cluster.proofs.DiskLemmas.{since_of, slot_at, works_at, works_nothing}
+use Rattle.hs_cluster.proofs.CountLemmas.{all_paid_result, copy_paid_result, falls_not, falls_same, job_paid_result, paid_at}
+use Rattle.hs_cluster.proofs.DiskLemmas.{log_read, not_own, since_of, slot_at, stored_as, works_at, works_nothing}
 use Rattle.hs_cluster.specs.Disks.{DiskSeen, log_at, seen_as}
 use Rattle.hs_cluster.specs.declared.fault.ClusterFault.TheVariants.{NoMemory}
 use Rattle.hs_cluster.specs.Jobs.{Works}
-use Rattle.hs_core.specs.Looking.{first_job}
+use Rattle.hs_core.specs.Looking.{catalogue_of, first_job, home}
+use Rattle.hs_desk.specs.declared.job.Job.{Job}
+use Rattle.hs_desk.specs.declared.job.Job.TheVariants as job
+use Rattle.hs_limits.specs.declared.shape.Shape.{Shape}
+use Rattle.hs_members.specs.Members.{home_of}
 use Rattle.hs_cluster.proofs.job.do_job.Goals as goal
 
 pub do_usual-requires : goal.do_usual-requires
@@ -39,3 +44,78 @@ returns-in-Append-clause-works g c = λ told own.
     }) (first_job c.args.peer c.args.core.now) c.do_usual.result) place
     (works_at c.args.logs.now.items c.args.disks.now f c.from-place.result c.args.watch.now c.do_usual.new.watch c.index_mut-in-Append.result.now c.do_usual.new.slot c.index-disks-place-in-Append.result c.do_usual.new.disk
     (Some c.in-Some.job.now) (first_job c.args.peer c.args.core.now) c.do_usual.result item low_logs low first (c.do_usual.ensures.tries told))
+
+-- ---- the counts
+
+pub returns-in_default-clause-later : goal.returns-in_default-clause-later
+returns-in_default-clause-later g c =
+    let f : g.row.D.Denot → DiskSeen = λ disk. seen_as (g.D.Disk.size disk) (g.D.Disk.stands disk) (g.D.Disk.faults disk) in
+    falls_same (map f c.args.disks.now)
+
+pub returns-in-Reset-clause-later : goal.returns-in-Reset-clause-later
+returns-in-Reset-clause-later g c =
+    let f : g.row.D.Denot → DiskSeen = λ disk. seen_as (g.D.Disk.size disk) (g.D.Disk.stands disk) (g.D.Disk.faults disk) in
+    let low : c.from-place.result < length c.args.disks.now = grind (arith, common_steps) in
+    falls_not f c.args.disks.now c.from-place.result c.index-disks-place.result c.do_reset.new.disk low c.do_reset.ensures.later
+
+pub returns-in-Reset-clause-paid : goal.returns-in-Reset-clause-paid
+returns-in-Reset-clause-paid g c =
+    let f : g.row.D.Denot → DiskSeen = λ disk. seen_as (g.D.Disk.size disk) (g.D.Disk.stands disk) (g.D.Disk.faults disk) in
+    let low : c.from-place.result < length c.args.disks.now = grind (arith, common_steps) in
+    let place : c.from-place.result ≡ c.args.peer = grind (arith, common_steps) in
+    let first : Some c.in-Some.job.now ≡ first_job c.args.peer c.args.core.now = first_of (search rules, grind (arith, common_steps)) in
+    let is : first_job c.args.peer c.args.core.now ≡ Some job.Reset = sym first ∙ ap (λ (j : Job). Some j) c.in-Reset.is in
+    job_paid_result c.args.core.now c.args.peer job.Reset c.do_reset.result (map f c.args.disks.now) (map f (slice_set c.args.disks.now c.from-place.result c.do_reset.new.disk)) is
+    (λ at only. paid_at f c.args.disks.now c.args.peer c.from-place.result c.index-disks-place.result c.do_reset.new.disk c.do_reset.result place low c.do_reset.ensures.paid)
+
+pub returns-in-Copy-clause-paid : goal.returns-in-Copy-clause-paid
+returns-in-Copy-clause-paid g c =
+    let f : g.row.D.Denot → DiskSeen = λ disk. seen_as (g.D.Disk.size disk) (g.D.Disk.stands disk) (g.D.Disk.faults disk) in
+    let first : Some c.in-Some.job.now ≡ first_job c.args.peer c.args.core.now = first_of (search rules, grind (arith, common_steps)) in
+    let is : first_job c.args.peer c.args.core.now ≡ Some (job.Copy c.in-Copy.from c.in-Copy.number) = sym first ∙ ap (λ (j : Job). Some j) c.in-Copy.is in
+    copy_paid_result c.args.core.now c.args.peer c.in-Copy.from c.in-Copy.number c.do_copy.result (map f c.args.disks.now) (map f c.do_copy.new.disks) is c.do_copy.ensures.paid
+
+pub returns-in-Append-clause-later : goal.returns-in-Append-clause-later
+returns-in-Append-clause-later g c =
+    let f : g.row.D.Denot → DiskSeen = λ disk. seen_as (g.D.Disk.size disk) (g.D.Disk.stands disk) (g.D.Disk.faults disk) in
+    let low : c.from-place.result < length c.args.disks.now = grind (arith, common_steps) in
+    falls_not f c.args.disks.now c.from-place.result c.index-disks-place-in-Append.result c.do_usual.new.disk low c.do_usual.ensures.later
+
+pub returns-in-Append-clause-paid : goal.returns-in-Append-clause-paid
+returns-in-Append-clause-paid g c =
+    let f : g.row.D.Denot → DiskSeen = λ disk. seen_as (g.D.Disk.size disk) (g.D.Disk.stands disk) (g.D.Disk.faults disk) in
+    let low : c.from-place.result < length c.args.disks.now = grind (arith, common_steps) in
+    let place : c.from-place.result ≡ c.args.peer = grind (arith, common_steps) in
+    let first : Some c.in-Some.job.now ≡ first_job c.args.peer c.args.core.now = first_of (search rules, grind (arith, common_steps)) in
+    job_paid_result c.args.core.now c.args.peer c.in-Some.job.now c.do_usual.result (map f c.args.disks.now) (map f (slice_set c.args.disks.now c.from-place.result c.do_usual.new.disk)) (sym first)
+    (λ at only. paid_at f c.args.disks.now c.args.peer c.from-place.result c.index-disks-place-in-Append.result c.do_usual.new.disk c.do_usual.result place low (c.do_usual.ensures.paid at only))
+
+-- ---- a job that only read
+
+pub returns-in_default-clause-read : goal.returns-in_default-clause-read
+returns-in_default-clause-read g c = λ told own list waiting has stored. tt
+
+pub returns-in-Reset-clause-read : goal.returns-in-Reset-clause-read
+returns-in-Reset-clause-read g c = λ told own list waiting has stored.
+    let first : Some c.in-Some.job.now ≡ first_job c.args.peer c.args.core.now = first_of (search rules, grind (arith, common_steps)) in
+    absurd (not_own (first_job c.args.peer c.args.core.now) job.Reset (sym first ∙ ap (λ (j : Job). Some j) c.in-Reset.is) refl own)
+
+pub returns-in-Copy-clause-read : goal.returns-in-Copy-clause-read
+returns-in-Copy-clause-read g c = λ told own list waiting has stored.
+    let first : Some c.in-Some.job.now ≡ first_job c.args.peer c.args.core.now = first_of (search rules, grind (arith, common_steps)) in
+    absurd (not_own (first_job c.args.peer c.args.core.now) (job.Copy c.in-Copy.from c.in-Copy.number) (sym first ∙ ap (λ (j : Job). Some j) c.in-Copy.is) refl own)
+
+pub returns-in-Append-clause-read : goal.returns-in-Append-clause-read
+returns-in-Append-clause-read g c = λ told own list waiting has stored.
+    let f : g.row.D.Denot → DiskSeen = λ disk. seen_as (g.D.Disk.size disk) (g.D.Disk.stands disk) (g.D.Disk.faults disk) in
+    let item : c.index_mut-in-Append.result.now ≡ log_at c.args.logs.now.items c.from-place.result = grind (arith, common_steps) in
+    let low : c.from-place.result < length c.args.disks.now = grind (arith, common_steps) in
+    let place : c.from-place.result ≡ c.args.peer = grind (arith, common_steps) in
+    let first : Some c.in-Some.job.now ≡ first_job c.args.peer c.args.core.now = first_of (search rules, grind (arith, common_steps)) in
+    let shard : c.home_of.result ≡ home c.args.peer c.args.core.now = c.home_of.ensures.home ∙ ap (λ (s : Shape). home_of s c.args.peer) c.shape-in-Append.ensures.value in
+    all_paid_result c.args.core.now c.args.peer c.do_usual.result (map f c.args.disks.now) (map f (slice_set c.args.disks.now c.from-place.result c.do_usual.new.disk))
+    (paid_at f c.args.disks.now c.args.peer c.from-place.result c.index-disks-place-in-Append.result c.do_usual.new.disk c.do_usual.result place low
+    (c.do_usual.ensures.read told list waiting
+    (log_read f c.args.logs.now.items c.args.disks.now c.args.peer c.from-place.result c.index_mut-in-Append.result.now c.index-disks-place-in-Append.result list waiting place low item has)
+    (stored_as (first_job c.args.peer c.args.core.now) (Some c.in-Some.job.now) (catalogue_of (home c.args.peer c.args.core.now) c.args.core.now) c.catalogue-catalogue.result.now list first
+    (c.catalogue-catalogue.ensures ∙ ap (λ k. catalogue_of k c.args.core.now) shard) stored)))

@@ -1,7 +1,9 @@
-use Rattle.std.proofs.Common.{refl, Some, true}
+use Rattle.std.proofs.Common.{refl, subst, Some, true}
 use Rattle.std.proofs.lemmas.Result.{err_from_is_err_and}
+use Rattle.hs_cluster.proofs.CountLemmas.{read_only}
 use Rattle.hs_cluster.proofs.JobLemmas.{first_of_two, leaves_err, leaves_ok, leaves_read, stays_one}
-use Rattle.hs_cluster.specs.Jobs.{list_after}
+use Rattle.hs_cluster.specs.Jobs.{HasStored, list_after}
+use Rattle.hs_desk.specs.declared.job.Job.{Job}
 use Rattle.hs_desk.specs.declared.done.Done.TheVariants as done
 use Rattle.hs_desk.specs.declared.job.Job.TheVariants as job
 use Rattle.hs_peerlog.specs.declared.fault.LogFault.TheVariants.{NoMemory}
@@ -33,3 +35,10 @@ pub returns-in-Reclaim-clause-leaves : goal.returns-in-Reclaim-clause-leaves
 returns-in-Reclaim-clause-leaves g c = λ told last list waiting has.
     leaves_ok _ c.args.job.now job.Reclaim list waiting (done.Stepped true) c.args.log.now c.in-Reclaim.is refl refl
     (stays_one (g.D.Disk.stands c.args.disk.now) c.args.watch.now list (list_after c.args.job.now list waiting) last (g.met.D.Disk.since told c.args.disk.now) has.leaves) has tt
+
+pub returns-in-Read-clause-refused : goal.returns-in-Read-clause-refused
+returns-in-Read-clause-refused g c = λ at only. absurd (read_only at c.in-Read.number c.args.job.now c.in-Read.is only)
+
+pub returns-in-Read-clause-failed : goal.returns-in-Read-clause-failed
+returns-in-Read-clause-failed g c = λ told list waiting has stored.
+    c.read_block.ensures.refused told list waiting has.kept (subst (λ (j : Job). HasStored (Some j) c.args.catalogue.now.blocks list) c.in-Read.is stored)

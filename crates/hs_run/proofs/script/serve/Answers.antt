@@ -17,7 +17,7 @@ returns-in-Err-clause-ends g c = if_told _ _ _ c.serving.invariant.read (λ scri
     ends_halted script _ (held_of c.serving.reader) _ c.serving.reader.budget _ _ _ _ _ read c.in-Err.ensures.still same c.in-Err.stop c.in-Err.ensures.halted)
 
 pub returns-in-Err-clause-goes : goal.returns-in-Err-clause-goes
-returns-in-Err-clause-goes g c = λ b named begun. stopped_reading _ _ b _ _ _ c.in-Err.stop _ _ _ _ _ _ (c.serving.invariant.goes b named begun) c.in-Err.ensures.halted
+returns-in-Err-clause-goes g c = λ b named begun shows. stopped_reading _ _ b _ _ _ c.in-Err.stop _ _ _ _ _ _ (c.serving.invariant.goes b named begun shows) c.in-Err.ensures.halted
 
 -- ---- the input ended
 
@@ -34,7 +34,7 @@ returns-then-not-more-clause-ends g c = if_told _ _ _ c.serving.invariant.read (
     ends_done script _ _ _ _ _ (held_of c.advance.new.self) _ told left low high few whole nothing)
 
 pub returns-then-not-more-clause-goes : goal.returns-then-not-more-clause-goes
-returns-then-not-more-clause-goes g c = λ b named begun. Between (c.serving.invariant.goes b named begun) tt
+returns-then-not-more-clause-goes g c = λ b named begun shows. Between (c.serving.invariant.goes b named begun shows) tt
 
 -- ---- a line was not done
 
@@ -47,12 +47,12 @@ returns-in-Err-begin-clause-ends g c = if_told _ _ _ c.serving.invariant.read (�
     ends_line script _ _ (held_of c.advance.new.self) _ _ _ next few told.good _ _ _ refl refl (rw c.line.ensures at c.in-Err-begin.ensures.does))
 
 pub returns-in-Err-begin-clause-goes : goal.returns-in-Err-begin-clause-goes
-returns-in-Err-begin-clause-goes g c = λ b named begun.
+returns-in-Err-begin-clause-goes g c = λ b named begun shows.
     let read = rw c.if-not-more.false at c.in-Ok.ensures.read in
     let spends = c.in-Ok.ensures.spends in
     let next : IsNextOf (g.S.Source.left c.args.source.now) c.serving.run.line (line_of c.advance.new.self) = if_told _ _ _ c.serving.invariant.read (λ script told.
     command_next script _ _ (advanced script _ _ _ _ _ _ _ _ told spends _ read c.in-Ok.ensures.stays).at) in
-    stopped_line _ _ b _ _ _ _ (line_of c.advance.new.self) _ named (c.serving.invariant.goes b named begun) next refl (rw c.line.ensures at c.in-Err-begin.ensures.does)
+    stopped_line _ _ b _ _ _ _ (line_of c.advance.new.self) _ named (c.serving.invariant.goes b named begun shows) next refl (rw c.line.ensures at c.in-Err-begin.ensures.does)
 
 pub returns-in-Err-begin-clause-cause : goal.returns-in-Err-begin-clause-cause
 returns-in-Err-begin-clause-cause g c = record {
@@ -66,7 +66,7 @@ returns-in-Err-begin-clause-cause g c = record {
 
 pub serving-init : goal.serving-init
 serving-init g c = record {
-  goes = λ b named begun. so_far_none b _ _ begun;
+  goes = λ b named begun shows. so_far_none g.D.Disk.tells b _ _ begun shows;
   read = if_any _ _ (λ script is. read_none_of script c.args.reader.now (g.S.Source.left c.args.source.now) c.args.run.now.line c.requires.held c.requires.cost c.requires.line is);
   ready = c.requires.ready;
   printed = c.requires.printed;
@@ -85,10 +85,10 @@ serving-preserved g c =
     let does = rw c.line.ensures at e.does in
     let shorter : cost c.advance.new.self < cost c.serving.reader = c.in-Ok.ensures.shorter c.if-not-more.false in
     record {
-      goes = λ b named begun.
+      goes = λ b named begun shows.
           let next : IsNextOf (g.S.Source.left c.args.source.now) c.serving.run.line (line_of c.advance.new.self) = if_told _ _ _ c.serving.invariant.read (λ script told.
           command_next script _ _ (advanced script _ _ _ _ _ _ _ _ told spends _ read c.in-Ok.ensures.stays).at) in
-          so_far_more _ _ b _ _ _ (line_of c.advance.new.self) _ named (c.serving.invariant.goes b named begun) next refl does;
+          so_far_more _ _ b _ _ _ (line_of c.advance.new.self) _ named (c.serving.invariant.goes b named begun shows) next refl does;
       read = if_told _ _ _ c.serving.invariant.read (λ script told.
           let next = advanced script _ _ _ _ _ _ _ _ told spends _ read c.in-Ok.ensures.stays in
           served_more script _ _ _ _ _ _ told.good next (line_good _ _ _ _ refl does) (line_next _ _ _ _ refl does));

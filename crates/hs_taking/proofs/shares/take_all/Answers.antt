@@ -5,12 +5,13 @@ use Rattle.hs_fold.specs.Shards.Setting.{Setting}
 use Rattle.hs_memory.specs.Forget.{apply_all}
 use Rattle.hs_shard.specs.Facts.{empty_catalogue}
 use Rattle.hs_side.specs.Current.{list_in}
-use Rattle.hs_taking.proofs.DiskLemmas.{no_log, no_log_at, none_ready, ready_slot, seen_is}
+use Rattle.hs_taking.proofs.DiskLemmas.{no_log, no_log_at, none_ready, ready_slot, seen_each, seen_is}
+use Rattle.hs_taking.proofs.KeepLemmas.{keeps_more, keeps_none}
 use Rattle.hs_taking.proofs.ShareLemmas.{OneTaken, none_taken, one_taken}
 use Rattle.hs_taking.proofs.StepLemmas.{at_any, counted_more, rest_more}
 use Rattle.hs_taking.specs.declared.shares.Share.{Share}
 use Rattle.hs_taking.specs.Disks.{AreReady, DiskSeen, log_at, seen_as, seen_at}
-use Rattle.hs_taking.specs.Shares.{HasTaken, IsShare}
+use Rattle.hs_taking.specs.Shares.{HasTaken, IsShare, KeepsDisk}
 use Rattle.hs_taking.specs.Viewed.{IsViewOf}
 use Rattle.hs_taking.proofs.shares.take_all.Goals as goal
 
@@ -26,6 +27,9 @@ loop-shard-init g c =
       ready = subst (λ ls. AreReady g.D.Disk.tells ls old) (sym logs) (none_ready g.D.Disk.tells (c.args.shape.shards * c.args.shape.copies) old);
       rest = λ peer high. refl;
       counted = λ peer. omega arith;
+      keeps = λ peer within.
+          seen_each (λ s. KeepsDisk g.D.Disk.tells c.args.watch.now c.args.watch.now s s) f
+          (λ disk. keeps_none g.D.Disk.tells c.args.watch.now (f disk) (λ told side m high. g.met.D.Disk.since told disk side m high)) c.args.disks.now peer within;
       shares = ap (λ (xs : List Share). length xs) c.new-shares.ensures.items;
       logs = grind (arith, common_steps, logs);
       ranks = grind (arith, common_steps);
@@ -94,6 +98,7 @@ loop-shard-preserved g c =
       ready = ready_slot g.D.Disk.tells c.loop-shard.logs.items c.loop-shard.disks f i slot x inv.ready in_logs low told.ready;
       rest = rest_more f old c.loop-shard.disks i x d low c.loop-shard.shard c.args.shape.copies to inv.rest;
       counted = counted_more f old c.loop-shard.disks i x d low inv.counted c.take_peer-share.ensures.keeps.counted;
+      keeps = keeps_more f g.D.Disk.tells c.args.watch.now c.loop-shard.watch c.take_peer-share.new.watch old c.loop-shard.disks i (length c.args.disks.now) x d low c.take_peer-share.ensures.ticks inv.keeps c.take_peer-share.ensures.keeps;
       shares = grind (arith, common_steps, items, inv.shares);
       logs = grind (arith, common_steps);
       ranks = inv.ranks;
@@ -114,3 +119,33 @@ returns-then-is_err-clause-counted g c =
     let e : c.from-place.result ≡ c.taken_peer-peer.result = c.from-place.ensures in
     let low : c.from-place.result < length c.loop-shard.disks = omega (arith, c.taken_peer-peer.ensures.within, e, c.loop-shard.invariant.count, c.requires.count) in
     λ peer within. counted_more f (map f c.args.disks.now) c.loop-shard.disks c.from-place.result c.take_peer-share.new.disk c.index-disks-place.result low c.loop-shard.invariant.counted c.take_peer-share.ensures.keeps.counted peer
+
+pub returns-in_err-ranks-clause-keeps : goal.returns-in_err-ranks-clause-keeps
+returns-in_err-ranks-clause-keeps g c =
+    let f : g.row.D.Denot → DiskSeen = λ disk. seen_as (g.D.Disk.size disk) (g.D.Disk.stands disk) (g.D.Disk.faults disk) in
+    λ peer within.
+    seen_each (λ s. KeepsDisk g.D.Disk.tells c.args.watch.now c.args.watch.now s s) f
+    (λ disk. keeps_none g.D.Disk.tells c.args.watch.now (f disk) (λ told side m high. g.met.D.Disk.since told disk side m high)) c.args.disks.now peer within
+
+pub returns-in_err-logs-clause-keeps : goal.returns-in_err-logs-clause-keeps
+returns-in_err-logs-clause-keeps g c =
+    let f : g.row.D.Denot → DiskSeen = λ disk. seen_as (g.D.Disk.size disk) (g.D.Disk.stands disk) (g.D.Disk.faults disk) in
+    λ peer within.
+    seen_each (λ s. KeepsDisk g.D.Disk.tells c.args.watch.now c.args.watch.now s s) f
+    (λ disk. keeps_none g.D.Disk.tells c.args.watch.now (f disk) (λ told side m high. g.met.D.Disk.since told disk side m high)) c.args.disks.now peer within
+
+pub returns-in-Err-clause-keeps : goal.returns-in-Err-clause-keeps
+returns-in-Err-clause-keeps g c =
+    let f : g.row.D.Denot → DiskSeen = λ disk. seen_as (g.D.Disk.size disk) (g.D.Disk.stands disk) (g.D.Disk.faults disk) in
+    let e : c.from-place.result ≡ c.taken_peer-peer.result = c.from-place.ensures in
+    let low : c.from-place.result < length c.loop-shard.disks = omega (arith, c.taken_peer-peer.ensures.within, e, c.loop-shard.invariant.count, c.requires.count) in
+    keeps_more f g.D.Disk.tells c.args.watch.now c.loop-shard.watch c.take_peer-share.new.watch (map f c.args.disks.now) c.loop-shard.disks c.from-place.result (length c.args.disks.now) c.take_peer-share.new.disk c.index-disks-place.result low
+    c.take_peer-share.ensures.ticks c.loop-shard.invariant.keeps c.take_peer-share.ensures.keeps
+
+pub returns-then-is_err-clause-keeps : goal.returns-then-is_err-clause-keeps
+returns-then-is_err-clause-keeps g c =
+    let f : g.row.D.Denot → DiskSeen = λ disk. seen_as (g.D.Disk.size disk) (g.D.Disk.stands disk) (g.D.Disk.faults disk) in
+    let e : c.from-place.result ≡ c.taken_peer-peer.result = c.from-place.ensures in
+    let low : c.from-place.result < length c.loop-shard.disks = omega (arith, c.taken_peer-peer.ensures.within, e, c.loop-shard.invariant.count, c.requires.count) in
+    keeps_more f g.D.Disk.tells c.args.watch.now c.loop-shard.watch c.take_peer-share.new.watch (map f c.args.disks.now) c.loop-shard.disks c.from-place.result (length c.args.disks.now) c.take_peer-share.new.disk c.index-disks-place.result low
+    c.take_peer-share.ensures.ticks c.loop-shard.invariant.keeps c.take_peer-share.ensures.keeps

@@ -2,6 +2,7 @@ use Rattle.std.proofs.Common.{◌≡◌, ◌<◌, ℕ, List, None, arith, length
 use Rattle.std.proofs.lemmas.Grind.{common_steps}
 use Rattle.std.specs.Prelude.{slice_index_or}
 use Rattle.hs_fold.specs.Shards.Setting.{Setting}
+use Rattle.hs_taking.proofs.KeepLemmas.{keeps_read, keeps_then}
 use Rattle.hs_taking.proofs.StoreLemmas.{no_other, no_wrong, other_rose, read_ok}
 use Rattle.hs_taking.proofs.ViewLemmas.{view_of}
 use Rattle.hs_taking.specs.Disks.{DiskSeen, seen_as, seen_at}
@@ -53,3 +54,15 @@ returns-clause-counted g c = λ peer low.
     let a = (c.view_all.ensures.read peer low).counted in
     let b = c.take_all.ensures.counted peer (subst (λ n. peer < n) (sym same) low) in
     omega (arith, a, b)
+
+pub returns-in-Err-clause-keeps : goal.returns-in-Err-clause-keeps
+returns-in-Err-clause-keeps g c = λ peer low. keeps_read g.D.Disk.tells c.args.watch.now c.view_all.new.watch _ _ (c.view_all.ensures.read peer low)
+
+pub returns-clause-keeps : goal.returns-clause-keeps
+returns-clause-keeps g c =
+    let f : g.row.D.Denot → DiskSeen = λ disk. seen_as (g.D.Disk.size disk) (g.D.Disk.stands disk) (g.D.Disk.faults disk) in
+    let same : length c.view_all.new.disks ≡ length c.args.disks.now = c.view_all.ensures.count in
+    λ peer low.
+    keeps_then g.D.Disk.tells c.args.watch.now c.view_all.new.watch c.take_all.new.watch (seen_at (map f c.args.disks.now) peer) (seen_at (map f c.view_all.new.disks) peer) (seen_at (map f c.take_all.new.disks) peer)
+    (keeps_read g.D.Disk.tells c.args.watch.now c.view_all.new.watch (seen_at (map f c.args.disks.now) peer) (seen_at (map f c.view_all.new.disks) peer) (c.view_all.ensures.read peer low))
+    (c.take_all.ensures.keeps peer (omega (arith, low, same)))

@@ -1,6 +1,7 @@
 use Rattle.std.proofs.Common.{◌≡◌, ◌∙◌, map, sym, subst, ◌<◌, length}
 use Rattle.std.proofs.lemmas.List.{length-map}
 use Rattle.hs_cluster.proofs.BeginLemmas.{begins_ok, closed_memory, closed_of, unwritten_memory, unwritten_of}
+use Rattle.hs_cluster.proofs.CountLemmas.{falls_within}
 use Rattle.hs_cluster.specs.Disks.{DiskSeen, seen_as}
 use Rattle.hs_fold.specs.Shards.Setting.{Setting}
 use Rattle.hs_taking.specs.Shares.{Span, Taken}
@@ -16,6 +17,7 @@ returns-clause-begins g c =
     c.in-Ok.ensures.read c.in-Ok.ensures.shares c.in-Ok.ensures.logs c.read_store.ensures.ticks
     (length-map c.args.disks.now f ∙ c.requires.count)
     (length-map c.read_store.new.disks f ∙ c.read_store.ensures.count ∙ sym (length-map c.args.disks.now f))
+    (falls_within span.old span.new (λ peer low. c.read_store.ensures.counted peer (subst (λ n. peer < n) (length-map c.args.disks.now f) low)))
     (λ told peer found low refused. c.in-Ok.ensures.own told peer found (subst (λ n. peer < n) (length-map c.args.disks.now f) low) refused)
     c.begun.ensures.logs c.begun.ensures.core c.begun.ensures.course
 
@@ -30,3 +32,23 @@ returns-in-Err-clause-closed g c = closed_of _ _ _ _ c.in-Err.fault _ c.from.ens
 
 pub returns-in-Err-clause-unwritten : goal.returns-in-Err-clause-unwritten
 returns-in-Err-clause-unwritten g c = unwritten_of _ c.in-Err.fault _ c.from.ensures c.in-Err.ensures.unwritten
+
+pub returns-clause-counted : goal.returns-clause-counted
+returns-clause-counted g c =
+    let f : g.row.D.Denot → DiskSeen = λ disk. seen_as (g.D.Disk.size disk) (g.D.Disk.stands disk) (g.D.Disk.faults disk) in
+    falls_within (map f c.args.disks.now) (map f c.read_store.new.disks) (λ peer low. c.read_store.ensures.counted peer (subst (λ n. peer < n) (length-map c.args.disks.now f) low))
+
+pub returns-in-Err-clause-counted : goal.returns-in-Err-clause-counted
+returns-in-Err-clause-counted g c =
+    let f : g.row.D.Denot → DiskSeen = λ disk. seen_as (g.D.Disk.size disk) (g.D.Disk.stands disk) (g.D.Disk.faults disk) in
+    falls_within (map f c.args.disks.now) (map f c.read_store.new.disks) (λ peer low. c.read_store.ensures.counted peer (subst (λ n. peer < n) (length-map c.args.disks.now f) low))
+
+pub returns-clause-keeps : goal.returns-clause-keeps
+returns-clause-keeps g c =
+    let f : g.row.D.Denot → DiskSeen = λ disk. seen_as (g.D.Disk.size disk) (g.D.Disk.stands disk) (g.D.Disk.faults disk) in
+    record { each = λ peer low. c.read_store.ensures.keeps peer (subst (λ n. peer < n) (length-map c.args.disks.now f) low) }
+
+pub returns-in-Err-clause-keeps : goal.returns-in-Err-clause-keeps
+returns-in-Err-clause-keeps g c =
+    let f : g.row.D.Denot → DiskSeen = λ disk. seen_as (g.D.Disk.size disk) (g.D.Disk.stands disk) (g.D.Disk.faults disk) in
+    record { each = λ peer low. c.read_store.ensures.keeps peer (subst (λ n. peer < n) (length-map c.args.disks.now f) low) }

@@ -1,18 +1,23 @@
-use Rattle.std.proofs.Common.{◌≡◌, ◌≤◌, ap, arith, map, subst, true}
-use Rattle.std.specs.Prelude.{Ok}
+use Rattle.std.proofs.Common.{◌≡◌, ◌≤◌, Some, ap, arith, map, subst, true}
+use Rattle.std.specs.Prelude.{Ok, Option}
 use Rattle.hs_cluster.proofs.DiskLemmas.{since_of}
 use Rattle.hs_cluster.proofs.ShowLemmas.{does_same, job_cut, job_shows}
 use Rattle.hs_cluster.proofs.WalkLemmas.{event_due, nothing_due, report_is_it}
 use Rattle.hs_cluster.specs.Calls.{Does, done_of}
 use Rattle.hs_cluster.specs.declared.fault.ClusterFault.{ClusterFault}
-use Rattle.hs_cluster.specs.Disks.{DiskSeen, seen_as}
-use Rattle.hs_cluster.specs.Jobs.{Works, is_own}
+use Rattle.hs_cluster.specs.Counts.{HasAllPaid, HasPaid}
+use Rattle.hs_cluster.specs.Disks.{DiskSeen, log_at, seen_as, stands_of}
+use Rattle.hs_cluster.specs.Jobs.{HasStored, Works, is_own}
 use Rattle.hs_cluster.specs.Running.{Running}
 use Rattle.hs_core.specs.declared.event.Event.{Event}
 use Rattle.hs_core.specs.declared.event.Event.TheVariants as event
-use Rattle.hs_core.specs.Looking.{first_job}
+use Rattle.hs_core.specs.Looking.{catalogue_of, first_job, home}
+use Rattle.hs_entry.specs.declared.entry.Entry.{Entry}
 use Rattle.hs_events.specs.declared.due.Due.TheVariants.{Reporting}
 use Rattle.hs_events.specs.Due.{is_answer}
+use Rattle.hs_fold.specs.Shards.Setting.{Numbered}
+use Rattle.hs_peerlog.specs.Lists.{HasLog, Keeping}
+use Rattle.hs_ports.specs.Moments.{disk_at}
 use Rattle.hs_cluster.proofs.cluster.Cluster.report.Goals as goal
 
 pub returns-in_default-clause-does : goal.returns-in_default-clause-does
@@ -30,7 +35,8 @@ returns-in_default-clause-does g c = λ line.
       after = c.do_job-done.new.logs.items;
       disks = map f c.args.disks.now;
       left = map f c.do_job-done.new.disks;
-    }) (first_job c.args.peer r.core) c.do_job-done.result) c.self.view_is (c.do_job-done.ensures.works told)))
+    }) (first_job c.args.peer r.core) c.do_job-done.result) c.self.view_is (c.do_job-done.ensures.works told))
+    c.do_job-done.ensures.later)
 
 pub returns-clause-does : goal.returns-clause-does
 returns-clause-does g c = λ line.
@@ -56,4 +62,9 @@ returns-clause-does g c = λ line.
       disks = map f c.args.disks.now;
       left = map f c.do_job-done.new.disks;
     }) (first_job c.args.peer r.core) (Ok c.in-Ok.done)) c.self.view_is (c.in-Ok.ensures.works told))
-    c.step.ensures.logs does)
+    c.step.ensures.logs does c.do_job-done.ensures.later
+    (subst (λ (r : Running). HasPaid r.core c.args.peer c.in-Ok.done (map f c.args.disks.now) (map f c.do_job-done.new.disks)) c.self.view_is c.in-Ok.ensures.paid) c.in-Ok.ensures.bytes
+    (λ told. subst (λ (r : Running). is_own (first_job c.args.peer r.core) ≡ true → (list : Numbered) (waiting : Option Entry)
+        → ((keeping : Keeping) → log_at r.logs c.args.peer ≡ Some keeping → HasLog keeping (disk_at (stands_of (map f c.args.disks.now)) c.args.peer) list waiting)
+        → HasStored (first_job c.args.peer r.core) (catalogue_of (home c.args.peer r.core) r.core).blocks list → HasAllPaid r.core c.args.peer c.in-Ok.done (map f c.args.disks.now) (map f c.do_job-done.new.disks))
+    c.self.view_is (c.in-Ok.ensures.read told)))

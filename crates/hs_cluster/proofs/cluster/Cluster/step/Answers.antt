@@ -2,6 +2,7 @@ use Rattle.std.proofs.Common.{◌≡◌, ◌∙◌, ap, sym, subst, refl, ◌*�
 use Rattle.std.specs.List.{range_with_len}
 use Rattle.std.specs.Prelude.{Result, Ok, Err}
 use Rattle.hs_cluster.proofs.EventLemmas.{err_ends, event_done, event_refused, ok_goes}
+use Rattle.hs_cluster.proofs.RoomLemmas.{room_ended}
 use Rattle.hs_events.proofs.GoingLemmas.{step_goes}
 use Rattle.hs_cluster.specs.Calls.{Does, outcome_by}
 use Rattle.hs_events.specs.Course.{is_refused, items_between}
@@ -29,7 +30,7 @@ returns-in-Ok-clause-does c =
     subst (λ (o : Running). Does ((c.args.event, c.args.moment) ∷ []) o (record { core = new; logs = c.self.inside.logs.items; course = c.note_event.new.course.items }) (Ok tt)) c.self.view_is
     (event_done c.args.event c.args.moment (record { core = old; logs = c.self.inside.logs.items; course = c.self.inside.course.items }) (record { core = new; logs = c.self.inside.logs.items; course = c.note_event.new.course.items }) c.begun_line-line.result (Ok tt) is c.begun_line-line.ensures
     (c.note_event.ensures.items old shape goods fronts ∙ ap (λ (xs : List CourseItem). xs ++ items_between c.begun_line-line.result old new c.args.moment) c.in_ok-reserve.ensures.items)
-    (ap is_refused (ok_goes new c.in-Ok.field-0 c.in-Ok.ensures.steps.outcome)) (ap outcome_by (sym (ok_goes new c.in-Ok.field-0 c.in-Ok.ensures.steps.outcome))) refl)
+    (ap is_refused (ok_goes new c.in-Ok.field-0 c.in-Ok.ensures.steps.outcome)) (ap outcome_by (sym (ok_goes new c.in-Ok.field-0 c.in-Ok.ensures.steps.outcome))) refl (λ going. c.in-Ok.ensures.room))
 
 pub returns-in-Err-OpsFull-clause-does : goal.returns-in-Err-OpsFull-clause-does
 returns-in-Err-OpsFull-clause-does c =
@@ -54,4 +55,5 @@ returns-in-Err-ShardLost-clause-does c =
     subst (λ (o : Running). Does ((c.args.event, c.args.moment) ∷ []) o (record { core = new; logs = c.self.inside.logs.items; course = c.note_event-in-Err-ShardLost.new.course.items }) (Err (cluster.ShardLost c.in-Err-ShardLost.shard))) c.self.view_is
     (event_done c.args.event c.args.moment (record { core = old; logs = c.self.inside.logs.items; course = c.self.inside.course.items }) (record { core = new; logs = c.self.inside.logs.items; course = c.note_event-in-Err-ShardLost.new.course.items }) c.begun_line-line.result (Err (cluster.ShardLost c.in-Err-ShardLost.shard)) is c.begun_line-line.ensures
     (c.note_event-in-Err-ShardLost.ensures.items old shape goods fronts ∙ ap (λ (xs : List CourseItem). xs ++ items_between c.begun_line-line.result old new c.args.moment) c.in_ok-reserve.ensures.items)
-    (ap is_refused (err_ends new (core.ShardLost c.in-Err-ShardLost.shard) steps.outcome)) (ap outcome_by (sym (err_ends new (core.ShardLost c.in-Err-ShardLost.shard) steps.outcome))) refl)
+    (ap is_refused (err_ends new (core.ShardLost c.in-Err-ShardLost.shard) steps.outcome)) (ap outcome_by (sym (err_ends new (core.ShardLost c.in-Err-ShardLost.shard) steps.outcome))) refl
+    (room_ended new (core.ShardLost c.in-Err-ShardLost.shard) (err_ends new (core.ShardLost c.in-Err-ShardLost.shard) steps.outcome)))

@@ -1,6 +1,8 @@
-use Rattle.std.proofs.Common.{◌∙◌, ◌+◌, ap, sym, refl, arith, length, map}
+use Rattle.std.proofs.Common.{◌∙◌, ◌+◌, ◌<◌, ℕ, ap, sym, subst, refl, arith, drop, length, map}
 use Rattle.std.proofs.lemmas.List.{length-map}
+use Rattle.hs_cluster.proofs.DiskLemmas.{since_of}
 use Rattle.hs_cluster.specs.Disks.{DiskSeen, seen_as}
+use Rattle.hs_script.specs.Text.{text}
 use Rattle.hs_run.specs.Between.{Point}
 use Rattle.hs_run.specs.OneLine.{RunsCommand}
 use Rattle.hs_run.proofs.PutsLemmas.{ended_printed}
@@ -37,6 +39,8 @@ returns-clause-runs g c = record {
   puts = rw c.requires.printed at c.print-put.ensures.puts;
   only = c.print-put.ensures.only;
   ended = c.end_of.ensures;
+  some = λ is. subst (λ (k : ℕ). 0 < length (text (drop k c.run-did.new.self.core.journal))) c.requires.printed (c.print-put.ensures.some is);
+  since = λ told. since_of (λ disk. seen_as (g.D.Disk.size disk) (g.D.Disk.stands disk) (g.D.Disk.faults disk)) c.run-did.new.disks (g.met.D.Disk.since told);
 }
 
 pub returns-clause-ready : goal.returns-clause-ready
@@ -54,6 +58,8 @@ returns-clause-ready g c =
       puts = rw c.requires.printed at c.print-put.ensures.puts;
       only = c.print-put.ensures.only;
       ended = c.end_of.ensures;
+      some = λ is. subst (λ (k : ℕ). 0 < length (text (drop k c.run-did.new.self.core.journal))) c.requires.printed (c.print-put.ensures.some is);
+      since = λ told. since_of f c.run-did.new.disks (g.met.D.Disk.since told);
     } in
     command_ready g.D.Disk.tells (g.A.Addresser.name c.args.naming.now) c.args.command old new c.end_of.result c.requires.ready runs c.run-did.ensures.ready c.run-did.ensures.moment c.run-did.ensures.shape
     (length-map c.run-did.new.disks f ∙ c.run-did.ensures.count ∙ sym (length-map c.args.disks.now f))

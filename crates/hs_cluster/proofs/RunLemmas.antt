@@ -1,0 +1,233 @@
+-- A run on disks goes on: from its opening, by the events of a line, and while the watch alone ticks.
+use Rattle.std.proofs.Common.{◌≡◌, ◌∙◌, ◌⊎◌, inl, inr, ap, sym, subst, ℕ, zero, suc, ◌+◌, ◌-◌, ◌^◌, ◌<◌, ◌≤◌, Bool, true, false, List, [], ◌∷◌, ◌++◌, length, Option, Some, None, refl, arith, nat_lt}
+use Rattle.std.proofs.lemmas.Bool.{cases_lt, ne_eqb}
+use Rattle.std.proofs.lemmas.List.Sums.{sum_by-cons}
+use Rattle.std.specs.List.{AllPairs}
+use Rattle.std.specs.Prelude.{◌==◌, ⊤, Contains, OnOk, Result, Ok, Err, cond, count_by, if◌then◌else◌, slice_index_or}
+use Rattle.hs_cluster.proofs.CountLemmas.{all_then, counted_then, rose_none, rose_then}
+use Rattle.hs_cluster.proofs.RoomLemmas.{rooms_then}
+use Rattle.hs_cluster.proofs.ShowLemmas.{all_happened, happened_then, moments_then, rises_to, runs_append, runs_core, stored_back, stored_front, told_then}
+use Rattle.hs_cluster.specs.Counts.{AreAllCounted, AreCounted, NoneFalls}
+use Rattle.hs_cluster.specs.declared.fault.ClusterFault.{ClusterFault}
+use Rattle.hs_cluster.specs.Disks.{DiskSeen, seen_at, stands_of}
+use Rattle.hs_cluster.specs.Kept.{AreStored, CanGoOn, LeavesLists, Shows, Span}
+use Rattle.hs_cluster.specs.Opens.{AreSound, Finds, Opens}
+use Rattle.hs_cluster.specs.Rooms.{HaveRecordRoom}
+use Rattle.hs_cluster.specs.Running.{Running}
+use Rattle.hs_cluster.specs.RunsOn.{CanRunOn, RunsOn}
+use Rattle.hs_core.specs.State.{Core}
+use Rattle.hs_core.specs.Step.{step}
+use Rattle.hs_events.specs.Course.{happened, steps}
+use Rattle.hs_events.specs.Due.{Events, MomentsRise}
+use Rattle.hs_events.specs.Found.{Found, first_core}
+use Rattle.hs_events.specs.Reports.{failures}
+use Rattle.hs_events.specs.Whole.{Whole, counts, open_whole}
+use Rattle.hs_fold.specs.Images.{IsLeft}
+use Rattle.hs_fold.specs.Shards.Setting.{Setting}
+use Rattle.hs_moments.proofs.HappenedLemmas.{happened_rise}
+use Rattle.hs_moments.proofs.MomentLemmas.{later-keeps, lt-is}
+use Rattle.hs_moments.specs.Machine.{runs, state_at, until}
+use Rattle.hs_moments.specs.Moments.{GivesFine, IsStanding, Keeps, ListsAtMoments, Since}
+use Rattle.hs_moments.specs.WholeMachine.{IsFrontOf, last_of, whole_machine}
+use Rattle.hs_ports.specs.declared.disk.Side.{Side}
+use Rattle.hs_ports.specs.Disk.{IsImage}
+use Rattle.hs_ports.specs.Fault.{HasRisen}
+use Rattle.hs_ports.specs.Moments.{disk_at}
+use Rattle.hs_ports.specs.Objects.{RoseBy}
+use Rattle.hs_taking.specs.Shares.{IsLater, Span as Taking}
+
+-- ---- opening
+
+-- from entry to behind its turns
+abbrev pub opening_span : Taking → Running → Running → Span
+opening_span s begun cluster = record { before = s.before; now = s.now; old = begun; new = cluster; disks = s.old; left = s.new }
+
+pub runs_opened : (tells : Type 0) (set : Setting) (s : Taking) (cluster : Running) (done : Result ⊤ ClusterFault) (o : Opens tells set s cluster done) → RunsOn tells set (opening_span s o.begun cluster) o.found o.events
+runs_opened tells set s cluster done o = record {
+  slots = o.begun.logs;
+  disks = o.disks;
+  finds = o.finds;
+  own = o.own;
+  falls = o.falls;
+  counted = o.counted;
+  rooms = o.rooms;
+  lists = o.lists;
+  read = o.read;
+}
+
+pub can_opened : (tells : Type 0) (set : Setting) (s : Taking) (cluster : Running) (done : Result ⊤ ClusterFault) (o : Opens tells set s cluster done) → OnOk done (CanRunOn tells set (opening_span s o.begun cluster) o.found o.events)
+can_opened tells set s cluster (Ok x) o = λ told sound. o.goes_on told sound
+can_opened tells set s cluster (Err fault) o = tt
+
+-- ---- the events of a line
+
+rises_from : (low from to : ℕ) (es : Events) → low ≤ from → MomentsRise from es to → MomentsRise low es to
+rises_from low from to [] below h = omega (arith, below, h)
+rises_from low from to (e ∷ es) below h = let above = h.0 in (omega (arith, below, above), h.1)
+
+module _ (tells : Type 0) (set : Setting) (found : Found) (before mid now : ℕ) (begun here new : Running) (disks between left : List DiskSeen) (r : Result ⊤ ClusterFault) (es fs : Events)
+    (so_far : RunsOn tells set (record { before = before; now = mid; old = begun; new = here; disks = disks; left = between }) found es)
+    (can : CanRunOn tells set (record { before = before; now = mid; old = begun; new = here; disks = disks; left = between }) found es)
+    (core : here.core ≡ steps (first_core set found) es) (going : here.core.ended ≡ None) (rises : MomentsRise found.opened es mid) (on : MomentsRise mid fs now) (rooms : HaveRecordRoom here.core fs)
+    (shows : Shows tells (record { before = mid; now = now; old = here; new = new; disks = between; left = left }) r fs) where
+  abbrev c : Whole
+  c = open_whole set found
+
+  abbrev then : Whole
+  then = runs whole_machine c es
+
+  then_core : then.core ≡ here.core
+  then_core = runs_core c es ∙ sym core
+
+  goes : (steps c.core es).ended ≡ None
+  goes = ap (λ (x : Core). x.ended) (sym core) ∙ going
+
+  rise : MomentsRise before es mid
+  rise = rises_from before found.opened mid es so_far.finds.later rises
+
+  lists : tells → AreSound before disks → (first_core set found).ended ≡ None → LeavesLists c (es ++ fs) (record { before = before; now = now; old = begun; new = new; disks = disks; left = left })
+  lists told sound first =
+      let one = so_far.lists told sound first in
+      let two = shows.lists told then then_core (can told sound) in
+      let mine : happened c.core es ≡ es = all_happened c.core es goes in
+      let all : happened c.core (es ++ fs) ≡ es ++ happened then.core fs = happened_then c.core es fs goes ∙ ap (λ x. es ++ happened x fs) (sym (runs_core c es)) in
+      record {
+        earlier = λ k m side low fits. two.earlier k m side (let ticks = rises_to before mid es rise in omega (arith, low, ticks)) fits ∙ one.earlier k m side low fits;
+        moments = subst (λ xs. ListsAtMoments whole_machine IsFrontOf last_of c xs before now (stands_of left)) (sym all)
+            (moments_then c es (happened then.core fs) before mid now (stands_of between) (stands_of left) rise (happened_rise then.core mid now fs on) two.earlier
+            (subst (λ xs. ListsAtMoments whole_machine IsFrontOf last_of c xs before mid (stands_of between)) mine one.moments) two.moments);
+        keeps = subst (λ s. Keeps whole_machine IsFrontOf last_of s now (stands_of left)) (sym (ap (λ xs. runs whole_machine c xs) all ∙ runs_append c es (happened then.core fs))) two.keeps;
+        told = told_then c es fs one.told two.told;
+      }
+
+  pub runs_more : RunsOn tells set (record { before = before; now = now; old = begun; new = new; disks = disks; left = left }) found (es ++ fs)
+  runs_more = record {
+    slots = so_far.slots;
+    disks = so_far.disks;
+    finds = so_far.finds;
+    own = so_far.own;
+    falls = so_far.falls;
+    counted = counted_then (first_core set found) here.core es fs so_far.disks between left core so_far.counted shows.counted;
+    rooms = rooms_then (first_core set found) es fs so_far.rooms (subst (λ x. HaveRecordRoom x fs) core rooms);
+    lists = lists;
+    read = λ told sound first stored.
+        all_then (first_core set found) here.core es fs so_far.disks between left core (so_far.read told sound first (stored_front c es fs stored))
+        (shows.read told then then_core (can told sound) (stored_back c es fs stored));
+  }
+
+  pub can_more : OnOk r (CanRunOn tells set (record { before = before; now = now; old = begun; new = new; disks = disks; left = left }) found (es ++ fs))
+  can_more = by r (λ told sound. shows.goes_on told then then_core (can told sound))
+    where
+      by : (r : Result ⊤ ClusterFault) → (tells → AreSound before disks → OnOk r (CanGoOn (runs whole_machine then fs) new.logs left now))
+          → OnOk r (CanRunOn tells set (record { before = before; now = now; old = begun; new = new; disks = disks; left = left }) found (es ++ fs))
+      by (Err fault) h = tt
+      by (Ok x) h = λ told sound. subst (λ s. CanGoOn s new.logs left now) (sym (runs_append c es fs)) (h told sound)
+
+-- ---- time alone
+
+until_all : (m from to : ℕ) (es : Events) → to < m → MomentsRise from es to → until m es ≡ es
+until_all m from to [] high rises = refl
+until_all m from to (e ∷ es) high rises =
+    let is : nat_lt e.1 m ≡ true = lt-is e.1 m (let rest = rises_to e.1 to es rises.1 in omega (arith, high, rest)) in
+    ap (λ b. if b then e ∷ until m es else []) is ∙ ap (λ xs. e ∷ xs) (until_all m e.1 to es high rises.1)
+
+lists_later : (c : Whole) (es : Events) (before now later : ℕ) (begun cluster : Running) (disks left : List DiskSeen) → now ≤ later → MomentsRise before es now → Since (stands_of left)
+    → LeavesLists c es (record { before = before; now = now; old = begun; new = cluster; disks = disks; left = left })
+    → LeavesLists c es (record { before = before; now = later; old = begun; new = cluster; disks = disks; left = left })
+lists_later c es before now later begun cluster disks left ticks rises since so_far = record {
+  earlier = so_far.earlier;
+  moments = record {
+    fine = λ m k low high fits counted image is_left. elim (cases_lt now m) [
+      | inl above ↦ late m k above counted image is_left
+      | inr le ↦ so_far.moments.fine m k low le fits counted image is_left
+    ];
+  };
+  keeps = later-keeps whole_machine IsFrontOf last_of (runs whole_machine c (happened c.core es)) now later (stands_of left) ticks so_far.keeps;
+  told = so_far.told;
+}
+  where
+    late : (m k : ℕ) → now < m → counts (state_at whole_machine c (happened c.core es) m) k ≡ true → (image : Side → List ℕ) → IsLeft (disk_at (stands_of left) k) m image
+        → GivesFine whole_machine IsFrontOf last_of (state_at whole_machine c (happened c.core es) m) k image
+    late m k above counted image is_left =
+        let same : state_at whole_machine c (happened c.core es) m ≡ runs whole_machine c (happened c.core es) = ap (λ xs. runs whole_machine c xs) (until_all m before now (happened c.core es) above (happened_rise c.core before now es rises)) in
+        let stands : IsStanding (disk_at (stands_of left) k) image = record { sides = λ side. subst (λ x. IsImage x (image side)) (since k side m (let last = so_far.keeps.called k in omega (arith, last, above))) (is_left.sides side) } in
+        subst (λ s. GivesFine whole_machine IsFrontOf last_of s k image) (sym same) (so_far.keeps.fine k (subst (λ s. counts s k ≡ true) same counted) image stands)
+
+pub runs_later : (tells : Type 0) (set : Setting) (found : Found) (before now later : ℕ) (begun cluster : Running) (disks left : List DiskSeen) (es : Events) → now ≤ later → MomentsRise found.opened es now → (tells → Since (stands_of left))
+    → RunsOn tells set (record { before = before; now = now; old = begun; new = cluster; disks = disks; left = left }) found es
+    → RunsOn tells set (record { before = before; now = later; old = begun; new = cluster; disks = disks; left = left }) found es
+runs_later tells set found before now later begun cluster disks left es ticks rises since so_far = record {
+  slots = so_far.slots;
+  disks = so_far.disks;
+  finds = so_far.finds;
+  own = so_far.own;
+  falls = so_far.falls;
+  counted = so_far.counted;
+  rooms = so_far.rooms;
+  lists = λ told sound first. lists_later (open_whole set found) es before now later begun cluster disks left ticks (rises_from before found.opened now es so_far.finds.later rises) (since told) (so_far.lists told sound first);
+  read = so_far.read;
+}
+
+pub can_later : (tells : Type 0) (set : Setting) (found : Found) (before now later : ℕ) (begun cluster : Running) (disks left : List DiskSeen) (es : Events) → now ≤ later
+    → CanRunOn tells set (record { before = before; now = now; old = begun; new = cluster; disks = disks; left = left }) found es
+    → CanRunOn tells set (record { before = before; now = later; old = begun; new = cluster; disks = disks; left = left }) found es
+can_later tells set found before now later begun cluster disks left es ticks can = λ told sound.
+    let so_far = can told sound in
+    record {
+      sane = so_far.sane;
+      listed = so_far.listed;
+      keeps = later-keeps whole_machine IsFrontOf last_of (runs whole_machine (open_whole set found) es) now later (stands_of left) ticks so_far.keeps;
+    }
+
+-- ---- failed calls from entry on
+
+count_none : (disk : ℕ) (xs : List (ℕ × ℕ)) → ((k : ℕ) (d : ℕ × ℕ) → k < length xs → ((slice_index_or xs k d).0 == disk) ≡ false) → count_by (λ x. x.0 == disk) xs ≡ 0
+count_none disk [] none = refl
+count_none disk (x ∷ xs) none =
+    sum_by-cons (λ y. cond (y.0 == disk) 1 0) x xs
+    ∙ ap (λ b. cond b 1 0 + count_by (λ y. y.0 == disk) xs) (none 0 x (omega arith))
+    ∙ ap (λ n. 0 + n) (count_none disk xs (λ k d low. none (suc k) d (omega (arith, low))))
+
+-- no peer is lost twice, so its loss is at its count
+losses : (disk a b : ℕ) (xs : List (ℕ × ℕ)) → a ≤ b → ((x : ℕ × ℕ) → Contains xs x → x.0 ≡ disk → HasRisen a b) → AllPairs IsLater xs → RoseBy (count_by (λ x. x.0 == disk) xs) a b
+losses disk a b [] later rose once = rose_none (2 ^ 64 - 1) a b later
+losses disk a b (x ∷ xs) later rose once = go (x.0 == disk) refl
+  where
+    there : (n m : ℕ) → (n == m) ≡ true → n ≡ m
+    there n m h = grind arith
+
+    more : (t : Bool) → (x.0 == disk) ≡ t → count_by (λ y. y.0 == disk) (x ∷ xs) ≡ cond t 1 0 + count_by (λ y. y.0 == disk) xs
+    more t is = sum_by-cons (λ y. cond (y.0 == disk) 1 0) x xs ∙ ap (λ b. cond b 1 0 + count_by (λ y. y.0 == disk) xs) is
+
+    none : x.0 ≡ disk → count_by (λ y. y.0 == disk) xs ≡ 0
+    none same = count_none disk xs (λ k d low. ne_eqb (slice_index_or xs k d).0 disk (λ e. (once 0 (suc k) d (omega arith) (omega (arith, low))).1 (same ∙ sym e)))
+
+    go : (t : Bool) → (x.0 == disk) ≡ t → RoseBy (count_by (λ y. y.0 == disk) (x ∷ xs)) a b
+    go true is =
+        subst (λ n. RoseBy n a b) (sym (more true is ∙ ap (λ n. 1 + n) (none (there x.0 disk is)))) (rose x (0, omega arith, refl) (there x.0 disk is))
+    go false is =
+        subst (λ n. RoseBy n a b) (sym (more false is))
+        (losses disk a b xs later (λ y c same. rose y (suc c.0, (let low = c.1 in omega (arith, low)), c.2) same) (λ i j d lt within. once (suc i) (suc j) d (omega (arith, lt)) (omega (arith, within))))
+
+lost_before : (tells : Type 0) (set : Setting) (s : Span) (found : Found) (es : Events) (on : RunsOn tells set s found es) → tells → (disk : ℕ)
+    → RoseBy (count_by (λ x. x.0 == disk) found.lost) (seen_at s.disks disk).faults (seen_at on.disks disk).faults
+lost_before tells set s found es on told disk =
+    losses disk (seen_at s.disks disk).faults (seen_at on.disks disk).faults found.lost (on.falls disk)
+    (λ x among same. subst (λ p. HasRisen (seen_at s.disks p).faults (seen_at on.disks p).faults) same ((on.finds.lost x among).disk.failed told)) on.finds.once
+
+-- those of opening's reading, with those that the reports tell
+pub all_failed : (tells : Type 0) (set : Setting) (s : Span) (found : Found) (es : Events) → RunsOn tells set s found es → tells → AreSound s.before s.disks → (first_core set found).ended ≡ None → AreStored (open_whole set found) es
+    → (disk : ℕ) → RoseBy (failures true disk (first_core set found) es + count_by (λ x. x.0 == disk) found.lost) (seen_at s.disks disk).faults (seen_at s.left disk).faults
+all_failed tells set s found es on told sound first stored = λ disk.
+    subst (λ n. RoseBy n (seen_at s.disks disk).faults (seen_at s.left disk).faults) (swapped (count_by (λ x. x.0 == disk) found.lost) (failures true disk (first_core set found) es))
+    (rose_then (2 ^ 64 - 1) (seen_at s.disks disk).faults (seen_at on.disks disk).faults (seen_at s.left disk).faults (count_by (λ x. x.0 == disk) found.lost) (failures true disk (first_core set found) es)
+    (lost_before tells set s found es on told disk) (on.read told sound first stored disk))
+  where
+    swapped : (a b : ℕ) → a + b ≡ b + a
+    swapped a b = omega arith
+
+-- of whatever disks, but for reads
+pub some_failed : (tells : Type 0) (set : Setting) (s : Span) (found : Found) (es : Events) → RunsOn tells set s found es → (disk : ℕ) → RoseBy (failures false disk (first_core set found) es) (seen_at s.disks disk).faults (seen_at s.left disk).faults
+some_failed tells set s found es on = λ disk.
+    rose_then (2 ^ 64 - 1) (seen_at s.disks disk).faults (seen_at on.disks disk).faults (seen_at s.left disk).faults 0 (failures false disk (first_core set found) es)
+    (rose_none (2 ^ 64 - 1) (seen_at s.disks disk).faults (seen_at on.disks disk).faults (on.falls disk)) (on.counted.failed disk)

@@ -1,0 +1,44 @@
+-- How often the disks of a cluster failed, by what was told of them.
+use Rattle.std.specs.Prelude.{◌≡◌, ◌≤◌, ◌⊎◌, ℕ, true, false, IfSome, List}
+use Rattle.hs_cluster.specs.Disks.{DiskSeen, seen_at}
+use Rattle.hs_core.specs.declared.event.Event.TheVariants.{Report}
+use Rattle.hs_core.specs.State.{Core}
+use Rattle.hs_desk.specs.declared.done.Done.{Done}
+use Rattle.hs_events.specs.Asked.{failed_disk}
+use Rattle.hs_events.specs.Due.{Events}
+use Rattle.hs_events.specs.Reports.{costs, failures}
+use Rattle.hs_ports.specs.Fault.{HasRisen}
+use Rattle.hs_ports.specs.Objects.{RoseBy}
+
+-- ---- a job
+
+-- it tells of no failed call but one of the disk of its peer, whose count rose
+abbrev pub IsPaid : ℕ → ℕ → ℕ → Done → Type 0
+IsPaid peer before now done = IfSome (failed_disk done) (λ disk. (disk ≡ peer) × HasRisen before now)
+
+-- so does a copy, but that the disk from which it reads may have failed too
+abbrev pub IsCopyPaid : ℕ → ℕ → ℕ → ℕ → Done → Type 0
+IsCopyPaid from peer before now done = IfSome (failed_disk done) (λ disk. (disk ≡ from) ⊎ ((disk ≡ peer) × HasRisen before now))
+
+-- the count of a disk rose whose failed call is told so, but for a job that only read it
+abbrev pub HasPaid : Core → ℕ → Done → List DiskSeen → List DiskSeen → Type 0
+HasPaid core peer done old new = (disk : ℕ) → costs false disk core (Report peer done) ≡ true → HasRisen (seen_at old disk).faults (seen_at new disk).faults
+
+-- that of each disk whose failed call is told so
+abbrev pub HasAllPaid : Core → ℕ → Done → List DiskSeen → List DiskSeen → Type 0
+HasAllPaid core peer done old new = (disk : ℕ) → costs true disk core (Report peer done) ≡ true → HasRisen (seen_at old disk).faults (seen_at new disk).faults
+
+-- ---- events
+
+-- no count falls
+abbrev pub NoneFalls : List DiskSeen → List DiskSeen → Type 0
+NoneFalls old new = (disk : ℕ) → (seen_at old disk).faults ≤ (seen_at new disk).faults
+
+-- nor does it, and each rose by as many failures as events of a core report of its disk
+pub record AreCounted (core : Core) (events : Events) (old new : List DiskSeen) : Type 0 where
+  pub later : NoneFalls old new
+  pub failed : (disk : ℕ) → RoseBy (failures false disk core events) (seen_at old disk).faults (seen_at new disk).faults
+
+-- and by as many as the reports tell of reads too
+abbrev pub AreAllCounted : Core → Events → List DiskSeen → List DiskSeen → Type 0
+AreAllCounted core events old new = (disk : ℕ) → RoseBy (failures true disk core events) (seen_at old disk).faults (seen_at new disk).faults

@@ -1,0 +1,40 @@
+-- What a run on disks shows, beside its events.
+use Rattle.std.specs.Prelude.{List, None, Option, Some, length, ℕ, ◌<◌, ◌≡◌}
+use Rattle.hs_cluster.specs.Counts.{AreAllCounted, AreCounted, NoneFalls}
+use Rattle.hs_cluster.specs.Disks.{DiskSeen, seen_at}
+use Rattle.hs_cluster.specs.Kept.{AreStored, CanGoOn, LeavesLists, Span}
+use Rattle.hs_cluster.specs.Opens.{AreSound, Finds}
+use Rattle.hs_cluster.specs.Rooms.{HaveRecordRoom}
+use Rattle.hs_events.specs.Due.{Events}
+use Rattle.hs_events.specs.Found.{Found, first_core}
+use Rattle.hs_events.specs.Whole.{open_whole}
+use Rattle.hs_fold.specs.Shards.Setting.{Setting}
+use Rattle.hs_moments.specs.Machine.{runs}
+use Rattle.hs_moments.specs.WholeMachine.{whole_machine}
+use Rattle.hs_peerlog.specs.declared.fault.LogFault.TheVariants as log
+use Rattle.hs_peerlog.specs.Lists.{Keeping}
+use Rattle.hs_peerlog.specs.Opening.{refusal_in}
+use Rattle.hs_ports.specs.Fault.{HasRisen}
+use Rattle.hs_side.specs.declared.header.Header.{Header}
+
+-- what opening found; that counts of faults rose as the reports tell; and of disks that tell their contents, and are sound at entry, the lists at each moment
+pub record RunsOn (tells : Type 0) (set : Setting) (span : Span) (found : Found) (events : Events) : Type 0 where
+  -- the logs in use right before the first turn, and the disks then
+  pub slots : List (Option Keeping)
+  pub disks : List DiskSeen
+  pub finds : Finds tells set (record { before = span.before; now = found.opened; old = span.disks; new = disks }) found slots
+  -- a disk of another store failed
+  pub own : tells → (peer : ℕ) (other : Header) → peer < length span.disks → refusal_in set.shape peer (seen_at span.disks peer).stands.seen ≡ Some (log.WrongShape other)
+      → HasRisen (seen_at span.disks peer).faults (seen_at disks peer).faults
+  pub falls : NoneFalls span.disks disks
+  pub counted : AreCounted (first_core set found) events disks span.left
+  pub rooms : HaveRecordRoom (first_core set found) events
+  pub lists : tells → AreSound span.before span.disks → (first_core set found).ended ≡ None → LeavesLists (open_whole set found) events span
+  -- reads too cost what they tell of failed calls, where the lists have what the catalogues say
+  pub read : tells → AreSound span.before span.disks → (first_core set found).ended ≡ None → AreStored (open_whole set found) events
+      → AreAllCounted (first_core set found) events disks span.left
+
+-- and what it needs to go on, where its core does
+abbrev pub CanRunOn : Type 0 → Setting → Span → Found → Events → Type 0
+CanRunOn tells set span found events =
+    tells → AreSound span.before span.disks → CanGoOn (runs whole_machine (open_whole set found) events) span.new.logs span.left span.now

@@ -1,0 +1,84 @@
+-- What a run shows of its disks, in the words of its objects.
+use Rattle.std.proofs.Common.{◌≡◌, ◌⊎◌, inl, inr, ◌∙◌, ap, sym, subst, ℕ, zero, suc, ◌+◌, ◌-◌, ◌^◌, ◌<◌, ◌≤◌, false, List, [], ◌∷◌, None, refl, arith, length, map, min}
+use Rattle.std.specs.Prelude.{slice_index_or}
+use Rattle.hs_cluster.proofs.CountLemmas.{falls_then, faults_seen}
+use Rattle.hs_cluster.proofs.RunLemmas.{some_failed}
+use Rattle.hs_cluster.specs.Counts.{NoneFalls}
+use Rattle.hs_cluster.specs.Disks.{DiskSeen, seen_at, stands_of}
+use Rattle.hs_cluster.specs.Kept.{Span}
+use Rattle.hs_cluster.specs.RunsOn.{RunsOn}
+use Rattle.hs_events.specs.Due.{Events}
+use Rattle.hs_events.specs.Found.{Found, first_core}
+use Rattle.hs_events.specs.Reports.{failures}
+use Rattle.hs_events.specs.Taken.{peer_count}
+use Rattle.hs_fold.specs.Shards.Setting.{Setting}
+use Rattle.hs_ports.specs.Disk.{Standing}
+use Rattle.hs_ports.specs.Fault.{HasRisen}
+use Rattle.hs_ports.specs.Moments.{disk_at}
+use Rattle.hs_ports.specs.Objects.{Objects, RoseBy, faults_at}
+use Rattle.hs_promise.specs.Found.{IsReadAs}
+use Rattle.hs_promise.specs.Run.{DiskRose, Ran, Script}
+use Rattle.hs_promise.specs.Story.{Story, all_events}
+use Rattle.hs_side.specs.Current.{list_in}
+use Rattle.hs_run.specs.Machine.{AreHanded, RunsOnDisks}
+
+-- ---- the disks that were handed
+
+pub handed_stands : {A : Type 0} (f : A → DiskSeen) (g : A → Standing × ℕ) → ((x : A) → (f x).stands ≡ (g x).0) → (xs : List A) → stands_of (map f xs) ≡ map (λ (d : Standing × ℕ). d.0) (map g xs)
+handed_stands f g h [] = refl
+handed_stands f g h (x ∷ xs) = λ i. h x i ∷ handed_stands f g h xs i
+
+pub handed_counts : {A : Type 0} (f : A → DiskSeen) (g : A → Standing × ℕ) → ((x : A) → (f x).faults ≡ (g x).1) → (xs : List A) → map (λ (d : DiskSeen). d.faults) (map f xs) ≡ map (λ (d : Standing × ℕ). d.1) (map g xs)
+handed_counts f g h [] = refl
+handed_counts f g h (x ∷ xs) = λ i. h x i ∷ handed_counts f g h xs i
+
+pub stands_at : (disks : List DiskSeen) (k : ℕ) → disk_at (stands_of disks) k ≡ (seen_at disks k).stands
+stands_at [] k = refl
+stands_at (d ∷ disks) zero = refl
+stands_at (d ∷ disks) (suc k) = stands_at disks k
+
+module _ (objects : Objects) (disks : List DiskSeen) (handed : AreHanded objects disks) (k : ℕ) where
+  pub count_is : faults_at objects.disk_faults k ≡ (seen_at disks k).faults
+  count_is = ap (λ (counts : List ℕ). faults_at counts k) (sym handed.counts) ∙ faults_seen disks k
+
+  pub disk_is : disk_at objects.disks k ≡ (seen_at disks k).stands
+  disk_is = ap (λ (stands : List Standing). disk_at stands k) (sym handed.stands) ∙ stands_at disks k
+
+-- ---- counts
+
+up_to : (a b c : ℕ) → a ≤ b → b ≤ c → a ≤ c
+up_to a b c low high = omega (arith, low, high)
+
+-- of the objects, from those of the disks
+pub rose_is : (n : ℕ) (old new : Objects) (disks left : List DiskSeen) → AreHanded old disks → AreHanded new left → (k : ℕ) → RoseBy n (seen_at disks k).faults (seen_at left k).faults
+    → RoseBy n (faults_at old.disk_faults k) (faults_at new.disk_faults k)
+rose_is n old new disks left was is k h =
+    subst (λ (b : ℕ). RoseBy n (faults_at old.disk_faults k) b) (sym (count_is new left is k))
+    (subst (λ (a : ℕ). RoseBy n a (seen_at left k).faults) (sym (count_is old disks was k)) h)
+
+pub falls_is : (old new : Objects) (disks left : List DiskSeen) → AreHanded old disks → AreHanded new left → NoneFalls disks left → (k : ℕ) → faults_at old.disk_faults k ≤ faults_at new.disk_faults k
+falls_is old new disks left was is falls k =
+    let a = count_is old disks was k in
+    let b = count_is new left is k in
+    let low = falls k in
+    omega (arith, a, b, low)
+
+-- a count that rose before the first turn
+pub risen_since : (tells : Type 0) (set : Setting) (span : Span) (found : Found) (events : Events) (shown : RunsOn tells set span found events) (k : ℕ) → HasRisen (seen_at span.disks k).faults (seen_at shown.disks k).faults → HasRisen (seen_at span.disks k).faults (seen_at span.left k).faults
+risen_since tells set span found events shown k rose = up_to (min ((seen_at span.disks k).faults + 1) (2 ^ 64 - 1)) (seen_at shown.disks k).faults (seen_at span.left k).faults rose (shown.counted.later k)
+
+pub none_fell : (tells : Type 0) (set : Setting) (span : Span) (found : Found) (events : Events) → RunsOn tells set span found events → NoneFalls span.disks span.left
+none_fell tells set span found events shown = falls_then span.disks shown.disks span.left shown.falls shown.counted.later
+
+pub paid_by : (tells : Type 0) (set : Setting) (span : Span) (found : Found) (events : Events) (old new : Objects) → AreHanded old span.disks → AreHanded new span.left → RunsOn tells set span found events
+    → (disk : ℕ) → RoseBy (failures false disk (first_core set found) events) (faults_at old.disk_faults disk) (faults_at new.disk_faults disk)
+paid_by tells set span found events old new was is shown disk =
+    rose_is (failures false disk (first_core set found) events) old new span.disks span.left was is disk (some_failed tells set span found events shown disk)
+
+-- ---- what was read
+
+pub read_as : (tells : Type 0) (S : Script) (r : Ran) (story : Story) → RunsOnDisks tells S r story → tells → (peer : ℕ) → peer < peer_count S.set.shape → IsReadAs r story peer
+read_as tells S r story runs told peer low = elim ((runs.shown.finds.each peer low).read told) [
+  | inl same ↦ inl (same ∙ ap (λ (disk : Standing). list_in disk.seen) (sym (disk_is r.old runs.span.disks runs.old peer)))
+  | inr failed ↦ inr (failed.0, rose_is 1 r.old r.new runs.span.disks runs.span.left runs.old runs.new peer (risen_since tells S.set runs.span story.found (all_events story) runs.shown peer failed.1))
+]

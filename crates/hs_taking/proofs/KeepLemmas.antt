@@ -1,0 +1,75 @@
+-- Calls that leave the list of a disk as it is, one after another, and on one disk of several.
+use Rattle.std.proofs.Common.{◌≡◌, ◌∙◌, ap, sym, subst, ℕ, ◌<◌, ◌≤◌, List, Some, length, map, refl, arith, inl, inr}
+use Rattle.std.proofs.lemmas.Bool.{cases_eq, cases_lt}
+use Rattle.std.specs.Prelude.{slice_index_or, slice_set}
+use Rattle.hs_fold.specs.Shards.Setting.{Numbered}
+use Rattle.hs_peerlog.proofs.ImageLemmas.{Since}
+use Rattle.hs_peerlog.proofs.StayLemmas.{all-each, stays}
+use Rattle.hs_peerlog.specs.Images.{Is, IsStanding, LeavesOnly}
+use Rattle.hs_ports.specs.declared.disk.Side.{Side}
+use Rattle.hs_ports.specs.Disk.{IsImage}
+use Rattle.hs_taking.proofs.DiskLemmas.{seen_here, seen_is, seen_there}
+use Rattle.hs_taking.specs.Disks.{DiskSeen, seen_at}
+use Rattle.hs_taking.specs.Shares.{KeepsDisk}
+use Rattle.hs_taking.specs.Viewed.{IsOnlyRead}
+
+-- nothing was called
+pub keeps_none : (tells : Type 0) (now : ℕ) (disk : DiskSeen) → (tells → Since disk.stands) → KeepsDisk tells now now disk disk
+keeps_none tells now disk since = record {
+  moments = λ told last list leaves. stays disk.stands now list (Is list) last (since told) leaves refl;
+  counted = omega arith;
+}
+
+-- it was only read
+pub keeps_read : (tells : Type 0) (before now : ℕ) (a b : DiskSeen) → IsOnlyRead tells before now a b → KeepsDisk tells before now a b
+keeps_read tells before now a b read = record {
+  moments = λ told last list leaves. all-each list (Is list) (read.moments told last) leaves refl;
+  counted = read.counted;
+}
+
+-- and then some calls
+pub keeps_then : (tells : Type 0) (before mid now : ℕ) (a b c : DiskSeen) → KeepsDisk tells before mid a b → KeepsDisk tells mid now b c → KeepsDisk tells before now a c
+keeps_then tells before mid now a b c first second = record {
+  moments = λ told last list leaves.
+      let one = first.moments told last list leaves in
+      let two = second.moments told one.last list (λ image stands. let g = one.standing image stands in g.read ∙ ap (λ (l : Numbered). Some l) g.holds) in
+      record {
+        later = let l = one.later in let m = two.later in omega (arith, l, m);
+        last = two.last;
+        earlier = λ side m low fits. two.earlier side m (let l = one.later in omega (arith, low, l)) fits ∙ one.earlier side m low fits;
+        each = λ m high fits image left. elim (cases_lt mid m) [
+          | inl above ↦ two.each m above fits image left
+          | inr le ↦ one.each m high fits image (λ side. subst (λ l. IsImage l (image side)) (two.earlier side m le fits) (left side))
+        ];
+        standing = two.standing;
+      };
+  counted = let l = first.counted in let m = second.counted in omega (arith, l, m);
+}
+
+-- and time went on
+pub keeps_wait : (tells : Type 0) (before mid now : ℕ) (a b : DiskSeen) → mid ≤ now → KeepsDisk tells before mid a b → KeepsDisk tells before now a b
+keeps_wait tells before mid now a b up so_far = record {
+  moments = λ told last list leaves.
+      let one = so_far.moments told last list leaves in
+      record {
+        later = let l = one.later in omega (arith, l, up);
+        last = let l = one.last in omega (arith, l, up);
+        earlier = one.earlier;
+        each = one.each;
+        standing = one.standing;
+      };
+  counted = so_far.counted;
+}
+
+-- one disk of several had calls, and the others had none
+pub keeps_more : {A : Type 0} (f : A → DiskSeen) (tells : Type 0) (before mid now : ℕ) (old : List DiskSeen) (disks : List A) (i total : ℕ) (x d : A) → i < length disks → mid ≤ now
+    → ((peer : ℕ) → peer < total → KeepsDisk tells before mid (seen_at old peer) (seen_at (map f disks) peer)) → KeepsDisk tells mid now (f (slice_index_or disks i d)) (f x)
+    → (peer : ℕ) → peer < total → KeepsDisk tells before now (seen_at old peer) (seen_at (map f (slice_set disks i x)) peer)
+keeps_more f tells before mid now old disks i total x d low up so_far one peer within = elim (cases_eq peer i) [
+  | inl same ↦ subst (λ p. KeepsDisk tells before now (seen_at old p) (seen_at (map f (slice_set disks i x)) p)) (sym same)
+      (subst (λ (s : DiskSeen). KeepsDisk tells before now (seen_at old i) s) (sym (seen_here f disks i x low))
+      (keeps_then tells before mid now (seen_at old i) (seen_at (map f disks) i) (f x) (so_far i (subst (λ p. p < total) same within))
+      (subst (λ (s : DiskSeen). KeepsDisk tells mid now s (f x)) (sym (seen_is f disks i d low)) one)))
+  | inr differs ↦ subst (λ (s : DiskSeen). KeepsDisk tells before now (seen_at old peer) s) (sym (seen_there f disks i peer x differs))
+      (keeps_wait tells before mid now (seen_at old peer) (seen_at (map f disks) peer) up (so_far peer within))
+]
