@@ -1,6 +1,7 @@
 -- What holds of a result or of what may be untold, by cases.
-use Rattle.std.proofs.Common.{◌≡◌, Option, Some, None, Result, Ok, Err, refl, subst}
-use Rattle.std.specs.Prelude.{IfErr, IfSome, OnErr, OnOk}
+use Rattle.std.proofs.Common.{◌≡◌, true, Option, Some, None, Result, Ok, Err, refl, subst}
+use Rattle.std.proofs.lemmas.Bool.{false≢true}
+use Rattle.std.specs.Prelude.{IfErr, IfSome, OnErr, OnOk, is_ok}
 
 -- ---- results
 
@@ -15,6 +16,11 @@ on_err (Err e) P Q h f = f h
 pub an_err : {T E : Type 0} (r : Result T E) (P : Type 0) → P → OnErr r P
 an_err (Ok x) P h = tt
 an_err (Err e) P h = h
+
+-- of one that came to its end
+pub on_fine : {T E : Type 0} (P : Type 0) (r : Result T E) → is_ok r ≡ true → OnOk r P → P
+on_fine P (Ok x) fine h = h
+on_fine P (Err fault) fine h = absurd (false≢true fine)
 
 pub if_err : {T E : Type 0} (r : Result T E) (P Q : E → Type 0) → IfErr r P → ((e : E) → P e → Q e) → IfErr r Q
 if_err (Ok x) P Q h f = tt

@@ -1,16 +1,18 @@
 -- What a run shows of its disks, in the words of its objects.
-use Rattle.std.proofs.Common.{◌≡◌, ◌⊎◌, inl, inr, ◌∙◌, ap, sym, subst, ℕ, zero, suc, ◌+◌, ◌-◌, ◌^◌, ◌<◌, ◌≤◌, false, List, [], ◌∷◌, None, refl, arith, length, map, min}
-use Rattle.std.specs.Prelude.{slice_index_or}
+use Rattle.std.proofs.Common.{◌≡◌, ◌⊎◌, inl, inr, ◌∙◌, ap, sym, subst, ℕ, zero, suc, ◌+◌, ◌-◌, ◌^◌, ◌<◌, ◌≤◌, ◌==◌, false, true, List, [], ◌∷◌, None, refl, arith, map, min}
+use Rattle.std.specs.Prelude.{count_by}
 use Rattle.hs_cluster.proofs.CountLemmas.{falls_then, faults_seen}
-use Rattle.hs_cluster.proofs.RunLemmas.{some_failed}
+use Rattle.hs_cluster.proofs.RunLemmas.{all_failed, lost_before, some_failed}
 use Rattle.hs_cluster.specs.Counts.{NoneFalls}
 use Rattle.hs_cluster.specs.Disks.{DiskSeen, seen_at, stands_of}
-use Rattle.hs_cluster.specs.Kept.{Span}
+use Rattle.hs_cluster.specs.Kept.{AreStored, Span}
+use Rattle.hs_cluster.specs.Opens.{AreSound}
 use Rattle.hs_cluster.specs.RunsOn.{RunsOn}
 use Rattle.hs_events.specs.Due.{Events}
 use Rattle.hs_events.specs.Found.{Found, first_core}
 use Rattle.hs_events.specs.Reports.{failures}
 use Rattle.hs_events.specs.Taken.{peer_count}
+use Rattle.hs_events.specs.Whole.{open_whole}
 use Rattle.hs_fold.specs.Shards.Setting.{Setting}
 use Rattle.hs_ports.specs.Disk.{Standing}
 use Rattle.hs_ports.specs.Fault.{HasRisen}
@@ -82,3 +84,19 @@ read_as tells S r story runs told peer low = elim ((runs.shown.finds.each peer l
   | inl same ↦ inl (same ∙ ap (λ (disk : Standing). list_in disk.seen) (sym (disk_is r.old runs.span.disks runs.old peer)))
   | inr failed ↦ inr (failed.0, rose_is 1 r.old r.new runs.span.disks runs.span.left runs.old runs.new peer (risen_since tells S.set runs.span story.found (all_events story) runs.shown peer failed.1))
 ]
+
+-- ---- all failures
+
+pub lost_by : (tells : Type 0) (set : Setting) (span : Span) (found : Found) (events : Events) (old new : Objects) → AreHanded old span.disks → AreHanded new span.left → RunsOn tells set span found events → tells
+    → (disk : ℕ) → RoseBy (count_by (λ peer. peer.0 == disk) found.lost) (faults_at old.disk_faults disk) (faults_at new.disk_faults disk)
+lost_by tells set span found events old new was is shown told disk =
+    let lost : ℕ = count_by (λ peer. peer.0 == disk) found.lost in
+    rose_is lost old new span.disks span.left was is disk
+    (up_to (min ((seen_at span.disks disk).faults + lost) (2 ^ 64 - 1)) (seen_at shown.disks disk).faults (seen_at span.left disk).faults (lost_before tells set span found events shown told disk) (shown.counted.later disk))
+
+pub failed_by : (tells : Type 0) (set : Setting) (span : Span) (found : Found) (events : Events) (old new : Objects) → AreHanded old span.disks → AreHanded new span.left → RunsOn tells set span found events → tells → AreSound span.before span.disks
+    → (first_core set found).ended ≡ None → AreStored (open_whole set found) events
+    → (disk : ℕ) → RoseBy (failures true disk (first_core set found) events + count_by (λ peer. peer.0 == disk) found.lost) (faults_at old.disk_faults disk) (faults_at new.disk_faults disk)
+failed_by tells set span found events old new was is shown told sound going stored disk =
+    rose_is (failures true disk (first_core set found) events + count_by (λ peer. peer.0 == disk) found.lost) old new span.disks span.left was is disk
+    (all_failed tells set span found events shown told sound going stored disk)

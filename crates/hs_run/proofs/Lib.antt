@@ -24,7 +24,6 @@ pub mod RunLemmas
 pub mod ServeLemmas
 pub mod ShapeLemmas
 pub mod ShownLemmas
-pub mod SoundLemmas
 pub mod SpendsLemmas
 pub mod StatusLemmas
 pub mod TellingLemmas

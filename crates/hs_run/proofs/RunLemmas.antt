@@ -45,7 +45,7 @@ use Rattle.hs_run.specs.OneLine.{IsOpeningPut, Printing, RunsCommand, Stretch}
 use Rattle.hs_run.specs.Puts.{Puts}
 use Rattle.hs_run.specs.Served.{HasCauses, PrintsText}
 use Rattle.hs_run.specs.Stopping.{IsPutStop, end_of, status_of}
-use Rattle.hs_run.proofs.DisksLemmas.{paid_by}
+use Rattle.hs_run.proofs.DisksLemmas.{failed_by, lost_by, paid_by}
 use Rattle.hs_run.proofs.EndsLemmas.{IsWithin, end_within}
 use Rattle.hs_run.proofs.OpeningLemmas.{opening_printed, opening_so_far}
 use Rattle.hs_run.proofs.PassedLemmas.{answered_more, put_so_far, put_whole}
@@ -64,7 +64,7 @@ pub chosen_told : (script : Option (List ℕ)) (read : List (List ℕ)) → IfSo
 chosen_told None read = tt
 chosen_told (Some told) read = λ n. refl
 
-chosen_first : (script : Option (List ℕ)) (read : List (List ℕ)) → client_op (chosen script read 0) ≡ None
+pub chosen_first : (script : Option (List ℕ)) (read : List (List ℕ)) → client_op (chosen script read 0) ≡ None
 chosen_first None read = refl
 chosen_first (Some told) read = refl
 
@@ -133,6 +133,8 @@ module _ (tells : Type 0) (name : List ℕ → Address) (did : Result ⊤ Cluste
     new = is;
     since = λ told. subst (λ (d : List Standing). Since d) is.stands (since told);
     shown = shown;
+    lost = lost_by tells b.set _ b.found (all_events (story_of b lines)) b.old new was is shown;
+    failed = failed_by tells b.set _ b.found (all_events (story_of b lines)) b.old new was is shown;
   }
 
   pub story_run : HasRun tells name did b b.old.left new.left part → (commands : ℕ → Option Command) × IsOfStory tells (script_by b commands) (ran_at (status_of part.result part.new.line) part.new.line (Some part.new.cluster) b.old new)

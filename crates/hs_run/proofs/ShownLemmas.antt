@@ -1,8 +1,7 @@
 -- What the disks show, behind one line more, and as the watch goes on.
-use Rattle.std.proofs.Common.{◌≡◌, ◌∙◌, ap, sym, subst, ℕ, ◌≤◌, true, List, [], ◌∷◌, ◌++◌, Result, Ok, Err}
-use Rattle.std.proofs.lemmas.Bool.{false≢true}
+use Rattle.std.proofs.Common.{◌≡◌, ◌∙◌, ap, sym, subst, ℕ, ◌≤◌, true, List, [], ◌∷◌, ◌++◌, Result}
 use Rattle.std.proofs.lemmas.List.{append-nil}
-use Rattle.std.specs.Prelude.{OnOk, is_ok, ⊤}
+use Rattle.std.specs.Prelude.{is_ok, ⊤}
 use Rattle.hs_cluster.proofs.RunLemmas.{can_later, can_more, can_opened, opening_span, runs_later, runs_more}
 use Rattle.hs_cluster.proofs.WalkLemmas.{rise_then}
 use Rattle.hs_cluster.specs.declared.fault.ClusterFault.{ClusterFault}
@@ -21,11 +20,8 @@ use Rattle.hs_run.specs.declared.stop.Stop.{Stop}
 use Rattle.hs_run.specs.Between.{Point}
 use Rattle.hs_run.specs.Going.{Begun, HasGone, HasShown, span_to, story_of}
 use Rattle.hs_run.specs.OneLine.{RunsCommand}
+use Rattle.hs_run.proofs.CaseLemmas.{on_fine}
 use Rattle.hs_run.proofs.PassedLemmas.{EndedWell, all_more, end_ok}
-
-on_fine : {T E : Type 0} (P : Type 0) (r : Result T E) → is_ok r ≡ true → OnOk r P → P
-on_fine P (Ok x) fine h = h
-on_fine P (Err fault) fine h = absurd (false≢true fine)
 
 -- ---- the watch goes on
 

@@ -88,4 +88,3 @@ ready_on tells at mid cluster disks line up h = subst (λ (c : Running). IsReady
       count = h.count;
       ready = h.ready;
     })))
-

@@ -7,7 +7,6 @@ use Rattle.hs_ports.specs.Objects.{Objects}
 use Rattle.hs_promise.specs.declared.status.Status.{Status}
 use Rattle.hs_promise.specs.Ending.{ending_of}
 use Rattle.hs_promise.specs.Run.{Ran}
-use Rattle.hs_run.specs.declared.ended.Ended.{Ended}
 
 -- what was answered; nothing where no core was opened
 abbrev pub journal_in : Option Running → List JournalEntry
@@ -35,6 +34,3 @@ ran_at ending line cluster old new = record {
   old = old;
   new = new;
 }
-
-abbrev pub ran_of : Ended → Objects → Objects → Ran
-ran_of e old new = ran_at e.status e.line e.cluster old new

@@ -1,7 +1,8 @@
 -- What is shown of a run on a cluster: that it is the machine's, and what its disks show.
-use Rattle.std.specs.Prelude.{All, IfSome, IsSome, List, None, Option, [], length, map, true, ℕ, ◌++◌, ◌+◌, ◌<◌, ◌∷◌, ◌≡◌}
+use Rattle.std.specs.Prelude.{IfSome, IsSome, List, None, Option, [], length, map, true, ℕ, ◌++◌, ◌+◌, ◌<◌, ◌∷◌, ◌≡◌}
 use Rattle.hs_cluster.specs.Disks.{DiskSeen, stands_of}
 use Rattle.hs_cluster.specs.Kept.{AreStored, Span}
+use Rattle.hs_cluster.specs.Opens.{AreSound}
 use Rattle.hs_cluster.specs.RunsOn.{RunsOn}
 use Rattle.hs_cluster.specs.Unopened.{LeavesAsTaken}
 use Rattle.hs_events.specs.Due.{Events}
@@ -14,8 +15,7 @@ use Rattle.hs_limits.specs.Shape.{IsShape}
 use Rattle.hs_moments.specs.Moments.{Since}
 use Rattle.hs_ports.specs.Objects.{Objects}
 use Rattle.hs_promise.specs.declared.status.Status.TheVariants as status
-use Rattle.hs_promise.specs.Entry.{MayStop}
-use Rattle.hs_promise.specs.Found.{IsReadAs, IsStillBehind}
+use Rattle.hs_promise.specs.Found.{IsReadAs}
 use Rattle.hs_promise.specs.Machine.{WentAs, loss_count}
 use Rattle.hs_promise.specs.Promise.{AreOfScript}
 use Rattle.hs_promise.specs.Run.{DiskRose, Ran, Script}
@@ -37,14 +37,14 @@ pub record RunsOnDisks (tells : Type 0) (S : Script) (r : Ran) (story : Story) :
   pub new : AreHanded r.new span.left
   pub since : tells → Since r.new.disks
   pub shown : RunsOn tells S.set span story.found (all_events story)
+  -- each count rose by the losses before the core was opened; and by all failures too, where the disks are sound at entry and what a peer is to read stands in its list
+  pub lost : tells → (disk : ℕ) → DiskRose r (loss_count story disk) disk
+  pub failed : tells → AreSound span.before span.disks → (first_core S.set story.found).ended ≡ None → AreStored (open_whole S.set story.found) (all_events story)
+      → (disk : ℕ) → DiskRose r (failures true disk (first_core S.set story.found) (all_events story) + loss_count story disk) disk
 
--- hs_promise's word on disks that tell their contents, but for what reports are borne out by: what was read; and where a run may stop, that a lost disk stays as it
--- is until the core is opened, and that each count rose by all failures, where what a peer is to read stands in its list
-pub record IsOfItsDisks (S : Script) (r : Ran) (story : Story) : Type 0 where
+-- where they tell their contents, a peer's log is that of its disk, or its disk failed
+pub record HasReadDisks (S : Script) (r : Ran) (story : Story) : Type 0 where
   pub read : (peer : ℕ) → peer < peer_count S.set.shape → IsReadAs r story peer
-  pub still : MayStop S r → All (IsStillBehind r story) story.found.lost
-  pub failed : MayStop S r → AreStored (open_whole S.set story.found) (all_events story) → (disk : ℕ)
-      → DiskRose r (failures true disk (first_core S.set story.found) (all_events story) + loss_count story disk) disk
 
 -- a sink failed only where its line had answered something; and nothing was read where the core ended as it opened
 pub record HasItsEnd (S : Script) (r : Ran) (story : Story) : Type 0 where
@@ -72,7 +72,7 @@ pub record IsOfCluster (tells : Type 0) (S : Script) (r : Ran) : Type 0 where
   pub nobody : client_op (S.commands 0) ≡ None
   pub how : Option Story
   pub went : WentAs S r how
-  pub told : tells → IfSome how (IsOfItsDisks S r)
+  pub told : tells → IfSome how (HasReadDisks S r)
   pub runs : IfSome how (RunsOnDisks tells S r)
   pub ended : IfSome how (HasItsEnd S r)
   pub unopened : how ≡ None → IsUnopened tells r

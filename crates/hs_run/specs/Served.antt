@@ -1,7 +1,7 @@
 -- What is shown of a run on a cluster in the words of hs_promise that need no law of the plain store.
-use Rattle.std.specs.Prelude.{IfSome, [], length, false, ℕ, ◌-◌, ◌<◌, ◌^◌, ◌≡◌, ◌≤◌, ◌⊎◌}
+use Rattle.std.specs.Prelude.{IfSome, [], length, false, ℕ, ◌≡◌, ◌≤◌, ◌⊎◌}
 use Rattle.hs_ports.specs.Fault.{HasRisen}
-use Rattle.hs_ports.specs.Objects.{CountsStand, IsDuring, IsSinkBehind, KeepsTime, faults_at}
+use Rattle.hs_ports.specs.Objects.{CountsStand, IsDuring, IsSinkBehind, KeepsTime}
 use Rattle.hs_ports.specs.Putting.{IsPut, PutsFront, got_by}
 use Rattle.hs_ports.specs.Sink.{bytes_of}
 use Rattle.hs_journal.specs.Moments.{below}
@@ -10,7 +10,7 @@ use Rattle.hs_promise.specs.Ending.{ending_of}
 use Rattle.hs_promise.specs.Ends.{Ends}
 use Rattle.hs_promise.specs.Promise.{AreOfScript}
 use Rattle.hs_promise.specs.Run.{DiskRose, Ran, Script}
-use Rattle.hs_promise.specs.Shapes.{IsFirstOther, IsFoundOther, NoneWritten}
+use Rattle.hs_promise.specs.Shapes.{IsFirstOther, IsFoundOther, MayAllRise, NoneWritten}
 use Rattle.hs_script.specs.Text.{text}
 use Rattle.hs_side.specs.declared.header.Header.{Header}
 
@@ -32,16 +32,12 @@ pub record HasCauses (r : Ran) : Type 0 where
   pub write : r.ending ≡ status.WriteFault → HasRisen r.old.sink_faults r.new.sink_faults
   pub shape : (peer : ℕ) (found : Header) → r.ending ≡ status.WrongShape peer found → IsEmpty r
 
--- no count of an earlier disk stands at the end of a u64, where it can't rise
-pub record MayAllRise (r : Ran) (peer : ℕ) : Type 0 where
-  pub each : (p : ℕ) → p < peer → faults_at r.old.disk_faults p < 2 ^ 64 - 1
-
--- hs_promise's word on disks of another store; that the first one is found is said where each count before it can rise
+-- hs_promise's word on disks of another store; but that no disk was written is said where memory was not wanting
 pub record HasShapeCause (S : Script) (r : Ran) : Type 0 where
   pub only : (peer : ℕ) (found : Header) → r.ending ≡ status.WrongShape peer found → IsFoundOther S r peer found
   pub exact : (peer : ℕ) (found : Header) → IsFirstOther S r peer found → MayAllRise r peer → (DiskRose r 1 peer → ⊥)
       → (r.ending ≡ status.WrongShape peer found) ⊎ (r.ending ≡ status.NoMemory)
-  pub unwritten : (peer : ℕ) (found : Header) → IsFirstOther S r peer found → (DiskRose r 1 peer → ⊥) → NoneWritten r
+  pub unwritten : (peer : ℕ) (found : Header) → IsFirstOther S r peer found → (DiskRose r 1 peer → ⊥) → (r.ending ≡ status.NoMemory → ⊥) → NoneWritten r
 
 pub record Served (tells : Type 0) (S : Script) (r : Ran) : Type 0 where
   pub script : AreOfScript S r
