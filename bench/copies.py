@@ -72,7 +72,9 @@ def main():
     words.add_argument("--lines", type=int, default=60)
     asked = words.parse_args()
     program = os.path.abspath(asked.program)
-    script = ["open a", *[f"write a {(number.to_bytes(4, 'big') * (SIZE // 4)).hex()}" for number in range(asked.lines)]]
+    script = ["open a"]
+    for number in range(asked.lines):
+        script += [f"write a {(number.to_bytes(4, 'big') * (SIZE // 4)).hex()}", "settle"]
     with tempfile.TemporaryDirectory() as top:
         source, counter = os.path.join(top, "counter.c"), os.path.join(top, "counter.so")
         with open(source, "w", encoding="utf-8") as file:

@@ -23,14 +23,19 @@ def data(size, number):
     return (number.to_bytes(4, "big") * (size // 4)).hex()
 
 
+def settled(lines):
+    """Lines that wait for the disk, each with its settle."""
+    return [part for line in lines for part in (line, "settle")]
+
+
 def writes(size, count):
     """One session, and then writes of blocks that differ."""
-    return ["open a", *[f"write a {data(size, number)}" for number in range(count)]]
+    return ["open a", *settled(f"write a {data(size, number)}" for number in range(count))]
 
 
 def reads(size, count):
     """One block, and then as many reads of it."""
-    return [*writes(size, 1), *["read a h0"] * count]
+    return [*writes(size, 1), *settled(["read a h0"] * count)]
 
 
 def stats(size, count):
@@ -42,7 +47,7 @@ def run(program, folder, script, before=()):
     text = ("\n".join(script) + "\n").encode()
     words = [*before, program, "script", folder, "1", "1"]
     done = subprocess.run(words, input=text, capture_output=True, check=False)
-    if done.returncode != 0 or done.stdout.count(b"\n") != len(script):
+    if done.returncode != 0 or done.stdout.count(b"\n") != len(script) - script.count("settle"):
         sys.exit(f"{program} ended with {done.returncode}: {done.stderr.decode(errors='replace')[-500:]}")
     return done.stdout, done.stderr.decode(errors="replace")
 
@@ -90,7 +95,7 @@ def opening(program, parent):
         empty, full = os.path.join(top, "empty"), os.path.join(top, "full")
         run(program, empty, ["stat"])
         run(program, full, [f"open s{number}" for number in range(4)]
-            + [f"write s{number // 4096} {data(64, number)}" for number in range(BLOCKS)])
+            + settled(f"write s{number // 4096} {data(64, number)}" for number in range(BLOCKS)))
         few, many = calls_of(program, top, empty), calls_of(program, top, full)
     more = sum(many.values()) - sum(few.values())
     kinds = ", ".join(f"{name} {many[name] - few.get(name, 0)}" for name in sorted(many) if many[name] != few.get(name, 0))

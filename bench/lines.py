@@ -19,17 +19,17 @@ HANDLES = 4096
 
 
 def writes(lines):
-    """Writes of 64 bytes, spread over the sessions; from the last block that fits on they are found again."""
+    """Writes of 64 bytes, each with its settle, spread over the sessions; from the last block that fits on they are found again."""
     script = [f"open s{number}" for number in range(SESSIONS)]
     for number in range(lines):
         data = (number % BLOCKS).to_bytes(4, "big") * 16
-        script.append(f"write s{number // HANDLES} {data.hex()}")
+        script += [f"write s{number // HANDLES} {data.hex()}", "settle"]
     return script
 
 
 def stats(lines):
     """One block, and then lines that tell what the store has."""
-    return ["open a", "write a 6162", *["stat"] * lines]
+    return ["open a", "write a 6162", "settle", *["stat"] * lines]
 
 
 def run(program, parent, script):
@@ -41,7 +41,7 @@ def run(program, parent, script):
         done = subprocess.Popen(words, stdin=subprocess.PIPE, stdout=subprocess.PIPE)
         answers, _ = done.communicate(text)
         seconds = time.perf_counter() - start
-    if done.returncode != 0 or answers.count(b"\n") != len(script):
+    if done.returncode != 0 or answers.count(b"\n") != len(script) - script.count("settle"):
         sys.exit(f"{program} ended with {done.returncode} after {answers.count(bytes([10]))} answers")
     return seconds
 

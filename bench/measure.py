@@ -21,11 +21,11 @@ CALL = re.compile(r"\b(\w+)\((\d+)(?:<([^>]*)>)?.*\)\s+=\s+(-?\d+)")
 
 
 def script(data_bytes, writes):
-    """One session, and then so many writes of blocks that differ, of so many bytes each."""
+    """One session, and then so many writes of blocks that differ, of so many bytes each: each waits for its settle."""
     lines = ["open a"]
     for number in range(writes):
         data = number.to_bytes(4, "big") * (data_bytes // 4)
-        lines.append("write a " + data.hex())
+        lines += ["write a " + data.hex(), "settle"]
     return ("\n".join(lines) + "\n").encode()
 
 
@@ -39,9 +39,9 @@ def run(program, folder, text, before=()):
         sys.exit(f"{program} ended with {done.returncode}: {done.stderr.decode()}")
     answers = done.stdout.decode().splitlines()
     new = sum(1 for answer in answers if " new " in answer)
-    lines = text.count(b"\n")
-    if len(answers) != lines or new != lines - 1:
-        sys.exit(f"{len(answers)} answers and {new} new blocks, where {lines} and {lines - 1} were wanted")
+    writes = text.count(b"settle\n")
+    if len(answers) != writes + 1 or new != writes:
+        sys.exit(f"{len(answers)} answers and {new} new blocks, where {writes + 1} and {writes} were wanted")
     return seconds
 
 
@@ -107,7 +107,7 @@ def main():
     program = os.path.abspath(asked.program)
     if not os.access(program, os.X_OK):
         sys.exit(f"{program} is not built: bin/hydra --version builds it")
-    print(f"script: {LINES} lines, one open and {LINES - 1} writes of blocks that differ")
+    print(f"script: {LINES} lines that are answered, one open and {LINES - 1} writes of blocks that differ, each with its settle")
     for data_bytes in (16, 1024, 65536):
         text = script(data_bytes, LINES - 1)
         data = data_bytes * (LINES - 1)

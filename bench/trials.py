@@ -1,5 +1,6 @@
 #!/usr/bin/env python3
-"""Tries a built hydra as a user would: later runs, kills at random instants, and two runs at once.
+"""Tries a built hydra as a user would: later runs, kills at random instants of writes, roots, drops and deletions, and two
+runs at once.
 
 It makes and removes folders of its own, and ends with status 1 at the first thing that is wrong.
 """
@@ -11,116 +12,187 @@ import sys
 import tempfile
 import time
 
-# How many blocks a run is asked about.
-MOST = 60
+# How many trees a run that is killed writes, and how many are kept all the time.
+TREES = 12
+STANDING = 6
 
 
 def wrong(text):
     sys.exit(f"wrong: {text}")
 
 
-def script(blocks, last=()):
-    """One session that writes these blocks, and then some lines more."""
-    return "".join(line + "\n" for line in ["open a", *("write a " + block for block in blocks), *last])
+class Store:
+    """A program and a folder of so many shards."""
 
+    def __init__(self, program, folder, shards):
+        self.words = [program, "script", folder, str(shards), "1"]
 
-def start(program, folder, **streams):
-    words = [program, "script", folder, "1", "1"]
-    return subprocess.Popen(words, stdin=subprocess.PIPE, stdout=subprocess.PIPE, text=True, **streams)
+    def start(self, **streams):
+        return subprocess.Popen(self.words, stdin=subprocess.PIPE, stdout=subprocess.PIPE, text=True, **streams)
 
+    def run(self, lines):
+        """A run that is not disturbed: the answers by their lines, the text and the seconds."""
+        begun = time.perf_counter()
+        child = self.start(stderr=subprocess.PIPE)
+        out, errors = child.communicate("".join(line + "\n" for line in lines))
+        seconds = time.perf_counter() - begun
+        if child.returncode != 0 or errors:
+            wrong(f"status {child.returncode}: {errors}{out}")
+        return answers_of(out), out, seconds
 
-def run(program, folder, text):
-    """A run that is not disturbed: the answers by their lines, the text and the seconds."""
-    begun = time.perf_counter()
-    child = start(program, folder, stderr=subprocess.PIPE)
-    out, errors = child.communicate(text)
-    seconds = time.perf_counter() - begun
-    if child.returncode != 0 or errors:
-        wrong(f"status {child.returncode}: {errors}{out}")
-    return answers_of(out), out, seconds
+    def killed(self, lines, seconds):
+        """A run that is killed after so long: what it answered until then, and whether it had ended."""
+        with tempfile.TemporaryFile(mode="w+") as given, tempfile.TemporaryFile(mode="w+") as out:
+            given.write("".join(line + "\n" for line in lines))
+            given.seek(0)
+            child = subprocess.Popen(self.words, stdin=given, stdout=out, stderr=subprocess.PIPE)
+            time.sleep(seconds)
+            child.kill()
+            child.communicate()
+            out.seek(0)
+            return answers_of(out.read()), child.returncode == 0
 
 
 def answers_of(out):
     """The whole lines of a text by their numbers: a line that was cut off is none."""
     whole = out[: out.rfind("\n") + 1]
-    return {int(line.split(" ", 1)[0]): line.split(" ", 1)[1] for line in whole.splitlines()}
+    parts = (line.split(" ", 1) for line in whole.splitlines())
+    return {int(number): text for number, text in parts if number != "-"}
 
 
-def found_again(program, folder, blocks):
-    """Writes blocks that a run answered again: each has to be there. Gives how many there are, and the seconds of a run."""
-    for first in range(0, max(1, len(blocks)), MOST):
-        part = blocks[first : first + MOST]
-        answers, _, seconds = run(program, folder, script(part, ["stat"]))
-        for number, block in enumerate(part):
-            if answers.get(number + 2) != f"dup h{number} e1":
-                wrong(f"block {block} was answered and is answered {answers.get(number + 2)}")
-        count = int(answers[len(part) + 2].split()[2])
-    return count, seconds
+class Tree:
+    """A block that points to another one, under a key."""
+
+    def __init__(self, number):
+        self.key = f"k{number}"
+        self.leaf = number.to_bytes(8, "big").hex() * 32
+        self.node = "ff" + number.to_bytes(8, "big").hex() * 8
 
 
-def later_run(program, top):
-    folder = os.path.join(top, "later")
-    _, first, _ = run(program, folder, script(["6162"]))
-    _, second, _ = run(program, folder, script(["6162"], ["read a h0"]))
-    if first != "1 ok\n2 new h0 e1\n" or second != "1 ok\n2 dup h0 e1\n3 bytes 6162\n":
+def writing(trees):
+    """Lines that write and root trees, drop every third one again, and delete now and then; and what each line asks."""
+    lines, asks = ["open a"], []
+
+    def ask(kind, tree, line):
+        lines.append(line)
+        asks.append((len(lines), kind, tree))
+        lines.append("settle")
+
+    for place, tree in enumerate(trees):
+        ask("write", tree, f"write a {tree.leaf}")
+        ask("write", tree, f"write a {tree.node} h{2 * place}")
+        ask("root", tree, f"root a {tree.key} h{2 * place + 1}")
+        if place % 3 == 2:
+            ask("drop", trees[place - 1], f"drop {trees[place - 1].key}")
+        if place % 4 == 3:
+            ask("delete", tree, "delete")
+    return lines, asks
+
+
+def reading(trees):
+    """Lines that end what was begun, and read trees back through their roots, each in a session of its own."""
+    lines, places = ["settle"], {}
+    for number, tree in enumerate(trees):
+        session = f"s{number}"
+        places[tree.key] = len(lines) + 2
+        lines += [f"open {session}", f"look {session} {tree.key}", f"read {session} h0", "settle", f"read {session} h1",
+                  "settle", f"close {session}"]
+    return lines, places
+
+
+def check(answers, place, tree, kept):
+    """Whether a tree was read back whole from these lines on, or its key is free; kept: which of them has to be."""
+    found = answers.get(place, "")
+    if found.startswith("held h0 "):
+        if answers.get(place + 1) != f"bytes {tree.node} h1" or answers.get(place + 3) != f"bytes {tree.leaf}":
+            wrong(f"{tree.key} is kept, and is not read back whole: {answers.get(place + 1)} {answers.get(place + 3)}")
+    elif found != f"no key {tree.key}":
+        wrong(f"{tree.key}: {found}")
+    if kept is not None and found.startswith("held") != kept:
+        wrong(f"{tree.key}: kept is {kept}, and there is {found}")
+
+
+def known(asks, answers):
+    """By key, whether a tree has to be kept after these answers: None where its last line was not answered."""
+    state = {}
+    for line, kind, tree in asks:
+        answer = answers.get(line)
+        if kind in ("root", "drop"):
+            if answer is not None and answer != "ok":
+                wrong(f"line {line}: {answer}")
+            state[tree.key] = None if answer is None else kind == "root"
+        elif kind == "write" and answer is not None and not answer.startswith("new "):
+            wrong(f"line {line}: {answer}")
+        if answer is None:
+            break
+    return state
+
+
+def later_run(program, top, shards):
+    store = Store(program, os.path.join(top, "later"), shards)
+    first = store.run(["open a", "write a 6162", "settle"])[1]
+    second = store.run(["open a", "write a 6162", "settle", "read a h0", "settle"])[1]
+    if first != "1 ok\n2 new h0 e1\n" or second != "1 ok\n2 dup h0 e1\n4 bytes 6162\n":
         wrong(f"{first}{second}")
     print("a later run finds what the first one left")
 
 
-def killed(program, folder, text, seconds):
-    """A run that is killed after so long: what it printed until then, and whether it had ended."""
-    with tempfile.TemporaryFile(mode="w+") as given, tempfile.TemporaryFile(mode="w+") as out:
-        given.write(text)
-        given.seek(0)
-        child = subprocess.Popen([program, "script", folder, "1", "1"], stdin=given, stdout=out, stderr=subprocess.PIPE)
-        time.sleep(seconds)
-        child.kill()
-        child.communicate()
-        out.seek(0)
-        return answers_of(out.read()), child.returncode == 0
-
-
-def kills(program, top, writes, seed):
+def kills(program, top, shards, count, seed):
     chance = random.Random(seed)
-    fresh = (number.to_bytes(8, "big").hex() * 64 for number in range(1 << 40))
-    blocks = [next(fresh) for _ in range(MOST)]
-    folder = os.path.join(top, "killed")
-    # A whole run takes about so long; on a folder with a longer log it takes longer to open.
-    seconds = run(program, os.path.join(top, "whole"), script(blocks))[2]
-    told, runs, cut, tried = [], 0, 0, 0
-    while len(told) < writes:
-        blocks = [next(fresh) for _ in range(MOST)]
-        answers, ended = killed(program, folder, script(blocks), chance.uniform(0, seconds))
-        new = [block for number, block in enumerate(blocks) if number + 2 in answers]
-        for number in range(len(new)):
-            if answers[number + 2] != f"new h{number} e1":
-                wrong(answers[number + 2])
-        told += new
-        tried += len(blocks) if ended else min(len(blocks), len(new) + 1)
-        runs, cut = runs + 1, cut + (not ended)
-        count, last = found_again(program, folder, told)
-        seconds = max(seconds, last)
-        if not len(told) <= count <= tried:
-            wrong(f"{count} blocks, where {len(told)} were answered and at most {tried} begun")
-    print(f"{runs} runs, {cut} of them killed on their way, {len(told)} blocks answered as new: each was found again")
+    store = Store(program, os.path.join(top, "killed"), shards)
+    standing = [Tree(number) for number in range(STANDING)]
+    first = ["open a"]
+    for place, tree in enumerate(standing):
+        first += [f"write a {tree.leaf}", "settle", f"write a {tree.node} h{2 * place}", "settle",
+                  f"root a {tree.key} h{2 * place + 1}", "settle"]
+    store.run(first)
+    # A whole run takes about so long.
+    seconds = Store(program, os.path.join(top, "whole"), shards).run(writing([Tree(n) for n in range(TREES)])[0])[2]
+    cut = roots = drops = 0
+    for number in range(1, count + 1):
+        trees = [Tree(number * 1000 + place) for place in range(TREES)]
+        lines, asks = writing(trees)
+        answers, ended = store.killed(lines, chance.uniform(0, seconds))
+        cut += not ended
+        state = known(asks, answers)
+        roots += sum(kept is True for kept in state.values())
+        drops += sum(kept is False for kept in state.values())
+        lines, places = reading(standing + trees)
+        answers, _, last = store.run(lines)
+        for tree in standing:
+            check(answers, places[tree.key], tree, True)
+        for tree in trees:
+            check(answers, places[tree.key], tree, state.get(tree.key, False))
+        seconds = max(seconds, last / 2)
+        # All of the run is given up, and its space comes back.
+        rest = [line for tree in trees for line in (f"drop {tree.key}", "settle")]
+        rest += ["delete", "settle", "delete", "settle", "stat"]
+        answers = store.run(rest)[0]
+        told = answers[len(rest)].split()
+        if told[:5] != ["stat", "blocks", str(2 * STANDING), "roots", str(STANDING)]:
+            wrong(f"after the deletions of run {number}: {answers[len(rest)]}")
+    print(f"{count} runs over {shards} shards, {cut} of them killed on their way: {roots} roots and {drops} drops that were "
+          f"answered were found again, each kept tree was read back whole, and all other blocks went")
 
 
-def two_at_once(program, top):
-    folder = os.path.join(top, "both")
-    first = start(program, folder)
-    first.stdin.write("open a\nwrite a 61\n")
+def two_at_once(program, top, shards):
+    store = Store(program, os.path.join(top, "both"), shards)
+    first = store.start()
+    first.stdin.write("open a\nwrite a 61\nsettle\n")
     first.stdin.flush()
     if first.stdout.readline() != "1 ok\n" or first.stdout.readline() != "2 new h0 e1\n":
         wrong("the first of two runs")
-    second = start(program, folder, stderr=subprocess.PIPE)
-    out, errors = second.communicate(script(["62"]))
+    second = store.start(stderr=subprocess.PIPE)
+    out, errors = second.communicate("open a\nwrite a 62\nsettle\n")
     lines = "hydra: another run has the folder\nhydra: shard 0 has no good peer\n"
-    if (out, errors, second.returncode) != ("- down 0\n", lines, 4):
+    downs = "".join(f"- down {peer}\n" for peer in range(shards))
+    if (out, errors, second.returncode) != (downs, lines, 4):
         wrong(f"the second of two runs: {second.returncode} {out}{errors}")
-    out, _ = first.communicate("write a 62\n")
-    if (out, first.returncode) != ("3 new h1 e1\n", 0):
+    out, _ = first.communicate("write a 62\nsettle\n")
+    if (out, first.returncode) != ("4 new h1 e1\n", 0):
         wrong(f"the first of two runs goes on: {first.returncode} {out}")
-    if found_again(program, folder, ["61", "62"])[0] != 2:
+    answers = store.run(["open a", "write a 61", "settle", "write a 62", "settle", "stat"])[0]
+    if (answers[2], answers[4]) != ("dup h0 e1", "dup h1 e1") or not answers[6].startswith("stat blocks 2 "):
         wrong("two runs mixed")
     print("of two runs at once the second is told so, and the first goes on")
 
@@ -130,7 +202,8 @@ def main():
     words = argparse.ArgumentParser(description=__doc__)
     words.add_argument("--program", default=os.path.join(here, "..", "crates", "hydra", "out", "hydra"))
     words.add_argument("--folder", default=here, help="a folder on a real disk")
-    words.add_argument("--writes", type=int, default=200, help="how many blocks are answered before it ends")
+    words.add_argument("--shards", type=int, default=4)
+    words.add_argument("--kills", type=int, default=200, help="how many runs are killed")
     words.add_argument("--seed", type=int, default=int(time.time()))
     asked = words.parse_args()
     program = os.path.abspath(asked.program)
@@ -138,9 +211,9 @@ def main():
         sys.exit(f"{program} is not built: bin/hydra --version builds it")
     print(f"seed {asked.seed}")
     with tempfile.TemporaryDirectory(dir=asked.folder) as top:
-        later_run(program, top)
-        kills(program, top, asked.writes, asked.seed)
-        two_at_once(program, top)
+        later_run(program, top, asked.shards)
+        kills(program, top, asked.shards, asked.kills, asked.seed)
+        two_at_once(program, top, asked.shards)
 
 
 main()

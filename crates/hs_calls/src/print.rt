@@ -19,34 +19,12 @@ fn printed(alloc: Global, who: Who, reply: Reply) -> Result<Vec<u8>, ScriptFault
 }
 
 #[test]
-fn notes_are_printed(rt: HostRuntime) -> Result<(), Fail> {
+fn what_needs_copies_or_an_option_is_printed(rt: HostRuntime) -> Result<(), Fail> {
     let alloc = rt.alloc();
-    let line = printed(alloc, Who::Store, Reply::Done { epoch: 2 })?;
-    assert_eq!(rt; line.as_slice(), b"- done e2\n".as_slice());
     let line = printed(alloc, Who::Store, Reply::Visits { epoch: 2, count: 1 })?;
     assert_eq!(rt; line.as_slice(), b"- visits e2 1\n".as_slice());
-    Ok(())
-}
-
-#[test]
-fn refusals_of_the_machinery_are_printed(rt: HostRuntime) -> Result<(), Fail> {
-    for (reply, want) in [
-        (Reply::Busy { line: 2 }, b"3 no busy 2\n".as_slice()),
-        (Reply::NoPeer { peer: 4 }, b"3 no peer 4\n".as_slice()),
-        (Reply::NotUp { peer: 1 }, b"3 no notup 1\n".as_slice()),
-        (Reply::NotDown { peer: 0 }, b"3 no notdown 0\n".as_slice()),
-        (
-            Reply::NoMessage { message: 9 },
-            b"3 no message 9\n".as_slice(),
-        ),
-        (
-            Reply::PoolFull { limit: 16 },
-            b"3 no poolfull 16\n".as_slice(),
-        ),
-    ] {
-        let line = printed(rt.alloc(), Who::Line(3), reply)?;
-        assert_eq!(rt; line.as_slice(), want);
-    }
+    let line = printed(alloc, Who::Line(3), Reply::NotUp { peer: 1 })?;
+    assert_eq!(rt; line.as_slice(), b"3 no notup 1\n".as_slice());
     Ok(())
 }
 

@@ -3,7 +3,7 @@ use crate::run::{Seen, left_on};
 use crate::show_run::{put_course, put_status};
 use hs_casebook::{Left, Pass, WantedSide};
 use hs_compare::{Report, put_kinds, put_rows};
-use hs_top::fault_line;
+use hs_top::{exit_code, fault_line};
 use std::alloc::Global;
 use std::io;
 use std::io::{ErrorKind, Write};
@@ -91,7 +91,7 @@ fn judge_counts(alloc: Global, pass: &Pass, seen: &Seen, report: &mut Report) ->
     let refused = seen.outcome.refused.len() as u64;
     judge_number(alloc, pass, "refused", &wanted.refused, refused, report)?;
     judge_number(alloc, pass, "moment", &wanted.moment, seen.moment, report)?;
-    let exit = u64::from(seen.outcome.status.code());
+    let exit = u64::from(exit_code(&seen.outcome.status));
     judge_number(alloc, pass, "exit", &wanted.exit, exit, report)
 }
 

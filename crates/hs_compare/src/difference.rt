@@ -1,5 +1,5 @@
 //! The first line of two texts that differs.
-use crate::fits::fits;
+use crate::fits::fits_line;
 use crate::report::Known;
 use std::io;
 use std::io::Write;
@@ -7,44 +7,74 @@ use std::io::Write;
 /// How many bytes of a line are shown.
 const MOST_SHOWN: usize = 100;
 
+/// A line that is not as wanted: its number, the one that is wanted, and the one that came.
+#[derive(Clone, Copy)]
+pub(crate) struct Difference<'a> {
+    number: u64,
+    wanted: Option<&'a [u8]>,
+    came: Option<&'a [u8]>,
+}
+
+/// The first line of a text that is not as wanted. A wanted line behind `[?]` may be missing.
+pub(crate) fn difference_of<'a>(
+    wanted: &'a [u8],
+    came: &'a [u8],
+    known: Known,
+) -> Option<Difference<'a>> {
+    let mut lines = came.split(|byte| *byte == b'\n');
+    let mut number = 1u64;
+    let mut next = lines.next();
+    for line in wanted.split(|byte| *byte == b'\n') {
+        let behind_mark = line.strip_prefix(b"[?]".as_slice());
+        let wanted_line = behind_mark.unwrap_or(line);
+        if is_there(wanted_line, next, known) {
+            number = number.saturating_add(1);
+            next = lines.next();
+        } else if behind_mark.is_none() {
+            return Some(Difference {
+                number,
+                wanted: Some(line),
+                came: next,
+            });
+        }
+    }
+    match next {
+        Some(_) => Some(Difference {
+            number,
+            wanted: None,
+            came: next,
+        }),
+        None => None,
+    }
+}
+
 /// Puts the first line of a text that is not as wanted, and its number.
-pub fn put_difference(
+pub(crate) fn put_difference(
     wanted: &[u8],
     came: &[u8],
     known: Known,
     out: &mut Vec<u8>,
 ) -> io::Result<()> {
-    let mut found = came.split(|byte| *byte == b'\n');
-    let mut number = 0u64;
-    for line in wanted.split(|byte| *byte == b'\n') {
-        number = number.saturating_add(1);
-        let other = found.next();
-        if !is_there(line, other, known) {
-            return put_lines(number, Some(line), other, out);
-        }
+    match difference_of(wanted, came, known) {
+        Some(difference) => put_lines(&difference, out),
+        None => Ok(()),
     }
-    put_lines(number.saturating_add(1), None, found.next(), out)
 }
 
 /// Whether there is a line, and it is as wanted.
 fn is_there(wanted: &[u8], came: Option<&[u8]>, known: Known) -> bool {
     match came {
         None => false,
-        Some(line) => fits(wanted, line, known),
+        Some(line) => fits_line(wanted, line, known),
     }
 }
 
 /// Puts the number of a line, the one that is wanted, and the one that came.
-fn put_lines(
-    number: u64,
-    wanted: Option<&[u8]>,
-    came: Option<&[u8]>,
-    out: &mut Vec<u8>,
-) -> io::Result<()> {
-    write!(out, " {number}: wanted ")?;
-    put_line(wanted, out)?;
+fn put_lines(difference: &Difference<'_>, out: &mut Vec<u8>) -> io::Result<()> {
+    write!(out, " {}: wanted ", difference.number)?;
+    put_line(difference.wanted, out)?;
     write!(out, ", came ")?;
-    put_line(came, out)
+    put_line(difference.came, out)
 }
 
 /// Puts a line in quotes, or that there is none.

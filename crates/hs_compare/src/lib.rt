@@ -1,7 +1,6 @@
 //! What is wanted beside what came: what differs in a case, and the cases that need no run of the store.
 #![tactic(auto)]
 
-mod asked;
 mod calls;
 mod difference;
 mod fits;

@@ -1,5 +1,4 @@
 //! Scripts that the plain store judges, apart from all machinery.
-use crate::asked::op_of;
 use crate::options::options_of;
 use crate::report::Report;
 use hs_block::{Addresser, Block, ShaNames, TailNames};
@@ -7,7 +6,7 @@ use hs_casebook::{Budget, CaseFault, Malformed, Naming, Pass, small_of, split_wo
 use hs_journal::{JournalEntry, Who};
 use hs_limits::{Address, Limits, Name, Shape};
 use hs_model::{Answer, Command, MemoryStore, ModelFault, Op, Reply};
-use hs_script::{print_entry, read_line};
+use hs_script::{ScriptFault, print_entry, read_line};
 use std::alloc::Global;
 use std::io;
 use std::io::{ErrorKind, Write};
@@ -95,21 +94,13 @@ impl Bench {
         }
     }
 
-    /// Takes a line of a script.
+    /// Takes a line of a script. One that drives the machinery says nothing to the plain store.
     fn take_numbered(&mut self, line: &[u8]) -> io::Result<()> {
         match read_line(self.alloc, line) {
             Ok(Some(Command::Client(op))) => self.ask(op),
             Ok(_) => Ok(()),
-            Err(_) => self.take_other(line),
-        }
-    }
-
-    /// Takes a line that the reader of scripts does not read.
-    fn take_other(&mut self, line: &[u8]) -> io::Result<()> {
-        match op_of(self.alloc, line)? {
-            Some(op) => self.ask(op),
-            None if drives(split_word(line).0) => Ok(()),
-            None => write!(self.text, "{} bad\n", self.line),
+            Err(ScriptFault::BadLine) => write!(self.text, "{} bad\n", self.line),
+            Err(ScriptFault::NoMemory) => Err(ErrorKind::OutOfMemory.into()),
         }
     }
 
@@ -216,14 +207,5 @@ impl Bench {
             },
             Err(fault) => Err(out_of_memory(fault)),
         }
-    }
-}
-
-/// Whether a word begins a line that drives the machinery, and says nothing to the plain store.
-fn drives(word: &[u8]) -> bool {
-    match word {
-        b"turn" | b"nudge" | b"deliver" | b"lose" | b"repeat" => true,
-        b"fail" | b"start" | b"reclaim" => true,
-        _ => false,
     }
 }

@@ -1,9 +1,5 @@
-//! A run over ports in memory, of which all is promised without a premise.
+//! The calls of the top at concrete types, where no case makes them.
 #![tactic(auto)]
-
-mod run;
-
-pub use run::{Ran, run_in_memory};
 
 #[cfg(test)]
 mod tests;

@@ -1,7 +1,7 @@
 -- What the program says of a status.
 use Rattle.std.specs.Prelude.{ℕ, List, [], ◌++◌, codes, decimal}
-use Rattle.hs_top.specs.declared.status.Status.{Status}
-use Rattle.hs_top.specs.declared.status.Status.TheVariants as status
+use Rattle.hs_promise.specs.declared.status.Status.{Status}
+use Rattle.hs_promise.specs.declared.status.Status.TheVariants as status
 
 -- the exit status
 abbrev pub status_code : Status → ℕ

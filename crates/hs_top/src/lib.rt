@@ -1,23 +1,13 @@
-//! The top call: the words, the script's loop, and what the whole program promises.
+//! The top call: a script on the disks of a store, as the words of its command line ask.
 #![tactic(auto)]
 
-mod built;
 mod laws;
-mod opening;
-mod options;
-mod outcome;
-mod reader;
-mod run;
-mod script;
 mod status;
-mod stop;
-mod tell;
 mod top;
-mod transcript;
 mod words;
 
-pub use laws::{a_run_may_begin, one_image_counts};
-pub use outcome::Outcome;
-pub use status::{Status, TopFault, fault_line};
+pub use hs_promise::{Outcome, Status};
+pub use laws::a_run_may_begin;
+pub use status::{TopFault, exit_code, fault_line};
 pub use top::{hydra, hydra_alone};
-pub use words::{is_load, limits_of, shape_of};
+pub use words::{is_load, shape_of};

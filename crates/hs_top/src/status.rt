@@ -1,36 +1,11 @@
-//! How a run ended, and the line that says so.
+//! What the program says of how a run ended: its exit status, and the line on standard error.
 ghost use Rattle.std.specs.Prelude.{◌≡◌, ◌++◌, OnOk, IsOkUnless};
 ghost use Rattle.hs_top.specs.Status.{status_code, fault_text};
 
-use hs_side::Header;
+use hs_promise::Status;
 use std::io;
 use std::io::Write;
 use thiserror::Error;
-
-/// How a run ended. docs/STORE.md says when each comes.
-#[derive(Clone, Copy, Debug, PartialEq, Eq)]
-pub enum Status {
-    /// The input was read to its end.
-    Done,
-    /// The words are outside the command language, or the number of disks is not that of the shape.
-    Usage,
-    /// The first line outside the script language.
-    BadLine { line: u64 },
-    /// A shard has no good peer any more.
-    ShardLost { shard: u8 },
-    /// The source failed.
-    ReadFault,
-    /// The sink failed.
-    WriteFault,
-    /// There was no memory.
-    NoMemory,
-    /// The disk of a peer is of a store of another shape, or of another peer.
-    WrongShape { peer: u8, found: Header },
-    /// The journal can't take the entries of the next event.
-    OpsFull,
-    /// The input has more bytes than a script may have.
-    InputFull,
-}
 
 /// Why a line about a status was not written.
 #[derive(Clone, Copy, Debug, PartialEq, Eq, Error)]
@@ -39,23 +14,21 @@ pub enum TopFault {
     NoMemory,
 }
 
-impl Status {
-    /// The exit status of the program: 0 exactly for `Done`.
-    pub fn code(&self) -> u8
-        ensures { result ≡ status_code self.now }
-    {
-        match self {
-            Status::Done => 0,
-            Status::Usage => 2,
-            Status::BadLine { .. } => 3,
-            Status::ShardLost { .. } => 4,
-            Status::ReadFault => 5,
-            Status::WriteFault => 6,
-            Status::NoMemory => 7,
-            Status::WrongShape { .. } => 8,
-            Status::OpsFull => 10,
-            Status::InputFull => 13,
-        }
+/// The exit status of the program: 0 exactly for `Done`.
+pub fn exit_code(status: &Status) -> u8
+    ensures { result ≡ status_code status.now }
+{
+    match status {
+        Status::Done => 0,
+        Status::Usage => 2,
+        Status::BadLine { .. } => 3,
+        Status::ShardLost { .. } => 4,
+        Status::ReadFault => 5,
+        Status::WriteFault => 6,
+        Status::NoMemory => 7,
+        Status::WrongShape { .. } => 8,
+        Status::OpsFull => 10,
+        Status::InputFull => 13,
     }
 }
 

@@ -6,34 +6,27 @@ use Rattle.hs_top.specs.Words.{shape_in}
 use Rattle.hydra.specs.declared.usage.Later.{Later}
 use Rattle.hydra.specs.declared.usage.Later.TheVariants as later
 
--- a number of shards, or of copies, that a later step serves
-abbrev pub is_later_shards : List ℕ → Bool
-is_later_shards word = bytes_eq word (codes "2") || (bytes_eq word (codes "4") || bytes_eq word (codes "8"))
-
+-- a number of copies that a later step serves
 abbrev pub is_later_copies : List ℕ → Bool
 is_later_copies word = bytes_eq word (codes "2") || (bytes_eq word (codes "3") || bytes_eq word (codes "4"))
 
 -- an option that a later step serves
 unfoldable pub later_option : List (List ℕ) → Option Later
 later_option words =
-    if list_any (λ word. bytes_eq word (codes "--pool")) words then Some later.Pool
-    else if list_any (λ word. bytes_eq word (codes "--epochs")) words then Some later.Epochs
-    else if list_any (λ word. bytes_eq word (codes "--visits")) words then Some later.Visits
-    else None
+    if list_any (λ word. bytes_eq word (codes "--visits")) words then Some later.Visits else None
 
--- the first of these that a later step serves: the command, or more shards, more copies or an option of a script
-unfoldable pub later_part : List ℕ → List ℕ → List ℕ → List (List ℕ) → Option Later
-later_part command shards copies options =
+-- the first of these that a later step serves: the command, or more copies or an option of a script
+unfoldable pub later_part : List ℕ → List ℕ → List (List ℕ) → Option Later
+later_part command copies options =
     if bytes_eq command (codes "load") then Some later.Load
     else if bytes_eq command (codes "audit") then Some later.Audit
     else if not (bytes_eq command (codes "script")) then None
-    else if is_later_shards shards then Some later.Shards
     else if is_later_copies copies then Some later.Copies
     else later_option options
 
 -- the first part of the words that a later step serves
 abbrev pub later_in : List (List ℕ) → Option Later
-later_in (command ∷ dir ∷ shards ∷ copies ∷ options) = later_part command shards copies options
+later_in (command ∷ dir ∷ shards ∷ copies ∷ options) = later_part command copies options
 later_in other = None
 
 -- the line on standard error of words outside the language
@@ -41,10 +34,7 @@ abbrev pub later_text : Option Later → List ℕ
 later_text None = codes "hydra: see hydra --help\n"
 later_text (Some later.Load) = codes "hydra: load is not served yet: see hydra --help\n"
 later_text (Some later.Audit) = codes "hydra: audit is not served yet: see hydra --help\n"
-later_text (Some later.Shards) = codes "hydra: G above 1 is not served yet: see hydra --help\n"
 later_text (Some later.Copies) = codes "hydra: R above 1 is not served yet: see hydra --help\n"
-later_text (Some later.Pool) = codes "hydra: --pool is not served yet: see hydra --help\n"
-later_text (Some later.Epochs) = codes "hydra: --epochs is not served yet: see hydra --help\n"
 later_text (Some later.Visits) = codes "hydra: --visits is not served yet: see hydra --help\n"
 
 -- the line where the words name no shape, and nothing where they name one

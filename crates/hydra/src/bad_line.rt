@@ -3,7 +3,7 @@ ghost use Rattle.std.specs.Prelude.{◌≡◌, OnOk};
 ghost use Rattle.std.specs.Io.KnownBytes.{Appends};
 ghost use Rattle.hydra.specs.BadLine.{cause_text};
 
-use hs_limits::is_name;
+use hs_limits::{is_key, is_name};
 use hs_script::LONGEST_LINE;
 use std::io;
 use std::io::Write;
@@ -20,14 +20,26 @@ pub enum BadCause {
     Verb,
     /// A verb that a later step serves.
     LaterVerb,
-    /// A write with pointers, which a later step serves.
-    LaterPointers,
     FewWords,
     ManyWords,
     Session,
+    Key,
     Handle,
+    Peer,
+    Message,
     Digit,
     OddDigits,
+}
+
+/// What a word behind a verb has to be.
+#[derive(Clone, Copy)]
+enum Part {
+    Session,
+    Key,
+    Handle,
+    Data,
+    Peer,
+    Message,
 }
 
 /// Writes the line of a cause, where there is one.
@@ -48,11 +60,13 @@ fn cause_line(cause: Option<BadCause>) -> &'static str
         Some(BadCause::Space) => "hydra: the line has a space too many\n",
         Some(BadCause::Verb) => "hydra: the line begins with no verb of a script\n",
         Some(BadCause::LaterVerb) => "hydra: the verb of the line is not served yet\n",
-        Some(BadCause::LaterPointers) => "hydra: pointers of a write are not served yet\n",
         Some(BadCause::FewWords) => "hydra: the line has a word too few\n",
         Some(BadCause::ManyWords) => "hydra: the line has a word too many\n",
         Some(BadCause::Session) => "hydra: the session is not 1 to 16 of a-z 0-9\n",
+        Some(BadCause::Key) => "hydra: the key is not 1 to 64 of a-z 0-9 . _ -\n",
         Some(BadCause::Handle) => "hydra: the handle is not h and a number\n",
+        Some(BadCause::Peer) => "hydra: the peer is not a number below 256\n",
+        Some(BadCause::Message) => "hydra: the message is not a number below 2^64\n",
         Some(BadCause::Digit) => "hydra: the data have a byte that is no hexadecimal digit\n",
         Some(BadCause::OddDigits) => "hydra: the data have an odd number of digits\n",
     }
@@ -85,18 +99,9 @@ fn cause_of_words(line: &[u8]) -> Option<BadCause> {
         return Some(BadCause::Space);
     }
     let (verb, rest) = split_word(line);
-    if verb == b"open".as_slice() {
-        cause_of_open(rest)
-    } else if verb == b"write".as_slice() {
-        cause_of_write(rest)
-    } else if verb == b"read".as_slice() {
-        cause_of_read(rest)
-    } else if verb == b"stat".as_slice() || verb == b"settle".as_slice() {
-        cause_of_end(rest)
-    } else if is_later(verb) {
-        Some(BadCause::LaterVerb)
-    } else {
-        Some(BadCause::Verb)
+    match check_verb(verb, rest) {
+        Ok(()) => None,
+        Err(cause) => Some(cause),
     }
 }
 
@@ -108,111 +113,128 @@ fn split_word(line: &[u8]) -> (&[u8], Option<&[u8]>) {
     }
 }
 
-fn cause_of_end(rest: Option<&[u8]>) -> Option<BadCause> {
+// The words behind a verb.
+fn check_verb(verb: &[u8], rest: Option<&[u8]>) -> Result<(), BadCause> {
+    match verb {
+        b"open" | b"close" => check_end(behind(Part::Session, rest)?),
+        b"write" => check_write(rest),
+        b"read" | b"forget" | b"name" => {
+            let rest = behind(Part::Session, rest)?;
+            check_end(behind(Part::Handle, rest)?)
+        }
+        b"look" => {
+            let rest = behind(Part::Session, rest)?;
+            check_end(behind(Part::Key, rest)?)
+        }
+        b"root" => {
+            let rest = behind(Part::Session, rest)?;
+            let rest = behind(Part::Key, rest)?;
+            check_end(behind(Part::Handle, rest)?)
+        }
+        b"drop" => check_end(behind(Part::Key, rest)?),
+        b"delete" | b"stat" | b"settle" => check_end(rest),
+        b"turn" | b"nudge" | b"fail" | b"start" => check_end(behind(Part::Peer, rest)?),
+        b"deliver" | b"lose" | b"repeat" => check_end(behind(Part::Message, rest)?),
+        b"reclaim" => Err(BadCause::LaterVerb),
+        _ => Err(BadCause::Verb),
+    }
+}
+
+fn check_end(rest: Option<&[u8]>) -> Result<(), BadCause> {
     match rest {
-        Some(_) => Some(BadCause::ManyWords),
-        None => None,
+        Some(_) => Err(BadCause::ManyWords),
+        None => Ok(()),
     }
 }
 
-fn cause_of_open(rest: Option<&[u8]>) -> Option<BadCause> {
+// The words of a write: each behind the data is a handle.
+fn check_write(rest: Option<&[u8]>) -> Result<(), BadCause> {
+    let rest = behind(Part::Session, rest)?;
+    match behind(Part::Data, rest)? {
+        Some(handles) => check_handles(handles),
+        None => Ok(()),
+    }
+}
+
+fn check_handles(words: &[u8]) -> Result<(), BadCause> {
+    for word in words.split(|byte| *byte == b' ') {
+        check_word(Part::Handle, word)?;
+    }
+    Ok(())
+}
+
+// What stands behind a word, which has to be there.
+fn behind(part: Part, rest: Option<&[u8]>) -> Result<Option<&[u8]>, BadCause> {
     let Some(words) = rest else {
-        return Some(BadCause::FewWords);
+        return Err(BadCause::FewWords);
     };
-    let (session, more) = split_word(words);
-    if is_name(session) {
-        cause_of_end(more)
-    } else {
-        Some(BadCause::Session)
+    let (word, more) = split_word(words);
+    match check_word(part, word) {
+        Ok(()) => Ok(more),
+        Err(cause) => Err(cause),
     }
 }
 
-fn cause_of_read(rest: Option<&[u8]>) -> Option<BadCause> {
-    let Some(words) = rest else {
-        return Some(BadCause::FewWords);
-    };
-    let (session, more) = split_word(words);
-    if !is_name(session) {
-        return Some(BadCause::Session);
-    }
-    let Some(words) = more else {
-        return Some(BadCause::FewWords);
-    };
-    let (handle, more) = split_word(words);
-    if is_handle(handle) {
-        cause_of_end(more)
-    } else {
-        Some(BadCause::Handle)
+fn check_word(part: Part, word: &[u8]) -> Result<(), BadCause> {
+    match part {
+        Part::Session => wanted(is_name(word), BadCause::Session),
+        Part::Key => wanted(is_key(word), BadCause::Key),
+        Part::Handle => wanted(is_handle(word), BadCause::Handle),
+        Part::Data => check_data(word),
+        Part::Peer => wanted(is_number(word, u64::from(u8::MAX)), BadCause::Peer),
+        Part::Message => wanted(is_number(word, u64::MAX), BadCause::Message),
     }
 }
 
-fn cause_of_write(rest: Option<&[u8]>) -> Option<BadCause> {
-    let Some(words) = rest else {
-        return Some(BadCause::FewWords);
-    };
-    let (session, more) = split_word(words);
-    if !is_name(session) {
-        return Some(BadCause::Session);
-    }
-    let Some(words) = more else {
-        return Some(BadCause::FewWords);
-    };
-    let (data, more) = split_word(words);
-    if data != b"-".as_slice() {
-        if !data.iter().all(|byte| byte.is_ascii_hexdigit()) {
-            return Some(BadCause::Digit);
-        }
-        if data.len() % 2 == 1 {
-            return Some(BadCause::OddDigits);
-        }
-    }
-    match more {
-        Some([b'h', ..]) => Some(BadCause::LaterPointers),
-        Some(_) => Some(BadCause::ManyWords),
-        None => None,
-    }
+fn wanted(holds: bool, cause: BadCause) -> Result<(), BadCause> {
+    if holds { Ok(()) } else { Err(cause) }
 }
 
-// Whether a word is h and a number below 2^32 without a leading zero.
+fn check_data(word: &[u8]) -> Result<(), BadCause> {
+    if word == b"-".as_slice() {
+        return Ok(());
+    }
+    wanted(
+        word.iter().all(|byte| byte.is_ascii_hexdigit()),
+        BadCause::Digit,
+    )?;
+    wanted(word.len() % 2 == 0, BadCause::OddDigits)
+}
+
+// Whether a word is h and a number below 2^32.
 fn is_handle(word: &[u8]) -> bool {
     match word {
-        [b'h', b'0'] => true,
-        [b'h', b'0', ..] => false,
-        [b'h', digits @ ..] => !digits.is_empty() && is_below_2_32(digits),
+        [b'h', digits @ ..] => is_number(digits, u64::from(u32::MAX)),
         _ => false,
     }
 }
 
-fn is_below_2_32(digits: &[u8]) -> bool {
-    let mut value: u64 = 0;
-    for digit in digits {
-        if !digit.is_ascii_digit() {
-            return false;
-        }
-        value = value.saturating_mul(10);
-        value = value.saturating_add(u64::from(digit.saturating_sub(b'0')));
+// Whether a word is a number up to `most`, without a leading zero.
+fn is_number(word: &[u8], most: u64) -> bool {
+    match word {
+        [] => false,
+        [b'0'] => true,
+        [b'0', ..] => false,
+        _ => is_up_to(word, most),
     }
-    value <= u64::from(u32::MAX)
 }
 
-// Whether a later step serves lines that begin so.
-fn is_later(verb: &[u8]) -> bool {
-    let verbs = [
-        b"close".as_slice(),
-        b"look".as_slice(),
-        b"root".as_slice(),
-        b"drop".as_slice(),
-        b"forget".as_slice(),
-        b"name".as_slice(),
-        b"delete".as_slice(),
-        b"turn".as_slice(),
-        b"nudge".as_slice(),
-        b"deliver".as_slice(),
-        b"lose".as_slice(),
-        b"repeat".as_slice(),
-        b"fail".as_slice(),
-        b"start".as_slice(),
-        b"reclaim".as_slice(),
-    ];
-    verbs.iter().any(|known| *known == verb)
+fn is_up_to(digits: &[u8], most: u64) -> bool {
+    let mut value = 0u64;
+    for digit in digits {
+        match more_value(value, *digit) {
+            Some(more) => value = more,
+            None => return false,
+        }
+    }
+    value <= most
+}
+
+// A number with one more digit behind it, where that is one below 2^64.
+fn more_value(value: u64, digit: u8) -> Option<u64> {
+    if !digit.is_ascii_digit() {
+        return None;
+    }
+    let digit = u64::from(digit.saturating_sub(b'0'));
+    value.checked_mul(10)?.checked_add(digit)
 }

@@ -10,49 +10,82 @@ usage: hydra COMMAND DIR G R [options]
        hydra --version
 
 A store keeps blocks of bytes, equal blocks once, each under an address that is
-made of its bytes; a session is given a handle for each block that it writes.
+made of its bytes. A session is given a handle for each block that it writes or
+reads. A root keeps a block under a key, and with it all that the block points
+to, block by block. A deletion gives back the space of what no root keeps and no
+session has been given lately.
 
-One command is built so far, with G and R both 1:
+One command is built so far, with R 1:
 
-  hydra script DIR 1 1 [options]
+  hydra script DIR G 1 [options]
 
 It reads a script from standard input and prints the answers to standard output.
-The blocks are kept in DIR, which is made if absent, in the files peer0.side0 and
-peer0.side1. What a line did is on the disk before it is answered, and a later
-run finds what an earlier one left, wherever that one stopped; sessions end with
-their run. One run at a time has a DIR: another is told so on standard error.
+G is the number of shards among which the blocks are parted: 1, 2, 4 or 8, the
+same at each run. Shard P keeps its blocks in DIR, which is made if absent, in the
+files peerP.side0 and peerP.side1. What a line did is on the disk before it is
+answered, and a later run finds what an earlier one left, wherever that one
+stopped; sessions end with their run. One run at a time has a DIR: another is told
+so on standard error.
 
 An option is a name and a number, and lowers a limit of the run: each at most
 once, in any order, with a number from 1 to the greatest, which is the limit
 where the option is not given:
 
   --ops N       answers of the run; the greatest is 1048576
-  --blocks N    blocks of the store; 16384
-  --roots N     roots of the store; 4096
+  --blocks N    blocks of a shard; 16384
+  --roots N     roots of a shard; 4096
   --sessions N  sessions that are open; 64
   --handles N   handles that a session holds; 4096
+  --pool N      messages under way between shards; from 16 on; 65536
+  --epochs N    the last epoch, at which no deletion begins; 281474976710655
 
 The lines of a script, each ended by a line feed:
 
-  open S        opens the session S, 1 to 16 of a-z 0-9
-  write S HEX   writes a block of these data: hexadecimal digits, two a byte, for
-                at most 65,536 bytes, or - for none
-  read S hN     reads the block of the session's handle hN, as h0
-  stat          counts the blocks, the roots and the open sessions, and tells the
-                epochs
-  settle        completes what was asked before; so far each line is answered at
-                once, and nothing is left to complete
-  # ...         a comment, which is passed over, as an empty line is
+  open S           opens the session S, 1 to 16 of a-z 0-9
+  close S          closes it; its handles are gone
+  write S HEX [hN ..]
+                   writes a block of these data: hexadecimal digits, two a byte,
+                   for at most 65,536 bytes, or - for none; it points to the
+                   blocks of at most 64 handles
+  read S hN        reads the block of the session's handle hN, as h0
+  root S KEY hN    keeps the block of hN under KEY, 1 to 64 of a-z 0-9 . _ -
+  look S KEY       gives a handle for the block that KEY keeps
+  drop KEY         gives KEY up
+  forget S hN      gives a handle up
+  name S hN        tells the address of a block
+  delete           begins a deletion
+  stat             counts the blocks, the roots and the open sessions, and tells
+                   the epochs
+  settle           has the disks work until all is answered and each deletion done
+  # ...            a comment, which is passed over, as an empty line is
 
-An answer begins with the number of the line that asked: ok, new for a block that
-was not there, dup for one that was, bytes for its data, stat for the counts, and
-no for a refusal. A script, and beside it what is printed on a new DIR:
+A write, a read, a root, a drop and a deletion wait for the disks, which work at
+`settle`. A session asks one thing at a time: until it is answered its next line
+gets `no busy`. These lines have the disks do single things, for who wants to see
+them in another order:
+
+  turn P           shard P does its next job, or takes its oldest message
+  nudge P          shard P sends again what may have been lost
+  deliver K, lose K, repeat K
+                   message K comes now, is lost, or is sent once more
+  fail P           shard P fails, and with its only copy the run ends
+  start P          a failed shard joins again; with its only copy none is there
+
+An answer begins with the number of the line that asked, or with - where none
+did: ok, new for a block that was not there, dup for one that was, bytes for its
+data and the handles of what it points to, held and name for a handle, stat for
+the counts, run and enter where a shard enters a deletion, sweep with the shard,
+its epoch and how many blocks it gave back, done, down, and no for a refusal. A
+script, and beside it what is printed on a new DIR:
 
   open a          1 ok
-  write a 6162    2 new h0 e1
-  settle
-  read a h0       4 bytes 6162
-  settle
+  write a 6162
+  settle          2 new h0 e1
+  read a h0
+  settle          4 bytes 6162
+
+A block that no root keeps goes with the second deletion behind its last write:
+the first one leaves what sessions may still be about to point to.
 
 Exit statuses. Each but 0 has its line on standard error, and before it may stand
 another: the file that failed and why, which word is not served yet, or what is
@@ -61,12 +94,12 @@ wrong with the line of a script.
    0  the script was read to its end
    2  the words are not those of a command
    3  a line is not in the script language; the lines before it were run
-   4  the disk failed or is no log of a store, or another run has it; the last
-      line printed is - down 0
+   4  a disk failed or is no log of a store, or another run has DIR; the line
+      - down P stands in the output, unless a line of the script had it fail
    5  the input could not be read
    6  the output could not be written
    7  out of memory
-   8  the disk is of another store; nothing was written to it
+   8  a disk is of another store, or of another G; nothing was written to any
   10  the run has as many answers as --ops allows, and one more was due
   13  the input is too long
  126  of the launcher bin/hydra: the program could not be proved or built

@@ -15,6 +15,7 @@ mod side_file;
 mod streams;
 mod usage;
 
+use hs_top::exit_code;
 use std::process::ExitCode;
 
 #[cfg(test)]
@@ -24,5 +25,5 @@ fn main(rt: HostRuntime) -> ExitCode {
     let mut errors = rt.stderr();
     let status = run::run(&rt, rt.stdin(), rt.stdout(), &mut errors);
     let _ = run::report(rt.alloc(), &mut errors, &status);
-    ExitCode::from(status.code())
+    ExitCode::from(exit_code(&status))
 }

@@ -343,7 +343,7 @@ fn a_folder_is_made_and_one_run_has_it(rt: HostRuntime) -> Result<(), Fail> {
     let top = env::temp_dir(&rt)?.join(alloc, name.as_str())?;
     let dir = top.join(alloc, "a/b")?;
     let mut words = Vec::new(alloc);
-    for word in ["script", dir.as_str(), "1", "1"] {
+    for word in ["script", dir.as_str(), "2", "1"] {
         words.push(String::from_str(alloc, word)?)?;
     }
     let first = disks_of(&rt, alloc, &words)?;
@@ -363,10 +363,12 @@ fn a_folder_is_made_and_one_run_has_it(rt: HostRuntime) -> Result<(), Fail> {
 
     drop(first);
     let mut third = disks_of(&rt, alloc, &words)?;
-    assert_eq!(rt; third.len(), 1);
+    assert_eq!(rt; third.len(), 2);
     for disk in third.iter_mut() {
         assert_eq!(rt; length(disk, Side::Zero), Ok(0));
     }
+    let last = dir.join(alloc, "peer1.side1")?;
+    assert_eq!(rt; fs::read(&rt, last.as_str())?.as_slice(), b"".as_slice());
     fs::remove_dir_all(&rt, top.as_str())?;
     Ok(())
 }
@@ -414,12 +416,24 @@ fn each_call_of_a_disk_without_files_fails(rt: HostRuntime) -> Result<(), Fail> 
 fn the_first_bad_line_has_a_cause(rt: HostRuntime) -> Result<(), Fail> {
     for (lines, want) in [
         (
-            b"\n# a\r\nopen a\nwrite a 6a\nwrite a -\nread a h0\nstat\nsettle".as_slice(),
+            b"\n# a\r\nopen a\nwrite a 6a\nwrite a - h0 h1\nread a h0\nstat\nsettle".as_slice(),
+            None,
+        ),
+        (
+            b"root a k.1 h0\nlook a k.1\ndrop k.1\nname a h0\nforget a h0\nclose a\ndelete".as_slice(),
+            None,
+        ),
+        (
+            b"turn 0\nnudge 255\nfail 1\nstart 1\ndeliver 18446744073709551615\nlose 1\nrepeat 1".as_slice(),
             None,
         ),
         (b"opne a\nsettle a", Some(BadCause::Verb)),
-        (b"close a\n", Some(BadCause::LaterVerb)),
-        (b"write a 61 h0", Some(BadCause::LaterPointers)),
+        (b"reclaim 0\n", Some(BadCause::LaterVerb)),
+        (b"write a 61 0", Some(BadCause::Handle)),
+        (b"root a K h0", Some(BadCause::Key)),
+        (b"turn 256", Some(BadCause::Peer)),
+        (b"lose 18446744073709551616", Some(BadCause::Message)),
+        (b"lose 01", Some(BadCause::Message)),
         (b"settle\r\n", Some(BadCause::Return)),
         (b"open  a\n", Some(BadCause::Space)),
         (b"open A\n", Some(BadCause::Session)),

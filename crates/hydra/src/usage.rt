@@ -2,7 +2,7 @@
 ghost use Rattle.std.specs.Prelude.{◌≡◌, OnOk, bytes_eq, map, string_bytes};
 ghost use Rattle.std.specs.Io.KnownBytes.{Appends};
 ghost use Rattle.std.specs.List.{list_any};
-ghost use Rattle.hydra.specs.Usage.{is_later_copies, is_later_shards, later_in, later_option, later_part, later_text, usage_text};
+ghost use Rattle.hydra.specs.Usage.{is_later_copies, later_in, later_option, later_part, later_text, usage_text};
 
 use hs_top::shape_of;
 use std::io;
@@ -13,12 +13,8 @@ use std::io::Write;
 pub enum Later {
     Load,
     Audit,
-    /// More than one shard.
-    Shards,
     /// More than one copy.
     Copies,
-    Pool,
-    Epochs,
     Visits,
 }
 
@@ -42,10 +38,7 @@ fn later_line(later: Option<Later>) -> &'static str
         None => "hydra: see hydra --help\n",
         Some(Later::Load) => "hydra: load is not served yet: see hydra --help\n",
         Some(Later::Audit) => "hydra: audit is not served yet: see hydra --help\n",
-        Some(Later::Shards) => "hydra: G above 1 is not served yet: see hydra --help\n",
         Some(Later::Copies) => "hydra: R above 1 is not served yet: see hydra --help\n",
-        Some(Later::Pool) => "hydra: --pool is not served yet: see hydra --help\n",
-        Some(Later::Epochs) => "hydra: --epochs is not served yet: see hydra --help\n",
         Some(Later::Visits) => "hydra: --visits is not served yet: see hydra --help\n",
     }
 }
@@ -55,20 +48,17 @@ fn later_of(words: &[String]) -> Option<Later>
     ensures { result ≡ later_in (map (λ word. string_bytes word) words.now) }
 {
     match words {
-        [command, _, shards, copies, options @ ..] => later_part(
-            command.as_bytes(),
-            shards.as_bytes(),
-            copies.as_bytes(),
-            options,
-        ),
+        [command, _, _, copies, options @ ..] => {
+            later_part(command.as_bytes(), copies.as_bytes(), options)
+        }
         _ => None,
     }
 }
 
 // The same of the words by their place.
 #[tactic(auto, unfolding(crate::specs::Usage::later_part))]
-fn later_part(command: &[u8], shards: &[u8], copies: &[u8], options: &[String]) -> Option<Later>
-    ensures { result ≡ later_part command.now shards.now copies.now
+fn later_part(command: &[u8], copies: &[u8], options: &[String]) -> Option<Later>
+    ensures { result ≡ later_part command.now copies.now
         (map (λ word. string_bytes word) options.now) }
 {
     if command == b"load".as_slice() {
@@ -77,20 +67,11 @@ fn later_part(command: &[u8], shards: &[u8], copies: &[u8], options: &[String]) 
         Some(Later::Audit)
     } else if command != b"script".as_slice() {
         None
-    } else if is_later_shards(shards) {
-        Some(Later::Shards)
     } else if is_later_copies(copies) {
         Some(Later::Copies)
     } else {
         later_option(options)
     }
-}
-
-// Whether a word is a number of shards that a later step serves.
-fn is_later_shards(word: &[u8]) -> bool
-    ensures { result ≡ is_later_shards word.now }
-{
-    word == b"2".as_slice() || word == b"4".as_slice() || word == b"8".as_slice()
 }
 
 // Whether a word is a number of copies that a later step serves.
@@ -105,11 +86,7 @@ fn is_later_copies(word: &[u8]) -> bool
 fn later_option(words: &[String]) -> Option<Later>
     ensures { result ≡ later_option (map (λ word. string_bytes word) words.now) }
 {
-    if has_word(words, b"--pool") {
-        Some(Later::Pool)
-    } else if has_word(words, b"--epochs") {
-        Some(Later::Epochs)
-    } else if has_word(words, b"--visits") {
+    if has_word(words, b"--visits") {
         Some(Later::Visits)
     } else {
         None

@@ -1,6 +1,0 @@
-pub mod Caused
-pub mod Images
-pub mod Lists
-pub mod Opening
-pub mod Serving
-pub mod Telling

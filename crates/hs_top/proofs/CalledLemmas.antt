@@ -1,0 +1,31 @@
+-- What a call promises, from what is promised of a run and what hs_run says of it.
+use Rattle.std.proofs.Common.{◌≡◌, ◌∙◌, sym, subst, refl, ℕ, List, Option, None, length, map}
+use Rattle.std.proofs.lemmas.List.{length-map}
+use Rattle.std.specs.Prelude.{IfSome}
+use Rattle.hs_limits.specs.declared.address.Address.{Address}
+use Rattle.hs_model.specs.declared.command.Command.{Command}
+use Rattle.hs_promise.specs.declared.status.Status.TheVariants as status
+use Rattle.hs_promise.specs.Promise.{IsUsage}
+use Rattle.hs_promise.specs.Run.{Ran, Script, script_of}
+use Rattle.hs_run.proofs.CaseLemmas.{if_told}
+use Rattle.hs_run.specs.Machine.{IsOfCluster}
+use Rattle.hs_run.specs.Words.{built_of}
+use Rattle.hs_script.specs.CommandLine.{Wanted}
+use Rattle.hs_top.specs.Calls.{IsCalled, Promised, RunsSo}
+
+-- as many disks are handed in as there are
+pub handed_count : {A B C : Type 0} (f : A → B × C) (disks : List A) → length (map (λ (d : B × C). d.0) (map f disks)) ≡ length disks
+handed_count {A} {B} {C} f disks = length-map (map f disks) (λ (d : B × C). d.0) ∙ length-map disks f
+
+module _ (tells : Type 0) (name : List ℕ → Address) (words : List (List ℕ)) (disks : ℕ) (r : Ran) (same : length r.old.disks ≡ disks) where
+  pub called_of : (built_of words disks ≡ None → IsUsage r) → (r.ending ≡ status.Usage → built_of words disks ≡ None)
+      → IfSome (built_of words disks) (λ wanted. (commands : ℕ → Option Command) × IsOfCluster tells (script_of name wanted commands) r)
+      → ((S : Script) → S.set.name ≡ name → IsOfCluster tells S r → Promised tells S r) → IsCalled tells name words r
+  called_of usage only ran promised = record {
+    runs = subst (λ (n : ℕ). IfSome (built_of words n) (λ wanted. (commands : ℕ → Option Command) × RunsSo tells (script_of name wanted commands) r)) (sym same)
+        (if_told (λ (wanted : Wanted). (commands : ℕ → Option Command) × IsOfCluster tells (script_of name wanted commands) r)
+        (λ (wanted : Wanted). (commands : ℕ → Option Command) × RunsSo tells (script_of name wanted commands) r) (built_of words disks) ran
+        (λ wanted p. (p.0, record { promised = promised (script_of name wanted p.0) refl p.1; machine = p.1 })));
+    usage = λ none. usage (subst (λ (n : ℕ). built_of words n ≡ None) same none);
+    only_usage = λ is. subst (λ (n : ℕ). built_of words n ≡ None) (sym same) (only is);
+  }

@@ -1,0 +1,100 @@
+-- On which disks a run may begin.
+use Rattle.std.proofs.Common.{◌≡◌, ◌∙◌, ap, sym, subst, ℕ, zero, suc, ◌+◌, Bool, true, false, List, [], ◌∷◌, length, take, drop, replicate, Option, Some, None, unwrap_or, refl, arith}
+use Rattle.std.specs.Prelude.{⊤, if◌then◌else◌, map}
+use Rattle.hs_entry.specs.Entries.{rank_of}
+use Rattle.hs_events.specs.Taken.{or_blank, taken_lists}
+use Rattle.hs_fold.specs.Images.{image_at}
+use Rattle.hs_fold.specs.Opened.{chosen, chosen_each, outranks}
+use Rattle.hs_fold.specs.Shards.Images.{Image}
+use Rattle.hs_fold.specs.Shards.Setting.{Numbered, Setting}
+use Rattle.hs_model.specs.declared.command.Command.{Command}
+use Rattle.hs_peerlog.proofs.ImageLemmas.{image-is, list-same}
+use Rattle.hs_ports.specs.declared.disk.Side.{Side}
+use Rattle.hs_ports.specs.Disk.{Standing, settled}
+use Rattle.hs_ports.specs.Moments.{disk_at}
+use Rattle.hs_promise.specs.Entry.{MayStop, entry_logs, is_aside, logs_from}
+use Rattle.hs_promise.specs.Run.{Ran, Script}
+use Rattle.hs_promise.specs.Stops.{image_logs}
+use Rattle.hs_side.proofs.BlankLemmas.{blank_log}
+use Rattle.hs_side.specs.Current.{list_in}
+use Rattle.hs_side.specs.Reading.{listed}
+use Rattle.hs_sound.specs.Stay.{AreSoundAlong}
+use Rattle.hs_top.specs.Rest.{AreAtRest}
+
+-- ---- disks at rest, whose lists are sound
+
+pub rest_may : (S : Script) (r : Ran) (image : ℕ → Image) → AreAtRest image r.old → AreSoundAlong S.set (taken_lists S.set.shape (entry_logs S r)) → MayStop S r
+rest_may S r image rest sound = record {
+  sound = sound;
+  one = λ peer counts left images. list-same (disk_at r.old.disks peer).seen left (image-is (disk_at r.old.disks peer) left (still peer) images);
+  none = record { called = λ peer. (rest.each peer).last; put = rest.sink };
+}
+  where
+    still : (peer : ℕ) (side : Side) → (disk_at r.old.disks peer).loose side ≡ settled ((disk_at r.old.disks peer).seen side)
+    still peer side = (rest.each peer).loose side ∙ ap (λ (bytes : List ℕ). settled bytes) (sym ((rest.each peer).seen side))
+
+-- ---- blank disks
+
+AreEmpty : List Numbered → Type 0
+AreEmpty [] = ⊤
+AreEmpty (list ∷ lists) = (list ≡ []) × AreEmpty lists
+
+empty_take : (n : ℕ) (lists : List Numbered) → AreEmpty lists → AreEmpty (take n lists)
+empty_take zero lists h = tt
+empty_take (suc n) [] h = tt
+empty_take (suc n) (list ∷ lists) h = (h.0, empty_take n lists h.1)
+
+empty_drop : (n : ℕ) (lists : List Numbered) → AreEmpty lists → AreEmpty (drop n lists)
+empty_drop zero lists h = h
+empty_drop (suc n) [] h = tt
+empty_drop (suc n) (list ∷ lists) h = empty_drop n lists h.1
+
+chosen_empty : (lists : List Numbered) → AreEmpty lists → chosen lists ≡ []
+chosen_empty [] h = refl
+chosen_empty (list ∷ lists) h = go (outranks (rank_of (chosen lists)) (rank_of list))
+  where
+    go : (b : Bool) → (if b then chosen lists else list) ≡ []
+    go true = chosen_empty lists h.1
+    go false = h.0
+
+each_empty : (shards copies : ℕ) (lists : List Numbered) → AreEmpty lists → chosen_each shards copies lists ≡ replicate shards []
+each_empty zero copies lists h = refl
+each_empty (suc shards) copies lists h =
+    ap (λ (list : Numbered). list ∷ chosen_each shards copies (drop copies lists)) (chosen_empty (take copies lists) (empty_take copies lists h))
+    ∙ ap (λ (rest : List Numbered). [] ∷ rest) (each_empty shards copies (drop copies lists) (empty_drop copies lists h))
+
+blank_list : (disk : Standing) → ((side : Side) → disk.seen side ≡ []) → list_in disk.seen ≡ Some []
+blank_list disk h = list-same (λ side. []) disk.seen h ∙ ap (λ log. listed log) (blank_log [] refl)
+
+logs_empty : (S : Script) (r : Ran) (peer : ℕ) (disks : List Standing) → ((k : ℕ) (side : Side) → (disk_at disks k).seen side ≡ []) → AreEmpty (or_blank (logs_from S r peer disks))
+logs_empty S r peer [] h = tt
+logs_empty S r peer (disk ∷ disks) h = (go (is_aside S r peer), logs_empty S r (peer + 1) disks (λ k side. h (suc k) side))
+  where
+    go : (b : Bool) → unwrap_or (if b then None else list_in disk.seen) [] ≡ []
+    go true = refl
+    go false = ap (λ (log : Option Numbered). unwrap_or log []) (blank_list disk (λ side. h 0 side))
+
+pub blank_may : (S : Script) (r : Ran) → AreSoundAlong S.set (replicate S.set.shape.shards []) → AreAtRest (λ peer side. []) r.old → MayStop S r
+blank_may S r sound rest =
+    rest_may S r (λ peer side. []) rest
+    (subst (λ (lists : List Numbered). AreSoundAlong S.set lists)
+    (sym (each_empty S.set.shape.shards S.set.shape.copies (or_blank (entry_logs S r)) (logs_empty S r 0 r.old.disks (λ k side. (rest.each k).seen side)))) sound)
+
+-- ---- what a stop left
+
+logs_are : (S : Script) (r : Ran) (peer : ℕ) (disks : List Standing) (images : List Image) → length disks ≡ length images → ((p : ℕ) → is_aside S r p ≡ false)
+    → ((k : ℕ) (side : Side) → (disk_at disks k).seen side ≡ image_at images k side) → logs_from S r peer disks ≡ image_logs images
+logs_are S r peer [] [] same none h = refl
+logs_are S r peer [] (image ∷ images) same none h = absurd (omega (arith, same))
+logs_are S r peer (disk ∷ disks) [] same none h = absurd (omega (arith, same))
+logs_are S r peer (disk ∷ disks) (image ∷ images) same none h =
+    ap (λ (b : Bool). (if b then None else list_in disk.seen) ∷ logs_from S r (peer + 1) disks) (none peer)
+    ∙ ap (λ (log : Option Numbered). log ∷ logs_from S r (peer + 1) disks) (list-same image disk.seen (λ side. h 0 side))
+    ∙ ap (λ (logs : List (Option Numbered)). list_in image ∷ logs) (logs_are S r (peer + 1) disks images (omega (arith, same)) none (λ k side. h (suc k) side))
+
+pub stopped_may : (S : Script) (r : Ran) (images : List Image) → AreSoundAlong S.set (taken_lists S.set.shape (image_logs images)) → AreAtRest (λ peer. image_at images peer) r.old
+    → length r.old.disks ≡ length images → ((peer : ℕ) → is_aside S r peer ≡ false) → MayStop S r
+stopped_may S r images sound rest same none =
+    rest_may S r (λ peer. image_at images peer) rest
+    (subst (λ (logs : List (Option Numbered)). AreSoundAlong S.set (taken_lists S.set.shape logs))
+    (sym (logs_are S r 0 r.old.disks images same none (λ k side. (rest.each k).seen side))) sound)

@@ -1,0 +1,61 @@
+-- What the two calls of the program promise, for stores of one copy a shard.
+use Rattle.std.specs.Prelude.{IfSome, List, None, Option, length, ℕ, ◌≡◌}
+use Rattle.hs_limits.specs.declared.address.Address.{Address}
+use Rattle.hs_model.specs.declared.command.Command.{Command}
+use Rattle.hs_ports.specs.Objects.{CountsStand, KeepsTime}
+use Rattle.hs_promise.specs.Answers.{Answers, Prints}
+use Rattle.hs_promise.specs.Causes.{Cause, FullCause}
+use Rattle.hs_promise.specs.Completes.{HasPrompt}
+use Rattle.hs_promise.specs.Deletes.{Deletes}
+use Rattle.hs_promise.specs.Ends.{Ends}
+use Rattle.hs_promise.specs.Entry.{IsSoundAtEntry, MayStop, entry_store}
+use Rattle.hs_promise.specs.Kept.{KeepsAlong}
+use Rattle.hs_promise.specs.Lost.{NotesCause}
+use Rattle.hs_promise.specs.Promise.{AreOfScript, IsUsage}
+use Rattle.hs_promise.specs.Run.{Ran, Script, script_of}
+use Rattle.hs_promise.specs.Stops.{Stops}
+use Rattle.hs_promise.specs.declared.status.Status.TheVariants as status
+use Rattle.hs_run.specs.Machine.{IsOfCluster}
+use Rattle.hs_run.specs.Served.{HasShapeCause}
+use Rattle.hs_run.specs.Words.{built_of}
+
+-- ---- what is promised of a run: of `Promise` of hs_promise all but what `settle` has done, and what disks keep of their past
+
+-- from the store at entry, where the disks are sound
+pub record PromisedFromEntry (S : Script) (r : Ran) : Type 0 where
+  pub answers : Answers S (entry_store S r) r.journal
+  pub full : FullCause S (entry_store S r) r
+  pub keeps : KeepsAlong S (entry_store S r) r
+  pub deletes : Deletes S (entry_store S r) r
+
+-- over disks that tell their contents
+pub record PromisedWhereTold (S : Script) (r : Ran) : Type 0 where
+  pub clauses : IsSoundAtEntry S r → PromisedFromEntry S r
+  pub stops : MayStop S r → Stops S (entry_store S r) r
+  pub shape : HasShapeCause S r
+  pub notes : NotesCause S r
+
+-- all of it: what stands whatever the objects tell, and what stands where they do
+pub record Promised (tells : Type 0) (S : Script) (r : Ran) : Type 0 where
+  pub script : AreOfScript S r
+  pub handed_back : length r.new.disks ≡ length r.old.disks
+  pub prints : Prints S r
+  pub prompt : (line : ℕ) → HasPrompt S r line
+  pub time : KeepsTime r.old r.new
+  pub counts : CountsStand r.old r.new
+  pub cause : Cause S r r.ending
+  pub ends : IfSome r.old.left (λ script. IfSome r.new.left (Ends r script))
+  pub told : tells → PromisedWhereTold S r
+
+-- ---- what a call promises
+
+-- this, and that the run is the machine's, on the events that are due and on no others
+pub record RunsSo (tells : Type 0) (S : Script) (r : Ran) : Type 0 where
+  pub promised : Promised tells S r
+  pub machine : IsOfCluster tells S r
+
+-- the words of a call ask for a run of some commands, which goes so; or for what is not served, and then nothing was done
+pub record IsCalled (tells : Type 0) (name : List ℕ → Address) (words : List (List ℕ)) (r : Ran) : Type 0 where
+  pub runs : IfSome (built_of words (length r.old.disks)) (λ wanted. (commands : ℕ → Option Command) × RunsSo tells (script_of name wanted commands) r)
+  pub usage : built_of words (length r.old.disks) ≡ None → IsUsage r
+  pub only_usage : r.ending ≡ status.Usage → built_of words (length r.old.disks) ≡ None
