@@ -132,7 +132,20 @@ pointers_beside a b beside shard o =
 abbrev read_refusal : Limits → Seats → List ℕ → ℕ → ℕ → List ℕ → ℕ → Option Reply
 read_refusal limits seats epochs shard pointers name handle =
     refusal_of (record {
-      limits = limits; seats = seats; roots = []; retained = 0; blocks = 0; epochs = epochs; swept = []; shard = shard; present = None; pointers = pointers; room = true; pending = true; viewed = true; busy = None;
+      limits = limits;
+      seats = seats;
+      roots = [];
+      retained = 0;
+      blocks = 0;
+      epochs = epochs;
+      swept = [];
+      shard = shard;
+      present = None;
+      pointers = pointers;
+      room = true;
+      pending = true;
+      viewed = true;
+      busy = None;
     }) (op.Read name handle)
 
 read_beside : (a b : Core) → IsBeside a b → (shard : ℕ) (name : List ℕ) (handle : ℕ)

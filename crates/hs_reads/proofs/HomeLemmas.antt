@@ -1,7 +1,7 @@
 -- What single changes keep of jobs that read: each stands in the queue of its operation's shard, where each shard has one copy.
 use Rattle.std.proofs.Common.{◌≡◌, ◌≢◌, ◌⊎◌, ◌∙◌, sym, ap, subst, inl, inr, ℕ, ◌+◌, ◌-◌, ◌*◌, ◌<◌, ◌≤◌, ◌==◌, ◌&&◌, Bool, true, false, cond, not, List, [], ◌∷◌, ◌++◌, length, map, drop, max, Option, Some, None, refl, arith}
 use Rattle.std.proofs.lemmas.Bool.{cases_eq, cases_lt}
-use Rattle.std.proofs.lemmas.List.{get_or-set_other, get_or-set_same, length-set, set_past}
+use Rattle.std.proofs.lemmas.List.{get_or-set_other, get_or-set_same, length-map, length-set, set_past}
 use Rattle.std.proofs.lemmas.List.FromFn.{length-enumerate_from}
 use Rattle.std.specs.BTreeMap.{insert_entry, is_at}
 use Rattle.std.specs.List.{AllByRecursion, enumerate_from}
@@ -9,7 +9,6 @@ use Rattle.std.specs.Map.{lookup, remove_entry, set_value}
 use Rattle.std.specs.Option.{option_map, option_map_or}
 use Rattle.std.specs.Ordering.{nat_cmp}
 use Rattle.std.specs.Prelude.{slice_index_or, slice_set}
-use Rattle.hs_answered.proofs.MemoryLemmas.{length_map}
 use Rattle.hs_core.specs.Changing.{add_entry_tasks, add_task, change_group, end_operation, post, put_operation, set_tasks}
 use Rattle.hs_core.specs.declared.task.Task.{Task}
 use Rattle.hs_core.specs.declared.wait.Wait.TheVariants as wait
@@ -144,7 +143,7 @@ copied_long peer number group = length-set group.copies (peer - first_peer group
 
 pub renewed_long : (members : Members) (group : Group) → length (renew members group).copies ≡ length group.copies
 renewed_long members group =
-    length_map (λ (x : ℕ × Replica). tell (is_good_status (status x.0 members)) x.1) (enumerate_from (first_peer group) group.copies) ∙ length-enumerate_from (first_peer group) group.copies
+    length-map (enumerate_from (first_peer group) group.copies) (λ (x : ℕ × Replica). tell (is_good_status (status x.0 members)) x.1) ∙ length-enumerate_from (first_peer group) group.copies
 
 pub fine_propose : (shard : ℕ) (entry : Entry) (c : Core) → Fine c → Fine (propose_entry shard entry c)
 fine_propose shard entry c h = by (lead_of shard c)

@@ -206,9 +206,9 @@ fine_follow shard c h =
 fine_join : (peer : ℕ) (c : Core) → Fine c → Fine (join peer c)
 fine_join peer c h =
     let one : Core = set_rejoin peer None (set_status peer Good c) in
-    let two : Core = change_view (home peer one) one in
-    let three : Core = follow_lead (home peer two) two in
-    fine_commit (home peer three) three (fine_follow (home peer two) two (fine_change_view (home peer one) one h))
+    let two : Core = change_view (home peer c) one in
+    let three : Core = follow_lead (home peer c) two in
+    fine_commit (home peer c) three (fine_follow (home peer c) two (fine_change_view (home peer c) one h))
 
 fine_join_if : (peer : ℕ) (c : Core) → Fine c → Fine (join_if_level peer c)
 fine_join_if peer c h = fine_if (is_level_with_lead peer c) (join peer) c (λ x g. fine_join peer x g) h

@@ -1,10 +1,10 @@
 -- A run goes on reading, and each of its reports tells the bytes of its block.
 use Rattle.std.proofs.Common.{◌≡◌, ◌∙◌, sym, ap, subst, ◌⊎◌, inl, inr, ℕ, zero, suc, ◌+◌, ◌*◌, ◌<◌, ◌≤◌, ◌++◌, Bool, drop, length, map, List, [], ◌∷◌, Option, Some, None, refl, arith, replicate, take}
 use Rattle.std.proofs.lemmas.Bool.{cases_lt}
+use Rattle.std.proofs.lemmas.List.{length-map}
 use Rattle.std.specs.List.{AllByRecursion, range_with_len}
 use Rattle.std.specs.Prelude.{if◌then◌else◌, slice_index, slice_index_or}
 use Rattle.hs_along.specs.Walks.{HasRecordRoom}
-use Rattle.hs_answered.proofs.MemoryLemmas.{length_map}
 use Rattle.hs_answered.specs.Standing.{store_with}
 use Rattle.hs_answered.specs.Telling.{Judging}
 use Rattle.hs_answers.specs.Answered.{KeepsRecordRoom, TellTheirBlocks}
@@ -174,7 +174,7 @@ few_copies : (shape : Shape) (taken : Taken) (shards : List ℕ) (g : ℕ) (none
 few_copies shape taken [] g none one few = few
 few_copies shape taken (s ∷ shards) zero none one few =
     let long : length (taken_group shape taken s).copies ≡ length (good_copies shape taken.good s) =
-    length_map (λ (b : Bool). if b then whole_copy (slice_index taken.views s) (slice_index taken.lengths s) else no_copy) (good_copies shape taken.good s) in
+    length-map (good_copies shape taken.good s) (λ (b : Bool). if b then whole_copy (slice_index taken.views s) (slice_index taken.lengths s) else no_copy) in
     let short : length (good_copies shape taken.good s) ≤ shape.copies = taken_short shape.copies (drop (peer_of shape s 0) taken.good) in
     omega (arith, one, long, short)
 few_copies shape taken (s ∷ shards) (suc g) none one few = few_copies shape taken shards g none one few
