@@ -64,11 +64,11 @@ module _ (S : Script) (r : Ran) (on : OnDisks S r) where
       course_is = counted ∙ ap (λ (items : List CourseItem). filter (still_counts r) items) entry_pairs
 
       bad : has_log (entry_logs S r) p ≡ false → good_from false (counted_course S r) m p ≡ false
-      bad no =
+      bad lacks =
           ap (λ (items : List CourseItem). good_from false items m p) course_is
           ∙ none_good m p (filter (still_counts r) (pairs (λ p. has_log (entry_logs S r) p) (λ p. number_at p) r.old.moment 0 S.set.shape.shards))
           (filter_none (still_counts r) p (pairs (λ p. has_log (entry_logs S r) p) (λ p. number_at p) r.old.moment 0 S.set.shape.shards)
-          (pairs_none (λ p. has_log (entry_logs S r) p) (λ p. number_at p) r.old.moment p 0 S.set.shape.shards no))
+          (pairs_none (λ p. has_log (entry_logs S r) p) (λ p. number_at p) r.old.moment p 0 S.set.shape.shards lacks))
 
       rests : has_log (entry_logs S r) p ≡ true → (list : Numbered) → slice_index_or (entry_logs S r) p None ≡ Some list → IsRested S r m p
       rests is list at =
@@ -88,4 +88,4 @@ module _ (S : Script) (r : Ran) (on : OnDisks S r) where
 
       go : (b : Bool) → has_log (entry_logs S r) p ≡ b → IsRested S r m p
       go true is = let there = some_there (slice_index_or (entry_logs S r) p None) is in rests is there.0 there.1
-      go false no = absurd (true≢false (sym good ∙ bad no))
+      go false lacks = absurd (true≢false (sym good ∙ bad lacks))

@@ -1,5 +1,5 @@
 -- The course of a run begins with a Good and a Took of each shard that has a log: what it tells of peers and shards.
-use Rattle.std.proofs.Common.{◌≡◌, ◌∙◌, inl, inr, ap, sym, ℕ, zero, suc, ◌+◌, ◌<◌, ◌≤◌, ◌==◌, ◌++◌, ◌||◌, ◌&&◌, Bool, true, false, List, [], ◌∷◌, Option, Some, None, refl, take, map, length, nat_lt, arith}
+use Rattle.std.proofs.Common.{◌≡◌, ◌∙◌, ◌⊎◌, inl, inr, ap, sym, ℕ, zero, suc, ◌+◌, ◌<◌, ◌≤◌, ◌==◌, ◌++◌, ◌||◌, ◌&&◌, Bool, true, false, List, [], ◌∷◌, Option, Some, None, refl, take, map, length, nat_lt, arith}
 use Rattle.std.proofs.lemmas.Bool.{and_from, and_left, cases_eq, eq-eqb, false≢true, lt-ltb, ne_eqb, true≢false}
 use Rattle.std.proofs.lemmas.Bool.Decides.{nat_tests}
 use Rattle.std.proofs.lemmas.List.Elements.{All-contains, All-from_recursion}
@@ -75,28 +75,32 @@ module _ (there : ℕ → Bool) (number : ℕ → ℕ) (moment m p : ℕ) where
   good_there k zero x below is low high = absurd (omega (arith, low, high))
   good_there k (suc n) x below is low high =
       good-append x (pair (there k) k (number k) moment) (pairs there number moment (k + 1) n) m p
-      ∙ elim (cases_eq k p) [
-        | inl same ↦
-            ap (λ y. good_from y (pairs there number moment (k + 1) n) m p)
-            (ap (λ b. good_from x (pair b k (number k) moment) m p) (ap there same ∙ is) ∙ ap (λ b. if b then true else x) (and_from (k == p) (nat_lt moment m) (eq-eqb k p same) (lt-ltb moment m below)))
-            ∙ good_still (k + 1) n
-        | inr differs ↦ good_there (k + 1) n (good_from x (pair (there k) k (number k) moment) m p) below is (omega (arith, low, differs)) (omega (arith, high))
-      ]
+      ∙ go (λ up y. good_there (k + 1) n y below is up (omega (arith, high))) (cases_eq k p)
+    where
+      go : (k + 1 ≤ p → (y : Bool) → good_from y (pairs there number moment (k + 1) n) m p ≡ true) → (k ≡ p) ⊎ (k ≡ p → ⊥)
+          → good_from (good_from x (pair (there k) k (number k) moment) m p) (pairs there number moment (k + 1) n) m p ≡ true
+      go again (inl same) =
+          let has : there k ≡ true = ap there same ∙ is in
+          let both : (k == p && nat_lt moment m) ≡ true = and_from (k == p) (nat_lt moment m) (eq-eqb k p same) (lt-ltb moment m below) in
+          let here : good_from x (pair (there k) k (number k) moment) m p ≡ true = ap (λ b. good_from x (pair b k (number k) moment) m p) has ∙ ap (λ b. if b then true else x) both in
+          ap (λ y. good_from y (pairs there number moment (k + 1) n) m p) here ∙ good_still (k + 1) n
+      go again (inr differs) = again (omega (arith, low, differs)) (good_from x (pair (there k) k (number k) moment) m p)
 
   -- who has none is as before
   other_pair : (k : ℕ) (x b : Bool) → (k ≡ p → ⊥) → good_from x (pair b k (number k) moment) m p ≡ x
   other_pair k x true differs = ap (λ b. if b then true else x) (and_left (k == p) (nat_lt moment m) (ne_eqb k p differs))
   other_pair k x false differs = refl
 
+  gone_pair : (k : ℕ) (x : Bool) → there p ≡ false → (k ≡ p) ⊎ (k ≡ p → ⊥) → good_from x (pair (there k) k (number k) moment) m p ≡ x
+  gone_pair k x lacks (inl same) = ap (λ b. good_from x (pair b k (number k) moment) m p) (ap there same ∙ lacks)
+  gone_pair k x lacks (inr differs) = other_pair k x (there k) differs
+
   pub good_gone : (k n : ℕ) (x : Bool) → there p ≡ false → good_from x (pairs there number moment k n) m p ≡ x
-  good_gone k zero x no = refl
-  good_gone k (suc n) x no =
+  good_gone k zero x lacks = refl
+  good_gone k (suc n) x lacks =
       good-append x (pair (there k) k (number k) moment) (pairs there number moment (k + 1) n) m p
-      ∙ ap (λ y. good_from y (pairs there number moment (k + 1) n) m p) (elim (cases_eq k p) [
-        | inl same ↦ ap (λ b. good_from x (pair b k (number k) moment) m p) (ap there same ∙ no)
-        | inr differs ↦ other_pair k x (there k) differs
-      ])
-      ∙ good_gone (k + 1) n x no
+      ∙ ap (λ y. good_from y (pairs there number moment (k + 1) n) m p) (gone_pair k x none (cases_eq k p))
+      ∙ good_gone (k + 1) n x lacks
 
   -- ---- and of a shard
 
@@ -115,13 +119,16 @@ module _ (there : ℕ → Bool) (number : ℕ → ℕ) (moment m p : ℕ) where
   took_there k zero x below is low high = absurd (omega (arith, low, high))
   took_there k (suc n) x below is low high =
       taken-append x (pair (there k) k (number k) moment) (pairs there number moment (k + 1) n) m p
-      ∙ elim (cases_eq k p) [
-        | inl same ↦
-            ap (λ y. taken_from y (pairs there number moment (k + 1) n) m p)
-            (ap (λ b. taken_from x (pair b k (number k) moment) m p) (ap there same ∙ is) ∙ ap (λ b. if b then number k else x) (and_from (k == p) (nat_lt moment m) (eq-eqb k p same) (lt-ltb moment m below)))
-            ∙ took_past (k + 1) n (number k) (omega (arith, same)) ∙ ap number same
-        | inr differs ↦ took_there (k + 1) n (taken_from x (pair (there k) k (number k) moment) m p) below is (omega (arith, low, differs)) (omega (arith, high))
-      ]
+      ∙ go (λ up y. took_there (k + 1) n y below is up (omega (arith, high))) (cases_eq k p)
+    where
+      go : (k + 1 ≤ p → (y : ℕ) → taken_from y (pairs there number moment (k + 1) n) m p ≡ number p) → (k ≡ p) ⊎ (k ≡ p → ⊥)
+          → taken_from (taken_from x (pair (there k) k (number k) moment) m p) (pairs there number moment (k + 1) n) m p ≡ number p
+      go again (inl same) =
+          let has : there k ≡ true = ap there same ∙ is in
+          let both : (k == p && nat_lt moment m) ≡ true = and_from (k == p) (nat_lt moment m) (eq-eqb k p same) (lt-ltb moment m below) in
+          let here : taken_from x (pair (there k) k (number k) moment) m p ≡ number k = ap (λ b. taken_from x (pair b k (number k) moment) m p) has ∙ ap (λ b. if b then number k else x) both in
+          ap (λ y. taken_from y (pairs there number moment (k + 1) n) m p) here ∙ took_past (k + 1) n (number k) (omega (arith, same)) ∙ ap number same
+      go again (inr differs) = again (omega (arith, low, differs)) (taken_from x (pair (there k) k (number k) moment) m p)
 
 -- ---- who begins the course
 
@@ -145,10 +152,9 @@ pairs_begin there number moment p k (suc n) rest c is low high room =
     go again true e zero fits = absurd (omega (arith, fits))
     go again true e (suc zero) fits = absurd (omega (arith, fits))
     go again true e (suc (suc d)) fits = by_peer again d (omega (arith, fits)) (k == p) refl
-    go again false e d fits = elim (cases_eq k p) [
-      | inl same ↦ absurd (false≢true (sym e ∙ ap there same ∙ is))
-      | inr differs ↦ again d (omega (arith, fits)) (omega (arith, low, differs))
-    ]
+    go again false e d fits =
+        let differs : k ≡ p → ⊥ = λ same. false≢true (sym e ∙ ap there same ∙ is) in
+        again d (omega (arith, fits)) (omega (arith, low, differs))
 
 -- a course that somebody begins is not empty
 pub some_course : (c p : ℕ) (items : List CourseItem) → list_any (is_good_of p) (take c items) ≡ true → (length items == 0) ≡ false
@@ -195,15 +201,16 @@ module _ (was is : ℕ → Bool) (moment m p : ℕ) where
   change_none true x = refl
   change_none false x = refl
 
+  change_one : (q : ℕ) (x : Bool) → was p ≡ is p → (q ≡ p) ⊎ (q ≡ p → ⊥) → good_from x (change_item (was q) (is q) q moment) m p ≡ x
+  change_one q x same (inl here) = ap (λ k. good_from x (change_item (was k) (is k) k moment) m p) here ∙ ap (λ b. good_from x (change_item (was p) b p moment) m p) (sym same) ∙ change_none (was p) x
+  change_one q x same (inr differs) = change_other q (was q) (is q) x differs
+
   -- a peer that does not change is as before
   pub changes_good : (peers : List ℕ) (x : Bool) → was p ≡ is p → good_from x (flat_map (λ peer. change_item (was peer) (is peer) peer moment) peers) m p ≡ x
   changes_good [] x same = refl
   changes_good (q ∷ peers) x same =
       good-append x (change_item (was q) (is q) q moment) (flat_map (λ peer. change_item (was peer) (is peer) peer moment) peers) m p
-      ∙ ap (λ y. good_from y (flat_map (λ peer. change_item (was peer) (is peer) peer moment) peers) m p) (elim (cases_eq q p) [
-        | inl here ↦ ap (λ k. good_from x (change_item (was k) (is k) k moment) m p) here ∙ ap (λ b. good_from x (change_item (was p) b p moment) m p) (sym same) ∙ change_none (was p) x
-        | inr differs ↦ change_other q (was q) (is q) x differs
-      ])
+      ∙ ap (λ y. good_from y (flat_map (λ peer. change_item (was peer) (is peer) peer moment) peers) m p) (change_one q x same (cases_eq q p))
       ∙ changes_good peers x same
 
   change_took : (q x : ℕ) (a b : Bool) → taken_from x (change_item a b q moment) m p ≡ x
@@ -233,12 +240,12 @@ none_good m p (item.Took shard number k ∷ items) none = none_good m p items no
 
 -- among the first items there is none of a peer without a log
 pub pairs_none : (there : ℕ → Bool) (number : ℕ → ℕ) (moment p k n : ℕ) → there p ≡ false → list_any (is_good_of p) (pairs there number moment k n) ≡ false
-pairs_none there number moment p k zero no = refl
-pairs_none there number moment p k (suc n) no = go (pairs_none there number moment p (k + 1) n no) (there k) refl
+pairs_none there number moment p k zero lacks = refl
+pairs_none there number moment p k (suc n) lacks = go (pairs_none there number moment p (k + 1) n lacks) (there k) refl
   where
     go : list_any (is_good_of p) (pairs there number moment (k + 1) n) ≡ false → (b : Bool) → there k ≡ b → list_any (is_good_of p) (pair b k (number k) moment ++ pairs there number moment (k + 1) n) ≡ false
     go rest true e =
-        let other : (k == p) ≡ false = ne_eqb k p (λ same. true≢false (sym e ∙ ap there same ∙ no)) in
+        let other : (k == p) ≡ false = ne_eqb k p (λ same. true≢false (sym e ∙ ap there same ∙ lacks)) in
         ap (λ b. b || list_any (is_good_of p) (pairs there number moment (k + 1) n)) other ∙ rest
     go rest false e = rest
 

@@ -128,7 +128,7 @@ module _ (S : Script) (r : Ran) (story : Story) (on : OnDisks S r) (went : Went 
     own_rested m p during low counted good = go (has_log story.found.logs p) refl
       where
         bad : has_log story.found.logs p ≡ false → good_from false (counted_course S r) m p ≡ false
-        bad no = ap (λ (items : List CourseItem). good_from false items m p) (counted ∙ course_is) ∙ opens_bad S r story went.found on.one m p low no
+        bad lacks = ap (λ (items : List CourseItem). good_from false items m p) (counted ∙ course_is) ∙ opens_bad S r story went.found on.one m p low lacks
 
         rests : has_log story.found.logs p ≡ true → (list : Numbered) → slice_index_or story.found.logs p None ≡ Some list → IsRested S r m p
         rests is list at = record {
@@ -144,7 +144,7 @@ module _ (S : Script) (r : Ran) (story : Story) (on : OnDisks S r) (went : Went 
 
         go : (b : Bool) → has_log story.found.logs p ≡ b → IsRested S r m p
         go true is = let there = some_there (slice_index_or story.found.logs p None) is in rests is there.0 there.1
-        go false no = absurd (true≢false (sym good ∙ bad no))
+        go false lacks = absurd (true≢false (sym good ∙ bad lacks))
 
     rested : (m : ℕ) → IsDuring r.old r.new m → (p : ℕ) → p < S.set.shape.shards → good_from false (counted_course S r) m p ≡ true → IsRested S r m p
     rested m during p low good = elim (counted_cases S r) [

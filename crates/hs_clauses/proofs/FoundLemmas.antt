@@ -77,9 +77,9 @@ module _ (S : Script) (r : Ran) (story : Story) (found : HasFound S r story) (on
 
   -- one without a log is not
   pub opens_bad : (m p : ℕ) → p < S.set.shape.shards → has_log story.found.logs p ≡ false → good_from false (first_items S.set.shape story.found r.old.moment) m p ≡ false
-  opens_bad m p low no =
+  opens_bad m p low lacks =
       first_good m p
-      ∙ ap (λ x. good_from (good_from x bads m p) changes m p) (good_gone (λ p. has_log story.found.logs p) (λ p. number_at p) r.old.moment m p 0 S.set.shape.shards false no)
+      ∙ ap (λ x. good_from (good_from x bads m p) changes m p) (good_gone (λ p. has_log story.found.logs p) (λ p. number_at p) r.old.moment m p 0 S.set.shape.shards false lacks)
       ∙ ap (λ x. good_from x changes m p) (bads_false story.found.lost m p)
       ∙ changes_good (λ q. is_taken S.set.shape story.found.logs q) (λ q. is_taken S.set.shape story.found.logs q || starts_good story.found q) story.found.opened m p (all_peers S.set.shape) false (unchanged p low)
 

@@ -17,6 +17,7 @@ pub mod LineLemmas
 pub mod ListLemmas
 pub mod MomentLemmas
 pub mod NoteLemmas
+pub mod NumberedLemmas
 pub mod ReadLemmas
 pub mod ReadyLemmas
 pub mod RestLemmas

@@ -4,6 +4,7 @@ use Rattle.std.proofs.lemmas.List.Elements.{All-cons, All-nil}
 use Rattle.std.specs.List.{AllByRecursion, enumerate_from}
 use Rattle.std.specs.Prelude.{All}
 use Rattle.hs_clauses.proofs.BlockLemmas.{entry_brings}
+use Rattle.hs_clauses.proofs.NumberedLemmas.{log_numbered}
 use Rattle.hs_entry.specs.declared.entry.Entry.{Entry}
 use Rattle.hs_entry.specs.Entries.{is_of_base}
 use Rattle.hs_events.specs.Sane.{IsFromOne}
@@ -15,7 +16,6 @@ use Rattle.hs_limits.proofs.FieldLemmas.{bind_ok}
 use Rattle.hs_limits.specs.declared.address.Address.{Address}
 use Rattle.hs_limits.specs.Fields.{◌>>=◌}
 use Rattle.hs_memory.specs.Forget.{apply_all, named}
-use Rattle.hs_peerlog.proofs.NumberedLemmas.{log-numbered}
 use Rattle.hs_peerlog.specs.Lists.{GoOn}
 use Rattle.hs_ports.specs.declared.disk.Side.{Side}
 use Rattle.hs_shard.specs.Apply.{apply}
@@ -129,7 +129,7 @@ read_goes seen list h = by_log (log_of (seen (current seen))) refl h
     by_log : (r : Result (Option Log) ℕ) → log_of (seen (current seen)) ≡ r → listed r ≡ Some list → GoOn 0 list
     by_log (Err at) e k = absurd (cc k)
     by_log (Ok None) e k = subst (λ (es : Numbered). GoOn 0 es) (some_is k) tt
-    by_log (Ok (Some log)) e k = subst (λ (es : Numbered). GoOn 0 es) (some_is k) (log-numbered (seen (current seen)) log e)
+    by_log (Ok (Some log)) e k = subst (λ (es : Numbered). GoOn 0 es) (some_is k) (log_numbered (seen (current seen)) log e)
 
 pub read_from_one : (seen : Side → List ℕ) (list : Numbered) → list_in seen ≡ Some list → IsFromOne list
 read_from_one seen list h = from_one list (read_goes seen list h)
