@@ -12,7 +12,7 @@ use Rattle.hs_causes.proofs.CourseLemmas.{no_good, not_begins}
 use Rattle.hs_causes.proofs.FirstLemmas.{IsFirst, members_first, told_first}
 use Rattle.hs_causes.proofs.GoodLemmas.{last_opened, no_events, opened_good, past_good}
 use Rattle.hs_causes.proofs.KeptLemmas.{Kept, all_answer, all_own}
-use Rattle.hs_causes.proofs.ListLemmas.{all_left, count_none, count_parts, not_both}
+use Rattle.hs_causes.proofs.ListLemmas.{all_left, count_none, count_parts, not_both, one_if}
 use Rattle.hs_causes.proofs.LostLemmas.{all_good}
 use Rattle.hs_causes.proofs.NoteLemmas.{not_noted}
 use Rattle.hs_causes.proofs.RunLemmas.{all_ask_so, all_come_so, flat_is, last_is, mute, opened_kept}
@@ -70,12 +70,12 @@ count_zero : (q : ℕ × ℕ → Bool) (xs : List (ℕ × ℕ)) → count_by q x
 count_zero q [] e = tt
 count_zero q (x ∷ xs) e = go (q x) refl (λ k. count_zero q xs k)
   where
-    all : count_by q (x ∷ xs) ≡ cond (q x) 1 0 + count_by q xs
-    all = sum_by-cons (λ (y : ℕ × ℕ). cond (q y) 1 0) x xs
+    all : count_by q (x ∷ xs) ≡ one_if (q x) + count_by q xs
+    all = sum_by-cons (λ (y : ℕ × ℕ). one_if (q y)) x xs
 
     go : (b : Bool) → q x ≡ b → (count_by q xs ≡ 0 → AllByRecursion (λ y. q y ≡ false) xs) → AllByRecursion (λ y. q y ≡ false) (x ∷ xs)
-    go true t ih = let one : cond (q x) 1 0 ≡ 1 = ap (λ b. cond b 1 0) t in absurd (omega (arith, all, one, e))
-    go false t ih = let none : cond (q x) 1 0 ≡ 0 = ap (λ b. cond b 1 0) t in (t, ih (omega (arith, all, none, e)))
+    go true t ih = let one : one_if (q x) ≡ 1 = ap one_if t in absurd (omega (arith, all, one, e))
+    go false t ih = let none : one_if (q x) ≡ 0 = ap one_if t in (t, ih (omega (arith, all, none, e)))
 
 -- a peer that was lost before the core opened
 lost_counts : (story : Story) (p moment : ℕ) → Contains story.found.lost (p, moment) → 1 ≤ loss_count story p
@@ -92,15 +92,17 @@ same_steps : (c : Core) (es : Events) → after_all c es ≡ steps c es
 same_steps c [] = refl
 same_steps c (e ∷ es) = same_steps (step e.0 e.1 c) es
 
+ne_is : (a b : ℕ) → a < b → (a == b) ≡ false
+ne_is a b lt = grind (arith, nat_tests, lt)
+
+past_note : (n p : ℕ) (e : JournalEntry) → n ≤ p → IsFirst n e → is_note p e ≡ false
+past_note n p e high first =
+    let low : first.peer < n = first.low in
+    ap (λ o. option_map_or (λ (d : ℕ × ℕ). d.0 == p) o false) (ap down_in first.told) ∙ ne_is first.peer p (omega (arith, low, high))
+
 firsts_past : (n p : ℕ) (es : List JournalEntry) → n ≤ p → AllByRecursion (λ (e : JournalEntry). IsFirst n e) es → AllByRecursion (λ e. is_note p e ≡ false) es
 firsts_past n p [] high h = tt
-firsts_past n p (e ∷ es) high h = (ap (λ o. option_map_or (λ (d : ℕ × ℕ). d.0 == p) o false) (ap down_in h.0.told) ∙ differs, firsts_past n p es high h.1)
-  where
-    differs : (h.0.peer == p) ≡ false
-    differs = let low : h.0.peer < n = h.0.low in ne_is (h.0.peer) p (omega (arith, low, high))
-
-    ne_is : (a b : ℕ) → a < b → (a == b) ≡ false
-    ne_is a b lt = grind (arith, nat_tests, lt)
+firsts_past n p (e ∷ es) high h = (past_note n p e high h.0, firsts_past n p es high h.1)
 
 module _ (S : Script) (r : Ran) (story : Story) (went : Went S r story) (one : S.set.shape.copies ≡ 1) (peer : ℕ) where
   abbrev opened : Core

@@ -35,8 +35,11 @@ at_either (z ∷ zs) ys (suc i) x at = elim (at_either zs ys i x at) [
   | inr new ↦ inr (record { place = new.place; is = (let e : i ≡ length zs + new.place = new.is in omega (arith, e)); at = new.at })
 ]
 
+from_zero : (n : ℕ) → 0 + n ≡ n
+from_zero n = omega arith
+
 pub at_right : {X : Type 0} (xs ys : List X) (i : ℕ) (x : X) → slice_get ys i ≡ Some x → slice_get (xs ++ ys) (length xs + i) ≡ Some x
-at_right [] ys i x at = let e : length [] + i ≡ i = omega arith in subst (λ k. slice_get ys k ≡ Some x) (sym e) at
+at_right [] ys i x at = subst (λ k. slice_get ys k ≡ Some x) (sym (from_zero i)) at
 at_right (z ∷ zs) ys i x at =
     let e : length (z ∷ zs) + i ≡ suc (length zs + i) = omega arith in
     subst (λ k. slice_get (z ∷ zs ++ ys) k ≡ Some x) (sym e) (at_right zs ys i x at)
@@ -134,27 +137,31 @@ take_all Q zero xs h = tt
 take_all Q (suc n) [] h = tt
 take_all Q (suc n) (x ∷ xs) h = (h.0, take_all Q n xs h.1)
 
+all_both : {A : Type 0} (Q : A → Type 0) (ys zs : List A) → AllByRecursion Q ys → AllByRecursion Q zs → AllByRecursion Q (ys ++ zs)
+all_both Q [] zs a b = b
+all_both Q (y ∷ ys) zs a b = (a.0, all_both Q ys zs a.1 b)
+
 pub flat_all : {X A : Type 0} (Q : A → Type 0) (f : X → List A) (xs : List X) → AllByRecursion (λ x. AllByRecursion Q (f x)) xs → AllByRecursion Q (flat_map f xs)
 flat_all Q f [] h = tt
-flat_all Q f (x ∷ xs) h = both (f x) (flat_map f xs) h.0 (flat_all Q f xs h.1)
-  where
-    both : (ys zs : List A) → AllByRecursion Q ys → AllByRecursion Q zs → AllByRecursion Q (ys ++ zs)
-    both [] zs a b = b
-    both (y ∷ ys) zs a b = (a.0, both ys zs a.1 b)
+flat_all Q f (x ∷ xs) h = all_both Q (f x) (flat_map f xs) h.0 (flat_all Q f xs h.1)
 
 -- ---- notes
 
-pub count_parts : (disk : ℕ) (xs ys : List JournalEntry) → note_count disk (xs ++ ys) ≡ note_count disk xs + note_count disk ys
-count_parts disk xs ys = sum_by-append (λ (e : JournalEntry). cond (is_note disk e) 1 0) xs ys
+-- what a test counts for
+abbrev pub one_if : Bool → ℕ
+one_if b = cond b 1 0
 
-count_first : (disk : ℕ) (e : JournalEntry) (es : List JournalEntry) → note_count disk (e ∷ es) ≡ cond (is_note disk e) 1 0 + note_count disk es
-count_first disk e es = sum_by-cons (λ (x : JournalEntry). cond (is_note disk x) 1 0) e es
+pub count_parts : (disk : ℕ) (xs ys : List JournalEntry) → note_count disk (xs ++ ys) ≡ note_count disk xs + note_count disk ys
+count_parts disk xs ys = sum_by-append (λ (e : JournalEntry). one_if (is_note disk e)) xs ys
+
+count_first : (disk : ℕ) (e : JournalEntry) (es : List JournalEntry) → note_count disk (e ∷ es) ≡ one_if (is_note disk e) + note_count disk es
+count_first disk e es = sum_by-cons (λ (x : JournalEntry). one_if (is_note disk x)) e es
 
 pub count_none : (disk : ℕ) (es : List JournalEntry) → AllByRecursion (λ e. is_note disk e ≡ false) es → note_count disk es ≡ 0
 count_none disk [] h = refl
 count_none disk (e ∷ es) h =
-    let all : note_count disk (e ∷ es) ≡ cond (is_note disk e) 1 0 + note_count disk es = count_first disk e es in
-    let one : cond (is_note disk e) 1 0 ≡ 0 = ap (λ b. cond b 1 0) h.0 in
+    let all : note_count disk (e ∷ es) ≡ one_if (is_note disk e) + note_count disk es = count_first disk e es in
+    let one : one_if (is_note disk e) ≡ 0 = ap one_if h.0 in
     let rest : note_count disk es ≡ 0 = count_none disk es h.1 in
     omega (arith, all, one, rest)
 
@@ -172,7 +179,7 @@ some_note disk (e ∷ es) h = go (λ k. some_note disk es k) (is_note disk e) re
     go : (1 ≤ note_count disk es → NoteAt disk es) → (b : Bool) → is_note disk e ≡ b → NoteAt disk (e ∷ es)
     go ih true t = record { place = 0; entry = e; at = refl; note = t }
     go ih false t =
-        let all : note_count disk (e ∷ es) ≡ cond (is_note disk e) 1 0 + note_count disk es = count_first disk e es in
-        let one : cond (is_note disk e) 1 0 ≡ 0 = ap (λ b. cond b 1 0) t in
+        let all : note_count disk (e ∷ es) ≡ one_if (is_note disk e) + note_count disk es = count_first disk e es in
+        let one : one_if (is_note disk e) ≡ 0 = ap one_if t in
         let n : NoteAt disk es = ih (omega (arith, h, all, one)) in
         record { place = suc n.place; entry = n.entry; at = n.at; note = n.note }

@@ -38,5 +38,5 @@ dated_of S r (Some story) went =
     (as_said S.commands (last_core S story).journal (last_kept S r story went).turn.journal
     (dated_left (mute S.commands) (last_core S story).journal (last_core S story).refused (last_kept S r story went).dated))
 
-pub returns-clause : goal.returns-clause
-returns-clause c = λ S r how went. dated_of S r how went
+pub returns : goal.returns
+returns c = λ S r how went. dated_of S r how went

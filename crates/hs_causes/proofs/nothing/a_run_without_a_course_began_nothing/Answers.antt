@@ -12,5 +12,5 @@ began : (S : Script) (r : Ran) (how : Option Story) → IsShape S.set.shape → 
 began S r None shape never unread none = never_began r never
 began S r (Some story) shape went unread none = began_nothing S r story went shape none unread
 
-pub returns-clause : goal.returns-clause
-returns-clause c = λ S r how shape went unread none. began S r how shape went unread none
+pub returns : goal.returns
+returns c = λ S r how shape went unread none. began S r how shape went unread none

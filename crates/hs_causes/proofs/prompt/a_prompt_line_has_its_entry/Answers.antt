@@ -16,5 +16,5 @@ prompt_of S r None nobody never wrote line = λ low prompt lacks.
     absurd (subst (λ o. IsPrompt o) (ap (λ n. client_op (S.commands n)) first ∙ nobody) prompt)
 prompt_of S r (Some story) nobody went wrote line = has_prompt S r story went wrote nobody line
 
-pub returns-clause : goal.returns-clause
-returns-clause c = λ S r how nobody went wrote line. prompt_of S r how nobody went wrote line
+pub returns : goal.returns
+returns c = λ S r how nobody went wrote line. prompt_of S r how nobody went wrote line
