@@ -10,7 +10,6 @@ use Rattle.hs_promise.specs.Found.{HasFound, IsReadAs, IsStillBehind}
 use Rattle.hs_promise.specs.Lines.{AreLines}
 use Rattle.hs_events.specs.Course.{steps}
 use Rattle.hs_events.specs.Due.{Events, MomentsRise, is_walk, next_turn}
-use Rattle.hs_ports.specs.Objects.{NoneAhead}
 use Rattle.hs_events.specs.Reports.{failures}
 use Rattle.hs_promise.specs.Promise.{AreOfScript}
 use Rattle.hs_promise.specs.Reports.{IsBorneOut}
@@ -55,9 +54,12 @@ pub record Went (S : Script) (r : Ran) (story : Story) : Type 0 where
 -- and so where the disks tell their contents, so that no read finds what is no log
 pub record IsOfDisks (S : Script) (r : Ran) (story : Story) : Type 0 where
   pub read : (peer : ℕ) → peer < peer_count S.set.shape → IsReadAs r story peer
-  pub told : MayStop S r → All (IsBorneOut r) (all_events story)
-  pub still : NoneAhead r.old → All (IsStillBehind r story) story.found.lost
+  pub still : MayStop S r → All (IsStillBehind r story) story.found.lost
   pub failed : (disk : ℕ) → DiskRose r (failures true disk (first_core S.set story.found) (all_events story) + loss_count story disk) disk
+
+-- and each report is borne out by its disk, where the run may stop
+abbrev pub AreBorneOut : Script → Ran → Story → Type 0
+AreBorneOut S r story = MayStop S r → All (IsBorneOut r) (all_events story)
 
 -- no core was opened, since a disk is of another store or memory was wanting: nothing was answered, read or put
 pub record NeverOpened (r : Ran) : Type 0 where
