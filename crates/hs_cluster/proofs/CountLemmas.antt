@@ -158,7 +158,7 @@ pub job_paid : (core : Core) (peer : ℕ) (j : Job) (done : Done) (old new : Lis
 job_paid core peer j done old new first paid = λ disk cost.
     let cost_of = costs_of disk peer core done cost in
     let both = subst (λ o. IfSome o (λ d. (d ≡ peer) × HasRisen (seen_at old peer).faults (seen_at new peer).faults)) cost_of.0
-        (paid disk (ap (λ o. option_map_or (only_reads disk) o false) (sym first) ∙ cost_of.1)) in
+    (paid disk (ap (λ o. option_map_or (only_reads disk) o false) (sym first) ∙ cost_of.1)) in
     subst (λ p. HasRisen (seen_at old p).faults (seen_at new p).faults) (sym both.0) both.1
 
 -- a copy, whose failed read costs nothing

@@ -4,7 +4,7 @@ use Rattle.std.proofs.lemmas.Bool.{cases_lt, ne_eqb}
 use Rattle.std.proofs.lemmas.List.Sums.{sum_by-cons}
 use Rattle.std.specs.List.{AllPairs}
 use Rattle.std.specs.Prelude.{◌==◌, ⊤, Contains, OnOk, Result, Ok, Err, cond, count_by, if◌then◌else◌, slice_index_or}
-use Rattle.hs_cluster.proofs.CountLemmas.{all_then, counted_then, rose_none, rose_then}
+use Rattle.hs_cluster.proofs.CountLemmas.{all_then, counted_before, counted_then, rose_none, rose_then}
 use Rattle.hs_cluster.proofs.RoomLemmas.{rooms_then}
 use Rattle.hs_cluster.proofs.ShowLemmas.{all_happened, happened_then, moments_then, rises_to, runs_append, runs_core, stored_back, stored_front, told_then}
 use Rattle.hs_cluster.specs.Counts.{AreAllCounted, AreCounted, NoneFalls}
@@ -73,11 +73,11 @@ module _ (tells : Type 0) (set : Setting) (found : Found) (before mid now : ℕ)
   abbrev c : Whole
   c = open_whole set found
 
-  abbrev then : Whole
-  then = runs whole_machine c es
+  abbrev behind : Whole
+  behind = runs whole_machine c es
 
-  then_core : then.core ≡ here.core
-  then_core = runs_core c es ∙ sym core
+  behind_core : behind.core ≡ here.core
+  behind_core = runs_core c es ∙ sym core
 
   goes : (steps c.core es).ended ≡ None
   goes = ap (λ (x : Core). x.ended) (sym core) ∙ going
@@ -88,15 +88,15 @@ module _ (tells : Type 0) (set : Setting) (found : Found) (before mid now : ℕ)
   lists : tells → AreSound before disks → (first_core set found).ended ≡ None → LeavesLists c (es ++ fs) (record { before = before; now = now; old = begun; new = new; disks = disks; left = left })
   lists told sound first =
       let one = so_far.lists told sound first in
-      let two = shows.lists told then then_core (can told sound) in
+      let two = shows.lists told behind behind_core (can told sound) in
       let mine : happened c.core es ≡ es = all_happened c.core es goes in
-      let all : happened c.core (es ++ fs) ≡ es ++ happened then.core fs = happened_then c.core es fs goes ∙ ap (λ x. es ++ happened x fs) (sym (runs_core c es)) in
+      let all : happened c.core (es ++ fs) ≡ es ++ happened behind.core fs = happened_then c.core es fs goes ∙ ap (λ x. es ++ happened x fs) (sym (runs_core c es)) in
       record {
         earlier = λ k m side low fits. two.earlier k m side (let ticks = rises_to before mid es rise in omega (arith, low, ticks)) fits ∙ one.earlier k m side low fits;
         moments = subst (λ xs. ListsAtMoments whole_machine IsFrontOf last_of c xs before now (stands_of left)) (sym all)
-            (moments_then c es (happened then.core fs) before mid now (stands_of between) (stands_of left) rise (happened_rise then.core mid now fs on) two.earlier
+            (moments_then c es (happened behind.core fs) before mid now (stands_of between) (stands_of left) rise (happened_rise behind.core mid now fs on) two.earlier
             (subst (λ xs. ListsAtMoments whole_machine IsFrontOf last_of c xs before mid (stands_of between)) mine one.moments) two.moments);
-        keeps = subst (λ s. Keeps whole_machine IsFrontOf last_of s now (stands_of left)) (sym (ap (λ xs. runs whole_machine c xs) all ∙ runs_append c es (happened then.core fs))) two.keeps;
+        keeps = subst (λ s. Keeps whole_machine IsFrontOf last_of s now (stands_of left)) (sym (ap (λ xs. runs whole_machine c xs) all ∙ runs_append c es (happened behind.core fs))) two.keeps;
         told = told_then c es fs one.told two.told;
       }
 
@@ -112,13 +112,13 @@ module _ (tells : Type 0) (set : Setting) (found : Found) (before mid now : ℕ)
     lists = lists;
     read = λ told sound first stored.
         all_then (first_core set found) here.core es fs so_far.disks between left core (so_far.read told sound first (stored_front c es fs stored))
-        (shows.read told then then_core (can told sound) (stored_back c es fs stored));
+        (shows.read told behind behind_core (can told sound) (stored_back c es fs stored));
   }
 
   pub can_more : OnOk r (CanRunOn tells set (record { before = before; now = now; old = begun; new = new; disks = disks; left = left }) found (es ++ fs))
-  can_more = by r (λ told sound. shows.goes_on told then then_core (can told sound))
+  can_more = by r (λ told sound. shows.goes_on told behind behind_core (can told sound))
     where
-      by : (r : Result ⊤ ClusterFault) → (tells → AreSound before disks → OnOk r (CanGoOn (runs whole_machine then fs) new.logs left now))
+      by : (r : Result ⊤ ClusterFault) → (tells → AreSound before disks → OnOk r (CanGoOn (runs whole_machine behind fs) new.logs left now))
           → OnOk r (CanRunOn tells set (record { before = before; now = now; old = begun; new = new; disks = disks; left = left }) found (es ++ fs))
       by (Err fault) h = tt
       by (Ok x) h = λ told sound. subst (λ s. CanGoOn s new.logs left now) (sym (runs_append c es fs)) (h told sound)
@@ -228,6 +228,4 @@ all_failed tells set s found es on told sound first stored = λ disk.
 
 -- of whatever disks, but for reads
 pub some_failed : (tells : Type 0) (set : Setting) (s : Span) (found : Found) (es : Events) → RunsOn tells set s found es → (disk : ℕ) → RoseBy (failures false disk (first_core set found) es) (seen_at s.disks disk).faults (seen_at s.left disk).faults
-some_failed tells set s found es on = λ disk.
-    rose_then (2 ^ 64 - 1) (seen_at s.disks disk).faults (seen_at on.disks disk).faults (seen_at s.left disk).faults 0 (failures false disk (first_core set found) es)
-    (rose_none (2 ^ 64 - 1) (seen_at s.disks disk).faults (seen_at on.disks disk).faults (on.falls disk)) (on.counted.failed disk)
+some_failed tells set s found es on = (counted_before (first_core set found) es s.disks on.disks s.left on.falls on.counted).failed

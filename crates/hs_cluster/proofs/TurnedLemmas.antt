@@ -7,7 +7,7 @@ use Rattle.hs_cluster.proofs.ShowLemmas.{begin_shows, cut_shows}
 use Rattle.hs_cluster.specs.Begins.{Begins, HasOpened, HasTurned}
 use Rattle.hs_cluster.specs.Calls.{of_core, outcome_by, ran_out}
 use Rattle.hs_cluster.specs.declared.fault.ClusterFault.{ClusterFault}
-use Rattle.hs_cluster.specs.declared.fault.ClusterFault.TheVariants as cluster
+use Rattle.hs_cluster.specs.declared.fault.ClusterFault.TheVariants as why
 use Rattle.hs_cluster.specs.Disks.{DiskSeen}
 use Rattle.hs_cluster.specs.Kept.{Shows, Span as Turns}
 use Rattle.hs_cluster.specs.Running.{Running}
@@ -82,10 +82,10 @@ has_ended (Err fault) (Some f) not is = refl
 -- turns that were cut short only by want of memory are whole
 whole : (core : Core) (es : Events) (r : Result ⊤ ClusterFault) → is_walk next_turn (is_ok r) 0 core es ≡ true → (ran_out r ≡ false → r ≡ outcome_by (steps core es).ended) → is_walk next_turn (not (ran_out r)) 0 core es ≡ true
 whole core es (Ok x) due outcome = due
-whole core es (Err (cluster.WrongShape peer found)) due outcome = ended_whole core es due (has_ended (Err (cluster.WrongShape peer found)) (steps core es).ended refl (outcome refl))
-whole core es (Err (cluster.ShardLost shard)) due outcome = ended_whole core es due (has_ended (Err (cluster.ShardLost shard)) (steps core es).ended refl (outcome refl))
-whole core es (Err cluster.OpsFull) due outcome = ended_whole core es due (has_ended (Err cluster.OpsFull) (steps core es).ended refl (outcome refl))
-whole core es (Err cluster.NoMemory) due outcome = due
+whole core es (Err (why.WrongShape peer found)) due outcome = ended_whole core es due (has_ended (Err (why.WrongShape peer found)) (steps core es).ended refl (outcome refl))
+whole core es (Err (why.ShardLost shard)) due outcome = ended_whole core es due (has_ended (Err (why.ShardLost shard)) (steps core es).ended refl (outcome refl))
+whole core es (Err why.OpsFull) due outcome = ended_whole core es due (has_ended (Err why.OpsFull) (steps core es).ended refl (outcome refl))
+whole core es (Err why.NoMemory) due outcome = due
 
 -- the turns that were done, whatever ended them
 pub turned : (tells : Type 0) (turns : Turns) (r : Result ⊤ ClusterFault) → RunsWalk false 0 turns.before turns.now turns.old turns.new r (Shows tells turns r) → HasTurned tells turns r

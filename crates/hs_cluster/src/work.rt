@@ -212,8 +212,7 @@ fn block_of(number: u64, entry: Entry) -> Result<Done, LogFault>
 /// Bytes are below 256, as every byte is.
 fn are_bytes(bytes: &[u8])
     ensures { AreBytes bytes.now }
-{
-}
+{}
 
 /// Whether a present block was stored by the entry of a number.
 #[tactic(auto, using(crate::proofs::FindLemmas::stored_here, crate::proofs::FindLemmas::stored_later, crate::proofs::FindLemmas::stored_nowhere, crate::proofs::FindLemmas::none_told))]

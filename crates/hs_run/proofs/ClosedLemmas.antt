@@ -33,7 +33,7 @@ use Rattle.hs_script.specs.Lines.{lines_of}
 use Rattle.hs_side.specs.Current.{current, header_in}
 use Rattle.hs_side.specs.declared.header.Header.{Header}
 use Rattle.hs_taking.specs.Shares.{Span as Taking}
-use Rattle.hs_taking.specs.Viewed.{IsOnlyRead}
+use Rattle.hs_taking.specs.Viewed.{IsFirstOther as IsFirst, IsOnlyRead}
 use Rattle.hs_run.specs.Ended.{ran_at}
 use Rattle.hs_run.specs.Machine.{AreHanded, IsOfCluster}
 use Rattle.hs_run.specs.Served.{HasCauses, HasShapeCause, PrintsText, Served}
@@ -122,7 +122,7 @@ module _ (tells : Type 0) (set : Setting) (span : Taking) (old new : Objects) (w
       ]
 
   -- the one that was found
-  module _ (told : tells) (p : ℕ) (f : Header) (closed : IsClosed tells set.shape span.old span.new (cluster.WrongShape p f)) where
+  module _ (told : tells) (p : ℕ) (f : Header) (closed : IsFirst tells set.shape span.old span.new p f) where
     found_other : IsFoundOther S r p f
     found_other = record {
       first = record {

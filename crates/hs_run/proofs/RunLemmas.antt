@@ -6,6 +6,7 @@ use Rattle.std.specs.Prelude.{IfErr, IfSome, if◌then◌else◌, is_ok, ⊤}
 use Rattle.hs_cluster.specs.Calls.{outcome_by, ran_out}
 use Rattle.hs_cluster.specs.declared.fault.ClusterFault.{ClusterFault}
 use Rattle.hs_cluster.specs.Disks.{DiskSeen, stands_of}
+use Rattle.hs_cluster.specs.Kept.{Span}
 use Rattle.hs_cluster.specs.Running.{Running}
 use Rattle.hs_cluster.specs.RunsOn.{RunsOn}
 use Rattle.hs_core.specs.State.{Core}
@@ -121,27 +122,30 @@ pub record IsOfStory (tells : Type 0) (S : Script) (r : Ran) : Type 0 where
 
 module _ (tells : Type 0) (name : List ℕ → Address) (did : Result ⊤ ClusterFault) (b : Begun) (part : Stretch) (new : Objects) (named : b.set.name ≡ name) (opened : IsOpened tells b did part.old) (found : FoundBy b)
     (now : part.new.now ≡ new.moment) (got : part.new.got ≡ new.got) (was : AreHanded b.old b.disks) (is : AreHanded new part.new.disks) where
+  abbrev whole_span : Running → Span
+  whole_span last = record { before = b.old.moment; now = part.new.now; old = b.first; new = last; disks = b.disks; left = part.new.disks }
+
   -- what its disks show, from what they showed by its last events
   on_disks : (commands : ℕ → Option Command) (ending : Status) (line : ℕ) (cluster : Option Running) (lines : List Events) (last : Running) → (tells → Since (stands_of part.new.disks))
-      → RunsOn tells b.set (record { before = b.old.moment; now = part.new.now; old = b.first; new = last; disks = b.disks; left = part.new.disks }) b.found (all_events (story_of b lines))
+      → RunsOn tells b.set (whole_span last) b.found (all_events (story_of b lines))
       → RunsOnDisks tells (script_by b commands) (ran_at ending line cluster b.old new) (story_of b lines)
   on_disks commands ending line cluster lines last since shown = record {
-    span = record { before = b.old.moment; now = part.new.now; old = b.first; new = last; disks = b.disks; left = part.new.disks };
+    span = whole_span last;
     before = refl;
     now = now;
     old = was;
     new = is;
     since = λ told. subst (λ (d : List Standing). Since d) is.stands (since told);
     shown = shown;
-    lost = lost_by tells b.set _ b.found (all_events (story_of b lines)) b.old new was is shown;
-    failed = failed_by tells b.set _ b.found (all_events (story_of b lines)) b.old new was is shown;
+    lost = lost_by tells b.set (whole_span last) b.found (all_events (story_of b lines)) b.old new was is shown;
+    failed = failed_by tells b.set (whole_span last) b.found (all_events (story_of b lines)) b.old new was is shown;
   }
 
   pub story_run : HasRun tells name did b b.old.left new.left part → (commands : ℕ → Option Command) × IsOfStory tells (script_by b commands) (ran_at (status_of part.result part.new.line) part.new.line (Some part.new.cluster) b.old new)
   story_run (Unopened put cut same left zero unread) =
       let later : part.old.now ≤ part.new.now = put.puts.late.later in
-      let shown : RunsOn tells b.set (record { before = b.old.moment; now = part.new.now; old = b.first; new = part.old.cluster; disks = b.disks; left = part.new.disks }) b.found (all_events (story_of b [])) =
-      subst (λ (es : Events). RunsOn tells b.set (record { before = b.old.moment; now = part.new.now; old = b.first; new = part.old.cluster; disks = b.disks; left = part.new.disks }) b.found es) (sym (append-nil b.opening))
+      let shown : RunsOn tells b.set (whole_span part.old.cluster) b.found (all_events (story_of b [])) =
+      subst (λ (es : Events). RunsOn tells b.set (whole_span part.old.cluster) b.found es) (sym (append-nil b.opening))
       (subst (λ (d : List DiskSeen). RunsOn tells b.set (record { before = b.old.moment; now = part.new.now; old = b.first; new = part.old.cluster; disks = b.disks; left = d }) b.found b.opening) (sym left)
       (later_shown tells b part.old b.opening part.new.now later opened.rises opened.since opened.shown)) in (
         chosen b.old.left [],
@@ -151,7 +155,7 @@ module _ (tells : Type 0) (name : List ℕ → Address) (did : Result ⊤ Cluste
           went = subst (λ (c : Running). Went (script_by b (chosen b.old.left [])) (ran_at (status_of part.result part.new.line) part.new.line (Some c) b.old new) (story_of b [])) (sym same)
               (went_unopened tells b did part.old part.result part.new.line new (record { before = part.old.now; now = part.new.now; old = part.old.got; new = part.new.got }) (chosen b.old.left []) opened (let there = now in omega (arith, later, there)) zero cut put
               (found (chosen b.old.left []) (ran_at (status_of part.result part.new.line) part.new.line (Some part.old.cluster) b.old new) [] refl)
-              (paid_by tells b.set _ b.found (all_events (story_of b [])) b.old new was is shown));
+              (paid_by tells b.set (whole_span part.old.cluster) b.found (all_events (story_of b [])) b.old new was is shown));
           runs = on_disks (chosen b.old.left []) (status_of part.result part.new.line) part.new.line (Some part.new.cluster) [] part.old.cluster (λ told. subst (λ (d : List DiskSeen). Since (stands_of d)) (sym left) (opened.since told)) shown;
           ended = record { written = λ is front es there. absurd (snoc_some front es there); unread = λ some. unread };
           nobody = chosen_first b.old.left [];

@@ -109,14 +109,14 @@ module _ (tells : Type 0) (set : Setting) (span : Span) (running : Running) (did
     no_other : (commands : ℕ → Option Command) (r : Ran) → r.old ≡ old → r.new ≡ new → (m : IsOfStory tells (record { set = set; commands = commands }) r) → tells → (peer : ℕ) (found : Header) → IsFirstOther (record { set = set; commands = commands }) r peer found
         → DiskRose r 1 peer
     no_other commands r begins ends m told peer found first =
-        let low : peer < length m.runs.span.disks = let within = first.other.within in let there = handed_span m in omega (arith, within, there) in
+        let low : peer < length m.runs.span.disks = let within = first.other.within in let there = handed_span in omega (arith, within, there) in
         let refused : refusal_in set.shape peer (seen_at m.runs.span.disks peer).stands.seen ≡ Some (log.WrongShape found) =
         ap (λ (d : Standing). refusal_in set.shape peer d.seen) (sym (disk_is r.old m.runs.span.disks m.runs.old peer)) ∙ refusal_of set.shape peer (disk_at r.old.disks peer).seen found first.other.header first.other.other in
         rose_is 1 r.old r.new m.runs.span.disks m.runs.span.left m.runs.old m.runs.new peer
         (risen_since tells set m.runs.span m.story.found (all_events m.story) m.runs.shown peer (m.runs.shown.own told peer found low refused))
       where
-        handed_span : IsOfStory tells (record { set = set; commands = commands }) r → length r.old.disks ≡ length m.runs.span.disks
-        handed_span m = ap length (sym m.runs.old.stands) ∙ length-map m.runs.span.disks (λ (d : DiskSeen). d.stands)
+        handed_span : length r.old.disks ≡ length m.runs.span.disks
+        handed_span = ap length (sym m.runs.old.stands) ∙ length-map m.runs.span.disks (λ (d : DiskSeen). d.stands)
 
     whole_served : (commands : ℕ → Option Command) (m : IsOfStory tells (record { set = set; commands = commands }) (ran_at (status_of part.result part.new.line) part.new.line (Some part.new.cluster) old new)) → length new.disks ≡ length old.disks
         → StopCause old.source_faults new.source_faults old.sink_faults new.sink_faults part.result → IfSome old.left (λ told. EndsBy told new.left part.result part.new.line)

@@ -65,6 +65,6 @@ returns-clause-does g c = λ line.
     c.step.ensures.logs does c.do_job-done.ensures.later
     (subst (λ (r : Running). HasPaid r.core c.args.peer c.in-Ok.done (map f c.args.disks.now) (map f c.do_job-done.new.disks)) c.self.view_is c.in-Ok.ensures.paid) c.in-Ok.ensures.bytes
     (λ told. subst (λ (r : Running). is_own (first_job c.args.peer r.core) ≡ true → (list : Numbered) (waiting : Option Entry)
-        → ((keeping : Keeping) → log_at r.logs c.args.peer ≡ Some keeping → HasLog keeping (disk_at (stands_of (map f c.args.disks.now)) c.args.peer) list waiting)
-        → HasStored (first_job c.args.peer r.core) (catalogue_of (home c.args.peer r.core) r.core).blocks list → HasAllPaid r.core c.args.peer c.in-Ok.done (map f c.args.disks.now) (map f c.do_job-done.new.disks))
+    → ((keeping : Keeping) → log_at r.logs c.args.peer ≡ Some keeping → HasLog keeping (disk_at (stands_of (map f c.args.disks.now)) c.args.peer) list waiting)
+    → HasStored (first_job c.args.peer r.core) (catalogue_of (home c.args.peer r.core) r.core).blocks list → HasAllPaid r.core c.args.peer c.in-Ok.done (map f c.args.disks.now) (map f c.do_job-done.new.disks))
     c.self.view_is (c.in-Ok.ensures.read told)))
