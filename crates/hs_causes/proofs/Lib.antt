@@ -1,0 +1,16 @@
+pub mod AddingLemmas
+pub mod AskLemmas
+pub mod CauseLemmas
+pub mod CountLemmas
+pub mod CourseLemmas
+pub mod DatedLemmas
+pub mod FirstLemmas
+pub mod GoodLemmas
+pub mod KeptLemmas
+pub mod ListLemmas
+pub mod LostLemmas
+pub mod NoteLemmas
+pub mod NothingLemmas
+pub mod PromptLemmas
+pub mod RunLemmas
+pub mod SeatLemmas

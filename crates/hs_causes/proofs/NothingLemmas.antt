@@ -1,0 +1,95 @@
+-- A run without a course began nothing.
+use Rattle.std.proofs.Common.{◌≡◌, ◌⊎◌, inl, inr, ◌∙◌, ap, sym, subst, ℕ, zero, suc, ◌+◌, ◌*◌, ◌<◌, ◌≤◌, ◌++◌, Bool, true, false, not, List, [], ◌∷◌, Option, Some, None, IsSome, refl, arith, is_some}
+use Rattle.std.proofs.lemmas.Bool.{cases_lt}
+use Rattle.std.proofs.lemmas.List.Elements.{All-from_recursion}
+use Rattle.std.specs.List.{All, AllByRecursion}
+use Rattle.hs_causes.proofs.CourseLemmas.{nothing_good}
+use Rattle.hs_causes.proofs.FirstLemmas.{IsFirst, told_first}
+use Rattle.hs_causes.proofs.GoodLemmas.{last_opened, no_line, opened_good, past_good}
+use Rattle.hs_causes.proofs.KeptLemmas.{Kept}
+use Rattle.hs_causes.proofs.ListLemmas.{all_left, any_none, both_nil, find_none, not_both, range_each}
+use Rattle.hs_causes.proofs.RunLemmas.{mute, opened_kept}
+use Rattle.hs_causes.specs.Printing.{LeavesUnread}
+use Rattle.hs_core.specs.Looking.{shape_of, shards_of, status_of}
+use Rattle.hs_core.specs.State.{Core}
+use Rattle.hs_desk.specs.declared.fault.CoreFault.{CoreFault}
+use Rattle.hs_events.specs.Beginning.{first_items}
+use Rattle.hs_events.specs.Found.{first_core, opens_with, starts_good}
+use Rattle.hs_journal.specs.declared.entry.JournalEntry.{JournalEntry}
+use Rattle.hs_limits.specs.declared.shape.Shape.{Shape}
+use Rattle.hs_limits.specs.Shape.{IsShape}
+use Rattle.hs_members.specs.Members.{has_good, is_good_status, peers_of}
+use Rattle.hs_model.specs.declared.reply.Reply.TheVariants as reply
+use Rattle.hs_noted.proofs.NotingLemmas.{all_weaker}
+use Rattle.hs_promise.specs.Answers.{BeganNothing}
+use Rattle.hs_promise.specs.Machine.{NeverOpened, Went}
+use Rattle.hs_promise.specs.Run.{Ran, Script}
+use Rattle.hs_promise.specs.Story.{Story, last_core}
+use Rattle.hs_told.specs.InTurn.{told_of}
+
+each_all : (Q : ℕ → Type 0) → ((x : ℕ) → Q x) → (xs : List ℕ) → AllByRecursion Q xs
+each_all Q h [] = tt
+each_all Q h (x ∷ xs) = (h x, each_all Q h xs)
+
+some_shard : (shape : Shape) → IsShape shape → 0 < shape.shards
+some_shard shape is = elim is.shards [
+  | inl one ↦ omega (arith, one)
+  | inr more ↦ elim more [
+    | inl two ↦ omega (arith, two)
+    | inr most ↦ elim most [ inl four ↦ omega (arith, four) | inr eight ↦ omega (arith, eight) ]
+  ]
+]
+
+abbrev TellsDown : JournalEntry → Type 0
+TellsDown entry = (peer : ℕ) × (entry.reply ≡ reply.Down peer 0)
+
+module _ (S : Script) (r : Ran) (story : Story) (went : Went S r story) (shape : IsShape S.set.shape) (none : r.course ≡ []) where
+  abbrev opened : Core
+  opened = first_core S.set story.found
+
+  -- no peer was good
+  nobody : (x : ℕ) → starts_good story.found x ≡ false
+  nobody x = elim (cases_lt x (S.set.shape.shards * S.set.shape.copies)) [
+    | inl low ↦ nothing_good S.set.shape story.found r.old.moment (let some : 1 ≤ S.set.shape.copies = shape.some_copy in omega (arith, some))
+        (both_nil (first_items S.set.shape story.found r.old.moment) _ (sym went.course ∙ none)).0 x low
+    | inr high ↦ past_good S r story went x high
+  ]
+
+  kept : Kept (mute S.commands) S.set.shape S.set.limits opened
+  kept = opened_kept S r story went
+
+  -- so that the core ended as it opened
+  over : opened.ended ≡ None → ⊥
+  over going =
+      let low : 0 < (shape_of opened).shards = let s : (shape_of opened).shards ≡ S.set.shape.shards = ap (λ (z : Shape). z.shards) kept.shaped in let some : 0 < S.set.shape.shards = some_shard S.set.shape shape in omega (arith, s, some) in
+      let each : AllByRecursion (λ shard. not (has_good shard opened.members) ≡ false) (shards_of opened) = find_none (λ shard. not (has_good shard opened.members)) (shards_of opened) (kept.ends.going going) in
+      let here : not (has_good 0 opened.members) ≡ false = range_each (λ shard. not (has_good shard opened.members) ≡ false) (shape_of opened).shards 0 0 each (omega arith) (omega (arith, low)) in
+      let bad : has_good 0 opened.members ≡ false =
+      any_none (λ peer. is_good_status (status_of peer opened)) (peers_of opened.members.shape 0)
+      (each_all (λ peer. is_good_status (status_of peer opened) ≡ false) (λ peer. opened_good S r story went peer ∙ nobody peer) (peers_of opened.members.shape 0)) in
+      not_both (sym (ap not bad) ∙ here)
+
+  ended : (o : Option CoreFault) → opened.ended ≡ o → (f : CoreFault) × (opened.ended ≡ Some f)
+  ended None is = absurd (over is)
+  ended (Some f) is = (f, is)
+
+  pub began_nothing : LeavesUnread S r story → BeganNothing r
+  began_nothing unread =
+      let fault : (f : CoreFault) × (opened.ended ≡ Some f) = ended opened.ended refl in
+      let n : ℕ = S.set.shape.shards * S.set.shape.copies in
+      let firsts : AllByRecursion (λ (e : JournalEntry). IsFirst n e) (told_of opened) = told_first S.set.shape S.set.limits (opens_with S.set story.found) story.found.opened went.found.goods in
+      let journal : AllByRecursion (λ (e : JournalEntry). IsFirst n e) r.journal =
+      subst (λ es. AllByRecursion (λ (e : JournalEntry). IsFirst n e) es) (sym (went.journal ∙ ap (λ (c : Core). c.journal) (last_opened S r story went fault.0 fault.1)))
+      (all_left (λ (e : JournalEntry). IsFirst n e) opened.journal opened.refused firsts) in
+      record {
+        unread = unread (ap is_some fault.1);
+        line = no_line S r story went fault.0 fault.1;
+        notes = All-from_recursion TellsDown r.journal (all_weaker (λ (e : JournalEntry). IsFirst n e) TellsDown (λ e first. (first.peer, first.told)) r.journal journal);
+      }
+
+pub never_began : (r : Ran) → NeverOpened r → BeganNothing r
+never_began r never = record {
+  unread = never.unread;
+  line = never.line;
+  notes = subst (λ es. All TellsDown es) (sym never.journal) (All-from_recursion TellsDown [] tt);
+}
