@@ -1,8 +1,8 @@
 -- A core that stands so stands so behind each single change.
-use Rattle.std.proofs.Common.{◌≡◌, ◌∙◌, sym, ap, subst, ℕ, ◌+◌, ◌<◌, ◌≤◌, ◌++◌, List, [], ◌∷◌, length, Option, Some, None, true, refl, arith}
+use Rattle.std.proofs.Common.{◌≡◌, ◌∙◌, sym, ap, subst, ℕ, ◌+◌, ◌<◌, ◌≤◌, ◌++◌, List, [], ◌∷◌, length, map, Option, Some, None, true, refl, arith}
 use Rattle.std.specs.BTreeMap.{is_at}
 use Rattle.std.specs.Map.{lookup}
-use Rattle.std.specs.Option.{option_and_then, option_map}
+use Rattle.std.specs.Option.{option_and_then, option_map, option_map_or}
 use Rattle.std.specs.Ordering.{nat_cmp}
 use Rattle.hs_along.specs.Changes.{IsBeside, IsIdle, told_at_once}
 use Rattle.hs_along.specs.Walks.{Walks}
@@ -67,6 +67,7 @@ use Rattle.hs_model.specs.Run.{run}
 use Rattle.hs_model.specs.Store.{Store, block_at}
 use Rattle.hs_answered.proofs.TellingLemmas.{tells_event, tells_nobody}
 use Rattle.hs_ops.specs.Operations.{bytes_step, go_step, wanted_number}
+use Rattle.hs_ops.specs.Refusals.{refusal_of, refusals_of}
 use Rattle.hs_ops.specs.Speaking.{wanted_address}
 use Rattle.hs_post.specs.declared.message.Message.TheVariants as message
 use Rattle.hs_post.specs.Pool.{message_at, without}
@@ -122,9 +123,40 @@ present_beside a b beside shard o =
     ap (λ (c : Catalogue). option_map (λ (f : Facts). f.number) (option_and_then (λ x. facts_at x c) (wanted_address b.sessions o))) ((beside_alike a b beside).catalogue shard)
     ∙ ap (λ (seats : Seats). option_map (λ (f : Facts). f.number) (option_and_then (λ x. facts_at x (catalogue_of shard a)) (wanted_address seats o))) beside.sessions
 
+pointers_beside : (a b : Core) → IsBeside a b → (shard : ℕ) (o : Op) → pointers_for shard o b ≡ pointers_for shard o a
+pointers_beside a b beside shard o =
+    ap (λ (c : Catalogue). option_map_or (λ (f : Facts). f.pointers) (option_and_then (λ x. facts_at x c) (wanted_address b.sessions o)) []) ((beside_alike a b beside).catalogue shard)
+    ∙ ap (λ (seats : Seats). option_map_or (λ (f : Facts). f.pointers) (option_and_then (λ x. facts_at x (catalogue_of shard a)) (wanted_address seats o)) []) beside.sessions
+
+-- a read is refused by limits, sessions, epochs, and how many pointers its block has
+abbrev read_refusal : Limits → Seats → List ℕ → ℕ → ℕ → List ℕ → ℕ → Option Reply
+read_refusal limits seats epochs shard pointers name handle =
+    refusal_of (record {
+      limits = limits;
+      seats = seats;
+      roots = [];
+      retained = 0;
+      blocks = 0;
+      epochs = epochs;
+      swept = [];
+      shard = shard;
+      present = None;
+      pointers = pointers;
+      room = true;
+      pending = true;
+      viewed = true;
+      busy = None;
+    }) (op.Read name handle)
+
+read_beside : (a b : Core) → IsBeside a b → (shard : ℕ) (name : List ℕ) (handle : ℕ)
+    → refusal_of (view_for shard (op.Read name handle) b) (op.Read name handle) ≡ refusal_of (view_for shard (op.Read name handle) a) (op.Read name handle)
+unfolding refusals_of
+read_beside a b beside shard name handle = λ i.
+    read_refusal (beside.limits i) (beside.sessions i) (map (λ (c : Catalogue). c.epoch) (beside.catalogues i)) shard (length (pointers_beside a b beside shard (op.Read name handle) i)) name handle
+
 module _ (s : Store) (a b : Core) (beside : IsBeside a b) (bytes : Option (List ℕ)) (w : Waiting) where
   block_beside : (o : Op) → AreOfBlock s a bytes w o → AreOfBlock s b bytes w o
-  block_beside (op.Read name handle) h = h
+  block_beside (op.Read name handle) h = λ free. h (sym (read_beside a b beside w.shard name handle) ∙ free)
   block_beside (op.Write name payload handles address) h = λ present. h (sym (present_beside a b beside w.shard w.operation.op) ∙ present)
   block_beside (op.Open name) h = tt
   block_beside (op.Close name) h = tt

@@ -82,6 +82,11 @@ bytes_refuse v line number bytes pointers o r waits e = by_refusal (refusal_of v
     by_refusal None f h = absurd (never (sym waits ∙ h))
     by_refusal (Some q) f h = f ∙ ap (λ (x : Reply). Some x) (same_answer q r h)
 
+-- where an operation is refused by what it sees, bytes bring that refusal
+bytes_refused : (v : OpView) (line number : ℕ) (bytes : Option (List ℕ)) (pointers : List Address) (o : Op) (q r : Reply) → refusal_of v o ≡ Some q → on_bytes v line number bytes pointers o ≡ Answer r → q ≡ r
+unfolding on_bytes
+bytes_refused v line number bytes pointers o q r stops e = same_answer q r (sym (ap (λ (x : Option Reply). option_map_or Answer x (compared v line number bytes pointers o)) stops) ∙ e)
+
 -- what compares no bytes
 abbrev ComparesNone : Op → Type 0
 ComparesNone o = (v : OpView) (line number : ℕ) (bytes : Option (List ℕ)) (pointers : List Address) → compared v line number bytes pointers o ≡ Wait
@@ -146,10 +151,22 @@ module _ (laws : Steps) (by : Judging) (cs : List Folded) (core : Core) (limits 
         (ap (λ (p : Op). compared v w.operation.line (wanted_number w.operation.stage) bytes (pointers_for w.shard w.operation.op core) p) is
         ∙ none v w.operation.line (wanted_number w.operation.stage) bytes (pointers_for w.shard w.operation.op core)) e)
 
+    -- a read whose bytes are its block's, where it is not refused
+    read_judged : (bytes : Option (List ℕ)) (name : List ℕ) (handle : ℕ) (r : Reply) → w.operation.op ≡ op.Read name handle → AreOfBlock (store_with cs core.sessions) core bytes w (op.Read name handle)
+        → bytes_step v bytes (pointers_for w.shard w.operation.op core) w.operation ≡ Answer r → IsJudged cs core (take_step line w (Answer r) core) line w.operation.op
+    read_judged bytes name handle r is true_bytes e = by_refusal (refusal_of v w.operation.op) refl
+      where
+        by_refusal : (x : Option Reply) → refusal_of v w.operation.op ≡ x → IsJudged cs core (take_step line w (Answer r) core) line w.operation.op
+        by_refusal None free =
+            laws.read cs core line bytes w name handle r folded its.has place is
+            (true_bytes (ap (λ (o : Op). refusal_of (view_for w.shard o core) o) (sym is) ∙ free)) e
+        by_refusal (Some q) stops =
+            refused r (stops ∙ ap (λ (x : Reply). Some x) (bytes_refused v w.operation.line (wanted_number w.operation.stage) bytes (pointers_for w.shard w.operation.op core) w.operation.op q r stops e))
+
     told_judged : (bytes : Option (List ℕ)) (o : Op) (r : Reply) → w.operation.op ≡ o → AreOfBlock (store_with cs core.sessions) core bytes w o → bytes_step v bytes (pointers_for w.shard w.operation.op core) w.operation ≡ Answer r
         → IsJudged cs core (take_step line w (Answer r) core) line w.operation.op
     unfolding compared
-    told_judged bytes (op.Read name handle) r is true_bytes e = laws.read cs core line bytes w name handle r folded its.has place is true_bytes e
+    told_judged bytes (op.Read name handle) r is true_bytes e = read_judged bytes name handle r is true_bytes e
     told_judged bytes (op.Write name payload handles address) r is true_bytes e = laws.write cs core line bytes w name payload handles address r folded its.has place is true_bytes e
     told_judged bytes (op.Open name) r is true_bytes e = others bytes (op.Open name) r is (λ u l n bs ps. refl) e
     told_judged bytes (op.Close name) r is true_bytes e = others bytes (op.Close name) r is (λ u l n bs ps. refl) e

@@ -1,0 +1,12 @@
+pub mod EndLemmas
+pub mod EventLemmas
+pub mod GotLemmas
+pub mod MachineLemmas
+pub mod MereLemmas
+pub mod OpenLemmas
+pub mod PromiseLemmas
+pub mod ReplyLemmas
+pub mod RuleLemmas
+pub mod RunLemmas
+pub mod SaidLemmas
+pub mod WalkLemmas
