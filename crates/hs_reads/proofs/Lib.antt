@@ -1,0 +1,12 @@
+pub mod StepLemmas
+pub mod AwaitLemmas
+pub mod StillLemmas
+pub mod AtomLemmas
+pub mod HomeLemmas
+pub mod HomeWalk
+pub mod ListLemmas
+pub mod TellLemmas
+pub mod WantLemmas
+pub mod FirstLemmas
+pub mod RunLemmas
+pub mod ScriptLemmas

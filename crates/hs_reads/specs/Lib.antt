@@ -1,0 +1,4 @@
+pub mod Along
+pub mod Home
+pub mod Reads
+pub mod Run
