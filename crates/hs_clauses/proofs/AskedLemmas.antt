@@ -1,0 +1,125 @@
+-- Of a run that is shown whole, over sound disks, whose core goes on behind its opening: all that is asked of it follows.
+use Rattle.std.proofs.Common.{◌≡◌, ◌∙◌, ap, sym, subst, ℕ, zero, suc, ◌+◌, ◌*◌, ◌<◌, ◌≤◌, true, List, [], ◌∷◌, Option, Some, None, refl, length, map, arith}
+use Rattle.std.specs.List.{AllByRecursion, range_with_len}
+use Rattle.std.specs.Prelude.{unwrap_or}
+use Rattle.hs_along.specs.Walks.{HasRecordRoom}
+use Rattle.hs_answers.specs.Answered.{IsAskedAlong, TellTheirBlocks, judging_of}
+use Rattle.hs_clauses.proofs.ListLemmas.{lists_are, opened_is}
+use Rattle.hs_clauses.proofs.ReadLemmas.{BringsAll, applied_all, from_empty, read_brings, read_from_one}
+use Rattle.hs_clauses.proofs.RoomLemmas.{first_room, keeps_room, last_room}
+use Rattle.hs_clauses.specs.Asked.{lined, start_of}
+use Rattle.hs_clauses.specs.Shown.{IsShown, OnDisks}
+use Rattle.hs_cluster.proofs.OpeningMoves.{all_good}
+use Rattle.hs_core.specs.State.{Core}
+use Rattle.hs_events.specs.Found.{first_core, opened_catalogue, opened_list, opens_with, starts_good}
+use Rattle.hs_events.specs.Sane.{IsFromOne}
+use Rattle.hs_events.specs.Taken.{peer_count, taken_lists}
+use Rattle.hs_fold.specs.Runs.Opened.{catalogues, store_of}
+use Rattle.hs_fold.specs.Shards.Setting.{Numbered}
+use Rattle.hs_held.specs.Held.{KeepsAddresses}
+use Rattle.hs_ports.specs.declared.disk.Side.{Side}
+use Rattle.hs_ports.specs.Moments.{disk_at}
+use Rattle.hs_promise.specs.Entry.{IsSoundAtEntry, entry_logs, entry_store}
+use Rattle.hs_promise.specs.Found.{IsReadAs}
+use Rattle.hs_promise.specs.Machine.{Went}
+use Rattle.hs_promise.specs.Run.{Ran, Script}
+use Rattle.hs_promise.specs.Story.{Story, all_events, last_core}
+use Rattle.hs_shard.specs.Facts.{Catalogue, empty_catalogue}
+use Rattle.hs_side.specs.Current.{list_in}
+use Rattle.hs_sound.specs.Stay.{AreSoundAlong}
+use Rattle.hs_standing.proofs.TakenLemmas.{FoldsInMemory}
+use Rattle.hs_standing.specs.Opening.{opened_lists}
+use Rattle.hs_standing.specs.Run.{RunOpens}
+use Rattle.hs_stops.specs.Lists.{whole_from}
+
+-- ---- what is asked
+
+-- of a story, on sound disks
+pub record IsAskedOf (S : Script) (r : Ran) (story : Story) : Type 0 where
+  pub on : OnDisks S r
+  pub sound : IsSoundAtEntry S r
+  pub read : (peer : ℕ) → peer < peer_count S.set.shape → IsReadAs r story peer
+  pub going : (first_core S.set story.found).ended ≡ None
+  pub lists : (shard : ℕ) → shard < S.set.shape.shards → IsFromOne (opened_list S.set story.found shard)
+  pub addressed : AllByRecursion KeepsAddresses (opens_with S.set story.found).catalogues
+  pub few : HasRecordRoom (first_core S.set story.found)
+  pub along : IsAskedAlong (judging_of (lined S r) S.set.limits) (entry_store S r) (first_core S.set story.found) (all_events story)
+  pub last : (last_core S story).ended ≡ None → HasRecordRoom (last_core S story)
+
+-- ---- what a disk was read as
+
+disk_from_one : (seen : Side → List ℕ) → IsFromOne (unwrap_or (list_in seen) [])
+disk_from_one seen = go (list_in seen) refl
+  where
+    go : (o : Option Numbered) → list_in seen ≡ o → IsFromOne (unwrap_or o [])
+    go None e = from_empty
+    go (Some list) e = read_from_one seen list e
+
+each_range : (P : Catalogue → Type 0) (f : ℕ → Catalogue) (k n : ℕ) → ((j : ℕ) → k ≤ j → j < k + n → P (f j)) → AllByRecursion P (map f (range_with_len k n))
+each_range P f k zero h = tt
+each_range P f k (suc n) h = (h k (omega arith) (omega arith), each_range P f (k + 1) n (λ j low high. h j (omega (arith, low)) (omega (arith, high))))
+
+-- ---- it follows
+
+module _ (memory : FoldsInMemory) (S : Script) (r : Ran) (story : Story) (on : OnDisks S r) (sound : IsSoundAtEntry S r) (shown : IsShown S r story) (going : (first_core S.set story.found).ended ≡ None) where
+  pub good : (p : ℕ) → p < S.set.shape.shards → starts_good story.found p ≡ true
+  good p low = all_good S.set story.found on.one shown.went.found.goods going p low
+
+  opens_disk : (p : ℕ) → p < S.set.shape.shards → opened_list S.set story.found p ≡ unwrap_or (list_in (disk_at r.old.disks p).seen) []
+  opens_disk p low = opened_is S r story shown.went on.one shown.read on.disks good p low
+
+  lists : (shard : ℕ) → shard < S.set.shape.shards → IsFromOne (opened_list S.set story.found shard)
+  lists p low = subst (λ (list : Numbered). IsFromOne list) (sym (opens_disk p low)) (disk_from_one (disk_at r.old.disks p).seen)
+
+  brings : (p : ℕ) → p < S.set.shape.shards → BringsAll S.set.name on.names (opened_list S.set story.found p)
+  brings p low = subst (λ (list : Numbered). BringsAll S.set.name on.names list) (sym (opens_disk p low)) (go (list_in (disk_at r.old.disks p).seen) refl)
+    where
+      go : (o : Option Numbered) → list_in (disk_at r.old.disks p).seen ≡ o → BringsAll S.set.name on.names (unwrap_or o [])
+      go None e = tt
+      go (Some list) e = read_brings S.set.name on.names (disk_at r.old.disks p).seen list e
+
+  addressed : AllByRecursion KeepsAddresses (opens_with S.set story.found).catalogues
+  addressed =
+      each_range KeepsAddresses (opened_catalogue S.set story.found) 0 S.set.shape.shards
+      (λ g low high. applied_all S.set.name on.names (opened_list S.set story.found g) (empty_catalogue S.set.shape g) (brings g (omega (arith, high))) (record { blocks = tt; roots = tt }))
+
+  lists_at_entry : AreSoundAlong S.set (whole_from (opened_lists S.set story.found) 0 S.set.shape.shards)
+  lists_at_entry = subst (λ (ls : List Numbered). AreSoundAlong S.set ls) (lists_are S r story shown.went on.one shown.read on.disks good) sound
+
+  few : HasRecordRoom (first_core S.set story.found)
+  few = first_room S.set story.found memory lists_at_entry
+
+  pub asked_of : IsAskedOf S r story
+  asked_of = record {
+    on = on;
+    sound = sound;
+    read = shown.read;
+    going = going;
+    lists = lists;
+    addressed = addressed;
+    few = few;
+    along = record { room = keeps_room (first_core S.set story.found) (all_events story) (λ goes. few) shown.rooms; blocks = shown.blocks sound going };
+    last = last_room (first_core S.set story.found) (all_events story) (λ goes. few) shown.rooms;
+  }
+
+-- ---- it opens at the store at entry
+
+pub run_opens : (S : Script) (r : Ran) (story : Story) → Went S r story → IsAskedOf S r story → RunOpens (start_of S r) story.found
+run_opens S r story went asked = record {
+  well = record {
+    one = asked.on.one;
+    going = asked.going;
+    many = went.found.goods;
+    lists = asked.lists;
+    sound = subst (λ (lists : List Numbered). AreSoundAlong S.set lists) are asked.sound;
+    nobody = asked.on.nobody;
+    few = asked.few;
+  };
+  shape = asked.on.shape;
+  entry = ap (λ (lists : List Numbered). store_of (catalogues S.set 0 lists)) are;
+  names = asked.on.names;
+  addressed = asked.addressed;
+}
+  where
+    are : taken_lists S.set.shape (entry_logs S r) ≡ whole_from (opened_lists S.set story.found) 0 S.set.shape.shards
+    are = lists_are S r story went asked.on.one asked.read asked.on.disks (λ p low. all_good S.set story.found asked.on.one went.found.goods asked.going p low)

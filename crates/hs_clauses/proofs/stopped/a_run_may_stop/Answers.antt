@@ -1,0 +1,25 @@
+use Rattle.hs_clauses.proofs.CaseLemmas.{told_stops}
+use Rattle.hs_clauses.proofs.ComingLemmas.{ComingLaws}
+use Rattle.hs_clauses.proofs.stopped.a_run_may_stop.Goals as goal
+use Rattle.hs_clauses.proofs.StopLemmas.{StopLaws}
+
+pub returns : goal.returns
+returns c = λ S r run may.
+    let coming : ComingLaws = record {
+      opens = c.answers_stay_in_order.ensures.opens;
+      turns = c.answers_stay_in_order.ensures.events;
+      full = c.answers_stay_in_order.ensures.with_refused;
+      come_opening = c.a_scripts_events_may_come.ensures.opening;
+      next_first = c.a_scripts_events_may_come.ensures.first;
+      come_lines = c.a_scripts_events_may_come.ensures.lines;
+      new_opening = c.a_scripts_lines_are_new.ensures.opening;
+      new_lines = c.a_scripts_lines_are_new.ensures.lines;
+      asks = c.a_line_asks_as_its_command.ensures;
+    } in
+    let laws : StopLaws = record {
+      coming = coming;
+      runs = c.a_run_goes_on.ensures.opens;
+      first = c.a_run_goes_on.ensures.first;
+      reopens = c.each_moment_of_a_run_stands.ensures.reopens;
+    } in
+    told_stops laws c.catalogues_in_memory_are_folds.ensures.list S r run may

@@ -1,0 +1,34 @@
+//! A run is answered as the plain store does.
+ghost use Rattle.hs_clauses.specs.Shown.{IsToldRun};
+ghost use Rattle.hs_laws.specs.Valid.{IsValid};
+ghost use Rattle.hs_promise.specs.Answers.{Answers};
+ghost use Rattle.hs_promise.specs.Causes.{FullCause};
+ghost use Rattle.hs_promise.specs.Entry.{IsSoundAtEntry, entry_store};
+ghost use Rattle.hs_promise.specs.Run.{Ran, Script};
+
+use hs_answers::a_script_is_answered;
+use hs_legal::a_line_asks_as_its_command;
+use hs_lines::{a_scripts_events_may_come, a_scripts_lines_are_new};
+use hs_memory::catalogues_in_memory_are_folds;
+use hs_standing::a_run_goes_on;
+use hs_told::answers_stay_in_order;
+
+/// The store at entry of sound disks is valid (`valid`). What a run answers on them, with one copy of
+/// each shard, is a legal run of the plain store from there, with its answers, in the order of a journal
+/// (`answers`); so it is with what was refused, where the journal was full (`full`). A run that opened
+/// no core, or one that ended with its opening, has answered nothing.
+pub fn a_run_is_answered()
+    ensures valid { (S : Script) (r : Ran) → IsSoundAtEntry S r → IsValid (entry_store S r) }
+    ensures answers { (S : Script) (r : Ran)
+        → IsToldRun S r → IsSoundAtEntry S r → Answers S (entry_store S r) r.journal }
+    ensures full { (S : Script) (r : Ran)
+        → IsToldRun S r → IsSoundAtEntry S r → FullCause S (entry_store S r) r }
+{
+    a_script_is_answered();
+    catalogues_in_memory_are_folds();
+    a_line_asks_as_its_command();
+    a_scripts_events_may_come();
+    a_scripts_lines_are_new();
+    a_run_goes_on();
+    answers_stay_in_order();
+}

@@ -1,0 +1,35 @@
+//! A run that goes on behind its opening stands.
+ghost use Rattle.std.specs.Prelude.{◌≡◌, None};
+ghost use Rattle.hs_clauses.specs.Asked.{start_of};
+ghost use Rattle.hs_clauses.specs.Shown.{IsShown, OnDisks};
+ghost use Rattle.hs_events.specs.Found.{first_core};
+ghost use Rattle.hs_promise.specs.Entry.{IsSoundAtEntry};
+ghost use Rattle.hs_promise.specs.Run.{Ran, Script};
+ghost use Rattle.hs_promise.specs.Story.{Story, all_events};
+ghost use Rattle.hs_standing.specs.Run.{MayRun, RunOpens};
+ghost use Rattle.hs_standing.specs.Standing.{AllMayKeep};
+
+use hs_legal::a_line_asks_as_its_command;
+use hs_lines::{a_scripts_events_may_come, a_scripts_lines_are_new};
+use hs_memory::catalogues_in_memory_are_folds;
+use hs_told::answers_stay_in_order;
+
+/// A run on sound disks, with one copy of each shard, whose core goes on behind its opening, opens at
+/// the store at entry (`opens`), and each of its events may come and leaves it standing (`keeps`).
+pub fn a_run_stands()
+    ensures opens { (S : Script) (r : Ran) (story : Story)
+        → OnDisks S r → IsShown S r story → IsSoundAtEntry S r
+        → (first_core S.set story.found).ended ≡ None →
+        RunOpens (start_of S r) story.found }
+    ensures keeps { (S : Script) (r : Ran) (story : Story)
+        → OnDisks S r → IsShown S r story → IsSoundAtEntry S r
+        → (first_core S.set story.found).ended ≡ None →
+        AllMayKeep (start_of S r) (MayRun (start_of S r)) (first_core S.set story.found)
+        (all_events story) }
+{
+    catalogues_in_memory_are_folds();
+    a_line_asks_as_its_command();
+    a_scripts_events_may_come();
+    a_scripts_lines_are_new();
+    answers_stay_in_order();
+}

@@ -1,0 +1,27 @@
+//! A run may stop at each moment.
+ghost use Rattle.hs_clauses.specs.Shown.{IsToldRun};
+ghost use Rattle.hs_promise.specs.Entry.{MayStop, entry_store};
+ghost use Rattle.hs_promise.specs.Run.{Ran, Script};
+ghost use Rattle.hs_promise.specs.Stops.{Stops};
+
+use hs_legal::a_line_asks_as_its_command;
+use hs_lines::{a_scripts_events_may_come, a_scripts_lines_are_new};
+use hs_memory::catalogues_in_memory_are_folds;
+use hs_standing::{a_run_goes_on, each_moment_of_a_run_stands};
+use hs_told::answers_stay_in_order;
+
+/// At each moment of a run on sound disks, with one copy of each shard: the images of good peers are
+/// logs, and whatever images count open at the store behind what was answered and then what is pending.
+/// So it is also of a run whose core ended with its opening, and of one that opened none.
+pub fn a_run_may_stop()
+    ensures { (S : Script) (r : Ran)
+        → IsToldRun S r → MayStop S r → Stops S (entry_store S r) r }
+{
+    catalogues_in_memory_are_folds();
+    a_line_asks_as_its_command();
+    a_scripts_events_may_come();
+    a_scripts_lines_are_new();
+    a_run_goes_on();
+    each_moment_of_a_run_stands();
+    answers_stay_in_order();
+}
