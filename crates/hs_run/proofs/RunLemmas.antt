@@ -37,7 +37,6 @@ use Rattle.hs_script.specs.Text.{text}
 use Rattle.hs_side.specs.declared.header.Header.{Header}
 use Rattle.hs_run.specs.declared.stop.Stop.{Stop}
 use Rattle.hs_run.specs.declared.stop.Stop.TheVariants as stop
-use Rattle.hs_run.specs.Between.{Point}
 use Rattle.hs_run.specs.Causes.{EndsBy, StopCause}
 use Rattle.hs_run.specs.Ended.{ran_at, refused_in}
 use Rattle.hs_run.specs.Going.{AreRead, Begun, Between, HasRun, IsBetween, IsOpened, IsPrinted, IsPutSoFar, Opened, Unopened, Within, core_behind, script_by, span_to, story_of}
