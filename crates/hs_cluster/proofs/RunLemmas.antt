@@ -5,8 +5,10 @@ use Rattle.std.proofs.lemmas.List.Sums.{sum_by-cons}
 use Rattle.std.specs.List.{AllPairs}
 use Rattle.std.specs.Prelude.{◌==◌, ⊤, Contains, OnOk, Result, Ok, Err, cond, count_by, if◌then◌else◌, slice_index_or}
 use Rattle.hs_cluster.proofs.CountLemmas.{all_then, counted_before, counted_then, rose_none, rose_then}
+use Rattle.hs_cluster.proofs.GoingOnLemmas.{going_before}
 use Rattle.hs_cluster.proofs.RoomLemmas.{rooms_then}
 use Rattle.hs_cluster.proofs.ShowLemmas.{all_happened, happened_then, moments_then, rises_to, runs_append, runs_core, stored_back, stored_front, told_then}
+use Rattle.hs_cluster.proofs.TurnedLemmas.{not_ended}
 use Rattle.hs_cluster.specs.Counts.{AreAllCounted, AreCounted, NoneFalls}
 use Rattle.hs_cluster.specs.declared.fault.ClusterFault.{ClusterFault}
 use Rattle.hs_cluster.specs.Disks.{DiskSeen, seen_at, stands_of}
@@ -51,6 +53,7 @@ runs_opened tells set s cluster done o = record {
   falls = o.falls;
   counted = o.counted;
   rooms = o.rooms;
+  still = o.still;
   lists = o.lists;
   read = o.read;
 }
@@ -108,6 +111,7 @@ module _ (tells : Type 0) (set : Setting) (found : Found) (before mid now : ℕ)
     own = so_far.own;
     falls = so_far.falls;
     counted = counted_then (first_core set found) here.core es fs so_far.disks between left core so_far.counted shows.counted;
+    still = λ ended. absurd (not_ended (first_core set found).ended (going_before (first_core set found) es goes) ended);
     rooms = rooms_then (first_core set found) es fs so_far.rooms (subst (λ x. HaveRecordRoom x fs) core rooms);
     lists = lists;
     read = λ told sound first stored.
@@ -164,6 +168,7 @@ runs_later tells set found before now later begun cluster disks left es ticks ri
   falls = so_far.falls;
   counted = so_far.counted;
   rooms = so_far.rooms;
+  still = so_far.still;
   lists = λ told sound first. lists_later (open_whole set found) es before now later begun cluster disks left ticks (rises_from before found.opened now es so_far.finds.later rises) (since told) (so_far.lists told sound first);
   read = so_far.read;
 }
@@ -211,7 +216,7 @@ losses disk a b (x ∷ xs) later rose once =
         subst (λ n. RoseBy n a b) (sym (more true is ∙ ap (λ n. 1 + n) (none (there x.0 disk is)))) (rose x (0, omega arith, refl) (there x.0 disk is))
     go rest false is = subst (λ n. RoseBy n a b) (sym (more false is ∙ bare (count_by (λ y. y.0 == disk) xs))) rest
 
-lost_before : (tells : Type 0) (set : Setting) (s : Span) (found : Found) (es : Events) (on : RunsOn tells set s found es) → tells → (disk : ℕ)
+pub lost_before : (tells : Type 0) (set : Setting) (s : Span) (found : Found) (es : Events) (on : RunsOn tells set s found es) → tells → (disk : ℕ)
     → RoseBy (count_by (λ x. x.0 == disk) found.lost) (seen_at s.disks disk).faults (seen_at on.disks disk).faults
 lost_before tells set s found es on told disk =
     losses disk (seen_at s.disks disk).faults (seen_at on.disks disk).faults found.lost (on.falls disk)
