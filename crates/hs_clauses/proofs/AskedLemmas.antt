@@ -1,36 +1,45 @@
 -- Of a run that is shown whole, over sound disks, whose core goes on behind its opening: all that is asked of it follows.
-use Rattle.std.proofs.Common.{◌≡◌, ◌∙◌, ap, sym, subst, ℕ, zero, suc, ◌+◌, ◌*◌, ◌<◌, ◌≤◌, true, List, [], ◌∷◌, Option, Some, None, refl, length, map, arith}
+use Rattle.std.proofs.Common.{◌≡◌, ap, sym, subst, ℕ, zero, suc, ◌+◌, ◌<◌, ◌≤◌, ◌++◌, Bool, true, false, List, [], Option, Some, None, refl, map, arith}
 use Rattle.std.specs.List.{AllByRecursion, range_with_len}
 use Rattle.std.specs.Prelude.{unwrap_or}
 use Rattle.hs_along.specs.Walks.{HasRecordRoom}
-use Rattle.hs_answers.specs.Answered.{IsAskedAlong, TellTheirBlocks, judging_of}
+use Rattle.hs_answers.specs.Answered.{IsAskedAlong, KeepsRecordRoom, TellTheirBlocks, judging_of}
+use Rattle.hs_clauses.proofs.LineLemmas.{flat_same, joined, opening_due}
 use Rattle.hs_clauses.proofs.ListLemmas.{lists_are, opened_is}
 use Rattle.hs_clauses.proofs.ReadLemmas.{BringsAll, applied_all, from_empty, read_brings, read_from_one}
 use Rattle.hs_clauses.proofs.RoomLemmas.{first_room, keeps_room, last_room}
 use Rattle.hs_clauses.specs.Asked.{lined, start_of}
 use Rattle.hs_clauses.specs.Shown.{IsShown, OnDisks}
 use Rattle.hs_cluster.proofs.OpeningMoves.{all_good}
-use Rattle.hs_core.specs.State.{Core}
-use Rattle.hs_events.specs.Found.{first_core, opened_catalogue, opened_list, opens_with, starts_good}
+use Rattle.hs_cluster.specs.Kept.{AreTold}
+use Rattle.hs_events.specs.Course.{steps}
+use Rattle.hs_events.specs.Due.{Events, MomentsRise, is_walk, next_due}
+use Rattle.hs_events.specs.Found.{Found, first_core, opened_catalogue, opened_list, opens_with, starts_good}
 use Rattle.hs_events.specs.Sane.{IsFromOne}
 use Rattle.hs_events.specs.Taken.{peer_count, taken_lists}
+use Rattle.hs_events.specs.Whole.{open_whole}
 use Rattle.hs_fold.specs.Runs.Opened.{catalogues, store_of}
 use Rattle.hs_fold.specs.Shards.Setting.{Numbered}
 use Rattle.hs_held.specs.Held.{KeepsAddresses}
 use Rattle.hs_ports.specs.declared.disk.Side.{Side}
 use Rattle.hs_ports.specs.Moments.{disk_at}
+use Rattle.hs_lines.specs.Script.{AreLines, all_events as lines_events}
+use Rattle.hs_promise.specs.Ending.{ending_of}
 use Rattle.hs_promise.specs.Entry.{IsSoundAtEntry, entry_logs, entry_store}
 use Rattle.hs_promise.specs.Found.{IsReadAs}
-use Rattle.hs_promise.specs.Machine.{Went}
+use Rattle.hs_promise.specs.Machine.{Went, opening_is_whole}
 use Rattle.hs_promise.specs.Run.{Ran, Script}
 use Rattle.hs_promise.specs.Story.{Story, all_events, last_core}
+use Rattle.hs_reads.specs.Run.{script_of}
 use Rattle.hs_shard.specs.Facts.{Catalogue, empty_catalogue}
 use Rattle.hs_side.specs.Current.{list_in}
 use Rattle.hs_sound.specs.Stay.{AreSoundAlong}
 use Rattle.hs_standing.proofs.TakenLemmas.{FoldsInMemory}
 use Rattle.hs_standing.specs.Opening.{opened_lists}
 use Rattle.hs_standing.specs.Run.{RunOpens}
+use Rattle.hs_standing.specs.Standing.{judging_of as run_judging}
 use Rattle.hs_stops.specs.Lists.{whole_from}
+use Rattle.hs_stops.specs.Start.{Start}
 
 -- ---- what is asked
 
@@ -61,7 +70,15 @@ each_range P f k (suc n) h = (h k (omega arith) (omega arith), each_range P f (k
 
 -- ---- it follows
 
-module _ (memory : FoldsInMemory) (S : Script) (r : Ran) (story : Story) (on : OnDisks S r) (sound : IsSoundAtEntry S r) (shown : IsShown S r story) (going : (first_core S.set story.found).ended ≡ None) where
+-- what hs_reads says of reports
+abbrev pub ReadsBlocks : Type 0
+ReadsBlocks =
+    (start : Start) (found : Found) (past done : Bool) (opening : Events) (lines : List Events) (to : ℕ) → RunOpens start found → MomentsRise found.opened (opening ++ lines_events lines) to
+    → is_walk next_due done 0 (first_core start.set found) opening ≡ true → AreLines (script_of start past) 1 (steps (first_core start.set found) opening) lines
+    → KeepsRecordRoom (first_core start.set found) (opening ++ lines_events lines) → AreTold (open_whole start.set found) (opening ++ lines_events lines)
+    → TellTheirBlocks (run_judging start) start.entry (first_core start.set found) (opening ++ lines_events lines)
+
+module _ (memory : FoldsInMemory) (reads : ReadsBlocks) (S : Script) (r : Ran) (story : Story) (on : OnDisks S r) (sound : IsSoundAtEntry S r) (shown : IsShown S r story) (going : (first_core S.set story.found).ended ≡ None) where
   pub good : (p : ℕ) → p < S.set.shape.shards → starts_good story.found p ≡ true
   good p low = all_good S.set story.found on.one shown.went.found.goods going p low
 
@@ -89,6 +106,41 @@ module _ (memory : FoldsInMemory) (S : Script) (r : Ran) (story : Story) (on : O
   few : HasRecordRoom (first_core S.set story.found)
   few = first_room S.set story.found memory lists_at_entry
 
+  opens : RunOpens (start_of S r) story.found
+  opens = record {
+    well = record {
+      one = on.one;
+      going = going;
+      many = shown.went.found.goods;
+      lists = lists;
+      sound = lists_at_entry;
+      nobody = on.nobody;
+      few = few;
+    };
+    shape = on.shape;
+    entry = ap (λ (ls : List Numbered). store_of (catalogues S.set 0 ls)) (lists_are S r story shown.went on.one shown.read on.disks good);
+    names = on.names;
+    addressed = addressed;
+  }
+
+  -- ---- its reports tell the bytes of their blocks
+
+  rooms : KeepsRecordRoom (first_core S.set story.found) (all_events story)
+  rooms = keeps_room (first_core S.set story.found) (all_events story) (λ goes. few) shown.rooms
+
+  same_events : all_events story ≡ story.opening ++ lines_events story.lines
+  same_events = ap (λ (es : Events). story.opening ++ es) (flat_same story.lines)
+
+  blocks : TellTheirBlocks (judging_of (lined S r) S.set.limits) (entry_store S r) (first_core S.set story.found) (all_events story)
+  blocks =
+      subst (λ (es : Events). TellTheirBlocks (judging_of (lined S r) S.set.limits) (entry_store S r) (first_core S.set story.found) es) (sym same_events)
+      (reads (start_of S r) story.found (ending_of r.ending).past false story.opening story.lines r.new.moment opens
+      (subst (λ (es : Events). MomentsRise story.found.opened es r.new.moment) same_events shown.went.rises)
+      (opening_due (opening_is_whole r story.lines) (first_core S.set story.found) story.opening shown.went.opening)
+      (joined S r 1 (steps (first_core S.set story.found) story.opening) story.lines shown.went.lines)
+      (subst (λ (es : Events). KeepsRecordRoom (first_core S.set story.found) es) same_events rooms)
+      (subst (λ (es : Events). AreTold (open_whole S.set story.found) es) same_events (shown.told going)))
+
   pub asked_of : IsAskedOf S r story
   asked_of = record {
     on = on;
@@ -98,7 +150,7 @@ module _ (memory : FoldsInMemory) (S : Script) (r : Ran) (story : Story) (on : O
     lists = lists;
     addressed = addressed;
     few = few;
-    along = record { room = keeps_room (first_core S.set story.found) (all_events story) (λ goes. few) shown.rooms; blocks = shown.blocks sound going };
+    along = record { room = rooms; blocks = blocks };
     last = last_room (first_core S.set story.found) (all_events story) (λ goes. few) shown.rooms;
   }
 

@@ -1,7 +1,7 @@
 -- Each clause of a run, whether a core was opened and went on, ended with its opening, or never was.
 use Rattle.std.proofs.Common.{◌≡◌, Option, Some, None, refl}
 use Rattle.hs_clauses.proofs.AnswerLemmas.{answers_of, full_of}
-use Rattle.hs_clauses.proofs.AskedLemmas.{IsAskedOf, asked_of}
+use Rattle.hs_clauses.proofs.AskedLemmas.{IsAskedOf, ReadsBlocks, asked_of}
 use Rattle.hs_clauses.proofs.ComingLemmas.{ComingLaws}
 use Rattle.hs_clauses.proofs.EndedLemmas.{ended_answers, ended_full, ended_stops}
 use Rattle.hs_clauses.proofs.ReadyLemmas.{LawsHere}
@@ -20,9 +20,9 @@ use Rattle.hs_standing.proofs.TakenLemmas.{FoldsInMemory}
 
 -- ---- answers
 
-module _ (laws : LawsHere) (coming : ComingLaws) (S : Script) (r : Ran) (run : IsToldRun S r) (sound : IsSoundAtEntry S r) where
+module _ (laws : LawsHere) (coming : ComingLaws) (reads : ReadsBlocks) (S : Script) (r : Ran) (run : IsToldRun S r) (sound : IsSoundAtEntry S r) where
   asked : (story : Story) → IsShown S r story → (first_core S.set story.found).ended ≡ None → IsAskedOf S r story
-  asked story shown going = asked_of laws.memory S r story run.on sound shown going
+  asked story shown going = asked_of laws.memory reads S r story run.on sound shown going
 
   pub told_answers : Answers S (entry_store S r) r.journal
   told_answers = by_how run.how run.shown
@@ -48,13 +48,13 @@ module _ (laws : LawsHere) (coming : ComingLaws) (S : Script) (r : Ran) (run : I
 
 -- ---- a stop
 
-pub told_stops : StopLaws → FoldsInMemory → (S : Script) (r : Ran) → IsToldRun S r → MayStop S r → Stops S (entry_store S r) r
-told_stops laws memory S r run may = by_how run.how run.shown
+pub told_stops : StopLaws → FoldsInMemory → ReadsBlocks → (S : Script) (r : Ran) → IsToldRun S r → MayStop S r → Stops S (entry_store S r) r
+told_stops laws memory reads S r run may = by_how run.how run.shown
   where
     by_how : (how : Option Story) → ShownAs S r how → Stops S (entry_store S r) r
     by_how None unopened = never_stops S r run.on unopened may
     by_how (Some story) shown = by_end (first_core S.set story.found).ended refl
       where
         by_end : (o : Option CoreFault) → (first_core S.set story.found).ended ≡ o → Stops S (entry_store S r) r
-        by_end None going = may_stop laws S r story shown.went (asked_of memory S r story run.on may.sound shown going) shown may
+        by_end None going = may_stop laws S r story shown.went (asked_of memory reads S r story run.on may.sound shown going) shown may
         by_end (Some fault) ended = ended_stops S r story run.on shown.went fault ended shown may

@@ -99,7 +99,7 @@ module _ (there : ℕ → Bool) (number : ℕ → ℕ) (moment m p : ℕ) where
   good_gone k zero x lacks = refl
   good_gone k (suc n) x lacks =
       good-append x (pair (there k) k (number k) moment) (pairs there number moment (k + 1) n) m p
-      ∙ ap (λ y. good_from y (pairs there number moment (k + 1) n) m p) (gone_pair k x none (cases_eq k p))
+      ∙ ap (λ y. good_from y (pairs there number moment (k + 1) n) m p) (gone_pair k x lacks (cases_eq k p))
       ∙ good_gone (k + 1) n x lacks
 
   -- ---- and of a shard

@@ -193,6 +193,7 @@ module _ (S : Script) (r : Ran) (on : OnDisks S r) (may : MayStop S r) (notes : 
 
   -- whatever images count reopen
   pub rest_reopens : ((line : ℕ) → IsBegun (counted_course S r) line m → IsBegun r.course line m) → (images : List Image) → AreGoodImages S.set.shape (stop_at S r m) images → ReopensAt S (entry_store S r) r m images
+  unfolding moment
   rest_reopens begun images good =
       fits S r m images begun
       (images_reopen at_rest (λ c. Unit {0}) (start_of S r) (stop_at S r m) r.journal on.shape on.one on.left moment stands images good)

@@ -1,12 +1,13 @@
 -- What a cluster shows of a run is what is asked of it here, where the disks tell their contents.
 use Rattle.std.proofs.Common.{◌≡◌, ◌∙◌, ap, sym, subst, ℕ, zero, suc, ◌*◌, ◌<◌, ◌≤◌, List, [], ◌∷◌, Some, None, refl, length, arith}
 use Rattle.std.proofs.lemmas.List.{length-map}
-use Rattle.std.specs.Prelude.{IsSome, true}
-use Rattle.hs_answers.specs.Answered.{TellTheirBlocks, judging_of}
-use Rattle.hs_clauses.specs.Asked.{lined}
+use Rattle.std.specs.Prelude.{IsSome, false, true}
+use Rattle.hs_clauses.proofs.ListLemmas.{none_aside}
+use Rattle.hs_clauses.proofs.MomentLemmas.{one_list}
 use Rattle.hs_clauses.specs.Shown.{HaveOneList, IsShown, IsUnopened, KeepLists, KeepsList, OnDisks}
+use Rattle.hs_cluster.proofs.OpeningMoves.{all_good}
 use Rattle.hs_cluster.specs.Disks.{DiskSeen, seen_at, stands_of}
-use Rattle.hs_cluster.specs.Kept.{Span}
+use Rattle.hs_cluster.specs.Kept.{AreTold, Span}
 use Rattle.hs_cluster.specs.Opens.{AreSound}
 use Rattle.hs_cluster.specs.RunsOn.{RunsOn}
 use Rattle.hs_cluster.specs.Unopened.{LeavesAsTaken}
@@ -15,16 +16,14 @@ use Rattle.hs_events.specs.Found.{first_core}
 use Rattle.hs_events.specs.Taken.{peer_count}
 use Rattle.hs_events.specs.Whole.{open_whole}
 use Rattle.hs_fold.specs.Images.{IsLeft}
-use Rattle.hs_fold.specs.Shards.Images.{Image}
 use Rattle.hs_fold.specs.Shards.Setting.{Numbered}
 use Rattle.hs_moments.specs.Moments.{ListsAtMoments}
 use Rattle.hs_moments.specs.WholeMachine.{IsFrontOf, last_of, whole_machine}
 use Rattle.hs_peerlog.specs.Images.{GivesList, Is, LeavesOnly}
 use Rattle.hs_ports.specs.Disk.{Standing}
 use Rattle.hs_ports.specs.Moments.{disk_at}
-use Rattle.hs_ports.specs.Objects.{IsDuring}
 use Rattle.hs_promise.specs.Ending.{ending_of}
-use Rattle.hs_promise.specs.Entry.{IsSoundAtEntry, entry_store}
+use Rattle.hs_promise.specs.Entry.{MayStop, is_aside}
 use Rattle.hs_promise.specs.Found.{IsReadAs}
 use Rattle.hs_promise.specs.Machine.{NeverOpened, Went}
 use Rattle.hs_promise.specs.Run.{Ran, Script}
@@ -78,16 +77,26 @@ module _ (tells : Type 0) (S : Script) (r : Ran) (story : Story) (on : OnDisks S
 
   pub shown_of : Went S r story → ((peer : ℕ) → peer < peer_count S.set.shape → IsReadAs r story peer)
       → (IsSome (first_core S.set story.found).ended → span.left ≡ runs.disks)
-      → (IsSoundAtEntry S r → (first_core S.set story.found).ended ≡ None → TellTheirBlocks (judging_of (lined S r) S.set.limits) (entry_store S r) (first_core S.set story.found) (all_events story))
+      → ((first_core S.set story.found).ended ≡ None → AreTold (open_whole S.set story.found) (all_events story))
       → IsShown S r story
   shown_of went read still blocks = record {
     went = went;
     read = read;
     rooms = runs.rooms;
-    blocks = blocks;
+    told = blocks;
     lists = moments;
     ended = kept still;
   }
+
+  -- where the run may stop, its reports tell of blocks what the lists have
+  pub told_where : Went S r story → ((peer : ℕ) → peer < peer_count S.set.shape → IsReadAs r story peer) → MayStop S r
+      → (first_core S.set story.found).ended ≡ None → AreTold (open_whole S.set story.found) (all_events story)
+  told_where went read may going = (runs.lists told (sound (one_list S r may counted)) going).told
+    where
+      counted : (p : ℕ) → p < length r.old.disks → is_aside S r p ≡ false
+      counted p low =
+          none_aside S r story went on.one read on.disks (λ q below. all_good S.set story.found on.one went.found.goods going q below) p
+          (let disks = on.disks in omega (arith, low, disks))
 
 -- ---- and none was
 

@@ -1,7 +1,6 @@
 -- A run on disks that tell their contents, with one copy of each shard, and what is shown of it.
 use Rattle.std.specs.Prelude.{IsSome, None, Option, Some, length, true, ℕ, ◌<◌, ◌≡◌, ◌≤◌}
-use Rattle.hs_answers.specs.Answered.{TellTheirBlocks, judging_of}
-use Rattle.hs_clauses.specs.Asked.{lined}
+use Rattle.hs_cluster.specs.Kept.{AreTold}
 use Rattle.hs_cluster.specs.Rooms.{HaveRecordRoom}
 use Rattle.hs_events.specs.Course.{happened}
 use Rattle.hs_events.specs.Found.{first_core}
@@ -19,7 +18,6 @@ use Rattle.hs_peerlog.specs.Images.{LeavesOnly}
 use Rattle.hs_ports.specs.Moments.{disk_at}
 use Rattle.hs_ports.specs.Objects.{IsDuring}
 use Rattle.hs_promise.specs.Ending.{ending_of}
-use Rattle.hs_promise.specs.Entry.{IsSoundAtEntry, entry_store}
 use Rattle.hs_promise.specs.Found.{IsReadAs}
 use Rattle.hs_promise.specs.Machine.{NeverOpened, Went}
 use Rattle.hs_promise.specs.Run.{Ran, Script}
@@ -45,14 +43,13 @@ KeepLists S r = ((peer : ℕ) → (disk_at r.old.disks peer).last ≤ r.old.mome
 
 -- ---- a run
 
--- it went as a story says, whose logs are those of its disks; a core that goes on has room for root records, and its reports tell the bytes of their blocks;
+-- it went as a story says, whose logs are those of its disks; a core that goes on has room for root records, and its reports tell of blocks what the lists have;
 -- and of the lists at each moment, whether the core goes on behind its opening or has ended with it
 pub record IsShown (S : Script) (r : Ran) (story : Story) : Type 0 where
   pub went : Went S r story
   pub read : (peer : ℕ) → peer < peer_count S.set.shape → IsReadAs r story peer
   pub rooms : HaveRecordRoom (first_core S.set story.found) (all_events story)
-  pub blocks : IsSoundAtEntry S r → (first_core S.set story.found).ended ≡ None
-      → TellTheirBlocks (judging_of (lined S r) S.set.limits) (entry_store S r) (first_core S.set story.found) (all_events story)
+  pub told : (first_core S.set story.found).ended ≡ None → AreTold (open_whole S.set story.found) (all_events story)
   pub lists : HaveOneList r → (first_core S.set story.found).ended ≡ None
       → ListsAtMoments whole_machine IsFrontOf last_of (open_whole S.set story.found) (happened (first_core S.set story.found) (all_events story)) r.old.moment r.new.moment r.new.disks
   pub ended : IsSome (first_core S.set story.found).ended → KeepLists S r

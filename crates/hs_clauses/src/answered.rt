@@ -10,6 +10,7 @@ use hs_answers::a_script_is_answered;
 use hs_legal::a_line_asks_as_its_command;
 use hs_lines::{a_scripts_events_may_come, a_scripts_lines_are_new};
 use hs_memory::catalogues_in_memory_are_folds;
+use hs_reads::each_report_tells_its_block;
 use hs_standing::a_run_goes_on;
 use hs_told::answers_stay_in_order;
 
@@ -26,6 +27,7 @@ pub fn a_run_is_answered()
 {
     a_script_is_answered();
     catalogues_in_memory_are_folds();
+    each_report_tells_its_block();
     a_line_asks_as_its_command();
     a_scripts_events_may_come();
     a_scripts_lines_are_new();

@@ -7,6 +7,7 @@ ghost use Rattle.hs_promise.specs.Stops.{Stops};
 use hs_legal::a_line_asks_as_its_command;
 use hs_lines::{a_scripts_events_may_come, a_scripts_lines_are_new};
 use hs_memory::catalogues_in_memory_are_folds;
+use hs_reads::each_report_tells_its_block;
 use hs_standing::{a_run_goes_on, each_moment_of_a_run_stands};
 use hs_told::answers_stay_in_order;
 
@@ -18,6 +19,7 @@ pub fn a_run_may_stop()
         → IsToldRun S r → MayStop S r → Stops S (entry_store S r) r }
 {
     catalogues_in_memory_are_folds();
+    each_report_tells_its_block();
     a_line_asks_as_its_command();
     a_scripts_events_may_come();
     a_scripts_lines_are_new();

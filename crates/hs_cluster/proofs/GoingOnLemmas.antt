@@ -4,7 +4,7 @@ use Rattle.std.proofs.lemmas.Bool.{cases_lt}
 use Rattle.std.proofs.lemmas.List.{get_or_past, take_at}
 use Rattle.std.proofs.lemmas.List.Elements.{All-cons, All-nil}
 use Rattle.std.specs.List.{All, enumerate_from}
-use Rattle.std.specs.Prelude.{OnOk, Result, Ok, Err, ⊤, take}
+use Rattle.std.specs.Prelude.{IsSome, OnOk, Result, Ok, Err, ⊤, take}
 use Rattle.hs_cluster.proofs.EventLemmas.{still_going}
 use Rattle.hs_cluster.proofs.FoundLemmas.{begins_so, finds, found, is_empty, opens_so, was_read}
 use Rattle.hs_cluster.proofs.OpeningMoves.{all_good, jobs_first, same_members, sealed_first}
@@ -85,7 +85,7 @@ none_below m from to (e ∷ es) low rises =
     ap (λ b. if b then e ∷ until m es else []) is
 
 -- a core that goes on went on before
-going_before : (core : Core) (es : Events) → (steps core es).ended ≡ None → core.ended ≡ None
+pub going_before : (core : Core) (es : Events) → (steps core es).ended ≡ None → core.ended ≡ None
 going_before core [] h = h
 going_before core (e ∷ es) h = go (going_before core es) core.ended refl
   where
@@ -335,6 +335,7 @@ module _ (tells : Type 0) (set : Setting) (span : Span) (cluster : Running) (don
     falls = b.falls;
     counted = subst (λ x. AreCounted x o.turned.events o.disks span.new) (sym core_is) o.turned.shows.counted;
     rooms = subst (λ x. HaveRecordRoom x o.turned.events) (sym core_is) o.turned.does.rooms;
+    still = λ ended. o.turned.still (subst (λ (x : Core). IsSome x.ended) core_is ended);
     lists = lists;
     goes_on = goes_on;
     read = λ told sound going stored.

@@ -5,8 +5,10 @@ use Rattle.std.proofs.lemmas.List.Sums.{sum_by-cons}
 use Rattle.std.specs.List.{AllPairs}
 use Rattle.std.specs.Prelude.{◌==◌, ⊤, Contains, OnOk, Result, Ok, Err, cond, count_by, if◌then◌else◌, slice_index_or}
 use Rattle.hs_cluster.proofs.CountLemmas.{all_then, counted_before, counted_then, rose_none, rose_then}
+use Rattle.hs_cluster.proofs.GoingOnLemmas.{going_before}
 use Rattle.hs_cluster.proofs.RoomLemmas.{rooms_then}
 use Rattle.hs_cluster.proofs.ShowLemmas.{all_happened, happened_then, moments_then, rises_to, runs_append, runs_core, stored_back, stored_front, told_then}
+use Rattle.hs_cluster.proofs.TurnedLemmas.{not_ended}
 use Rattle.hs_cluster.specs.Counts.{AreAllCounted, AreCounted, NoneFalls}
 use Rattle.hs_cluster.specs.declared.fault.ClusterFault.{ClusterFault}
 use Rattle.hs_cluster.specs.Disks.{DiskSeen, seen_at, stands_of}
@@ -51,6 +53,7 @@ runs_opened tells set s cluster done o = record {
   falls = o.falls;
   counted = o.counted;
   rooms = o.rooms;
+  still = o.still;
   lists = o.lists;
   read = o.read;
 }
@@ -108,6 +111,7 @@ module _ (tells : Type 0) (set : Setting) (found : Found) (before mid now : ℕ)
     own = so_far.own;
     falls = so_far.falls;
     counted = counted_then (first_core set found) here.core es fs so_far.disks between left core so_far.counted shows.counted;
+    still = λ ended. absurd (not_ended (first_core set found).ended (going_before (first_core set found) es goes) ended);
     rooms = rooms_then (first_core set found) es fs so_far.rooms (subst (λ x. HaveRecordRoom x fs) core rooms);
     lists = lists;
     read = λ told sound first stored.
@@ -164,6 +168,7 @@ runs_later tells set found before now later begun cluster disks left es ticks ri
   falls = so_far.falls;
   counted = so_far.counted;
   rooms = so_far.rooms;
+  still = so_far.still;
   lists = λ told sound first. lists_later (open_whole set found) es before now later begun cluster disks left ticks (rises_from before found.opened now es so_far.finds.later rises) (since told) (so_far.lists told sound first);
   read = so_far.read;
 }
@@ -191,7 +196,8 @@ count_none disk (x ∷ xs) none =
 -- no peer is lost twice, so its loss is at its count
 losses : (disk a b : ℕ) (xs : List (ℕ × ℕ)) → a ≤ b → ((x : ℕ × ℕ) → Contains xs x → x.0 ≡ disk → HasRisen a b) → AllPairs IsLater xs → RoseBy (count_by (λ x. x.0 == disk) xs) a b
 losses disk a b [] later rose once = rose_none (2 ^ 64 - 1) a b later
-losses disk a b (x ∷ xs) later rose once = go (x.0 == disk) refl
+losses disk a b (x ∷ xs) later rose once =
+    go (losses disk a b xs later (λ y c same. rose y (suc c.0, (let low = c.1 in omega (arith, low)), c.2) same) (λ i j d lt within. once (suc i) (suc j) d (omega (arith, lt)) (omega (arith, within)))) (x.0 == disk) refl
   where
     there : (n m : ℕ) → (n == m) ≡ true → n ≡ m
     there n m h = grind arith
@@ -199,17 +205,18 @@ losses disk a b (x ∷ xs) later rose once = go (x.0 == disk) refl
     more : (t : Bool) → (x.0 == disk) ≡ t → count_by (λ y. y.0 == disk) (x ∷ xs) ≡ cond t 1 0 + count_by (λ y. y.0 == disk) xs
     more t is = sum_by-cons (λ y. cond (y.0 == disk) 1 0) x xs ∙ ap (λ b. cond b 1 0 + count_by (λ y. y.0 == disk) xs) is
 
+    bare : (n : ℕ) → 0 + n ≡ n
+    bare n = omega arith
+
     none : x.0 ≡ disk → count_by (λ y. y.0 == disk) xs ≡ 0
     none same = count_none disk xs (λ k d low. ne_eqb (slice_index_or xs k d).0 disk (λ e. (once 0 (suc k) d (omega arith) (omega (arith, low))).1 (same ∙ sym e)))
 
-    go : (t : Bool) → (x.0 == disk) ≡ t → RoseBy (count_by (λ y. y.0 == disk) (x ∷ xs)) a b
-    go true is =
+    go : RoseBy (count_by (λ y. y.0 == disk) xs) a b → (t : Bool) → (x.0 == disk) ≡ t → RoseBy (count_by (λ y. y.0 == disk) (x ∷ xs)) a b
+    go rest true is =
         subst (λ n. RoseBy n a b) (sym (more true is ∙ ap (λ n. 1 + n) (none (there x.0 disk is)))) (rose x (0, omega arith, refl) (there x.0 disk is))
-    go false is =
-        subst (λ n. RoseBy n a b) (sym (more false is))
-        (losses disk a b xs later (λ y c same. rose y (suc c.0, (let low = c.1 in omega (arith, low)), c.2) same) (λ i j d lt within. once (suc i) (suc j) d (omega (arith, lt)) (omega (arith, within))))
+    go rest false is = subst (λ n. RoseBy n a b) (sym (more false is ∙ bare (count_by (λ y. y.0 == disk) xs))) rest
 
-lost_before : (tells : Type 0) (set : Setting) (s : Span) (found : Found) (es : Events) (on : RunsOn tells set s found es) → tells → (disk : ℕ)
+pub lost_before : (tells : Type 0) (set : Setting) (s : Span) (found : Found) (es : Events) (on : RunsOn tells set s found es) → tells → (disk : ℕ)
     → RoseBy (count_by (λ x. x.0 == disk) found.lost) (seen_at s.disks disk).faults (seen_at on.disks disk).faults
 lost_before tells set s found es on told disk =
     losses disk (seen_at s.disks disk).faults (seen_at on.disks disk).faults found.lost (on.falls disk)

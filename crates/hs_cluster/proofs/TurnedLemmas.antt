@@ -2,7 +2,7 @@
 use Rattle.std.proofs.Common.{◌≡◌, ◌∙◌, ap, sym, subst, ℕ, Bool, true, false, List, [], ◌∷◌, ◌+◌, Option, Some, None, refl, is_none, is_some, not, if◌then◌else◌, arith}
 use Rattle.std.proofs.lemmas.List.{append-nil}
 use Rattle.std.specs.Option.{option_and_then, option_map, option_map_or}
-use Rattle.std.specs.Prelude.{Result, Ok, Err, ⊤, ◌||◌, is_ok, length, nat_lt}
+use Rattle.std.specs.Prelude.{IsSome, Result, Ok, Err, ⊤, ◌||◌, is_ok, length, nat_lt}
 use Rattle.hs_cluster.proofs.ShowLemmas.{begin_shows, cut_shows}
 use Rattle.hs_cluster.specs.Begins.{Begins, HasOpened, HasTurned}
 use Rattle.hs_cluster.specs.Calls.{of_core, outcome_by, ran_out}
@@ -87,13 +87,21 @@ whole core es (Err (why.ShardLost shard)) due outcome = ended_whole core es due 
 whole core es (Err why.OpsFull) due outcome = ended_whole core es due (has_ended (Err why.OpsFull) (steps core es).ended refl (outcome refl))
 whole core es (Err why.NoMemory) due outcome = due
 
+-- a core that goes on has no fault
+pub not_ended : (ended : Option CoreFault) → ended ≡ None → IsSome ended → ⊥
+not_ended ended is some = never (subst (λ o. IsSome o) is some)
+  where
+    never : false ≡ true → ⊥
+    never k = cc k
+
 -- the turns that were done, whatever ended them
-pub turned : (tells : Type 0) (turns : Turns) (r : Result ⊤ ClusterFault) → RunsWalk false 0 turns.before turns.now turns.old turns.new r (Shows tells turns r) → HasTurned tells turns r
-turned tells turns r walks = record {
+pub turned : (tells : Type 0) (turns : Turns) (r : Result ⊤ ClusterFault) → turns.old.core.ended ≡ None → RunsWalk false 0 turns.before turns.now turns.old turns.new r (Shows tells turns r) → HasTurned tells turns r
+turned tells turns r going walks = record {
   events = walks.events;
   due = whole turns.old.core walks.events r walks.due (λ there. walks.does.outcome there ∙ ap (λ (c : Core). outcome_by c.ended) (walks.does.core there));
   rises = walks.rises;
   does = walks.does;
+  still = λ ended. absurd (not_ended turns.old.core.ended going ended);
   shows = walks.kept;
 }
 
@@ -113,6 +121,7 @@ not_turned tells now old disks ended fault is same never = record {
     going = λ out. absurd (known ended never (sym (ap (λ (f : ClusterFault). ran_out {T = ⊤} (Err f)) same) ∙ out));
     rooms = tt;
   };
+  still = λ there. refl;
   shows = cut_shows tells _ fault [] (begin_shows tells now old disks);
 }
   where

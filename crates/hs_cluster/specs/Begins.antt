@@ -1,6 +1,6 @@
 -- What a cluster begins with, from the logs that were taken, and its first turns.
 use Rattle.std.specs.Option.{option_map_or}
-use Rattle.std.specs.Prelude.{◌≡◌, ◌*◌, ◌++◌, ◌∷◌, ◌<◌, ◌≤◌, ℕ, ⊤, List, [], flat_map, is_some, length, map, not, None, Ok, Result, Some, true}
+use Rattle.std.specs.Prelude.{◌≡◌, ◌*◌, ◌++◌, ◌∷◌, ◌<◌, ◌≤◌, ℕ, ⊤, List, [], flat_map, is_some, length, map, not, IsSome, None, Ok, Result, Some, true}
 use Rattle.hs_cluster.specs.Calls.{Does, ran_out}
 use Rattle.hs_cluster.specs.Counts.{NoneFalls}
 use Rattle.hs_cluster.specs.declared.fault.ClusterFault.{ClusterFault}
@@ -84,6 +84,8 @@ pub record HasTurned (tells : Type 0) (turns : Turns) (done : Result ⊤ Cluster
   pub due : is_walk next_turn (not (ran_out done)) 0 turns.old.core events ≡ true
   pub rises : MomentsRise turns.before events turns.now
   pub does : Does events turns.old turns.new done
+  -- a core that had ended does none
+  pub still : IsSome turns.old.core.ended → turns.left ≡ turns.disks
   pub shows : Shows tells turns done events
 
 -- the cluster, the moment and the disks right before the first turn, and the turns

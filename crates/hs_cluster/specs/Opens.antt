@@ -94,6 +94,8 @@ pub record Opens (tells : Type 0) (set : Setting) (span : Span) (cluster : Runni
   pub falls : NoneFalls span.old disks
   pub counted : AreCounted (first_core set found) events disks span.new
   pub rooms : HaveRecordRoom (first_core set found) events
+  -- where the core had ended nothing came behind the reading
+  pub still : IsSome (first_core set found).ended → span.new ≡ disks
   -- where the core was opened: the lists at each moment from entry on, and behind all of it the cluster may go on
   pub lists : tells → AreSound span.before span.old → (first_core set found).ended ≡ None
       → LeavesLists (open_whole set found) events (record { before = span.before; now = span.now; old = begun; new = cluster; disks = span.old; left = span.new })

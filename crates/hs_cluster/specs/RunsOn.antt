@@ -1,5 +1,5 @@
 -- What a run on disks shows, beside its events.
-use Rattle.std.specs.Prelude.{List, None, Option, Some, length, ℕ, ◌<◌, ◌≡◌}
+use Rattle.std.specs.Prelude.{IsSome, List, None, Option, Some, length, ℕ, ◌<◌, ◌≡◌}
 use Rattle.hs_cluster.specs.Counts.{AreAllCounted, AreCounted, NoneFalls}
 use Rattle.hs_cluster.specs.Disks.{DiskSeen, seen_at}
 use Rattle.hs_cluster.specs.Kept.{AreStored, CanGoOn, LeavesLists, Span}
@@ -29,6 +29,8 @@ pub record RunsOn (tells : Type 0) (set : Setting) (span : Span) (found : Found)
   pub falls : NoneFalls span.disks disks
   pub counted : AreCounted (first_core set found) events disks span.left
   pub rooms : HaveRecordRoom (first_core set found) events
+  -- where the core had ended nothing came behind the reading
+  pub still : IsSome (first_core set found).ended → span.left ≡ disks
   pub lists : tells → AreSound span.before span.disks → (first_core set found).ended ≡ None → LeavesLists (open_whole set found) events span
   -- reads too cost what they tell of failed calls, where the lists have what the catalogues say
   pub read : tells → AreSound span.before span.disks → (first_core set found).ended ≡ None → AreStored (open_whole set found) events

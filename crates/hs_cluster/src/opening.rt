@@ -105,11 +105,14 @@ impl Cluster {
             Ok(cluster) => cluster,
             Err(fault) => return Err(fault),
         };
-        if let Some(fault) = cluster.ended() {
-            return Ok(Opened {
-                cluster,
-                done: Err(ClusterFault::from(fault)),
-            });
+        match cluster.ended() {
+            Some(fault) => {
+                return Ok(Opened {
+                    cluster,
+                    done: Err(ClusterFault::from(fault)),
+                });
+            }
+            None => {}
         }
         let done = cluster.settle(disks, watch, 0, false);
         Ok(Opened { cluster, done })

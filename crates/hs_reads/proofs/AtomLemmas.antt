@@ -1,5 +1,5 @@
 -- Behind each single change the operations that wait for bytes wait for blocks that are there.
-use Rattle.std.proofs.Common.{◌≡◌, ◌∙◌, sym, ap, subst, ℕ, ◌+◌, ◌<◌, Bool, true, false, cond, map, List, [], Option, Some, is_some, refl}
+use Rattle.std.proofs.Common.{◌≡◌, ◌∙◌, sym, ap, subst, ℕ, ◌<◌, Bool, true, false, cond, map, List, [], Option, Some, is_some, refl}
 use Rattle.hs_along.specs.Changes.{IsBeside, told_at_once, tells_at_once}
 use Rattle.hs_answered.specs.Standing.{IsFolded, store_with}
 use Rattle.hs_core.specs.Asking.{send_round}
@@ -33,7 +33,7 @@ use Rattle.hs_post.specs.Pool.{without}
 use Rattle.hs_reads.proofs.AwaitLemmas.{awaiting_alike, awaiting_words, going_awaiting, none_awaiting, read_shard, shard_low}
 use Rattle.hs_reads.proofs.StepLemmas.{bytes_reads, effect_reads, step_reads}
 use Rattle.hs_reads.proofs.StillLemmas.{folded_then, there_still}
-use Rattle.hs_reads.specs.Reads.{AreAwaiting, AwaitsBlock}
+use Rattle.hs_reads.specs.Awaiting.{AreAwaiting, AwaitsBlock}
 use Rattle.hs_replica.specs.Group.{committed, last_number, renew, renewal}
 use Rattle.hs_shard.specs.declared.effect.Effect.{Effect}
 
@@ -80,10 +80,10 @@ module _ (name : List ℕ → Address) (cs : List Folded) (c : Core) (its : IsLa
 
   awaits_then : (line : ℕ) (w : Waiting) → operation_of line c ≡ Some w → (n : ℕ) (o : Op) → w.operation.op ≡ o → AwaitsBlock c.sessions (catalogue_at cs w.shard) n o → AwaitsBlock c.sessions (catalogue_at behind w.shard) n o
   awaits_then line w at n (op.Read session handle) is was = λ held stands fresh. (
-    let place : w.shard ≡ shard_of (shape_of c).shards held.address =
-    (order.pending line w at).judges ∙ ap (λ (p : Op). judging_shard (shape_of c).shards c.sessions p) is ∙ read_shard (shape_of c).shards c.sessions session handle held stands in
-    there_still name cs c its valid shard entry low called may w.shard (subst (λ k. k < (shape_of c).shards) (sym place) (shard_low cs c its.folded held.address)) session handle held stands (sym place) n (was held stands) fresh
-  )
+      let place : w.shard ≡ shard_of (shape_of c).shards held.address =
+      (order.pending line w at).judges ∙ ap (λ (p : Op). judging_shard (shape_of c).shards c.sessions p) is ∙ read_shard (shape_of c).shards c.sessions session handle held stands in
+      there_still name cs c its valid shard entry low called may w.shard (subst (λ k. k < (shape_of c).shards) (sym place) (shard_low cs c its.folded held.address)) session handle held stands (sym place) n (was held stands) fresh
+      )
   awaits_then line w at n (op.Open session) is was = tt
   awaits_then line w at n (op.Close session) is was = tt
   awaits_then line w at n (op.Write session payload handles address) is was = tt

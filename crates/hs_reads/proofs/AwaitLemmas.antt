@@ -1,5 +1,5 @@
 -- Operations that go on, are begun or answered: those that wait for bytes wait for a block that is there.
-use Rattle.std.proofs.Common.{◌≡◌, ◌∙◌, sym, ap, subst, ◌⊎◌, inl, inr, ℕ, ◌+◌, ◌<◌, Bool, true, false, cond, not, List, [], ◌∷◌, Option, Some, None, refl, bytes_eq, slice_index, unwrap_or}
+use Rattle.std.proofs.Common.{◌≡◌, ◌∙◌, sym, ap, subst, ◌⊎◌, inl, inr, ℕ, ◌+◌, ◌<◌, Bool, true, false, cond, not, List, [], Option, Some, None, refl, bytes_eq, slice_index, unwrap_or}
 use Rattle.std.proofs.Math.Nat.{mod-lt}
 use Rattle.std.proofs.lemmas.Map.Made.{lookup-map_values}
 use Rattle.std.proofs.lemmas.Slice.Eq.{bytes_eq-Decides}
@@ -10,7 +10,6 @@ use Rattle.std.specs.Ordering.{nat_cmp}
 use Rattle.std.specs.Prelude.{if◌then◌else◌, slice_index_or}
 use Rattle.hs_answered.specs.Standing.{IsFolded}
 use Rattle.hs_core.specs.Changing.{add_operation, put_operation}
-use Rattle.hs_core.specs.declared.wait.Wait.{Wait}
 use Rattle.hs_core.specs.declared.wait.Wait.TheVariants as wait
 use Rattle.hs_core.specs.declared.waiting.Waiting.{Waiting}
 use Rattle.hs_core.specs.Looking.{catalogue_of, group_of, lead_of, operation_of, shape_of}
@@ -24,7 +23,6 @@ use Rattle.hs_effects.proofs.LookLemmas.{found_insert, found_set, gone, insert_o
 use Rattle.hs_effects.proofs.OrderlyLemmas.{session_in}
 use Rattle.hs_effects.proofs.SeatLemmas.{IsSameFor, seats_other}
 use Rattle.hs_effects.specs.Logged.{IsNewLine, IsOrderly}
-use Rattle.hs_entry.specs.declared.entry.Entry.{Entry}
 use Rattle.hs_fold.specs.Runs.Facts.{Catalogue as Folded, Facts as FoldedFacts}
 use Rattle.hs_fold.specs.Runs.Facts.{facts_at as fold_at}
 use Rattle.hs_fold.specs.Runs.Fits.{catalogue_at}
@@ -48,7 +46,7 @@ use Rattle.hs_ops.specs.Operations.{Operation, after_step, go_step, new_operatio
 use Rattle.hs_ops.specs.Speaking.{judging_shard, wanted_address}
 use Rattle.hs_ops.specs.Views.{OpView}
 use Rattle.hs_reads.proofs.StepLemmas.{ReadsPresent, step_reads}
-use Rattle.hs_reads.specs.Reads.{AreAwaiting, AwaitsBlock, IsAwaiting, IsThere}
+use Rattle.hs_reads.specs.Awaiting.{AreAwaiting, AwaitsBlock, IsAwaiting, IsThere}
 use Rattle.hs_replica.specs.Group.{last_number}
 use Rattle.hs_shard.specs.declared.facts.Facts.{Facts}
 use Rattle.hs_shard.specs.Facts.{Catalogue, empty_catalogue, facts_at}
@@ -146,8 +144,8 @@ put_awaiting c cs line x u at new its =
     changed_awaiting c (put_operation line x c) cs line
     (record { others = λ l d. set_other nat_cmp number_exact c.operations line l x d; seats = λ l v q d e s. refl })
     (λ number w e waits. (
-      let same : x ≡ w = some_is x w (sym (found_set line c.operations u x at) ∙ e) in
-      subst (λ (y : Waiting). IsAwaiting c.sessions cs number y) same (new number (ap (λ (y : Waiting). y.wait) same ∙ waits))
+    let same : x ≡ w = some_is x w (sym (found_set line c.operations u x at) ∙ e) in
+    subst (λ (y : Waiting). IsAwaiting c.sessions cs number y) same (new number (ap (λ (y : Waiting). y.wait) same ∙ waits))
     )) its
 
 -- ---- one step
@@ -177,11 +175,11 @@ module _ (name : List ℕ → Address) (c : Core) (cs : List Folded) (folded : I
   -- it asks for the bytes of the block that it sees
   awaits_by : (taken : OpStep) → ReadsPresent (view_for u.shard u.operation.op c) u.operation.op taken → (number : ℕ) → taken ≡ Compare number → (o : Op) → u.operation.op ≡ o → AwaitsBlock c.sessions (catalogue_at cs u.shard) number o
   awaits_by taken reads number asks (op.Read session handle) is = λ held stands fresh. (
-    let place : u.shard ≡ shard_of (shape_of c).shards held.address =
-    (order.pending line u at).judges ∙ ap (λ (p : Op). judging_shard (shape_of c).shards c.sessions p) is ∙ read_shard (shape_of c).shards c.sessions session handle held stands in
-    there_is cs c folded u.shard (subst (λ k. k < (shape_of c).shards) (sym place) (shard_low cs c folded held.address)) u.operation.op held.address
-    (ap (λ (p : Op). wanted_address c.sessions p) is ∙ read_wants c.sessions session handle held stands) number (reads session handle number is asks)
-  )
+      let place : u.shard ≡ shard_of (shape_of c).shards held.address =
+      (order.pending line u at).judges ∙ ap (λ (p : Op). judging_shard (shape_of c).shards c.sessions p) is ∙ read_shard (shape_of c).shards c.sessions session handle held stands in
+      there_is cs c folded u.shard (subst (λ k. k < (shape_of c).shards) (sym place) (shard_low cs c folded held.address)) u.operation.op held.address
+      (ap (λ (p : Op). wanted_address c.sessions p) is ∙ read_wants c.sessions session handle held stands) number (reads session handle number is asks)
+      )
   awaits_by taken reads number asks (op.Open session) is = tt
   awaits_by taken reads number asks (op.Close session) is = tt
   awaits_by taken reads number asks (op.Write session payload handles address) is = tt
@@ -249,8 +247,8 @@ module _ (name : List ℕ → Address) (cs : List Folded) (line : ℕ) (o : Op) 
   added_awaiting = changed_awaiting c with_it cs line
       (record { others = λ l d. insert_other nat_cmp number_exact c.operations line l w d; seats = λ l x q d at s. refl })
       (λ number x e waits. (
-        let same : w ≡ x = some_is w x (sym (found_insert line c.operations w) ∙ e) in
-        absurd (view_not number (ap (λ (y : Waiting). y.wait) same ∙ waits))
+      let same : w ≡ x = some_is w x (sym (found_insert line c.operations w) ∙ e) in
+      absurd (view_not number (ap (λ (y : Waiting). y.wait) same ∙ waits))
       )) its
 
   -- it is answered at its line: no other line has an operation of its session, or it is told that this is busy

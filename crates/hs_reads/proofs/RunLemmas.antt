@@ -1,5 +1,5 @@
 -- A run goes on reading, and each of its reports tells the bytes of its block.
-use Rattle.std.proofs.Common.{◌≡◌, ◌∙◌, sym, ap, subst, ◌⊎◌, inl, inr, ℕ, zero, suc, ◌+◌, ◌*◌, ◌<◌, ◌≤◌, ◌++◌, Bool, drop, length, map, List, [], ◌∷◌, Option, Some, None, refl, arith, replicate, take}
+use Rattle.std.proofs.Common.{◌≡◌, ◌∙◌, sym, ap, subst, ◌⊎◌, inl, inr, ℕ, zero, suc, ◌+◌, ◌*◌, ◌<◌, ◌≤◌, Bool, drop, length, map, List, [], ◌∷◌, Option, Some, None, refl, arith, replicate, take}
 use Rattle.std.proofs.lemmas.Bool.{cases_lt}
 use Rattle.std.proofs.lemmas.List.{length-map}
 use Rattle.std.specs.List.{AllByRecursion, range_with_len}
@@ -159,7 +159,10 @@ first_stands below start found o valid =
     })
 
 -- queues are empty, and each shard has one copy
-none_queued : (n k : ℕ) → slice_index_or (replicate {X = List Task} n []) k [] ≡ []
+abbrev nothing_queued : List Task
+nothing_queued = []
+
+none_queued : (n k : ℕ) → slice_index_or (replicate n nothing_queued) k nothing_queued ≡ nothing_queued
 none_queued zero k = refl
 none_queued (suc n) zero = refl
 none_queued (suc n) (suc k) = none_queued n k
@@ -229,7 +232,7 @@ module _ (below : LawsBelow) (start : Start) where
     stands = event_stands start (λ line o core. IsLineOf (judging_of start) core line o) (TellsItsBlock (judging_of start) start.entry) (IsNobodys (judging_of start)) (λ core cs. ReadStands start core cs)
         (reads_suffice start) (reads_keep below start r.names r.valid) below.turns c e at r.stands
         (record { comes = comes.may; may = may_stand (judging_of start) start.entry c.core e at comes.may comes.begins comes.addressed blocks; room = room }) going;
-    home = at_home (step e at c.core) (fine_event start.commands at c at (fine_of start c r) e r.stands.whole.sane.going comes.may);
+    home = at_home (step e at c.core) (fine_event start.commands at c.core at (fine_of start c r) e r.stands.whole.sane.going comes.may);
   }
 
   -- a core that has ended takes no reports

@@ -44,7 +44,7 @@ use Rattle.hs_model.proofs.ReachLemmas.{Reaches, reached_from_is}
 use Rattle.hs_model.specs.declared.store.StoredBlock.{StoredBlock}
 use Rattle.hs_model.specs.Reach.{is_same}
 use Rattle.hs_model.specs.Store.{address_cmp, block_at}
-use Rattle.hs_reads.specs.Reads.{IsThere}
+use Rattle.hs_reads.specs.Awaiting.{IsThere}
 use Rattle.hs_rests.proofs.HeldLemmas.{held_rests}
 use Rattle.hs_rests.proofs.ValidLemmas.{valid_behind}
 use Rattle.hs_tokens.specs.Seats.{Seats, found, held_at, nothing, seat_of}

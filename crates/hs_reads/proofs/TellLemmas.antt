@@ -6,10 +6,9 @@ use Rattle.std.specs.List.{AllByRecursion, enumerate_from}
 use Rattle.std.specs.Option.{option_map}
 use Rattle.std.specs.Prelude.{IsSome}
 use Rattle.hs_along.specs.Walks.{IsReadFor, MayReport}
-use Rattle.hs_answered.proofs.MemoryLemmas.{epochs_same}
 use Rattle.hs_answered.proofs.ShownLemmas.{held_is}
 use Rattle.hs_answered.specs.Asked.{HasBytes}
-use Rattle.hs_answered.specs.Standing.{IsAddressed, IsFolded, store_with}
+use Rattle.hs_answered.specs.Standing.{IsAddressed, IsFolded, forget_all, store_with}
 use Rattle.hs_answered.specs.Telling.{Judging}
 use Rattle.hs_cluster.specs.Jobs.{AreBytes}
 use Rattle.hs_cluster.specs.Kept.{IsTold, sealed_front}
@@ -42,7 +41,7 @@ use Rattle.hs_legal.specs.Bytes.{AreOfBlock, IsFree, TellsItsBlock}
 use Rattle.hs_legal.specs.Coming.{ReportsBlocks}
 use Rattle.hs_legal.specs.Standing.{IsStanding}
 use Rattle.hs_limits.proofs.ReadingLemmas.{read_takes}
-use Rattle.hs_limits.specs.Block.{Block, spell}
+use Rattle.hs_limits.specs.Block.{spell}
 use Rattle.hs_limits.specs.declared.address.Address.{Address}
 use Rattle.hs_limits.specs.declared.address.Held.{Held}
 use Rattle.hs_limits.specs.declared.shape.Shape.{Shape}
@@ -61,13 +60,13 @@ use Rattle.hs_moments.proofs.AloneReportLemmas.{first_here, first_past}
 use Rattle.hs_moments.proofs.WorkLemmas.{floor_alone, reach_sane}
 use Rattle.hs_moments.specs.WholeMachine.{whole_machine}
 use Rattle.hs_ops.specs.Operations.{wanted_number}
-use Rattle.hs_ops.specs.Refusals.{outdated, refusal_of, refusals_of}
+use Rattle.hs_ops.specs.Refusals.{refusal_of, refusals_of}
 use Rattle.hs_ops.specs.Speaking.{judging_shard, wanted_address}
 use Rattle.hs_ops.specs.Views.{OpView, now_in, open_in}
 use Rattle.hs_reads.proofs.AwaitLemmas.{read_shard, there_is}
 use Rattle.hs_reads.proofs.ListLemmas.{IsStoredBy, one_entry, stored_by, taken_member}
 use Rattle.hs_reads.specs.Home.{IsAtHome}
-use Rattle.hs_reads.specs.Reads.{AwaitsBlock, IsAwaiting, IsThere}
+use Rattle.hs_reads.specs.Awaiting.{AwaitsBlock, IsAwaiting, IsThere}
 use Rattle.hs_reads.specs.Run.{IsReading}
 use Rattle.hs_shard.specs.Facts.{Catalogue}
 use Rattle.hs_standing.proofs.SettleLemmas.{folds_at}
@@ -87,6 +86,11 @@ first_fits P (y ∷ xs) x all e = subst P (some_is y x e) all.0
 
 same_bytes : (k l m n : ℕ) (xs ys : List ℕ) → kind.Block k m xs ≡ kind.Block l n ys → xs ≡ ys
 same_bytes k l m n xs ys e = cc e
+
+-- the epochs in memory are those of the plain store
+epochs_same : (shape : Shape) (from : ℕ) (cs : List Folded) → map (λ (c : Catalogue). c.epoch) (forget_all shape from cs) ≡ (store_of cs).epochs
+epochs_same shape from [] = refl
+epochs_same shape from (c ∷ cs) = ap (λ (rest : List ℕ). c.epoch ∷ rest) (epochs_same shape (from + 1) cs)
 
 -- ---- bytes that spell a stored block are its
 

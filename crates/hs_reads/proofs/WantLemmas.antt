@@ -1,5 +1,5 @@
 -- What a peer is to read is in what is sealed of its list, where its shard has a block by that number.
-use Rattle.std.proofs.Common.{◌≡◌, ◌∙◌, sym, ap, subst, inl, inr, ℕ, ◌+◌, ◌<◌, ◌==◌, Bool, true, false, cond, find, map, List, [], ◌∷◌, Option, Some, None, is_some, refl, eqb-true, take}
+use Rattle.std.proofs.Common.{◌≡◌, ◌∙◌, sym, ap, subst, inl, inr, ℕ, ◌<◌, ◌==◌, Bool, true, false, cond, find, map, List, [], ◌∷◌, Option, Some, None, is_some, refl, eqb-true, take}
 use Rattle.std.specs.Option.{option_map}
 use Rattle.hs_cluster.specs.Kept.{IsStored, sealed_front}
 use Rattle.hs_core.specs.declared.task.Task.{Task}
@@ -21,7 +21,7 @@ use Rattle.hs_moments.proofs.AloneEventLemmas.{home_here}
 use Rattle.hs_reads.proofs.AwaitLemmas.{memory_is}
 use Rattle.hs_reads.proofs.ListLemmas.{IsStoredBy}
 use Rattle.hs_reads.proofs.TellLemmas.{folded, peer_low, sealed_is, stored_there}
-use Rattle.hs_reads.specs.Reads.{IsThere}
+use Rattle.hs_reads.specs.Awaiting.{IsThere}
 use Rattle.hs_reads.specs.Run.{IsReading}
 use Rattle.hs_shard.specs.declared.facts.Facts.{Facts}
 use Rattle.hs_shard.specs.Facts.{Catalogue, is_stored_by, pointers_at}
@@ -47,21 +47,21 @@ task_first (Some t) j e = (t, refl)
 
 pub is_stored : (start : Start) (c : Whole) → IsReading start c → IsStored c
 is_stored start c r = λ peer number todo some. (
-  let first = task_first (first_task peer c.core) (job.Read number) todo in
-  let low : peer < (shape_of c.core).shards = peer_low start c r peer first.0 first.1 in
-  let cs : List Folded = r.stands.whole.cs in
-  let mine : catalogue_of (home peer c.core) c.core ≡ catalogue_of peer c.core = ap (λ k. catalogue_of k c.core) (home_here c.core peer r.stands.whole.sane.alone.copies) in
-  let blocks : is_some (pointers_at number (map (λ (e : Address × FoldedFacts). (e.0, known_of e.1)) (catalogue_at cs peer).blocks)) ≡ true =
-  ap (λ (d : Catalogue). is_some (pointers_at number d.blocks)) (sym (mine ∙ memory_is cs c.core (folded start c r) peer low)) ∙ some in
-  let e = found_stored number (catalogue_at cs peer).blocks blocks in
-  let there : IsThere (catalogue_at cs peer) e.0.0 number = record {
-    facts = e.0.1;
-    found = found-entry (catalogue_at cs peer).blocks (ordered_keys (shape_of c.core).shards peer (catalogue_at cs peer) (own_here start.set.name cs c.core peer (kind.View 0) (folded start c r) low)) e.0 e.1;
-    numbered = e.2;
-  } in
-  let s : IsStoredBy (take (front_of peer c.core) (reach c peer)) e.0.1 = stored_there start c r peer low e.0.0 number there in
-  let listed : Member (number, kind.Block s.line s.least s.bytes) (sealed_front c peer) =
-  subst (λ (es : Numbered). Member (number, kind.Block s.line s.least s.bytes) es) (sym (sealed_is start c r peer low))
-  (subst (λ n. Member (n, kind.Block s.line s.least s.bytes) (take (front_of peer c.core) (reach c peer))) e.2 s.among) in
-  (kind.Block s.line s.least s.bytes, contains_from_member (number, kind.Block s.line s.least s.bytes) (sealed_front c peer) listed)
-)
+    let first = task_first (first_task peer c.core) (job.Read number) todo in
+    let low : peer < (shape_of c.core).shards = peer_low start c r peer first.0 first.1 in
+    let cs : List Folded = r.stands.whole.cs in
+    let mine : catalogue_of (home peer c.core) c.core ≡ catalogue_of peer c.core = ap (λ k. catalogue_of k c.core) (home_here c.core peer r.stands.whole.sane.alone.copies) in
+    let blocks : is_some (pointers_at number (map (λ (e : Address × FoldedFacts). (e.0, known_of e.1)) (catalogue_at cs peer).blocks)) ≡ true =
+    ap (λ (d : Catalogue). is_some (pointers_at number d.blocks)) (sym (mine ∙ memory_is cs c.core (folded start c r) peer low)) ∙ some in
+    let e = found_stored number (catalogue_at cs peer).blocks blocks in
+    let there : IsThere (catalogue_at cs peer) e.0.0 number = record {
+      facts = e.0.1;
+      found = found-entry (catalogue_at cs peer).blocks (ordered_keys (shape_of c.core).shards peer (catalogue_at cs peer) (own_here start.set.name cs c.core peer (kind.View 0) (folded start c r) low)) e.0 e.1;
+      numbered = e.2;
+    } in
+    let s : IsStoredBy (take (front_of peer c.core) (reach c peer)) e.0.1 = stored_there start c r peer low e.0.0 number there in
+    let listed : Member (number, kind.Block s.line s.least s.bytes) (sealed_front c peer) =
+    subst (λ (es : Numbered). Member (number, kind.Block s.line s.least s.bytes) es) (sym (sealed_is start c r peer low))
+    (subst (λ n. Member (n, kind.Block s.line s.least s.bytes) (take (front_of peer c.core) (reach c peer))) e.2 s.among) in
+    (kind.Block s.line s.least s.bytes, contains_from_member (number, kind.Block s.line s.least s.bytes) (sealed_front c peer) listed)
+    )

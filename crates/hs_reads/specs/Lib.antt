@@ -1,4 +1,4 @@
 pub mod Along
+pub mod Awaiting
 pub mod Home
-pub mod Reads
 pub mod Run

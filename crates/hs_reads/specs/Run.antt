@@ -7,7 +7,7 @@ use Rattle.hs_held.specs.Held.{GivesAddresses}
 use Rattle.hs_laws.specs.Valid.{IsValid}
 use Rattle.hs_lines.specs.Script.{Script}
 use Rattle.hs_reads.specs.Home.{AreAtHome}
-use Rattle.hs_reads.specs.Reads.{AreAwaiting}
+use Rattle.hs_reads.specs.Awaiting.{AreAwaiting}
 use Rattle.hs_standing.specs.Run.{RunStands}
 use Rattle.hs_standing.specs.Standing.{StandsWith}
 use Rattle.hs_stops.specs.Start.{Start}

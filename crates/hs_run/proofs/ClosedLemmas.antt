@@ -86,17 +86,17 @@ some_list x y e = cc
 
 module _ (tells : Type 0) (set : Setting) (span : Taking) (old new : Objects) (was : AreHanded old span.old) (is : AreHanded new span.new) (before : span.before ≡ old.moment)
     (disks : length span.old ≡ set.shape.shards * set.shape.copies) (handed : length old.disks ≡ length span.old) (same : length span.new ≡ length span.old) (asked : ℕ → Option Command) (r : Ran) (begins : r.old ≡ old) (ends : r.new ≡ new) where
-  abbrev S : Script
-  S = record { set = set; commands = asked }
+  abbrev script : Script
+  script = record { set = set; commands = asked }
 
   -- a disk of another store is refused
-  refused_by : (peer : ℕ) (found : Header) → IsOther S r peer found → refusal_in set.shape peer (seen_at span.old peer).stands.seen ≡ Some (log.WrongShape found)
+  refused_by : (peer : ℕ) (found : Header) → IsOther script r peer found → refusal_in set.shape peer (seen_at span.old peer).stands.seen ≡ Some (log.WrongShape found)
   refused_by peer found other =
       ap (λ (d : Standing). refusal_in set.shape peer d.seen) (sym (disk_is old span.old was peer))
       ∙ refusal_of set.shape peer (disk_at old.disks peer).seen found
       (subst (λ (o : Objects). header_in ((disk_at o.disks peer).seen (current (disk_at o.disks peer).seen)) ≡ Ok (Some found)) begins other.header) other.other
 
-  low_of : (peer : ℕ) (found : Header) → IsOther S r peer found → peer < length span.old
+  low_of : (peer : ℕ) (found : Header) → IsOther script r peer found → peer < length span.old
   low_of peer found other = let low = other.within in let there = ap (λ (o : Objects). length o.disks) begins in omega (arith, low, there, handed)
 
   rose_of : (peer : ℕ) → HasRisen (seen_at span.old peer).faults (seen_at span.new peer).faults → DiskRose r 1 peer
@@ -123,7 +123,7 @@ module _ (tells : Type 0) (set : Setting) (span : Taking) (old new : Objects) (w
 
   -- the one that was found
   module _ (told : tells) (p : ℕ) (f : Header) (closed : IsFirst tells set.shape span.old span.new p f) where
-    found_other : IsFoundOther S r p f
+    found_other : IsFoundOther script r p f
     found_other = record {
       first = record {
         other = record {
@@ -143,7 +143,7 @@ module _ (tells : Type 0) (set : Setting) (span : Taking) (old new : Objects) (w
         at_entry = ap (λ (d : Standing). refusal_in set.shape p d.seen) (disk_is old span.old was p) ∙ closed.told told
 
     -- any other that comes first is this one
-    same_other : (peer : ℕ) (found : Header) → IsFirstOther S r peer found → MayAllRise r peer → (DiskRose r 1 peer → ⊥) → status.WrongShape p f ≡ status.WrongShape peer found
+    same_other : (peer : ℕ) (found : Header) → IsFirstOther script r peer found → MayAllRise r peer → (DiskRose r 1 peer → ⊥) → status.WrongShape p f ≡ status.WrongShape peer found
     same_other peer found first may calm = elim (cases_lt p peer) [
       | inl low ↦ absurd (not_risen (2 ^ 64 - 1) (faults_at r.old.disk_faults p) (faults_at r.new.disk_faults p) (first.first p f low found_other.first.other) found_other.stands (may.each p low))
       | inr above ↦ elim (cases_lt peer p) [

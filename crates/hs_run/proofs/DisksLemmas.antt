@@ -2,7 +2,7 @@
 use Rattle.std.proofs.Common.{◌≡◌, ◌⊎◌, inl, inr, ◌∙◌, ap, sym, subst, ℕ, zero, suc, ◌+◌, ◌-◌, ◌^◌, ◌<◌, ◌≤◌, ◌==◌, false, true, List, [], ◌∷◌, None, refl, arith, map, min}
 use Rattle.std.specs.Prelude.{count_by}
 use Rattle.hs_cluster.proofs.CountLemmas.{falls_then, faults_seen}
-use Rattle.hs_cluster.proofs.RunLemmas.{all_failed, lost_before, some_failed}
+use Rattle.hs_cluster.proofs.RunLemmas.{all_failed, some_failed}
 use Rattle.hs_cluster.specs.Counts.{NoneFalls}
 use Rattle.hs_cluster.specs.Disks.{DiskSeen, seen_at, stands_of}
 use Rattle.hs_cluster.specs.Kept.{AreStored, Span}
@@ -23,6 +23,7 @@ use Rattle.hs_promise.specs.Run.{DiskRose, Ran, Script}
 use Rattle.hs_promise.specs.Story.{Story, all_events}
 use Rattle.hs_side.specs.Current.{list_in}
 use Rattle.hs_run.specs.Machine.{AreHanded, RunsOnDisks}
+use Rattle.hs_run.proofs.LossLemmas.{lost_before}
 
 -- ---- the disks that were handed
 

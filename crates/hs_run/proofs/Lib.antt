@@ -13,6 +13,7 @@ pub mod KindLemmas
 pub mod LastLineLemmas
 pub mod LateLemmas
 pub mod LinesLemmas
+pub mod LossLemmas
 pub mod OpeningLemmas
 pub mod PassedLemmas
 pub mod PrintedLemmas

@@ -53,7 +53,10 @@ memory_no_write halt memory write = differ (sym memory ∙ write)
     differ : stop.NoMemory ≡ stop.WriteFault → ⊥
     differ e = cc
 
-pub same_halt : (a b : Stop) → Err {T = ⊤} a ≡ Err b → a ≡ b
+abbrev halted : Stop → Result ⊤ Stop
+halted halt = Err halt
+
+pub same_halt : (a b : Stop) → halted a ≡ halted b → a ≡ b
 same_halt a b e = cc
 
 -- ---- so something was answered

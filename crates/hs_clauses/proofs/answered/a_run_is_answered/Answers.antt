@@ -27,7 +27,7 @@ returns-clause-answers c = λ S r run sound.
       new_lines = c.a_scripts_lines_are_new.ensures.lines;
       asks = c.a_line_asks_as_its_command.ensures;
     } in
-    told_answers laws coming S r run sound
+    told_answers laws coming c.each_report_tells_its_block.ensures.script S r run sound
 
 pub returns-clause-full : goal.returns-clause-full
 returns-clause-full c = λ S r run sound.
@@ -50,4 +50,4 @@ returns-clause-full c = λ S r run sound.
       new_lines = c.a_scripts_lines_are_new.ensures.lines;
       asks = c.a_line_asks_as_its_command.ensures;
     } in
-    told_full laws coming S r run sound
+    told_full laws coming c.each_report_tells_its_block.ensures.script S r run sound

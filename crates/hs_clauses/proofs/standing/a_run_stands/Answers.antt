@@ -5,7 +5,7 @@ use Rattle.hs_clauses.proofs.StopLemmas.{all_kept}
 
 pub returns-clause-opens : goal.returns-clause-opens
 returns-clause-opens c = λ S r story on shown sound going.
-    let asked : IsAskedOf S r story = asked_of c.catalogues_in_memory_are_folds.ensures.list S r story on sound shown going in
+    let asked : IsAskedOf S r story = asked_of c.catalogues_in_memory_are_folds.ensures.list c.each_report_tells_its_block.ensures.script S r story on sound shown going in
     run_opens S r story shown.went asked
 
 pub returns-clause-keeps : goal.returns-clause-keeps
@@ -21,5 +21,5 @@ returns-clause-keeps c = λ S r story on shown sound going.
       new_lines = c.a_scripts_lines_are_new.ensures.lines;
       asks = c.a_line_asks_as_its_command.ensures;
     } in
-    let asked : IsAskedOf S r story = asked_of c.catalogues_in_memory_are_folds.ensures.list S r story on sound shown going in
+    let asked : IsAskedOf S r story = asked_of c.catalogues_in_memory_are_folds.ensures.list c.each_report_tells_its_block.ensures.script S r story on sound shown going in
     all_kept coming S r story shown.went asked

@@ -1,4 +1,4 @@
-use Rattle.std.proofs.Common.{◌≡◌, ◌∙◌, ◌*◌, ap, is_some, map, sym}
+use Rattle.std.proofs.Common.{◌∙◌, ◌*◌, ap, is_some, map, sym}
 use Rattle.hs_cluster.proofs.OpenedLemmas.{core_opens, moment_opens, shape_opens}
 use Rattle.hs_cluster.specs.Begins.{opened_with}
 use Rattle.hs_core.specs.Opening.{Taken as Opened}

@@ -1,4 +1,4 @@
-use Rattle.std.proofs.Common.{◌≡◌, ◌×◌, ◌∙◌, ◌<◌, ap, sym, subst, refl, arith, length, map, ℕ, true, false, List, Option, None, Some, Ok, Err, Result}
+use Rattle.std.proofs.Common.{◌≡◌, ◌∙◌, ◌<◌, ap, sym, subst, refl, arith, length, map, ℕ, true, false, List, Option, None, Some, Ok, Err, Result}
 use Rattle.std.proofs.lemmas.List.{length-map}
 use Rattle.std.specs.Prelude.{is_ok, ⊤}
 use Rattle.hs_cluster.proofs.DiskLemmas.{since_of}

@@ -6,7 +6,7 @@ use Rattle.hs_cluster.specs.Calls.{RunsLine, done_of}
 use Rattle.hs_cluster.specs.declared.fault.ClusterFault.{ClusterFault}
 use Rattle.hs_cluster.specs.declared.fault.ClusterFault.TheVariants.{NoMemory}
 use Rattle.hs_cluster.specs.Kept.{Shows}
-use Rattle.std.proofs.Common.{◌≡◌, ◌∙◌, ◌≤◌, None, ap, arith, refl, subst, sym, Some}
+use Rattle.std.proofs.Common.{◌≡◌, ◌∙◌, None, ap, arith, refl, subst, sym, Some}
 use Rattle.hs_cluster.proofs.LineLemmas.{runs_none, runs_quiet}
 use Rattle.hs_cluster.specs.Disks.{log_at}
 use Rattle.hs_core.specs.declared.event.Event.{Event}

@@ -1,4 +1,4 @@
-use Rattle.std.proofs.Common.{◌≡◌, ◌∙◌, map, sym, subst, ◌<◌, length}
+use Rattle.std.proofs.Common.{◌∙◌, map, sym, subst, ◌<◌}
 use Rattle.std.proofs.lemmas.List.{length-map}
 use Rattle.hs_cluster.proofs.BeginLemmas.{begins_ok, closed_memory, closed_of, unwritten_memory, unwritten_of}
 use Rattle.hs_cluster.proofs.CountLemmas.{falls_within}

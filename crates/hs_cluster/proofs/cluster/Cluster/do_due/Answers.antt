@@ -1,4 +1,4 @@
-use Rattle.std.proofs.Common.{◌≡◌, ◌≤◌, Some, arith, map, refl, subst, sym, true}
+use Rattle.std.proofs.Common.{◌≡◌, Some, arith, map, refl, subst, sym}
 use Rattle.hs_cluster.proofs.ShowLemmas.{any_shows, quiet_shows}
 use Rattle.hs_cluster.proofs.WalkLemmas.{deliver_of, event_due, nudge_of}
 use Rattle.hs_cluster.specs.Calls.{Does, done_of}

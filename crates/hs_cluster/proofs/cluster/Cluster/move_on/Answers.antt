@@ -1,10 +1,9 @@
-use Rattle.std.proofs.Common.{◌≡◌, ◌≤◌, ◌∙◌, ◌*◌, [], ap, arith, map, refl}
+use Rattle.std.proofs.Common.{◌∙◌, ◌*◌, [], ap, arith, map, refl}
 use Rattle.std.specs.List.{range_with_len}
 use Rattle.hs_cluster.proofs.ShowLemmas.{any_shows, none_shows}
 use Rattle.hs_cluster.proofs.WalkLemmas.{nothing_due, raised_is}
 use Rattle.hs_cluster.specs.declared.fault.ClusterFault.TheVariants.{NoMemory}
 use Rattle.hs_cluster.specs.Disks.{DiskSeen, seen_as}
-use Rattle.hs_cluster.specs.Kept.{Shows}
 use Rattle.std.specs.Prelude.{Err}
 use Rattle.hs_events.specs.Due.{place_after, raises_known}
 use Rattle.hs_cluster.specs.Running.{Running}

@@ -38,7 +38,7 @@ returns-clause-opened g c =
     let span : Span = record { before = c.args.watch.now; now = c.settle-done.new.watch; old = map f c.args.disks.now; new = map f c.settle-done.new.disks } in
     let turns : Turns = record { before = c.begin.new.watch; now = c.settle-done.new.watch; old = c.in-Ok.cluster; new = c.settle-done.new.self; disks = map f c.begin.new.disks; left = map f c.settle-done.new.disks } in
     opened g.D.Disk.tells set span c.in-Ok.cluster c.settle-done.new.self c.settle-done.result c.begin.new.watch (map f c.begin.new.disks) c.in-Ok.ensures.begins
-    (turned g.D.Disk.tells turns c.settle-done.result c.settle-done.ensures.walks)
+    (turned g.D.Disk.tells turns c.settle-done.result (sym c.ended.ensures ∙ c.in-None.is) c.settle-done.ensures.walks)
 
 pub returns-clause-opens : goal.returns-clause-opens
 returns-clause-opens g c = λ one.
@@ -48,7 +48,7 @@ returns-clause-opens g c = λ one.
     let turns : Turns = record { before = c.begin.new.watch; now = c.settle-done.new.watch; old = c.in-Ok.cluster; new = c.settle-done.new.self; disks = map f c.begin.new.disks; left = map f c.settle-done.new.disks } in
     opens_found g.D.Disk.tells set span c.settle-done.new.self c.settle-done.result one
     (opened g.D.Disk.tells set span c.in-Ok.cluster c.settle-done.new.self c.settle-done.result c.begin.new.watch (map f c.begin.new.disks) c.in-Ok.ensures.begins
-    (turned g.D.Disk.tells turns c.settle-done.result c.settle-done.ensures.walks))
+    (turned g.D.Disk.tells turns c.settle-done.result (sym c.ended.ensures ∙ c.in-None.is) c.settle-done.ensures.walks))
 
 pub returns-clause-counted : goal.returns-clause-counted
 returns-clause-counted g c =

@@ -1,4 +1,4 @@
-use Rattle.std.proofs.Common.{◌≡◌, ◌≤◌, Some, ap, arith, map, subst, true}
+use Rattle.std.proofs.Common.{◌≡◌, Some, ap, arith, map, subst, true}
 use Rattle.std.specs.Prelude.{Ok, Option}
 use Rattle.hs_cluster.proofs.DiskLemmas.{since_of}
 use Rattle.hs_cluster.proofs.ShowLemmas.{does_same, job_cut, job_shows}

@@ -1,6 +1,6 @@
-use Rattle.std.proofs.Common.{◌≡◌, ◌∙◌, ap, sym, subst, refl, ◌*◌, ◌++◌, ◌∷◌, [], ℕ, List, None, map}
+use Rattle.std.proofs.Common.{◌≡◌, ◌∙◌, ap, sym, subst, refl, ◌*◌, ◌++◌, ◌∷◌, [], List, None, map}
 use Rattle.std.specs.List.{range_with_len}
-use Rattle.std.specs.Prelude.{Result, Ok, Err}
+use Rattle.std.specs.Prelude.{Ok, Err}
 use Rattle.hs_cluster.proofs.EventLemmas.{err_ends, event_done, event_refused, ok_goes}
 use Rattle.hs_cluster.proofs.RoomLemmas.{room_ended}
 use Rattle.hs_events.proofs.GoingLemmas.{step_goes}
