@@ -24,7 +24,7 @@ use Rattle.hs_members.specs.Members.{all_peers, home_of, peers_of}
 use Rattle.hs_memory.specs.Forget.{apply_all}
 use Rattle.hs_model.specs.declared.course.CourseItem.{CourseItem}
 use Rattle.hs_model.specs.declared.course.CourseItem.TheVariants as item
-use Rattle.hs_peerlog.specs.Lists.{HasLog, Keeping}
+use Rattle.hs_peerlog.specs.Lists.{HasLog, IsKept, Keeping}
 use Rattle.hs_ports.specs.Fault.{HasRisen}
 use Rattle.hs_shard.specs.Facts.{Catalogue, empty_catalogue}
 use Rattle.hs_side.specs.Current.{list_in}
@@ -355,6 +355,9 @@ module _ (tells : Type 0) (set : Setting) (span : Span) (taken : Taken) (one : s
     log : tells → old.stands.last ≤ span.before → (keeping : Keeping) → slot ≡ Some keeping → HasLog keeping new.stands (opened_list set found peer) None
     log told last keeping at = (has peer low).log told last keeping at (opened_list set found peer) (read_as keeping at told)
 
+    reads : tells → (keeping : Keeping) → slot ≡ Some keeping → IsKept keeping (new.stands.seen keeping.log.side) (opened_list set found peer) None
+    reads told keeping at = (has peer low).reads told keeping at (opened_list set found peer) (read_as keeping at told)
+
     -- with no log it opens empty
     opens_empty : slot ≡ None → opened_list set found peer ≡ []
     opens_empty none = opened_is peer low ∙ ap (λ o. kept_list (log_of peer) o) none
@@ -367,6 +370,7 @@ module _ (tells : Type 0) (set : Setting) (span : Span) (taken : Taken) (one : s
       aside = aside;
       disk = (has peer low).disk;
       log = log;
+      reads = reads;
     }
 
   -- ---- all of it
