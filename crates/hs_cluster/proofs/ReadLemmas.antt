@@ -29,7 +29,7 @@ use Rattle.hs_ports.specs.Disk.{Standing}
 use Rattle.hs_ports.specs.Moments.{disk_at}
 
 none_is_not : {A : Type 0} (x : A) → None ≡ Some x → ⊥
-none_is_not x e = grind arith
+none_is_not x e = cc e
 
 some_is : {A : Type 0} (x y : A) → Some x ≡ Some y → x ≡ y
 some_is x y e = cc
