@@ -1,16 +1,15 @@
 -- Logs and disks of several peers, of which one has a call.
-use Rattle.std.proofs.Common.{◌≡◌, ◌≢◌, ◌⊎◌, inl, inr, ◌∙◌, ap, sym, subst, ℕ, zero, suc, ◌<◌, ◌≤◌, Bool, true, false, List, [], ◌∷◌, Option, Some, None, map, length, refl, arith}
-use Rattle.std.proofs.lemmas.List.{get_or-set_same, get_or-set_other, map-set}
-use Rattle.std.proofs.lemmas.Bool.{cases_eq}
+use Rattle.std.proofs.Common.{◌≡◌, ◌≢◌, ◌∙◌, ap, sym, subst, ℕ, zero, suc, ◌<◌, ◌≤◌, true, false, List, [], ◌∷◌, Option, Some, None, map, length, refl, arith}
+use Rattle.std.proofs.lemmas.List.{get_or-set_same, get_or-set_other}
 use Rattle.std.specs.Prelude.{IfOk, OnOk, Result, Ok, Err, slice_index_or, slice_set}
-use Rattle.hs_cluster.specs.Disks.{AreReady, DiskSeen, IsSlotReady, log_at, seen_at, stands_of}
+use Rattle.hs_cluster.specs.Disks.{AreReady, DiskSeen, log_at, stands_of}
 use Rattle.hs_cluster.proofs.JobLemmas.{Since, leaves_err, stays_all, stays_one}
 use Rattle.hs_cluster.specs.Jobs.{HasStored, ReadsOn, Tries, Try, Works, is_own, list_after}
 use Rattle.hs_desk.specs.declared.done.Done.{Done}
 use Rattle.hs_desk.specs.declared.job.Job.{Job}
 use Rattle.hs_entry.specs.declared.entry.Entry.{Entry}
 use Rattle.hs_fold.specs.Shards.Setting.{Numbered}
-use Rattle.hs_peerlog.specs.Lists.{IsKept, IsReady, Keeping}
+use Rattle.hs_peerlog.specs.Lists.{IsKept, Keeping}
 use Rattle.hs_moments.specs.Moments.{Since as SinceAll}
 use Rattle.hs_ports.specs.declared.disk.Side.{Side}
 use Rattle.hs_ports.specs.Disk.{Standing}

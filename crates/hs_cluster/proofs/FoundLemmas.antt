@@ -1,5 +1,5 @@
 -- What was taken of each shard, as what opening found, in a store of one copy.
-use Rattle.std.proofs.Common.{◌≡◌, ◌∙◌, ◌⊎◌, inl, inr, ap, sym, subst, ℕ, zero, suc, ◌+◌, ◌*◌, ◌<◌, ◌≤◌, ◌/◌, ◌==◌, ◌&&◌, ◌||◌, not, Bool, true, false, List, [], ◌∷◌, ◌++◌, Option, Some, None, refl, arith, length, map, nat_lt, is_some, if◌then◌else◌}
+use Rattle.std.proofs.Common.{◌≡◌, ◌∙◌, ◌⊎◌, inl, inr, ap, sym, ℕ, zero, suc, ◌+◌, ◌*◌, ◌<◌, ◌≤◌, ◌/◌, ◌==◌, ◌&&◌, ◌||◌, not, Bool, true, false, List, [], ◌∷◌, ◌++◌, Option, Some, None, refl, arith, length, map, nat_lt, is_some, if◌then◌else◌}
 use Rattle.std.proofs.lemmas.Bool.{cases_lt}
 use Rattle.std.proofs.lemmas.Bool.Decides.{nat_tests}
 use Rattle.std.proofs.lemmas.List.{append-nil, get_or-map, length-map}
@@ -7,10 +7,9 @@ use Rattle.std.proofs.lemmas.List.Folds.{flat_map-map}
 use Rattle.std.proofs.lemmas.List.FromFn.{fill_by_all, get_or-map-range_with_len, length-map-range_with_len}
 use Rattle.std.specs.List.{list_any, range_with_len}
 use Rattle.std.specs.Option.{option_map, option_map_or}
-use Rattle.std.specs.Prelude.{Contains, IsSome, find, flat_map, slice_index_or, take, unwrap_or}
+use Rattle.std.specs.Prelude.{Contains, IsSome, find, flat_map, slice_index_or, unwrap_or}
 use Rattle.hs_cluster.specs.Begins.{bad_of, begun_course, opened_with, took_of}
 use Rattle.hs_cluster.specs.Opens.{Finds, IsFound, IsLostLog}
-use Rattle.hs_core.specs.Opening.{Taken as Opened}
 use Rattle.hs_entry.specs.declared.rank.Rank.{Rank}
 use Rattle.hs_entry.specs.Entries.{rank_of}
 use Rattle.hs_events.specs.Beginning.{first_items}

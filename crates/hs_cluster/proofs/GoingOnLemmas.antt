@@ -1,46 +1,45 @@
 -- Behind opening's reading a store of one copy may go on, and its turns are put behind that.
-use Rattle.std.proofs.Common.{◌≡◌, ◌∙◌, ◌⊎◌, inl, inr, ap, sym, subst, ℕ, zero, suc, ◌+◌, ◌-◌, ◌*◌, ◌^◌, ◌<◌, ◌≤◌, not, Bool, true, false, List, [], ◌∷◌, ◌++◌, Option, Some, None, refl, arith, length, nat_lt, is_none, is_some, if◌then◌else◌}
+use Rattle.std.proofs.Common.{◌≡◌, ◌∙◌, inl, inr, ap, sym, subst, ℕ, zero, suc, ◌+◌, ◌-◌, ◌*◌, ◌^◌, ◌<◌, ◌≤◌, not, true, false, List, [], ◌∷◌, ◌++◌, Option, Some, None, refl, arith, length, nat_lt, is_none, is_some, if◌then◌else◌}
 use Rattle.std.proofs.lemmas.Bool.{cases_lt}
 use Rattle.std.proofs.lemmas.List.{get_or_past, take_at}
 use Rattle.std.proofs.lemmas.List.Elements.{All-cons, All-nil}
 use Rattle.std.specs.List.{All, enumerate_from}
 use Rattle.std.specs.Prelude.{IsSome, OnOk, Result, Ok, Err, ⊤, take}
 use Rattle.hs_cluster.proofs.EventLemmas.{still_going}
-use Rattle.hs_cluster.proofs.FoundLemmas.{begins_so, finds, found, is_empty, opens_so, was_read}
+use Rattle.hs_cluster.proofs.FoundLemmas.{begins_so, finds, found, opens_so, was_read}
 use Rattle.hs_cluster.proofs.OpeningMoves.{all_good, jobs_first, same_members, sealed_first}
-use Rattle.hs_cluster.specs.Begins.{Begins, HasOpened, HasTurned, begun_course, opened_with}
+use Rattle.hs_cluster.specs.Begins.{Begins, HasOpened}
 use Rattle.hs_cluster.specs.Calls.{Does, ran_out}
 use Rattle.hs_cluster.specs.Counts.{AreAllCounted, AreCounted}
 use Rattle.hs_cluster.specs.declared.fault.ClusterFault.{ClusterFault}
-use Rattle.hs_cluster.specs.Kept.{AreTold, CanGoOn, CanRead, KeepsLogs, LeavesLists, ReadsLogs, sealed_front}
+use Rattle.hs_cluster.specs.Kept.{CanGoOn, CanRead, KeepsLogs, LeavesLists, ReadsLogs, sealed_front}
 use Rattle.hs_cluster.specs.Opens.{AreSound, Finds, IsFound, Opens}
 use Rattle.hs_cluster.specs.Rooms.{HaveRecordRoom}
 use Rattle.hs_cluster.specs.Running.{Running}
-use Rattle.hs_core.specs.Looking.{group_of, home, shape_of, tasks_of}
+use Rattle.hs_core.specs.Looking.{group_of, home}
 use Rattle.hs_core.specs.Opening.{Taken as Opened, open_core}
 use Rattle.hs_core.specs.State.{Core}
 use Rattle.hs_core.specs.Step.{step}
 use Rattle.hs_desk.specs.declared.fault.CoreFault.{CoreFault}
 use Rattle.hs_entry.specs.declared.entry.Entry.{Entry}
-use Rattle.hs_entry.specs.Entries.{is_of_base, rank_of}
+use Rattle.hs_entry.specs.Entries.{is_of_base}
 use Rattle.hs_events.specs.Beginning.{first_items}
 use Rattle.hs_events.specs.Course.{happened, items_of, steps}
 use Rattle.hs_events.specs.Due.{Events, MomentsRise, is_walk, next_turn}
-use Rattle.hs_events.specs.Found.{Found, first_core, opened_list, opens_with, starts_good}
+use Rattle.hs_events.specs.Found.{Found, first_core, opened_list, starts_good}
 use Rattle.hs_events.specs.Sane.{IsFromOne, IsSane, appended_of}
 use Rattle.hs_events.specs.Whole.{Whole, counts, floor, grown, open_whole, reach}
 use Rattle.hs_fold.proofs.PrefixLemmas.{last-length}
 use Rattle.hs_fold.specs.Images.{IsLeft}
 use Rattle.hs_fold.specs.Shards.Setting.{Numbered, Setting}
 use Rattle.hs_members.specs.Members.{IsPeer, Members}
-use Rattle.hs_model.specs.declared.course.CourseItem.{CourseItem}
 use Rattle.hs_moments.proofs.AloneEventLemmas.{home_here}
 use Rattle.hs_moments.proofs.HappenedLemmas.{happened_rise}
 use Rattle.hs_moments.proofs.MomentLemmas.{le-is}
 use Rattle.hs_moments.proofs.OpeningLemmas.{opening_is_sane}
 use Rattle.hs_moments.proofs.WorkLemmas.{floor_alone, none_appended, reach_sane}
 use Rattle.hs_moments.specs.Machine.{runs, state_at, until}
-use Rattle.hs_moments.specs.Moments.{GivesFine, IsStanding, Keeps, ListsAtMoments}
+use Rattle.hs_moments.specs.Moments.{GivesFine, IsStanding, Keeps}
 use Rattle.hs_moments.specs.WholeMachine.{IsFrontOf, last_of, whole_machine}
 use Rattle.hs_peerlog.specs.Images.{GivesList, Is, LeavesOnly}
 use Rattle.hs_peerlog.specs.Lists.{GoOn, HasLog, IsKept, Keeping}

@@ -1,5 +1,5 @@
 -- What a job leaves of a log, by what the log's calls leave.
-use Rattle.std.proofs.Common.{◌≡◌, ◌∙◌, ◌⊎◌, inl, inr, ap, sym, subst, ℕ, ◌+◌, ◌<◌, ◌≤◌, Bool, true, false, List, [], ◌∷◌, length, Option, Some, None, refl, arith, zero, suc}
+use Rattle.std.proofs.Common.{◌≡◌, ◌∙◌, inl, ap, sym, subst, ℕ, ◌<◌, ◌≤◌, Bool, true, false, List, [], ◌∷◌, length, Option, Some, None, refl, arith, zero, suc}
 use Rattle.std.specs.Option.{option_map}
 use Rattle.std.specs.Prelude.{Contains, IfOk, Result, Ok, Err, ◌==◌, if◌then◌else◌, slice_index_or}
 use Rattle.hs_cluster.specs.Jobs.{Leaves, LeavesLog, ReadsLog, ReadsOn, Try, list_after, sealed_list, waiting_after}
@@ -11,7 +11,7 @@ use Rattle.hs_entry.specs.declared.entry.Entry.{Entry}
 use Rattle.hs_entry.specs.declared.entry.Entry.TheVariants.{Block}
 use Rattle.hs_entry.specs.declared.rank.Rank.{Rank}
 use Rattle.hs_events.specs.Asked.{failed_disk}
-use Rattle.hs_events.specs.Reports.{HasBlock, TellsOf}
+use Rattle.hs_events.specs.Reports.{TellsOf}
 use Rattle.hs_fold.specs.Shards.Setting.{Numbered}
 use Rattle.hs_peerlog.specs.Images.{GivesList, Is, IsOne, LeavesAll, LeavesEach, LeavesOnly}
 use Rattle.hs_peerlog.specs.Lists.{HasLog, IsKept, Keeping, numbered_entry}

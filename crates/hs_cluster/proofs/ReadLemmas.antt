@@ -1,11 +1,11 @@
 -- What reads of the logs give behind an event, whatever a stop leaves.
-use Rattle.std.proofs.Common.{◌≡◌, ◌≢◌, ◌∙◌, inl, inr, ap, sym, subst, ℕ, Bool, true, false, List, Option, Some, None, is_some, refl}
+use Rattle.std.proofs.Common.{◌≡◌, ◌≢◌, ◌∙◌, inl, inr, ap, sym, subst, ℕ, true, false, List, Option, Some, None, refl}
 use Rattle.std.proofs.lemmas.Bool.{cases_eq}
 use Rattle.std.specs.Option.{option_map_or}
 use Rattle.std.specs.Prelude.{IsSome}
 use Rattle.hs_cluster.proofs.HeldLemmas.{HasKept, done_is, sealed_beside, sealed_stays}
 use Rattle.hs_cluster.specs.Disks.{DiskSeen, log_at, stands_of}
-use Rattle.hs_cluster.specs.Jobs.{ReadsLog, ReadsOn, list_after, waiting_after}
+use Rattle.hs_cluster.specs.Jobs.{ReadsLog, ReadsOn, list_after}
 use Rattle.hs_cluster.specs.Kept.{CanGoOn, CanRead, ReadsLogs, sealed_front}
 use Rattle.hs_core.specs.declared.event.Event.{Event}
 use Rattle.hs_core.specs.declared.event.Event.TheVariants as event
