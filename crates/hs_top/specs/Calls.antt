@@ -8,7 +8,7 @@ use Rattle.hs_promise.specs.Causes.{Cause, FullCause}
 use Rattle.hs_promise.specs.Completes.{HasPrompt}
 use Rattle.hs_promise.specs.Deletes.{Deletes}
 use Rattle.hs_promise.specs.Ends.{Ends}
-use Rattle.hs_promise.specs.Entry.{IsSoundAtEntry, MayStop, entry_store}
+use Rattle.hs_promise.specs.Entry.{MayStop, entry_store}
 use Rattle.hs_promise.specs.Kept.{KeepsAlong}
 use Rattle.hs_promise.specs.Lost.{NotesCause}
 use Rattle.hs_promise.specs.Promise.{AreOfScript, IsUsage}
@@ -19,21 +19,21 @@ use Rattle.hs_run.specs.Machine.{IsOfCluster}
 use Rattle.hs_run.specs.Served.{HasShapeCause}
 use Rattle.hs_run.specs.Words.{built_of}
 
--- ---- what is promised of a run: of `Promise` of hs_promise all but what `settle` has done, and what disks keep of their past
+-- ---- what is promised of a run: of `Promise` of hs_promise all but what `settle` has done, how a run without faults ends, and what disks keep of their past
 
--- from the store at entry, where the disks are sound
+-- from the store at entry
 pub record PromisedFromEntry (S : Script) (r : Ran) : Type 0 where
   pub answers : Answers S (entry_store S r) r.journal
   pub full : FullCause S (entry_store S r) r
   pub keeps : KeepsAlong S (entry_store S r) r
   pub deletes : Deletes S (entry_store S r) r
 
--- over disks that tell their contents
+-- over disks that tell their contents; the first, second and last where these may be stopped on: are sound, with one list each, and have had no call ahead
 pub record PromisedWhereTold (S : Script) (r : Ran) : Type 0 where
-  pub clauses : IsSoundAtEntry S r → PromisedFromEntry S r
+  pub clauses : MayStop S r → PromisedFromEntry S r
   pub stops : MayStop S r → Stops S (entry_store S r) r
   pub shape : HasShapeCause S r
-  pub notes : NotesCause S r
+  pub notes : MayStop S r → NotesCause S r
 
 -- all of it: what stands whatever the objects tell, and what stands where they do
 pub record Promised (tells : Type 0) (S : Script) (r : Ran) : Type 0 where
