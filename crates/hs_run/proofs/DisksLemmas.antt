@@ -1,5 +1,5 @@
 -- What a run shows of its disks, in the words of its objects.
-use Rattle.std.proofs.Common.{◌≡◌, ◌⊎◌, inl, inr, ◌∙◌, ap, sym, subst, ℕ, zero, suc, ◌+◌, ◌-◌, ◌^◌, ◌<◌, ◌≤◌, ◌==◌, false, true, List, [], ◌∷◌, None, refl, arith, map, min}
+use Rattle.std.proofs.Common.{◌≡◌, inl, inr, ◌∙◌, ap, sym, subst, ℕ, zero, suc, ◌+◌, ◌-◌, ◌^◌, ◌<◌, ◌≤◌, ◌==◌, false, true, List, [], ◌∷◌, None, refl, arith, map, min}
 use Rattle.std.specs.Prelude.{count_by}
 use Rattle.hs_cluster.proofs.CountLemmas.{falls_then, faults_seen}
 use Rattle.hs_cluster.proofs.RunLemmas.{all_failed, some_failed}
@@ -19,7 +19,7 @@ use Rattle.hs_ports.specs.Fault.{HasRisen}
 use Rattle.hs_ports.specs.Moments.{disk_at}
 use Rattle.hs_ports.specs.Objects.{Objects, RoseBy, faults_at}
 use Rattle.hs_promise.specs.Found.{IsReadAs}
-use Rattle.hs_promise.specs.Run.{DiskRose, Ran, Script}
+use Rattle.hs_promise.specs.Run.{Ran, Script}
 use Rattle.hs_promise.specs.Story.{Story, all_events}
 use Rattle.hs_side.specs.Current.{list_in}
 use Rattle.hs_run.specs.Machine.{AreHanded, RunsOnDisks}

@@ -12,7 +12,6 @@ use Rattle.hs_cluster.specs.RunsOn.{RunsOn}
 use Rattle.hs_core.specs.State.{Core}
 use Rattle.hs_events.specs.Due.{Events}
 use Rattle.hs_events.specs.Found.{first_core}
-use Rattle.hs_journal.specs.Events.{client_op}
 use Rattle.hs_journal.specs.declared.entry.JournalEntry.{JournalEntry}
 use Rattle.hs_limits.specs.declared.address.Address.{Address}
 use Rattle.hs_model.specs.declared.command.Command.{Command}
@@ -37,7 +36,6 @@ use Rattle.hs_script.specs.Text.{text}
 use Rattle.hs_side.specs.declared.header.Header.{Header}
 use Rattle.hs_run.specs.declared.stop.Stop.{Stop}
 use Rattle.hs_run.specs.declared.stop.Stop.TheVariants as stop
-use Rattle.hs_run.specs.Between.{Point}
 use Rattle.hs_run.specs.Causes.{EndsBy, StopCause}
 use Rattle.hs_run.specs.Ended.{ran_at, refused_in}
 use Rattle.hs_run.specs.Going.{AreRead, Begun, Between, HasRun, IsBetween, IsOpened, IsPrinted, IsPutSoFar, Opened, Unopened, Within, core_behind, script_by, span_to, story_of}
@@ -65,7 +63,7 @@ pub chosen_told : (script : Option (List ℕ)) (read : List (List ℕ)) → IfSo
 chosen_told None read = tt
 chosen_told (Some told) read = λ n. refl
 
-pub chosen_first : (script : Option (List ℕ)) (read : List (List ℕ)) → client_op (chosen script read 0) ≡ None
+pub chosen_first : (script : Option (List ℕ)) (read : List (List ℕ)) → chosen script read 0 ≡ None
 chosen_first None read = refl
 chosen_first (Some told) read = refl
 
@@ -118,7 +116,7 @@ pub record IsOfStory (tells : Type 0) (S : Script) (r : Ran) : Type 0 where
   pub went : Went S r story
   pub runs : RunsOnDisks tells S r story
   pub ended : HasItsEnd S r story
-  pub nobody : client_op (S.commands 0) ≡ None
+  pub nobody : S.commands 0 ≡ None
 
 module _ (tells : Type 0) (name : List ℕ → Address) (did : Result ⊤ ClusterFault) (b : Begun) (part : Stretch) (new : Objects) (named : b.set.name ≡ name) (opened : IsOpened tells b did part.old) (found : FoundBy b)
     (now : part.new.now ≡ new.moment) (got : part.new.got ≡ new.got) (was : AreHanded b.old b.disks) (is : AreHanded new part.new.disks) where

@@ -1,14 +1,13 @@
 -- Disks of another store, as they are refused and as their headers say.
-use Rattle.std.proofs.Common.{◌≡◌, ◌∙◌, ap, sym, subst, ℕ, ◌==◌, ◌&&◌, ◌+◌, ◌-◌, ◌^◌, ◌<◌, ◌≤◌, Bool, true, false, List, Option, Some, None, Result, Ok, Err, refl, arith, length, min, if◌then◌else◌}
-use Rattle.std.proofs.lemmas.Bool.{cases_lt, eqb-true, false≢true}
+use Rattle.std.proofs.Common.{◌≡◌, ◌∙◌, ap, sym, subst, ℕ, ◌==◌, ◌&&◌, ◌+◌, ◌<◌, ◌≤◌, Bool, true, false, List, Option, Some, None, Result, Ok, Err, refl, arith, length, min, if◌then◌else◌}
+use Rattle.std.proofs.lemmas.Bool.{eqb-true, false≢true}
 use Rattle.std.proofs.lemmas.List.{get_or_past}
 use Rattle.hs_limits.specs.declared.shape.Shape.{Shape}
-use Rattle.hs_peerlog.specs.declared.fault.LogFault.{LogFault}
 use Rattle.hs_peerlog.specs.declared.fault.LogFault.TheVariants as log
-use Rattle.hs_peerlog.specs.Images.{Is, IsStanding, LeavesAll, LeavesOnly}
+use Rattle.hs_peerlog.specs.Images.{LeavesAll}
 use Rattle.hs_peerlog.specs.Opening.{is_own, refusal_in, refused_head, refused_log}
 use Rattle.hs_ports.specs.declared.disk.Side.{Side}
-use Rattle.hs_ports.specs.Disk.{IsImage, Standing}
+use Rattle.hs_ports.specs.Disk.{Standing}
 use Rattle.hs_ports.specs.MemoryDisk.{untold}
 use Rattle.hs_ports.specs.Unwritten.{IsUnwritten}
 use Rattle.hs_side.specs.Current.{current, header_in}

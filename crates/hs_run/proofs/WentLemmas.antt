@@ -23,7 +23,7 @@ use Rattle.hs_promise.specs.Ending.{Ending, ending_of}
 use Rattle.hs_promise.specs.Found.{HasFound}
 use Rattle.hs_promise.specs.Lines.{IsBegunLine}
 use Rattle.hs_promise.specs.Machine.{EndsAs, Went, opening_is_whole}
-use Rattle.hs_promise.specs.Story.{Story, all_events}
+use Rattle.hs_promise.specs.Story.{all_events}
 use Rattle.hs_script.specs.Reading.{commands, reading, says}
 use Rattle.hs_run.specs.declared.stop.Stop.{Stop}
 use Rattle.hs_run.specs.declared.stop.Stop.TheVariants as stop

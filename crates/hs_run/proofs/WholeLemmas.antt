@@ -1,5 +1,5 @@
 -- A run over what a cluster opened with.
-use Rattle.std.proofs.Common.{◌≡◌, ◌⊎◌, ◌∙◌, ap, sym, subst, ℕ, ◌*◌, ◌<◌, ◌≤◌, true, List, [], Option, Some, None, Result, Ok, refl, arith, length, map}
+use Rattle.std.proofs.Common.{◌≡◌, ◌∙◌, ap, sym, subst, ℕ, ◌*◌, ◌<◌, ◌≤◌, true, List, Option, Some, None, Result, refl, arith, length, map}
 use Rattle.std.proofs.lemmas.List.{length-map}
 use Rattle.std.specs.Prelude.{IfSome, is_ok, ⊤}
 use Rattle.hs_cluster.specs.declared.fault.ClusterFault.{ClusterFault}
@@ -33,7 +33,7 @@ use Rattle.hs_run.specs.Ended.{course_in, journal_in, ran_at, refused_in}
 use Rattle.hs_run.specs.Going.{Begun, Between, HasRun, IsBehind, IsOpened, Opened, StartsAt, Unopened, Within, story_of}
 use Rattle.hs_run.specs.Machine.{AreHanded, IsOfCluster}
 use Rattle.hs_run.specs.OneLine.{Stretch}
-use Rattle.hs_run.specs.Served.{HasShapeCause, Served}
+use Rattle.hs_run.specs.Served.{Served}
 use Rattle.hs_run.specs.Stopping.{status_of}
 use Rattle.hs_run.proofs.CaseLemmas.{if_told}
 use Rattle.hs_run.proofs.DisksLemmas.{disk_is, falls_is, none_fell, read_as, risen_since, rose_is}

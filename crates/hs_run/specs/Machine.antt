@@ -10,7 +10,6 @@ use Rattle.hs_events.specs.Found.{first_core}
 use Rattle.hs_events.specs.Reports.{failures}
 use Rattle.hs_events.specs.Taken.{peer_count}
 use Rattle.hs_events.specs.Whole.{open_whole}
-use Rattle.hs_journal.specs.Events.{client_op}
 use Rattle.hs_limits.specs.Shape.{IsShape}
 use Rattle.hs_moments.specs.Moments.{Since}
 use Rattle.hs_ports.specs.Objects.{Objects}
@@ -69,7 +68,7 @@ pub record IsOfCluster (tells : Type 0) (S : Script) (r : Ran) : Type 0 where
   pub count : length r.old.disks ≡ S.set.shape.shards
   pub script : AreOfScript S r
   -- no command has the number 0
-  pub nobody : client_op (S.commands 0) ≡ None
+  pub nobody : S.commands 0 ≡ None
   pub how : Option Story
   pub went : WentAs S r how
   pub told : tells → IfSome how (HasReadDisks S r)

@@ -1,19 +1,17 @@
-use Rattle.std.proofs.Common.{◌≡◌, ◌∙◌, ◌<◌, ap, sym, subst, refl, arith, length, map, ℕ, true, false, List, Option, None, Some, Ok, Err, Result}
+use Rattle.std.proofs.Common.{◌≡◌, ◌∙◌, ap, sym, subst, refl, arith, map, ℕ, Option, None, Some, Err}
 use Rattle.std.proofs.lemmas.List.{length-map}
-use Rattle.std.specs.Prelude.{is_ok, ⊤}
 use Rattle.hs_cluster.proofs.DiskLemmas.{since_of}
-use Rattle.hs_cluster.specs.Calls.{outcome_by, ran_out}
-use Rattle.hs_cluster.specs.Disks.{DiskSeen, seen_as, stands_of}
+use Rattle.hs_cluster.specs.Calls.{outcome_by}
+use Rattle.hs_cluster.specs.Disks.{DiskSeen, seen_as}
 use Rattle.hs_cluster.specs.Running.{Running}
 use Rattle.hs_fold.specs.Shards.Setting.{Setting}
 use Rattle.hs_model.specs.declared.command.Command.{Command}
-use Rattle.hs_moments.specs.Moments.{Since}
 use Rattle.hs_ports.specs.Disk.{Standing}
 use Rattle.hs_ports.specs.Objects.{Objects, handed}
 use Rattle.hs_promise.specs.declared.status.Status.{Status}
 use Rattle.hs_promise.specs.Run.{Ran, ran_of}
 use Rattle.hs_run.specs.Ended.{ran_at}
-use Rattle.hs_run.specs.Machine.{AreHanded, IsOfCluster}
+use Rattle.hs_run.specs.Machine.{IsOfCluster}
 use Rattle.hs_run.specs.Stopping.{of_cluster, status_of}
 use Rattle.hs_run.specs.declared.stop.Stop.{Stop}
 use Rattle.hs_taking.specs.Shares.{Span}
