@@ -1,5 +1,5 @@
 -- What is asked along events, of a front of them and of the rest; moments that rise; and events by which a run keeps standing.
-use Rattle.std.proofs.Common.{◌≡◌, sym, subst, ℕ, ◌≤◌, ◌++◌, List, [], ◌∷◌, Option, Some, None, refl, arith}
+use Rattle.std.proofs.Common.{◌≡◌, sym, subst, ℕ, ◌≤◌, ◌++◌, [], ◌∷◌, Option, Some, None, refl, arith}
 use Rattle.hs_along.specs.Walks.{HasRecordRoom}
 use Rattle.hs_answered.specs.Telling.{Judging}
 use Rattle.hs_answers.proofs.AddressedLemmas.{AllAddressed}
@@ -91,12 +91,3 @@ module _ (start : Start) where
     },
     all_keep (step e.0 e.1 core) es come.1 new.1 addressed.1 (record { room = along.room.1; blocks = along.blocks.1 }) last,
   )
-
-  pub keep_append : (core : Core) (es fs : Events) → AllMayKeep start (MayRun start) core es → AllMayKeep start (MayRun start) (steps core es) fs → AllMayKeep start (MayRun start) core (es ++ fs)
-  keep_append core [] fs a b = b
-  keep_append core (e ∷ es) fs a b = (a.0, keep_append (step e.0 e.1 core) es fs a.1 b)
-
-  -- the room behind opening is that before the first event of a line, or the last
-  pub room_between : (core : Core) (es fs : Events) → KeepsRecordRoom core (es ++ fs) → ((steps (steps core es) fs).ended ≡ None → HasRecordRoom (steps (steps core es) fs))
-      → (steps core es).ended ≡ None → HasRecordRoom (steps core es)
-  room_between core es fs keeps last going = room_after (steps core es) fs (room_rest core es fs keeps) last going

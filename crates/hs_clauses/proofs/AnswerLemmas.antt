@@ -11,7 +11,6 @@ use Rattle.hs_journal.specs.declared.entry.JournalEntry.{JournalEntry}
 use Rattle.hs_promise.specs.Answers.{Answers}
 use Rattle.hs_promise.specs.Causes.{FullCause}
 use Rattle.hs_promise.specs.declared.status.Status.{Status}
-use Rattle.hs_promise.specs.declared.status.Status.TheVariants as status
 use Rattle.hs_promise.specs.Ending.{ending_of}
 use Rattle.hs_promise.specs.Entry.{entry_store}
 use Rattle.hs_promise.specs.Machine.{Went}

@@ -1,5 +1,5 @@
 -- What is read has addresses of 32 bytes: the pointers of a block, and what an entry brings.
-use Rattle.std.proofs.Common.{◌≡◌, ◌∙◌, sym, ap, subst, ℕ, zero, suc, ◌+◌, ◌*◌, ◌-◌, ◌≤◌, Bool, true, false, cond, eqb, leb, ltb, List, [], ◌∷◌, length, take, drop, None, Some, Result, is_ok, Ok, Err, refl, arith}
+use Rattle.std.proofs.Common.{◌≡◌, subst, ℕ, zero, suc, ◌+◌, ◌*◌, ◌-◌, ◌≤◌, Bool, true, false, cond, eqb, leb, ltb, List, length, take, drop, None, Result, is_ok, Ok, Err, refl, arith}
 use Rattle.std.proofs.lemmas.Bool.{ltb-false}
 use Rattle.std.proofs.lemmas.List.{length-drop, length-take}
 use Rattle.std.specs.Int.{w16, w32, w64}
@@ -20,6 +20,9 @@ use Rattle.hs_limits.specs.Fields.{◌>>=◌, check, byte_at, bytes_at, number_a
 use Rattle.hs_limits.specs.Reading.{addresses, read_block}
 use Rattle.hs_limits.specs.Reading.{block_at as block_in}
 use Rattle.hs_memory.specs.Forget.{named}
+
+abbrev given : ℕ × Entry → Result (ℕ × Entry) EntryFault
+given x = Ok x
 
 -- so many bytes are so many
 bytes_long : {E : Type 0} (short : E) (n : ℕ) (bytes : List ℕ) (x : List ℕ × List ℕ) → bytes_at short n bytes ≡ Ok x → length x.0 ≡ n
@@ -152,6 +155,9 @@ fields_rooted of whole bytes =
     (either (eqb of 6) _ _ (enter_rooted whole bytes)
     (either (eqb of 7) _ _ (got_rooted whole bytes) (stops _)))))))
 
+same_roots : (x y : ℕ × Entry) → given x ≡ given y → RootsWhole x.1 → RootsWhole y.1
+same_roots x y e own = subst (λ (z : ℕ × Entry). RootsWhole z.1) (ok_is {E = EntryFault} x y e) own
+
 roots_whole : (bytes : List ℕ) (number : ℕ) (entry : Entry) → entry_at bytes ≡ Ok (number, entry) → RootsWhole entry
 unfolding entry_at
 roots_whole bytes number entry e =
@@ -160,8 +166,7 @@ roots_whole bytes number entry e =
     let c1 = check_ok (is_kind b1.0.0) (faults.BadKind b1.0.0) (number_at (faults.Short whole) w64 b1.0.1 >>= λ number. fields_at b1.0.0 whole number.1 >>= λ entry. Ok (number.0, entry)) (number, entry) b1.2 in
     let b2 = bind_ok (number_at (faults.Short whole) w64 b1.0.1) (λ number. fields_at b1.0.0 whole number.1 >>= λ entry. Ok (number.0, entry)) (number, entry) c1.1 in
     let b3 = bind_ok (fields_at b1.0.0 whole b2.0.1) (λ entry. Ok (b2.0.0, entry)) (number, entry) b2.2 in
-    let same : b3.0 ≡ entry = ap (λ (x : ℕ × Entry). x.1) (ok_is {E = EntryFault} (b2.0.0, b3.0) (number, entry) b3.2) in
-    subst (λ (x : Entry). RootsWhole x) same ((fields_rooted b1.0.0 whole b2.0.1).whole b3.0 b3.1)
+    same_roots (b2.0.0, b3.0) (number, entry) b3.2 ((fields_rooted b1.0.0 whole b2.0.1).whole b3.0 b3.1)
 
 -- what an entry that is read brings, where names are such addresses
 pub entry_brings : (name : List ℕ → Address) → GivesAddresses name → (bytes : List ℕ) (number : ℕ) (entry : Entry) → entry_at bytes ≡ Ok (number, entry) → Brings (named name entry) entry

@@ -1,5 +1,5 @@
 -- The events of a story may come, one after another: in order, clients' lines new, and a write with the address of its block.
-use Rattle.std.proofs.Common.{◌≡◌, ◌∙◌, ap, sym, subst, ℕ, ◌≤◌, ◌++◌, Bool, false, true, List, [], ◌∷◌, Option, None, refl, arith}
+use Rattle.std.proofs.Common.{◌≡◌, sym, subst, ℕ, ◌++◌, Bool, false, true, List, [], ◌∷◌, Option, None, refl, arith}
 use Rattle.std.specs.Prelude.{flat_map}
 use Rattle.hs_answered.specs.Telling.{Judging}
 use Rattle.hs_answers.proofs.AddressedLemmas.{AllAddressed, LinesAsk, lines_addressed, settle_addressed}

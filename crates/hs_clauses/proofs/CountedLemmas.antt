@@ -1,8 +1,8 @@
 -- Which course counts, and what that of the logs at entry tells.
-use Rattle.std.proofs.Common.{◌≡◌, ◌∙◌, ◌⊎◌, inl, inr, ap, sym, subst, ℕ, ◌<◌, ◌==◌, ◌&&◌, Bool, true, false, List, [], Option, Some, None, refl, length, is_some, true≢false, arith, if◌then◌else◌}
+use Rattle.std.proofs.Common.{◌≡◌, ◌∙◌, ◌⊎◌, inl, inr, ap, sym, subst, ℕ, ◌<◌, ◌==◌, ◌&&◌, Bool, true, false, List, [], Option, Some, None, refl, length, true≢false, arith, if◌then◌else◌}
 use Rattle.std.proofs.lemmas.Bool.{and_parts}
 use Rattle.std.specs.List.{AllByRecursion}
-use Rattle.std.specs.Prelude.{IsSome, filter, slice_index_or, unwrap_or}
+use Rattle.std.specs.Prelude.{filter, slice_index_or, unwrap_or}
 use Rattle.hs_clauses.proofs.CourseLemmas.{BeginsNone, filter_none, filter_took, none_begun, none_good, pairs, pairs_begin_none, pairs_none, taken_pairs, took_there}
 use Rattle.hs_clauses.proofs.EntryLemmas.{entry_count, entry_log}
 use Rattle.hs_clauses.proofs.ListLemmas.{some_there}

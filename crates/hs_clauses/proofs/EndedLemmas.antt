@@ -1,11 +1,11 @@
 -- A run whose core has ended with its opening: it has no event, it has told of peers alone, and at each moment before a shard is lost its images are those of the disks at entry.
-use Rattle.std.proofs.Common.{◌≡◌, ◌∙◌, inl, inr, ap, sym, subst, ℕ, ◌+◌, ◌*◌, ◌<◌, ◌||◌, ◌++◌, not, Bool, true, false, List, [], ◌∷◌, Option, Some, None, refl, length, is_none, is_some, append-nil, true≢false, arith, if◌then◌else◌}
+use Rattle.std.proofs.Common.{◌≡◌, ◌∙◌, inl, inr, ap, sym, subst, ℕ, ◌<◌, ◌||◌, ◌++◌, not, Bool, true, false, List, [], ◌∷◌, Option, Some, None, refl, is_none, is_some, append-nil, true≢false, if◌then◌else◌}
 use Rattle.std.specs.List.{AllByRecursion}
 use Rattle.std.specs.Option.{option_and_then, option_map_or}
 use Rattle.std.specs.Prelude.{IsSome, flat_map, slice_index_or, unwrap_or}
 use Rattle.hs_clauses.proofs.ComingLemmas.{ComingLaws}
 use Rattle.hs_clauses.proofs.CountedLemmas.{counted_cases, entry_begins, entry_rested}
-use Rattle.hs_clauses.proofs.FoundLemmas.{many, number_at, opens_bad, opens_took}
+use Rattle.hs_clauses.proofs.FoundLemmas.{many, opens_bad, opens_took}
 use Rattle.hs_clauses.proofs.ListLemmas.{log_counts, log_is, some_there}
 use Rattle.hs_clauses.proofs.NoteLemmas.{IsNote, notes_answered, notes_legal, opens_noted}
 use Rattle.hs_clauses.proofs.RestLemmas.{IsRested, rest_logs, rest_reopens}
@@ -28,7 +28,6 @@ use Rattle.hs_journal.specs.declared.entry.JournalEntry.{JournalEntry}
 use Rattle.hs_journal.specs.Order.{IsOrdered}
 use Rattle.hs_model.specs.declared.course.CourseItem.{CourseItem}
 use Rattle.hs_model.specs.Store.{Store}
-use Rattle.hs_ports.specs.Moments.{disk_at}
 use Rattle.hs_ports.specs.Objects.{IsDuring}
 use Rattle.hs_promise.specs.Answers.{Answers}
 use Rattle.hs_promise.specs.Causes.{FullCause}
@@ -40,7 +39,6 @@ use Rattle.hs_promise.specs.Machine.{Went, opening_is_whole}
 use Rattle.hs_promise.specs.Run.{Ran, Script}
 use Rattle.hs_promise.specs.Stops.{Stops}
 use Rattle.hs_promise.specs.Story.{Story, all_events, last_core}
-use Rattle.hs_side.specs.Current.{list_in}
 use Rattle.hs_told.specs.InTurn.{IsInTurn}
 
 -- ---- behind a core that has ended there is no event

@@ -1,5 +1,5 @@
 -- The logs of the disks at entry, and their lists.
-use Rattle.std.proofs.Common.{◌≡◌, ◌∙◌, sym, ap, ℕ, zero, suc, ◌+◌, ◌<◌, List, [], ◌∷◌, Option, None, refl, length, arith, if◌then◌else◌}
+use Rattle.std.proofs.Common.{◌≡◌, ◌∙◌, ap, ℕ, zero, suc, ◌+◌, ◌<◌, List, [], ◌∷◌, Option, None, refl, length, arith, if◌then◌else◌}
 use Rattle.std.specs.Prelude.{slice_index_or, unwrap_or}
 use Rattle.hs_clauses.proofs.TakenLemmas.{lists_are}
 use Rattle.hs_events.specs.Taken.{or_blank, taken_lists}

@@ -1,5 +1,5 @@
 -- That hs_stops says what hs_promise asks.
-use Rattle.std.proofs.Common.{◌≡◌, ℕ, List}
+use Rattle.std.proofs.Common.{ℕ, List}
 use Rattle.std.specs.Prelude.{slice_index_or}
 use Rattle.hs_clauses.specs.Asked.{start_of}
 use Rattle.hs_fold.specs.Good.{IsBegun}

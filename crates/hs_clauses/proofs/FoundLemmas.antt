@@ -1,9 +1,9 @@
 -- What opening found, of one copy each, and what the beginning of the course tells of it.
-use Rattle.std.proofs.Common.{◌≡◌, ◌∙◌, sym, ap, subst, ℕ, ◌+◌, ◌*◌, ◌<◌, ◌==◌, ◌||◌, ◌++◌, Bool, true, false, List, [], ◌∷◌, Option, Some, None, refl, length, map, is_some, append_assoc, true≢false, arith}
+use Rattle.std.proofs.Common.{◌≡◌, ◌∙◌, sym, ap, ℕ, ◌+◌, ◌*◌, ◌<◌, ◌==◌, ◌||◌, ◌++◌, Bool, true, false, List, [], ◌∷◌, refl, length, map, append_assoc, true≢false, arith}
 use Rattle.std.proofs.lemmas.Bool.{ne_eqb}
 use Rattle.std.proofs.lemmas.List.Elements.{recursion_from_All}
 use Rattle.std.specs.List.{AllByRecursion, list_any}
-use Rattle.std.specs.Prelude.{flat_map, slice_index_or, take}
+use Rattle.std.specs.Prelude.{flat_map, take}
 use Rattle.hs_clauses.proofs.CourseLemmas.{bads_false, bads_other, bads_took, changes_good, changes_took, good_gone, good_there, pairs, pairs_begin, taken_pairs, took_there}
 use Rattle.hs_clauses.proofs.TakenLemmas.{has_log, peer_is, taken_is}
 use Rattle.hs_entry.specs.Entries.{rank_of}

@@ -1,11 +1,11 @@
 -- Each moment of a run whose core goes on behind its opening is one of the machine, in the state of its story.
-use Rattle.std.proofs.Common.{◌≡◌, ◌∙◌, inl, inr, ap, sym, subst, ℕ, ◌*◌, ◌<◌, ◌≤◌, ◌||◌, Bool, true, false, List, [], ◌∷◌, Option, Some, None, refl, length, map, arith, if◌then◌else◌}
+use Rattle.std.proofs.Common.{◌≡◌, ◌∙◌, inl, inr, ap, sym, subst, ℕ, ◌*◌, ◌<◌, ◌≤◌, ◌||◌, true, false, List, [], ◌∷◌, Some, refl, length, map, arith, if◌then◌else◌}
 use Rattle.std.proofs.lemmas.Bool.{cases_lt}
 use Rattle.std.proofs.lemmas.List.{get_or-map, get_or_past}
 use Rattle.std.specs.List.{list_any}
 use Rattle.std.specs.Prelude.{slice_index_or}
 use Rattle.hs_clauses.proofs.AskedLemmas.{IsAskedOf}
-use Rattle.hs_clauses.proofs.FoundLemmas.{many, number_at, opens_good, opens_took}
+use Rattle.hs_clauses.proofs.FoundLemmas.{many, opens_good, opens_took}
 use Rattle.hs_clauses.proofs.NoteLemmas.{opens_noted, opens_silent}
 use Rattle.hs_clauses.proofs.RoomLemmas.{front_first, opens}
 use Rattle.hs_clauses.proofs.TakenLemmas.{peers_are}
@@ -21,7 +21,6 @@ use Rattle.hs_events.specs.Found.{first_core, opened_list, opens_with, starts_go
 use Rattle.hs_events.specs.Taken.{taken_list}
 use Rattle.hs_events.specs.Whole.{Whole, open_whole, step_whole}
 use Rattle.hs_fold.specs.Good.{good_from, taken_from}
-use Rattle.hs_fold.specs.Shards.Images.{Image}
 use Rattle.hs_fold.specs.Shards.Setting.{Numbered}
 use Rattle.hs_journal.specs.declared.entry.JournalEntry.{JournalEntry}
 use Rattle.hs_journal.specs.Moments.{below}
@@ -34,9 +33,8 @@ use Rattle.hs_moments.specs.CoreMachine.{core_at}
 use Rattle.hs_moments.specs.Joint.{AtMoment}
 use Rattle.hs_moments.specs.Machine.{runs, state_at, until}
 use Rattle.hs_moments.specs.WholeMachine.{IsFrontOf, last_of, whole_machine}
-use Rattle.hs_peerlog.specs.Images.{IsStanding, LeavesOnly}
-use Rattle.hs_ports.specs.declared.disk.Side.{Side}
-use Rattle.hs_ports.specs.Disk.{IsImage, Standing}
+use Rattle.hs_peerlog.specs.Images.{LeavesOnly}
+use Rattle.hs_ports.specs.Disk.{Standing}
 use Rattle.hs_ports.specs.MemoryDisk.{untold}
 use Rattle.hs_ports.specs.Moments.{disk_at}
 use Rattle.hs_ports.specs.Objects.{IsDuring}

@@ -25,7 +25,6 @@ use Rattle.hs_model.specs.declared.reply.Reply.TheVariants as reply
 use Rattle.hs_model.specs.Run.{Event, IsLegal}
 use Rattle.hs_model.specs.Store.{Store}
 use Rattle.hs_replica.specs.Group.{last_number, proposal, propose, renew, renewal}
-use Rattle.hs_shard.specs.Facts.{Catalogue}
 
 -- ---- entries of the store
 

@@ -68,10 +68,10 @@ module _ (laws : LawsHere) (S : Script) (r : Ran) (story : Story) (went : Went S
   line_events = flat_map (λ (line : Events). line) story.lines
 
   -- the whole behind opening
-  abbrev pub mid : Whole
+  abbrev mid : Whole
   mid = steps_whole (open_whole S.set story.found) story.opening
 
-  pub opens : RunOpens (start_of S r) story.found
+  opens : RunOpens (start_of S r) story.found
   opens = run_opens S r story went asked
 
   valid : IsValid (entry_store S r)
@@ -86,15 +86,15 @@ module _ (laws : LawsHere) (S : Script) (r : Ran) (story : Story) (went : Went S
   moment_is : first.moment ≡ story.found.opened
   moment_is = (opens_first S.set.shape S.set.limits (opens_with S.set story.found) story.found.opened).moment
 
-  pub no_line : first.event_line ≡ 0
+  no_line : first.event_line ≡ 0
   no_line = (opens_first S.set.shape S.set.limits (opens_with S.set story.found) story.found.opened).event_line
 
   -- ---- opening
 
-  pub opening_rises : MomentsRise first.moment story.opening r.new.moment
+  opening_rises : MomentsRise first.moment story.opening r.new.moment
   opening_rises = subst (λ (m : ℕ). MomentsRise m story.opening r.new.moment) (sym moment_is) (rises_front story.found.opened r.new.moment story.opening line_events went.rises)
 
-  pub opening_walks : is_walk next_due false 0 first story.opening ≡ true
+  opening_walks : is_walk next_due false 0 first story.opening ≡ true
   opening_walks = opening_due (opening_is_whole r story.lines) first story.opening went.opening
 
   ready_mid : IsReady by (entry_store S r) mid × IsNext S.commands mid.core 1
@@ -103,25 +103,19 @@ module _ (laws : LawsHere) (S : Script) (r : Ran) (story : Story) (went : Went S
 
   -- ---- lines
 
-  pub mid_is : mid.core ≡ steps first story.opening
+  mid_is : mid.core ≡ steps first story.opening
   mid_is = core_behind (open_whole S.set story.found) story.opening
 
-  pub next_line : IsNext S.commands mid.core 1
-  next_line = ready_mid.1
-
-  pub mid_turn : IsInTurn S.commands mid.core
-  mid_turn = ready_mid.0.turn
-
-  pub mid_lines : AreLines (lined S r) 1 mid.core story.lines
+  mid_lines : AreLines (lined S r) 1 mid.core story.lines
   mid_lines = subst (λ (c : Core). AreLines (lined S r) 1 c story.lines) (sym mid_is) (joined S r 1 (steps first story.opening) story.lines went.lines)
 
-  pub mid_rises : MomentsRise mid.core.moment (lines_events story.lines) r.new.moment
+  mid_rises : MomentsRise mid.core.moment (lines_events story.lines) r.new.moment
   mid_rises =
       subst (λ (c : Core). MomentsRise c.moment (lines_events story.lines) r.new.moment) (sym mid_is)
       (subst (λ (es : Events). MomentsRise (steps first story.opening).moment es r.new.moment) (flat_same story.lines)
       (rises_rest first story.found.opened r.new.moment story.opening line_events (let is = moment_is in omega (arith, is)) went.rises))
 
-  pub mid_along : IsAskedAlong by (entry_store S r) mid.core (lines_events story.lines)
+  mid_along : IsAskedAlong by (entry_store S r) mid.core (lines_events story.lines)
   mid_along =
       subst (λ (c : Core). IsAskedAlong by (entry_store S r) c (lines_events story.lines)) (sym mid_is)
       (subst (λ (es : Events). IsAskedAlong by (entry_store S r) (steps first story.opening) es) (flat_same story.lines)
@@ -129,7 +123,7 @@ module _ (laws : LawsHere) (S : Script) (r : Ran) (story : Story) (went : Went S
 
   -- ---- behind them
 
-  pub last_is : steps mid.core (lines_events story.lines) ≡ last_core S story
+  last_is : steps mid.core (lines_events story.lines) ≡ last_core S story
   last_is =
       ap (λ (c : Core). steps c (lines_events story.lines)) mid_is
       ∙ ap (λ (es : Events). steps (steps first story.opening) es) (sym (flat_same story.lines))

@@ -1,10 +1,9 @@
 -- Where nothing but notes was told, and each good peer's disk keeps the list that it had at entry, a run may stop: whatever images count reopen at the store at entry.
-use Rattle.std.proofs.Common.{◌≡◌, ◌≢◌, ◌∙◌, inl, inr, ap, sym, subst, ℕ, zero, suc, ◌+◌, ◌*◌, ◌<◌, ◌≤◌, ◌&&◌, ◌++◌, Bool, true, false, List, [], ◌∷◌, Option, Some, None, refl, length, drop, append-nil, nat_lt, arith, if◌then◌else◌}
+use Rattle.std.proofs.Common.{◌≡◌, ◌≢◌, ◌∙◌, ap, sym, subst, ℕ, zero, suc, ◌+◌, ◌*◌, ◌<◌, ◌≤◌, ◌&&◌, ◌++◌, Bool, true, false, List, [], Option, Some, None, refl, length, drop, append-nil, nat_lt, arith, if◌then◌else◌}
 use Rattle.std.proofs.lemmas.Bool.{and_parts, lt-ltb, ltb-true}
 use Rattle.std.proofs.lemmas.List.{drop_at}
 use Rattle.std.specs.List.{AllByRecursion, AllPairs}
 use Rattle.std.specs.Prelude.{IsSome, slice_index_or, unwrap_or}
-use Rattle.hs_answered.specs.Telling.{Judging}
 use Rattle.hs_clauses.proofs.EntryLemmas.{entry_lists, entry_log}
 use Rattle.hs_clauses.proofs.FitLemmas.{fits}
 use Rattle.hs_clauses.proofs.NoteLemmas.{IsNote, no_events, notes_below}
@@ -15,12 +14,11 @@ use Rattle.hs_entry.specs.Entries.{rank_of}
 use Rattle.hs_events.specs.Taken.{taken_lists}
 use Rattle.hs_fold.proofs.PrefixLemmas.{last-length}
 use Rattle.hs_fold.specs.Good.{IsBegun, is_good, taken_below}
-use Rattle.hs_fold.specs.Images.{IsLeft, image_at}
+use Rattle.hs_fold.specs.Images.{image_at}
 use Rattle.hs_fold.specs.Prefix.{IsNumbered}
 use Rattle.hs_fold.specs.Runs.Opened.{catalogues, store_of}
 use Rattle.hs_fold.specs.Shards.Images.{AreGoodImages, Image, IsGoodImage}
 use Rattle.hs_fold.specs.Shards.Setting.{Numbered}
-use Rattle.hs_journal.specs.declared.entry.JournalEntry.{JournalEntry}
 use Rattle.hs_journal.specs.Moments.{below}
 use Rattle.hs_model.specs.Run.{Event, IsLegal, run}
 use Rattle.hs_model.specs.Store.{reborn}
@@ -30,7 +28,7 @@ use Rattle.hs_moments.specs.WholeMachine.{IsFrontOf, last_of}
 use Rattle.hs_peerlog.specs.Images.{LeavesOnly}
 use Rattle.hs_ports.specs.Moments.{disk_at}
 use Rattle.hs_ports.specs.Objects.{IsDuring}
-use Rattle.hs_promise.specs.Entry.{IsSoundAtEntry, MayStop, counted_course, entry_logs, entry_store, is_aside}
+use Rattle.hs_promise.specs.Entry.{MayStop, counted_course, entry_logs, entry_store, is_aside}
 use Rattle.hs_promise.specs.Run.{Ran, Script}
 use Rattle.hs_promise.specs.Stops.{Reopens as ReopensAt, stop_at}
 use Rattle.hs_side.specs.Current.{list_in}
@@ -40,9 +38,8 @@ use Rattle.hs_stops.proofs.OpenLemmas.{opened_left, opened_took}
 use Rattle.hs_stops.proofs.RecordLemmas.{lines_once}
 use Rattle.hs_stops.specs.Left.{EachLineOnce, TookEffect}
 use Rattle.hs_stops.specs.Lists.{Lists, whole_from}
-use Rattle.hs_stops.specs.Reopens.{Reopens}
 use Rattle.hs_stops.specs.Stands.{Stands, lists_of}
-use Rattle.hs_stops.specs.Start.{IsAwaited, Start, events_in}
+use Rattle.hs_stops.specs.Start.{IsAwaited, events_in}
 use Rattle.hs_stops.specs.Suffices.{all_asked, asked_lines}
 
 -- at a moment the disk of a peer has the list that it had at entry, which counts and all of which took effect

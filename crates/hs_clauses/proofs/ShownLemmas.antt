@@ -69,23 +69,22 @@ module _ (tells : Type 0) (S : Script) (r : Ran) (story : Story) (on : OnDisks S
         (subst (λ (ds : List Standing). IsLeft (disk_at ds p) m image) (sym new) left);
   }
 
-  kept : (IsSome (first_core S.set story.found).ended → span.left ≡ runs.disks) → IsSome (first_core S.set story.found).ended → KeepLists S r
-  kept still ended called p low =
+  kept : IsSome (first_core S.set story.found).ended → KeepLists S r
+  kept ended called p low =
       keeps_list tells r p span.before story.found.opened (seen_at span.disks p) (seen_at runs.disks p) told before (seen_as span.disks r.old.disks p old)
-      (ap (λ (ds : List DiskSeen). (seen_at ds p).stands) (sym (still ended)) ∙ seen_as span.left r.new.disks p new)
+      (ap (λ (ds : List DiskSeen). (seen_at ds p).stands) (sym (runs.still ended)) ∙ seen_as span.left r.new.disks p new)
       (runs.finds.each p (let all = ap (λ n. S.set.shape.shards * n) on.one in omega (arith, low, all))).disk (called p)
 
   pub shown_of : Went S r story → ((peer : ℕ) → peer < peer_count S.set.shape → IsReadAs r story peer)
-      → (IsSome (first_core S.set story.found).ended → span.left ≡ runs.disks)
       → ((first_core S.set story.found).ended ≡ None → AreTold (open_whole S.set story.found) (all_events story))
       → IsShown S r story
-  shown_of went read still blocks = record {
+  shown_of went read blocks = record {
     went = went;
     read = read;
     rooms = runs.rooms;
     told = blocks;
     lists = moments;
-    ended = kept still;
+    ended = kept;
   }
 
   -- where the run may stop, its reports tell of blocks what the lists have
