@@ -7,6 +7,8 @@ use Rattle.hs_clauses.specs.Shown.{IsShown, IsToldRun, OnDisks, ShownAs}
 use Rattle.hs_desk.specs.declared.fault.CoreFault.{CoreFault}
 use Rattle.hs_events.specs.Found.{first_core}
 use Rattle.hs_held.specs.Held.{GivesAddresses}
+use Rattle.hs_journal.specs.Events.{client_op}
+use Rattle.hs_model.specs.declared.command.Command.{Command}
 use Rattle.hs_promise.specs.Answers.{Prints}
 use Rattle.hs_promise.specs.Deletes.{Deletes}
 use Rattle.hs_promise.specs.Entry.{IsSoundAtEntry, MayStop, entry_store}
@@ -21,12 +23,15 @@ use Rattle.hs_top.proofs.NoteLemmas.{failed_by}
 use Rattle.hs_top.specs.Calls.{Promised, PromisedFromEntry, PromisedWhereTold}
 
 module _ (laws : Laws) (tells : Type 0) (S : Script) (r : Ran) (names : GivesAddresses S.set.name) (cluster : IsOfCluster tells S r) where
+  nobody : client_op (S.commands 0) ≡ None
+  nobody = ap (λ (c : Option Command). client_op c) cluster.nobody
+
   on : OnDisks S r
   on = record {
     shape = cluster.shape;
     one = cluster.one;
     names = names;
-    nobody = cluster.nobody;
+    nobody = nobody;
     disks = cluster.count;
     left = cluster.served.handed_back ∙ cluster.count;
   }
@@ -57,7 +62,7 @@ module _ (laws : Laws) (tells : Type 0) (S : Script) (r : Ran) (names : GivesAdd
         let u : IsUnopened tells r = unopened refl in
         unopened_of tells S r on u.span told u.before u.old.stands u.new.stands went (λ wanting. u.taken)
     shown_by (Some story) went read runs unopened may =
-        shown_of tells S r story on runs.span told runs.before runs.now runs.old.stands runs.new.stands runs.shown went read.read runs.shown.still
+        shown_of tells S r story on runs.span told runs.before runs.now runs.old.stands runs.new.stands runs.shown went read.read
         (told_where tells S r story on runs.span told runs.before runs.now runs.old.stands runs.new.stands runs.shown went read.read may)
 
     shown : MayStop S r → ShownAs S r cluster.how
@@ -100,7 +105,7 @@ module _ (laws : Laws) (tells : Type 0) (S : Script) (r : Ran) (names : GivesAdd
     script = cluster.script;
     handed_back = cluster.served.handed_back;
     prints = prints;
-    prompt = laws.prompt S r cluster.how cluster.nobody cluster.went in_text;
+    prompt = laws.prompt S r cluster.how nobody cluster.went in_text;
     time = cluster.served.time;
     counts = cluster.served.counts;
     cause = laws.cause S r cluster.how cluster.one cluster.went cluster.served.causes.read cluster.served.causes.write;
