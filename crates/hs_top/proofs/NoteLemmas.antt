@@ -1,5 +1,5 @@
 -- Where a run may stop, the count of each disk rose by all failures that its reports tell.
-use Rattle.std.proofs.Common.{◌≡◌, ◌∙◌, ap, sym, subst, ℕ, zero, suc, ◌+◌, ◌<◌, List, [], ◌∷◌, ◌++◌, None, true, refl, length, arith}
+use Rattle.std.proofs.Common.{◌≡◌, ◌∙◌, ap, sym, subst, ℕ, zero, suc, ◌+◌, ◌<◌, List, [], ◌∷◌, ◌++◌, None, false, true, refl, length, arith}
 use Rattle.hs_answers.specs.Answered.{KeepsRecordRoom}
 use Rattle.hs_clauses.proofs.LineLemmas.{flat_same, joined, opening_due}
 use Rattle.hs_clauses.proofs.ListLemmas.{none_aside}

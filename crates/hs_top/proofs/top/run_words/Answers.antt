@@ -38,5 +38,5 @@ returns g c =
           (handed_count (λ disk. (g.D.Disk.stands disk, g.D.Disk.faults disk)) c.args.disks.now)
           c.run_on_cluster.ensures.usage c.run_on_cluster.ensures.only_usage c.run_on_cluster.ensures.ran
           (λ S same run. promised_of laws g.D.Disk.tells S (ran_of c.run_on_cluster.result old new)
-          (subst (λ (n : List ℕ → Address). GivesAddresses n) (sym same) (g.met.A.Addresser.sized c.args.naming.now)) run);
+          (subst (λ (n : List ℕ → Address). GivesAddresses n) (sym same) (g.A.Addresser.sized c.args.naming.now)) run);
     }
