@@ -1,16 +1,15 @@
 -- Logs and disks of several peers, of which one has a call.
-use Rattle.std.proofs.Common.{◌≡◌, ◌≢◌, ◌⊎◌, inl, inr, ◌∙◌, ap, sym, subst, ℕ, zero, suc, ◌<◌, ◌≤◌, Bool, true, false, List, [], ◌∷◌, Option, Some, None, map, length, refl, arith}
-use Rattle.std.proofs.lemmas.List.{get_or-set_same, get_or-set_other, map-set}
-use Rattle.std.proofs.lemmas.Bool.{cases_eq}
-use Rattle.std.specs.Prelude.{OnOk, Result, Ok, Err, slice_index_or, slice_set}
-use Rattle.hs_cluster.specs.Disks.{AreReady, DiskSeen, IsSlotReady, log_at, seen_at, stands_of}
+use Rattle.std.proofs.Common.{◌≡◌, ◌≢◌, ◌∙◌, ap, sym, subst, ℕ, zero, suc, ◌<◌, ◌≤◌, true, false, List, [], ◌∷◌, Option, Some, None, map, length, refl, arith}
+use Rattle.std.proofs.lemmas.List.{get_or-set_same, get_or-set_other}
+use Rattle.std.specs.Prelude.{IfOk, OnOk, Result, Ok, Err, slice_index_or, slice_set}
+use Rattle.hs_cluster.specs.Disks.{AreReady, DiskSeen, log_at, stands_of}
 use Rattle.hs_cluster.proofs.JobLemmas.{Since, leaves_err, stays_all, stays_one}
-use Rattle.hs_cluster.specs.Jobs.{HasStored, Tries, Try, Works, is_own, list_after}
+use Rattle.hs_cluster.specs.Jobs.{HasStored, ReadsOn, Tries, Try, Works, is_own, list_after}
 use Rattle.hs_desk.specs.declared.done.Done.{Done}
 use Rattle.hs_desk.specs.declared.job.Job.{Job}
 use Rattle.hs_entry.specs.declared.entry.Entry.{Entry}
 use Rattle.hs_fold.specs.Shards.Setting.{Numbered}
-use Rattle.hs_peerlog.specs.Lists.{HasLog, IsReady, Keeping}
+use Rattle.hs_peerlog.specs.Lists.{IsKept, Keeping}
 use Rattle.hs_moments.specs.Moments.{Since as SinceAll}
 use Rattle.hs_ports.specs.declared.disk.Side.{Side}
 use Rattle.hs_ports.specs.Disk.{Standing}
@@ -104,13 +103,24 @@ works_at logs disks f peer before now slot kept d disk had todo result is low wi
         ∙ ap (λ o. trying (log_at logs peer) (log_at (slice_set logs peer kept) peer) o (f disk).stands) (sym old_is)
         ∙ ap (λ n. trying (log_at logs peer) (log_at (slice_set logs peer kept) peer) (disk_at (stands_of (map f disks)) peer) n) (sym (stands_set f disks peer disk within))
 
--- the log of the disk of a peer has the list that is told of it by place
+-- the log of the disk of a peer reads as is told of it by place
 pub log_read : {A : Type 0} (f : A → DiskSeen) (logs : List (Option Keeping)) (disks : List A) (peer place : ℕ) (slot : Option Keeping) (d : A) (list : Numbered) (waiting : Option Entry) → place ≡ peer → place < length disks → slot ≡ log_at logs place
-    → ((keeping : Keeping) → log_at logs peer ≡ Some keeping → HasLog keeping (disk_at (stands_of (map f disks)) peer) list waiting)
-    → (keeping : Keeping) → slot ≡ Some keeping → HasLog keeping (f (slice_index_or disks place d)).stands list waiting
+    → ((keeping : Keeping) → log_at logs peer ≡ Some keeping → IsKept keeping ((disk_at (stands_of (map f disks)) peer).seen keeping.log.side) list waiting)
+    → (keeping : Keeping) → slot ≡ Some keeping → IsKept keeping ((f (slice_index_or disks place d)).stands.seen keeping.log.side) list waiting
 log_read f logs disks peer place slot d list waiting same low is has keeping at =
-    subst (λ s. HasLog keeping s list waiting) (stands_at f disks place d low)
-    (subst (λ p. HasLog keeping (disk_at (stands_of (map f disks)) p) list waiting) (sym same) (has keeping (ap (λ p. log_at logs p) (sym same) ∙ sym is ∙ at)))
+    subst (λ (s : Standing). IsKept keeping (s.seen keeping.log.side) list waiting) (stands_at f disks place d low)
+    (subst (λ p. IsKept keeping ((disk_at (stands_of (map f disks)) p).seen keeping.log.side) list waiting) (sym same) (has keeping (ap (λ p. log_at logs p) (sym same) ∙ sym is ∙ at)))
+
+-- and behind a job of it
+pub reads_at : {A E : Type 0} (f : A → DiskSeen) (logs : List (Option Keeping)) (disks : List A) (peer place : ℕ) (kept : Option Keeping) (disk : A) (k j : Job) (list : Numbered) (waiting : Option Entry) (result : Result Done E)
+    → place ≡ peer → place < length logs → place < length disks → Some k ≡ Some j → IfOk result (ReadsOn kept (f disk).stands k list waiting)
+    → IfOk result (ReadsOn (log_at (slice_set logs place kept) peer) (disk_at (stands_of (map f (slice_set disks place disk))) peer) j list waiting)
+reads_at f logs disks peer place kept disk k j list waiting (Err fault) same in_logs low is reads = tt
+reads_at f logs disks peer place kept disk k j list waiting (Ok done) same in_logs low is reads =
+    subst (λ p. ReadsOn (log_at (slice_set logs place kept) p) (disk_at (stands_of (map f (slice_set disks place disk))) p) j list waiting done) same
+    (subst (λ o. ReadsOn o (disk_at (stands_of (map f (slice_set disks place disk))) place) j list waiting done) (sym (get_or-set_same logs place kept None in_logs))
+    (subst (λ s. ReadsOn kept s j list waiting done) (sym (stands_set f disks place disk low))
+    (subst (λ x. ReadsOn kept (f disk).stands x list waiting done) (some_is k j is) reads)))
 
 -- what is to be read is in a list, by the job and the catalogue that are at hand
 pub stored_as : (todo had : Option Job) (told held : Catalogue) (list : Numbered) → had ≡ todo → held ≡ told → HasStored todo told.blocks list → HasStored had held.blocks list

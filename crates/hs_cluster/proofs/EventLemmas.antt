@@ -1,5 +1,5 @@
 -- What events leave of a cluster.
-use Rattle.std.proofs.Common.{◌≡◌, ◌∙◌, ap, sym, ℕ, ◌+◌, ◌*◌, ◌<◌, Bool, true, false, List, [], ◌∷◌, ◌++◌, Option, Some, None, map, refl, subst, arith, zero, suc}
+use Rattle.std.proofs.Common.{◌≡◌, ◌∙◌, ap, sym, ℕ, true, false, [], ◌∷◌, ◌++◌, Option, Some, None, refl, subst, arith}
 use Rattle.std.proofs.lemmas.List.{append-nil, append_assoc}
 use Rattle.std.specs.Prelude.{Result, Ok, Err, if◌then◌else◌, ⊤}
 use Rattle.hs_cluster.proofs.RoomLemmas.{room_ended, room_one, rooms_then}

@@ -2,7 +2,7 @@
 use Rattle.std.proofs.Common.{◌≡◌, ◌∙◌, ap, sym, ℕ, zero, suc, ◌+◌, ◌≤◌, Bool, true, false, List, [], ◌∷◌, length, drop, Option, Some, None, refl, arith}
 use Rattle.std.proofs.lemmas.Bool.{eq-eqb, ne_eqb}
 use Rattle.std.specs.Option.{option_map}
-use Rattle.std.specs.Prelude.{find, slice_get, ◌==◌, is_some}
+use Rattle.std.specs.Prelude.{find, slice_get, is_some}
 use Rattle.hs_limits.specs.declared.address.Address.{Address}
 use Rattle.hs_shard.specs.declared.effect.BlockFacts.{BlockFacts}
 use Rattle.hs_shard.specs.declared.facts.Facts.{Facts}

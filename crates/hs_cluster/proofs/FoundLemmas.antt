@@ -1,5 +1,5 @@
 -- What was taken of each shard, as what opening found, in a store of one copy.
-use Rattle.std.proofs.Common.{◌≡◌, ◌∙◌, ◌⊎◌, inl, inr, ap, sym, subst, ℕ, zero, suc, ◌+◌, ◌*◌, ◌<◌, ◌≤◌, ◌/◌, ◌==◌, ◌&&◌, ◌||◌, not, Bool, true, false, List, [], ◌∷◌, ◌++◌, Option, Some, None, refl, arith, length, map, nat_lt, is_some, if◌then◌else◌}
+use Rattle.std.proofs.Common.{◌≡◌, ◌∙◌, ◌⊎◌, inl, inr, ap, sym, ℕ, zero, suc, ◌+◌, ◌*◌, ◌<◌, ◌≤◌, ◌/◌, ◌==◌, ◌&&◌, ◌||◌, not, Bool, true, false, List, [], ◌∷◌, ◌++◌, Option, Some, None, refl, arith, length, map, nat_lt, is_some, if◌then◌else◌}
 use Rattle.std.proofs.lemmas.Bool.{cases_lt}
 use Rattle.std.proofs.lemmas.Bool.Decides.{nat_tests}
 use Rattle.std.proofs.lemmas.List.{append-nil, get_or-map, length-map}
@@ -7,10 +7,9 @@ use Rattle.std.proofs.lemmas.List.Folds.{flat_map-map}
 use Rattle.std.proofs.lemmas.List.FromFn.{fill_by_all, get_or-map-range_with_len, length-map-range_with_len}
 use Rattle.std.specs.List.{list_any, range_with_len}
 use Rattle.std.specs.Option.{option_map, option_map_or}
-use Rattle.std.specs.Prelude.{Contains, IsSome, find, flat_map, slice_index_or, take, unwrap_or}
+use Rattle.std.specs.Prelude.{Contains, IsSome, find, flat_map, slice_index_or, unwrap_or}
 use Rattle.hs_cluster.specs.Begins.{bad_of, begun_course, opened_with, took_of}
 use Rattle.hs_cluster.specs.Opens.{Finds, IsFound, IsLostLog}
-use Rattle.hs_core.specs.Opening.{Taken as Opened}
 use Rattle.hs_entry.specs.declared.rank.Rank.{Rank}
 use Rattle.hs_entry.specs.Entries.{rank_of}
 use Rattle.hs_events.specs.Beginning.{first_items}
@@ -24,7 +23,7 @@ use Rattle.hs_members.specs.Members.{all_peers, home_of, peers_of}
 use Rattle.hs_memory.specs.Forget.{apply_all}
 use Rattle.hs_model.specs.declared.course.CourseItem.{CourseItem}
 use Rattle.hs_model.specs.declared.course.CourseItem.TheVariants as item
-use Rattle.hs_peerlog.specs.Lists.{HasLog, Keeping}
+use Rattle.hs_peerlog.specs.Lists.{HasLog, IsKept, Keeping}
 use Rattle.hs_ports.specs.Fault.{HasRisen}
 use Rattle.hs_shard.specs.Facts.{Catalogue, empty_catalogue}
 use Rattle.hs_side.specs.Current.{list_in}
@@ -355,6 +354,9 @@ module _ (tells : Type 0) (set : Setting) (span : Span) (taken : Taken) (one : s
     log : tells → old.stands.last ≤ span.before → (keeping : Keeping) → slot ≡ Some keeping → HasLog keeping new.stands (opened_list set found peer) None
     log told last keeping at = (has peer low).log told last keeping at (opened_list set found peer) (read_as keeping at told)
 
+    reads : tells → (keeping : Keeping) → slot ≡ Some keeping → IsKept keeping (new.stands.seen keeping.log.side) (opened_list set found peer) None
+    reads told keeping at = (has peer low).reads told keeping at (opened_list set found peer) (read_as keeping at told)
+
     -- with no log it opens empty
     opens_empty : slot ≡ None → opened_list set found peer ≡ []
     opens_empty none = opened_is peer low ∙ ap (λ o. kept_list (log_of peer) o) none
@@ -367,6 +369,7 @@ module _ (tells : Type 0) (set : Setting) (span : Span) (taken : Taken) (one : s
       aside = aside;
       disk = (has peer low).disk;
       log = log;
+      reads = reads;
     }
 
   -- ---- all of it

@@ -1,49 +1,48 @@
 -- Behind opening's reading a store of one copy may go on, and its turns are put behind that.
-use Rattle.std.proofs.Common.{◌≡◌, ◌∙◌, ◌⊎◌, inl, inr, ap, sym, subst, ℕ, zero, suc, ◌+◌, ◌-◌, ◌*◌, ◌^◌, ◌<◌, ◌≤◌, not, Bool, true, false, List, [], ◌∷◌, ◌++◌, Option, Some, None, refl, arith, length, nat_lt, is_none, is_some, if◌then◌else◌}
+use Rattle.std.proofs.Common.{◌≡◌, ◌∙◌, inl, inr, ap, sym, subst, ℕ, zero, suc, ◌+◌, ◌-◌, ◌*◌, ◌^◌, ◌<◌, ◌≤◌, not, true, false, List, [], ◌∷◌, ◌++◌, Option, Some, None, refl, arith, length, nat_lt, is_none, is_some, if◌then◌else◌}
 use Rattle.std.proofs.lemmas.Bool.{cases_lt}
 use Rattle.std.proofs.lemmas.List.{get_or_past, take_at}
 use Rattle.std.proofs.lemmas.List.Elements.{All-cons, All-nil}
 use Rattle.std.specs.List.{All, enumerate_from}
 use Rattle.std.specs.Prelude.{IsSome, OnOk, Result, Ok, Err, ⊤, take}
 use Rattle.hs_cluster.proofs.EventLemmas.{still_going}
-use Rattle.hs_cluster.proofs.FoundLemmas.{begins_so, finds, found, is_empty, opens_so, was_read}
+use Rattle.hs_cluster.proofs.FoundLemmas.{begins_so, finds, found, opens_so, was_read}
 use Rattle.hs_cluster.proofs.OpeningMoves.{all_good, jobs_first, same_members, sealed_first}
-use Rattle.hs_cluster.specs.Begins.{Begins, HasOpened, HasTurned, begun_course, opened_with}
+use Rattle.hs_cluster.specs.Begins.{Begins, HasOpened}
 use Rattle.hs_cluster.specs.Calls.{Does, ran_out}
 use Rattle.hs_cluster.specs.Counts.{AreAllCounted, AreCounted}
 use Rattle.hs_cluster.specs.declared.fault.ClusterFault.{ClusterFault}
-use Rattle.hs_cluster.specs.Kept.{AreTold, CanGoOn, KeepsLogs, LeavesLists, sealed_front}
+use Rattle.hs_cluster.specs.Kept.{CanGoOn, CanRead, KeepsLogs, LeavesLists, ReadsLogs, sealed_front}
 use Rattle.hs_cluster.specs.Opens.{AreSound, Finds, IsFound, Opens}
 use Rattle.hs_cluster.specs.Rooms.{HaveRecordRoom}
 use Rattle.hs_cluster.specs.Running.{Running}
-use Rattle.hs_core.specs.Looking.{group_of, home, shape_of, tasks_of}
+use Rattle.hs_core.specs.Looking.{group_of, home}
 use Rattle.hs_core.specs.Opening.{Taken as Opened, open_core}
 use Rattle.hs_core.specs.State.{Core}
 use Rattle.hs_core.specs.Step.{step}
 use Rattle.hs_desk.specs.declared.fault.CoreFault.{CoreFault}
 use Rattle.hs_entry.specs.declared.entry.Entry.{Entry}
-use Rattle.hs_entry.specs.Entries.{is_of_base, rank_of}
+use Rattle.hs_entry.specs.Entries.{is_of_base}
 use Rattle.hs_events.specs.Beginning.{first_items}
 use Rattle.hs_events.specs.Course.{happened, items_of, steps}
 use Rattle.hs_events.specs.Due.{Events, MomentsRise, is_walk, next_turn}
-use Rattle.hs_events.specs.Found.{Found, first_core, opened_list, opens_with, starts_good}
+use Rattle.hs_events.specs.Found.{Found, first_core, opened_list, starts_good}
 use Rattle.hs_events.specs.Sane.{IsFromOne, IsSane, appended_of}
 use Rattle.hs_events.specs.Whole.{Whole, counts, floor, grown, open_whole, reach}
 use Rattle.hs_fold.proofs.PrefixLemmas.{last-length}
 use Rattle.hs_fold.specs.Images.{IsLeft}
 use Rattle.hs_fold.specs.Shards.Setting.{Numbered, Setting}
 use Rattle.hs_members.specs.Members.{IsPeer, Members}
-use Rattle.hs_model.specs.declared.course.CourseItem.{CourseItem}
 use Rattle.hs_moments.proofs.AloneEventLemmas.{home_here}
 use Rattle.hs_moments.proofs.HappenedLemmas.{happened_rise}
 use Rattle.hs_moments.proofs.MomentLemmas.{le-is}
 use Rattle.hs_moments.proofs.OpeningLemmas.{opening_is_sane}
 use Rattle.hs_moments.proofs.WorkLemmas.{floor_alone, none_appended, reach_sane}
 use Rattle.hs_moments.specs.Machine.{runs, state_at, until}
-use Rattle.hs_moments.specs.Moments.{GivesFine, IsStanding, Keeps, ListsAtMoments}
+use Rattle.hs_moments.specs.Moments.{GivesFine, IsStanding, Keeps}
 use Rattle.hs_moments.specs.WholeMachine.{IsFrontOf, last_of, whole_machine}
 use Rattle.hs_peerlog.specs.Images.{GivesList, Is, LeavesOnly}
-use Rattle.hs_peerlog.specs.Lists.{GoOn, HasLog, Keeping}
+use Rattle.hs_peerlog.specs.Lists.{GoOn, HasLog, IsKept, Keeping}
 use Rattle.hs_ports.specs.declared.disk.Side.{Side}
 use Rattle.hs_ports.specs.Disk.{IsImage, Standing}
 use Rattle.hs_ports.specs.MemoryDisk.{untold}
@@ -129,7 +128,7 @@ module _ (tells : Type 0) (set : Setting) (span : Span) (taken : Taken) (one : s
   old_past : (p : ℕ) → count ≤ p → (seen_at span.old p).stands ≡ untold
   old_past p high = ap (λ (d : DiskSeen). d.stands) (get_or_past span.old p (record { size = λ side. 0; stands = untold; faults = 0 }) (omega (arith, high, peers, olds)))
 
-  module _ (told : tells) (sound : AreSound span.before span.old) (going : (first_core set f).ended ≡ None) where
+  module _ (told : tells) (going : (first_core set f).ended ≡ None) where
     abbrev core : Core
     core = first_core set f
 
@@ -139,11 +138,11 @@ module _ (tells : Type 0) (set : Setting) (span : Span) (taken : Taken) (one : s
     slot : (p : ℕ) → p < count → (keeping : Keeping) × (log_at taken.logs p ≡ Some keeping)
     slot p low = kept_by (log_at taken.logs p) (sym (of p low).good ∙ good p low)
 
-    log_is : (p : ℕ) (low : p < count) → (keeping : Keeping) → log_at taken.logs p ≡ Some keeping → HasLog keeping (seen_at span.new p).stands (opened_list set f p) None
-    log_is p low keeping at = (of p low).log told (sound.called p) keeping at
+    read_is : (p : ℕ) (low : p < count) → (keeping : Keeping) → log_at taken.logs p ≡ Some keeping → IsKept keeping ((seen_at span.new p).stands.seen keeping.log.side) (opened_list set f p) None
+    read_is p low keeping at = (of p low).reads told keeping at
 
     numbered : (p : ℕ) → p < count → GoOn 0 (opened_list set f p)
-    numbered p low = let s = slot p low in (log_is p low s.0 s.1).kept.numbered
+    numbered p low = let s = slot p low in (read_is p low s.0 s.1).numbered
 
     sane : IsSane c
     sane = opening_is_sane set f one going (λ p low. from_one (opened_list set f p) (numbered p low)) all.goods
@@ -170,77 +169,93 @@ module _ (tells : Type 0) (set : Setting) (span : Span) (taken : Taken) (one : s
     appended_is : (p : ℕ) → p < count → appended_of p core ≡ None
     appended_is p low = none_appended core p sane.alone (within p low) (jobs_first set f one all.goods going p low)
 
-    listed : KeepsLogs c taken.logs span.new
-    listed = record {
+    peer_low : (p : ℕ) → IsPeer core.members.shape p → p < count
+    peer_low p is =
+        let there : p < set.shape.shards * set.shape.copies = subst (λ (m : Members). p < m.shape.shards * m.shape.copies) (same_members set f one all.goods going) is in
+        omega (arith, there, peers)
+
+    reads_listed : ReadsLogs c taken.logs span.new
+    reads_listed = record {
       each = λ p keeping is at.
           let low : p < count = peer_low p is in
-          subst (λ d. HasLog keeping d (sealed_front c p) (appended_of p core)) (sym (stands_seen span.new p))
-          (subst (λ list. HasLog keeping (seen_at span.new p).stands list (appended_of p core)) (sym (sealed_is p low))
-          (subst (λ w. HasLog keeping (seen_at span.new p).stands (opened_list set f p) w) (sym (appended_is p low)) (log_is p low keeping at)));
-    }
-      where
-        peer_low : (p : ℕ) → IsPeer core.members.shape p → p < count
-        peer_low p is =
-            let there : p < set.shape.shards * set.shape.copies = subst (λ (m : Members). p < m.shape.shards * m.shape.copies) (same_members set f one all.goods going) is in
-            omega (arith, there, peers)
-
-    -- ---- what a stop leaves
-
-    counted_low : (p : ℕ) → counts c p ≡ true → p < count
-    counted_low p is = elim (cases_lt p count) [
-      | inl low ↦ low
-      | inr high ↦
-          let aside : starts_good f p ≡ false = get_or_past f.good p false (let goods = all.goods in omega (arith, goods, peers, high)) in
-          absurd (false_is_not (sym (ap (λ b. not (not b)) aside) ∙ is))
-    ]
-
-    fine_at : (p : ℕ) → p < count → (image : Side → List ℕ) → list_in image ≡ Some (opened_list set f p) → GivesFine whole_machine IsFrontOf last_of c p image
-    fine_at p low image is = record {
-      list = opened_list set f p;
-      read = is;
-      front = begins p low;
-      long = let e = floor_is p low in omega (arith, e);
+          subst (λ (d : Standing). IsKept keeping (d.seen keeping.log.side) (sealed_front c p) (appended_of p core)) (sym (stands_seen span.new p))
+          (subst (λ list. IsKept keeping ((seen_at span.new p).stands.seen keeping.log.side) list (appended_of p core)) (sym (sealed_is p low))
+          (subst (λ w. IsKept keeping ((seen_at span.new p).stands.seen keeping.log.side) (opened_list set f p) w) (sym (appended_is p low)) (read_is p low keeping at)));
     }
 
-    only : (p : ℕ) → p < count → LeavesOnly (seen_at span.old p).stands (opened_list set f p)
-    only p low = let s = slot p low in sound.only p (opened_list set f p) (was_read tells set span taken one h shares logs ticks p low s.0 s.1 told)
+    pub can_read : CanRead c taken.logs span.new
+    can_read = record { sane = sane; listed = reads_listed }
 
-    called : (p : ℕ) → (disk_at (stands_of span.new) p).last ≤ span.now
-    called p = subst (λ (d : Standing). d.last ≤ span.now) (sym (stands_seen span.new p)) (elim (cases_lt p count) [
-      | inl low ↦ ((of p low).disk.moments told (sound.called p) (opened_list set f p) (only p low)).last
-      | inr high ↦ subst (λ (d : Standing). d.last ≤ span.now) (sym (new_past p high)) (omega arith)
-    ])
+    module _ (sound : AreSound span.before span.old) where
+      log_is : (p : ℕ) (low : p < count) → (keeping : Keeping) → log_at taken.logs p ≡ Some keeping → HasLog keeping (seen_at span.new p).stands (opened_list set f p) None
+      log_is p low keeping at = (of p low).log told (sound.called p) keeping at
 
-    keeps : Keeps whole_machine IsFrontOf last_of c span.now (stands_of span.new)
-    keeps = record {
-      called = called;
-      fine = λ p is image stands.
+      listed : KeepsLogs c taken.logs span.new
+      listed = record {
+        each = λ p keeping is at.
+            let low : p < count = peer_low p is in
+            subst (λ d. HasLog keeping d (sealed_front c p) (appended_of p core)) (sym (stands_seen span.new p))
+            (subst (λ list. HasLog keeping (seen_at span.new p).stands list (appended_of p core)) (sym (sealed_is p low))
+            (subst (λ w. HasLog keeping (seen_at span.new p).stands (opened_list set f p) w) (sym (appended_is p low)) (log_is p low keeping at)));
+      }
+
+      -- ---- what a stop leaves
+
+      counted_low : (p : ℕ) → counts c p ≡ true → p < count
+      counted_low p is = elim (cases_lt p count) [
+        | inl low ↦ low
+        | inr high ↦
+            let aside : starts_good f p ≡ false = get_or_past f.good p false (let goods = all.goods in omega (arith, goods, peers, high)) in
+            absurd (false_is_not (sym (ap (λ b. not (not b)) aside) ∙ is))
+      ]
+
+      fine_at : (p : ℕ) → p < count → (image : Side → List ℕ) → list_in image ≡ Some (opened_list set f p) → GivesFine whole_machine IsFrontOf last_of c p image
+      fine_at p low image is = record {
+        list = opened_list set f p;
+        read = is;
+        front = begins p low;
+        long = let e = floor_is p low in omega (arith, e);
+      }
+
+      only : (p : ℕ) → p < count → LeavesOnly (seen_at span.old p).stands (opened_list set f p)
+      only p low = let s = slot p low in sound.only p (opened_list set f p) (was_read tells set span taken one h shares logs ticks p low s.0 s.1 told)
+
+      called : (p : ℕ) → (disk_at (stands_of span.new) p).last ≤ span.now
+      called p = subst (λ (d : Standing). d.last ≤ span.now) (sym (stands_seen span.new p)) (elim (cases_lt p count) [
+        | inl low ↦ ((of p low).disk.moments told (sound.called p) (opened_list set f p) (only p low)).last
+        | inr high ↦ subst (λ (d : Standing). d.last ≤ span.now) (sym (new_past p high)) (omega arith)
+      ])
+
+      keeps : Keeps whole_machine IsFrontOf last_of c span.now (stands_of span.new)
+      keeps = record {
+        called = called;
+        fine = λ p is image stands.
+            let low : p < count = counted_low p is in
+            let s = slot p low in
+            let there : IsStanding (seen_at span.new p).stands image = subst (λ d. IsStanding d image) (stands_seen span.new p) stands in
+            fine_at p low image ((log_is p low s.0 s.1).leaves image (record { sides = there.sides }));
+      }
+
+      pub can_go_on : CanGoOn c taken.logs span.new span.now
+      can_go_on = record { sane = sane; listed = listed; keeps = keeps }
+
+      -- from entry on
+      pub read_earlier : (p m : ℕ) (side : Side) → m ≤ span.before → m < 2 ^ 64 - 1 → (disk_at (stands_of span.new) p).past m side ≡ (disk_at (stands_of span.old) p).past m side
+      read_earlier p m side low fits =
+          ap (λ (d : Standing). d.past m side) (stands_seen span.new p) ∙ at ∙ sym (ap (λ (d : Standing). d.past m side) (stands_seen span.old p))
+        where
+          at : (seen_at span.new p).stands.past m side ≡ (seen_at span.old p).stands.past m side
+          at = elim (cases_lt p count) [
+            | inl below ↦ ((of p below).disk.moments told (sound.called p) (opened_list set f p) (only p below)).earlier side m low fits
+            | inr high ↦ ap (λ (d : Standing). d.past m side) (new_past p high) ∙ sym (ap (λ (d : Standing). d.past m side) (old_past p high))
+          ]
+
+      pub read_moments : (m p : ℕ) → span.before < m → m < 2 ^ 64 - 1 → counts c p ≡ true → (image : Side → List ℕ) → IsLeft (disk_at (stands_of span.new) p) m image → GivesFine whole_machine IsFrontOf last_of c p image
+      read_moments m p after fits is image left =
           let low : p < count = counted_low p is in
-          let s = slot p low in
-          let there : IsStanding (seen_at span.new p).stands image = subst (λ d. IsStanding d image) (stands_seen span.new p) stands in
-          fine_at p low image ((log_is p low s.0 s.1).leaves image (record { sides = there.sides }));
-    }
-
-    pub can_go_on : CanGoOn c taken.logs span.new span.now
-    can_go_on = record { sane = sane; listed = listed; keeps = keeps }
-
-    -- from entry on
-    pub read_earlier : (p m : ℕ) (side : Side) → m ≤ span.before → m < 2 ^ 64 - 1 → (disk_at (stands_of span.new) p).past m side ≡ (disk_at (stands_of span.old) p).past m side
-    read_earlier p m side low fits =
-        ap (λ (d : Standing). d.past m side) (stands_seen span.new p) ∙ at ∙ sym (ap (λ (d : Standing). d.past m side) (stands_seen span.old p))
-      where
-        at : (seen_at span.new p).stands.past m side ≡ (seen_at span.old p).stands.past m side
-        at = elim (cases_lt p count) [
-          | inl below ↦ ((of p below).disk.moments told (sound.called p) (opened_list set f p) (only p below)).earlier side m low fits
-          | inr high ↦ ap (λ (d : Standing). d.past m side) (new_past p high) ∙ sym (ap (λ (d : Standing). d.past m side) (old_past p high))
-        ]
-
-    pub read_moments : (m p : ℕ) → span.before < m → m < 2 ^ 64 - 1 → counts c p ≡ true → (image : Side → List ℕ) → IsLeft (disk_at (stands_of span.new) p) m image → GivesFine whole_machine IsFrontOf last_of c p image
-    read_moments m p after fits is image left =
-        let low : p < count = counted_low p is in
-        let there : IsLeft (seen_at span.new p).stands m image = subst (λ d. IsLeft d m image) (stands_seen span.new p) left in
-        let gives : GivesList (Is (opened_list set f p)) image = ((of p low).disk.moments told (sound.called p) (opened_list set f p) (only p low)).each m after fits image there.sides in
-        fine_at p low image (gives.read ∙ ap (λ (l : Numbered). Some l) gives.holds)
+          let there : IsLeft (seen_at span.new p).stands m image = subst (λ d. IsLeft d m image) (stands_seen span.new p) left in
+          let gives : GivesList (Is (opened_list set f p)) image = ((of p low).disk.moments told (sound.called p) (opened_list set f p) (only p low)).each m after fits image there.sides in
+          fine_at p low image (gives.read ∙ ap (λ (l : Numbered). Some l) gives.holds)
 
 -- ---- and the turns
 
@@ -293,15 +308,26 @@ module _ (tells : Type 0) (set : Setting) (span : Span) (cluster : Running) (don
   can : tells → AreSound span.before span.old → (first_core set opened_found).ended ≡ None → CanGoOn (open_whole set opened_found) o.begun.logs o.disks o.opened
   can told sound going =
       subst (λ l. CanGoOn (open_whole set opened_found) l o.disks o.opened) (sym b.logs)
-      (can_go_on tells set mid b.taken one read b.shares b.count b.ticks b.disks b.left told sound going)
+      (can_go_on tells set mid b.taken one read b.shares b.count b.ticks b.disks b.left told going sound)
+
+  could_read : tells → (first_core set opened_found).ended ≡ None → CanRead (open_whole set opened_found) o.begun.logs o.disks
+  could_read told going =
+      subst (λ l. CanRead (open_whole set opened_found) l o.disks) (sym b.logs)
+      (can_read tells set mid b.taken one read b.shares b.count b.ticks b.disks b.left told going)
 
   lists : tells → AreSound span.before span.old → (first_core set opened_found).ended ≡ None
       → LeavesLists (open_whole set opened_found) o.turned.events (record { before = span.before; now = span.now; old = o.begun; new = cluster; disks = span.old; left = span.new })
   lists told sound going =
       joined (open_whole set opened_found) o.turned.events span.before o.opened span.now span.old o.disks span.new o.begun cluster b.ticks o.turned.rises
-      (read_earlier tells set mid b.taken one read b.shares b.count b.ticks b.disks b.left told sound going)
-      (read_moments tells set mid b.taken one read b.shares b.count b.ticks b.disks b.left told sound going)
+      (read_earlier tells set mid b.taken one read b.shares b.count b.ticks b.disks b.left told going sound)
+      (read_moments tells set mid b.taken one read b.shares b.count b.ticks b.disks b.left told going sound)
       (o.turned.shows.lists told (open_whole set opened_found) core_is (can told sound going))
+
+  -- a core that goes on behind the turns went on before
+  began : (x : ⊤) → done ≡ Ok x → (first_core set opened_found).ended ≡ None
+  began x is =
+      let does : Does o.turned.events o.begun cluster (Ok x) = subst (λ r. Does o.turned.events o.begun cluster r) is o.turned.does in
+      going_before (first_core set opened_found) o.turned.events (ap (λ c. (steps c o.turned.events).ended) core_is ∙ ap (λ (c : Core). c.ended) (sym (does.core refl)) ∙ still_going o.turned.events o.begun cluster does)
 
   goes_on : tells → AreSound span.before span.old → OnOk done (CanGoOn (runs whole_machine (open_whole set opened_found) o.turned.events) cluster.logs span.new span.now)
   goes_on told sound = by done refl
@@ -309,11 +335,17 @@ module _ (tells : Type 0) (set : Setting) (span : Span) (cluster : Running) (don
       by : (r : Result ⊤ ClusterFault) → done ≡ r → OnOk r (CanGoOn (runs whole_machine (open_whole set opened_found) o.turned.events) cluster.logs span.new span.now)
       by (Err fault) is = tt
       by (Ok x) is =
-          let does : Does o.turned.events o.begun cluster (Ok x) = subst (λ r. Does o.turned.events o.begun cluster r) is o.turned.does in
-          let going : (first_core set opened_found).ended ≡ None =
-          going_before (first_core set opened_found) o.turned.events (ap (λ c. (steps c o.turned.events).ended) core_is ∙ ap (λ (c : Core). c.ended) (sym (does.core refl)) ∙ still_going o.turned.events o.begun cluster does) in
           subst (λ r. OnOk r (CanGoOn (runs whole_machine (open_whole set opened_found) o.turned.events) cluster.logs span.new span.now)) is
-          (o.turned.shows.goes_on told (open_whole set opened_found) core_is (can told sound going))
+          (o.turned.shows.goes_on told (open_whole set opened_found) core_is (can told sound (began x is)))
+
+  reads_on : tells → OnOk done (CanRead (runs whole_machine (open_whole set opened_found) o.turned.events) cluster.logs span.new)
+  reads_on told = by done refl
+    where
+      by : (r : Result ⊤ ClusterFault) → done ≡ r → OnOk r (CanRead (runs whole_machine (open_whole set opened_found) o.turned.events) cluster.logs span.new)
+      by (Err fault) is = tt
+      by (Ok x) is =
+          subst (λ r. OnOk r (CanRead (runs whole_machine (open_whole set opened_found) o.turned.events) cluster.logs span.new)) is
+          (o.turned.shows.reads_on told (open_whole set opened_found) core_is (could_read told (began x is)))
 
   -- what was found is told of the core over what was taken
   pub opens_found : Opens tells set span cluster done
@@ -338,7 +370,9 @@ module _ (tells : Type 0) (set : Setting) (span : Span) (cluster : Running) (don
     still = λ ended. o.turned.still (subst (λ (x : Core). IsSome x.ended) core_is ended);
     lists = lists;
     goes_on = goes_on;
-    read = λ told sound going stored.
+    told = λ told going. o.turned.shows.told told (open_whole set opened_found) core_is (could_read told going);
+    read = λ told going stored.
         subst (λ x. AreAllCounted x o.turned.events o.disks span.new) (sym core_is)
-        (o.turned.shows.read told (open_whole set opened_found) core_is (can told sound going) stored);
+        (o.turned.shows.read told (open_whole set opened_found) core_is (could_read told going) stored);
+    reads_on = reads_on;
   }

@@ -1,6 +1,6 @@
 -- What a peer's disk may hold before its first job and behind it, by the core's laws.
-use Rattle.std.proofs.Common.{◌≡◌, ◌≢◌, ◌∙◌, ap, sym, subst, ℕ, zero, suc, ◌+◌, ◌*◌, ◌<◌, ◌≤◌, Bool, true, false, List, [], ◌∷◌, ◌++◌, length, take, drop, Option, Some, None, refl, arith}
-use Rattle.std.proofs.lemmas.List.{append-nil, append_assoc, length-append, length-take-le, take-append-drop, take-append-le}
+use Rattle.std.proofs.Common.{◌≡◌, ◌≢◌, ◌∙◌, ap, sym, subst, ℕ, ◌+◌, ◌*◌, ◌≤◌, true, false, List, [], ◌∷◌, ◌++◌, length, take, drop, Option, Some, None, refl, arith}
+use Rattle.std.proofs.lemmas.List.{append-nil, length-append, length-take-le, take-append-drop, take-append-le}
 use Rattle.std.specs.Option.{option_map_or}
 use Rattle.std.specs.Prelude.{fold, ◌==◌}
 use Rattle.hs_moments.proofs.SaneLemmas.{after_reports, appended_beside, appended_stays, growing_beside, growing_without_call}
@@ -8,7 +8,7 @@ use Rattle.hs_moments.proofs.WorkLemmas.{next_job, floor_within}
 use Rattle.hs_cluster.specs.Jobs.{is_own, list_after, sealed_list, waiting_after}
 use Rattle.hs_cluster.specs.Kept.{sealed_front}
 use Rattle.hs_events.specs.Sane.{IsSane, appended_of}
-use Rattle.hs_moments.specs.Working.{HasReported, IsBehind, NextJob, SealsNext}
+use Rattle.hs_moments.specs.Working.{HasReported, NextJob, SealsNext}
 use Rattle.hs_core.specs.declared.event.Event.{Event}
 use Rattle.hs_core.specs.declared.event.Event.TheVariants as event
 use Rattle.hs_core.specs.Looking.{first_job}
@@ -28,7 +28,7 @@ use Rattle.hs_events.specs.Due.{is_answer}
 use Rattle.hs_events.specs.Whole.{Whole, floor, reach, step_whole}
 use Rattle.hs_fold.specs.Shards.Setting.{Numbered}
 use Rattle.hs_members.specs.Members.{IsPeer}
-use Rattle.hs_moments.specs.WholeMachine.{IsFrontOf, last_of, whole_machine}
+use Rattle.hs_moments.specs.WholeMachine.{IsFrontOf, last_of}
 use Rattle.hs_peerlog.specs.Lists.{GoOn, IsKept, IsNumbered, Keeping, with_waiting}
 
 -- a list begins that of a peer, and is no shorter than what is sealed

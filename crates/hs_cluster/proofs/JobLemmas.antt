@@ -1,8 +1,8 @@
 -- What a job leaves of a log, by what the log's calls leave.
-use Rattle.std.proofs.Common.{◌≡◌, ◌∙◌, ◌⊎◌, inl, inr, ap, sym, subst, ℕ, ◌+◌, ◌<◌, ◌≤◌, Bool, true, false, List, [], ◌∷◌, length, Option, Some, None, refl, arith, zero, suc}
+use Rattle.std.proofs.Common.{◌≡◌, ◌∙◌, inl, ap, sym, subst, ℕ, ◌<◌, ◌≤◌, Bool, true, false, List, [], ◌∷◌, length, Option, Some, None, refl, arith, zero, suc}
 use Rattle.std.specs.Option.{option_map}
 use Rattle.std.specs.Prelude.{Contains, IfOk, Result, Ok, Err, ◌==◌, if◌then◌else◌, slice_index_or}
-use Rattle.hs_cluster.specs.Jobs.{Leaves, LeavesLog, Try, list_after, sealed_list, waiting_after}
+use Rattle.hs_cluster.specs.Jobs.{Leaves, LeavesLog, ReadsLog, ReadsOn, Try, list_after, sealed_list, waiting_after}
 use Rattle.hs_desk.specs.declared.done.Done.{Done}
 use Rattle.hs_desk.specs.declared.done.Done.TheVariants as done
 use Rattle.hs_desk.specs.declared.job.Job.{Job}
@@ -11,7 +11,7 @@ use Rattle.hs_entry.specs.declared.entry.Entry.{Entry}
 use Rattle.hs_entry.specs.declared.entry.Entry.TheVariants.{Block}
 use Rattle.hs_entry.specs.declared.rank.Rank.{Rank}
 use Rattle.hs_events.specs.Asked.{failed_disk}
-use Rattle.hs_events.specs.Reports.{HasBlock, TellsOf}
+use Rattle.hs_events.specs.Reports.{TellsOf}
 use Rattle.hs_fold.specs.Shards.Setting.{Numbered}
 use Rattle.hs_peerlog.specs.Images.{GivesList, Is, IsOne, LeavesAll, LeavesEach, LeavesOnly}
 use Rattle.hs_peerlog.specs.Lists.{HasLog, IsKept, Keeping, numbered_entry}
@@ -96,12 +96,21 @@ pub appends_list : {P : Type 0} (keeping : Keeping) (disk : Standing) (list : Nu
 appends_list keeping disk list waiting has none f =
     f (subst (λ w. HasLog keeping disk list w) (none_waits keeping (disk.seen keeping.log.side) list waiting has.kept none) has)
 
+pub appends_kept : {P : Type 0} (keeping : Keeping) (seen : List ℕ) (list : Numbered) (waiting : Option Entry) → IsKept keeping seen list waiting → keeping.waits ≡ None → (IsKept keeping seen list None → P) → P
+appends_kept keeping seen list waiting kept none f = f (subst (λ w. IsKept keeping seen list w) (none_waits keeping seen list waiting kept none) kept)
+
 -- a seal has an entry that waits
 pub seals_list : (P : Numbered → Type 0) (keeping : Keeping) (disk : Standing) (list : Numbered) (waiting : Option Entry) (number : ℕ) → HasLog keeping disk list waiting → option_map (λ (r : Rank). r.number) keeping.waits ≡ Some number
     → ((entry : Entry) → HasLog keeping disk list (Some entry) → P (sealed_list list (Some entry))) → P (sealed_list list waiting)
 seals_list P keeping disk list waiting number has some f =
     let entry = told_waits keeping (disk.seen keeping.log.side) list waiting has.kept number some in
     subst (λ w. P (sealed_list list w)) (sym entry.1) (f entry.0 (subst (λ w. HasLog keeping disk list w) entry.1 has))
+
+pub seals_kept : (P : Numbered → Type 0) (keeping : Keeping) (seen : List ℕ) (list : Numbered) (waiting : Option Entry) (number : ℕ) → IsKept keeping seen list waiting → option_map (λ (r : Rank). r.number) keeping.waits ≡ Some number
+    → ((entry : Entry) → IsKept keeping seen list (Some entry) → P (sealed_list list (Some entry))) → P (sealed_list list waiting)
+seals_kept P keeping seen list waiting number kept some f =
+    let entry = told_waits keeping seen list waiting kept number some in
+    subst (λ w. P (sealed_list list w)) (sym entry.1) (f entry.0 (subst (λ w. IsKept keeping seen list w) entry.1 kept))
 
 -- ---- the entry of a number
 
@@ -178,3 +187,19 @@ leaves_read {E = E} now number keeping old new j list waiting result is same las
     go : (r : Result Done E) → IfOk r (λ done. failed_disk done ≡ None) → IfOk r (λ done. TellsOf done (Some list)) → Leaves {E = E} (record { before = now; now = now; slot = Some keeping; kept = Some keeping; old = old; new = old }) j list waiting r
     go (Err fault) fine told = leaves_err (record { before = now; now = now; slot = Some keeping; kept = Some keeping; old = old; new = old }) j list waiting (Err fault) fault refl moments
     go (Ok done) fine told = leaves_ok (record { before = now; now = now; slot = Some keeping; kept = Some keeping; old = old; new = old }) j (job.Read number) list waiting done keeping is refl fine moments has told
+
+-- ---- what reads give behind it
+
+pub reads_ok : (slot : Option Keeping) (keeping : Keeping) (disk : Standing) (j k : Job) (list : Numbered) (waiting : Option Entry) (done : Done) → j ≡ k → slot ≡ Some keeping → failed_disk done ≡ None
+    → IsKept keeping (disk.seen keeping.log.side) (list_after k list waiting) (waiting_after k waiting) → TellsOf done (Some list) → ReadsOn slot disk j list waiting done
+reads_ok slot keeping disk j k list waiting done is at fine kept told = record {
+  log = subst (λ o. ReadsLog o slot disk j list waiting) (sym fine) (keeping, at, subst (λ x. IsKept keeping (disk.seen keeping.log.side) (list_after x list waiting) (waiting_after x waiting)) (sym is) kept);
+  told = told;
+}
+
+-- it only read
+pub reads_read : {E : Type 0} (number : ℕ) (keeping : Keeping) (old new : Standing) (j : Job) (list : Numbered) (waiting : Option Entry) (result : Result Done E) → j ≡ job.Read number → new ≡ old
+    → IsKept keeping (old.seen keeping.log.side) list waiting → IfOk result (λ done. failed_disk done ≡ None) → IfOk result (λ done. TellsOf done (Some list)) → IfOk result (λ done. ReadsOn (Some keeping) new j list waiting done)
+reads_read number keeping old new j list waiting (Err fault) is same kept fine told = tt
+reads_read number keeping old new j list waiting (Ok done) is same kept fine told =
+    reads_ok (Some keeping) keeping new j (job.Read number) list waiting done is refl fine (subst (λ (d : Standing). IsKept keeping (d.seen keeping.log.side) list waiting) (sym same) kept) told

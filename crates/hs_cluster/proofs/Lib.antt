@@ -11,6 +11,7 @@ pub mod JobLemmas
 pub mod LineLemmas
 pub mod OpenedLemmas
 pub mod OpeningMoves
+pub mod ReadLemmas
 pub mod ReportLemmas
 pub mod RoomLemmas
 pub mod RunLemmas

@@ -1,7 +1,7 @@
 -- The events of a line.
-use Rattle.std.proofs.Common.{◌≡◌, ◌∙◌, ap, sym, subst, ℕ, ◌≤◌, Bool, true, false, List, [], ◌∷◌, ◌++◌, Option, Some, None, refl, arith}
-use Rattle.std.specs.Prelude.{Result, Ok, Err, ⊤, is_ok, not, if◌then◌else◌}
-use Rattle.hs_cluster.proofs.EventLemmas.{does_then, nothing_done}
+use Rattle.std.proofs.Common.{◌≡◌, ◌∙◌, ap, sym, subst, ℕ, ◌≤◌, true, false, List, [], ◌∷◌, Option, Some, None, refl, arith}
+use Rattle.std.specs.Prelude.{Result, Ok, Err, ⊤, is_ok}
+use Rattle.hs_cluster.proofs.EventLemmas.{does_then}
 use Rattle.hs_cluster.proofs.ShowLemmas.{any_shows, quiet_shows}
 use Rattle.hs_cluster.proofs.WalkLemmas.{rise_one}
 use Rattle.hs_cluster.specs.Disks.{DiskSeen, log_at}

@@ -1,15 +1,15 @@
 -- How a core of one copy a shard goes on as it opens: nothing more is sealed, and the new jobs are those of new entries.
-use Rattle.std.proofs.Common.{◌≡◌, ◌∙◌, ap, sym, subst, inl, inr, ℕ, ◌+◌, ◌*◌, ◌-◌, ◌<◌, ◌≤◌, not, Bool, true, false, List, [], ◌∷◌, ◌++◌, Option, Some, None, refl, arith, length, replicate, is_some}
+use Rattle.std.proofs.Common.{◌≡◌, ◌∙◌, ap, sym, subst, inl, inr, ℕ, ◌+◌, ◌*◌, ◌-◌, ◌<◌, not, Bool, true, false, List, [], ◌∷◌, Option, Some, None, refl, arith, length, replicate, is_some}
 use Rattle.std.proofs.lemmas.Bool.{cases_lt}
 use Rattle.std.proofs.lemmas.List.{append-nil, drop_more, get_or-map, get_or-replicate, get_or_past, length-map, length-replicate, set-get_or, set_past, take_all}
 use Rattle.std.proofs.lemmas.List.Elements.{All-nil}
 use Rattle.std.proofs.lemmas.List.FromFn.{get_or-map-range_with_len, length-map-range_with_len}
-use Rattle.std.specs.List.{All, enumerate_from}
+use Rattle.std.specs.List.{enumerate_from}
 use Rattle.std.specs.Option.{option_map}
 use Rattle.std.specs.Prelude.{drop, if◌then◌else◌, slice_index, slice_set, take}
 use Rattle.hs_core.specs.Changing.{add_entry_tasks, change_group, note, post, set_viewed}
 use Rattle.hs_core.specs.declared.task.Task.{Task}
-use Rattle.hs_core.specs.Looking.{group_of, home, lost_shard, shape_of, shards_of, status_of, tasks_of}
+use Rattle.hs_core.specs.Looking.{group_of, lost_shard, shape_of, shards_of, status_of, tasks_of}
 use Rattle.hs_core.specs.Opening.{Taken, begin_views, good_copies, new_core, note_down, note_if_down, taken_group}
 use Rattle.hs_core.specs.State.{Core}
 use Rattle.hs_core.specs.Views.{begin_view, change_view, restart}
@@ -34,7 +34,7 @@ use Rattle.hs_moments.proofs.JobLemmas.{above_front, are_grow}
 use Rattle.hs_moments.proofs.MoveLemmas.{Goes, Moves, moves_at, moves_both, moves_same}
 use Rattle.hs_moments.proofs.StepsKeepLemmas.{keeps_each, keeps_if}
 use Rattle.hs_post.specs.declared.message.Message.{Message}
-use Rattle.hs_replica.specs.Group.{Group, entries_above, last_number, new_group, renew, renewal, tell, whole_copy}
+use Rattle.hs_replica.specs.Group.{Group, entries_above, new_group, renew, renewal, tell, whole_copy}
 
 -- ---- a new view
 

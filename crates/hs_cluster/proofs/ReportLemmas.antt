@@ -1,16 +1,14 @@
 -- The first job of a peer on its disk, and the report of it, for the lists of the peers.
-use Rattle.std.proofs.Common.{◌≡◌, ◌≢◌, ◌∙◌, ◌⊎◌, inl, inr, ap, sym, subst, ℕ, ◌-◌, ◌^◌, ◌<◌, ◌≤◌, Bool, true, false, List, [], ◌∷◌, length, map, Option, Some, None, refl, arith, suc}
+use Rattle.std.proofs.Common.{◌≡◌, ◌≢◌, ◌∙◌, ◌⊎◌, inl, inr, ap, sym, subst, ℕ, true, false, List, [], ◌∷◌, length, Option, Some, None, refl, arith, suc}
 use Rattle.std.proofs.lemmas.Bool.{cases_eq}
-use Rattle.std.specs.Prelude.{Result, Ok, Err}
+use Rattle.std.specs.Prelude.{Result, Ok}
 use Rattle.hs_cluster.proofs.HeldLemmas.{HasKept, MayHave, after_may, done_is, done_may, failed_may, sealed_beside, sealed_may}
 use Rattle.hs_cluster.specs.Disks.{DiskSeen, log_at, stands_of}
-use Rattle.hs_cluster.specs.Jobs.{Leaves, LeavesLog, Tries, Working, Works, is_own, list_after, try_of, waiting_after}
+use Rattle.hs_cluster.specs.Jobs.{Leaves, LeavesLog, Tries, Working, Works, list_after, try_of}
 use Rattle.hs_cluster.specs.Kept.{KeepsLogs, sealed_front}
 use Rattle.hs_events.specs.Sane.{IsSane, appended_of}
-use Rattle.hs_core.specs.declared.event.Event.{Event}
 use Rattle.hs_core.specs.declared.event.Event.TheVariants as event
 use Rattle.hs_core.specs.Looking.{first_job}
-use Rattle.hs_core.specs.State.{Core}
 use Rattle.hs_core.specs.Step.{step}
 use Rattle.hs_desk.specs.declared.done.Done.{Done}
 use Rattle.hs_desk.specs.declared.job.Job.{Job}
@@ -21,7 +19,6 @@ use Rattle.hs_events.specs.Course.{is_refused}
 use Rattle.hs_events.specs.Due.{is_answer}
 use Rattle.hs_events.specs.Reports.{TellsOf}
 use Rattle.hs_events.specs.Whole.{Whole, counts, step_whole}
-use Rattle.hs_fold.specs.Images.{IsLeft}
 use Rattle.hs_fold.specs.Shards.Setting.{Numbered}
 use Rattle.hs_limits.specs.declared.shape.Shape.{Shape}
 use Rattle.hs_members.specs.Members.{IsPeer}

@@ -1,5 +1,5 @@
 -- That a core which goes on has room: behind one event, and behind some and others.
-use Rattle.std.proofs.Common.{◌≡◌, ◌∙◌, sym, subst, ℕ, List, [], ◌∷◌, ◌++◌, Option, None, Some}
+use Rattle.std.proofs.Common.{◌≡◌, ◌∙◌, sym, subst, ℕ, [], ◌∷◌, ◌++◌, None, Some}
 use Rattle.hs_cluster.specs.Rooms.{HaveRecordRoom}
 use Rattle.hs_core.specs.declared.event.Event.{Event}
 use Rattle.hs_core.specs.Records.{HasRecordRoom}

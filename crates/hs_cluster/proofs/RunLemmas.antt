@@ -1,5 +1,5 @@
 -- A run on disks goes on: from its opening, by the events of a line, and while the watch alone ticks.
-use Rattle.std.proofs.Common.{◌≡◌, ◌∙◌, ◌⊎◌, inl, inr, ap, sym, subst, ℕ, zero, suc, ◌+◌, ◌-◌, ◌^◌, ◌<◌, ◌≤◌, Bool, true, false, List, [], ◌∷◌, ◌++◌, length, Option, Some, None, refl, arith, nat_lt}
+use Rattle.std.proofs.Common.{◌≡◌, ◌∙◌, inl, inr, ap, sym, subst, ℕ, suc, ◌+◌, ◌-◌, ◌^◌, ◌<◌, ◌≤◌, Bool, true, false, List, [], ◌∷◌, ◌++◌, length, None, refl, arith, nat_lt}
 use Rattle.std.proofs.lemmas.Bool.{cases_lt, ne_eqb}
 use Rattle.std.proofs.lemmas.List.Sums.{sum_by-cons}
 use Rattle.std.specs.List.{AllPairs}
@@ -9,16 +9,14 @@ use Rattle.hs_cluster.proofs.GoingOnLemmas.{going_before}
 use Rattle.hs_cluster.proofs.RoomLemmas.{rooms_then}
 use Rattle.hs_cluster.proofs.ShowLemmas.{all_happened, happened_then, moments_then, rises_to, runs_append, runs_core, stored_back, stored_front, told_then}
 use Rattle.hs_cluster.proofs.TurnedLemmas.{not_ended}
-use Rattle.hs_cluster.specs.Counts.{AreAllCounted, AreCounted, NoneFalls}
 use Rattle.hs_cluster.specs.declared.fault.ClusterFault.{ClusterFault}
 use Rattle.hs_cluster.specs.Disks.{DiskSeen, seen_at, stands_of}
-use Rattle.hs_cluster.specs.Kept.{AreStored, CanGoOn, LeavesLists, Shows, Span}
-use Rattle.hs_cluster.specs.Opens.{AreSound, Finds, Opens}
+use Rattle.hs_cluster.specs.Kept.{AreStored, CanGoOn, CanRead, LeavesLists, Shows, Span}
+use Rattle.hs_cluster.specs.Opens.{AreSound, Opens}
 use Rattle.hs_cluster.specs.Rooms.{HaveRecordRoom}
 use Rattle.hs_cluster.specs.Running.{Running}
 use Rattle.hs_cluster.specs.RunsOn.{CanRunOn, RunsOn}
 use Rattle.hs_core.specs.State.{Core}
-use Rattle.hs_core.specs.Step.{step}
 use Rattle.hs_events.specs.Course.{happened, steps}
 use Rattle.hs_events.specs.Due.{Events, MomentsRise}
 use Rattle.hs_events.specs.Found.{Found, first_core}
@@ -55,11 +53,12 @@ runs_opened tells set s cluster done o = record {
   rooms = o.rooms;
   still = o.still;
   lists = o.lists;
+  told = o.told;
   read = o.read;
 }
 
 pub can_opened : (tells : Type 0) (set : Setting) (s : Taking) (cluster : Running) (done : Result ⊤ ClusterFault) (o : Opens tells set s cluster done) → OnOk done (CanRunOn tells set (opening_span s o.begun cluster) o.found o.events)
-can_opened tells set s cluster (Ok x) o = λ told sound. o.goes_on told sound
+can_opened tells set s cluster (Ok x) o = record { goes = λ told sound. o.goes_on told sound; reads = λ told. o.reads_on told }
 can_opened tells set s cluster (Err fault) o = tt
 
 -- ---- the events of a line
@@ -91,7 +90,7 @@ module _ (tells : Type 0) (set : Setting) (found : Found) (before mid now : ℕ)
   lists : tells → AreSound before disks → (first_core set found).ended ≡ None → LeavesLists c (es ++ fs) (record { before = before; now = now; old = begun; new = new; disks = disks; left = left })
   lists told sound first =
       let one = so_far.lists told sound first in
-      let two = shows.lists told behind behind_core (can told sound) in
+      let two = shows.lists told behind behind_core (can.goes told sound) in
       let mine : happened c.core es ≡ es = all_happened c.core es goes in
       let all : happened c.core (es ++ fs) ≡ es ++ happened behind.core fs = happened_then c.core es fs goes ∙ ap (λ x. es ++ happened x fs) (sym (runs_core c es)) in
       record {
@@ -114,18 +113,22 @@ module _ (tells : Type 0) (set : Setting) (found : Found) (before mid now : ℕ)
     still = λ ended. absurd (not_ended (first_core set found).ended (going_before (first_core set found) es goes) ended);
     rooms = rooms_then (first_core set found) es fs so_far.rooms (subst (λ x. HaveRecordRoom x fs) core rooms);
     lists = lists;
-    read = λ told sound first stored.
-        all_then (first_core set found) here.core es fs so_far.disks between left core (so_far.read told sound first (stored_front c es fs stored))
-        (shows.read told behind behind_core (can told sound) (stored_back c es fs stored));
+    told = λ told first. told_then c es fs (so_far.told told first) (shows.told told behind behind_core (can.reads told));
+    read = λ told first stored.
+        all_then (first_core set found) here.core es fs so_far.disks between left core (so_far.read told first (stored_front c es fs stored))
+        (shows.read told behind behind_core (can.reads told) (stored_back c es fs stored));
   }
 
   pub can_more : OnOk r (CanRunOn tells set (record { before = before; now = now; old = begun; new = new; disks = disks; left = left }) found (es ++ fs))
-  can_more = by r (λ told sound. shows.goes_on told behind behind_core (can told sound))
+  can_more = by r (λ told sound. shows.goes_on told behind behind_core (can.goes told sound)) (λ told. shows.reads_on told behind behind_core (can.reads told))
     where
-      by : (r : Result ⊤ ClusterFault) → (tells → AreSound before disks → OnOk r (CanGoOn (runs whole_machine behind fs) new.logs left now))
+      by : (r : Result ⊤ ClusterFault) → (tells → AreSound before disks → OnOk r (CanGoOn (runs whole_machine behind fs) new.logs left now)) → (tells → OnOk r (CanRead (runs whole_machine behind fs) new.logs left))
           → OnOk r (CanRunOn tells set (record { before = before; now = now; old = begun; new = new; disks = disks; left = left }) found (es ++ fs))
-      by (Err fault) h = tt
-      by (Ok x) h = λ told sound. subst (λ s. CanGoOn s new.logs left now) (sym (runs_append c es fs)) (h told sound)
+      by (Err fault) h g = tt
+      by (Ok x) h g = record {
+        goes = λ told sound. subst (λ s. CanGoOn s new.logs left now) (sym (runs_append c es fs)) (h told sound);
+        reads = λ told. subst (λ s. CanRead s new.logs left) (sym (runs_append c es fs)) (g told);
+      }
 
 -- ---- time alone
 
@@ -170,19 +173,23 @@ runs_later tells set found before now later begun cluster disks left es ticks ri
   rooms = so_far.rooms;
   still = so_far.still;
   lists = λ told sound first. lists_later (open_whole set found) es before now later begun cluster disks left ticks (rises_from before found.opened now es so_far.finds.later rises) (since told) (so_far.lists told sound first);
+  told = so_far.told;
   read = so_far.read;
 }
 
 pub can_later : (tells : Type 0) (set : Setting) (found : Found) (before now later : ℕ) (begun cluster : Running) (disks left : List DiskSeen) (es : Events) → now ≤ later
     → CanRunOn tells set (record { before = before; now = now; old = begun; new = cluster; disks = disks; left = left }) found es
     → CanRunOn tells set (record { before = before; now = later; old = begun; new = cluster; disks = disks; left = left }) found es
-can_later tells set found before now later begun cluster disks left es ticks can = λ told sound.
-    let so_far = can told sound in
-    record {
-      sane = so_far.sane;
-      listed = so_far.listed;
-      keeps = later-keeps whole_machine IsFrontOf last_of (runs whole_machine (open_whole set found) es) now later (stands_of left) ticks so_far.keeps;
-    }
+can_later tells set found before now later begun cluster disks left es ticks can = record {
+  goes = λ told sound.
+      let so_far = can.goes told sound in
+      record {
+        sane = so_far.sane;
+        listed = so_far.listed;
+        keeps = later-keeps whole_machine IsFrontOf last_of (runs whole_machine (open_whole set found) es) now later (stands_of left) ticks so_far.keeps;
+      };
+  reads = can.reads;
+}
 
 -- ---- failed calls from entry on
 
@@ -223,12 +230,12 @@ lost_before tells set s found es on told disk =
     (λ x among same. subst (λ p. HasRisen (seen_at s.disks p).faults (seen_at on.disks p).faults) same ((on.finds.lost x among).disk.failed told)) on.finds.once
 
 -- those of opening's reading, with those that the reports tell
-pub all_failed : (tells : Type 0) (set : Setting) (s : Span) (found : Found) (es : Events) → RunsOn tells set s found es → tells → AreSound s.before s.disks → (first_core set found).ended ≡ None → AreStored (open_whole set found) es
+pub all_failed : (tells : Type 0) (set : Setting) (s : Span) (found : Found) (es : Events) → RunsOn tells set s found es → tells → (first_core set found).ended ≡ None → AreStored (open_whole set found) es
     → (disk : ℕ) → RoseBy (failures true disk (first_core set found) es + count_by (λ x. x.0 == disk) found.lost) (seen_at s.disks disk).faults (seen_at s.left disk).faults
-all_failed tells set s found es on told sound first stored = λ disk.
+all_failed tells set s found es on told first stored = λ disk.
     subst (λ n. RoseBy n (seen_at s.disks disk).faults (seen_at s.left disk).faults) (swapped (count_by (λ x. x.0 == disk) found.lost) (failures true disk (first_core set found) es))
     (rose_then (2 ^ 64 - 1) (seen_at s.disks disk).faults (seen_at on.disks disk).faults (seen_at s.left disk).faults (count_by (λ x. x.0 == disk) found.lost) (failures true disk (first_core set found) es)
-    (lost_before tells set s found es on told disk) (on.read told sound first stored disk))
+    (lost_before tells set s found es on told disk) (on.read told first stored disk))
   where
     swapped : (a b : ℕ) → a + b ≡ b + a
     swapped a b = omega arith

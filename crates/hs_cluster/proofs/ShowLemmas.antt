@@ -1,9 +1,10 @@
 -- What events show of the disks: one event, and one run of them behind another.
-use Rattle.std.proofs.Common.{◌≡◌, ◌≢◌, ◌∙◌, ◌⊎◌, inl, inr, ap, sym, subst, ℕ, ◌-◌, ◌^◌, ◌<◌, ◌≤◌, Bool, true, false, List, [], ◌∷◌, ◌++◌, length, Option, Some, None, refl, arith, is_none, nat_lt}
+use Rattle.std.proofs.Common.{◌≡◌, ◌∙◌, inl, inr, ap, sym, subst, ℕ, ◌-◌, ◌^◌, ◌<◌, ◌≤◌, Bool, true, false, List, [], ◌∷◌, ◌++◌, Option, Some, None, refl, arith, is_none, nat_lt}
 use Rattle.std.proofs.lemmas.Bool.{cases_eq, cases_lt}
-use Rattle.std.specs.Prelude.{OnOk, Result, Ok, Err, ⊤, if◌then◌else◌}
+use Rattle.std.specs.Prelude.{IsSome, OnOk, Result, Ok, Err, ⊤, if◌then◌else◌}
 use Rattle.hs_cluster.proofs.CountLemmas.{all_none, all_one, all_quiet, all_still, all_then, counted_none, counted_one, counted_quiet, counted_still, counted_then}
 use Rattle.hs_cluster.proofs.EventLemmas.{still_going}
+use Rattle.hs_cluster.proofs.ReadLemmas.{quiet_reads, report_reads, some_job}
 use Rattle.hs_cluster.proofs.ReportLemmas.{call_fine, report_fine, report_logs, report_told}
 use Rattle.hs_moments.proofs.SaneLemmas.{growing_beside, growing_without_call, sane_stays}
 use Rattle.hs_cluster.proofs.HeldLemmas.{own_job, sealed_stays}
@@ -12,8 +13,8 @@ use Rattle.hs_cluster.specs.declared.fault.ClusterFault.{ClusterFault}
 use Rattle.hs_cluster.specs.declared.fault.ClusterFault.TheVariants.{NoMemory}
 use Rattle.hs_cluster.specs.Counts.{AreAllCounted, HasAllPaid, HasPaid, NoneFalls}
 use Rattle.hs_cluster.specs.Disks.{DiskSeen, log_at, stands_of}
-use Rattle.hs_cluster.specs.Jobs.{HasStored, TellsBytes, Working, Works, is_own}
-use Rattle.hs_cluster.specs.Kept.{AreStored, AreTold, CanGoOn, IsTold, KeepsLogs, LeavesLists, Shows, Span, sealed_front}
+use Rattle.hs_cluster.specs.Jobs.{HasStored, ReadsOn, TellsBytes, Working, Works, is_own}
+use Rattle.hs_cluster.specs.Kept.{AreStored, AreTold, CanGoOn, CanRead, IsTold, KeepsLogs, LeavesLists, ReadsLogs, Shows, Span, sealed_front}
 use Rattle.hs_cluster.specs.Rooms.{HaveRecordRoom}
 use Rattle.hs_cluster.specs.Running.{Running}
 use Rattle.hs_events.specs.Sane.{IsSane, appended_of}
@@ -24,6 +25,7 @@ use Rattle.hs_core.specs.State.{Core}
 use Rattle.hs_core.specs.Step.{step}
 use Rattle.hs_desk.specs.declared.done.Done.{Done}
 use Rattle.hs_desk.specs.declared.fault.CoreFault.{CoreFault}
+use Rattle.hs_desk.specs.declared.job.Job.{Job}
 use Rattle.hs_entry.specs.declared.entry.Entry.{Entry}
 use Rattle.hs_events.proofs.GoingLemmas.{step_goes}
 use Rattle.hs_events.specs.Asked.{report_in}
@@ -39,7 +41,7 @@ use Rattle.hs_moments.proofs.MomentLemmas.{call-keeps, le-is, lt-is, quiet-keeps
 use Rattle.hs_moments.specs.Machine.{runs, state_at, until}
 use Rattle.hs_moments.specs.Moments.{EachImageOfOne, GivesFine, Grows, IsStanding, Keeps, ListsAtMoments, Since}
 use Rattle.hs_moments.specs.WholeMachine.{IsFrontOf, last_of, whole_machine}
-use Rattle.hs_peerlog.specs.Lists.{HasLog, Keeping}
+use Rattle.hs_peerlog.specs.Lists.{HasLog, IsKept, Keeping}
 use Rattle.hs_ports.specs.declared.disk.Side.{Side}
 use Rattle.hs_ports.specs.Disk.{IsImage, Standing}
 use Rattle.hs_ports.specs.Moments.{disk_at}
@@ -170,9 +172,20 @@ quiet_shows e now old new disks r quiet was does less = record {
     told = told_by c e now r (subst (λ o. IsTold c o) (sym quiet) tt);
   };
   goes_on = λ told c core can. go r does c core can;
+  told = λ told c core can. told_by c e now r (subst (λ o. IsTold c o) (sym quiet) tt);
   read = λ told c core can stored. all_quiet old.core e now r disks quiet;
+  reads_on = λ told c core can. reading r does c core can;
 }
   where
+    reading : (r : Result ⊤ ClusterFault) → Does (done_of r (e, now)) old new r → (c : Whole) → c.core ≡ old.core → CanRead c old.logs disks → OnOk r (CanRead (runs whole_machine c (done_of r (e, now))) new.logs disks)
+    reading (Err fault) does c core can = tt
+    reading (Ok done) does c core can =
+        let going : (step e now c.core).ended ≡ None = ap (λ x. (step e now x).ended) core ∙ step_going e now old new does in
+        record {
+          sane = sane_stays c e now can.sane going;
+          listed = quiet_reads c e now old.logs new.logs disks can.sane (ap (λ (x : Core). x.ended) core ∙ was) quiet going less can.listed;
+        }
+
     go : (r : Result ⊤ ClusterFault) → Does (done_of r (e, now)) old new r → (c : Whole) → c.core ≡ old.core → CanGoOn c old.logs disks now → OnOk r (CanGoOn (runs whole_machine c (done_of r (e, now))) new.logs disks now)
     go (Err fault) does c core can = tt
     go (Ok done) does c core can =
@@ -195,7 +208,9 @@ none_shows now old new disks = record {
     told = tt;
   };
   goes_on = λ told c core can. tt;
+  told = λ told c core can. tt;
   read = λ told c core can stored. all_still old.core disks;
+  reads_on = λ told c core can. tt;
 }
 
 pub begin_shows : (tells : Type 0) (now : ℕ) (old : Running) (disks : List DiskSeen) → Shows tells (record { before = now; now = now; old = old; new = old; disks = disks; left = disks }) (Ok tt) []
@@ -208,16 +223,18 @@ begin_shows tells now old disks = record {
     told = tt;
   };
   goes_on = λ told c core can. can;
+  told = λ told c core can. tt;
   read = λ told c core can stored. all_still old.core disks;
+  reads_on = λ told c core can. can;
 }
 
 -- whatever the disks tell
 pub any_shows : (tells : Type 0) (span : Span) (r : Result ⊤ ClusterFault) (es : Events) → Shows ⊤ span r es → Shows tells span r es
-any_shows tells span r es shows = record { counted = shows.counted; lists = λ told. shows.lists tt; goes_on = λ told. shows.goes_on tt; read = λ told. shows.read tt }
+any_shows tells span r es shows = record { counted = shows.counted; lists = λ told. shows.lists tt; goes_on = λ told. shows.goes_on tt; told = λ told. shows.told tt; read = λ told. shows.read tt; reads_on = λ told. shows.reads_on tt }
 
 -- it is given up
 pub cut_shows : (tells : Type 0) (span : Span) (fault : ClusterFault) (es : Events) → Shows tells span (Ok tt) es → Shows tells span (Err fault) es
-cut_shows tells span fault es shows = record { counted = shows.counted; lists = shows.lists; goes_on = λ told c core can. tt; read = shows.read }
+cut_shows tells span fault es shows = record { counted = shows.counted; lists = shows.lists; goes_on = λ told c core can. tt; told = shows.told; read = shows.read; reads_on = λ told c core can. tt }
 
 -- ---- a call and its report
 
@@ -283,7 +300,9 @@ job_cut tells before now peer old new after disks left {E = E} result is since w
       let call = call_fine c w can.sane low can.listed can.keeps result done in
       call_lists c before now peer (stands_of disks) (stands_of left) (since told) can.keeps call (record { before = before; now = now; old = old; new = new; disks = disks; left = left }) refl refl refl refl;
   goes_on = λ told c core can. tt;
+  told = λ told c core can. tt;
   read = λ told c core can stored. all_none old.core disks left falls;
+  reads_on = λ told c core can. tt;
 }
 
 -- the job was done, and its report came, unless memory ran out or it was refused
@@ -291,10 +310,13 @@ pub job_shows : (tells : Type 0) (before now peer : ℕ) (old new : Running) (af
     → old.core.ended ≡ None → is_answer old.core peer done ≡ true → (tells → Since (stands_of disks))
     → (tells → is_own (first_job peer old.core) ≡ true → Works {E = E} (record { peer = peer; before = before; now = now; logs = old.logs; after = after; disks = disks; left = left }) (first_job peer old.core) (Ok done))
     → new.logs ≡ after → Does (done_of r (event.Report peer done, now)) old new r → NoneFalls disks left → HasPaid old.core peer done disks left → TellsBytes done
-    → (tells → is_own (first_job peer old.core) ≡ true → (list : Numbered) (waiting : Option Entry) → ((keeping : Keeping) → log_at old.logs peer ≡ Some keeping → HasLog keeping (disk_at (stands_of disks) peer) list waiting)
+    → (tells → is_own (first_job peer old.core) ≡ true → (list : Numbered) (waiting : Option Entry) → ((keeping : Keeping) → log_at old.logs peer ≡ Some keeping → IsKept keeping ((disk_at (stands_of disks) peer).seen keeping.log.side) list waiting)
     → HasStored (first_job peer old.core) (catalogue_of (home peer old.core) old.core).blocks list → HasAllPaid old.core peer done disks left)
+    → (is_own (first_job peer old.core) ≡ true → IsSome (log_at old.logs peer))
+    → (tells → is_own (first_job peer old.core) ≡ true → (list : Numbered) (waiting : Option Entry) → ((keeping : Keeping) → log_at old.logs peer ≡ Some keeping → IsKept keeping ((disk_at (stands_of disks) peer).seen keeping.log.side) list waiting)
+    → (j : Job) → first_job peer old.core ≡ Some j → ReadsOn (log_at after peer) (disk_at (stands_of left) peer) j list waiting done)
     → Shows tells (record { before = before; now = now; old = old; new = new; disks = disks; left = left }) r (done_of r (event.Report peer done, now))
-job_shows tells before now peer old new after disks left E done r is was answer since works kept does falls paid bytes all = record {
+job_shows tells before now peer old new after disks left E done r is was answer since works kept does falls paid bytes all had reads = record {
   counted = counted_one old.core (event.Report peer done) now r disks left falls paid;
   lists = λ told c core can.
       let low : IsPeer c.core.members.shape peer = subst (λ (x : Core). IsPeer x.members.shape peer) (sym core) is in
@@ -310,7 +332,9 @@ job_shows tells before now peer old new after disks left E done r is was answer 
         told = told_by c e now r (report_told c w can.sane low can.listed can.keeps done now E done_then answers, bytes);
       };
   goes_on = λ told c core can. go r does told c core can;
+  told = λ told c core can. told_by c e now r ((reads_then told c core can).told, bytes);
   read = λ told c core can stored. read_then told c core can (ran_out r) stored;
+  reads_on = λ told c core can. reading r does told c core can;
 }
   where
     e : Event
@@ -325,13 +349,38 @@ job_shows tells before now peer old new after disks left E done r is was answer 
         let own : is_own (first_job peer old.core) ≡ true = subst (λ x. is_own (first_job peer x) ≡ true) core (own_job c peer can.sane) in
         subst (λ x. Works {E = E} w (first_job peer x) (Ok done)) (sym core) (works told own)
 
-    read_then : tells → (c : Whole) → c.core ≡ old.core → CanGoOn c old.logs disks before → (b : Bool) → AreStored c (if b then [] else (e, now) ∷ []) → AreAllCounted old.core (if b then [] else (e, now) ∷ []) disks left
+    low_in : (c : Whole) → c.core ≡ old.core → IsPeer c.core.members.shape peer
+    low_in c core = subst (λ (x : Core). IsPeer x.members.shape peer) (sym core) is
+
+    own_in : (c : Whole) → c.core ≡ old.core → IsSane c → is_own (first_job peer old.core) ≡ true
+    own_in c core sane = subst (λ x. is_own (first_job peer x) ≡ true) core (own_job c peer sane)
+
+    -- there was a job
+    job_in : (j : Job) × (first_job peer old.core ≡ Some j)
+    job_in = some_job old.core peer done answer
+
+    reads_then : tells → (c : Whole) → c.core ≡ old.core → CanRead c old.logs disks → ReadsOn (log_at after peer) (disk_at (stands_of left) peer) job_in.0 (sealed_front c peer) (appended_of peer c.core) done
+    reads_then told c core can = reads told (own_in c core can.sane) (sealed_front c peer) (appended_of peer c.core) (λ keeping at. can.listed.each peer keeping (low_in c core) at) job_in.0 job_in.1
+
+    reading : (r : Result ⊤ ClusterFault) → Does (done_of r (e, now)) old new r → tells → (c : Whole) → c.core ≡ old.core → CanRead c old.logs disks → OnOk r (CanRead (runs whole_machine c (done_of r (e, now))) new.logs left)
+    reading (Err fault) does told c core can = tt
+    reading (Ok x) does told c core can =
+        let going : (step e now c.core).ended ≡ None = ap (λ x. (step e now x).ended) core ∙ step_going e now old new does in
+        let answers : is_answer c.core peer done ≡ true = subst (λ x. is_answer x peer done ≡ true) (sym core) answer in
+        let own = own_in c core can.sane in
+        let done_then = works told own in
+        record {
+          sane = sane_stays c e now can.sane going;
+          listed = subst (λ l. ReadsLogs (step_whole e now c) l left) (sym kept)
+              (report_reads c peer now old.logs after disks left can.sane (low_in c core) can.listed done answers job_in.0 (ap (λ x. first_job peer x) core ∙ job_in.1) (had own) (reads_then told c core can) done_then.logs done_then.others
+              (ap (λ (x : Core). x.ended) core ∙ was) going);
+        }
+
+    read_then : tells → (c : Whole) → c.core ≡ old.core → CanRead c old.logs disks → (b : Bool) → AreStored c (if b then [] else (e, now) ∷ []) → AreAllCounted old.core (if b then [] else (e, now) ∷ []) disks left
     read_then told c core can true stored = all_none old.core disks left falls
     read_then told c core can false stored =
-        let low : IsPeer c.core.members.shape peer = subst (λ (x : Core). IsPeer x.members.shape peer) (sym core) is in
-        let own : is_own (first_job peer old.core) ≡ true = subst (λ x. is_own (first_job peer x) ≡ true) core (own_job c peer can.sane) in
         all_one old.core e now (Ok tt) disks left falls
-        (all told own (sealed_front c peer) (appended_of peer c.core) (λ keeping at. can.listed.each peer keeping low at)
+        (all told (own_in c core can.sane) (sealed_front c peer) (appended_of peer c.core) (λ keeping at. can.listed.each peer keeping (low_in c core) at)
         (subst (λ x. HasStored (first_job peer x) (catalogue_of (home peer x) x).blocks (sealed_front c peer)) core (stored.0 (ap (λ (x : Core). x.ended) core ∙ was) peer)))
 
     keeps_then : tells → (c : Whole) → c.core ≡ old.core → CanGoOn c old.logs disks before → is_refused (step e now c.core).ended ≡ false → Keeps whole_machine IsFrontOf last_of (step_whole e now c) now (stands_of left)
@@ -418,9 +467,12 @@ shows_then tells before mid now old here new disks between left r es fs does ris
       };
   goes_on = λ told c core can.
       subst (λ s. OnOk r (CanGoOn s new.logs left now)) (sym (runs_append c es fs)) (second.goes_on told (runs whole_machine c es) (core_then c core) (first.goes_on told c core can));
+  told = λ told c core can. told_then c es fs (first.told told c core can) (second.told told (runs whole_machine c es) (core_then c core) (first.reads_on told c core can));
   read = λ told c core can stored.
       all_then old.core here.core es fs disks between left (does.core refl) (first.read told c core can (stored_front c es fs stored))
-      (second.read told (runs whole_machine c es) (core_then c core) (first.goes_on told c core can) (stored_back c es fs stored));
+      (second.read told (runs whole_machine c es) (core_then c core) (first.reads_on told c core can) (stored_back c es fs stored));
+  reads_on = λ told c core can.
+      subst (λ s. OnOk r (CanRead s new.logs left)) (sym (runs_append c es fs)) (second.reads_on told (runs whole_machine c es) (core_then c core) (first.reads_on told c core can));
 }
   where
     core_then : (c : Whole) → c.core ≡ old.core → (runs whole_machine c es).core ≡ here.core

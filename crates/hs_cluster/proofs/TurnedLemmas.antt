@@ -2,7 +2,7 @@
 use Rattle.std.proofs.Common.{◌≡◌, ◌∙◌, ap, sym, subst, ℕ, Bool, true, false, List, [], ◌∷◌, ◌+◌, Option, Some, None, refl, is_none, is_some, not, if◌then◌else◌, arith}
 use Rattle.std.proofs.lemmas.List.{append-nil}
 use Rattle.std.specs.Option.{option_and_then, option_map, option_map_or}
-use Rattle.std.specs.Prelude.{IsSome, Result, Ok, Err, ⊤, ◌||◌, is_ok, length, nat_lt}
+use Rattle.std.specs.Prelude.{IsSome, Result, Ok, Err, ⊤, is_ok, length, nat_lt}
 use Rattle.hs_cluster.proofs.ShowLemmas.{begin_shows, cut_shows}
 use Rattle.hs_cluster.specs.Begins.{Begins, HasOpened, HasTurned}
 use Rattle.hs_cluster.specs.Calls.{of_core, outcome_by, ran_out}

@@ -1,9 +1,9 @@
 -- Events that are due one after another.
-use Rattle.std.proofs.Common.{◌≡◌, ◌∙◌, ap, sym, subst, ℕ, ◌*◌, ◌<◌, ◌≤◌, ◌&&◌, Bool, true, false, List, [], ◌∷◌, ◌++◌, Option, Some, None, refl, arith, is_none, map, nat_lt, not}
+use Rattle.std.proofs.Common.{◌≡◌, ◌∙◌, ap, sym, subst, ℕ, ◌*◌, ◌<◌, ◌≤◌, Bool, true, false, List, [], ◌∷◌, ◌++◌, Option, Some, None, refl, arith, is_none, map, nat_lt}
 use Rattle.std.proofs.lemmas.List.{append-nil}
 use Rattle.std.specs.List.{list_any, range_with_len}
 use Rattle.std.specs.Option.{option_and_then, option_map_or}
-use Rattle.std.specs.Prelude.{slice_index_or, Result, Ok, Err, ⊤, ◌==◌, is_ok, if◌then◌else◌}
+use Rattle.std.specs.Prelude.{slice_index_or, Result, Ok, Err, ⊤, ◌==◌, if◌then◌else◌}
 use Rattle.hs_cluster.proofs.EventLemmas.{does_then, nothing_done, still_going}
 use Rattle.hs_events.proofs.NotedLemmas.{at_from_zero}
 use Rattle.hs_events.proofs.RangeLemmas.{any_same}
@@ -13,7 +13,7 @@ use Rattle.hs_events.specs.declared.due.Due.TheVariants.{Reporting, Handling, Nu
 use Rattle.hs_events.specs.declared.due.Place.{Place}
 use Rattle.hs_cluster.specs.declared.fault.ClusterFault.{ClusterFault}
 use Rattle.hs_cluster.specs.declared.fault.ClusterFault.TheVariants.{NoMemory}
-use Rattle.hs_events.specs.Due.{Events, MomentsRise, Walked, first_place, is_answer, is_it, is_walk, move, peer_due, place_after, raises_known, walk}
+use Rattle.hs_events.specs.Due.{Events, MomentsRise, Walked, first_place, is_answer, is_it, move, peer_due, place_after, raises_known, walk}
 use Rattle.hs_cluster.specs.Running.{Running}
 use Rattle.hs_cluster.specs.Settling.{DoesDue, HasWalked, RunsWalk, due_with}
 use Rattle.hs_core.specs.declared.event.Event.{Event}

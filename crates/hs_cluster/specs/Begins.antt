@@ -1,6 +1,6 @@
 -- What a cluster begins with, from the logs that were taken, and its first turns.
 use Rattle.std.specs.Option.{option_map_or}
-use Rattle.std.specs.Prelude.{◌≡◌, ◌*◌, ◌++◌, ◌∷◌, ◌<◌, ◌≤◌, ℕ, ⊤, List, [], flat_map, is_some, length, map, not, IsSome, None, Ok, Result, Some, true}
+use Rattle.std.specs.Prelude.{◌≡◌, ◌*◌, ◌++◌, ◌∷◌, ◌<◌, ◌≤◌, ℕ, ⊤, List, [], flat_map, is_some, length, map, not, IsSome, Result, Some, true}
 use Rattle.hs_cluster.specs.Calls.{Does, ran_out}
 use Rattle.hs_cluster.specs.Counts.{NoneFalls}
 use Rattle.hs_cluster.specs.declared.fault.ClusterFault.{ClusterFault}
@@ -8,7 +8,6 @@ use Rattle.hs_cluster.specs.declared.fault.ClusterFault.TheVariants as fault
 use Rattle.hs_cluster.specs.Kept.{Shows, Span as Turns}
 use Rattle.hs_cluster.specs.Running.{Running}
 use Rattle.hs_core.specs.Opening.{Taken as Opened, open_core}
-use Rattle.hs_core.specs.State.{Core}
 use Rattle.hs_events.specs.Due.{Events, MomentsRise, is_walk, next_turn}
 use Rattle.hs_fold.specs.Shards.Setting.{Setting}
 use Rattle.hs_limits.specs.declared.shape.Shape.{Shape}

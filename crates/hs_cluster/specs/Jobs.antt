@@ -10,7 +10,7 @@ use Rattle.hs_events.specs.Asked.{failed_disk}
 use Rattle.hs_events.specs.Reports.{TellsOf}
 use Rattle.hs_fold.specs.Shards.Setting.{Numbered}
 use Rattle.hs_peerlog.specs.Images.{IsOne, LeavesAll, LeavesEach}
-use Rattle.hs_peerlog.specs.Lists.{HasLog, Keeping, with_waiting}
+use Rattle.hs_peerlog.specs.Lists.{HasLog, IsKept, Keeping, with_waiting}
 use Rattle.hs_ports.specs.Disk.{Standing}
 use Rattle.hs_ports.specs.Moments.{disk_at}
 use Rattle.hs_shard.specs.Facts.{BlockList, pointers_at}
@@ -90,6 +90,16 @@ pub record Leaves {E : Type 0} (t : Try) (j : Job) (list : Numbered) (waiting : 
   pub moments : LeavesEach t.before t.now t.old t.new (IsOne list (list_after j list waiting))
   pub log : IfOk result (λ done. LeavesLog (failed_disk done) t j list waiting)
   pub told : IfOk result (λ done. TellsOf done (Some list))
+
+-- what reads of a log give behind a job: what was done is on the disk; a disk whose call failed is out of use
+abbrev pub ReadsLog : Option ℕ → Option Keeping → Standing → Job → Numbered → Option Entry → Type 0
+ReadsLog None slot disk j list waiting =
+    (keeping : Keeping) × (slot ≡ Some keeping) × IsKept keeping (disk.seen keeping.log.side) (list_after j list waiting) (waiting_after j waiting)
+ReadsLog (Some failed) slot disk j list waiting = slot ≡ None
+
+pub record ReadsOn (slot : Option Keeping) (disk : Standing) (j : Job) (list : Numbered) (waiting : Option Entry) (done : Done) : Type 0 where
+  pub log : ReadsLog (failed_disk done) slot disk j list waiting
+  pub told : TellsOf done (Some list)
 
 -- so with the list that the log has; without a job, or without a log, nothing is done, and the disk stays as it is
 pub record Tries {E : Type 0} (t : Try) (todo : Option Job) (result : Result Done E) : Type 0 where

@@ -18,7 +18,7 @@ use Rattle.hs_members.specs.Members.{IsPeer}
 use Rattle.hs_moments.specs.Machine.{runs}
 use Rattle.hs_moments.specs.Moments.{Keeps, ListsAtMoments}
 use Rattle.hs_moments.specs.WholeMachine.{IsFrontOf, last_of, whole_machine}
-use Rattle.hs_peerlog.specs.Lists.{HasLog, Keeping}
+use Rattle.hs_peerlog.specs.Lists.{HasLog, IsKept, Keeping}
 use Rattle.hs_ports.specs.declared.disk.Side.{Side}
 use Rattle.hs_ports.specs.Moments.{disk_at}
 
@@ -38,6 +38,16 @@ pub record CanGoOn (c : Whole) (logs : List (Option Keeping)) (disks : List Disk
   pub sane : IsSane c
   pub listed : KeepsLogs c logs disks
   pub keeps : Keeps whole_machine IsFrontOf last_of c now (stands_of disks)
+
+-- the log of each disk in use reads so, whatever a crash leaves
+pub record ReadsLogs (c : Whole) (logs : List (Option Keeping)) (disks : List DiskSeen) : Type 0 where
+  pub each : (peer : ℕ) (keeping : Keeping) → IsPeer c.core.members.shape peer → log_at logs peer ≡ Some keeping
+      → IsKept keeping ((disk_at (stands_of disks) peer).seen keeping.log.side) (sealed_front c peer) (appended_of peer c.core)
+
+-- what a cluster keeps to read on
+pub record CanRead (c : Whole) (logs : List (Option Keeping)) (disks : List DiskSeen) : Type 0 where
+  pub sane : IsSane c
+  pub listed : ReadsLogs c logs disks
 
 -- ---- a call, or some
 
@@ -76,11 +86,14 @@ abbrev pub AreStored : Whole → Events → Type 0
 AreStored c [] = ⊤
 AreStored c (e ∷ es) = (c.core.ended ≡ None → IsStored c) × AreStored (step_whole e.0 e.1 c) es
 
--- what the events of a call show. Of whatever disks: what they report of failed calls is at the counts. Of those that tell their contents, for the lists with which the call began: the lists at each moment; behind it the cluster keeps what it needs to go on; and reads too cost what is reported of failed calls
+-- what the events of a call show. Of whatever disks: what they report of failed calls is at the counts. Of those that tell their contents: what is told of blocks, and that reads too cost what is reported
+-- of failed calls; and, where a stop leaves the lists with which the call began, the lists at each moment. Behind it the cluster keeps what it needs to go on
 pub record Shows (tells : Type 0) (span : Span) (result : Result ⊤ ClusterFault) (events : Events) : Type 0 where
   pub counted : AreCounted span.old.core events span.disks span.left
   pub lists : tells → (c : Whole) → c.core ≡ span.old.core → CanGoOn c span.old.logs span.disks span.before → LeavesLists c events span
   pub goes_on : tells → (c : Whole) → c.core ≡ span.old.core → CanGoOn c span.old.logs span.disks span.before
       → OnOk result (CanGoOn (runs whole_machine c events) span.new.logs span.left span.now)
-  pub read : tells → (c : Whole) → c.core ≡ span.old.core → CanGoOn c span.old.logs span.disks span.before → AreStored c events
-      → AreAllCounted span.old.core events span.disks span.left
+  -- for logs that read so, whatever a stop leaves
+  pub told : tells → (c : Whole) → c.core ≡ span.old.core → CanRead c span.old.logs span.disks → AreTold c events
+  pub read : tells → (c : Whole) → c.core ≡ span.old.core → CanRead c span.old.logs span.disks → AreStored c events → AreAllCounted span.old.core events span.disks span.left
+  pub reads_on : tells → (c : Whole) → c.core ≡ span.old.core → CanRead c span.old.logs span.disks → OnOk result (CanRead (runs whole_machine c events) span.new.logs span.left)

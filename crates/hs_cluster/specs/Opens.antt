@@ -4,10 +4,9 @@ use Rattle.std.specs.Prelude.{◌≡◌, ◌⊎◌, ◌++◌, ◌<◌, ◌≤◌
 use Rattle.hs_cluster.specs.Calls.{outcome_by, ran_out}
 use Rattle.hs_cluster.specs.Counts.{AreAllCounted, AreCounted, NoneFalls}
 use Rattle.hs_cluster.specs.declared.fault.ClusterFault.{ClusterFault}
-use Rattle.hs_cluster.specs.Kept.{AreStored, CanGoOn, LeavesLists}
+use Rattle.hs_cluster.specs.Kept.{AreStored, AreTold, CanGoOn, CanRead, LeavesLists}
 use Rattle.hs_cluster.specs.Rooms.{HaveRecordRoom}
 use Rattle.hs_cluster.specs.Running.{Running}
-use Rattle.hs_core.specs.State.{Core}
 use Rattle.hs_events.specs.Beginning.{first_items}
 use Rattle.hs_events.specs.Course.{items_of, steps}
 use Rattle.hs_events.specs.Due.{Events, MomentsRise, is_walk, next_turn}
@@ -19,7 +18,7 @@ use Rattle.hs_moments.specs.Machine.{runs}
 use Rattle.hs_moments.specs.WholeMachine.{whole_machine}
 use Rattle.hs_peerlog.specs.Images.{LeavesOnly}
 use Rattle.hs_peerlog.specs.declared.fault.LogFault.TheVariants as log
-use Rattle.hs_peerlog.specs.Lists.{HasLog, Keeping}
+use Rattle.hs_peerlog.specs.Lists.{HasLog, IsKept, Keeping}
 use Rattle.hs_peerlog.specs.Opening.{refusal_in}
 use Rattle.hs_ports.specs.Fault.{HasRisen}
 use Rattle.hs_side.specs.Current.{list_in}
@@ -46,6 +45,9 @@ pub record IsFound (tells : Type 0) (set : Setting) (span : Span) (found : Found
   pub disk : KeepsDisk tells span.before span.now (seen_at span.old peer) (seen_at span.new peer)
   pub log : tells → (seen_at span.old peer).stands.last ≤ span.before → (keeping : Keeping) → log_at logs peer ≡ Some keeping
       → HasLog keeping (seen_at span.new peer).stands (opened_list set found peer) None
+  -- reads of the disk give it, whatever a stop leaves
+  pub reads : tells → (keeping : Keeping) → log_at logs peer ≡ Some keeping
+      → IsKept keeping ((seen_at span.new peer).stands.seen keeping.log.side) (opened_list set found peer) None
 
 -- a peer of a taken log whose disk failed before the core was opened, and when
 pub record IsLostLog (tells : Type 0) (set : Setting) (span : Span) (found : Found) (x : ℕ × ℕ) : Type 0 where
@@ -100,5 +102,7 @@ pub record Opens (tells : Type 0) (set : Setting) (span : Span) (cluster : Runni
   pub lists : tells → AreSound span.before span.old → (first_core set found).ended ≡ None
       → LeavesLists (open_whole set found) events (record { before = span.before; now = span.now; old = begun; new = cluster; disks = span.old; left = span.new })
   pub goes_on : tells → AreSound span.before span.old → OnOk done (CanGoOn (runs whole_machine (open_whole set found) events) cluster.logs span.new span.now)
-  pub read : tells → AreSound span.before span.old → (first_core set found).ended ≡ None → AreStored (open_whole set found) events
-      → AreAllCounted (first_core set found) events disks span.new
+  -- and, however the disks were at entry, what was told of blocks; and that reads too cost what is reported of failed calls
+  pub told : tells → (first_core set found).ended ≡ None → AreTold (open_whole set found) events
+  pub read : tells → (first_core set found).ended ≡ None → AreStored (open_whole set found) events → AreAllCounted (first_core set found) events disks span.new
+  pub reads_on : tells → OnOk done (CanRead (runs whole_machine (open_whole set found) events) cluster.logs span.new)

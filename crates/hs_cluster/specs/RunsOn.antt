@@ -2,7 +2,7 @@
 use Rattle.std.specs.Prelude.{IsSome, List, None, Option, Some, length, ℕ, ◌<◌, ◌≡◌}
 use Rattle.hs_cluster.specs.Counts.{AreAllCounted, AreCounted, NoneFalls}
 use Rattle.hs_cluster.specs.Disks.{DiskSeen, seen_at}
-use Rattle.hs_cluster.specs.Kept.{AreStored, CanGoOn, LeavesLists, Span}
+use Rattle.hs_cluster.specs.Kept.{AreStored, AreTold, CanGoOn, CanRead, LeavesLists, Span}
 use Rattle.hs_cluster.specs.Opens.{AreSound, Finds}
 use Rattle.hs_cluster.specs.Rooms.{HaveRecordRoom}
 use Rattle.hs_events.specs.Due.{Events}
@@ -32,11 +32,11 @@ pub record RunsOn (tells : Type 0) (set : Setting) (span : Span) (found : Found)
   -- where the core had ended nothing came behind the reading
   pub still : IsSome (first_core set found).ended → span.left ≡ disks
   pub lists : tells → AreSound span.before span.disks → (first_core set found).ended ≡ None → LeavesLists (open_whole set found) events span
-  -- reads too cost what they tell of failed calls, where the lists have what the catalogues say
-  pub read : tells → AreSound span.before span.disks → (first_core set found).ended ≡ None → AreStored (open_whole set found) events
-      → AreAllCounted (first_core set found) events disks span.left
+  -- however the disks were at entry: what was told of blocks; and that reads too cost what they tell of failed calls, where the lists have what the catalogues say
+  pub told : tells → (first_core set found).ended ≡ None → AreTold (open_whole set found) events
+  pub read : tells → (first_core set found).ended ≡ None → AreStored (open_whole set found) events → AreAllCounted (first_core set found) events disks span.left
 
 -- and what it needs to go on, where its core does
-abbrev pub CanRunOn : Type 0 → Setting → Span → Found → Events → Type 0
-CanRunOn tells set span found events =
-    tells → AreSound span.before span.disks → CanGoOn (runs whole_machine (open_whole set found) events) span.new.logs span.left span.now
+pub record CanRunOn (tells : Type 0) (set : Setting) (span : Span) (found : Found) (events : Events) : Type 0 where
+  pub goes : tells → AreSound span.before span.disks → CanGoOn (runs whole_machine (open_whole set found) events) span.new.logs span.left span.now
+  pub reads : tells → CanRead (runs whole_machine (open_whole set found) events) span.new.logs span.left

@@ -2,10 +2,9 @@
 use Rattle.std.specs.Prelude.{◌≡◌, ◌≤◌, ℕ, Bool, true, false, ⊤, Option, Some, Result, Ok, is_ok}
 use Rattle.hs_cluster.specs.Calls.{Does, done_of, ran_out}
 use Rattle.hs_events.specs.declared.due.Due.{Due}
-use Rattle.hs_events.specs.declared.due.Due.TheVariants.{Reporting, Handling, Nudging}
 use Rattle.hs_events.specs.declared.due.Place.{Place}
 use Rattle.hs_cluster.specs.declared.fault.ClusterFault.{ClusterFault}
-use Rattle.hs_events.specs.Due.{Events, MomentsRise, Walked, first_place, is_it, is_walk, next_due, next_turn, walk}
+use Rattle.hs_events.specs.Due.{Events, MomentsRise, first_place, is_it, is_walk, next_due, next_turn, walk}
 use Rattle.hs_cluster.specs.Running.{Running}
 use Rattle.hs_core.specs.declared.event.Event.{Event}
 use Rattle.hs_core.specs.State.{Core}

@@ -1,18 +1,19 @@
 //! The first job of a peer.
-ghost use Rattle.std.specs.Prelude.{◌≡◌, ◌*◌, ◌+◌, ◌≤◌, ℕ, Option, Some, length, map, true, false, IfOk, IsOkUnless, OnOk};
+ghost use Rattle.std.specs.Prelude.{◌≡◌, ◌*◌, ◌+◌, ◌≤◌, ℕ, Option, Some, length, map, true, false, IfOk, IsOkUnless, IsSome, OnOk};
 ghost use Rattle.hs_cluster.specs.declared.fault.ClusterFault.TheVariants.{NoMemory};
 ghost use Rattle.hs_cluster.specs.Counts.{HasAllPaid, HasPaid, IsCopyPaid, IsPaid, NoneFalls};
 ghost use Rattle.hs_cluster.specs.Disks.{AreReady, IsSlotReady, log_at, seen_as, seen_at, stands_of};
-ghost use Rattle.hs_cluster.specs.Jobs.{HasStored, TellsBytes, Tries, Works, is_own};
+ghost use Rattle.hs_cluster.specs.Jobs.{HasStored, ReadsOn, TellsBytes, Tries, Works, is_own};
 ghost use Rattle.hs_core.specs.Looking.{catalogue_of, first_job, home};
 ghost use Rattle.hs_entry.specs.declared.entry.Entry.{Entry};
 ghost use Rattle.hs_events.specs.Due.{is_answer};
 ghost use Rattle.hs_events.specs.Reports.{only_reads};
 ghost use Rattle.hs_desk.specs.Answers.{answers};
+ghost use Rattle.hs_desk.specs.declared.job.Job.{Job};
 ghost use Rattle.hs_desk.specs.declared.job.Job.TheVariants as job;
 ghost use Rattle.hs_members.specs.Members.{IsPeer};
 ghost use Rattle.hs_fold.specs.Shards.Setting.{Numbered};
-ghost use Rattle.hs_peerlog.specs.Lists.{HasLog, IsReady, Keeping};
+ghost use Rattle.hs_peerlog.specs.Lists.{IsKept, IsReady, Keeping};
 ghost use Rattle.hs_ports.specs.Moments.{disk_at};
 
 use crate::ClusterFault;
@@ -68,12 +69,24 @@ pub(crate) fn do_job<D: Disk>(
     ensures paid { IfOk result (λ done. HasPaid core.now peer done
         (map (λ disk. seen_as (D.size disk) (D.stands disk) (D.faults disk)) disks.old)
         (map (λ disk. seen_as (D.size disk) (D.stands disk) (D.faults disk)) disks.new)) }
+    // What reads of the log of its peer give then, whatever a stop leaves; without one it isn't done.
+    ensures had { is_own (first_job peer core.now) ≡ true
+        → IfOk result (λ done. IsSome (log_at logs.old.items peer)) }
+    ensures reads { D.tells → is_own (first_job peer core.now) ≡ true
+        → (list : Numbered) (waiting : Option Entry)
+        → ((keeping : Keeping) → log_at logs.old.items peer ≡ Some keeping
+        → IsKept keeping ((disk_at (stands_of (map (λ disk. seen_as (D.size disk) (D.stands disk)
+        (D.faults disk)) disks.old)) peer).seen keeping.log.side) list waiting)
+        → (j : Job) → first_job peer core.now ≡ Some j
+        → IfOk result (ReadsOn (log_at logs.new.items peer)
+        (disk_at (stands_of (map (λ disk. seen_as (D.size disk) (D.stands disk) (D.faults disk))
+        disks.new)) peer) j list waiting) }
     // Of a job that only read too, where the list of its log has what the catalogue says.
     ensures read { D.tells → is_own (first_job peer core.now) ≡ true
         → (list : Numbered) (waiting : Option Entry)
         → ((keeping : Keeping) → log_at logs.old.items peer ≡ Some keeping
-        → HasLog keeping (disk_at (stands_of (map (λ disk. seen_as (D.size disk) (D.stands disk)
-        (D.faults disk)) disks.old)) peer) list waiting)
+        → IsKept keeping ((disk_at (stands_of (map (λ disk. seen_as (D.size disk) (D.stands disk)
+        (D.faults disk)) disks.old)) peer).seen keeping.log.side) list waiting)
         → HasStored (first_job peer core.now)
         (catalogue_of (home peer core.now) core.now).blocks list
         → IfOk result (λ done. HasAllPaid core.now peer done
@@ -189,9 +202,15 @@ fn do_usual<D: Disk>(
     ensures later { D.faults disk.old ≤ D.faults disk.new }
     ensures paid { (at : ℕ) → only_reads at job.now ≡ false
         → IfOk result (IsPaid peer (D.faults disk.old) (D.faults disk.new)) }
+    ensures had { IfOk result (λ told. IsSome slot.old) }
+    ensures reads { D.tells → is_own (Some job.now) ≡ true
+        → (list : Numbered) (waiting : Option Entry)
+        → ((keeping : Keeping) → slot.old ≡ Some keeping
+        → IsKept keeping ((D.stands disk.old).seen keeping.log.side) list waiting)
+        → IfOk result (ReadsOn slot.new (D.stands disk.new) job.now list waiting) }
     ensures read { D.tells → (list : Numbered) (waiting : Option Entry)
         → ((keeping : Keeping) → slot.old ≡ Some keeping
-        → HasLog keeping (D.stands disk.old) list waiting)
+        → IsKept keeping ((D.stands disk.old).seen keeping.log.side) list waiting)
         → HasStored (Some job.now) catalogue.now.blocks list
         → IfOk result (IsPaid peer (D.faults disk.old) (D.faults disk.new)) }
     ensures ticks { watch.old ≤ watch.new }

@@ -1,6 +1,6 @@
 //! One job on the disk of a peer.
 ghost use Rattle.std.specs.Prelude.{◌≡◌, ◌+◌, ◌≤◌, ℕ, List, Option, None, Some, true, false, is_some, IfOk, IfErr, OnOk};
-ghost use Rattle.hs_cluster.specs.Jobs.{AreBytes, HasStored, Leaves, TellsBytes, sealed_list};
+ghost use Rattle.hs_cluster.specs.Jobs.{AreBytes, HasStored, Leaves, ReadsOn, TellsBytes, is_own, sealed_list};
 ghost use Rattle.hs_desk.specs.Answers.{answers};
 ghost use Rattle.hs_desk.specs.declared.done.Done.TheVariants as done;
 ghost use Rattle.hs_desk.specs.declared.job.Job.TheVariants as job;
@@ -54,8 +54,13 @@ pub(crate) fn do_own<D: Disk>(
     // But for a read, a call that is refused is one that failed; and so is a read, where the list has
     // what the catalogue says.
     ensures refused { (at : ℕ) → only_reads at job.now ≡ false → IfErr result IsOutside }
+    // Of a job that needs this log alone: what reads give behind it, whatever a stop leaves.
+    ensures reads { D.tells → is_own (Some job.now) ≡ true
+        → (list : Numbered) (waiting : Option Entry)
+        → IsKept log.old ((D.stands disk.old).seen log.old.log.side) list waiting
+        → IfOk result (ReadsOn (Some log.new) (D.stands disk.new) job.now list waiting) }
     ensures failed { D.tells → (list : Numbered) (waiting : Option Entry)
-        → HasLog log.old (D.stands disk.old) list waiting
+        → IsKept log.old ((D.stands disk.old).seen log.old.log.side) list waiting
         → HasStored (Some job.now) catalogue.now.blocks list → IfErr result IsOutside }
     ensures ticks { watch.old ≤ watch.new }
     ensures cause { IsCaused (D.faults disk.old) (D.faults disk.new) result }
@@ -95,6 +100,10 @@ pub(crate) fn append_entry<D: Disk>(
         → (list : Numbered) (waiting : Option Entry)
         → HasLog log.old (D.stands disk.old) list waiting
         → OnOk result (HasLog log.new (D.stands disk.new) list (Some entry.now)) }
+    ensures reads { D.tells → (list : Numbered) (waiting : Option Entry)
+        → IsKept log.old ((D.stands disk.old).seen log.old.log.side) list waiting
+        → OnOk result (IsKept log.new ((D.stands disk.new).seen log.new.log.side) list
+        (Some entry.now)) }
     ensures any_moment { D.tells → (D.stands disk.old).last ≤ watch.old
         → (list : Numbered) (waiting : Option Entry)
         → HasLog log.old (D.stands disk.old) list waiting
@@ -139,6 +148,10 @@ fn seal_entry<D: Disk>(
         → (list : Numbered) (waiting : Option Entry)
         → HasLog log.old (D.stands disk.old) list waiting
         → OnOk result (HasLog log.new (D.stands disk.new) (sealed_list list waiting) None) }
+    ensures reads { D.tells → (list : Numbered) (waiting : Option Entry)
+        → IsKept log.old ((D.stands disk.old).seen log.old.log.side) list waiting
+        → OnOk result (IsKept log.new ((D.stands disk.new).seen log.new.log.side)
+        (sealed_list list waiting) None) }
     ensures any_moment { D.tells → (D.stands disk.old).last ≤ watch.old
         → (list : Numbered) (waiting : Option Entry)
         → HasLog log.old (D.stands disk.old) list waiting

@@ -6,7 +6,7 @@ ghost use Rattle.hs_entry.specs.Entries.{rank_after};
 ghost use Rattle.hs_entry.specs.Reading.{IsReadable};
 ghost use Rattle.hs_peerlog.specs.Caused.{IsCalm, IsCaused, IsOutside};
 ghost use Rattle.hs_peerlog.specs.Images.{Is, LeavesEach};
-ghost use Rattle.hs_peerlog.specs.Lists.{HasLog, IsReady};
+ghost use Rattle.hs_peerlog.specs.Lists.{HasLog, IsKept, IsReady};
 
 use crate::{LogFault, PeerLog};
 use hs_entry::Entry;
@@ -37,6 +37,12 @@ impl PeerLog {
         ensures list { D.tells → (D.stands disk.old).last ≤ watch.old → (list : List (ℕ × Entry))
             → HasLog self.old (D.stands disk.old) list None
             → OnOk result (HasLog self.new (D.stands disk.new) list (Some entry.now)) }
+
+        // What a read gives, whatever a crash leaves.
+        ensures reads { D.tells → (list : List (ℕ × Entry))
+            → IsKept self.old ((D.stands disk.old).seen self.old.log.side) list None
+            → OnOk result (IsKept self.new ((D.stands disk.new).seen self.new.log.side) list
+            (Some entry.now)) }
 
         ensures refused { IfErr result IsOutside }
         ensures kept { IsErrOf result LogFault.NoMemory → self.new ≡ self.old }

@@ -6,7 +6,7 @@ ghost use Rattle.hs_side.specs.Current.{list_in};
 ghost use Rattle.hs_side.specs.Standing.{Stands};
 ghost use Rattle.hs_peerlog.specs.Caused.{IsCalm, IsCaused, IsOutside};
 ghost use Rattle.hs_peerlog.specs.Images.{Is, IsAlone, LeavesEach, LeavesOnly};
-ghost use Rattle.hs_peerlog.specs.Lists.{HasList, HasLog, IsReady};
+ghost use Rattle.hs_peerlog.specs.Lists.{HasList, HasLog, IsKept, IsReady};
 ghost use Rattle.hs_peerlog.specs.Opening.{refusal_in, HasOpened, IsRefusal};
 
 use crate::opening::open_current;
@@ -33,6 +33,11 @@ impl PeerLog {
         ensures list { D.tells → (D.stands disk.old).last ≤ watch.old → (list : List (ℕ × Entry))
             → list_in (D.stands disk.old).seen ≡ Some list
             → IfOk result (λ log. HasLog log (D.stands disk.new) list None) }
+
+        // What a read gives, whatever a crash leaves.
+        ensures reads { D.tells → (list : List (ℕ × Entry))
+            → list_in (D.stands disk.old).seen ≡ Some list → IfOk result (λ log.
+            IsKept log ((D.stands disk.new).seen log.log.side) list None) }
 
         // Which fault it is, and that there is one where the disk is refused.
         ensures listed { D.tells → OnOk result (IsSome (list_in (D.stands disk.old).seen)) }

@@ -4,7 +4,7 @@ ghost use Rattle.hs_ports.specs.Watch.{next_moment};
 ghost use Rattle.hs_entry.specs.declared.entry.Entry.{Entry};
 ghost use Rattle.hs_peerlog.specs.Caused.{IsCalm, IsCaused};
 ghost use Rattle.hs_peerlog.specs.Images.{IsOne, LeavesEach};
-ghost use Rattle.hs_peerlog.specs.Lists.{with_waiting, HasLog, IsReady};
+ghost use Rattle.hs_peerlog.specs.Lists.{with_waiting, HasLog, IsKept, IsReady};
 
 use crate::{LogFault, PeerLog};
 use hs_ports::{Disk, Watch};
@@ -25,6 +25,12 @@ impl PeerLog {
         ensures list { D.tells → (D.stands disk.old).last ≤ watch.old → (list : List (ℕ × Entry))
             → (entry : Entry) → HasLog self.old (D.stands disk.old) list (Some entry)
             → OnOk result (HasLog self.new (D.stands disk.new) (with_waiting list entry) None) }
+
+        // What a read gives, whatever a crash leaves.
+        ensures reads { D.tells → (list : List (ℕ × Entry)) → (entry : Entry)
+            → IsKept self.old ((D.stands disk.old).seen self.old.log.side) list (Some entry)
+            → OnOk result (IsKept self.new ((D.stands disk.new).seen self.new.log.side)
+            (with_waiting list entry) None) }
 
         ensures refused { IfErr result (λ fault. fault ≡ LogFault.Disk) }
 

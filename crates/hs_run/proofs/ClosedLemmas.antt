@@ -2,7 +2,7 @@
 use Rattle.std.proofs.Common.{◌≡◌, ◌⊎◌, inl, inr, ◌∙◌, ap, sym, subst, ℕ, ◌*◌, ◌-◌, ◌^◌, ◌<◌, ◌≤◌, List, [], Option, Some, None, Ok, Err, true, refl, arith, length}
 use Rattle.std.proofs.lemmas.Bool.{cases_lt}
 use Rattle.std.proofs.lemmas.List.Elements.{All-nil}
-use Rattle.std.specs.Prelude.{IfSome}
+use Rattle.std.specs.Prelude.{IfSome, IsSome}
 use Rattle.hs_cluster.specs.Begins.{IsClosed}
 use Rattle.hs_cluster.specs.Counts.{NoneFalls}
 use Rattle.hs_cluster.specs.declared.fault.ClusterFault.{ClusterFault}
@@ -238,6 +238,7 @@ module _ (tells : Type 0) (set : Setting) (span : Taking) (fault : ClusterFault)
     time = closed_time;
     counts = record { disks = falls_is old new span.old span.new was is falls; sink = sink; source = source };
     causes = closed_causes tells set span.old span.new fault old new closed;
+    left = λ some. subst (λ (o : Option (List ℕ)). IsSome o) (sym unread) some;
     ends = if_any (λ told. IfSome new.left (Ends r told)) old.left (λ told there. closed_by told there);
     shape = closed_shape;
   }

@@ -2,11 +2,10 @@
 use Rattle.std.proofs.Common.{◌≡◌, inl, inr, ◌∙◌, ap, sym, subst, ℕ, zero, suc, ◌+◌, ◌-◌, ◌^◌, ◌<◌, ◌≤◌, ◌==◌, false, true, List, [], ◌∷◌, None, refl, arith, map, min}
 use Rattle.std.specs.Prelude.{count_by}
 use Rattle.hs_cluster.proofs.CountLemmas.{falls_then, faults_seen}
-use Rattle.hs_cluster.proofs.RunLemmas.{all_failed, some_failed}
+use Rattle.hs_cluster.proofs.RunLemmas.{all_failed, lost_before, some_failed}
 use Rattle.hs_cluster.specs.Counts.{NoneFalls}
 use Rattle.hs_cluster.specs.Disks.{DiskSeen, seen_at, stands_of}
 use Rattle.hs_cluster.specs.Kept.{AreStored, Span}
-use Rattle.hs_cluster.specs.Opens.{AreSound}
 use Rattle.hs_cluster.specs.RunsOn.{RunsOn}
 use Rattle.hs_events.specs.Due.{Events}
 use Rattle.hs_events.specs.Found.{Found, first_core}
@@ -23,7 +22,6 @@ use Rattle.hs_promise.specs.Run.{Ran, Script}
 use Rattle.hs_promise.specs.Story.{Story, all_events}
 use Rattle.hs_side.specs.Current.{list_in}
 use Rattle.hs_run.specs.Machine.{AreHanded, RunsOnDisks}
-use Rattle.hs_run.proofs.LossLemmas.{lost_before}
 
 -- ---- the disks that were handed
 
@@ -95,9 +93,9 @@ lost_by tells set span found events old new was is shown told disk =
     rose_is lost old new span.disks span.left was is disk
     (up_to (min ((seen_at span.disks disk).faults + lost) (2 ^ 64 - 1)) (seen_at shown.disks disk).faults (seen_at span.left disk).faults (lost_before tells set span found events shown told disk) (shown.counted.later disk))
 
-pub failed_by : (tells : Type 0) (set : Setting) (span : Span) (found : Found) (events : Events) (old new : Objects) → AreHanded old span.disks → AreHanded new span.left → RunsOn tells set span found events → tells → AreSound span.before span.disks
+pub failed_by : (tells : Type 0) (set : Setting) (span : Span) (found : Found) (events : Events) (old new : Objects) → AreHanded old span.disks → AreHanded new span.left → RunsOn tells set span found events → tells
     → (first_core set found).ended ≡ None → AreStored (open_whole set found) events
     → (disk : ℕ) → RoseBy (failures true disk (first_core set found) events + count_by (λ peer. peer.0 == disk) found.lost) (faults_at old.disk_faults disk) (faults_at new.disk_faults disk)
-failed_by tells set span found events old new was is shown told sound going stored disk =
+failed_by tells set span found events old new was is shown told going stored disk =
     rose_is (failures true disk (first_core set found) events + count_by (λ peer. peer.0 == disk) found.lost) old new span.disks span.left was is disk
-    (all_failed tells set span found events shown told sound going stored disk)
+    (all_failed tells set span found events shown told going stored disk)

@@ -13,7 +13,6 @@ pub mod KindLemmas
 pub mod LastLineLemmas
 pub mod LateLemmas
 pub mod LinesLemmas
-pub mod LossLemmas
 pub mod OpeningLemmas
 pub mod PassedLemmas
 pub mod PrintedLemmas

@@ -1,7 +1,7 @@
 -- A run over what a cluster opened with.
 use Rattle.std.proofs.Common.{◌≡◌, ◌∙◌, ap, sym, subst, ℕ, ◌*◌, ◌<◌, ◌≤◌, true, List, Option, Some, None, Result, refl, arith, length, map}
 use Rattle.std.proofs.lemmas.List.{length-map}
-use Rattle.std.specs.Prelude.{IfSome, is_ok, ⊤}
+use Rattle.std.specs.Prelude.{IfSome, IsSome, is_ok, ⊤}
 use Rattle.hs_cluster.specs.declared.fault.ClusterFault.{ClusterFault}
 use Rattle.hs_cluster.specs.Disks.{AreReady, DiskSeen, seen_at, stands_of}
 use Rattle.hs_cluster.specs.Opens.{Opens}
@@ -27,6 +27,8 @@ use Rattle.hs_promise.specs.Story.{Story, all_events}
 use Rattle.hs_side.specs.declared.header.Header.{Header}
 use Rattle.hs_taking.specs.Shares.{Span}
 use Rattle.hs_promise.specs.declared.status.Status.TheVariants as status
+use Rattle.hs_ports.specs.Source.{before}
+use Rattle.hs_run.specs.declared.stop.Stop.{Stop}
 use Rattle.hs_run.specs.Between.{IsReadyAt, Point}
 use Rattle.hs_run.specs.Causes.{EndsBy, StopCause}
 use Rattle.hs_run.specs.Ended.{course_in, journal_in, ran_at, refused_in}
@@ -59,6 +61,15 @@ pub ran_same : (o : Outcome) (ending : Status) (line : ℕ) (cluster : Option Ru
     → ran_of o old new ≡ ran_at ending line cluster old new
 ran_same o ending line cluster old new is number journal refused course =
     λ i. record { ending = is i; line = number i; journal = journal i; refused = refused i; course = course i; old = old; new = new }
+
+-- a source that is told is told at the end
+left_told : (script left : Option (List ℕ)) (result : Result ⊤ Stop) (line : ℕ) → IfSome script (λ told. EndsBy told left result line) → IsSome script → IsSome left
+left_told None left result line ends some = absurd (cc some)
+left_told (Some told) left result line ends some = go left ends.parted
+  where
+    go : (o : Option (List ℕ)) → before ends.taken o ≡ Some told → IsSome o
+    go None e = absurd cc
+    go (Some rest) e = refl
 
 -- a run ends no earlier than it began
 since_of : (b : Begun) (lines : List Events) (at : Point) → IsBehind b lines at → b.old.moment ≤ at.now
@@ -135,6 +146,7 @@ module _ (tells : Type 0) (set : Setting) (span : Span) (running : Running) (did
             source = cause.source_later;
           };
           causes = causes_run part.result part.new.line part.new.cluster old new cause no_shape;
+          left = left_told old.left new.left part.result part.new.line ends;
           ends = if_told (λ told. EndsBy told new.left part.result part.new.line) (λ told. IfSome new.left (Ends (ran_at (status_of part.result part.new.line) part.new.line (Some part.new.cluster) old new) told)) old.left ends
               (λ told h. ends_run part.result part.new.line (Some part.new.cluster) old new told h);
           shape = λ told. record {

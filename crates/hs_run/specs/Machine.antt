@@ -2,7 +2,6 @@
 use Rattle.std.specs.Prelude.{IfSome, IsSome, List, None, Option, [], length, map, true, ℕ, ◌++◌, ◌+◌, ◌<◌, ◌∷◌, ◌≡◌}
 use Rattle.hs_cluster.specs.Disks.{DiskSeen, stands_of}
 use Rattle.hs_cluster.specs.Kept.{AreStored, Span}
-use Rattle.hs_cluster.specs.Opens.{AreSound}
 use Rattle.hs_cluster.specs.RunsOn.{RunsOn}
 use Rattle.hs_cluster.specs.Unopened.{LeavesAsTaken}
 use Rattle.hs_events.specs.Due.{Events}
@@ -36,9 +35,9 @@ pub record RunsOnDisks (tells : Type 0) (S : Script) (r : Ran) (story : Story) :
   pub new : AreHanded r.new span.left
   pub since : tells → Since r.new.disks
   pub shown : RunsOn tells S.set span story.found (all_events story)
-  -- each count rose by the losses before the core was opened; and by all failures too, where the disks are sound at entry and what a peer is to read stands in its list
+  -- each count rose by the losses before the core was opened; and by all failures too, where what a peer is to read stands in its list
   pub lost : tells → (disk : ℕ) → DiskRose r (loss_count story disk) disk
-  pub failed : tells → AreSound span.before span.disks → (first_core S.set story.found).ended ≡ None → AreStored (open_whole S.set story.found) (all_events story)
+  pub failed : tells → (first_core S.set story.found).ended ≡ None → AreStored (open_whole S.set story.found) (all_events story)
       → (disk : ℕ) → DiskRose r (failures true disk (first_core S.set story.found) (all_events story) + loss_count story disk) disk
 
 -- where they tell their contents, a peer's log is that of its disk, or its disk failed

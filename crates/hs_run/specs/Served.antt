@@ -1,5 +1,5 @@
 -- What is shown of a run on a cluster in the words of hs_promise that need no law of the plain store.
-use Rattle.std.specs.Prelude.{IfSome, [], length, false, ℕ, ◌≡◌, ◌≤◌, ◌⊎◌}
+use Rattle.std.specs.Prelude.{IfSome, IsSome, [], length, false, ℕ, ◌≡◌, ◌≤◌, ◌⊎◌}
 use Rattle.hs_ports.specs.Fault.{HasRisen}
 use Rattle.hs_ports.specs.Objects.{CountsStand, IsDuring, IsSinkBehind, KeepsTime}
 use Rattle.hs_ports.specs.Putting.{IsPut, PutsFront, got_by}
@@ -46,5 +46,7 @@ pub record Served (tells : Type 0) (S : Script) (r : Ran) : Type 0 where
   pub time : KeepsTime r.old r.new
   pub counts : CountsStand r.old r.new
   pub causes : HasCauses r
+  -- a source that tells what it has tells what it has left
+  pub left : IsSome r.old.left → IsSome r.new.left
   pub ends : IfSome r.old.left (λ script. IfSome r.new.left (Ends r script))
   pub shape : tells → HasShapeCause S r

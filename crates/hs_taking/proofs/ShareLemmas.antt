@@ -22,7 +22,7 @@ use Rattle.hs_side.specs.Current.{list_in}
 use Rattle.hs_taking.proofs.DiskLemmas.{seen_here, seen_is, seen_there}
 use Rattle.hs_taking.specs.declared.shares.Share.{Share}
 use Rattle.hs_taking.specs.Disks.{DiskSeen, log_at, seen_at}
-use Rattle.hs_taking.specs.Shares.{HasItsLog, HasShare, HasTaken, IsLater, IsLostAt, IsLostDisk, IsShare, KeepsDisk, Span, Taken, all_lost, lost_of, no_share, share_at}
+use Rattle.hs_taking.specs.Shares.{HasItsLog, HasShare, HasTaken, IsLater, IsLostAt, IsLostDisk, IsShare, KeepsDisk, ReadsItsLog, Span, Taken, all_lost, lost_of, no_share, share_at}
 
 -- ---- one disk, from an earlier moment on
 
@@ -84,6 +84,7 @@ pub record OneTaken (tells : Type 0) (set : Setting) (mid now peer : ℕ) (old n
   pub share_is : IsShare tells (apply_all set.name (empty_catalogue set.shape peer)) (list_in old.stands.seen) slot share
   pub disk : KeepsDisk tells mid now old new
   pub log : HasItsLog tells mid old new slot
+  pub reads : ReadsItsLog tells old new slot
   pub shard_as : share.shard ≡ peer
   pub peer_as : share.peer ≡ peer
   pub viewed : is_some share.took ≡ is_some view
@@ -133,6 +134,8 @@ module _ {A : Type 0} (f : A → DiskSeen) (tells : Type 0) (set : Setting) (bef
         disk = subst (λ (y : DiskSeen). KeepsDisk tells before now (seen_at old k) y) (sym e) (keeps_wait tells before mid now (seen_at old k) (seen_at (map f disks) k) up h.disk);
         log = subst (λ (y : DiskSeen). HasItsLog tells before (seen_at old k) y (log_at (slice_set logs i slot) k)) (sym e)
             (subst (λ y. HasItsLog tells before (seen_at old k) (seen_at (map f disks) k) y) (sym l) h.log);
+        reads = subst (λ (y : DiskSeen). ReadsItsLog tells (seen_at old k) y (log_at (slice_set logs i slot) k)) (sym e)
+            (subst (λ y. ReadsItsLog tells (seen_at old k) (seen_at (map f disks) k) y) (sym l) h.reads);
         shard_is = ap (λ (y : Share). y.shard) s ∙ h.shard_is;
         peer_is = ap (λ (y : Share). y.peer) s ∙ h.peer_is;
       }
@@ -173,6 +176,9 @@ module _ {A : Type 0} (f : A → DiskSeen) (tells : Type 0) (set : Setting) (bef
       log = subst (λ (z : DiskSeen). HasItsLog tells before (seen_at old i) z (log_at (slice_set logs i slot) i)) (sym new_disk)
           (subst (λ z. HasItsLog tells before (seen_at old i) (f x) z) (sym new_log)
           (log_before tells before mid (seen_at old i) (f x) slot up (subst (λ (z : DiskSeen). HasItsLog tells mid z (f x) slot) at one.log)));
+      reads = subst (λ (z : DiskSeen). ReadsItsLog tells (seen_at old i) z (log_at (slice_set logs i slot) i)) (sym new_disk)
+          (subst (λ z. ReadsItsLog tells (seen_at old i) (f x) z) (sym new_log)
+          (subst (λ (z : DiskSeen). ReadsItsLog tells z (f x) slot) at one.reads));
       shard_is = ap (λ (y : Share). y.shard) new_share ∙ one.shard_as;
       peer_is = ap (λ (y : Share). y.peer) new_share ∙ one.peer_as;
     }

@@ -70,6 +70,7 @@ module _ (tells : Type 0) (set : Setting) (before mid now : ℕ) (old via new : 
                 then-each list (Is list) (h.disk.moments told one.last list (leaves_read before mid (seen_at old peer).stands (seen_at via peer).stands list one leaves)) one leaves refl;
             counted = let a = r.counted in let b = h.disk.counted in omega (arith, a, b);
           };
+          reads = λ told keeping is list listed. h.reads told keeping is list (list_there peer low told ∙ listed);
           log = λ told last keeping is list listed. h.log told (r.moments told last).last keeping is list (list_there peer low told ∙ listed);
           shard_is = h.shard_is;
           peer_is = h.peer_is;

@@ -6,7 +6,7 @@ use Rattle.hs_entry.specs.Entries.{rank_of}
 use Rattle.hs_fold.specs.Shards.Setting.{Numbered, Setting}
 use Rattle.hs_memory.specs.Forget.{apply_all}
 use Rattle.hs_peerlog.specs.Images.{Is, LeavesEach, LeavesOnly}
-use Rattle.hs_peerlog.specs.Lists.{HasLog, Keeping}
+use Rattle.hs_peerlog.specs.Lists.{HasLog, IsKept, Keeping}
 use Rattle.hs_peerlog.specs.Views.{Viewing}
 use Rattle.hs_ports.specs.Fault.{HasRisen}
 use Rattle.hs_shard.specs.Facts.{Catalogue, empty_catalogue}
@@ -41,6 +41,11 @@ abbrev pub HasItsLog : Type 0 → ℕ → DiskSeen → DiskSeen → Option Keepi
 HasItsLog tells before old new slot =
     tells → old.stands.last ≤ before → (keeping : Keeping) → slot ≡ Some keeping → (list : Numbered) → list_in old.stands.seen ≡ Some list
     → HasLog keeping new.stands list None
+
+-- and reads of the disk give it, whatever a stop leaves
+abbrev pub ReadsItsLog : Type 0 → DiskSeen → DiskSeen → Option Keeping → Type 0
+ReadsItsLog tells old new slot =
+    tells → (keeping : Keeping) → slot ≡ Some keeping → (list : Numbered) → list_in old.stands.seen ≡ Some list → IsKept keeping (new.stands.seen keeping.log.side) list None
 
 -- a peer whose log was lost: from the moment on its disk was not called any more, and its count rose
 pub record IsLostDisk (tells : Type 0) (before : ℕ) (old new : DiskSeen) (moment : ℕ) : Type 0 where
@@ -90,6 +95,7 @@ pub record HasShare (tells : Type 0) (set : Setting) (span : Span) (taken : Take
   pub share : IsShare tells (apply_all set.name (empty_catalogue set.shape peer)) (list_in (seen_at span.old peer).stands.seen) (log_at taken.logs peer) (share_at taken peer)
   pub disk : KeepsDisk tells span.before span.now (seen_at span.old peer) (seen_at span.new peer)
   pub log : HasItsLog tells span.before (seen_at span.old peer) (seen_at span.new peer) (log_at taken.logs peer)
+  pub reads : ReadsItsLog tells (seen_at span.old peer) (seen_at span.new peer) (log_at taken.logs peer)
   pub shard_is : (share_at taken peer).shard ≡ peer
   pub peer_is : (share_at taken peer).peer ≡ peer
 

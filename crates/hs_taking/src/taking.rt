@@ -5,7 +5,7 @@ ghost use Rattle.hs_limits.specs.Shape.{IsShape};
 ghost use Rattle.hs_memory.specs.Forget.{apply_all};
 ghost use Rattle.hs_peerlog.specs.Caused.{IsCaused, IsOutside};
 ghost use Rattle.hs_peerlog.specs.Images.{Is, LeavesEach, LeavesOnly};
-ghost use Rattle.hs_peerlog.specs.Lists.{HasLog, IsReady};
+ghost use Rattle.hs_peerlog.specs.Lists.{HasLog, IsKept, IsReady};
 ghost use Rattle.hs_peerlog.specs.Opening.{refusal_in};
 ghost use Rattle.hs_peerlog.specs.Views.{HasView};
 ghost use Rattle.hs_shard.specs.Facts.{empty_catalogue};
@@ -52,6 +52,9 @@ pub(crate) fn take_log<A: Addresser, D: Disk>(
     ensures list { D.tells → (D.stands disk.old).last ≤ watch.old → (list : List (ℕ × Entry))
         → list_in (D.stands disk.old).seen ≡ Some list
         → IfOk result (λ taken. HasLog taken.log (D.stands disk.new) list None) }
+    ensures reads { D.tells → (list : List (ℕ × Entry)) → list_in (D.stands disk.old).seen ≡ Some list
+        → IfOk result (λ taken. IsKept taken.log
+        ((D.stands disk.new).seen taken.log.log.side) list None) }
     ensures refused { D.tells → (list : List (ℕ × Entry))
         → HasView view.now (D.stands disk.old).seen list
         → refusal_in shape peer (D.stands disk.old).seen ≡ None → IfErr result IsOutside }

@@ -1,10 +1,11 @@
 use Rattle.std.proofs.Common.{rules, ◌≡◌, ◌∙◌, ◌<◌, Some, ap, arith, length, map, refl, slice_set, subst, sym}
 use Rattle.std.proofs.lemmas.Grind.{common_steps}
+use Rattle.std.specs.Prelude.{IfOk, IsSome}
 use Rattle.hs_cluster.proofs.CountLemmas.{all_paid_result, copy_paid_result, falls_not, falls_same, job_paid_result, paid_at}
-use Rattle.hs_cluster.proofs.DiskLemmas.{log_read, not_own, since_of, slot_at, stored_as, works_at, works_nothing}
+use Rattle.hs_cluster.proofs.DiskLemmas.{log_read, not_own, reads_at, since_of, slot_at, stored_as, works_at, works_nothing}
 use Rattle.hs_cluster.specs.Disks.{DiskSeen, log_at, seen_as}
 use Rattle.hs_cluster.specs.declared.fault.ClusterFault.TheVariants.{NoMemory}
-use Rattle.hs_cluster.specs.Jobs.{Works}
+use Rattle.hs_cluster.specs.Jobs.{Works, is_own}
 use Rattle.hs_core.specs.Looking.{catalogue_of, first_job, home}
 use Rattle.hs_desk.specs.declared.job.Job.{Job}
 use Rattle.hs_desk.specs.declared.job.Job.TheVariants as job
@@ -119,3 +120,47 @@ returns-in-Append-clause-read g c = λ told own list waiting has stored.
     (log_read f c.args.logs.now.items c.args.disks.now c.args.peer c.from-place.result c.index_mut-in-Append.result.now c.index-disks-place-in-Append.result list waiting place low item has)
     (stored_as (first_job c.args.peer c.args.core.now) (Some c.in-Some.job.now) (catalogue_of (home c.args.peer c.args.core.now) c.args.core.now) c.catalogue-catalogue.result.now list first
     (c.catalogue-catalogue.ensures ∙ ap (λ k. catalogue_of k c.args.core.now) shard) stored)))
+
+pub returns-in_default-clause-reads : goal.returns-in_default-clause-reads
+returns-in_default-clause-reads g c = λ told own list waiting has j at. tt
+
+pub returns-in_default-clause-had : goal.returns-in_default-clause-had
+returns-in_default-clause-had g c = λ own. tt
+
+pub returns-in-Reset-clause-reads : goal.returns-in-Reset-clause-reads
+returns-in-Reset-clause-reads g c = λ told own list waiting has j at.
+    let first : Some c.in-Some.job.now ≡ first_job c.args.peer c.args.core.now = first_of (search rules, grind (arith, common_steps)) in
+    absurd (not_own (first_job c.args.peer c.args.core.now) job.Reset (sym first ∙ ap (λ (j : Job). Some j) c.in-Reset.is) refl own)
+
+pub returns-in-Reset-clause-had : goal.returns-in-Reset-clause-had
+returns-in-Reset-clause-had g c = λ own.
+    let first : Some c.in-Some.job.now ≡ first_job c.args.peer c.args.core.now = first_of (search rules, grind (arith, common_steps)) in
+    absurd (not_own (first_job c.args.peer c.args.core.now) job.Reset (sym first ∙ ap (λ (j : Job). Some j) c.in-Reset.is) refl own)
+
+pub returns-in-Copy-clause-reads : goal.returns-in-Copy-clause-reads
+returns-in-Copy-clause-reads g c = λ told own list waiting has j at.
+    let first : Some c.in-Some.job.now ≡ first_job c.args.peer c.args.core.now = first_of (search rules, grind (arith, common_steps)) in
+    absurd (not_own (first_job c.args.peer c.args.core.now) (job.Copy c.in-Copy.from c.in-Copy.number) (sym first ∙ ap (λ (j : Job). Some j) c.in-Copy.is) refl own)
+
+pub returns-in-Copy-clause-had : goal.returns-in-Copy-clause-had
+returns-in-Copy-clause-had g c = λ own.
+    let first : Some c.in-Some.job.now ≡ first_job c.args.peer c.args.core.now = first_of (search rules, grind (arith, common_steps)) in
+    absurd (not_own (first_job c.args.peer c.args.core.now) (job.Copy c.in-Copy.from c.in-Copy.number) (sym first ∙ ap (λ (j : Job). Some j) c.in-Copy.is) refl own)
+
+pub returns-in-Append-clause-reads : goal.returns-in-Append-clause-reads
+returns-in-Append-clause-reads g c = λ told own list waiting has j at.
+    let f : g.row.D.Denot → DiskSeen = λ disk. seen_as (g.D.Disk.size disk) (g.D.Disk.stands disk) (g.D.Disk.faults disk) in
+    let item : c.index_mut-in-Append.result.now ≡ log_at c.args.logs.now.items c.from-place.result = grind (arith, common_steps) in
+    let low : c.from-place.result < length c.args.disks.now = grind (arith, common_steps) in
+    let low_logs : c.from-place.result < length c.args.logs.now.items = grind (arith, common_steps) in
+    let place : c.from-place.result ≡ c.args.peer = grind (arith, common_steps) in
+    let first : Some c.in-Some.job.now ≡ first_job c.args.peer c.args.core.now = first_of (search rules, grind (arith, common_steps)) in
+    reads_at f c.args.logs.now.items c.args.disks.now c.args.peer c.from-place.result c.do_usual.new.slot c.do_usual.new.disk c.in-Some.job.now j list waiting c.do_usual.result place low_logs low (first ∙ at)
+    (c.do_usual.ensures.reads told (ap is_own first ∙ own) list waiting
+    (log_read f c.args.logs.now.items c.args.disks.now c.args.peer c.from-place.result c.index_mut-in-Append.result.now c.index-disks-place-in-Append.result list waiting place low item has))
+
+pub returns-in-Append-clause-had : goal.returns-in-Append-clause-had
+returns-in-Append-clause-had g c = λ own.
+    let item : c.index_mut-in-Append.result.now ≡ log_at c.args.logs.now.items c.from-place.result = grind (arith, common_steps) in
+    let place : c.from-place.result ≡ c.args.peer = grind (arith, common_steps) in
+    subst (λ o. IfOk c.do_usual.result (λ done. IsSome o)) (item ∙ ap (λ p. log_at c.args.logs.now.items p) place) c.do_usual.ensures.had

@@ -1,7 +1,7 @@
 use Rattle.std.proofs.Common.{refl, subst, Some, true}
 use Rattle.std.proofs.lemmas.Result.{err_from_is_err_and}
 use Rattle.hs_cluster.proofs.CountLemmas.{read_only}
-use Rattle.hs_cluster.proofs.JobLemmas.{first_of_two, leaves_err, leaves_ok, leaves_read, stays_one}
+use Rattle.hs_cluster.proofs.JobLemmas.{first_of_two, leaves_err, leaves_ok, leaves_read, reads_ok, reads_read, stays_one}
 use Rattle.hs_cluster.specs.Jobs.{HasStored, list_after}
 use Rattle.hs_desk.specs.declared.job.Job.{Job}
 use Rattle.hs_desk.specs.declared.done.Done.TheVariants as done
@@ -41,4 +41,23 @@ returns-in-Read-clause-refused g c = λ at only. absurd (read_only at c.in-Read.
 
 pub returns-in-Read-clause-failed : goal.returns-in-Read-clause-failed
 returns-in-Read-clause-failed g c = λ told list waiting has stored.
-    c.read_block.ensures.refused told list waiting has.kept (subst (λ (j : Job). HasStored (Some j) c.args.catalogue.now.blocks list) c.in-Read.is stored)
+    c.read_block.ensures.refused told list waiting has (subst (λ (j : Job). HasStored (Some j) c.args.catalogue.now.blocks list) c.in-Read.is stored)
+
+pub returns-in_ok-append_entry-in-Append-clause-reads : goal.returns-in_ok-append_entry-in-Append-clause-reads
+returns-in_ok-append_entry-in-Append-clause-reads g c = λ told own list waiting kept.
+    reads_ok (Some c.append_entry.new.log) c.append_entry.new.log (g.D.Disk.stands c.append_entry.new.disk) c.args.job.now _ list waiting (done.Stored c.in-Append.number) c.in-Append.is refl refl
+    (c.in_ok-append_entry-in-Append.ensures.reads told list waiting kept) tt
+
+pub returns-in_ok-seal_entry-in-Seal-clause-reads : goal.returns-in_ok-seal_entry-in-Seal-clause-reads
+returns-in_ok-seal_entry-in-Seal-clause-reads g c = λ told own list waiting kept.
+    reads_ok (Some c.seal_entry.new.log) c.seal_entry.new.log (g.D.Disk.stands c.seal_entry.new.disk) c.args.job.now _ list waiting (done.Sealed c.in-Seal.number) c.in-Seal.is refl refl
+    (c.in_ok-seal_entry-in-Seal.ensures.reads told list waiting kept) tt
+
+pub returns-in-Read-clause-reads : goal.returns-in-Read-clause-reads
+returns-in-Read-clause-reads g c = λ told own list waiting kept.
+    reads_read c.in-Read.number c.args.log.now (g.D.Disk.stands c.args.disk.now) (g.D.Disk.stands c.read_block.new.disk) c.args.job.now list waiting c.read_block.result c.in-Read.is (c.read_block.ensures.same told) kept
+    c.read_block.ensures.done (c.read_block.ensures.told told list waiting kept)
+
+pub returns-in-Reclaim-clause-reads : goal.returns-in-Reclaim-clause-reads
+returns-in-Reclaim-clause-reads g c = λ told own list waiting kept.
+    reads_ok (Some c.args.log.now) c.args.log.now (g.D.Disk.stands c.args.disk.now) c.args.job.now job.Reclaim list waiting (done.Stepped true) c.in-Reclaim.is refl refl kept tt

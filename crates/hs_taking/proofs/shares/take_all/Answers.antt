@@ -82,6 +82,7 @@ loop-shard-preserved g c =
       share_is = subst (λ n. IsShare g.D.Disk.tells (apply_all set.name (empty_catalogue set.shape n)) (list_in (f (slice_index_or c.loop-shard.disks i d)).stands.seen) slot c.in-Ok.share) (sym is) told.share;
       disk = c.take_peer-share.ensures.keeps;
       log = told.log;
+      reads = told.reads;
       shard_as = told.shard ∙ sym is;
       peer_as = told.peer ∙ sym e;
       viewed = told.viewed ∙ ap (λ o. is_some o) (sym item);

@@ -1,7 +1,7 @@
 use Rattle.std.proofs.Common.{◌≡◌, ◌∙◌, ap, refl, subst, sym, Some, None}
 use Rattle.std.specs.Prelude.{IfSome}
 use Rattle.hs_memory.specs.Forget.{apply_all}
-use Rattle.hs_peerlog.specs.Lists.{HasLog, Keeping}
+use Rattle.hs_peerlog.specs.Lists.{HasLog, IsKept, Keeping}
 use Rattle.hs_shard.specs.Facts.{empty_catalogue}
 use Rattle.hs_side.specs.Current.{list_in}
 use Rattle.hs_taking.proofs.TakeLemmas.{lost_rises, lost_shared, none_shared, one_shared, still_kept}
@@ -48,3 +48,10 @@ returns-else-is_memory-clause-lost g c =
       failed = lost_rises g.D.Disk.tells c.args.shape c.args.peer disk c.in-Some.view (g.D.Disk.faults c.args.disk.now) (g.D.Disk.faults c.take_log.new.disk) c.in-Err.fault viewed not_memory
           (λ told list has. c.in-Err.ensures.refused told list has (viewed.accepted told)) c.in-Err.ensures.cause;
     }
+
+pub returns-in-Ok-clause-reads : goal.returns-in-Ok-clause-reads
+returns-in-Ok-clause-reads g c = λ told keeping is list listed.
+    subst (λ (k : Keeping). IsKept k ((g.D.Disk.stands c.take_log.new.disk).seen k.log.side) list None) (same is) (c.in-Ok.ensures.reads told list listed)
+  where
+    same : {x y : Keeping} → Some x ≡ Some y → x ≡ y
+    same e = cc e

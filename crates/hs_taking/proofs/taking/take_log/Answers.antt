@@ -34,3 +34,8 @@ pub returns-in-Ok-recover-clause-list : goal.returns-in-Ok-recover-clause-list
 returns-in-Ok-recover-clause-list g c = λ told last list listed.
     let same = c.load.ensures.same told in
     c.in-Ok-recover.ensures.list told (subst (λ (x : Standing). x.last ≤ c.args.watch.now) (sym same) last) list (ap (λ (x : Standing). list_in x.seen) same ∙ listed)
+
+pub returns-in-Ok-recover-clause-reads : goal.returns-in-Ok-recover-clause-reads
+returns-in-Ok-recover-clause-reads g c = λ told list listed.
+    let same = c.load.ensures.same told in
+    c.in-Ok-recover.ensures.reads told list (ap (λ (x : Standing). list_in x.seen) same ∙ listed)

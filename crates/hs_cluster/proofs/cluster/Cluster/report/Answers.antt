@@ -1,5 +1,5 @@
 use Rattle.std.proofs.Common.{◌≡◌, Some, ap, arith, map, subst, true}
-use Rattle.std.specs.Prelude.{Ok, Option}
+use Rattle.std.specs.Prelude.{IsSome, Ok, Option}
 use Rattle.hs_cluster.proofs.DiskLemmas.{since_of}
 use Rattle.hs_cluster.proofs.ShowLemmas.{does_same, job_cut, job_shows}
 use Rattle.hs_cluster.proofs.WalkLemmas.{event_due, nothing_due, report_is_it}
@@ -7,16 +7,17 @@ use Rattle.hs_cluster.specs.Calls.{Does, done_of}
 use Rattle.hs_cluster.specs.declared.fault.ClusterFault.{ClusterFault}
 use Rattle.hs_cluster.specs.Counts.{HasAllPaid, HasPaid}
 use Rattle.hs_cluster.specs.Disks.{DiskSeen, log_at, seen_as, stands_of}
-use Rattle.hs_cluster.specs.Jobs.{HasStored, Works, is_own}
+use Rattle.hs_cluster.specs.Jobs.{HasStored, ReadsOn, Works, is_own}
 use Rattle.hs_cluster.specs.Running.{Running}
 use Rattle.hs_core.specs.declared.event.Event.{Event}
 use Rattle.hs_core.specs.declared.event.Event.TheVariants as event
 use Rattle.hs_core.specs.Looking.{catalogue_of, first_job, home}
+use Rattle.hs_desk.specs.declared.job.Job.{Job}
 use Rattle.hs_entry.specs.declared.entry.Entry.{Entry}
 use Rattle.hs_events.specs.declared.due.Due.TheVariants.{Reporting}
 use Rattle.hs_events.specs.Due.{is_answer}
 use Rattle.hs_fold.specs.Shards.Setting.{Numbered}
-use Rattle.hs_peerlog.specs.Lists.{HasLog, Keeping}
+use Rattle.hs_peerlog.specs.Lists.{IsKept, Keeping}
 use Rattle.hs_ports.specs.Moments.{disk_at}
 use Rattle.hs_cluster.proofs.cluster.Cluster.report.Goals as goal
 
@@ -65,6 +66,11 @@ returns-clause-does g c = λ line.
     c.step.ensures.logs does c.do_job-done.ensures.later
     (subst (λ (r : Running). HasPaid r.core c.args.peer c.in-Ok.done (map f c.args.disks.now) (map f c.do_job-done.new.disks)) c.self.view_is c.in-Ok.ensures.paid) c.in-Ok.ensures.bytes
     (λ told. subst (λ (r : Running). is_own (first_job c.args.peer r.core) ≡ true → (list : Numbered) (waiting : Option Entry)
-    → ((keeping : Keeping) → log_at r.logs c.args.peer ≡ Some keeping → HasLog keeping (disk_at (stands_of (map f c.args.disks.now)) c.args.peer) list waiting)
+    → ((keeping : Keeping) → log_at r.logs c.args.peer ≡ Some keeping → IsKept keeping ((disk_at (stands_of (map f c.args.disks.now)) c.args.peer).seen keeping.log.side) list waiting)
     → HasStored (first_job c.args.peer r.core) (catalogue_of (home c.args.peer r.core) r.core).blocks list → HasAllPaid r.core c.args.peer c.in-Ok.done (map f c.args.disks.now) (map f c.do_job-done.new.disks))
-    c.self.view_is (c.in-Ok.ensures.read told)))
+    c.self.view_is (c.in-Ok.ensures.read told))
+    (subst (λ (r : Running). is_own (first_job c.args.peer r.core) ≡ true → IsSome (log_at r.logs c.args.peer)) c.self.view_is c.in-Ok.ensures.had)
+    (λ told. subst (λ (r : Running). is_own (first_job c.args.peer r.core) ≡ true → (list : Numbered) (waiting : Option Entry)
+    → ((keeping : Keeping) → log_at r.logs c.args.peer ≡ Some keeping → IsKept keeping ((disk_at (stands_of (map f c.args.disks.now)) c.args.peer).seen keeping.log.side) list waiting)
+    → (j : Job) → first_job c.args.peer r.core ≡ Some j → ReadsOn (log_at c.do_job-done.new.logs.items c.args.peer) (disk_at (stands_of (map f c.do_job-done.new.disks)) c.args.peer) j list waiting c.in-Ok.done)
+    c.self.view_is (c.in-Ok.ensures.reads told)))

@@ -65,3 +65,12 @@ returns-clause-list g c = λ told last list has.
       leaves = append-only c.args.self.now.log.places list has.kept.listed last since has.sole stays run;
       beside = subst (λ s. IsBlankBeside s (g.D.Disk.stands c.append_entry.new.disk)) (sym (ap (λ (k : Kept). k.side) value)) (beside-stays c.args.self.now.log.side (g.D.Disk.stands c.args.disk.now) (g.D.Disk.stands c.append_entry.new.disk) run.other has.beside);
     }
+
+pub returns-clause-reads : goal.returns-clause-reads
+returns-clause-reads g c = λ told list kept.
+    let view : c.self.inside.log ≡ c.args.self.now.log = ap (λ (k : Keeping). k.log) c.self.view_is in
+    let value = rw view at c.in_ok-append_entry.ensures.value in
+    let rank : c.self.inside.rank ≡ c.args.self.now.rank = ap (λ (k : Keeping). k.rank) c.self.view_is in
+    let waits = ap (λ r. Some r) (c.after.ensures ∙ ap (λ r. rank_after r c.args.number c.args.entry.now) rank) in
+    appended c.args.self.now _ (g.D.Disk.stands c.args.disk.now).seen (g.D.Disk.stands c.append_entry.new.disk).seen _ c.args.number list c.args.entry.now kept
+    (readable-ordinary c.args.entry.now c.requires.readable) c.requires.next value rank waits (rw view at (c.in_ok-append_entry.ensures.same told)) (rw view at (c.in_ok-append_entry.ensures.later told))

@@ -61,3 +61,22 @@ returns-clause-list g c = λ told last list listed.
       leaves = alone-leaves c.in-Ok.opened.0.side now list rests (has-list made.places (now.seen c.in-Ok.opened.0.side) list has);
       beside = subst (λ s. IsBlankBeside s now) (sym side) (alone-beside c.in-Ok.opened.0.side now rests);
     }
+
+pub returns-clause-reads : goal.returns-clause-reads
+returns-clause-reads g c = λ told list listed.
+    let a = g.D.Disk.stands c.args.disk.now in
+    let e = g.D.Disk.stands c.open_current.new.disk in
+    let now = g.D.Disk.stands c.make_log.new.disk in
+    let same = c.open_current.ensures.same told in
+    let value = c.in-Ok.ensures.value told in
+    let is = one-list c.in-Ok.opened.0 c.in-Ok.opened.1 a.seen value list listed in
+    let opened = subst (λ es. HasOpened c.in-Ok.opened.0 (e.seen c.in-Ok.opened.0.side) es) is (opened-here c.in-Ok.opened.0 c.in-Ok.opened.1 a e value same) in
+    let made = c.in-Ok-make_log.log in
+    let side : made.side ≡ c.in-Ok.opened.0.side = c.in-Ok-make_log.ensures.side in
+    let has : HasList made.places (now.seen c.in-Ok.opened.0.side) list = c.in-Ok-make_log.ensures.list told list opened in
+    record {
+      listed = subst (λ s. HasList made.places (now.seen s) list) (sym side) has;
+      numbered = subst (λ es. IsNumbered es) is value.numbered;
+      rank = value.rank_is ∙ ap (λ es. rank_of es) is;
+      waits = refl;
+    }

@@ -52,3 +52,10 @@ returns-clause-list g c = λ told last list entry has.
           (rw view at (c.in_ok-seal.ensures.durable told));
       beside = subst (λ s. IsBlankBeside s (g.D.Disk.stands c.seal.new.disk)) (sym is.side) (beside-stays c.args.self.now.log.side (g.D.Disk.stands c.args.disk.now) (g.D.Disk.stands c.seal.new.disk) run.other has.beside);
     }
+
+pub returns-clause-reads : goal.returns-clause-reads
+returns-clause-reads g c = λ told list entry kept.
+    let view : c.self.inside.log ≡ c.args.self.now.log = ap (λ (k : Keeping). k.log) c.self.view_is in
+    let waits : c.args.self.now.waits ≡ Some c.in-Some.rank = ap (λ (k : Keeping). k.waits) (sym c.self.view_is) ∙ c.in-Some.is in
+    let is = sealed-is c.args.self.now.log c.seal.new.self (sym c.requires.ready.waits ∙ ap (λ o. is_some o) waits) (rw view at c.in_ok-seal.ensures.value) in
+    sealed c.args.self.now _ (g.D.Disk.stands c.args.disk.now).seen (g.D.Disk.stands c.seal.new.disk).seen list entry kept is (rw view at (c.in_ok-seal.ensures.written told)) waits refl
