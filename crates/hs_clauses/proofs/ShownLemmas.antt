@@ -1,13 +1,10 @@
 -- What a cluster shows of a run is what is asked of it here, where the disks tell their contents.
 use Rattle.std.proofs.Common.{◌≡◌, ◌∙◌, ap, sym, subst, ℕ, zero, suc, ◌*◌, ◌<◌, ◌≤◌, List, [], ◌∷◌, Some, None, refl, length, arith}
 use Rattle.std.proofs.lemmas.List.{length-map}
-use Rattle.std.specs.Prelude.{IsSome, false, true}
-use Rattle.hs_clauses.proofs.ListLemmas.{none_aside}
-use Rattle.hs_clauses.proofs.MomentLemmas.{one_list}
+use Rattle.std.specs.Prelude.{IsSome, true}
 use Rattle.hs_clauses.specs.Shown.{HaveOneList, IsShown, IsUnopened, KeepLists, KeepsList, OnDisks}
-use Rattle.hs_cluster.proofs.OpeningMoves.{all_good}
 use Rattle.hs_cluster.specs.Disks.{DiskSeen, seen_at, stands_of}
-use Rattle.hs_cluster.specs.Kept.{AreTold, Span}
+use Rattle.hs_cluster.specs.Kept.{Span}
 use Rattle.hs_cluster.specs.Opens.{AreSound}
 use Rattle.hs_cluster.specs.RunsOn.{RunsOn}
 use Rattle.hs_cluster.specs.Unopened.{LeavesAsTaken}
@@ -23,7 +20,6 @@ use Rattle.hs_peerlog.specs.Images.{GivesList, Is, LeavesOnly}
 use Rattle.hs_ports.specs.Disk.{Standing}
 use Rattle.hs_ports.specs.Moments.{disk_at}
 use Rattle.hs_promise.specs.Ending.{ending_of}
-use Rattle.hs_promise.specs.Entry.{MayStop, is_aside}
 use Rattle.hs_promise.specs.Found.{IsReadAs}
 use Rattle.hs_promise.specs.Machine.{NeverOpened, Went}
 use Rattle.hs_promise.specs.Run.{Ran, Script}
@@ -75,27 +71,15 @@ module _ (tells : Type 0) (S : Script) (r : Ran) (story : Story) (on : OnDisks S
       (ap (λ (ds : List DiskSeen). (seen_at ds p).stands) (sym (runs.still ended)) ∙ seen_as span.left r.new.disks p new)
       (runs.finds.each p (let all = ap (λ n. S.set.shape.shards * n) on.one in omega (arith, low, all))).disk (called p)
 
-  pub shown_of : Went S r story → ((peer : ℕ) → peer < peer_count S.set.shape → IsReadAs r story peer)
-      → ((first_core S.set story.found).ended ≡ None → AreTold (open_whole S.set story.found) (all_events story))
-      → IsShown S r story
-  shown_of went read blocks = record {
+  pub shown_of : Went S r story → ((peer : ℕ) → peer < peer_count S.set.shape → IsReadAs r story peer) → IsShown S r story
+  shown_of went read = record {
     went = went;
     read = read;
     rooms = runs.rooms;
-    told = blocks;
+    told = runs.told told;
     lists = moments;
     ended = kept;
   }
-
-  -- where the run may stop, its reports tell of blocks what the lists have
-  pub told_where : Went S r story → ((peer : ℕ) → peer < peer_count S.set.shape → IsReadAs r story peer) → MayStop S r
-      → (first_core S.set story.found).ended ≡ None → AreTold (open_whole S.set story.found) (all_events story)
-  told_where went read may going = (runs.lists told (sound (one_list S r may counted)) going).told
-    where
-      counted : (p : ℕ) → p < length r.old.disks → is_aside S r p ≡ false
-      counted p low =
-          none_aside S r story went on.one read on.disks (λ q below. all_good S.set story.found on.one went.found.goods going q below) p
-          (let disks = on.disks in omega (arith, low, disks))
 
 -- ---- and none was
 
