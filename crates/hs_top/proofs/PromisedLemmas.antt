@@ -1,8 +1,8 @@
 -- What is promised of a run, from what hs_run says of it and the laws.
-use Rattle.std.proofs.Common.{◌≡◌, ◌∙◌, ap, sym, subst, refl, ℕ, List, [], Option, Some, None, length}
-use Rattle.std.specs.Prelude.{IfSome, IsSome}
+use Rattle.std.proofs.Common.{◌≡◌, ◌∙◌, ap, refl, true, ℕ, ◌<◌, Option, Some, None, length}
+use Rattle.std.specs.Prelude.{IfSome}
 use Rattle.hs_causes.specs.Printing.{FailsInText, LeavesUnread}
-use Rattle.hs_clauses.proofs.ShownLemmas.{shown_of, told_where, unopened_of}
+use Rattle.hs_clauses.proofs.ShownLemmas.{shown_of, unopened_of}
 use Rattle.hs_clauses.specs.Shown.{IsShown, IsToldRun, OnDisks, ShownAs}
 use Rattle.hs_desk.specs.declared.fault.CoreFault.{CoreFault}
 use Rattle.hs_events.specs.Found.{first_core}
@@ -11,7 +11,7 @@ use Rattle.hs_journal.specs.Events.{client_op}
 use Rattle.hs_model.specs.declared.command.Command.{Command}
 use Rattle.hs_promise.specs.Answers.{Prints}
 use Rattle.hs_promise.specs.Deletes.{Deletes}
-use Rattle.hs_promise.specs.Entry.{IsSoundAtEntry, MayStop, entry_store}
+use Rattle.hs_promise.specs.Entry.{IsSoundAtEntry, entry_store, is_aside}
 use Rattle.hs_promise.specs.Lost.{NotesCause}
 use Rattle.hs_promise.specs.Machine.{WentAs}
 use Rattle.hs_promise.specs.Run.{Ran, Script}
@@ -19,7 +19,7 @@ use Rattle.hs_promise.specs.Story.{Story}
 use Rattle.hs_run.proofs.CaseLemmas.{if_told}
 use Rattle.hs_run.specs.Machine.{HasItsEnd, HasReadDisks, IsOfCluster, IsUnopened, RunsOnDisks}
 use Rattle.hs_top.proofs.LawLemmas.{Laws}
-use Rattle.hs_top.proofs.NoteLemmas.{failed_by}
+use Rattle.hs_top.proofs.NoteLemmas.{WhyAside, failed_by, never_aside, why_aside}
 use Rattle.hs_top.specs.Calls.{Promised, PromisedFromEntry, PromisedWhereTold}
 
 module _ (laws : Laws) (tells : Type 0) (S : Script) (r : Ran) (names : GivesAddresses S.set.name) (cluster : IsOfCluster tells S r) where
@@ -57,19 +57,18 @@ module _ (laws : Laws) (tells : Type 0) (S : Script) (r : Ran) (names : GivesAdd
   -- ---- what stands where the disks tell
 
   module _ (told : tells) where
-    shown_by : (how : Option Story) → WentAs S r how → IfSome how (HasReadDisks S r) → IfSome how (RunsOnDisks tells S r) → (how ≡ None → IsUnopened tells r) → MayStop S r → ShownAs S r how
-    shown_by None went read runs unopened may =
+    shown_by : (how : Option Story) → WentAs S r how → IfSome how (HasReadDisks S r) → IfSome how (RunsOnDisks tells S r) → (how ≡ None → IsUnopened tells r) → ShownAs S r how
+    shown_by None went read runs unopened =
         let u : IsUnopened tells r = unopened refl in
         unopened_of tells S r on u.span told u.before u.old.stands u.new.stands went (λ wanting. u.taken)
-    shown_by (Some story) went read runs unopened may =
+    shown_by (Some story) went read runs unopened =
         shown_of tells S r story on runs.span told runs.before runs.now runs.old.stands runs.new.stands runs.shown went read.read
-        (told_where tells S r story on runs.span told runs.before runs.now runs.old.stands runs.new.stands runs.shown went read.read may)
 
-    shown : MayStop S r → ShownAs S r cluster.how
-    shown may = shown_by cluster.how cluster.went (cluster.told told) cluster.runs cluster.unopened may
+    shown : ShownAs S r cluster.how
+    shown = shown_by cluster.how cluster.went (cluster.told told) cluster.runs cluster.unopened
 
-    run : MayStop S r → IsToldRun S r
-    run may = record { on = on; how = cluster.how; shown = shown may }
+    run : IsToldRun S r
+    run = record { on = on; how = cluster.how; shown = shown }
 
     deletes_by : (how : Option Story) → WentAs S r how → ShownAs S r how → IsSoundAtEntry S r → Deletes S (entry_store S r) r
     deletes_by None went so sound = laws.deletes_never S r went
@@ -79,25 +78,30 @@ module _ (laws : Laws) (tells : Type 0) (S : Script) (r : Ran) (names : GivesAdd
         go None going = laws.deletes S r story went (laws.opens S r story on so sound going) (laws.stands S r story on so sound going)
         go (Some fault) ended = laws.deletes_ended S r story fault went ended
 
-    clauses : MayStop S r → PromisedFromEntry S r
-    clauses may = record {
-      answers = laws.answers S r (run may) may.sound;
-      full = laws.full S r (run may) may.sound;
-      keeps = laws.keeps S r (run may) may.sound;
-      deletes = deletes_by cluster.how cluster.went (shown may) may.sound;
+    clauses : IsSoundAtEntry S r → PromisedFromEntry S r
+    clauses sound = record {
+      answers = laws.answers S r run sound;
+      full = laws.full S r run sound;
+      keeps = laws.keeps S r run sound;
+      deletes = deletes_by cluster.how cluster.went shown sound;
     }
 
-    notes_by : (how : Option Story) → WentAs S r how → IfSome how (HasReadDisks S r) → IfSome how (RunsOnDisks tells S r) → ShownAs S r how → MayStop S r → NotesCause S r
-    notes_by None went read runs so may = laws.notes_never S r went cluster.served.counts.disks
-    notes_by (Some story) went read runs so may =
-        laws.notes S r story cluster.one went read.read (runs.lost told) (λ going. failed_by laws S r story on so may going tells told runs)
+    aside_by : (how : Option Story) → WentAs S r how → ShownAs S r how → (p : ℕ) → p < length r.old.disks → is_aside S r p ≡ true → WhyAside r p
+    aside_by None went so p low is = never_aside S r went p is
+    aside_by (Some story) went so p low is = why_aside S r story on so p low is
+
+    notes_by : (how : Option Story) → WentAs S r how → IfSome how (HasReadDisks S r) → IfSome how (RunsOnDisks tells S r) → ShownAs S r how → IsSoundAtEntry S r → NotesCause S r
+    notes_by None went read runs so sound = laws.notes_never S r went cluster.served.counts.disks
+    notes_by (Some story) went read runs so sound =
+        laws.notes S r story cluster.one went read.read (runs.lost told) (λ going. failed_by laws S r story on so sound going tells told runs)
 
     where_told : PromisedWhereTold S r
     where_told = record {
       clauses = clauses;
-      stops = λ may. laws.stops S r (run may) may;
+      stops = λ may. laws.stops S r run may;
       shape = cluster.served.shape told;
-      notes = λ may. notes_by cluster.how cluster.went (cluster.told told) cluster.runs (shown may) may;
+      aside = aside_by cluster.how cluster.went shown;
+      notes = λ sound. notes_by cluster.how cluster.went (cluster.told told) cluster.runs shown sound;
     }
 
   pub promised_of : Promised tells S r
