@@ -1,0 +1,5 @@
+pub mod CountLemmas
+pub mod DoneLemmas
+pub mod ScriptLemmas
+pub mod ShortLemmas
+pub mod StepLemmas
