@@ -248,7 +248,7 @@ module _ (S : Script) (last : ℕ) (entries : List JournalEntry) (each : AllByRe
   pub all_downs : ((peer : ℕ) → note_count peer entries ≤ 1) → many is_down entries ≤ peer_count S.set.shape
   all_downs notes =
       let peers : List ℕ = replicate (peer_count S.set.shape) 0 in
-      let long : length (replicate (peer_count S.set.shape) 0) ≡ peer_count S.set.shape = length-replicate (peer_count S.set.shape) 0 in
+      let long : length {A = ℕ} (replicate (peer_count S.set.shape) 0) ≡ peer_count S.set.shape = length-replicate (peer_count S.set.shape) 0 in
       let all : many is_down entries ≤ many (from_key note_of 0) entries = many_le is_down (from_key note_of 0) entries (λ i e at is. downs e is) in
       let most : many (from_key note_of 0) entries ≤ many (λ (x : ℕ). true) (replicate (peer_count S.set.shape) 0) =
       keyed note_of (λ (x : ℕ). true) entries (replicate (peer_count S.set.shape) 0) 0
