@@ -1,12 +1,11 @@
 -- How often the store tells that a run is done: each time more is swept by every shard than before.
-use Rattle.std.proofs.Common.{◌≡◌, ◌∙◌, sym, ap, subst, ◌⊎◌, inl, inr, ℕ, zero, suc, ◌+◌, ◌<◌, ◌≤◌, Bool, true, false, cond, List, [], ◌∷◌, Option, Some, None, refl, arith, tests, is_none, is_some, nat_le, slice_get, take, All}
+use Rattle.std.proofs.Common.{◌≡◌, ◌∙◌, sym, ap, subst, ℕ, zero, suc, ◌+◌, ◌≤◌, Bool, true, false, cond, List, [], ◌∷◌, Some, refl, arith, tests, is_none, is_some, nat_le, slice_get, take, All}
 use Rattle.std.proofs.lemmas.List.Elements.{All-from_recursion, recursion_from_All}
 use Rattle.hs_ends.proofs.CountLemmas.{AllAbove, above_less, many, one}
 use Rattle.hs_ends.proofs.StepLemmas.{Fits, Steps, event_in, fits_head, fits_tail, is_delete, is_entered, is_swept, next_store}
 use Rattle.hs_journal.specs.declared.entry.JournalEntry.{JournalEntry}
 use Rattle.hs_journal.specs.declared.entry.Who.{Who}
 use Rattle.hs_journal.specs.declared.entry.Who.TheVariants as who
-use Rattle.hs_journal.specs.Events.{event_at}
 use Rattle.hs_journal.specs.Notes.{down_in}
 use Rattle.hs_journal.specs.Telling.{IsOfStore, Done, Down}
 use Rattle.hs_model.specs.declared.deed.Deed.{Deed}

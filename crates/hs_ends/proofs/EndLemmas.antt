@@ -1,21 +1,19 @@
 -- How a run ends in which nothing failed, by its status.
-use Rattle.std.proofs.Common.{◌≡◌, ◌∙◌, sym, ap, subst, ◌⊎◌, inl, inr, ℕ, zero, suc, ◌+◌, ◌-◌, ◌^◌, ◌<◌, ◌≤◌, min, Bool, true, false, cond, List, [], ◌∷◌, ◌++◌, length, All, map, refl, arith}
+use Rattle.std.proofs.Common.{◌≡◌, ◌∙◌, ap, inl, inr, ℕ, zero, suc, ◌+◌, ◌-◌, ◌^◌, ◌≤◌, min, Bool, true, false, cond, List, [], ◌∷◌, ◌++◌, length, All, map, refl, arith}
 use Rattle.std.proofs.lemmas.List.{length-append}
 use Rattle.std.proofs.lemmas.List.Elements.{All-from_recursion, recursion_from_All}
-use Rattle.hs_ends.proofs.CountLemmas.{one}
 use Rattle.hs_ends.specs.Calm.{IsCalm, whole_of}
 use Rattle.hs_ends.specs.Ending.{HasItsCause, TellsAsPromised}
 use Rattle.hs_events.specs.Taken.{or_blank}
 use Rattle.hs_fold.specs.Opened.{chosen_each}
-use Rattle.hs_fold.specs.Runs.Catalogue.{catalogue_of}
-use Rattle.hs_fold.specs.Runs.Facts.{Catalogue, plain}
+use Rattle.hs_fold.specs.Runs.Facts.{plain}
 use Rattle.hs_fold.specs.Runs.Opened.{catalogues, opened}
 use Rattle.hs_fold.specs.Shards.Setting.{Numbered, Setting}
 use Rattle.hs_journal.specs.Notes.{note_count}
 use Rattle.hs_laws.specs.Valid.{IsValid}
 use Rattle.hs_model.specs.Store.{Store}
 use Rattle.hs_noted.proofs.NotingLemmas.{all_append}
-use Rattle.hs_ports.specs.Objects.{NoneFailed, faults_at}
+use Rattle.hs_ports.specs.Objects.{faults_at}
 use Rattle.hs_promise.specs.Answers.{IsEntry}
 use Rattle.hs_promise.specs.Causes.{Cause}
 use Rattle.hs_promise.specs.Completes.{EndsWell, MayEndWell, entry_bound}
@@ -27,7 +25,6 @@ use Rattle.hs_promise.specs.Lost.{extra_note}
 use Rattle.hs_promise.specs.Run.{Ran, Script}
 use Rattle.hs_script.specs.Lines.{lines_of}
 use Rattle.hs_script.specs.Reading.{commands}
-use Rattle.hs_script.specs.Scripts.{input_limit}
 
 -- ---- the store at entry has its shards
 
@@ -85,13 +82,13 @@ module _ (short : Short) (S : Script) (r : Ran) (script left : List ℕ) (says :
 
   full_room : r.ending ≡ status.OpsFull → All (IsEntry S r.line) r.refused → length (r.journal ++ r.refused) ≤ entry_bound S (lines_of script)
   full_room is refused = short S script (entry_store S r) r.line (whole_of r) says told.valid (opened_long S.set (or_blank (entry_logs S r))) (record {
-      answers = told.full is;
-      deletes = told.deletes;
-      entries = All-from_recursion (IsEntry S r.line) (r.journal ++ r.refused)
-          (all_append (IsEntry S r.line) r.journal r.refused (recursion_from_All (IsEntry S r.line) r.journal told.entries) (recursion_from_All (IsEntry S r.line) r.refused refused));
-      led = told.led;
-      notes = noted;
-    })
+    answers = told.full is;
+    deletes = told.deletes;
+    entries = All-from_recursion (IsEntry S r.line) (r.journal ++ r.refused)
+        (all_append (IsEntry S r.line) r.journal r.refused (recursion_from_All (IsEntry S r.line) r.journal told.entries) (recursion_from_All (IsEntry S r.line) r.refused refused));
+    led = told.led;
+    notes = noted;
+  })
 
   by_status : (x : Status) → r.ending ≡ x → Cause S r x → HasEnded x (lines_of script) r.line ends.taken left → EndsWell S r
   by_status status.Done is cause ended = inl is

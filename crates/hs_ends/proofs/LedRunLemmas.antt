@@ -1,41 +1,32 @@
 -- So it is along a run.
-use Rattle.std.proofs.Common.{◌≡◌, ◌∙◌, sym, ap, subst, ℕ, ◌<◌, Bool, true, false, cond, List, [], ◌∷◌, ◌++◌, length, Option, Some, None, refl, arith, append-nil, slice_get, if◌then◌else◌}
-use Rattle.std.specs.List.{AllByRecursion}
+use Rattle.std.proofs.Common.{◌≡◌, ◌∙◌, sym, ap, subst, ℕ, Bool, true, false, List, [], ◌∷◌, ◌++◌, Option, Some, None, refl, arith, append-nil, if◌then◌else◌}
 use Rattle.hs_answered.specs.Telling.{Judging}
-use Rattle.hs_core.specs.Changing.{note}
-use Rattle.hs_core.specs.Looking.{front_of, group_of}
 use Rattle.hs_core.specs.Opening.{Taken, new_core, open_core}
 use Rattle.hs_core.specs.State.{Core}
 use Rattle.hs_core.specs.Step.{step}
 use Rattle.hs_core.specs.Views.{begin_view}
 use Rattle.hs_deletes.proofs.EventLemmas.{LawsBelow}
-use Rattle.hs_deletes.proofs.OpenLemmas.{opens_deletes}
 use Rattle.hs_deletes.proofs.PromiseLemmas.{OpensSo, deletes_of}
 use Rattle.hs_deletes.proofs.RuleLemmas.{all_front}
 use Rattle.hs_deletes.proofs.RunLemmas.{Running, steps_ended}
 use Rattle.hs_deletes.proofs.SaidLemmas.{view_told}
 use Rattle.hs_deletes.specs.Deletion.{TellsDeletion}
 use Rattle.hs_desk.specs.declared.fault.CoreFault.{CoreFault}
-use Rattle.hs_effects.proofs.SweepLemmas.{ByViews}
-use Rattle.hs_ends.proofs.LedLemmas.{IsLed, IsNotOwn, TellsLed, noted_led, same_led, walks_led}
+use Rattle.hs_ends.proofs.LedLemmas.{IsLed, walks_led}
+use Rattle.hs_ends.proofs.SayLemmas.{IsNotOwn, TellsLed, noted_led, same_led}
 use Rattle.hs_ends.specs.Calm.{AreLed, IsNotAlone, whole_of}
-use Rattle.hs_entry.specs.declared.entry.Entry.{Entry}
 use Rattle.hs_events.specs.Course.{steps}
 use Rattle.hs_events.specs.Due.{Events}
 use Rattle.hs_events.specs.Found.{Found, first_core, opens_with}
 use Rattle.hs_events.specs.Whole.{Whole, open_whole, step_whole}
 use Rattle.hs_journal.specs.declared.entry.JournalEntry.{JournalEntry}
 use Rattle.hs_journal.specs.declared.entry.Who.TheVariants as who
-use Rattle.hs_legal.proofs.Laws.{Entries, Steps}
-use Rattle.hs_legal.specs.Telling.{told_so_far}
 use Rattle.hs_limits.specs.declared.limits.Limits.{Limits}
 use Rattle.hs_limits.specs.declared.shape.Shape.{Shape}
 use Rattle.hs_along.proofs.WalkLemmas.{walks_step}
 use Rattle.hs_model.specs.declared.deed.Deed.TheVariants as deed
 use Rattle.hs_model.specs.declared.reply.Reply.TheVariants as reply
 use Rattle.hs_model.specs.Store.{Store}
-use Rattle.hs_moments.specs.Machine.{runs}
-use Rattle.hs_moments.specs.WholeMachine.{whole_machine}
 use Rattle.hs_noted.proofs.NotingLemmas.{all_append}
 use Rattle.hs_promise.specs.Deletes.{Deletes}
 use Rattle.hs_promise.specs.Ending.{ending_of}

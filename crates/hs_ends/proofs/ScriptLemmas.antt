@@ -1,12 +1,12 @@
 -- A line that says `delete` is that word.
-use Rattle.std.proofs.Common.{◌≡◌, ◌∙◌, sym, ap, ℕ, Bool, true, false, cond, List, [], ◌∷◌, length, Option, Some, None, refl, bytes_eq, codes, nat_lt, ◌==◌}
+use Rattle.std.proofs.Common.{◌≡◌, ◌∙◌, ap, ℕ, Bool, true, false, cond, List, [], ◌∷◌, length, Option, Some, None, refl, bytes_eq, codes, nat_lt, ◌==◌}
 use Rattle.hs_model.specs.declared.command.Command.{Command}
 use Rattle.hs_model.specs.declared.command.Command.TheVariants as command
 use Rattle.hs_model.specs.declared.op.Op.TheVariants as op
 use Rattle.hs_script.specs.declared.read.TheConstants.{LONGEST_LINE}
 use Rattle.hs_script.specs.Lines.{before_first, words_of}
 use Rattle.hs_script.specs.Parts.{name_of, key_of, peer_number, message_number, handle_of, handles_of, payload_of}
-use Rattle.hs_script.specs.Reading.{Reading, bad, blank, says, command_at, command_in, command_of, driving_line, leading, line_of, no_word, only, reading, reading_of, says_by}
+use Rattle.hs_script.specs.Reading.{Reading, bad, blank, command_at, command_in, command_of, driving_line, leading, line_of, no_word, only, reading, reading_of, says_by}
 
 -- a command is a deletion
 abbrev pub deletes : Option Command → Bool

@@ -1,20 +1,16 @@
 -- What one entry of a journal does to the epochs of the plain store.
-use Rattle.std.proofs.Common.{◌≡◌, ◌∙◌, sym, ap, subst, ◌⊎◌, inl, inr, ℕ, zero, suc, ◌+◌, ◌<◌, ◌≤◌, Bool, true, false, cond, List, [], ◌∷◌, length, Option, Some, None, refl, arith, tests, slice_index, slice_set, nat_lt}
+use Rattle.std.proofs.Common.{◌≡◌, ◌∙◌, sym, ap, subst, ◌⊎◌, inl, inr, ℕ, zero, suc, ◌+◌, ◌<◌, ◌≤◌, Bool, true, false, List, [], ◌∷◌, length, Option, Some, None, refl, arith, tests, slice_index, slice_set, nat_lt}
 use Rattle.std.proofs.lemmas.Bool.{and_parts}
 use Rattle.std.specs.List.{AllByRecursion}
-use Rattle.std.specs.Option.{option_map}
 use Rattle.hs_ends.proofs.CountLemmas.{AllAbove, above_set, many, one, set_long, total, total_set}
 use Rattle.hs_ends.specs.Calm.{AreLed, IsNotAlone}
 use Rattle.hs_journal.specs.declared.entry.JournalEntry.{JournalEntry}
 use Rattle.hs_journal.specs.declared.entry.Who.{Who}
 use Rattle.hs_journal.specs.declared.entry.Who.TheVariants as who
-use Rattle.hs_journal.specs.Events.{addressed, client_op, event_at, events_of, line_event, shard_event, store_by, with_event}
-use Rattle.hs_laws.proofs.EnterLemmas.{set-at}
+use Rattle.hs_journal.specs.Events.{addressed, client_op, event_at, line_event, shard_event, store_by, with_event}
 use Rattle.hs_laws.proofs.JudgeKeeps.{step_valid}
 use Rattle.hs_laws.proofs.ValidLemmas.{is_from_valid, valid_from_is}
 use Rattle.hs_laws.specs.Valid.{IsValid}
-use Rattle.hs_limits.specs.Block.{Block}
-use Rattle.hs_limits.specs.declared.address.Held.{Held}
 use Rattle.hs_limits.specs.declared.limits.Limits.{Limits}
 use Rattle.hs_model.specs.declared.deed.Deed.{Deed}
 use Rattle.hs_model.specs.declared.deed.Deed.TheVariants as deed
@@ -22,11 +18,11 @@ use Rattle.hs_model.specs.declared.op.Op.{Op}
 use Rattle.hs_model.specs.declared.op.Op.TheVariants as op
 use Rattle.hs_model.specs.declared.reply.Reply.{Reply}
 use Rattle.hs_model.specs.declared.reply.Reply.TheVariants as reply
-use Rattle.hs_model.specs.Inner.{enter, may_enter, may_sweep, none_below, sweep}
-use Rattle.hs_model.specs.Judge.{forgetting, granted, judge, judged, refusals}
+use Rattle.hs_model.specs.Inner.{enter, none_below, sweep}
+use Rattle.hs_model.specs.Judge.{granted, judge, judged, refusals}
 use Rattle.hs_model.specs.Refusals.{first}
-use Rattle.hs_model.specs.Run.{Event, IsAllowed, IsLegal, asks, enters, run, step, sweeps}
-use Rattle.hs_model.specs.Store.{Session, Store, hold_all, put_session, session_at}
+use Rattle.hs_model.specs.Run.{Event, IsAllowed, IsLegal, asks, enters, run, sweeps}
+use Rattle.hs_model.specs.Store.{Session, Store, put_session}
 use Rattle.hs_promise.specs.Answers.{IsEntry, events_in}
 use Rattle.hs_promise.specs.Run.{Script}
 use Rattle.hs_swept.proofs.ExactLemmas.{run_with}
