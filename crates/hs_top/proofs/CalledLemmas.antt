@@ -1,5 +1,5 @@
 -- What a call promises, from what is promised of a run and what hs_run says of it.
-use Rattle.std.proofs.Common.{◌≡◌, ◌∙◌, sym, subst, refl, ℕ, List, Option, None, length, map}
+use Rattle.std.proofs.Common.{◌≡◌, ◌∙◌, ap, sym, subst, refl, ℕ, zero, suc, ◌≤◌, ◌++◌, List, [], ◌∷◌, Option, None, length, map, take, drop, take_all, arith}
 use Rattle.std.proofs.lemmas.List.{length-map}
 use Rattle.std.specs.Prelude.{IfSome}
 use Rattle.hs_limits.specs.declared.address.Address.{Address}
@@ -16,6 +16,26 @@ use Rattle.hs_top.specs.Calls.{IsCalled, Promised, RunsSo}
 -- as many disks are handed in as there are
 pub handed_count : {A B C : Type 0} (f : A → B × C) (disks : List A) → length (map (λ (d : B × C). d.0) (map f disks)) ≡ length disks
 handed_count {A} {B} {C} f disks = length-map (map f disks) (λ (d : B × C). d.0) ∙ length-map disks f
+
+-- ---- what a vector holds behind a call on its slice
+
+none_behind : {X : Type 0} (n : ℕ) (xs : List X) → length xs ≤ n → drop n xs ≡ []
+none_behind zero [] h = refl
+none_behind (suc n) [] h = refl
+none_behind zero (x ∷ xs) h = absurd (omega (arith, h))
+none_behind (suc n) (x ∷ xs) h = none_behind n xs (omega (arith, h))
+
+and_none : {X : Type 0} (xs : List X) → xs ++ [] ≡ xs
+and_none [] = refl
+and_none {X} (x ∷ xs) = ap (λ (ys : List X). x ∷ ys) (and_none xs)
+
+pub written_back : {X : Type 0} (n : ℕ) (new old : List X) → length new ≡ length old → length old ≡ n → take n (new ++ drop (length new) old) ≡ new
+written_back {X} n new old same all =
+    ap (λ (ys : List X). take n (new ++ ys)) (none_behind (length new) old (omega (arith, same)))
+    ∙ ap (λ (ys : List X). take n ys) (and_none new)
+    ∙ take_all n new (omega (arith, same, all))
+
+-- ---- a call
 
 module _ (tells : Type 0) (name : List ℕ → Address) (words : List (List ℕ)) (disks : ℕ) (r : Ran) (same : length r.old.disks ≡ disks) where
   pub called_of : (built_of words disks ≡ None → IsUsage r) → (r.ending ≡ status.Usage → built_of words disks ≡ None)

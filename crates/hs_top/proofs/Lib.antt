@@ -1,2 +1,5 @@
 pub mod CalledLemmas
+pub mod LawLemmas
+pub mod NoteLemmas
+pub mod PromisedLemmas
 pub mod RestLemmas

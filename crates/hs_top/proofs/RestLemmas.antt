@@ -35,7 +35,7 @@ rest_may S r image rest sound = record {
 
 -- ---- blank disks
 
-AreEmpty : List Numbered → Type 0
+abbrev AreEmpty : List Numbered → Type 0
 AreEmpty [] = ⊤
 AreEmpty (list ∷ lists) = (list ≡ []) × AreEmpty lists
 
@@ -51,11 +51,11 @@ empty_drop (suc n) (list ∷ lists) h = empty_drop n lists h.1
 
 chosen_empty : (lists : List Numbered) → AreEmpty lists → chosen lists ≡ []
 chosen_empty [] h = refl
-chosen_empty (list ∷ lists) h = go (outranks (rank_of (chosen lists)) (rank_of list))
+chosen_empty (list ∷ lists) h = go (outranks (rank_of (chosen lists)) (rank_of list)) (chosen_empty lists h.1)
   where
-    go : (b : Bool) → (if b then chosen lists else list) ≡ []
-    go true = chosen_empty lists h.1
-    go false = h.0
+    go : (b : Bool) → chosen lists ≡ [] → (if b then chosen lists else list) ≡ []
+    go true rest = rest
+    go false rest = h.0
 
 each_empty : (shards copies : ℕ) (lists : List Numbered) → AreEmpty lists → chosen_each shards copies lists ≡ replicate shards []
 each_empty zero copies lists h = refl

@@ -6,8 +6,16 @@ ghost use Rattle.hs_top.specs.Calls.{IsCalled};
 ghost use Rattle.hs_top.specs.Words.{is_load};
 
 use hs_block::Addresser;
+use hs_causes::{
+    a_prompt_line_has_its_entry, a_run_without_a_course_began_nothing,
+    each_entry_stands_for_its_cause, each_note_has_its_cause, each_status_has_its_cause,
+    notes_have_their_line,
+};
+use hs_clauses::{a_run_is_answered, a_run_keeps, a_run_may_stop, a_run_stands};
+use hs_deletes::a_run_deletes_as_promised;
 use hs_ports::{Disk, Sink, Source, Watch};
 use hs_promise::Outcome;
+use hs_reads::each_report_tells_its_block;
 use hs_run::run_on_cluster;
 use std::alloc::Global;
 use std::sync::Wait;
@@ -30,6 +38,18 @@ fn run_words<A: Addresser, S: Source, K: Sink, D: Disk>(
         (handed watch.new (map (λ disk. (D.stands disk, D.faults disk)) disks.new)
         (K.got sink.new, K.faults sink.new) (S.left source.new, S.faults source.new))) }
 {
+    each_entry_stands_for_its_cause();
+    notes_have_their_line();
+    a_run_without_a_course_began_nothing();
+    a_prompt_line_has_its_entry();
+    each_status_has_its_cause();
+    each_note_has_its_cause();
+    each_report_tells_its_block();
+    a_run_stands();
+    a_run_is_answered();
+    a_run_keeps();
+    a_run_may_stop();
+    a_run_deletes_as_promised();
     run_on_cluster(alloc, words, naming, source, sink, disks, watch)
 }
 

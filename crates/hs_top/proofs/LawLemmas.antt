@@ -1,0 +1,74 @@
+-- The laws by which a run keeps what is promised of it, as calls of them ensure them.
+use Rattle.std.specs.Prelude.{All, IfSome, None, Option, Some, [], length, true, ℕ, ◌++◌, ◌+◌, ◌<◌, ◌≡◌, ◌≤◌, Bool, List}
+use Rattle.hs_answers.specs.Answered.{KeepsRecordRoom}
+use Rattle.hs_causes.specs.Printing.{FailsInText, LeavesUnread}
+use Rattle.hs_clauses.specs.Asked.{start_of}
+use Rattle.hs_clauses.specs.Shown.{IsShown, IsToldRun, OnDisks}
+use Rattle.hs_cluster.specs.Kept.{AreStored, AreTold}
+use Rattle.hs_desk.specs.declared.fault.CoreFault.{CoreFault}
+use Rattle.hs_events.specs.Course.{steps}
+use Rattle.hs_events.specs.Due.{Events, MomentsRise, is_walk, next_due}
+use Rattle.hs_events.specs.Found.{Found, first_core}
+use Rattle.hs_events.specs.Reports.{failures}
+use Rattle.hs_events.specs.Taken.{peer_count}
+use Rattle.hs_events.specs.Whole.{open_whole}
+use Rattle.hs_journal.specs.Events.{client_op}
+use Rattle.hs_journal.specs.Telling.{AreDated}
+use Rattle.hs_limits.specs.Shape.{IsShape}
+use Rattle.hs_lines.specs.Script.{AreLines}
+use Rattle.hs_lines.specs.Script.{all_events as lines_events}
+use Rattle.hs_ports.specs.Fault.{HasRisen}
+use Rattle.hs_ports.specs.Objects.{faults_at}
+use Rattle.hs_promise.specs.Answers.{Answers, BeganNothing, IsEntry}
+use Rattle.hs_promise.specs.Causes.{Cause, FullCause}
+use Rattle.hs_promise.specs.Completes.{HasPrompt}
+use Rattle.hs_promise.specs.declared.status.Status.TheVariants as status
+use Rattle.hs_promise.specs.Deletes.{Deletes}
+use Rattle.hs_promise.specs.Entry.{IsSoundAtEntry, MayStop, entry_store}
+use Rattle.hs_promise.specs.Found.{IsReadAs}
+use Rattle.hs_promise.specs.Kept.{KeepsAlong}
+use Rattle.hs_promise.specs.Lost.{NotesCause}
+use Rattle.hs_promise.specs.Machine.{NeverOpened, Went, WentAs, loss_count}
+use Rattle.hs_promise.specs.Run.{DiskRose, Ran, Script}
+use Rattle.hs_promise.specs.Stops.{Stops}
+use Rattle.hs_promise.specs.Story.{Story, all_events}
+use Rattle.hs_reads.specs.Run.{script_of}
+use Rattle.hs_standing.specs.Run.{MayRun, RunOpens}
+use Rattle.hs_standing.specs.Standing.{AllMayKeep}
+use Rattle.hs_stops.specs.Start.{Start}
+
+-- what a peer is to read is in what is sealed of its list
+abbrev pub StoresBlocks : Type 0
+StoresBlocks =
+    (start : Start) (found : Found) (past done : Bool) (opening : Events) (lines : List Events) (to : ℕ) → RunOpens start found → MomentsRise found.opened (opening ++ lines_events lines) to
+    → is_walk next_due done 0 (first_core start.set found) opening ≡ true → AreLines (script_of start past) 1 (steps (first_core start.set found) opening) lines
+    → KeepsRecordRoom (first_core start.set found) (opening ++ lines_events lines) → AreTold (open_whole start.set found) (opening ++ lines_events lines)
+    → AreStored (open_whole start.set found) (opening ++ lines_events lines)
+
+pub record Laws : Type 0 where
+  -- clauses
+  pub answers : (S : Script) (r : Ran) → IsToldRun S r → IsSoundAtEntry S r → Answers S (entry_store S r) r.journal
+  pub full : (S : Script) (r : Ran) → IsToldRun S r → IsSoundAtEntry S r → FullCause S (entry_store S r) r
+  pub keeps : (S : Script) (r : Ran) → IsToldRun S r → IsSoundAtEntry S r → KeepsAlong S (entry_store S r) r
+  pub stops : (S : Script) (r : Ran) → IsToldRun S r → MayStop S r → Stops S (entry_store S r) r
+  -- deletion
+  pub opens : (S : Script) (r : Ran) (story : Story) → OnDisks S r → IsShown S r story → IsSoundAtEntry S r → (first_core S.set story.found).ended ≡ None → RunOpens (start_of S r) story.found
+  pub stands : (S : Script) (r : Ran) (story : Story) → OnDisks S r → IsShown S r story → IsSoundAtEntry S r → (first_core S.set story.found).ended ≡ None
+      → AllMayKeep (start_of S r) (MayRun (start_of S r)) (first_core S.set story.found) (all_events story)
+  pub deletes : (S : Script) (r : Ran) (story : Story) → Went S r story → RunOpens (start_of S r) story.found
+      → AllMayKeep (start_of S r) (MayRun (start_of S r)) (first_core S.set story.found) (all_events story) → Deletes S (entry_store S r) r
+  pub deletes_ended : (S : Script) (r : Ran) (story : Story) (fault : CoreFault) → Went S r story → (first_core S.set story.found).ended ≡ Some fault → Deletes S (entry_store S r) r
+  pub deletes_never : (S : Script) (r : Ran) → NeverOpened r → Deletes S (entry_store S r) r
+  -- causes
+  pub entries : (S : Script) (r : Ran) (how : Option Story) → WentAs S r how → All (IsEntry S r.line) r.journal
+  pub dated : (S : Script) (r : Ran) (how : Option Story) → WentAs S r how → AreDated S.commands r.journal
+  pub nothing : (S : Script) (r : Ran) (how : Option Story) → IsShape S.set.shape → WentAs S r how → IfSome how (LeavesUnread S r) → r.course ≡ [] → BeganNothing r
+  pub prompt : (S : Script) (r : Ran) (how : Option Story) → client_op (S.commands 0) ≡ None → WentAs S r how → IfSome how (FailsInText S r) → (line : ℕ) → HasPrompt S r line
+  pub cause : (S : Script) (r : Ran) (how : Option Story) → S.set.shape.copies ≡ 1 → WentAs S r how → (r.ending ≡ status.ReadFault → HasRisen r.old.source_faults r.new.source_faults)
+      → (r.ending ≡ status.WriteFault → HasRisen r.old.sink_faults r.new.sink_faults) → Cause S r r.ending
+  -- notes
+  pub notes : (S : Script) (r : Ran) (story : Story) → S.set.shape.copies ≡ 1 → Went S r story → ((peer : ℕ) → peer < peer_count S.set.shape → IsReadAs r story peer)
+      → ((disk : ℕ) → DiskRose r (loss_count story disk) disk)
+      → ((first_core S.set story.found).ended ≡ None → (disk : ℕ) → DiskRose r (failures true disk (first_core S.set story.found) (all_events story) + loss_count story disk) disk) → NotesCause S r
+  pub notes_never : (S : Script) (r : Ran) → NeverOpened r → ((disk : ℕ) → faults_at r.old.disk_faults disk ≤ faults_at r.new.disk_faults disk) → NotesCause S r
+  pub stored : StoresBlocks

@@ -1,0 +1,118 @@
+-- What is promised of a run, from what hs_run says of it and the laws.
+use Rattle.std.proofs.Common.{◌≡◌, ◌∙◌, ap, refl, true, ℕ, ◌<◌, Option, Some, None, length}
+use Rattle.std.specs.Prelude.{IfSome}
+use Rattle.hs_causes.specs.Printing.{FailsInText, LeavesUnread}
+use Rattle.hs_clauses.proofs.ShownLemmas.{shown_of, unopened_of}
+use Rattle.hs_clauses.specs.Shown.{IsShown, IsToldRun, OnDisks, ShownAs}
+use Rattle.hs_desk.specs.declared.fault.CoreFault.{CoreFault}
+use Rattle.hs_events.specs.Found.{first_core}
+use Rattle.hs_held.specs.Held.{GivesAddresses}
+use Rattle.hs_journal.specs.Events.{client_op}
+use Rattle.hs_model.specs.declared.command.Command.{Command}
+use Rattle.hs_promise.specs.Answers.{Prints}
+use Rattle.hs_promise.specs.Deletes.{Deletes}
+use Rattle.hs_promise.specs.Entry.{IsSoundAtEntry, entry_store, is_aside}
+use Rattle.hs_promise.specs.Lost.{NotesCause}
+use Rattle.hs_promise.specs.Machine.{WentAs}
+use Rattle.hs_promise.specs.Run.{Ran, Script}
+use Rattle.hs_promise.specs.Story.{Story}
+use Rattle.hs_run.proofs.CaseLemmas.{if_told}
+use Rattle.hs_run.specs.Machine.{HasItsEnd, HasReadDisks, IsOfCluster, IsUnopened, RunsOnDisks}
+use Rattle.hs_top.proofs.LawLemmas.{Laws}
+use Rattle.hs_top.proofs.NoteLemmas.{WhyAside, failed_by, never_aside, why_aside}
+use Rattle.hs_top.specs.Calls.{Promised, PromisedFromEntry, PromisedWhereTold}
+
+module _ (laws : Laws) (tells : Type 0) (S : Script) (r : Ran) (names : GivesAddresses S.set.name) (cluster : IsOfCluster tells S r) where
+  nobody : client_op (S.commands 0) ≡ None
+  nobody = ap (λ (c : Option Command). client_op c) cluster.nobody
+
+  on : OnDisks S r
+  on = record {
+    shape = cluster.shape;
+    one = cluster.one;
+    names = names;
+    nobody = nobody;
+    disks = cluster.count;
+    left = cluster.served.handed_back ∙ cluster.count;
+  }
+
+  -- ---- what stands whatever the objects tell
+
+  unread : IfSome cluster.how (LeavesUnread S r)
+  unread = if_told (HasItsEnd S r) (LeavesUnread S r) cluster.how cluster.ended (λ story ended. ended.unread)
+
+  in_text : IfSome cluster.how (FailsInText S r)
+  in_text = if_told (HasItsEnd S r) (FailsInText S r) cluster.how cluster.ended (λ story ended. ended.written)
+
+  prints : Prints S r
+  prints = record {
+    entries = laws.entries S r cluster.how cluster.went;
+    fits = cluster.served.prints.fits;
+    dated = laws.dated S r cluster.how cluster.went;
+    nothing = λ none. laws.nothing S r cluster.how cluster.shape cluster.went unread none;
+    printed = cluster.served.prints.printed;
+    in_time = cluster.served.prints.in_time;
+  }
+
+  -- ---- what stands where the disks tell
+
+  module _ (told : tells) where
+    shown_by : (how : Option Story) → WentAs S r how → IfSome how (HasReadDisks S r) → IfSome how (RunsOnDisks tells S r) → (how ≡ None → IsUnopened tells r) → ShownAs S r how
+    shown_by None went read runs unopened =
+        let u : IsUnopened tells r = unopened refl in
+        unopened_of tells S r on u.span told u.before u.old.stands u.new.stands went (λ wanting. u.taken)
+    shown_by (Some story) went read runs unopened =
+        shown_of tells S r story on runs.span told runs.before runs.now runs.old.stands runs.new.stands runs.shown went read.read
+
+    shown : ShownAs S r cluster.how
+    shown = shown_by cluster.how cluster.went (cluster.told told) cluster.runs cluster.unopened
+
+    run : IsToldRun S r
+    run = record { on = on; how = cluster.how; shown = shown }
+
+    deletes_by : (how : Option Story) → WentAs S r how → ShownAs S r how → IsSoundAtEntry S r → Deletes S (entry_store S r) r
+    deletes_by None went so sound = laws.deletes_never S r went
+    deletes_by (Some story) went so sound = go (first_core S.set story.found).ended refl
+      where
+        go : (o : Option CoreFault) → (first_core S.set story.found).ended ≡ o → Deletes S (entry_store S r) r
+        go None going = laws.deletes S r story went (laws.opens S r story on so sound going) (laws.stands S r story on so sound going)
+        go (Some fault) ended = laws.deletes_ended S r story fault went ended
+
+    clauses : IsSoundAtEntry S r → PromisedFromEntry S r
+    clauses sound = record {
+      answers = laws.answers S r run sound;
+      full = laws.full S r run sound;
+      keeps = laws.keeps S r run sound;
+      deletes = deletes_by cluster.how cluster.went shown sound;
+    }
+
+    aside_by : (how : Option Story) → WentAs S r how → ShownAs S r how → (p : ℕ) → p < length r.old.disks → is_aside S r p ≡ true → WhyAside r p
+    aside_by None went so p low is = never_aside S r went p is
+    aside_by (Some story) went so p low is = why_aside S r story on so p low is
+
+    notes_by : (how : Option Story) → WentAs S r how → IfSome how (HasReadDisks S r) → IfSome how (RunsOnDisks tells S r) → ShownAs S r how → IsSoundAtEntry S r → NotesCause S r
+    notes_by None went read runs so sound = laws.notes_never S r went cluster.served.counts.disks
+    notes_by (Some story) went read runs so sound =
+        laws.notes S r story cluster.one went read.read (runs.lost told) (λ going. failed_by laws S r story on so sound going tells told runs)
+
+    where_told : PromisedWhereTold S r
+    where_told = record {
+      clauses = clauses;
+      stops = λ may. laws.stops S r run may;
+      shape = cluster.served.shape told;
+      aside = aside_by cluster.how cluster.went shown;
+      notes = λ sound. notes_by cluster.how cluster.went (cluster.told told) cluster.runs shown sound;
+    }
+
+  pub promised_of : Promised tells S r
+  promised_of = record {
+    script = cluster.script;
+    handed_back = cluster.served.handed_back;
+    prints = prints;
+    prompt = laws.prompt S r cluster.how nobody cluster.went in_text;
+    time = cluster.served.time;
+    counts = cluster.served.counts;
+    cause = laws.cause S r cluster.how cluster.one cluster.went cluster.served.causes.read cluster.served.causes.write;
+    ends = cluster.served.ends;
+    told = where_told;
+  }

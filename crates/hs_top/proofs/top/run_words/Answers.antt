@@ -1,0 +1,42 @@
+use Rattle.std.proofs.Common.{◌≡◌, sym, subst, ℕ, List, map, length}
+use Rattle.std.specs.Prelude.{string_bytes}
+use Rattle.hs_held.specs.Held.{GivesAddresses}
+use Rattle.hs_limits.specs.declared.address.Address.{Address}
+use Rattle.hs_ports.specs.Objects.{Objects, handed}
+use Rattle.hs_promise.specs.Run.{Ran, Script, ran_of}
+use Rattle.hs_top.proofs.CalledLemmas.{called_of, handed_count}
+use Rattle.hs_top.proofs.LawLemmas.{Laws}
+use Rattle.hs_top.proofs.PromisedLemmas.{promised_of}
+use Rattle.hs_top.proofs.top.run_words.Goals as goal
+
+pub returns : goal.returns
+returns g c =
+    let name : List ℕ → Address = g.A.Addresser.name c.args.naming.now in
+    let old : Objects = handed c.args.watch.now (map (λ disk. (g.D.Disk.stands disk, g.D.Disk.faults disk)) c.args.disks.now) (g.K.Sink.got c.args.sink.now, g.K.Sink.faults c.args.sink.now) (g.S.Source.left c.args.source.now, g.S.Source.faults c.args.source.now) in
+    let new : Objects = handed c.run_on_cluster.new.watch (map (λ disk. (g.D.Disk.stands disk, g.D.Disk.faults disk)) c.run_on_cluster.new.disks) (g.K.Sink.got c.run_on_cluster.new.sink, g.K.Sink.faults c.run_on_cluster.new.sink) (g.S.Source.left c.run_on_cluster.new.source, g.S.Source.faults c.run_on_cluster.new.source) in
+    let laws : Laws = record {
+      answers = c.a_run_is_answered.ensures.answers;
+      full = c.a_run_is_answered.ensures.full;
+      keeps = c.a_run_keeps.ensures.run;
+      stops = c.a_run_may_stop.ensures;
+      opens = c.a_run_stands.ensures.opens;
+      stands = c.a_run_stands.ensures.keeps;
+      deletes = c.a_run_deletes_as_promised.ensures.went;
+      deletes_ended = c.a_run_deletes_as_promised.ensures.ended;
+      deletes_never = c.a_run_deletes_as_promised.ensures.never;
+      entries = c.each_entry_stands_for_its_cause.ensures.journal;
+      dated = c.notes_have_their_line.ensures;
+      nothing = c.a_run_without_a_course_began_nothing.ensures;
+      prompt = c.a_prompt_line_has_its_entry.ensures;
+      cause = c.each_status_has_its_cause.ensures;
+      notes = c.each_note_has_its_cause.ensures.opened;
+      notes_never = c.each_note_has_its_cause.ensures.never;
+      stored = c.each_report_tells_its_block.ensures.wanted;
+    } in
+    record {
+      called = called_of g.D.Disk.tells name (map (λ word. string_bytes word) c.args.words.now) (length c.args.disks.now) (ran_of c.run_on_cluster.result old new)
+          (handed_count (λ disk. (g.D.Disk.stands disk, g.D.Disk.faults disk)) c.args.disks.now)
+          c.run_on_cluster.ensures.usage c.run_on_cluster.ensures.only_usage c.run_on_cluster.ensures.ran
+          (λ S same run. promised_of laws g.D.Disk.tells S (ran_of c.run_on_cluster.result old new)
+          (subst (λ (n : List ℕ → Address). GivesAddresses n) (sym same) (g.A.Addresser.sized c.args.naming.now)) run);
+    }
