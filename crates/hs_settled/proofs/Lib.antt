@@ -1,0 +1,7 @@
+pub mod AnsweredLemmas
+pub mod FirstLemmas
+pub mod LevelLemmas
+pub mod LineLemmas
+pub mod ListLemmas
+pub mod OpenLemmas
+pub mod OwnLemmas
