@@ -1,10 +1,9 @@
 -- Of what each event of a run is: it is what is due, or the event of its line's command; and how lines go on.
-use Rattle.std.proofs.Common.{◌≡◌, ◌⊎◌, inl, inr, ◌∙◌, ap, sym, subst, ℕ, zero, suc, ◌+◌, ◌<◌, ◌≤◌, ◌==◌, ◌&&◌, ◌||◌, ◌++◌, Bool, true, false, not, List, [], ◌∷◌, Option, Some, None, refl, length, is_none, is_some, arith}
+use Rattle.std.proofs.Common.{◌≡◌, ◌⊎◌, inl, inr, ◌∙◌, ap, sym, subst, ℕ, ◌+◌, ◌<◌, ◌≤◌, ◌==◌, ◌&&◌, ◌||◌, ◌++◌, Bool, true, false, not, List, [], ◌∷◌, Option, Some, None, refl, length, is_none, is_some, arith}
 use Rattle.std.proofs.lemmas.Bool.{cases_eq, ne_eqb}
 use Rattle.std.specs.Option.{option_and_then, option_map_or, option_or}
 use Rattle.std.specs.Prelude.{if◌then◌else◌}
 use Rattle.hs_causes.proofs.ListLemmas.{not_both}
-use Rattle.hs_core.specs.Asking.{no_peer, not_up}
 use Rattle.hs_core.specs.declared.event.Event.{Event}
 use Rattle.hs_core.specs.declared.event.Event.TheVariants as event
 use Rattle.hs_core.specs.State.{Core}
@@ -23,11 +22,10 @@ use Rattle.hs_journal.specs.Order.{IsPrompt}
 use Rattle.hs_limits.specs.declared.address.Address.{Address}
 use Rattle.hs_lines.proofs.DueLemmas.{Fits, IsPart, behind_fits, is_part, next_fits, part_line}
 use Rattle.hs_lines.proofs.StepLemmas.{step_at, step_moves}
-use Rattle.hs_lines.specs.Script.{AreLines, IsLine, Script, all_events}
+use Rattle.hs_lines.specs.Script.{AreLines, Script, all_events}
 use Rattle.hs_model.specs.declared.command.Command.{Command}
 use Rattle.hs_model.specs.declared.command.Command.TheVariants as command
 use Rattle.hs_model.specs.declared.op.Op.{Op}
-use Rattle.hs_model.specs.Refusals.{first}
 use Rattle.hs_told.specs.InTurn.{refusal_in}
 
 -- ---- an event

@@ -1,13 +1,11 @@
 -- Each status has its cause.
-use Rattle.std.proofs.Common.{◌≡◌, ◌⊎◌, inl, inr, ◌∙◌, ap, sym, subst, ◌++◌, ◌<◌, Bool, true, false, List, [], Option, Some, None, IfSome, refl, length}
+use Rattle.std.proofs.Common.{◌≡◌, inl, inr, ◌∙◌, ap, sym, subst, ◌++◌, ◌<◌, true, false, [], Option, Some, None, IfSome, refl, length}
 use Rattle.std.proofs.lemmas.List.Elements.{All-from_recursion}
 use Rattle.std.specs.Prelude.{if◌then◌else◌}
 use Rattle.hs_causes.proofs.ListLemmas.{not_both}
 use Rattle.hs_causes.proofs.LostLemmas.{lost_cause}
 use Rattle.hs_causes.proofs.RunLemmas.{last_kept, refused_stands}
-use Rattle.hs_core.specs.State.{Core}
 use Rattle.hs_desk.specs.declared.fault.CoreFault.TheVariants as fault
-use Rattle.hs_journal.specs.declared.entry.JournalEntry.{JournalEntry}
 use Rattle.hs_limits.specs.declared.limits.Limits.{Limits}
 use Rattle.hs_ports.specs.Fault.{HasRisen}
 use Rattle.hs_promise.specs.Answers.{IsEntry}

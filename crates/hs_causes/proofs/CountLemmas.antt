@@ -1,5 +1,5 @@
 -- Of a disk that tells its contents there are at most so many notes more than its count rose by.
-use Rattle.std.proofs.Common.{◌≡◌, ◌⊎◌, inl, inr, ◌∙◌, ap, sym, subst, ℕ, zero, suc, ◌+◌, ◌-◌, ◌*◌, ◌/◌, ◌^◌, ◌<◌, ◌≤◌, ◌==◌, ◌&&◌, ◌||◌, ◌++◌, Bool, true, false, cond, not, List, [], ◌∷◌, Option, Some, None, refl, arith, length, append-nil, is_none, min}
+use Rattle.std.proofs.Common.{◌≡◌, inl, inr, ◌∙◌, ap, sym, subst, ℕ, ◌+◌, ◌-◌, ◌*◌, ◌/◌, ◌^◌, ◌<◌, ◌≤◌, ◌==◌, ◌&&◌, ◌||◌, ◌++◌, Bool, true, false, cond, not, List, [], ◌∷◌, Option, Some, None, refl, arith, append-nil, is_none, min}
 use Rattle.std.proofs.lemmas.Bool.{cases_lt, eq-eqb}
 use Rattle.std.proofs.lemmas.Bool.Decides.{nat_tests}
 use Rattle.std.proofs.lemmas.List.Elements.{All-contains, All-from_recursion}
@@ -10,7 +10,7 @@ use Rattle.std.specs.Option.{option_map_or}
 use Rattle.std.specs.Prelude.{Contains, count_by, if◌then◌else◌, slice_index_or}
 use Rattle.hs_causes.proofs.CourseLemmas.{no_good, not_begins}
 use Rattle.hs_causes.proofs.FirstLemmas.{IsFirst, members_first, told_first}
-use Rattle.hs_causes.proofs.GoodLemmas.{last_opened, no_events, opened_good, past_good}
+use Rattle.hs_causes.proofs.GoodLemmas.{last_opened, no_events, opened_good}
 use Rattle.hs_causes.proofs.KeptLemmas.{Kept, all_answer, all_own}
 use Rattle.hs_causes.proofs.ListLemmas.{all_left, count_none, count_parts, not_both, one_if}
 use Rattle.hs_causes.proofs.LostLemmas.{all_good}
@@ -25,7 +25,7 @@ use Rattle.hs_events.specs.Course.{items_of, steps}
 use Rattle.hs_events.specs.Due.{Events}
 use Rattle.hs_events.specs.Found.{first_core, opens_with, starts_good}
 use Rattle.hs_events.specs.Reports.{failures}
-use Rattle.hs_events.specs.Taken.{is_taken, peer_count}
+use Rattle.hs_events.specs.Taken.{is_taken}
 use Rattle.hs_fold.specs.Shards.Course.{begins, is_good_of}
 use Rattle.hs_fold.specs.Shards.Setting.{Numbered}
 use Rattle.hs_journal.specs.declared.entry.JournalEntry.{JournalEntry}
@@ -33,12 +33,10 @@ use Rattle.hs_journal.specs.Notes.{down_in, is_first_noted, is_note, note_count}
 use Rattle.hs_limits.specs.declared.shape.Shape.{Shape}
 use Rattle.hs_lines.specs.Script.{all_events}
 use Rattle.hs_members.specs.Members.{Members, home_of, is_good_status, status}
-use Rattle.hs_model.specs.declared.course.CourseItem.{CourseItem}
 use Rattle.hs_noted.proofs.CountLemmas.{all_counts}
 use Rattle.hs_noted.proofs.FirstLemmas.{first_notes}
 use Rattle.hs_ports.specs.Moments.{disk_at}
 use Rattle.hs_ports.specs.Objects.{RoseBy, faults_at}
-use Rattle.hs_promise.specs.Course.{course_of}
 use Rattle.hs_promise.specs.Ending.{ending_of}
 use Rattle.hs_promise.specs.Entry.{is_aside}
 use Rattle.hs_promise.specs.Found.{IsLostBefore, IsReadAs, IsSetAside}

@@ -1,10 +1,10 @@
 -- Notes keep their line: what an event tells comes behind what was told, with the line of the last event that had one.
-use Rattle.std.proofs.Common.{◌≡◌, ◌⊎◌, inl, inr, ◌∙◌, ap, sym, subst, ℕ, ◌+◌, ◌*◌, ◌<◌, ◌≤◌, ◌++◌, List, [], ◌∷◌, Option, Some, None, IfSome, refl, arith, length}
+use Rattle.std.proofs.Common.{◌≡◌, ◌⊎◌, inl, inr, ◌∙◌, ap, sym, subst, ℕ, ◌+◌, ◌<◌, ◌≤◌, ◌++◌, List, Option, None, IfSome, arith, length}
 use Rattle.std.proofs.lemmas.Option.{slice_get_within}
-use Rattle.std.specs.List.{AllByRecursion, slice_get}
+use Rattle.std.specs.List.{AllByRecursion}
 use Rattle.hs_causes.proofs.AddingLemmas.{Grows, IsLate}
 use Rattle.hs_causes.proofs.AskLemmas.{AsksFor, prompt_op}
-use Rattle.hs_causes.proofs.ListLemmas.{IsBehind, all_at, at_either, at_left}
+use Rattle.hs_causes.proofs.ListLemmas.{all_at, at_either, at_left}
 use Rattle.hs_core.specs.Looking.{shape_of}
 use Rattle.hs_core.specs.State.{Core}
 use Rattle.hs_journal.specs.declared.entry.JournalEntry.{JournalEntry}
@@ -12,13 +12,12 @@ use Rattle.hs_journal.specs.declared.entry.Who.{Who}
 use Rattle.hs_journal.specs.declared.entry.Who.TheVariants as who
 use Rattle.hs_journal.specs.Events.{client_op}
 use Rattle.hs_journal.specs.Notes.{down_in}
-use Rattle.hs_journal.specs.Order.{IsAt, IsOfLine, IsPrompt}
+use Rattle.hs_journal.specs.Order.{IsOfLine, IsPrompt}
 use Rattle.hs_journal.specs.Telling.{AreDated, IsDownAt, IsOfStore}
 use Rattle.hs_journal.specs.Telling.IsOfStore.{Done, Down}
 use Rattle.hs_limits.specs.declared.limits.Limits.{Limits}
 use Rattle.hs_limits.specs.declared.shape.Shape.{Shape}
 use Rattle.hs_model.specs.declared.command.Command.{Command}
-use Rattle.hs_model.specs.declared.op.Op.{Op}
 use Rattle.hs_model.specs.declared.reply.Reply.{Reply}
 use Rattle.hs_model.specs.declared.reply.Reply.TheVariants as reply
 use Rattle.hs_noted.proofs.NotingLemmas.{all_append}

@@ -1,5 +1,5 @@
 -- What a core has told as it opens: that each peer which is not good is down, before any line.
-use Rattle.std.proofs.Common.{◌≡◌, inl, inr, ◌∙◌, sym, ap, subst, ℕ, ◌+◌, ◌*◌, ◌<◌, ◌≤◌, ◌++◌, Bool, true, false, cond, not, List, [], ◌∷◌, Option, Some, None, refl, arith, length, map, nat_lt}
+use Rattle.std.proofs.Common.{◌≡◌, inl, inr, ◌∙◌, sym, ap, subst, ℕ, ◌+◌, ◌*◌, ◌<◌, ◌++◌, Bool, true, false, cond, not, List, [], ◌∷◌, Option, Some, None, refl, arith, length, nat_lt}
 use Rattle.std.proofs.lemmas.Bool.{cases_lt}
 use Rattle.std.proofs.lemmas.List.{get_or-replicate, get_or_past, length-map, length-replicate}
 use Rattle.std.specs.List.{AllByRecursion}
@@ -11,7 +11,7 @@ use Rattle.hs_core.specs.Changing.{add_entry_tasks, change_group, note, post, se
 use Rattle.hs_core.specs.Looking.{group_of, lead_of, shape_of, shards_of, status_of}
 use Rattle.hs_core.specs.Opening.{Taken, begin_views, new_core, note_down, note_if_down, open_core}
 use Rattle.hs_core.specs.State.{Core}
-use Rattle.hs_core.specs.Step.{end_event, keep_entries, refuse_entries}
+use Rattle.hs_core.specs.Step.{keep_entries, refuse_entries}
 use Rattle.hs_core.specs.Views.{begin_view, change_view, restart}
 use Rattle.hs_core.specs.Words.{change_if, change_with, each}
 use Rattle.hs_entry.specs.declared.entry.Entry.TheVariants as kind

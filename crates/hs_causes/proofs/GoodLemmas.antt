@@ -1,6 +1,5 @@
 -- Who is good as a core opens, and that nothing comes to one that ended so.
-use Rattle.std.proofs.Common.{◌≡◌, ◌∙◌, ap, sym, subst, ℕ, zero, suc, ◌+◌, ◌*◌, ◌<◌, ◌≤◌, ◌++◌, Bool, true, false, not, List, [], ◌∷◌, Option, Some, None, refl, arith, length, map}
-use Rattle.std.proofs.lemmas.Bool.{cases_lt}
+use Rattle.std.proofs.Common.{◌≡◌, ◌∙◌, ap, sym, ℕ, zero, suc, ◌*◌, ◌≤◌, ◌++◌, Bool, true, false, List, [], ◌∷◌, Some, None, refl, arith, length, map}
 use Rattle.std.proofs.lemmas.List.{get_or_past}
 use Rattle.std.specs.Prelude.{if◌then◌else◌, slice_index_or}
 use Rattle.hs_causes.proofs.AskLemmas.{next_going, opening_none}
@@ -12,13 +11,12 @@ use Rattle.hs_desk.specs.declared.fault.CoreFault.{CoreFault}
 use Rattle.hs_events.specs.Course.{steps}
 use Rattle.hs_events.specs.Due.{Events}
 use Rattle.hs_events.specs.Found.{first_core, opens_with, starts_good}
-use Rattle.hs_limits.specs.declared.limits.PeerStatus.{PeerStatus}
 use Rattle.hs_limits.specs.declared.limits.PeerStatus.TheVariants.{Down, Good}
 use Rattle.hs_lines.specs.Script.{AreLines, all_events}
 use Rattle.hs_members.specs.Members.{Members, is_good_status, status}
 use Rattle.hs_promise.specs.Machine.{Went, opening_is_whole}
 use Rattle.hs_promise.specs.Run.{Ran, Script}
-use Rattle.hs_promise.specs.Story.{Story, all_events as all_of, last_core}
+use Rattle.hs_promise.specs.Story.{Story, last_core}
 
 flag_is : (goods : List Bool) (x : ℕ) → is_good_status (slice_index_or (map (λ (b : Bool). if b then Good else Down) goods) x Down) ≡ slice_index_or goods x false
 flag_is [] x = refl

@@ -1,5 +1,5 @@
 -- What stands between two events of a run, and stays so along them.
-use Rattle.std.proofs.Common.{◌≡◌, ◌⊎◌, inl, inr, ◌∙◌, ap, sym, subst, ℕ, ◌+◌, ◌*◌, ◌<◌, ◌≤◌, ◌++◌, true, List, [], ◌∷◌, Option, Some, None, IsSome, refl, arith, length, append-nil}
+use Rattle.std.proofs.Common.{◌≡◌, inr, ◌∙◌, ap, sym, subst, ℕ, ◌*◌, ◌<◌, ◌++◌, true, List, [], ◌∷◌, Option, Some, None, IsSome, refl, arith, length, append-nil}
 use Rattle.std.proofs.lemmas.List.{append_assoc}
 use Rattle.std.specs.Option.{option_map}
 use Rattle.hs_causes.proofs.AddingLemmas.{Ends, GoesOn, Grows, IsLate, step_grows}
@@ -31,7 +31,7 @@ use Rattle.hs_noted.proofs.OpenLemmas.{opened_noted}
 use Rattle.hs_noted.specs.Noted.{AllAreOwn, AllAnswer, IsAnswering, IsNoted, IsOfPeer, IsOwnEvent}
 use Rattle.hs_told.proofs.OpenedLemmas.{opened_turn}
 use Rattle.hs_told.proofs.OrderLemmas.{step_turn}
-use Rattle.hs_told.specs.InTurn.{AllMayCome, ClientMay, IsInTurn, MayBegin, MayCome, OtherMay, bare, told_of}
+use Rattle.hs_told.specs.InTurn.{AllMayCome, IsInTurn, MayBegin, MayCome, bare, told_of}
 
 abbrev pub peers_of_shape : Shape → ℕ
 peers_of_shape shape = shape.shards * shape.copies

@@ -1,8 +1,7 @@
 -- Why a shard of one copy is lost: a `fail` line, or the note of its peer's disk, was the last thing that happened.
-use Rattle.std.proofs.Common.{◌≡◌, ◌⊎◌, inl, inr, ◌∙◌, ap, sym, subst, ℕ, zero, suc, ◌+◌, ◌*◌, ◌<◌, ◌≤◌, ◌==◌, ◌&&◌, ◌++◌, Bool, true, false, cond, not, List, [], ◌∷◌, Option, Some, None, IfSome, refl, arith, length, append-nil, map}
-use Rattle.std.proofs.lemmas.Bool.{cases_eq, eq-eqb, eqb-true}
-use Rattle.std.specs.List.{AllByRecursion, range_with_len, slice_get}
-use Rattle.std.specs.Prelude.{find, if◌then◌else◌}
+use Rattle.std.proofs.Common.{◌≡◌, ◌⊎◌, inl, inr, ◌∙◌, ap, sym, subst, ℕ, ◌+◌, ◌*◌, ◌<◌, ◌≤◌, ◌==◌, ◌&&◌, ◌++◌, Bool, true, false, cond, not, List, [], ◌∷◌, Option, Some, None, IfSome, refl, arith, length, append-nil}
+use Rattle.std.proofs.lemmas.Bool.{eq-eqb, eqb-true}
+use Rattle.std.specs.List.{AllByRecursion, slice_get}
 use Rattle.hs_causes.proofs.AddingLemmas.{Grows, IsLate}
 use Rattle.hs_causes.proofs.AskLemmas.{AllAsk, Asks, Speaks, reached}
 use Rattle.hs_causes.proofs.FirstLemmas.{IsFirst, line_first, members_first, told_first}
@@ -25,10 +24,9 @@ use Rattle.hs_desk.specs.declared.fault.CoreFault.TheVariants as fault
 use Rattle.hs_events.specs.Course.{steps}
 use Rattle.hs_events.specs.Due.{Events}
 use Rattle.hs_events.specs.Found.{first_core, opens_with}
-use Rattle.hs_events.specs.Reports.{costs}
 use Rattle.hs_journal.specs.declared.entry.JournalEntry.{JournalEntry}
 use Rattle.hs_journal.specs.declared.entry.Who.TheVariants as who
-use Rattle.hs_journal.specs.Notes.{down_in, note_count}
+use Rattle.hs_journal.specs.Notes.{note_count}
 use Rattle.hs_journal.specs.Telling.{IsDownAt}
 use Rattle.hs_limits.specs.declared.limits.Limits.{Limits}
 use Rattle.hs_limits.specs.declared.limits.PeerStatus.{PeerStatus}
@@ -36,7 +34,7 @@ use Rattle.hs_limits.specs.declared.limits.PeerStatus.TheVariants.{Down, Good, J
 use Rattle.hs_limits.specs.declared.shape.Shape.{Shape}
 use Rattle.hs_limits.specs.Shape.{peer_of}
 use Rattle.hs_lines.proofs.StepLemmas.{step_ended, step_line}
-use Rattle.hs_lines.specs.Script.{AreLines, all_events}
+use Rattle.hs_lines.specs.Script.{all_events}
 use Rattle.hs_members.specs.Members.{Members, has_good, is_good_status, status}
 use Rattle.hs_model.specs.declared.command.Command.{Command}
 use Rattle.hs_model.specs.declared.command.Command.TheVariants as command
@@ -46,9 +44,9 @@ use Rattle.hs_noted.proofs.CountLemmas.{step_counts, told_by}
 use Rattle.hs_noted.proofs.EventLemmas.{line_then}
 use Rattle.hs_noted.proofs.FirstLemmas.{first_notes}
 use Rattle.hs_noted.specs.Noted.{IsAnswering}
-use Rattle.hs_promise.specs.Lost.{IsStarted, LostCause, NotGood, NotStartedAfter}
+use Rattle.hs_promise.specs.Lost.{LostCause, NotGood, NotStartedAfter}
 use Rattle.hs_promise.specs.Lost.NotGood.{Failed, Noted}
-use Rattle.hs_promise.specs.Machine.{Went, opening_is_whole}
+use Rattle.hs_promise.specs.Machine.{Went}
 use Rattle.hs_promise.specs.Run.{Ran, Script}
 use Rattle.hs_promise.specs.Story.{Story, last_core}
 use Rattle.hs_told.specs.InTurn.{AllMayCome, MayCome, OtherMay, told_of}

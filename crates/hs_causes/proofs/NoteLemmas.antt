@@ -1,7 +1,7 @@
 -- What an entry that is counted as a note tells.
-use Rattle.std.proofs.Common.{◌≡◌, ◌∙◌, ap, sym, subst, ℕ, ◌==◌, ◌&&◌, Bool, true, false, List, [], ◌∷◌, ◌||◌, Option, Some, None, refl}
+use Rattle.std.proofs.Common.{◌≡◌, ◌∙◌, ap, sym, ℕ, ◌==◌, ◌&&◌, Bool, true, false, List, [], ◌∷◌, Option, Some, None, refl}
 use Rattle.std.proofs.lemmas.Bool.{eqb-true}
-use Rattle.std.specs.List.{AllByRecursion, list_any}
+use Rattle.std.specs.List.{AllByRecursion}
 use Rattle.std.specs.Option.{option_map_or}
 use Rattle.hs_causes.proofs.FirstLemmas.{IsFirst}
 use Rattle.hs_causes.proofs.ListLemmas.{any_all, count_none, not_both}

@@ -1,5 +1,5 @@
 -- A run without a course began nothing.
-use Rattle.std.proofs.Common.{◌≡◌, ◌⊎◌, inl, inr, ◌∙◌, ap, sym, subst, ℕ, zero, suc, ◌+◌, ◌*◌, ◌<◌, ◌≤◌, ◌++◌, Bool, true, false, not, List, [], ◌∷◌, Option, Some, None, IsSome, refl, arith, is_some}
+use Rattle.std.proofs.Common.{◌≡◌, inl, inr, ◌∙◌, ap, sym, subst, ℕ, ◌*◌, ◌<◌, ◌≤◌, false, not, List, [], ◌∷◌, Option, Some, None, refl, arith, is_some}
 use Rattle.std.proofs.lemmas.Bool.{cases_lt}
 use Rattle.std.proofs.lemmas.List.Elements.{All-from_recursion}
 use Rattle.std.specs.List.{All, AllByRecursion}
@@ -24,7 +24,7 @@ use Rattle.hs_noted.proofs.NotingLemmas.{all_weaker}
 use Rattle.hs_promise.specs.Answers.{BeganNothing}
 use Rattle.hs_promise.specs.Machine.{NeverOpened, Went}
 use Rattle.hs_promise.specs.Run.{Ran, Script}
-use Rattle.hs_promise.specs.Story.{Story, last_core}
+use Rattle.hs_promise.specs.Story.{Story}
 use Rattle.hs_told.specs.InTurn.{told_of}
 
 each_all : (Q : ℕ → Type 0) → ((x : ℕ) → Q x) → (xs : List ℕ) → AllByRecursion Q xs

@@ -1,18 +1,17 @@
 -- Lines that are answered in their own event have their entries.
-use Rattle.std.proofs.Common.{◌≡◌, ◌⊎◌, inl, inr, ◌∙◌, ap, sym, subst, ℕ, zero, suc, ◌+◌, ◌<◌, ◌≤◌, ◌++◌, Bool, true, false, List, [], ◌∷◌, Option, Some, None, IfSome, refl, arith, length, append-nil}
+use Rattle.std.proofs.Common.{◌≡◌, ◌⊎◌, inl, inr, ◌∙◌, ap, sym, subst, ℕ, zero, suc, ◌+◌, ◌<◌, ◌≤◌, ◌++◌, Bool, true, List, [], ◌∷◌, Some, None, IfSome, refl, arith, length, append-nil}
 use Rattle.std.proofs.lemmas.Bool.{cases_eq}
 use Rattle.std.proofs.lemmas.Grind.{flat_map-append}
 use Rattle.std.specs.Prelude.{flat_map}
 use Rattle.hs_causes.proofs.AddingLemmas.{GoesOn}
-use Rattle.hs_causes.proofs.AskLemmas.{AllAsk, AllIts, LastSpoke, Says, Speaks, Stays, its_stay, line_its, line_reached, line_says, next_going, prompt_one, prompt_speaks}
+use Rattle.hs_causes.proofs.AskLemmas.{AllAsk, LastSpoke, line_reached, line_says, next_going, prompt_one, prompt_speaks}
 use Rattle.hs_causes.proofs.DatedLemmas.{of_left, prompt_told}
 use Rattle.hs_causes.proofs.KeptLemmas.{Kept, all_go_on, all_kept, ask_first, ask_rest, come_first, come_rest, grows_by}
 use Rattle.hs_causes.proofs.ListLemmas.{both_nil, not_both}
-use Rattle.hs_causes.proofs.RunLemmas.{all_come_so, are_lines, begun_kept, begun_line, flat_is, last_behind, last_kept, lined, lines_asked, lines_come, mute, mute_is}
+use Rattle.hs_causes.proofs.RunLemmas.{are_lines, begun_kept, flat_is, last_behind, last_kept, lined, lines_asked, lines_come, mute_is}
 use Rattle.hs_causes.specs.Printing.{FailsInText}
 use Rattle.hs_core.specs.declared.event.Event.{Event}
 use Rattle.hs_core.specs.State.{Core}
-use Rattle.hs_core.specs.Step.{step}
 use Rattle.hs_desk.specs.declared.fault.CoreFault.{CoreFault}
 use Rattle.hs_desk.specs.declared.fault.CoreFault.TheVariants as fault
 use Rattle.hs_events.proofs.RunLemmas.{steps_append}
@@ -26,14 +25,13 @@ use Rattle.hs_journal.specs.Order.{IsOfLine, IsPrompt}
 use Rattle.hs_limits.specs.declared.limits.Limits.{Limits}
 use Rattle.hs_limits.specs.declared.shape.Shape.{Shape}
 use Rattle.hs_lines.specs.Script.{AreLines, Script as Lined, all_events}
-use Rattle.hs_model.specs.declared.command.Command.{Command}
 use Rattle.hs_promise.specs.Completes.{HasPrompt, MayLack}
 use Rattle.hs_promise.specs.declared.status.Status.{Status}
 use Rattle.hs_promise.specs.declared.status.Status.TheVariants as status
 use Rattle.hs_promise.specs.Ending.{ending_of}
 use Rattle.hs_promise.specs.Machine.{Went}
 use Rattle.hs_promise.specs.Run.{Ran, Script}
-use Rattle.hs_promise.specs.Story.{Story, all_events as all_of, last_core}
+use Rattle.hs_promise.specs.Story.{Story, last_core}
 use Rattle.hs_told.specs.InTurn.{AllMayCome, told_of}
 
 -- the events of some lines
@@ -181,9 +179,11 @@ module _ (s : Lined) (shape : Shape) (limits : Limits) where
           let some : es ≡ [] → ⊥ = λ none. not_both ((line_says s.name at (s.commands line) (prompt_speaks (s.commands line) prompt_here) are.0.events).silent none) in
           let clean : (steps core es).refused ≡ [] = after.turn.going (next_going s (line + 1) (steps core es) next rest are.1) in
           let here : Placed (steps core es).journal line = told_at at (steps core es) are.0.going one prompt_here some (inr (next, rest, are)) refl after clean in
-          let on : GoesOn (steps core es).journal (steps (steps core es) (all_events (next ∷ rest))).journal = all_go_on s.commands shape limits (steps core es) (all_events (next ∷ rest)) after may_rest ask_after in
-          (here.0, subst (λ j. IsOfLine (steps (steps core es) (all_events (next ∷ rest))).journal here.0 j) (sym e)
-          (subst (λ xs. IsOfLine xs here.0 line) (sym on.is) (of_left (steps core es).journal on.rest here.0 line here.1)))
+          let on : GoesOn (steps core es).journal (steps (steps core es) (all_events (next ∷ rest))).journal = all_go_on s.commands shape limits (steps core es) (all_events (next ∷ rest)) after may_rest ask_after in (
+            here.0,
+            subst (λ j. IsOfLine (steps (steps core es) (all_events (next ∷ rest))).journal here.0 j) (sym e)
+                (subst (λ xs. IsOfLine xs here.0 line) (sym on.is) (of_left (steps core es).journal on.rest here.0 line here.1)),
+          )
 
       shut_next : (k + 1 < (line + 1) + length (next ∷ rest)) ⊎ Shut s.past (steps core es) (next ∷ rest)
       shut_next = elim shut [
@@ -208,8 +208,10 @@ module _ (S : Script) (r : Ran) (story : Story) (went : Went S r story) (wrote :
 
   lost_shut : (shard : ℕ) → (last_core S story).ended ≡ Some (fault.ShardLost shard) → Shut (ending_of r.ending).past behind story.lines
   lost_shut shard over front es e =
-      inl (inr (ended_spoke (lined S r) 1 behind story.lines (fault.ShardLost shard) (are_lines S r story went) (ap (λ (c : Core). c.ended) (sym (last_behind S r story went)) ∙ over) front es e),
-      clean_last ((last_kept S r story went).ends.clean shard over) front es e)
+      inl (
+        inr (ended_spoke (lined S r) 1 behind story.lines (fault.ShardLost shard) (are_lines S r story went) (ap (λ (c : Core). c.ended) (sym (last_behind S r story went)) ∙ over) front es e),
+        clean_last ((last_kept S r story went).ends.clean shard over) front es e,
+      )
 
   written_shut : r.ending ≡ status.WriteFault → Shut (ending_of r.ending).past behind story.lines
   written_shut fails front es e =

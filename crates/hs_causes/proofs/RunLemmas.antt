@@ -1,8 +1,7 @@
 -- A run as its story says: the core behind its lines, and what stands there.
-use Rattle.std.proofs.Common.{◌≡◌, ◌∙◌, ap, sym, subst, ℕ, zero, suc, ◌+◌, ◌*◌, ◌<◌, ◌≤◌, ◌++◌, Bool, true, false, List, [], ◌∷◌, Option, Some, None, refl, arith, length}
+use Rattle.std.proofs.Common.{◌≡◌, ◌∙◌, ap, sym, subst, ℕ, zero, suc, ◌+◌, ◌<◌, ◌≤◌, ◌++◌, Bool, true, false, List, [], ◌∷◌, Option, Some, None, refl, arith, length}
 use Rattle.std.specs.List.{AllByRecursion}
 use Rattle.std.specs.Prelude.{flat_map, if◌then◌else◌}
-use Rattle.hs_causes.proofs.AddingLemmas.{GoesOn}
 use Rattle.hs_causes.proofs.AskLemmas.{AllAsk, AllIts, Lasts, Stays, ask_append, its_ask, its_stay, lines_ask, lines_last, opening_due, opening_its}
 use Rattle.hs_causes.proofs.FirstLemmas.{line_first, moment_first}
 use Rattle.hs_causes.proofs.KeptLemmas.{Kept, all_kept, ask_first, ask_rest, come_first, come_rest, first_kept}
@@ -30,8 +29,8 @@ use Rattle.hs_promise.specs.Ending.{ending_of}
 use Rattle.hs_promise.specs.Lines.{AreLines as AreBegunLines}
 use Rattle.hs_promise.specs.Machine.{Went, opening_is_whole}
 use Rattle.hs_promise.specs.Run.{Ran, Script}
-use Rattle.hs_promise.specs.Story.{Story, all_events as all_of, last_core}
-use Rattle.hs_told.specs.InTurn.{AllMayCome, told_of}
+use Rattle.hs_promise.specs.Story.{Story, last_core}
+use Rattle.hs_told.specs.InTurn.{AllMayCome}
 
 -- ---- commands, but for line 0, which no script has
 

@@ -1,12 +1,12 @@
 -- What each event leaves of the peers: their number, who is good, that their queues hold no copying step, and that each copies from a peer.
-use Rattle.std.proofs.Common.{◌≡◌, ◌⊎◌, inl, inr, ◌∙◌, sym, ap, subst, ℕ, zero, suc, ◌+◌, ◌-◌, ◌<◌, ◌≤◌, ◌==◌, ◌||◌, Bool, true, false, cond, not, drop, length, List, [], ◌∷◌, ◌++◌, Option, Some, None, IfSome, refl, arith, is_some, is_none, nat_le, nat_lt, map}
+use Rattle.std.proofs.Common.{◌≡◌, ◌⊎◌, inl, inr, ◌∙◌, sym, ap, subst, ℕ, zero, suc, ◌+◌, ◌-◌, ◌<◌, ◌==◌, ◌||◌, Bool, true, false, cond, not, drop, length, List, [], ◌∷◌, ◌++◌, Option, Some, None, IfSome, refl, arith, is_some, is_none, nat_le, nat_lt, map}
 use Rattle.std.proofs.lemmas.Bool.{cases_lt, eqb-true}
 use Rattle.std.proofs.lemmas.List.{get_or_past}
 use Rattle.std.specs.List.{AllByRecursion, enumerate_from}
 use Rattle.std.specs.Option.{option_map, option_map_or}
 use Rattle.std.specs.Prelude.{filter, if◌then◌else◌, slice_get, slice_index_or}
 use Rattle.hs_causes.proofs.ListLemmas.{set_keeps, some_is}
-use Rattle.hs_core.specs.Asking.{deliver, lose, no_peer, not_down, not_up, nudge, nudge_good, send_again, send_round, send_rounds, unless_refused, with_message}
+use Rattle.hs_core.specs.Asking.{deliver, lose, no_peer, not_down, not_up, nudge, nudge_good, send_again, send_round, send_rounds, unless_refused}
 use Rattle.hs_core.specs.Changing.{add_entry_tasks, add_operation, add_task, change_group, change_pool, change_rejoin, note, post, put_operation, refuse, set_rejoin, set_status, set_tasks, set_viewed}
 use Rattle.hs_core.specs.declared.event.Event.{Event}
 use Rattle.hs_core.specs.declared.event.Event.TheVariants as event
@@ -16,10 +16,10 @@ use Rattle.hs_core.specs.declared.waiting.Waiting.{Waiting}
 use Rattle.hs_core.specs.Delivering.{handle, is_new_round, take_copy}
 use Rattle.hs_core.specs.Effects.{after_entry, commit, commit_next, is_for_view, note_enter, note_sweep, reach_view, round_messages, take_effect, tell_enter, tell_operation, wakes}
 use Rattle.hs_core.specs.Entering.{is_enter_due, propose_due}
-use Rattle.hs_core.specs.Failing.{commit_rest, fail_disk, go_down, leave}
+use Rattle.hs_core.specs.Failing.{commit_rest, go_down, leave}
 use Rattle.hs_core.specs.Joining.{begin_joining, follow_lead, is_level_with_lead, join, join_if_level, joining_peers, start}
 use Rattle.hs_core.specs.Looking.{catalogue_of, copying_step, first_task, front_of, group_of, home, lead_of, operation_of, rejoin_of, sealed_of, shape_of, status_of, tasks_of}
-use Rattle.hs_core.specs.Operating.{add_read, begin_line, busy_line, go_on_with, lines_where, propose_entry, resume, resume_where, take_step, what_holds}
+use Rattle.hs_core.specs.Operating.{add_read, begin_line, busy_line, go_on_with, lines_where, propose_entry, resume, resume_where, take_step}
 use Rattle.hs_core.specs.Pending.{named}
 use Rattle.hs_core.specs.Reporting.{is_reading, on_report, take_report, tell_bytes}
 use Rattle.hs_core.specs.Seeing.{pointers_for, view_for}
@@ -62,7 +62,7 @@ use Rattle.hs_post.specs.declared.message.Message.TheVariants as message
 use Rattle.hs_post.specs.Pool.{is_full, restart_numbers, without}
 use Rattle.hs_rejoin.specs.Rejoin.{Rejoin, copied, emptied, follow, new_rejoin, next_job}
 use Rattle.hs_replica.specs.declared.replica.Replica.{Replica}
-use Rattle.hs_replica.specs.Group.{Group, commit_front, committed, have, is_peer, last_number, on_copied, on_emptied, on_have, on_sealed, proposal, propose, renew, renewal, resend, take_entry}
+use Rattle.hs_replica.specs.Group.{commit_front, committed, have, is_peer, last_number, on_copied, on_emptied, on_have, on_sealed, proposal, propose, renew, renewal, take_entry}
 use Rattle.hs_rounds.specs.Rounds.{sent_back}
 use Rattle.hs_shard.specs.declared.effect.Effect.{Effect}
 use Rattle.hs_shard.specs.Rounds.{messages}

@@ -1,4 +1,4 @@
-use Rattle.std.proofs.Common.{◌≡◌, ap, sym, subst, ℕ, zero, suc, List, [], Option, Some, None}
+use Rattle.std.proofs.Common.{◌≡◌, sym, subst, ℕ, zero, suc, List, [], Option, Some, None}
 use Rattle.std.specs.List.{slice_get}
 use Rattle.hs_causes.proofs.dates.notes_have_their_line.Goals as goal
 use Rattle.hs_causes.proofs.DatedLemmas.{dated_left}

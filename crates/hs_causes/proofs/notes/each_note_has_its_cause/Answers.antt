@@ -1,7 +1,6 @@
-use Rattle.std.proofs.Common.{◌≡◌, ◌∙◌, ap, sym, subst, ℕ, ◌-◌, ◌++◌, ◌≤◌, List, [], arith}
+use Rattle.std.proofs.Common.{◌≡◌, ◌∙◌, ap, sym, subst, ℕ, ◌-◌, ◌++◌, ◌≤◌}
 use Rattle.hs_causes.proofs.CountLemmas.{less_none, notes_caused, stands_rose}
 use Rattle.hs_causes.proofs.notes.each_note_has_its_cause.Goals as goal
-use Rattle.hs_journal.specs.declared.entry.JournalEntry.{JournalEntry}
 use Rattle.hs_journal.specs.Notes.{note_count}
 use Rattle.hs_ports.specs.Objects.{faults_at}
 use Rattle.hs_promise.specs.Lost.{NotesCause, extra_note}

@@ -1,4 +1,4 @@
-use Rattle.std.proofs.Common.{◌≡◌, ◌∙◌, ap, sym, subst, ℕ, ◌≤◌, Option, Some, None, IfSome, arith}
+use Rattle.std.proofs.Common.{◌≡◌, ◌∙◌, ap, subst, ℕ, Option, Some, None, IfSome, arith}
 use Rattle.hs_causes.proofs.prompt.a_prompt_line_has_its_entry.Goals as goal
 use Rattle.hs_causes.proofs.PromptLemmas.{has_prompt}
 use Rattle.hs_causes.specs.Printing.{FailsInText}
