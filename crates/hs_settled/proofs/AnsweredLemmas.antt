@@ -11,7 +11,6 @@ use Rattle.hs_causes.proofs.FirstLemmas.{line_first}
 use Rattle.hs_causes.proofs.RunLemmas.{flat_is}
 use Rattle.hs_core.specs.State.{Core}
 use Rattle.hs_core.specs.Step.{step}
-use Rattle.hs_deletes.proofs.RunLemmas.{Running}
 use Rattle.hs_events.proofs.RunLemmas.{steps_append}
 use Rattle.hs_events.specs.Course.{steps}
 use Rattle.hs_events.specs.Due.{Events, is_walk, next_due}
@@ -42,14 +41,15 @@ use Rattle.hs_promise.specs.Entry.{entry_store}
 use Rattle.hs_promise.specs.Lost.{IsPast}
 use Rattle.hs_promise.specs.Machine.{Went, opening_is_whole}
 use Rattle.hs_promise.specs.Run.{Ran, Script}
-use Rattle.hs_promise.specs.Story.{Story, all_events as all_of}
+use Rattle.hs_promise.specs.Story.{Story, all_events as all_of, last_core}
 use Rattle.hs_rests.proofs.ValidLemmas.{told_valid}
-use Rattle.hs_settled.proofs.FirstLemmas.{run_first}
-use Rattle.hs_settled.proofs.LevelLemmas.{IsCalm, IsNoFirst, Level, le_or, legal_front, level_along}
+use Rattle.hs_settled.proofs.FirstLemmas.{run_told}
+use Rattle.hs_settled.proofs.LevelLemmas.{IsCalm, Level, le_or, legal_front, level_along}
 use Rattle.hs_settled.proofs.LineLemmas.{Reached, going_before, joined, lined, reached}
 use Rattle.hs_settled.proofs.ListLemmas.{all_at, all_take, at_within, get_back, get_front, take_all, take_back}
 use Rattle.hs_settled.proofs.OpenLemmas.{none_ask, open_level}
-use Rattle.hs_settled.specs.Settled.{NothingOpen, core_behind, events_up_to}
+use Rattle.hs_settled.proofs.SaidLemmas.{Running, all_front}
+use Rattle.hs_settled.specs.Settled.{IsNoFirst, NothingOpen, core_behind, events_up_to}
 use Rattle.hs_standing.specs.Run.{IsRunning, MayRun, RunOpens}
 use Rattle.hs_standing.specs.Standing.{AllMayKeep, judging_of}
 use Rattle.hs_stops.specs.Start.{Start}
@@ -289,7 +289,7 @@ module _ (S : Script) (r : Ran) (story : Story) (went : Went S r story) (none : 
         taken_is = ap (λ (es : List JournalEntry). take place es) journal_is ∙ take_back E.journal rest.more place k place_is
 
         firsts : AllByRecursion IsNoFirst r.journal
-        firsts = subst (λ (es : List JournalEntry). AllByRecursion IsNoFirst es) (sym went.journal) (run_first running (start_at S r) story.found (all_of story) opens may)
+        firsts = subst (λ (es : List JournalEntry). AllByRecursion IsNoFirst es) (sym went.journal) (all_front IsNoFirst (last_core S story).journal (last_core S story).refused (run_told running (start_at S r) story.found (all_of story) opens may))
 
         calm_at : (i : ℕ) (x : JournalEntry) → i < k → slice_get rest.more i ≡ Some x → IsCalm S.commands x
         calm_at i x less at = record { nobody = of_nobody; first = all_at IsNoFirst r.journal j x here firsts }

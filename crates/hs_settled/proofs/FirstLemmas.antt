@@ -1,5 +1,5 @@
 -- Shard 0 is never told to have entered an epoch by itself: a client's line asks for each of its Enters, and is told of it.
-use Rattle.std.proofs.Common.{◌≡◌, ◌∙◌, sym, ap, subst, ◌⊎◌, inl, inr, ℕ, zero, suc, ◌+◌, ◌<◌, ◌≤◌, ◌==◌, Bool, true, false, cond, List, [], ◌∷◌, ◌++◌, length, Option, Some, None, refl, arith, slice_get, is_some, append_assoc, nat_lt}
+use Rattle.std.proofs.Common.{◌≡◌, ◌∙◌, sym, ap, subst, ◌⊎◌, inl, inr, ℕ, zero, suc, ◌+◌, ◌<◌, ◌≤◌, ◌==◌, Bool, true, false, cond, List, [], ◌∷◌, ◌++◌, length, Option, Some, None, refl, arith, slice_get, is_some, append_assoc, append-nil, nat_lt}
 use Rattle.std.proofs.lemmas.Bool.{ne_eqb}
 use Rattle.std.specs.BTreeMap.{is_at}
 use Rattle.std.specs.List.{AllByRecursion, list_all}
@@ -26,9 +26,7 @@ use Rattle.hs_core.specs.State.{Core}
 use Rattle.hs_core.specs.Step.{step}
 use Rattle.hs_core.specs.Views.{begin_view}
 use Rattle.hs_core.specs.Words.{change_if, change_with}
-use Rattle.hs_deletes.proofs.RuleLemmas.{all_front}
-use Rattle.hs_deletes.proofs.RunLemmas.{Running, steps_ended}
-use Rattle.hs_deletes.proofs.SaidLemmas.{Says, again_told, more_told, noted, proposed_told, same_told, says_nothing, says_note, view_told}
+use Rattle.hs_settled.proofs.SaidLemmas.{Running, Says, all_front, steps_ended, again_told, more_told, proposed_told, same_told, says_nothing, says_note, view_told}
 use Rattle.hs_desk.specs.declared.done.Done.TheVariants as done
 use Rattle.hs_desk.specs.declared.fault.CoreFault.{CoreFault}
 use Rattle.hs_desk.specs.declared.what.What.{What}
@@ -68,7 +66,7 @@ use Rattle.hs_post.specs.declared.message.Message.TheVariants as message
 use Rattle.hs_post.specs.Pool.{message_at, without}
 use Rattle.hs_replica.specs.Group.{Group, commit_front, committed}
 use Rattle.hs_rests.proofs.ListLemmas.{each_viewed}
-use Rattle.hs_settled.proofs.LevelLemmas.{IsNoFirst}
+use Rattle.hs_settled.specs.Settled.{IsNoFirst}
 use Rattle.hs_settled.proofs.OwnLemmas.{AreCounted, NoneOwn, going_asks, own_begin, own_by, own_effect, own_go_on, own_propose, own_same, telling_asks}
 use Rattle.hs_shard.specs.declared.effect.Effect.{Effect}
 use Rattle.hs_shard.specs.Facts.{Catalogue}
@@ -76,6 +74,7 @@ use Rattle.hs_standing.proofs.FirstLemmas.{KeepsFirst, first_held}
 use Rattle.hs_standing.specs.Run.{IsRunning, MayRun, RunOpens}
 use Rattle.hs_standing.specs.Standing.{AllMayKeep, MayKeep}
 use Rattle.hs_stops.specs.Start.{Start}
+use Rattle.hs_told.specs.InTurn.{told_of}
 use Rattle.hs_tokens.specs.Seats.{Seats}
 use Rattle.std.specs.Option.{option_map}
 
@@ -373,9 +372,10 @@ module _ (running : Running) (start : Start) where
       by_end later None going = later (running.goes_on start c (e ∷ []) run (may.0, tt) going) (record { own = behind.own; none = behind.none })
       by_end later (Some fault) over = subst (λ (x : Core). NoneFirst x) (sym (steps_ended (step e.0 e.1 c.core) es fault over)) behind.none
 
-  pub run_first : (found : Found) (es : Events) → RunOpens start found → AllMayKeep start (MayRun start) (first_core start.set found) es → AllByRecursion IsNoFirst (steps (first_core start.set found) es).journal
-  run_first found es opens may =
+  -- journal, and what found it full
+  pub run_told : (found : Found) (es : Events) → RunOpens start found → AllMayKeep start (MayRun start) (first_core start.set found) es → AllByRecursion IsNoFirst (told_of (steps (first_core start.set found) es))
+  run_told found es opens may =
       let last : Core = steps (first_core start.set found) es in
       let all : NoneFirst (steps (first_core start.set found) es) =
       along es (open_whole start.set found) (running.opens start found opens) may (opened_first start.set.name start.set.shape start.set.limits (opens_with start.set found) found.opened) in
-      all_front IsNoFirst last.journal last.refused (all_front IsNoFirst (last.journal ++ last.refused) last.entries all)
+      all_front IsNoFirst (told_of last) last.entries all

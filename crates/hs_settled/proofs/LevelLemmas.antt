@@ -18,12 +18,9 @@ use Rattle.hs_model.specs.declared.deed.Deed.TheVariants as deed
 use Rattle.hs_model.specs.Inner.{enter, may_enter, may_sweep, none_below}
 use Rattle.hs_model.specs.Run.{Event, IsAllowed, IsLegal, enters, run, step, sweeps}
 use Rattle.hs_model.specs.Store.{Store}
+use Rattle.hs_settled.specs.Settled.{IsNoFirst}
 
--- an entry that shard 0 has not entered an epoch by itself
-abbrev pub IsNoFirst : JournalEntry → Type 0
-IsNoFirst e = (epoch : ℕ) → e.who ≡ who.Shard 0 → e.deed ≡ deed.Entered epoch → ⊥
-
--- and it is of no client's line
+-- an entry of no client's line, nor one that shard 0 entered an epoch by itself
 pub record IsCalm (commands : ℕ → Option Command) (e : JournalEntry) : Type 0 where
   pub nobody : (n : ℕ) → e.who ≡ who.Line n → client_op (commands n) ≡ None
   pub first : IsNoFirst e

@@ -5,3 +5,4 @@ pub mod LineLemmas
 pub mod ListLemmas
 pub mod OpenLemmas
 pub mod OwnLemmas
+pub mod SaidLemmas
