@@ -1,4 +1,4 @@
--- A settle behind which nothing is open has answered all earlier lines, and leaves the store level.
+-- A settle behind which nothing is nothing has answered all earlier lines, and leaves the store level.
 use Rattle.std.proofs.Common.{◌≡◌, ◌∙◌, ◌⊎◌, inl, inr, sym, ap, subst, ℕ, zero, suc, ◌+◌, ◌<◌, ◌≤◌, ◌++◌, ◌-◌, Bool, true, false, List, [], ◌∷◌, Option, Some, None, IsSome, refl, length, arith, slice_get, take, drop, take-append-drop, append-nil, append_assoc, length-append}
 use Rattle.std.proofs.lemmas.Bool.{cases_eq}
 use Rattle.std.proofs.lemmas.Grind.{flat_map-append}
@@ -88,7 +88,7 @@ parted_events story line =
     ∙ ap (λ (es : Events). story.opening ++ es) (sym (flat_map-append (λ (events : Events). events) (take line story.lines) (drop line story.lines)))
     ∙ ap (λ (ls : List Events). story.opening ++ flat ls) (take-append-drop line story.lines)
 
-start_at : Script → Ran → Start
+abbrev pub start_at : Script → Ran → Start
 start_at S r = record { set = S.set; commands = S.commands; entry = entry_store S r }
 
 op_is : (o : Option Op) → IsSome o → (said : Op) × (o ≡ Some said)
@@ -157,7 +157,7 @@ module _ (S : Script) (r : Ran) (story : Story) (went : Went S r story) (none : 
     abbrev E : Core
     E = core_behind S story (suc count)
 
-    state : Whole
+    abbrev pub state : Whole
     state = runs whole_machine (open_whole S.set story.found) (events_up_to story (suc count))
 
     state_core : (runs whole_machine (open_whole S.set story.found) (events_up_to story (suc count))).core ≡ core_behind S story (suc count)
@@ -207,7 +207,7 @@ module _ (S : Script) (r : Ran) (story : Story) (went : Went S r story) (none : 
         let below : E.event_line < suc count + 1 = next.above in
         omega (arith, bound, below, later)
 
-    module _ (open : NothingOpen (core_behind S story (suc count))) where
+    module _ (nothing : NothingOpen (core_behind S story (suc count))) where
       -- a client's line up to it has its entry
       record Placed (n : ℕ) : Type 0 where
         place : ℕ
@@ -235,7 +235,7 @@ module _ (S : Script) (r : Ran) (story : Story) (went : Went S r story) (none : 
                 within = within;
                 of = record { entry = of.entry; at = ap (λ (es : List JournalEntry). slice_get es i) journal_is ∙ get_front E.journal rest.more i within ∙ of.at; line = of.line };
               }
-          by_turn (inr (p, asks)) = absurd (none_asks n p (sym (ap (λ ops. asking ops n) (none_ask E open)) ∙ asks))
+          by_turn (inr (p, asks)) = absurd (none_asks n p (sym (ap (λ ops. asking ops n) (none_ask E nothing)) ∙ asks))
 
       answered : (n : ℕ) → n < suc count → IsSome (client_op (S.commands n)) → IsAnsweredBefore r.journal (suc count) n
       answered n less some =
@@ -256,13 +256,13 @@ module _ (S : Script) (r : Ran) (story : Story) (went : Went S r story) (none : 
 
       level_here : Level (run S.set.limits (entry_store S r) (events_in (judging_of (start_at S r)) (entry_store S r) (core_behind S story (suc count)).journal))
       level_here = subst (λ (es : List JournalEntry). Level (run S.set.limits (entry_store S r) (events_in by (entry_store S r) es))) told_all
-          (subst (λ (c : Core). NothingOpen c → Level (run S.set.limits (entry_store S r) (events_in by (entry_store S r) (told_so_far c)))) state_core at_state open)
+          (subst (λ (c : Core). NothingOpen c → Level (run S.set.limits (entry_store S r) (events_in by (entry_store S r) (told_so_far c)))) state_core at_state nothing)
         where
           at_state : NothingOpen state.core → Level (run S.set.limits (entry_store S r) (events_in by (entry_store S r) (told_so_far state.core)))
-          at_state open =
+          at_state nothing =
               let its = stands.stands.holds in
               subst (λ (s : Store). Level s) (sym its.tells.left)
-              (open_level state.core stands.stands.whole.cs its.lawful.folded (told_valid by (entry_store S r) (told_so_far state.core) _ stands.valid its.tells) open)
+              (open_level state.core stands.stands.whole.cs its.lawful.folded (told_valid by (entry_store S r) (told_so_far state.core) _ stands.valid its.tells) nothing)
 
       module _ (answers : Answers S (entry_store S r) r.journal) (settle : S.commands (suc count) ≡ Some command.Settle) (place : ℕ) (above : IsFirstAbove r.journal (suc count) place) where
         journal_long : length r.journal ≡ length E.journal + length rest.more
@@ -279,7 +279,7 @@ module _ (S : Script) (r : Ran) (story : Story) (went : Went S r story) (none : 
             by_place (inl h) = h
             by_place (inr h) = absurd (by_here h above.here)
 
-        k : ℕ
+        abbrev k : ℕ
         k = place - length E.journal
 
         place_is : place ≡ length E.journal + k
@@ -339,5 +339,5 @@ module _ (S : Script) (r : Ran) (story : Story) (went : Went S r story) (none : 
 
   -- of any line
   pub settles : (line : ℕ) → Answers S (entry_store S r) r.journal → S.commands line ≡ Some command.Settle → IsPast r line → NothingOpen (core_behind S story line) → Settles S (entry_store S r) r line
-  settles zero answers settle past open = let both : None ≡ Some command.Settle = sym none ∙ settle in absurd (cc both)
-  settles (suc count) answers settle past open = settles_past count past open answers settle
+  settles zero answers settle past nothing = let both : None ≡ Some command.Settle = sym none ∙ settle in absurd (cc both)
+  settles (suc count) answers settle past nothing = settles_past count past nothing answers settle

@@ -157,18 +157,18 @@ sweep_says shard (Some n) c = go (list_all (λ (d : Catalogue). nat_le (catalogu
     }
     go false = one
 
+pair_is : (a b : ℕ × Entry) → Some a ≡ Some b → a ≡ b
+pair_is a b e = cc e
+
 -- an entry that is committed is the first that waits
 first_of : (g : Group) (number : ℕ) (entry : Entry) → committed g ≡ Some (number, entry) → slice_get g.waiting 0 ≡ Some entry
 first_of g number entry e = by_front (nat_lt g.front (commit_front g)) e
   where
-    by_entry : (o : Option Entry) → option_map (λ (x : Entry). (g.front + 1, x)) o ≡ Some (number, entry) → o ≡ Some entry
+    by_entry : (o : Option Entry) → option_map {U = ℕ × Entry} (λ (x : Entry). (g.front + 1, x)) o ≡ Some (number, entry) → o ≡ Some entry
     by_entry None h = absurd (cc h)
-    by_entry (Some x) h = ap (λ (y : Entry). Some y) (same h)
-      where
-        same : Some (g.front + 1, x) ≡ Some (number, entry) → x ≡ entry
-        same k = cc k
+    by_entry (Some x) h = ap (λ (p : ℕ × Entry). Some p.1) (pair_is (g.front + 1, x) (number, entry) h)
 
-    by_front : (b : Bool) → (if b then option_map (λ (x : Entry). (g.front + 1, x)) (slice_get g.waiting 0) else None) ≡ Some (number, entry) → slice_get g.waiting 0 ≡ Some entry
+    by_front : (b : Bool) → (if b then option_map {U = ℕ × Entry} (λ (x : Entry). (g.front + 1, x)) (slice_get g.waiting 0) else None) ≡ Some (number, entry) → slice_get g.waiting 0 ≡ Some entry
     by_front true h = by_entry (slice_get g.waiting 0) h
     by_front false h = absurd (cc h)
 
@@ -293,7 +293,7 @@ module _ (name : List ℕ → Address) where
   }
     where
       own_again : (back shard : ℕ) (c : Core) → NoneOwn c → NoneOwn (send_round back shard c)
-      own_again back shard c its = own_same c (send_round back shard c) (again_alike back shard c).waiting its
+      own_again back shard c its = own_same c (send_round back shard c) ((again_alike back shard c).waiting 0) its
 
 -- ---- as a core opens
 

@@ -75,8 +75,8 @@ module _ (s : Store) (l : Level s) where
       behind_first = by_first (g == 0) (ne_eqb g 0 other) (and_parts ((slice_index s.swept g == slice_index s.epochs g) && none_below s (slice_index s.epochs g)) (g == 0 || slice_index s.epochs 0 == slice_index s.epochs g + 1) may).1
         where
           by_first : (b : Bool) → b ≡ false → (b || slice_index s.epochs 0 == slice_index s.epochs g + 1) ≡ true → slice_index s.epochs 0 ≡ slice_index s.epochs g + 1
-          by_first true no e = absurd (cc no)
-          by_first false no e = grind (arith, tests, e)
+          by_first true is e = absurd (cc is)
+          by_first false is e = grind (arith, tests, e)
 
       by_place : (length s.epochs ≤ g) ⊎ (g < length s.epochs) → Level (enter s g)
       by_place (inl out) =
@@ -95,7 +95,7 @@ module _ (s : Store) (l : Level s) where
 
 module _ (by : Judging) where
   -- what a calm entry may be: nothing, an Enter of another shard than the first, or a sweep
-  Kind : Option Event → Type 0
+  abbrev Kind : Option Event → Type 0
   Kind o = (o ≡ None) ⊎ (((g : ℕ) × (g ≡ 0 → ⊥) × (o ≡ Some (enters g))) ⊎ ((g : ℕ) × (o ≡ Some (sweeps g))))
 
   kind_of : (s : Store) (x : JournalEntry) (w : Who) (d : Deed) → ((n : ℕ) → w ≡ who.Line n → client_op (by.commands n) ≡ None) → ((epoch : ℕ) → w ≡ who.Shard 0 → d ≡ deed.Entered epoch → ⊥)

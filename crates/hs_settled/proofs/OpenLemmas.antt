@@ -1,5 +1,6 @@
--- Where nothing is open of a core, its store is level, and no operation is without an answer.
+-- Where nothing is nothing of a core, its store is level, and no operation is without an answer.
 use Rattle.std.proofs.Common.{◌≡◌, ◌∙◌, sym, ap, subst, ℕ, zero, suc, ◌+◌, ◌<◌, ◌≤◌, ◌==◌, ◌||◌, Bool, true, false, not, List, [], ◌∷◌, refl, length, map, arith, tests, nat_lt, slice_index}
+use Rattle.std.proofs.lemmas.Bool.{ne_eqb}
 use Rattle.std.proofs.Math.Nat.{le-max_left, le-max_right}
 use Rattle.std.proofs.lemmas.List.Elements.{All-from_get_or}
 use Rattle.std.specs.List.{list_any}
@@ -26,13 +27,13 @@ or_right : (a b : Bool) → (a || b) ≡ false → b ≡ false
 or_right true b e = absurd (cc e)
 or_right false b e = e
 
--- ---- what is not open
+-- ---- what is not nothing
 
 no_items : {X : Type 0} (xs : List X) → not (length xs == 0) ≡ false → xs ≡ []
 no_items [] e = refl
-no_items (x ∷ xs) e = absurd (cc e)
+no_items (x ∷ xs) e = let both : true ≡ false = sym (ap (λ b. not b) (ne_eqb (length (x ∷ xs)) 0 (λ z. omega (arith, z)))) ∙ e in absurd (cc both)
 
-module _ (core : Core) (open : NothingOpen core) where
+module _ (core : Core) (nothing : NothingOpen core) where
   abbrev waits : Bool
   waits = list_any (λ (group : Group). not (length group.waiting == 0)) core.groups
 
@@ -43,10 +44,10 @@ module _ (core : Core) (open : NothingOpen core) where
   joins = list_any (λ (peer : ℕ). is_joining (status_of peer core)) (all_peers (shape_of core))
 
   pub none_ask : core.operations ≡ []
-  none_ask = no_items core.operations (or_left (not (length core.operations == 0)) (waits || (unswept || joins)) open)
+  none_ask = no_items core.operations (or_left (not (length core.operations == 0)) (waits || (unswept || joins)) nothing)
 
   all_swept : list_any (λ (c : Catalogue). nat_lt c.swept (top_epoch core)) core.catalogues ≡ false
-  all_swept = or_left unswept joins (or_right waits (unswept || joins) (or_right (not (length core.operations == 0)) (waits || (unswept || joins)) open))
+  all_swept = or_left unswept joins (or_right waits (unswept || joins) (or_right (not (length core.operations == 0)) (waits || (unswept || joins)) nothing))
 
 -- ---- the greatest epoch
 
@@ -81,7 +82,7 @@ length_epochs : (cs : List Catalogue) → length (map (λ (c : Catalogue). c.epo
 length_epochs [] = refl
 length_epochs (c ∷ cs) = ap (λ n. suc n) (length_epochs cs)
 
-module _ (core : Core) (cs : List Folded) (folded : IsFolded core cs) (valid : IsValid (store_with cs core.sessions)) (open : NothingOpen core) where
+module _ (core : Core) (cs : List Folded) (folded : IsFolded core cs) (valid : IsValid (store_with cs core.sessions)) (nothing : NothingOpen core) where
   abbrev s : Store
   s = store_with cs core.sessions
 
@@ -101,7 +102,7 @@ module _ (core : Core) (cs : List Folded) (folded : IsFolded core cs) (valid : I
   not_above k low = subst (λ (xs : List ℕ). slice_index xs k ≤ top_epoch core) epochs (epoch_low 0 core.catalogues k (let e = many in omega (arith, low, e)))
 
   not_below : (k : ℕ) → k < length s.epochs → top_epoch core ≤ slice_index s.swept k
-  not_below k low = subst (λ (xs : List ℕ). top_epoch core ≤ slice_index xs k) swept (swept_high (top_epoch core) core.catalogues k (all_swept core open) (let e = many in omega (arith, low, e)))
+  not_below k low = subst (λ (xs : List ℕ). top_epoch core ≤ slice_index xs k) swept (swept_high (top_epoch core) core.catalogues k (all_swept core nothing) (let e = many in omega (arith, low, e)))
 
   pub open_level : Level (store_with cs core.sessions)
   open_level = record {

@@ -2,7 +2,9 @@
 use Rattle.std.proofs.Common.{◌≡◌, ◌∙◌, sym, ap, subst, ◌⊎◌, inl, inr, ℕ, suc, ◌+◌, ◌≤◌, ◌<◌, Bool, true, false, cond, not, List, [], ◌∷◌, length, Option, Some, None, refl, arith, slice_get, slice_index}
 use Rattle.std.specs.Option.{option_map_or}
 use Rattle.hs_along.specs.Changes.{tells_at_once, told_at_once}
-use Rattle.hs_core.specs.Changing.{add_entry_tasks, add_operation, change_group, post, put_operation}
+use Rattle.hs_core.specs.Changing.{add_entry_tasks, add_operation, change_group, note, post, put_operation}
+use Rattle.hs_journal.specs.declared.entry.Who.TheVariants as who
+use Rattle.hs_model.specs.declared.deed.Deed.TheVariants as deed
 use Rattle.hs_core.specs.declared.wait.Wait.TheVariants as wait
 use Rattle.hs_core.specs.declared.waiting.Waiting.{Waiting}
 use Rattle.hs_core.specs.Effects.{note_enter, note_sweep}
@@ -275,8 +277,9 @@ removed_own : (shard : ℕ) (removed : Option ℕ) (c : Core) → NoneOwn c → 
 removed_own shard None c its = its
 removed_own shard (Some n) c its = go (list_all (λ (d : Catalogue). nat_le (catalogue_of shard c).swept d.swept) c.catalogues)
   where
-    go : (b : Bool) → NoneOwn c
-    go b = its
+    go : (b : Bool) → NoneOwn (change_if b (note who.Store deed.Nothing (reply.Done (catalogue_of shard c).swept)) (note (who.Shard shard) (deed.Swept shard) (reply.Sweep (catalogue_of shard c).swept n) c))
+    go true = its
+    go false = its
 
 at_once_own : (shard : ℕ) (entry : Entry) (effect : Effect) (c : Core) → AreCounted c → NoneOwn c → NoneOwn (tells_at_once shard entry effect c)
 at_once_own shard (kind.View view) effect c counted its = its
@@ -291,8 +294,8 @@ at_once_own shard (kind.Enter line epoch) effect c counted its = by_operation (i
     by_operation false = entered_own shard effect.what c its
 at_once_own shard (kind.Got from epoch round total deltas) effect c counted its = removed_own shard effect.removed c its
 at_once_own shard (kind.Base view epoch swept round frames) effect c counted its = its
-at_once_own shard (kind.KeptBlock born mark flags count bytes) effect c counted its = its
-at_once_own shard (kind.KeptRoot created dropped counted address key) effect c counted its = its
+at_once_own shard (kind.KeptBlock born mark flags many bytes) effect c counted its = its
+at_once_own shard (kind.KeptRoot created dropped is_counted address key) effect c counted its = its
 at_once_own shard (kind.KeptRound way other epoch round total deltas) effect c counted its = its
 
 pub own_effect : (shard : ℕ) (entry : Entry) (c : Core) → AreCounted c → NoneOwn c → NoneOwn (told_at_once shard entry c)
