@@ -12,10 +12,12 @@ use Rattle.hs_causes.proofs.RunLemmas.{flat_is}
 use Rattle.hs_core.specs.State.{Core}
 use Rattle.hs_core.specs.Step.{step}
 use Rattle.hs_events.proofs.RunLemmas.{steps_append}
+use Rattle.hs_events.specs.Commands.{AreOfLine}
 use Rattle.hs_events.specs.Course.{steps}
 use Rattle.hs_events.specs.Due.{Events, is_walk, next_due}
 use Rattle.hs_events.specs.Found.{first_core, opens_with}
 use Rattle.hs_events.specs.Whole.{Whole, open_whole, step_whole}
+use Rattle.hs_going.specs.Causes.{NothingWaits}
 use Rattle.hs_journal.specs.declared.entry.JournalEntry.{JournalEntry}
 use Rattle.hs_journal.specs.declared.entry.Who.TheVariants as who
 use Rattle.hs_journal.specs.Events.{client_op}
@@ -43,12 +45,16 @@ use Rattle.hs_promise.specs.Machine.{Went, opening_is_whole}
 use Rattle.hs_promise.specs.Run.{Ran, Script}
 use Rattle.hs_promise.specs.Story.{Story, all_events as all_of, last_core}
 use Rattle.hs_rests.proofs.ValidLemmas.{told_valid}
+use Rattle.hs_settled.proofs.EndLemmas.{Ended, Going, nothing_waits, walk_ended}
 use Rattle.hs_settled.proofs.FirstLemmas.{run_told}
 use Rattle.hs_settled.proofs.LevelLemmas.{IsCalm, Level, le_or, legal_front, level_along}
 use Rattle.hs_settled.proofs.LineLemmas.{Reached, going_before, joined, lined, reached}
 use Rattle.hs_settled.proofs.ListLemmas.{all_at, all_take, at_within, get_back, get_front, take_all, take_back}
 use Rattle.hs_settled.proofs.OpenLemmas.{none_ask, open_level}
+use Rattle.hs_settled.proofs.QuietLemmas.{Below}
+use Rattle.hs_settled.proofs.RestLemmas.{quiet_open}
 use Rattle.hs_settled.proofs.SaidLemmas.{Running, all_front}
+use Rattle.hs_settled.specs.Quiet.{IsQuiet}
 use Rattle.hs_settled.specs.Settled.{IsNoFirst, NothingOpen, core_behind, events_up_to}
 use Rattle.hs_standing.specs.Run.{IsRunning, MayRun, RunOpens}
 use Rattle.hs_standing.specs.Standing.{AllMayKeep, judging_of}
@@ -153,6 +159,18 @@ module _ (S : Script) (r : Ran) (story : Story) (went : Went S r story) (none : 
         by_last (inl all) =
             let last : suc count ≡ length story.lines = (let l = low in omega (arith, l, all)) in
             ap (λ (ls : List Events). (steps first (story.opening ++ flat ls)).ended) (ap (λ n. take n story.lines) last ∙ take_all story.lines) ∙ went.ends.past (gone last)
+
+    -- a settle that was gone past has come to its end
+    pub comes_to_end : S.commands (suc count) ≡ Some command.Settle → Ended (core_behind S story (suc count))
+    comes_to_end settle =
+        subst (λ (c : Core). Ended c) (sym (behind_is (suc count) ∙ there.behind))
+        (walk_ended there.line there.at there.events (subst (λ (c : Option Command). AreOfLine S.set.name (record { line = there.line; core = there.at; events = there.events; whole = true }) c) said there.here.events))
+      where
+        said : S.commands there.line ≡ Some command.Settle
+        said = ap (λ n. S.commands n) (let e = there.is in same e) ∙ settle
+          where
+            same : there.line ≡ 1 + count → there.line ≡ suc count
+            same e = omega (arith, e)
 
     abbrev E : Core
     E = core_behind S story (suc count)
@@ -341,3 +359,33 @@ module _ (S : Script) (r : Ran) (story : Story) (went : Went S r story) (none : 
   pub settles : (line : ℕ) → Answers S (entry_store S r) r.journal → S.commands line ≡ Some command.Settle → IsPast r line → NothingOpen (core_behind S story line) → Settles S (entry_store S r) r line
   settles zero answers settle past nothing = let both : None ≡ Some command.Settle = sym none ∙ settle in absurd (cc both)
   settles (suc count) answers settle past nothing = settles_past count past nothing answers settle
+
+  -- ---- what is left open
+
+  pub ends : (line : ℕ) → S.commands line ≡ Some command.Settle → IsPast r line → Ended (core_behind S story line)
+  ends zero settle past = let both : None ≡ Some command.Settle = sym none ∙ settle in absurd (cc both)
+  ends (suc count) settle past = comes_to_end count past settle
+
+  going_past : (line : ℕ) → S.commands line ≡ Some command.Settle → IsPast r line → (core_behind S story line).ended ≡ None
+  going_past zero settle past = let both : None ≡ Some command.Settle = sym none ∙ settle in absurd (cc both)
+  going_past (suc count) settle past = going count past
+
+  may_so_far : (line : ℕ) → AllMayKeep (start_at S r) (MayRun (start_at S r)) (first_core S.set story.found) (events_up_to story line)
+  may_so_far line =
+      keep_front (start_at S r) first (events_up_to story line) (flat (drop line story.lines))
+      (subst (λ (es : Events). AllMayKeep (start_at S r) (MayRun (start_at S r)) first es) (sym (parted_events story line)) may)
+
+  pub rests : Going → (line : ℕ) → S.commands line ≡ Some command.Settle → IsPast r line → NothingWaits (core_behind S story line)
+  rests laws line settle past = nothing_waits laws (start_at S r) story.found (events_up_to story line) opens (may_so_far line) (going_past line settle past) (ends line settle past)
+
+  pub stands_past : (line : ℕ) → S.commands line ≡ Some command.Settle → IsPast r line → IsRunning (start_at S r) (runs whole_machine (open_whole S.set story.found) (events_up_to story line))
+  stands_past zero settle past = let both : None ≡ Some command.Settle = sym none ∙ settle in absurd (cc both)
+  stands_past (suc count) settle past = stands count past
+
+  -- and quiet, it settles
+  pub quiet_settles : Going → Below → (line : ℕ) → Answers S (entry_store S r) r.journal → S.commands line ≡ Some command.Settle → IsPast r line → IsQuiet (core_behind S story line) → Settles S (entry_store S r) r line
+  quiet_settles laws below line answers settle past quiet =
+      settles line answers settle past
+      (subst (λ (c : Core). NothingWaits c → IsQuiet c → NothingOpen c) (runs_core (open_whole S.set story.found) (events_up_to story line))
+      (λ waits still. quiet_open below (start_at S r) (runs whole_machine (open_whole S.set story.found) (events_up_to story line)) (stands_past line settle past) waits still)
+      (rests laws line settle past) quiet)

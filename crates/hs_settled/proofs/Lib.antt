@@ -9,3 +9,4 @@ pub mod SaidLemmas
 pub mod RoundLemmas
 pub mod QuietLemmas
 pub mod RestLemmas
+pub mod EndLemmas

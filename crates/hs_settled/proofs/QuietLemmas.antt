@@ -117,9 +117,9 @@ module _ (below : Below) (name : List ℕ → Address) (core : Core) (cs : List 
   unfinished = subst (λ (ds : List Folded). AreOpen (setting_of name core) some ds) lawful.lawful.gives (history_open (setting_of name core) some lawful.lawful.history)
 
   come : HaveCome (shape_of core).shards cs
-  come from place to kept from_low to_low at due =
+  come from place to kept from_low to_low two at due =
       let sent : slice_get (catalogue_of from core).run.sent place ≡ Some kept = ap (λ (c : Catalogue). slice_get c.run.sent place) (is_there from from_low) ∙ at in
-      let new : is_new_round to from kept.epoch kept.round core ≡ false = quiet.came from place to kept from_low to_low sent in
+      let new : is_new_round to from kept.epoch kept.round core ≡ false = quiet.came from place to kept from_low to_low two sent in
       by_new (ap (λ (c : Catalogue). is_due (record { epoch = kept.epoch; round = kept.round; from = from }) c && (is_none (told_by kept.epoch kept.round c.run.gots from) && not (list_any (is_got from kept.epoch kept.round) (group_of to core).waiting))) (sym (is_there to to_low))
       ∙ new)
     where

@@ -21,7 +21,17 @@ use Rattle.hs_members.specs.Members.{all_peers, is_joining}
 use Rattle.hs_replica.specs.Group.{Group, new_group}
 use Rattle.hs_settled.proofs.LevelLemmas.{le_or}
 use Rattle.hs_settled.proofs.OpenLemmas.{epochs_are, swept_are}
+use Rattle.hs_events.specs.Whole.{Whole}
+use Rattle.hs_going.specs.Causes.{NothingWaits}
+use Rattle.hs_joint.proofs.HistoryLemmas.{shape_some}
+use Rattle.hs_legal.specs.Telling.{told_so_far}
+use Rattle.hs_rests.proofs.ValidLemmas.{told_valid}
+use Rattle.hs_settled.proofs.QuietLemmas.{Below, all_swept}
+use Rattle.hs_settled.specs.Quiet.{IsQuiet}
 use Rattle.hs_settled.specs.Settled.{NothingOpen}
+use Rattle.hs_standing.specs.Run.{IsRunning}
+use Rattle.hs_standing.specs.Standing.{judging_of}
+use Rattle.hs_stops.specs.Start.{Start}
 use Rattle.hs_shard.specs.Facts.{Catalogue}
 
 -- ---- lists
@@ -106,3 +116,13 @@ module _ (core : Core) (cs : List Folded) (folded : IsFolded core cs) (valid : I
 
   pub nothing_open : NothingOpen core
   nothing_open = λ i. not (ap (λ (os : List (ℕ × Waiting)). length os == 0) operations i) || (none_wait i || (none_unswept i || none_join i))
+
+-- ---- of a run
+
+pub quiet_open : Below → (start : Start) (c : Whole) → IsRunning start c → NothingWaits c.core → IsQuiet c.core → NothingOpen c.core
+quiet_open below start c run waits quiet =
+    let its = run.stands.holds in
+    let cs : List Folded = run.stands.whole.cs in
+    let valid : IsValid (store_with run.stands.whole.cs c.core.sessions) = told_valid (judging_of start) start.entry (told_so_far c.core) (store_with run.stands.whole.cs c.core.sessions) run.valid its.tells in
+    nothing_open c.core cs its.lawful.folded valid run.stands.whole.sane.alone waits.operations waits.lists
+    (all_swept below start.set.name c.core cs its.lawful valid (shape_some (shape_of c.core) its.lawful.folded.valid) quiet waits.lists)

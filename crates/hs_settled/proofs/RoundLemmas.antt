@@ -124,7 +124,7 @@ is_some_true (Some x) h = refl
 
 -- each round that a shard keeps as sent, and that may come at another, has come there
 abbrev pub HaveCome : ℕ → List Catalogue → Type 0
-HaveCome n cs = (s place h : ℕ) (kept : SentRound) → s < n → h < n → slice_get (catalogue_at cs s).sent place ≡ Some kept → is_due (catalogue_at cs h) kept.epoch kept.round ≡ true
+HaveCome n cs = (s place h : ℕ) (kept : SentRound) → s < n → h < n → place < 2 → slice_get (catalogue_at cs s).sent place ≡ Some kept → is_due (catalogue_at cs h) kept.epoch kept.round ≡ true
     → IsSome (told_by kept.epoch kept.round (catalogue_at cs h).got s)
 
 -- no shard but the first that has swept its epoch has round 0 of the next
@@ -147,6 +147,7 @@ module _ (set : Setting) (some : 0 < set.shape.shards) (cs : List Catalogue) (m 
   record Kept (k row : ℕ) : Type 0 where
     kept : SentRound
     place : ℕ
+    two : place < 2
     at : slice_get (catalogue_at cs k).sent place ≡ Some kept
     epoch : (label_of (layout_of set.shape.shards some) m.states row).epoch ≡ kept.epoch
     round : (label_of (layout_of set.shape.shards some) m.states row).round ≡ kept.round
@@ -160,6 +161,7 @@ module _ (set : Setting) (some : 0 < set.shape.shards) (cs : List Catalogue) (m 
       record {
         kept = there.0;
         place = place;
+        two = omega (arith, sent, two);
         at = there.1;
         epoch = subst (λ (r : ℕ). (label_of L m.states r).epoch ≡ there.0.epoch) same of.epoch;
         round = subst (λ (r : ℕ). (label_of L m.states r).round ≡ there.0.round) same of.round;
@@ -181,7 +183,7 @@ module _ (set : Setting) (some : 0 < set.shape.shards) (cs : List Catalogue) (m 
           let e : kept.kept.epoch ≡ (catalogue_at cs h).epoch = (let a = kept.epoch in let b = run.of_epoch in let d = f.epoch in omega (arith, a, b, d)) in
           let r : kept.kept.round ≡ (catalogue_at cs h).round = (let a = kept.round in let b = run.of_round in let w = run.unswept in let d = f.round (omega (arith, w)) in omega (arith, a, b, d)) in
           let due : is_due (catalogue_at cs h) kept.kept.epoch kept.kept.round ≡ true = (λ j. is_due (catalogue_at cs h) (e j) (r j)) ∙ due_open (catalogue_at cs h) unswept in
-          (λ j. is_some (told_by (sym e j) (sym r j) (catalogue_at cs h).got i)) ∙ is_some_true (told_by kept.kept.epoch kept.kept.round (catalogue_at cs h).got i) (come i kept.place h kept.kept low may.within kept.at due)
+          (λ j. is_some (told_by (sym e j) (sym r j) (catalogue_at cs h).got i)) ∙ is_some_true (told_by kept.kept.epoch kept.kept.round (catalogue_at cs h).got i) (come i kept.place h kept.kept low may.within kept.two kept.at due)
           ) in
           let all : have_told set.shape.shards (catalogue_at cs h).epoch (catalogue_at cs h).round (catalogue_at cs h).got ≡ true =
           all_range (λ i. is_some (told_by (catalogue_at cs h).epoch (catalogue_at cs h).round (catalogue_at cs h).got i)) 0 set.shape.shards (λ i low high. told i (omega (arith, high))) in
@@ -209,7 +211,7 @@ module _ (set : Setting) (some : 0 < set.shape.shards) (cs : List Catalogue) (m 
           let r : kept.kept.round ≡ 0 = (let a = kept.round in let b = idle.of_round in omega (arith, a, b)) in
           let due : is_due (catalogue_at cs h) kept.kept.epoch kept.kept.round ≡ true = (λ j. is_due (catalogue_at cs h) (e j) (r j)) ∙ due_next (catalogue_at cs h) in
           let told : IsSome (told_by ((catalogue_at cs h).epoch + 1) 0 (catalogue_at cs h).got g) =
-          subst (λ (x : ℕ). IsSome (told_by x 0 (catalogue_at cs h).got g)) e (subst (λ (x : ℕ). IsSome (told_by kept.kept.epoch x (catalogue_at cs h).got g)) r (come g kept.place h kept.kept lg may.within kept.at due)) in
+          subst (λ (x : ℕ). IsSome (told_by x 0 (catalogue_at cs h).got g)) e (subst (λ (x : ℕ). IsSome (told_by kept.kept.epoch x (catalogue_at cs h).got g)) r (come g kept.place h kept.kept lg may.within kept.two kept.at due)) in
           begun h g may.within not_first (let a = f.epoch in let b = f.swept in let d = may.is_swept in omega (arith, a, b, d)) told
         where
           by_order : ((s h).completed ≤ (s g).completed) ⊎ ((s g).completed < (s h).completed) → (s h).completed ≤ (s g).completed
