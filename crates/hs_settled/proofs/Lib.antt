@@ -10,3 +10,4 @@ pub mod RoundLemmas
 pub mod QuietLemmas
 pub mod RestLemmas
 pub mod EndLemmas
+pub mod PoolLemmas
