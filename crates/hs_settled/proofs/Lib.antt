@@ -11,3 +11,4 @@ pub mod QuietLemmas
 pub mod RestLemmas
 pub mod EndLemmas
 pub mod PoolLemmas
+pub mod NudgeLemmas
