@@ -12,3 +12,5 @@ pub mod RestLemmas
 pub mod EndLemmas
 pub mod PoolLemmas
 pub mod NudgeLemmas
+pub mod DueLemmas
+pub mod WalkLemmas
