@@ -1,23 +1,26 @@
 -- A settle behind which nothing is nothing has answered all earlier lines, and leaves the store level.
-use Rattle.std.proofs.Common.{◌≡◌, ◌∙◌, ◌⊎◌, inl, inr, sym, ap, subst, ℕ, zero, suc, ◌+◌, ◌<◌, ◌≤◌, ◌++◌, ◌-◌, Bool, true, false, List, [], ◌∷◌, Option, Some, None, IsSome, refl, length, arith, slice_get, take, drop, take-append-drop, append-nil, append_assoc, length-append}
+use Rattle.std.proofs.Common.{◌≡◌, ◌∙◌, ◌⊎◌, inl, inr, sym, ap, subst, ℕ, zero, suc, ◌+◌, ◌*◌, ◌<◌, ◌≤◌, ◌++◌, ◌-◌, ◌||◌, Bool, true, false, not, is_none, List, [], ◌∷◌, Option, Some, None, IsSome, refl, length, arith, slice_get, take, drop, take-append-drop, append-nil, append_assoc, length-append}
 use Rattle.std.proofs.lemmas.Bool.{cases_eq}
 use Rattle.std.proofs.lemmas.Grind.{flat_map-append}
 use Rattle.std.specs.BTreeMap.{is_at}
 use Rattle.std.specs.List.{AllByRecursion}
+use Rattle.std.specs.Option.{option_map_or}
 use Rattle.std.specs.Prelude.{flat_map}
 use Rattle.hs_answered.specs.Telling.{Judging, events_in}
 use Rattle.hs_causes.proofs.AskLemmas.{opening_due}
 use Rattle.hs_causes.proofs.FirstLemmas.{line_first}
-use Rattle.hs_causes.proofs.RunLemmas.{flat_is}
+use Rattle.hs_causes.proofs.RunLemmas.{all_ask_so, all_come_so, flat_is, mute, opened_kept}
 use Rattle.hs_core.specs.State.{Core}
 use Rattle.hs_core.specs.Step.{step}
 use Rattle.hs_events.proofs.RunLemmas.{steps_append}
 use Rattle.hs_events.specs.Commands.{AreOfLine}
 use Rattle.hs_events.specs.Course.{steps}
-use Rattle.hs_events.specs.Due.{Events, is_walk, next_due}
+use Rattle.hs_events.specs.declared.due.Due.{Due}
+use Rattle.hs_events.specs.Due.{Events, Walked, first_place, is_walk, next_due, walk}
 use Rattle.hs_events.specs.Found.{first_core, opens_with}
 use Rattle.hs_events.specs.Whole.{Whole, open_whole, step_whole}
 use Rattle.hs_going.specs.Causes.{NothingWaits}
+use Rattle.hs_going.specs.Moving.{IsMoving}
 use Rattle.hs_journal.specs.declared.entry.JournalEntry.{JournalEntry}
 use Rattle.hs_journal.specs.declared.entry.Who.TheVariants as who
 use Rattle.hs_journal.specs.Events.{client_op}
@@ -37,7 +40,7 @@ use Rattle.hs_moments.proofs.JournalLemmas.{journal_after}
 use Rattle.hs_moments.specs.Machine.{runs}
 use Rattle.hs_moments.specs.WholeMachine.{whole_machine}
 use Rattle.hs_promise.specs.Answers.{Answers, store_before}
-use Rattle.hs_promise.specs.Completes.{Settles}
+use Rattle.hs_promise.specs.Completes.{Settles, SettlesEach}
 use Rattle.hs_promise.specs.Ending.{ending_of}
 use Rattle.hs_promise.specs.Entry.{entry_store}
 use Rattle.hs_promise.specs.Lost.{IsPast}
@@ -45,8 +48,9 @@ use Rattle.hs_promise.specs.Machine.{Went, opening_is_whole}
 use Rattle.hs_promise.specs.Run.{Ran, Script}
 use Rattle.hs_promise.specs.Story.{Story, all_events as all_of, last_core}
 use Rattle.hs_rests.proofs.ValidLemmas.{told_valid}
-use Rattle.hs_settled.proofs.EndLemmas.{Ended, Going, nothing_waits, walk_ended}
+use Rattle.hs_settled.proofs.EndLemmas.{Ended, Going, all_begin, nothing_waits, same_steps, walk_core, walk_ended}
 use Rattle.hs_settled.proofs.FirstLemmas.{run_told}
+use Rattle.hs_settled.proofs.LastLemmas.{AllRoomy, Turns as TurnsLaw, all_roomy, keep_rest, open_or_quiet, roomy_front, roomy_rest, settle_walk}
 use Rattle.hs_settled.proofs.LevelLemmas.{IsCalm, Level, le_or, legal_front, level_along}
 use Rattle.hs_settled.proofs.LineLemmas.{Reached, going_before, joined, lined, reached}
 use Rattle.hs_settled.proofs.ListLemmas.{all_at, all_take, at_within, get_back, get_front, take_all, take_back}
@@ -54,6 +58,7 @@ use Rattle.hs_settled.proofs.OpenLemmas.{none_ask, open_level}
 use Rattle.hs_settled.proofs.QuietLemmas.{Below}
 use Rattle.hs_settled.proofs.RestLemmas.{quiet_open}
 use Rattle.hs_settled.proofs.SaidLemmas.{Running, all_front}
+use Rattle.hs_settled.proofs.WalkLemmas.{Inv, quiet_none}
 use Rattle.hs_settled.specs.Quiet.{IsQuiet}
 use Rattle.hs_settled.specs.Settled.{IsNoFirst, NothingOpen, core_behind, events_up_to}
 use Rattle.hs_standing.specs.Run.{IsRunning, MayRun, RunOpens}
@@ -389,3 +394,93 @@ module _ (S : Script) (r : Ran) (story : Story) (went : Went S r story) (none : 
       (subst (λ (c : Core). NothingWaits c → IsQuiet c → NothingOpen c) (runs_core (open_whole S.set story.found) (events_up_to story line))
       (λ waits still. quiet_open below (start_at S r) (runs whole_machine (open_whole S.set story.found) (events_up_to story line)) (stands_past line settle past) waits still)
       (rests laws line settle past) quiet)
+
+  -- ---- where the pool has room
+
+  module _ (laws : Going) (turns : TurnsLaw) (room : 2 * S.set.shape.shards < S.set.limits.pool) (count : ℕ) (past : IsPast r (suc count)) (settle : S.commands (suc count) ≡ Some command.Settle) where
+    abbrev its : Reached (lined S r) 1 begun story.lines count
+    its = there count past
+
+    abbrev c0 : Whole
+    c0 = runs whole_machine (open_whole S.set story.found) (events_up_to story count)
+
+    c0_core : (runs whole_machine (open_whole S.set story.found) (events_up_to story count)).core ≡ core_behind S story count
+    c0_core = runs_core (open_whole S.set story.found) (events_up_to story count)
+
+    at_is : (there count past).at ≡ core_behind S story count
+    at_is = its.before ∙ sym (behind_is count)
+
+    going_at : (core_behind S story count).ended ≡ None
+    going_at = subst (λ (c : Core). c.ended ≡ None) at_is its.here.going
+
+    run0 : IsRunning (start_at S r) (runs whole_machine (open_whole S.set story.found) (events_up_to story count))
+    run0 = running.goes_on (start_at S r) (open_whole S.set story.found) (events_up_to story count) (running.opens (start_at S r) story.found opens) (may_so_far count) going_at
+
+    moving0 : IsMoving S.set.name (runs whole_machine (open_whole S.set story.found) (events_up_to story count))
+    moving0 =
+        laws.events S.set.name (open_whole S.set story.found) (events_up_to story count) (laws.opened S.set.name S.set story.found opens.shape opens.well.one opens.well.going opens.well.lists opens.well.many)
+        (all_begin (start_at S r) first (events_up_to story count) (may_so_far count) going_at) (ap (λ (c : Core). c.ended) (same_steps first (events_up_to story count)) ∙ going_at)
+
+    parted_here : events_up_to story (suc count) ≡ events_up_to story count ++ (there count past).events
+    parted_here =
+        ap (λ (es : Events). story.opening ++ es) (flat_is (take (suc count) story.lines) ∙ its.parted ∙ ap (λ (es : Events). es ++ its.events) (sym (flat_is (take count story.lines))))
+        ∙ sym (append_assoc story.opening (flat (take count story.lines)) its.events)
+
+    may_here : AllMayKeep (start_at S r) (MayRun (start_at S r)) (core_behind S story count) (there count past).events
+    may_here =
+        keep_rest (start_at S r) first (events_up_to story count) its.events
+        (subst (λ (es : Events). AllMayKeep (start_at S r) (MayRun (start_at S r)) first es) parted_here (may_so_far (suc count)))
+
+    roomy_all : AllRoomy (first_core S.set story.found) (all_of story)
+    roomy_all =
+        subst (λ (es : Events). AllRoomy first (story.opening ++ es)) (sym (flat_is story.lines))
+        (all_roomy (mute S.commands) S.set.shape S.set.limits first (story.opening ++ all_events story.lines) (opened_kept S r story went) (all_come_so S r story went) (all_ask_so S r story went))
+
+    roomy_here : AllRoomy (core_behind S story count) (there count past).events
+    roomy_here =
+        roomy_rest first (events_up_to story count) its.events
+        (subst (λ (es : Events). AllRoomy first es) parted_here
+        (roomy_front first (events_up_to story (suc count)) (flat (drop (suc count) story.lines)) (subst (λ (es : Events). AllRoomy first es) (sym (parted_events story (suc count))) roomy_all)))
+
+    end_is : steps (core_behind S story count) (there count past).events ≡ core_behind S story (suc count)
+    end_is = ap (λ (c : Core). steps c its.events) (sym at_is) ∙ sym (behind_is (suc count) ∙ its.behind)
+
+    walks : is_walk next_due true (there count past).line (there count past).at (there count past).events ≡ true
+    walks = subst (λ (c : Option Command). AreOfLine S.set.name (record { line = its.line; core = its.at; events = its.events; whole = true }) c) said its.here.events
+      where
+        said : S.commands its.line ≡ Some command.Settle
+        said = ap (λ n. S.commands n) (same its.is) ∙ settle
+          where
+            same : its.line ≡ 1 + count → its.line ≡ suc count
+            same e = omega (arith, e)
+
+    none_due : (o : Option Due) → (false || is_none o) ≡ true → o ≡ None
+    none_due None e = refl
+    none_due (Some d) e = absurd (cc e)
+
+    first_inv : (c : Core) → Inv first_place c
+    first_inv c e = inr (quiet_none c)
+
+    by_walk : (o : Option Walked) → walk next_due (there count past).line (record { place = first_place; core = (there count past).at }) (there count past).events ≡ o
+        → option_map_or (λ at. not true || is_none (next_due at.place at.core)) o false ≡ true → NothingOpen (core_behind S story (suc count)) ⊎ IsQuiet (core_behind S story (suc count))
+    by_walk None e k = absurd (cc k)
+    by_walk (Some end) e k =
+        let here : its.at ≡ c0.core = at_is ∙ sym c0_core in
+        let ended : end.core ≡ core_behind S story (suc count) = walk_core its.line (record { place = first_place; core = its.at }) its.events end e ∙ ap (λ (c : Core). steps c its.events) at_is ∙ end_is in
+        let last = settle_walk running laws turns (start_at S r) room its.line its.events first_place c0 end run0 moving0
+        (subst (λ (c : Core). AllRoomy c its.events) (sym c0_core) roomy_here) (subst (λ (c : Core). AllMayKeep (start_at S r) (MayRun (start_at S r)) c its.events) (sym c0_core) may_here)
+        (ap (λ (c : Core). (steps c its.events).ended) c0_core ∙ ap (λ (c : Core). c.ended) end_is ∙ going count past)
+        (subst (λ (c : Core). walk next_due its.line (record { place = first_place; core = c }) its.events ≡ Some end) here e) (first_inv c0.core) in
+        subst (λ (c : Core). NothingOpen c ⊎ IsQuiet c) ended (open_or_quiet end.place end.core last.fitting (none_due (next_due end.place end.core) k) last.inv)
+
+    pub ends_so : NothingOpen (core_behind S story (suc count)) ⊎ IsQuiet (core_behind S story (suc count))
+    ends_so = by_walk (walk next_due its.line (record { place = first_place; core = its.at }) its.events) refl walks
+
+  -- so each settle settles
+  pub settles_each : Going → TurnsLaw → Below → Answers S (entry_store S r) r.journal → SettlesEach S (entry_store S r) r
+  settles_each laws turns below answers room zero settle past = let both : None ≡ Some command.Settle = sym none ∙ settle in absurd (cc both)
+  settles_each laws turns below answers room (suc count) settle past = by_end (ends_so laws turns room count past settle)
+    where
+      by_end : NothingOpen (core_behind S story (suc count)) ⊎ IsQuiet (core_behind S story (suc count)) → Settles S (entry_store S r) r (suc count)
+      by_end (inl nothing) = settles (suc count) answers settle past nothing
+      by_end (inr quiet) = quiet_settles laws below (suc count) answers settle past quiet

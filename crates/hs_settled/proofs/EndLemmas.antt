@@ -36,7 +36,7 @@ pub record Ended (core : Core) : Type 0 where
   pub place : Place
   pub none : next_due place core ≡ None
 
-walk_core : (line : ℕ) (at : Walked) (es : Events) (end : Walked) → walk next_due line at es ≡ Some end → end.core ≡ steps at.core es
+pub walk_core : (line : ℕ) (at : Walked) (es : Events) (end : Walked) → walk next_due line at es ≡ Some end → end.core ≡ steps at.core es
 walk_core line at [] end h = let same : Some at ≡ Some end = h in sym (ap (λ (w : Walked). w.core) (at_is same))
   where
     at_is : Some at ≡ Some end → at ≡ end
@@ -76,11 +76,11 @@ pub record Going : Type 0 where
   pub events : (name : List ℕ → Address) (c : Whole) (events : List (Event × ℕ)) → IsMoving name c → MayBeginAll name events c.core → (steps_so c.core events).ended ≡ None → IsMoving name (runs whole_machine c events)
   pub settled : (name : List ℕ → Address) (c : Whole) (place : Place) → IsMoving name c → next_due place c.core ≡ None → NothingWaits c.core
 
-same_steps : (core : Core) (es : Events) → steps_so core es ≡ steps core es
+pub same_steps : (core : Core) (es : Events) → steps_so core es ≡ steps core es
 same_steps core [] = refl
 same_steps core (e ∷ es) = same_steps (step e.0 e.1 core) es
 
-going_before : (core : Core) (es : Events) → (steps core es).ended ≡ None → core.ended ≡ None
+pub going_before : (core : Core) (es : Events) → (steps core es).ended ≡ None → core.ended ≡ None
 going_before core es going = by_end core.ended refl
   where
     by_end : (o : Option CoreFault) → core.ended ≡ o → core.ended ≡ None
@@ -98,7 +98,7 @@ may_begin start (event.Nudge line peer) c may = tt
 may_begin start (event.Fail line peer) c may = tt
 may_begin start (event.Start line peer) c may = tt
 
-all_begin : (start : Start) (core : Core) (es : Events) → AllMayKeep start (MayRun start) core es → (steps core es).ended ≡ None → MayBeginAll start.set.name es core
+pub all_begin : (start : Start) (core : Core) (es : Events) → AllMayKeep start (MayRun start) core es → (steps core es).ended ≡ None → MayBeginAll start.set.name es core
 all_begin start core [] may going = tt
 all_begin start core (e ∷ es) may going = (may_begin start e.0 core (may.0 (going_before core (e ∷ es) going)).may, all_begin start (step e.0 e.1 core) es may.1 going)
 

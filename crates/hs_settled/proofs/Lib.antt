@@ -14,3 +14,5 @@ pub mod PoolLemmas
 pub mod NudgeLemmas
 pub mod DueLemmas
 pub mod WalkLemmas
+pub mod FitLemmas
+pub mod LastLemmas

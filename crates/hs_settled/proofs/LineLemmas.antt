@@ -1,5 +1,5 @@
 -- The lines of a run, one after another: where each stands, and what is next behind it.
-use Rattle.std.proofs.Common.{◌≡◌, ◌∙◌, sym, ap, subst, ℕ, zero, suc, ◌+◌, ◌<◌, ◌≤◌, ◌++◌, Bool, true, List, [], ◌∷◌, None, refl, arith, length, take}
+use Rattle.std.proofs.Common.{◌≡◌, ◌∙◌, sym, ap, subst, ℕ, zero, suc, ◌+◌, ◌<◌, ◌≤◌, ◌++◌, Bool, true, List, [], ◌∷◌, None, refl, arith, length, take, append-nil, append_assoc}
 use Rattle.hs_core.specs.State.{Core}
 use Rattle.hs_events.proofs.RunLemmas.{steps_append}
 use Rattle.hs_events.specs.Commands.{LineAt}
@@ -29,6 +29,7 @@ pub record Reached (s : Lined) (from : ℕ) (core : Core) (lines : List Events) 
   pub before : at ≡ steps core (all_events (take count lines))
   pub here : IsLine s (record { line = line; core = at; events = events; whole = true })
   pub behind : steps core (all_events (take (suc count) lines)) ≡ steps at events
+  pub parted : all_events (take (suc count) lines) ≡ all_events (take count lines) ++ events
   pub next : IsNext s.commands (steps at events) (line + 1)
 
 passes : (s : Lined) (line : ℕ) (core : Core) (es : Events) → IsNext s.commands core line → IsLine s (record { line = line; core = core; events = es; whole = true }) → IsNext s.commands (steps core es) (line + 1)
@@ -45,6 +46,7 @@ first_reached s from core es rest its here = record {
   before = refl;
   here = here;
   behind = steps_append core es [];
+  parted = append-nil es;
   next = passes s from core es its here;
 }
 
@@ -66,6 +68,7 @@ reached s from core (es ∷ next ∷ rest) its are (suc count) low last =
       before = there.before ∙ sym (steps_append core es (all_events (take count (next ∷ rest))));
       here = there.here;
       behind = steps_append core es (all_events (take (suc count) (next ∷ rest))) ∙ there.behind;
+      parted = ap (λ (fs : Events). es ++ fs) there.parted ∙ sym (append_assoc es (all_events (take count (next ∷ rest))) there.events);
       next = there.next;
     }
 

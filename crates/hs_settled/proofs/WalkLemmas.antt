@@ -140,10 +140,10 @@ nudge_left line l p at c fit part low empty quiet =
 
 -- ---- what is due
 
-no_busy : (c : Core) → NothingWaits c → Busy c → ⊥
+pub no_busy : (c : Core) → NothingWaits c → Busy c → ⊥
 no_busy c waits busy = busy.some (waits.lists busy.shard busy.low)
 
-quiet_none : (c : Core) → QuietTo 0 c
+pub quiet_none : (c : Core) → QuietTo 0 c
 quiet_none c = record { due = λ p less low. absurd (omega (arith, less)); came = λ p place to kept less low to_low two at. absurd (omega (arith, less)) }
 
 or_left : (a b : Bool) → (a || b) ≡ false → a ≡ false
