@@ -1,8 +1,7 @@
 -- A settle behind which nothing is nothing has answered all earlier lines, and leaves the store level.
-use Rattle.std.proofs.Common.{◌≡◌, ◌∙◌, ◌⊎◌, inl, inr, sym, ap, subst, ℕ, zero, suc, ◌+◌, ◌*◌, ◌<◌, ◌≤◌, ◌++◌, ◌-◌, ◌||◌, Bool, true, false, not, is_none, List, [], ◌∷◌, Option, Some, None, IsSome, refl, length, arith, slice_get, take, drop, take-append-drop, append-nil, append_assoc, length-append}
+use Rattle.std.proofs.Common.{◌≡◌, ◌∙◌, ◌⊎◌, inl, inr, sym, ap, subst, ℕ, zero, suc, ◌+◌, ◌*◌, ◌<◌, ◌≤◌, ◌++◌, ◌-◌, ◌||◌, true, false, not, is_none, List, [], ◌∷◌, Option, Some, None, IsSome, refl, length, arith, slice_get, take, drop, take-append-drop, append-nil, append_assoc, length-append}
 use Rattle.std.proofs.lemmas.Bool.{cases_eq}
 use Rattle.std.proofs.lemmas.Grind.{flat_map-append}
-use Rattle.std.specs.BTreeMap.{is_at}
 use Rattle.std.specs.List.{AllByRecursion}
 use Rattle.std.specs.Option.{option_map_or}
 use Rattle.std.specs.Prelude.{flat_map}
@@ -24,10 +23,9 @@ use Rattle.hs_going.specs.Moving.{IsMoving}
 use Rattle.hs_journal.specs.declared.entry.JournalEntry.{JournalEntry}
 use Rattle.hs_journal.specs.declared.entry.Who.TheVariants as who
 use Rattle.hs_journal.specs.Events.{client_op}
-use Rattle.hs_journal.specs.Order.{IsOfLine, IsOrdered}
+use Rattle.hs_journal.specs.Order.{IsOfLine}
 use Rattle.hs_journal.specs.Telling.{IsAnsweredBefore, IsFirstAbove}
 use Rattle.hs_laws.specs.Kept.{IsLevel}
-use Rattle.hs_laws.specs.Valid.{IsValid}
 use Rattle.hs_legal.specs.Telling.{told_so_far}
 use Rattle.hs_lines.proofs.LineLemmas.{first_next}
 use Rattle.hs_lines.specs.Script.{AreLines, IsNext, all_events}
@@ -189,7 +187,7 @@ module _ (S : Script) (r : Ran) (story : Story) (went : Went S r story) (none : 
     pub stands : IsRunning (start_at S r) (runs whole_machine (open_whole S.set story.found) (events_up_to story (suc count)))
     stands = running.goes_on (start_at S r) (open_whole S.set story.found) (events_up_to story (suc count)) (running.opens (start_at S r) story.found opens)
         (keep_front (start_at S r) first (events_up_to story (suc count)) (flat (drop (suc count) story.lines))
-            (subst (λ (es : Events). AllMayKeep (start_at S r) (MayRun (start_at S r)) first es) (sym (parted_events story (suc count))) may))
+        (subst (λ (es : Events). AllMayKeep (start_at S r) (MayRun (start_at S r)) first es) (sym (parted_events story (suc count))) may))
         going
 
     -- what the run answered behind it
@@ -337,11 +335,11 @@ module _ (S : Script) (r : Ran) (story : Story) (went : Went S r story) (none : 
                 by_line o says (inl h) = elim (cases_eq n (suc count)) [
                   | inl same ↦ (let both : None ≡ Some o = sym (ap (λ m. client_op (S.commands m)) same ∙ ap (λ (c : Option Command). client_op c) settle) ∙ says in cc both)
                   | inr apart ↦ (
-                    let p : Placed n = placed n (omega (arith, h, apart)) (subst (λ (q : Option Op). IsSome q) (sym says) refl) in
-                    let same : p.place ≡ j = answers.ordered.once p.place j n p.of its in
-                    let w = p.within in
-                    omega (arith, same, w)
-                    )
+                      let p : Placed n = placed n (omega (arith, h, apart)) (subst (λ (q : Option Op). IsSome q) (sym says) refl) in
+                      let same : p.place ≡ j = answers.ordered.once p.place j n p.of its in
+                      let w = p.within in
+                      omega (arith, same, w)
+                      )
                 ]
 
                 by_op : (o : Option Op) → client_op (S.commands n) ≡ o → client_op (S.commands n) ≡ None

@@ -1,12 +1,11 @@
 -- What is due next, and what is not.
-use Rattle.std.proofs.Common.{◌≡◌, ◌∙◌, ◌⊎◌, inl, inr, sym, ap, subst, ℕ, zero, suc, ◌+◌, ◌*◌, ◌<◌, ◌≤◌, ◌==◌, ◌&&◌, ◌||◌, ◌++◌, Bool, true, false, not, cond, List, [], ◌∷◌, Option, Some, None, refl, arith, tests, length, slice_get, slice_index_or, is_none, is_some, map, take, drop, filter_map}
+use Rattle.std.proofs.Common.{◌≡◌, ◌∙◌, inl, inr, sym, ap, subst, ℕ, zero, suc, ◌+◌, ◌*◌, ◌<◌, ◌≤◌, ◌==◌, ◌||◌, ◌++◌, Bool, true, false, not, List, [], ◌∷◌, Option, Some, None, refl, arith, tests, length, slice_get, slice_index_or, is_some, map, take, drop, filter_map}
 use Rattle.std.proofs.lemmas.Bool.{cases_eq}
 use Rattle.std.proofs.lemmas.List.FromFn.{get_or-map-range_with_len}
 use Rattle.std.specs.List.{AllByRecursion, range_with_len}
-use Rattle.std.specs.Map.{values_of}
 use Rattle.std.specs.Option.{option_map, option_map_or, option_or}
-use Rattle.std.specs.Prelude.{All, find, if◌then◌else◌}
-use Rattle.hs_core.specs.Looking.{first_job, group_of, lead_of, leads_of, oldest_message, open_work, shape_of, shards_of, status_of}
+use Rattle.std.specs.Prelude.{find, if◌then◌else◌}
+use Rattle.hs_core.specs.Looking.{first_job, group_of, lead_of, leads_of, oldest_message, open_work, shape_of, status_of}
 use Rattle.hs_core.specs.State.{Core}
 use Rattle.hs_desk.specs.declared.job.Job.{Job}
 use Rattle.hs_events.specs.Alone.{AreAlone, face, own}
@@ -21,9 +20,8 @@ use Rattle.hs_members.specs.Members.{all_peers, is_good_status, lead_by}
 use Rattle.hs_moments.proofs.AloneLemmas.{lead_by_alone}
 use Rattle.hs_post.specs.declared.message.Message.{Message}
 use Rattle.hs_post.specs.declared.message.Message.TheVariants as message
-use Rattle.hs_post.specs.Pool.{is_for, oldest_for}
+use Rattle.hs_post.specs.Pool.{is_for}
 use Rattle.hs_replica.specs.declared.replica.Replica.{Replica}
-use Rattle.hs_settled.proofs.LevelLemmas.{le_or}
 use Rattle.hs_settled.proofs.SaidLemmas.{all_front}
 use Rattle.hs_noted.proofs.NotingLemmas.{all_append}
 

@@ -1,5 +1,5 @@
 -- How a settle ends: nothing is due, and no operation and no entry is open.
-use Rattle.std.proofs.Common.{◌≡◌, ◌∙◌, sym, ap, subst, ℕ, zero, suc, ◌+◌, ◌<◌, ◌||◌, Bool, true, false, not, List, [], ◌∷◌, ◌++◌, Option, Some, None, refl, is_none}
+use Rattle.std.proofs.Common.{◌≡◌, ◌∙◌, sym, ap, subst, ℕ, ◌<◌, ◌||◌, Bool, true, false, not, List, [], ◌∷◌, Option, Some, None, refl, is_none}
 use Rattle.std.specs.Option.{option_and_then, option_map_or}
 use Rattle.std.specs.Prelude.{if◌then◌else◌, length}
 use Rattle.hs_core.specs.declared.event.Event.{Event}

@@ -1,5 +1,5 @@
 -- Shard 0 is never told to have entered an epoch by itself: a client's line asks for each of its Enters, and is told of it.
-use Rattle.std.proofs.Common.{◌≡◌, ◌∙◌, sym, ap, subst, ◌⊎◌, inl, inr, ℕ, zero, suc, ◌+◌, ◌<◌, ◌≤◌, ◌==◌, Bool, true, false, cond, List, [], ◌∷◌, ◌++◌, length, Option, Some, None, refl, arith, slice_get, is_some, append_assoc, append-nil, nat_lt}
+use Rattle.std.proofs.Common.{◌≡◌, ◌∙◌, sym, ap, subst, ℕ, zero, suc, ◌+◌, Bool, true, false, cond, List, [], ◌∷◌, ◌++◌, Option, Some, None, refl, arith, slice_get, is_some, append_assoc, nat_lt}
 use Rattle.std.proofs.lemmas.Bool.{ne_eqb}
 use Rattle.std.specs.BTreeMap.{is_at}
 use Rattle.std.specs.List.{AllByRecursion, list_all}
@@ -7,20 +7,19 @@ use Rattle.std.specs.Map.{lookup}
 use Rattle.std.specs.Ordering.{nat_cmp}
 use Rattle.std.specs.Prelude.{if◌then◌else◌, nat_le}
 use Rattle.hs_along.proofs.WalkLemmas.{walks_step}
-use Rattle.hs_along.specs.Changes.{IsBeside, IsIdle, tells_at_once, told_at_once}
-use Rattle.hs_along.specs.Walks.{HasRecordRoom, MayEvent, Walks}
+use Rattle.hs_along.specs.Changes.{IsBeside, tells_at_once, told_at_once}
+use Rattle.hs_along.specs.Walks.{MayEvent, Walks}
 use Rattle.hs_core.specs.Asking.{send_round}
 use Rattle.hs_core.specs.Changing.{add_operation, change_pool, note, refuse}
 use Rattle.hs_core.specs.declared.event.Event.{Event}
 use Rattle.hs_core.specs.declared.event.Event.TheVariants as event
 use Rattle.hs_core.specs.declared.wait.Wait.TheVariants as wait
 use Rattle.hs_core.specs.declared.waiting.Waiting.{Waiting}
-use Rattle.hs_core.specs.Delivering.{is_new_round}
 use Rattle.hs_core.specs.Effects.{note_enter, note_sweep, tell_enter, tell_operation}
 use Rattle.hs_core.specs.Entering.{is_enter_due}
 use Rattle.hs_core.specs.Looking.{catalogue_of, front_of, group_of, operation_of, shape_of}
 use Rattle.hs_core.specs.Opening.{Taken, new_core, open_core}
-use Rattle.hs_core.specs.Operating.{begin_line, busy_line, go_on_with, propose_entry, resume, take_step}
+use Rattle.hs_core.specs.Operating.{begin_line, busy_line, go_on_with, resume, take_step}
 use Rattle.hs_core.specs.Seeing.{pointers_for, view_for}
 use Rattle.hs_core.specs.State.{Core}
 use Rattle.hs_core.specs.Step.{step}
@@ -40,17 +39,14 @@ use Rattle.hs_events.specs.Course.{steps}
 use Rattle.hs_events.specs.Due.{Events}
 use Rattle.hs_events.specs.Found.{Found, first_core, opens_with}
 use Rattle.hs_events.specs.Whole.{Whole, open_whole, step_whole}
-use Rattle.hs_fold.specs.Shards.Sound.{most_records}
 use Rattle.hs_journal.specs.declared.entry.JournalEntry.{JournalEntry}
 use Rattle.hs_journal.specs.declared.entry.Who.TheVariants as who
 use Rattle.hs_legal.proofs.MuteLemmas.{Words, step_books, step_stays}
 use Rattle.hs_legal.proofs.OrderLemmas.{again_alike, orderly_again, orderly_beside, orderly_downed, orderly_due, orderly_effect, orderly_goes, orderly_line, orderly_refused, orderly_round, orderly_told}
 use Rattle.hs_legal.specs.Telling.{told_so_far}
 use Rattle.hs_limits.specs.declared.address.Address.{Address}
-use Rattle.hs_limits.specs.declared.delta.Delta.{Delta}
 use Rattle.hs_limits.specs.declared.limits.Limits.{Limits}
 use Rattle.hs_limits.specs.declared.shape.Shape.{Shape}
-use Rattle.hs_model.specs.declared.deed.Deed.{Deed}
 use Rattle.hs_model.specs.declared.deed.Deed.TheVariants as deed
 use Rattle.hs_model.specs.declared.op.Op.{Op}
 use Rattle.hs_model.specs.declared.reply.Reply.{Reply}
@@ -62,12 +58,11 @@ use Rattle.hs_ops.specs.declared.step.OpStep.TheVariants.{Answer, Compare, Propo
 use Rattle.hs_ops.specs.Operations.{Operation, bytes_step, effect_step, go_step, new_operation}
 use Rattle.hs_ops.specs.Speaking.{judging_shard}
 use Rattle.hs_ops.specs.Views.{OpView}
-use Rattle.hs_post.specs.declared.message.Message.TheVariants as message
-use Rattle.hs_post.specs.Pool.{message_at, without}
+use Rattle.hs_post.specs.Pool.{without}
 use Rattle.hs_replica.specs.Group.{Group, commit_front, committed}
 use Rattle.hs_rests.proofs.ListLemmas.{each_viewed}
 use Rattle.hs_settled.specs.Settled.{IsNoFirst}
-use Rattle.hs_settled.proofs.OwnLemmas.{AreCounted, NoneOwn, going_asks, own_begin, own_by, own_effect, own_go_on, own_propose, own_same, telling_asks}
+use Rattle.hs_settled.proofs.OwnLemmas.{AreCounted, NoneOwn, going_asks, own_begin, own_effect, own_go_on, own_propose, own_same, telling_asks}
 use Rattle.hs_shard.specs.declared.effect.Effect.{Effect}
 use Rattle.hs_shard.specs.Facts.{Catalogue}
 use Rattle.hs_standing.proofs.FirstLemmas.{KeepsFirst, first_held}

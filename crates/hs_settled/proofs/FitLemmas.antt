@@ -1,5 +1,5 @@
 -- What is known of a core of a run, for a settle.
-use Rattle.std.proofs.Common.{◌≡◌, ◌∙◌, sym, ap, subst, ℕ, zero, suc, ◌+◌, ◌*◌, ◌<◌, ◌≤◌, ◌++◌, Bool, true, false, List, [], ◌∷◌, Option, Some, None, refl, arith, length, slice_get, slice_index_or, map, cond}
+use Rattle.std.proofs.Common.{◌≡◌, ◌∙◌, sym, ap, subst, ℕ, zero, suc, ◌*◌, ◌<◌, Bool, true, false, List, [], ◌∷◌, Some, None, refl, arith, length, slice_get, slice_index_or}
 use Rattle.std.proofs.lemmas.List.Elements.{recursion_from_All}
 use Rattle.std.specs.BTreeMap.{is_at}
 use Rattle.std.specs.List.{AllByRecursion}
@@ -15,18 +15,15 @@ use Rattle.hs_events.specs.Whole.{Whole}
 use Rattle.hs_fold.specs.Lawful.{Deed}
 use Rattle.hs_fold.specs.Runs.Facts.{Catalogue as Folded}
 use Rattle.hs_fold.specs.Runs.Fits.{catalogue_at}
-use Rattle.hs_fold.specs.Shards.Setting.{Setting}
 use Rattle.hs_going.specs.Causes.{NothingWaits}
 use Rattle.hs_joint.proofs.HistoryLemmas.{shape_some}
 use Rattle.hs_limits.specs.declared.shape.Shape.{Shape}
 use Rattle.hs_memory.specs.Forget.{forget}
 use Rattle.hs_post.specs.declared.message.Message.{Message}
 use Rattle.hs_post.specs.declared.message.Message.TheVariants as message
-use Rattle.hs_post.specs.Pool.{message_at}
-use Rattle.hs_rounds.specs.declared.body.RoundBody.{RoundBody}
 use Rattle.hs_rounds.specs.declared.sending.SentRound.{SentRound}
 use Rattle.hs_sent.proofs.WasLemmas.{told_low}
-use Rattle.hs_sent.specs.Sent.{AreSent, IsOfSent}
+use Rattle.hs_sent.specs.Sent.{IsOfSent}
 use Rattle.hs_settled.proofs.ListLemmas.{all_at}
 use Rattle.hs_settled.proofs.WalkLemmas.{Fit, IsLow}
 use Rattle.hs_shard.specs.Facts.{Catalogue, empty_catalogue}

@@ -16,7 +16,7 @@ use Rattle.hs_model.specs.declared.command.Command.{Command}
 use Rattle.hs_model.specs.declared.deed.Deed.{Deed}
 use Rattle.hs_model.specs.declared.deed.Deed.TheVariants as deed
 use Rattle.hs_model.specs.Inner.{enter, may_enter, may_sweep, none_below}
-use Rattle.hs_model.specs.Run.{Event, IsAllowed, IsLegal, enters, run, step, sweeps}
+use Rattle.hs_model.specs.Run.{Event, IsLegal, enters, run, step, sweeps}
 use Rattle.hs_model.specs.Store.{Store}
 use Rattle.hs_settled.specs.Settled.{IsNoFirst}
 

@@ -1,5 +1,5 @@
 -- Fronts of lists, and the lines of a run up to one.
-use Rattle.std.proofs.Common.{◌≡◌, ◌∙◌, sym, ap, subst, ℕ, zero, suc, ◌+◌, ◌<◌, ◌≤◌, ◌++◌, List, [], ◌∷◌, Some, refl, arith, length, take, slice_get, append_assoc}
+use Rattle.std.proofs.Common.{◌≡◌, ap, subst, ℕ, zero, suc, ◌+◌, ◌<◌, ◌++◌, List, [], ◌∷◌, Some, refl, arith, length, take, slice_get}
 use Rattle.std.specs.List.{AllByRecursion}
 
 module _ {X : Type 0} where

@@ -1,26 +1,24 @@
 -- What a nudge and a delivery leave new to others.
-use Rattle.std.proofs.Common.{◌≡◌, ◌∙◌, ◌⊎◌, inl, inr, sym, ap, subst, ℕ, zero, suc, ◌+◌, ◌*◌, ◌<◌, ◌≤◌, ◌==◌, ◌&&◌, ◌++◌, Bool, true, false, not, List, [], ◌∷◌, Option, Some, None, refl, arith, tests, length, slice_get, slice_index_or, append-nil, length-append, is_none, is_some, map}
-use Rattle.std.proofs.lemmas.Bool.{cases_eq, cases_lt}
-use Rattle.std.specs.BTreeMap.{is_at}
+use Rattle.std.proofs.Common.{◌≡◌, ◌∙◌, ◌⊎◌, inl, inr, sym, ap, subst, ℕ, zero, suc, ◌+◌, ◌*◌, ◌<◌, ◌≤◌, ◌==◌, ◌&&◌, ◌++◌, Bool, true, false, not, List, [], ◌∷◌, Option, Some, None, refl, arith, tests, length, slice_get, length-append, is_none, map}
+use Rattle.std.proofs.lemmas.Bool.{cases_eq}
 use Rattle.std.specs.List.{flat_map, list_any, range_with_len}
 use Rattle.std.specs.Option.{option_and_then, option_map, option_map_or}
-use Rattle.std.specs.Ordering.{nat_cmp}
-use Rattle.std.specs.Prelude.{find, slice_set}
+use Rattle.std.specs.Prelude.{find}
 use Rattle.hs_along.proofs.BesideLemmas.{beside_catalogue, beside_without}
 use Rattle.hs_along.proofs.AloneLemmas.{is_a_round}
 use Rattle.hs_along.specs.Changes.{IsBeside}
 use Rattle.hs_core.specs.Asking.{deliver, nudge, nudge_good, send_round, send_rounds}
 use Rattle.hs_core.specs.Changing.{add_entry_tasks, change_group, change_pool, post}
-use Rattle.hs_core.specs.Delivering.{handle, is_got, is_new_round}
+use Rattle.hs_core.specs.Delivering.{is_got, is_new_round}
 use Rattle.hs_core.specs.Effects.{round_messages}
 use Rattle.hs_core.specs.Entering.{enters, has_begun, is_enter_due, propose_due}
-use Rattle.hs_core.specs.Looking.{catalogue_of, group_of, home, lead_of, shape_of, status_of}
+use Rattle.hs_core.specs.Looking.{catalogue_of, group_of, lead_of, shape_of}
 use Rattle.hs_core.specs.Operating.{propose_entry}
 use Rattle.hs_core.specs.State.{Core}
 use Rattle.hs_core.specs.Words.{change_if, change_with, ◌▸◌}
 use Rattle.hs_entry.specs.declared.entry.Entry.{Entry}
 use Rattle.hs_entry.specs.declared.entry.Entry.TheVariants as kind
-use Rattle.hs_events.specs.Alone.{AreAlone, IsAlone, face, own}
+use Rattle.hs_events.specs.Alone.{AreAlone, face, own}
 use Rattle.hs_fold.proofs.Shards.PlaceLemmas.{same-at}
 use Rattle.hs_effects.proofs.GroupLemmas.{group_changed}
 use Rattle.hs_limits.specs.declared.delta.Delta.{Delta}
@@ -30,14 +28,13 @@ use Rattle.hs_moments.proofs.AloneEventLemmas.{home_here}
 use Rattle.hs_moments.proofs.AloneLemmas.{lead_by_alone, resend_alone}
 use Rattle.hs_post.specs.declared.message.Message.{Message}
 use Rattle.hs_post.specs.declared.message.Message.TheVariants as message
-use Rattle.hs_post.specs.Pool.{Pool, message_at, without}
+use Rattle.hs_post.specs.Pool.{message_at, without}
 use Rattle.hs_replica.specs.declared.replica.Replica.{Replica}
 use Rattle.hs_replica.specs.Group.{Group, is_peer, last_number, new_group, proposal, propose, resend, send_all}
 use Rattle.hs_rounds.specs.declared.body.RoundBody.{RoundBody}
-use Rattle.hs_rounds.specs.declared.place.Place.{Place}
 use Rattle.hs_rounds.specs.declared.sending.SentRound.{SentRound}
 use Rattle.hs_rounds.specs.Rounds.{Run, body, is_round, outgoing, sent_back}
-use Rattle.hs_settled.proofs.ListLemmas.{at_within, get_back, get_front}
+use Rattle.hs_settled.proofs.ListLemmas.{at_within, get_back}
 use Rattle.hs_settled.proofs.PoolLemmas.{AreLow, SentAll, sent_all, taken_out}
 use Rattle.hs_shard.specs.declared.effect.Sent.{Sent}
 use Rattle.hs_shard.specs.Facts.{Catalogue}
@@ -283,9 +280,9 @@ module _ (p : ℕ) (c : Core) (shape : (catalogue_of p c).shape.shards ≡ (shap
             let short = flat_short (message_to s.epoch s.round run) 0 (catalogue_of p c).shape.shards (message_few s.epoch s.round run) in
             omega (arith, long, short, shape);
         has = λ kept at to low. (
-        let same : s ≡ kept = (let both : Some s ≡ Some kept = sym e ∙ at in cc both) in
-        subst (λ (k : SentRound). (j : ℕ) × ((total : ℕ) × ((deltas : List Delta) × (slice_get (sends s) j ≡ Some (message.Round p to k.epoch k.round total deltas))))) same (sends_has s back e to low)
-        );
+            let same : s ≡ kept = (let both : Some s ≡ Some kept = sym e ∙ at in cc both) in
+            subst (λ (k : SentRound). (j : ℕ) × ((total : ℕ) × ((deltas : List Delta) × (slice_get (sends s) j ≡ Some (message.Round p to k.epoch k.round total deltas))))) same (sends_has s back e to low)
+            );
       }
 
 -- ---- a nudge

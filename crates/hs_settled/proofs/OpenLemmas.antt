@@ -4,9 +4,9 @@ use Rattle.std.proofs.lemmas.Bool.{ne_eqb}
 use Rattle.std.proofs.Math.Nat.{le-max_left, le-max_right}
 use Rattle.std.proofs.lemmas.List.Elements.{All-from_get_or}
 use Rattle.std.specs.List.{list_any}
-use Rattle.std.specs.Prelude.{All, fold, max}
+use Rattle.std.specs.Prelude.{fold, max}
 use Rattle.hs_answered.specs.Standing.{IsFolded, forget_all, store_with}
-use Rattle.hs_core.specs.Looking.{open_work, shape_of, status_of, top_epoch}
+use Rattle.hs_core.specs.Looking.{shape_of, status_of, top_epoch}
 use Rattle.hs_core.specs.State.{Core}
 use Rattle.hs_fold.specs.Runs.Facts.{Catalogue as Folded}
 use Rattle.hs_fold.specs.Runs.Opened.{store_of}

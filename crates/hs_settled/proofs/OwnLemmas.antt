@@ -1,5 +1,5 @@
 -- No Enter that shard 0 proposes by itself ever waits.
-use Rattle.std.proofs.Common.{◌≡◌, ◌∙◌, sym, ap, subst, ◌⊎◌, inl, inr, ℕ, suc, ◌+◌, ◌≤◌, ◌<◌, Bool, true, false, cond, not, List, [], ◌∷◌, length, Option, Some, None, refl, arith, slice_get, slice_index}
+use Rattle.std.proofs.Common.{◌≡◌, ◌∙◌, sym, ap, subst, ◌⊎◌, inl, inr, ℕ, suc, ◌+◌, ◌≤◌, Bool, true, false, cond, not, List, [], length, Option, Some, None, refl, arith, slice_get, slice_index}
 use Rattle.std.specs.Option.{option_map_or}
 use Rattle.hs_along.specs.Changes.{tells_at_once, told_at_once}
 use Rattle.hs_core.specs.Changing.{add_entry_tasks, add_operation, change_group, note, post, put_operation}
@@ -154,6 +154,7 @@ module _ (v : OpView) (line : ℕ) (counted : 1 ≤ line) where
   from_asks stage.Waiting o = go_asks o
   from_asks (stage.Reading number) o = go_asks o
   from_asks stage.Logged o = go_asks o
+
 -- a step by what an operation sees proposes none
 abbrev pub StepsAsked : (OpView → Operation → OpStep) → Type 0
 StepsAsked next = (v : OpView) (operation : Operation) → 1 ≤ operation.line → ProposesAsked (next v operation)

@@ -1,5 +1,5 @@
 -- Messages that are sent into a pool with room, and one that is taken out.
-use Rattle.std.proofs.Common.{◌≡◌, ◌∙◌, ◌⊎◌, inl, inr, sym, ap, subst, ℕ, zero, suc, ◌+◌, ◌<◌, ◌≤◌, ◌++◌, Bool, true, false, List, [], ◌∷◌, Option, Some, None, refl, arith, tests, length, slice_get, append_assoc, append-nil, length-append, nat_le}
+use Rattle.std.proofs.Common.{◌≡◌, ◌∙◌, ◌⊎◌, inl, inr, sym, ap, subst, ℕ, zero, suc, ◌+◌, ◌<◌, ◌≤◌, ◌++◌, Bool, true, false, List, [], ◌∷◌, Some, refl, arith, tests, length, slice_get, length-append, nat_le}
 use Rattle.std.specs.BTreeMap.{insert_entry, is_at}
 use Rattle.std.specs.Cmp.{nat_cmp_is}
 use Rattle.std.specs.declared.cmp.Ordering.TheVariants.{Greater}
@@ -8,7 +8,7 @@ use Rattle.std.specs.Map.{lookup, remove_entry}
 use Rattle.std.specs.Ordering.{nat_cmp}
 use Rattle.hs_noted.proofs.NotingLemmas.{all_append, all_weaker}
 use Rattle.hs_post.specs.declared.message.Message.{Message}
-use Rattle.hs_post.specs.Pool.{Pool, is_full, send}
+use Rattle.hs_post.specs.Pool.{Pool, send}
 use Rattle.hs_replica.specs.Group.{send_all}
 use Rattle.hs_settled.proofs.ListLemmas.{get_back, get_front, at_within}
 

@@ -1,15 +1,13 @@
 -- A quiet core in whose lists nothing waits has swept the greatest epoch in each shard.
-use Rattle.std.proofs.Common.{◌≡◌, ◌∙◌, ◌⊎◌, inl, inr, sym, ap, subst, ℕ, zero, suc, ◌+◌, ◌<◌, ◌≤◌, ◌==◌, ◌&&◌, ◌||◌, Bool, true, false, cond, not, List, [], ◌∷◌, Option, Some, None, IsSome, refl, arith, tests, length, is_none, is_some, slice_get, slice_index, slice_index_or, nat_lt, map}
-use Rattle.std.proofs.lemmas.Bool.{and_parts, ne_eqb}
+use Rattle.std.proofs.Common.{◌≡◌, ◌∙◌, sym, ap, subst, ℕ, ◌+◌, ◌<◌, ◌≤◌, ◌==◌, ◌&&◌, ◌||◌, Bool, true, false, cond, not, List, [], ◌∷◌, Option, Some, None, IsSome, refl, arith, tests, length, is_none, slice_get, slice_index, slice_index_or}
+use Rattle.std.proofs.lemmas.Bool.{ne_eqb}
 use Rattle.std.specs.BTreeMap.{is_at}
 use Rattle.std.specs.List.{list_any}
-use Rattle.std.specs.Map.{lookup}
 use Rattle.std.specs.Option.{option_map_or}
-use Rattle.std.specs.Prelude.{fold, max}
-use Rattle.hs_answered.specs.Standing.{IsFolded, forget_all, store_with}
+use Rattle.hs_answered.specs.Standing.{store_with}
 use Rattle.hs_core.specs.Delivering.{is_got, is_new_round}
 use Rattle.hs_core.specs.Entering.{enters, has_begun, is_enter_due}
-use Rattle.hs_core.specs.Looking.{catalogue_of, group_of, shape_of, top_epoch}
+use Rattle.hs_core.specs.Looking.{catalogue_of, group_of, shape_of}
 use Rattle.hs_core.specs.State.{Core}
 use Rattle.hs_deletion.specs.History.{IsMade}
 use Rattle.hs_deletion.specs.Machine.{Layout, Machine}
@@ -36,11 +34,8 @@ use Rattle.hs_limits.specs.declared.address.Address.{Address}
 use Rattle.hs_limits.specs.declared.shape.Shape.{Shape}
 use Rattle.hs_memory.specs.Forget.{forget}
 use Rattle.hs_rounds.proofs.PlaceLemmas.{same_place}
-use Rattle.hs_rounds.specs.declared.body.RoundBody.{RoundBody}
 use Rattle.hs_rounds.specs.declared.place.Place.{Place}
-use Rattle.hs_rounds.specs.declared.sending.SentRound.{SentRound}
 use Rattle.hs_rounds.specs.Rounds.{GotList, body_at, place_cmp, told_by}
-use Rattle.hs_settled.proofs.OpenLemmas.{epochs_are, swept_are}
 use Rattle.hs_settled.proofs.RoundLemmas.{AreOpen, HaveCome, NoneBegun, history_open, no_run}
 use Rattle.hs_settled.specs.Quiet.{IsQuiet}
 use Rattle.hs_shard.specs.Facts.{Catalogue, empty_catalogue}

@@ -1,10 +1,10 @@
 -- Where no operation and no entry is open, and no shard is in a run, nothing is open.
-use Rattle.std.proofs.Common.{◌≡◌, ◌∙◌, ◌⊎◌, inl, inr, sym, ap, subst, ℕ, zero, suc, ◌+◌, ◌*◌, ◌<◌, ◌≤◌, ◌==◌, ◌||◌, Bool, true, false, not, List, [], ◌∷◌, refl, length, map, arith, tests, nat_lt, slice_index, slice_index_or}
+use Rattle.std.proofs.Common.{◌≡◌, ◌∙◌, ◌⊎◌, inl, inr, sym, ap, subst, ℕ, zero, suc, ◌+◌, ◌*◌, ◌<◌, ◌≤◌, ◌==◌, ◌||◌, Bool, false, not, List, [], ◌∷◌, refl, length, map, arith, tests, nat_lt, slice_index, slice_index_or}
 use Rattle.std.specs.List.{list_any, range_with_len}
 use Rattle.std.specs.Prelude.{fold, max}
 use Rattle.std.proofs.Math.Nat.{max-le}
-use Rattle.hs_answered.specs.Standing.{IsFolded, forget_all, store_with}
-use Rattle.hs_core.specs.Looking.{group_of, open_work, shape_of, status_of, top_epoch}
+use Rattle.hs_answered.specs.Standing.{IsFolded, store_with}
+use Rattle.hs_core.specs.Looking.{group_of, shape_of, status_of, top_epoch}
 use Rattle.hs_core.specs.State.{Core}
 use Rattle.hs_core.specs.declared.waiting.Waiting.{Waiting}
 use Rattle.hs_entry.specs.declared.entry.Entry.{Entry}
@@ -16,7 +16,6 @@ use Rattle.hs_joint.proofs.ListedLemmas.{epoch-at, epochs-length}
 use Rattle.hs_laws.proofs.EpochLemmas.{least_epoch-at}
 use Rattle.hs_laws.specs.Valid.{IsValid, least_epoch}
 use Rattle.hs_limits.specs.declared.limits.PeerStatus.{PeerStatus}
-use Rattle.hs_limits.specs.declared.limits.PeerStatus.TheVariants.{Good}
 use Rattle.hs_members.specs.Members.{all_peers, is_joining}
 use Rattle.hs_replica.specs.Group.{Group, new_group}
 use Rattle.hs_settled.proofs.LevelLemmas.{le_or}

@@ -1,8 +1,7 @@
 -- Where each round that is kept has come, and no Enter is due, no shard is in a run.
-use Rattle.std.proofs.Common.{◌≡◌, ◌∙◌, ◌⊎◌, inl, inr, sym, ap, subst, ℕ, zero, suc, ◌+◌, ◌-◌, ◌<◌, ◌≤◌, ◌==◌, ◌&&◌, ◌||◌, Bool, true, false, List, [], ◌∷◌, Option, Some, None, IsSome, refl, arith, tests, length, is_some, replicate, slice_get, nat_lt, cond}
+use Rattle.std.proofs.Common.{◌≡◌, ◌∙◌, ◌⊎◌, inl, inr, sym, ap, subst, ℕ, zero, suc, ◌+◌, ◌-◌, ◌<◌, ◌≤◌, ◌==◌, ◌&&◌, ◌||◌, Bool, true, false, List, [], ◌∷◌, Option, Some, None, IsSome, refl, arith, tests, is_some, replicate, slice_get, nat_lt, cond}
 use Rattle.std.specs.List.{list_all, range_with_len}
 use Rattle.std.specs.Prelude.{slice_set}
-use Rattle.hs_deletion.proofs.HistoryKeeps.{right_made}
 use Rattle.hs_deletion.proofs.LabelLemmas.{label_rises}
 use Rattle.hs_deletion.specs.Clocks.{AreClocksRight, IsIdle, IsRunning, label_of}
 use Rattle.hs_deletion.specs.Following.{IsFollowing}
@@ -19,7 +18,7 @@ use Rattle.hs_fold.specs.Runs.Fits.{catalogue_at}
 use Rattle.hs_fold.specs.Runs.History.{applied, follow, follow_all, no_entries}
 use Rattle.hs_fold.specs.Runs.Rounds.{advanced, enter_epoch, is_accepted, is_complete, is_due, is_running, log_got, may_enter}
 use Rattle.hs_fold.specs.Shards.Setting.{Setting, shard_in}
-use Rattle.hs_joint.specs.Joined.{AreJoined, IsOfRow, KeepsTheLast}
+use Rattle.hs_joint.specs.Joined.{AreJoined, IsOfRow}
 use Rattle.hs_joint.specs.Seen.{layout_of, seen}
 use Rattle.hs_rounds.specs.declared.body.RoundBody.{RoundBody}
 use Rattle.hs_rounds.specs.declared.place.Place.{Place}

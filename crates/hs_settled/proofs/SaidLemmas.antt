@@ -7,7 +7,6 @@ use Rattle.hs_core.specs.Effects.{round_messages}
 use Rattle.hs_core.specs.Looking.{catalogue_of, group_of}
 use Rattle.hs_core.specs.Operating.{propose_entry}
 use Rattle.hs_core.specs.State.{Core}
-use Rattle.hs_core.specs.Step.{step}
 use Rattle.hs_core.specs.Views.{begin_view, restart}
 use Rattle.hs_core.specs.Words.{change_with}
 use Rattle.hs_desk.specs.declared.fault.CoreFault.{CoreFault}

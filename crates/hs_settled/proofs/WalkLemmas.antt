@@ -1,6 +1,5 @@
 -- Along a settle: while nothing made progress since the first nudge, the peers that were nudged are quiet, or an entry waits.
-use Rattle.std.proofs.Common.{◌≡◌, ◌∙◌, ◌⊎◌, inl, inr, sym, ap, subst, ℕ, zero, suc, ◌+◌, ◌*◌, ◌<◌, ◌≤◌, ◌==◌, ◌&&◌, ◌||◌, Bool, true, false, not, cond, List, [], ◌∷◌, Option, Some, None, refl, arith, tests, length, slice_get, is_none, is_some, nat_le, nat_lt}
-use Rattle.std.proofs.lemmas.Bool.{and_from, ne_eqb}
+use Rattle.std.proofs.Common.{◌≡◌, ◌∙◌, ◌⊎◌, inl, inr, sym, ap, subst, ℕ, suc, ◌+◌, ◌*◌, ◌<◌, ◌≤◌, ◌==◌, ◌&&◌, ◌||◌, Bool, true, false, not, cond, List, [], ◌∷◌, Option, Some, None, refl, arith, tests, length, slice_get, nat_le, nat_lt}
 use Rattle.std.specs.BTreeMap.{is_at}
 use Rattle.std.specs.Map.{lookup}
 use Rattle.std.specs.Option.{option_map_or, option_or}
@@ -11,7 +10,7 @@ use Rattle.hs_core.specs.Asking.{deliver, no_peer, not_up, nudge_good, unless_re
 use Rattle.hs_core.specs.declared.event.Event.{Event}
 use Rattle.hs_core.specs.declared.event.Event.TheVariants as event
 use Rattle.hs_core.specs.Delivering.{is_new_round}
-use Rattle.hs_core.specs.Looking.{catalogue_of, group_of, shape_of}
+use Rattle.hs_core.specs.Looking.{catalogue_of, shape_of}
 use Rattle.hs_core.specs.State.{Core}
 use Rattle.hs_core.specs.Step.{do_event, end_event, keep_entries, line_of, refuse_entries, step}
 use Rattle.hs_core.specs.Words.{change_if}
@@ -19,7 +18,7 @@ use Rattle.hs_events.specs.Alone.{AreAlone, face}
 use Rattle.hs_events.specs.declared.due.Due.{Due}
 use Rattle.hs_events.specs.declared.due.Due.TheVariants.{Reporting, Handling, Nudging}
 use Rattle.hs_events.specs.declared.due.Place.{Place}
-use Rattle.hs_events.specs.Due.{due_by, is_answer, is_it, is_same_due, next_due, next_good, next_nudger, next_turn, place_after}
+use Rattle.hs_events.specs.Due.{is_answer, is_it, is_same_due, next_due, next_good, next_nudger, next_turn, place_after}
 use Rattle.hs_going.specs.Causes.{NothingWaits}
 use Rattle.hs_limits.specs.declared.delta.Delta.{Delta}
 use Rattle.hs_lines.proofs.DueLemmas.{IsPart, is_part, next_fits}
