@@ -1,5 +1,5 @@
 -- The laws by which a run keeps what is promised of it, as calls of them ensure them.
-use Rattle.std.specs.Prelude.{All, IfSome, None, Option, Some, [], length, true, ℕ, ◌++◌, ◌+◌, ◌<◌, ◌≡◌, ◌≤◌, Bool, List}
+use Rattle.std.specs.Prelude.{All, IfSome, None, Option, Some, [], true, ℕ, ◌++◌, ◌+◌, ◌<◌, ◌≡◌, ◌≤◌, Bool, List}
 use Rattle.hs_answers.specs.Answered.{KeepsRecordRoom}
 use Rattle.hs_causes.specs.Printing.{FailsInText, LeavesUnread}
 use Rattle.hs_clauses.specs.Asked.{start_of}

@@ -4,7 +4,7 @@ use Rattle.std.proofs.lemmas.Bool.{false≢true}
 use Rattle.std.specs.Prelude.{IfSome, IsSome}
 use Rattle.hs_causes.specs.Printing.{FailsInText, LeavesUnread}
 use Rattle.hs_clauses.proofs.ShownLemmas.{shown_of, unopened_of}
-use Rattle.hs_clauses.specs.Shown.{IsShown, IsToldRun, OnDisks, ShownAs}
+use Rattle.hs_clauses.specs.Shown.{IsToldRun, OnDisks, ShownAs}
 use Rattle.hs_desk.specs.declared.fault.CoreFault.{CoreFault}
 use Rattle.hs_ends.specs.Calm.{AreLed, whole_of}
 use Rattle.hs_ends.specs.Ending.{HasItsCause, TellsAsPromised}

@@ -1,9 +1,9 @@
-use Rattle.std.proofs.Common.{◌≡◌, sym, subst, ℕ, List, map, length}
+use Rattle.std.proofs.Common.{sym, subst, ℕ, List, map, length}
 use Rattle.std.specs.Prelude.{string_bytes}
 use Rattle.hs_held.specs.Held.{GivesAddresses}
 use Rattle.hs_limits.specs.declared.address.Address.{Address}
 use Rattle.hs_ports.specs.Objects.{Objects, handed}
-use Rattle.hs_promise.specs.Run.{Ran, Script, ran_of}
+use Rattle.hs_promise.specs.Run.{ran_of}
 use Rattle.hs_top.proofs.CalledLemmas.{called_of, handed_count}
 use Rattle.hs_top.proofs.LawLemmas.{Laws}
 use Rattle.hs_top.proofs.PromisedLemmas.{promised_of}
