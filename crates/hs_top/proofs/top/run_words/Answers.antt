@@ -32,6 +32,7 @@ returns g c =
       notes = c.each_note_has_its_cause.ensures.opened;
       notes_never = c.each_note_has_its_cause.ensures.never;
       stored = c.each_report_tells_its_block.ensures.wanted;
+      settles = c.each_settle_settles.ensures;
       valid = c.a_run_is_answered.ensures.valid;
       whole = c.a_full_journal_deletes_as_promised.ensures.went;
       whole_ended = c.a_full_journal_deletes_as_promised.ensures.ended;
