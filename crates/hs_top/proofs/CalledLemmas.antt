@@ -53,10 +53,13 @@ module _ (tells : Type 0) (name : List ℕ → Address) (words : List (List ℕ)
     runs = subst (λ (n : ℕ). IfSome (built_of words n) (λ wanted. (commands : ℕ → Option Command) × RunsSo tells (script_of name wanted commands) r)) (sym same)
         (if_there (λ (wanted : Wanted). (commands : ℕ → Option Command) × IsOfCluster tells (script_of name wanted commands) r)
         (λ (wanted : Wanted). (commands : ℕ → Option Command) × RunsSo tells (script_of name wanted commands) r) (built_of words disks) (built_of words disks) refl ran
-        (λ wanted built p. (p.0, record {
-          promised = promised (script_of name wanted p.0) refl (λ is. none_there (built_of words disks) wanted (only is) built) p.1;
-          machine = p.1;
-        })));
+        (λ wanted built p. (
+          p.0,
+          record {
+            promised = promised (script_of name wanted p.0) refl (λ is. none_there (built_of words disks) wanted (only is) built) p.1;
+            machine = p.1;
+          },
+        )));
     usage = λ none. usage (subst (λ (n : ℕ). built_of words n ≡ None) same none);
     only_usage = λ is. subst (λ (n : ℕ). built_of words n ≡ None) (sym same) (only is);
   }

@@ -1,5 +1,5 @@
 -- The laws by which a run keeps what is promised of it, as calls of them ensure them.
-use Rattle.std.specs.Prelude.{All, IfSome, None, Option, Some, [], length, true, ℕ, ◌++◌, ◌+◌, ◌<◌, ◌≡◌, ◌≤◌, Bool, List}
+use Rattle.std.specs.Prelude.{All, IfSome, None, Option, Some, [], true, ℕ, ◌++◌, ◌+◌, ◌<◌, ◌≡◌, ◌≤◌, Bool, List}
 use Rattle.hs_answers.specs.Answered.{KeepsRecordRoom}
 use Rattle.hs_causes.specs.Printing.{FailsInText, LeavesUnread}
 use Rattle.hs_clauses.specs.Asked.{start_of}
@@ -24,7 +24,7 @@ use Rattle.hs_ports.specs.Fault.{HasRisen}
 use Rattle.hs_ports.specs.Objects.{faults_at}
 use Rattle.hs_promise.specs.Answers.{Answers, BeganNothing, IsEntry}
 use Rattle.hs_promise.specs.Causes.{Cause, FullCause}
-use Rattle.hs_promise.specs.Completes.{EndsWell, HasPrompt, MayEndWell}
+use Rattle.hs_promise.specs.Completes.{EndsWell, HasPrompt, MayEndWell, SettlesEach}
 use Rattle.hs_promise.specs.declared.status.Status.TheVariants as status
 use Rattle.hs_promise.specs.Deletes.{Deletes}
 use Rattle.hs_promise.specs.Ends.{Ends}
@@ -77,6 +77,10 @@ pub record Laws : Type 0 where
       → ((first_core S.set story.found).ended ≡ None → (disk : ℕ) → DiskRose r (failures true disk (first_core S.set story.found) (all_events story) + loss_count story disk) disk) → NotesCause S r
   pub notes_never : (S : Script) (r : Ran) → NeverOpened r → ((disk : ℕ) → faults_at r.old.disk_faults disk ≤ faults_at r.new.disk_faults disk) → NotesCause S r
   pub stored : StoresBlocks
+  -- settles
+  pub settles : (S : Script) (r : Ran) (story : Story) → Went S r story → S.commands 0 ≡ None → RunOpens (start_of S r) story.found
+      → AllMayKeep (start_of S r) (MayRun (start_of S r)) (first_core S.set story.found) (all_events story) → Answers S (entry_store S r) r.journal
+      → SettlesEach S (entry_store S r) r
   -- ends
   pub valid : (S : Script) (r : Ran) → IsSoundAtEntry S r → IsValid (entry_store S r)
   pub whole : (S : Script) (r : Ran) (story : Story) → Went S r story → RunOpens (start_of S r) story.found

@@ -3,3 +3,4 @@ pub mod LawLemmas
 pub mod NoteLemmas
 pub mod PromisedLemmas
 pub mod RestLemmas
+pub mod SettleLemmas

@@ -4,7 +4,7 @@ use Rattle.std.proofs.lemmas.Bool.{false≢true}
 use Rattle.std.specs.Prelude.{IfSome, IsSome}
 use Rattle.hs_causes.specs.Printing.{FailsInText, LeavesUnread}
 use Rattle.hs_clauses.proofs.ShownLemmas.{shown_of, unopened_of}
-use Rattle.hs_clauses.specs.Shown.{IsShown, IsToldRun, OnDisks, ShownAs}
+use Rattle.hs_clauses.specs.Shown.{IsToldRun, OnDisks, ShownAs}
 use Rattle.hs_desk.specs.declared.fault.CoreFault.{CoreFault}
 use Rattle.hs_ends.specs.Calm.{AreLed, whole_of}
 use Rattle.hs_ends.specs.Ending.{HasItsCause, TellsAsPromised}
@@ -14,13 +14,14 @@ use Rattle.hs_journal.specs.Events.{client_op}
 use Rattle.hs_model.specs.declared.command.Command.{Command}
 use Rattle.hs_promise.specs.Answers.{Prints}
 use Rattle.hs_promise.specs.Causes.{Cause}
-use Rattle.hs_promise.specs.Completes.{EndsWell, MayEndWell}
+use Rattle.hs_promise.specs.Completes.{EndsWell, MayEndWell, SettlesEach}
 use Rattle.hs_promise.specs.declared.status.Status.TheVariants as status
 use Rattle.hs_promise.specs.Deletes.{Deletes}
 use Rattle.hs_promise.specs.Ends.{Ends}
 use Rattle.hs_promise.specs.Entry.{IsSoundAtEntry, entry_store, is_aside}
 use Rattle.hs_promise.specs.Lost.{NotesCause}
 use Rattle.hs_promise.specs.Machine.{WentAs}
+use Rattle.hs_promise.specs.Promise.{Clauses}
 use Rattle.hs_promise.specs.Run.{Ran, Script}
 use Rattle.hs_promise.specs.Story.{Story}
 use Rattle.hs_run.proofs.CaseLemmas.{if_told}
@@ -28,7 +29,8 @@ use Rattle.hs_run.specs.Machine.{HasItsEnd, HasReadDisks, IsOfCluster, IsUnopene
 use Rattle.hs_script.specs.Reading.{commands}
 use Rattle.hs_top.proofs.LawLemmas.{Laws}
 use Rattle.hs_top.proofs.NoteLemmas.{WhyAside, failed_by, never_aside, why_aside}
-use Rattle.hs_top.specs.Calls.{Promised, PromisedFromEntry, PromisedWhereTold}
+use Rattle.hs_top.proofs.SettleLemmas.{no_line, settles_none}
+use Rattle.hs_top.specs.Calls.{Promised, PromisedWhereTold}
 
 module _ (laws : Laws) (tells : Type 0) (S : Script) (r : Ran) (names : GivesAddresses S.set.name) (asked : r.ending ≡ status.Usage → ⊥) (cluster : IsOfCluster tells S r) where
   nobody : client_op (S.commands 0) ≡ None
@@ -98,6 +100,16 @@ module _ (laws : Laws) (tells : Type 0) (S : Script) (r : Ran) (names : GivesAdd
     notes_by (Some story) went read runs so sound =
         laws.notes S r story cluster.one went read.read (runs.lost told) (λ going. failed_by laws S r story on so sound going tells told runs)
 
+    -- ---- what each settle has done
+
+    settles_by : (how : Option Story) → WentAs S r how → ShownAs S r how → IsSoundAtEntry S r → SettlesEach S (entry_store S r) r
+    settles_by None went so sound = settles_none S (entry_store S r) r cluster.nobody went.line
+    settles_by (Some story) went so sound = go (first_core S.set story.found).ended refl
+      where
+        go : (o : Option CoreFault) → (first_core S.set story.found).ended ≡ o → SettlesEach S (entry_store S r) r
+        go None going = laws.settles S r story went cluster.nobody (laws.opens S r story on so sound going) (laws.stands S r story on so sound going) (laws.answers S r run sound)
+        go (Some fault) ended = settles_none S (entry_store S r) r cluster.nobody (no_line S r story fault went ended)
+
     -- ---- how a run without faults ends
 
     whole_by : (how : Option Story) → WentAs S r how → ShownAs S r how → IsSoundAtEntry S r → Deletes S (entry_store S r) (whole_of r)
@@ -137,12 +149,13 @@ module _ (laws : Laws) (tells : Type 0) (S : Script) (r : Ran) (names : GivesAdd
 
     -- ---- all of it
 
-    clauses : IsSoundAtEntry S r → PromisedFromEntry S r
+    clauses : IsSoundAtEntry S r → Clauses S r
     clauses sound = record {
       answers = laws.answers S r run sound;
       full = laws.full S r run sound;
       keeps = laws.keeps S r run sound;
       deletes = deletes_by cluster.how cluster.went shown sound;
+      settles = settles_by cluster.how cluster.went shown sound;
       ends = ends_by r.old.left r.new.left cluster.script cluster.served.ends cluster.served.left sound;
     }
 

@@ -4,15 +4,13 @@ use Rattle.hs_limits.specs.declared.address.Address.{Address}
 use Rattle.hs_model.specs.declared.command.Command.{Command}
 use Rattle.hs_ports.specs.Moments.{disk_at}
 use Rattle.hs_ports.specs.Objects.{CountsStand, KeepsTime}
-use Rattle.hs_promise.specs.Answers.{Answers, Prints}
-use Rattle.hs_promise.specs.Causes.{Cause, FullCause}
-use Rattle.hs_promise.specs.Completes.{EndsWell, HasPrompt, MayEndWell}
-use Rattle.hs_promise.specs.Deletes.{Deletes}
+use Rattle.hs_promise.specs.Answers.{Prints}
+use Rattle.hs_promise.specs.Causes.{Cause}
+use Rattle.hs_promise.specs.Completes.{HasPrompt}
 use Rattle.hs_promise.specs.Ends.{Ends}
 use Rattle.hs_promise.specs.Entry.{IsSoundAtEntry, MayStop, entry_store, is_aside}
-use Rattle.hs_promise.specs.Kept.{KeepsAlong}
 use Rattle.hs_promise.specs.Lost.{NotesCause}
-use Rattle.hs_promise.specs.Promise.{AreOfScript, IsUsage}
+use Rattle.hs_promise.specs.Promise.{AreOfScript, Clauses, IsUsage}
 use Rattle.hs_promise.specs.Run.{DiskRose, Ran, Script, script_of}
 use Rattle.hs_promise.specs.Stops.{Stops}
 use Rattle.hs_promise.specs.declared.status.Status.TheVariants as status
@@ -21,20 +19,12 @@ use Rattle.hs_run.specs.Served.{HasShapeCause}
 use Rattle.hs_run.specs.Words.{built_of}
 use Rattle.hs_side.specs.Current.{list_in}
 
--- ---- what is promised of a run: of `Promise` of hs_promise all but what `settle` has done, what disks keep of their past, and that another store's disk is
--- unwritten where memory was wanting
-
--- from the store at entry
-pub record PromisedFromEntry (S : Script) (r : Ran) : Type 0 where
-  pub answers : Answers S (entry_store S r) r.journal
-  pub full : FullCause S (entry_store S r) r
-  pub keeps : KeepsAlong S (entry_store S r) r
-  pub deletes : Deletes S (entry_store S r) r
-  pub ends : IfSome r.old.left (λ script. MayEndWell S script r → EndsWell S r)
+-- ---- what is promised of a run: of `Promise` of hs_promise all but what disks keep of their past, and that another store's disk is unwritten where memory was
+-- wanting
 
 -- over disks that tell their contents; a peer is set aside only where its disk failed, or has no log
 pub record PromisedWhereTold (S : Script) (r : Ran) : Type 0 where
-  pub clauses : IsSoundAtEntry S r → PromisedFromEntry S r
+  pub clauses : IsSoundAtEntry S r → Clauses S r
   pub stops : MayStop S r → Stops S (entry_store S r) r
   pub shape : HasShapeCause S r
   pub aside : (peer : ℕ) → peer < length r.old.disks → is_aside S r peer ≡ true → DiskRose r 1 peer ⊎ (list_in (disk_at r.old.disks peer).seen ≡ None)

@@ -18,6 +18,7 @@ use hs_ports::{Disk, Sink, Source, Watch};
 use hs_promise::Outcome;
 use hs_reads::each_report_tells_its_block;
 use hs_run::run_on_cluster;
+use hs_settled::each_settle_settles;
 use std::alloc::Global;
 use std::sync::Wait;
 use std::thread::Threads;
@@ -51,6 +52,7 @@ fn run_words<A: Addresser, S: Source, K: Sink, D: Disk>(
     a_run_keeps();
     a_run_may_stop();
     a_run_deletes_as_promised();
+    each_settle_settles();
     a_full_journal_deletes_as_promised();
     shard_0_is_led_by_lines();
     a_calm_run_ends_well();

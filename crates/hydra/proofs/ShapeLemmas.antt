@@ -52,6 +52,6 @@ no_run words n same none = go (wanted words) same none
     go (Some w) m h = shaped w n (w.shape.copies == 1) m (where_fit w (n == w.shape.shards * w.shape.copies) h)
 
 -- nor do those that are handed in
-pub no_run_on : {A B C : Type 0} {f : A → B × C} (words : List (List ℕ)) (disks : List A) → length disks ≡ peers_in words
+pub no_run_on : {A B C : Type 0} (f : A → B × C) (words : List (List ℕ)) (disks : List A) → length disks ≡ peers_in words
     → built_of words (length (map (λ (d : B × C). d.0) (map f disks))) ≡ None → shape_in words ≡ None
-no_run_on {A} {B} {C} {f} words disks same none = no_run words (length disks) same (subst (λ (n : ℕ). built_of words n ≡ None) (handed_count f disks) none)
+no_run_on {A} {B} {C} f words disks same none = no_run words (length disks) same (subst (λ (n : ℕ). built_of words n ≡ None) (handed_count f disks) none)

@@ -1,9 +1,9 @@
-use Rattle.std.proofs.Common.{◌≡◌, sym, subst, ℕ, List, map, length}
+use Rattle.std.proofs.Common.{sym, subst, ℕ, List, map, length}
 use Rattle.std.specs.Prelude.{string_bytes}
 use Rattle.hs_held.specs.Held.{GivesAddresses}
 use Rattle.hs_limits.specs.declared.address.Address.{Address}
 use Rattle.hs_ports.specs.Objects.{Objects, handed}
-use Rattle.hs_promise.specs.Run.{Ran, Script, ran_of}
+use Rattle.hs_promise.specs.Run.{ran_of}
 use Rattle.hs_top.proofs.CalledLemmas.{called_of, handed_count}
 use Rattle.hs_top.proofs.LawLemmas.{Laws}
 use Rattle.hs_top.proofs.PromisedLemmas.{promised_of}
@@ -32,6 +32,7 @@ returns g c =
       notes = c.each_note_has_its_cause.ensures.opened;
       notes_never = c.each_note_has_its_cause.ensures.never;
       stored = c.each_report_tells_its_block.ensures.wanted;
+      settles = c.each_settle_settles.ensures;
       valid = c.a_run_is_answered.ensures.valid;
       whole = c.a_full_journal_deletes_as_promised.ensures.went;
       whole_ended = c.a_full_journal_deletes_as_promised.ensures.ended;
