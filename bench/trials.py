@@ -1,16 +1,20 @@
 #!/usr/bin/env python3
-"""Tries a built hydra as a user would: later runs, kills at random instants of writes, roots, drops and deletions, and two
-runs at once.
+"""Tries a built hydra as a user would: later runs, kills at random instants of writes, roots, drops and deletions, kills of
+deletion runs over many blocks, and two runs at once.
 
 It makes and removes folders of its own, and ends with status 1 at the first thing that is wrong.
 """
 import argparse
 import os
 import random
+import shutil
 import subprocess
 import sys
 import tempfile
 import time
+from collections import Counter
+
+from trees import BLOCKS, giving_up, left_of, planting, reading as reading_all
 
 # How many trees a run that is killed writes, and how many are kept all the time.
 TREES = 12
@@ -172,7 +176,52 @@ def kills(program, top, shards, count, seed):
         if told[:5] != ["stat", "blocks", str(2 * STANDING), "roots", str(STANDING)]:
             wrong(f"after the deletions of run {number}: {answers[len(rest)]}")
     print(f"{count} runs over {shards} shards, {cut} of them killed on their way: {roots} roots and {drops} drops that were "
-          f"answered were found again, each kept tree was read back whole, and all other blocks went")
+          f"answered were found again, each kept tree was read back whole, and all other blocks went", flush=True)
+
+
+def place_of(answers, ended):
+    """How far two deletion runs came, by what was answered of the lines delete, settle, delete, settle."""
+    if ended:
+        return "behind both runs"
+    return ("before the first run", "in the first run", "in the second run")[(1 in answers) + (3 in answers)]
+
+
+def is_answered(answer, wanted):
+    """Whether an answer is the wanted one; a held handle may be of any epoch."""
+    return answer.startswith(wanted + " e") if wanted.startswith("held") else answer == wanted
+
+
+def deletion_kills(program, top, shards, blocks, count, seed):
+    chance = random.Random(seed)
+    # Trees come in pairs.
+    trees = blocks // BLOCKS // 2 * 2
+    planted, folder = os.path.join(top, "planted"), os.path.join(top, "deleting")
+    Store(program, planted, shards).run([*planting(trees), *giving_up(trees)])
+    store = Store(program, folder, shards)
+    deleting = ["delete", "settle", "delete", "settle"]
+    lines, wanted = reading_all(trees)
+    shutil.copytree(planted, folder)
+    seconds = store.run(deleting)[2]
+    places, again = Counter(), 0
+    for number in range(1, count + 1):
+        shutil.rmtree(folder)
+        shutil.copytree(planted, folder)
+        places[place_of(*store.killed(deleting, chance.uniform(0, seconds)))] += 1
+        if number % 3 == 0:
+            # The run that opens what was left is killed too.
+            again += not store.killed(["settle"], chance.uniform(0, seconds))[1]
+        answers = store.run(["settle", *lines])[0]
+        for line, text in wanted.items():
+            if not is_answered(answers.get(line + 1, ""), text):
+                wrong(f"after kill {number}: {lines[line - 1]}: {answers.get(line + 1)}, where {text} was wanted")
+        answers = store.run([*deleting, "stat"])[0]
+        told = answers[5].split()
+        if told[:5] != ["stat", "blocks", str(left_of(trees)), "roots", str(trees // 2)]:
+            wrong(f"after kill {number} and two deletions: {answers[5]}")
+    where = ", ".join(f"{number} {place}" for place, number in sorted(places.items()))
+    print(f"two deletion runs over {trees * BLOCKS} blocks in {shards} shards, of which {trees * BLOCKS - left_of(trees)} go: "
+          f"{count} kills ({where}), {again} of them killed once more as they opened: each opened and settled, each kept tree "
+          f"was read back whole, and two deletions left just the kept trees")
 
 
 def two_at_once(program, top, shards):
@@ -204,6 +253,8 @@ def main():
     words.add_argument("--folder", default=here, help="a folder on a real disk")
     words.add_argument("--shards", type=int, default=4)
     words.add_argument("--kills", type=int, default=200, help="how many runs are killed")
+    words.add_argument("--deletions", type=int, default=200, help="how many deletion runs are killed")
+    words.add_argument("--blocks", type=int, default=16_000, help="of the store whose deletion runs are killed")
     words.add_argument("--seed", type=int, default=int(time.time()))
     asked = words.parse_args()
     program = os.path.abspath(asked.program)
@@ -212,8 +263,12 @@ def main():
     print(f"seed {asked.seed}")
     with tempfile.TemporaryDirectory(dir=asked.folder) as top:
         later_run(program, top, asked.shards)
-        kills(program, top, asked.shards, asked.kills, asked.seed)
         two_at_once(program, top, asked.shards)
+        if asked.kills:
+            kills(program, top, asked.shards, asked.kills, asked.seed)
+        if asked.deletions:
+            deletion_kills(program, top, asked.shards, asked.blocks, asked.deletions, asked.seed)
 
 
-main()
+if __name__ == "__main__":
+    main()
