@@ -1,13 +1,13 @@
 -- What a call promises, from what is promised of a run and what hs_run says of it.
-use Rattle.std.proofs.Common.{◌≡◌, ◌∙◌, ap, sym, subst, refl, ℕ, zero, suc, ◌≤◌, ◌++◌, List, [], ◌∷◌, Option, None, length, map, take, drop, take_all, arith}
+use Rattle.std.proofs.Common.{◌≡◌, ◌∙◌, ap, sym, subst, refl, ℕ, zero, suc, ◌≤◌, ◌++◌, List, [], ◌∷◌, Option, Some, None, length, map, take, drop, take_all, arith}
+use Rattle.std.proofs.lemmas.Bool.{false≢true}
 use Rattle.std.proofs.lemmas.List.{length-map}
-use Rattle.std.specs.Prelude.{IfSome}
+use Rattle.std.specs.Prelude.{IfSome, is_some}
 use Rattle.hs_limits.specs.declared.address.Address.{Address}
 use Rattle.hs_model.specs.declared.command.Command.{Command}
 use Rattle.hs_promise.specs.declared.status.Status.TheVariants as status
 use Rattle.hs_promise.specs.Promise.{IsUsage}
 use Rattle.hs_promise.specs.Run.{Ran, Script, script_of}
-use Rattle.hs_run.proofs.CaseLemmas.{if_told}
 use Rattle.hs_run.specs.Machine.{IsOfCluster}
 use Rattle.hs_run.specs.Words.{built_of}
 use Rattle.hs_script.specs.CommandLine.{Wanted}
@@ -37,15 +37,29 @@ written_back {X} n new old same all =
 
 -- ---- a call
 
+-- of what is there, knowing what it is
+if_there : {T : Type 0} (P Q : T → Type 0) (whole o : Option T) → whole ≡ o → IfSome o P → ((x : T) → whole ≡ Some x → P x → Q x) → IfSome o Q
+if_there P Q whole None is h f = tt
+if_there P Q whole (Some x) is h f = f x is h
+
+none_there : {T : Type 0} (o : Option T) (x : T) → o ≡ None → o ≡ Some x → ⊥
+none_there {T} o x none there = false≢true (ap (λ (o : Option T). is_some o) (sym none ∙ there))
+
 module _ (tells : Type 0) (name : List ℕ → Address) (words : List (List ℕ)) (disks : ℕ) (r : Ran) (same : length r.old.disks ≡ disks) where
   pub called_of : (built_of words disks ≡ None → IsUsage r) → (r.ending ≡ status.Usage → built_of words disks ≡ None)
       → IfSome (built_of words disks) (λ wanted. (commands : ℕ → Option Command) × IsOfCluster tells (script_of name wanted commands) r)
-      → ((S : Script) → S.set.name ≡ name → IsOfCluster tells S r → Promised tells S r) → IsCalled tells name words r
+      → ((S : Script) → S.set.name ≡ name → (r.ending ≡ status.Usage → ⊥) → IsOfCluster tells S r → Promised tells S r) → IsCalled tells name words r
   called_of usage only ran promised = record {
     runs = subst (λ (n : ℕ). IfSome (built_of words n) (λ wanted. (commands : ℕ → Option Command) × RunsSo tells (script_of name wanted commands) r)) (sym same)
-        (if_told (λ (wanted : Wanted). (commands : ℕ → Option Command) × IsOfCluster tells (script_of name wanted commands) r)
-        (λ (wanted : Wanted). (commands : ℕ → Option Command) × RunsSo tells (script_of name wanted commands) r) (built_of words disks) ran
-        (λ wanted p. (p.0, record { promised = promised (script_of name wanted p.0) refl p.1; machine = p.1 })));
+        (if_there (λ (wanted : Wanted). (commands : ℕ → Option Command) × IsOfCluster tells (script_of name wanted commands) r)
+        (λ (wanted : Wanted). (commands : ℕ → Option Command) × RunsSo tells (script_of name wanted commands) r) (built_of words disks) (built_of words disks) refl ran
+        (λ wanted built p. (
+          p.0,
+          record {
+            promised = promised (script_of name wanted p.0) refl (λ is. none_there (built_of words disks) wanted (only is) built) p.1;
+            machine = p.1;
+          },
+        )));
     usage = λ none. usage (subst (λ (n : ℕ). built_of words n ≡ None) same none);
     only_usage = λ is. subst (λ (n : ℕ). built_of words n ≡ None) (sym same) (only is);
   }

@@ -1,11 +1,13 @@
 -- The laws by which a run keeps what is promised of it, as calls of them ensure them.
-use Rattle.std.specs.Prelude.{All, IfSome, None, Option, Some, [], length, true, ℕ, ◌++◌, ◌+◌, ◌<◌, ◌≡◌, ◌≤◌, Bool, List}
+use Rattle.std.specs.Prelude.{All, IfSome, None, Option, Some, [], true, ℕ, ◌++◌, ◌+◌, ◌<◌, ◌≡◌, ◌≤◌, Bool, List}
 use Rattle.hs_answers.specs.Answered.{KeepsRecordRoom}
 use Rattle.hs_causes.specs.Printing.{FailsInText, LeavesUnread}
 use Rattle.hs_clauses.specs.Asked.{start_of}
 use Rattle.hs_clauses.specs.Shown.{IsShown, IsToldRun, OnDisks}
 use Rattle.hs_cluster.specs.Kept.{AreStored, AreTold}
 use Rattle.hs_desk.specs.declared.fault.CoreFault.{CoreFault}
+use Rattle.hs_ends.specs.Calm.{AreLed, whole_of}
+use Rattle.hs_ends.specs.Ending.{HasItsCause, TellsAsPromised}
 use Rattle.hs_events.specs.Course.{steps}
 use Rattle.hs_events.specs.Due.{Events, MomentsRise, is_walk, next_due}
 use Rattle.hs_events.specs.Found.{Found, first_core}
@@ -14,6 +16,7 @@ use Rattle.hs_events.specs.Taken.{peer_count}
 use Rattle.hs_events.specs.Whole.{open_whole}
 use Rattle.hs_journal.specs.Events.{client_op}
 use Rattle.hs_journal.specs.Telling.{AreDated}
+use Rattle.hs_laws.specs.Valid.{IsValid}
 use Rattle.hs_limits.specs.Shape.{IsShape}
 use Rattle.hs_lines.specs.Script.{AreLines}
 use Rattle.hs_lines.specs.Script.{all_events as lines_events}
@@ -21,9 +24,10 @@ use Rattle.hs_ports.specs.Fault.{HasRisen}
 use Rattle.hs_ports.specs.Objects.{faults_at}
 use Rattle.hs_promise.specs.Answers.{Answers, BeganNothing, IsEntry}
 use Rattle.hs_promise.specs.Causes.{Cause, FullCause}
-use Rattle.hs_promise.specs.Completes.{HasPrompt}
+use Rattle.hs_promise.specs.Completes.{EndsWell, HasPrompt, MayEndWell}
 use Rattle.hs_promise.specs.declared.status.Status.TheVariants as status
 use Rattle.hs_promise.specs.Deletes.{Deletes}
+use Rattle.hs_promise.specs.Ends.{Ends}
 use Rattle.hs_promise.specs.Entry.{IsSoundAtEntry, MayStop, entry_store}
 use Rattle.hs_promise.specs.Found.{IsReadAs}
 use Rattle.hs_promise.specs.Kept.{KeepsAlong}
@@ -33,6 +37,7 @@ use Rattle.hs_promise.specs.Run.{DiskRose, Ran, Script}
 use Rattle.hs_promise.specs.Stops.{Stops}
 use Rattle.hs_promise.specs.Story.{Story, all_events}
 use Rattle.hs_reads.specs.Run.{script_of}
+use Rattle.hs_script.specs.Reading.{commands}
 use Rattle.hs_standing.specs.Run.{MayRun, RunOpens}
 use Rattle.hs_standing.specs.Standing.{AllMayKeep}
 use Rattle.hs_stops.specs.Start.{Start}
@@ -72,3 +77,17 @@ pub record Laws : Type 0 where
       → ((first_core S.set story.found).ended ≡ None → (disk : ℕ) → DiskRose r (failures true disk (first_core S.set story.found) (all_events story) + loss_count story disk) disk) → NotesCause S r
   pub notes_never : (S : Script) (r : Ran) → NeverOpened r → ((disk : ℕ) → faults_at r.old.disk_faults disk ≤ faults_at r.new.disk_faults disk) → NotesCause S r
   pub stored : StoresBlocks
+  -- ends
+  pub valid : (S : Script) (r : Ran) → IsSoundAtEntry S r → IsValid (entry_store S r)
+  pub whole : (S : Script) (r : Ran) (story : Story) → Went S r story → RunOpens (start_of S r) story.found
+      → AllMayKeep (start_of S r) (MayRun (start_of S r)) (first_core S.set story.found) (all_events story) → Deletes S (entry_store S r) (whole_of r)
+  pub whole_ended : (S : Script) (r : Ran) (story : Story) (fault : CoreFault) → Went S r story → (first_core S.set story.found).ended ≡ Some fault
+      → Deletes S (entry_store S r) (whole_of r)
+  pub whole_never : (S : Script) (r : Ran) → NeverOpened r → Deletes S (entry_store S r) (whole_of r)
+  pub led : (S : Script) (r : Ran) (story : Story) → Went S r story → RunOpens (start_of S r) story.found
+      → AllMayKeep (start_of S r) (MayRun (start_of S r)) (first_core S.set story.found) (all_events story) → AreLed (r.journal ++ r.refused)
+  pub led_ended : (S : Script) (r : Ran) (story : Story) (fault : CoreFault) → Went S r story → (first_core S.set story.found).ended ≡ Some fault
+      → AreLed (r.journal ++ r.refused)
+  pub led_never : (r : Ran) → NeverOpened r → AreLed (r.journal ++ r.refused)
+  pub ends_well : (S : Script) (r : Ran) (script left : List ℕ) → ((n : ℕ) → S.commands n ≡ commands script n) → HasItsCause S r → Ends r script left
+      → TellsAsPromised S r → MayEndWell S script r → EndsWell S r

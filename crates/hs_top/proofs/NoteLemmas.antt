@@ -1,5 +1,5 @@
 -- Why peers are set aside, and that the count of each disk rose by all failures that its reports tell.
-use Rattle.std.proofs.Common.{◌≡◌, ◌∙◌, ◌⊎◌, inl, inr, ap, sym, subst, ℕ, ◌+◌, ◌*◌, ◌<◌, ◌++◌, ◌&&◌, Bool, not, List, [], Option, Some, None, false, true, refl, length, arith}
+use Rattle.std.proofs.Common.{◌≡◌, ◌∙◌, ◌⊎◌, inl, inr, ap, sym, subst, ℕ, ◌+◌, ◌*◌, ◌<◌, ◌++◌, ◌&&◌, not, List, [], Option, Some, None, false, true, refl, length, arith}
 use Rattle.std.specs.Prelude.{IsSome, slice_index_or}
 use Rattle.hs_answers.specs.Answered.{KeepsRecordRoom}
 use Rattle.hs_clauses.proofs.LineLemmas.{flat_same, joined, opening_due}

@@ -1,16 +1,23 @@
 -- What is promised of a run, from what hs_run says of it and the laws.
-use Rattle.std.proofs.Common.{◌≡◌, ◌∙◌, ap, refl, true, ℕ, ◌<◌, Option, Some, None, length}
-use Rattle.std.specs.Prelude.{IfSome}
+use Rattle.std.proofs.Common.{◌≡◌, ◌∙◌, ap, refl, true, ℕ, ◌<◌, ◌++◌, List, Option, Some, None, length}
+use Rattle.std.proofs.lemmas.Bool.{false≢true}
+use Rattle.std.specs.Prelude.{IfSome, IsSome}
 use Rattle.hs_causes.specs.Printing.{FailsInText, LeavesUnread}
 use Rattle.hs_clauses.proofs.ShownLemmas.{shown_of, unopened_of}
-use Rattle.hs_clauses.specs.Shown.{IsShown, IsToldRun, OnDisks, ShownAs}
+use Rattle.hs_clauses.specs.Shown.{IsToldRun, OnDisks, ShownAs}
 use Rattle.hs_desk.specs.declared.fault.CoreFault.{CoreFault}
+use Rattle.hs_ends.specs.Calm.{AreLed, whole_of}
+use Rattle.hs_ends.specs.Ending.{HasItsCause, TellsAsPromised}
 use Rattle.hs_events.specs.Found.{first_core}
 use Rattle.hs_held.specs.Held.{GivesAddresses}
 use Rattle.hs_journal.specs.Events.{client_op}
 use Rattle.hs_model.specs.declared.command.Command.{Command}
 use Rattle.hs_promise.specs.Answers.{Prints}
+use Rattle.hs_promise.specs.Causes.{Cause}
+use Rattle.hs_promise.specs.Completes.{EndsWell, MayEndWell}
+use Rattle.hs_promise.specs.declared.status.Status.TheVariants as status
 use Rattle.hs_promise.specs.Deletes.{Deletes}
+use Rattle.hs_promise.specs.Ends.{Ends}
 use Rattle.hs_promise.specs.Entry.{IsSoundAtEntry, entry_store, is_aside}
 use Rattle.hs_promise.specs.Lost.{NotesCause}
 use Rattle.hs_promise.specs.Machine.{WentAs}
@@ -18,11 +25,12 @@ use Rattle.hs_promise.specs.Run.{Ran, Script}
 use Rattle.hs_promise.specs.Story.{Story}
 use Rattle.hs_run.proofs.CaseLemmas.{if_told}
 use Rattle.hs_run.specs.Machine.{HasItsEnd, HasReadDisks, IsOfCluster, IsUnopened, RunsOnDisks}
+use Rattle.hs_script.specs.Reading.{commands}
 use Rattle.hs_top.proofs.LawLemmas.{Laws}
 use Rattle.hs_top.proofs.NoteLemmas.{WhyAside, failed_by, never_aside, why_aside}
 use Rattle.hs_top.specs.Calls.{Promised, PromisedFromEntry, PromisedWhereTold}
 
-module _ (laws : Laws) (tells : Type 0) (S : Script) (r : Ran) (names : GivesAddresses S.set.name) (cluster : IsOfCluster tells S r) where
+module _ (laws : Laws) (tells : Type 0) (S : Script) (r : Ran) (names : GivesAddresses S.set.name) (asked : r.ending ≡ status.Usage → ⊥) (cluster : IsOfCluster tells S r) where
   nobody : client_op (S.commands 0) ≡ None
   nobody = ap (λ (c : Option Command). client_op c) cluster.nobody
 
@@ -54,6 +62,9 @@ module _ (laws : Laws) (tells : Type 0) (S : Script) (r : Ran) (names : GivesAdd
     in_time = cluster.served.prints.in_time;
   }
 
+  cause : Cause S r r.ending
+  cause = laws.cause S r cluster.how cluster.one cluster.went cluster.served.causes.read cluster.served.causes.write
+
   -- ---- what stands where the disks tell
 
   module _ (told : tells) where
@@ -78,14 +89,6 @@ module _ (laws : Laws) (tells : Type 0) (S : Script) (r : Ran) (names : GivesAdd
         go None going = laws.deletes S r story went (laws.opens S r story on so sound going) (laws.stands S r story on so sound going)
         go (Some fault) ended = laws.deletes_ended S r story fault went ended
 
-    clauses : IsSoundAtEntry S r → PromisedFromEntry S r
-    clauses sound = record {
-      answers = laws.answers S r run sound;
-      full = laws.full S r run sound;
-      keeps = laws.keeps S r run sound;
-      deletes = deletes_by cluster.how cluster.went shown sound;
-    }
-
     aside_by : (how : Option Story) → WentAs S r how → ShownAs S r how → (p : ℕ) → p < length r.old.disks → is_aside S r p ≡ true → WhyAside r p
     aside_by None went so p low is = never_aside S r went p is
     aside_by (Some story) went so p low is = why_aside S r story on so p low is
@@ -94,6 +97,54 @@ module _ (laws : Laws) (tells : Type 0) (S : Script) (r : Ran) (names : GivesAdd
     notes_by None went read runs so sound = laws.notes_never S r went cluster.served.counts.disks
     notes_by (Some story) went read runs so sound =
         laws.notes S r story cluster.one went read.read (runs.lost told) (λ going. failed_by laws S r story on so sound going tells told runs)
+
+    -- ---- how a run without faults ends
+
+    whole_by : (how : Option Story) → WentAs S r how → ShownAs S r how → IsSoundAtEntry S r → Deletes S (entry_store S r) (whole_of r)
+    whole_by None went so sound = laws.whole_never S r went
+    whole_by (Some story) went so sound = go (first_core S.set story.found).ended refl
+      where
+        go : (o : Option CoreFault) → (first_core S.set story.found).ended ≡ o → Deletes S (entry_store S r) (whole_of r)
+        go None going = laws.whole S r story went (laws.opens S r story on so sound going) (laws.stands S r story on so sound going)
+        go (Some fault) ended = laws.whole_ended S r story fault went ended
+
+    led_by : (how : Option Story) → WentAs S r how → ShownAs S r how → IsSoundAtEntry S r → AreLed (r.journal ++ r.refused)
+    led_by None went so sound = laws.led_never r went
+    led_by (Some story) went so sound = go (first_core S.set story.found).ended refl
+      where
+        go : (o : Option CoreFault) → (first_core S.set story.found).ended ≡ o → AreLed (r.journal ++ r.refused)
+        go None going = laws.led S r story went (laws.opens S r story on so sound going) (laws.stands S r story on so sound going)
+        go (Some fault) ended = laws.led_ended S r story fault went ended
+
+    its_cause : HasItsCause S r
+    its_cause = record { cause = cause; asked = asked; shape = (cluster.served.shape told).only }
+
+    tells_so : IsSoundAtEntry S r → TellsAsPromised S r
+    tells_so sound = record {
+      valid = laws.valid S r sound;
+      entries = laws.entries S r cluster.how cluster.went;
+      notes = notes_by cluster.how cluster.went (cluster.told told) cluster.runs shown sound;
+      full = laws.full S r run sound;
+      deletes = whole_by cluster.how cluster.went shown sound;
+      led = led_by cluster.how cluster.went shown sound;
+    }
+
+    ends_by : (old new : Option (List ℕ)) → IfSome old (λ script. (n : ℕ) → S.commands n ≡ commands script n) → IfSome old (λ script. IfSome new (Ends r script))
+        → (IsSome old → IsSome new) → IsSoundAtEntry S r → IfSome old (λ script. MayEndWell S script r → EndsWell S r)
+    ends_by None new reads ends left sound = tt
+    ends_by (Some script) None reads ends left sound = absurd (false≢true (left refl))
+    ends_by (Some script) (Some rest) reads ends left sound = λ may. laws.ends_well S r script rest reads its_cause ends (tells_so sound) may
+
+    -- ---- all of it
+
+    clauses : IsSoundAtEntry S r → PromisedFromEntry S r
+    clauses sound = record {
+      answers = laws.answers S r run sound;
+      full = laws.full S r run sound;
+      keeps = laws.keeps S r run sound;
+      deletes = deletes_by cluster.how cluster.went shown sound;
+      ends = ends_by r.old.left r.new.left cluster.script cluster.served.ends cluster.served.left sound;
+    }
 
     where_told : PromisedWhereTold S r
     where_told = record {
@@ -112,7 +163,7 @@ module _ (laws : Laws) (tells : Type 0) (S : Script) (r : Ran) (names : GivesAdd
     prompt = laws.prompt S r cluster.how nobody cluster.went in_text;
     time = cluster.served.time;
     counts = cluster.served.counts;
-    cause = laws.cause S r cluster.how cluster.one cluster.went cluster.served.causes.read cluster.served.causes.write;
+    cause = cause;
     ends = cluster.served.ends;
     told = where_told;
   }

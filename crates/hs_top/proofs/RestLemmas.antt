@@ -1,13 +1,12 @@
 -- On which disks a run may begin.
 use Rattle.std.proofs.Common.{◌≡◌, ◌∙◌, ap, sym, subst, ℕ, zero, suc, ◌+◌, Bool, true, false, List, [], ◌∷◌, length, take, drop, replicate, Option, Some, None, unwrap_or, refl, arith}
-use Rattle.std.specs.Prelude.{⊤, if◌then◌else◌, map}
+use Rattle.std.specs.Prelude.{⊤, if◌then◌else◌}
 use Rattle.hs_entry.specs.Entries.{rank_of}
 use Rattle.hs_events.specs.Taken.{or_blank, taken_lists}
 use Rattle.hs_fold.specs.Images.{image_at}
 use Rattle.hs_fold.specs.Opened.{chosen, chosen_each, outranks}
 use Rattle.hs_fold.specs.Shards.Images.{Image}
-use Rattle.hs_fold.specs.Shards.Setting.{Numbered, Setting}
-use Rattle.hs_model.specs.declared.command.Command.{Command}
+use Rattle.hs_fold.specs.Shards.Setting.{Numbered}
 use Rattle.hs_peerlog.proofs.ImageLemmas.{image-is, list-same}
 use Rattle.hs_ports.specs.declared.disk.Side.{Side}
 use Rattle.hs_ports.specs.Disk.{Standing, settled}

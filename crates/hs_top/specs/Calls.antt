@@ -6,7 +6,7 @@ use Rattle.hs_ports.specs.Moments.{disk_at}
 use Rattle.hs_ports.specs.Objects.{CountsStand, KeepsTime}
 use Rattle.hs_promise.specs.Answers.{Answers, Prints}
 use Rattle.hs_promise.specs.Causes.{Cause, FullCause}
-use Rattle.hs_promise.specs.Completes.{HasPrompt}
+use Rattle.hs_promise.specs.Completes.{EndsWell, HasPrompt, MayEndWell}
 use Rattle.hs_promise.specs.Deletes.{Deletes}
 use Rattle.hs_promise.specs.Ends.{Ends}
 use Rattle.hs_promise.specs.Entry.{IsSoundAtEntry, MayStop, entry_store, is_aside}
@@ -21,8 +21,8 @@ use Rattle.hs_run.specs.Served.{HasShapeCause}
 use Rattle.hs_run.specs.Words.{built_of}
 use Rattle.hs_side.specs.Current.{list_in}
 
--- ---- what is promised of a run: of `Promise` of hs_promise all but what `settle` has done, how a run without faults ends, what disks keep of their past, and that
--- another store's disk is unwritten where memory was wanting
+-- ---- what is promised of a run: of `Promise` of hs_promise all but what `settle` has done, what disks keep of their past, and that another store's disk is
+-- unwritten where memory was wanting
 
 -- from the store at entry
 pub record PromisedFromEntry (S : Script) (r : Ran) : Type 0 where
@@ -30,6 +30,7 @@ pub record PromisedFromEntry (S : Script) (r : Ran) : Type 0 where
   pub full : FullCause S (entry_store S r) r
   pub keeps : KeepsAlong S (entry_store S r) r
   pub deletes : Deletes S (entry_store S r) r
+  pub ends : IfSome r.old.left (λ script. MayEndWell S script r → EndsWell S r)
 
 -- over disks that tell their contents; a peer is set aside only where its disk failed, or has no log
 pub record PromisedWhereTold (S : Script) (r : Ran) : Type 0 where

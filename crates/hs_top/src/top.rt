@@ -13,6 +13,7 @@ use hs_causes::{
 };
 use hs_clauses::{a_run_is_answered, a_run_keeps, a_run_may_stop, a_run_stands};
 use hs_deletes::a_run_deletes_as_promised;
+use hs_ends::{a_calm_run_ends_well, a_full_journal_deletes_as_promised, shard_0_is_led_by_lines};
 use hs_ports::{Disk, Sink, Source, Watch};
 use hs_promise::Outcome;
 use hs_reads::each_report_tells_its_block;
@@ -50,6 +51,9 @@ fn run_words<A: Addresser, S: Source, K: Sink, D: Disk>(
     a_run_keeps();
     a_run_may_stop();
     a_run_deletes_as_promised();
+    a_full_journal_deletes_as_promised();
+    shard_0_is_led_by_lines();
+    a_calm_run_ends_well();
     run_on_cluster(alloc, words, naming, source, sink, disks, watch)
 }
 

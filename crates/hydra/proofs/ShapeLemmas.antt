@@ -1,10 +1,11 @@
 -- Words that name a shape are run on as many disks as it has peers.
-use Rattle.std.proofs.Common.{◌≡◌, ℕ, ◌*◌, ◌==◌, Bool, true, false, List, Option, Some, None, refl}
+use Rattle.std.proofs.Common.{◌≡◌, ℕ, ◌*◌, ◌==◌, Bool, true, false, List, Option, Some, None, length, map, refl, subst}
 use Rattle.std.proofs.lemmas.Bool.{eq-eqb}
 use Rattle.std.specs.Option.{option_and_then, option_map_or}
 use Rattle.std.specs.Prelude.{if◌then◌else◌}
 use Rattle.hs_run.specs.Words.{built_of}
 use Rattle.hs_script.specs.CommandLine.{Wanted, wanted}
+use Rattle.hs_top.proofs.CalledLemmas.{handed_count}
 use Rattle.hs_top.specs.Words.{shape_in}
 use Rattle.hydra.specs.CommandLine.{peers_in}
 
@@ -49,3 +50,8 @@ no_run words n same none = go (wanted words) same none
         → option_and_then (λ w. if w.shape.copies == 1 then Some w.shape else None) o ≡ None
     go None m h = refl
     go (Some w) m h = shaped w n (w.shape.copies == 1) m (where_fit w (n == w.shape.shards * w.shape.copies) h)
+
+-- nor do those that are handed in
+pub no_run_on : {A B C : Type 0} {f : A → B × C} (words : List (List ℕ)) (disks : List A) → length disks ≡ peers_in words
+    → built_of words (length (map (λ (d : B × C). d.0) (map f disks))) ≡ None → shape_in words ≡ None
+no_run_on {A} {B} {C} {f} words disks same none = no_run words (length disks) same (subst (λ (n : ℕ). built_of words n ≡ None) (handed_count f disks) none)

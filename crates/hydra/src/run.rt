@@ -148,13 +148,14 @@ pub fn disks_of<R: Files<File = File>>(
         IsTrue (list_any (λ disk. disk.is_taken) disks.items)
         → IsTrue (list_all (λ disk. disk.is_taken) disks.items)) }
 {
-    match (words, shape_of(words)) {
-        ([_, dir, ..], Some(shape)) => {
-            let made = fs::create_dir_all(rt, dir.as_str()).err();
+    match shape_of(words) {
+        Some(shape) => {
+            let dir = dir_of(words);
+            let made = fs::create_dir_all(rt, dir).err();
             let peers = usize::from(shape.shards) * usize::from(shape.copies);
-            open_disks(rt, alloc, dir.as_str(), made, peers)
+            open_disks(rt, alloc, dir, made, peers)
         }
-        _ => Ok(Vec::new(alloc)),
+        None => Ok(Vec::new(alloc)),
     }
 }
 

@@ -1,9 +1,9 @@
-use Rattle.std.proofs.Common.{◌≡◌, sym, subst, ℕ, List, map, length}
+use Rattle.std.proofs.Common.{sym, subst, ℕ, List, map, length}
 use Rattle.std.specs.Prelude.{string_bytes}
 use Rattle.hs_held.specs.Held.{GivesAddresses}
 use Rattle.hs_limits.specs.declared.address.Address.{Address}
 use Rattle.hs_ports.specs.Objects.{Objects, handed}
-use Rattle.hs_promise.specs.Run.{Ran, Script, ran_of}
+use Rattle.hs_promise.specs.Run.{ran_of}
 use Rattle.hs_top.proofs.CalledLemmas.{called_of, handed_count}
 use Rattle.hs_top.proofs.LawLemmas.{Laws}
 use Rattle.hs_top.proofs.PromisedLemmas.{promised_of}
@@ -32,11 +32,19 @@ returns g c =
       notes = c.each_note_has_its_cause.ensures.opened;
       notes_never = c.each_note_has_its_cause.ensures.never;
       stored = c.each_report_tells_its_block.ensures.wanted;
+      valid = c.a_run_is_answered.ensures.valid;
+      whole = c.a_full_journal_deletes_as_promised.ensures.went;
+      whole_ended = c.a_full_journal_deletes_as_promised.ensures.ended;
+      whole_never = c.a_full_journal_deletes_as_promised.ensures.never;
+      led = c.shard_0_is_led_by_lines.ensures.went;
+      led_ended = c.shard_0_is_led_by_lines.ensures.ended;
+      led_never = c.shard_0_is_led_by_lines.ensures.never;
+      ends_well = c.a_calm_run_ends_well.ensures;
     } in
     record {
       called = called_of g.D.Disk.tells name (map (λ word. string_bytes word) c.args.words.now) (length c.args.disks.now) (ran_of c.run_on_cluster.result old new)
           (handed_count (λ disk. (g.D.Disk.stands disk, g.D.Disk.faults disk)) c.args.disks.now)
           c.run_on_cluster.ensures.usage c.run_on_cluster.ensures.only_usage c.run_on_cluster.ensures.ran
-          (λ S same run. promised_of laws g.D.Disk.tells S (ran_of c.run_on_cluster.result old new)
-          (subst (λ (n : List ℕ → Address). GivesAddresses n) (sym same) (g.A.Addresser.sized c.args.naming.now)) run);
+          (λ S same asked run. promised_of laws g.D.Disk.tells S (ran_of c.run_on_cluster.result old new)
+          (subst (λ (n : List ℕ → Address). GivesAddresses n) (sym same) (g.A.Addresser.sized c.args.naming.now)) asked run);
     }
