@@ -1,19 +1,19 @@
 #!/usr/bin/env python3
 """Measures the deletion runs of a built hydra: their time, their entries and syncs, and writes while one is in progress.
 
-The folder lies on a file system in memory. It makes and removes folders of its own.
+Of several rounds the least time counts. The folder lies on a file system in memory. It makes and removes folders of its
+own.
 """
 import argparse
 import os
 import re
 import shutil
-import statistics
 import subprocess
 import sys
 import tempfile
 import time
 
-from lines import instructions, text_of, words
+from lines import instructions, processor_time, text_of, words
 from trees import BLOCKS, entries_of, giving_up, left_of, planting, settled, shard_of
 
 DELETE = ["delete", "settle"]
@@ -28,8 +28,8 @@ class Run:
         self.child = subprocess.Popen(before, stdin=subprocess.PIPE, stdout=subprocess.PIPE, text=True)
 
     def give(self, lines, last):
-        """The seconds until an answer to these lines holds the last text, and the answers."""
-        start = time.perf_counter()
+        """The seconds until an answer to these lines holds the last text, those of processor time, and the answers."""
+        start, used = time.perf_counter(), processor_time(self.child.pid)
         self.child.stdin.write("".join(line + "\n" for line in lines))
         self.child.stdin.flush()
         answers = []
@@ -37,7 +37,7 @@ class Run:
             answers.append(self.child.stdout.readline())
             if not answers[-1]:
                 sys.exit(f"the run ended with {self.child.wait()}, and {last} was wanted: {answers[-3:]}")
-        return time.perf_counter() - start, answers
+        return time.perf_counter() - start, processor_time(self.child.pid) - used, answers
 
     def end(self):
         self.child.communicate()
@@ -79,14 +79,17 @@ def deletions(program, top, planted, shards, trees, rounds):
     before = words(program, folder, shards)
     for number in range(2):
         epoch = number + 2
-        times, swept, syncs = [], 0, "not counted"
+        times, used, swept, syncs = [], [], 0, "not counted"
         for _ in range(rounds):
             copy(planted, folder)
             old = entries_of(folder)
             run = Run(before)
-            seconds, answers = run.give(DELETE, f"done e{epoch}")
+            # Opening is not counted.
+            run.give(["stat"], "stat blocks")
+            seconds, own, answers = run.give(DELETE, f"done e{epoch}")
             run.end()
             times.append(seconds)
+            used.append(own)
             swept = sum(int(answer.split()[-1]) for answer in answers if answer.startswith("- sweep"))
         kinds, count, size = changed(old, entries_of(folder))
         if swept != number * (trees * BLOCKS - left_of(trees)):
@@ -96,7 +99,8 @@ def deletions(program, top, planted, shards, trees, rounds):
             alone = traced(before, folder, ["stat"])
             copy(planted, folder)
             syncs = traced(before, folder, DELETE) - alone
-        print(f"  run {epoch} over {trees * BLOCKS} blocks removes {swept}: {statistics.median(times) * 1e3:.1f} ms; messages "
+        print(f"  run {epoch} over {trees * BLOCKS} blocks removes {swept}: {min(used) * 1e3:.1f} ms of "
+              f"processor time, {min(times) * 1e3:.1f} ms in all; messages "
               f"{kinds.get('Got', 0)}; entries {count} with the views ({kinds}), {size} bytes written; syncs behind opening "
               f"{syncs} for {count - kinds['View']} entries", flush=True)
         copy(planted, folder)
@@ -133,7 +137,7 @@ def beside(program, top, planted, shards, rounds, counts):
             old = entries_of(folder)
             number = len(first)
             lines = writing(shards, 0)
-            seconds, answers = run.give(lines, f"{number + len(lines) - 2} new")
+            seconds, answers = run.give(lines, f"{number + len(lines) - 2} new")[1:]
             work[name] = changed(old, entries_of(folder))
             run.end()
             if any(" new " not in answer for answer in answers):
@@ -148,8 +152,8 @@ def beside(program, top, planted, shards, rounds, counts):
                 copy(planted, folder)
                 ends.append(instructions(program, folder, shards, lines))
             numbers[name] = (ends[1] - ends[0]) / WRITES
-    rate = {name: 3 * WRITES / statistics.median(times[name]) for name in times}
-    told = f"  {WRITES} writes while a run is in progress: {rate['with']:.0f} lines a second, without one {rate['without']:.0f}, " \
+    rate = {name: 3 * WRITES / min(times[name]) for name in times}
+    told = f"  {WRITES} writes while a run is in progress: {rate['with']:.0f} lines a second of processor time, without one {rate['without']:.0f}, " \
            f"{rate['with'] / rate['without']:.2f} of it"
     if counts:
         told += f"; instructions a write {numbers['with']:,.0f} and {numbers['without']:,.0f}, " \

@@ -1,17 +1,17 @@
 #!/usr/bin/env python3
-"""Measures a built hydra at 1,000 and at 16,000 blocks: the time of a line, its instructions, and opening.
+"""Measures a built hydra at 1,000 and at 16,000 blocks: the processor time of a line, its instructions, and opening.
 
-The folder lies on a file system in memory, so that the disk takes no part. It makes and removes folders of its own.
+Of several rounds the least time counts. The folder lies on a file system in memory, so that the disk takes no part. It
+makes and removes folders of its own.
 """
 import argparse
 import os
 import re
+import resource
 import shutil
-import statistics
 import subprocess
 import sys
 import tempfile
-import time
 
 from trees import settled
 
@@ -23,32 +23,25 @@ PEAK = re.compile(r"VmHWM:\s+(\d+) kB")
 COUNTED = re.compile(r"I\s+refs:\s+([\d,]+)")
 
 
-def writes(start, end):
-    """Writes of 64 bytes, each with its settle, spread over sessions that are open."""
-    return settled(f"write s{number // HANDLES} {number.to_bytes(4, 'big').hex() * 16}" for number in range(start, end))
-
-
-def opens(blocks):
-    return [f"open s{number}" for number in range((blocks - 1) // HANDLES + 1)]
+def writes(session, start, end):
+    """Writes of 64 bytes, each with its settle."""
+    return settled(f"write {session} {number.to_bytes(4, 'big').hex() * 16}" for number in range(start, end))
 
 
 def stored(blocks):
-    return [*opens(blocks), *writes(0, blocks)]
+    lines = []
+    for start in range(0, blocks, HANDLES):
+        lines += [f"open s{start}", *writes(f"s{start}", start, min(start + HANDLES, blocks))]
+    return lines
 
 
-class Lines:
-    """What is measured: lines that a run answers where the store has so many blocks."""
-
-    def __init__(self, name, make):
-        self.name = name
-        self.make = make
-
-
+# What is measured in a store of so many blocks: its name, the lines before it, and its own lines.
 KINDS = (
-    Lines("a new write", lambda blocks: writes(blocks, blocks + PART)),
-    Lines("a write of a present block", lambda blocks: writes(blocks - PART, blocks)),
-    Lines("a read", lambda blocks: settled(f"read s0 h{number}" for number in range(PART))),
-    Lines("stat", lambda blocks: ["stat"] * PART),
+    ("a new write", lambda blocks: ["open a"], lambda blocks: writes("a", blocks, blocks + PART)),
+    ("a write of a present block", lambda blocks: ["open a"], lambda blocks: writes("a", blocks - PART, blocks)),
+    ("a read", lambda blocks: ["open a", *writes("a", blocks - PART, blocks)],
+     lambda blocks: settled(f"read a h{number}" for number in range(PART))),
+    ("stat", lambda blocks: ["open a"], lambda blocks: ["stat"] * PART),
 )
 
 
@@ -72,29 +65,46 @@ def run(before, lines):
     return done.stderr.decode(errors="replace")
 
 
-def timed(program, top, shards, blocks, lines):
-    """The seconds of these lines in a run that has written so many blocks before, and its greatest memory in kB."""
-    folder = os.path.join(top, "timed")
-    child = subprocess.Popen(words(program, folder, shards), stdin=subprocess.PIPE, stdout=subprocess.PIPE)
-    before = stored(blocks)
-    for at in range(0, len(before), 1000):
-        part = before[at : at + 1000]
+def copied(planted, folder):
+    shutil.rmtree(folder, ignore_errors=True)
+    shutil.copytree(planted, folder)
+    return folder
+
+
+def processor_time(process):
+    """The seconds for which the threads of a process had a processor: other work on the machine counts little there."""
+    spent = 0
+    for thread in os.listdir(f"/proc/{process}/task"):
+        with open(f"/proc/{process}/task/{thread}/schedstat", encoding="utf-8") as told:
+            spent += int(told.read().split()[0])
+    return spent / 1e9
+
+
+def children_time():
+    """The same of all runs that have ended."""
+    used = resource.getrusage(resource.RUSAGE_CHILDREN)
+    return used.ru_utime + used.ru_stime
+
+
+def timed(before, first, lines):
+    """The seconds of processor time of these lines behind the first ones, and the greatest memory of the run in kB."""
+    child = subprocess.Popen(before, stdin=subprocess.PIPE, stdout=subprocess.PIPE)
+
+    def give(part):
         child.stdin.write(text_of(part))
         child.stdin.flush()
         for _ in range(answered(part)):
             child.stdout.readline()
-    start = time.perf_counter()
-    child.stdin.write(text_of(lines))
-    child.stdin.flush()
-    for _ in range(answered(lines)):
-        child.stdout.readline()
-    seconds = time.perf_counter() - start
+
+    give(first)
+    start = processor_time(child.pid)
+    give(lines)
+    seconds = processor_time(child.pid) - start
     with open(f"/proc/{child.pid}/status", encoding="utf-8") as status:
         peak = int(PEAK.search(status.read()).group(1))
     child.communicate()
     if child.returncode != 0:
-        sys.exit(f"{program} ended with {child.returncode}")
-    shutil.rmtree(folder)
+        sys.exit(f"{before} ended with {child.returncode}")
     return seconds, peak
 
 
@@ -106,25 +116,23 @@ def instructions(program, folder, shards, lines):
 
 
 def line(program, top, shards, rounds, counts):
-    most = 0
-    for kind in KINDS:
+    most, run_in = 0, os.path.join(top, "run")
+    for blocks in (FEW, MANY):
+        run(words(program, os.path.join(top, f"stored{blocks}"), shards), stored(blocks))
+    for name, before, make in KINDS:
         times, numbers = [], []
         for blocks in (FEW, MANY):
-            lines = kind.make(blocks)
-            runs = [timed(program, top, shards, blocks, lines) for _ in range(rounds)]
-            times.append(statistics.median(seconds for seconds, _ in runs) / PART)
+            planted, first, lines = os.path.join(top, f"stored{blocks}"), before(blocks), make(blocks)
+            runs = [timed(words(program, copied(planted, run_in), shards), first, lines) for _ in range(rounds)]
+            times.append(min(seconds for seconds, _ in runs) / PART)
             most = max(most, *(peak for _, peak in runs))
             if counts:
-                without, whole = (
-                    instructions(program, os.path.join(top, name), shards, [*stored(blocks), *more])
-                    for name, more in (("without", []), ("whole", lines)))
+                without, whole = (instructions(program, copied(planted, run_in), shards, part) for part in (first, first + lines))
                 numbers.append((whole - without) / PART)
-                shutil.rmtree(os.path.join(top, "without"))
-                shutil.rmtree(os.path.join(top, "whole"))
         told = f"{times[0] * 1e6:.1f} us and {times[1] * 1e6:.1f} us, {times[1] / times[0]:.2f} of it"
         if counts:
             told += f"; {numbers[0]:,.0f} and {numbers[1]:,.0f} instructions, {numbers[1] / numbers[0]:.2f} of it"
-        print(f"{kind.name} at {FEW} and at {MANY} blocks: {told}", flush=True)
+        print(f"{name} at {FEW} and at {MANY} blocks: {told}", flush=True)
     print(f"greatest memory of a run: {most / 1024:.0f} MiB")
 
 
@@ -135,17 +143,17 @@ def opening(program, top, shards, rounds, counts):
         run(words(program, folder, shards), stored(blocks) if blocks else ["stat"])
         times = []
         for _ in range(rounds):
-            start = time.perf_counter()
+            start = children_time()
             run(words(program, folder, shards), ["stat"])
-            times.append(time.perf_counter() - start)
+            times.append(children_time() - start)
         number = instructions(program, folder, shards, ["stat"]) if counts else None
-        seen.append((blocks, statistics.median(times), number))
+        seen.append((blocks, min(times), number))
+    print(f"opening none: {seen[0][1] * 1e3:.1f} ms")
     for blocks, seconds, number in seen[1:]:
         told = f"{seconds * 1e3:.1f} ms, of a block {(seconds - seen[0][1]) / blocks * 1e6:.2f} us"
         if counts:
             told += f"; {number:,} instructions, of a block {(number - seen[0][2]) / blocks:,.0f}"
-        print(f"opening {blocks} blocks: {told}")
-    print(f"opening none: {seen[0][1] * 1e3:.1f} ms")
+        print(f"opening {blocks} blocks: {told}", flush=True)
 
 
 def main():

@@ -44,12 +44,14 @@ class Store:
             wrong(f"status {child.returncode}: {errors}{out}")
         return answers_of(out), out, seconds
 
-    def killed(self, lines, seconds):
-        """A run that is killed after so long: what it answered until then, and whether it had ended."""
+    def killed(self, lines, seconds, behind=0):
+        """A run that is killed so long after so many printed lines: what it answered until then, and whether it had ended."""
         with tempfile.TemporaryFile(mode="w+") as given, tempfile.TemporaryFile(mode="w+") as out:
             given.write("".join(line + "\n" for line in lines))
             given.seek(0)
             child = subprocess.Popen(self.words, stdin=given, stdout=out, stderr=subprocess.PIPE)
+            while behind > 0 and child.poll() is None and os.pread(out.fileno(), 65536, 0).count(b"\n") < behind:
+                time.sleep(0.0002)
             time.sleep(seconds)
             child.kill()
             child.communicate()
@@ -152,8 +154,9 @@ def kills(program, top, shards, count, seed):
     store.run(first)
     # A whole run takes about so long.
     seconds = Store(program, os.path.join(top, "whole"), shards).run(writing([Tree(n) for n in range(TREES)])[0])[2]
-    cut = roots = drops = 0
-    for number in range(1, count + 1):
+    number = cut = roots = drops = 0
+    while cut < count:
+        number += 1
         trees = [Tree(number * 1000 + place) for place in range(TREES)]
         lines, asks = writing(trees)
         answers, ended = store.killed(lines, chance.uniform(0, seconds))
@@ -175,14 +178,14 @@ def kills(program, top, shards, count, seed):
         told = answers[len(rest)].split()
         if told[:5] != ["stat", "blocks", str(2 * STANDING), "roots", str(STANDING)]:
             wrong(f"after the deletions of run {number}: {answers[len(rest)]}")
-    print(f"{count} runs over {shards} shards, {cut} of them killed on their way: {roots} roots and {drops} drops that were "
+    print(f"{number} runs over {shards} shards, {cut} of them killed on their way: {roots} roots and {drops} drops that were "
           f"answered were found again, each kept tree was read back whole, and all other blocks went", flush=True)
 
 
 def place_of(answers, ended):
-    """How far two deletion runs came, by what was answered of the lines delete, settle, delete, settle."""
+    """How far two deletion runs came, by what was answered of the lines delete, settle, delete, settle; None where both ended."""
     if ended:
-        return "behind both runs"
+        return None
     return ("before the first run", "in the first run", "in the second run")[(1 in answers) + (3 in answers)]
 
 
@@ -201,12 +204,20 @@ def deletion_kills(program, top, shards, blocks, count, seed):
     deleting = ["delete", "settle", "delete", "settle"]
     lines, wanted = reading_all(trees)
     shutil.copytree(planted, folder)
-    seconds = store.run(deleting)[2]
-    places, again = Counter(), 0
-    for number in range(1, count + 1):
+    # Most of a run is opening: so most kills wait for some of what the deletion runs print, and a random time.
+    opening = store.run(["stat"])[2]
+    _, out, seconds = store.run(deleting)
+    part = max(seconds - opening, 0) / 4
+    places, number, again = Counter(), 0, 0
+    while sum(places.values()) < count:
+        number += 1
         shutil.rmtree(folder)
         shutil.copytree(planted, folder)
-        places[place_of(*store.killed(deleting, chance.uniform(0, seconds)))] += 1
+        behind = chance.randrange(out.count("\n"))
+        place = place_of(*store.killed(deleting, chance.uniform(0, part if behind else seconds), behind))
+        if place is None:
+            continue
+        places[place] += 1
         if number % 3 == 0:
             # The run that opens what was left is killed too.
             again += not store.killed(["settle"], chance.uniform(0, seconds))[1]
@@ -218,6 +229,8 @@ def deletion_kills(program, top, shards, blocks, count, seed):
         told = answers[5].split()
         if told[:5] != ["stat", "blocks", str(left_of(trees)), "roots", str(trees // 2)]:
             wrong(f"after kill {number} and two deletions: {answers[5]}")
+        if sum(places.values()) % 10 == 0:
+            print(f"{dict(places)}, {again} killed again", file=sys.stderr, flush=True)
     where = ", ".join(f"{number} {place}" for place, number in sorted(places.items()))
     print(f"two deletion runs over {trees * BLOCKS} blocks in {shards} shards, of which {trees * BLOCKS - left_of(trees)} go: "
           f"{count} kills ({where}), {again} of them killed once more as they opened: each opened and settled, each kept tree "
@@ -252,7 +265,7 @@ def main():
     words.add_argument("--program", default=os.path.join(here, "..", "crates", "hydra", "out", "hydra"))
     words.add_argument("--folder", default=here, help="a folder on a real disk")
     words.add_argument("--shards", type=int, default=4)
-    words.add_argument("--kills", type=int, default=200, help="how many runs are killed")
+    words.add_argument("--kills", type=int, default=200, help="how many runs are killed on their way")
     words.add_argument("--deletions", type=int, default=200, help="how many deletion runs are killed")
     words.add_argument("--blocks", type=int, default=16_000, help="of the store whose deletion runs are killed")
     words.add_argument("--seed", type=int, default=int(time.time()))
