@@ -14,11 +14,12 @@ import tempfile
 import time
 from collections import Counter
 
-from trees import BLOCKS, giving_up, left_of, planting, reading as reading_all
+from trees import BLOCKS, entries_of, giving_up, left_of, planting, reading as reading_all
 
 # How many trees a run that is killed writes, and how many are kept all the time.
 TREES = 12
 STANDING = 6
+DISK_CALLS = ("pwrite64", "fsync")
 
 
 def wrong(text):
@@ -57,6 +58,23 @@ class Store:
             child.communicate()
             out.seek(0)
             return answers_of(out.read()), child.returncode == 0
+
+
+    def calls(self, lines):
+        """How many calls of the disk a run makes, by their names."""
+        with tempfile.NamedTemporaryFile(mode="r") as told:
+            tool = ["strace", "-f", "-c", "-o", told.name, "-e", "trace=" + ",".join(DISK_CALLS)]
+            subprocess.run([*tool, *self.words], input="".join(line + "\n" for line in lines), text=True,
+                           stdout=subprocess.DEVNULL, check=True)
+            rows = [row.split() for row in told.read().splitlines()]
+        return {row[-1]: int(row[3]) for row in rows if row and row[-1] in DISK_CALLS}
+
+    def killed_at(self, lines, call, number):
+        """A run that is killed at so many a call of the disk of this name: what it answered until then."""
+        tool = ["strace", "-f", "-qq", "-o", os.devnull, "-e", f"trace={call}", "-e", f"inject={call}:signal=KILL:when={number}"]
+        done = subprocess.run([*tool, *self.words], input="".join(line + "\n" for line in lines), text=True,
+                              stdout=subprocess.PIPE, stderr=subprocess.DEVNULL, check=False)
+        return answers_of(done.stdout), done.returncode == 0
 
 
 def answers_of(out):
@@ -170,7 +188,8 @@ def kills(program, top, shards, count, seed):
             check(answers, places[tree.key], tree, True)
         for tree in trees:
             check(answers, places[tree.key], tree, state.get(tree.key, False))
-        seconds = max(seconds, last / 2)
+        # As fast as the machine is now.
+        seconds = (seconds + last / 2) / 2
         # All of the run is given up, and its space comes back.
         rest = [line for tree in trees for line in (f"drop {tree.key}", "settle")]
         rest += ["delete", "settle", "delete", "settle", "stat"]
@@ -182,11 +201,12 @@ def kills(program, top, shards, count, seed):
           f"answered were found again, each kept tree was read back whole, and all other blocks went", flush=True)
 
 
-def place_of(answers, ended):
-    """How far two deletion runs came, by what was answered of the lines delete, settle, delete, settle; None where both ended."""
-    if ended:
-        return None
-    return ("before the first run", "in the first run", "in the second run")[(1 in answers) + (3 in answers)]
+def place_of(folder, shards):
+    """How far two deletion runs came, by the Enters in the logs."""
+    enters = entries_of(folder)["Enter"][0]
+    if enters == 0:
+        return "before the first run"
+    return "from the first run on" if enters <= shards else "in the second run"
 
 
 def is_answered(answer, wanted):
@@ -204,20 +224,32 @@ def deletion_kills(program, top, shards, blocks, count, seed):
     deleting = ["delete", "settle", "delete", "settle"]
     lines, wanted = reading_all(trees)
     shutil.copytree(planted, folder)
-    # Most of a run is opening: so most kills wait for some of what the deletion runs print, and a random time.
+    # Much of a run is opening.
     opening = store.run(["stat"])[2]
-    _, out, seconds = store.run(deleting)
+    seconds = store.run(deleting)[2]
     part = max(seconds - opening, 0) / 4
+    before, calls = {}, {}
+    if shutil.which("strace"):
+        # Each second kill is at a random call of the disk behind opening.
+        for lines_of, told in ((["stat"], before), (deleting, calls)):
+            shutil.rmtree(folder)
+            shutil.copytree(planted, folder)
+            told.update(store.calls(lines_of))
     places, number, again = Counter(), 0, 0
     while sum(places.values()) < count:
         number += 1
         shutil.rmtree(folder)
         shutil.copytree(planted, folder)
-        behind = chance.randrange(out.count("\n"))
-        place = place_of(*store.killed(deleting, chance.uniform(0, part if behind else seconds), behind))
-        if place is None:
+        if calls and number % 2:
+            call = chance.choice(DISK_CALLS)
+            ended = store.killed_at(deleting, call, chance.randint(before[call] + 1, calls[call]))[1]
+        else:
+            # What a settle did is printed behind it: the first printed line says that the first run has ended.
+            behind = chance.choice((0, 1))
+            ended = store.killed(deleting, chance.uniform(0, part if behind else seconds), behind)[1]
+        if ended:
             continue
-        places[place] += 1
+        places[place_of(folder, shards)] += 1
         if number % 3 == 0:
             # The run that opens what was left is killed too.
             again += not store.killed(["settle"], chance.uniform(0, seconds))[1]
