@@ -1,77 +1,179 @@
 #!/usr/bin/env python3
-"""Measures a built hydra over a long script: seconds a line early and at its end, and the greatest memory.
+"""Measures a built hydra at 1,000 and at 16,000 blocks: the processor time of a line, its instructions, and opening.
 
-The folder lies on a file system in memory, so that the disk takes no part. It makes and removes folders of its own.
+Of several rounds the least time counts. The folder lies on a file system in memory, so that the disk takes no part. It
+makes and removes folders of its own.
 """
 import argparse
 import os
+import re
 import resource
-import statistics
+import shutil
 import subprocess
 import sys
 import tempfile
-import time
 
-# As many blocks, sessions and handles as the program's own limits allow.
-BLOCKS = 16384
-SESSIONS = 64
+from trees import settled
+
+# As many handles as a session holds.
 HANDLES = 4096
+FEW, MANY, PART = 1000, 16_000, 300
+SIZES = (4000, 8000, 16_000)
+PEAK = re.compile(r"VmHWM:\s+(\d+) kB")
+COUNTED = re.compile(r"I\s+refs:\s+([\d,]+)")
 
 
-def writes(lines):
-    """Writes of 64 bytes, each with its settle, spread over the sessions; from the last block that fits on they are found again."""
-    script = [f"open s{number}" for number in range(SESSIONS)]
-    for number in range(lines):
-        data = (number % BLOCKS).to_bytes(4, "big") * 16
-        script += [f"write s{number // HANDLES} {data.hex()}", "settle"]
-    return script
+def writes(session, start, end):
+    """Writes of 64 bytes, each with its settle."""
+    return settled(f"write {session} {number.to_bytes(4, 'big').hex() * 16}" for number in range(start, end))
 
 
-def stats(lines):
-    """One block, and then lines that tell what the store has."""
-    return ["open a", "write a 6162", "settle", *["stat"] * lines]
+def stored(blocks):
+    lines = []
+    for start in range(0, blocks, HANDLES):
+        lines += [f"open s{start}", *writes(f"s{start}", start, min(start + HANDLES, blocks))]
+    return lines
 
 
-def run(program, parent, script):
-    """The seconds of a run on a new folder, and its greatest memory in bytes."""
-    text = ("\n".join(script) + "\n").encode()
-    with tempfile.TemporaryDirectory(dir=parent) as top:
-        words = [program, "script", os.path.join(top, "store"), "1", "1"]
-        start = time.perf_counter()
-        done = subprocess.Popen(words, stdin=subprocess.PIPE, stdout=subprocess.PIPE)
-        answers, _ = done.communicate(text)
-        seconds = time.perf_counter() - start
-    if done.returncode != 0 or answers.count(b"\n") != len(script) - script.count("settle"):
-        sys.exit(f"{program} ended with {done.returncode} after {answers.count(bytes([10]))} answers")
-    return seconds
+# What is measured in a store of so many blocks: its name, the lines before it, and its own lines.
+KINDS = (
+    ("a new write", lambda blocks: ["open a"], lambda blocks: writes("a", blocks, blocks + PART)),
+    ("a write of a present block", lambda blocks: ["open a"], lambda blocks: writes("a", blocks - PART, blocks)),
+    ("a read", lambda blocks: ["open a", *writes("a", blocks - PART, blocks)],
+     lambda blocks: settled(f"read a h{number}" for number in range(PART))),
+    ("stat", lambda blocks: ["open a"], lambda blocks: ["stat"] * PART),
+)
 
 
-def median(program, parent, script, rounds):
-    return statistics.median(run(program, parent, script) for _ in range(rounds))
+def answered(lines):
+    """How many answers these lines have."""
+    return sum(not line.startswith(("settle", "turn")) for line in lines)
+
+
+def text_of(lines):
+    return "".join(line + "\n" for line in lines).encode()
+
+
+def words(program, folder, shards):
+    return [program, "script", folder, str(shards), "1"]
+
+
+def run(before, lines):
+    done = subprocess.run(before, input=text_of(lines), capture_output=True, check=False)
+    if done.returncode != 0 or done.stdout.count(b"\n") != answered(lines) or b" no " in done.stdout:
+        sys.exit(f"{before} ended with {done.returncode}: {done.stderr.decode(errors='replace')[-500:]}")
+    return done.stderr.decode(errors="replace")
+
+
+def copied(planted, folder):
+    shutil.rmtree(folder, ignore_errors=True)
+    shutil.copytree(planted, folder)
+    return folder
+
+
+def processor_time(process):
+    """The seconds for which the threads of a process had a processor: other work on the machine counts little there."""
+    spent = 0
+    for thread in os.listdir(f"/proc/{process}/task"):
+        with open(f"/proc/{process}/task/{thread}/schedstat", encoding="utf-8") as told:
+            spent += int(told.read().split()[0])
+    return spent / 1e9
+
+
+def children_time():
+    """The same of all runs that have ended."""
+    used = resource.getrusage(resource.RUSAGE_CHILDREN)
+    return used.ru_utime + used.ru_stime
+
+
+def timed(before, first, lines):
+    """The seconds of processor time of these lines behind the first ones, and the greatest memory of the run in kB."""
+    child = subprocess.Popen(before, stdin=subprocess.PIPE, stdout=subprocess.PIPE)
+
+    def give(part):
+        child.stdin.write(text_of(part))
+        child.stdin.flush()
+        for _ in range(answered(part)):
+            child.stdout.readline()
+
+    give(first)
+    start = processor_time(child.pid)
+    give(lines)
+    seconds = processor_time(child.pid) - start
+    with open(f"/proc/{child.pid}/status", encoding="utf-8") as status:
+        peak = int(PEAK.search(status.read()).group(1))
+    child.communicate()
+    if child.returncode != 0:
+        sys.exit(f"{before} ended with {child.returncode}")
+    return seconds, peak
+
+
+def instructions(program, folder, shards, lines):
+    """The instructions of a run in user space, by cachegrind."""
+    tool = ["valgrind", "--tool=cachegrind", "--cache-sim=no", "--cachegrind-out-file=/dev/null"]
+    told = run([*tool, *words(program, folder, shards)], lines)
+    return int(COUNTED.search(told).group(1).replace(",", ""))
+
+
+def line(program, top, shards, rounds, counts):
+    most, run_in = 0, os.path.join(top, "run")
+    for blocks in (FEW, MANY):
+        run(words(program, os.path.join(top, f"stored{blocks}"), shards), stored(blocks))
+    for name, before, make in KINDS:
+        times, numbers = [], []
+        for blocks in (FEW, MANY):
+            planted, first, lines = os.path.join(top, f"stored{blocks}"), before(blocks), make(blocks)
+            runs = [timed(words(program, copied(planted, run_in), shards), first, lines) for _ in range(rounds)]
+            times.append(min(seconds for seconds, _ in runs) / PART)
+            most = max(most, *(peak for _, peak in runs))
+            if counts:
+                without, whole = (instructions(program, copied(planted, run_in), shards, part) for part in (first, first + lines))
+                numbers.append((whole - without) / PART)
+        told = f"{times[0] * 1e6:.1f} us and {times[1] * 1e6:.1f} us, {times[1] / times[0]:.2f} of it"
+        if counts:
+            told += f"; {numbers[0]:,.0f} and {numbers[1]:,.0f} instructions, {numbers[1] / numbers[0]:.2f} of it"
+        print(f"{name} at {FEW} and at {MANY} blocks: {told}", flush=True)
+    print(f"greatest memory of a run: {most / 1024:.0f} MiB")
+
+
+def opening(program, top, shards, rounds, counts):
+    seen = []
+    for blocks in (0, *SIZES):
+        folder = os.path.join(top, f"opened{blocks}")
+        run(words(program, folder, shards), stored(blocks) if blocks else ["stat"])
+        times = []
+        for _ in range(rounds):
+            start = children_time()
+            run(words(program, folder, shards), ["stat"])
+            times.append(children_time() - start)
+        number = instructions(program, folder, shards, ["stat"]) if counts else None
+        seen.append((blocks, min(times), number))
+    print(f"opening none: {seen[0][1] * 1e3:.1f} ms")
+    for blocks, seconds, number in seen[1:]:
+        told = f"{seconds * 1e3:.1f} ms, of a block {(seconds - seen[0][1]) / blocks * 1e6:.2f} us"
+        if counts:
+            told += f"; {number:,} instructions, of a block {(number - seen[0][2]) / blocks:,.0f}"
+        print(f"opening {blocks} blocks: {told}", flush=True)
 
 
 def main():
     here = os.path.dirname(os.path.abspath(__file__))
-    words = argparse.ArgumentParser(description=__doc__)
-    words.add_argument("--program", default=os.path.join(here, "..", "crates", "hydra", "out", "hydra"))
-    words.add_argument("--memory", default="/dev/shm", help="a folder in memory")
-    words.add_argument("--lines", type=int, default=100_000)
-    words.add_argument("--rounds", type=int, default=5)
-    asked = words.parse_args()
+    asked = argparse.ArgumentParser(description=__doc__)
+    asked.add_argument("--program", default=os.path.join(here, "..", "crates", "hydra", "out", "hydra"))
+    asked.add_argument("--memory", default="/dev/shm", help="a folder in memory")
+    asked.add_argument("--shards", type=int, default=1)
+    asked.add_argument("--rounds", type=int, default=5)
+    asked = asked.parse_args()
     program = os.path.abspath(asked.program)
     if not os.access(program, os.X_OK):
         sys.exit(f"{program} is not built: bin/hydra --version builds it")
-    part = asked.lines // 10
-    # Like is held against like: from the 16,385th write on a block is found again.
-    for name, script, start in (("write", writes, 2 * part), ("stat", stats, 0)):
-        points = [start, start + part, asked.lines - part, asked.lines]
-        times = [median(program, asked.memory, script(lines), asked.rounds) for lines in points]
-        first = (times[1] - times[0]) / part
-        last = (times[3] - times[2]) / part
-        print(f"{asked.lines} lines of {name}: {times[3]:.2f} s in all; a line behind {start} of them {first * 1e6:.1f} us, "
-              f"behind {asked.lines - part} {last * 1e6:.1f} us, {last / first:.2f} of it")
-    peak = resource.getrusage(resource.RUSAGE_CHILDREN).ru_maxrss
-    print(f"greatest memory of a run: {peak / 1024:.0f} MiB")
+    counts = shutil.which("valgrind") is not None
+    if not counts:
+        print("instructions: not counted, there is no valgrind")
+    with tempfile.TemporaryDirectory(dir=asked.memory) as top:
+        opening(program, top, asked.shards, asked.rounds, counts)
+        line(program, top, asked.shards, asked.rounds, counts)
 
 
-main()
+if __name__ == "__main__":
+    main()
