@@ -1,5 +1,5 @@
 -- All committed entries, one at a time.
-use Rattle.std.proofs.Common.{◌≡◌, ◌∙◌, sym, ap, ℕ, ◌+◌, ◌-◌, ◌<◌, ◌≤◌, suc, [], None, refl, arith}
+use Rattle.std.proofs.Common.{◌≡◌, ◌∙◌, sym, ap, ℕ, ◌+◌, ◌-◌, ◌<◌, ◌≤◌, zero, suc, true, false, [], Option, Some, None, is_some, refl, arith}
 use Rattle.std.proofs.lemmas.List.{set-get_or}
 use Rattle.std.specs.Prelude.{slice_set}
 use Rattle.hs_core.specs.Changing.{change_group}
@@ -29,6 +29,11 @@ times_begin f n x =
     let d : n - 0 ≡ n = omega arith in
     rw d refl
 
+-- where it changes nothing it never does
+pub times_still : {A : Type 0} (f : A → A) (x : A) → f x ≡ x → (n : ℕ) → times n f x ≡ x
+times_still f x same zero = refl
+times_still f x same (suc n) = ap (times n f) same ∙ times_still f x same n
+
 -- ---- one of them
 
 -- nothing changes where there is none
@@ -38,6 +43,14 @@ commit_none shard core h =
     let groups : slice_set core.groups shard (take_committed (group_of shard core)) ≡ core.groups =
     ap (slice_set core.groups shard) same ∙ set-get_or core.groups shard (new_group (shape_of core) shard 0 0 []) in
     ap (λ gs. record core { groups = gs }) groups ∙ sym (ap (λ o. change_with o (λ e. take_effect shard e.1) core) h)
+
+-- so where none is told of
+pub commit_still : (shard : ℕ) (core : Core) → is_some (committed (group_of shard core)) ≡ false → commit_next shard core ≡ core
+commit_still shard core = go (committed (group_of shard core))
+  where
+    go : (o : Option (ℕ × Entry)) → is_some o ≡ false → change_with o (λ e. take_effect shard e.1) core ≡ core
+    go None none = refl
+    go (Some e) none = let wrong : true ≡ false = none in cc
 
 -- what is told of an entry does not depend on what it sent
 pub after_sends : (shard : ℕ) (entry : Entry) (effect : Effect) (core : Core)

@@ -1,31 +1,27 @@
 -- The lines by session and by cause stay those of the operations.
-use Rattle.std.proofs.Common.{◌≡◌, ◌∙◌, sym, ap, subst, ℕ, Bool, true, false, cond, List, [], ◌∷◌, Option, Some, None, option_and_then, refl, not, ◌&&◌, if◌then◌else◌, ◌⊎◌, inl, inr, arith, ◌≤◌, Ordering, Less, Equal, Greater}
+use Rattle.std.proofs.Common.{◌≡◌, ◌∙◌, sym, ap, subst, ℕ, Bool, true, false, cond, List, [], ◌∷◌, Option, Some, None, option_and_then, refl, ◌⊎◌, inl, inr, arith, Ordering, Less, Equal, Greater}
 use Rattle.std.proofs.lemmas.Bool.{cases_eq, eq-eqb, ne_eqb}
 use Rattle.std.proofs.lemmas.Cmp.{nat_cmp_total, nat_list_cmp_total, tied_itself}
 use Rattle.std.proofs.lemmas.Map.Text.{is_eq-slice_cmp}
-use Rattle.std.proofs.lemmas.Map.Keys.{sorted_tail}
-use Rattle.std.proofs.lemmas.Map.Made.{lookup-map_values}
 use Rattle.std.specs.BTreeMap.{is_at}
 use Rattle.std.specs.Cmp.{unsigned_tied}
 use Rattle.std.specs.List.Sorted.{IsStrictlySortedBy}
-use Rattle.std.specs.Map.{keys_of, lookup, set_value}
+use Rattle.std.specs.Map.{keys_of, set_value}
 use Rattle.std.specs.Option.{option_map, option_map_or}
 use Rattle.std.specs.Ordering.{is_eq, nat_cmp, ordering_reverse}
-use Rattle.std.specs.Prelude.{◌==◌, bytes_eq, find, map}
+use Rattle.std.specs.Prelude.{◌==◌, bytes_eq, find}
 use Rattle.hs_core.proofs.EntryLemmas.{part_set}
 use Rattle.hs_core.specs.declared.next.Next.{Next}
 use Rattle.hs_core.specs.declared.table.Table.{Table}
 use Rattle.hs_core.specs.declared.wait.Wait.{Wait}
-use Rattle.hs_core.specs.declared.wait.Wait.TheVariants as wait
 use Rattle.hs_core.specs.Going.{judge_in, judged_by, next_step}
 use Rattle.hs_core.specs.Operating.{is_of}
 use Rattle.hs_core.specs.declared.waiting.Waiting.{Waiting}
-use Rattle.hs_core.specs.Indexing.{IsIndexed, IsIndexedBy, cause_of, found_in, passes, session_in, wait_cause, wait_in, waits_for}
-use Rattle.hs_core.specs.Views.{is_within, restarted}
+use Rattle.hs_core.specs.Indexing.{IsIndexedBy, IsListed, cause_of, found_in, passes, session_in, wait_cause, wait_in, waits_for}
 use Rattle.hs_limits.specs.declared.address.Address.{Address}
 use Rattle.hs_ops.specs.Views.{OpView}
 use Rattle.hs_post.proofs.FirstLemmas.{first_is_one}
-use Rattle.hs_post.proofs.OrderLemmas.{finds_here, finds_there, first_found, not_behind}
+use Rattle.hs_post.proofs.OrderLemmas.{first_found}
 use Rattle.hs_post.specs.First.{IsFirst}
 use Rattle.hs_tokens.specs.Seats.{name_cmp}
 use Rattle.hs_waits.proofs.LineLemmas.{kept_alike}
@@ -38,7 +34,7 @@ use Rattle.hs_waits.specs.Lines.{AreKept, IsFirstFrom, changed, has, tied}
 pub waits_alike : (causes others : ℕ → Option Cause) (lines : List (Cause × ℕ)) → AreWaits causes lines → ((n : ℕ) → others n ≡ causes n) → AreWaits others lines
 waits_alike causes others lines are same c n = are c n ∙ ap (λ x. option_map_or (λ d. is_same d c) x false) (sym (same n))
 
-key_changed : {K : Type 0} (key : Waiting → Option K) (line : ℕ) (new : Option Waiting) (found : ℕ → Option Waiting) (n : ℕ)
+pub key_changed : {K : Type 0} (key : Waiting → Option K) (line : ℕ) (new : Option Waiting) (found : ℕ → Option Waiting) (n : ℕ)
     → option_and_then key (changed line new found n) ≡ changed line (option_and_then key new) (λ m. option_and_then key (found m)) n
 key_changed {K} key line new found n = go (line == n)
   where
@@ -57,11 +53,11 @@ indexed_alike found next sessions waits are asks same = record {
 
 -- ---- one line changes
 
-at_changed : (line : ℕ) (new : Option Waiting) (old next : List (ℕ × Waiting)) → ((q : ℕ) → found_in next q ≡ cond (is_at (nat_cmp line) q) new (found_in old q))
+pub at_changed : (line : ℕ) (new : Option Waiting) (old next : List (ℕ × Waiting)) → ((q : ℕ) → found_in next q ≡ cond (is_at (nat_cmp line) q) new (found_in old q))
     → (n : ℕ) → found_in next n ≡ changed line new (found_in old) n
 at_changed line new old next h n = h n ∙ rw (unsigned_tied line n) refl
 
-pub table_moved : (line : ℕ) (new : Option Waiting) (name : Option (List ℕ)) (cause : Option Cause) (t s u : Table) (es : List (ℕ × Waiting)) → IsIndexed t
+pub table_moved : (line : ℕ) (new : Option Waiting) (name : Option (List ℕ)) (cause : Option Cause) (t s u : Table) (es : List (ℕ × Waiting)) → IsListed t
     → name ≡ option_and_then session_in new → cause ≡ option_and_then cause_of new
     → s.map ≡ t.map → s.waits ≡ t.waits
     → (AreKept name_cmp (λ n. option_and_then session_in (found_in t.map.entries n)) t.sessions
@@ -92,7 +88,7 @@ table_moved line new name cause t s u es are named caused same_map same_waits as
 -- ---- a value is written in its place
 
 -- by any part of it
-put_by : {K : Type 0} (key : Waiting → Option K) (line : ℕ) (es : List (ℕ × Waiting)) (w new : Waiting) → found_in es line ≡ Some w → key new ≡ key w
+pub put_by : {K : Type 0} (key : Waiting → Option K) (line : ℕ) (es : List (ℕ × Waiting)) (w new : Waiting) → found_in es line ≡ Some w → key new ≡ key w
     → (n : ℕ) → option_and_then key (found_in (set_value (is_at (nat_cmp line)) es new) n) ≡ option_and_then key (found_in es n)
 put_by {K} key line es w new found same n =
     own (found_in (set_value (is_at (nat_cmp line)) es new) n)
@@ -109,10 +105,10 @@ pub indexed_put : (line : ℕ) (es : List (ℕ × Waiting)) (w new : Waiting) (s
 indexed_put line es w new sessions waits found asks same are =
     indexed_alike (found_in es) (found_in (set_value (is_at (nat_cmp line)) es new)) sessions waits are (put_by session_in line es w new found asks) (put_by cause_of line es w new found same)
 
-at_here : (k : ℕ) (x : Waiting) (es : List (ℕ × Waiting)) → found_in ((k, x) ∷ es) k ≡ Some x
+pub at_here : (k : ℕ) (x : Waiting) (es : List (ℕ × Waiting)) → found_in ((k, x) ∷ es) k ≡ Some x
 at_here k x es = rw (tied_itself nat_cmp_total k) refl
 
-at_there : (k n : ℕ) (x : Waiting) (es : List (ℕ × Waiting)) → (n ≡ k → ⊥) → found_in ((k, x) ∷ es) n ≡ found_in es n
+pub at_there : (k n : ℕ) (x : Waiting) (es : List (ℕ × Waiting)) → (n ≡ k → ⊥) → found_in ((k, x) ∷ es) n ≡ found_in es n
 at_there k n x es apart = let off : is_at (nat_cmp n) k ≡ false = unsigned_tied n k ∙ ne_eqb n k apart in rw off refl
 
 set_found : (line : ℕ) (es : List (ℕ × Waiting)) (w new : Waiting) → found_in es line ≡ Some w → (n : ℕ) → found_in (set_value (is_at (nat_cmp line)) es new) n ≡ changed line (Some new) (found_in es) n
@@ -146,7 +142,7 @@ set_found line ((k, x) ∷ es) w new found n = pick (cases_eq line k) found (set
         first ∙ other far (ih further) (cases_eq n k)
 
 -- one that waits for something else
-pub table_waits : (line : ℕ) (what : Wait) (t u : Table) (es : List (ℕ × Waiting)) (w : Waiting) (cause : Option Cause) → IsIndexed t → found_in t.map.entries line ≡ Some w
+pub table_waits : (line : ℕ) (what : Wait) (t u : Table) (es : List (ℕ × Waiting)) (w : Waiting) (cause : Option Cause) → IsListed t → found_in t.map.entries line ≡ Some w
     → cause ≡ wait_cause w.shard w.operation.op what → u.map ≡ t.map → u.sessions ≡ t.sessions
     → (AreWaits (λ n. option_and_then cause_of (found_in t.map.entries n)) t.waits → AreWaits (changed line cause (λ n. option_and_then cause_of (found_in t.map.entries n))) u.waits)
     → es ≡ wait_in line what u.map.entries → IsIndexedBy (found_in es) u.sessions u.waits
@@ -178,86 +174,6 @@ table_judged how pointers v line es next sessions waits are made = go (found_in 
         let new : Waiting = judged_by (next_step how pointers v w.operation) w in
         let put : judge_in how pointers v line es ≡ set_value (is_at (nat_cmp line)) es new = rw e refl in
         subst (λ (x : List (ℕ × Waiting)). IsIndexedBy (found_in x) sessions waits) (sym (made ∙ put)) (indexed_put line es w new sessions waits e refl refl are)
-
--- ---- operations start again
-
--- the sessions are the same
-pub restarted_asks : (shard last : ℕ) (es : List (ℕ × Waiting)) (n : ℕ) → option_and_then session_in (found_in (map (λ e. (e.0, restarted shard last e.1)) es) n) ≡ option_and_then session_in (found_in es n)
-restarted_asks shard last es n = ap (option_and_then session_in) (lookup-map_values (restarted shard last) (is_at (nat_cmp n)) es) ∙ own (found_in es n)
-  where
-    asks : (b : Bool) (w : Waiting) → session_in (cond b (record w { wait = wait.View }) w) ≡ session_in w
-    asks true w = refl
-    asks false w = refl
-
-    own : (o : Option Waiting) → option_and_then session_in (option_map (restarted shard last) o) ≡ option_and_then session_in o
-    own None = refl
-    own (Some w) = asks (w.shard == shard && not (is_within last w.wait)) w
-
-pub indexed_restart : (shard last : ℕ) (t : Table) (es : List (ℕ × Waiting)) (waits : List (Cause × ℕ)) → IsIndexed t → es ≡ map (λ e. (e.0, restarted shard last e.1)) t.map.entries
-    → AreWaits (λ n. option_and_then cause_of (found_in es n)) waits → IsIndexedBy (found_in es) t.sessions waits
-indexed_restart shard last t es waits are made causes = record {
-  sessions = kept_alike name_cmp (λ n. option_and_then session_in (found_in t.map.entries n)) (λ n. option_and_then session_in (found_in es n)) t.sessions are.sessions
-      (λ n. ap (λ x. option_and_then session_in (found_in x n)) made ∙ restarted_asks shard last t.map.entries n);
-  waits = causes;
-}
-
--- ---- the causes of all operations, one line after another
-
--- but for those of which the line comes still
-abbrev pub causes_but : List (ℕ × Waiting) → List (ℕ × Waiting) → ℕ → Option Cause
-causes_but rest all n = if passes (λ w. true) rest n then None else option_and_then cause_of (found_in all n)
-
-pub rest_begin : (es : List (ℕ × Waiting)) (waits : List (Cause × ℕ)) → AreWaits (λ n. None) waits → AreWaits (causes_but es es) waits
-rest_begin es waits are = waits_alike (λ n. None) (causes_but es es) waits are (λ n. go (found_in es n))
-  where
-    go : (o : Option Waiting) → cond (option_map_or (λ w. true) o false) None (option_and_then cause_of o) ≡ None
-    go None = refl
-    go (Some w) = refl
-
-pub rest_own : (k : ℕ) (w : Waiting) (rest all : List (ℕ × Waiting)) → causes_but ((k, w) ∷ rest) all k ≡ None
-rest_own k w rest all = rw (finds_here (λ (x : Waiting). true) rest k w) refl
-
-pub rest_next : (k : ℕ) (w : Waiting) (rest all : List (ℕ × Waiting)) (waits : List (Cause × ℕ)) → IsStrictlySortedBy nat_cmp (k ∷ keys_of rest) → found_in all k ≡ Some w
-    → AreWaits (changed k (cause_of w) (causes_but ((k, w) ∷ rest) all)) waits → AreWaits (causes_but rest all) waits
-rest_next k w rest all waits sorted found are = waits_alike (changed k (cause_of w) (causes_but ((k, w) ∷ rest) all)) (causes_but rest all) waits are (λ n. go n (cases_eq n k))
-  where
-    go : (n : ℕ) → (n ≡ k) ⊎ (n ≡ k → ⊥) → causes_but rest all n ≡ changed k (cause_of w) (causes_but ((k, w) ∷ rest) all) n
-    go n (inl same) = subst (λ (m : ℕ). causes_but rest all m ≡ changed k (cause_of w) (causes_but ((k, w) ∷ rest) all) m) (sym same)
-        (rw (not_behind (λ (x : Waiting). true) rest k sorted, eq-eqb k k refl, found) refl)
-    go n (inr apart) = rw (ne_eqb k n (λ e. apart (sym e)), finds_there (λ (x : Waiting). true) rest k n w apart) refl
-
--- what comes still is among all
-pub among_next : (k : ℕ) (w : Waiting) (rest all : List (ℕ × Waiting)) → IsStrictlySortedBy nat_cmp (k ∷ keys_of rest)
-    → ((n : ℕ) (x : Waiting) → found_in ((k, w) ∷ rest) n ≡ Some x → found_in all n ≡ Some x) → (n : ℕ) (x : Waiting) → found_in rest n ≡ Some x → found_in all n ≡ Some x
-among_next k w rest all sorted among n x h = go (cases_eq n k)
-  where
-    go : (n ≡ k) ⊎ (n ≡ k → ⊥) → found_in all n ≡ Some x
-    go (inl same) =
-        let none : passes (λ w. true) rest k ≡ false = not_behind (λ (x : Waiting). true) rest k sorted in
-        let here : found_in rest k ≡ Some x = ap (found_in rest) (sym same) ∙ h in
-        let some : passes (λ w. true) rest k ≡ true = rw here refl in
-        let wrong : true ≡ false = sym some ∙ none in cc
-    go (inr apart) = among n x (at_there k n w rest apart ∙ h)
-
--- one line further
-pub rest_step : (k : ℕ) (w : Waiting) (cause : Option Cause) (rest before all : List (ℕ × Waiting)) (old new : List (Cause × ℕ)) → before ≡ (k, w) ∷ rest → cause ≡ cause_of w
-    → IsStrictlySortedBy nat_cmp (keys_of before) → ((n : ℕ) (x : Waiting) → found_in before n ≡ Some x → found_in all n ≡ Some x)
-    → AreWaits (causes_but before all) old → ((causes : ℕ → Option Cause) → AreWaits causes old → causes k ≡ None → AreWaits (changed k cause causes) new) → AreWaits (causes_but rest all) new
-rest_step k w cause rest before all old new is caused sorted among are change =
-    let own : causes_but before all k ≡ None = ap (λ es. causes_but es all k) is ∙ rest_own k w rest all in
-    let moved : AreWaits (changed k cause (causes_but before all)) new = change (causes_but before all) are own in
-    let here : found_in all k ≡ Some w = among k w (ap (λ es. found_in es k) is ∙ at_here k w rest) in
-    let ordered : IsStrictlySortedBy nat_cmp (k ∷ keys_of rest) = subst (λ (es : List (ℕ × Waiting)). IsStrictlySortedBy nat_cmp (keys_of es)) is sorted in
-    rest_next k w rest all new ordered here
-    (subst (λ (es : List (ℕ × Waiting)). AreWaits (changed k (cause_of w) (causes_but es all)) new) is (subst (λ (x : Option Cause). AreWaits (changed k x (causes_but before all)) new) caused moved))
-
-pub among_step : (k : ℕ) (w : Waiting) (rest before all : List (ℕ × Waiting)) → before ≡ (k, w) ∷ rest → IsStrictlySortedBy nat_cmp (keys_of before)
-    → ((n : ℕ) (x : Waiting) → found_in before n ≡ Some x → found_in all n ≡ Some x) → (n : ℕ) (x : Waiting) → found_in rest n ≡ Some x → found_in all n ≡ Some x
-among_step k w rest before all is sorted among =
-    among_next k w rest all (subst (λ (es : List (ℕ × Waiting)). IsStrictlySortedBy nat_cmp (keys_of es)) is sorted) (subst (λ (es : List (ℕ × Waiting)). (n : ℕ) (x : Waiting) → found_in es n ≡ Some x → found_in all n ≡ Some x) is among)
-
-pub ordered_step : (k : ℕ) (w : Waiting) (rest before : List (ℕ × Waiting)) → before ≡ (k, w) ∷ rest → IsStrictlySortedBy nat_cmp (keys_of before) → IsStrictlySortedBy nat_cmp (keys_of rest)
-ordered_step k w rest before is sorted = sorted_tail nat_cmp k (keys_of rest) (subst (λ (es : List (ℕ × Waiting)). IsStrictlySortedBy nat_cmp (keys_of es)) is sorted)
 
 -- ---- what is found
 

@@ -7,6 +7,7 @@ mod GoingLemmas
 mod IndexLemmas
 mod JoinLemmas
 mod JoiningLemmas
+mod JudgingLemmas
 mod KeptLemmas
 mod LeadLemmas
 mod LimitExamples
@@ -16,10 +17,12 @@ mod PeerExamples
 mod RangeLemmas
 mod RecordLemmas
 mod ReportLemmas
+mod RestartLemmas
 mod SeatLemmas
 mod SightLemmas
 mod StatusLemmas
 mod StepLemmas
+mod StoredLemmas
 mod ViewLemmas
 mod WakeLemmas
 mod WalkLemmas

@@ -14,7 +14,7 @@ use Rattle.hs_post.proofs.OrderLemmas.{above_first, finds_here, finds_there, not
 use Rattle.hs_waits.specs.Lines.{IsFirstFrom}
 
 -- the first key is below the second
-below_next : (j i : ℕ) (x : Waiting) (es : List (ℕ × Waiting)) → IsStrictlySortedBy nat_cmp (j ∷ i ∷ keys_of es) → j < i
+pub below_next : (j i : ℕ) (x : Waiting) (es : List (ℕ × Waiting)) → IsStrictlySortedBy nat_cmp (j ∷ i ∷ keys_of es) → j < i
 below_next j i x es sorted = above_first (λ (w : Waiting). true) ((i, x) ∷ es) j i sorted (finds_here (λ (w : Waiting). true) es i x)
 
 and_true : (x y : Bool) → x ≡ true → y ≡ true → (x && y) ≡ true
@@ -65,7 +65,7 @@ module _ (c p : Waiting → Bool) (among : (w : Waiting) → p w ≡ true → c 
   candidate : (j : ℕ) (x : Waiting) (es : List (ℕ × Waiting)) → p x ≡ true → passes c ((j, x) ∷ es) j ≡ true
   candidate j x es e = finds_here c es j x ∙ among x e
 
-  none_left : (j : ℕ) (x : Waiting) (es : List (ℕ × Waiting)) → IsStrictlySortedBy nat_cmp (j ∷ keys_of es) → IsFirstFrom from (passes c ((j, x) ∷ es)) None → IsFirstFrom from (passes c es) None
+  pub none_left : (j : ℕ) (x : Waiting) (es : List (ℕ × Waiting)) → IsStrictlySortedBy nat_cmp (j ∷ keys_of es) → IsFirstFrom from (passes c ((j, x) ∷ es)) None → IsFirstFrom from (passes c es) None
   none_left j x es sorted h = λ n far. go n far (cases_eq n j)
     where
       go : (n : ℕ) → from ≤ n → (n ≡ j) ⊎ (n ≡ j → ⊥) → passes c es n ≡ false
@@ -79,7 +79,7 @@ module _ (c p : Waiting → Bool) (among : (w : Waiting) → p w ≡ true → c 
       ∙ walk_none es (sorted_tail nat_cmp j (keys_of es) sorted) (none_left j x es sorted h)
 
   -- the first stands before
-  some_left : (k j : ℕ) (x : Waiting) (es : List (ℕ × Waiting)) → IsStrictlySortedBy nat_cmp (j ∷ keys_of es) → (k ≡ j → ⊥) → IsFirstFrom from (passes c ((j, x) ∷ es)) (Some k) → IsFirstFrom from (passes c es) (Some k)
+  pub some_left : (k j : ℕ) (x : Waiting) (es : List (ℕ × Waiting)) → IsStrictlySortedBy nat_cmp (j ∷ keys_of es) → (k ≡ j → ⊥) → IsFirstFrom from (passes c ((j, x) ∷ es)) (Some k) → IsFirstFrom from (passes c es) (Some k)
   some_left k j x es sorted apart h = (h.0, sym (finds_there c es j k x apart) ∙ h.1, λ n far found. least n far found (cases_eq n j))
     where
       least : (n : ℕ) → from ≤ n → passes c es n ≡ true → (n ≡ j) ⊎ (n ≡ j → ⊥) → k ≤ n

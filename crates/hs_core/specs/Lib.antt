@@ -15,6 +15,7 @@ pub mod Looking
 pub mod Opening
 pub mod Operating
 pub mod Pending
+pub mod Putting
 pub mod Records
 pub mod Renewing
 pub mod Reporting

@@ -7,6 +7,7 @@ ghost use Rattle.hs_core.specs.Keeping.{Kept};
 ghost use Rattle.hs_core.specs.Operating.{begin_line};
 ghost use Rattle.hs_members.specs.Members.{IsShard};
 ghost use Rattle.hs_ops.specs.Operations.{after_step};
+ghost use Rattle.hs_ops.specs.Speaking.{judging_shard};
 
 use crate::aim::Aim;
 use crate::going::{Judged, judge};
@@ -26,11 +27,7 @@ impl Core {
         self.set_line(line);
         let busy = self.busy_line(&op)?;
         let mut operation = Operation::begin(self.alloc, line, op)?;
-        let shard = operation.shard(&self.sessions, self.shape());
-        // Each operation is judged by a shard of the store.
-        if shard >= self.shape().shards {
-            return Err(NoMemory);
-        }
+        let shard = self.judging_shard(&operation);
         let aim = self.aim_of(shard, &operation);
         let judged = self.judge_first(&mut operation, aim, busy)?;
         let wait = Wait::View;
@@ -41,6 +38,15 @@ impl Core {
         };
         self.add_operation(line, waiting)?;
         self.carry_out(line, aim, judged)
+    }
+
+    /// The shard that judges an operation, which is one of the store's. It takes no memory.
+    fn judging_shard(&self, operation: &Operation) -> u8
+        ensures value { result ≡ judging_shard self.now.members.shape.shards self.now.sessions
+            operation.now.op }
+        ensures shard { IsShard self.now.members.shape result }
+    {
+        operation.shard(&self.sessions, self.shape())
     }
 
     /// A line is the last one. It takes no memory.

@@ -1,7 +1,7 @@
 //! By what an operation is found beside its line: its session, and what may wake it.
 ghost use Rattle.std.specs.Prelude.{◌≡◌, IfOk, Some};
 ghost use Rattle.std.specs.Option.{option_copied};
-ghost use Rattle.hs_core.specs.Indexing.{block_cause, cause_of, own_address, room_cause, session_in, wait_cause};
+ghost use Rattle.hs_core.specs.Indexing.{block_cause, cause_of, own_address, room_cause, session_in, store_cause, storing, wait_cause};
 ghost use Rattle.hs_journal.specs.Order.{session_of};
 
 use crate::aim::{puts_root, writes_block};
@@ -57,6 +57,39 @@ pub(crate) fn wait_cause(shard: u8, op: &Op, wait: Wait) -> Option<Cause>
         Wait::Address => Some(block_cause(shard, op)),
         Wait::Room => room_cause(shard, op),
         Wait::Bytes { .. } | Wait::Entry { .. } => None,
+    }
+}
+
+/// What a Block of an operation's line stores. None where none asks for one.
+pub(crate) fn storing(waiting: &Waiting) -> Option<Cause>
+    ensures { result ≡ storing waiting.now }
+{
+    store_cause(waiting.operation.op())
+}
+
+/// That of the address that a write names itself; where it reads it may be of any address.
+fn store_cause(op: &Op) -> Option<Cause>
+    ensures { result ≡ store_cause op.now }
+{
+    match op {
+        Op::Write {
+            address: Some(address),
+            ..
+        } => Some(Cause::Block {
+            shard: 0,
+            address: *address,
+        }),
+        Op::Write { address: None, .. } => None,
+        Op::Read { .. } => Some(Cause::Other { shard: 0 }),
+        Op::Open { .. }
+        | Op::Close { .. }
+        | Op::Look { .. }
+        | Op::Root { .. }
+        | Op::Drop { .. }
+        | Op::Forget { .. }
+        | Op::Name { .. }
+        | Op::Delete
+        | Op::Stat => None,
     }
 }
 

@@ -1,13 +1,14 @@
 //! Entries take effect.
-ghost use Rattle.std.specs.Prelude.{◌≡◌, [], IfOk, OnOk};
+ghost use Rattle.std.specs.Prelude.{◌≡◌, [], IfOk, OnOk, is_some};
 ghost use Rattle.hs_core.specs.Changing.{set_catalogue};
 ghost use Rattle.hs_core.specs.Effects.{after_entry, commit, commit_next, note_sweep, reach_view};
 ghost use Rattle.hs_core.specs.Entering.{propose_due};
 ghost use Rattle.hs_core.specs.Handing.{take_handed};
 ghost use Rattle.hs_core.specs.Keeping.{Kept};
-ghost use Rattle.hs_core.specs.Looking.{catalogue_of};
+ghost use Rattle.hs_core.specs.Looking.{catalogue_of, group_of};
 ghost use Rattle.hs_core.specs.Words.{change_with};
 ghost use Rattle.hs_members.specs.Members.{IsShard};
+ghost use Rattle.hs_replica.specs.Group.{committed};
 ghost use Rattle.hs_shard.specs.Apply.{apply};
 
 use crate::Core;
@@ -18,7 +19,8 @@ use hs_limits::Address;
 use hs_shard::Effect;
 
 impl Core {
-    /// All entries that every good peer is known to have sealed take effect, in order.
+    /// All entries that every good peer is known to have sealed take effect, in order. Where none waits
+    /// any more it goes no further, however much is known to be sealed.
     #[tactic(auto, using(crate::proofs::CommitLemmas::times_next, crate::proofs::CommitLemmas::times_end, crate::proofs::CommitLemmas::times_begin))]
     pub(crate) fn commit(&mut self, shard: u8) -> Result<(), NoMemory>
         requires { IsShard self.old.members.shape shard }
@@ -28,21 +30,26 @@ impl Core {
         let front = self.front(shard);
         let due = self.group(shard).commit_front().saturating_sub(front);
         for _turn in 0..due {
-            self.commit_next(shard)?;
+            let more = self.commit_next(shard)?;
+            if !more {
+                return Ok(());
+            }
         }
         Ok(())
     }
 
-    /// The next entry that every good peer is known to have sealed takes effect, if there is one.
-    fn commit_next(&mut self, shard: u8) -> Result<(), NoMemory>
+    /// The next entry that every good peer is known to have sealed takes effect. Whether there was one.
+    fn commit_next(&mut self, shard: u8) -> Result<bool, NoMemory>
         requires { IsShard self.old.members.shape shard }
         ensures ok { OnOk result (self.new ≡ commit_next shard self.old) }
+        ensures more { IfOk result (λ more. more ≡ is_some (committed (group_of shard self.old))) }
         ensures kept { Kept self.old self.new }
     {
         let Some((number, entry)) = self.take_committed(shard) else {
-            return Ok(());
+            return Ok(false);
         };
-        self.take_handed(shard, number, entry)
+        self.take_handed(shard, number, entry)?;
+        Ok(true)
     }
 
     /// An entry that was handed out takes effect.

@@ -224,7 +224,7 @@ fn is_for_room(waiting: &Waiting) -> bool
 }
 
 /// The line after one; where there is none it counts as want of memory.
-fn next_line(line: u64) -> Result<u64, NoMemory>
+pub(crate) fn next_line(line: u64) -> Result<u64, NoMemory>
     ensures value { IfOk result (λ next. next ≡ line + 1) }
     ensures fits { line < 2 ^ 64 }
 {

@@ -7,7 +7,7 @@ ghost use Rattle.std.specs.Option.{option_copied, option_map};
 ghost use Rattle.std.specs.Ordering.{nat_cmp};
 ghost use Rattle.hs_core.specs.declared.waiting.Waiting.{Waiting};
 ghost use Rattle.hs_core.specs.Going.{given_by, judge_in, next_step};
-ghost use Rattle.hs_core.specs.Indexing.{found_in, passes, wait_in, waits_for};
+ghost use Rattle.hs_core.specs.Indexing.{found_in, passes, stores, wait_in, waits_for};
 ghost use Rattle.hs_core.specs.Operating.{is_of};
 ghost use Rattle.hs_core.specs.Views.{restarted};
 ghost use Rattle.hs_ops.specs.Answers.{gained};
@@ -24,9 +24,9 @@ use hs_waits::Cause;
 use std::alloc::Global;
 use std::marker::Model;
 
-/// The operations without an answer, by line. Those of a session, and those that an entry may wake, are
-/// found without a walk over the others. Where a call has no memory none of them is left: the core has
-/// ended then.
+/// The operations without an answer, by line. Those of a session or a shard, those that an entry may
+/// wake, and those whose Block stores an address are found without a walk over the others. Where a
+/// call has no memory none of them is left: the core has ended then.
 #[derive(Drop)]
 pub(crate) struct Operations {
     table: Table,
@@ -160,5 +160,13 @@ impl Operations {
     {
         let _ordered = self.table.map.len();
         self.table.waits.first(cause, from)
+    }
+
+    /// The first line from this one on of an operation whose Block stores this. None exactly where
+    /// there is none. It takes no memory.
+    pub(crate) fn first_storing(&self, what: Cause, from: u64) -> Option<u64>
+        ensures { IsFirstFrom from (passes (stores what) self.now) result }
+    {
+        self.table.stored.first(what, from)
     }
 }

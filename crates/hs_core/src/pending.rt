@@ -1,17 +1,20 @@
 //! What stands in a lead's list and has not taken effect, as far as operations wait for it.
-ghost use Rattle.std.specs.Prelude.{◌≡◌, count_by};
+ghost use Rattle.std.specs.Prelude.{◌≡◌, ◌<◌, ◌^◌, count_by};
 ghost use Rattle.std.specs.List.{list_any};
 ghost use Rattle.std.specs.Option.{option_and_then};
 ghost use Rattle.hs_core.specs.Going.{has_room_by, holds_by, is_pending_by};
+ghost use Rattle.hs_core.specs.Indexing.{AreMet, passes, stands, stores};
 ghost use Rattle.hs_core.specs.Looking.{group_of, operation_of};
 ghost use Rattle.hs_core.specs.Pending.{has_block_room, has_root_room, is_address, is_block, is_coming, is_root, named};
 ghost use Rattle.hs_members.specs.Members.{IsShard};
 ghost use Rattle.hs_ops.specs.Speaking.{wanted_address};
+ghost use Rattle.hs_waits.specs.Lines.{IsFirstFrom};
 
 use crate::aim::Aim;
 use crate::{Core, Wait};
 use hs_entry::Entry;
 use hs_limits::Address;
+use hs_waits::Cause;
 
 impl Core {
     /// The address of the block that an entry stores: that of the operation that asked for it. None
@@ -102,9 +105,10 @@ impl Core {
         count.saturating_add(more) < u64::from(self.limits.roots)
     }
 
-    // ---- scans
+    // ---- what is coming
 
-    /// Whether a Block of this address has not taken effect.
+    /// Whether a Block of this address has not taken effect. Only where a Block stands by the line of
+    /// an operation that reads are the entries walked over: no operation comes there.
     fn is_coming(&self, shard: u8, address: Option<Address>) -> bool
         requires { IsShard self.now.members.shape shard }
         ensures { result ≡ is_coming shard address self.now }
@@ -112,7 +116,48 @@ impl Core {
         let Some(address) = address else {
             return false;
         };
-        self.any_stores(self.group(shard).waiting(), &address)
+        let read = self.met(shard, Cause::Other { shard: 0 });
+        if read.is_some() {
+            return self.any_stores(self.group(shard).waiting(), &address);
+        }
+        let write = self.met(shard, Cause::Block { shard: 0, address });
+        write.is_some()
+    }
+
+    /// A line of an operation whose Block stores this and has not taken effect. None exactly where
+    /// there is none. It goes from a line of the ones to the next of the others. It takes no memory.
+    fn met(&self, shard: u8, what: Cause) -> Option<u64>
+        requires { IsShard self.now.members.shape shard }
+        ensures { AreMet what (group_of shard self.now).waiting self.now.operations result }
+    {
+        let mut from = 0;
+        while let Some(block) = self.next_coming(shard, from) {
+            let Some(line) = self.next_storing(what, block) else {
+                return None;
+            };
+            if line == block {
+                return Some(line);
+            }
+            from = bounded(line);
+        }
+        None
+    }
+
+    /// The first line from this one on of which a Block has not taken effect. None exactly where there
+    /// is none. It takes no memory.
+    fn next_coming(&self, shard: u8, from: u64) -> Option<u64>
+        requires { IsShard self.now.members.shape shard }
+        ensures { IsFirstFrom from (stands (group_of shard self.now).waiting) result }
+    {
+        self.group(shard).first_block(from)
+    }
+
+    /// The first line from this one on of an operation whose Block stores this. None exactly where
+    /// there is none. It takes no memory.
+    fn next_storing(&self, what: Cause, from: u64) -> Option<u64>
+        ensures { IsFirstFrom from (passes (stores what) self.now.operations) result }
+    {
+        self.operations.first_storing(what, from)
     }
 
     /// Whether one of some entries stores the block of this address.
@@ -153,4 +198,12 @@ impl Core {
     {
         self.group(shard).roots_waiting()
     }
+}
+
+/// A line, which is below the greatest number.
+fn bounded(line: u64) -> u64
+    ensures value { result ≡ line }
+    ensures fits { line < 2 ^ 64 }
+{
+    line
 }

@@ -1,17 +1,16 @@
 //! A new view of a shard.
-ghost use Rattle.std.specs.Prelude.{◌≡◌, ◌&&◌, map, not, IfOk, OnOk};
+ghost use Rattle.std.specs.Prelude.{◌≡◌, IfOk, OnOk};
 ghost use Rattle.hs_core.specs.Anew.{group_anew, told_anew};
 ghost use Rattle.hs_core.specs.Keeping.{Kept};
 ghost use Rattle.hs_core.specs.Looking.{group_of};
-ghost use Rattle.hs_core.specs.Views.{begin_view, change_view, is_within, restart_at, restarted};
+ghost use Rattle.hs_core.specs.Views.{begin_view, change_view, is_within, restart_at};
 ghost use Rattle.hs_members.specs.Members.{IsShard};
 ghost use Rattle.hs_replica.specs.Group.{last_number, renew};
 
 use crate::no_memory::NoMemory;
 use crate::steps::renew_steps;
-use crate::{Core, Wait, Waiting};
+use crate::{Core, Wait};
 use hs_entry::Entry;
-use std::collections::BTreeMap;
 
 impl Core {
     /// Where a good peer is left the shard begins its view.
@@ -72,22 +71,8 @@ impl Core {
     }
 }
 
-/// The operations of a shard start again, but for one whose entry still stands in the lead's list, of
-/// which this is the last number. It takes no memory.
-pub(crate) fn restart(operations: &mut BTreeMap<u64, Waiting>, shard: u8, last: u64)
-    ensures { operations.new.entries
-        ≡ map (λ e. (e.0, restarted shard last e.1)) operations.old.entries }
-{
-    operations.retain(|_line, waiting| {
-        if waiting.shard == shard && !is_within(last, waiting.wait) {
-            waiting.wait = Wait::View;
-        }
-        true
-    });
-}
-
 /// Whether what is waited for is an entry up to this number.
-fn is_within(last: u64, wait: Wait) -> bool
+pub(crate) fn is_within(last: u64, wait: Wait) -> bool
     ensures { result ≡ is_within last wait }
 {
     match wait {

@@ -7,7 +7,7 @@ use Rattle.std.specs.Prelude.{count_by, ◌==◌, ◌&&◌}
 use Rattle.hs_entry.specs.declared.entry.Entry.{Entry}
 use Rattle.hs_replica.specs.declared.kinds.Kinds.{Kinds}
 use Rattle.hs_replica.specs.Counting.{Adds, Counts, Holds, at_epoch, count_at, once, weight}
-use Rattle.hs_replica.specs.Kinds.{enters, is_block, is_got, is_root}
+use Rattle.hs_replica.specs.Kinds.{enters, is_block, is_got, is_root, stores_for}
 use Rattle.hs_rounds.specs.declared.place.Place.{Place}
 use Rattle.hs_rounds.specs.Rounds.{place_cmp}
 use Rattle.hs_rounds.proofs.PlaceLemmas.{same_place, tied_place}
@@ -40,7 +40,7 @@ place_at p q = same_bool (is_at (place_cmp p) q) (same p q) there back
         let at : p ≡ q = λ i. record { epoch = g i; round = h i; from = f i } in
         subst (λ (x : Place). is_at (place_cmp p) x ≡ true) at (tied_place p)
 
--- an Enter is counted at its epoch, and a Got at its round
+-- an Enter is counted at its epoch, a Block at its line, and a Got at its round
 pub got_once : (p q : Place) → once p q ≡ weight (p.from == q.from && (p.epoch == q.epoch && p.round == q.round))
 got_once p q = ap weight (place_at p q)
 
@@ -57,6 +57,7 @@ pub counts_back : (entry : Entry) (entries : List Entry) (old new : Kinds) → C
 counts_back entry entries old new c a = record {
   blocks = omega (arith, c.blocks, a.blocks, count_back is_block entry entries);
   roots = omega (arith, c.roots, a.roots, count_back is_root entry entries);
+  stores = λ line. omega (arith, c.stores line, a.stores line, count_back (stores_for line) entry entries);
   enters = λ epoch. omega (arith, c.enters epoch, a.enters epoch, count_back (enters epoch) entry entries);
   gots = λ from epoch round. omega (arith, c.gots from epoch round, a.gots (record { epoch = epoch; round = round; from = from }), count_back (is_got from epoch round) entry entries);
 }
@@ -66,6 +67,7 @@ pub holds_front : (entry : Entry) (entries : List Entry) (kinds : Kinds) → Cou
 holds_front entry entries kinds c = record {
   blocks = omega (arith, c.blocks, count_front is_block entry entries);
   roots = omega (arith, c.roots, count_front is_root entry entries);
+  stores = λ line. omega (arith, c.stores line, count_front (stores_for line) entry entries);
   enters = λ epoch. omega (arith, c.enters epoch, count_front (enters epoch) entry entries);
   gots = λ place. omega (arith, c.gots place.from place.epoch place.round, count_front (is_got place.from place.epoch place.round) entry entries);
 }
@@ -74,6 +76,7 @@ pub holds_back : (entry : Entry) (entries : List Entry) (kinds : Kinds) → Coun
 holds_back entry entries kinds c = record {
   blocks = omega (arith, c.blocks, count_back is_block entry entries);
   roots = omega (arith, c.roots, count_back is_root entry entries);
+  stores = λ line. omega (arith, c.stores line, count_back (stores_for line) entry entries);
   enters = λ epoch. omega (arith, c.enters epoch, count_back (enters epoch) entry entries);
   gots = λ place. omega (arith, c.gots place.from place.epoch place.round, count_back (is_got place.from place.epoch place.round) entry entries);
 }
@@ -83,6 +86,7 @@ pub counts_rest : (entry : Entry) (entries : List Entry) (old new : Kinds) → C
 counts_rest entry entries old new c a = record {
   blocks = omega (arith, c.blocks, a.blocks, count_front is_block entry entries);
   roots = omega (arith, c.roots, a.roots, count_front is_root entry entries);
+  stores = λ line. omega (arith, c.stores line, a.stores line, count_front (stores_for line) entry entries);
   enters = λ epoch. omega (arith, c.enters epoch, a.enters epoch, count_front (enters epoch) entry entries);
   gots = λ from epoch round. omega (arith, c.gots from epoch round, a.gots (record { epoch = epoch; round = round; from = from }), count_front (is_got from epoch round) entry entries);
 }
@@ -91,6 +95,7 @@ pub counts_init : (entry : Entry) (entries : List Entry) (old new : Kinds) → C
 counts_init entry entries old new c a = record {
   blocks = omega (arith, c.blocks, a.blocks, count_back is_block entry entries);
   roots = omega (arith, c.roots, a.roots, count_back is_root entry entries);
+  stores = λ line. omega (arith, c.stores line, a.stores line, count_back (stores_for line) entry entries);
   enters = λ epoch. omega (arith, c.enters epoch, a.enters epoch, count_back (enters epoch) entry entries);
   gots = λ from epoch round. omega (arith, c.gots from epoch round, a.gots (record { epoch = epoch; round = round; from = from }), count_back (is_got from epoch round) entry entries);
 }

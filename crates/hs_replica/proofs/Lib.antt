@@ -6,3 +6,4 @@ mod TellLemmas
 mod CountLemmas
 mod TallyLemmas
 mod KindLemmas
+mod StoreLemmas

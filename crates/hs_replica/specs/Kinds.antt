@@ -12,6 +12,11 @@ abbrev pub is_root : Entry → Bool
 is_root (kind.Root line held a key) = true
 is_root other = false
 
+-- whether it stores the block that this line asked for
+abbrev pub stores_for : ℕ → Entry → Bool
+stores_for asked (kind.Block line least bytes) = line == asked
+stores_for asked other = false
+
 -- whether it enters this epoch
 abbrev pub enters : ℕ → Entry → Bool
 enters next (kind.Enter line epoch) = epoch == next

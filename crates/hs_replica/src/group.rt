@@ -6,9 +6,10 @@ ghost use Rattle.hs_limits.specs.Shape.{IsShape};
 ghost use Rattle.hs_members.specs.Members.{IsShard};
 ghost use Rattle.hs_post.specs.declared.message.Message.TheVariants.{Copy};
 ghost use Rattle.hs_replica.specs.Group.{IsHome, commit_front, committed, copies_above, copy_of, first_peer, have, last_number, lead, lead_takes, length_of, new_group, no_copy, on_append, on_copied, on_emptied, on_have, on_sealed, on_view, others_from, proposal, propose, renew, resend, send_all, take_committed, takes, view_messages};
-ghost use Rattle.hs_replica.specs.Kinds.{enters, is_block, is_got, is_root};
+ghost use Rattle.hs_replica.specs.Kinds.{enters, is_block, is_got, is_root, stores_for};
 ghost use Rattle.hs_replica.specs.Keeping.{KeepsFront, take_at, takes_at};
 ghost use Rattle.hs_replica.specs.Sending.{copies_since, send_if_other};
+ghost use Rattle.hs_waits.specs.Lines.{IsFirstFrom};
 
 use crate::GroupFault;
 use crate::copies::{copies_of, tell_copies};
@@ -283,6 +284,14 @@ impl Group {
         ensures { result ≡ count_by is_block self.now.waiting }
     {
         self.waiting.blocks()
+    }
+
+    /// The first line from this one on of which one of these is a Block. None exactly where there is
+    /// none. It takes no memory.
+    pub fn first_block(&self, from: u64) -> Option<u64>
+        ensures { IsFirstFrom from (λ n. list_any (stores_for n) self.now.waiting) result }
+    {
+        self.waiting.first_block(from)
     }
 
     /// How many of these are Roots, which put roots. It takes no memory.

@@ -2,17 +2,19 @@
 ghost use Rattle.std.specs.Prelude.{[], ◌≡◌, OnErr, OnOk};
 ghost use Rattle.hs_replica.specs.Counting.{Adds, Counts, Holds, at_epoch};
 
+use crate::stores::Stores;
 use crate::tally::Tally;
 use hs_entry::Entry;
 use hs_rounds::Place;
 use std::alloc::{AllocError, Global};
 
-/// How many of some entries are Blocks and Roots, which epochs they enter, and of which rounds they
-/// are Gots.
-#[derive(Debug, Drop)]
+/// How many of some entries are Blocks and Roots, for which lines they store blocks, which epochs they
+/// enter, and of which rounds they are Gots.
+#[derive(Drop)]
 pub struct Kinds {
     pub blocks: u64,
     pub roots: u64,
+    pub stores: Stores,
     pub enters: Tally,
     pub gots: Tally,
 }
@@ -25,6 +27,7 @@ impl Kinds {
         Kinds {
             blocks: 0,
             roots: 0,
+            stores: Stores::new(alloc),
             enters: Tally::new(alloc),
             gots: Tally::new(alloc),
         }
@@ -37,10 +40,11 @@ impl Kinds {
         ensures same { OnErr result (self.new ≡ self.old) }
     {
         match entry {
-            Entry::Block { .. } => {
+            Entry::Block { op, .. } => {
                 let Some(blocks) = self.blocks.checked_add(1) else {
                     return Err(AllocError);
                 };
+                self.stores.add(*op)?;
                 self.blocks = blocks;
                 Ok(())
             }
@@ -78,7 +82,10 @@ impl Kinds {
         ensures { Holds entry.now self.old → Adds entry.now self.new self.old }
     {
         match entry {
-            Entry::Block { .. } => self.blocks = self.blocks.saturating_sub(1),
+            Entry::Block { op, .. } => {
+                self.stores.remove(*op);
+                self.blocks = self.blocks.saturating_sub(1);
+            }
             Entry::Root { .. } => self.roots = self.roots.saturating_sub(1),
             Entry::Enter { epoch, .. } => self.enters.remove(place_of(*epoch)),
             Entry::Got {
@@ -102,7 +109,7 @@ impl Kinds {
     }
 }
 
-/// Where an Enter of an epoch is counted.
+/// Where an Enter of an epoch, or a Block of a line, is counted.
 pub(crate) fn place_of(epoch: u64) -> Place
     ensures { result ≡ at_epoch epoch }
 {

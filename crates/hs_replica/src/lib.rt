@@ -9,6 +9,7 @@ mod laws;
 mod replica;
 mod sending;
 mod stamps;
+mod stores;
 mod tally;
 mod waiting;
 

@@ -1,7 +1,8 @@
 //! Entries that wait, lent as a slice and handed out at the front.
 ghost use Rattle.std.specs.Prelude.{◌≡◌, ◌∷◌, ◌++◌, ◌-◌, [], count_by, length, take, drop, slice_get, OnOk, OnErr};
 ghost use Rattle.std.specs.List.{list_any};
-ghost use Rattle.hs_replica.specs.Kinds.{enters, is_block, is_got, is_root};
+ghost use Rattle.hs_replica.specs.Kinds.{enters, is_block, is_got, is_root, stores_for};
+ghost use Rattle.hs_waits.specs.Lines.{IsFirstFrom};
 
 use crate::kinds::{Kinds, place_of};
 use hs_entry::Entry;
@@ -12,7 +13,7 @@ use std::mem::replace;
 
 /// Entries in order, and how many of them are of each kind. Those that were handed out leave the
 /// vector when they are half of it, so that none is moved more than once for each that is handed out.
-#[derive(Debug, Drop)]
+#[derive(Drop)]
 pub(crate) struct Waiting {
     items: Vec<Entry>,
     gone: usize,
@@ -119,6 +120,14 @@ impl Waiting {
         ensures { result ≡ count_by is_root self.now }
     {
         self.kinds.roots
+    }
+
+    /// The first line from this one on of which one is a Block. None exactly where there is none. It
+    /// takes no memory.
+    pub(crate) fn first_block(&self, from: u64) -> Option<u64>
+        ensures { IsFirstFrom from (λ n. list_any (stores_for n) self.now) result }
+    {
+        self.kinds.stores.first(from)
     }
 
     /// Whether one is an Enter of an epoch. It takes no memory.

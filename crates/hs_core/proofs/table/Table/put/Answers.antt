@@ -1,9 +1,11 @@
-use Rattle.std.proofs.Common.{Some, ap}
-use Rattle.hs_core.proofs.IndexLemmas.{table_moved}
+use Rattle.std.proofs.Common.{Some, cond, ap, ◌∙◌}
+use Rattle.std.specs.BTreeMap.{is_at}
+use Rattle.std.specs.Ordering.{nat_cmp}
+use Rattle.hs_core.specs.Indexing.{found_in}
 use Rattle.hs_core.proofs.table.Table.put.Goals as goal
 
 pub returns-clause-index : goal.returns-clause-index
 returns-clause-index c =
-    table_moved c.args.line (Some c.args.waiting) c.in_ok-name.name c.cause_of-cause.result c.args.self.now c.move_session.new.self c.move_wait.new.self c.insert.new.self.entries c.requires
-    c.in_ok-name.ensures c.cause_of-cause.ensures c.in_ok-move_session.ensures.map c.in_ok-move_session.ensures.waits c.in_ok-move_session.ensures.ok
-    c.in_ok-move_wait.ensures.map c.in_ok-move_wait.ensures.sessions c.in_ok-move_wait.ensures.ok c.in_ok-insert.ensures.updates.0
+    let its = c.in_ok-move_lines.ensures.index c.insert.new.self.entries
+    (λ q. c.in_ok-insert.ensures.updates.0 q ∙ ap (λ m. cond (is_at (nat_cmp c.args.line) q) (Some c.args.waiting) (found_in m.entries q)) c.in_ok-move_lines.ensures.map) in
+    record { index = its.index; stored = its.stored; shards = its.shards }

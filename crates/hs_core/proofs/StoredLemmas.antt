@@ -1,0 +1,271 @@
+-- The lines by the blocks that their Blocks store: they stay those of the operations, and tell what is coming.
+use Rattle.std.proofs.Common.{◌≡◌, ◌∙◌, sym, ap, subst, ℕ, ◌<◌, ◌≤◌, Bool, true, false, cond, List, [], ◌∷◌, Option, Some, None, option_and_then, refl, ◌||◌, ◌⊎◌, inl, inr, arith, bytes_eq}
+use Rattle.std.proofs.lemmas.Bool.{cases_lt, eq-eqb, eqb-true}
+use Rattle.std.proofs.lemmas.Slice.Eq.{bytes_eq-Decides}
+use Rattle.std.specs.BTreeMap.{is_at}
+use Rattle.std.specs.List.{list_any}
+use Rattle.std.specs.Map.{set_value}
+use Rattle.std.specs.Option.{is_some, option_map_or}
+use Rattle.std.specs.Ordering.{nat_cmp}
+use Rattle.hs_core.proofs.IndexLemmas.{at_changed, key_changed, put_by, waits_alike}
+use Rattle.hs_core.specs.declared.next.Next.{Next}
+use Rattle.hs_core.specs.declared.table.Table.{Table}
+use Rattle.hs_core.specs.declared.wait.Wait.{Wait}
+use Rattle.hs_core.specs.declared.waiting.Waiting.{Waiting}
+use Rattle.hs_core.specs.Going.{judge_in, judged_by, next_step}
+use Rattle.hs_core.specs.Indexing.{AreMet, AreStored, found_in, passes, stands, store_cause, stores, storing, wait_in}
+use Rattle.hs_core.specs.Looking.{operation_of}
+use Rattle.hs_core.specs.Pending.{is_address, named}
+use Rattle.hs_core.specs.State.{Core}
+use Rattle.hs_entry.specs.declared.entry.Entry.{Entry}
+use Rattle.hs_entry.specs.declared.entry.Entry.TheVariants as kind
+use Rattle.hs_limits.specs.declared.address.Address.{Address}
+use Rattle.hs_model.specs.declared.op.Op.{Op}
+use Rattle.hs_model.specs.declared.op.Op.TheVariants as op
+use Rattle.hs_ops.specs.Speaking.{wanted_address}
+use Rattle.hs_ops.specs.Views.{OpView}
+use Rattle.hs_replica.specs.Kinds.{stores_for}
+use Rattle.hs_tokens.specs.Seats.{Seats}
+use Rattle.hs_waits.specs.Causes.{AreWaits, is_same, waits}
+use Rattle.hs_waits.specs.declared.cause.Cause.{Cause}
+use Rattle.hs_waits.specs.declared.cause.Cause.TheVariants as cause
+use Rattle.hs_waits.specs.Lines.{IsFirstFrom, changed}
+
+-- ---- the lines stay those of the operations
+
+-- where the operations are alike, by what their Blocks store
+pub stored_alike : (found next : ℕ → Option Waiting) (lines : List (Cause × ℕ)) → AreStored found lines → ((n : ℕ) → option_and_then storing (next n) ≡ option_and_then storing (found n)) → AreStored next lines
+stored_alike found next lines are same = waits_alike (λ n. option_and_then storing (found n)) (λ n. option_and_then storing (next n)) lines are same
+
+-- what is waited for is left as it is
+pub waits_left : (line : ℕ) (cause : Option Cause) (keys : ℕ → Option Cause) (before : List (Cause × ℕ)) (u v : Table) → v.waits ≡ u.waits
+    → (AreWaits keys before → AreWaits (changed line cause keys) u.waits) → AreWaits keys before → AreWaits (changed line cause keys) v.waits
+waits_left line cause keys before u v same moves are = subst (λ (x : List (Cause × ℕ)). AreWaits (changed line cause keys) x) (sym same) (moves are)
+
+-- so is what is stored
+pub stored_left : (line : ℕ) (cause : Option Cause) (keys : ℕ → Option Cause) (before : List (Cause × ℕ)) (v x : Table) → x.stored ≡ v.stored
+    → (AreWaits keys before → AreWaits (changed line cause keys) v.stored) → AreWaits keys before → AreWaits (changed line cause keys) x.stored
+stored_left line cause keys before v x same moves are = subst (λ (y : List (Cause × ℕ)). AreWaits (changed line cause keys) y) (sym same) (moves are)
+
+-- one line changes
+pub stored_moved : (line : ℕ) (new : Option Waiting) (cause : Option Cause) (t u v : Table) (es : List (ℕ × Waiting)) → AreStored (found_in t.map.entries) t.stored
+    → cause ≡ option_and_then storing new → u.map ≡ t.map → u.stored ≡ t.stored → v.map ≡ u.map
+    → (AreStored (found_in u.map.entries) u.stored → AreWaits (changed line cause (λ n. option_and_then storing (found_in u.map.entries n))) v.stored)
+    → ((q : ℕ) → found_in es q ≡ cond (is_at (nat_cmp line) q) new (found_in v.map.entries q))
+    → AreStored (found_in es) v.stored
+stored_moved line new cause t u v es are caused same_map same_stored then_map moves found =
+    let before : AreStored (found_in u.map.entries) u.stored
+    = subst (λ (x : List (Cause × ℕ)). AreStored (found_in u.map.entries) x) (sym same_stored)
+    (stored_alike (found_in t.map.entries) (found_in u.map.entries) t.stored are (λ n. ap (λ m. option_and_then storing (found_in m.entries n)) same_map)) in
+    let causes : AreWaits (changed line (option_and_then storing new) (λ n. option_and_then storing (found_in u.map.entries n))) v.stored
+    = subst (λ (x : Option Cause). AreWaits (changed line x (λ n. option_and_then storing (found_in u.map.entries n))) v.stored) caused (moves before) in
+    let at : (n : ℕ) → found_in es n ≡ changed line new (found_in u.map.entries) n
+    = λ n. at_changed line new v.map.entries es found n ∙ ap (λ m. changed line new (found_in m.entries) n) then_map in
+    waits_alike (changed line (option_and_then storing new) (λ n. option_and_then storing (found_in u.map.entries n))) (λ n. option_and_then storing (found_in es n)) v.stored causes
+    (λ n. ap (option_and_then storing) (at n) ∙ key_changed storing line new (found_in u.map.entries) n)
+
+-- one that waits for something else
+pub stored_waits : (line : ℕ) (what : Wait) (t u : Table) (es : List (ℕ × Waiting)) (w : Waiting) → AreStored (found_in t.map.entries) t.stored → found_in t.map.entries line ≡ Some w
+    → u.map ≡ t.map → u.stored ≡ t.stored → es ≡ wait_in line what u.map.entries → AreStored (found_in es) u.stored
+stored_waits line what t u es w are found same_map same_stored made =
+    let old : List (ℕ × Waiting) = t.map.entries in
+    let new : Waiting = record w { wait = what } in
+    let put : wait_in line what old ≡ set_value (is_at (nat_cmp line)) old new = rw found refl in
+    let set : es ≡ set_value (is_at (nat_cmp line)) old new = made ∙ ap (λ m. wait_in line what m.entries) same_map ∙ put in
+    subst (λ (x : List (Cause × ℕ)). AreStored (found_in es) x) (sym same_stored)
+    (stored_alike (found_in old) (found_in es) t.stored are (λ n. ap (λ x. option_and_then storing (found_in x n)) set ∙ put_by storing line old w new found refl n))
+
+-- one that takes a step
+pub stored_judged : (how : Next) (pointers : List Address) (v : OpView) (line : ℕ) (es next : List (ℕ × Waiting)) (lines : List (Cause × ℕ)) → AreStored (found_in es) lines
+    → next ≡ judge_in how pointers v line es → AreStored (found_in next) lines
+stored_judged how pointers v line es next lines are made = go (found_in es line) refl
+  where
+    go : (o : Option Waiting) → found_in es line ≡ o → AreStored (found_in next) lines
+    go None e =
+        let same : judge_in how pointers v line es ≡ es = rw e refl in
+        subst (λ (x : List (ℕ × Waiting)). AreStored (found_in x) lines) (sym (made ∙ same)) are
+    go (Some w) e =
+        let new : Waiting = judged_by (next_step how pointers v w.operation) w in
+        let put : judge_in how pointers v line es ≡ set_value (is_at (nat_cmp line)) es new = rw e refl in
+        subst (λ (x : List (ℕ × Waiting)). AreStored (found_in x) lines) (sym (made ∙ put))
+        (stored_alike (found_in es) (found_in (set_value (is_at (nat_cmp line)) es new)) lines are (put_by storing line es w new e refl))
+
+-- the first line of an address is that of the first operation whose Block stores it
+pub first_stores : (es : List (ℕ × Waiting)) (lines : List (Cause × ℕ)) (c : Cause) (from : ℕ) (first : Option ℕ) → AreStored (found_in es) lines
+    → IsFirstFrom from (waits lines c) first → IsFirstFrom from (passes (stores c) es) first
+first_stores es lines c from first are h = go first h
+  where
+    by_cause : (o : Option Waiting) → option_map_or (stores c) o false ≡ option_map_or (λ d. is_same d c) (option_and_then storing o) false
+    by_cause None = refl
+    by_cause (Some w) = refl
+
+    same : (n : ℕ) → passes (stores c) es n ≡ waits lines c n
+    same n = by_cause (found_in es n) ∙ sym (are c n)
+
+    go : (first : Option ℕ) → IsFirstFrom from (waits lines c) first → IsFirstFrom from (passes (stores c) es) first
+    go None h = λ n far. same n ∙ h n far
+    go (Some k) h = (h.0, same k ∙ h.1, λ n far found. h.2 n far (sym (same n) ∙ found))
+
+-- ---- one line after another: those of Blocks, and those of operations from there on
+
+module _ (p q : ℕ → Bool) (from : ℕ) (low : (n : ℕ) → n < from → p n ≡ true → q n ≡ false) where
+  -- no Block is left
+  pub none_left : IsFirstFrom from p None → (n : ℕ) → p n ≡ true → q n ≡ false
+  none_left h n found = go (cases_lt n from)
+    where
+      go : (n < from) ⊎ (from ≤ n) → q n ≡ false
+      go (inl less) = low n less found
+      go (inr far) = let wrong : true ≡ false = sym found ∙ h n far in cc
+
+  -- no operation is left
+  pub none_further : (block : ℕ) → IsFirstFrom from p (Some block) → IsFirstFrom block q None → (n : ℕ) → p n ≡ true → q n ≡ false
+  none_further block first h n found = go (cases_lt n from)
+    where
+      go : (n < from) ⊎ (from ≤ n) → q n ≡ false
+      go (inl less) = low n less found
+      go (inr far) = h n (first.2 n far found)
+
+  -- both are there
+  pub both_there : (block line : ℕ) → IsFirstFrom from p (Some block) → IsFirstFrom block q (Some line) → line ≡ block → (p line ≡ true) × (q line ≡ true)
+  both_there block line first next same = (ap p same ∙ first.1, next.1)
+
+  -- below the operation there is none
+  pub none_below : (block line : ℕ) → IsFirstFrom from p (Some block) → IsFirstFrom block q (Some line) → (n : ℕ) → n < line → p n ≡ true → q n ≡ false
+  none_below block line first next n less found = go (cases_lt n from)
+    where
+      passed : (b : Bool) → q n ≡ b → block ≤ n → b ≡ false
+      passed false e far = refl
+      passed true e far = let above : line ≤ n = next.2 n far e in absurd (omega (arith, above, less))
+
+      go : (n < from) ⊎ (from ≤ n) → q n ≡ false
+      go (inl under) = low n under found
+      go (inr far) = passed (q n) refl (first.2 n far found)
+
+-- ---- what is coming
+
+same_bool : (a b : Bool) → (a ≡ true → b ≡ true) → (b ≡ true → a ≡ true) → a ≡ b
+same_bool true b f g = sym (f refl)
+same_bool false true f g = g refl
+same_bool false false f g = refl
+
+turned : (xs ys : List ℕ) → bytes_eq xs ys ≡ true → bytes_eq ys xs ≡ true
+turned xs ys h = (bytes_eq-Decides ys xs).1 (sym ((bytes_eq-Decides xs ys).0 h))
+
+alike : (xs ys : List ℕ) → bytes_eq xs ys ≡ bytes_eq ys xs
+alike xs ys = same_bool (bytes_eq xs ys) (bytes_eq ys xs) (turned xs ys) (turned ys xs)
+
+-- by the operation
+abbrev stores_op : Cause → Op → Bool
+stores_op c o = option_map_or (λ d. is_same d c) (store_cause o) false
+
+unnamed : (seats : Seats) (a : Address) (o : Op) → stores_op (cause.Other 0) o ≡ false → stores_op (cause.Block 0 a) o ≡ false → is_address a (wanted_address seats o) ≡ false
+unnamed seats a (op.Write name payload handles (Some b)) reads writes = alike a.0 b.0 ∙ writes
+unnamed seats a (op.Write name payload handles None) reads writes = refl
+unnamed seats a (op.Read name handle) reads writes = let wrong : true ≡ false = reads in cc
+unnamed seats a (op.Open name) reads writes = refl
+unnamed seats a (op.Close name) reads writes = refl
+unnamed seats a (op.Look name key) reads writes = refl
+unnamed seats a (op.Root name key handle) reads writes = refl
+unnamed seats a (op.Drop key) reads writes = refl
+unnamed seats a (op.Forget name handle) reads writes = refl
+unnamed seats a (op.Name name handle) reads writes = refl
+unnamed seats a op.Delete reads writes = refl
+unnamed seats a op.Stat reads writes = refl
+
+named_so : (seats : Seats) (a : Address) (o : Op) → stores_op (cause.Block 0 a) o ≡ true → is_address a (wanted_address seats o) ≡ true
+named_so seats a (op.Write name payload handles (Some b)) writes = alike a.0 b.0 ∙ writes
+named_so seats a (op.Write name payload handles None) writes = let wrong : false ≡ true = writes in cc
+named_so seats a (op.Read name handle) writes = let wrong : false ≡ true = writes in cc
+named_so seats a (op.Open name) writes = let wrong : false ≡ true = writes in cc
+named_so seats a (op.Close name) writes = let wrong : false ≡ true = writes in cc
+named_so seats a (op.Look name key) writes = let wrong : false ≡ true = writes in cc
+named_so seats a (op.Root name key handle) writes = let wrong : false ≡ true = writes in cc
+named_so seats a (op.Drop key) writes = let wrong : false ≡ true = writes in cc
+named_so seats a (op.Forget name handle) writes = let wrong : false ≡ true = writes in cc
+named_so seats a (op.Name name handle) writes = let wrong : false ≡ true = writes in cc
+named_so seats a op.Delete writes = let wrong : false ≡ true = writes in cc
+named_so seats a op.Stat writes = let wrong : false ≡ true = writes in cc
+
+module _ (core : Core) (a : Address) where
+  -- whether the Block of a line is of this address
+  abbrev names : ℕ → Bool
+  names n = is_address a (option_and_then (λ w. wanted_address core.sessions w.operation.op) (operation_of n core))
+
+  abbrev test : Entry → Bool
+  test e = is_address a (named e core)
+
+  by_neither : (n : ℕ) → passes (stores (cause.Other 0)) core.operations n ≡ false → passes (stores (cause.Block 0 a)) core.operations n ≡ false → names n ≡ false
+  by_neither n = go (operation_of n core)
+    where
+      go : (o : Option Waiting) → option_map_or (stores (cause.Other 0)) o false ≡ false → option_map_or (stores (cause.Block 0 a)) o false ≡ false
+          → is_address a (option_and_then (λ w. wanted_address core.sessions w.operation.op) o) ≡ false
+      go None reads writes = refl
+      go (Some w) reads writes = unnamed core.sessions a w.operation.op reads writes
+
+  by_write : (n : ℕ) → passes (stores (cause.Block 0 a)) core.operations n ≡ true → names n ≡ true
+  by_write n = go (operation_of n core)
+    where
+      go : (o : Option Waiting) → option_map_or (stores (cause.Block 0 a)) o false ≡ true → is_address a (option_and_then (λ w. wanted_address core.sessions w.operation.op) o) ≡ true
+      go None writes = let wrong : false ≡ true = writes in cc
+      go (Some w) writes = named_so core.sessions a w.operation.op writes
+
+  -- an entry that is no Block of a line of this address
+  fails : (e : Entry) → ((n : ℕ) → stores_for n e ≡ true → names n ≡ false) → test e ≡ false
+  fails (kind.Block line least bytes) none = none line (eq-eqb line line refl)
+  fails (kind.View view) none = refl
+  fails (kind.Mark line least block b) none = refl
+  fails (kind.Root line held kept key) none = refl
+  fails (kind.Drop line key) none = refl
+  fails (kind.Enter line epoch) none = refl
+  fails (kind.Got sender epoch round total deltas) none = refl
+  fails (kind.Base view epoch swept round frames) none = refl
+  fails (kind.KeptBlock born mark flags count bytes) none = refl
+  fails (kind.KeptRoot created dropped counted address key) none = refl
+  fails (kind.KeptRound way other epoch round total deltas) none = refl
+
+  -- and one that is
+  holds : (e : Entry) (n : ℕ) → stores_for n e ≡ true → names n ≡ true → test e ≡ true
+  holds (kind.Block line least bytes) n at is = ap names (eqb-true line n at) ∙ is
+  holds (kind.View view) n at is = let wrong : false ≡ true = at in cc
+  holds (kind.Mark line least block b) n at is = let wrong : false ≡ true = at in cc
+  holds (kind.Root line held kept key) n at is = let wrong : false ≡ true = at in cc
+  holds (kind.Drop line key) n at is = let wrong : false ≡ true = at in cc
+  holds (kind.Enter line epoch) n at is = let wrong : false ≡ true = at in cc
+  holds (kind.Got sender epoch round total deltas) n at is = let wrong : false ≡ true = at in cc
+  holds (kind.Base view epoch swept round frames) n at is = let wrong : false ≡ true = at in cc
+  holds (kind.KeptBlock born mark flags count bytes) n at is = let wrong : false ≡ true = at in cc
+  holds (kind.KeptRoot created dropped counted address key) n at is = let wrong : false ≡ true = at in cc
+  holds (kind.KeptRound way other epoch round total deltas) n at is = let wrong : false ≡ true = at in cc
+
+  or_left : (x y : Bool) → x ≡ true → (x || y) ≡ true
+  or_left true y e = refl
+  or_left false y e = cc e
+
+  or_right : (x y : Bool) → y ≡ true → (x || y) ≡ true
+  or_right true y e = refl
+  or_right false y e = e
+
+  or_none : (x y : Bool) → x ≡ false → y ≡ false → (x || y) ≡ false
+  or_none x y e f = rw (e, f) refl
+
+  -- of all entries
+  none_coming : (entries : List Entry) → ((n : ℕ) → stands entries n ≡ true → names n ≡ false) → list_any test entries ≡ false
+  none_coming [] none = refl
+  none_coming (e ∷ es) none =
+      or_none (test e) (list_any test es) (fails e (λ n at. none n (or_left (stores_for n e) (stands es n) at)))
+      (none_coming es (λ n at. none n (or_right (stores_for n e) (stands es n) at)))
+
+  some_coming : (entries : List Entry) (n : ℕ) → stands entries n ≡ true → names n ≡ true → list_any test entries ≡ true
+  some_coming [] n found is = let wrong : false ≡ true = found in cc
+  some_coming (e ∷ es) n found is = go (stores_for n e) refl (λ further. some_coming es n further is)
+    where
+      go : (b : Bool) → stores_for n e ≡ b → (stands es n ≡ true → list_any test es ≡ true) → list_any test (e ∷ es) ≡ true
+      go true here ih = or_left (test e) (list_any test es) (holds e n here is)
+      go false here ih = let further : stands es n ≡ true = rw here at found in or_right (test e) (list_any test es) (ih further)
+
+  -- where no operation that reads has a Block among them, it is told by the writes
+  pub coming_met : (entries : List Entry) (read write : Option ℕ) → AreMet (cause.Other 0) entries core.operations read → is_some read ≡ false
+      → AreMet (cause.Block 0 a) entries core.operations write → is_some write ≡ list_any test entries
+  coming_met entries (Some n) write reads none writes = let wrong : true ≡ false = none in cc
+  coming_met entries None None reads none writes = sym (none_coming entries (λ n at. by_neither n (reads n at) (writes n at)))
+  coming_met entries None (Some n) reads none writes = sym (some_coming entries n writes.0 (by_write n writes.1))
