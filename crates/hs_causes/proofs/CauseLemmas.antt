@@ -1,11 +1,12 @@
 -- Each status has its cause.
-use Rattle.std.proofs.Common.{◌≡◌, inl, inr, ◌∙◌, ap, sym, subst, ◌++◌, ◌<◌, true, false, [], Option, Some, None, IfSome, refl, length}
+use Rattle.std.proofs.Common.{◌≡◌, inl, inr, ◌∙◌, ap, sym, subst, ℕ, ◌++◌, ◌<◌, true, false, [], Option, Some, None, IfSome, refl, length}
 use Rattle.std.proofs.lemmas.List.Elements.{All-from_recursion}
 use Rattle.std.specs.Prelude.{if◌then◌else◌}
 use Rattle.hs_causes.proofs.ListLemmas.{not_both}
 use Rattle.hs_causes.proofs.LostLemmas.{lost_cause}
 use Rattle.hs_causes.proofs.RunLemmas.{last_kept, refused_stands}
 use Rattle.hs_desk.specs.declared.fault.CoreFault.TheVariants as fault
+use Rattle.hs_events.specs.Taken.{peer_count}
 use Rattle.hs_limits.specs.declared.limits.Limits.{Limits}
 use Rattle.hs_ports.specs.Fault.{HasRisen}
 use Rattle.hs_promise.specs.Answers.{IsEntry}
@@ -16,14 +17,16 @@ use Rattle.hs_promise.specs.Ending.{ending_of}
 use Rattle.hs_promise.specs.Machine.{NeverOpened, Went, WentAs}
 use Rattle.hs_promise.specs.Run.{Ran, Script}
 use Rattle.hs_promise.specs.Story.{Story, last_core}
+use Rattle.hs_side.specs.declared.header.Header.{Header}
 use Rattle.hs_told.specs.InTurn.{told_of}
 
--- what a fault of the source or the sink shows
-pub record AreBlamed (r : Ran) : Type 0 where
+-- what a fault of the source or the sink shows, and a disk of another store
+pub record AreBlamed (S : Script) (r : Ran) : Type 0 where
   pub read : r.ending ≡ status.ReadFault → HasRisen r.old.source_faults r.new.source_faults
   pub write : r.ending ≡ status.WriteFault → HasRisen r.old.sink_faults r.new.sink_faults
+  pub shape : (peer : ℕ) (found : Header) → r.ending ≡ status.WrongShape peer found → peer < peer_count S.set.shape
 
-module _ (S : Script) (r : Ran) (blamed : AreBlamed r) where
+module _ (S : Script) (r : Ran) (blamed : AreBlamed S r) where
   -- ---- no core was opened
 
   module _ (never : NeverOpened r) where
@@ -41,7 +44,7 @@ module _ (S : Script) (r : Ran) (blamed : AreBlamed r) where
     never_cause status.ReadFault e = (never.refused, blamed.read e)
     never_cause status.WriteFault e = (never.refused, blamed.write e)
     never_cause status.NoMemory e = never.refused
-    never_cause (status.WrongShape peer found) e = (never.refused, never.journal, never.course)
+    never_cause (status.WrongShape peer found) e = (never.refused, never.journal, never.course, blamed.shape peer found e)
     never_cause status.OpsFull e = absurd (opens status.OpsFull e refl refl)
     never_cause status.InputFull e = never.refused
 
@@ -78,6 +81,6 @@ module _ (S : Script) (r : Ran) (blamed : AreBlamed r) where
     went_cause status.OpsFull e = (too_long e, All-from_recursion (IsEntry S r.line) r.refused (refused_stands S r story went))
     went_cause status.InputFull e = clean status.InputFull e refl
 
-pub cause_is : (S : Script) (r : Ran) (how : Option Story) → S.set.shape.copies ≡ 1 → WentAs S r how → AreBlamed r → Cause S r r.ending
+pub cause_is : (S : Script) (r : Ran) (how : Option Story) → S.set.shape.copies ≡ 1 → WentAs S r how → AreBlamed S r → Cause S r r.ending
 cause_is S r None one never blamed = never_cause S r blamed never r.ending refl
 cause_is S r (Some story) one went blamed = went_cause S r blamed one story went r.ending refl

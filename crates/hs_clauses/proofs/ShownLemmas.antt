@@ -5,7 +5,7 @@ use Rattle.std.specs.Prelude.{IsSome, true}
 use Rattle.hs_clauses.specs.Shown.{HaveOneList, IsShown, IsUnopened, KeepLists, KeepsList, OnDisks}
 use Rattle.hs_cluster.specs.Disks.{DiskSeen, seen_at, stands_of}
 use Rattle.hs_cluster.specs.Kept.{Span}
-use Rattle.hs_cluster.specs.Opens.{AreSound}
+use Rattle.hs_cluster.specs.Opens.{LeaveOneList}
 use Rattle.hs_cluster.specs.RunsOn.{RunsOn}
 use Rattle.hs_cluster.specs.Unopened.{LeavesAsTaken}
 use Rattle.hs_events.specs.Course.{happened}
@@ -49,7 +49,7 @@ keeps_list tells r p before now old new told start was is keeps called list only
 
 module _ (tells : Type 0) (S : Script) (r : Ran) (story : Story) (on : OnDisks S r) (span : Span) (told : tells) (before : span.before ≡ r.old.moment) (now : span.now ≡ r.new.moment)
     (old : stands_of span.disks ≡ r.old.disks) (new : stands_of span.left ≡ r.new.disks) (runs : RunsOn tells S.set span story.found (all_events story)) where
-  sound : HaveOneList r → AreSound span.before span.disks
+  sound : HaveOneList r → LeaveOneList span.before span.disks
   sound h = record {
     called = λ p. let last = ap (λ (d : Standing). d.last) (seen_as span.disks r.old.disks p old) in let low = h.called p in omega (arith, last, low, before);
     only = λ p list read.

@@ -4,7 +4,7 @@ use Rattle.std.proofs.lemmas.Bool.{cases_eq, cases_lt}
 use Rattle.std.specs.Option.{option_map_or}
 use Rattle.std.specs.Prelude.{◌==◌, ◌||◌, ⊤, IfErr, IfOk, IfSome, Result, Ok, Err, if◌then◌else◌, min, slice_index_or, slice_set}
 use Rattle.hs_cluster.specs.Calls.{done_of, ran_out}
-use Rattle.hs_cluster.specs.Counts.{AreAllCounted, AreCounted, HasAllPaid, HasPaid, IsCopyPaid, IsPaid, NoneFalls}
+use Rattle.hs_cluster.specs.Counts.{AllStandUntold, AreAllCounted, AreCounted, HasAllPaid, HasPaid, IsCopyPaid, IsPaid, NoneFalls, NoneRises, StandsUntold}
 use Rattle.hs_cluster.specs.declared.fault.ClusterFault.{ClusterFault}
 use Rattle.hs_cluster.specs.Disks.{DiskSeen, seen_at}
 use Rattle.hs_core.specs.declared.event.Event.{Event}
@@ -20,7 +20,7 @@ use Rattle.hs_events.specs.Asked.{failed_disk, report_in}
 use Rattle.hs_events.specs.Course.{steps}
 use Rattle.hs_events.specs.Due.{Events}
 use Rattle.hs_events.specs.Reports.{costs, failures, only_reads}
-use Rattle.hs_peerlog.specs.Caused.{IsCaused, IsOutside}
+use Rattle.hs_peerlog.specs.Caused.{IsCalm, IsCaused, IsOutside}
 use Rattle.hs_peerlog.specs.declared.fault.LogFault.{LogFault}
 use Rattle.hs_peerlog.specs.declared.fault.LogFault.TheVariants as log
 use Rattle.hs_ports.specs.Fault.{HasRisen}
@@ -205,6 +205,59 @@ outside_memory (Err fault) h = subst (λ f. IsOutside f) (sym h) tt
 pub outside_disk : {T : Type 0} (result : Result T LogFault) → IfErr result (λ fault. fault ≡ log.Disk) → IfErr result IsOutside
 outside_disk (Ok x) h = tt
 outside_disk (Err fault) h = subst (λ f. IsOutside f) (sym h) tt
+
+-- ---- a job whose count stands
+
+-- of whatever was answered, where the count stands
+pub calm_still : {T : Type 0} (before now : ℕ) (result : Result T LogFault) → now ≡ before → IsCalm before now result
+calm_still before now (Ok x) still = still
+calm_still before now (Err (log.NotALog at)) still = still
+calm_still before now (Err (log.WrongShape found)) still = still
+calm_still before now (Err log.Disk) still = tt
+calm_still before now (Err log.NoMemory) still = tt
+
+-- one of several disks had a call that did not fail
+pub rises_not : {A : Type 0} (f : A → DiskSeen) (disks : List A) (place : ℕ) (d disk : A) → place < length disks → (f disk).faults ≡ (f (slice_index_or disks place d)).faults → NoneRises (map f disks) (map f (slice_set disks place disk))
+rises_not f disks place d disk low still = λ at. elim (cases_eq at place) [
+  | inl same ↦ subst (λ p. (seen_at (map f (slice_set disks place disk)) p).faults ≡ (seen_at (map f disks) p).faults) (sym same)
+      (ap (λ (s : DiskSeen). s.faults) (seen_here f disks place disk low) ∙ still ∙ sym (ap (λ (s : DiskSeen). s.faults) (seen_is f disks place d low)))
+  | inr differs ↦ ap (λ (s : DiskSeen). s.faults) (seen_there f disks place at disk differs)
+]
+
+-- it failed, and that is told of its peer, which has its place
+pub stand_failed : {A : Type 0} (f : A → DiskSeen) (disks : List A) (peer place : ℕ) (disk : A) → place ≡ peer → AllStandUntold (done.Failed peer) (map f disks) (map f (slice_set disks place disk))
+stand_failed f disks peer place disk same = λ at other. ap (λ (s : DiskSeen). s.faults) (seen_there f disks place at disk (λ is. other (ap (λ n. Some n) (sym (is ∙ same)))))
+
+-- whatever it came to
+pub stand_at : {E A : Type 0} (f : A → DiskSeen) (disks : List A) (peer place : ℕ) (d disk : A) (result : Result Done E) → place ≡ peer → place < length disks
+    → IfOk result (StandsUntold peer (f (slice_index_or disks place d)).faults (f disk).faults) → IfOk result (λ told. AllStandUntold told (map f disks) (map f (slice_set disks place disk)))
+stand_at f disks peer place d disk (Err fault) same low stands = tt
+stand_at f disks peer place d disk (Ok told) same low stands = λ at other. elim (cases_eq at place) [
+  | inl is ↦ subst (λ p. (seen_at (map f (slice_set disks place disk)) p).faults ≡ (seen_at (map f disks) p).faults) (sym is)
+      (ap (λ (s : DiskSeen). s.faults) (seen_here f disks place disk low)
+      ∙ stands (λ fails. other (fails ∙ ap (λ n. Some n) (sym (is ∙ same))))
+      ∙ sym (ap (λ (s : DiskSeen). s.faults) (seen_is f disks place d low)))
+  | inr differs ↦ ap (λ (s : DiskSeen). s.faults) (seen_there f disks place at disk differs)
+]
+
+-- behind calls that did not fail
+pub stand_then : {E : Type 0} (old mid new : List DiskSeen) (result : Result Done E) → NoneRises old mid → IfOk result (λ told. AllStandUntold told mid new) → IfOk result (λ told. AllStandUntold told old new)
+stand_then old mid new (Ok told) first stands = λ at other. stands at other ∙ first at
+stand_then old mid new (Err fault) first stands = tt
+
+-- where none failed
+pub stand_all : (told : Done) (old new : List DiskSeen) → failed_disk told ≡ None → AllStandUntold told old new → NoneRises old new
+stand_all told old new fine stands = λ at. stands at (λ fails. some_is_not at (sym fails ∙ fine))
+
+pub rises_then : (old mid new : List DiskSeen) → NoneRises old mid → NoneRises mid new → NoneRises old new
+rises_then old mid new one two = λ at. two at ∙ one at
+
+-- past the last disk no count rises
+pub rises_within : (old new : List DiskSeen) → length new ≡ length old → ((disk : ℕ) → disk < length old → (seen_at new disk).faults ≡ (seen_at old disk).faults) → NoneRises old new
+rises_within old new same within = λ disk. elim (cases_lt disk (length old)) [
+  | inl low ↦ within disk low
+  | inr past ↦ seen_past new disk (omega (arith, past, same)) ∙ sym (seen_past old disk past)
+]
 
 -- ---- events
 

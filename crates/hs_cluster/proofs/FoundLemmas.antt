@@ -366,6 +366,7 @@ module _ (tells : Type 0) (set : Setting) (span : Span) (taken : Taken) (one : s
       read = read;
       good = good_is peer low;
       kept = has_log;
+      calm = λ good. (has peer low).calm (sym (good_is peer low) ∙ good);
       aside = aside;
       disk = (has peer low).disk;
       log = log;

@@ -5,15 +5,19 @@ use Rattle.std.proofs.lemmas.List.{get_or_past, take_at}
 use Rattle.std.proofs.lemmas.List.Elements.{All-cons, All-nil}
 use Rattle.std.specs.List.{All, enumerate_from}
 use Rattle.std.specs.Prelude.{IsSome, OnOk, Result, Ok, Err, ⊤, take}
+use Rattle.hs_cluster.proofs.CountLemmas.{rises_within}
 use Rattle.hs_cluster.proofs.EventLemmas.{still_going}
 use Rattle.hs_cluster.proofs.FoundLemmas.{begins_so, finds, found, opens_so, was_read}
-use Rattle.hs_cluster.proofs.OpeningMoves.{all_good, jobs_first, same_members, sealed_first}
+use Rattle.hs_cluster.proofs.OpeningMoves.{all_good, alone_sane, alone_whole, jobs_first, same_members, sealed_first}
+use Rattle.hs_cluster.proofs.ShowLemmas.{rises_to}
 use Rattle.hs_cluster.specs.Begins.{Begins, HasOpened}
 use Rattle.hs_cluster.specs.Calls.{Does, ran_out}
+use Rattle.hs_cluster.specs.Calm.{GoesCalmly}
 use Rattle.hs_cluster.specs.Counts.{AreAllCounted, AreCounted}
 use Rattle.hs_cluster.specs.declared.fault.ClusterFault.{ClusterFault}
 use Rattle.hs_cluster.specs.Kept.{CanGoOn, CanRead, KeepsLogs, LeavesLists, ReadsLogs, sealed_front}
-use Rattle.hs_cluster.specs.Opens.{AreSound, Finds, IsFound, Opens}
+use Rattle.hs_cluster.specs.Opens.{Finds, IsFound, LeaveOneList, Opens}
+use Rattle.hs_cluster.specs.Past.{HoldsLog, LeavesPast}
 use Rattle.hs_cluster.specs.Rooms.{HaveRecordRoom}
 use Rattle.hs_cluster.specs.Running.{Running}
 use Rattle.hs_core.specs.Looking.{group_of, home}
@@ -49,7 +53,9 @@ use Rattle.hs_ports.specs.MemoryDisk.{untold}
 use Rattle.hs_ports.specs.Moments.{disk_at}
 use Rattle.hs_replica.specs.Group.{entries_above, length_of}
 use Rattle.hs_side.specs.Current.{list_in}
+use Rattle.hs_taking.proofs.PastLemmas.{past_still, past_then, past_wait}
 use Rattle.hs_taking.specs.Disks.{DiskSeen, log_at, seen_at, stands_of}
+use Rattle.hs_taking.specs.Past.{PastStays}
 use Rattle.hs_taking.specs.Shares.{Span, Taken}
 use Rattle.hs_taking.specs.Store.{HasRead}
 
@@ -57,6 +63,9 @@ use Rattle.hs_taking.specs.Store.{HasRead}
 
 false_is_not : false ≡ true → ⊥
 false_is_not e = cc e
+
+none_is_not : (keeping : Keeping) → None ≡ Some keeping → ⊥
+none_is_not keeping e = cc e
 
 -- entries that go on by one have numbers, and no Base is among them
 counted : (n : ℕ) (list : Numbered) → GoOn n list → (entries : List Entry) × (list ≡ enumerate_from (n + 1) entries) × All (λ entry. is_of_base entry ≡ false) entries
@@ -128,6 +137,39 @@ module _ (tells : Type 0) (set : Setting) (span : Span) (taken : Taken) (one : s
   old_past : (p : ℕ) → count ≤ p → (seen_at span.old p).stands ≡ untold
   old_past p high = ap (λ (d : DiskSeen). d.stands) (get_or_past span.old p (record { size = λ side. 0; stands = untold; faults = 0 }) (omega (arith, high, peers, olds)))
 
+  -- ---- from entry on, of each disk that no call was ahead of
+
+  log_past : (p : ℕ) → count ≤ p → log_at taken.logs p ≡ None
+  log_past p high = get_or_past taken.logs p None (omega (arith, high, peers, logs))
+
+  module _ (told : tells) (p : ℕ) (last : (disk_at (stands_of span.old) p).last ≤ span.before) where
+    last_seen : (seen_at span.old p).stands.last ≤ span.before
+    last_seen = subst (λ (d : Standing). d.last ≤ span.before) (stands_seen span.old p) last
+
+    past_seen : PastStays span.before span.now (seen_at span.old p).stands (seen_at span.new p).stands
+    past_seen = elim (cases_lt p count) [
+      | inl low ↦ (of p low).disk.past told last_seen
+      | inr high ↦ subst (λ (d : Standing). PastStays span.before span.now d (seen_at span.new p).stands) (sym (old_past p high))
+          (subst (λ (d : Standing). PastStays span.before span.now untold d) (sym (new_past p high)) (past_still span.before span.now untold ticks (omega arith)))
+    ]
+
+    pub read_past : PastStays span.before span.now (disk_at (stands_of span.old) p) (disk_at (stands_of span.new) p)
+    read_past = subst (λ (d : Standing). PastStays span.before span.now d (disk_at (stands_of span.new) p)) (sym (stands_seen span.old p))
+        (subst (λ (d : Standing). PastStays span.before span.now (seen_at span.old p).stands d) (sym (stands_seen span.new p)) past_seen)
+
+    pub read_holds : HoldsLog span.now taken.logs span.new p
+    read_holds = record {
+      called = read_past.last;
+      log = λ keeping at. elim (cases_lt p count) [
+        | inl low ↦ record {
+          list = opened_list set f p;
+          waiting = None;
+          has = subst (λ (d : Standing). HasLog keeping d (opened_list set f p) None) (sym (stands_seen span.new p)) ((of p low).log told last_seen keeping at);
+        }
+        | inr high ↦ absurd (none_is_not keeping (sym (log_past p high) ∙ at))
+      ];
+    }
+
   module _ (told : tells) (going : (first_core set f).ended ≡ None) where
     abbrev core : Core
     core = first_core set f
@@ -186,7 +228,7 @@ module _ (tells : Type 0) (set : Setting) (span : Span) (taken : Taken) (one : s
     pub can_read : CanRead c taken.logs span.new
     can_read = record { sane = sane; listed = reads_listed }
 
-    module _ (sound : AreSound span.before span.old) where
+    module _ (sound : LeaveOneList span.before span.old) where
       log_is : (p : ℕ) (low : p < count) → (keeping : Keeping) → log_at taken.logs p ≡ Some keeping → HasLog keeping (seen_at span.new p).stands (opened_list set f p) None
       log_is p low keeping at = (of p low).log told (sound.called p) keeping at
 
@@ -305,7 +347,7 @@ module _ (tells : Type 0) (set : Setting) (span : Span) (cluster : Running) (don
   course_is : o.begun.course ≡ first_items set.shape opened_found span.before
   course_is = b.course ∙ sym (begins_so tells set mid b.taken one read b.shares b.count b.ticks span.before)
 
-  can : tells → AreSound span.before span.old → (first_core set opened_found).ended ≡ None → CanGoOn (open_whole set opened_found) o.begun.logs o.disks o.opened
+  can : tells → LeaveOneList span.before span.old → (first_core set opened_found).ended ≡ None → CanGoOn (open_whole set opened_found) o.begun.logs o.disks o.opened
   can told sound going =
       subst (λ l. CanGoOn (open_whole set opened_found) l o.disks o.opened) (sym b.logs)
       (can_go_on tells set mid b.taken one read b.shares b.count b.ticks b.disks b.left told going sound)
@@ -315,7 +357,24 @@ module _ (tells : Type 0) (set : Setting) (span : Span) (cluster : Running) (don
       subst (λ l. CanRead (open_whole set opened_found) l o.disks) (sym b.logs)
       (can_read tells set mid b.taken one read b.shares b.count b.ticks b.disks b.left told going)
 
-  lists : tells → AreSound span.before span.old → (first_core set opened_found).ended ≡ None
+  -- no disk failed before the first turn of a core that goes on
+  calm_first : (first_core set opened_found).ended ≡ None → GoesCalmly o.begun.core span.old o.disks
+  calm_first going = record {
+    whole = alone_whole set opened_found one f.goods going;
+    same = core_is;
+    sane = alone_sane set opened_found one f.goods going;
+    none = rises_within span.old o.disks b.left (λ p within.
+        let low : p < set.shape.shards = omega (arith, within, b.disks, peers_are) in
+        (f.each p (omega (arith, within, b.disks))).calm (all_good set opened_found one f.goods going p low));
+  }
+    where
+      f : Finds tells set mid opened_found b.taken.logs
+      f = finds tells set mid b.taken one read b.shares b.count b.ticks
+
+      peers_are : set.shape.shards * set.shape.copies ≡ set.shape.shards
+      peers_are = ap (λ n. set.shape.shards * n) one ∙ omega arith
+
+  lists : tells → LeaveOneList span.before span.old → (first_core set opened_found).ended ≡ None
       → LeavesLists (open_whole set opened_found) o.turned.events (record { before = span.before; now = span.now; old = o.begun; new = cluster; disks = span.old; left = span.new })
   lists told sound going =
       joined (open_whole set opened_found) o.turned.events span.before o.opened span.now span.old o.disks span.new o.begun cluster b.ticks o.turned.rises
@@ -329,7 +388,43 @@ module _ (tells : Type 0) (set : Setting) (span : Span) (cluster : Running) (don
       let does : Does o.turned.events o.begun cluster (Ok x) = subst (λ r. Does o.turned.events o.begun cluster r) is o.turned.does in
       going_before (first_core set opened_found) o.turned.events (ap (λ c. (steps c o.turned.events).ended) core_is ∙ ap (λ (c : Core). c.ended) (sym (does.core refl)) ∙ still_going o.turned.events o.begun cluster does)
 
-  goes_on : tells → AreSound span.before span.old → OnOk done (CanGoOn (runs whole_machine (open_whole set opened_found) o.turned.events) cluster.logs span.new span.now)
+  calm : OnOk done (GoesCalmly cluster.core span.old span.new)
+  calm = by done refl
+    where
+      by : (r : Result ⊤ ClusterFault) → done ≡ r → OnOk r (GoesCalmly cluster.core span.old span.new)
+      by (Err fault) is = tt
+      by (Ok x) is = subst (λ r. OnOk r (GoesCalmly cluster.core span.old span.new)) is (o.turned.shows.calm span.old (calm_first (began x is)))
+
+  -- ---- what is past
+
+  module _ (told : tells) (p : ℕ) (last : (disk_at (stands_of span.old) p).last ≤ span.before) where
+    first_past : PastStays span.before o.opened (disk_at (stands_of span.old) p) (disk_at (stands_of o.disks) p)
+    first_past = read_past tells set mid b.taken one read b.shares b.count b.ticks b.disks b.left told p last
+
+    first_holds : HoldsLog o.opened o.begun.logs o.disks p
+    first_holds = subst (λ l. HoldsLog o.opened l o.disks p) (sym b.logs) (read_holds tells set mid b.taken one read b.shares b.count b.ticks b.disks b.left told p last)
+
+    turns_past : (first_core set opened_found).ended ≡ None → LeavesPast o.opened span.now o.disks span.new cluster.logs done p
+    turns_past going = o.turned.shows.past told span.old (calm_first going) p first_holds
+
+    whole_past : PastStays span.before span.now (disk_at (stands_of span.old) p) (disk_at (stands_of span.new) p)
+    whole_past = go (first_core set opened_found).ended refl
+      where
+        go : (ended : Option CoreFault) → (first_core set opened_found).ended ≡ ended → PastStays span.before span.now (disk_at (stands_of span.old) p) (disk_at (stands_of span.new) p)
+        go None going = past_then span.before o.opened span.now (disk_at (stands_of span.old) p) (disk_at (stands_of o.disks) p) (disk_at (stands_of span.new) p) first_past (turns_past going).stays
+        go (Some fault) ended =
+            let left : span.new ≡ o.disks = o.turned.still (subst (λ (x : Core). IsSome x.ended) core_is (ap is_some ended)) in
+            subst (λ (ds : List DiskSeen). PastStays span.before span.now (disk_at (stands_of span.old) p) (disk_at (stands_of ds) p)) (sym left)
+            (past_wait span.before o.opened span.now (disk_at (stands_of span.old) p) (disk_at (stands_of o.disks) p) (rises_to o.opened span.now o.turned.events o.turned.rises) first_past)
+
+    past : LeavesPast span.before span.now span.old span.new cluster.logs done p
+    past = record { stays = whole_past; holds = by done refl }
+      where
+        by : (r : Result ⊤ ClusterFault) → done ≡ r → OnOk r (HoldsLog span.now cluster.logs span.new p)
+        by (Err fault) is = tt
+        by (Ok x) is = subst (λ r. OnOk r (HoldsLog span.now cluster.logs span.new p)) is (turns_past (began x is)).holds
+
+  goes_on : tells → LeaveOneList span.before span.old → OnOk done (CanGoOn (runs whole_machine (open_whole set opened_found) o.turned.events) cluster.logs span.new span.now)
   goes_on told sound = by done refl
     where
       by : (r : Result ⊤ ClusterFault) → done ≡ r → OnOk r (CanGoOn (runs whole_machine (open_whole set opened_found) o.turned.events) cluster.logs span.new span.now)
@@ -367,6 +462,8 @@ module _ (tells : Type 0) (set : Setting) (span : Span) (cluster : Running) (don
     falls = b.falls;
     counted = subst (λ x. AreCounted x o.turned.events o.disks span.new) (sym core_is) o.turned.shows.counted;
     rooms = subst (λ x. HaveRecordRoom x o.turned.events) (sym core_is) o.turned.does.rooms;
+    calm = calm;
+    past = past;
     still = λ ended. o.turned.still (subst (λ (x : Core). IsSome x.ended) core_is ended);
     lists = lists;
     goes_on = goes_on;

@@ -1,4 +1,5 @@
 pub mod BeginLemmas
+pub mod CalmLemmas
 pub mod CountLemmas
 pub mod DeltaLemmas
 pub mod DiskLemmas
@@ -11,6 +12,7 @@ pub mod JobLemmas
 pub mod LineLemmas
 pub mod OpenedLemmas
 pub mod OpeningMoves
+pub mod PastLemmas
 pub mod ReadLemmas
 pub mod ReportLemmas
 pub mod RoomLemmas

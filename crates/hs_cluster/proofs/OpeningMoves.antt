@@ -1,10 +1,10 @@
 -- How a core of one copy a shard goes on as it opens: nothing more is sealed, and the new jobs are those of new entries.
-use Rattle.std.proofs.Common.{◌≡◌, ◌∙◌, ap, sym, subst, inl, inr, ℕ, ◌+◌, ◌*◌, ◌-◌, ◌<◌, not, Bool, true, false, List, [], ◌∷◌, Option, Some, None, refl, arith, length, replicate, is_some}
+use Rattle.std.proofs.Common.{◌≡◌, ◌∙◌, ap, sym, subst, inl, inr, ℕ, ◌+◌, ◌*◌, ◌-◌, ◌<◌, ◌≤◌, ◌⊎◌, not, Bool, true, false, List, [], ◌∷◌, ◌++◌, Option, Some, None, refl, arith, length, replicate, is_some}
 use Rattle.std.proofs.lemmas.Bool.{cases_lt}
 use Rattle.std.proofs.lemmas.List.{append-nil, drop_more, get_or-map, get_or-replicate, get_or_past, length-map, length-replicate, set-get_or, set_past, take_all}
-use Rattle.std.proofs.lemmas.List.Elements.{All-nil}
+use Rattle.std.proofs.lemmas.List.Elements.{All-nil, All-replicate}
 use Rattle.std.proofs.lemmas.List.FromFn.{get_or-map-range_with_len, length-map-range_with_len}
-use Rattle.std.specs.List.{enumerate_from}
+use Rattle.std.specs.List.{All, enumerate_from}
 use Rattle.std.specs.Option.{option_map}
 use Rattle.std.specs.Prelude.{drop, if◌then◌else◌, slice_index, slice_set, take}
 use Rattle.hs_core.specs.Changing.{add_entry_tasks, change_group, note, post, set_viewed}
@@ -18,9 +18,11 @@ use Rattle.hs_desk.specs.declared.fault.CoreFault.TheVariants as fault
 use Rattle.hs_entry.specs.declared.entry.Entry.{Entry}
 use Rattle.hs_entry.specs.declared.entry.Entry.TheVariants as kind
 use Rattle.hs_entry.specs.Entries.{is_of_base, rank_of}
-use Rattle.hs_events.specs.Alone.{AreAlone, AreJobs, IsAlone, face, is_round, own}
+use Rattle.hs_events.specs.Alone.{AreAlone, AreJobs, IsAlone, IsCounted, IsSettled, face, is_round, own}
 use Rattle.hs_events.specs.Found.{Found, first_core, opened_list, opens_with, starts_good}
-use Rattle.hs_fold.specs.Shards.Setting.{Setting}
+use Rattle.hs_events.specs.Sane.{IsSane}
+use Rattle.hs_events.specs.Whole.{Whole}
+use Rattle.hs_fold.specs.Shards.Setting.{Numbered, Setting}
 use Rattle.hs_journal.specs.declared.entry.Who.TheVariants as who
 use Rattle.hs_limits.specs.declared.limits.PeerStatus.TheVariants.{Good, Down}
 use Rattle.hs_limits.specs.declared.shape.Shape.{Shape}
@@ -30,11 +32,11 @@ use Rattle.hs_model.specs.declared.reply.Reply.TheVariants as reply
 use Rattle.hs_moments.proofs.AloneEventLemmas.{ends, find_some, has_good_is}
 use Rattle.hs_moments.proofs.AloneLemmas.{alone, is_alone, renew_alone, renewal_alone}
 use Rattle.hs_moments.proofs.AloneStepLemmas.{GoesOn, nowhere, proposes, steps_go_on}
-use Rattle.hs_moments.proofs.JobLemmas.{above_front, are_grow}
+use Rattle.hs_moments.proofs.JobLemmas.{above_front, are_grow, counts_on, settles}
 use Rattle.hs_moments.proofs.MoveLemmas.{Goes, Moves, moves_at, moves_both, moves_same}
 use Rattle.hs_moments.proofs.StepsKeepLemmas.{keeps_each, keeps_if}
 use Rattle.hs_post.specs.declared.message.Message.{Message}
-use Rattle.hs_replica.specs.Group.{Group, entries_above, new_group, renew, renewal, tell, whole_copy}
+use Rattle.hs_replica.specs.Group.{Group, entries_above, last_number, new_group, renew, renewal, tell, whole_copy}
 
 -- ---- a new view
 
@@ -182,7 +184,7 @@ module _ (set : Setting) (found : Found) (one : set.shape.copies ≡ 1) (many : 
         (is_alone set.shape g (slice_index taken.views g) (opened_length g) [] (whole_copy (slice_index taken.views g) (opened_length g)) refl refl (omega arith) (omega arith) (length-replicate (opened_length g) (slice_index taken.views g) ∙ omega arith));
   }
 
-  moves_first : Moves (face start) (face (first_core set found))
+  pub moves_first : Moves (face start) (face (first_core set found))
   moves_first =
       let m : Moves (face start) (face (begin_views start)) = views_begin start alone_start in
       let n : Moves (face start) (face before) = moves_both (face start) (face (begin_views start)) (face before) m (downs_noted (begin_views start) m.alone) in
@@ -214,3 +216,58 @@ module _ (set : Setting) (found : Found) (one : set.shape.copies ≡ 1) (many : 
       let within = (alone_start.each g low).within in let handed = (alone_first g low).handed in let same = goes.sealed in
       subst (λ s. AreJobs (entries_above s (group_of g core)) (tasks_of g core)) (sym same)
       (are_grow (group_of g start) (group_of g core) (tasks_of g start) (tasks_of g core) goes (own (group_of g start)).sealed (omega (arith, same, handed)) within jobs)
+
+  -- ---- some lists that fit the core, whatever the disks tell
+
+  settled_first : (g : ℕ) → g < set.shape.shards → IsSettled (group_of g core) (tasks_of g core)
+  settled_first g low =
+      let is = group_is g low in
+      let settled : (own (group_of g start)).sealed ≡ (group_of g start).front = ap (λ (y : Group). (own y).sealed) is ∙ sym (ap (λ (y : Group). y.front) is) in
+      let none : entries_above (own (group_of g start)).sealed (group_of g start) ≡ [] = above_front (group_of g start) (own (group_of g start)).sealed settled ∙ ap (λ (y : Group). enumerate_from (y.front + 1) y.waiting) is in
+      let goes : Goes (group_of g start) (group_of g core) (tasks_of g start) (tasks_of g core) = moves_first.each g low in
+      let up = goes.front in
+      settles set.shape g (group_of g start) (group_of g core) (tasks_of g start) (tasks_of g core) (alone_start.each g low) (alone_first g low) goes (omega (arith, up, settled))
+      (inl (record { queue = []; all = none; jobs = tasks_are g }))
+
+  -- as many entries as took effect
+  abbrev old_entries : ℕ → List Entry
+  old_entries g = replicate (group_of g start).front (kind.View 0)
+
+  abbrev list_by : (g : ℕ) → (g < set.shape.shards) ⊎ (set.shape.shards ≤ g) → Numbered
+  list_by g (inl low) = enumerate_from 1 (old_entries g) ++ enumerate_from (last_number (group_of g start) + 1) (moves_first.each g low).more
+  list_by g (inr high) = []
+
+  counted_old : (g : ℕ) → g < set.shape.shards → IsCounted (enumerate_from 1 (old_entries g)) (group_of g start)
+  counted_old g low =
+      let none : old_entries g ++ (group_of g start).waiting ≡ old_entries g = ap (λ (y : Group). old_entries g ++ y.waiting) (group_is g low) ∙ append-nil (old_entries g) in
+      record {
+        taken = old_entries g;
+        counted = ap (enumerate_from 1) (sym none);
+        handed = length-replicate (group_of g start).front (kind.View 0);
+        plain = subst (λ es. All (λ (e : Entry). is_of_base e ≡ false) es) (sym none) (All-replicate (λ (e : Entry). is_of_base e ≡ false) (group_of g start).front (kind.View 0) refl);
+      }
+
+  counted_by : (g : ℕ) → g < set.shape.shards → (d : (g < set.shape.shards) ⊎ (set.shape.shards ≤ g)) → IsCounted (list_by g d) (group_of g core)
+  counted_by g low (inl there) = counts_on (group_of g start) (group_of g core) (tasks_of g start) (tasks_of g core) (enumerate_from 1 (old_entries g)) (moves_first.each g there) (counted_old g there)
+  counted_by g low (inr high) = absurd (omega (arith, low, high))
+
+  none_by : (g : ℕ) → set.shape.shards ≤ g → (d : (g < set.shape.shards) ⊎ (set.shape.shards ≤ g)) → list_by g d ≡ []
+  none_by g high (inl low) = absurd (omega (arith, low, high))
+  none_by g high (inr past) = refl
+
+  abbrev pub alone_whole : Whole
+  alone_whole = record { core = core; lists = λ g. list_by g (cases_lt g set.shape.shards); adds = λ g. []; aside = λ g. false }
+
+  pub alone_sane : IsSane alone_whole
+  alone_sane = record {
+    going = going;
+    alone = moves_first.alone;
+    settled = λ g lt. settled_first g (within g lt);
+    lists = λ g lt. counted_by g (within g lt) (cases_lt g set.shape.shards);
+    past = λ g high. none_by g (subst (λ (m : Members). m.shape.shards ≤ g) moves_first.members high) (cases_lt g set.shape.shards);
+    adds = λ g. refl;
+    counted = λ g lt. refl;
+  }
+    where
+      within : (g : ℕ) → g < core.members.shape.shards → g < set.shape.shards
+      within g low = subst (λ (m : Members). g < m.shape.shards) moves_first.members low

@@ -6,13 +6,16 @@ use Rattle.std.specs.List.{AllPairs}
 use Rattle.std.specs.Prelude.{◌==◌, ⊤, Contains, OnOk, Result, Ok, Err, cond, count_by, if◌then◌else◌, slice_index_or}
 use Rattle.hs_cluster.proofs.CountLemmas.{all_then, counted_before, counted_then, rose_none, rose_then}
 use Rattle.hs_cluster.proofs.GoingOnLemmas.{going_before}
+use Rattle.hs_cluster.proofs.PastLemmas.{leaves_then}
 use Rattle.hs_cluster.proofs.RoomLemmas.{rooms_then}
 use Rattle.hs_cluster.proofs.ShowLemmas.{all_happened, happened_then, moments_then, rises_to, runs_append, runs_core, stored_back, stored_front, told_then}
 use Rattle.hs_cluster.proofs.TurnedLemmas.{not_ended}
+use Rattle.hs_cluster.specs.Calm.{GoesCalmly}
 use Rattle.hs_cluster.specs.declared.fault.ClusterFault.{ClusterFault}
 use Rattle.hs_cluster.specs.Disks.{DiskSeen, seen_at, stands_of}
 use Rattle.hs_cluster.specs.Kept.{AreStored, CanGoOn, CanRead, LeavesLists, Shows, Span}
-use Rattle.hs_cluster.specs.Opens.{AreSound, Opens}
+use Rattle.hs_cluster.specs.Opens.{LeaveOneList, Opens}
+use Rattle.hs_cluster.specs.Past.{HoldsLog, LeavesPast}
 use Rattle.hs_cluster.specs.Rooms.{HaveRecordRoom}
 use Rattle.hs_cluster.specs.Running.{Running}
 use Rattle.hs_cluster.specs.RunsOn.{CanRunOn, RunsOn}
@@ -34,6 +37,7 @@ use Rattle.hs_ports.specs.Disk.{IsImage}
 use Rattle.hs_ports.specs.Fault.{HasRisen}
 use Rattle.hs_ports.specs.Moments.{disk_at}
 use Rattle.hs_ports.specs.Objects.{RoseBy}
+use Rattle.hs_taking.proofs.PastLemmas.{past_wait}
 use Rattle.hs_taking.specs.Shares.{IsLater, Span as Taking}
 
 -- ---- opening
@@ -52,13 +56,14 @@ runs_opened tells set s cluster done o = record {
   counted = o.counted;
   rooms = o.rooms;
   still = o.still;
+  past = λ told peer last. (o.past told peer last).stays;
   lists = o.lists;
   told = o.told;
   read = o.read;
 }
 
 pub can_opened : (tells : Type 0) (set : Setting) (s : Taking) (cluster : Running) (done : Result ⊤ ClusterFault) (o : Opens tells set s cluster done) → OnOk done (CanRunOn tells set (opening_span s o.begun cluster) o.found o.events)
-can_opened tells set s cluster (Ok x) o = record { goes = λ told sound. o.goes_on told sound; reads = λ told. o.reads_on told }
+can_opened tells set s cluster (Ok x) o = record { calm = o.calm; holds = λ told peer last. (o.past told peer last).holds; goes = λ told sound. o.goes_on told sound; reads = λ told. o.reads_on told }
 can_opened tells set s cluster (Err fault) o = tt
 
 -- ---- the events of a line
@@ -87,7 +92,7 @@ module _ (tells : Type 0) (set : Setting) (found : Found) (before mid now : ℕ)
   rise : MomentsRise before es mid
   rise = rises_from before found.opened mid es so_far.finds.later rises
 
-  lists : tells → AreSound before disks → (first_core set found).ended ≡ None → LeavesLists c (es ++ fs) (record { before = before; now = now; old = begun; new = new; disks = disks; left = left })
+  lists : tells → LeaveOneList before disks → (first_core set found).ended ≡ None → LeavesLists c (es ++ fs) (record { before = before; now = now; old = begun; new = new; disks = disks; left = left })
   lists told sound first =
       let one = so_far.lists told sound first in
       let two = shows.lists told behind behind_core (can.goes told sound) in
@@ -102,6 +107,9 @@ module _ (tells : Type 0) (set : Setting) (found : Found) (before mid now : ℕ)
         told = told_then c es fs one.told two.told;
       }
 
+  past : tells → (peer : ℕ) → (disk_at (stands_of disks) peer).last ≤ before → LeavesPast before now disks left new.logs r peer
+  past told peer last = leaves_then before mid now disks between left new.logs r peer (so_far.past told peer last) (shows.past told disks can.calm peer (can.holds told peer last))
+
   pub runs_more : RunsOn tells set (record { before = before; now = now; old = begun; new = new; disks = disks; left = left }) found (es ++ fs)
   runs_more = record {
     slots = so_far.slots;
@@ -111,6 +119,7 @@ module _ (tells : Type 0) (set : Setting) (found : Found) (before mid now : ℕ)
     falls = so_far.falls;
     counted = counted_then (first_core set found) here.core es fs so_far.disks between left core so_far.counted shows.counted;
     still = λ ended. absurd (not_ended (first_core set found).ended (going_before (first_core set found) es goes) ended);
+    past = λ told peer last. (past told peer last).stays;
     rooms = rooms_then (first_core set found) es fs so_far.rooms (subst (λ x. HaveRecordRoom x fs) core rooms);
     lists = lists;
     told = λ told first. told_then c es fs (so_far.told told first) (shows.told told behind behind_core (can.reads told));
@@ -120,12 +129,14 @@ module _ (tells : Type 0) (set : Setting) (found : Found) (before mid now : ℕ)
   }
 
   pub can_more : OnOk r (CanRunOn tells set (record { before = before; now = now; old = begun; new = new; disks = disks; left = left }) found (es ++ fs))
-  can_more = by r (λ told sound. shows.goes_on told behind behind_core (can.goes told sound)) (λ told. shows.reads_on told behind behind_core (can.reads told))
+  can_more = by r (shows.calm disks can.calm) (λ told peer last. (past told peer last).holds) (λ told sound. shows.goes_on told behind behind_core (can.goes told sound)) (λ told. shows.reads_on told behind behind_core (can.reads told))
     where
-      by : (r : Result ⊤ ClusterFault) → (tells → AreSound before disks → OnOk r (CanGoOn (runs whole_machine behind fs) new.logs left now)) → (tells → OnOk r (CanRead (runs whole_machine behind fs) new.logs left))
+      by : (r : Result ⊤ ClusterFault) → OnOk r (GoesCalmly new.core disks left) → (tells → (peer : ℕ) → (disk_at (stands_of disks) peer).last ≤ before → OnOk r (HoldsLog now new.logs left peer)) → (tells → LeaveOneList before disks → OnOk r (CanGoOn (runs whole_machine behind fs) new.logs left now)) → (tells → OnOk r (CanRead (runs whole_machine behind fs) new.logs left))
           → OnOk r (CanRunOn tells set (record { before = before; now = now; old = begun; new = new; disks = disks; left = left }) found (es ++ fs))
-      by (Err fault) h g = tt
-      by (Ok x) h g = record {
+      by (Err fault) calm holds h g = tt
+      by (Ok x) calm holds h g = record {
+        calm = calm;
+        holds = holds;
         goes = λ told sound. subst (λ s. CanGoOn s new.logs left now) (sym (runs_append c es fs)) (h told sound);
         reads = λ told. subst (λ s. CanRead s new.logs left) (sym (runs_append c es fs)) (g told);
       }
@@ -172,6 +183,7 @@ runs_later tells set found before now later begun cluster disks left es ticks ri
   counted = so_far.counted;
   rooms = so_far.rooms;
   still = so_far.still;
+  past = λ told peer last. past_wait before now later (disk_at (stands_of disks) peer) (disk_at (stands_of left) peer) ticks (so_far.past told peer last);
   lists = λ told sound first. lists_later (open_whole set found) es before now later begun cluster disks left ticks (rises_from before found.opened now es so_far.finds.later rises) (since told) (so_far.lists told sound first);
   told = so_far.told;
   read = so_far.read;
@@ -181,6 +193,10 @@ pub can_later : (tells : Type 0) (set : Setting) (found : Found) (before now lat
     → CanRunOn tells set (record { before = before; now = now; old = begun; new = cluster; disks = disks; left = left }) found es
     → CanRunOn tells set (record { before = before; now = later; old = begun; new = cluster; disks = disks; left = left }) found es
 can_later tells set found before now later begun cluster disks left es ticks can = record {
+  calm = can.calm;
+  holds = λ told peer last.
+      let so_far = can.holds told peer last in
+      record { called = let low = so_far.called in omega (arith, low, ticks); log = so_far.log };
   goes = λ told sound.
       let so_far = can.goes told sound in
       record {

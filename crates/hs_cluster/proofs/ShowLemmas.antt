@@ -2,19 +2,23 @@
 use Rattle.std.proofs.Common.{◌≡◌, ◌∙◌, inl, inr, ap, sym, subst, ℕ, ◌-◌, ◌^◌, ◌<◌, ◌≤◌, Bool, true, false, List, [], ◌∷◌, ◌++◌, Option, Some, None, refl, arith, is_none, nat_lt}
 use Rattle.std.proofs.lemmas.Bool.{cases_eq, cases_lt}
 use Rattle.std.specs.Prelude.{IsSome, OnOk, Result, Ok, Err, ⊤, if◌then◌else◌}
+use Rattle.hs_cluster.proofs.CalmLemmas.{calm_one, calm_reported}
 use Rattle.hs_cluster.proofs.CountLemmas.{all_none, all_one, all_quiet, all_still, all_then, counted_none, counted_one, counted_quiet, counted_still, counted_then}
 use Rattle.hs_cluster.proofs.EventLemmas.{still_going}
+use Rattle.hs_cluster.proofs.PastLemmas.{Worked, job_past, leaves_then, on_any, own_first, past_quiet}
 use Rattle.hs_cluster.proofs.ReadLemmas.{quiet_reads, report_reads, some_job}
 use Rattle.hs_cluster.proofs.ReportLemmas.{call_fine, report_fine, report_logs, report_told}
 use Rattle.hs_moments.proofs.SaneLemmas.{growing_beside, growing_without_call, sane_stays}
 use Rattle.hs_cluster.proofs.HeldLemmas.{own_job, sealed_stays}
 use Rattle.hs_cluster.specs.Calls.{Does, done_of, outcome_by, ran_out}
+use Rattle.hs_cluster.specs.Calm.{GoesCalmly}
 use Rattle.hs_cluster.specs.declared.fault.ClusterFault.{ClusterFault}
 use Rattle.hs_cluster.specs.declared.fault.ClusterFault.TheVariants.{NoMemory}
-use Rattle.hs_cluster.specs.Counts.{AreAllCounted, HasAllPaid, HasPaid, NoneFalls}
+use Rattle.hs_cluster.specs.Counts.{AllStandUntold, AreAllCounted, HasAllPaid, HasPaid, NoneFalls}
 use Rattle.hs_cluster.specs.Disks.{DiskSeen, log_at, stands_of}
 use Rattle.hs_cluster.specs.Jobs.{HasStored, ReadsOn, TellsBytes, Working, Works, is_own}
 use Rattle.hs_cluster.specs.Kept.{AreStored, AreTold, CanGoOn, CanRead, IsTold, KeepsLogs, LeavesLists, ReadsLogs, Shows, Span, sealed_front}
+use Rattle.hs_cluster.specs.Past.{HoldsLog, LeavesPast}
 use Rattle.hs_cluster.specs.Rooms.{HaveRecordRoom}
 use Rattle.hs_cluster.specs.Running.{Running}
 use Rattle.hs_events.specs.Sane.{IsSane, appended_of}
@@ -164,6 +168,8 @@ pub quiet_shows : (e : Event) (now : ℕ) (old new : Running) (disks : List Disk
     → Shows ⊤ (record { before = now; now = now; old = old; new = new; disks = disks; left = disks }) r (done_of r (e, now))
 quiet_shows e now old new disks r quiet was does less = record {
   counted = counted_quiet old.core e now r disks quiet;
+  calm = λ first calm. calm_one e now old new first disks disks calm r does (λ disk. refl);
+  past = λ told first calm peer holds. past_quiet now old.logs new.logs disks r peer less holds;
   lists = λ told c core can. record {
     earlier = λ peer m side low fits. refl;
     moments = record { fine = λ m peer low high fits counted image left. absurd (omega (arith, low, high)) };
@@ -201,6 +207,8 @@ quiet_shows e now old new disks r quiet was does less = record {
 pub none_shows : (now : ℕ) (old new : Running) (disks : List DiskSeen) → Shows ⊤ (record { before = now; now = now; old = old; new = new; disks = disks; left = disks }) (Err NoMemory) []
 none_shows now old new disks = record {
   counted = counted_still old.core disks;
+  calm = λ first calm. tt;
+  past = λ told first calm peer holds. record { stays = (past_quiet now old.logs old.logs disks (Err NoMemory) peer (λ k keeping at. at) holds).stays; holds = tt };
   lists = λ told c core can. record {
     earlier = λ peer m side low fits. refl;
     moments = record { fine = λ m peer low high fits counted image left. absurd (omega (arith, low, high)) };
@@ -216,6 +224,8 @@ none_shows now old new disks = record {
 pub begin_shows : (tells : Type 0) (now : ℕ) (old : Running) (disks : List DiskSeen) → Shows tells (record { before = now; now = now; old = old; new = old; disks = disks; left = disks }) (Ok tt) []
 begin_shows tells now old disks = record {
   counted = counted_still old.core disks;
+  calm = λ first calm. calm;
+  past = λ told first calm peer holds. past_quiet now old.logs old.logs disks (Ok tt) peer (λ k keeping at. at) holds;
   lists = λ told c core can. record {
     earlier = λ peer m side low fits. refl;
     moments = record { fine = λ m peer low high fits counted image left. absurd (omega (arith, low, high)) };
@@ -230,11 +240,11 @@ begin_shows tells now old disks = record {
 
 -- whatever the disks tell
 pub any_shows : (tells : Type 0) (span : Span) (r : Result ⊤ ClusterFault) (es : Events) → Shows ⊤ span r es → Shows tells span r es
-any_shows tells span r es shows = record { counted = shows.counted; lists = λ told. shows.lists tt; goes_on = λ told. shows.goes_on tt; told = λ told. shows.told tt; read = λ told. shows.read tt; reads_on = λ told. shows.reads_on tt }
+any_shows tells span r es shows = record { counted = shows.counted; calm = shows.calm; past = λ told. shows.past tt; lists = λ told. shows.lists tt; goes_on = λ told. shows.goes_on tt; told = λ told. shows.told tt; read = λ told. shows.read tt; reads_on = λ told. shows.reads_on tt }
 
 -- it is given up
 pub cut_shows : (tells : Type 0) (span : Span) (fault : ClusterFault) (es : Events) → Shows tells span (Ok tt) es → Shows tells span (Err fault) es
-cut_shows tells span fault es shows = record { counted = shows.counted; lists = shows.lists; goes_on = λ told c core can. tt; told = shows.told; read = shows.read; reads_on = λ told c core can. tt }
+cut_shows tells span fault es shows = record { counted = shows.counted; calm = λ first calm. tt; past = λ told first calm peer holds. record { stays = (shows.past told first calm peer holds).stays; holds = tt }; lists = shows.lists; goes_on = λ told c core can. tt; told = shows.told; read = shows.read; reads_on = λ told c core can. tt }
 
 -- ---- a call and its report
 
@@ -285,13 +295,17 @@ module _ (c : Whole) (before now peer : ℕ) (disks left : List Standing) (since
   }
 
 -- the job was not done, or its report did not come
-pub job_cut : (tells : Type 0) (before now peer : ℕ) (old new : Running) (after : List (Option Keeping)) (disks left : List DiskSeen) {E : Type 0} (result : Result Done E) → IsPeer old.core.members.shape peer
+pub job_cut : (tells : Type 0) (before now peer : ℕ) (old new : Running) (after : List (Option Keeping)) (disks left : List DiskSeen) {E : Type 0} (result : Result Done E) → IsPeer old.core.members.shape peer → before ≤ now
     → (tells → Since (stands_of disks))
     → (tells → is_own (first_job peer old.core) ≡ true → Works (record { peer = peer; before = before; now = now; logs = old.logs; after = after; disks = disks; left = left }) (first_job peer old.core) result)
     → NoneFalls disks left
     → Shows tells (record { before = before; now = now; old = old; new = new; disks = disks; left = left }) (Err NoMemory) []
-job_cut tells before now peer old new after disks left {E = E} result is since works falls = record {
+job_cut tells before now peer old new after disks left {E = E} result is up since works falls = record {
   counted = counted_none old.core disks left falls;
+  calm = λ first calm. tt;
+  past = λ told first calm k holds.
+      let w : Working = record { peer = peer; before = before; now = now; logs = old.logs; after = after; disks = disks; left = left } in
+      record { stays = (job_past w (first_job peer old.core) result (works told (own_first old.core first disks peer calm)) up k holds).stays; holds = tt };
   lists = λ told c core can.
       let low : IsPeer c.core.members.shape peer = subst (λ (x : Core). IsPeer x.members.shape peer) (sym core) is in
       let w : Working = record { peer = peer; before = before; now = now; logs = old.logs; after = after; disks = disks; left = left } in
@@ -306,18 +320,20 @@ job_cut tells before now peer old new after disks left {E = E} result is since w
 }
 
 -- the job was done, and its report came, unless memory ran out or it was refused
-pub job_shows : (tells : Type 0) (before now peer : ℕ) (old new : Running) (after : List (Option Keeping)) (disks left : List DiskSeen) (E : Type 0) (done : Done) (r : Result ⊤ ClusterFault) → IsPeer old.core.members.shape peer
+pub job_shows : (tells : Type 0) (before now peer : ℕ) (old new : Running) (after : List (Option Keeping)) (disks left : List DiskSeen) (E : Type 0) (done : Done) (r : Result ⊤ ClusterFault) → IsPeer old.core.members.shape peer → before ≤ now
     → old.core.ended ≡ None → is_answer old.core peer done ≡ true → (tells → Since (stands_of disks))
     → (tells → is_own (first_job peer old.core) ≡ true → Works {E = E} (record { peer = peer; before = before; now = now; logs = old.logs; after = after; disks = disks; left = left }) (first_job peer old.core) (Ok done))
-    → new.logs ≡ after → Does (done_of r (event.Report peer done, now)) old new r → NoneFalls disks left → HasPaid old.core peer done disks left → TellsBytes done
+    → new.logs ≡ after → Does (done_of r (event.Report peer done, now)) old new r → NoneFalls disks left → HasPaid old.core peer done disks left → AllStandUntold done disks left → TellsBytes done
     → (tells → is_own (first_job peer old.core) ≡ true → (list : Numbered) (waiting : Option Entry) → ((keeping : Keeping) → log_at old.logs peer ≡ Some keeping → IsKept keeping ((disk_at (stands_of disks) peer).seen keeping.log.side) list waiting)
     → HasStored (first_job peer old.core) (catalogue_of (home peer old.core) old.core).blocks list → HasAllPaid old.core peer done disks left)
     → (is_own (first_job peer old.core) ≡ true → IsSome (log_at old.logs peer))
     → (tells → is_own (first_job peer old.core) ≡ true → (list : Numbered) (waiting : Option Entry) → ((keeping : Keeping) → log_at old.logs peer ≡ Some keeping → IsKept keeping ((disk_at (stands_of disks) peer).seen keeping.log.side) list waiting)
     → (j : Job) → first_job peer old.core ≡ Some j → ReadsOn (log_at after peer) (disk_at (stands_of left) peer) j list waiting done)
     → Shows tells (record { before = before; now = now; old = old; new = new; disks = disks; left = left }) r (done_of r (event.Report peer done, now))
-job_shows tells before now peer old new after disks left E done r is was answer since works kept does falls paid bytes all had reads = record {
+job_shows tells before now peer old new after disks left E done r is up was answer since works kept does falls paid stands bytes all had reads = record {
   counted = counted_one old.core (event.Report peer done) now r disks left falls paid;
+  calm = λ first calm. calm_reported peer now done old new first disks left r calm answer does stands;
+  past = λ told first calm k holds. past_then told first calm k holds;
   lists = λ told c core can.
       let low : IsPeer c.core.members.shape peer = subst (λ (x : Core). IsPeer x.members.shape peer) (sym core) is in
       let done_then = did told c core can in
@@ -354,6 +370,11 @@ job_shows tells before now peer old new after disks left E done r is was answer 
 
     own_in : (c : Whole) → c.core ≡ old.core → IsSane c → is_own (first_job peer old.core) ≡ true
     own_in c core sane = subst (λ x. is_own (first_job peer x) ≡ true) core (own_job c peer sane)
+
+    past_then : tells → (first : List DiskSeen) → GoesCalmly old.core first disks → (k : ℕ) → HoldsLog before old.logs disks k → LeavesPast before now disks left new.logs r k
+    past_then told first calm k holds =
+        let worked : Worked {E = E} w (Ok done) k = job_past w (first_job peer old.core) (Ok done) (works told (own_first old.core first disks peer calm)) up k holds in
+        record { stays = worked.stays; holds = on_any (HoldsLog now new.logs left k) r (subst (λ l. HoldsLog now l left k) (sym kept) worked.holds) }
 
     -- there was a job
     job_in : (j : Job) × (first_job peer old.core ≡ Some j)
@@ -452,6 +473,10 @@ pub shows_then : (tells : Type 0) (before mid now : ℕ) (old here new : Running
     → Shows tells (record { before = before; now = now; old = old; new = new; disks = disks; left = left }) r (es ++ fs)
 shows_then tells before mid now old here new disks between left r es fs does rise on first second = record {
   counted = counted_then old.core here.core es fs disks between left (does.core refl) first.counted second.counted;
+  calm = λ entry calm. second.calm entry (first.calm entry calm);
+  past = λ told entry calm k holds.
+      let one = first.past told entry calm k holds in
+      leaves_then before mid now disks between left new.logs r k one.stays (second.past told entry (first.calm entry calm) k one.holds);
   lists = λ told c core can.
       let one = first.lists told c core can in
       let two = second.lists told (runs whole_machine c es) (core_then c core) (first.goes_on told c core can) in

@@ -1,5 +1,5 @@
 -- How often the disks of a cluster failed, by what was told of them.
-use Rattle.std.specs.Prelude.{◌≡◌, ◌≤◌, ◌⊎◌, ℕ, true, false, IfSome, List}
+use Rattle.std.specs.Prelude.{◌≡◌, ◌≢◌, ◌≤◌, ◌⊎◌, ℕ, true, false, IfSome, List, Some}
 use Rattle.hs_cluster.specs.Disks.{DiskSeen, seen_at}
 use Rattle.hs_core.specs.declared.event.Event.TheVariants.{Report}
 use Rattle.hs_core.specs.State.{Core}
@@ -28,7 +28,19 @@ HasPaid core peer done old new = (disk : ℕ) → costs false disk core (Report 
 abbrev pub HasAllPaid : Core → ℕ → Done → List DiskSeen → List DiskSeen → Type 0
 HasAllPaid core peer done old new = (disk : ℕ) → costs true disk core (Report peer done) ≡ true → HasRisen (seen_at old disk).faults (seen_at new disk).faults
 
+-- where it tells no failed call of the disk of its peer, the count stands
+abbrev pub StandsUntold : ℕ → ℕ → ℕ → Done → Type 0
+StandsUntold peer before now done = failed_disk done ≢ Some peer → now ≡ before
+
+-- so that of each disk
+abbrev pub AllStandUntold : Done → List DiskSeen → List DiskSeen → Type 0
+AllStandUntold done old new = (disk : ℕ) → failed_disk done ≢ Some disk → (seen_at new disk).faults ≡ (seen_at old disk).faults
+
 -- ---- events
+
+-- no count rises
+abbrev pub NoneRises : List DiskSeen → List DiskSeen → Type 0
+NoneRises old new = (disk : ℕ) → (seen_at new disk).faults ≡ (seen_at old disk).faults
 
 -- no count falls
 abbrev pub NoneFalls : List DiskSeen → List DiskSeen → Type 0

@@ -1,8 +1,10 @@
 -- What a cluster tells of its disks: the counts of any, and the contents, where they tell them and each shard has one copy.
 use Rattle.std.specs.Prelude.{◌≡◌, ◌≤◌, ◌<◌, ◌-◌, ◌^◌, ℕ, ⊤, List, [], ◌∷◌, take, Option, Some, None, Result, OnOk}
+use Rattle.hs_cluster.specs.Calm.{GoesCalmly}
 use Rattle.hs_cluster.specs.Counts.{AreAllCounted, AreCounted}
 use Rattle.hs_cluster.specs.Disks.{DiskSeen, log_at, stands_of}
 use Rattle.hs_cluster.specs.Jobs.{HasStored, TellsBytes}
+use Rattle.hs_cluster.specs.Past.{HoldsLog, LeavesPast}
 use Rattle.hs_cluster.specs.Running.{Running}
 use Rattle.hs_cluster.specs.declared.fault.ClusterFault.{ClusterFault}
 use Rattle.hs_core.specs.Looking.{catalogue_of, first_job, home}
@@ -90,6 +92,11 @@ AreStored c (e ∷ es) = (c.core.ended ≡ None → IsStored c) × AreStored (st
 -- of failed calls; and, where a stop leaves the lists with which the call began, the lists at each moment. Behind it the cluster keeps what it needs to go on
 pub record Shows (tells : Type 0) (span : Span) (result : Result ⊤ ClusterFault) (events : Events) : Type 0 where
   pub counted : AreCounted span.old.core events span.disks span.left
+  -- with one copy a shard: where the core goes on no disk failed on the way, from whatever disks on
+  pub calm : (first : List DiskSeen) → GoesCalmly span.old.core first span.disks → OnOk result (GoesCalmly span.new.core first span.left)
+  -- what is past of a disk stays, whose log has some list whatever a stop leaves; and so it does on
+  pub past : tells → (first : List DiskSeen) → GoesCalmly span.old.core first span.disks → (peer : ℕ) → HoldsLog span.before span.old.logs span.disks peer
+      → LeavesPast span.before span.now span.disks span.left span.new.logs result peer
   pub lists : tells → (c : Whole) → c.core ≡ span.old.core → CanGoOn c span.old.logs span.disks span.before → LeavesLists c events span
   pub goes_on : tells → (c : Whole) → c.core ≡ span.old.core → CanGoOn c span.old.logs span.disks span.before
       → OnOk result (CanGoOn (runs whole_machine c events) span.new.logs span.left span.now)

@@ -1,11 +1,13 @@
 pub mod Ascending
 pub mod Begins
 pub mod Calls
+pub mod Calm
 pub mod Counts
 pub mod Disks
 pub mod Jobs
 pub mod Kept
 pub mod Opens
+pub mod Past
 pub mod Rooms
 pub mod Running
 pub mod RunsOn

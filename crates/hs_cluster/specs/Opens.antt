@@ -2,9 +2,11 @@
 use Rattle.std.specs.List.{AllPairs}
 use Rattle.std.specs.Prelude.{◌≡◌, ◌⊎◌, ◌++◌, ◌<◌, ◌≤◌, ℕ, ⊤, List, length, not, Contains, Option, None, Some, IsSome, OnOk, Result, false, is_some, true, slice_index_or}
 use Rattle.hs_cluster.specs.Calls.{outcome_by, ran_out}
+use Rattle.hs_cluster.specs.Calm.{GoesCalmly}
 use Rattle.hs_cluster.specs.Counts.{AreAllCounted, AreCounted, NoneFalls}
 use Rattle.hs_cluster.specs.declared.fault.ClusterFault.{ClusterFault}
 use Rattle.hs_cluster.specs.Kept.{AreStored, AreTold, CanGoOn, CanRead, LeavesLists}
+use Rattle.hs_cluster.specs.Past.{LeavesPast}
 use Rattle.hs_cluster.specs.Rooms.{HaveRecordRoom}
 use Rattle.hs_cluster.specs.Running.{Running}
 use Rattle.hs_events.specs.Beginning.{first_items}
@@ -21,9 +23,10 @@ use Rattle.hs_peerlog.specs.declared.fault.LogFault.TheVariants as log
 use Rattle.hs_peerlog.specs.Lists.{HasLog, IsKept, Keeping}
 use Rattle.hs_peerlog.specs.Opening.{refusal_in}
 use Rattle.hs_ports.specs.Fault.{HasRisen}
+use Rattle.hs_ports.specs.Moments.{disk_at}
 use Rattle.hs_side.specs.Current.{list_in}
 use Rattle.hs_side.specs.declared.header.Header.{Header}
-use Rattle.hs_taking.specs.Disks.{DiskSeen, log_at, seen_at}
+use Rattle.hs_taking.specs.Disks.{DiskSeen, log_at, seen_at, stands_of}
 use Rattle.hs_taking.specs.Shares.{IsLater, IsLostDisk, KeepsDisk, Span}
 
 -- ---- what was found
@@ -40,6 +43,7 @@ pub record IsFound (tells : Type 0) (set : Setting) (span : Span) (found : Found
   -- it is good where its log is in use, which is one that was read; any other had none, or it was lost since
   pub good : starts_good found peer ≡ is_some (log_at logs peer)
   pub kept : starts_good found peer ≡ true → IsSome (log_in found peer)
+  pub calm : starts_good found peer ≡ true → (seen_at span.new peer).faults ≡ (seen_at span.old peer).faults
   pub aside : starts_good found peer ≡ false → (log_in found peer ≡ None) ⊎ ((moment : ℕ) × Contains found.lost (peer, moment))
   -- the calls on its disk leave its list as it is, at each moment; and the log has it, right before the first turn
   pub disk : KeepsDisk tells span.before span.now (seen_at span.old peer) (seen_at span.new peer)
@@ -69,7 +73,7 @@ pub record Finds (tells : Type 0) (set : Setting) (span : Span) (found : Found) 
 -- ---- all of it
 
 -- no call of a disk is ahead, and what it reads as is what a stop leaves, whatever that leaves
-pub record AreSound (before : ℕ) (disks : List DiskSeen) : Type 0 where
+pub record LeaveOneList (before : ℕ) (disks : List DiskSeen) : Type 0 where
   pub called : (peer : ℕ) → (seen_at disks peer).stands.last ≤ before
   pub only : (peer : ℕ) (list : Numbered) → list_in (seen_at disks peer).stands.seen ≡ Some list → LeavesOnly (seen_at disks peer).stands list
 
@@ -96,12 +100,16 @@ pub record Opens (tells : Type 0) (set : Setting) (span : Span) (cluster : Runni
   pub falls : NoneFalls span.old disks
   pub counted : AreCounted (first_core set found) events disks span.new
   pub rooms : HaveRecordRoom (first_core set found) events
+  -- where the core goes on no disk failed since entry
+  pub calm : OnOk done (GoesCalmly cluster.core span.old span.new)
+  -- what is past of each disk stays, where no call of it was ahead
+  pub past : tells → (peer : ℕ) → (disk_at (stands_of span.old) peer).last ≤ span.before → LeavesPast span.before span.now span.old span.new cluster.logs done peer
   -- where the core had ended nothing came behind the reading
   pub still : IsSome (first_core set found).ended → span.new ≡ disks
   -- where the core was opened: the lists at each moment from entry on, and behind all of it the cluster may go on
-  pub lists : tells → AreSound span.before span.old → (first_core set found).ended ≡ None
+  pub lists : tells → LeaveOneList span.before span.old → (first_core set found).ended ≡ None
       → LeavesLists (open_whole set found) events (record { before = span.before; now = span.now; old = begun; new = cluster; disks = span.old; left = span.new })
-  pub goes_on : tells → AreSound span.before span.old → OnOk done (CanGoOn (runs whole_machine (open_whole set found) events) cluster.logs span.new span.now)
+  pub goes_on : tells → LeaveOneList span.before span.old → OnOk done (CanGoOn (runs whole_machine (open_whole set found) events) cluster.logs span.new span.now)
   -- and, however the disks were at entry, what was told of blocks; and that reads too cost what is reported of failed calls
   pub told : tells → (first_core set found).ended ≡ None → AreTold (open_whole set found) events
   pub read : tells → (first_core set found).ended ≡ None → AreStored (open_whole set found) events → AreAllCounted (first_core set found) events disks span.new

@@ -1,9 +1,11 @@
 -- What a run on disks shows, beside its events.
-use Rattle.std.specs.Prelude.{IsSome, List, None, Option, Some, length, ℕ, ◌<◌, ◌≡◌}
+use Rattle.std.specs.Prelude.{IsSome, List, None, Option, Some, length, ℕ, ◌<◌, ◌≡◌, ◌≤◌}
+use Rattle.hs_cluster.specs.Calm.{GoesCalmly}
 use Rattle.hs_cluster.specs.Counts.{AreAllCounted, AreCounted, NoneFalls}
-use Rattle.hs_cluster.specs.Disks.{DiskSeen, seen_at}
+use Rattle.hs_cluster.specs.Disks.{DiskSeen, seen_at, stands_of}
 use Rattle.hs_cluster.specs.Kept.{AreStored, AreTold, CanGoOn, CanRead, LeavesLists, Span}
-use Rattle.hs_cluster.specs.Opens.{AreSound, Finds}
+use Rattle.hs_cluster.specs.Opens.{Finds, LeaveOneList}
+use Rattle.hs_cluster.specs.Past.{HoldsLog}
 use Rattle.hs_cluster.specs.Rooms.{HaveRecordRoom}
 use Rattle.hs_events.specs.Due.{Events}
 use Rattle.hs_events.specs.Found.{Found, first_core}
@@ -15,9 +17,11 @@ use Rattle.hs_peerlog.specs.declared.fault.LogFault.TheVariants as log
 use Rattle.hs_peerlog.specs.Lists.{Keeping}
 use Rattle.hs_peerlog.specs.Opening.{refusal_in}
 use Rattle.hs_ports.specs.Fault.{HasRisen}
+use Rattle.hs_ports.specs.Moments.{disk_at}
 use Rattle.hs_side.specs.declared.header.Header.{Header}
+use Rattle.hs_taking.specs.Past.{PastStays}
 
--- what opening found; that counts of faults rose as the reports tell; and of disks that tell their contents, and are sound at entry, the lists at each moment
+-- what opening found; that counts of faults rose as the reports tell; and of disks that tell their contents, where a stop at entry leaves one list of each, the lists at each moment
 pub record RunsOn (tells : Type 0) (set : Setting) (span : Span) (found : Found) (events : Events) : Type 0 where
   -- the logs in use right before the first turn, and the disks then
   pub slots : List (Option Keeping)
@@ -31,12 +35,18 @@ pub record RunsOn (tells : Type 0) (set : Setting) (span : Span) (found : Found)
   pub rooms : HaveRecordRoom (first_core set found) events
   -- where the core had ended nothing came behind the reading
   pub still : IsSome (first_core set found).ended → span.left ≡ disks
-  pub lists : tells → AreSound span.before span.disks → (first_core set found).ended ≡ None → LeavesLists (open_whole set found) events span
+  -- what is past of each disk stays, where no call of it was ahead
+  pub past : tells → (peer : ℕ) → (disk_at (stands_of span.disks) peer).last ≤ span.before → PastStays span.before span.now (disk_at (stands_of span.disks) peer) (disk_at (stands_of span.left) peer)
+  pub lists : tells → LeaveOneList span.before span.disks → (first_core set found).ended ≡ None → LeavesLists (open_whole set found) events span
   -- however the disks were at entry: what was told of blocks; and that reads too cost what they tell of failed calls, where the lists have what the catalogues say
   pub told : tells → (first_core set found).ended ≡ None → AreTold (open_whole set found) events
   pub read : tells → (first_core set found).ended ≡ None → AreStored (open_whole set found) events → AreAllCounted (first_core set found) events disks span.left
 
 -- and what it needs to go on, where its core does
 pub record CanRunOn (tells : Type 0) (set : Setting) (span : Span) (found : Found) (events : Events) : Type 0 where
-  pub goes : tells → AreSound span.before span.disks → CanGoOn (runs whole_machine (open_whole set found) events) span.new.logs span.left span.now
+  -- no disk failed since entry
+  pub calm : GoesCalmly span.new.core span.disks span.left
+  -- and the log of each that no call was ahead of has some list, whatever a stop leaves
+  pub holds : tells → (peer : ℕ) → (disk_at (stands_of span.disks) peer).last ≤ span.before → HoldsLog span.now span.new.logs span.left peer
+  pub goes : tells → LeaveOneList span.before span.disks → CanGoOn (runs whole_machine (open_whole set found) events) span.new.logs span.left span.now
   pub reads : tells → CanRead (runs whole_machine (open_whole set found) events) span.new.logs span.left

@@ -1,7 +1,7 @@
 //! The first job of a peer.
 ghost use Rattle.std.specs.Prelude.{◌≡◌, ◌*◌, ◌+◌, ◌≤◌, ℕ, Option, Some, length, map, true, false, IfOk, IsOkUnless, IsSome, OnOk};
 ghost use Rattle.hs_cluster.specs.declared.fault.ClusterFault.TheVariants.{NoMemory};
-ghost use Rattle.hs_cluster.specs.Counts.{HasAllPaid, HasPaid, IsCopyPaid, IsPaid, NoneFalls};
+ghost use Rattle.hs_cluster.specs.Counts.{AllStandUntold, HasAllPaid, HasPaid, IsCopyPaid, IsPaid, NoneFalls, StandsUntold};
 ghost use Rattle.hs_cluster.specs.Disks.{AreReady, IsSlotReady, log_at, seen_as, seen_at, stands_of};
 ghost use Rattle.hs_cluster.specs.Jobs.{HasStored, ReadsOn, TellsBytes, Tries, Works, is_own};
 ghost use Rattle.hs_core.specs.Looking.{catalogue_of, first_job, home};
@@ -67,6 +67,10 @@ pub(crate) fn do_job<D: Disk>(
         (map (λ disk. seen_as (D.size disk) (D.stands disk) (D.faults disk)) disks.old)
         (map (λ disk. seen_as (D.size disk) (D.stands disk) (D.faults disk)) disks.new) }
     ensures paid { IfOk result (λ done. HasPaid core.now peer done
+        (map (λ disk. seen_as (D.size disk) (D.stands disk) (D.faults disk)) disks.old)
+        (map (λ disk. seen_as (D.size disk) (D.stands disk) (D.faults disk)) disks.new)) }
+    // The count of a disk stands, but of one whose failed call is told.
+    ensures calm { IfOk result (λ done. AllStandUntold done
         (map (λ disk. seen_as (D.size disk) (D.stands disk) (D.faults disk)) disks.old)
         (map (λ disk. seen_as (D.size disk) (D.stands disk) (D.faults disk)) disks.new)) }
     // What reads of the log of its peer give then, whatever a stop leaves; without one it isn't done.
@@ -151,6 +155,9 @@ fn do_copy<D: Disk>(
         peer).faults
         (seen_at (map (λ disk. seen_as (D.size disk) (D.stands disk) (D.faults disk)) disks.new)
         peer).faults) }
+    ensures calm { IfOk result (λ done. AllStandUntold done
+        (map (λ disk. seen_as (D.size disk) (D.stands disk) (D.faults disk)) disks.old)
+        (map (λ disk. seen_as (D.size disk) (D.stands disk) (D.faults disk)) disks.new)) }
     ensures ticks { watch.old ≤ watch.new }
 {
     let source = usize::from(from);
@@ -202,6 +209,7 @@ fn do_usual<D: Disk>(
     ensures later { D.faults disk.old ≤ D.faults disk.new }
     ensures paid { (at : ℕ) → only_reads at job.now ≡ false
         → IfOk result (IsPaid peer (D.faults disk.old) (D.faults disk.new)) }
+    ensures calm { IfOk result (StandsUntold peer (D.faults disk.old) (D.faults disk.new)) }
     ensures had { IfOk result (λ told. IsSome slot.old) }
     ensures reads { D.tells → is_own (Some job.now) ≡ true
         → (list : Numbered) (waiting : Option Entry)
@@ -247,6 +255,7 @@ fn do_reset<D: Disk>(
         (IsSlotReady D.tells slot.new (D.size disk.new) (D.stands disk.new)) }
     ensures later { D.faults disk.old ≤ D.faults disk.new }
     ensures paid { IfOk result (IsPaid peer (D.faults disk.old) (D.faults disk.new)) }
+    ensures calm { IfOk result (StandsUntold peer (D.faults disk.old) (D.faults disk.new)) }
     ensures ticks { watch.old ≤ watch.new }
 {
     *slot = None;
@@ -272,6 +281,7 @@ fn read_copy<D: Disk>(
     requires ready { IsSlotReady D.tells slot.old (D.size disk.old) (D.stands disk.old) }
     ensures ready { IsSlotReady D.tells slot.new (D.size disk.new) (D.stands disk.new) }
     ensures later { D.faults disk.old ≤ D.faults disk.new }
+    ensures calm { OnOk result (D.faults disk.new ≡ D.faults disk.old) }
 {
     let Some(log) = slot.take() else {
         return Err(LogFault::NoMemory);
@@ -288,6 +298,7 @@ fn read_sealed<D: Disk>(log: &PeerLog, disk: &mut D, number: u64) -> Result<Entr
     ensures ready { OnOk result (IsReady D.tells log.now (D.size disk.new log.now.log.side)
         (D.stands disk.new)) }
     ensures later { D.faults disk.old ≤ D.faults disk.new }
+    ensures calm { OnOk result (D.faults disk.new ≡ D.faults disk.old) }
 {
     match log.read_entry(disk, number)? {
         Some(entry) => Ok(entry),
@@ -313,6 +324,7 @@ fn write_copy<D: Disk>(
         (IsSlotReady D.tells slot.new (D.size disk.new) (D.stands disk.new)) }
     ensures later { D.faults disk.old ≤ D.faults disk.new }
     ensures paid { IfOk result (IsPaid peer (D.faults disk.old) (D.faults disk.new)) }
+    ensures calm { IfOk result (StandsUntold peer (D.faults disk.old) (D.faults disk.new)) }
     ensures ticks { watch.old ≤ watch.new }
 {
     let Some(log) = slot.take() else {

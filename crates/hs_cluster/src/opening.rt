@@ -8,6 +8,7 @@ ghost use Rattle.hs_cluster.specs.Unopened.{LeavesAsTaken};
 ghost use Rattle.hs_core.specs.Opening.{open_core};
 ghost use Rattle.hs_limits.specs.Shape.{IsShape};
 ghost use Rattle.hs_side.specs.declared.header.Header.{Header};
+ghost use Rattle.hs_taking.specs.Spared.{SparesDisks};
 ghost use Rattle.hs_taking.specs.Viewed.{IsOnlyRead};
 
 use crate::{Cluster, ClusterFault};
@@ -82,7 +83,14 @@ impl Cluster {
             disks.old) peer)
             (seen_at (map (λ disk. seen_as (D.size disk) (D.stands disk) (D.faults disk))
             disks.new) peer)) }
-        // Where no core was opened, the list of each disk is as it was.
+        // And where a disk of another store did not fail none was written, memory wanting or not.
+        ensures spares { OnErr result (SparesDisks D.tells shape (record {
+          before = watch.old;
+          now = watch.new;
+          old = map (λ disk. seen_as (D.size disk) (D.stands disk) (D.faults disk)) disks.old;
+          new = map (λ disk. seen_as (D.size disk) (D.stands disk) (D.faults disk)) disks.new;
+        })) }
+        // Where no core was opened, the list of each disk is as it was, and its past.
         ensures unopened { OnErr result (LeavesAsTaken D.tells (record {
           before = watch.old;
           now = watch.new;
@@ -147,6 +155,12 @@ impl Cluster {
             disks.old) peer)
             (seen_at (map (λ disk. seen_as (D.size disk) (D.stands disk) (D.faults disk))
             disks.new) peer)) }
+        ensures spares { SparesDisks D.tells shape (record {
+          before = watch.old;
+          now = watch.new;
+          old = map (λ disk. seen_as (D.size disk) (D.stands disk) (D.faults disk)) disks.old;
+          new = map (λ disk. seen_as (D.size disk) (D.stands disk) (D.faults disk)) disks.new;
+        }) }
         ensures ready { IfOk result (λ cluster. AreReady D.tells cluster.logs
             (map (λ disk. seen_as (D.size disk) (D.stands disk) (D.faults disk)) disks.new)) }
         ensures shape { IfOk result (λ cluster. cluster.core.members.shape ≡ shape) }

@@ -9,7 +9,7 @@ ghost use Rattle.hs_entry.specs.declared.entry.Entry.TheVariants.{Block};
 ghost use Rattle.hs_events.specs.Asked.{failed_disk};
 ghost use Rattle.hs_events.specs.Reports.{TellsOf, only_reads};
 ghost use Rattle.hs_fold.specs.Shards.Setting.{Numbered};
-ghost use Rattle.hs_peerlog.specs.Caused.{IsCaused, IsOutside};
+ghost use Rattle.hs_peerlog.specs.Caused.{IsCalm, IsCaused, IsOutside};
 ghost use Rattle.hs_peerlog.specs.Images.{Is, IsOne, LeavesEach};
 ghost use Rattle.hs_peerlog.specs.Lists.{HasLog, IsKept, IsReady};
 ghost use Rattle.hs_shard.specs.Facts.{pointers_at};
@@ -63,6 +63,7 @@ pub(crate) fn do_own<D: Disk>(
         → IsKept log.old ((D.stands disk.old).seen log.old.log.side) list waiting
         → HasStored (Some job.now) catalogue.now.blocks list → IfErr result IsOutside }
     ensures ticks { watch.old ≤ watch.new }
+    ensures calm { IsCalm (D.faults disk.old) (D.faults disk.new) result }
     ensures cause { IsCaused (D.faults disk.old) (D.faults disk.new) result }
 {
     match job {
@@ -110,6 +111,7 @@ pub(crate) fn append_entry<D: Disk>(
         → LeavesEach watch.old watch.new (D.stands disk.old) (D.stands disk.new) (Is list) }
     ensures refused { IfErr result IsOutside }
     ensures ticks { watch.old ≤ watch.new }
+    ensures calm { IsCalm (D.faults disk.old) (D.faults disk.new) result }
     ensures cause { IsCaused (D.faults disk.old) (D.faults disk.new) result }
 {
     if !is_next(log, number) || !is_readable(entry) {
@@ -159,6 +161,7 @@ fn seal_entry<D: Disk>(
         (IsOne list (sealed_list list waiting)) }
     ensures refused { IfErr result IsOutside }
     ensures ticks { watch.old ≤ watch.new }
+    ensures calm { IsCalm (D.faults disk.old) (D.faults disk.new) result }
     ensures cause { IsCaused (D.faults disk.old) (D.faults disk.new) result }
 {
     match log.unsealed() {
@@ -191,6 +194,7 @@ fn read_block<D: Disk>(
     ensures refused { D.tells → (list : Numbered) (waiting : Option Entry)
         → IsKept log.now ((D.stands disk.old).seen log.now.log.side) list waiting
         → HasStored (Some (job.Read number)) catalogue.now.blocks list → IfErr result IsOutside }
+    ensures calm { IsCalm (D.faults disk.old) (D.faults disk.new) result }
     ensures cause { IsCaused (D.faults disk.old) (D.faults disk.new) result }
 {
     match log.read_entry(disk, number)? {
@@ -254,6 +258,7 @@ pub(crate) fn empty_disk<D: Disk>(
         (D.stands disk.new)) }
     ensures refused { IfErr result IsOutside }
     ensures ticks { watch.old ≤ watch.new }
+    ensures calm { IsCalm (D.faults disk.old) (D.faults disk.new) result }
     ensures cause { IsCaused (D.faults disk.old) (D.faults disk.new) result }
 {
     match PeerLog::recover(alloc, disk, watch, shape, peer) {
@@ -284,6 +289,7 @@ pub(crate) fn keep_copy<D: Disk>(
         (D.stands disk.new)) }
     ensures refused { IfErr result IsOutside }
     ensures ticks { watch.old ≤ watch.new }
+    ensures calm { IsCalm (D.faults disk.old) (D.faults disk.new) result }
     ensures cause { IsCaused (D.faults disk.old) (D.faults disk.new) result }
 {
     append_entry(log, disk, watch, number, entry)?;

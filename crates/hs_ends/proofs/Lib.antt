@@ -3,8 +3,6 @@ pub mod DoneLemmas
 pub mod EndLemmas
 pub mod KindLemmas
 pub mod LedLemmas
-pub mod LedRunLemmas
-pub mod SayLemmas
 pub mod ScriptLemmas
 pub mod ShortLemmas
 pub mod StepLemmas

@@ -11,18 +11,7 @@ ghost use Rattle.hs_standing.specs.Run.{MayRun, RunOpens};
 ghost use Rattle.hs_standing.specs.Standing.{AllMayKeep};
 ghost use Rattle.hs_stops.specs.Start.{Start};
 
-use hs_answered::{
-    a_read_is_the_judges, a_step_that_answers_is_the_judges, a_write_is_the_judges,
-    an_answer_is_the_judges, views_show_the_store,
-};
-use hs_effects::{
-    a_delete_is_answered_at_its_effect, a_drop_is_answered_at_its_effect,
-    a_got_is_silent_or_a_sweep, a_new_block_is_answered_at_its_effect,
-    a_present_block_is_answered_at_its_effect, a_root_is_answered_at_its_effect,
-    an_enter_by_itself_is_told,
-};
-use hs_laws::sweep_is_exact;
-use hs_standing::a_run_goes_on;
+use hs_settled::the_first_shard_enters_for_a_line;
 
 /// No entry that a run tells, in its journal or with what found it full, tells that shard 0 entered an
 /// epoch by itself: each Enter that waits in its list is a line's, and what the logs had took effect
@@ -40,18 +29,5 @@ pub fn shard_0_is_led_by_lines()
         AreLed (r.journal ++ r.refused) }
     ensures never { (r : Ran) → NeverOpened r → AreLed (r.journal ++ r.refused) }
 {
-    a_step_that_answers_is_the_judges();
-    an_answer_is_the_judges();
-    a_read_is_the_judges();
-    a_write_is_the_judges();
-    views_show_the_store();
-    a_new_block_is_answered_at_its_effect();
-    a_present_block_is_answered_at_its_effect();
-    a_root_is_answered_at_its_effect();
-    a_drop_is_answered_at_its_effect();
-    a_delete_is_answered_at_its_effect();
-    an_enter_by_itself_is_told();
-    a_got_is_silent_or_a_sweep();
-    sweep_is_exact();
-    a_run_goes_on();
+    the_first_shard_enters_for_a_line();
 }

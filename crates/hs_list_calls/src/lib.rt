@@ -3,7 +3,6 @@
 
 #[cfg(test)]
 mod cost;
-#[cfg(test)]
 mod counted;
 #[cfg(test)]
 mod log;

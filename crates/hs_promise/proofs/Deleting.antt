@@ -1,4 +1,4 @@
--- A deletion run of an empty store keeps clause 4: its sweep is exact, and `done` stands directly behind it.
+-- A deletion run of an empty store deletes as promised: its sweep is exact, and `done` stands directly behind it.
 use Rattle.std.proofs.lemmas.Bool.{false≢true}
 use Rattle.std.proofs.lemmas.List.Elements.{All-cons, All-nil}
 use Rattle.std.specs.Option.{option_map_or}

@@ -1,5 +1,6 @@
 -- The causes of the statuses that need no contents, and that of a full journal.
 use Rattle.std.specs.Prelude.{All, [], length, ◌++◌, ◌<◌, ◌≡◌}
+use Rattle.hs_events.specs.Taken.{peer_count}
 use Rattle.hs_model.specs.Store.{Store}
 use Rattle.hs_ports.specs.Fault.{HasRisen}
 use Rattle.hs_promise.specs.Answers.{Answers, IsEntry}
@@ -17,7 +18,7 @@ Cause S r (status.ShardLost shard) = (r.refused ≡ []) × LostCause S r shard
 Cause S r status.ReadFault = (r.refused ≡ []) × HasRisen r.old.source_faults r.new.source_faults
 Cause S r status.WriteFault = (r.refused ≡ []) × HasRisen r.old.sink_faults r.new.sink_faults
 Cause S r status.NoMemory = r.refused ≡ []
-Cause S r (status.WrongShape peer found) = (r.refused ≡ []) × (r.journal ≡ []) × (r.course ≡ [])
+Cause S r (status.WrongShape peer found) = (r.refused ≡ []) × (r.journal ≡ []) × (r.course ≡ []) × (peer < peer_count S.set.shape)
 Cause S r status.OpsFull = (S.set.limits.ops < length (r.journal ++ r.refused)) × All (IsEntry S r.line) r.refused
 Cause S r status.InputFull = r.refused ≡ []
 

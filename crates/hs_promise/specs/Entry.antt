@@ -48,7 +48,7 @@ OneListAtEntry S r =
     (peer : ℕ) → is_aside S r peer ≡ false → (image : Image) → ((side : Side) → IsImage ((disk_at r.old.disks peer).loose side) (image side))
     → list_in image ≡ list_in (disk_at r.old.disks peer).seen
 
--- what clause 3 asks: sound disks, one list in all images of each, and no call ahead of the watch
+-- what is asked at entry of a run that may be stopped: sound disks, one list in all images of each, and no call ahead of the watch
 pub record MayStop (S : Script) (r : Ran) : Type 0 where
   pub sound : IsSoundAtEntry S r
   pub one : OneListAtEntry S r

@@ -1,5 +1,6 @@
 pub mod Answers
 pub mod Awaited
+pub mod Calm
 pub mod Causes
 pub mod Completes
 pub mod Course

@@ -12,11 +12,12 @@ use Rattle.hs_events.specs.Course.{steps}
 use Rattle.hs_events.specs.Due.{Events, MomentsRise, is_walk, next_turn}
 use Rattle.hs_events.specs.Reports.{failures}
 use Rattle.hs_promise.specs.Promise.{AreOfScript}
-use Rattle.hs_promise.specs.Reports.{IsBorneOut}
+use Rattle.hs_promise.specs.Reports.{TellTheirLists}
 use Rattle.hs_promise.specs.Run.{DiskRose, Ran, Script}
 use Rattle.hs_events.specs.Found.{first_core}
 use Rattle.hs_promise.specs.Story.{Story, all_events, last_core}
 use Rattle.hs_events.specs.Taken.{peer_count}
+use Rattle.hs_events.specs.Whole.{open_whole}
 
 -- ---- the end
 
@@ -51,15 +52,12 @@ pub record Went (S : Script) (r : Ran) (story : Story) : Type 0 where
   pub ends : EndsAs (ending_of r.ending) (last_core S story).ended
   pub failed : (disk : ℕ) → DiskRose r (failures false disk (first_core S.set story.found) (all_events story)) disk
 
--- and so where the disks tell their contents, so that no read finds what is no log
+-- and so where the disks tell their contents, so that no read finds what is no log, and what was read is told
 pub record IsOfDisks (S : Script) (r : Ran) (story : Story) : Type 0 where
   pub read : (peer : ℕ) → peer < peer_count S.set.shape → IsReadAs r story peer
+  pub told : (first_core S.set story.found).ended ≡ None → TellTheirLists (open_whole S.set story.found) (all_events story)
   pub still : MayStop S r → All (IsStillBehind r story) story.found.lost
   pub failed : (disk : ℕ) → DiskRose r (failures true disk (first_core S.set story.found) (all_events story) + loss_count story disk) disk
-
--- and each report is borne out by its disk, where the run may stop
-abbrev pub AreBorneOut : Script → Ran → Story → Type 0
-AreBorneOut S r story = MayStop S r → All (IsBorneOut r) (all_events story)
 
 -- no core was opened, since a disk is of another store or memory was wanting: nothing was answered, read or put
 pub record NeverOpened (r : Ran) : Type 0 where

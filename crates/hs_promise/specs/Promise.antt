@@ -2,6 +2,7 @@
 use Rattle.std.specs.Prelude.{IfSome, [], length, ℕ, ◌≡◌}
 use Rattle.hs_script.specs.Reading.{commands}
 use Rattle.hs_promise.specs.Answers.{Answers, Prints}
+use Rattle.hs_promise.specs.Calm.{EndsCalm}
 use Rattle.hs_promise.specs.Causes.{Cause, FullCause}
 use Rattle.hs_promise.specs.Completes.{EndsWell, HasPrompt, MayEndWell, SettlesEach}
 use Rattle.hs_promise.specs.Deletes.{Deletes}
@@ -15,7 +16,7 @@ use Rattle.hs_promise.specs.Stops.{Stops}
 use Rattle.hs_promise.specs.declared.status.Status.TheVariants as status
 use Rattle.hs_ports.specs.Objects.{CountsStand, KeepsPast, KeepsTime}
 
--- clauses 1 to 5 from the store at entry, where the disks are sound
+-- answers, what is kept, deletion, and what a settle and a run come to: from the store at entry, where the disks are sound
 pub record Clauses (S : Script) (r : Ran) : Type 0 where
   pub answers : Answers S (entry_store S r) r.journal
   pub full : FullCause S (entry_store S r) r
@@ -45,6 +46,7 @@ pub record Promise (tells : Type 0) (S : Script) (r : Ran) : Type 0 where
   pub time : KeepsTime r.old r.new
   pub counts : CountsStand r.old r.new
   pub cause : Cause S r r.ending
+  pub calm : EndsCalm S r
   pub ends : IfSome r.old.left (λ script. IfSome r.new.left (Ends r script))
   pub told : tells → WhereTold S r
 

@@ -3,7 +3,7 @@
 
 mod laws;
 mod outcome;
-mod promised;
+mod runner;
 mod status;
 
 pub use laws::{
@@ -11,5 +11,5 @@ pub use laws::{
     only_a_full_journal_refuses, the_end_of_the_core_is_told,
 };
 pub use outcome::Outcome;
-pub use promised::Promised;
+pub use runner::Runner;
 pub use status::Status;

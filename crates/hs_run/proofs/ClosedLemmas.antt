@@ -1,6 +1,6 @@
 -- A run that opened no core.
 use Rattle.std.proofs.Common.{◌≡◌, ◌⊎◌, inl, inr, ◌∙◌, ap, sym, subst, ℕ, ◌*◌, ◌-◌, ◌^◌, ◌<◌, ◌≤◌, List, [], Option, Some, None, Ok, Err, true, refl, arith, length}
-use Rattle.std.proofs.lemmas.Bool.{cases_lt}
+use Rattle.std.proofs.lemmas.Bool.{cases_lt, false≢true}
 use Rattle.std.proofs.lemmas.List.Elements.{All-nil}
 use Rattle.std.specs.Prelude.{IfSome, IsSome}
 use Rattle.hs_cluster.specs.Begins.{IsClosed}
@@ -9,6 +9,7 @@ use Rattle.hs_cluster.specs.declared.fault.ClusterFault.{ClusterFault}
 use Rattle.hs_cluster.specs.declared.fault.ClusterFault.TheVariants as cluster
 use Rattle.hs_cluster.specs.Disks.{DiskSeen, seen_at, stands_of}
 use Rattle.hs_cluster.specs.Unopened.{LeavesAsTaken}
+use Rattle.hs_events.specs.Taken.{peer_count}
 use Rattle.hs_fold.specs.Shards.Setting.{Setting}
 use Rattle.hs_limits.specs.Shape.{IsShape}
 use Rattle.hs_model.specs.declared.command.Command.{Command}
@@ -16,9 +17,10 @@ use Rattle.hs_moments.specs.Moments.{Since}
 use Rattle.hs_peerlog.specs.declared.fault.LogFault.TheVariants as log
 use Rattle.hs_peerlog.specs.Opening.{refusal_in}
 use Rattle.hs_ports.specs.Disk.{Standing}
+use Rattle.hs_ports.specs.MemoryDisk.{untold}
 use Rattle.hs_ports.specs.Moments.{disk_at}
 use Rattle.hs_ports.specs.Fault.{HasRisen}
-use Rattle.hs_ports.specs.Objects.{KeepsTime, Objects, RoseBy, faults_at}
+use Rattle.hs_ports.specs.Objects.{KeepsPast, KeepsTime, Objects, RoseBy, faults_at}
 use Rattle.hs_ports.specs.Putting.{got_by}
 use Rattle.hs_ports.specs.Sink.{bytes_of}
 use Rattle.hs_ports.specs.Unwritten.{IsUnwritten}
@@ -28,18 +30,21 @@ use Rattle.hs_promise.specs.Ending.{ending_of}
 use Rattle.hs_promise.specs.Ends.{Ends, HasEnded}
 use Rattle.hs_promise.specs.Machine.{NeverOpened}
 use Rattle.hs_promise.specs.Run.{DiskRose, Ran, Script}
-use Rattle.hs_promise.specs.Shapes.{IsFirstOther, IsFoundOther, IsOther, MayAllRise, NoneWritten}
+use Rattle.hs_promise.specs.Shapes.{IsFirstOther, IsFoundOther, IsOther, MayAllRise, NoneWritten, ShapeCause}
 use Rattle.hs_script.specs.Lines.{lines_of}
 use Rattle.hs_side.specs.Current.{current, header_in}
 use Rattle.hs_side.specs.declared.header.Header.{Header}
+use Rattle.hs_taking.proofs.PastLemmas.{past_still}
+use Rattle.hs_taking.specs.Past.{PastStays}
 use Rattle.hs_taking.specs.Shares.{Span as Taking}
+use Rattle.hs_taking.specs.Spared.{SparesDisks}
 use Rattle.hs_taking.specs.Viewed.{IsFirstOther as IsFirst, IsOnlyRead}
 use Rattle.hs_run.specs.Ended.{ran_at}
 use Rattle.hs_run.specs.Machine.{AreHanded, IsOfCluster}
-use Rattle.hs_run.specs.Served.{HasCauses, HasShapeCause, PrintsText, Served}
+use Rattle.hs_run.specs.Served.{HasCauses, PrintsText, Served}
 use Rattle.hs_run.specs.Stopping.{of_cluster, status_of}
 use Rattle.hs_run.proofs.CaseLemmas.{if_any}
-use Rattle.hs_run.proofs.DisksLemmas.{count_is, disk_is, falls_is, rose_is}
+use Rattle.hs_run.proofs.DisksLemmas.{count_is, disk_is, falls_is, past_is, rose_is, stands_at}
 use Rattle.hs_run.proofs.EndingLemmas.{none_bad}
 use Rattle.hs_run.proofs.LateLemmas.{followed_none, front_none}
 use Rattle.hs_run.proofs.PrintedLemmas.{followed_nothing}
@@ -54,6 +59,12 @@ closed_ends tells set old new (cluster.WrongShape peer found) h = inl refl
 closed_ends tells set old new (cluster.ShardLost shard) h = absurd h
 closed_ends tells set old new cluster.OpsFull h = absurd h
 closed_ends tells set old new cluster.NoMemory h = inr refl
+
+closed_past : (tells : Type 0) (set : Setting) (old new : List DiskSeen) (fault : ClusterFault) → IsClosed tells set.shape old new fault → (ending_of (status_of (Err (of_cluster fault)) 0)).past ≡ true → ⊥
+closed_past tells set old new (cluster.WrongShape peer found) h past = false≢true past
+closed_past tells set old new (cluster.ShardLost shard) h past = h
+closed_past tells set old new cluster.OpsFull h past = h
+closed_past tells set old new cluster.NoMemory h past = false≢true past
 
 closed_ended : (tells : Type 0) (set : Setting) (old new : List DiskSeen) (fault : ClusterFault) (lines : List (List ℕ)) (rest : List ℕ) → IsClosed tells set.shape old new fault → HasEnded (status_of (Err (of_cluster fault)) 0) lines 0 [] rest
 closed_ended tells set old new (cluster.WrongShape peer found) lines rest h = (refl, refl)
@@ -78,6 +89,19 @@ closed_causes tells set disks left cluster.NoMemory old new h = record { refused
 
     not_write : status.NoMemory ≡ status.WriteFault → ⊥
     not_write e = cc
+
+closed_within : (tells : Type 0) (set : Setting) (disks left : List DiskSeen) (fault : ClusterFault) → IsClosed tells set.shape disks left fault
+    → (peer : ℕ) (found : Header) → status_of (Err (of_cluster fault)) 0 ≡ status.WrongShape peer found → peer < peer_count set.shape
+closed_within tells set disks left (cluster.WrongShape p f) h peer found is = subst (λ (k : ℕ). k < peer_count set.shape) (same_peer is) h.within
+  where
+    same_peer : status.WrongShape p f ≡ status.WrongShape peer found → p ≡ peer
+    same_peer e = cc
+closed_within tells set disks left (cluster.ShardLost shard) h peer found is = absurd h
+closed_within tells set disks left cluster.OpsFull h peer found is = absurd h
+closed_within tells set disks left cluster.NoMemory h peer found is = absurd (not_shape is)
+  where
+    not_shape : status.NoMemory ≡ status.WrongShape peer found → ⊥
+    not_shape e = cc
 
 some_list : (x y : List ℕ) → Some x ≡ Some y → x ≡ y
 some_list x y e = cc
@@ -121,6 +145,10 @@ module _ (tells : Type 0) (set : Setting) (span : Taking) (old new : Objects) (w
         | inr high ↦ unwritten_past old.moment (seen_at span.old peer).stands (seen_at span.new peer).stands (seen_past span.old peer high) (seen_past span.new peer (omega (arith, high, same)))
       ]
 
+  -- where one surely didn't fail
+  spared : tells → SparesDisks tells set.shape span → (peer : ℕ) (found : Header) → IsFirstOther script r peer found → (DiskRose r 1 peer → ⊥) → NoneWritten r
+  spared told spares peer found first calm = none_written told (spares.none told peer found (low_of peer found first.other) (refused_by peer found first.other) (λ rose. calm (rose_of peer rose)))
+
   -- the one that was found
   module _ (told : tells) (p : ℕ) (f : Header) (closed : IsFirst tells set.shape span.old span.new p f) where
     found_other : IsFoundOther script r p f
@@ -162,7 +190,7 @@ module _ (tells : Type 0) (set : Setting) (span : Taking) (fault : ClusterFault)
     (before : span.before ≡ old.moment) (now : span.now ≡ new.moment) (later : span.before ≤ span.now) (was : AreHanded old span.old) (is : AreHanded new span.new) (falls : NoneFalls span.old span.new) (since : tells → Since (stands_of span.new))
     (shape : IsShape set.shape) (one : set.shape.copies ≡ 1) (disks : length span.old ≡ set.shape.shards * set.shape.copies) (handed : length old.disks ≡ length span.old) (same : length span.new ≡ length span.old) (handed_back : length new.disks ≡ length old.disks)
     (sink : old.sink_faults ≤ new.sink_faults) (source : old.source_faults ≤ new.source_faults) (taken : LeavesAsTaken tells span)
-    (read : (at : ℕ) (found : Header) → fault ≡ cluster.WrongShape at found → (p : ℕ) → p < length span.old → IsOnlyRead tells span.before span.now (seen_at span.old p) (seen_at span.new p)) where
+    (spares : SparesDisks tells set.shape span) where
   abbrev r : Ran
   r = ran_at (status_of (Err (of_cluster fault)) 0) 0 None old new
 
@@ -201,8 +229,8 @@ module _ (tells : Type 0) (set : Setting) (span : Taking) (fault : ClusterFault)
         cause = closed_ended tells set span.old span.new fault (lines_of script) rest closed;
       }
 
-  closed_shape : tells → HasShapeCause S r
-  closed_shape told = by fault refl closed
+  closed_shape : tells → ShapeCause S r
+  closed_shape told = by fault closed
     where
       not_shape : (peer : ℕ) (found : Header) → status.NoMemory ≡ status.WrongShape peer found → ⊥
       not_shape peer found e = cc
@@ -213,22 +241,35 @@ module _ (tells : Type 0) (set : Setting) (span : Taking) (fault : ClusterFault)
       same_found : (p : ℕ) (f : Header) (peer : ℕ) (found : Header) → status.WrongShape p f ≡ status.WrongShape peer found → f ≡ found
       same_found p f peer found e = cc
 
-      by : (other : ClusterFault) → fault ≡ other → IsClosed tells set.shape span.old span.new other → HasShapeCause S (ran_at (status_of (Err (of_cluster other)) 0) 0 None old new)
-      by (cluster.WrongShape p f) there h = record {
+      by : (other : ClusterFault) → IsClosed tells set.shape span.old span.new other → ShapeCause S (ran_at (status_of (Err (of_cluster other)) 0) 0 None old new)
+      by (cluster.WrongShape p f) h = record {
         only = λ peer found ending.
             subst (λ (k : ℕ). IsFoundOther S (ran_at (status.WrongShape p f) 0 None old new) k found) (same_peer p f peer found ending)
             (subst (λ (x : Header). IsFoundOther S (ran_at (status.WrongShape p f) 0 None old new) p x) (same_found p f peer found ending)
             (found_other tells set span old new was is before disks handed same asked (ran_at (status.WrongShape p f) 0 None old new) refl refl told p f h));
         exact = λ peer found first may calm. inl (same_other tells set span old new was is before disks handed same asked (ran_at (status.WrongShape p f) 0 None old new) refl refl told p f h peer found first may calm);
-        unwritten = λ peer found first calm memory. none_written tells set span old new was is before disks handed same asked (ran_at (status.WrongShape p f) 0 None old new) refl refl told (read p f there);
+        unwritten = spared tells set span old new was is before disks handed same asked (ran_at (status.WrongShape p f) 0 None old new) refl refl told spares;
       }
-      by (cluster.ShardLost shard) there h = absurd h
-      by cluster.OpsFull there h = absurd h
-      by cluster.NoMemory there h = record {
+      by (cluster.ShardLost shard) h = absurd h
+      by cluster.OpsFull h = absurd h
+      by cluster.NoMemory h = record {
         only = λ peer found ending. absurd (not_shape peer found ending);
         exact = λ peer found first may calm. inr refl;
-        unwritten = λ peer found first calm memory. absurd (memory refl);
+        unwritten = spared tells set span old new was is before disks handed same asked (ran_at status.NoMemory 0 None old new) refl refl told spares;
       }
+
+  closed_keeps : tells → KeepsPast old new
+  closed_keeps told = past_is old new span.before span.now span.old span.new was is before now (λ peer last.
+      subst (λ (d : Standing). PastStays span.before span.now d (disk_at (stands_of span.new) peer)) (sym (stands_at span.old peer))
+      (subst (λ (d : Standing). PastStays span.before span.now (seen_at span.old peer).stands d) (sym (stands_at span.new peer))
+      (by_place peer (subst (λ (d : Standing). d.last ≤ span.before) (stands_at span.old peer) last))))
+    where
+      by_place : (peer : ℕ) → (seen_at span.old peer).stands.last ≤ span.before → PastStays span.before span.now (seen_at span.old peer).stands (seen_at span.new peer).stands
+      by_place peer last = elim (cases_lt peer (length span.old)) [
+        | inl low ↦ (taken.each peer low).past told last
+        | inr high ↦ subst (λ (d : Standing). PastStays span.before span.now d (seen_at span.new peer).stands) (sym (seen_past span.old peer high))
+            (subst (λ (d : Standing). PastStays span.before span.now untold d) (sym (seen_past span.new peer (omega (arith, high, same)))) (past_still span.before span.now untold later (omega arith)))
+      ]
 
   closed_served : Served tells S r
   closed_served = record {
@@ -238,8 +279,11 @@ module _ (tells : Type 0) (set : Setting) (span : Taking) (fault : ClusterFault)
     time = closed_time;
     counts = record { disks = falls_is old new span.old span.new was is falls; sink = sink; source = source };
     causes = closed_causes tells set span.old span.new fault old new closed;
+    within = closed_within tells set span.old span.new fault closed;
+    calm = λ one past. absurd (closed_past tells set span.old span.new fault closed past);
     left = λ some. subst (λ (o : Option (List ℕ)). IsSome o) (sym unread) some;
     ends = if_any (λ told. IfSome new.left (Ends r told)) old.left (λ told there. closed_by told there);
+    past = closed_keeps;
     shape = closed_shape;
   }
 

@@ -1,26 +1,30 @@
 -- What a run shows of its disks, in the words of its objects.
-use Rattle.std.proofs.Common.{◌≡◌, inl, inr, ◌∙◌, ap, sym, subst, ℕ, zero, suc, ◌+◌, ◌-◌, ◌^◌, ◌<◌, ◌≤◌, ◌==◌, false, true, List, [], ◌∷◌, None, refl, arith, map, min}
-use Rattle.std.specs.Prelude.{count_by}
+use Rattle.std.proofs.Common.{◌≡◌, inl, inr, ◌∙◌, ap, sym, subst, ℕ, zero, suc, ◌+◌, ◌-◌, ◌^◌, ◌<◌, ◌≤◌, ◌==◌, false, true, List, [], ◌∷◌, Option, Some, None, refl, arith, map, min, take}
+use Rattle.std.specs.Prelude.{IfSome, count_by}
 use Rattle.hs_cluster.proofs.CountLemmas.{falls_then, faults_seen}
 use Rattle.hs_cluster.proofs.RunLemmas.{all_failed, lost_before, some_failed}
-use Rattle.hs_cluster.specs.Counts.{NoneFalls}
+use Rattle.hs_cluster.specs.Counts.{NoneFalls, NoneRises}
 use Rattle.hs_cluster.specs.Disks.{DiskSeen, seen_at, stands_of}
-use Rattle.hs_cluster.specs.Kept.{AreStored, Span}
+use Rattle.hs_cluster.specs.Kept.{AreStored, AreTold, IsTold, Span}
 use Rattle.hs_cluster.specs.RunsOn.{RunsOn}
+use Rattle.hs_desk.specs.declared.done.Done.{Done}
+use Rattle.hs_events.specs.Asked.{report_in}
 use Rattle.hs_events.specs.Due.{Events}
 use Rattle.hs_events.specs.Found.{Found, first_core}
-use Rattle.hs_events.specs.Reports.{failures}
+use Rattle.hs_events.specs.Reports.{TellsOf, failures}
 use Rattle.hs_events.specs.Taken.{peer_count}
-use Rattle.hs_events.specs.Whole.{open_whole}
+use Rattle.hs_events.specs.Whole.{Whole, floor, open_whole, reach, step_whole}
 use Rattle.hs_fold.specs.Shards.Setting.{Setting}
 use Rattle.hs_ports.specs.Disk.{Standing}
 use Rattle.hs_ports.specs.Fault.{HasRisen}
 use Rattle.hs_ports.specs.Moments.{disk_at}
-use Rattle.hs_ports.specs.Objects.{Objects, RoseBy, faults_at}
+use Rattle.hs_ports.specs.Objects.{KeepsPast, Objects, RoseBy, faults_at}
 use Rattle.hs_promise.specs.Found.{IsReadAs}
+use Rattle.hs_promise.specs.Reports.{TellTheirLists}
 use Rattle.hs_promise.specs.Run.{Ran, Script}
 use Rattle.hs_promise.specs.Story.{Story, all_events}
 use Rattle.hs_side.specs.Current.{list_in}
+use Rattle.hs_taking.specs.Past.{PastStays}
 use Rattle.hs_run.specs.Machine.{AreHanded, RunsOnDisks}
 
 -- ---- the disks that were handed
@@ -64,6 +68,28 @@ falls_is old new disks left was is falls k =
     let low = falls k in
     omega (arith, a, b, low)
 
+pub calm_is : (old new : Objects) (disks left : List DiskSeen) → AreHanded old disks → AreHanded new left → NoneRises disks left → (k : ℕ) → faults_at new.disk_faults k ≡ faults_at old.disk_faults k
+calm_is old new disks left was is none k = count_is new left is k ∙ none k ∙ sym (count_is old disks was k)
+
+-- ---- the past
+
+-- what is past of each disk stays, where no call of it was ahead
+pub past_is : (old new : Objects) (before now : ℕ) (disks left : List DiskSeen) → AreHanded old disks → AreHanded new left → before ≡ old.moment → now ≡ new.moment
+    → ((peer : ℕ) → (disk_at (stands_of disks) peer).last ≤ before → PastStays before now (disk_at (stands_of disks) peer) (disk_at (stands_of left) peer)) → KeepsPast old new
+past_is old new before now disks left was is start end stays = record {
+  called = λ peer last. (at peer last).last;
+  earlier = λ peer m side last low fits. (at peer last).earlier side m low fits;
+}
+  where
+    at : (peer : ℕ) → (disk_at old.disks peer).last ≤ old.moment → PastStays old.moment new.moment (disk_at old.disks peer) (disk_at new.disks peer)
+    at peer last =
+        let e : (disk_at (stands_of disks) peer).last ≡ (disk_at old.disks peer).last = ap (λ (ds : List Standing). (disk_at ds peer).last) was.stands in
+        let there : (disk_at (stands_of disks) peer).last ≤ before = omega (arith, e, last, start) in
+        subst (λ (ds : List Standing). PastStays old.moment new.moment (disk_at ds peer) (disk_at new.disks peer)) was.stands
+        (subst (λ (ds : List Standing). PastStays old.moment new.moment (disk_at (stands_of disks) peer) (disk_at ds peer)) is.stands
+        (subst (λ (n : ℕ). PastStays old.moment n (disk_at (stands_of disks) peer) (disk_at (stands_of left) peer)) end
+        (subst (λ (n : ℕ). PastStays n now (disk_at (stands_of disks) peer) (disk_at (stands_of left) peer)) start (stays peer there))))
+
 -- a count that rose before the first turn
 pub risen_since : (tells : Type 0) (set : Setting) (span : Span) (found : Found) (events : Events) (shown : RunsOn tells set span found events) (k : ℕ) → HasRisen (seen_at span.disks k).faults (seen_at shown.disks k).faults → HasRisen (seen_at span.disks k).faults (seen_at span.left k).faults
 risen_since tells set span found events shown k rose = up_to (min ((seen_at span.disks k).faults + 1) (2 ^ 64 - 1)) (seen_at shown.disks k).faults (seen_at span.left k).faults rose (shown.counted.later k)
@@ -83,6 +109,19 @@ read_as tells S r story runs told peer low = elim ((runs.shown.finds.each peer l
   | inl same ↦ inl (same ∙ ap (λ (disk : Standing). list_in disk.seen) (sym (disk_is r.old runs.span.disks runs.old peer)))
   | inr failed ↦ inr (failed.0, rose_is 1 r.old r.new runs.span.disks runs.span.left runs.old runs.new peer (risen_since tells S.set runs.span story.found (all_events story) runs.shown peer failed.1))
 ]
+
+-- ---- what was told
+
+told_of : (c : Whole) (o : Option (ℕ × Done)) → IsTold c o → IfSome o (λ report. TellsOf report.1 (Some (take (floor c report.0) (reach c report.0))))
+told_of c None h = tt
+told_of c (Some report) h = h.0
+
+tell_lists : (c : Whole) (es : Events) → AreTold c es → TellTheirLists c es
+tell_lists c [] h = tt
+tell_lists c (e ∷ es) h = (told_of c (report_in e.0) h.0, tell_lists (step_whole e.0 e.1 c) es h.1)
+
+pub told_as : (tells : Type 0) (S : Script) (r : Ran) (story : Story) → RunsOnDisks tells S r story → tells → (first_core S.set story.found).ended ≡ None → TellTheirLists (open_whole S.set story.found) (all_events story)
+told_as tells S r story runs told going = tell_lists (open_whole S.set story.found) (all_events story) (runs.shown.told told going)
 
 -- ---- all failures
 

@@ -21,6 +21,7 @@ use Rattle.hs_ports.specs.Objects.{KeepsTime, Objects}
 use Rattle.hs_ports.specs.Putting.{IsPut, PutsFront}
 use Rattle.hs_ports.specs.Sink.{bytes_of, followed}
 use Rattle.hs_ports.specs.Source.{before}
+use Rattle.hs_promise.specs.Calm.{EndsCalm}
 use Rattle.hs_promise.specs.declared.status.Status.{Status}
 use Rattle.hs_promise.specs.declared.status.Status.TheVariants as status
 use Rattle.hs_promise.specs.Ending.{Ending, ending_of}
@@ -44,7 +45,7 @@ use Rattle.hs_run.specs.OneLine.{IsOpeningPut, Printing, RunsCommand, Stretch}
 use Rattle.hs_run.specs.Puts.{Puts}
 use Rattle.hs_run.specs.Served.{HasCauses, PrintsText}
 use Rattle.hs_run.specs.Stopping.{IsPutStop, end_of, status_of}
-use Rattle.hs_run.proofs.DisksLemmas.{failed_by, lost_by, paid_by}
+use Rattle.hs_run.proofs.DisksLemmas.{calm_is, failed_by, lost_by, paid_by}
 use Rattle.hs_run.proofs.EndsLemmas.{IsWithin, end_within}
 use Rattle.hs_run.proofs.OpeningLemmas.{opening_printed, opening_so_far}
 use Rattle.hs_run.proofs.PassedLemmas.{answered_more, put_so_far, put_whole}
@@ -95,6 +96,18 @@ between_write (Err stop.NoMemory) line h is = cc
 between_write (Err stop.OpsFull) line h is = h
 between_write (Err stop.InputFull) line h is = cc
 
+-- nor was its last line gone past, where a run ended within it
+within_past : (result : Result ⊤ Stop) (line : ℕ) → IsWithin result → (ending_of (status_of result line)).past ≡ true → ⊥
+within_past (Ok x) line h past = h
+within_past (Err (stop.WrongShape peer found)) line h past = h
+within_past (Err (stop.ShardLost shard)) line h past = true≢false (sym past)
+within_past (Err stop.BadLine) line h past = h
+within_past (Err stop.ReadFault) line h past = h
+within_past (Err stop.WriteFault) line h past = true≢false (sym past)
+within_past (Err stop.NoMemory) line h past = true≢false (sym past)
+within_past (Err stop.OpsFull) line h past = true≢false (sym past)
+within_past (Err stop.InputFull) line h past = h
+
 within_of : (tells : Type 0) (name : List ℕ → Address) (asked : Command) (part : Stretch) → is_ok part.result ≡ false → RunsCommand tells name asked part → IsWithin part.result
 within_of tells name asked part cut runs = subst (λ (r : Result ⊤ Stop). IsWithin r) (sym runs.ended)
     (end_within runs.did runs.put part.new.cluster.core.ended runs.runs.does.outcome runs.only (ap (λ (r : Result ⊤ Stop). is_ok r) (sym runs.ended) ∙ cut))
@@ -116,6 +129,7 @@ pub record IsOfStory (tells : Type 0) (S : Script) (r : Ran) : Type 0 where
   pub went : Went S r story
   pub runs : RunsOnDisks tells S r story
   pub ended : HasItsEnd S r story
+  pub calm : EndsCalm S r
   pub nobody : S.commands 0 ≡ None
 
 module _ (tells : Type 0) (name : List ℕ → Address) (did : Result ⊤ ClusterFault) (b : Begun) (part : Stretch) (new : Objects) (named : b.set.name ≡ name) (opened : IsOpened tells b did part.old) (found : FoundBy b)
@@ -156,6 +170,8 @@ module _ (tells : Type 0) (name : List ℕ → Address) (did : Result ⊤ Cluste
               (paid_by tells b.set (whole_span part.old.cluster) b.found (all_events (story_of b [])) b.old new was is shown));
           runs = on_disks (chosen b.old.left []) (status_of part.result part.new.line) part.new.line (Some part.new.cluster) [] part.old.cluster (λ told. subst (λ (d : List DiskSeen). Since (stands_of d)) (sym left) (opened.since told)) shown;
           ended = record { written = λ is front es there. absurd (snoc_some front es there); unread = λ some. unread };
+          calm = λ one past. absurd (within_past part.result part.new.line
+              (opening_within did part.old.cluster (record { before = part.old.now; now = part.new.now; old = part.old.got; new = part.new.got }) part.result opened.outcome cut put) past);
           nobody = chosen_first b.old.left [];
         },
       )
@@ -172,6 +188,7 @@ module _ (tells : Type 0) (name : List ℕ → Address) (did : Result ⊤ Cluste
         written = λ is. absurd (between_write part.result part.new.line stops is);
         unread = λ some. absurd (none_some (first_core b.set b.found).ended (first_going (first_core b.set b.found) (all_events (story_of b so_far.lines)) (ap (λ (c : Core). c.ended) (sym so_far.gone.behind.core) ∙ so_far.gone.going)) some);
       };
+      calm = λ one past. calm_is b.old new b.disks part.new.disks was is so_far.shows.may.calm.none;
       nobody = chosen_first b.old.left so_far.read;
     },
   )
@@ -194,6 +211,7 @@ module _ (tells : Type 0) (name : List ℕ → Address) (did : Result ⊤ Cluste
                 (subst (λ (c : Core). length c.journal < length part.new.cluster.core.journal) gone.behind.core more);
             unread = λ some. absurd (none_some (first_core b.set b.found).ended (first_going (first_core b.set b.found) (all_events (story_of b lines)) (ap (λ (c : Core). c.ended) (sym gone.behind.core) ∙ gone.going)) some);
           };
+          calm = λ one past. absurd (within_past part.result part.new.line (within_of tells name asked (record { old = at; new = part.new; result = part.result }) cut runs) past);
           nobody = chosen_first b.old.left (read ++ line ∷ []);
         },
       )

@@ -15,7 +15,6 @@ use Rattle.hs_side.specs.declared.header.Header.{Header}
 use Rattle.hs_side.specs.Headers.{own_header}
 use Rattle.hs_side.specs.Reading.{Log, log_of}
 use Rattle.hs_taking.specs.Disks.{DiskSeen, seen_at}
-use Rattle.hs_taking.specs.Shares.{KeepsDisk}
 use Rattle.hs_taking.specs.Viewed.{IsOnlyRead}
 
 -- ---- headers
@@ -105,21 +104,6 @@ unwritten_at tells before now old new told last read =
       later = λ side content is. all.standing side content is;
       since = λ m side content above early is. all.each side m above early content is;
     }
-
--- so their lists stay
-pub keeps_read : (tells : Type 0) (before now : ℕ) (old new : DiskSeen) → IsOnlyRead tells before now old new → KeepsDisk tells before now old new
-keeps_read tells before now old new read = record {
-  moments = λ told last list only.
-      let all : LeavesAll before now old.stands new.stands = read.moments told last in
-      record {
-        later = all.later;
-        last = all.last;
-        earlier = all.earlier;
-        each = λ m above early image is. record { list = list; read = only image (record { sides = λ side. all.each side m above early (image side) (is side) }); holds = refl };
-        standing = λ image is. record { list = list; read = only image (record { sides = λ side. all.standing side (image side) (is.sides side) }); holds = refl };
-      };
-  counted = read.counted;
-}
 
 -- past the last disk none is written
 pub seen_past : (disks : List DiskSeen) (k : ℕ) → length disks ≤ k → (seen_at disks k).stands ≡ untold

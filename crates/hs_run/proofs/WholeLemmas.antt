@@ -38,7 +38,7 @@ use Rattle.hs_run.specs.OneLine.{Stretch}
 use Rattle.hs_run.specs.Served.{Served}
 use Rattle.hs_run.specs.Stopping.{status_of}
 use Rattle.hs_run.proofs.CaseLemmas.{if_told}
-use Rattle.hs_run.proofs.DisksLemmas.{disk_is, falls_is, none_fell, read_as, risen_since, rose_is}
+use Rattle.hs_run.proofs.DisksLemmas.{disk_is, falls_is, none_fell, past_is, read_as, risen_since, rose_is, told_as}
 use Rattle.hs_run.proofs.FoundLemmas.{has_found, opened_ready, opened_so}
 use Rattle.hs_run.proofs.OpeningLemmas.{since_opened}
 use Rattle.hs_run.proofs.RiseLemmas.{rise_le}
@@ -146,13 +146,16 @@ module _ (tells : Type 0) (set : Setting) (span : Span) (running : Running) (did
             source = cause.source_later;
           };
           causes = causes_run part.result part.new.line part.new.cluster old new cause no_shape;
+          within = λ peer found is. absurd (no_shape peer found is);
+          calm = m.calm;
           left = left_told old.left new.left part.result part.new.line ends;
           ends = if_told (λ told. EndsBy told new.left part.result part.new.line) (λ told. IfSome new.left (Ends (ran_at (status_of part.result part.new.line) part.new.line (Some part.new.cluster) old new) told)) old.left ends
               (λ told h. ends_run part.result part.new.line (Some part.new.cluster) old new told h);
+          past = λ told. past_is old new m.runs.span.before m.runs.span.now m.runs.span.disks m.runs.span.left m.runs.old m.runs.new m.runs.before m.runs.now (m.runs.shown.past told);
           shape = λ told. record {
             only = λ peer found is. absurd (no_shape peer found is);
             exact = λ peer found first may calm. absurd (calm (no_other commands (ran_at (status_of part.result part.new.line) part.new.line (Some part.new.cluster) old new) refl refl m told peer found first));
-            unwritten = λ peer found first calm memory. absurd (calm (no_other commands (ran_at (status_of part.result part.new.line) part.new.line (Some part.new.cluster) old new) refl refl m told peer found first));
+            unwritten = λ peer found first calm. absurd (calm (no_other commands (ran_at (status_of part.result part.new.line) part.new.line (Some part.new.cluster) old new) refl refl m told peer found first));
           };
         }
       where
@@ -173,7 +176,10 @@ module _ (tells : Type 0) (set : Setting) (span : Span) (running : Running) (did
             nobody = m.1.nobody;
             how = Some m.1.story;
             went = m.1.went;
-            told = λ told. record { read = read_as tells (record { set = set; commands = m.0 }) (ran_at (status_of part.result part.new.line) part.new.line (Some part.new.cluster) old new) m.1.story m.1.runs told };
+            told = λ told. record {
+              read = read_as tells (record { set = set; commands = m.0 }) (ran_at (status_of part.result part.new.line) part.new.line (Some part.new.cluster) old new) m.1.story m.1.runs told;
+              told = told_as tells (record { set = set; commands = m.0 }) (ran_at (status_of part.result part.new.line) part.new.line (Some part.new.cluster) old new) m.1.story m.1.runs told;
+            };
             runs = m.1.runs;
             ended = m.1.ended;
             unopened = λ none. absurd (some_none m.1.story none);

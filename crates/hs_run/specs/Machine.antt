@@ -16,6 +16,7 @@ use Rattle.hs_promise.specs.declared.status.Status.TheVariants as status
 use Rattle.hs_promise.specs.Found.{IsReadAs}
 use Rattle.hs_promise.specs.Machine.{WentAs, loss_count}
 use Rattle.hs_promise.specs.Promise.{AreOfScript}
+use Rattle.hs_promise.specs.Reports.{TellTheirLists}
 use Rattle.hs_promise.specs.Run.{DiskRose, Ran, Script}
 use Rattle.hs_promise.specs.Story.{Story, all_events, last_core}
 use Rattle.hs_taking.specs.Shares.{Span as Taking}
@@ -40,9 +41,10 @@ pub record RunsOnDisks (tells : Type 0) (S : Script) (r : Ran) (story : Story) :
   pub failed : tells → (first_core S.set story.found).ended ≡ None → AreStored (open_whole S.set story.found) (all_events story)
       → (disk : ℕ) → DiskRose r (failures true disk (first_core S.set story.found) (all_events story) + loss_count story disk) disk
 
--- where they tell their contents, a peer's log is that of its disk, or its disk failed
+-- where they tell their contents, a peer's log is that of its disk, or its disk failed; and what was read is told
 pub record HasReadDisks (S : Script) (r : Ran) (story : Story) : Type 0 where
   pub read : (peer : ℕ) → peer < peer_count S.set.shape → IsReadAs r story peer
+  pub told : (first_core S.set story.found).ended ≡ None → TellTheirLists (open_whole S.set story.found) (all_events story)
 
 -- a sink failed only where its line had answered something; and nothing was read where the core ended as it opened
 pub record HasItsEnd (S : Script) (r : Ran) (story : Story) : Type 0 where
@@ -50,7 +52,7 @@ pub record HasItsEnd (S : Script) (r : Ran) (story : Story) : Type 0 where
       → length (last_core S (record story { lines = front })).journal < length r.journal
   pub unread : IsSome (first_core S.set story.found).ended → r.new.left ≡ r.old.left
 
--- no core was opened: the calls on each disk left its list as it was
+-- no core was opened: the calls on each disk left its list as it was, and its past
 pub record IsUnopened (tells : Type 0) (r : Ran) : Type 0 where
   pub span : Taking
   pub before : span.before ≡ r.old.moment

@@ -1,16 +1,18 @@
 -- What is shown of a run on a cluster in the words of hs_promise that need no law of the plain store.
-use Rattle.std.specs.Prelude.{IfSome, IsSome, [], length, false, ℕ, ◌≡◌, ◌≤◌, ◌⊎◌}
+use Rattle.std.specs.Prelude.{IfSome, IsSome, [], length, false, ℕ, ◌<◌, ◌≡◌, ◌≤◌}
+use Rattle.hs_events.specs.Taken.{peer_count}
 use Rattle.hs_ports.specs.Fault.{HasRisen}
-use Rattle.hs_ports.specs.Objects.{CountsStand, IsDuring, IsSinkBehind, KeepsTime}
+use Rattle.hs_ports.specs.Objects.{CountsStand, IsDuring, IsSinkBehind, KeepsPast, KeepsTime}
 use Rattle.hs_ports.specs.Putting.{IsPut, PutsFront, got_by}
 use Rattle.hs_ports.specs.Sink.{bytes_of}
 use Rattle.hs_journal.specs.Moments.{below}
+use Rattle.hs_promise.specs.Calm.{EndsCalm}
 use Rattle.hs_promise.specs.declared.status.Status.TheVariants as status
 use Rattle.hs_promise.specs.Ending.{ending_of}
 use Rattle.hs_promise.specs.Ends.{Ends}
 use Rattle.hs_promise.specs.Promise.{AreOfScript}
-use Rattle.hs_promise.specs.Run.{DiskRose, Ran, Script}
-use Rattle.hs_promise.specs.Shapes.{IsFirstOther, IsFoundOther, MayAllRise, NoneWritten}
+use Rattle.hs_promise.specs.Run.{Ran, Script}
+use Rattle.hs_promise.specs.Shapes.{ShapeCause}
 use Rattle.hs_script.specs.Text.{text}
 use Rattle.hs_side.specs.declared.header.Header.{Header}
 
@@ -32,13 +34,6 @@ pub record HasCauses (r : Ran) : Type 0 where
   pub write : r.ending ≡ status.WriteFault → HasRisen r.old.sink_faults r.new.sink_faults
   pub shape : (peer : ℕ) (found : Header) → r.ending ≡ status.WrongShape peer found → IsEmpty r
 
--- hs_promise's word on disks of another store; but that no disk was written is said where memory was not wanting
-pub record HasShapeCause (S : Script) (r : Ran) : Type 0 where
-  pub only : (peer : ℕ) (found : Header) → r.ending ≡ status.WrongShape peer found → IsFoundOther S r peer found
-  pub exact : (peer : ℕ) (found : Header) → IsFirstOther S r peer found → MayAllRise r peer → (DiskRose r 1 peer → ⊥)
-      → (r.ending ≡ status.WrongShape peer found) ⊎ (r.ending ≡ status.NoMemory)
-  pub unwritten : (peer : ℕ) (found : Header) → IsFirstOther S r peer found → (DiskRose r 1 peer → ⊥) → (r.ending ≡ status.NoMemory → ⊥) → NoneWritten r
-
 pub record Served (tells : Type 0) (S : Script) (r : Ran) : Type 0 where
   pub script : AreOfScript S r
   pub handed_back : length r.new.disks ≡ length r.old.disks
@@ -46,7 +41,11 @@ pub record Served (tells : Type 0) (S : Script) (r : Ran) : Type 0 where
   pub time : KeepsTime r.old r.new
   pub counts : CountsStand r.old r.new
   pub causes : HasCauses r
+  -- a disk of another store is that of a peer
+  pub within : (peer : ℕ) (found : Header) → r.ending ≡ status.WrongShape peer found → peer < peer_count S.set.shape
+  pub calm : EndsCalm S r
   -- a source that tells what it has tells what it has left
   pub left : IsSome r.old.left → IsSome r.new.left
   pub ends : IfSome r.old.left (λ script. IfSome r.new.left (Ends r script))
-  pub shape : tells → HasShapeCause S r
+  pub past : tells → KeepsPast r.old r.new
+  pub shape : tells → ShapeCause S r

@@ -11,6 +11,8 @@ use Rattle.hs_causes.proofs.FirstLemmas.{line_first}
 use Rattle.hs_causes.proofs.RunLemmas.{all_ask_so, all_come_so, flat_is, mute, opened_kept}
 use Rattle.hs_core.specs.State.{Core}
 use Rattle.hs_core.specs.Step.{step}
+use Rattle.hs_deletes.proofs.RuleLemmas.{all_front}
+use Rattle.hs_deletes.proofs.RunLemmas.{Running}
 use Rattle.hs_events.proofs.RunLemmas.{steps_append}
 use Rattle.hs_events.specs.Commands.{AreOfLine}
 use Rattle.hs_events.specs.Course.{steps}
@@ -55,7 +57,6 @@ use Rattle.hs_settled.proofs.ListLemmas.{all_at, all_take, at_within, get_back, 
 use Rattle.hs_settled.proofs.OpenLemmas.{none_ask, open_level}
 use Rattle.hs_settled.proofs.QuietLemmas.{Below}
 use Rattle.hs_settled.proofs.RestLemmas.{quiet_open}
-use Rattle.hs_settled.proofs.SaidLemmas.{Running, all_front}
 use Rattle.hs_settled.proofs.WalkLemmas.{Inv, quiet_none}
 use Rattle.hs_settled.specs.Quiet.{IsQuiet}
 use Rattle.hs_settled.specs.Settled.{IsNoFirst, NothingOpen, core_behind, events_up_to}

@@ -7,6 +7,7 @@ use Rattle.std.specs.Option.{option_map, option_map_or, option_or}
 use Rattle.std.specs.Prelude.{find, if◌then◌else◌}
 use Rattle.hs_core.specs.Looking.{first_job, group_of, lead_of, leads_of, oldest_message, open_work, shape_of, status_of}
 use Rattle.hs_core.specs.State.{Core}
+use Rattle.hs_deletes.proofs.RuleLemmas.{all_back, all_front}
 use Rattle.hs_desk.specs.declared.job.Job.{Job}
 use Rattle.hs_events.specs.Alone.{AreAlone, face, own}
 use Rattle.hs_events.specs.declared.due.Due.{Due}
@@ -22,7 +23,6 @@ use Rattle.hs_post.specs.declared.message.Message.{Message}
 use Rattle.hs_post.specs.declared.message.Message.TheVariants as message
 use Rattle.hs_post.specs.Pool.{is_for}
 use Rattle.hs_replica.specs.declared.replica.Replica.{Replica}
-use Rattle.hs_settled.proofs.SaidLemmas.{all_front}
 use Rattle.hs_noted.proofs.NotingLemmas.{all_append}
 
 -- ---- lists
@@ -49,10 +49,6 @@ first_some f d (x ∷ xs) h = go (λ g. first_some f d xs g) (f x) refl
     go : (slice_get (filter_map f xs) 0 ≡ Some d → (y : ℕ) × (f y ≡ Some d)) → (o : Option Due) → f x ≡ o → (y : ℕ) × (f y ≡ Some d)
     go again (Some y) e = let head : Some y ≡ Some d = sym (ap (λ (ys : List Due). slice_get ys 0) (keeps_some f x xs y e)) ∙ h in (x, e ∙ head)
     go again None e = again (sym (ap (λ (ys : List Due). slice_get ys 0) (drops_none f x xs e)) ∙ h)
-
-all_back : {X : Type 0} (P : X → Type 0) (xs ys : List X) → AllByRecursion P (xs ++ ys) → AllByRecursion P ys
-all_back P [] ys h = h
-all_back P (x ∷ xs) ys h = all_back P xs ys h.1
 
 -- two parts of a list, the later one first
 all_parts : {X : Type 0} (P : X → Type 0) (k : ℕ) (xs : List X) → AllByRecursion P (drop k xs ++ take k xs) → AllByRecursion P xs

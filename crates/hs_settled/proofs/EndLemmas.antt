@@ -6,6 +6,7 @@ use Rattle.hs_core.specs.declared.event.Event.{Event}
 use Rattle.hs_core.specs.declared.event.Event.TheVariants as event
 use Rattle.hs_core.specs.State.{Core}
 use Rattle.hs_core.specs.Step.{step}
+use Rattle.hs_deletes.proofs.RunLemmas.{steps_ended}
 use Rattle.hs_desk.specs.declared.fault.CoreFault.{CoreFault}
 use Rattle.hs_effects.specs.Logged.{MayBegin, MayBeginAll}
 use Rattle.hs_effects.specs.Logged.{steps as steps_so}
@@ -24,7 +25,6 @@ use Rattle.hs_limits.specs.declared.address.Address.{Address}
 use Rattle.hs_limits.specs.Shape.{IsShape}
 use Rattle.hs_moments.specs.Machine.{runs}
 use Rattle.hs_moments.specs.WholeMachine.{whole_machine}
-use Rattle.hs_settled.proofs.SaidLemmas.{steps_ended}
 use Rattle.hs_standing.specs.Run.{MayRun, RunOpens}
 use Rattle.hs_standing.specs.Standing.{AllMayKeep}
 use Rattle.hs_stops.specs.Start.{Start}

@@ -25,7 +25,9 @@ use Rattle.hs_core.specs.State.{Core}
 use Rattle.hs_core.specs.Step.{step}
 use Rattle.hs_core.specs.Views.{begin_view}
 use Rattle.hs_core.specs.Words.{change_if, change_with}
-use Rattle.hs_settled.proofs.SaidLemmas.{Running, Says, all_front, steps_ended, again_told, more_told, proposed_told, same_told, says_nothing, says_note, view_told}
+use Rattle.hs_deletes.proofs.RuleLemmas.{all_front}
+use Rattle.hs_deletes.proofs.RunLemmas.{Running, steps_ended}
+use Rattle.hs_deletes.proofs.SaidLemmas.{Says, again_told, more_told, proposed_told, same_told, says_nothing, says_note, view_told}
 use Rattle.hs_desk.specs.declared.done.Done.TheVariants as done
 use Rattle.hs_desk.specs.declared.fault.CoreFault.{CoreFault}
 use Rattle.hs_desk.specs.declared.what.What.{What}

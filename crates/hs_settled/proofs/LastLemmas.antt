@@ -8,6 +8,7 @@ use Rattle.hs_core.specs.Delivering.{is_new_round}
 use Rattle.hs_core.specs.Looking.{open_work, shape_of}
 use Rattle.hs_core.specs.State.{Core}
 use Rattle.hs_core.specs.Step.{step}
+use Rattle.hs_deletes.proofs.RunLemmas.{Running}
 use Rattle.hs_events.specs.Course.{steps}
 use Rattle.hs_events.specs.declared.due.Due.{Due}
 use Rattle.hs_events.specs.declared.due.Due.TheVariants.{Nudging}
@@ -29,7 +30,6 @@ use Rattle.hs_settled.proofs.FitLemmas.{fit}
 use Rattle.hs_settled.proofs.LevelLemmas.{le_or}
 use Rattle.hs_settled.proofs.ListLemmas.{at_within}
 use Rattle.hs_settled.proofs.NudgeLemmas.{Busy, OnWay, QuietTo}
-use Rattle.hs_settled.proofs.SaidLemmas.{Running}
 use Rattle.hs_settled.proofs.WalkLemmas.{Fit, Inv, moved, no_busy}
 use Rattle.hs_settled.specs.Quiet.{IsQuiet}
 use Rattle.hs_settled.specs.Settled.{NothingOpen}

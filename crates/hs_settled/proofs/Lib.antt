@@ -5,7 +5,6 @@ pub mod LineLemmas
 pub mod ListLemmas
 pub mod OpenLemmas
 pub mod OwnLemmas
-pub mod SaidLemmas
 pub mod RoundLemmas
 pub mod QuietLemmas
 pub mod RestLemmas

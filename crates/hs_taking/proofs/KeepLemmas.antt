@@ -8,6 +8,7 @@ use Rattle.hs_peerlog.proofs.StayLemmas.{all-each, stays}
 use Rattle.hs_peerlog.specs.Images.{Is}
 use Rattle.hs_ports.specs.Disk.{IsImage}
 use Rattle.hs_taking.proofs.DiskLemmas.{seen_here, seen_is, seen_there}
+use Rattle.hs_taking.proofs.PastLemmas.{past_all, past_still, past_then, past_wait}
 use Rattle.hs_taking.specs.Disks.{DiskSeen, seen_at}
 use Rattle.hs_taking.specs.Shares.{KeepsDisk}
 use Rattle.hs_taking.specs.Viewed.{IsOnlyRead}
@@ -16,6 +17,7 @@ use Rattle.hs_taking.specs.Viewed.{IsOnlyRead}
 pub keeps_none : (tells : Type 0) (now : ℕ) (disk : DiskSeen) → (tells → Since disk.stands) → KeepsDisk tells now now disk disk
 keeps_none tells now disk since = record {
   moments = λ told last list leaves. stays disk.stands now list (Is list) last (since told) leaves refl;
+  past = λ told last. past_still now now disk.stands (omega arith) last;
   counted = omega arith;
 }
 
@@ -23,6 +25,7 @@ keeps_none tells now disk since = record {
 pub keeps_read : (tells : Type 0) (before now : ℕ) (a b : DiskSeen) → IsOnlyRead tells before now a b → KeepsDisk tells before now a b
 keeps_read tells before now a b read = record {
   moments = λ told last list leaves. all-each list (Is list) (read.moments told last) leaves refl;
+  past = λ told last. past_all before now a.stands b.stands (read.moments told last);
   counted = read.counted;
 }
 
@@ -42,6 +45,7 @@ keeps_then tells before mid now a b c first second = record {
         ];
         standing = two.standing;
       };
+  past = λ told last. let one = first.past told last in past_then before mid now a.stands b.stands c.stands one (second.past told one.last);
   counted = let l = first.counted in let m = second.counted in omega (arith, l, m);
 }
 
@@ -57,6 +61,7 @@ keeps_wait tells before mid now a b up so_far = record {
         each = one.each;
         standing = one.standing;
       };
+  past = λ told last. past_wait before mid now a.stands b.stands up (so_far.past told last);
   counted = so_far.counted;
 }
 

@@ -2,6 +2,7 @@ pub mod ChoiceLemmas
 pub mod DiskLemmas
 pub mod KeepLemmas
 pub mod LoadLemmas
+pub mod PastLemmas
 pub mod ShareLemmas
 pub mod StepLemmas
 pub mod StoreLemmas

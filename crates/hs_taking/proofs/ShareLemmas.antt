@@ -20,9 +20,10 @@ use Rattle.hs_ports.specs.Disk.{Standing}
 use Rattle.hs_shard.specs.Facts.{empty_catalogue}
 use Rattle.hs_side.specs.Current.{list_in}
 use Rattle.hs_taking.proofs.DiskLemmas.{seen_here, seen_is, seen_there}
+use Rattle.hs_taking.proofs.PastLemmas.{past_still, past_then, past_wait}
 use Rattle.hs_taking.specs.declared.shares.Share.{Share}
 use Rattle.hs_taking.specs.Disks.{DiskSeen, log_at, seen_at}
-use Rattle.hs_taking.specs.Shares.{HasItsLog, HasShare, HasTaken, IsLater, IsLostAt, IsLostDisk, IsShare, KeepsDisk, ReadsItsLog, Span, Taken, all_lost, lost_of, no_share, share_at}
+use Rattle.hs_taking.specs.Shares.{HasItsLog, HasShare, HasTaken, IsLater, IsLostAt, IsLostDisk, IsShare, KeepsDisk, ReadsItsLog, Span, StandsWithLog, Taken, all_lost, lost_of, no_share, share_at}
 
 -- ---- one disk, from an earlier moment on
 
@@ -39,6 +40,7 @@ quiet before mid disk up last since = record {
 keeps_before : (tells : Type 0) (before mid now : ℕ) (old new : DiskSeen) → before ≤ mid → (tells → Since old.stands) → KeepsDisk tells mid now old new → KeepsDisk tells before now old new
 keeps_before tells before mid now old new up since keeps = record {
   moments = λ told last list leaves. then-each list (Is list) (keeps.moments told (omega (arith, last, up)) list leaves) (quiet before mid old.stands up last (since told)) leaves refl;
+  past = λ told last. past_then before mid now old.stands old.stands new.stands (past_still before mid old.stands up last) (keeps.past told (omega (arith, last, up)));
   counted = keeps.counted;
 }
 
@@ -51,6 +53,7 @@ keeps_wait tells before mid now old new up keeps = record {
     each = e.each;
     standing = e.standing;
   };
+  past = λ told last. past_wait before mid now old.stands new.stands up (keeps.past told last);
   counted = keeps.counted;
 }
 
@@ -85,6 +88,7 @@ pub record OneTaken (tells : Type 0) (set : Setting) (mid now peer : ℕ) (old n
   pub disk : KeepsDisk tells mid now old new
   pub log : HasItsLog tells mid old new slot
   pub reads : ReadsItsLog tells old new slot
+  pub calm : StandsWithLog old new slot
   pub shard_as : share.shard ≡ peer
   pub peer_as : share.peer ≡ peer
   pub viewed : is_some share.took ≡ is_some view
@@ -136,6 +140,8 @@ module _ {A : Type 0} (f : A → DiskSeen) (tells : Type 0) (set : Setting) (bef
             (subst (λ y. HasItsLog tells before (seen_at old k) (seen_at (map f disks) k) y) (sym l) h.log);
         reads = subst (λ (y : DiskSeen). ReadsItsLog tells (seen_at old k) y (log_at (slice_set logs i slot) k)) (sym e)
             (subst (λ y. ReadsItsLog tells (seen_at old k) (seen_at (map f disks) k) y) (sym l) h.reads);
+        calm = subst (λ (y : DiskSeen). StandsWithLog (seen_at old k) y (log_at (slice_set logs i slot) k)) (sym e)
+            (subst (λ y. StandsWithLog (seen_at old k) (seen_at (map f disks) k) y) (sym l) h.calm);
         shard_is = ap (λ (y : Share). y.shard) s ∙ h.shard_is;
         peer_is = ap (λ (y : Share). y.peer) s ∙ h.peer_is;
       }
@@ -179,6 +185,9 @@ module _ {A : Type 0} (f : A → DiskSeen) (tells : Type 0) (set : Setting) (bef
       reads = subst (λ (z : DiskSeen). ReadsItsLog tells (seen_at old i) z (log_at (slice_set logs i slot) i)) (sym new_disk)
           (subst (λ z. ReadsItsLog tells (seen_at old i) (f x) z) (sym new_log)
           (subst (λ (z : DiskSeen). ReadsItsLog tells z (f x) slot) at one.reads));
+      calm = subst (λ (z : DiskSeen). StandsWithLog (seen_at old i) z (log_at (slice_set logs i slot) i)) (sym new_disk)
+          (subst (λ z. StandsWithLog (seen_at old i) (f x) z) (sym new_log)
+          (subst (λ (z : DiskSeen). StandsWithLog z (f x) slot) at one.calm));
       shard_is = ap (λ (y : Share). y.shard) new_share ∙ one.shard_as;
       peer_is = ap (λ (y : Share). y.peer) new_share ∙ one.peer_as;
     }

@@ -1,6 +1,8 @@
 -- From the disks as they were to what a store opens with.
-use Rattle.std.proofs.Common.{◌≡◌, ◌∙◌, ap, sym, subst, ℕ, ◌<◌, ◌≤◌, List, length, Option, Some, None, Result, Ok, Err, is_some, refl, arith, inl, inr}
-use Rattle.std.specs.Prelude.{IfErr, IfOk, IsOkUnless, OnOk, slice_index_or}
+use Rattle.std.proofs.Common.{◌≡◌, ◌∙◌, ap, sym, subst, true, ℕ, ◌<◌, ◌≤◌, List, length, Option, Some, None, Result, Ok, Err, is_some, refl, arith, inl, inr}
+use Rattle.std.specs.Option.{option_map}
+use Rattle.std.specs.Prelude.{IfErr, IfOk, IfSome, IsOkUnless, OnOk, slice_index_or}
+use Rattle.hs_entry.specs.Entries.{rank_of}
 use Rattle.hs_fold.specs.Shards.Setting.{Numbered, Setting}
 use Rattle.hs_limits.specs.declared.shape.Shape.{Shape}
 use Rattle.hs_peerlog.proofs.StayLemmas.{then-each}
@@ -13,13 +15,15 @@ use Rattle.hs_ports.specs.Disk.{Standing}
 use Rattle.hs_ports.specs.Fault.{HasRisen}
 use Rattle.hs_side.specs.Current.{list_in}
 use Rattle.hs_side.specs.declared.header.Header.{Header}
+use Rattle.hs_taking.proofs.PastLemmas.{past_all, past_then}
 use Rattle.hs_taking.specs.declared.fault.TakeFault.{TakeFault}
 use Rattle.hs_taking.specs.declared.fault.TakeFault.TheVariants.{WrongShape, NoMemory}
 use Rattle.hs_taking.specs.declared.shares.Taking.{Taking}
 use Rattle.hs_taking.specs.Disks.{DiskSeen, seen_at}
 use Rattle.hs_taking.specs.Shares.{HasShare, HasTaken, IsLostAt, Span, Taken, share_at}
+use Rattle.hs_taking.specs.Spared.{SparesDisks}
 use Rattle.hs_taking.specs.Store.{HasRead}
-use Rattle.hs_taking.specs.Viewed.{IsOnlyRead, IsOther, IsUnread, IsViewed}
+use Rattle.hs_taking.specs.Viewed.{HasViewed, IsOnlyRead, IsOther, IsUnread, IsViewed}
 
 -- ---- counts
 
@@ -48,6 +52,15 @@ module _ (tells : Type 0) (set : Setting) (before mid now : ℕ) (old via new : 
         let same : (seen_at via peer).stands.seen ≡ (seen_at old peer).stands.seen = λ i side. (read peer low).seen told side i in
         ap (λ (s : Side → List ℕ). list_in s) same
 
+    -- a log that is kept was viewed, and then no call had failed
+    took_some : {o : Option ℕ} (log : Option Numbered) → o ≡ option_map (λ list. (rank_of list).number) log → is_some log ≡ true → is_some o ≡ true
+    took_some None e some = cc some
+    took_some (Some list) e some = ap (λ x. is_some x) e
+
+    viewed_calm : (peer : ℕ) (a b : DiskSeen) (view : Option Viewing) → is_some view ≡ true → IfSome view (HasViewed tells set.shape peer a b) → b.faults ≡ a.faults
+    viewed_calm peer a b None some h = cc some
+    viewed_calm peer a b (Some v) some h = h.calm
+
     share_read : (peer : ℕ) → peer < length taken.shares → HasShare tells set whole taken peer
     share_read peer within =
         let low = all peer within in
@@ -68,9 +81,13 @@ module _ (tells : Type 0) (set : Setting) (before mid now : ℕ) (old via new : 
             moments = λ told last list leaves.
                 let one = r.moments told last in
                 then-each list (Is list) (h.disk.moments told one.last list (leaves_read before mid (seen_at old peer).stands (seen_at via peer).stands list one leaves)) one leaves refl;
+            past = λ told last.
+                let one = r.moments told last in
+                past_then before mid now (seen_at old peer).stands (seen_at via peer).stands (seen_at new peer).stands (past_all before mid (seen_at old peer).stands (seen_at via peer).stands one) (h.disk.past told one.last);
             counted = let a = r.counted in let b = h.disk.counted in omega (arith, a, b);
           };
           reads = λ told keeping is list listed. h.reads told keeping is list (list_there peer low told ∙ listed);
+          calm = λ some. h.calm some ∙ viewed_calm peer (seen_at old peer) (seen_at via peer) (slice_index_or views peer None) (sym (took.viewed peer within) ∙ took_some s.log s.took (s.kept some)) (viewed peer low).some;
           log = λ told last keeping is list listed. h.log told (r.moments told last).last keeping is list (list_there peer low told ∙ listed);
           shard_is = h.shard_is;
           peer_is = h.peer_is;
@@ -136,3 +153,13 @@ pub other_rose : {T : Type 0} (tells : Type 0) (shape : Shape) (old via new : Li
     → OnOk r ((peer : ℕ) (found : Header) → peer < total → refusal_in shape peer (seen_at old peer).stands.seen ≡ Some (log.WrongShape found) → HasRisen (seen_at old peer).faults (seen_at new peer).faults)
 other_rose tells shape old via new views total (Ok t) viewed up told = λ peer found low refused. risen_then (seen_at old peer).faults (seen_at via peer).faults (seen_at new peer).faults ((viewed peer low).own told found refused) (up peer low)
 other_rose tells shape old via new views total (Err fault) viewed up told = tt
+
+-- the disks were read and not written, or each that is of another store failed
+pub spares_read : (tells : Type 0) (shape : Shape) (span : Span) → ((peer : ℕ) → peer < length span.old → IsOnlyRead tells span.before span.now (seen_at span.old peer) (seen_at span.new peer)) → SparesDisks tells shape span
+spares_read tells shape span read = record { none = λ told at found low refused calm. read }
+
+pub spares_taken : (tells : Type 0) (shape : Shape) (span : Span) (via : List DiskSeen) (views : List (Option Viewing)) → ((peer : ℕ) → peer < length span.old → IsViewed tells shape peer (seen_at span.old peer) (seen_at via peer) (slice_index_or views peer None))
+    → ((peer : ℕ) → peer < length span.old → (seen_at via peer).faults ≤ (seen_at span.new peer).faults) → SparesDisks tells shape span
+spares_taken tells shape span via views viewed up = record {
+  none = λ told at found low refused calm. absurd (calm (risen_then (seen_at span.old at).faults (seen_at via at).faults (seen_at span.new at).faults ((viewed at low).own told found refused) (up at low)));
+}

@@ -1,5 +1,5 @@
 -- Taking the log of one disk.
-use Rattle.std.proofs.Common.{◌≡◌, ◌∙◌, ap, sym, ℕ, ◌==◌, ◌&&◌, true, false, not, cond, [], ◌∷◌, Option, Some, None, is_some, IsSome, refl, arith, inl, inr, if◌then◌else◌}
+use Rattle.std.proofs.Common.{◌≡◌, ◌∙◌, ap, sym, ℕ, ◌≤◌, ◌==◌, ◌&&◌, true, false, not, cond, [], ◌∷◌, Option, Some, None, is_some, IsSome, refl, arith, inl, inr, if◌then◌else◌}
 use Rattle.std.proofs.lemmas.Bool.Decides.{eqb_tells}
 use Rattle.std.specs.Prelude.{Result, Err}
 use Rattle.hs_entry.specs.declared.entry.Entry.TheVariants as kind
@@ -12,13 +12,14 @@ use Rattle.hs_peerlog.proofs.StayLemmas.{stays}
 use Rattle.hs_peerlog.specs.Caused.{IsOutside}
 use Rattle.hs_peerlog.specs.declared.fault.LogFault.{LogFault}
 use Rattle.hs_peerlog.specs.declared.fault.LogFault.TheVariants.{NotALog, WrongShape, Disk, NoMemory}
-use Rattle.hs_peerlog.specs.Images.{Is}
+use Rattle.hs_peerlog.specs.Images.{Is, LeavesEach, LeavesOnly}
 use Rattle.hs_peerlog.specs.Lists.{Keeping}
 use Rattle.hs_peerlog.specs.Opening.{IsRefusal}
 use Rattle.hs_peerlog.specs.Views.{HasView, Viewing}
 use Rattle.hs_ports.specs.Fault.{HasRisen, IsCausedBy}
 use Rattle.hs_shard.specs.Facts.{Catalogue}
 use Rattle.hs_side.specs.Current.{list_in}
+use Rattle.hs_taking.proofs.PastLemmas.{past_each, past_still}
 use Rattle.hs_taking.specs.declared.loading.Loaded.{Loaded}
 use Rattle.hs_taking.specs.declared.shares.Share.{Share}
 use Rattle.hs_taking.specs.Disks.{DiskSeen}
@@ -64,6 +65,7 @@ none_shared tells fold read share catalogue rank took lost = record {
 pub still_kept : (tells : Type 0) (now : ℕ) (disk : DiskSeen) → (tells → Since disk.stands) → KeepsDisk tells now now disk disk
 still_kept tells now disk since = record {
   moments = λ told last list leaves. stays disk.stands now list (Is list) last (since told) leaves refl;
+  past = λ told last. past_still now now disk.stands (omega arith) last;
   counted = omega arith;
 }
 
@@ -76,6 +78,15 @@ no_log_has tells before old new = λ told last keeping is. absurd (none_is_not k
 listed_of : (o : Option Numbered) → IsSome o → (list : Numbered) × (o ≡ Some list)
 listed_of None h = cc h
 listed_of (Some list) h = (list, refl)
+
+-- calls on a disk that was viewed, which leave the list of each of its images
+pub viewed_keeps : (tells : Type 0) (shape : Shape) (peer before now : ℕ) (old new : DiskSeen) (view : Viewing) → IsViewOf tells shape peer old view
+    → (tells → old.stands.last ≤ before → (list : Numbered) → LeavesOnly old.stands list → LeavesEach before now old.stands new.stands (Is list)) → old.faults ≤ new.faults → KeepsDisk tells before now old new
+viewed_keeps tells shape peer before now old new view viewed moments counted = record {
+  moments = moments;
+  past = λ told last. let l = listed_of (list_in old.stands.seen) (viewed.listed told) in past_each before now old.stands new.stands (Is l.0) (moments told last l.0 (viewed.only told l.0 l.1));
+  counted = counted;
+}
 
 pub one_shared : (tells : Type 0) (shape : Shape) (peer : ℕ) (fold : Numbered → Catalogue) (disk : DiskSeen) (view : Viewing) (keeping : Keeping) (share : Share) (loaded : Loaded)
     → IsViewOf tells shape peer disk view → IsLoaded tells fold (HasView view disk.stands.seen) loaded

@@ -13,6 +13,7 @@ use Rattle.hs_shard.specs.Facts.{Catalogue, empty_catalogue}
 use Rattle.hs_side.specs.Current.{list_in}
 use Rattle.hs_taking.specs.declared.shares.Share.{Share}
 use Rattle.hs_taking.specs.Disks.{DiskSeen, log_at, seen_at}
+use Rattle.hs_taking.specs.Past.{PastStays}
 
 -- ---- one peer
 
@@ -31,9 +32,10 @@ pub record IsShare (tells : Type 0) (fold : Numbered → Catalogue) (read : Opti
   pub took : share.took ≡ option_map (λ list. (rank_of list).number) log
   pub lost : is_some share.lost ≡ (is_some share.took && not (is_some slot))
 
--- from the moment before to now the disk of a peer had calls that leave its list as it is
+-- from the moment before to now the disk of a peer had calls that leave its list as it is, and its past
 pub record KeepsDisk (tells : Type 0) (before now : ℕ) (old new : DiskSeen) : Type 0 where
   pub moments : tells → old.stands.last ≤ before → (list : Numbered) → LeavesOnly old.stands list → LeavesEach before now old.stands new.stands (Is list)
+  pub past : tells → old.stands.last ≤ before → PastStays before now old.stands new.stands
   pub counted : old.faults ≤ new.faults
 
 -- a log that is kept has the list that its disk read as, and whatever a stop leaves has it
@@ -46,6 +48,10 @@ HasItsLog tells before old new slot =
 abbrev pub ReadsItsLog : Type 0 → DiskSeen → DiskSeen → Option Keeping → Type 0
 ReadsItsLog tells old new slot =
     tells → (keeping : Keeping) → slot ≡ Some keeping → (list : Numbered) → list_in old.stands.seen ≡ Some list → IsKept keeping (new.stands.seen keeping.log.side) list None
+
+-- where a log is kept, no call on its disk failed
+abbrev pub StandsWithLog : DiskSeen → DiskSeen → Option Keeping → Type 0
+StandsWithLog old new slot = is_some slot ≡ true → new.faults ≡ old.faults
 
 -- a peer whose log was lost: from the moment on its disk was not called any more, and its count rose
 pub record IsLostDisk (tells : Type 0) (before : ℕ) (old new : DiskSeen) (moment : ℕ) : Type 0 where
@@ -96,6 +102,7 @@ pub record HasShare (tells : Type 0) (set : Setting) (span : Span) (taken : Take
   pub disk : KeepsDisk tells span.before span.now (seen_at span.old peer) (seen_at span.new peer)
   pub log : HasItsLog tells span.before (seen_at span.old peer) (seen_at span.new peer) (log_at taken.logs peer)
   pub reads : ReadsItsLog tells (seen_at span.old peer) (seen_at span.new peer) (log_at taken.logs peer)
+  pub calm : StandsWithLog (seen_at span.old peer) (seen_at span.new peer) (log_at taken.logs peer)
   pub shard_is : (share_at taken peer).shard ≡ peer
   pub peer_is : (share_at taken peer).peer ≡ peer
 

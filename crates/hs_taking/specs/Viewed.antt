@@ -29,6 +29,8 @@ pub record HasViewed (tells : Type 0) (shape : Shape) (peer : ℕ) (old new : Di
   pub has : tells → (list : Numbered) → list_in old.stands.seen ≡ Some list → HasView viewing new.stands.seen list
   pub accepted : tells → refusal_in shape peer old.stands.seen ≡ None
   pub durable : tells → (side : Side) → new.stands.loose side ≡ settled (old.stands.seen side)
+  -- no call failed
+  pub calm : new.faults ≡ old.faults
 
 -- the disk failed, or is no log
 abbrev pub IsUnread : Type 0 → DiskSeen → DiskSeen → Type 0

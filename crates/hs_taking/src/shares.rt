@@ -7,7 +7,7 @@ ghost use Rattle.hs_side.specs.Current.{list_in};
 ghost use Rattle.hs_taking.specs.declared.fault.TakeFault.TheVariants.{NoMemory};
 ghost use Rattle.hs_taking.specs.Disks.{AreReady, IsSlotReady, seen_as, seen_at};
 ghost use Rattle.hs_taking.specs.Loaded.{is_memory};
-ghost use Rattle.hs_taking.specs.Shares.{HasItsLog, HasTaken, IsLostDisk, IsShare, KeepsDisk, ReadsItsLog};
+ghost use Rattle.hs_taking.specs.Shares.{HasItsLog, HasTaken, IsLostDisk, IsShare, KeepsDisk, ReadsItsLog, StandsWithLog};
 ghost use Rattle.hs_taking.specs.Viewed.{IsViewOf};
 
 use crate::TakeFault;
@@ -158,6 +158,9 @@ fn take_peer<A: Addresser, D: Disk>(
         (seen_as (D.size disk.old) (D.stands disk.old) (D.faults disk.old))
         (seen_as (D.size disk.new) (D.stands disk.new) (D.faults disk.new)) slot.new) }
     ensures reads { OnOk result (ReadsItsLog D.tells
+        (seen_as (D.size disk.old) (D.stands disk.old) (D.faults disk.old))
+        (seen_as (D.size disk.new) (D.stands disk.new) (D.faults disk.new)) slot.new) }
+    ensures calm { OnOk result (StandsWithLog
         (seen_as (D.size disk.old) (D.stands disk.old) (D.faults disk.old))
         (seen_as (D.size disk.new) (D.stands disk.new) (D.faults disk.new)) slot.new) }
     ensures moment { IfOk result (λ share. (moment : ℕ) → share.lost ≡ Some moment

@@ -7,6 +7,7 @@ ghost use Rattle.hs_ports.specs.Fault.{HasRisen};
 ghost use Rattle.hs_side.specs.declared.header.Header.{Header};
 ghost use Rattle.hs_taking.specs.Disks.{AreReady, seen_as, seen_at};
 ghost use Rattle.hs_taking.specs.Shares.{KeepsDisk};
+ghost use Rattle.hs_taking.specs.Spared.{SparesDisks};
 ghost use Rattle.hs_taking.specs.Store.{HasRead};
 ghost use Rattle.hs_taking.specs.Viewed.{IsOnlyRead, IsOther};
 
@@ -52,6 +53,13 @@ pub fn read_store<A: Addresser, D: Disk>(
         peer)
         (seen_at (map (λ disk. seen_as (D.size disk) (D.stands disk) (D.faults disk)) disks.new)
         peer)) }
+    // Where one did not fail none was written, whatever is answered.
+    ensures spares { SparesDisks D.tells shape (record {
+      before = watch.old;
+      now = watch.new;
+      old = map (λ disk. seen_as (D.size disk) (D.stands disk) (D.faults disk)) disks.old;
+      new = map (λ disk. seen_as (D.size disk) (D.stands disk) (D.faults disk)) disks.new;
+    }) }
     ensures own { D.tells → OnOk result ((peer : ℕ) (found : Header) → peer < length disks.old
         → refusal_in shape peer (seen_at (map (λ disk. seen_as (D.size disk) (D.stands disk)
         (D.faults disk)) disks.old) peer).stands.seen ≡ Some (log.WrongShape found)
@@ -70,7 +78,7 @@ pub fn read_store<A: Addresser, D: Disk>(
         peer).faults
         ≤ (seen_at (map (λ disk. seen_as (D.size disk) (D.stands disk) (D.faults disk)) disks.new)
         peer).faults }
-    // Whatever it answers, the list of each disk is as it was, at each moment.
+    // Whatever it answers, the list of each disk is as it was, at each moment, and its past stays.
     ensures keeps { (peer : ℕ) → peer < length disks.old → KeepsDisk D.tells watch.old watch.new
         (seen_at (map (λ disk. seen_as (D.size disk) (D.stands disk) (D.faults disk)) disks.old)
         peer)

@@ -3,7 +3,7 @@ ghost use Rattle.std.specs.Prelude.{◌≡◌, ◌<◌, ◌≤◌, ℕ, List, No
 ghost use Rattle.hs_entry.specs.declared.entry.Entry.{Entry};
 ghost use Rattle.hs_limits.specs.Shape.{IsShape};
 ghost use Rattle.hs_memory.specs.Forget.{apply_all};
-ghost use Rattle.hs_peerlog.specs.Caused.{IsCaused, IsOutside};
+ghost use Rattle.hs_peerlog.specs.Caused.{IsCalm, IsCaused, IsOutside};
 ghost use Rattle.hs_peerlog.specs.Images.{Is, LeavesEach, LeavesOnly};
 ghost use Rattle.hs_peerlog.specs.Lists.{HasLog, IsKept, IsReady};
 ghost use Rattle.hs_peerlog.specs.Opening.{refusal_in};
@@ -62,6 +62,7 @@ pub(crate) fn take_log<A: Addresser, D: Disk>(
         → (list : List (ℕ × Entry)) → LeavesOnly (D.stands disk.old) list
         → LeavesEach watch.old watch.new (D.stands disk.old) (D.stands disk.new) (Is list) }
     ensures ticks { watch.old ≤ watch.new }
+    ensures calm { IsCalm (D.faults disk.old) (D.faults disk.new) result }
     ensures cause { IsCaused (D.faults disk.old) (D.faults disk.new) result }
 {
     let loaded = match load(alloc, naming, view, disk, shape, limits, shard) {

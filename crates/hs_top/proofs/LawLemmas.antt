@@ -38,6 +38,7 @@ use Rattle.hs_promise.specs.Stops.{Stops}
 use Rattle.hs_promise.specs.Story.{Story, all_events}
 use Rattle.hs_reads.specs.Run.{script_of}
 use Rattle.hs_script.specs.Reading.{commands}
+use Rattle.hs_side.specs.declared.header.Header.{Header}
 use Rattle.hs_standing.specs.Run.{MayRun, RunOpens}
 use Rattle.hs_standing.specs.Standing.{AllMayKeep}
 use Rattle.hs_stops.specs.Start.{Start}
@@ -70,7 +71,8 @@ pub record Laws : Type 0 where
   pub nothing : (S : Script) (r : Ran) (how : Option Story) → IsShape S.set.shape → WentAs S r how → IfSome how (LeavesUnread S r) → r.course ≡ [] → BeganNothing r
   pub prompt : (S : Script) (r : Ran) (how : Option Story) → client_op (S.commands 0) ≡ None → WentAs S r how → IfSome how (FailsInText S r) → (line : ℕ) → HasPrompt S r line
   pub cause : (S : Script) (r : Ran) (how : Option Story) → S.set.shape.copies ≡ 1 → WentAs S r how → (r.ending ≡ status.ReadFault → HasRisen r.old.source_faults r.new.source_faults)
-      → (r.ending ≡ status.WriteFault → HasRisen r.old.sink_faults r.new.sink_faults) → Cause S r r.ending
+      → (r.ending ≡ status.WriteFault → HasRisen r.old.sink_faults r.new.sink_faults)
+      → ((peer : ℕ) (found : Header) → r.ending ≡ status.WrongShape peer found → peer < peer_count S.set.shape) → Cause S r r.ending
   -- notes
   pub notes : (S : Script) (r : Ran) (story : Story) → S.set.shape.copies ≡ 1 → Went S r story → ((peer : ℕ) → peer < peer_count S.set.shape → IsReadAs r story peer)
       → ((disk : ℕ) → DiskRose r (loss_count story disk) disk)

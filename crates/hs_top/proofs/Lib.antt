@@ -1,5 +1,6 @@
 pub mod CalledLemmas
 pub mod LawLemmas
+pub mod LimitLemmas
 pub mod NoteLemmas
 pub mod PromisedLemmas
 pub mod RestLemmas

@@ -65,7 +65,7 @@ module _ (laws : Laws) (tells : Type 0) (S : Script) (r : Ran) (names : GivesAdd
   }
 
   cause : Cause S r r.ending
-  cause = laws.cause S r cluster.how cluster.one cluster.went cluster.served.causes.read cluster.served.causes.write
+  cause = laws.cause S r cluster.how cluster.one cluster.went cluster.served.causes.read cluster.served.causes.write cluster.served.within
 
   -- ---- what stands where the disks tell
 
@@ -163,6 +163,7 @@ module _ (laws : Laws) (tells : Type 0) (S : Script) (r : Ran) (names : GivesAdd
     where_told = record {
       clauses = clauses;
       stops = λ may. laws.stops S r run may;
+      past = cluster.served.past told;
       shape = cluster.served.shape told;
       aside = aside_by cluster.how cluster.went shown;
       notes = λ sound. notes_by cluster.how cluster.went (cluster.told told) cluster.runs shown sound;
@@ -177,6 +178,7 @@ module _ (laws : Laws) (tells : Type 0) (S : Script) (r : Ran) (names : GivesAdd
     time = cluster.served.time;
     counts = cluster.served.counts;
     cause = cause;
+    calm = cluster.served.calm;
     ends = cluster.served.ends;
     told = where_told;
   }

@@ -3,8 +3,9 @@ use Rattle.std.specs.Prelude.{IfSome, List, None, Option, length, true, ℕ, ◌
 use Rattle.hs_limits.specs.declared.address.Address.{Address}
 use Rattle.hs_model.specs.declared.command.Command.{Command}
 use Rattle.hs_ports.specs.Moments.{disk_at}
-use Rattle.hs_ports.specs.Objects.{CountsStand, KeepsTime}
+use Rattle.hs_ports.specs.Objects.{CountsStand, KeepsPast, KeepsTime}
 use Rattle.hs_promise.specs.Answers.{Prints}
+use Rattle.hs_promise.specs.Calm.{EndsCalm}
 use Rattle.hs_promise.specs.Causes.{Cause}
 use Rattle.hs_promise.specs.Completes.{HasPrompt}
 use Rattle.hs_promise.specs.Ends.{Ends}
@@ -12,21 +13,21 @@ use Rattle.hs_promise.specs.Entry.{IsSoundAtEntry, MayStop, entry_store, is_asid
 use Rattle.hs_promise.specs.Lost.{NotesCause}
 use Rattle.hs_promise.specs.Promise.{AreOfScript, Clauses, IsUsage}
 use Rattle.hs_promise.specs.Run.{DiskRose, Ran, Script, script_of}
+use Rattle.hs_promise.specs.Shapes.{ShapeCause}
 use Rattle.hs_promise.specs.Stops.{Stops}
 use Rattle.hs_promise.specs.declared.status.Status.TheVariants as status
 use Rattle.hs_run.specs.Machine.{IsOfCluster}
-use Rattle.hs_run.specs.Served.{HasShapeCause}
 use Rattle.hs_run.specs.Words.{built_of}
 use Rattle.hs_side.specs.Current.{list_in}
 
--- ---- what is promised of a run: of `Promise` of hs_promise all but what disks keep of their past, and that another store's disk is unwritten where memory was
--- wanting
+-- ---- what is promised of a run: `Promise` of hs_promise, but that notes ask for sound disks
 
 -- over disks that tell their contents; a peer is set aside only where its disk failed, or has no log
 pub record PromisedWhereTold (S : Script) (r : Ran) : Type 0 where
   pub clauses : IsSoundAtEntry S r → Clauses S r
   pub stops : MayStop S r → Stops S (entry_store S r) r
-  pub shape : HasShapeCause S r
+  pub past : KeepsPast r.old r.new
+  pub shape : ShapeCause S r
   pub aside : (peer : ℕ) → peer < length r.old.disks → is_aside S r peer ≡ true → DiskRose r 1 peer ⊎ (list_in (disk_at r.old.disks peer).seen ≡ None)
   pub notes : IsSoundAtEntry S r → NotesCause S r
 
@@ -39,6 +40,7 @@ pub record Promised (tells : Type 0) (S : Script) (r : Ran) : Type 0 where
   pub time : KeepsTime r.old r.new
   pub counts : CountsStand r.old r.new
   pub cause : Cause S r r.ending
+  pub calm : EndsCalm S r
   pub ends : IfSome r.old.left (λ script. IfSome r.new.left (Ends r script))
   pub told : tells → PromisedWhereTold S r
 

@@ -1,7 +1,7 @@
 use Rattle.std.proofs.Common.{◌≡◌, ◌<◌, arith, length, map, slice_set}
 use Rattle.std.proofs.lemmas.Grind.{common_steps}
 use Rattle.std.proofs.lemmas.List.{length-set}
-use Rattle.hs_cluster.proofs.CountLemmas.{copied_results, falls_not, falls_then, paid_at}
+use Rattle.hs_cluster.proofs.CountLemmas.{copied_results, falls_not, falls_then, paid_at, rises_not, stand_at, stand_failed, stand_then}
 use Rattle.hs_cluster.proofs.DiskLemmas.{at_ok, ready_slot, slot_at}
 use Rattle.hs_cluster.specs.Disks.{AreReady, DiskSeen, log_at, seen_as, seen_at}
 use Rattle.hs_cluster.proofs.job.do_copy.Goals as goal
@@ -71,3 +71,20 @@ returns-in-Err-Disk-clause-later g c =
     let f : g.row.D.Denot → DiskSeen = λ disk. seen_as (g.D.Disk.size disk) (g.D.Disk.stands disk) (g.D.Disk.faults disk) in
     let in_disks : c.from-source.result < length c.args.disks.now = grind (arith, common_steps) in
     falls_not f c.args.disks.now c.from-source.result c.index-disks-source.result c.read_copy.new.disk in_disks c.read_copy.ensures.later
+
+pub returns-in-Ok-clause-calm : goal.returns-in-Ok-clause-calm
+returns-in-Ok-clause-calm g c =
+    let f : g.row.D.Denot → DiskSeen = λ disk. seen_as (g.D.Disk.size disk) (g.D.Disk.stands disk) (g.D.Disk.faults disk) in
+    let disks = slice_set c.args.disks.now c.from-source.result c.read_copy.new.disk in
+    let in_disks : c.from-source.result < length c.args.disks.now = grind (arith, common_steps) in
+    let low : c.from-place.result < length disks = grind (arith, common_steps, length-set c.args.disks.now c.from-source.result c.read_copy.new.disk) in
+    let place : c.from-place.result ≡ c.args.peer = grind (arith, common_steps) in
+    stand_then (map f c.args.disks.now) (map f disks) (map f (slice_set disks c.from-place.result c.write_copy.new.disk)) c.write_copy.result
+    (rises_not f c.args.disks.now c.from-source.result c.index-disks-source.result c.read_copy.new.disk in_disks c.in-Ok.ensures.calm)
+    (stand_at f disks c.args.peer c.from-place.result c.index-disks-place.result c.write_copy.new.disk c.write_copy.result place low c.write_copy.ensures.calm)
+
+pub returns-in-Err-Disk-clause-calm : goal.returns-in-Err-Disk-clause-calm
+returns-in-Err-Disk-clause-calm g c =
+    let f : g.row.D.Denot → DiskSeen = λ disk. seen_as (g.D.Disk.size disk) (g.D.Disk.stands disk) (g.D.Disk.faults disk) in
+    let source : c.from-source.result ≡ c.args.from = grind (arith, common_steps) in
+    stand_failed f c.args.disks.now c.args.from c.from-source.result c.read_copy.new.disk source

@@ -1,7 +1,7 @@
 use Rattle.std.proofs.Common.{rules, ◌≡◌, ◌∙◌, ◌<◌, Some, ap, arith, length, map, refl, slice_set, subst, sym}
 use Rattle.std.proofs.lemmas.Grind.{common_steps}
 use Rattle.std.specs.Prelude.{IfOk, IsSome}
-use Rattle.hs_cluster.proofs.CountLemmas.{all_paid_result, copy_paid_result, falls_not, falls_same, job_paid_result, paid_at}
+use Rattle.hs_cluster.proofs.CountLemmas.{all_paid_result, copy_paid_result, falls_not, falls_same, job_paid_result, paid_at, stand_at}
 use Rattle.hs_cluster.proofs.DiskLemmas.{log_read, not_own, reads_at, since_of, slot_at, stored_as, works_at, works_nothing}
 use Rattle.hs_cluster.specs.Disks.{DiskSeen, log_at, seen_as}
 use Rattle.hs_cluster.specs.declared.fault.ClusterFault.TheVariants.{NoMemory}
@@ -90,6 +90,23 @@ returns-in-Append-clause-paid g c =
     let first : Some c.in-Some.job.now ≡ first_job c.args.peer c.args.core.now = first_of (search rules, grind (arith, common_steps)) in
     job_paid_result c.args.core.now c.args.peer c.in-Some.job.now c.do_usual.result (map f c.args.disks.now) (map f (slice_set c.args.disks.now c.from-place.result c.do_usual.new.disk)) (sym first)
     (λ at only. paid_at f c.args.disks.now c.args.peer c.from-place.result c.index-disks-place-in-Append.result c.do_usual.new.disk c.do_usual.result place low (c.do_usual.ensures.paid at only))
+
+pub returns-in-Reset-clause-calm : goal.returns-in-Reset-clause-calm
+returns-in-Reset-clause-calm g c =
+    let f : g.row.D.Denot → DiskSeen = λ disk. seen_as (g.D.Disk.size disk) (g.D.Disk.stands disk) (g.D.Disk.faults disk) in
+    let low : c.from-place.result < length c.args.disks.now = grind (arith, common_steps) in
+    let place : c.from-place.result ≡ c.args.peer = grind (arith, common_steps) in
+    stand_at f c.args.disks.now c.args.peer c.from-place.result c.index-disks-place.result c.do_reset.new.disk c.do_reset.result place low c.do_reset.ensures.calm
+
+pub returns-in-Copy-clause-calm : goal.returns-in-Copy-clause-calm
+returns-in-Copy-clause-calm g c = c.do_copy.ensures.calm
+
+pub returns-in-Append-clause-calm : goal.returns-in-Append-clause-calm
+returns-in-Append-clause-calm g c =
+    let f : g.row.D.Denot → DiskSeen = λ disk. seen_as (g.D.Disk.size disk) (g.D.Disk.stands disk) (g.D.Disk.faults disk) in
+    let low : c.from-place.result < length c.args.disks.now = grind (arith, common_steps) in
+    let place : c.from-place.result ≡ c.args.peer = grind (arith, common_steps) in
+    stand_at f c.args.disks.now c.args.peer c.from-place.result c.index-disks-place-in-Append.result c.do_usual.new.disk c.do_usual.result place low c.do_usual.ensures.calm
 
 -- ---- a job that only read
 

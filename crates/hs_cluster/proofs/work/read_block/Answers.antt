@@ -1,5 +1,5 @@
 use Rattle.std.proofs.Common.{◌∙◌, refl, sym}
-use Rattle.hs_cluster.proofs.CountLemmas.{outside_memory}
+use Rattle.hs_cluster.proofs.CountLemmas.{calm_still, outside_memory}
 use Rattle.hs_cluster.proofs.JobLemmas.{numbered_nowhere, tells_found}
 use Rattle.hs_cluster.proofs.work.read_block.Goals as goal
 
@@ -19,3 +19,7 @@ returns-then-is_stored-clause-refused g c = λ told list waiting kept stored.
 
 pub returns-in-Some-clause-refused : goal.returns-in-Some-clause-refused
 returns-in-Some-clause-refused g c = λ told list waiting kept stored. outside_memory c.block_of.result c.block_of.ensures.not_disk
+
+-- what was read is no block: want of memory, where the count stands
+pub returns-in-Some-clause-calm : goal.returns-in-Some-clause-calm
+returns-in-Some-clause-calm g c = calm_still _ _ c.block_of.result c.in_ok-entry.ensures.calm

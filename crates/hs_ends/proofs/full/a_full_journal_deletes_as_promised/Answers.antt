@@ -1,4 +1,4 @@
-use Rattle.hs_ends.proofs.LedRunLemmas.{deletes_ended, deletes_never, deletes_went}
+use Rattle.hs_ends.proofs.LedLemmas.{deletes_ended, deletes_never, deletes_went}
 use Rattle.hs_ends.proofs.full.a_full_journal_deletes_as_promised.Goals as goal
 use Rattle.hs_promise.specs.Entry.{entry_store}
 use Rattle.hs_promise.specs.Story.{all_events}

@@ -1,37 +1,12 @@
-use Rattle.hs_deletes.proofs.EventLemmas.{LawsBelow}
-use Rattle.hs_deletes.proofs.RunLemmas.{Running}
-use Rattle.hs_ends.proofs.LedRunLemmas.{led_ended, led_never, led_went, run_led}
+use Rattle.hs_ends.proofs.LedLemmas.{led_by, led_ended, led_never, led_went}
 use Rattle.hs_ends.proofs.led.shard_0_is_led_by_lines.Goals as goal
 use Rattle.hs_promise.specs.Entry.{entry_store}
-use Rattle.hs_promise.specs.Story.{all_events}
+use Rattle.hs_promise.specs.Story.{all_events, last_core}
+use Rattle.hs_told.specs.InTurn.{told_of}
 
 pub returns-clause-went : goal.returns-clause-went
 returns-clause-went c = λ S r story went opens may.
-    let below : LawsBelow = record {
-      blocks = c.sweep_is_exact.ensures.blocks;
-      given = c.sweep_is_exact.ensures.given;
-      views = c.views_show_the_store.ensures.shown;
-      steps = record {
-        first = c.a_step_that_answers_is_the_judges.ensures.first;
-        later = c.a_step_that_answers_is_the_judges.ensures.later;
-        answered = c.an_answer_is_the_judges.ensures.answered;
-        read = c.a_read_is_the_judges.ensures.told;
-        write = c.a_write_is_the_judges.ensures;
-      };
-      laws = record {
-        stores = c.a_new_block_is_answered_at_its_effect.ensures;
-        marks = c.a_present_block_is_answered_at_its_effect.ensures;
-        roots = c.a_root_is_answered_at_its_effect.ensures;
-        drops = c.a_drop_is_answered_at_its_effect.ensures;
-        deletes = c.a_delete_is_answered_at_its_effect.ensures;
-        enters_by_itself = c.an_enter_by_itself_is_told.ensures.enters;
-        enters_nothing = c.an_enter_by_itself_is_told.ensures.silent;
-        sweeps_last = c.a_got_is_silent_or_a_sweep.ensures.sweeps;
-        sweeps_nothing = c.a_got_is_silent_or_a_sweep.ensures.silent;
-      };
-    } in
-    let running : Running = record { opens = c.a_run_goes_on.ensures.opens; goes_on = c.a_run_goes_on.ensures.goes_on } in
-    led_went S r story went (run_led below running (record { set = S.set; commands = S.commands; entry = entry_store S r }) story.found (all_events story) opens may)
+    led_went S r story went (led_by (told_of (last_core S story)) (c.the_first_shard_enters_for_a_line.ensures (record { set = S.set; commands = S.commands; entry = entry_store S r }) story.found (all_events story) opens may))
 
 pub returns-clause-ended : goal.returns-clause-ended
 returns-clause-ended c = λ S r story fault went over. led_ended S r story went fault over

@@ -44,8 +44,7 @@ returns-in-Err-clause-ran g c =
     (record { stands = handed_stands f h (λ disk. refl) c.open.new.disks; counts = handed_counts f h (λ disk. refl) c.open.new.disks })
     c.open.ensures.counted (λ told. since_of f c.open.new.disks (g.met.D.Disk.since told)) c.requires.shape c.requires.copies
     (length-map c.args.disks.now f ∙ c.requires.count) (seen_count h f c.args.disks.now) (length-map c.open.new.disks f ∙ c.open.ensures.count ∙ sym (length-map c.args.disks.now f))
-    (handed_count h c.args.disks.now c.open.new.disks c.open.ensures.count) (omega arith) (omega arith) c.in-Err.ensures.unopened
-    (λ at found wrong p low. c.in-Err.ensures.unwritten at found wrong p (let many = length-map c.args.disks.now f in omega (arith, low, many))))
+    (handed_count h c.args.disks.now c.open.new.disks c.open.ensures.count) (omega arith) (omega arith) c.in-Err.ensures.unopened c.in-Err.ensures.spares)
 
 -- ---- its script was run
 

@@ -1,7 +1,7 @@
+use Rattle.hs_deletes.proofs.RunLemmas.{Running}
 use Rattle.hs_settled.proofs.AnsweredLemmas.{ends, rests}
 use Rattle.hs_settled.proofs.EndLemmas.{Going}
 use Rattle.hs_settled.proofs.rest.a_settle_comes_to_rest.Goals as goal
-use Rattle.hs_settled.proofs.SaidLemmas.{Running}
 
 pub returns-clause-due : goal.returns-clause-due
 returns-clause-due c = λ S r story line went none opens may settle past.

@@ -1,8 +1,8 @@
+use Rattle.hs_deletes.proofs.RunLemmas.{Running}
 use Rattle.hs_settled.proofs.AnsweredLemmas.{quiet_settles}
 use Rattle.hs_settled.proofs.EndLemmas.{Going}
 use Rattle.hs_settled.proofs.QuietLemmas.{Below}
 use Rattle.hs_settled.proofs.settled.a_settle_that_ends_quiet_settles.Goals as goal
-use Rattle.hs_settled.proofs.SaidLemmas.{Running}
 
 pub returns : goal.returns
 returns c = λ S r story line went none opens may answers settle past quiet.

@@ -1,8 +1,8 @@
+use Rattle.hs_deletes.proofs.RunLemmas.{Running}
 use Rattle.hs_settled.proofs.AnsweredLemmas.{settles_each}
 use Rattle.hs_settled.proofs.EndLemmas.{Going}
 use Rattle.hs_settled.proofs.QuietLemmas.{Below}
 use Rattle.hs_settled.proofs.settled.each_settle_settles.Goals as goal
-use Rattle.hs_settled.proofs.SaidLemmas.{Running}
 
 pub returns : goal.returns
 returns c = λ S r story went none opens may answers.

@@ -83,6 +83,7 @@ loop-shard-preserved g c =
       disk = c.take_peer-share.ensures.keeps;
       log = told.log;
       reads = told.reads;
+      calm = told.calm;
       shard_as = told.shard ∙ sym is;
       peer_as = told.peer ∙ sym e;
       viewed = told.viewed ∙ ap (λ o. is_some o) (sym item);

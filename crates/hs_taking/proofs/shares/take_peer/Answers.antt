@@ -1,10 +1,10 @@
-use Rattle.std.proofs.Common.{◌≡◌, ◌∙◌, ap, refl, subst, sym, Some, None}
+use Rattle.std.proofs.Common.{◌≡◌, ◌∙◌, ap, refl, subst, sym, Some, None, false, true}
 use Rattle.std.specs.Prelude.{IfSome}
 use Rattle.hs_memory.specs.Forget.{apply_all}
 use Rattle.hs_peerlog.specs.Lists.{HasLog, IsKept, Keeping}
 use Rattle.hs_shard.specs.Facts.{empty_catalogue}
 use Rattle.hs_side.specs.Current.{list_in}
-use Rattle.hs_taking.proofs.TakeLemmas.{lost_rises, lost_shared, none_shared, one_shared, still_kept}
+use Rattle.hs_taking.proofs.TakeLemmas.{lost_rises, lost_shared, none_shared, one_shared, still_kept, viewed_keeps}
 use Rattle.hs_taking.specs.declared.shares.Share.{Share}
 use Rattle.hs_taking.specs.Disks.{DiskSeen, seen_as}
 use Rattle.hs_taking.specs.Viewed.{IsViewOf}
@@ -55,3 +55,36 @@ returns-in-Ok-clause-reads g c = λ told keeping is list listed.
   where
     same : {x y : Keeping} → Some x ≡ Some y → x ≡ y
     same e = cc e
+
+pub returns-in_default-clause-calm : goal.returns-in_default-clause-calm
+returns-in_default-clause-calm g c = λ some. refl
+
+pub returns-in-Ok-clause-calm : goal.returns-in-Ok-clause-calm
+returns-in-Ok-clause-calm g c = λ some. c.in-Ok.ensures.calm
+
+pub returns-else-is_memory-clause-calm : goal.returns-else-is_memory-clause-calm
+returns-else-is_memory-clause-calm g c = λ some. absurd (not_some some)
+  where
+    not_some : false ≡ true → ⊥
+    not_some e = cc e
+
+pub returns-in-Ok-clause-keeps : goal.returns-in-Ok-clause-keeps
+returns-in-Ok-clause-keeps g c =
+    let old : DiskSeen = seen_as (g.D.Disk.size c.args.disk.now) (g.D.Disk.stands c.args.disk.now) (g.D.Disk.faults c.args.disk.now) in
+    let new : DiskSeen = seen_as (g.D.Disk.size c.take_log.new.disk) (g.D.Disk.stands c.take_log.new.disk) (g.D.Disk.faults c.take_log.new.disk) in
+    viewed_keeps g.D.Disk.tells c.args.shape c.args.peer c.args.watch.now c.take_log.new.watch old new c.in-Some.view (subst (λ v. IfSome v (IsViewOf g.D.Disk.tells c.args.shape c.args.peer old)) c.in-Some.is c.requires.viewed)
+    c.take_log.ensures.any_moment c.take_log.ensures.cause.later
+
+pub returns-then-is_memory-clause-keeps : goal.returns-then-is_memory-clause-keeps
+returns-then-is_memory-clause-keeps g c =
+    let old : DiskSeen = seen_as (g.D.Disk.size c.args.disk.now) (g.D.Disk.stands c.args.disk.now) (g.D.Disk.faults c.args.disk.now) in
+    let new : DiskSeen = seen_as (g.D.Disk.size c.take_log.new.disk) (g.D.Disk.stands c.take_log.new.disk) (g.D.Disk.faults c.take_log.new.disk) in
+    viewed_keeps g.D.Disk.tells c.args.shape c.args.peer c.args.watch.now c.take_log.new.watch old new c.in-Some.view (subst (λ v. IfSome v (IsViewOf g.D.Disk.tells c.args.shape c.args.peer old)) c.in-Some.is c.requires.viewed)
+    c.take_log.ensures.any_moment c.take_log.ensures.cause.later
+
+pub returns-else-is_memory-clause-keeps : goal.returns-else-is_memory-clause-keeps
+returns-else-is_memory-clause-keeps g c =
+    let old : DiskSeen = seen_as (g.D.Disk.size c.args.disk.now) (g.D.Disk.stands c.args.disk.now) (g.D.Disk.faults c.args.disk.now) in
+    let new : DiskSeen = seen_as (g.D.Disk.size c.take_log.new.disk) (g.D.Disk.stands c.take_log.new.disk) (g.D.Disk.faults c.take_log.new.disk) in
+    viewed_keeps g.D.Disk.tells c.args.shape c.args.peer c.args.watch.now c.take_log.new.watch old new c.in-Some.view (subst (λ v. IfSome v (IsViewOf g.D.Disk.tells c.args.shape c.args.peer old)) c.in-Some.is c.requires.viewed)
+    c.take_log.ensures.any_moment c.take_log.ensures.cause.later

@@ -1,11 +1,13 @@
-use Rattle.std.proofs.Common.{◌≡◌, ◌<◌, ℕ, List, None, arith, length, map, subst, sym}
+use Rattle.std.proofs.Common.{◌≡◌, ◌∙◌, ◌<◌, ℕ, List, None, arith, length, map, subst, sym}
 use Rattle.std.proofs.lemmas.Grind.{common_steps}
 use Rattle.std.specs.Prelude.{slice_index_or}
 use Rattle.hs_fold.specs.Shards.Setting.{Setting}
+use Rattle.hs_taking.proofs.DiskLemmas.{seen_count}
 use Rattle.hs_taking.proofs.KeepLemmas.{keeps_read, keeps_then}
-use Rattle.hs_taking.proofs.StoreLemmas.{no_other, no_wrong, other_rose, read_ok}
+use Rattle.hs_taking.proofs.StoreLemmas.{no_other, no_wrong, other_rose, read_ok, spares_read, spares_taken}
 use Rattle.hs_taking.proofs.ViewLemmas.{view_of}
 use Rattle.hs_taking.specs.Disks.{DiskSeen, seen_as, seen_at}
+use Rattle.hs_taking.specs.Shares.{Span}
 use Rattle.hs_taking.specs.Viewed.{IsViewed}
 use Rattle.hs_taking.proofs.store.read_store.Goals as goal
 
@@ -39,6 +41,22 @@ returns-clause-other g c = no_other g.D.Disk.tells c.args.shape _ _ c.take_all.r
 
 pub returns-clause-unwritten : goal.returns-clause-unwritten
 returns-clause-unwritten g c = no_wrong _ c.take_all.result c.take_all.ensures.only
+
+pub returns-in-Err-clause-spares : goal.returns-in-Err-clause-spares
+returns-in-Err-clause-spares g c =
+    let f : g.row.D.Denot → DiskSeen = λ disk. seen_as (g.D.Disk.size disk) (g.D.Disk.stands disk) (g.D.Disk.faults disk) in
+    let span : Span = record { before = c.args.watch.now; now = c.view_all.new.watch; old = map f c.args.disks.now; new = map f c.view_all.new.disks } in
+    spares_read g.D.Disk.tells c.args.shape span (λ peer low. c.view_all.ensures.read peer (subst (λ n. peer < n) (seen_count f c.args.disks.now) low))
+
+pub returns-clause-spares : goal.returns-clause-spares
+returns-clause-spares g c =
+    let f : g.row.D.Denot → DiskSeen = λ disk. seen_as (g.D.Disk.size disk) (g.D.Disk.stands disk) (g.D.Disk.faults disk) in
+    let via : List DiskSeen = map f c.view_all.new.disks in
+    let span : Span = record { before = c.args.watch.now; now = c.take_all.new.watch; old = map f c.args.disks.now; new = map f c.take_all.new.disks } in
+    let many : length (map f c.args.disks.now) ≡ length c.args.disks.now = seen_count f c.args.disks.now in
+    let same : length (map f c.args.disks.now) ≡ length c.view_all.new.disks = many ∙ sym c.view_all.ensures.count in
+    spares_taken g.D.Disk.tells c.args.shape span via c.in-Ok.views.items (λ peer low. c.in-Ok.ensures.viewed peer (subst (λ n. peer < n) many low))
+    (λ peer low. c.take_all.ensures.counted peer (subst (λ n. peer < n) same low))
 
 pub returns-clause-own : goal.returns-clause-own
 returns-clause-own g c =

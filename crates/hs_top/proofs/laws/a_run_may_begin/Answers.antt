@@ -1,3 +1,7 @@
+use Rattle.hs_events.specs.Taken.{taken_lists}
+use Rattle.hs_promise.specs.Stops.{image_logs}
+use Rattle.hs_top.specs.Next.{script_after}
+use Rattle.hs_top.proofs.LimitLemmas.{sound_too}
 use Rattle.hs_top.proofs.RestLemmas.{blank_may, stopped_may}
 use Rattle.hs_top.proofs.laws.a_run_may_begin.Goals as goal
 
@@ -5,5 +9,6 @@ pub returns-clause-blank : goal.returns-clause-blank
 returns-clause-blank c = λ S r low rest. blank_may S r (c.waiting_lists_are_sound_with_runs.ensures.blank S.set low) rest
 
 pub returns-clause-stopped : goal.returns-clause-stopped
-returns-clause-stopped c = λ S entry r m images stops during good commands next rest same none.
-    stopped_may (record S { commands = commands }) next images (stops.reopens m during images good).sound rest same none
+returns-clause-stopped c = λ S entry r m images stops during good limits commands next rest same none.
+    stopped_may (script_after S limits commands) next images
+    (sound_too S.set limits (taken_lists S.set.shape (image_logs images)) (stops.reopens m during images good).sound) rest same none

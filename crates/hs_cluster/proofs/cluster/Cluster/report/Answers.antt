@@ -26,7 +26,7 @@ returns-in_default-clause-does g c = λ line.
     let f : g.row.D.Denot → DiskSeen = λ disk. seen_as (g.D.Disk.size disk) (g.D.Disk.stands disk) (g.D.Disk.faults disk) in
     nothing_due line (Reporting c.args.peer) c.args.watch.now c.do_job-done.new.watch c.args.self.now _ _ c.requires.going c.do_job-done.ensures.ticks
     (ap (λ (r : Running). r.course) c.self.view_is) (ap (λ (r : Running). r.core) c.self.view_is)
-    (job_cut g.D.Disk.tells c.args.watch.now c.do_job-done.new.watch c.args.peer c.args.self.now _ c.do_job-done.new.logs.items (map f c.args.disks.now) (map f c.do_job-done.new.disks) c.do_job-done.result c.requires.peer
+    (job_cut g.D.Disk.tells c.args.watch.now c.do_job-done.new.watch c.args.peer c.args.self.now _ c.do_job-done.new.logs.items (map f c.args.disks.now) (map f c.do_job-done.new.disks) c.do_job-done.result c.requires.peer c.do_job-done.ensures.ticks
     (λ told. since_of f c.args.disks.now (g.met.D.Disk.since told))
     (λ told. subst (λ (r : Running). is_own (first_job c.args.peer r.core) ≡ true → Works {E = ClusterFault} (record {
       peer = c.args.peer;
@@ -52,7 +52,7 @@ returns-clause-does g c = λ line.
     subst (λ k. Does (done_of c.step.result (e, k)) old new c.step.result) c.now.ensures.value
     (does_same (done_of c.step.result (e, c.now.result)) _ old new c.step.result core (ap (λ (r : Running). r.course) c.self.view_is) c.step.ensures.does) in
     event_due line (Reporting c.args.peer) c.args.watch.now now old new e now c.step.result _ (report_is_it line old.core c.args.peer c.in-Ok.done answer) c.do_job-done.ensures.ticks (omega arith) does
-    (job_shows g.D.Disk.tells c.args.watch.now now c.args.peer old new c.do_job-done.new.logs.items (map f c.args.disks.now) (map f c.do_job-done.new.disks) ClusterFault c.in-Ok.done c.step.result c.requires.peer c.requires.going answer
+    (job_shows g.D.Disk.tells c.args.watch.now now c.args.peer old new c.do_job-done.new.logs.items (map f c.args.disks.now) (map f c.do_job-done.new.disks) ClusterFault c.in-Ok.done c.step.result c.requires.peer c.do_job-done.ensures.ticks c.requires.going answer
     (λ told. since_of f c.args.disks.now (g.met.D.Disk.since told))
     (λ told. subst (λ (r : Running). is_own (first_job c.args.peer r.core) ≡ true → Works {E = ClusterFault} (record {
       peer = c.args.peer;
@@ -64,7 +64,7 @@ returns-clause-does g c = λ line.
       left = map f c.do_job-done.new.disks;
     }) (first_job c.args.peer r.core) (Ok c.in-Ok.done)) c.self.view_is (c.in-Ok.ensures.works told))
     c.step.ensures.logs does c.do_job-done.ensures.later
-    (subst (λ (r : Running). HasPaid r.core c.args.peer c.in-Ok.done (map f c.args.disks.now) (map f c.do_job-done.new.disks)) c.self.view_is c.in-Ok.ensures.paid) c.in-Ok.ensures.bytes
+    (subst (λ (r : Running). HasPaid r.core c.args.peer c.in-Ok.done (map f c.args.disks.now) (map f c.do_job-done.new.disks)) c.self.view_is c.in-Ok.ensures.paid) c.in-Ok.ensures.calm c.in-Ok.ensures.bytes
     (λ told. subst (λ (r : Running). is_own (first_job c.args.peer r.core) ≡ true → (list : Numbered) (waiting : Option Entry)
     → ((keeping : Keeping) → log_at r.logs c.args.peer ≡ Some keeping → IsKept keeping ((disk_at (stands_of (map f c.args.disks.now)) c.args.peer).seen keeping.log.side) list waiting)
     → HasStored (first_job c.args.peer r.core) (catalogue_of (home c.args.peer r.core) r.core).blocks list → HasAllPaid r.core c.args.peer c.in-Ok.done (map f c.args.disks.now) (map f c.do_job-done.new.disks))

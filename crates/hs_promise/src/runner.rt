@@ -11,8 +11,9 @@ use crate::{Outcome, Status};
 use hs_block::Addresser;
 use hs_ports::{Disk, Sink, Source, Watch};
 
-/// Whoever runs scripts on a store.
-pub trait Promised {
+/// Whoever runs scripts on a store of any shape. Nothing meets this yet: what `hydra` has of it stands
+/// in `IsCalled` of hs_top.
+pub trait Runner {
     /// Runs the script that the source has, as the words ask, on the disks of a store, one for each
     /// peer, and puts what is answered into the sink.
     fn run_script<A: Addresser, S: Source, K: Sink, D: Disk + Drop>(
