@@ -3,8 +3,8 @@
 
 It runs the program of crates/hs_core_bench, which puts blocks, operations, entries and messages at rest and then does
 rounds of six events, and takes a run without rounds from one with them. Seconds are those of a processor, the median of
-some runs; instructions, where valgrind is there, are counted by its callgrind in user space alone. It makes no file but
-in a folder of its own.
+some runs; instructions, where valgrind is there, are counted by its callgrind in user space alone, those of each kind of
+event at the place where the round calls it. It makes no file but in a folder of its own.
 """
 import argparse
 import os
@@ -15,7 +15,11 @@ import subprocess
 import sys
 import tempfile
 
-EVENTS = 6
+# The events of a round, in their order.
+KINDS = ("read", "a second line", "report", "name", "stat", "turn")
+EVENTS = len(KINDS)
+# What a round calls for an event.
+CALLED = ("::asking::ask", "::driving::report", "::Core::step")
 COLLECTED = re.compile(r"Collected\s*:\s*(\d+)")
 TOLD = re.compile(r"(\d+) blocks, (\d+) writes at rest, (\d+) events, (\d+) answers")
 
@@ -38,10 +42,30 @@ def seconds(program, rest, rounds, times):
     return statistics.median(run(program, rest, rounds)[0] for _ in range(times))
 
 
-def instructions(program, rest, rounds, top):
-    told = run(program, rest, rounds,
-               ["valgrind", "--tool=callgrind", f"--callgrind-out-file={os.path.join(top, 'calls')}"])[2]
+def instructions(program, rest, rounds, calls):
+    told = run(program, rest, rounds, ["valgrind", "--tool=callgrind", "--dump-instr=yes", "--compress-strings=no",
+                                       "--compress-pos=no", f"--callgrind-out-file={calls}"])[2]
     return int(COLLECTED.search(told).group(1))
+
+
+def kinds_of(calls, rounds):
+    """The instructions of an event of each kind: of each place that calls one of them as often as there are rounds."""
+    places, caller, called, count = {}, "", "", None
+    with open(calls, encoding="utf-8") as lines:
+        for line in lines:
+            if count is not None:
+                address, _, cost = line.split()
+                if count == rounds and called.endswith(CALLED):
+                    places.setdefault(caller, []).append((int(address, 16), int(cost) / rounds))
+                count = None
+            elif line.startswith("fn="):
+                caller = line[3:].strip()
+            elif line.startswith("cfn="):
+                called = line[4:].strip()
+            elif line.startswith("calls="):
+                count = int(line[6:].split()[0])
+    found = [sorted(of_one) for of_one in places.values() if len(of_one) == EVENTS]
+    return [cost for _, cost in found[0]] if len(found) == 1 else None
 
 
 def main():
@@ -68,9 +92,13 @@ def main():
         print("instructions: not counted, there is no valgrind")
         return
     with tempfile.TemporaryDirectory() as top:
+        calls = os.path.join(top, "calls")
         for rest in asked.rest:
-            counts = [instructions(program, rest, rounds, top) for rounds in (0, asked.counted)]
+            counts = [instructions(program, rest, rounds, calls) for rounds in (0, asked.counted)]
             print(f"{rest} at rest: {(counts[1] - counts[0]) / (asked.counted * EVENTS):,.0f} instructions an event")
+            kinds = kinds_of(calls, asked.counted)
+            print("  of each: " + (", ".join(f"{kind} {cost:,.0f}" for kind, cost in zip(KINDS, kinds)) if kinds
+                                   else "not told, the compiler put a round's calls elsewhere"))
 
 
 main()
