@@ -1,5 +1,6 @@
 //! A block, and its one spelling.
-ghost use Rattle.std.specs.Prelude.{◌≡◌, ℕ, List, [], Ok, ◌+◌, ◌*◌, ◌<◌, ◌≤◌, ◌++◌, length, vec_len, vec_capacity, IfOk, OnOk, OnErr, IfErr, IsErrOf, IsOkUnless};
+ghost use Rattle.std.specs.Prelude.{◌≡◌, ℕ, List, [], ◌∷◌, Ok, ◌+◌, ◌*◌, ◌<◌, ◌≤◌, ◌++◌, length, vec_len, vec_capacity, IfOk, OnOk, OnErr, IfErr, IsErrOf, IsOkUnless};
+ghost use Rattle.std.specs.Int.{to_be_bytes, w16, w32};
 ghost use Rattle.std.specs.List.{flat_map};
 ghost use Rattle.hs_limits.specs.Block.{Block, IsBlock, HasAddresses, spell};
 ghost use Rattle.hs_limits.specs.Reading.{addresses, read_block};
@@ -111,14 +112,41 @@ pub fn write_spelling(
     ensures same { OnErr result (out.new.items ≡ out.old.items) }
 {
     out.reserve(7 + 32 * pointers.len() + bytes.len())?;
+    put_head(pointers, bytes.len(), out);
+    out.extend_from_slice(bytes).unwrap();
+    Ok(())
+}
+
+/// Puts at the end of `out` what a block's spelling has in front of its bytes, at most 2,055 bytes:
+/// the block has these pointers and `len` bytes. An error leaves `out` as it was.
+pub fn write_head(pointers: &[Address], len: usize, out: &mut Vec<u8>) -> Result<(), BlockFault>
+    requires few { length pointers.now ≤ MOST_POINTERS }
+    requires short { len ≤ MOST_BYTES }
+    ensures ok { OnOk result ((bytes : List ℕ) → length bytes ≡ len → out.new.items ++ bytes
+        ≡ out.old.items ++ spell (record { pointers = pointers.now; bytes = bytes })) }
+    ensures err { IsOkUnless result BlockFault.NoMemory }
+    ensures same { OnErr result (out.new.items ≡ out.old.items) }
+{
+    out.reserve(7 + 32 * pointers.len())?;
+    put_head(pointers, len, out);
+    Ok(())
+}
+
+/// Puts the head of a spelling at the end of `out`, which has room for it.
+fn put_head(pointers: &[Address], len: usize, out: &mut Vec<u8>)
+    requires few { length pointers.now ≤ MOST_POINTERS }
+    requires short { len ≤ MOST_BYTES }
+    requires room { vec_len out.old + (7 + 32 * length pointers.now) ≤ vec_capacity out.old }
+    ensures items { out.new.items ≡ out.old.items ++ 1 ∷ to_be_bytes w16 (length pointers.now)
+        ++ flat_map (λ pointer. pointer.0) pointers.now ++ to_be_bytes w32 len }
+    ensures len { vec_len out.new ≡ vec_len out.old + (7 + 32 * length pointers.now) }
+    ensures capacity { vec_capacity out.old ≤ vec_capacity out.new }
+{
     out.push(1).unwrap();
     out.extend_from_slice(&(pointers.len() as u16).to_be_bytes())
         .unwrap();
     write_pointers(pointers, out);
-    out.extend_from_slice(&(bytes.len() as u32).to_be_bytes())
-        .unwrap();
-    out.extend_from_slice(bytes).unwrap();
-    Ok(())
+    out.extend_from_slice(&(len as u32).to_be_bytes()).unwrap();
 }
 
 /// Puts the pointers at the end of `out`, which has room for them.

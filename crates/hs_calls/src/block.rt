@@ -1,5 +1,5 @@
 //! A block that is made, spelled and named.
-use hs_block::{Addresser, Block, TailNames, print_address, write_spelling};
+use hs_block::{Addresser, Block, TailNames, print_address, write_head, write_spelling};
 use hs_limits::Address;
 use std::test::Fail;
 
@@ -23,5 +23,8 @@ fn a_block_is_made_spelled_and_named(rt: HostRuntime) -> Result<(), Fail> {
     let mut one = Vec::new(rt.alloc());
     write_spelling(&pointers, b"".as_slice(), &mut one)?;
     assert_eq!(rt; one.len(), 39);
+    let mut head = Vec::new(rt.alloc());
+    write_head(&pointers, 0, &mut head)?;
+    assert_eq!(rt; head.as_slice(), one.as_slice());
     Ok(())
 }

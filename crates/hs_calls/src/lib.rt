@@ -10,6 +10,8 @@ mod journal;
 #[cfg(test)]
 mod limits;
 #[cfg(test)]
+mod number;
+#[cfg(test)]
 mod ports;
 #[cfg(test)]
 mod print;

@@ -1,9 +1,9 @@
 -- An entry of a map that is written twice, or written and taken out, and what is found afterwards.
-use Rattle.std.proofs.Common.{◌≡◌, ◌∙◌, sym, ap, ℕ, Bool, true, false, cond, List, [], ◌∷◌, Some, option_map, refl, Ordering, Less, Equal, Greater, nat_cmp}
+use Rattle.std.proofs.Common.{◌≡◌, ◌∙◌, sym, ap, ℕ, Bool, true, false, cond, List, [], ◌∷◌, Some, None, option_map, refl, Ordering, Less, Equal, Greater, nat_cmp}
 use Rattle.std.proofs.lemmas.Cmp.{nat_cmp_total}
 use Rattle.std.specs.BTreeMap.{insert_entry, is_at}
 use Rattle.std.specs.Map.{lookup, remove_entry, set_value}
-use Rattle.std.specs.Ordering.{match_ordering, ordering_reverse}
+use Rattle.std.specs.Ordering.{is_eq, match_ordering, ordering_reverse}
 
 module _ {K X : Type 0} (test : K → Bool) where
   pub set_twice : (es : List (K × X)) (v w : X) → set_value test (set_value test es v) w ≡ set_value test es w
@@ -77,6 +77,18 @@ module _ {K X : Type 0} (cmp : K → K → Ordering) (k : K) (same : cmp k k ≡
       go Equal t ih = rw t refl
       go Greater t ih = rw t ih
 
+  -- what was put where nothing stood is taken out again
+  pub remove_insert_by : (es : List (K × X)) (v : X) → lookup (is_at (cmp k)) es ≡ None → remove_entry (is_at (cmp k)) (insert_entry cmp es k v) ≡ es
+  remove_insert_by [] v none = rw same refl
+  remove_insert_by (e ∷ es) v none = go (cmp k e.0) refl none (remove_insert_by es v)
+    where
+      go : (r : Ordering) → cmp k e.0 ≡ r → cond (is_eq r) (Some e.1) (lookup (is_at (cmp k)) es) ≡ None
+          → (lookup (is_at (cmp k)) es ≡ None → remove_entry (is_at (cmp k)) (insert_entry cmp es k v) ≡ es)
+          → remove_entry (is_at (cmp k)) (match_ordering r ((k, v) ∷ e ∷ es) ((e.0, v) ∷ es) (e ∷ insert_entry cmp es k v)) ≡ e ∷ es
+      go Less t none ih = rw same refl
+      go Equal t none ih = cc none
+      go Greater t none ih = rw t (ap (λ rest. e ∷ rest) (ih none))
+
 -- the same by number
 same_number : (k : ℕ) → nat_cmp k k ≡ Equal
 same_number k = go (nat_cmp k k) (nat_cmp_total.antisymm k k)
@@ -91,3 +103,6 @@ insert_set k es v w = insert_set_by nat_cmp k (same_number k) es v w
 
 pub find_insert : {X : Type 0} (k : ℕ) (es : List (ℕ × X)) (v : X) → lookup (is_at (nat_cmp k)) (insert_entry nat_cmp es k v) ≡ Some v
 find_insert k es v = find_insert_by nat_cmp k (same_number k) es v
+
+pub remove_insert : {X : Type 0} (k : ℕ) (es : List (ℕ × X)) (v : X) → lookup (is_at (nat_cmp k)) es ≡ None → remove_entry (is_at (nat_cmp k)) (insert_entry nat_cmp es k v) ≡ es
+remove_insert k es v none = remove_insert_by nat_cmp k (same_number k) es v none

@@ -1,14 +1,15 @@
 -- The lines by session and by cause stay those of the operations.
-use Rattle.std.proofs.Common.{◌≡◌, ◌∙◌, sym, ap, subst, ℕ, Bool, true, false, cond, List, [], ◌∷◌, Option, Some, None, option_and_then, refl, ◌⊎◌, inl, inr, arith, Ordering, Less, Equal, Greater}
+use Rattle.std.proofs.Common.{◌≡◌, ◌∙◌, sym, ap, subst, ℕ, ◌<◌, ◌≤◌, IsSome, Bool, true, false, cond, List, [], ◌∷◌, Option, Some, None, option_and_then, refl, ◌⊎◌, inl, inr, arith, Ordering, Less, Equal, Greater}
 use Rattle.std.proofs.lemmas.Bool.{cases_eq, eq-eqb, ne_eqb}
 use Rattle.std.proofs.lemmas.Cmp.{nat_cmp_total, nat_list_cmp_total, tied_itself}
+use Rattle.std.proofs.lemmas.Map.Keys.{ge_from_not_lt}
 use Rattle.std.proofs.lemmas.Map.Text.{is_eq-slice_cmp}
 use Rattle.std.specs.BTreeMap.{is_at}
 use Rattle.std.specs.Cmp.{unsigned_tied}
 use Rattle.std.specs.List.Sorted.{IsStrictlySortedBy}
 use Rattle.std.specs.Map.{keys_of, set_value}
 use Rattle.std.specs.Option.{option_map, option_map_or}
-use Rattle.std.specs.Ordering.{is_eq, nat_cmp, ordering_reverse}
+use Rattle.std.specs.Ordering.{is_eq, is_lt, nat_cmp, ordering_reverse}
 use Rattle.std.specs.Prelude.{◌==◌, bytes_eq, find}
 use Rattle.hs_core.proofs.EntryLemmas.{part_set}
 use Rattle.hs_core.specs.declared.next.Next.{Next}
@@ -18,6 +19,7 @@ use Rattle.hs_core.specs.Going.{judge_in, judged_by, next_step}
 use Rattle.hs_core.specs.Operating.{is_of}
 use Rattle.hs_core.specs.declared.waiting.Waiting.{Waiting}
 use Rattle.hs_core.specs.Indexing.{IsIndexedBy, IsListed, cause_of, found_in, passes, session_in, wait_cause, wait_in, waits_for}
+use Rattle.hs_core.specs.Putting.{IsPutAt}
 use Rattle.hs_limits.specs.declared.address.Address.{Address}
 use Rattle.hs_ops.specs.Views.{OpView}
 use Rattle.hs_post.proofs.FirstLemmas.{first_is_one}
@@ -57,33 +59,38 @@ pub at_changed : (line : ℕ) (new : Option Waiting) (old next : List (ℕ × Wa
     → (n : ℕ) → found_in next n ≡ changed line new (found_in old) n
 at_changed line new old next h n = h n ∙ rw (unsigned_tied line n) refl
 
-pub table_moved : (line : ℕ) (new : Option Waiting) (name : Option (List ℕ)) (cause : Option Cause) (t s u : Table) (es : List (ℕ × Waiting)) → IsListed t
-    → name ≡ option_and_then session_in new → cause ≡ option_and_then cause_of new
-    → s.map ≡ t.map → s.waits ≡ t.waits
-    → (AreKept name_cmp (λ n. option_and_then session_in (found_in t.map.entries n)) t.sessions
-    → AreKept name_cmp (changed line name (λ n. option_and_then session_in (found_in t.map.entries n))) s.sessions)
-    → u.map ≡ s.map → u.sessions ≡ s.sessions
-    → (AreWaits (λ n. option_and_then cause_of (found_in s.map.entries n)) s.waits
-    → AreWaits (changed line cause (λ n. option_and_then cause_of (found_in s.map.entries n))) u.waits)
-    → ((q : ℕ) → found_in es q ≡ cond (is_at (nat_cmp line) q) new (found_in u.map.entries q))
-    → IsIndexedBy (found_in es) u.sessions u.waits
-table_moved line new name cause t s u es are named caused same_map same_waits asks then_map then_sessions waits found =
-    let old : List (ℕ × Waiting) = t.map.entries in
-    let last : u.map.entries ≡ old = ap (λ m. m.entries) (then_map ∙ same_map) in
-    let at : (n : ℕ) → found_in es n ≡ changed line new (found_in old) n = subst (λ (es' : List (ℕ × Waiting)). (n : ℕ) → found_in es n ≡ changed line new (found_in es') n) last (at_changed line new u.map.entries es found) in
-    let sessions : AreKept name_cmp (changed line (option_and_then session_in new) (λ n. option_and_then session_in (found_in old n))) u.sessions
-    = subst (λ (x : List (List ℕ × ℕ)). AreKept name_cmp (changed line (option_and_then session_in new) (λ n. option_and_then session_in (found_in old n))) x) (sym then_sessions)
-    (subst (λ (x : Option (List ℕ)). AreKept name_cmp (changed line x (λ n. option_and_then session_in (found_in old n))) s.sessions) named (asks are.sessions)) in
-    let before : AreWaits (λ n. option_and_then cause_of (found_in s.map.entries n)) s.waits
-    = subst (λ (x : List (Cause × ℕ)). AreWaits (λ n. option_and_then cause_of (found_in s.map.entries n)) x) (sym same_waits)
-    (waits_alike (λ n. option_and_then cause_of (found_in old n)) (λ n. option_and_then cause_of (found_in s.map.entries n)) t.waits are.waits (λ n. ap (λ m. option_and_then cause_of (found_in m.entries n)) same_map)) in
-    let causes : AreWaits (changed line (option_and_then cause_of new) (λ n. option_and_then cause_of (found_in s.map.entries n))) u.waits
-    = subst (λ (x : Option Cause). AreWaits (changed line x (λ n. option_and_then cause_of (found_in s.map.entries n))) u.waits) caused (waits before) in
-    record {
-      sessions = kept_alike name_cmp (changed line (option_and_then session_in new) (λ n. option_and_then session_in (found_in old n))) (λ n. option_and_then session_in (found_in es n)) u.sessions sessions (λ n. ap (option_and_then session_in) (at n) ∙ key_changed session_in line new (found_in old) n);
-      waits = waits_alike (changed line (option_and_then cause_of new) (λ n. option_and_then cause_of (found_in s.map.entries n))) (λ n. option_and_then cause_of (found_in es n)) u.waits causes
-          (λ n. ap (option_and_then cause_of) (at n) ∙ key_changed cause_of line new (found_in old) n ∙ ap (λ m. changed line (option_and_then cause_of new) (λ q. option_and_then cause_of (found_in m.entries q)) n) (sym same_map));
-    }
+-- by any part of it
+pub moved_at : {K : Type 0} (key : Waiting → Option K) (line : ℕ) (new : Option Waiting) (told : Option K) (old next : List (ℕ × Waiting)) → told ≡ option_and_then key new → IsPutAt line new old next
+    → (n : ℕ) → option_and_then key (found_in next n) ≡ changed line told (λ m. option_and_then key (found_in old m)) n
+moved_at {K} key line new told old next own put n =
+    ap (option_and_then key) (at_changed line new old next put n) ∙ key_changed key line new (found_in old) n
+    ∙ ap (λ (x : Option K). changed line x (λ m. option_and_then key (found_in old m)) n) (sym own)
+
+-- the lines by a key stand by the operations afterwards
+pub kept_moved : {K : Type 0} (cmp : K → K → Ordering) (key : Waiting → Option K) (line : ℕ) (new : Option Waiting) (told : Option K) (old next : List (ℕ × Waiting)) (lines : List (K × ℕ))
+    → told ≡ option_and_then key new → IsPutAt line new old next → AreKept cmp (changed line told (λ m. option_and_then key (found_in old m))) lines
+    → AreKept cmp (λ n. option_and_then key (found_in next n)) lines
+kept_moved cmp key line new told old next lines own put are =
+    kept_alike cmp (changed line told (λ m. option_and_then key (found_in old m))) (λ n. option_and_then key (found_in next n)) lines are (moved_at key line new told old next own put)
+
+pub waits_moved : (key : Waiting → Option Cause) (line : ℕ) (new : Option Waiting) (told : Option Cause) (old next : List (ℕ × Waiting)) (lines : List (Cause × ℕ))
+    → told ≡ option_and_then key new → IsPutAt line new old next → AreWaits (changed line told (λ m. option_and_then key (found_in old m))) lines
+    → AreWaits (λ n. option_and_then key (found_in next n)) lines
+waits_moved key line new told old next lines own put are =
+    waits_alike (changed line told (λ m. option_and_then key (found_in old m))) (λ n. option_and_then key (found_in next n)) lines are (moved_at key line new told old next own put)
+
+-- ---- a line above the newest
+
+-- it has no operation
+pub none_above : (line newest : ℕ) (es : List (ℕ × Waiting)) → ((q : ℕ) → IsSome (found_in es q) → is_lt (nat_cmp newest q) ≡ false) → newest < line → None ≡ found_in es line
+none_above line newest es greatest above = go (found_in es line) refl
+  where
+    go : (o : Option Waiting) → found_in es line ≡ o → None ≡ found_in es line
+    go None e = sym e
+    go (Some w) e =
+        let some : IsSome (found_in es line) = subst (λ (o : Option Waiting). IsSome o) (sym e) refl in
+        let below : line ≤ newest = ge_from_not_lt newest line (greatest line some) in
+        absurd (omega (arith, below, above))
 
 -- ---- a value is written in its place
 

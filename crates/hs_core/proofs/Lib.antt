@@ -1,8 +1,10 @@
+mod ApartLemmas
 mod CommitLemmas
 mod DeletionExamples
 mod Driving
 mod EntryLemmas
 mod Examples
+mod FirstLemmas
 mod GoingLemmas
 mod IndexLemmas
 mod JoinLemmas
@@ -14,6 +16,7 @@ mod LimitExamples
 mod NowhereLemmas
 mod OpenLemmas
 mod PeerExamples
+mod PlacedLemmas
 mod RangeLemmas
 mod RecordLemmas
 mod ReportLemmas

@@ -1,5 +1,5 @@
 -- The lists with which a core opens.
-use Rattle.std.proofs.Common.{◌≡◌, ◌∙◌, sym, ap, ℕ, ◌+◌, ◌*◌, ◌-◌, ◌<◌, ◌≤◌, suc, zero, List, [], ◌∷◌, Bool, true, false, Option, None, drop, length, map, replicate, take, refl, arith}
+use Rattle.std.proofs.Common.{◌≡◌, ◌∙◌, sym, ap, subst, ℕ, ◌+◌, ◌*◌, ◌-◌, ◌<◌, ◌≤◌, suc, zero, List, [], ◌∷◌, Bool, true, false, Option, None, drop, length, map, replicate, take, refl, arith}
 use Rattle.std.proofs.Math.Nat.{mul-le-mul_right, suc-mul}
 use Rattle.std.proofs.lemmas.List.{length-drop, length-map, length-replicate, length-take-le}
 use Rattle.std.proofs.lemmas.List.FromFn.{get_or-map-range_with_len, length-map-range_with_len}
@@ -85,9 +85,12 @@ no_step (suc n) zero = refl
 no_step (suc n) (suc peer) = no_step n peer
 
 -- where none is joining there is no copying step
-pub no_steps_kept : (core : Core) → ((peer : ℕ) → is_joining (status peer core.members) ≡ false)
+no_steps_kept : (core : Core) → ((peer : ℕ) → is_joining (status peer core.members) ≡ false)
     → AreSteps core (replicate (core.members.shape.shards * core.members.shape.copies) None)
 no_steps_kept core none = record {
   length = length-replicate (core.members.shape.shards * core.members.shape.copies) None;
   each = λ peer h. rw (none peer) (no_step (core.members.shape.shards * core.members.shape.copies) peer);
 }
+
+pub steps_of_none : (core : Core) (ss : List (Option Job)) → ss ≡ replicate (core.members.shape.shards * core.members.shape.copies) None → ((peer : ℕ) → is_joining (status peer core.members) ≡ false) → AreSteps core ss
+steps_of_none core ss told none = subst (λ (xs : List (Option Job)). AreSteps core xs) (sym told) (no_steps_kept core none)

@@ -11,7 +11,7 @@ use Rattle.std.specs.Map.{keys_of, set_value}
 use Rattle.std.specs.Option.{option_map_or}
 use Rattle.std.specs.Ordering.{nat_cmp}
 use Rattle.std.specs.Prelude.{◌==◌, nat_le}
-use Rattle.hs_core.proofs.IndexLemmas.{at_changed, at_here, at_there, key_changed, put_by}
+use Rattle.hs_core.proofs.IndexLemmas.{at_here, at_there, put_by}
 use Rattle.hs_core.proofs.WalkLemmas.{below_next, none_left, some_left}
 use Rattle.hs_core.specs.declared.next.Next.{Next}
 use Rattle.hs_core.specs.declared.table.Table.{Table}
@@ -26,28 +26,12 @@ use Rattle.hs_limits.specs.declared.address.Address.{Address}
 use Rattle.hs_ops.specs.Views.{OpView}
 use Rattle.hs_post.proofs.OrderLemmas.{above_first, finds_here}
 use Rattle.hs_waits.proofs.LineLemmas.{kept_alike}
-use Rattle.hs_waits.specs.Lines.{AreKept, IsFirstFrom, changed, has, tied}
+use Rattle.hs_waits.specs.Lines.{IsFirstFrom, has, tied}
 
 -- ---- the lines by shard
 
 sharded_alike : (found next : ℕ → Option Waiting) (lines : List (ℕ × ℕ)) → AreSharded found lines → ((n : ℕ) → option_and_then shard_in (next n) ≡ option_and_then shard_in (found n)) → AreSharded next lines
 sharded_alike found next lines are same = kept_alike nat_cmp (λ n. option_and_then shard_in (found n)) (λ n. option_and_then shard_in (next n)) lines are same
-
-pub sharded_moved : (line : ℕ) (new : Option Waiting) (shard : Option ℕ) (t v x : Table) (es : List (ℕ × Waiting)) → AreSharded (found_in t.map.entries) t.shards
-    → shard ≡ option_and_then shard_in new → v.map ≡ t.map → v.shards ≡ t.shards → x.map ≡ v.map
-    → (AreSharded (found_in v.map.entries) v.shards → AreKept nat_cmp (changed line shard (λ n. option_and_then shard_in (found_in v.map.entries n))) x.shards)
-    → ((q : ℕ) → found_in es q ≡ cond (is_at (nat_cmp line) q) new (found_in x.map.entries q))
-    → AreSharded (found_in es) x.shards
-sharded_moved line new shard t v x es are own_of same_map same_shards then_map moves found =
-    let before : AreSharded (found_in v.map.entries) v.shards
-    = subst (λ (y : List (ℕ × ℕ)). AreSharded (found_in v.map.entries) y) (sym same_shards)
-    (sharded_alike (found_in t.map.entries) (found_in v.map.entries) t.shards are (λ n. ap (λ m. option_and_then shard_in (found_in m.entries n)) same_map)) in
-    let shards : AreKept nat_cmp (changed line (option_and_then shard_in new) (λ n. option_and_then shard_in (found_in v.map.entries n))) x.shards
-    = subst (λ (y : Option ℕ). AreKept nat_cmp (changed line y (λ n. option_and_then shard_in (found_in v.map.entries n))) x.shards) own_of (moves before) in
-    let at : (n : ℕ) → found_in es n ≡ changed line new (found_in v.map.entries) n
-    = λ n. at_changed line new x.map.entries es found n ∙ ap (λ m. changed line new (found_in m.entries) n) then_map in
-    kept_alike nat_cmp (changed line (option_and_then shard_in new) (λ n. option_and_then shard_in (found_in v.map.entries n))) (λ n. option_and_then shard_in (found_in es n)) x.shards shards
-    (λ n. ap (option_and_then shard_in) (at n) ∙ key_changed shard_in line new (found_in v.map.entries) n)
 
 pub sharded_waits : (line : ℕ) (what : Wait) (t u : Table) (es : List (ℕ × Waiting)) (w : Waiting) → AreSharded (found_in t.map.entries) t.shards → found_in t.map.entries line ≡ Some w
     → u.map ≡ t.map → u.shards ≡ t.shards → es ≡ wait_in line what u.map.entries → AreSharded (found_in es) u.shards

@@ -1,5 +1,5 @@
 -- The lines by the blocks that their Blocks store: they stay those of the operations, and tell what is coming.
-use Rattle.std.proofs.Common.{◌≡◌, ◌∙◌, sym, ap, subst, ℕ, ◌<◌, ◌≤◌, Bool, true, false, cond, List, [], ◌∷◌, Option, Some, None, option_and_then, refl, ◌||◌, ◌⊎◌, inl, inr, arith, bytes_eq}
+use Rattle.std.proofs.Common.{◌≡◌, ◌∙◌, sym, ap, subst, ℕ, ◌<◌, ◌≤◌, Bool, true, false, List, [], ◌∷◌, Option, Some, None, option_and_then, refl, ◌||◌, ◌⊎◌, inl, inr, arith, bytes_eq}
 use Rattle.std.proofs.lemmas.Bool.{cases_lt, eq-eqb, eqb-true}
 use Rattle.std.proofs.lemmas.Slice.Eq.{bytes_eq-Decides}
 use Rattle.std.specs.BTreeMap.{is_at}
@@ -7,7 +7,8 @@ use Rattle.std.specs.List.{list_any}
 use Rattle.std.specs.Map.{set_value}
 use Rattle.std.specs.Option.{is_some, option_map_or}
 use Rattle.std.specs.Ordering.{nat_cmp}
-use Rattle.hs_core.proofs.IndexLemmas.{at_changed, key_changed, put_by, waits_alike}
+use Rattle.hs_core.proofs.IndexLemmas.{put_by, waits_alike}
+use Rattle.hs_core.specs.Apart.{reads, reads_block}
 use Rattle.hs_core.specs.declared.next.Next.{Next}
 use Rattle.hs_core.specs.declared.table.Table.{Table}
 use Rattle.hs_core.specs.declared.wait.Wait.{Wait}
@@ -26,43 +27,16 @@ use Rattle.hs_ops.specs.Speaking.{wanted_address}
 use Rattle.hs_ops.specs.Views.{OpView}
 use Rattle.hs_replica.specs.Kinds.{stores_for}
 use Rattle.hs_tokens.specs.Seats.{Seats}
-use Rattle.hs_waits.specs.Causes.{AreWaits, is_same, waits}
+use Rattle.hs_waits.specs.Causes.{is_same, waits}
 use Rattle.hs_waits.specs.declared.cause.Cause.{Cause}
 use Rattle.hs_waits.specs.declared.cause.Cause.TheVariants as cause
-use Rattle.hs_waits.specs.Lines.{IsFirstFrom, changed}
+use Rattle.hs_waits.specs.Lines.{IsFirstFrom}
 
 -- ---- the lines stay those of the operations
 
 -- where the operations are alike, by what their Blocks store
 pub stored_alike : (found next : ℕ → Option Waiting) (lines : List (Cause × ℕ)) → AreStored found lines → ((n : ℕ) → option_and_then storing (next n) ≡ option_and_then storing (found n)) → AreStored next lines
 stored_alike found next lines are same = waits_alike (λ n. option_and_then storing (found n)) (λ n. option_and_then storing (next n)) lines are same
-
--- what is waited for is left as it is
-pub waits_left : (line : ℕ) (cause : Option Cause) (keys : ℕ → Option Cause) (before : List (Cause × ℕ)) (u v : Table) → v.waits ≡ u.waits
-    → (AreWaits keys before → AreWaits (changed line cause keys) u.waits) → AreWaits keys before → AreWaits (changed line cause keys) v.waits
-waits_left line cause keys before u v same moves are = subst (λ (x : List (Cause × ℕ)). AreWaits (changed line cause keys) x) (sym same) (moves are)
-
--- so is what is stored
-pub stored_left : (line : ℕ) (cause : Option Cause) (keys : ℕ → Option Cause) (before : List (Cause × ℕ)) (v x : Table) → x.stored ≡ v.stored
-    → (AreWaits keys before → AreWaits (changed line cause keys) v.stored) → AreWaits keys before → AreWaits (changed line cause keys) x.stored
-stored_left line cause keys before v x same moves are = subst (λ (y : List (Cause × ℕ)). AreWaits (changed line cause keys) y) (sym same) (moves are)
-
--- one line changes
-pub stored_moved : (line : ℕ) (new : Option Waiting) (cause : Option Cause) (t u v : Table) (es : List (ℕ × Waiting)) → AreStored (found_in t.map.entries) t.stored
-    → cause ≡ option_and_then storing new → u.map ≡ t.map → u.stored ≡ t.stored → v.map ≡ u.map
-    → (AreStored (found_in u.map.entries) u.stored → AreWaits (changed line cause (λ n. option_and_then storing (found_in u.map.entries n))) v.stored)
-    → ((q : ℕ) → found_in es q ≡ cond (is_at (nat_cmp line) q) new (found_in v.map.entries q))
-    → AreStored (found_in es) v.stored
-stored_moved line new cause t u v es are caused same_map same_stored then_map moves found =
-    let before : AreStored (found_in u.map.entries) u.stored
-    = subst (λ (x : List (Cause × ℕ)). AreStored (found_in u.map.entries) x) (sym same_stored)
-    (stored_alike (found_in t.map.entries) (found_in u.map.entries) t.stored are (λ n. ap (λ m. option_and_then storing (found_in m.entries n)) same_map)) in
-    let causes : AreWaits (changed line (option_and_then storing new) (λ n. option_and_then storing (found_in u.map.entries n))) v.stored
-    = subst (λ (x : Option Cause). AreWaits (changed line x (λ n. option_and_then storing (found_in u.map.entries n))) v.stored) caused (moves before) in
-    let at : (n : ℕ) → found_in es n ≡ changed line new (found_in u.map.entries) n
-    = λ n. at_changed line new v.map.entries es found n ∙ ap (λ m. changed line new (found_in m.entries) n) then_map in
-    waits_alike (changed line (option_and_then storing new) (λ n. option_and_then storing (found_in u.map.entries n))) (λ n. option_and_then storing (found_in es n)) v.stored causes
-    (λ n. ap (option_and_then storing) (at n) ∙ key_changed storing line new (found_in u.map.entries) n)
 
 -- one that waits for something else
 pub stored_waits : (line : ℕ) (what : Wait) (t u : Table) (es : List (ℕ × Waiting)) (w : Waiting) → AreStored (found_in t.map.entries) t.stored → found_in t.map.entries line ≡ Some w
@@ -158,19 +132,19 @@ alike xs ys = same_bool (bytes_eq xs ys) (bytes_eq ys xs) (turned xs ys) (turned
 abbrev stores_op : Cause → Op → Bool
 stores_op c o = option_map_or (λ d. is_same d c) (store_cause o) false
 
-unnamed : (seats : Seats) (a : Address) (o : Op) → stores_op (cause.Other 0) o ≡ false → stores_op (cause.Block 0 a) o ≡ false → is_address a (wanted_address seats o) ≡ false
-unnamed seats a (op.Write name payload handles (Some b)) reads writes = alike a.0 b.0 ∙ writes
-unnamed seats a (op.Write name payload handles None) reads writes = refl
-unnamed seats a (op.Read name handle) reads writes = let wrong : true ≡ false = reads in cc
-unnamed seats a (op.Open name) reads writes = refl
-unnamed seats a (op.Close name) reads writes = refl
-unnamed seats a (op.Look name key) reads writes = refl
-unnamed seats a (op.Root name key handle) reads writes = refl
-unnamed seats a (op.Drop key) reads writes = refl
-unnamed seats a (op.Forget name handle) reads writes = refl
-unnamed seats a (op.Name name handle) reads writes = refl
-unnamed seats a op.Delete reads writes = refl
-unnamed seats a op.Stat reads writes = refl
+unnamed : (seats : Seats) (a : Address) (o : Op) → reads_block o ≡ false → stores_op (cause.Block 0 a) o ≡ false → is_address a (wanted_address seats o) ≡ false
+unnamed seats a (op.Write name payload handles (Some b)) off writes = alike a.0 b.0 ∙ writes
+unnamed seats a (op.Write name payload handles None) off writes = refl
+unnamed seats a (op.Read name handle) off writes = let wrong : true ≡ false = off in cc
+unnamed seats a (op.Open name) off writes = refl
+unnamed seats a (op.Close name) off writes = refl
+unnamed seats a (op.Look name key) off writes = refl
+unnamed seats a (op.Root name key handle) off writes = refl
+unnamed seats a (op.Drop key) off writes = refl
+unnamed seats a (op.Forget name handle) off writes = refl
+unnamed seats a (op.Name name handle) off writes = refl
+unnamed seats a op.Delete off writes = refl
+unnamed seats a op.Stat off writes = refl
 
 named_so : (seats : Seats) (a : Address) (o : Op) → stores_op (cause.Block 0 a) o ≡ true → is_address a (wanted_address seats o) ≡ true
 named_so seats a (op.Write name payload handles (Some b)) writes = alike a.0 b.0 ∙ writes
@@ -194,13 +168,13 @@ module _ (core : Core) (a : Address) where
   abbrev test : Entry → Bool
   test e = is_address a (named e core)
 
-  by_neither : (n : ℕ) → passes (stores (cause.Other 0)) core.operations n ≡ false → passes (stores (cause.Block 0 a)) core.operations n ≡ false → names n ≡ false
+  by_neither : (n : ℕ) → passes reads core.operations n ≡ false → passes (stores (cause.Block 0 a)) core.operations n ≡ false → names n ≡ false
   by_neither n = go (operation_of n core)
     where
-      go : (o : Option Waiting) → option_map_or (stores (cause.Other 0)) o false ≡ false → option_map_or (stores (cause.Block 0 a)) o false ≡ false
+      go : (o : Option Waiting) → option_map_or reads o false ≡ false → option_map_or (stores (cause.Block 0 a)) o false ≡ false
           → is_address a (option_and_then (λ w. wanted_address core.sessions w.operation.op) o) ≡ false
-      go None reads writes = refl
-      go (Some w) reads writes = unnamed core.sessions a w.operation.op reads writes
+      go None off writes = refl
+      go (Some w) off writes = unnamed core.sessions a w.operation.op off writes
 
   by_write : (n : ℕ) → passes (stores (cause.Block 0 a)) core.operations n ≡ true → names n ≡ true
   by_write n = go (operation_of n core)
@@ -264,8 +238,7 @@ module _ (core : Core) (a : Address) where
       go false here ih = let further : stands es n ≡ true = rw here at found in or_right (test e) (list_any test es) (ih further)
 
   -- where no operation that reads has a Block among them, it is told by the writes
-  pub coming_met : (entries : List Entry) (read write : Option ℕ) → AreMet (cause.Other 0) entries core.operations read → is_some read ≡ false
+  pub coming_met : (entries : List Entry) (write : Option ℕ) → ((n : ℕ) → stands entries n ≡ true → passes reads core.operations n ≡ false)
       → AreMet (cause.Block 0 a) entries core.operations write → is_some write ≡ list_any test entries
-  coming_met entries (Some n) write reads none writes = let wrong : true ≡ false = none in cc
-  coming_met entries None None reads none writes = sym (none_coming entries (λ n at. by_neither n (reads n at) (writes n at)))
-  coming_met entries None (Some n) reads none writes = sym (some_coming entries n writes.0 (by_write n writes.1))
+  coming_met entries None apart writes = sym (none_coming entries (λ n at. by_neither n (apart n at) (writes n at)))
+  coming_met entries (Some n) apart writes = sym (some_coming entries n writes.0 (by_write n writes.1))

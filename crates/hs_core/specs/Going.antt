@@ -11,11 +11,11 @@ use Rattle.hs_core.specs.declared.sight.Sight.{Sight}
 use Rattle.hs_core.specs.declared.wait.Wait.{Wait}
 use Rattle.hs_core.specs.declared.wait.Wait.TheVariants as wait
 use Rattle.hs_core.specs.declared.waiting.Waiting.{Waiting}
-use Rattle.hs_core.specs.Changing.{end_operation, note}
+use Rattle.hs_core.specs.Changing.{add_operation, end_operation, note}
 use Rattle.hs_core.specs.Looking.{catalogue_of, group_of, lead_of, operation_of}
 use Rattle.hs_core.specs.Operating.{add_read, propose_entry, take_step, wait_for}
 use Rattle.hs_core.specs.Pending.{has_block_room, has_root_room, is_block, is_coming, is_root, puts_root, writes_block}
-use Rattle.hs_core.specs.Seeing.{pointers_for, view_for}
+use Rattle.hs_core.specs.Seeing.{empty_view, pointers_for, view_for}
 use Rattle.hs_core.specs.State.{Core}
 use Rattle.hs_core.specs.Words.{change_with, ◌▸◌}
 use Rattle.hs_journal.specs.declared.entry.Who.TheVariants as who
@@ -83,15 +83,13 @@ sight_of aim core = record {
 
 -- the view that an operation is given
 abbrev pub view_of : Sight → Aim → Option ℕ → Limits → Seats → List RootRecord → OpView
-view_of sight aim busy limits seats roots = record {
-  limits = limits;
+view_of sight aim busy limits seats roots = record (empty_view limits aim.shard) {
   seats = seats;
   roots = roots;
   retained = sight.retained;
   blocks = sight.blocks;
   epochs = sight.epochs;
   swept = sight.swept;
-  shard = aim.shard;
   present = sight.present;
   pointers = length sight.pointers;
   room = sight.room;
@@ -175,6 +173,22 @@ answer_with line reply helds w core =
     record (core ▸ end_operation line ▸ note (who.Line line) (deed_of core.sessions w.operation.op reply) reply) {
       sessions = seats_by (deed_of core.sessions w.operation.op reply) helds core.sessions;
     }
+
+-- one that is not kept any more
+abbrev pub told_with : ℕ → Reply → List Held → Waiting → Core → Core
+told_with line reply helds w core =
+    record (note (who.Line line) (deed_of core.sessions w.operation.op reply) reply core) {
+      sessions = seats_by (deed_of core.sessions w.operation.op reply) helds core.sessions;
+    }
+
+-- and a new one
+abbrev pub answer_new : ℕ → Reply → List Held → Waiting → Core → Core
+answer_new line reply helds w core =
+    add_operation line w core ▸ change_with (operation_of line (add_operation line w core)) (answer_with line reply helds)
+
+abbrev pub compare_new : ℕ → ℕ → ℕ → Waiting → Core → Core
+compare_new shard line number w core =
+    add_operation line w core ▸ set_wait line (wait.Bytes number) ▸ change_with (lead_of shard core) (add_read number line)
 
 abbrev pub carry_by : Aim → ℕ → OpStep → List Held → Core → Core
 carry_by aim line (step.Answer reply) helds core = core ▸ change_with (operation_of line core) (answer_with line reply helds)

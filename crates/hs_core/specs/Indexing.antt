@@ -64,16 +64,15 @@ waits_for c w = option_map_or (λ d. is_same d c) (cause_of w) false
 
 -- ---- by the block that a Block of its line stores
 
--- that of the address that a write names itself; where it reads it may be of any address
+-- that of the address that a write names itself
 abbrev pub store_cause : Op → Option Cause
 store_cause (op.Write name payload handles a) = option_map (λ a. cause.Block 0 a) a
-store_cause (op.Read name handle) = Some (cause.Other 0)
 store_cause other = None
 
 abbrev pub storing : Waiting → Option Cause
 storing w = store_cause w.operation.op
 
--- whether it is of this address, or reads
+-- whether it is of this address
 abbrev pub stores : Cause → Waiting → Bool
 stores c w = option_map_or (λ d. is_same d c) (storing w) false
 

@@ -1,4 +1,5 @@
 pub mod Anew
+pub mod Apart
 pub mod Asking
 pub mod Calls
 pub mod Changing
@@ -15,6 +16,7 @@ pub mod Looking
 pub mod Opening
 pub mod Operating
 pub mod Pending
+pub mod Placed
 pub mod Putting
 pub mod Records
 pub mod Renewing

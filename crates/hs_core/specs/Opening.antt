@@ -41,26 +41,23 @@ first_view m views shard = if has_good shard m then slice_index views shard + 1 
 abbrev pub first_views : Members → List ℕ → List ℕ
 first_views m views = map (first_view m views) (range_with_len 0 m.shape.shards)
 
+-- a core of these members with nothing in it
+abbrev pub empty_core : Limits → Members → ℕ → Core
+empty_core limits m moment =
+    record { limits = limits; members = m; catalogues = []; groups = []; viewed = []; tasks = []; rejoins = []; pool = empty_pool limits.pool; sessions = []; operations = []; journal = []; entries = []; refused = []; ended = None; moment = moment; last_line = 0; event_line = 0 }
+
+-- each peer has the status that its log gives it, and each shard its first view
+abbrev pub first_members : Shape → Taken → Members
+first_members shape taken = members_at shape (first_views (members_at shape taken.views taken.good) taken.views) taken.good
+
 -- nothing is under way
 abbrev pub new_core : Shape → Limits → Taken → ℕ → Core
-new_core shape limits taken moment = record {
-  limits = limits;
-  members = members_at shape (first_views (members_at shape taken.views taken.good) taken.views) taken.good;
+new_core shape limits taken moment = record (empty_core limits (first_members shape taken) moment) {
   catalogues = taken.catalogues;
   groups = map (taken_group shape taken) (range_with_len 0 shape.shards);
   viewed = replicate shape.shards false;
   tasks = replicate (shape.shards * shape.copies) [];
   rejoins = replicate (shape.shards * shape.copies) None;
-  pool = empty_pool limits.pool;
-  sessions = [];
-  operations = [];
-  journal = [];
-  entries = [];
-  refused = [];
-  ended = None;
-  moment = moment;
-  last_line = 0;
-  event_line = 0;
 }
 
 -- each shard with a good peer begins its first view

@@ -5,6 +5,7 @@ use Rattle.hs_core.specs.Looking.{catalogue_of}
 use Rattle.hs_core.specs.Pending.{has_room, is_pending}
 use Rattle.hs_core.specs.State.{Core}
 use Rattle.hs_limits.specs.declared.address.Address.{Address}
+use Rattle.hs_limits.specs.declared.limits.Limits.{Limits}
 use Rattle.hs_model.specs.declared.op.Op.{Op}
 use Rattle.hs_ops.specs.Speaking.{wanted_address}
 use Rattle.hs_ops.specs.Views.{OpView}
@@ -20,21 +21,23 @@ facts_for shard o core = option_and_then (λ a. facts_at a (catalogue_of shard c
 abbrev pub pointers_for : ℕ → Op → Core → List Address
 pointers_for shard o core = option_map_or (λ facts. facts.pointers) (facts_for shard o core) []
 
+-- a view with nothing in it
+abbrev pub empty_view : Limits → ℕ → OpView
+empty_view limits shard =
+    record { limits = limits; seats = []; roots = []; retained = 0; blocks = 0; epochs = []; swept = []; shard = shard; present = None; pointers = 0; room = false; pending = false; viewed = false; busy = None }
+
 -- an operation that this shard judges sees what has taken effect
 abbrev pub view_for : ℕ → Op → Core → OpView
-view_for shard o core = record {
-  limits = core.limits;
+view_for shard o core = record (empty_view core.limits shard) {
   seats = core.sessions;
   roots = (catalogue_of shard core).roots;
   retained = sum_by (λ c. retained_count c.roots) core.catalogues;
   blocks = sum_by (λ c. length c.blocks) core.catalogues;
   epochs = map (λ c. c.epoch) core.catalogues;
   swept = map (λ c. c.swept) core.catalogues;
-  shard = shard;
   present = option_map (λ facts. facts.number) (facts_for shard o core);
   pointers = length (pointers_for shard o core);
   room = has_room shard o 0 0 core;
   pending = is_pending shard o core;
   viewed = slice_index_or core.viewed shard false;
-  busy = None;
 }

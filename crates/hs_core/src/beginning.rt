@@ -2,20 +2,22 @@
 ghost use Rattle.std.specs.Prelude.{◌≡◌, OnOk, IfOk};
 ghost use Rattle.hs_core.specs.declared.next.Next.TheVariants as next;
 ghost use Rattle.hs_core.specs.Changing.{add_operation};
-ghost use Rattle.hs_core.specs.Going.{gains_by, given_by, step_by};
+ghost use Rattle.hs_core.specs.Going.{answer_new, carry_by, compare_new, gains_by, given_by, step_by};
 ghost use Rattle.hs_core.specs.Keeping.{Kept};
 ghost use Rattle.hs_core.specs.Operating.{begin_line};
 ghost use Rattle.hs_members.specs.Members.{IsShard};
 ghost use Rattle.hs_ops.specs.Operations.{after_step};
-ghost use Rattle.hs_ops.specs.Speaking.{judging_shard};
 
 use crate::aim::Aim;
+use crate::apart::newest_put;
 use crate::going::{Judged, judge};
 use crate::next::Next;
 use crate::no_memory::NoMemory;
 use crate::{Core, Wait, Waiting};
-use hs_model::Op;
-use hs_ops::Operation;
+use hs_limits::{Held, ListOf};
+use hs_model::{Op, Reply};
+use hs_ops::{OpStep, Operation};
+use hs_tokens::SessionsView;
 
 impl Core {
     /// The operation of a line is begun: it is answered at once, or it waits for a job, an entry or a
@@ -27,26 +29,14 @@ impl Core {
         self.set_line(line);
         let busy = self.busy_line(&op)?;
         let mut operation = Operation::begin(self.alloc, line, op)?;
-        let shard = self.judging_shard(&operation);
-        let aim = self.aim_of(shard, &operation);
+        let aim = self.first_aim(&operation);
         let judged = self.judge_first(&mut operation, aim, busy)?;
-        let wait = Wait::View;
         let waiting = Waiting {
             operation,
-            shard,
-            wait,
+            shard: aim.shard,
+            wait: Wait::View,
         };
-        self.add_operation(line, waiting)?;
-        self.carry_out(line, aim, judged)
-    }
-
-    /// The shard that judges an operation, which is one of the store's. It takes no memory.
-    fn judging_shard(&self, operation: &Operation) -> u8
-        ensures value { result ≡ judging_shard self.now.members.shape.shards self.now.sessions
-            operation.now.op }
-        ensures shard { IsShard self.now.members.shape result }
-    {
-        operation.shard(&self.sessions, self.shape())
+        self.take_first(line, aim, waiting, judged)
     }
 
     /// A line is the last one. It takes no memory.
@@ -74,7 +64,8 @@ impl Core {
     {
         let sight = self.sight(aim)?;
         let roots = self.catalogue(aim.shard).roots();
-        let view = sight.view(aim, busy, self.limits, &self.sessions, roots);
+        let sessions = SessionsView::new(&self.sessions, operation.session());
+        let view = sight.view(aim, busy, self.limits, sessions, roots);
         judge(
             self.alloc,
             operation,
@@ -84,11 +75,89 @@ impl Core {
         )
     }
 
+    /// A new operation is judged by its first step: it is answered at once, and then it is not kept, or
+    /// it is without an answer.
+    fn take_first(
+        &mut self,
+        line: u64,
+        aim: Aim,
+        waiting: Waiting,
+        judged: Judged,
+    ) -> Result<(), NoMemory>
+        requires aim { IsShard self.old.members.shape aim.shard }
+        requires waiting { IsShard self.old.members.shape waiting.shard }
+        ensures ok { OnOk result (self.new
+            ≡ carry_by aim line judged.step judged.helds (add_operation line waiting self.old)) }
+        ensures kept { Kept self.old self.new }
+    {
+        let Judged { step, helds } = judged;
+        match step {
+            OpStep::Answer(reply) => self.answer_first(line, waiting, reply, helds),
+            OpStep::Compare { number } => self.compare_first(line, aim.shard, waiting, number),
+            step => {
+                self.add_operation(line, waiting)?;
+                self.carry_out(line, aim, Judged { step, helds })
+            }
+        }
+    }
+
+    /// A new operation is answered, where its reply gives these to hold.
+    #[tactic(auto, using(crate::proofs::FirstLemmas::told_first))]
+    fn answer_first(
+        &mut self,
+        line: u64,
+        waiting: Waiting,
+        reply: Reply,
+        helds: ListOf<Held>,
+    ) -> Result<(), NoMemory>
+        requires { IsShard self.old.members.shape waiting.shard }
+        ensures ok { OnOk result (self.new ≡ answer_new line reply helds waiting self.old) }
+        ensures kept { Kept self.old self.new }
+    {
+        if self.is_awaited(line) {
+            self.add_operation(line, waiting)?;
+            return self.answer(line, reply, helds);
+        }
+        self.tell_answer(line, waiting, reply, helds)
+    }
+
+    /// A new operation wants the bytes of an entry, which the lead is to read.
+    #[tactic(auto, using(crate::proofs::FirstLemmas::compared_first))]
+    fn compare_first(
+        &mut self,
+        line: u64,
+        shard: u8,
+        waiting: Waiting,
+        number: u64,
+    ) -> Result<(), NoMemory>
+        requires shard { IsShard self.old.members.shape shard }
+        requires waiting { IsShard self.old.members.shape waiting.shard }
+        ensures ok { OnOk result (self.new ≡ compare_new shard line number waiting self.old) }
+        ensures kept { Kept self.old self.new }
+    {
+        let wait = Wait::Bytes { number };
+        let Waiting {
+            operation,
+            shard: judge,
+            ..
+        } = waiting;
+        let waiting = Waiting {
+            operation,
+            shard: judge,
+            wait,
+        };
+        self.add_operation(line, waiting)?;
+        self.read_for(line, shard, number)
+    }
+
     /// An operation more is without an answer.
     fn add_operation(&mut self, line: u64, waiting: Waiting) -> Result<(), NoMemory>
+        requires { IsShard self.old.members.shape waiting.shard }
         ensures ok { OnOk result (self.new ≡ add_operation line waiting self.old) }
         ensures kept { Kept self.old self.new }
     {
+        let newest = newest_put(self.newest, line);
+        self.newest = newest;
         self.operations.put(line, waiting)
     }
 }

@@ -1,7 +1,8 @@
 //! What the step of an operation asks for is done.
-ghost use Rattle.std.specs.Prelude.{◌≡◌, ◌+◌, IfSome, OnOk};
+ghost use Rattle.std.specs.Prelude.{◌≡◌, ◌+◌, IfNone, IfOk, IfSome, OnOk};
 ghost use Rattle.hs_core.specs.declared.wait.Wait.TheVariants as wait;
-ghost use Rattle.hs_core.specs.Going.{answer_with, carry_by, set_wait};
+ghost use Rattle.hs_core.specs.Changing.{end_operation};
+ghost use Rattle.hs_core.specs.Going.{answer_with, carry_by, set_wait, told_with};
 ghost use Rattle.hs_core.specs.Keeping.{Kept};
 ghost use Rattle.hs_core.specs.Looking.{group_of, lead_of, operation_of};
 ghost use Rattle.hs_core.specs.Operating.{add_read, propose_entry};
@@ -13,7 +14,7 @@ use crate::aim::Aim;
 use crate::going::Judged;
 use crate::no_memory::NoMemory;
 use crate::seating::seat;
-use crate::{Core, Task, Wait};
+use crate::{Core, Task, Wait, Waiting};
 use hs_desk::Job;
 use hs_entry::Entry;
 use hs_journal::Who;
@@ -43,17 +44,47 @@ impl Core {
 
     /// An operation is answered, where its reply gives these to hold: it is over, the journal tells
     /// it, and its session changes as the reply says.
-    fn answer(&mut self, line: u64, reply: Reply, helds: ListOf<Held>) -> Result<(), NoMemory>
+    pub(crate) fn answer(
+        &mut self,
+        line: u64,
+        reply: Reply,
+        helds: ListOf<Held>,
+    ) -> Result<(), NoMemory>
         ensures ok { OnOk result (self.new
             ≡ (self.old ▸ change_with (operation_of line self.old) (answer_with line reply helds))) }
         ensures kept { Kept self.old self.new }
     {
-        let Some(waiting) = self.operations.end(line)? else {
+        let Some(waiting) = self.end_operation(line)? else {
             return Ok(());
         };
+        self.tell_answer(line, waiting, reply, helds)
+    }
+
+    /// The journal tells the answer of an operation that is not kept any more, and its session changes
+    /// as the reply says.
+    pub(crate) fn tell_answer(
+        &mut self,
+        line: u64,
+        waiting: Waiting,
+        reply: Reply,
+        helds: ListOf<Held>,
+    ) -> Result<(), NoMemory>
+        ensures ok { OnOk result (self.new ≡ told_with line reply helds waiting self.old) }
+        ensures kept { Kept self.old self.new }
+    {
         let deed = waiting.operation.into_deed(&self.sessions, &reply)?;
         seat(&mut self.sessions, &deed, helds.as_slice())?;
         self.note(Who::Line(line), deed, reply)
+    }
+
+    /// The operation of a line is over. None exactly where there is none.
+    fn end_operation(&mut self, line: u64) -> Result<Option<Waiting>, NoMemory>
+        ensures value { IfOk result (λ waiting. waiting ≡ operation_of line self.old) }
+        ensures ok { OnOk result (self.new ≡ end_operation line self.old) }
+        ensures same { IfOk result (λ waiting. IfNone waiting (self.new ≡ self.old)) }
+        ensures kept { Kept self.old self.new }
+    {
+        self.operations.end(line)
     }
 
     /// An operation proposes its entry, and waits for it.
@@ -81,6 +112,20 @@ impl Core {
         let lead = self.lead(shard);
         self.set_wait(line, Wait::Bytes { number })?;
         if let Some(peer) = lead {
+            let job = Job::Read { number };
+            self.add_task(peer, Task { job, line })?;
+        }
+        Ok(())
+    }
+
+    /// The lead of a shard is to read an entry for the operation of a line.
+    pub(crate) fn read_for(&mut self, line: u64, shard: u8, number: u64) -> Result<(), NoMemory>
+        requires { IsShard self.old.members.shape shard }
+        ensures ok { OnOk result (self.new
+            ≡ change_with (lead_of shard self.old) (add_read number line) self.old) }
+        ensures kept { Kept self.old self.new }
+    {
+        if let Some(peer) = self.lead(shard) {
             let job = Job::Read { number };
             self.add_task(peer, Task { job, line })?;
         }

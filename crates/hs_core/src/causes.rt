@@ -67,7 +67,7 @@ pub(crate) fn storing(waiting: &Waiting) -> Option<Cause>
     store_cause(waiting.operation.op())
 }
 
-/// That of the address that a write names itself; where it reads it may be of any address.
+/// That of the address that a write names itself.
 fn store_cause(op: &Op) -> Option<Cause>
     ensures { result ≡ store_cause op.now }
 {
@@ -80,9 +80,9 @@ fn store_cause(op: &Op) -> Option<Cause>
             address: *address,
         }),
         Op::Write { address: None, .. } => None,
-        Op::Read { .. } => Some(Cause::Other { shard: 0 }),
         Op::Open { .. }
         | Op::Close { .. }
+        | Op::Read { .. }
         | Op::Look { .. }
         | Op::Root { .. }
         | Op::Drop { .. }

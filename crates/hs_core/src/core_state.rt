@@ -39,6 +39,9 @@ pub struct Core {
     pub(crate) pool: Pool,
     pub(crate) sessions: Sessions,
     pub(crate) operations: Operations,
+    /// The line of the last operation, as long as each Block that waits is of a line up to it and of
+    /// no operation that reads. None where that is not known.
+    pub(crate) newest: Option<u64>,
     pub(crate) journal: Journal,
     pub(crate) entries: Vec<JournalEntry>,
     pub(crate) refused: Vec<JournalEntry>,
@@ -51,7 +54,9 @@ pub struct Core {
 
 impl Model for Core {
     ghost use Rattle.std.specs.Prelude.{◌≡◌};
+    ghost use Rattle.hs_core.specs.Apart.{AreApart};
     ghost use Rattle.hs_core.specs.Keeping.{AreFronts, AreSteps, IsCore};
+    ghost use Rattle.hs_core.specs.Placed.{AreWithin};
     ghost use Rattle.hs_core.specs.State.{Core};
 
     ghost Value = { Core };
@@ -82,6 +87,8 @@ impl Model for Core {
       steps : AreSteps (view a) a.steps.items;
       sessions : a.sessions.limits ≡ a.limits;
       journal : a.journal.limit ≡ a.limits.ops;
+      placed : AreWithin a.members.shape.shards a.operations;
+      apart : AreApart a.newest a.operations a.groups.items;
     } };
 }
 

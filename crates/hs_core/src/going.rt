@@ -16,10 +16,12 @@ ghost use Rattle.hs_ops.specs.Operations.{after_step};
 use crate::aim::Aim;
 use crate::next::Next;
 use crate::no_memory::NoMemory;
+use crate::operations::Operations;
 use crate::{Core, Waiting};
 use hs_desk::What;
 use hs_limits::{Address, Held, ListOf};
 use hs_ops::{OpFault, OpStep, OpView, Operation};
+use hs_tokens::{Sessions, SessionsView};
 use std::alloc::Global;
 use std::collections::BTreeMap;
 
@@ -61,10 +63,6 @@ impl Core {
         let Some(aim) = self.aim_at(line) else {
             return Ok(());
         };
-        // Each operation is judged by a shard of the store.
-        if aim.shard >= self.shape().shards {
-            return Err(NoMemory);
-        }
         let judged = self.judge_at(line, aim, how)?;
         self.carry_out(line, aim, judged)
     }
@@ -86,9 +84,20 @@ impl Core {
     {
         let sight = self.sight(aim)?;
         let roots = self.catalogues[usize::from(aim.shard)].roots();
-        let view = sight.view(aim, None, self.limits, &self.sessions, roots);
+        let sessions = sessions_for(&self.sessions, &self.operations, line);
+        let view = sight.view(aim, None, self.limits, sessions, roots);
         let pointers = sight.pointers.as_slice();
         self.operations.judge(line, &view, pointers, how)
+    }
+}
+
+/// The open sessions, with that of a line's operation at hand. It takes no memory.
+fn sessions_for<'a>(sessions: &'a Sessions, operations: &Operations, line: u64) -> SessionsView<'a>
+    ensures { result ≡ sessions.now.seats }
+{
+    match operations.get(line) {
+        Some(waiting) => SessionsView::new(sessions, waiting.operation.session()),
+        None => SessionsView::new(sessions, None),
     }
 }
 

@@ -2,6 +2,7 @@
 #![tactic(auto)]
 
 mod aim;
+mod apart;
 mod asking;
 mod beginning;
 mod carrying;
@@ -16,6 +17,7 @@ mod event;
 mod failing;
 mod going;
 mod joining;
+mod keys;
 mod leads;
 mod lines;
 mod lists;

@@ -1,6 +1,6 @@
 //! By what an operation goes on.
 use hs_desk::What;
-use hs_limits::ListOf;
+use hs_entry::SharedBytes;
 
 /// By what an operation goes on.
 #[derive(Drop)]
@@ -8,7 +8,7 @@ pub(crate) enum Next {
     /// Its first step, or the step of one that goes on again.
     Go,
     /// The bytes that it wanted were reported, None where they are gone.
-    Bytes { bytes: Option<ListOf<u8>> },
+    Bytes { bytes: Option<SharedBytes> },
     /// Its entry did this.
     Effect { did: What },
 }

@@ -8,6 +8,7 @@ ghost use Rattle.hs_limits.specs.Shape.{IsShape};
 ghost use Rattle.hs_members.specs.Members.{is_joining, status};
 
 use crate::Core;
+use crate::apart::newest_at_first;
 use crate::lists::Lists;
 use crate::new_core::{no_rejoins, no_steps};
 use crate::new_lists::new_lists;
@@ -96,7 +97,6 @@ fn open_lists(
 }
 
 /// A core with these lists, in which nothing else is under way.
-#[tactic(auto, using(crate::proofs::OpenLemmas::kept_of_all, crate::proofs::OpenLemmas::fronts_of_all, crate::proofs::OpenLemmas::no_steps_kept))]
 fn core_of(
     alloc: Global,
     limits: Limits,
@@ -115,6 +115,7 @@ fn core_of(
     let peers = shape.shards * shape.copies;
     let rejoins = no_rejoins(alloc, peers)?;
     let steps = no_steps(alloc, peers)?;
+    let newest = newest_at_first(lists.groups.as_slice());
     let Lists {
         members,
         groups,
@@ -136,6 +137,7 @@ fn core_of(
         pool,
         sessions: Sessions::new(alloc, limits),
         operations: Operations::new(alloc),
+        newest,
         journal: Journal::new(alloc, limits.ops),
         entries: Vec::new(alloc),
         refused: Vec::new(alloc),

@@ -1,5 +1,5 @@
 //! The operations without an answer.
-ghost use Rattle.std.specs.Prelude.{◌≡◌, ◌==◌, [], Some, find, length, map, IfNone, IfOk, OnOk};
+ghost use Rattle.std.specs.Prelude.{◌≡◌, ◌==◌, [], Some, None, find, length, map, IfNone, IfOk, OnErr, OnOk};
 ghost use Rattle.std.specs.BTreeMap.{insert_entry, is_at};
 ghost use Rattle.std.specs.List.Sorted.{IsStrictlySortedBy};
 ghost use Rattle.std.specs.Map.{keys_of, remove_entry};
@@ -9,6 +9,7 @@ ghost use Rattle.hs_core.specs.declared.waiting.Waiting.{Waiting};
 ghost use Rattle.hs_core.specs.Going.{given_by, judge_in, next_step};
 ghost use Rattle.hs_core.specs.Indexing.{found_in, passes, stores, wait_in, waits_for};
 ghost use Rattle.hs_core.specs.Operating.{is_of};
+ghost use Rattle.hs_core.specs.Putting.{IsPutAt};
 ghost use Rattle.hs_core.specs.Views.{restarted};
 ghost use Rattle.hs_ops.specs.Answers.{gained};
 ghost use Rattle.hs_waits.specs.Lines.{IsFirstFrom};
@@ -67,12 +68,14 @@ impl Operations {
     pub(crate) fn get(&self, line: u64) -> Option<&Waiting>
         ensures { option_copied result ≡ found_in self.now line }
     {
-        self.table.map.get(&line)
+        self.table.get(line)
     }
 
     /// An operation is put at its line.
     pub(crate) fn put(&mut self, line: u64, waiting: Waiting) -> Result<(), NoMemory>
-        ensures { OnOk result (self.new ≡ insert_entry nat_cmp self.old line waiting) }
+        ensures ok { OnOk result (self.new ≡ insert_entry nat_cmp self.old line waiting) }
+        ensures others { OnOk result (IsPutAt line (Some waiting) self.old self.new) }
+        ensures none { OnErr result (self.new ≡ []) }
     {
         let done = self.table.put(line, waiting);
         if done.is_err() {
@@ -85,7 +88,9 @@ impl Operations {
     pub(crate) fn end(&mut self, line: u64) -> Result<Option<Waiting>, NoMemory>
         ensures value { IfOk result (λ waiting. waiting ≡ found_in self.old line) }
         ensures rest { OnOk result (self.new ≡ remove_entry (is_at (nat_cmp line)) self.old) }
+        ensures others { OnOk result (IsPutAt line None self.old self.new) }
         ensures same { IfOk result (λ waiting. IfNone waiting (self.new ≡ self.old)) }
+        ensures none { OnErr result (self.new ≡ []) }
     {
         let done = self.table.end(line);
         if done.is_err() {
@@ -96,7 +101,8 @@ impl Operations {
 
     /// The operation of a line waits.
     pub(crate) fn set_wait(&mut self, line: u64, what: Wait) -> Result<(), NoMemory>
-        ensures { OnOk result (self.new ≡ wait_in line what self.old) }
+        ensures ok { OnOk result (self.new ≡ wait_in line what self.old) }
+        ensures none { OnErr result (self.new ≡ []) }
     {
         let done = self.table.set_wait(line, what);
         if done.is_err() {
@@ -121,6 +127,7 @@ impl Operations {
         ensures helds { (w : Waiting) → found_in self.old line ≡ Some w → IfOk result
             (λ judged. judged.helds
             ≡ given_by judged.step (gained view.now pointers.now w.operation.op)) }
+        ensures none { OnErr result (self.new ≡ []) }
     {
         let judged = self.table.judge(line, view, pointers, how);
         if judged.is_err() {
@@ -132,8 +139,9 @@ impl Operations {
     /// The operations of a shard start again, but for one whose entry still stands in the lead's list,
     /// of which this is the last number.
     pub(crate) fn restart(&mut self, shard: u8, last: u64) -> Result<(), NoMemory>
-        ensures { OnOk result (self.new
+        ensures ok { OnOk result (self.new
             ≡ map (λ e. (e.0, restarted shard last e.1)) self.old) }
+        ensures none { OnErr result (self.new ≡ []) }
     {
         let done = self.table.restart(shard, last);
         if done.is_err() {

@@ -107,8 +107,8 @@ impl Core {
 
     // ---- what is coming
 
-    /// Whether a Block of this address has not taken effect. Only where a Block stands by the line of
-    /// an operation that reads are the entries walked over: no operation comes there.
+    /// Whether a Block of this address has not taken effect. Only where it is not known that no Block is
+    /// of an operation that reads are the entries walked over.
     fn is_coming(&self, shard: u8, address: Option<Address>) -> bool
         requires { IsShard self.now.members.shape shard }
         ensures { result ≡ is_coming shard address self.now }
@@ -116,8 +116,7 @@ impl Core {
         let Some(address) = address else {
             return false;
         };
-        let read = self.met(shard, Cause::Other { shard: 0 });
-        if read.is_some() {
+        if self.newest.is_none() {
             return self.any_stores(self.group(shard).waiting(), &address);
         }
         let write = self.met(shard, Cause::Block { shard: 0, address });

@@ -67,9 +67,7 @@ impl Core {
         match done {
             Done::Stored { .. } | Done::Stepped { .. } => Ok(()),
             Done::Sealed { number } => self.take_sealed(peer, number),
-            Done::Bytes { number, bytes } => {
-                self.tell_bytes(line, number, Some(bytes.into_vec()))
-            }
+            Done::Bytes { number, bytes } => self.tell_bytes(line, number, Some(bytes)),
             Done::Gone { number } => self.tell_bytes(line, number, None),
             Done::Emptied => self.take_emptied(peer),
             Done::Copied { number } => self.take_copied(peer, number),

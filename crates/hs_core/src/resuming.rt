@@ -1,6 +1,5 @@
 //! Operations that waited go on.
 ghost use Rattle.std.specs.Prelude.{◌≡◌, OnOk};
-ghost use Rattle.std.specs.Option.{option_map};
 ghost use Rattle.hs_core.specs.Effects.{is_for_view, wakes};
 ghost use Rattle.hs_core.specs.Keeping.{Kept};
 ghost use Rattle.hs_core.specs.Operating.{resume, resume_where};
@@ -10,8 +9,8 @@ ghost use Rattle.hs_core.specs.Words.{each};
 use crate::Core;
 use crate::next::Next;
 use crate::no_memory::NoMemory;
-use hs_entry::Entry;
-use hs_limits::{Address, ListOf};
+use hs_entry::{Entry, SharedBytes};
+use hs_limits::Address;
 
 impl Core {
     /// What waited for the View of a shard's view goes on, by line.
@@ -56,19 +55,15 @@ impl Core {
         &mut self,
         line: u64,
         number: u64,
-        bytes: Option<Vec<u8>>,
+        bytes: Option<SharedBytes>,
     ) -> Result<(), NoMemory>
         ensures ok { OnOk result (self.new
-            ≡ tell_bytes line number (option_map (λ told. told.items) bytes) self.old) }
+            ≡ tell_bytes line number bytes self.old) }
         ensures kept { Kept self.old self.new }
     {
         if !self.is_reading(line, number) {
             return Ok(());
         }
-        let bytes = match bytes {
-            Some(bytes) => Some(ListOf::from_vec(bytes)),
-            None => None,
-        };
         self.go_by(line, &Next::Bytes { bytes })
     }
 }

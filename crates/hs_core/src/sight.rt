@@ -12,7 +12,7 @@ use hs_limits::{Address, Limits, ListOf};
 use hs_ops::OpView;
 use hs_roots::RootSet;
 use hs_shard::Catalogue;
-use hs_tokens::Sessions;
+use hs_tokens::SessionsView;
 use std::alloc::{AllocError, Global};
 
 /// What an operation sees, beside the sessions and the roots: the retained roots and the blocks of
@@ -39,10 +39,10 @@ impl Sight {
         aim: Aim,
         busy: Option<u64>,
         limits: Limits,
-        sessions: &'a Sessions,
+        sessions: SessionsView<'a>,
         roots: &'a RootSet,
     ) -> OpView<'a>
-        ensures { result ≡ view_of self.now aim busy limits sessions.now.seats roots.now.roots }
+        ensures { result ≡ view_of self.now aim busy limits sessions.entry roots.now.roots }
     {
         let roots = Some(roots);
         OpView {

@@ -1,22 +1,21 @@
 //! The operations without an answer, with their lines by session and by what they wait for.
-ghost use Rattle.std.specs.Prelude.{◌≡◌, ◌==◌, ℕ, List, [], Some, None, IfNone, IfOk, OnOk, map};
+ghost use Rattle.std.specs.Prelude.{◌≡◌, ◌==◌, ℕ, List, [], Option, Some, None, IfNone, IfOk, OnOk, map};
 ghost use Rattle.std.specs.List.Sorted.{IsStrictlySortedBy};
 ghost use Rattle.std.specs.BTreeMap.{insert_entry, is_at};
-ghost use Rattle.std.specs.Map.{keys_of, lookup, remove_entry};
-ghost use Rattle.std.specs.Option.{option_and_then};
+ghost use Rattle.std.specs.Map.{keys_of, remove_entry};
+ghost use Rattle.std.specs.Option.{option_copied};
 ghost use Rattle.std.specs.Ordering.{nat_cmp};
 ghost use Rattle.hs_core.specs.declared.waiting.Waiting.{Waiting};
 ghost use Rattle.hs_core.specs.Going.{given_by, judge_in, next_step};
-ghost use Rattle.hs_core.specs.Indexing.{AreSharded, AreStored, IsIndexed, again_in, cause_of, found_in, passes, session_in, shard_in, storing, wait_cause, wait_in};
-ghost use Rattle.hs_core.specs.Putting.{IsIndexedIn, IsPutAt};
+ghost use Rattle.hs_core.specs.Indexing.{IsIndexed, again_in, found_in, passes, wait_in};
+ghost use Rattle.hs_core.specs.Putting.{IsIndexedIn, IsPutAt, keys_in};
 ghost use Rattle.hs_core.specs.Views.{restarted};
 ghost use Rattle.hs_ops.specs.Answers.{gained};
-ghost use Rattle.hs_tokens.specs.Seats.{name_cmp};
-ghost use Rattle.hs_waits.specs.Causes.{AreWaits};
-ghost use Rattle.hs_waits.specs.Lines.{AreKept, IsFirstFrom, changed};
+ghost use Rattle.hs_waits.specs.Lines.{IsFirstFrom};
 
-use crate::causes::{cause_of, session_in, storing, wait_cause};
+use crate::causes::{cause_of, wait_cause};
 use crate::going::{Judged, judge_in};
+use crate::keys::{Keys, keys_in, keys_of, no_keys};
 use crate::lines::next_line;
 use crate::next::Next;
 use crate::no_memory::NoMemory;
@@ -24,7 +23,7 @@ use crate::views::is_within;
 use crate::{Wait, Waiting};
 use hs_limits::{Address, Name};
 use hs_ops::OpView;
-use hs_waits::{Cause, Lines, Waits};
+use hs_waits::{Lines, Waits};
 use std::alloc::Global;
 use std::collections::BTreeMap;
 
@@ -56,30 +55,36 @@ impl Table {
         }
     }
 
+    /// The operation of a line. None exactly where there is none. The newest line is asked for most,
+    /// so it is found without a search. It takes no memory.
+    #[tactic(auto, using(crate::proofs::IndexLemmas::none_above))]
+    pub(crate) fn get(&self, line: u64) -> Option<&Waiting>
+        ensures { option_copied result ≡ found_in self.now.map.entries line }
+    {
+        if let Some((newest, waiting)) = self.map.last_key_value() {
+            if *newest < line {
+                return None;
+            }
+            if *newest == line {
+                return Some(waiting);
+            }
+        }
+        self.map.get(&line)
+    }
+
     /// An operation is put at its line.
     pub(crate) fn put(&mut self, line: u64, waiting: Waiting) -> Result<(), NoMemory>
         requires { IsIndexed self.old }
         ensures map { OnOk result
             (self.new.map.entries ≡ insert_entry nat_cmp self.old.map.entries line waiting) }
+        ensures others { OnOk result
+            (IsPutAt line (Some waiting) self.old.map.entries self.new.map.entries) }
         ensures index { OnOk result (IsIndexed self.new) }
     {
-        self.move_lines(line, &waiting)?;
-        self.map.insert(line, waiting)?;
-        Ok(())
-    }
-
-    /// The line of an operation stands by this one.
-    fn move_lines(&mut self, line: u64, waiting: &Waiting) -> Result<(), NoMemory>
-        requires { IsIndexed self.old }
-        ensures map { self.new.map ≡ self.old.map }
-        ensures index { (es : List (ℕ × Waiting)) →
-            IsPutAt line (Some waiting.now) self.old.map.entries es → OnOk result (IsIndexedIn es self.new) }
-    {
-        let name = session_in(self.alloc, waiting)?;
-        self.move_session(line, name)?;
-        self.move_wait(line, cause_of(waiting))?;
-        self.move_stored(line, storing(waiting))?;
-        self.move_shard(line, Some(waiting.shard))?;
+        let keys = keys_of(self.alloc, &waiting)?;
+        let before = self.map.insert(line, waiting)?;
+        let old = keys_in(self.alloc, &before)?;
+        self.move_line(line, old, keys)?;
         Ok(())
     }
 
@@ -89,15 +94,15 @@ impl Table {
         ensures value { IfOk result (λ waiting. waiting ≡ found_in self.old.map.entries line) }
         ensures map { OnOk result (self.new.map.entries
             ≡ remove_entry (is_at (nat_cmp line)) self.old.map.entries) }
+        ensures others { OnOk result (IsPutAt line None self.old.map.entries self.new.map.entries) }
         ensures index { OnOk result (IsIndexed self.new) }
         ensures same { IfOk result
             (λ waiting. IfNone waiting (self.new.map.entries ≡ self.old.map.entries)) }
     {
-        self.move_session(line, None)?;
-        self.move_wait(line, None)?;
-        self.move_stored(line, None)?;
-        self.move_shard(line, None)?;
-        Ok(self.map.remove(&line))
+        let waiting = self.map.remove(&line);
+        let old = keys_in(self.alloc, &waiting)?;
+        self.move_line(line, old, no_keys())?;
+        Ok(waiting)
     }
 
     /// The operation of a line waits.
@@ -106,11 +111,12 @@ impl Table {
         ensures map { OnOk result (self.new.map.entries ≡ wait_in line what self.old.map.entries) }
         ensures index { OnOk result (IsIndexed self.new) }
     {
-        let Some(waiting) = self.map.get(&line) else {
+        let Some(waiting) = self.get(line) else {
             return Ok(());
         };
+        let old = cause_of(waiting);
         let cause = wait_cause(waiting.shard, waiting.operation.op(), what);
-        self.move_wait(line, cause)?;
+        self.waits.change(line, old, cause)?;
         set_wait(&mut self.map, line, what);
         Ok(())
     }
@@ -182,108 +188,18 @@ impl Table {
         self.set_wait(line, Wait::View)
     }
 
-    /// The line of an operation stands by the session of another, or by none.
-    fn move_session(&mut self, line: u64, new: Option<Name>) -> Result<(), NoMemory>
+    /// A line that stood by some keys stands by others.
+    fn move_line(&mut self, line: u64, from: Keys, to: Keys) -> Result<(), NoMemory>
         ensures map { self.new.map ≡ self.old.map }
-        ensures waits { self.new.waits ≡ self.old.waits }
-        ensures stored { self.new.stored ≡ self.old.stored }
-        ensures shards { self.new.shards ≡ self.old.shards }
-        ensures ok { AreKept name_cmp (λ n. option_and_then session_in (found_in self.old.map.entries n))
-            self.old.sessions
-            → OnOk result (AreKept name_cmp
-            (changed line new
-            (λ n. option_and_then session_in (found_in self.old.map.entries n)))
-            self.new.sessions) }
+        ensures index { (before after : List (ℕ × Waiting)) (put : Option Waiting)
+            → IsIndexedIn before self.old → from ≡ keys_in (found_in before line) → to ≡ keys_in put
+            → IsPutAt line put before after → OnOk result (IsIndexedIn after self.new) }
     {
-        let old = self.session_at(line)?;
-        self.sessions.change(line, old, new)?;
+        self.sessions.change(line, from.session, to.session)?;
+        self.waits.change(line, from.cause, to.cause)?;
+        self.stored.change(line, from.stored, to.stored)?;
+        self.shards.change(line, from.shard, to.shard)?;
         Ok(())
-    }
-
-    /// The line of an operation stands by another cause, or by none.
-    fn move_wait(&mut self, line: u64, new: Option<Cause>) -> Result<(), NoMemory>
-        ensures map { self.new.map ≡ self.old.map }
-        ensures sessions { self.new.sessions ≡ self.old.sessions }
-        ensures stored { self.new.stored ≡ self.old.stored }
-        ensures shards { self.new.shards ≡ self.old.shards }
-        ensures ok { AreWaits (λ n. option_and_then cause_of (found_in self.old.map.entries n)) self.old.waits
-            → OnOk result (AreWaits (changed line new
-            (λ n. option_and_then cause_of (found_in self.old.map.entries n))) self.new.waits) }
-    {
-        let old = self.cause_at(line);
-        self.waits.change(line, old, new)?;
-        Ok(())
-    }
-
-    /// The line of an operation stands by what its Block stores, or by nothing.
-    fn move_stored(&mut self, line: u64, new: Option<Cause>) -> Result<(), NoMemory>
-        ensures map { self.new.map ≡ self.old.map }
-        ensures sessions { self.new.sessions ≡ self.old.sessions }
-        ensures waits { self.new.waits ≡ self.old.waits }
-        ensures shards { self.new.shards ≡ self.old.shards }
-        ensures ok { AreStored (found_in self.old.map.entries) self.old.stored
-            → OnOk result (AreWaits (changed line new
-            (λ n. option_and_then storing (found_in self.old.map.entries n))) self.new.stored) }
-    {
-        let old = self.stored_at(line);
-        self.stored.change(line, old, new)?;
-        Ok(())
-    }
-
-    /// The line of an operation stands by another shard, or by none.
-    fn move_shard(&mut self, line: u64, new: Option<u8>) -> Result<(), NoMemory>
-        ensures map { self.new.map ≡ self.old.map }
-        ensures sessions { self.new.sessions ≡ self.old.sessions }
-        ensures waits { self.new.waits ≡ self.old.waits }
-        ensures stored { self.new.stored ≡ self.old.stored }
-        ensures ok { AreSharded (found_in self.old.map.entries) self.old.shards
-            → OnOk result (AreKept nat_cmp (changed line new
-            (λ n. option_and_then shard_in (found_in self.old.map.entries n))) self.new.shards) }
-    {
-        let old = self.shard_at(line);
-        self.shards.change(line, old, new)?;
-        Ok(())
-    }
-
-    /// The shard that judges a line's operation, if there is one. It takes no memory.
-    fn shard_at(&self, line: u64) -> Option<u8>
-        ensures { result ≡ option_and_then shard_in (found_in self.now.map.entries line) }
-    {
-        match self.map.get(&line) {
-            Some(waiting) => Some(waiting.shard),
-            None => None,
-        }
-    }
-
-    /// A copy of the name of the session of a line's operation, if there is one.
-    fn session_at(&self, line: u64) -> Result<Option<Name>, NoMemory>
-        ensures { IfOk result (λ name. name
-            ≡ option_and_then session_in (found_in self.now.map.entries line)) }
-    {
-        match self.map.get(&line) {
-            Some(waiting) => session_in(self.alloc, waiting),
-            None => Ok(None),
-        }
-    }
-
-    /// What may wake the operation of a line, if anything may. It takes no memory.
-    fn cause_at(&self, line: u64) -> Option<Cause>
-        ensures { result ≡ option_and_then cause_of (found_in self.now.map.entries line) }
-    {
-        match self.map.get(&line) {
-            Some(waiting) => cause_of(waiting),
-            None => None,
-        }
-    }
-
-    /// What a Block of a line stores, by its operation. It takes no memory.
-    fn stored_at(&self, line: u64) -> Option<Cause>
-        ensures { result ≡ option_and_then storing (found_in self.now.map.entries line) }
-    {
-        match self.map.get(&line) {
-            Some(waiting) => storing(waiting),
-            None => None,
-        }
     }
 }
 

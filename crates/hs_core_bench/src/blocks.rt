@@ -1,5 +1,6 @@
-//! Blocks, and names of sessions, by number.
-use hs_limits::{Address, ListOf, Name};
+//! Blocks, and names of sessions, by number; and a key.
+use hs_entry::SharedBytes;
+use hs_limits::{Address, Key, ListOf, Name};
 use std::alloc::{AllocError, Global};
 
 /// The four bytes of data of a block.
@@ -10,14 +11,15 @@ pub fn data(alloc: Global, block: u32) -> Result<ListOf<u8>, AllocError> {
 }
 
 /// The spelling of a block without pointers and with that data.
-pub fn spelling(alloc: Global, block: u32) -> Result<ListOf<u8>, AllocError> {
+pub fn spelling(alloc: Global, block: u32) -> Result<SharedBytes, AllocError> {
     let mut bytes = Vec::with_capacity(alloc, 11)?;
     bytes.extend_from_slice(&[1, 0, 0, 0, 0, 0, 4])?;
     bytes.extend_from_slice(&block.to_be_bytes())?;
-    Ok(ListOf::from_vec(bytes))
+    SharedBytes::from_vec(alloc, bytes)
 }
 
-/// Its address: the number, and zeros. No naming is measured.
+/// Its address: the number, zeros, and 1, so that it is of the shard in which nothing rests. No naming
+/// is measured.
 pub fn address_of(block: u32) -> Address {
     let mut address = [0; 32];
     let [a, b, c, d] = block.to_be_bytes();
@@ -25,6 +27,7 @@ pub fn address_of(block: u32) -> Address {
     address[1] = b;
     address[2] = c;
     address[3] = d;
+    address[31] = 1;
     Address(address)
 }
 
@@ -37,4 +40,11 @@ pub fn session(alloc: Global, number: u32) -> Result<Option<Name>, AllocError> {
         bytes.push(b'0' + digit as u8)?;
     }
     Ok(Name::from_list(ListOf::from_vec(bytes)))
+}
+
+/// A key of the shard in which operations rest, by its last byte.
+pub fn key(alloc: Global) -> Result<Option<Key>, AllocError> {
+    let mut bytes = Vec::with_capacity(alloc, 2)?;
+    bytes.extend_from_slice(b"r0")?;
+    Ok(Key::from_list(ListOf::from_vec(bytes)))
 }

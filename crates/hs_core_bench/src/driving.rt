@@ -4,10 +4,11 @@ use hs_core::{Core, Event};
 use hs_desk::{CoreFault, Done, Job};
 use std::alloc::{AllocError, Global};
 
-/// Turns of the first peer, and of the second where `both` is told, until there is none.
-pub fn drive(alloc: Global, core: &mut Core, both: bool) -> Result<(), CoreFault> {
+/// Turns of a peer, and of the next one where `both` is told, until there is none.
+pub fn drive(alloc: Global, core: &mut Core, peer: u8, both: bool) -> Result<(), CoreFault> {
+    let next = peer.saturating_add(1);
     for _turn in 0..u32::MAX {
-        if !turn(alloc, core, 0)? && !(both && turn(alloc, core, 1)?) {
+        if !turn(alloc, core, peer)? && !(both && turn(alloc, core, next)?) {
             break;
         }
     }
@@ -25,7 +26,7 @@ fn turn(alloc: Global, core: &mut Core, peer: u8) -> Result<bool, CoreFault> {
 /// The report of the first job of a peer. Whether there was one.
 pub fn report(alloc: Global, core: &mut Core, peer: u8) -> Result<bool, CoreFault> {
     let shape = core.shape();
-    if shape.shards != 1 || peer >= shape.copies {
+    if shape.shards != 2 || shape.copies != 2 || peer >= 4 {
         return Ok(false);
     }
     let done = match core.first_job(peer) {
@@ -38,9 +39,9 @@ pub fn report(alloc: Global, core: &mut Core, peer: u8) -> Result<bool, CoreFaul
 }
 
 /// The oldest message for a peer comes. Whether there was one.
-fn deliver(core: &mut Core, peer: u8) -> Result<bool, CoreFault> {
+pub fn deliver(core: &mut Core, peer: u8) -> Result<bool, CoreFault> {
     let shape = core.shape();
-    if shape.shards != 1 || peer >= shape.copies {
+    if shape.shards != 2 || shape.copies != 2 || peer >= 4 {
         return Ok(false);
     }
     let Some(message) = core.oldest_for(peer) else {

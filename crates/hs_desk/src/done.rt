@@ -3,7 +3,7 @@ ghost use Rattle.std.specs.Prelude.{◌≡◌};
 ghost use Rattle.hs_desk.specs.Answers.{answers};
 
 use crate::Job;
-use hs_limits::ListOf;
+use hs_entry::SharedBytes;
 
 /// The report of a job.
 #[derive(Debug, Drop)]
@@ -13,7 +13,7 @@ pub enum Done {
     /// The entry of this number was sealed.
     Sealed { number: u64 },
     /// The bytes of the block of the entry of this number.
-    Bytes { number: u64, bytes: ListOf<u8> },
+    Bytes { number: u64, bytes: SharedBytes },
     /// No entry of this number is kept, or none with a block.
     Gone { number: u64 },
     /// The disk was emptied.

@@ -19,7 +19,7 @@ impl Entry {
             } => Ok(Entry::Block {
                 op,
                 least,
-                bytes: bytes.copy(alloc)?,
+                bytes: bytes.copy()?,
             }),
             Entry::Mark {
                 op,

@@ -1,4 +1,5 @@
 //! The kinds of entries.
+use crate::SharedBytes;
 use hs_limits::{Address, Delta, Key, ListOf};
 
 /// An entry of a shard's log, or a frame that stands for earlier ones.
@@ -8,11 +9,12 @@ pub enum Entry {
     View {
         view: u64,
     },
-    /// A block was stored: its spelling. `least` is the least epoch of the pointers' handles.
+    /// A block was stored: its spelling, which a copy of the entry shares. `least` is the least epoch
+    /// of the pointers' handles.
     Block {
         op: u64,
         least: u64,
-        bytes: ListOf<u8>,
+        bytes: SharedBytes,
     },
     /// A write found its block stored, by the entry of number `block`.
     Mark {

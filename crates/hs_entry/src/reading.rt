@@ -7,7 +7,7 @@ ghost use Rattle.hs_entry.specs.Payload.{payload};
 ghost use Rattle.hs_entry.specs.Reading.{IsReadable, IsReading, is_kind, view_at, block_at, mark_at, root_at, drop_at, enter_at, got_at, fields_at, entry_at, view_read, rank_read};
 
 use crate::parts::{address_at, deltas_of, epoch_at, key_at, key_of, u8_at, u32_at, u64_at};
-use crate::{Entry, EntryFault, Rank};
+use crate::{Entry, EntryFault, Rank, SharedBytes};
 use hs_limits::{ListOf, spelt};
 use std::alloc::Global;
 
@@ -140,7 +140,7 @@ fn block_of(alloc: Global, whole: u64, bytes: &[u8]) -> Result<Entry, EntryFault
     ensures { IsReading (λ x. x) result (block_at whole bytes.now) }
 {
     let (op, least, bytes) = block_in(whole, bytes)?;
-    let bytes = ListOf::from_vec(Vec::from_slice(alloc, bytes)?);
+    let bytes = SharedBytes::from_vec(alloc, Vec::from_slice(alloc, bytes)?)?;
     Ok(Entry::Block { op, least, bytes })
 }
 

@@ -6,7 +6,7 @@ ghost use Rattle.hs_ops.specs.Speaking.{asked_pointers};
 ghost use Rattle.hs_tokens.specs.Seats.{found, held_at, seat_of};
 
 use crate::NoMemory;
-use hs_block::{Addresser, write_spelling};
+use hs_block::{Addresser, write_head};
 use hs_core::Core;
 use hs_limits::{Address, ListOf, MOST_BYTES, MOST_POINTERS, Name};
 use hs_model::Op;
@@ -48,7 +48,7 @@ pub fn addressed<A: Addresser>(
     }
 }
 
-/// The address of the block that a write asks for, where it has one.
+/// The address of the block that a write asks for, where it has one. The payload is not copied.
 fn address_of<A: Addresser>(
     alloc: Global,
     core: &Core,
@@ -67,9 +67,9 @@ fn address_of<A: Addresser>(
         return Ok(None);
     }
     let pointers = pointers_of(alloc, core, session, handles)?;
-    let mut spelling = Vec::new(alloc);
-    match write_spelling(pointers.as_slice(), payload, &mut spelling) {
-        Ok(()) => Ok(Some(naming.address(spelling.as_slice()))),
+    let mut head = Vec::new(alloc);
+    match write_head(pointers.as_slice(), payload.len(), &mut head) {
+        Ok(()) => Ok(Some(naming.address_of_parts(head.as_slice(), payload))),
         Err(_) => Err(NoMemory),
     }
 }

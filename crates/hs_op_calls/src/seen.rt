@@ -2,7 +2,7 @@
 use hs_limits::{Address, Limits, ListOf, Name};
 use hs_model::Op;
 use hs_ops::{OpView, Operation};
-use hs_tokens::Sessions;
+use hs_tokens::{Sessions, SessionsView};
 use std::alloc::{AllocError, Global};
 use std::test::Fail;
 
@@ -31,7 +31,7 @@ pub(crate) fn one_session(alloc: Global) -> Result<Sessions, Fail> {
 /// What a session sees of one shard, where the block is present under this number.
 pub(crate) fn view_of(sessions: &Sessions, present: Option<u64>) -> OpView<'_> {
     OpView {
-        sessions,
+        sessions: SessionsView::new(sessions, None),
         roots: None,
         retained: 0,
         blocks: 0,

@@ -1,9 +1,11 @@
 -- The block that a write asks for.
-use Rattle.std.proofs.Common.{◌≡◌, ℕ, Bool, true, false, List, ◌∷◌, Option, Some, None, length, map, bytes_eq, ◌&&◌, refl, ap, ◌∙◌}
+use Rattle.std.proofs.Common.{◌≡◌, ℕ, Bool, true, false, List, ◌∷◌, ◌++◌, Option, Some, None, length, map, take, drop, bytes_eq, ◌&&◌, refl, sym, ap, ◌∙◌}
 use Rattle.std.specs.Cmp.Lexicographic.{pointwise}
 use Rattle.std.specs.Option.{option_or}
-use Rattle.std.proofs.lemmas.Bool.{ltb-false}
-use Rattle.std.proofs.lemmas.List.{length-map}
+use Rattle.std.proofs.lemmas.Bool.{false_from_ne_true, ltb-false}
+use Rattle.std.proofs.lemmas.Bool.Decides.{Decides-like, not_from_Decides, same_from_decides}
+use Rattle.std.proofs.lemmas.List.{drop_at, length-map, take-append-drop, take_at}
+use Rattle.std.proofs.lemmas.Slice.Eq.{bytes_eq-Decides}
 use Rattle.hs_entry.specs.declared.entry.Entry.TheVariants as kind
 use Rattle.hs_limits.specs.Block.{Block, IsBlock, spell}
 use Rattle.hs_limits.specs.declared.address.Address.{Address}
@@ -27,9 +29,29 @@ asked_is seats name payload handles pointers e = rw e
 pub is_spelled : (block other : Block) → block ≡ other → IsBlock other → IsBlock block
 is_spelled block other e h = rw e h
 
-pub same_is : (block other : Block) (spelled bytes : List ℕ) (pointers : List Address) (told : Option (List ℕ)) → block ≡ other → told ≡ Some bytes → spelled ≡ spell block → (bytes_eq spelled bytes && pointwise (λ p q. bytes_eq p.0 q.0) block.pointers pointers) ≡ is_same_block other told pointers
+pub same_is : (block other : Block) (joined same : Bool) (spelled bytes : List ℕ) (pointers : List Address) (told : Option (List ℕ)) → block ≡ other → told ≡ Some bytes → spelled ≡ spell block
+    → joined ≡ bytes_eq spelled bytes → same ≡ (joined && pointwise (λ p q. bytes_eq p.0 q.0) block.pointers pointers)
+    → same ≡ is_same_block other told pointers
 unfolding is_same_block
-same_is block other spelled bytes pointers told e f g = rw (g ∙ ap spell e) (rw f (rw e refl))
+same_is block other joined same spelled bytes pointers told e f g h k = k ∙ rw (h, g ∙ ap spell e) (rw f (rw e refl))
+
+-- bytes with the head in front are the whole where the rest is the payload
+pub joined_found : (head payload bytes rest : List ℕ) → bytes_eq (take (length head) bytes) head ≡ true → rest ≡ drop (length head) bytes → bytes_eq rest payload ≡ bytes_eq (head ++ payload) bytes
+joined_found head payload bytes rest e behind =
+    let front : take (length head) bytes ≡ head = (bytes_eq-Decides (take (length head) bytes) head).0 e in
+    let whole : head ++ rest ≡ bytes =
+    ap (λ (xs : List ℕ). xs ++ rest) (sym front) ∙ ap (λ (xs : List ℕ). take (length head) bytes ++ xs) behind ∙ take-append-drop (length head) bytes in
+    let there : rest ≡ payload → head ++ payload ≡ bytes = λ same. ap (λ (xs : List ℕ). head ++ xs) (sym same) ∙ whole in
+    let back : head ++ payload ≡ bytes → rest ≡ payload = λ all. behind ∙ ap (λ (xs : List ℕ). drop (length head) xs) (sym all) ∙ drop_at head payload (length head) refl in
+    same_from_decides (bytes_eq rest payload) (bytes_eq (head ++ payload) bytes)
+    (bytes_eq-Decides rest payload) (Decides-like (bytes_eq (head ++ payload) bytes) back there (bytes_eq-Decides (head ++ payload) bytes))
+
+-- bytes without the head in front are not the whole
+pub joined_none : (head payload bytes : List ℕ) → bytes_eq (take (length head) bytes) head ≡ false → false ≡ bytes_eq (head ++ payload) bytes
+joined_none head payload bytes e =
+    let begins : head ++ payload ≡ bytes → take (length head) bytes ≡ head = λ all. ap (λ (xs : List ℕ). take (length head) xs) (sym all) ∙ take_at head payload (length head) refl in
+    let other = not_from_Decides (bytes_eq (take (length head) bytes) head) (bytes_eq-Decides (take (length head) bytes) head) e in
+    sym (false_from_ne_true (bytes_eq (head ++ payload) bytes) (λ t. other (begins ((bytes_eq-Decides (head ++ payload) bytes).0 t))))
 
 pub entry_is : (v : OpView) (line : ℕ) (name payload handles : List ℕ) (block : Block) (least : ℕ) (bytes : List ℕ) → block ≡ asked_block v.seats name payload handles → least ≡ least_epoch (helds v.seats name handles) → bytes ≡ spell block → kind.Block line least bytes ≡ block_entry v line name payload handles
 unfolding block_entry

@@ -8,11 +8,11 @@ ghost use Rattle.hs_ops.specs.Speaking.{asked_pointers};
 ghost use Rattle.hs_tokens.specs.Seats.{found};
 
 use crate::entries::{addresses_of, given_address};
-use crate::view::found_in;
+use crate::view::nothing;
 use crate::{OpFault, OpView};
 use hs_limits::{Address, Held, ListOf, Name};
 use hs_model::{Asked, Deed, Op, Reply};
-use hs_tokens::Sessions;
+use hs_tokens::{Sessions, SessionsView};
 use std::alloc::Global;
 
 /// What the handles of an operation's reply stand for, where it is not refused: of a read each of
@@ -108,10 +108,13 @@ fn done_deed(alloc: Global, sessions: &Sessions, op: Op, reply: &Reply) -> Resul
             session,
             key,
             handle,
-        } => Ok(Deed::Rooted {
-            key,
-            address: found_in(sessions, &session, handle).address,
-        }),
+        } => {
+            let held = held_by(sessions, &session, handle);
+            Ok(Deed::Rooted {
+                key,
+                address: held.address,
+            })
+        }
         Op::Drop { key } => Ok(Deed::Dropped { key }),
         Op::Forget { session, handle } => Ok(Deed::Forgot { session, handle }),
         Op::Name { .. } => Ok(Deed::Nothing),
@@ -142,7 +145,8 @@ fn write_deed(
             handle,
         });
     }
-    let pointers = addresses_of(alloc, sessions, &session, handles.as_slice())?;
+    let sessions = SessionsView::new(sessions, Some(&session));
+    let pointers = addresses_of(alloc, &sessions, &session, handles.as_slice())?;
     Ok(Deed::Wrote {
         session,
         address,
@@ -163,7 +167,7 @@ fn read_deed(
         (found sessions.now.seats session handle).address
         (found sessions.now.seats session handle).epoch (handles_in reply.now)) }
 {
-    let held = found_in(sessions, &session, handle);
+    let held = held_by(sessions, &session, handle);
     let handles = handles_in(alloc, reply)?;
     Ok(Deed::ReadBlock {
         session,
@@ -171,6 +175,13 @@ fn read_deed(
         epoch: held.epoch,
         handles,
     })
+}
+
+/// What a handle of a session stands for, and the zero address in epoch 0 where it is not held.
+fn held_by(sessions: &Sessions, session: &Name, handle: u32) -> Held
+    ensures { result ≡ found sessions.now.seats session.now handle }
+{
+    sessions.find(session, handle).unwrap_or(nothing())
 }
 
 /// An operation as it is told where it was refused.

@@ -1,13 +1,12 @@
 //! What reported bytes bring.
-ghost use Rattle.std.specs.Prelude.{◌≡◌, ◌&&◌, None, bytes_eq, IfOk};
-ghost use Rattle.std.specs.Cmp.Lexicographic.{pointwise};
+ghost use Rattle.std.specs.Prelude.{◌≡◌, ◌++◌, None, bytes_eq, IfOk};
 ghost use Rattle.std.specs.Option.{option_map};
 ghost use Rattle.hs_limits.specs.Block.{IsBlock};
 ghost use Rattle.hs_ops.specs.Going.{compared, data_of, is_reported, is_same_block, on_bytes};
 ghost use Rattle.hs_ops.specs.Refusals.{refusal_of};
 ghost use Rattle.hs_ops.specs.Speaking.{asked_block};
 
-use crate::entries::{addresses_of, spelling};
+use crate::entries::{addresses_of, head_of};
 use crate::going::go;
 use crate::table::refusal_of;
 use crate::{OpFault, OpStep, OpView};
@@ -90,7 +89,7 @@ impl<'a> OpView<'a> {
     }
 
     /// Whether the bytes are those of a write's block, and the catalogue's pointers are its pointers.
-    #[tactic(auto, unfolding(crate::specs::Going::is_same_block), using(crate::proofs::BlockLemmas::asked_is, crate::proofs::BlockLemmas::is_spelled, crate::proofs::BlockLemmas::same_is))]
+    #[tactic(auto, unfolding(crate::specs::Going::is_same_block), using(crate::proofs::BlockLemmas::asked_is, crate::proofs::BlockLemmas::is_spelled))]
     fn is_same_block(
         &self,
         alloc: Global,
@@ -107,19 +106,22 @@ impl<'a> OpView<'a> {
         let Some(bytes) = report.bytes else {
             return Ok(false);
         };
-        let pointers = addresses_of(alloc, self.sessions, session, handles)?;
-        let spelled = spelling(alloc, pointers.as_slice(), payload)?;
+        let pointers = addresses_of(alloc, &self.sessions, session, handles)?;
+        let head = head_of(alloc, pointers.as_slice(), payload.len())?;
         let asked = pointers.as_slice();
-        Ok(are_same(spelled.as_slice(), bytes, asked, report.pointers))
+        Ok(are_joined(head.as_slice(), payload, bytes) && asked == report.pointers)
     }
 }
 
-/// Whether bytes and pointers are the same as some others.
-fn are_same(spelled: &[u8], bytes: &[u8], asked: &[Address], pointers: &[Address]) -> bool
-    ensures { result ≡ (bytes_eq spelled.now bytes.now
-        && pointwise (λ p q. bytes_eq p.0 q.0) asked.now pointers.now) }
+/// Whether bytes are a head and then a payload.
+#[tactic(auto, using(crate::proofs::BlockLemmas::joined_found, crate::proofs::BlockLemmas::joined_none))]
+fn are_joined(head: &[u8], payload: &[u8], bytes: &[u8]) -> bool
+    ensures { result ≡ bytes_eq (head.now ++ payload.now) bytes.now }
 {
-    spelled == bytes && asked == pointers
+    match bytes.strip_prefix(head) {
+        Some(rest) => rest == payload,
+        None => false,
+    }
 }
 
 /// The data of the block that some bytes spell, none where they spell none.

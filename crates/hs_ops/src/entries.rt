@@ -1,16 +1,17 @@
 //! The entries that operations ask for.
-ghost use Rattle.std.specs.Prelude.{◌≡◌, IfOk};
+ghost use Rattle.std.specs.Prelude.{◌≡◌, ℕ, ◌≤◌, List, ◌++◌, length, IfOk};
 ghost use Rattle.hs_limits.specs.Block.{IsBlock, spell};
+ghost use Rattle.hs_limits.specs.declared.spelling.TheConstants.{MOST_BYTES, MOST_POINTERS};
 ghost use Rattle.hs_model.specs.Judge.{given_address};
 ghost use Rattle.hs_ops.specs.Going.{block_entry, mark_entry, root_entry};
 ghost use Rattle.hs_ops.specs.Speaking.{asked_block, asked_pointers, helds, least_epoch};
 
 use crate::view::found_in;
 use crate::{OpFault, OpView};
-use hs_block::write_spelling;
-use hs_entry::Entry;
+use hs_block::{write_head, write_spelling};
+use hs_entry::{Entry, SharedBytes};
 use hs_limits::{Address, Key, LAST_EPOCH, ListOf, Name};
-use hs_tokens::Sessions;
+use hs_tokens::SessionsView;
 use std::alloc::Global;
 
 impl<'a> OpView<'a> {
@@ -28,7 +29,7 @@ impl<'a> OpView<'a> {
         ensures { IfOk result (λ entry. entry
             ≡ block_entry self.now line session.now payload.now handles.now) }
     {
-        let pointers = addresses_of(alloc, self.sessions, session, handles)?;
+        let pointers = addresses_of(alloc, &self.sessions, session, handles)?;
         let bytes = spelling(alloc, pointers.as_slice(), payload)?;
         Ok(Entry::Block {
             op: line,
@@ -95,12 +96,12 @@ impl<'a> OpView<'a> {
 /// The addresses that some handles of a session stand for.
 pub(crate) fn addresses_of(
     alloc: Global,
-    sessions: &Sessions,
+    sessions: &SessionsView,
     session: &Name,
     handles: &[u32],
 ) -> Result<ListOf<Address>, OpFault>
     ensures { IfOk result (λ addresses. addresses
-        ≡ asked_pointers sessions.now.seats session.now handles.now) }
+        ≡ asked_pointers sessions.now session.now handles.now) }
 {
     let mut addresses = ListOf::new(alloc);
     for handle in handles {
@@ -110,18 +111,28 @@ pub(crate) fn addresses_of(
 }
 
 /// The spelling of the block of these pointers and bytes.
-pub(crate) fn spelling(
-    alloc: Global,
-    pointers: &[Address],
-    payload: &[u8],
-) -> Result<ListOf<u8>, OpFault>
+fn spelling(alloc: Global, pointers: &[Address], payload: &[u8]) -> Result<SharedBytes, OpFault>
     requires { IsBlock (record { pointers = pointers.now; bytes = payload.now }) }
     ensures { IfOk result (λ bytes. bytes
         ≡ spell (record { pointers = pointers.now; bytes = payload.now })) }
 {
     let mut bytes = Vec::new(alloc);
     match write_spelling(pointers, payload, &mut bytes) {
-        Ok(()) => Ok(ListOf::from_vec(bytes)),
+        Ok(()) => Ok(SharedBytes::from_vec(alloc, bytes)?),
+        Err(_) => Err(OpFault::NoMemory),
+    }
+}
+
+/// What the spelling of a block of these pointers and `len` bytes has in front of the bytes.
+pub(crate) fn head_of(alloc: Global, pointers: &[Address], len: usize) -> Result<Vec<u8>, OpFault>
+    requires few { length pointers.now ≤ MOST_POINTERS }
+    requires short { len ≤ MOST_BYTES }
+    ensures { IfOk result (λ head. (bytes : List ℕ) → length bytes ≡ len →
+        head.items ++ bytes ≡ spell (record { pointers = pointers.now; bytes = bytes })) }
+{
+    let mut head = Vec::new(alloc);
+    match write_head(pointers, len, &mut head) {
+        Ok(()) => Ok(head),
         Err(_) => Err(OpFault::NoMemory),
     }
 }

@@ -9,13 +9,14 @@ use hs_model::{Op, Reply};
 use std::alloc::Global;
 
 /// The step of an operation at its own line.
-#[tactic(auto, unfolding(crate::specs::Going::begin))]
+#[tactic(auto, unfolding(crate::specs::Going::begin, crate::specs::Going::go))]
 pub(crate) fn begin(view: &OpView, alloc: Global, line: u64, op: &Op) -> Result<OpStep, OpFault>
     ensures { IfOk result (λ step. step ≡ begin view.now line op.now) }
 {
     match judged(view, alloc, op)? {
         Some(reply) => Ok(OpStep::Answer(reply)),
-        None => go(view, alloc, line, op),
+        None if view.viewed => asked_for(view, alloc, line, op),
+        None => Ok(OpStep::Wait),
     }
 }
 

@@ -3,7 +3,7 @@ ghost use Rattle.std.specs.Prelude.{◌≡◌};
 ghost use Rattle.std.specs.Option.{option_copied, option_map};
 ghost use Rattle.hs_limits.specs.Shape.{IsShape};
 ghost use Rattle.hs_ops.specs.Speaking.{asking_session, judging_shard, named_key, wanted_address};
-ghost use Rattle.hs_tokens.specs.Seats.{held_at, seat_of};
+ghost use Rattle.hs_tokens.specs.Seats.{Seats, held_at, seat_of};
 
 use crate::Operation;
 use hs_limits::{Address, Key, Name, Shape, shard_of, shard_of_key};
@@ -74,10 +74,19 @@ impl Operation {
         requires { IsShape shape }
         ensures { result ≡ judging_shard shape.shards sessions.now.seats self.now.op }
     {
+        self.shard_for(self.address(sessions), shape)
+    }
+
+    /// The shard that judges it, where this is the address of the block that it writes or reads.
+    pub fn shard_for(&self, address: Option<Address>, shape: Shape) -> u8
+        requires { IsShape shape }
+        ensures { (seats : Seats) → address ≡ wanted_address seats self.now.op
+            → result ≡ judging_shard shape.shards seats self.now.op }
+    {
         if let Some(key) = self.key() {
             return shard_of_key(key, shape);
         }
-        match self.address(sessions) {
+        match address {
             Some(address) => shard_of(&address, shape),
             None => 0,
         }

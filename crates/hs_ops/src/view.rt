@@ -8,13 +8,14 @@ ghost use Rattle.hs_tokens.specs.Seats.{found, nothing};
 
 use hs_limits::{Address, Held, Key, Limits, Name};
 use hs_roots::RootSet;
-use hs_tokens::Sessions;
+use hs_tokens::SessionsView;
 use std::marker::Model;
 
 /// What has taken effect, as an operation sees it. It is made for one operation and one call.
 #[derive(Drop)]
 pub struct OpView<'a> {
-    pub sessions: &'a Sessions,
+    /// The open sessions; that of the operation is to be at hand, so that it is looked up once.
+    pub sessions: SessionsView<'a>,
     /// The roots of the shard that judges; they may be left out where the operation has no key.
     pub roots: Option<&'a RootSet>,
     /// The retained roots of all shards.
@@ -53,7 +54,7 @@ impl<'a> Model for OpView<'a> {
 
     ghost view = { λ a. record {
       limits = a.limits;
-      seats = a.sessions.now.seats;
+      seats = a.sessions;
       roots = option_map_or (λ set. set.now.roots) a.roots [];
       retained = a.retained;
       blocks = a.blocks;
@@ -88,7 +89,7 @@ impl<'a> OpView<'a> {
     pub(crate) fn found(&self, session: &Name, handle: u32) -> Held
         ensures { result ≡ found self.now.seats session.now handle }
     {
-        found_in(self.sessions, session, handle)
+        found_in(&self.sessions, session, handle)
     }
 
     /// The next handle number of a session, 0 where it is not open.
@@ -121,8 +122,8 @@ pub(crate) fn number_at(numbers: &[u64], place: usize) -> u64
 }
 
 /// What a handle of a session stands for, and the zero address in epoch 0 where it is not held.
-pub(crate) fn found_in(sessions: &Sessions, session: &Name, handle: u32) -> Held
-    ensures { result ≡ found sessions.now.seats session.now handle }
+pub(crate) fn found_in(sessions: &SessionsView, session: &Name, handle: u32) -> Held
+    ensures { result ≡ found sessions.now session.now handle }
 {
     sessions.find(session, handle).unwrap_or(nothing())
 }

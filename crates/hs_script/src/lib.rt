@@ -17,5 +17,6 @@ mod words;
 mod written;
 
 pub use fault::ScriptFault;
+pub use number::number_up_to;
 pub use print::print_entry;
 pub use read::{LONGEST_LINE, read_line};

@@ -33,9 +33,10 @@ pub(crate) fn message_number(word: &[u8]) -> Option<u64>
     number_up_to(u64::MAX, word)
 }
 
-/// The number that the digits write, where they write one that is not above `most`.
+/// The number that the digits write, where they write one that is not above `most`: digits alone,
+/// without a sign or a leading zero. None for all else, however long it is.
 #[tactic(auto, unfolding(crate::specs::Parts::number_below))]
-fn number_up_to(most: u64, digits: &[u8]) -> Option<u64>
+pub fn number_up_to(most: u64, digits: &[u8]) -> Option<u64>
     ensures value { result ≡ number_below (most + 1) digits.now }
     ensures bound { IfSome result (λ number. number ≤ most) }
 {

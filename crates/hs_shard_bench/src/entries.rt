@@ -1,10 +1,11 @@
 //! What the entries of the shard's log are made of.
 use crate::plan::{Plan, address_of};
+use hs_entry::SharedBytes;
 use hs_limits::{Key, ListOf};
 use std::alloc::{AllocError, Global};
 
 /// The spelling of a block of the plan. Its data is its number.
-pub fn spelling(alloc: Global, plan: Plan, block: u32) -> Result<ListOf<u8>, AllocError> {
+pub fn spelling(alloc: Global, plan: Plan, block: u32) -> Result<SharedBytes, AllocError> {
     let count = plan.pointers(block);
     let mut bytes = Vec::with_capacity(alloc, 2_063)?;
     bytes.push(1)?;
@@ -14,7 +15,7 @@ pub fn spelling(alloc: Global, plan: Plan, block: u32) -> Result<ListOf<u8>, All
     }
     bytes.extend_from_slice(&4u32.to_be_bytes())?;
     bytes.extend_from_slice(&block.to_be_bytes())?;
-    Ok(ListOf::from_vec(bytes))
+    SharedBytes::from_vec(alloc, bytes)
 }
 
 /// A key of six digits.

@@ -11,7 +11,7 @@ pub fn make(alloc: Global, plan: Plan) -> Result<u32, AllocError> {
     let mut made = 0u32;
     for block in 0..plan.blocks() {
         let bytes = spelling(alloc, plan, block)?;
-        if !bytes.is_empty() {
+        if !bytes.as_slice().is_empty() {
             made = made.saturating_add(1);
         }
     }

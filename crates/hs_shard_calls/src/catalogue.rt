@@ -2,7 +2,7 @@
 ghost use Rattle.std.specs.Prelude.{◌≡◌, []};
 
 use hs_desk::What;
-use hs_entry::Entry;
+use hs_entry::{Entry, SharedBytes};
 use hs_limits::{Address, Key, LAST_EPOCH, Limits, ListOf, Shape};
 use hs_shard::{Catalogue, ShardFault};
 use std::alloc::{AllocError, Global};
@@ -36,7 +36,10 @@ fn store(alloc: Global, shard: &mut Catalogue) -> Result<What, ShardFault>
     let block = Entry::Block {
         op: 2,
         least: LAST_EPOCH,
-        bytes: list(alloc, &[1, 0, 0, 0, 0, 0, 2, 0x61, 0x62])?,
+        bytes: SharedBytes::from_vec(
+            alloc,
+            Vec::from_slice(alloc, &[1, 0, 0, 0, 0, 0, 2, 0x61, 0x62])?,
+        )?,
     };
     Ok(shard.apply(1, &block, Some(BLOCK))?.what)
 }

@@ -4,6 +4,8 @@
 mod fault;
 mod seat;
 mod sessions;
+mod view;
 
 pub use fault::SeatFault;
 pub use sessions::Sessions;
+pub use view::SessionsView;

@@ -1,6 +1,6 @@
 //! The open sessions by name.
-ghost use Rattle.std.specs.Prelude.{◌≡◌, ◌∷◌, [], None, length, IfOk, IfSome, IfNone, OnOk, OnErr, IsOkUnless};
-ghost use Rattle.std.specs.Option.{option_map};
+ghost use Rattle.std.specs.Prelude.{◌≡◌, ◌∷◌, [], Some, None, length, IfOk, IfSome, IfNone, OnOk, OnErr, IsOkUnless};
+ghost use Rattle.std.specs.Option.{option_copied, option_map};
 ghost use Rattle.std.specs.Result.{result_err};
 ghost use Rattle.hs_tokens.specs.declared.fault.SeatFault.TheVariants as fault;
 ghost use Rattle.hs_tokens.specs.Refusals.{open_refusal, close_refusal, hold_refusal, handle_refusal};
@@ -166,5 +166,19 @@ impl Sessions {
         ensures { result ≡ option_map (λ seat. seat.next) (seat_of name.now self.now.seats) }
     {
         self.seats.get(name).map(|seat| seat.next())
+    }
+
+    /// The open session of a name. It takes no memory.
+    pub(crate) fn seat(&self, name: &Name) -> Option<&Seat>
+        ensures { option_copied result ≡ seat_of name.now self.now.seats }
+    {
+        self.seats.get(name)
+    }
+
+    /// The open session of a name, with its name. It takes no memory.
+    pub(crate) fn entry(&self, name: &Name) -> Option<(&Name, &Seat)>
+        ensures { IfSome result (λ at. seat_of at.0.now self.now.seats ≡ Some at.1.now) }
+    {
+        self.seats.get_key_value(name)
     }
 }

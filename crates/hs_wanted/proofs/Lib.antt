@@ -1,4 +1,3 @@
-pub mod NumberLemmas
 pub mod OptionLemmas
 pub mod ShapeLemmas
 pub mod WordsLemmas

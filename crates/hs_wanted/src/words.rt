@@ -5,9 +5,9 @@ ghost use Rattle.hs_limits.specs.Shape.{IsShape};
 ghost use Rattle.hs_script.specs.CommandLine.{copies_word, shape_word, shards_word, wanted, wanted_of};
 ghost use Rattle.hs_wanted.specs.Asked.{IsShards, as_wanted, asked_by};
 
-use crate::number::number_up_to;
 use crate::options::with_options;
 use hs_limits::{Limits, Shape};
+use hs_script::number_up_to;
 
 /// The shape and the limits that the words ask for. None exactly where they are outside the command
 /// language, or where there is not a disk for each peer.

@@ -8,5 +8,5 @@ returns-clause-ok c =
     let judged = c.in_ok-judged.judged in
     let its = c.in_ok-judged.ensures in
     on_ok_weaker c.carry_out.result
-    (gone c.args.how.now c.args.line c.args.self.now c.judge_at.new.self c.carry_out.new.self c.in-Some.aim judged.step judged.helds (sym c.in-Some.ensures) its.ok its.step its.helds)
+    (gone c.args.how.now c.args.line c.args.self.now c.judge_at.new.self c.carry_out.new.self c.in-Some.aim judged.step judged.helds (sym c.in-Some.ensures.about) its.ok its.step its.helds)
     c.carry_out.ensures.ok

@@ -8,6 +8,7 @@ use Rattle.hs_core.specs.Renewing.{Renews}
 use Rattle.hs_core.specs.State.{Core}
 use Rattle.hs_limits.specs.declared.limits.PeerStatus.TheVariants.{Down}
 use Rattle.hs_members.specs.Members.{IsShard, Members, become, home_of}
+use Rattle.hs_core.proofs.PlacedLemmas.{within_told}
 use Rattle.hs_core.proofs.StatusLemmas.{core_told, fronts_same, steps_told}
 use Rattle.hs_core.proofs.StepLemmas.{rejoin_beside}
 use Rattle.hs_core.proofs.core_state.Core.make_down.Goals as goal
@@ -30,4 +31,6 @@ invariant_of-self-2 c =
       steps = steps_told old _ c.args.peer shard Down c.self.inside.steps.items _ is.kept (core_told old _ is.kept c.renew_steps.ensures.members same refl refl refl (length-set c.self.inside.tasks.items c.from.result c.new.result) (length-set c.self.inside.rejoins.items c.from-2.result None)) is.steps at told refl renews (λ k d. rejoin_beside c.self.inside.rejoins.items (shape_of old) c.from-2.result shard k None from d);
       sessions = is.sessions;
       journal = is.journal;
+      placed = within_told old.members c.become_down.new.members old.operations same is.placed;
+      apart = is.apart;
     }

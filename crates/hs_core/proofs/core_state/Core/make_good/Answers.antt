@@ -8,6 +8,7 @@ use Rattle.hs_core.specs.Renewing.{Renews}
 use Rattle.hs_core.specs.State.{Core}
 use Rattle.hs_limits.specs.declared.limits.PeerStatus.TheVariants.{Good}
 use Rattle.hs_members.specs.Members.{IsShard, Members, become, home_of}
+use Rattle.hs_core.proofs.PlacedLemmas.{within_told}
 use Rattle.hs_core.proofs.StatusLemmas.{core_told, fronts_same, steps_told}
 use Rattle.hs_core.proofs.StepLemmas.{rejoin_beside}
 use Rattle.hs_core.proofs.core_state.Core.make_good.Goals as goal
@@ -30,4 +31,6 @@ invariant_of-self-2 c =
       steps = steps_told old _ c.args.peer shard Good c.self.inside.steps.items _ is.kept (core_told old _ is.kept c.renew_steps.ensures.members same refl refl refl refl (length-set c.self.inside.rejoins.items c.from.result None)) is.steps at told refl renews (λ k d. rejoin_beside c.self.inside.rejoins.items (shape_of old) c.from.result shard k None from d);
       sessions = is.sessions;
       journal = is.journal;
+      placed = within_told old.members c.become_good.new.members old.operations same is.placed;
+      apart = is.apart;
     }

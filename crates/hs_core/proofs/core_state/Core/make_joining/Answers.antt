@@ -6,6 +6,7 @@ use Rattle.hs_core.specs.Renewing.{Renews}
 use Rattle.hs_core.specs.State.{Core}
 use Rattle.hs_limits.specs.declared.limits.PeerStatus.TheVariants.{Joining}
 use Rattle.hs_members.specs.Members.{IsShard, Members, become, home_of}
+use Rattle.hs_core.proofs.PlacedLemmas.{within_told}
 use Rattle.hs_core.proofs.StatusLemmas.{core_told, fronts_same, steps_told}
 use Rattle.hs_core.proofs.core_state.Core.make_joining.Goals as goal
 
@@ -26,4 +27,6 @@ invariant_of-self-2 c =
       steps = steps_told old _ c.args.peer shard Joining c.self.inside.steps.items _ is.kept (core_told old _ is.kept c.renew_steps.ensures.members same refl refl refl refl refl) is.steps at told refl renews (λ k d. refl);
       sessions = is.sessions;
       journal = is.journal;
+      placed = within_told old.members c.start.new.self old.operations same is.placed;
+      apart = is.apart;
     }

@@ -27,4 +27,6 @@ invariant_of-self c =
       steps = steps_renewed old _ shard c.self.inside.steps.items _ is.kept (core_told old _ is.kept is.kept.members refl refl refl refl refl (length-set c.self.inside.rejoins.items c.from.result c.args.rejoin)) is.steps refl renews (λ s d. refl) (λ k d. refl) (λ k d. rejoin_beside c.self.inside.rejoins.items (shape_of old) c.from.result shard k c.args.rejoin at d);
       sessions = is.sessions;
       journal = is.journal;
+      placed = is.placed;
+      apart = is.apart;
     }

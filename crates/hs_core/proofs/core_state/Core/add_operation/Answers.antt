@@ -1,0 +1,22 @@
+use Rattle.hs_core.specs.declared.core_state.Core.TheView.{view}
+use Rattle.hs_core.specs.Looking.{shape_of}
+use Rattle.hs_core.specs.State.{Core}
+use Rattle.hs_members.specs.Members.{IsShard}
+use Rattle.hs_core.proofs.ApartLemmas.{apart_put}
+use Rattle.hs_core.proofs.PlacedLemmas.{fronts_beside, kept_beside, placed_put, steps_beside}
+use Rattle.hs_core.proofs.core_state.Core.add_operation.Goals as goal
+
+pub invariant_of-self : goal.invariant_of-self
+invariant_of-self c =
+    let old : Core = view c.self.inside in
+    let within : IsShard (shape_of old) c.args.waiting.shard = rw (← c.self.view_is) at c.requires in
+    let is = c.self.invariant in
+    record {
+      kept = kept_beside old c.put.new.self is.kept;
+      fronts = fronts_beside old c.put.new.self c.self.inside.fronts.items is.fronts;
+      steps = steps_beside old c.put.new.self c.self.inside.steps.items is.kept is.steps;
+      sessions = is.sessions;
+      journal = is.journal;
+      placed = placed_put (shape_of old).shards old.operations c.put.new.self is.placed c.put.result c.args.line c.args.waiting c.put.ensures.ok c.put.ensures.none within;
+      apart = apart_put c.self.inside.newest c.newest_put-newest.result old.operations c.put.new.self old.groups c.put.result c.args.line c.args.waiting c.newest_put-newest.ensures c.put.ensures.others c.put.ensures.none is.apart;
+    }

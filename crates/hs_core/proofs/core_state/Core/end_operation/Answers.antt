@@ -1,0 +1,20 @@
+use Rattle.hs_core.specs.declared.core_state.Core.TheView.{view}
+use Rattle.hs_core.specs.Looking.{shape_of}
+use Rattle.hs_core.specs.State.{Core}
+use Rattle.hs_core.proofs.ApartLemmas.{apart_ended}
+use Rattle.hs_core.proofs.PlacedLemmas.{fronts_beside, kept_beside, placed_ended, steps_beside}
+use Rattle.hs_core.proofs.core_state.Core.end_operation.Goals as goal
+
+pub invariant_of-self : goal.invariant_of-self
+invariant_of-self c =
+    let old : Core = view c.self.inside in
+    let is = c.self.invariant in
+    record {
+      kept = kept_beside old c.end.new.self is.kept;
+      fronts = fronts_beside old c.end.new.self c.self.inside.fronts.items is.fronts;
+      steps = steps_beside old c.end.new.self c.self.inside.steps.items is.kept is.steps;
+      sessions = is.sessions;
+      journal = is.journal;
+      placed = placed_ended (shape_of old).shards old.operations c.end.new.self is.placed c.end.result c.args.line c.end.ensures.rest c.end.ensures.none;
+      apart = apart_ended c.self.inside.newest old.operations c.end.new.self old.groups is.apart c.end.result c.args.line c.end.ensures.others c.end.ensures.none;
+    }
