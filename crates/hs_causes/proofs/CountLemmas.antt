@@ -98,7 +98,7 @@ past_note n p e high first =
     let low : first.peer < n = first.low in
     ap (λ o. option_map_or (λ (d : ℕ × ℕ). d.0 == p) o false) (ap down_in first.told) ∙ ne_is first.peer p (omega (arith, low, high))
 
-firsts_past : (n p : ℕ) (es : List JournalEntry) → n ≤ p → AllByRecursion (λ (e : JournalEntry). IsFirst n e) es → AllByRecursion (λ e. is_note p e ≡ false) es
+pub firsts_past : (n p : ℕ) (es : List JournalEntry) → n ≤ p → AllByRecursion (λ (e : JournalEntry). IsFirst n e) es → AllByRecursion (λ e. is_note p e ≡ false) es
 firsts_past n p [] high h = tt
 firsts_past n p (e ∷ es) high h = (past_note n p e high h.0, firsts_past n p es high h.1)
 

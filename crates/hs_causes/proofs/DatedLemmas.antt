@@ -136,7 +136,7 @@ dated_first commands core nobody zero turn = record {
       absurd (subst (λ o. IsPrompt o) (ap (λ k. client_op (commands k)) none ∙ nobody) prompt);
 }
 
-down_left : (xs ys : List JournalEntry) (j peer line : ℕ) → IsDownAt xs j peer line → IsDownAt (xs ++ ys) j peer line
+pub down_left : (xs ys : List JournalEntry) (j peer line : ℕ) → IsDownAt xs j peer line → IsDownAt (xs ++ ys) j peer line
 down_left xs ys j peer line b = record { note = b.note; at = at_left xs ys j b.note b.at; store = b.store; told = b.told }
 
 pub dated_left : (commands : ℕ → Option Command) (xs ys : List JournalEntry) → AreDated commands (xs ++ ys) → AreDated commands xs

@@ -1,5 +1,5 @@
 -- What a core has told as it opens: that each peer which is not good is down, before any line.
-use Rattle.std.proofs.Common.{◌≡◌, inl, inr, ◌∙◌, sym, ap, subst, ℕ, ◌+◌, ◌*◌, ◌<◌, ◌++◌, Bool, true, false, cond, not, List, [], ◌∷◌, Option, Some, None, refl, arith, length, nat_lt}
+use Rattle.std.proofs.Common.{◌≡◌, ◌⊎◌, inl, inr, ◌∙◌, sym, ap, subst, ℕ, ◌+◌, ◌*◌, ◌<◌, ◌++◌, Bool, true, false, cond, not, List, [], ◌∷◌, Option, Some, None, refl, arith, length, nat_lt}
 use Rattle.std.proofs.lemmas.Bool.{cases_lt}
 use Rattle.std.proofs.lemmas.List.{get_or-replicate, get_or_past, length-map, length-replicate}
 use Rattle.std.specs.List.{AllByRecursion}
@@ -160,6 +160,14 @@ module _ (shape : Shape) (limits : Limits) (found : Taken) (moment : ℕ) (peers
       go : (b : Bool) → (cond b (refuse_entries noted) (keep_entries noted)).members ≡ new.members
       go true = first_noted.members
       go false = first_noted.members
+
+  -- where the journal had room nothing was refused, and else it is empty
+  pub room_first : ((open_core shape limits found moment).refused ≡ []) ⊎ ((open_core shape limits found moment).journal ≡ [])
+  room_first = go (nat_lt noted.limits.ops (length noted.journal + length noted.entries))
+    where
+      go : (b : Bool) → ((cond b (refuse_entries noted) (keep_entries noted)).refused ≡ []) ⊎ ((cond b (refuse_entries noted) (keep_entries noted)).journal ≡ [])
+      go true = inr first_noted.journal
+      go false = inl first_noted.refused
 
   pub limits_first : (open_core shape limits found moment).limits ≡ limits
   limits_first = go (nat_lt noted.limits.ops (length noted.journal + length noted.entries))

@@ -44,7 +44,7 @@ module _ (S : Script) (r : Ran) (story : Story) (went : Went S r story) where
     behind_is : steps opened story.opening ≡ opened
     behind_is = ap (λ es. steps opened es) no_opening
 
-    no_lines : story.lines ≡ []
+    pub no_lines : story.lines ≡ []
     no_lines = go story.lines (are_lines S r story went)
       where
         go : (lines : List Events) → AreLines (lined S r) 1 (steps opened story.opening) lines → lines ≡ []

@@ -100,7 +100,7 @@ module _ (commands : ℕ → Option Command) (shape : Shape) (limits : Limits) w
   own_event (event.Fail line peer) c p may asks = (may.upward, inr asks)
   own_event (event.Start line peer) c p may asks = (may.upward, inr asks)
 
-  answering : (e : Event) (c : Core) → Asks commands c e → IsAnswering c e
+  pub answering : (e : Event) (c : Core) → Asks commands c e → IsAnswering c e
   answering (event.Line line o) c asks = tt
   answering (event.Report peer d) c asks = asks
   answering (event.Turn line peer) c asks = tt

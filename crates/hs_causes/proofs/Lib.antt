@@ -4,13 +4,17 @@ pub mod CauseLemmas
 pub mod CountLemmas
 pub mod CourseLemmas
 pub mod DatedLemmas
+pub mod FallLemmas
 pub mod FirstLemmas
 pub mod GoodLemmas
 pub mod KeptLemmas
 pub mod ListLemmas
 pub mod LostLemmas
 pub mod NoteLemmas
+pub mod NotesEndLemmas
 pub mod NothingLemmas
+pub mod OrderLemmas
 pub mod PromptLemmas
 pub mod RunLemmas
 pub mod SeatLemmas
+pub mod UntoldLemmas

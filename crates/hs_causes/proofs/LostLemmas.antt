@@ -97,14 +97,14 @@ pub data Loss (commands : ℕ → Option Command) (g : ℕ) (c : Core) : Type 0 
   IsNoted : (place : ℕ) → IsDownAt (told_of c) place g c.event_line → Loss commands g c
   IsFailed : commands c.event_line ≡ Some (command.Fail g) → Loss commands g c
 
-line_up : (line : ℕ) (c : Core) → c.event_line ≤ line → line_then line c ≡ line
+pub line_up : (line : ℕ) (c : Core) → c.event_line ≤ line → line_then line c ≡ line
 line_up line c up = go (line == 0) refl
   where
     go : (b : Bool) → (line == 0) ≡ b → cond b c.event_line line ≡ line
     go true t = let zero_line : line ≡ 0 = eqb-true line 0 t in omega (arith, up, zero_line)
     go false t = refl
 
-costs_one : (peer g : ℕ) (c : Core) → told_by g (event.Report peer (done.Failed g)) c ≡ 1
+pub costs_one : (peer g : ℕ) (c : Core) → told_by g (event.Report peer (done.Failed g)) c ≡ 1
 costs_one peer g c = ap (λ b. cond (b && true) 1 0) (eq-eqb g g refl)
 
 module _ (commands : ℕ → Option Command) (shape : Shape) (limits : Limits) (one : shape.copies ≡ 1) where

@@ -13,6 +13,10 @@ FailsInText S r story =
     r.ending ≡ status.WriteFault → (front : List Events) (es : Events) → story.lines ≡ front ++ es ∷ []
     → length (steps (first_core S.set story.found) (story.opening ++ flat_map (λ line. line) front)).journal < length r.journal
 
+-- and where no line was begun opening had answered something
+abbrev pub FailsInOpening : Ran → Story → Type 0
+FailsInOpening r story = r.ending ≡ status.WriteFault → story.lines ≡ [] → 0 < length r.journal
+
 -- where the core ended as it opened, nothing of the script was read
 abbrev pub LeavesUnread : Script → Ran → Story → Type 0
 LeavesUnread S r story = IsSome (first_core S.set story.found).ended → r.new.left ≡ r.old.left

@@ -12,6 +12,7 @@ pub mod FirstLemmas
 pub mod FitLemmas
 pub mod FoundLemmas
 pub mod FrontLemmas
+pub mod ImageLemmas
 pub mod KeptLemmas
 pub mod LineLemmas
 pub mod ListLemmas

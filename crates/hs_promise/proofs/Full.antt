@@ -189,7 +189,7 @@ the_promise_is_kept = record {
   time = record { later = omega arith; puts = record { more = stamped 6 first_text; put = refl; stamped = all_within } };
   counts = record { disks = λ peer. same _; sink = same 0; source = same 0 };
   cause = (too_many _ refl, refused_entries);
-  calm = λ one past peer. refl;
+  calm = record { past = λ one past peer. refl; other = λ peer found is. refl };
   ends = ends;
   told = λ none. absurd none;
 }

@@ -19,3 +19,4 @@ pub mod Run
 pub mod Shapes
 pub mod Stops
 pub mod Story
+pub mod Untold

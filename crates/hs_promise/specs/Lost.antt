@@ -1,8 +1,10 @@
 -- Why a shard counts as lost, and why a peer is told to be down.
 use Rattle.std.specs.List.{list_any}
-use Rattle.std.specs.Prelude.{Bool, Some, if◌then◌else◌, is_none, true, ℕ, ◌&&◌, ◌++◌, ◌-◌, ◌<◌, ◌||◌, ◌≡◌, ◌≤◌, ◌⊎◌}
+use Rattle.std.specs.Prelude.{Bool, List, Some, if◌then◌else◌, is_none, true, ℕ, ◌&&◌, ◌++◌, ◌-◌, ◌<◌, ◌||◌, ◌≡◌, ◌≤◌, ◌⊎◌}
+use Rattle.hs_events.specs.Taken.{peer_count}
 use Rattle.hs_fold.specs.Shards.Course.{begins}
-use Rattle.hs_journal.specs.Order.{IsOfLine}
+use Rattle.hs_journal.specs.declared.entry.JournalEntry.{JournalEntry}
+use Rattle.hs_journal.specs.Order.{IsAt, IsOfLine}
 use Rattle.hs_limits.specs.Shape.{peer_of}
 use Rattle.hs_members.specs.Members.{home_of, peers_of}
 use Rattle.hs_model.specs.declared.command.Command.TheVariants as command
@@ -54,3 +56,22 @@ extra_note S r peer = if is_aside S r peer && (is_none (list_in (disk_at r.old.d
 -- of a disk that tells its contents there are at most so many notes more than its count rose by
 abbrev pub NotesCause : Script → Ran → Type 0
 NotesCause S r = (peer : ℕ) → DiskRose r (note_count peer (r.journal ++ r.refused) - extra_note S r peer) peer
+
+-- ---- notes end a run
+
+-- behind a note that a peer is down stand only such notes, with the same line
+abbrev pub NotesComeLast : List JournalEntry → Type 0
+NotesComeLast journal = (i j peer line : ℕ) (entry : JournalEntry) → IsDownAt journal i peer line → i < j → IsAt journal j entry → (other : ℕ) × IsDownAt journal j other line
+
+-- so it is; and where the last line was gone past there is none
+pub record NotesEnd (r : Ran) : Type 0 where
+  pub past : (ending_of r.ending).past ≡ true → (peer : ℕ) → note_count peer r.journal ≡ 0
+  pub last : NotesComeLast r.journal
+
+-- ---- a run without a course
+
+-- why no peer was good: no store was opened, or memory was wanting; or each peer is told to be down before any line, or would have been told so, had the journal had room
+abbrev pub NoneGoodCause : Script → Ran → Type 0
+NoneGoodCause S r =
+    (((ending_of r.ending).closed ≡ true) ⊎ ((ending_of r.ending).wanting ≡ true))
+    ⊎ ((peer : ℕ) → peer < peer_count S.set.shape → is_first_noted peer (r.journal ++ r.refused) ≡ true)

@@ -103,6 +103,20 @@ closed_within tells set disks left cluster.NoMemory h peer found is = absurd (no
     not_shape : status.NoMemory ≡ status.WrongShape peer found → ⊥
     not_shape e = cc
 
+closed_other : (tells : Type 0) (set : Setting) (disks left : List DiskSeen) (fault : ClusterFault) (old new : Objects) → AreHanded old disks → AreHanded new left → IsClosed tells set.shape disks left fault
+    → (peer : ℕ) (found : Header) → status_of (Err (of_cluster fault)) 0 ≡ status.WrongShape peer found → faults_at new.disk_faults peer ≡ faults_at old.disk_faults peer
+closed_other tells set disks left (cluster.WrongShape p f) old new was is h peer found ending =
+    subst (λ (k : ℕ). faults_at new.disk_faults k ≡ faults_at old.disk_faults k) (same_peer ending) (count_is new left is p ∙ h.stands ∙ sym (count_is old disks was p))
+  where
+    same_peer : status.WrongShape p f ≡ status.WrongShape peer found → p ≡ peer
+    same_peer e = cc
+closed_other tells set disks left (cluster.ShardLost shard) old new was is h peer found ending = absurd h
+closed_other tells set disks left cluster.OpsFull old new was is h peer found ending = absurd h
+closed_other tells set disks left cluster.NoMemory old new was is h peer found ending = absurd (not_shape ending)
+  where
+    not_shape : status.NoMemory ≡ status.WrongShape peer found → ⊥
+    not_shape e = cc
+
 some_list : (x y : List ℕ) → Some x ≡ Some y → x ≡ y
 some_list x y e = cc
 
@@ -280,7 +294,10 @@ module _ (tells : Type 0) (set : Setting) (span : Taking) (fault : ClusterFault)
     counts = record { disks = falls_is old new span.old span.new was is falls; sink = sink; source = source };
     causes = closed_causes tells set span.old span.new fault old new closed;
     within = closed_within tells set span.old span.new fault closed;
-    calm = λ one past. absurd (closed_past tells set span.old span.new fault closed past);
+    calm = record {
+      past = λ one past. absurd (closed_past tells set span.old span.new fault closed past);
+      other = closed_other tells set span.old span.new fault old new was is closed;
+    };
     left = λ some. subst (λ (o : Option (List ℕ)). IsSome o) (sym unread) some;
     ends = if_any (λ told. IfSome new.left (Ends r told)) old.left (λ told there. closed_by told there);
     past = closed_keeps;

@@ -21,7 +21,7 @@ use Rattle.hs_ports.specs.Objects.{KeepsTime, Objects}
 use Rattle.hs_ports.specs.Putting.{IsPut, PutsFront}
 use Rattle.hs_ports.specs.Sink.{bytes_of, followed}
 use Rattle.hs_ports.specs.Source.{before}
-use Rattle.hs_promise.specs.Calm.{EndsCalm}
+use Rattle.hs_promise.specs.Calm.{PassesCalmly}
 use Rattle.hs_promise.specs.declared.status.Status.{Status}
 use Rattle.hs_promise.specs.declared.status.Status.TheVariants as status
 use Rattle.hs_promise.specs.Ending.{Ending, ending_of}
@@ -129,7 +129,7 @@ pub record IsOfStory (tells : Type 0) (S : Script) (r : Ran) : Type 0 where
   pub went : Went S r story
   pub runs : RunsOnDisks tells S r story
   pub ended : HasItsEnd S r story
-  pub calm : EndsCalm S r
+  pub calm : PassesCalmly S r
   pub nobody : S.commands 0 ≡ None
 
 module _ (tells : Type 0) (name : List ℕ → Address) (did : Result ⊤ ClusterFault) (b : Begun) (part : Stretch) (new : Objects) (named : b.set.name ≡ name) (opened : IsOpened tells b did part.old) (found : FoundBy b)
@@ -169,7 +169,13 @@ module _ (tells : Type 0) (name : List ℕ → Address) (did : Result ⊤ Cluste
               (found (chosen b.old.left []) (ran_at (status_of part.result part.new.line) part.new.line (Some part.old.cluster) b.old new) [] refl)
               (paid_by tells b.set (whole_span part.old.cluster) b.found (all_events (story_of b [])) b.old new was is shown));
           runs = on_disks (chosen b.old.left []) (status_of part.result part.new.line) part.new.line (Some part.new.cluster) [] part.old.cluster (λ told. subst (λ (d : List DiskSeen). Since (stands_of d)) (sym left) (opened.since told)) shown;
-          ended = record { written = λ is front es there. absurd (snoc_some front es there); unread = λ some. unread };
+          ended = record {
+            written = λ is front es there. absurd (snoc_some front es there);
+            answered = λ is none.
+                let failed : put.put ≡ Err stop.WriteFault = put_failed did put.put part.new.line (ap (λ (r : Result ⊤ Stop). status_of r part.new.line) (sym put.ended) ∙ is) in
+                subst (λ (c : Running). 0 < length c.core.journal) (sym same) (longer 0 part.old.cluster.core.journal (put.some failed));
+            unread = λ some. unread;
+          };
           calm = λ one past. absurd (within_past part.result part.new.line
               (opening_within did part.old.cluster (record { before = part.old.now; now = part.new.now; old = part.old.got; new = part.new.got }) part.result opened.outcome cut put) past);
           nobody = chosen_first b.old.left [];
@@ -186,6 +192,7 @@ module _ (tells : Type 0) (name : List ℕ → Address) (did : Result ⊤ Cluste
       runs = on_disks (chosen b.old.left so_far.read) (status_of part.result part.new.line) part.new.line (Some part.new.cluster) so_far.lines part.new.cluster so_far.shows.since so_far.shows.shown;
       ended = record {
         written = λ is. absurd (between_write part.result part.new.line stops is);
+        answered = λ is. absurd (between_write part.result part.new.line stops is);
         unread = λ some. absurd (none_some (first_core b.set b.found).ended (first_going (first_core b.set b.found) (all_events (story_of b so_far.lines)) (ap (λ (c : Core). c.ended) (sym so_far.gone.behind.core) ∙ so_far.gone.going)) some);
       };
       calm = λ one past. calm_is b.old new b.disks part.new.disks was is so_far.shows.may.calm.none;
@@ -209,6 +216,7 @@ module _ (tells : Type 0) (name : List ℕ → Address) (did : Result ⊤ Cluste
                 let more : length at.cluster.core.journal < length part.new.cluster.core.journal = longer (length at.cluster.core.journal) part.new.cluster.core.journal (runs.some failed) in
                 subst (λ (ls : List Events). length (core_behind b ls).journal < length part.new.cluster.core.journal) (snoc_is lines front runs.runs.events es there)
                 (subst (λ (c : Core). length c.journal < length part.new.cluster.core.journal) gone.behind.core more);
+            answered = λ is none. absurd (snoc_some lines runs.runs.events (sym none));
             unread = λ some. absurd (none_some (first_core b.set b.found).ended (first_going (first_core b.set b.found) (all_events (story_of b lines)) (ap (λ (c : Core). c.ended) (sym gone.behind.core) ∙ gone.going)) some);
           };
           calm = λ one past. absurd (within_past part.result part.new.line (within_of tells name asked (record { old = at; new = part.new; result = part.result }) cut runs) past);

@@ -46,10 +46,11 @@ pub record HasReadDisks (S : Script) (r : Ran) (story : Story) : Type 0 where
   pub read : (peer : ℕ) → peer < peer_count S.set.shape → IsReadAs r story peer
   pub told : (first_core S.set story.found).ended ≡ None → TellTheirLists (open_whole S.set story.found) (all_events story)
 
--- a sink failed only where its line had answered something; and nothing was read where the core ended as it opened
+-- a sink failed only where its line had answered something, or opening, where no line was begun; and nothing was read where the core ended as it opened
 pub record HasItsEnd (S : Script) (r : Ran) (story : Story) : Type 0 where
   pub written : r.ending ≡ status.WriteFault → (front : List Events) (es : Events) → story.lines ≡ front ++ es ∷ []
       → length (last_core S (record story { lines = front })).journal < length r.journal
+  pub answered : r.ending ≡ status.WriteFault → story.lines ≡ [] → 0 < length r.journal
   pub unread : IsSome (first_core S.set story.found).ended → r.new.left ≡ r.old.left
 
 -- no core was opened: the calls on each disk left its list as it was, and its past

@@ -51,6 +51,7 @@ pub record IsOpeningPut (did : Result ⊤ ClusterFault) (cluster : Running) (par
   pub puts : Puts part.before part.now (text cluster.core.journal) part.old part.new put
   pub only : IfErr put IsPutStop
   pub ended : result ≡ end_of did put
+  pub some : put ≡ Err stop.WriteFault → 0 < length (text cluster.core.journal)
 
 -- a line, by what it says: a bad one and one that could not be read for want of memory leave all as it was; one that says nothing is gone past
 pub data DoesLine (tells : Type 0) (name : List ℕ → Address) (said : Reading) (part : Stretch) : Type 0 where

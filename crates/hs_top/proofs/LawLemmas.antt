@@ -1,7 +1,7 @@
 -- The laws by which a run keeps what is promised of it, as calls of them ensure them.
-use Rattle.std.specs.Prelude.{All, IfSome, None, Option, Some, [], true, ℕ, ◌++◌, ◌+◌, ◌<◌, ◌≡◌, ◌≤◌, Bool, List}
+use Rattle.std.specs.Prelude.{All, IfSome, None, Option, Some, [], false, true, ℕ, ◌++◌, ◌+◌, ◌<◌, ◌≡◌, ◌≤◌, Bool, List}
 use Rattle.hs_answers.specs.Answered.{KeepsRecordRoom}
-use Rattle.hs_causes.specs.Printing.{FailsInText, LeavesUnread}
+use Rattle.hs_causes.specs.Printing.{FailsInOpening, FailsInText, LeavesUnread}
 use Rattle.hs_clauses.specs.Asked.{start_of}
 use Rattle.hs_clauses.specs.Shown.{IsShown, IsToldRun, OnDisks}
 use Rattle.hs_cluster.specs.Kept.{AreStored, AreTold}
@@ -10,11 +10,16 @@ use Rattle.hs_ends.specs.Calm.{AreLed, whole_of}
 use Rattle.hs_ends.specs.Ending.{HasItsCause, TellsAsPromised}
 use Rattle.hs_events.specs.Course.{steps}
 use Rattle.hs_events.specs.Due.{Events, MomentsRise, is_walk, next_due}
-use Rattle.hs_events.specs.Found.{Found, first_core}
+use Rattle.hs_events.specs.Beginning.{first_items}
+use Rattle.hs_events.specs.Found.{Found, first_core, starts_good}
 use Rattle.hs_events.specs.Reports.{failures}
 use Rattle.hs_events.specs.Taken.{peer_count}
 use Rattle.hs_events.specs.Whole.{open_whole}
+use Rattle.hs_fold.specs.Good.{good_from, is_good}
 use Rattle.hs_journal.specs.Events.{client_op}
+use Rattle.hs_journal.specs.Moments.{below}
+use Rattle.hs_journal.specs.Notes.{note_count}
+use Rattle.hs_journal.specs.Order.{IsOrdered}
 use Rattle.hs_journal.specs.Telling.{AreDated}
 use Rattle.hs_laws.specs.Valid.{IsValid}
 use Rattle.hs_limits.specs.Shape.{IsShape}
@@ -31,11 +36,12 @@ use Rattle.hs_promise.specs.Ends.{Ends}
 use Rattle.hs_promise.specs.Entry.{IsSoundAtEntry, MayStop, entry_store}
 use Rattle.hs_promise.specs.Found.{IsReadAs}
 use Rattle.hs_promise.specs.Kept.{KeepsAlong}
-use Rattle.hs_promise.specs.Lost.{NotesCause}
+use Rattle.hs_promise.specs.Lost.{IsPast, NoneGoodCause, NotesCause, NotesEnd}
 use Rattle.hs_promise.specs.Machine.{NeverOpened, Went, WentAs, loss_count}
 use Rattle.hs_promise.specs.Run.{DiskRose, Ran, Script}
 use Rattle.hs_promise.specs.Stops.{Stops}
 use Rattle.hs_promise.specs.Story.{Story, all_events}
+use Rattle.hs_promise.specs.Untold.{NoneFails}
 use Rattle.hs_reads.specs.Run.{script_of}
 use Rattle.hs_script.specs.Reading.{commands}
 use Rattle.hs_side.specs.declared.header.Header.{Header}
@@ -69,6 +75,12 @@ pub record Laws : Type 0 where
   pub entries : (S : Script) (r : Ran) (how : Option Story) → WentAs S r how → All (IsEntry S r.line) r.journal
   pub dated : (S : Script) (r : Ran) (how : Option Story) → WentAs S r how → AreDated S.commands r.journal
   pub nothing : (S : Script) (r : Ran) (how : Option Story) → IsShape S.set.shape → WentAs S r how → IfSome how (LeavesUnread S r) → r.course ≡ [] → BeganNothing r
+  pub start_good : (S : Script) (r : Ran) (story : Story) → S.set.shape.copies ≡ 1 → Went S r story → IsPast r 0 → (peer : ℕ) → peer < peer_count S.set.shape → starts_good story.found peer ≡ true
+  pub stay_good : (S : Script) (r : Ran) (story : Story) → S.set.shape.copies ≡ 1 → Went S r story → IsPast r 0 → (m peer : ℕ) → peer < peer_count S.set.shape
+      → good_from false (first_items S.set.shape story.found r.old.moment) m peer ≡ true → note_count peer (below m r.journal) ≡ 0 → NoneFails S r peer → is_good r.course m peer ≡ true
+  pub notes_end : (S : Script) (r : Ran) (how : Option Story) → S.set.shape.copies ≡ 1 → WentAs S r how → NotesEnd r
+  pub ordered : (S : Script) (r : Ran) (how : Option Story) → client_op (S.commands 0) ≡ None → WentAs S r how → IsOrdered S.commands r.journal
+  pub none_good : (S : Script) (r : Ran) (how : Option Story) → WentAs S r how → IsShape S.set.shape → IfSome how (FailsInOpening r) → r.course ≡ [] → NoneGoodCause S r
   pub prompt : (S : Script) (r : Ran) (how : Option Story) → client_op (S.commands 0) ≡ None → WentAs S r how → IfSome how (FailsInText S r) → (line : ℕ) → HasPrompt S r line
   pub cause : (S : Script) (r : Ran) (how : Option Story) → S.set.shape.copies ≡ 1 → WentAs S r how → (r.ending ≡ status.ReadFault → HasRisen r.old.source_faults r.new.source_faults)
       → (r.ending ≡ status.WriteFault → HasRisen r.old.sink_faults r.new.sink_faults)

@@ -1,14 +1,15 @@
 -- What is promised of a run, from what hs_run says of it and the laws.
-use Rattle.std.proofs.Common.{◌≡◌, ◌∙◌, ap, refl, true, ℕ, ◌<◌, ◌++◌, List, Option, Some, None, length}
+use Rattle.std.proofs.Common.{◌≡◌, ◌∙◌, ap, refl, true, ℕ, ◌*◌, ◌<◌, ◌++◌, arith, List, Option, Some, None, length}
 use Rattle.std.proofs.lemmas.Bool.{false≢true}
 use Rattle.std.specs.Prelude.{IfSome, IsSome}
-use Rattle.hs_causes.specs.Printing.{FailsInText, LeavesUnread}
+use Rattle.hs_causes.specs.Printing.{FailsInOpening, FailsInText, LeavesUnread}
+use Rattle.hs_clauses.proofs.FoundLemmas.{opens_good}
 use Rattle.hs_clauses.proofs.ShownLemmas.{shown_of, unopened_of}
 use Rattle.hs_clauses.specs.Shown.{IsToldRun, OnDisks, ShownAs}
 use Rattle.hs_desk.specs.declared.fault.CoreFault.{CoreFault}
 use Rattle.hs_ends.specs.Calm.{AreLed, whole_of}
 use Rattle.hs_ends.specs.Ending.{HasItsCause, TellsAsPromised}
-use Rattle.hs_events.specs.Found.{first_core}
+use Rattle.hs_events.specs.Found.{first_core, starts_good}
 use Rattle.hs_held.specs.Held.{GivesAddresses}
 use Rattle.hs_journal.specs.Events.{client_op}
 use Rattle.hs_model.specs.declared.command.Command.{Command}
@@ -22,6 +23,7 @@ use Rattle.hs_promise.specs.Entry.{IsSoundAtEntry, entry_store, is_aside}
 use Rattle.hs_promise.specs.Lost.{NotesCause}
 use Rattle.hs_promise.specs.Machine.{WentAs}
 use Rattle.hs_promise.specs.Promise.{Clauses}
+use Rattle.hs_promise.specs.Untold.{IsGoodUntold}
 use Rattle.hs_promise.specs.Run.{Ran, Script}
 use Rattle.hs_promise.specs.Story.{Story}
 use Rattle.hs_run.proofs.CaseLemmas.{if_told}
@@ -30,6 +32,7 @@ use Rattle.hs_script.specs.Reading.{commands}
 use Rattle.hs_top.proofs.LawLemmas.{Laws}
 use Rattle.hs_top.proofs.NoteLemmas.{WhyAside, failed_by, never_aside, why_aside}
 use Rattle.hs_top.proofs.SettleLemmas.{no_line, settles_none}
+use Rattle.hs_top.proofs.PastLemmas.{never_past}
 use Rattle.hs_top.specs.Calls.{Promised, PromisedWhereTold}
 
 module _ (laws : Laws) (tells : Type 0) (S : Script) (r : Ran) (names : GivesAddresses S.set.name) (asked : r.ending ≡ status.Usage → ⊥) (cluster : IsOfCluster tells S r) where
@@ -54,6 +57,9 @@ module _ (laws : Laws) (tells : Type 0) (S : Script) (r : Ran) (names : GivesAdd
   in_text : IfSome cluster.how (FailsInText S r)
   in_text = if_told (HasItsEnd S r) (FailsInText S r) cluster.how cluster.ended (λ story ended. ended.written)
 
+  in_opening : IfSome cluster.how (FailsInOpening r)
+  in_opening = if_told (HasItsEnd S r) (FailsInOpening r) cluster.how cluster.ended (λ story ended. ended.answered)
+
   prints : Prints S r
   prints = record {
     entries = laws.entries S r cluster.how cluster.went;
@@ -66,6 +72,14 @@ module _ (laws : Laws) (tells : Type 0) (S : Script) (r : Ran) (names : GivesAdd
 
   cause : Cause S r r.ending
   cause = laws.cause S r cluster.how cluster.one cluster.went cluster.served.causes.read cluster.served.causes.write cluster.served.within
+
+  good_by : (how : Option Story) → WentAs S r how → IsGoodUntold S r
+  good_by None went past m peer during low untold none = absurd (never_past r went past)
+  good_by (Some story) went past m peer during low untold none =
+      let start : starts_good story.found peer ≡ true = laws.start_good S r story cluster.one went past peer low in
+      let count : S.set.shape.shards * S.set.shape.copies ≡ S.set.shape.shards = ap (λ n. S.set.shape.shards * n) cluster.one ∙ omega arith in
+      let within : peer < S.set.shape.shards * S.set.shape.copies = low in
+      laws.stay_good S r story cluster.one went past m peer low (opens_good S r story went.found cluster.one m peer during.above (omega (arith, within, count)) start) untold none
 
   -- ---- what stands where the disks tell
 
@@ -179,6 +193,10 @@ module _ (laws : Laws) (tells : Type 0) (S : Script) (r : Ran) (names : GivesAdd
     counts = cluster.served.counts;
     cause = cause;
     calm = cluster.served.calm;
+    good = good_by cluster.how cluster.went;
+    notes_end = laws.notes_end S r cluster.how cluster.one cluster.went;
+    ordered = laws.ordered S r cluster.how nobody cluster.went;
+    none_good = λ none. laws.none_good S r cluster.how cluster.went cluster.shape in_opening none;
     ends = cluster.served.ends;
     told = where_told;
   }

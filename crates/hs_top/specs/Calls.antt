@@ -1,5 +1,6 @@
 -- What the two calls of the program promise, for stores of one copy a shard.
-use Rattle.std.specs.Prelude.{IfSome, List, None, Option, length, true, ℕ, ◌<◌, ◌≡◌, ◌⊎◌}
+use Rattle.std.specs.Prelude.{IfSome, List, None, Option, [], length, true, ℕ, ◌<◌, ◌≡◌, ◌⊎◌}
+use Rattle.hs_journal.specs.Order.{IsOrdered}
 use Rattle.hs_limits.specs.declared.address.Address.{Address}
 use Rattle.hs_model.specs.declared.command.Command.{Command}
 use Rattle.hs_ports.specs.Moments.{disk_at}
@@ -10,17 +11,18 @@ use Rattle.hs_promise.specs.Causes.{Cause}
 use Rattle.hs_promise.specs.Completes.{HasPrompt}
 use Rattle.hs_promise.specs.Ends.{Ends}
 use Rattle.hs_promise.specs.Entry.{IsSoundAtEntry, MayStop, entry_store, is_aside}
-use Rattle.hs_promise.specs.Lost.{NotesCause}
+use Rattle.hs_promise.specs.Lost.{NoneGoodCause, NotesCause, NotesEnd}
 use Rattle.hs_promise.specs.Promise.{AreOfScript, Clauses, IsUsage}
 use Rattle.hs_promise.specs.Run.{DiskRose, Ran, Script, script_of}
 use Rattle.hs_promise.specs.Shapes.{ShapeCause}
 use Rattle.hs_promise.specs.Stops.{Stops}
+use Rattle.hs_promise.specs.Untold.{IsGoodUntold}
 use Rattle.hs_promise.specs.declared.status.Status.TheVariants as status
 use Rattle.hs_run.specs.Machine.{IsOfCluster}
 use Rattle.hs_run.specs.Words.{built_of}
 use Rattle.hs_side.specs.Current.{list_in}
 
--- ---- what is promised of a run: `Promise` of hs_promise, but that notes ask for sound disks
+-- ---- what is promised of a run: `Promise` of hs_promise, but that notes ask for sound disks, and what stands beside it of any run
 
 -- over disks that tell their contents; a peer is set aside only where its disk failed, or has no log
 pub record PromisedWhereTold (S : Script) (r : Ran) : Type 0 where
@@ -41,6 +43,10 @@ pub record Promised (tells : Type 0) (S : Script) (r : Ran) : Type 0 where
   pub counts : CountsStand r.old r.new
   pub cause : Cause S r r.ending
   pub calm : EndsCalm S r
+  pub good : IsGoodUntold S r
+  pub notes_end : NotesEnd r
+  pub ordered : IsOrdered S.commands r.journal
+  pub none_good : r.course ≡ [] → NoneGoodCause S r
   pub ends : IfSome r.old.left (λ script. IfSome r.new.left (Ends r script))
   pub told : tells → PromisedWhereTold S r
 

@@ -7,9 +7,10 @@ ghost use Rattle.hs_top.specs.Words.{is_load};
 
 use hs_block::Addresser;
 use hs_causes::{
+    a_journal_is_in_order, a_note_ends_the_run, a_peer_is_good_until_it_is_told,
     a_prompt_line_has_its_entry, a_run_without_a_course_began_nothing,
-    each_entry_stands_for_its_cause, each_note_has_its_cause, each_status_has_its_cause,
-    notes_have_their_line,
+    a_run_without_a_course_has_its_cause, each_entry_stands_for_its_cause, each_note_has_its_cause,
+    each_status_has_its_cause, notes_have_their_line,
 };
 use hs_clauses::{a_run_is_answered, a_run_keeps, a_run_may_stop, a_run_stands};
 use hs_deletes::a_run_deletes_as_promised;
@@ -41,8 +42,12 @@ fn run_words<A: Addresser, S: Source, K: Sink, D: Disk>(
         (K.got sink.new, K.faults sink.new) (S.left source.new, S.faults source.new))) }
 {
     each_entry_stands_for_its_cause();
+    a_journal_is_in_order();
+    a_note_ends_the_run();
+    a_peer_is_good_until_it_is_told();
     notes_have_their_line();
     a_run_without_a_course_began_nothing();
+    a_run_without_a_course_has_its_cause();
     a_prompt_line_has_its_entry();
     each_status_has_its_cause();
     each_note_has_its_cause();
