@@ -1,5 +1,7 @@
+pub mod CountLemmas
 pub mod EndLemmas
 pub mod EventLemmas
+pub mod FrontLemmas
 pub mod GotLemmas
 pub mod MachineLemmas
 pub mod MereLemmas
@@ -9,4 +11,5 @@ pub mod ReplyLemmas
 pub mod RuleLemmas
 pub mod RunLemmas
 pub mod SaidLemmas
+pub mod SentLemmas
 pub mod WalkLemmas

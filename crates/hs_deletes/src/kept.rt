@@ -1,5 +1,5 @@
 //! What a core tells of deletions, as it opens, behind each event, and along a run.
-ghost use Rattle.std.specs.Prelude.{◌≡◌, ℕ, List, []};
+ghost use Rattle.std.specs.Prelude.{◌≡◌, ℕ, List, [], take};
 ghost use Rattle.hs_along.specs.Walks.{HasRecordRoom};
 ghost use Rattle.hs_answered.specs.Telling.{Judging};
 ghost use Rattle.hs_core.specs.declared.event.Event.{Event};
@@ -18,7 +18,7 @@ ghost use Rattle.hs_legal.specs.Standing.{IsStanding, MayStand};
 ghost use Rattle.hs_limits.specs.declared.limits.Limits.{Limits};
 ghost use Rattle.hs_limits.specs.declared.shape.Shape.{Shape};
 ghost use Rattle.hs_model.specs.Store.{Store};
-ghost use Rattle.hs_standing.specs.Run.{MayRun, RunOpens};
+ghost use Rattle.hs_standing.specs.Run.{IsRunning, MayRun, RunOpens};
 ghost use Rattle.hs_standing.specs.Standing.{AllMayKeep, judging_of};
 ghost use Rattle.hs_stops.specs.Start.{Start};
 
@@ -76,6 +76,29 @@ pub fn a_run_keeps_the_rule_of_done()
         → AllMayKeep start (MayRun start) (first_core start.set found) events →
         TellsDeletion (judging_of start) start.entry
         (steps (first_core start.set found) events) }
+{
+    a_step_that_answers_is_the_judges();
+    an_answer_is_the_judges();
+    a_read_is_the_judges();
+    a_write_is_the_judges();
+    views_show_the_store();
+    a_new_block_is_answered_at_its_effect();
+    a_present_block_is_answered_at_its_effect();
+    a_root_is_answered_at_its_effect();
+    a_drop_is_answered_at_its_effect();
+    a_delete_is_answered_at_its_effect();
+    an_enter_by_itself_is_told();
+    a_got_is_silent_or_a_sweep();
+    sweep_is_exact();
+    a_run_goes_on();
+}
+
+/// From a state of such a run on, in which it was kept, it is kept behind each front of the events.
+pub fn each_front_of_a_run_keeps_the_rule_of_done()
+    ensures { (start : Start) (c : Whole) (events : Events)
+        → IsRunning start c → AllMayKeep start (MayRun start) c.core events
+        → TellsDeletion (judging_of start) start.entry c.core →
+        (n : ℕ) → TellsDeletion (judging_of start) start.entry (steps c.core (take n events)) }
 {
     a_step_that_answers_is_the_judges();
     an_answer_is_the_judges();

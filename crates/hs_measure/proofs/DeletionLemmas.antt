@@ -30,11 +30,11 @@ use Rattle.hs_joint.specs.Joined.{AreJoined, IsOfRow, KeepsTheLast}
 use Rattle.hs_joint.specs.Seen.{all_seen, layout_of, seen_block, seen_root, seen_round}
 use Rattle.hs_limits.specs.declared.address.Address.{Address}
 use Rattle.hs_limits.specs.declared.shape.Shape.{Shape}
-use Rattle.hs_measure.proofs.DeletionMeasure.{ahead_at, by_numbers, left_at, part_at, present_at, remaining_at, remains, sweeps_at, told_at}
+use Rattle.hs_measure.proofs.DeletionMeasure.{ahead_at, left_at, part_at, present_at, remaining_at, remains, sweeps_at, told_at}
 use Rattle.hs_measure.proofs.DeletionSums.{length_is, sum_by_parts, sum_first, sum_past, sum_second}
 use Rattle.hs_measure.proofs.StepLemmas.{weight}
 use Rattle.hs_measure.specs.Left.{phase_left, shard_left, stage_left, steps_left, sweeps_left, told_ahead}
-use Rattle.hs_measure.specs.Measure.{asks_of, deletion_left, is_yet, last_epoch, stage_of, total_of}
+use Rattle.hs_measure.specs.Measure.{is_yet, stage_of, total_of}
 use Rattle.hs_memory.specs.Forget.{forget, known_of, record_of}
 use Rattle.hs_model.proofs.Members.{contains_from_member}
 use Rattle.hs_rounds.specs.declared.body.RoundBody.{RoundBody}
@@ -396,10 +396,3 @@ lawful_tells name core cs its = subst (λ (ds : List Folded). AllByRecursion (Te
 pub folded_left : (core : Core) (cs : List Folded) (some : 0 < (shape_of core).shards) (m : Machine) (last asks : ℕ) → IsFolded core cs → IsMeasured (shape_of core).shards some cs m
     → left_at (shape_of core).shards last asks (λ k. catalogue_of k core) ≡ steps_left (layout_of (shape_of core).shards some) last asks m
 folded_left core cs some m last asks folded its = left_is (shape_of core).shards some cs m its (shape_of core) (λ k. catalogue_of k core) (λ k low. folded_at core cs folded k low) last asks
-
--- the measure of the core is that of the machine which its folds follow
-pub deletion_is : (name : List ℕ → Address) (core : Core) (cs : List Folded) (some : 0 < (shape_of core).shards) (m : Machine) → IsLawful name core cs → AreJoined (setting_of name core) some cs m
-    → deletion_left core ≡ steps_left (layout_of (shape_of core).shards some) (last_epoch core) (asks_of core) m
-deletion_is name core cs some m its joined =
-    by_numbers core (last_epoch core) (asks_of core)
-    ∙ folded_left core cs some m (last_epoch core) (asks_of core) its.folded (joined_measured (setting_of name core) some cs m joined (lawful_tells name core cs its))

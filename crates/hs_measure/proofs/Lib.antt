@@ -1,6 +1,5 @@
 pub mod ListLemmas
 pub mod StepLemmas
-pub mod MonotoneLemmas
 pub mod EffectLemmas
 pub mod FallLemmas
 pub mod RoomLemmas

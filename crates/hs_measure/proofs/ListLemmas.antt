@@ -1,5 +1,5 @@
 -- Sums and counts over lists, and over the shards.
-use Rattle.std.proofs.Common.{◌≡◌, ◌≢◌, sym, subst, inl, inr, refl, ℕ, zero, suc, ◌+◌, ◌≤◌, ◌<◌, ◌||◌, Bool, true, false, cond, List, [], ◌∷◌, ◌++◌, Some, arith, length, length-append, count_by, sum_by, slice_get}
+use Rattle.std.proofs.Common.{◌≡◌, ◌≢◌, sym, subst, inl, inr, refl, ℕ, zero, suc, ◌+◌, ◌≤◌, ◌<◌, ◌||◌, Bool, true, false, cond, List, [], ◌∷◌, ◌++◌, arith, length, length-append, count_by, sum_by}
 use Rattle.std.proofs.lemmas.Bool.{cases_eq}
 use Rattle.std.proofs.lemmas.List.Sums.{sum_by-cons, sum_by_push}
 use Rattle.std.specs.List.{list_any, range_with_len}
@@ -116,9 +116,3 @@ any_push test (y ∷ ys) x = go (test y) (any_push test ys x)
     go : (b : Bool) → list_any test (ys ++ x ∷ []) ≡ (list_any test ys || test x) → (b || list_any test (ys ++ x ∷ [])) ≡ ((b || list_any test ys) || test x)
     go true r = refl
     go false r = r
-
-pub get_more : {X : Type 0} (xs : List X) (y : X) (place : ℕ) (x : X) → slice_get xs place ≡ Some x → slice_get (xs ++ y ∷ []) place ≡ Some x
-get_more [] y zero x at = absurd (cc at)
-get_more [] y (suc place) x at = absurd (cc at)
-get_more (z ∷ zs) y zero x at = at
-get_more (z ∷ zs) y (suc place) x at = get_more zs y place x at

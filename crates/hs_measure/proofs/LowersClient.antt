@@ -60,9 +60,6 @@ lists_le g g' d d' one h k = omega (arith, h, k)
 -- ---- any of them
 
 module _ (name : List ℕ → Address) (cs : List Folded) (c : Core) (its : Stand name cs c) (shard number : ℕ) (entry : Entry) (next : Next name cs c shard number entry) where
-  abbrev Then : Core
-  Then = taken shard entry c
-
   abbrev done : Catalogue
   done = (done_by shard entry c).catalogue
 

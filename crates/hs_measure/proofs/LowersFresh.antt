@@ -1,6 +1,6 @@
 -- What is refused at its effect, its operation is refused then: a handle is outdated, a key is taken or not there, a run goes on.
 use Rattle.std.proofs.Common.{◌≡◌, ◌∙◌, sym, ap, refl, ℕ, ◌+◌, ◌<◌, ◌≤◌, Bool, true, false, not, fold, map, min, List, [], ◌∷◌, Option, Some, None, arith, is_none, is_some, nat_le, nat_lt, bytes_eq, slice_index}
-use Rattle.std.proofs.lemmas.Bool.{and_parts, le-leb, leb-false, leb-true, ltb-false, ltb-true}
+use Rattle.std.proofs.lemmas.Bool.{and_parts, le-leb, leb-true, ltb-false, ltb-true}
 use Rattle.std.specs.List.{list_all}
 use Rattle.std.specs.Option.{option_map}
 use Rattle.std.specs.Prelude.{if◌then◌else◌, unwrap_or}
@@ -120,10 +120,3 @@ drop_kept v key e = not_when (is_none (kept_in v key)) (reply.NoKey key) (head_n
 pub delete_idle : (v : OpView) → refusal_of v op.Delete ≡ None → nat_lt (slice_index v.swept 0) (slice_index v.epochs 0) ≡ false
 unfolding refusals_of
 delete_idle v e = not_when (nat_lt (slice_index v.swept 0) (slice_index v.epochs 0)) (reply.Running (slice_index v.epochs 0)) (head_none (is_running v) (epochs_end v ∷ []) e)
-
-pub delete_within : (v : OpView) → refusal_of v op.Delete ≡ None → slice_index v.epochs 0 < v.limits.epochs
-unfolding refusals_of
-delete_within v e =
-    let some = rest_none (is_running v) (epochs_end v ∷ []) e in
-    let no = not_when (nat_le v.limits.epochs (slice_index v.epochs 0)) (reply.EpochEnd v.limits.epochs) (head_none (epochs_end v) [] some) in
-    leb-false v.limits.epochs (slice_index v.epochs 0) no

@@ -15,7 +15,6 @@ use Rattle.hs_entry.specs.declared.entry.Entry.{Entry}
 use Rattle.hs_entry.specs.declared.entry.Entry.TheVariants as kind
 use Rattle.hs_fold.specs.Runs.Facts.{Catalogue as Folded}
 use Rattle.hs_limits.proofs.ReadingLemmas.{read_again}
-use Rattle.hs_limits.specs.Block.{Block}
 use Rattle.hs_limits.specs.declared.address.Address.{Address}
 use Rattle.hs_limits.specs.Limits.{greatest_limits}
 use Rattle.hs_limits.specs.Reading.{read_block}
@@ -55,9 +54,6 @@ module _ (name : List ℕ → Address) (cs : List Folded) (c : Core) (its : Stan
   abbrev b_entry : Entry
   b_entry = kind.Block line least bytes
 
-  abbrev b_here : Catalogue
-  b_here = catalogue_of shard c
-
   abbrev b_held : HasAsked name c shard (front_of shard c + 1 + 0) line (kind.Block line least bytes)
   b_held = held name cs c its shard number line b_entry next refl
 
@@ -68,9 +64,6 @@ module _ (name : List ℕ → Address) (cs : List Folded) (c : Core) (its : Stan
   b_pending = its.orderly.pending line b_held.waiting b_held.at
 
   module _ (o : IsBlockOp name c.sessions least bytes b_held.waiting.operation.op) where
-    b_block : Block
-    b_block = asked_block c.sessions o.session o.payload o.handles
-
     b_reads : read_block bytes ≡ Ok (asked_block c.sessions o.session o.payload o.handles)
     b_reads =
         ap (λ bs. read_block bs) o.spells
@@ -266,16 +259,10 @@ module _ (name : List ℕ → Address) (cs : List Folded) (c : Core) (its : Stan
   pub drop_counts : reports_left (told_at_once shard (kind.Drop line key) c) ≤ reports_left c
   drop_counts = by_drop (is_none (retained_of key (catalogue_of shard c).roots)) refl refl
 
--- ---- a View, and what reclaiming leaves
+-- ---- a View
 
 module _ (name : List ℕ → Address) (cs : List Folded) (c : Core) (its : Stand name cs c) (shard number : ℕ) where
   pub view_counts : (view : ℕ) → Next name cs c shard number (kind.View view) → reports_left (taken shard (kind.View view) c) ≤ reports_left c
   view_counts view next =
       nobody name cs c its shard number (kind.View view) next refl refl refl (λ from n round. refl) (λ n. refl) (λ line e. cc e) refl
       (λ last asks. added_none (kind.View view) c (taken shard (kind.View view) c) last asks refl (client_moves name c (taken shard (kind.View view) c) cs its.lawful refl shard (kind.View view) tt next.low (taken_lawful name cs c its shard number (kind.View view) next)))
-
-  pub base_counts : (view epoch swept round frames : ℕ) → Next name cs c shard number (kind.Base view epoch swept round frames) → reports_left (taken shard (kind.Base view epoch swept round frames) c) ≤ reports_left c
-  base_counts view epoch swept round frames next =
-      nobody name cs c its shard number (kind.Base view epoch swept round frames) next refl refl refl (λ from n r. refl) (λ n. refl) (λ line e. cc e) refl
-      (λ last asks. added_none (kind.Base view epoch swept round frames) c (taken shard (kind.Base view epoch swept round frames) c) last asks refl
-      (client_moves name c (taken shard (kind.Base view epoch swept round frames) c) cs its.lawful refl shard (kind.Base view epoch swept round frames) tt next.low (taken_lawful name cs c its shard number (kind.Base view epoch swept round frames) next)))

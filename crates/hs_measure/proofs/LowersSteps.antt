@@ -124,13 +124,6 @@ module _ (shard : ℕ) (entry : Entry) (c : Core) where
   abbrev sent : Core
   sent = post (proposal entry (group_of shard c)) (change_group shard (propose entry) c)
 
-  proposed_groups : (propose_entry shard entry c).groups ≡ (change_group shard (propose entry) c).groups
-  proposed_groups = by_lead (lead_of shard c)
-    where
-      by_lead : (lead : Option ℕ) → (change_with lead (λ peer. add_entry_tasks peer (last_number (group_of shard c) + 1) entry) sent).groups ≡ (change_group shard (propose entry) c).groups
-      by_lead None = refl
-      by_lead (Some peer) = refl
-
   proposed_shape : shape_of (propose_entry shard entry c) ≡ shape_of c
   proposed_shape = by_lead (lead_of shard c)
     where

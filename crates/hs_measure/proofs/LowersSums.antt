@@ -221,12 +221,6 @@ lists_taken {X = X} (xs ∷ xss) (suc p) x behind h =
     let r = lists_taken xss p x behind h in
     omega (arith, a, b, r)
 
--- an element that is set as it was
-pub set_same : {X : Type 0} (xs : List X) (k : ℕ) (d : X) → slice_set xs k (slice_index_or xs k d) ≡ xs
-set_same [] k d = refl
-set_same (x ∷ xs) zero d = refl
-set_same (x ∷ xs) (suc k) d = ap (λ ys. x ∷ ys) (set_same xs k d)
-
 -- ---- places of a longer list
 
 pub get_front : {X : Type 0} (xs ys : List X) (place : ℕ) (x : X) → slice_get xs place ≡ Some x → slice_get (xs ++ ys) place ≡ Some x

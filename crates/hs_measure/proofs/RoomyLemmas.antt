@@ -29,7 +29,7 @@ use Rattle.hs_entry.specs.declared.entry.Entry.{Entry}
 use Rattle.hs_entry.specs.declared.entry.Entry.TheVariants as kind
 use Rattle.hs_events.specs.Course.{steps}
 use Rattle.hs_events.specs.Due.{Events}
-use Rattle.hs_events.specs.Found.{Found, first_core}
+use Rattle.hs_events.specs.Found.{Found, first_core, opens_with}
 use Rattle.hs_fold.specs.Shards.Setting.{Setting}
 use Rattle.hs_limits.specs.declared.limits.Limits.{Limits}
 use Rattle.hs_limits.specs.declared.limits.PeerStatus.TheVariants.{Good}
@@ -288,14 +288,21 @@ steps_roomy (e ∷ es) c = roomy_both c (step e.0 e.1 c) (steps c (e ∷ es)) (s
 
 -- ---- opening
 
-open_roomy : (shape : Shape) (limits : Limits) (taken : Taken) (moment : ℕ) → HasRoom (open_core shape limits taken moment).pool
+open_roomy : (shape : Shape) (limits : Limits) (taken : Taken) (moment : ℕ) → Roomy (new_core shape limits taken moment) (open_core shape limits taken moment)
 open_roomy shape limits taken moment =
     let new : Core = new_core shape limits taken moment in
     let viewed : Core = begin_views new in
     let noted : Core = note_down viewed in
     let one : Roomy new viewed = roomy_each (shards_of new) change_view new (λ shard x. roomy_view shard x) in
     let two : Roomy viewed noted = roomy_each (all_peers (shape_of viewed)) note_if_down viewed (λ peer x. roomy_if (not (is_good_status (status_of peer x))) _ x (λ y. roomy_still y _ refl)) in
-    (roomy_ended noted).room (two.room (one.room (let none : 0 ≤ limits.pool = omega arith in none)))
+    roomy_both new noted (end_event noted) (roomy_both new viewed noted one two) (roomy_ended noted)
+
+first_is : (set : Setting) (found : Found) → Roomy (new_core set.shape set.limits (opens_with set found) found.opened) (first_core set found)
+first_is set found = open_roomy set.shape set.limits (opens_with set found) found.opened
 
 pub first_roomy : (set : Setting) (found : Found) → HasRoom (first_core set found).pool
-first_roomy set found = open_roomy set.shape set.limits _ found.opened
+first_roomy set found = (first_is set found).room (let none : 0 ≤ set.limits.pool = omega arith in none)
+
+-- the pool takes as many messages as the limits say
+pub first_limit : (set : Setting) (found : Found) → (first_core set found).pool.limit ≡ set.limits.pool
+first_limit set found = (first_is set found).limit

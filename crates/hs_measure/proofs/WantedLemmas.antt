@@ -58,6 +58,11 @@ pub record Moving : Type 0 where
 
 -- ---- a settle
 
+-- of some events that may come, so may the first
+pub front_may : (start : Start) (core : Core) (es fs : Events) → AllMayKeep start (MayRun start) core (es ++ fs) → AllMayKeep start (MayRun start) core es
+front_may start core [] fs may = tt
+front_may start core (e ∷ es) fs may = (may.0, front_may start (step e.0 e.1 core) es fs may.1)
+
 module _ (running : Running) (moves : Moving) (start : Start) (line : ℕ) (wanted : Wanted start line) where
   fitting : (c : Whole) → IsRunning start c → length c.core.pool.messages ≤ c.core.pool.limit → IsFitting c.core
   fitting c run room = record {
@@ -100,10 +105,6 @@ module _ (running : Running) (moves : Moving) (start : Start) (line : ℕ) (want
   core_is c [] = refl
   core_is c (e ∷ es) = core_is (step_whole e.0 e.1 c) es
 
-  front_may : (core : Core) (es fs : Events) → AllMayKeep start (MayRun start) core (es ++ fs) → AllMayKeep start (MayRun start) core es
-  front_may core [] fs may = tt
-  front_may core (e ∷ es) fs may = (may.0, front_may (step e.0 e.1 core) es fs may.1)
-
   -- along any events
   low_along : (es : Events) (c : Whole) → IsRunning start c → AllMayKeep start (MayRun start) c.core es → (steps c.core es).ended ≡ None → IsLow c.core → IsLow (steps c.core es)
   low_along [] c run may going low = low
@@ -124,7 +125,7 @@ module _ (running : Running) (moves : Moving) (start : Start) (line : ℕ) (want
       by_end : (o : Option CoreFault) → (steps (first_core start.set found) before).ended ≡ o → length events ≤ events_left place (steps (first_core start.set found) before)
       by_end (Some fault) over = let none = ended_short reports_left line place (steps first before) fault events end over h in omega (arith, none)
       by_end None going =
-          let so_far : AllMayKeep start (MayRun start) (first_core start.set found) before = front_may first before events may in
+          let so_far : AllMayKeep start (MayRun start) (first_core start.set found) before = front_may start first before events may in
           let run0 : IsRunning start (open_whole start.set found) = running.opens start found opens in
           let run : IsRunning start (runs whole_machine (open_whole start.set found) before) = running.goes_on start (open_whole start.set found) before run0 so_far going in
           let moving : IsMoving start.set.name (runs whole_machine (open_whole start.set found) before) = moves.events start (open_whole start.set found) before (moves.opened start found opens) so_far going in

@@ -97,8 +97,17 @@ abbrev pub dues_of : Core → ℕ
 dues_of core = count_by (λ shard. is_enter_due shard core) (shards_of core)
 
 abbrev pub is_any_got : Entry → Bool
+is_any_got (kind.View view) = false
+is_any_got (kind.Block line least bytes) = false
+is_any_got (kind.Mark line least block address) = false
+is_any_got (kind.Root line held address key) = false
+is_any_got (kind.Drop line key) = false
+is_any_got (kind.Enter line epoch) = false
 is_any_got (kind.Got from epoch round total deltas) = true
-is_any_got other = false
+is_any_got (kind.Base view epoch swept round frames) = false
+is_any_got (kind.KeptBlock born mark flags count bytes) = false
+is_any_got (kind.KeptRoot created dropped counted address key) = false
+is_any_got (kind.KeptRound way other epoch round total deltas) = false
 
 abbrev pub gots_of : Core → ℕ
 gots_of core = sum_by (λ shard. count_by is_any_got (group_of shard core).waiting) (shards_of core)
@@ -111,21 +120,45 @@ is_stored_at number a c = option_map_or (λ f. f.number == number) (facts_at a c
 
 -- whether the block whose bytes a write waits for is still there; a read is answered in any case
 abbrev pub is_there_for : Catalogue → ℕ → Op → Bool
+is_there_for c number (op.Open name) = false
+is_there_for c number (op.Close name) = false
 is_there_for c number (op.Write name payload handles address) = option_map_or (λ a. is_stored_at number a c) address false
 is_there_for c number (op.Read name handle) = true
-is_there_for c number other = false
+is_there_for c number (op.Look name key) = false
+is_there_for c number (op.Root name key handle) = false
+is_there_for c number (op.Drop key) = false
+is_there_for c number (op.Forget name handle) = false
+is_there_for c number (op.Name name handle) = false
+is_there_for c number op.Delete = false
+is_there_for c number op.Stat = false
 
 -- whether a shard has no block at the address that an operation writes
 abbrev pub is_free_for : Catalogue → Op → Bool
+is_free_for c (op.Open name) = true
+is_free_for c (op.Close name) = true
 is_free_for c (op.Write name payload handles address) = option_map_or (λ a. is_none (facts_at a c)) address true
-is_free_for c other = true
+is_free_for c (op.Read name handle) = true
+is_free_for c (op.Look name key) = true
+is_free_for c (op.Root name key handle) = true
+is_free_for c (op.Drop key) = true
+is_free_for c (op.Forget name handle) = true
+is_free_for c (op.Name name handle) = true
+is_free_for c op.Delete = true
+is_free_for c op.Stat = true
 
 -- whether an entry that takes effect answers the operation which asked for it
 abbrev pub is_sure : Catalogue → Op → Entry → Bool
+is_sure c o (kind.View view) = true
 is_sure c o (kind.Block line least bytes) = is_free_for c o
 is_sure c o (kind.Mark line least block address) = is_stored_at block address c
+is_sure c o (kind.Root line held address key) = true
+is_sure c o (kind.Drop line key) = true
 is_sure c o (kind.Enter line epoch) = epoch == c.epoch + 1
-is_sure c o other = true
+is_sure c o (kind.Got from epoch round total deltas) = true
+is_sure c o (kind.Base view epoch swept round frames) = true
+is_sure c o (kind.KeptBlock born mark flags count bytes) = true
+is_sure c o (kind.KeptRoot created dropped counted address key) = true
+is_sure c o (kind.KeptRound way other epoch round total deltas) = true
 
 -- how many jobs an operation asks for besides those that are there: a Read, and an entry's two; front, entries: of its shard's list
 abbrev pub way_by : Catalogue → ℕ → List Entry → Operation → Wait → ℕ

@@ -1,0 +1,4 @@
+pub mod EndLemmas
+pub mod LimitLemmas
+pub mod LowLemmas
+pub mod MachineLemmas

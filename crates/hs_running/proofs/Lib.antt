@@ -1,0 +1,5 @@
+pub mod AlongLemmas
+pub mod EventLemmas
+pub mod LineLemmas
+pub mod OpenedLemmas
+pub mod RestLemmas

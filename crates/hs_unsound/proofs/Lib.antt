@@ -1,0 +1,9 @@
+pub mod ByteLemmas
+pub mod EndLemmas
+pub mod GoLemmas
+pub mod KnownLemmas
+pub mod MachineLemmas
+pub mod NumberLemmas
+pub mod OpenLemmas
+pub mod TellLemmas
+pub mod WantLemmas
