@@ -2,9 +2,9 @@
 """Measures what an event of the core costs, with little and with much at rest.
 
 It runs the program of crates/hs_core_bench, which puts blocks, operations, entries and messages at rest and then does
-rounds of six events, and takes a run without rounds from one with them. Seconds are those of a processor, the median of
-some runs; instructions, where valgrind is there, are counted by its callgrind in user space alone, those of each kind of
-event at the place where the round calls it. It makes no file but in a folder of its own.
+rounds of events, and takes a run without rounds from one with them. Seconds are those of a processor, the median of some
+runs; instructions, where valgrind is there, are counted by its callgrind in user space alone, those of each kind of event
+at the place where the round calls it. It makes no file but in a folder of its own.
 """
 import argparse
 import os
@@ -15,25 +15,36 @@ import subprocess
 import sys
 import tempfile
 
-# The events of a round, in their order.
-KINDS = ("read", "a second line", "report", "name", "stat", "turn")
+# The events of a round, in their order, by the function that does them.
+PARTS = {
+    "read_block": ("a read", "a line of a busy session", "the read's bytes"),
+    "look": ("a name", "stat", "a turn"),
+    "write_again": ("a write", "the compared bytes", "the Append", "the Seal", "the Copy", "the copy's Append", "the copy's Seal",
+                    "the Have"),
+    "do_rounds": ("a forget",),
+}
+KINDS = tuple(kind for part in PARTS.values() for kind in part)
 EVENTS = len(KINDS)
+# Of these, what is answered, and what is refused: the line of a busy session.
+ANSWERS = 6
+REFUSALS = 1
 # What a round calls for an event.
-CALLED = ("::asking::ask", "::driving::report", "::Core::step")
+CALLED = tuple(f"::asking::{name}" for name in ("ask", "read", "write", "address", "forget"))
+CALLED += ("::driving::report", "::driving::deliver", "::Core::step")
 COLLECTED = re.compile(r"Collected\s*:\s*(\d+)")
-TOLD = re.compile(r"(\d+) blocks, (\d+) writes at rest, (\d+) events, (\d+) answers")
+TOLD = re.compile(r"(\d+) blocks, (\d+) operations at rest, (\d+) events, (\d+) answers, (\d+) refusals")
 
 
 def run(program, rest, rounds, before=()):
-    """Seconds of a processor, what was printed, and on standard error."""
+    """Seconds of a processor, the number of answers, and what was printed on standard error."""
     done = subprocess.Popen([*before, program, str(rest), str(rounds)], stdout=subprocess.PIPE, stderr=subprocess.PIPE)
     printed, told = done.stdout.read().decode(), done.stderr.read().decode(errors="replace")
     _, status, usage = os.wait4(done.pid, 0)
     parts = TOLD.search(printed)
     if status != 0 or not parts:
         sys.exit(f"{program} {rest} {rounds} ended with {status}: {printed}{told[-500:]}")
-    blocks, writes, events, answers = (int(part) for part in parts.groups())
-    if (blocks, writes, events) != (rest, rest, rounds * EVENTS):
+    blocks, operations, events, answers, refusals = (int(part) for part in parts.groups())
+    if (blocks, operations, events, refusals) != (rest, rest, rounds * EVENTS, rounds * REFUSALS):
         sys.exit(f"{program} {rest} {rounds} prints {printed}")
     return usage.ru_utime + usage.ru_stime, answers, told
 
@@ -49,7 +60,8 @@ def instructions(program, rest, rounds, calls):
 
 
 def kinds_of(calls, rounds):
-    """The instructions of an event of each kind: of each place that calls one of them as often as there are rounds."""
+    """The instructions of an event of each kind: of each place that calls one of them as often as there are rounds. A function
+    that the compiler put into another one has its places there."""
     places, caller, called, count = {}, "", "", None
     with open(calls, encoding="utf-8") as lines:
         for line in lines:
@@ -59,13 +71,29 @@ def kinds_of(calls, rounds):
                     places.setdefault(caller, []).append((int(address, 16), int(cost) / rounds))
                 count = None
             elif line.startswith("fn="):
-                caller = line[3:].strip()
+                caller = line[3:].strip().rsplit("::", 1)[-1]
             elif line.startswith("cfn="):
                 called = line[4:].strip()
             elif line.startswith("calls="):
                 count = int(line[6:].split()[0])
-    found = [sorted(of_one) for of_one in places.values() if len(of_one) == EVENTS]
-    return [cost for _, cost in found[0]] if len(found) == 1 else None
+    kinds, left = {}, ()
+    for part, of_part in PARTS.items():
+        own = sorted(places.get(part, ()))
+        if len(own) == len(of_part):
+            kinds.update((kind, cost) for kind, (_, cost) in zip(of_part, own))
+            del places[part]
+        else:
+            left += of_part
+    others = [sorted(own) for own in places.values() if len(own) == len(left)]
+    if left and len(others) != 1:
+        return None
+    kinds.update((kind, cost) for kind, (_, cost) in zip(left, others[0] if left else ()))
+    return [kinds[kind] for kind in KINDS]
+
+
+def spread(costs):
+    """The greatest by the least."""
+    return f"{max(costs) / min(costs):.2f}"
 
 
 def main():
@@ -73,32 +101,44 @@ def main():
     words = argparse.ArgumentParser(description=__doc__)
     words.add_argument("--program", default=os.path.join(here, "..", "crates", "hs_core_bench", "out", "hs_core_bench"))
     words.add_argument("--rest", type=int, nargs="*", default=[1, 64, 10000], help="how much rests")
-    words.add_argument("--rounds", type=int, default=50000)
+    words.add_argument("--rounds", type=int, default=20000)
     words.add_argument("--counted", type=int, default=1000, help="rounds of which instructions are counted")
     words.add_argument("--times", type=int, default=5, help="runs of which the median is taken")
     asked = words.parse_args()
     program = os.path.abspath(asked.program)
     if not os.access(program, os.X_OK):
         sys.exit(f"{program} is not built: `rt run` in crates/hs_core_bench builds it")
-    first = None
+    costs = []
     for rest in asked.rest:
         none, all_of = (seconds(program, rest, rounds, asked.times) for rounds in (0, asked.rounds))
-        cost = (all_of - none) / (asked.rounds * EVENTS)
-        first = first or cost
+        costs.append((all_of - none) / (asked.rounds * EVENTS))
         answers = run(program, rest, 100)[1] - run(program, rest, 0)[1]
-        print(f"{rest} at rest: {cost * 1e6:.2f} us an event, {1 / cost:,.0f} events a second, {cost / first:.2f} of the "
-              f"first; {answers / 100 / EVENTS:.2f} answers an event")
+        if answers != 100 * ANSWERS:
+            sys.exit(f"100 rounds with {rest} at rest answer {answers} times")
+        print(f"{rest} at rest: {costs[-1] * 1e6:.2f} us an event, {1 / costs[-1]:,.0f} events a second; {ANSWERS} answers of "
+              f"{EVENTS} events")
+    print(f"the greatest by the least: {spread(costs)}")
     if not shutil.which("valgrind"):
         print("instructions: not counted, there is no valgrind")
         return
+    count(program, asked.rest, asked.counted)
+
+
+def count(program, rests, rounds):
+    """Prints the instructions of an event, and those of each kind."""
+    means, kinds = [], []
     with tempfile.TemporaryDirectory() as top:
         calls = os.path.join(top, "calls")
-        for rest in asked.rest:
-            counts = [instructions(program, rest, rounds, calls) for rounds in (0, asked.counted)]
-            print(f"{rest} at rest: {(counts[1] - counts[0]) / (asked.counted * EVENTS):,.0f} instructions an event")
-            kinds = kinds_of(calls, asked.counted)
-            print("  of each: " + (", ".join(f"{kind} {cost:,.0f}" for kind, cost in zip(KINDS, kinds)) if kinds
-                                   else "not told, the compiler put a round's calls elsewhere"))
+        for rest in rests:
+            none, all_of = (instructions(program, rest, each, calls) for each in (0, rounds))
+            means.append((all_of - none) / (rounds * EVENTS))
+            kinds.append(kinds_of(calls, rounds))
+    print(f"instructions of an event: {', '.join(f'{mean:,.0f}' for mean in means)}; the greatest by the least {spread(means)}")
+    if None in kinds:
+        print("of each: not told, the compiler put a round's calls elsewhere")
+        return
+    for kind, costs in zip(KINDS, zip(*kinds)):
+        print(f"  {kind}: {', '.join(f'{cost:,.0f}' for cost in costs)}; {spread(costs)}")
 
 
 main()

@@ -7,115 +7,52 @@ It makes and removes folders of its own, and ends with status 1 at the first thi
 import argparse
 import os
 import random
-import shutil
 import subprocess
 import sys
 import tempfile
 import time
-from collections import Counter
 
-from trees import BLOCKS, entries_of, giving_up, left_of, planting, reading as reading_all
+from deletion_kills import deletion_kills
+from gifts import DELETING, KEPT_BY, Tree, after_kill, check_found, finding, gifts, swept_of
+from runs import Store, wrong
 
 # How many trees a run that is killed writes, and how many are kept all the time.
 TREES = 12
 STANDING = 6
-DISK_CALLS = ("pwrite64", "fsync")
-
-
-def wrong(text):
-    sys.exit(f"wrong: {text}")
-
-
-class Store:
-    """A program and a folder of so many shards."""
-
-    def __init__(self, program, folder, shards):
-        self.words = [program, "script", folder, str(shards), "1"]
-
-    def start(self, **streams):
-        return subprocess.Popen(self.words, stdin=subprocess.PIPE, stdout=subprocess.PIPE, text=True, **streams)
-
-    def run(self, lines):
-        """A run that is not disturbed: the answers by their lines, the text and the seconds."""
-        begun = time.perf_counter()
-        child = self.start(stderr=subprocess.PIPE)
-        out, errors = child.communicate("".join(line + "\n" for line in lines))
-        seconds = time.perf_counter() - begun
-        if child.returncode != 0 or errors:
-            wrong(f"status {child.returncode}: {errors}{out}")
-        return answers_of(out), out, seconds
-
-    def killed(self, lines, seconds, behind=0):
-        """A run that is killed so long after so many printed lines: what it answered until then, and whether it had ended."""
-        with tempfile.TemporaryFile(mode="w+") as given, tempfile.TemporaryFile(mode="w+") as out:
-            given.write("".join(line + "\n" for line in lines))
-            given.seek(0)
-            child = subprocess.Popen(self.words, stdin=given, stdout=out, stderr=subprocess.PIPE)
-            while behind > 0 and child.poll() is None and os.pread(out.fileno(), 65536, 0).count(b"\n") < behind:
-                time.sleep(0.0002)
-            time.sleep(seconds)
-            child.kill()
-            child.communicate()
-            out.seek(0)
-            return answers_of(out.read()), child.returncode == 0
-
-
-    def calls(self, lines):
-        """How many calls of the disk a run makes, by their names."""
-        with tempfile.NamedTemporaryFile(mode="r") as told:
-            tool = ["strace", "-f", "-c", "-o", told.name, "-e", "trace=" + ",".join(DISK_CALLS)]
-            subprocess.run([*tool, *self.words], input="".join(line + "\n" for line in lines), text=True,
-                           stdout=subprocess.DEVNULL, check=True)
-            rows = [row.split() for row in told.read().splitlines()]
-        return {row[-1]: int(row[3]) for row in rows if row and row[-1] in DISK_CALLS}
-
-    def killed_at(self, lines, call, number):
-        """A run that is killed at so many a call of the disk of this name: what it answered until then."""
-        tool = ["strace", "-f", "-qq", "-o", os.devnull, "-e", f"trace={call}", "-e", f"inject={call}:signal=KILL:when={number}"]
-        done = subprocess.run([*tool, *self.words], input="".join(line + "\n" for line in lines), text=True,
-                              stdout=subprocess.PIPE, stderr=subprocess.DEVNULL, check=False)
-        return answers_of(done.stdout), done.returncode == 0
-
-
-def answers_of(out):
-    """The whole lines of a text by their numbers: a line that was cut off is none."""
-    whole = out[: out.rfind("\n") + 1]
-    parts = (line.split(" ", 1) for line in whole.splitlines())
-    return {int(number): text for number, text in parts if number != "-"}
-
-
-class Tree:
-    """A block that points to another one, under a key."""
-
-    def __init__(self, number):
-        self.key = f"k{number}"
-        self.leaf = number.to_bytes(8, "big").hex() * 32
-        self.node = "ff" + number.to_bytes(8, "big").hex() * 8
 
 
 def writing(trees):
-    """Lines that write and root trees, drop every third one again, and delete now and then; and what each line asks."""
-    lines, asks = ["open a"], []
+    """Lines that write trees, of which two thirds get a root and half of these are dropped again; that delete now and then,
+    and then write a tree without a root again. And what each line asks."""
+    lines, asks, handles = ["open a"], [], 0
 
     def ask(kind, tree, line):
         lines.append(line)
         asks.append((len(lines), kind, tree))
         lines.append("settle")
 
+    def write(tree):
+        nonlocal handles
+        ask("leaf", tree, f"write a {tree.leaf}")
+        ask("node", tree, f"write a {tree.node} h{handles}")
+        handles += 2
+
     for place, tree in enumerate(trees):
-        ask("write", tree, f"write a {tree.leaf}")
-        ask("write", tree, f"write a {tree.node} h{2 * place}")
-        ask("root", tree, f"root a {tree.key} h{2 * place + 1}")
+        write(tree)
         if place % 3 == 2:
             ask("drop", trees[place - 1], f"drop {trees[place - 1].key}")
+        else:
+            ask("root", tree, f"root a {tree.key} h{handles - 1}")
         if place % 4 == 3:
             ask("delete", tree, "delete")
+            # It was given in the epoch before, so it has to be there.
+            write(trees[place // 3 * 3 - 1])
     return lines, asks
 
 
-def reading(trees):
-    """Lines that end what was begun, and read trees back through their roots, each in a session of its own."""
-    lines, places = ["settle"], {}
+def reading(trees, first):
+    """These lines, and then lines that read trees back through their roots, each in a session of its own."""
+    lines, places = [*first], {}
     for number, tree in enumerate(trees):
         session = f"s{number}"
         places[tree.key] = len(lines) + 2
@@ -138,15 +75,17 @@ def check(answers, place, tree, kept):
 
 def known(asks, answers):
     """By key, whether a tree has to be kept after these answers: None where its last line was not answered."""
-    state = {}
+    state, written = {}, set()
     for line, kind, tree in asks:
         answer = answers.get(line)
         if kind in ("root", "drop"):
             if answer is not None and answer != "ok":
                 wrong(f"line {line}: {answer}")
             state[tree.key] = None if answer is None else kind == "root"
-        elif kind == "write" and answer is not None and not answer.startswith("new "):
-            wrong(f"line {line}: {answer}")
+        elif kind in KEPT_BY and answer is not None:
+            if not answer.startswith("dup " if (tree.key, kind) in written else "new "):
+                wrong(f"line {line}: {answer}")
+            written.add((tree.key, kind))
         if answer is None:
             break
     return state
@@ -172,101 +111,49 @@ def kills(program, top, shards, count, seed):
     store.run(first)
     # A whole run takes about so long.
     seconds = Store(program, os.path.join(top, "whole"), shards).run(writing([Tree(n) for n in range(TREES)])[0])[2]
-    number = cut = roots = drops = 0
+    number = cut = roots = drops = blocks = share = 0
     while cut < count:
         number += 1
         trees = [Tree(number * 1000 + place) for place in range(TREES)]
         lines, asks = writing(trees)
-        answers, ended = store.killed(lines, chance.uniform(0, seconds))
+        # Every second one is killed behind the answer of some line.
+        behind, most = chance.choice(((b"", seconds), (b"\n%d " % chance.choice(asks)[0], seconds / len(asks))))
+        told, ended = store.killed(lines, chance.uniform(0, most), behind)
         cut += not ended
-        state = known(asks, answers)
+        state = known(asks, told)
         roots += sum(kept is True for kept in state.values())
         drops += sum(kept is False for kept in state.values())
-        lines, places = reading(standing + trees)
-        answers, _, last = store.run(lines)
-        for tree in standing:
-            check(answers, places[tree.key], tree, True)
-        for tree in trees:
-            check(answers, places[tree.key], tree, state.get(tree.key, False))
+        answers, found, last = look_back(store, standing, trees, state, after_kill(chance))
+        blocks += check_found(trees, found[1], answers, gifts(asks, told), swept_of(answers[found[0]]))
         # As fast as the machine is now.
-        seconds = (seconds + last / 2) / 2
-        # All of the run is given up, and its space comes back.
-        rest = [line for tree in trees for line in (f"drop {tree.key}", "settle")]
-        rest += ["delete", "settle", "delete", "settle", "stat"]
-        answers = store.run(rest)[0]
-        told = answers[len(rest)].split()
-        if told[:5] != ["stat", "blocks", str(2 * STANDING), "roots", str(STANDING)]:
-            wrong(f"after the deletions of run {number}: {answers[len(rest)]}")
-    print(f"{number} runs over {shards} shards, {cut} of them killed on their way: {roots} roots and {drops} drops that were "
-          f"answered were found again, each kept tree was read back whole, and all other blocks went", flush=True)
+        share = share or seconds / last
+        seconds = (seconds + last * share) / 2
+        give_up(store, trees, number)
+    print(f"{number} runs over {shards} shards, {cut} of them killed on their way: {roots} roots, {drops} drops and {blocks} "
+          f"blocks that were answered were found again, each kept tree was read back whole, and all other blocks went",
+          flush=True)
 
 
-def place_of(folder, shards):
-    """How far two deletion runs came, by the Enters in the logs."""
-    enters = entries_of(folder)["Enter"][0]
-    if enters == 0:
-        return "before the first run"
-    return "from the first run on" if enters <= shards else "in the second run"
+def look_back(store, standing, trees, state, first):
+    """A run, behind these lines, that reads trees back through their roots, and writes those that were written again: its
+    answers, the number of the line of its `stat` with the lines of those writes by key, and its seconds."""
+    lines, places = reading(standing + trees, first)
+    again, found = finding(trees, len(lines) + 2)
+    answers, _, last = store.run([*lines, "stat", *again])
+    for tree in standing:
+        check(answers, places[tree.key], tree, True)
+    for tree in trees:
+        check(answers, places[tree.key], tree, state.get(tree.key, False))
+    return answers, (len(lines) + 1, found), last
 
 
-def is_answered(answer, wanted):
-    """Whether an answer is the wanted one; a held handle may be of any epoch."""
-    return answer.startswith(wanted + " e") if wanted.startswith("held") else answer == wanted
-
-
-def deletion_kills(program, top, shards, blocks, count, seed):
-    chance = random.Random(seed)
-    # Trees come in pairs.
-    trees = blocks // BLOCKS // 2 * 2
-    planted, folder = os.path.join(top, "planted"), os.path.join(top, "deleting")
-    Store(program, planted, shards).run([*planting(trees), *giving_up(trees)])
-    store = Store(program, folder, shards)
-    deleting = ["delete", "settle", "delete", "settle"]
-    lines, wanted = reading_all(trees)
-    shutil.copytree(planted, folder)
-    # Much of a run is opening.
-    opening = store.run(["stat"])[2]
-    seconds = store.run(deleting)[2]
-    part = max(seconds - opening, 0) / 4
-    before, calls = {}, {}
-    if shutil.which("strace"):
-        # Each second kill is at a random call of the disk behind opening.
-        for lines_of, told in ((["stat"], before), (deleting, calls)):
-            shutil.rmtree(folder)
-            shutil.copytree(planted, folder)
-            told.update(store.calls(lines_of))
-    places, number, again = Counter(), 0, 0
-    while sum(places.values()) < count:
-        number += 1
-        shutil.rmtree(folder)
-        shutil.copytree(planted, folder)
-        if calls and number % 2:
-            call = chance.choice(DISK_CALLS)
-            ended = store.killed_at(deleting, call, chance.randint(before[call] + 1, calls[call]))[1]
-        else:
-            # What a settle did is printed behind it: the first printed line says that the first run has ended.
-            behind = chance.choice((0, 1))
-            ended = store.killed(deleting, chance.uniform(0, part if behind else seconds), behind)[1]
-        if ended:
-            continue
-        places[place_of(folder, shards)] += 1
-        if number % 3 == 0:
-            # The run that opens what was left is killed too.
-            again += not store.killed(["settle"], chance.uniform(0, seconds))[1]
-        answers = store.run(["settle", *lines])[0]
-        for line, text in wanted.items():
-            if not is_answered(answers.get(line + 1, ""), text):
-                wrong(f"after kill {number}: {lines[line - 1]}: {answers.get(line + 1)}, where {text} was wanted")
-        answers = store.run([*deleting, "stat"])[0]
-        told = answers[5].split()
-        if told[:5] != ["stat", "blocks", str(left_of(trees)), "roots", str(trees // 2)]:
-            wrong(f"after kill {number} and two deletions: {answers[5]}")
-        if sum(places.values()) % 10 == 0:
-            print(f"{dict(places)}, {again} killed again", file=sys.stderr, flush=True)
-    where = ", ".join(f"{number} {place}" for place, number in sorted(places.items()))
-    print(f"two deletion runs over {trees * BLOCKS} blocks in {shards} shards, of which {trees * BLOCKS - left_of(trees)} go: "
-          f"{count} kills ({where}), {again} of them killed once more as they opened: each opened and settled, each kept tree "
-          f"was read back whole, and two deletions left just the kept trees")
+def give_up(store, trees, number):
+    """All trees of a run are given up, and their space comes back."""
+    lines = [line for tree in trees for line in (f"drop {tree.key}", "settle")]
+    lines += [*DELETING, "stat"]
+    told = store.run(lines)[0][len(lines)]
+    if told.split()[:5] != ["stat", "blocks", str(2 * STANDING), "roots", str(STANDING)]:
+        wrong(f"after the deletions of run {number}: {told}")
 
 
 def two_at_once(program, top, shards):
