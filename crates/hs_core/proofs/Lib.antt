@@ -1,4 +1,3 @@
-mod ApartLemmas
 mod CommitLemmas
 mod DeletionExamples
 mod Driving

@@ -8,7 +8,7 @@ use Rattle.hs_core.specs.Changing.{put_operation}
 use Rattle.hs_core.specs.declared.waiting.Waiting.{Waiting}
 use Rattle.hs_core.specs.Going.{aim_of, sight_of, view_by}
 use Rattle.hs_core.specs.Looking.{group_of, operation_of}
-use Rattle.hs_core.specs.Pending.{is_address, is_coming, named}
+use Rattle.hs_core.specs.Pending.{is_address, is_coming, own_address, stored}
 use Rattle.hs_core.specs.Seeing.{view_for}
 use Rattle.hs_core.specs.State.{Core}
 use Rattle.hs_entry.specs.declared.entry.Entry.{Entry}
@@ -17,7 +17,6 @@ use Rattle.hs_limits.specs.declared.address.Address.{Address}
 use Rattle.hs_model.specs.declared.op.Op.{Op}
 use Rattle.hs_model.specs.declared.op.Op.TheVariants as op
 use Rattle.hs_ops.specs.Answers.{gained}
-use Rattle.hs_ops.specs.Speaking.{wanted_address}
 use Rattle.hs_ops.specs.Views.{OpView}
 
 -- ---- the view
@@ -65,27 +64,27 @@ module _ (line : ℕ) (core : Core) (w new : Waiting) (found : operation_of line
   abbrev op_of : Waiting → Op
   op_of x = x.operation.op
 
-  asked_put : (other : ℕ) → option_and_then (λ x. wanted_address core.sessions (op_of x)) (operation_of other (put_operation line new core))
-      ≡ option_and_then (λ x. wanted_address core.sessions (op_of x)) (operation_of other core)
+  asked_put : (other : ℕ) → option_and_then (λ x. own_address (op_of x)) (operation_of other (put_operation line new core))
+      ≡ option_and_then (λ x. own_address (op_of x)) (operation_of other core)
   asked_put other =
-      by_part op_of (wanted_address core.sessions) (operation_of other (put_operation line new core))
-      ∙ ap (option_and_then (wanted_address core.sessions)) (part_set (is_at (nat_cmp line)) op_of (is_at (nat_cmp other)) core.operations w new found same)
-      ∙ sym (by_part op_of (wanted_address core.sessions) (operation_of other core))
+      by_part op_of own_address (operation_of other (put_operation line new core))
+      ∙ ap (option_and_then own_address) (part_set (is_at (nat_cmp line)) op_of (is_at (nat_cmp other)) core.operations w new found same)
+      ∙ sym (by_part op_of own_address (operation_of other core))
 
-  named_put : (entry : Entry) → named entry (put_operation line new core) ≡ named entry core
-  named_put (kind.View v) = refl
-  named_put (kind.Block by least bs) = asked_put by
-  named_put (kind.Mark by least block a) = refl
-  named_put (kind.Root by held a key) = refl
-  named_put (kind.Drop by key) = refl
-  named_put (kind.Enter by epoch) = refl
-  named_put (kind.Got from epoch round total deltas) = refl
-  named_put (kind.Base v epoch swept round frames) = refl
-  named_put (kind.KeptBlock born mark flags count bs) = refl
-  named_put (kind.KeptRoot created dropped counted a key) = refl
-  named_put (kind.KeptRound way other epoch round total deltas) = refl
+  stored_put : (entry : Entry) → stored entry (put_operation line new core) ≡ stored entry core
+  stored_put (kind.View v) = refl
+  stored_put (kind.Block by least bs) = asked_put by
+  stored_put (kind.Mark by least block a) = refl
+  stored_put (kind.Root by held a key) = refl
+  stored_put (kind.Drop by key) = refl
+  stored_put (kind.Enter by epoch) = refl
+  stored_put (kind.Got from epoch round total deltas) = refl
+  stored_put (kind.Base v epoch swept round frames) = refl
+  stored_put (kind.KeptBlock born mark flags count bs) = refl
+  stored_put (kind.KeptRoot created dropped counted a key) = refl
+  stored_put (kind.KeptRound way other epoch round total deltas) = refl
 
   pub coming_put : (shard : ℕ) (a : Option Address) → is_coming shard a (put_operation line new core) ≡ is_coming shard a core
   coming_put shard None = refl
   coming_put shard (Some a) =
-      any_alike (λ e. is_address a (named e (put_operation line new core))) (λ e. is_address a (named e core)) (group_of shard core).waiting (λ e. ap (is_address a) (named_put e))
+      any_alike (λ e. is_address a (stored e (put_operation line new core))) (λ e. is_address a (stored e core)) (group_of shard core).waiting (λ e. ap (is_address a) (stored_put e))

@@ -8,7 +8,6 @@ use Rattle.std.specs.Map.{set_value}
 use Rattle.std.specs.Option.{is_some, option_map_or}
 use Rattle.std.specs.Ordering.{nat_cmp}
 use Rattle.hs_core.proofs.IndexLemmas.{put_by, waits_alike}
-use Rattle.hs_core.specs.Apart.{reads, reads_block}
 use Rattle.hs_core.specs.declared.next.Next.{Next}
 use Rattle.hs_core.specs.declared.table.Table.{Table}
 use Rattle.hs_core.specs.declared.wait.Wait.{Wait}
@@ -16,17 +15,15 @@ use Rattle.hs_core.specs.declared.waiting.Waiting.{Waiting}
 use Rattle.hs_core.specs.Going.{judge_in, judged_by, next_step}
 use Rattle.hs_core.specs.Indexing.{AreMet, AreStored, found_in, passes, stands, store_cause, stores, storing, wait_in}
 use Rattle.hs_core.specs.Looking.{operation_of}
-use Rattle.hs_core.specs.Pending.{is_address, named}
+use Rattle.hs_core.specs.Pending.{is_address, own_address, stored}
 use Rattle.hs_core.specs.State.{Core}
 use Rattle.hs_entry.specs.declared.entry.Entry.{Entry}
 use Rattle.hs_entry.specs.declared.entry.Entry.TheVariants as kind
 use Rattle.hs_limits.specs.declared.address.Address.{Address}
 use Rattle.hs_model.specs.declared.op.Op.{Op}
 use Rattle.hs_model.specs.declared.op.Op.TheVariants as op
-use Rattle.hs_ops.specs.Speaking.{wanted_address}
 use Rattle.hs_ops.specs.Views.{OpView}
 use Rattle.hs_replica.specs.Kinds.{stores_for}
-use Rattle.hs_tokens.specs.Seats.{Seats}
 use Rattle.hs_waits.specs.Causes.{is_same, waits}
 use Rattle.hs_waits.specs.declared.cause.Cause.{Cause}
 use Rattle.hs_waits.specs.declared.cause.Cause.TheVariants as cause
@@ -129,59 +126,34 @@ alike : (xs ys : List ℕ) → bytes_eq xs ys ≡ bytes_eq ys xs
 alike xs ys = same_bool (bytes_eq xs ys) (bytes_eq ys xs) (turned xs ys) (turned ys xs)
 
 -- by the operation
-abbrev stores_op : Cause → Op → Bool
-stores_op c o = option_map_or (λ d. is_same d c) (store_cause o) false
-
-unnamed : (seats : Seats) (a : Address) (o : Op) → reads_block o ≡ false → stores_op (cause.Block 0 a) o ≡ false → is_address a (wanted_address seats o) ≡ false
-unnamed seats a (op.Write name payload handles (Some b)) off writes = alike a.0 b.0 ∙ writes
-unnamed seats a (op.Write name payload handles None) off writes = refl
-unnamed seats a (op.Read name handle) off writes = let wrong : true ≡ false = off in cc
-unnamed seats a (op.Open name) off writes = refl
-unnamed seats a (op.Close name) off writes = refl
-unnamed seats a (op.Look name key) off writes = refl
-unnamed seats a (op.Root name key handle) off writes = refl
-unnamed seats a (op.Drop key) off writes = refl
-unnamed seats a (op.Forget name handle) off writes = refl
-unnamed seats a (op.Name name handle) off writes = refl
-unnamed seats a op.Delete off writes = refl
-unnamed seats a op.Stat off writes = refl
-
-named_so : (seats : Seats) (a : Address) (o : Op) → stores_op (cause.Block 0 a) o ≡ true → is_address a (wanted_address seats o) ≡ true
-named_so seats a (op.Write name payload handles (Some b)) writes = alike a.0 b.0 ∙ writes
-named_so seats a (op.Write name payload handles None) writes = let wrong : false ≡ true = writes in cc
-named_so seats a (op.Read name handle) writes = let wrong : false ≡ true = writes in cc
-named_so seats a (op.Open name) writes = let wrong : false ≡ true = writes in cc
-named_so seats a (op.Close name) writes = let wrong : false ≡ true = writes in cc
-named_so seats a (op.Look name key) writes = let wrong : false ≡ true = writes in cc
-named_so seats a (op.Root name key handle) writes = let wrong : false ≡ true = writes in cc
-named_so seats a (op.Drop key) writes = let wrong : false ≡ true = writes in cc
-named_so seats a (op.Forget name handle) writes = let wrong : false ≡ true = writes in cc
-named_so seats a (op.Name name handle) writes = let wrong : false ≡ true = writes in cc
-named_so seats a op.Delete writes = let wrong : false ≡ true = writes in cc
-named_so seats a op.Stat writes = let wrong : false ≡ true = writes in cc
+stored_so : (a : Address) (o : Op) → option_map_or (λ d. is_same d (cause.Block 0 a)) (store_cause o) false ≡ is_address a (own_address o)
+stored_so a (op.Write name payload handles (Some b)) = alike b.0 a.0
+stored_so a (op.Write name payload handles None) = refl
+stored_so a (op.Read name handle) = refl
+stored_so a (op.Open name) = refl
+stored_so a (op.Close name) = refl
+stored_so a (op.Look name key) = refl
+stored_so a (op.Root name key handle) = refl
+stored_so a (op.Drop key) = refl
+stored_so a (op.Forget name handle) = refl
+stored_so a (op.Name name handle) = refl
+stored_so a op.Delete = refl
+stored_so a op.Stat = refl
 
 module _ (core : Core) (a : Address) where
   -- whether the Block of a line is of this address
   abbrev names : ℕ → Bool
-  names n = is_address a (option_and_then (λ w. wanted_address core.sessions w.operation.op) (operation_of n core))
+  names n = is_address a (option_and_then (λ w. own_address w.operation.op) (operation_of n core))
 
   abbrev test : Entry → Bool
-  test e = is_address a (named e core)
+  test e = is_address a (stored e core)
 
-  by_neither : (n : ℕ) → passes reads core.operations n ≡ false → passes (stores (cause.Block 0 a)) core.operations n ≡ false → names n ≡ false
-  by_neither n = go (operation_of n core)
-    where
-      go : (o : Option Waiting) → option_map_or reads o false ≡ false → option_map_or (stores (cause.Block 0 a)) o false ≡ false
-          → is_address a (option_and_then (λ w. wanted_address core.sessions w.operation.op) o) ≡ false
-      go None off writes = refl
-      go (Some w) off writes = unnamed core.sessions a w.operation.op off writes
-
-  by_write : (n : ℕ) → passes (stores (cause.Block 0 a)) core.operations n ≡ true → names n ≡ true
+  by_write : (n : ℕ) → passes (stores (cause.Block 0 a)) core.operations n ≡ names n
   by_write n = go (operation_of n core)
     where
-      go : (o : Option Waiting) → option_map_or (stores (cause.Block 0 a)) o false ≡ true → is_address a (option_and_then (λ w. wanted_address core.sessions w.operation.op) o) ≡ true
-      go None writes = let wrong : false ≡ true = writes in cc
-      go (Some w) writes = named_so core.sessions a w.operation.op writes
+      go : (o : Option Waiting) → option_map_or (stores (cause.Block 0 a)) o false ≡ is_address a (option_and_then (λ w. own_address w.operation.op) o)
+      go None = refl
+      go (Some w) = stored_so a w.operation.op
 
   -- an entry that is no Block of a line of this address
   fails : (e : Entry) → ((n : ℕ) → stores_for n e ≡ true → names n ≡ false) → test e ≡ false
@@ -237,8 +209,7 @@ module _ (core : Core) (a : Address) where
       go true here ih = or_left (test e) (list_any test es) (holds e n here is)
       go false here ih = let further : stands es n ≡ true = rw here at found in or_right (test e) (list_any test es) (ih further)
 
-  -- where no operation that reads has a Block among them, it is told by the writes
-  pub coming_met : (entries : List Entry) (write : Option ℕ) → ((n : ℕ) → stands entries n ≡ true → passes reads core.operations n ≡ false)
-      → AreMet (cause.Block 0 a) entries core.operations write → is_some write ≡ list_any test entries
-  coming_met entries None apart writes = sym (none_coming entries (λ n at. by_neither n (apart n at) (writes n at)))
-  coming_met entries (Some n) apart writes = sym (some_coming entries n writes.0 (by_write n writes.1))
+  -- it is told by a line of both
+  pub coming_met : (entries : List Entry) (write : Option ℕ) → AreMet (cause.Block 0 a) entries core.operations write → is_some write ≡ list_any test entries
+  coming_met entries None writes = sym (none_coming entries (λ n at. sym (by_write n) ∙ writes n at))
+  coming_met entries (Some n) writes = sym (some_coming entries n writes.0 (sym (by_write n) ∙ writes.1))

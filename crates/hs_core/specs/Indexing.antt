@@ -9,6 +9,7 @@ use Rattle.hs_core.specs.declared.table.Table.{Table}
 use Rattle.hs_core.specs.declared.wait.Wait.{Wait}
 use Rattle.hs_core.specs.declared.wait.Wait.TheVariants as wait
 use Rattle.hs_core.specs.declared.waiting.Waiting.{Waiting}
+pub use Rattle.hs_core.specs.Pending.{own_address}
 use Rattle.hs_core.specs.Pending.{puts_root, writes_block}
 use Rattle.hs_core.specs.Views.{is_within, restarted}
 use Rattle.hs_core.specs.Words.{change_with, ◌▸◌}
@@ -34,11 +35,6 @@ found_in es line = lookup (is_at (nat_cmp line)) es
 -- the session that asks
 abbrev pub session_in : Waiting → Option (List ℕ)
 session_in w = session_of (Some w.operation.op)
-
--- the address that a write names itself
-abbrev pub own_address : Op → Option Address
-own_address (op.Write name payload handles a) = a
-own_address other = None
 
 -- what an operation waits for, where an entry of its shard may wake it
 abbrev pub block_cause : ℕ → Op → Cause

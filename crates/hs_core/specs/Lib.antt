@@ -1,5 +1,4 @@
 pub mod Anew
-pub mod Apart
 pub mod Asking
 pub mod Calls
 pub mod Changing

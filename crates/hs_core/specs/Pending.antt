@@ -22,10 +22,20 @@ abbrev pub puts_root : Op → Bool
 puts_root (op.Root name key handle) = true
 puts_root other = false
 
--- the address of the block that an entry stores: that of the operation which asked for it
+-- the address that a write names itself
+abbrev pub own_address : Op → Option Address
+own_address (op.Write name payload handles a) = a
+own_address other = None
+
+-- the address that the operation which asked for a Block is about
 abbrev pub named : Entry → Core → Option Address
 named (kind.Block line least bytes) core = option_and_then (λ w. wanted_address core.sessions w.operation.op) (operation_of line core)
 named other core = None
+
+-- the address of the block that an entry stores: that of the write which asked for it
+abbrev pub stored : Entry → Core → Option Address
+stored (kind.Block line least bytes) core = option_and_then (λ w. own_address w.operation.op) (operation_of line core)
+stored other core = None
 
 -- whether some address is this one
 abbrev pub is_address : Address → Option Address → Bool
@@ -33,7 +43,7 @@ is_address a other = option_map_or (λ b. bytes_eq a.0 b.0) other false
 
 -- a Block of this address has not taken effect
 abbrev pub is_coming : ℕ → Option Address → Core → Bool
-is_coming shard a core = option_map_or (λ a. list_any (λ entry. is_address a (named entry core)) (group_of shard core).waiting) a false
+is_coming shard a core = option_map_or (λ a. list_any (λ entry. is_address a (stored entry core)) (group_of shard core).waiting) a false
 
 -- a shard is below its limit of blocks, or of roots, with so many more
 abbrev pub has_block_room : ℕ → ℕ → Core → Bool

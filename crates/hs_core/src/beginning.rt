@@ -9,7 +9,6 @@ ghost use Rattle.hs_members.specs.Members.{IsShard};
 ghost use Rattle.hs_ops.specs.Operations.{after_step};
 
 use crate::aim::Aim;
-use crate::apart::newest_put;
 use crate::going::{Judged, judge};
 use crate::next::Next;
 use crate::no_memory::NoMemory;
@@ -156,8 +155,6 @@ impl Core {
         ensures ok { OnOk result (self.new ≡ add_operation line waiting self.old) }
         ensures kept { Kept self.old self.new }
     {
-        let newest = newest_put(self.newest, line);
-        self.newest = newest;
         self.operations.put(line, waiting)
     }
 }

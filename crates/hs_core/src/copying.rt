@@ -10,7 +10,6 @@ ghost use Rattle.hs_members.specs.Members.{IsPeer, IsShard};
 ghost use Rattle.hs_replica.specs.Group.{committed, have, last_number, on_append, on_have, on_sealed, proposal, propose, resend, take_committed, takes};
 
 use crate::Core;
-use crate::apart::{newest_beside, newest_if};
 use crate::no_memory::NoMemory;
 use crate::steps::renew_steps;
 use hs_entry::Entry;
@@ -41,11 +40,8 @@ impl Core {
         ensures number { IfOk result (λ number. number ≡ last_number (group_of shard self.old) + 1) }
         ensures kept { Kept self.old self.new }
     {
-        let beside = newest_beside(self.newest, &self.operations, &entry);
         let group = &mut self.groups[usize::from(shard)];
         let proposed = group.propose(&mut self.pool, entry);
-        let newest = newest_if(proposed.is_ok(), beside);
-        self.newest = newest;
         renew_steps(
             &mut self.steps,
             &self.members,

@@ -39,9 +39,6 @@ pub struct Core {
     pub(crate) pool: Pool,
     pub(crate) sessions: Sessions,
     pub(crate) operations: Operations,
-    /// The line of the last operation, as long as each Block that waits is of a line up to it and of
-    /// no operation that reads. None where that is not known.
-    pub(crate) newest: Option<u64>,
     pub(crate) journal: Journal,
     pub(crate) entries: Vec<JournalEntry>,
     pub(crate) refused: Vec<JournalEntry>,
@@ -54,7 +51,6 @@ pub struct Core {
 
 impl Model for Core {
     ghost use Rattle.std.specs.Prelude.{◌≡◌};
-    ghost use Rattle.hs_core.specs.Apart.{AreApart};
     ghost use Rattle.hs_core.specs.Keeping.{AreFronts, AreSteps, IsCore};
     ghost use Rattle.hs_core.specs.Placed.{AreWithin};
     ghost use Rattle.hs_core.specs.State.{Core};
@@ -88,7 +84,6 @@ impl Model for Core {
       sessions : a.sessions.limits ≡ a.limits;
       journal : a.journal.limit ≡ a.limits.ops;
       placed : AreWithin a.members.shape.shards a.operations;
-      apart : AreApart a.newest a.operations a.groups.items;
     } };
 }
 

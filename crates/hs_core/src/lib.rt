@@ -2,7 +2,6 @@
 #![tactic(auto)]
 
 mod aim;
-mod apart;
 mod asking;
 mod beginning;
 mod carrying;

@@ -8,7 +8,6 @@ ghost use Rattle.hs_limits.specs.Shape.{IsShape};
 ghost use Rattle.hs_members.specs.Members.{is_joining, status};
 
 use crate::Core;
-use crate::apart::newest_at_first;
 use crate::lists::Lists;
 use crate::new_core::{no_rejoins, no_steps};
 use crate::new_lists::new_lists;
@@ -115,7 +114,6 @@ fn core_of(
     let peers = shape.shards * shape.copies;
     let rejoins = no_rejoins(alloc, peers)?;
     let steps = no_steps(alloc, peers)?;
-    let newest = newest_at_first(lists.groups.as_slice());
     let Lists {
         members,
         groups,
@@ -137,7 +135,6 @@ fn core_of(
         pool,
         sessions: Sessions::new(alloc, limits),
         operations: Operations::new(alloc),
-        newest,
         journal: Journal::new(alloc, limits.ops),
         entries: Vec::new(alloc),
         refused: Vec::new(alloc),

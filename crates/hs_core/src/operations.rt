@@ -9,7 +9,6 @@ ghost use Rattle.hs_core.specs.declared.waiting.Waiting.{Waiting};
 ghost use Rattle.hs_core.specs.Going.{given_by, judge_in, next_step};
 ghost use Rattle.hs_core.specs.Indexing.{found_in, passes, stores, wait_in, waits_for};
 ghost use Rattle.hs_core.specs.Operating.{is_of};
-ghost use Rattle.hs_core.specs.Putting.{IsPutAt};
 ghost use Rattle.hs_core.specs.Views.{restarted};
 ghost use Rattle.hs_ops.specs.Answers.{gained};
 ghost use Rattle.hs_waits.specs.Lines.{IsFirstFrom};
@@ -74,7 +73,6 @@ impl Operations {
     /// An operation is put at its line.
     pub(crate) fn put(&mut self, line: u64, waiting: Waiting) -> Result<(), NoMemory>
         ensures ok { OnOk result (self.new ≡ insert_entry nat_cmp self.old line waiting) }
-        ensures others { OnOk result (IsPutAt line (Some waiting) self.old self.new) }
         ensures none { OnErr result (self.new ≡ []) }
     {
         let done = self.table.put(line, waiting);
@@ -88,7 +86,6 @@ impl Operations {
     pub(crate) fn end(&mut self, line: u64) -> Result<Option<Waiting>, NoMemory>
         ensures value { IfOk result (λ waiting. waiting ≡ found_in self.old line) }
         ensures rest { OnOk result (self.new ≡ remove_entry (is_at (nat_cmp line)) self.old) }
-        ensures others { OnOk result (IsPutAt line None self.old self.new) }
         ensures same { IfOk result (λ waiting. IfNone waiting (self.new ≡ self.old)) }
         ensures none { OnErr result (self.new ≡ []) }
     {

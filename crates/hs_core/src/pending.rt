@@ -1,11 +1,10 @@
 //! What stands in a lead's list and has not taken effect, as far as operations wait for it.
 ghost use Rattle.std.specs.Prelude.{◌≡◌, ◌<◌, ◌^◌, count_by};
-ghost use Rattle.std.specs.List.{list_any};
 ghost use Rattle.std.specs.Option.{option_and_then};
 ghost use Rattle.hs_core.specs.Going.{has_room_by, holds_by, is_pending_by};
 ghost use Rattle.hs_core.specs.Indexing.{AreMet, passes, stands, stores};
 ghost use Rattle.hs_core.specs.Looking.{group_of, operation_of};
-ghost use Rattle.hs_core.specs.Pending.{has_block_room, has_root_room, is_address, is_block, is_coming, is_root, named};
+ghost use Rattle.hs_core.specs.Pending.{has_block_room, has_root_room, is_block, is_coming, is_root, named};
 ghost use Rattle.hs_members.specs.Members.{IsShard};
 ghost use Rattle.hs_ops.specs.Speaking.{wanted_address};
 ghost use Rattle.hs_waits.specs.Lines.{IsFirstFrom};
@@ -17,8 +16,8 @@ use hs_limits::Address;
 use hs_waits::Cause;
 
 impl Core {
-    /// The address of the block that an entry stores: that of the operation that asked for it. None
-    /// where it stores none, or none asked for it. It takes no memory.
+    /// The address that the operation which asked for a Block is about. None of every other entry, or
+    /// where none asked for it. It takes no memory.
     pub(crate) fn named(&self, entry: &Entry) -> Option<Address>
         ensures { result ≡ named entry.now self.now }
     {
@@ -107,8 +106,7 @@ impl Core {
 
     // ---- what is coming
 
-    /// Whether a Block of this address has not taken effect. Only where it is not known that no Block is
-    /// of an operation that reads are the entries walked over.
+    /// Whether a Block of this address has not taken effect. It takes no memory.
     fn is_coming(&self, shard: u8, address: Option<Address>) -> bool
         requires { IsShard self.now.members.shape shard }
         ensures { result ≡ is_coming shard address self.now }
@@ -116,9 +114,6 @@ impl Core {
         let Some(address) = address else {
             return false;
         };
-        if self.newest.is_none() {
-            return self.any_stores(self.group(shard).waiting(), &address);
-        }
         let write = self.met(shard, Cause::Block { shard: 0, address });
         write.is_some()
     }
@@ -157,29 +152,6 @@ impl Core {
         ensures { IsFirstFrom from (passes (stores what) self.now.operations) result }
     {
         self.operations.first_storing(what, from)
-    }
-
-    /// Whether one of some entries stores the block of this address.
-    fn any_stores(&self, entries: &[Entry], address: &Address) -> bool
-        ensures { result
-            ≡ list_any (λ entry. is_address address.now (named entry self.now)) entries.now }
-    {
-        for entry in entries {
-            if self.stores(entry, address) {
-                return true;
-            }
-        }
-        false
-    }
-
-    /// Whether an entry stores the block of this address.
-    fn stores(&self, entry: &Entry, address: &Address) -> bool
-        ensures { result ≡ is_address address.now (named entry.now self.now) }
-    {
-        match self.named(entry) {
-            Some(named) => *address == named,
-            None => false,
-        }
     }
 
     /// How many Blocks have not taken effect.

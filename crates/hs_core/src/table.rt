@@ -77,8 +77,6 @@ impl Table {
         requires { IsIndexed self.old }
         ensures map { OnOk result
             (self.new.map.entries ≡ insert_entry nat_cmp self.old.map.entries line waiting) }
-        ensures others { OnOk result
-            (IsPutAt line (Some waiting) self.old.map.entries self.new.map.entries) }
         ensures index { OnOk result (IsIndexed self.new) }
     {
         let keys = keys_of(self.alloc, &waiting)?;
@@ -94,7 +92,6 @@ impl Table {
         ensures value { IfOk result (λ waiting. waiting ≡ found_in self.old.map.entries line) }
         ensures map { OnOk result (self.new.map.entries
             ≡ remove_entry (is_at (nat_cmp line)) self.old.map.entries) }
-        ensures others { OnOk result (IsPutAt line None self.old.map.entries self.new.map.entries) }
         ensures index { OnOk result (IsIndexed self.new) }
         ensures same { IfOk result
             (λ waiting. IfNone waiting (self.new.map.entries ≡ self.old.map.entries)) }

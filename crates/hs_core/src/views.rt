@@ -7,7 +7,6 @@ ghost use Rattle.hs_core.specs.Views.{begin_view, change_view, is_within, restar
 ghost use Rattle.hs_members.specs.Members.{IsShard};
 ghost use Rattle.hs_replica.specs.Group.{last_number, renew};
 
-use crate::apart::newest_if;
 use crate::no_memory::NoMemory;
 use crate::steps::renew_steps;
 use crate::{Core, Wait};
@@ -57,8 +56,6 @@ impl Core {
         let group = &mut self.groups[place];
         let told = group.on_view(&mut self.pool, &self.members);
         let number = group.last_number();
-        let newest = newest_if(told.is_ok(), self.newest);
-        self.newest = newest;
         renew_steps(
             &mut self.steps,
             &self.members,

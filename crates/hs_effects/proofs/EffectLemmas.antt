@@ -12,7 +12,7 @@ use Rattle.hs_core.specs.Effects.{after_entry, commit, commit_next, is_for_view,
 use Rattle.hs_core.specs.Entering.{is_enter_due, propose_due}
 use Rattle.hs_core.specs.Looking.{catalogue_of, front_of, group_of, operation_of, shape_of}
 use Rattle.hs_core.specs.Operating.{propose_entry, resume_where}
-use Rattle.hs_core.specs.Pending.{named}
+use Rattle.hs_core.specs.Pending.{named, own_address, stored}
 use Rattle.hs_core.specs.State.{Core}
 use Rattle.hs_core.specs.Words.{change_if, change_with, times}
 use Rattle.hs_desk.specs.declared.what.What.{What}
@@ -32,6 +32,7 @@ use Rattle.hs_entry.specs.declared.entry.Entry.TheVariants as kind
 use Rattle.hs_fold.proofs.Shards.PlaceLemmas.{other-at, same-at}
 use Rattle.hs_journal.specs.declared.entry.Who.TheVariants as who
 use Rattle.hs_limits.specs.declared.address.Address.{Address}
+use Rattle.hs_memory.specs.Forget.{named as named_by}
 use Rattle.hs_model.specs.declared.deed.Deed.TheVariants as deed
 use Rattle.hs_model.specs.declared.op.Op.{Op}
 use Rattle.hs_model.specs.declared.op.Op.TheVariants as op
@@ -47,8 +48,9 @@ use Rattle.hs_tokens.specs.Seats.{Seats}
 
 -- ---- the name of an entry's block
 
-block_of : (name : List ℕ → Address) (seats : Seats) (line k least : ℕ) (bytes : List ℕ) (o : Op) → IsEntryOf name seats k o (kind.Block line least bytes) → wanted_address seats o ≡ Some (name bytes)
-block_of name seats line k least bytes (op.Write session payload handles address) asks = go asks
+block_of : (name : List ℕ → Address) (seats : Seats) (line k least : ℕ) (bytes : List ℕ) (o : Op) → IsEntryOf name seats k o (kind.Block line least bytes)
+    → (own_address o ≡ Some (name bytes)) × (wanted_address seats o ≡ Some (name bytes))
+block_of name seats line k least bytes (op.Write session payload handles address) asks = (go asks, go asks)
   where
     go : IsEntryOf name seats k (op.Write session payload handles address) (kind.Block line least bytes) → address ≡ Some (name bytes)
     go (inl is) = is.1 ∙ ap (λ x. Some (name x)) (spelled is.0)
@@ -67,21 +69,32 @@ block_of name seats line k least bytes (op.Forget session handle) asks = absurd 
 block_of name seats line k least bytes (op.Name session handle) asks = absurd asks
 block_of name seats line k least bytes op.Stat asks = absurd asks
 
-pub listed_named : (name : List ℕ → Address) (c : Core) (shard place : ℕ) (entry : Entry) → IsOrderly name c → slice_get (group_of shard c).waiting place ≡ Some entry → IsNamed name entry c
-listed_named name c shard place (kind.Block line least bytes) its at =
+-- an entry that waits stores the block of its name, by its write, and that is what its operation is about
+listed : (name : List ℕ → Address) (c : Core) (shard place : ℕ) (entry : Entry) → IsOrderly name c → slice_get (group_of shard c).waiting place ≡ Some entry
+    → (stored entry c ≡ named_by name entry) × IsNamed name entry c
+listed name c shard place (kind.Block line least bytes) its at =
     let h = its.asked shard place line (kind.Block line least bytes) at refl in
-    ap (λ (o : Option Waiting). option_and_then (λ (w : Waiting). wanted_address c.sessions w.operation.op) o) h.at
-    ∙ block_of name c.sessions line line least bytes h.waiting.operation.op h.asks
-listed_named name c shard place (kind.View view) its at = refl
-listed_named name c shard place (kind.Mark line least block a) its at = refl
-listed_named name c shard place (kind.Root line held a key) its at = refl
-listed_named name c shard place (kind.Drop line key) its at = refl
-listed_named name c shard place (kind.Enter line epoch) its at = refl
-listed_named name c shard place (kind.Got from epoch round total deltas) its at = refl
-listed_named name c shard place (kind.Base view epoch swept round frames) its at = refl
-listed_named name c shard place (kind.KeptBlock born mark flags count bytes) its at = refl
-listed_named name c shard place (kind.KeptRoot created dropped counted address key) its at = refl
-listed_named name c shard place (kind.KeptRound way other epoch round total deltas) its at = refl
+    let both : (own_address h.waiting.operation.op ≡ Some (name bytes)) × (wanted_address c.sessions h.waiting.operation.op ≡ Some (name bytes))
+    = block_of name c.sessions line line least bytes h.waiting.operation.op h.asks in (
+      ap (λ (o : Option Waiting). option_and_then (λ (w : Waiting). own_address w.operation.op) o) h.at ∙ both.0,
+      ap (λ (o : Option Waiting). option_and_then (λ (w : Waiting). wanted_address c.sessions w.operation.op) o) h.at ∙ both.1,
+    )
+listed name c shard place (kind.View view) its at = (refl, refl)
+listed name c shard place (kind.Mark line least block a) its at = (refl, refl)
+listed name c shard place (kind.Root line held a key) its at = (refl, refl)
+listed name c shard place (kind.Drop line key) its at = (refl, refl)
+listed name c shard place (kind.Enter line epoch) its at = (refl, refl)
+listed name c shard place (kind.Got from epoch round total deltas) its at = (refl, refl)
+listed name c shard place (kind.Base view epoch swept round frames) its at = (refl, refl)
+listed name c shard place (kind.KeptBlock born mark flags count bytes) its at = (refl, refl)
+listed name c shard place (kind.KeptRoot created dropped counted address key) its at = (refl, refl)
+listed name c shard place (kind.KeptRound way other epoch round total deltas) its at = (refl, refl)
+
+pub listed_named : (name : List ℕ → Address) (c : Core) (shard place : ℕ) (entry : Entry) → IsOrderly name c → slice_get (group_of shard c).waiting place ≡ Some entry → IsNamed name entry c
+listed_named name c shard place entry its at = (listed name c shard place entry its at).1
+
+pub listed_stored : (name : List ℕ → Address) (c : Core) (shard place : ℕ) (entry : Entry) → IsOrderly name c → slice_get (group_of shard c).waiting place ≡ Some entry → stored entry c ≡ named_by name entry
+listed_stored name c shard place entry its at = (listed name c shard place entry its at).0
 
 pub committed_named : (name : List ℕ → Address) (c : Core) (shard number : ℕ) (entry : Entry) → IsOrderly name c → committed (group_of shard c) ≡ Some (number, entry) → IsNamed name entry c
 committed_named name c shard number entry its e = listed_named name c shard 0 entry its (committed_first (group_of shard c) number entry e).first

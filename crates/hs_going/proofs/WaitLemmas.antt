@@ -10,11 +10,11 @@ use Rattle.hs_core.specs.declared.wait.Wait.TheVariants as wait
 use Rattle.hs_core.specs.declared.waiting.Waiting.{Waiting}
 use Rattle.hs_core.specs.Looking.{catalogue_of, group_of}
 use Rattle.hs_core.specs.Operating.{what_holds}
-use Rattle.hs_core.specs.Pending.{has_room, is_address, is_coming, is_crowded, is_pending, named}
+use Rattle.hs_core.specs.Pending.{has_room, is_address, is_coming, is_crowded, is_pending, stored}
 use Rattle.hs_core.specs.State.{Core}
 use Rattle.hs_desk.specs.declared.what.What.{What}
 use Rattle.hs_effects.specs.Logged.{IsEntryOf, IsOrderly, asked_by}
-use Rattle.hs_effects.proofs.EffectLemmas.{listed_named}
+use Rattle.hs_effects.proofs.EffectLemmas.{listed_stored}
 use Rattle.hs_effects.proofs.StepLemmas.{head_none, rest_none}
 use Rattle.hs_entry.specs.declared.entry.Entry.{Entry}
 use Rattle.hs_going.specs.Causes.{HasCause, SomeWaits, StoresFor, TakesRoomFor, asker_of, reads_bytes, written_address}
@@ -237,14 +237,14 @@ crowds held more limit full room =
     omega (arith, up, low)
 
 module _ (name : List ℕ → Address) (c : Core) (its : IsOrderly name c) (line shard : ℕ) where
-  coming_at : (a : Address) (o : Op) → written_address o ≡ Some a → list_any (λ entry. is_address a (named entry c)) (group_of shard c).waiting ≡ true → SomeWaits c shard (StoresFor name o)
+  coming_at : (a : Address) (o : Op) → written_address o ≡ Some a → list_any (λ entry. is_address a (stored entry c)) (group_of shard c).waiting ≡ true → SomeWaits c shard (StoresFor name o)
   coming_at a o wanted e =
-      let h : IsAt (group_of shard c).waiting (λ entry. is_address a (named entry c) ≡ true) = any_at (λ entry. is_address a (named entry c)) (group_of shard c).waiting e in
+      let h : IsAt (group_of shard c).waiting (λ entry. is_address a (stored entry c) ≡ true) = any_at (λ entry. is_address a (stored entry c)) (group_of shard c).waiting e in
       record {
         place = h.place;
         entry = h.element;
         at = h.at;
-        is = record { address = a; wanted = wanted; stores = sym (listed_named name c shard h.place h.element its h.at) ∙ is_it a (named h.element c) h.is };
+        is = record { address = a; wanted = wanted; stores = sym (listed_stored name c shard h.place h.element its h.at) ∙ is_it a (stored h.element c) h.is };
       }
 
   pending_cause : (o : Op) → is_pending shard o c ≡ true → has_room shard o 0 0 c ≡ true → (coming : Bool) → is_coming shard (wanted_address c.sessions o) c ≡ coming
@@ -291,10 +291,10 @@ wait_cause name c line w its why = by_view (slice_index_or c.viewed w.shard fals
 -- ---- what is pending rests on the lists, whatever the operations
 
 coming_named : (name : List ℕ → Address) (c : Core) (shard : ℕ) (a : Address) → IsOrderly name c
-    → list_any (λ entry. is_address a (named entry c)) (group_of shard c).waiting ≡ list_any (λ entry. is_address a (named_by name entry)) (group_of shard c).waiting
+    → list_any (λ entry. is_address a (stored entry c)) (group_of shard c).waiting ≡ list_any (λ entry. is_address a (named_by name entry)) (group_of shard c).waiting
 coming_named name c shard a its =
-    any_agree (λ entry. is_address a (named entry c)) (λ entry. is_address a (named_by name entry)) (group_of shard c).waiting
-    (λ place entry at. ap (λ x. is_address a x) (listed_named name c shard place entry its at))
+    any_agree (λ entry. is_address a (stored entry c)) (λ entry. is_address a (named_by name entry)) (group_of shard c).waiting
+    (λ place entry at. ap (λ x. is_address a x) (listed_stored name c shard place entry its at))
 
 coming_same : (name : List ℕ → Address) (a b : Core) (shard : ℕ) → IsOrderly name a → IsOrderly name b → (group_of shard b).waiting ≡ (group_of shard a).waiting → (x : Option Address) → is_coming shard x b ≡ is_coming shard x a
 coming_same name a b shard its own waits None = refl

@@ -16,7 +16,7 @@ use Rattle.hs_core.specs.declared.waiting.Waiting.{Waiting}
 use Rattle.hs_core.specs.Changing.{add_entry_tasks, add_operation, change_group, change_pool, post, put_operation}
 use Rattle.hs_core.specs.Looking.{group_of, lead_of, shape_of}
 use Rattle.hs_core.specs.Operating.{add_read, begin_line, busy_line, take_step}
-use Rattle.hs_core.specs.Pending.{is_address, is_coming, is_crowded, named}
+use Rattle.hs_core.specs.Pending.{is_address, is_coming, is_crowded, stored}
 use Rattle.hs_core.specs.Seeing.{view_for}
 use Rattle.hs_core.specs.State.{Core}
 use Rattle.hs_core.specs.Step.{begin_event, end_event, keep_entries, refuse_entries, run_event, step}
@@ -129,22 +129,22 @@ busy_same (op.Name name handle) core pool moment line = refl
 busy_same op.Delete core pool moment line = refl
 busy_same op.Stat core pool moment line = refl
 
-named_same : (entry : Entry) (core : Core) (pool : Pool) (moment line n : ℕ) → named entry (record (begun core pool moment line) { last_line = n }) ≡ named entry (record core { last_line = n })
-named_same (kind.View view) core pool moment line n = refl
-named_same (kind.Block m least bytes) core pool moment line n = refl
-named_same (kind.Mark m least block a) core pool moment line n = refl
-named_same (kind.Root m held a key) core pool moment line n = refl
-named_same (kind.Drop m key) core pool moment line n = refl
-named_same (kind.Enter m epoch) core pool moment line n = refl
-named_same (kind.Got from epoch round total deltas) core pool moment line n = refl
-named_same (kind.Base view epoch swept round frames) core pool moment line n = refl
-named_same (kind.KeptBlock born mark flags count bytes) core pool moment line n = refl
-named_same (kind.KeptRoot created dropped counted address key) core pool moment line n = refl
-named_same (kind.KeptRound way other epoch round total deltas) core pool moment line n = refl
+stored_same : (entry : Entry) (core : Core) (pool : Pool) (moment line n : ℕ) → stored entry (record (begun core pool moment line) { last_line = n }) ≡ stored entry (record core { last_line = n })
+stored_same (kind.View view) core pool moment line n = refl
+stored_same (kind.Block m least bytes) core pool moment line n = refl
+stored_same (kind.Mark m least block a) core pool moment line n = refl
+stored_same (kind.Root m held a key) core pool moment line n = refl
+stored_same (kind.Drop m key) core pool moment line n = refl
+stored_same (kind.Enter m epoch) core pool moment line n = refl
+stored_same (kind.Got from epoch round total deltas) core pool moment line n = refl
+stored_same (kind.Base view epoch swept round frames) core pool moment line n = refl
+stored_same (kind.KeptBlock born mark flags count bytes) core pool moment line n = refl
+stored_same (kind.KeptRoot created dropped counted address key) core pool moment line n = refl
+stored_same (kind.KeptRound way other epoch round total deltas) core pool moment line n = refl
 
 coming_same : (shard : ℕ) (a : Option Address) (core : Core) (pool : Pool) (moment line n : ℕ) → is_coming shard a (record (begun core pool moment line) { last_line = n }) ≡ is_coming shard a (record core { last_line = n })
 coming_same shard a core pool moment line n =
-    λ i. option_map_or (λ b. list_any (λ entry. is_address b (named_same entry core pool moment line n i)) (group_of shard core).waiting) a false
+    λ i. option_map_or (λ b. list_any (λ entry. is_address b (stored_same entry core pool moment line n i)) (group_of shard core).waiting) a false
 
 first_same : (n : ℕ) (o : Op) (core : Core) (pool : Pool) (moment line : ℕ) → first_step n o (begun core pool moment line) ≡ first_step n o core
 first_same n (op.Open name) core pool moment line = refl

@@ -1,10 +1,7 @@
-use Rattle.std.proofs.Common.{◌≡◌, ◌∙◌, ◌*◌, ap, refl, arith, length, replicate, None, Option}
+use Rattle.std.proofs.Common.{◌≡◌, ◌∙◌, ◌*◌, ap, arith, length, replicate, None, Option}
 use Rattle.std.proofs.lemmas.Grind.{common_steps}
 use Rattle.std.proofs.lemmas.List.{length-replicate}
-use Rattle.hs_core.specs.Apart.{newest_at_first}
-use Rattle.hs_desk.specs.declared.job.Job.{Job}
 use Rattle.hs_rejoin.specs.Rejoin.{Rejoin}
-use Rattle.hs_core.proofs.ApartLemmas.{apart_at_first}
 use Rattle.hs_core.proofs.OpenLemmas.{fronts_of_all, kept_of_all, steps_of_none}
 use Rattle.hs_core.proofs.PlacedLemmas.{within_none}
 use Rattle.hs_core.proofs.opening.core_of.Goals as goal
@@ -23,5 +20,4 @@ invariant_of-result c =
       sessions = c.new.ensures.limits;
       journal = c.new-3.ensures.limit;
       placed = within_none _ c.new-2.result c.new-2.ensures;
-      apart = apart_at_first c.newest_at_first-newest.result c.new-2.result c.args.lists.groups.items (c.newest_at_first-newest.ensures ∙ ap newest_at_first c.as_slice.ensures.value) c.new-2.ensures;
     }

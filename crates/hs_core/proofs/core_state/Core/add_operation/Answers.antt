@@ -2,7 +2,6 @@ use Rattle.hs_core.specs.declared.core_state.Core.TheView.{view}
 use Rattle.hs_core.specs.Looking.{shape_of}
 use Rattle.hs_core.specs.State.{Core}
 use Rattle.hs_members.specs.Members.{IsShard}
-use Rattle.hs_core.proofs.ApartLemmas.{apart_put}
 use Rattle.hs_core.proofs.PlacedLemmas.{fronts_beside, kept_beside, placed_put, steps_beside}
 use Rattle.hs_core.proofs.core_state.Core.add_operation.Goals as goal
 
@@ -18,5 +17,4 @@ invariant_of-self c =
       sessions = is.sessions;
       journal = is.journal;
       placed = placed_put (shape_of old).shards old.operations c.put.new.self is.placed c.put.result c.args.line c.args.waiting c.put.ensures.ok c.put.ensures.none within;
-      apart = apart_put c.self.inside.newest c.newest_put-newest.result old.operations c.put.new.self old.groups c.put.result c.args.line c.args.waiting c.newest_put-newest.ensures c.put.ensures.others c.put.ensures.none is.apart;
     }

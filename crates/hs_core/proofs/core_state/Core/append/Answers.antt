@@ -1,14 +1,12 @@
 use Rattle.std.proofs.Common.{◌≡◌, refl, arith}
-use Rattle.std.specs.Prelude.{OnErr, OnOk}
 use Rattle.std.proofs.lemmas.Grind.{common_steps}
 use Rattle.hs_core.specs.declared.core_state.Core.TheView.{view}
 use Rattle.hs_core.specs.Looking.{group_of, shape_of}
 use Rattle.hs_core.specs.Renewing.{Renews}
 use Rattle.hs_core.specs.State.{Core}
 use Rattle.hs_members.specs.Members.{IsShard}
-use Rattle.hs_replica.specs.Group.{Group, on_append}
+use Rattle.hs_replica.specs.Group.{Group}
 use Rattle.hs_replica.specs.Keeping.{KeepsFront}
-use Rattle.hs_core.proofs.ApartLemmas.{append_waiting, apart_kept, done_waiting}
 use Rattle.hs_core.proofs.StepLemmas.{core_after, fronts_after, of_kept, steps_after}
 use Rattle.hs_core.proofs.core_state.Core.append.Goals as goal
 
@@ -33,9 +31,6 @@ invariant_of-self c =
     let item : c.index_mut-group.result.now ≡ group_of shard old = grind (arith, common_steps) in
     let kept : KeepsFront (group_of shard old) g = rw (← item) c.on_append-taken.ensures.kept in
     let renews : Renews old.members g old.rejoins shard c.self.inside.steps.items c.renew_steps.new.steps.items = rw (← c.as_slice.ensures.value) c.renew_steps.ensures.renewed in
-    let change = on_append c.args.peer c.args.view c.args.number c.args.entry.now in
-    let made : OnOk c.on_append-taken.result (g ≡ change (group_of shard old)) = rw (← item) c.on_append-taken.ensures.ok in
-    let same : OnErr c.on_append-taken.result (g ≡ group_of shard old) = rw (← item) c.on_append-taken.ensures.same in
     rw c.from.ensures (record {
       kept = core_after old _ shard g is.kept within kept refl refl refl refl refl refl;
       fronts = fronts_after old _ shard g c.self.inside.fronts.items is.kept within is.fronts kept refl refl;
@@ -43,5 +38,4 @@ invariant_of-self c =
       sessions = is.sessions;
       journal = is.journal;
       placed = is.placed;
-      apart = apart_kept old shard is.kept within c.self.inside.newest g (done_waiting c.on_append-taken.result change (group_of shard old) g (append_waiting c.args.peer c.args.view c.args.number c.args.entry.now (group_of shard old)) made same) is.apart;
     })

@@ -1,4 +1,4 @@
-use Rattle.std.proofs.Common.{◌≡◌, sym, ap, refl, arith}
+use Rattle.std.proofs.Common.{◌≡◌, sym, refl, arith}
 use Rattle.std.proofs.lemmas.Grind.{common_steps}
 use Rattle.std.proofs.lemmas.List.{length-set}
 use Rattle.std.specs.Prelude.{slice_set}
@@ -7,9 +7,8 @@ use Rattle.hs_core.specs.Looking.{group_of, shape_of}
 use Rattle.hs_core.specs.Renewing.{Renews}
 use Rattle.hs_core.specs.State.{Core}
 use Rattle.hs_members.specs.Members.{IsShard, home_of}
-use Rattle.hs_replica.specs.Group.{Group, on_emptied}
+use Rattle.hs_replica.specs.Group.{Group}
 use Rattle.hs_replica.specs.Keeping.{KeepsFront}
-use Rattle.hs_core.proofs.ApartLemmas.{apart_kept}
 use Rattle.hs_core.proofs.StepLemmas.{core_after, fronts_after, rejoin_beside, steps_after}
 use Rattle.hs_core.proofs.core_state.Core.empty_copy.Goals as goal
 
@@ -25,7 +24,6 @@ invariant_of-self c =
     let rejoins = slice_set c.self.inside.rejoins.items c.from.result c.empty_rejoin.new.rejoin in
     let at : home_of (shape_of old) c.from.result ≡ shard = rw c.from.ensures (sym (rw (← c.self.view_is) at c.home-shard.ensures.home)) in
     let renews : Renews old.members g rejoins shard c.self.inside.steps.items c.renew_steps.new.steps.items = rw (← c.as_slice.ensures.value) c.renew_steps.ensures.renewed in
-    let made : g ≡ on_emptied c.args.peer (group_of shard old) = rw (← item) c.on_emptied.ensures.value in
     rw c.from-2.ensures (record {
       kept = core_after old _ shard g is.kept within kept refl refl refl refl refl (length-set c.self.inside.rejoins.items c.from.result c.empty_rejoin.new.rejoin);
       fronts = fronts_after old _ shard g c.self.inside.fronts.items is.kept within is.fronts kept refl refl;
@@ -33,5 +31,4 @@ invariant_of-self c =
       sessions = is.sessions;
       journal = is.journal;
       placed = is.placed;
-      apart = apart_kept old shard is.kept within c.self.inside.newest g (ap (λ (x : Group). x.waiting) made) is.apart;
     })

@@ -1,7 +1,6 @@
 use Rattle.hs_core.specs.declared.core_state.Core.TheView.{view}
 use Rattle.hs_core.specs.Looking.{shape_of}
 use Rattle.hs_core.specs.State.{Core}
-use Rattle.hs_core.proofs.ApartLemmas.{apart_ended}
 use Rattle.hs_core.proofs.PlacedLemmas.{fronts_beside, kept_beside, placed_ended, steps_beside}
 use Rattle.hs_core.proofs.core_state.Core.end_operation.Goals as goal
 
@@ -16,5 +15,4 @@ invariant_of-self c =
       sessions = is.sessions;
       journal = is.journal;
       placed = placed_ended (shape_of old).shards old.operations c.end.new.self is.placed c.end.result c.args.line c.end.ensures.rest c.end.ensures.none;
-      apart = apart_ended c.self.inside.newest old.operations c.end.new.self old.groups is.apart c.end.result c.args.line c.end.ensures.others c.end.ensures.none;
     }

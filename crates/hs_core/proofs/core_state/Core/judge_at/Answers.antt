@@ -10,7 +10,6 @@ use Rattle.hs_core.specs.Going.{gains_by, given_by, next_step, sight_of, step_by
 use Rattle.hs_core.specs.Looking.{shape_of}
 use Rattle.hs_core.specs.State.{Core}
 use Rattle.hs_ops.specs.Answers.{gained}
-use Rattle.hs_core.proofs.ApartLemmas.{apart_judged}
 use Rattle.hs_core.proofs.PlacedLemmas.{fronts_beside, kept_beside, placed_judged, steps_beside}
 use Rattle.hs_core.proofs.core_state.Core.judge_at.Goals as goal
 
@@ -25,7 +24,6 @@ invariant_of-self c =
       sessions = is.sessions;
       journal = is.journal;
       placed = placed_judged (shape_of old).shards old.operations c.judge.new.self is.placed c.judge.result c.args.how.now c.as_slice-pointers.result.now c.view-view.result c.args.line c.judge.ensures.ok c.judge.ensures.none;
-      apart = apart_judged c.self.inside.newest old.operations c.judge.new.self old.groups is.apart c.judge.result c.args.how.now c.as_slice-pointers.result.now c.view-view.result c.args.line c.judge.ensures.ok c.judge.ensures.none;
     }
 
 pub returns-clause-step : goal.returns-clause-step

@@ -32,5 +32,4 @@ invariant_of-self-2 c =
       sessions = is.sessions;
       journal = is.journal;
       placed = within_told old.members c.become_good.new.members old.operations same is.placed;
-      apart = is.apart;
     }

@@ -28,5 +28,4 @@ invariant_of-self-2 c =
       sessions = is.sessions;
       journal = is.journal;
       placed = within_told old.members c.start.new.self old.operations same is.placed;
-      apart = is.apart;
     }

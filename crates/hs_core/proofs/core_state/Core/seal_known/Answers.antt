@@ -1,14 +1,12 @@
 use Rattle.std.proofs.Common.{◌≡◌, refl, arith}
-use Rattle.std.specs.Prelude.{OnErr, OnOk}
 use Rattle.std.proofs.lemmas.Grind.{common_steps}
 use Rattle.hs_core.specs.declared.core_state.Core.TheView.{view}
 use Rattle.hs_core.specs.Looking.{group_of, shape_of}
 use Rattle.hs_core.specs.Renewing.{Renews}
 use Rattle.hs_core.specs.State.{Core}
 use Rattle.hs_members.specs.Members.{IsShard}
-use Rattle.hs_replica.specs.Group.{Group, on_sealed}
+use Rattle.hs_replica.specs.Group.{Group}
 use Rattle.hs_replica.specs.Keeping.{KeepsFront}
-use Rattle.hs_core.proofs.ApartLemmas.{apart_kept, done_waiting}
 use Rattle.hs_core.proofs.StepLemmas.{core_after, fronts_after, steps_after}
 use Rattle.hs_core.proofs.core_state.Core.seal_known.Goals as goal
 
@@ -22,8 +20,6 @@ invariant_of-self c =
     let item : c.index_mut-group.result.now ≡ group_of shard old = grind (arith, common_steps) in
     let kept : KeepsFront (group_of shard old) g = rw (← item) c.on_sealed-sealed.ensures.kept in
     let renews : Renews old.members g old.rejoins shard c.self.inside.steps.items c.renew_steps.new.steps.items = rw (← c.as_slice.ensures.value) c.renew_steps.ensures.renewed in
-    let made : OnOk c.on_sealed-sealed.result (g ≡ on_sealed c.args.peer c.args.number (group_of shard old)) = rw (← item) c.on_sealed-sealed.ensures.ok in
-    let same : OnErr c.on_sealed-sealed.result (g ≡ group_of shard old) = rw (← item) c.on_sealed-sealed.ensures.same in
     rw c.from.ensures (record {
       kept = core_after old _ shard g is.kept within kept refl refl refl refl refl refl;
       fronts = fronts_after old _ shard g c.self.inside.fronts.items is.kept within is.fronts kept refl refl;
@@ -31,5 +27,4 @@ invariant_of-self c =
       sessions = is.sessions;
       journal = is.journal;
       placed = is.placed;
-      apart = apart_kept old shard is.kept within c.self.inside.newest g (done_waiting c.on_sealed-sealed.result (on_sealed c.args.peer c.args.number) (group_of shard old) g refl made same) is.apart;
     })

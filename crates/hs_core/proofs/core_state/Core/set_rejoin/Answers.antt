@@ -28,5 +28,4 @@ invariant_of-self c =
       sessions = is.sessions;
       journal = is.journal;
       placed = is.placed;
-      apart = is.apart;
     }

@@ -3,7 +3,6 @@ use Rattle.hs_core.specs.declared.core_state.Core.TheView.{view}
 use Rattle.hs_core.specs.Looking.{shape_of}
 use Rattle.hs_core.specs.State.{Core}
 use Rattle.hs_core.proofs.GoingLemmas.{waits_in}
-use Rattle.hs_core.proofs.ApartLemmas.{apart_waits}
 use Rattle.hs_core.proofs.PlacedLemmas.{fronts_beside, kept_beside, placed_waits, steps_beside}
 use Rattle.hs_core.proofs.core_state.Core.set_wait.Goals as goal
 
@@ -18,7 +17,6 @@ invariant_of-self c =
       sessions = is.sessions;
       journal = is.journal;
       placed = placed_waits (shape_of old).shards old.operations c.set_wait.new.self is.placed c.set_wait.result c.args.line c.args.what c.set_wait.ensures.ok c.set_wait.ensures.none;
-      apart = apart_waits c.self.inside.newest old.operations c.set_wait.new.self old.groups is.apart c.set_wait.result c.args.line c.args.what c.set_wait.ensures.ok c.set_wait.ensures.none;
     }
 
 pub returns-clause-ok : goal.returns-clause-ok

@@ -5,7 +5,6 @@ use Rattle.hs_core.specs.Looking.{group_of, shape_of}
 use Rattle.hs_core.specs.State.{Core}
 use Rattle.hs_members.specs.Members.{IsShard}
 use Rattle.hs_replica.specs.Group.{committed, take_committed}
-use Rattle.hs_core.proofs.ApartLemmas.{apart_taken}
 use Rattle.hs_core.proofs.StepLemmas.{core_taken, fronts_told, steps_taken, taken_number}
 use Rattle.std.proofs.Common.{Some}
 use Rattle.hs_core.proofs.core_state.Core.take_committed.Goals as goal
@@ -27,5 +26,4 @@ invariant_of-self-2 c =
       sessions = is.sessions;
       journal = is.journal;
       placed = is.placed;
-      apart = apart_taken old shard is.kept within c.self.inside.newest is.apart;
     })

@@ -1,13 +1,12 @@
-use Rattle.std.proofs.Common.{◌≡◌, ◌∙◌, ap, refl, arith}
+use Rattle.std.proofs.Common.{◌≡◌, refl, arith}
 use Rattle.std.proofs.lemmas.Grind.{common_steps}
 use Rattle.hs_core.specs.declared.core_state.Core.TheView.{view}
 use Rattle.hs_core.specs.Looking.{group_of, shape_of}
 use Rattle.hs_core.specs.Renewing.{Renews}
 use Rattle.hs_core.specs.State.{Core}
 use Rattle.hs_members.specs.Members.{IsShard}
-use Rattle.hs_replica.specs.Group.{Group, on_have}
+use Rattle.hs_replica.specs.Group.{Group}
 use Rattle.hs_replica.specs.Keeping.{KeepsFront}
-use Rattle.hs_core.proofs.ApartLemmas.{apart_kept, have_waiting}
 use Rattle.hs_core.proofs.StepLemmas.{core_after, fronts_after, of_kept, steps_after}
 use Rattle.hs_core.proofs.core_state.Core.take_have_in.Goals as goal
 
@@ -34,7 +33,6 @@ invariant_of-self c =
     let item : c.index_mut-group.result.now ≡ group_of shard old = grind (arith, common_steps) in
     let kept : KeepsFront (group_of shard old) g = rw (← item) c.on_have.ensures.kept in
     let renews : Renews old.members g old.rejoins shard c.self.inside.steps.items c.renew_steps.new.steps.items = rw (← c.as_slice.ensures.value) c.renew_steps.ensures.renewed in
-    let made : g ≡ on_have c.args.from c.args.view c.args.sealed (group_of shard old) = rw (← item) c.on_have.ensures.value in
     rw c.from.ensures (record {
       kept = core_after old _ shard g is.kept within kept refl refl refl refl refl refl;
       fronts = fronts_after old _ shard g c.self.inside.fronts.items is.kept within is.fronts kept refl refl;
@@ -42,5 +40,4 @@ invariant_of-self c =
       sessions = is.sessions;
       journal = is.journal;
       placed = is.placed;
-      apart = apart_kept old shard is.kept within c.self.inside.newest g (ap (λ (x : Group). x.waiting) made ∙ have_waiting c.args.from c.args.view c.args.sealed (group_of shard old)) is.apart;
     })

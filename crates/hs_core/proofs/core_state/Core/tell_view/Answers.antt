@@ -1,7 +1,6 @@
 use Rattle.std.proofs.Common.{◌≡◌, ◌∙◌, sym, ap, refl, arith, false}
 use Rattle.std.proofs.lemmas.Grind.{common_steps}
 use Rattle.std.proofs.lemmas.List.{length-set}
-use Rattle.std.proofs.lemmas.Result.{IfOk-at_ok}
 use Rattle.hs_core.specs.declared.core_state.Core.TheView.{view}
 use Rattle.hs_core.specs.Looking.{group_of, shape_of}
 use Rattle.hs_core.specs.Renewing.{Renews}
@@ -9,12 +8,9 @@ use Rattle.hs_core.specs.State.{Core}
 use Rattle.hs_members.specs.Members.{IsShard}
 use Rattle.hs_replica.specs.Group.{Group}
 use Rattle.hs_replica.specs.Keeping.{KeepsFront}
-use Rattle.hs_core.proofs.ApartLemmas.{apart_fewer, apart_viewed, fewer_again, fewer_none}
 use Rattle.hs_core.proofs.PlacedLemmas.{within_again, within_none}
 use Rattle.hs_core.proofs.StepLemmas.{core_after, fronts_after, of_kept, steps_after}
 use Rattle.std.proofs.Common.{◌+◌, ◌-◌, map}
-use Rattle.std.specs.Prelude.{OnOk, slice_set}
-use Rattle.hs_core.specs.Apart.{AreApart}
 use Rattle.hs_core.specs.Views.{restarted}
 use Rattle.hs_entry.specs.declared.entry.Entry.TheVariants as kind
 use Rattle.hs_members.specs.Members.{view_of}
@@ -52,8 +48,6 @@ invariant_of-self c =
     let item : c.index_mut-group.result.now ≡ group_of shard old = grind (arith, common_steps) in
     let kept : KeepsFront (group_of shard old) g = rw (← item) c.on_view-told.ensures.kept in
     let renews : Renews old.members g old.rejoins shard c.self.inside.steps.items c.renew_steps.new.steps.items = rw (← c.as_slice.ensures.value) c.renew_steps.ensures.renewed in
-    let made : OnOk c.on_view-told.result (g ≡ on_view old.members (group_of shard old)) = rw (← item) c.on_view-told.ensures.ok in
-    let apart : AreApart c.newest_if-newest.result old.operations (slice_set old.groups shard g) = apart_viewed old shard is.kept within c.on_view-told.result c.is_ok.result c.self.inside.newest c.newest_if-newest.result g old.members c.is_ok.ensures.value c.newest_if-newest.ensures made is.apart in
     rw c.from-place.ensures (record {
       kept = core_after old _ shard g is.kept within kept refl refl refl (length-set c.self.inside.viewed.items shard false) refl refl;
       fronts = fronts_after old _ shard g c.self.inside.fronts.items is.kept within is.fronts kept refl refl;
@@ -61,7 +55,6 @@ invariant_of-self c =
       sessions = is.sessions;
       journal = is.journal;
       placed = is.placed;
-      apart = apart;
     })
 
 pub invariant_of-self-2 : goal.invariant_of-self-2
@@ -76,8 +69,6 @@ invariant_of-self-2 c =
     let renews : Renews old.members g old.rejoins shard c.self.inside.steps.items c.renew_steps.new.steps.items = rw (← c.as_slice.ensures.value) c.renew_steps.ensures.renewed in
     let again : c.restart.new.self ≡ map (λ e. (e.0, restarted shard (c.last_number-number.result - 1) e.1)) old.operations
     = c.in_ok-restart.ensures.ok ∙ ap (λ n. map (λ e. (e.0, restarted shard n e.1)) old.operations) c.saturating_sub.ensures in
-    let made : OnOk c.on_view-told.result (g ≡ on_view old.members (group_of shard old)) = rw (← item) c.on_view-told.ensures.ok in
-    let apart : AreApart c.newest_if-newest.result old.operations (slice_set old.groups shard g) = apart_viewed old shard is.kept within c.on_view-told.result c.is_ok.result c.self.inside.newest c.newest_if-newest.result g old.members c.is_ok.ensures.value c.newest_if-newest.ensures made is.apart in
     rw c.from-place.ensures (record {
       kept = core_after old _ shard g is.kept within kept refl refl refl (length-set c.self.inside.viewed.items shard false) refl refl;
       fronts = fronts_after old _ shard g c.self.inside.fronts.items is.kept within is.fronts kept refl refl;
@@ -85,7 +76,6 @@ invariant_of-self-2 c =
       sessions = is.sessions;
       journal = is.journal;
       placed = within_again (shape_of old).shards shard (c.last_number-number.result - 1) old.operations c.restart.new.self again is.placed;
-      apart = apart_fewer c.newest_if-newest.result old.operations c.restart.new.self (slice_set old.groups shard g) (fewer_again shard (c.last_number-number.result - 1) old.operations c.restart.new.self again) apart;
     })
 
 pub invariant_of-self-in_err-restart : goal.invariant_of-self-in_err-restart
@@ -98,8 +88,6 @@ invariant_of-self-in_err-restart c =
     let item : c.index_mut-group.result.now ≡ group_of shard old = grind (arith, common_steps) in
     let kept : KeepsFront (group_of shard old) g = rw (← item) c.on_view-told.ensures.kept in
     let renews : Renews old.members g old.rejoins shard c.self.inside.steps.items c.renew_steps.new.steps.items = rw (← c.as_slice.ensures.value) c.renew_steps.ensures.renewed in
-    let made : OnOk c.on_view-told.result (g ≡ on_view old.members (group_of shard old)) = rw (← item) c.on_view-told.ensures.ok in
-    let apart : AreApart c.newest_if-newest.result old.operations (slice_set old.groups shard g) = apart_viewed old shard is.kept within c.on_view-told.result c.is_ok.result c.self.inside.newest c.newest_if-newest.result g old.members c.is_ok.ensures.value c.newest_if-newest.ensures made is.apart in
     rw c.from-place.ensures (record {
       kept = core_after old _ shard g is.kept within kept refl refl refl (length-set c.self.inside.viewed.items shard false) refl refl;
       fronts = fronts_after old _ shard g c.self.inside.fronts.items is.kept within is.fronts kept refl refl;
@@ -107,7 +95,6 @@ invariant_of-self-in_err-restart c =
       sessions = is.sessions;
       journal = is.journal;
       placed = within_none (shape_of old).shards c.restart.new.self c.in_err-restart.ensures.none;
-      apart = apart_fewer c.newest_if-newest.result old.operations c.restart.new.self (slice_set old.groups shard g) (fewer_none old.operations c.restart.new.self c.in_err-restart.ensures.none) apart;
     })
 
 pub returns-clause-ok : goal.returns-clause-ok
@@ -118,10 +105,8 @@ returns-clause-ok c =
     let is = c.self.invariant in
     let was : Group = group_of shard old in
     let item : c.index_mut-group.result.now ≡ was = grind (arith, common_steps) in
-    let group : c.on_view-told.new.self ≡ on_view old.members was =
-    IfOk-at_ok (λ _. c.on_view-told.new.self ≡ on_view old.members c.index_mut-group.result.now) c.in-Ok.is c.on_view-told.ensures.ok ∙ ap (on_view old.members) item in
-    let pool : c.on_view-told.new.pool ≡ send_all (view_messages old.members was) old.pool =
-    IfOk-at_ok (λ _. c.on_view-told.new.pool ≡ send_all (view_messages old.members c.index_mut-group.result.now) old.pool) c.in-Ok.is c.on_view-told.ensures.sends ∙ ap (λ x. send_all (view_messages old.members x) old.pool) item in
+    let group : c.on_view-told.new.self ≡ on_view old.members was = c.in-Ok.ensures.ok ∙ ap (on_view old.members) item in
+    let pool : c.on_view-told.new.pool ≡ send_all (view_messages old.members was) old.pool = c.in-Ok.ensures.sends ∙ ap (λ x. send_all (view_messages old.members x) old.pool) item in
     let view = kind.View (view_of was.shard old.members) in
     let number : c.last_number-number.result ≡ last_number (renew old.members was) + 1 = c.last_number-number.ensures ∙ ap last_number group ∙ proposed_number view (renew old.members was) in
     let last : c.last_number-number.result - 1 ≡ last_number (renew old.members was) = omega (arith, number) in

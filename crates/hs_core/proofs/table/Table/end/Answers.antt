@@ -11,6 +11,3 @@ returns-clause-index c =
     (c.in_ok-old.ensures ∙ ap keys_in c.remove-waiting.ensures.value) c.no_keys.ensures
     (λ q. ap (λ m. found_in m.entries q) c.in_ok-move_line.ensures.map ∙ c.remove-waiting.ensures.updates.0 q) in
     record { index = its.index; stored = its.stored; shards = its.shards }
-
-pub returns-clause-others : goal.returns-clause-others
-returns-clause-others c q = ap (λ m. found_in m.entries q) c.in_ok-move_line.ensures.map ∙ c.remove-waiting.ensures.updates.0 q
