@@ -1,9 +1,9 @@
 -- What is asked along events, of a front of them and of the rest; moments that rise; and events by which a run keeps standing.
 use Rattle.std.proofs.Common.{◌≡◌, sym, subst, ℕ, ◌≤◌, ◌++◌, [], ◌∷◌, Option, Some, None, refl, arith}
-use Rattle.hs_along.specs.Walks.{HasRecordRoom}
+use Rattle.hs_standing.specs.Walks.{HasRecordRoom}
 use Rattle.hs_answered.specs.Telling.{Judging}
-use Rattle.hs_answers.proofs.AddressedLemmas.{AllAddressed}
-use Rattle.hs_answers.specs.Answered.{IsAskedAlong, KeepsRecordRoom, TellTheirBlocks}
+use Rattle.hs_standing.proofs.AddressedLemmas.{AllAddressed}
+use Rattle.hs_standing.specs.Answered.{IsAskedAlong, KeepsRecordRoom, TellTheirBlocks}
 use Rattle.hs_core.specs.declared.event.Event.{Event}
 use Rattle.hs_core.specs.State.{Core}
 use Rattle.hs_core.specs.Step.{step}
@@ -12,12 +12,12 @@ use Rattle.hs_effects.specs.Logged.{MayBeginAll}
 use Rattle.hs_events.proofs.GoingLemmas.{step_goes}
 use Rattle.hs_events.specs.Course.{steps}
 use Rattle.hs_events.specs.Due.{Events, MomentsRise}
-use Rattle.hs_legal.proofs.ComingLemmas.{may_stand}
-use Rattle.hs_lines.proofs.StepLemmas.{step_ended}
+use Rattle.hs_standing.proofs.ComingLemmas.{may_stand}
+use Rattle.hs_standing.proofs.LinesStepLemmas.{step_ended}
 use Rattle.hs_model.specs.Store.{Store}
 use Rattle.hs_standing.specs.Run.{MayRun}
 use Rattle.hs_standing.specs.Standing.{AllMayKeep, judging_of}
-use Rattle.hs_stops.specs.Start.{Start}
+use Rattle.hs_standing.specs.Start.{Start}
 use Rattle.hs_told.specs.InTurn.{AllMayCome}
 
 -- ---- what is asked along events

@@ -1,7 +1,7 @@
 -- A run is answered as the plain store does.
 use Rattle.std.proofs.Common.{◌≡◌, ◌∙◌, ap, sym, subst, ◌++◌, List, []}
 use Rattle.std.specs.Prelude.{if◌then◌else◌}
-use Rattle.hs_answers.specs.Answered.{AreAnswers, judging_of}
+use Rattle.hs_standing.specs.Answered.{AreAnswers, judging_of}
 use Rattle.hs_clauses.proofs.FrontLemmas.{answered_front, legal_front}
 use Rattle.hs_clauses.proofs.ReadyLemmas.{LawsHere, last_answers, last_turn}
 use Rattle.hs_clauses.proofs.AskedLemmas.{IsAskedOf}

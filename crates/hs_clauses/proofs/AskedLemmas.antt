@@ -2,8 +2,8 @@
 use Rattle.std.proofs.Common.{◌≡◌, ap, sym, subst, ℕ, zero, suc, ◌+◌, ◌<◌, ◌≤◌, ◌++◌, Bool, true, false, List, [], Option, Some, None, refl, map, arith}
 use Rattle.std.specs.List.{AllByRecursion, range_with_len}
 use Rattle.std.specs.Prelude.{unwrap_or}
-use Rattle.hs_along.specs.Walks.{HasRecordRoom}
-use Rattle.hs_answers.specs.Answered.{IsAskedAlong, KeepsRecordRoom, TellTheirBlocks, judging_of}
+use Rattle.hs_standing.specs.Walks.{HasRecordRoom}
+use Rattle.hs_standing.specs.Answered.{IsAskedAlong, KeepsRecordRoom, TellTheirBlocks, judging_of}
 use Rattle.hs_clauses.proofs.LineLemmas.{flat_same, joined, opening_due}
 use Rattle.hs_clauses.proofs.ListLemmas.{lists_are, opened_is}
 use Rattle.hs_clauses.proofs.ReadLemmas.{BringsAll, applied_all, from_empty, read_brings, read_from_one}
@@ -20,17 +20,17 @@ use Rattle.hs_events.specs.Taken.{peer_count, taken_lists}
 use Rattle.hs_events.specs.Whole.{open_whole}
 use Rattle.hs_fold.specs.Runs.Opened.{catalogues, store_of}
 use Rattle.hs_fold.specs.Shards.Setting.{Numbered}
-use Rattle.hs_held.specs.Held.{KeepsAddresses}
+use Rattle.hs_standing.specs.Held.{KeepsAddresses}
 use Rattle.hs_ports.specs.declared.disk.Side.{Side}
 use Rattle.hs_ports.specs.Moments.{disk_at}
-use Rattle.hs_lines.specs.Script.{AreLines, all_events as lines_events}
+use Rattle.hs_standing.specs.Script.{AreLines, all_events as lines_events}
 use Rattle.hs_promise.specs.Ending.{ending_of}
 use Rattle.hs_promise.specs.Entry.{IsSoundAtEntry, entry_logs, entry_store}
 use Rattle.hs_promise.specs.Found.{IsReadAs}
 use Rattle.hs_promise.specs.Machine.{Went, opening_is_whole}
 use Rattle.hs_promise.specs.Run.{Ran, Script}
 use Rattle.hs_promise.specs.Story.{Story, all_events, last_core}
-use Rattle.hs_reads.specs.Run.{script_of}
+use Rattle.hs_clauses.specs.Run.{script_of}
 use Rattle.hs_shard.specs.Facts.{Catalogue, empty_catalogue}
 use Rattle.hs_side.specs.Current.{list_in}
 use Rattle.hs_sound.specs.Stay.{AreSoundAlong}
@@ -38,8 +38,8 @@ use Rattle.hs_standing.proofs.TakenLemmas.{FoldsInMemory}
 use Rattle.hs_standing.specs.Opening.{opened_lists}
 use Rattle.hs_standing.specs.Run.{RunOpens}
 use Rattle.hs_standing.specs.Standing.{judging_of as run_judging}
-use Rattle.hs_stops.specs.Lists.{whole_from}
-use Rattle.hs_stops.specs.Start.{Start}
+use Rattle.hs_standing.specs.Lists.{whole_from}
+use Rattle.hs_standing.specs.Start.{Start}
 
 -- ---- what is asked
 
@@ -70,7 +70,7 @@ each_range P f k (suc n) h = (h k (omega arith) (omega arith), each_range P f (k
 
 -- ---- it follows
 
--- what hs_reads says of reports
+-- what hs_clauses says of reports
 abbrev pub ReadsBlocks : Type 0
 ReadsBlocks =
     (start : Start) (found : Found) (past done : Bool) (opening : Events) (lines : List Events) (to : ℕ) → RunOpens start found → MomentsRise found.opened (opening ++ lines_events lines) to

@@ -9,8 +9,8 @@ use Rattle.hs_entry.specs.declared.entry.Entry.TheVariants as kind
 use Rattle.hs_entry.specs.declared.fault.EntryFault.{EntryFault}
 use Rattle.hs_entry.specs.declared.fault.EntryFault.TheVariants as faults
 use Rattle.hs_entry.specs.Reading.{is_kind, is_epoch, epoch_at, key_at, deltas_at, view_at, block_at, mark_at, root_at, drop_at, enter_at, got_at, fields_at, entry_at}
-use Rattle.hs_held.proofs.CatalogueLemmas.{Brings}
-use Rattle.hs_held.specs.Held.{GivesAddresses, Has32Bytes}
+use Rattle.hs_standing.proofs.CatalogueLemmas.{Brings}
+use Rattle.hs_standing.specs.Held.{GivesAddresses, Has32Bytes}
 use Rattle.hs_limits.proofs.FieldLemmas.{bind_ok, check_ok, ok_is}
 use Rattle.hs_limits.specs.Block.{Block}
 use Rattle.hs_limits.specs.declared.address.Address.{Address}

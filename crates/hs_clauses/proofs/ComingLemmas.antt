@@ -2,8 +2,8 @@
 use Rattle.std.proofs.Common.{◌≡◌, sym, subst, ℕ, ◌++◌, Bool, false, true, List, [], ◌∷◌, Option, None, refl, arith}
 use Rattle.std.specs.Prelude.{flat_map}
 use Rattle.hs_answered.specs.Telling.{Judging}
-use Rattle.hs_answers.proofs.AddressedLemmas.{AllAddressed, LinesAsk, lines_addressed, settle_addressed}
-use Rattle.hs_answers.specs.Answered.{judging_of}
+use Rattle.hs_standing.proofs.AddressedLemmas.{AllAddressed, LinesAsk, lines_addressed, settle_addressed}
+use Rattle.hs_standing.specs.Answered.{judging_of}
 use Rattle.hs_clauses.proofs.AlongLemmas.{rises_front, rises_rest}
 use Rattle.hs_clauses.proofs.FirstLemmas.{opens_first}
 use Rattle.hs_clauses.proofs.LineLemmas.{flat_same, joined, opening_due}
@@ -20,14 +20,14 @@ use Rattle.hs_journal.specs.Order.{IsOrdered}
 use Rattle.hs_limits.specs.declared.address.Address.{Address}
 use Rattle.hs_limits.specs.declared.limits.Limits.{Limits}
 use Rattle.hs_limits.specs.declared.shape.Shape.{Shape}
-use Rattle.hs_lines.specs.Script.{AreLines, IsNext, Script as Lined, all_events as lines_events}
+use Rattle.hs_standing.specs.Script.{AreLines, IsNext, Script as Lined, all_events as lines_events}
 use Rattle.hs_model.specs.declared.command.Command.{Command}
 use Rattle.hs_promise.specs.Machine.{Went, opening_is_whole}
 use Rattle.hs_promise.specs.Run.{Ran, Script}
 use Rattle.hs_promise.specs.Story.{Story, all_events}
 use Rattle.hs_told.specs.InTurn.{AllMayCome, IsInTurn, after_all}
 
--- what hs_told, hs_lines and hs_legal say of events, in one place
+-- what hs_told, hs_standing and hs_standing say of events, in one place
 pub record ComingLaws : Type 0 where
   pub opens : (commands : ℕ → Option Command) (shape : Shape) (limits : Limits) (taken : Taken) (moment : ℕ) → client_op (commands 0) ≡ None → IsInTurn commands (open_core shape limits taken moment)
   pub turns : (commands : ℕ → Option Command) (core : Core) (es : Events) → IsInTurn commands core → AllMayCome commands core es → IsInTurn commands (after_all core es)

@@ -13,7 +13,7 @@ use Rattle.hs_entry.specs.Entries.{rank_of}
 use Rattle.hs_events.specs.Taken.{taken_items, taken_list}
 use Rattle.hs_fold.specs.Good.{IsBegun, good_from, taken_from}
 use Rattle.hs_fold.specs.Shards.Setting.{Numbered}
-use Rattle.hs_held.proofs.AllLemmas.{all_filter}
+use Rattle.hs_standing.proofs.AllLemmas.{all_filter}
 use Rattle.hs_model.specs.declared.course.CourseItem.{CourseItem}
 use Rattle.hs_ports.specs.Moments.{disk_at}
 use Rattle.hs_ports.specs.Objects.{IsDuring}

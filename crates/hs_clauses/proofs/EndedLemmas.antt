@@ -23,7 +23,7 @@ use Rattle.hs_events.specs.Due.{Events, first_place, is_it, is_walk, next_turn, 
 use Rattle.hs_events.specs.Found.{first_core, opens_with}
 use Rattle.hs_fold.specs.Good.{IsBegun, good_from, taken_from}
 use Rattle.hs_fold.specs.Shards.Setting.{Numbered}
-use Rattle.hs_held.proofs.AllLemmas.{all_append}
+use Rattle.hs_standing.proofs.AllLemmas.{all_append}
 use Rattle.hs_journal.specs.declared.entry.JournalEntry.{JournalEntry}
 use Rattle.hs_journal.specs.Order.{IsOrdered}
 use Rattle.hs_model.specs.declared.course.CourseItem.{CourseItem}

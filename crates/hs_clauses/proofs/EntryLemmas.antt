@@ -9,7 +9,7 @@ use Rattle.hs_ports.specs.Moments.{disk_at}
 use Rattle.hs_promise.specs.Entry.{entry_logs, is_aside, logs_from}
 use Rattle.hs_promise.specs.Run.{Ran, Script}
 use Rattle.hs_side.specs.Current.{list_in}
-use Rattle.hs_stops.specs.Lists.{Lists, whole_from}
+use Rattle.hs_standing.specs.Lists.{Lists, whole_from}
 
 -- lists that count as blank where there is none, as whole lists
 blank_whole : (lists : Lists) (k : ℕ) (logs : List (Option Numbered)) → ((j p : ℕ) → j < length logs → p ≡ k + j → unwrap_or (slice_index_or logs j None) [] ≡ lists.whole p) → or_blank logs ≡ whole_from lists k (length logs)

@@ -1,4 +1,4 @@
--- That hs_stops says what hs_promise asks.
+-- That hs_standing says what hs_promise asks.
 use Rattle.std.proofs.Common.{ℕ, List}
 use Rattle.std.specs.Prelude.{slice_index_or}
 use Rattle.hs_clauses.specs.Asked.{start_of}
@@ -9,9 +9,9 @@ use Rattle.hs_promise.specs.Awaited.{IsAwaited as IsLeftOf}
 use Rattle.hs_promise.specs.Entry.{counted_course, entry_store}
 use Rattle.hs_promise.specs.Run.{Ran, Script}
 use Rattle.hs_promise.specs.Stops.{Reopens as ReopensAt, pending_at, stop_at}
-use Rattle.hs_stops.proofs.PendLemmas.{pend_from}
-use Rattle.hs_stops.specs.Reopens.{Reopens}
-use Rattle.hs_stops.specs.Start.{IsAwaited}
+use Rattle.hs_standing.proofs.PendLemmas.{pend_from}
+use Rattle.hs_standing.specs.Reopens.{Reopens}
+use Rattle.hs_standing.specs.Start.{IsAwaited}
 
 -- where the course of the run has each line that was begun in the course that counts
 pub fits : (S : Script) (r : Ran) (m : ℕ) (images : List Image) → ((line : ℕ) → IsBegun (counted_course S r) line m → IsBegun r.course line m)

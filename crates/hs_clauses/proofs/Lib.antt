@@ -1,6 +1,8 @@
 pub mod AlongLemmas
 pub mod AnswerLemmas
 pub mod AskedLemmas
+pub mod AtomLemmas
+pub mod AwaitLemmas
 pub mod BlockLemmas
 pub mod CaseLemmas
 pub mod ComingLemmas
@@ -12,6 +14,8 @@ pub mod FirstLemmas
 pub mod FitLemmas
 pub mod FoundLemmas
 pub mod FrontLemmas
+pub mod HomeLemmas
+pub mod HomeWalk
 pub mod ImageLemmas
 pub mod KeptLemmas
 pub mod LineLemmas
@@ -20,10 +24,18 @@ pub mod MomentLemmas
 pub mod NoteLemmas
 pub mod NumberedLemmas
 pub mod ReadLemmas
+pub mod ReadsFirstLemmas
+pub mod ReadsListLemmas
 pub mod ReadyLemmas
 pub mod RestLemmas
 pub mod RoomLemmas
+pub mod RunLemmas
+pub mod ScriptLemmas
 pub mod ShownLemmas
+pub mod StepLemmas
+pub mod StillLemmas
 pub mod StopLemmas
 pub mod TakenLemmas
+pub mod TellLemmas
 pub mod UnopenedLemmas
+pub mod WantLemmas

@@ -8,7 +8,7 @@ use Rattle.hs_core.specs.Step.{step}
 use Rattle.hs_events.specs.Course.{steps}
 use Rattle.hs_events.specs.declared.due.Due.{Due}
 use Rattle.hs_events.specs.Due.{Events, Walked, first_place, is_it, is_walk, next_due, next_nudge, next_turn, place_after, raises_known, walk}
-use Rattle.hs_lines.specs.Script.{AreLines, all_events}
+use Rattle.hs_standing.specs.Script.{AreLines, all_events}
 use Rattle.hs_promise.specs.Lines.{AreLines as AreBegunLines}
 use Rattle.hs_promise.specs.Run.{Ran, Script}
 

@@ -20,7 +20,7 @@ use Rattle.hs_promise.specs.Run.{Ran, Script}
 use Rattle.hs_promise.specs.Story.{Story, all_events}
 use Rattle.hs_side.specs.Current.{list_in}
 use Rattle.hs_standing.specs.Opening.{opened_lists}
-use Rattle.hs_stops.specs.Lists.{whole_from}
+use Rattle.hs_standing.specs.Lists.{whole_from}
 
 -- ---- small words
 

@@ -11,7 +11,7 @@ use Rattle.hs_core.specs.Step.{end_event, keep_entries, refuse_entries}
 use Rattle.hs_core.specs.Views.{begin_view, change_view, restart}
 use Rattle.hs_core.specs.Words.{change_if, change_with, each}
 use Rattle.hs_entry.specs.declared.entry.Entry.TheVariants as kind
-use Rattle.hs_held.proofs.AllLemmas.{all_append, all_filter}
+use Rattle.hs_standing.proofs.AllLemmas.{all_append, all_filter}
 use Rattle.hs_journal.specs.declared.entry.JournalEntry.{JournalEntry}
 use Rattle.hs_journal.specs.declared.entry.Who.{Who}
 use Rattle.hs_journal.specs.declared.entry.Who.TheVariants as who

@@ -11,8 +11,8 @@ use Rattle.hs_entry.specs.Reading.{entry_at}
 use Rattle.hs_events.specs.Sane.{IsFromOne}
 use Rattle.hs_fold.specs.Prefix.{GoOn as GoesOn, IsNumbered}
 use Rattle.hs_fold.specs.Shards.Setting.{Numbered}
-use Rattle.hs_held.proofs.CatalogueLemmas.{Brings, applied_keeps}
-use Rattle.hs_held.specs.Held.{GivesAddresses, KeepsAddresses}
+use Rattle.hs_standing.proofs.CatalogueLemmas.{Brings, applied_keeps}
+use Rattle.hs_standing.specs.Held.{GivesAddresses, KeepsAddresses}
 use Rattle.hs_limits.proofs.FieldLemmas.{bind_ok}
 use Rattle.hs_limits.specs.declared.address.Address.{Address}
 use Rattle.hs_limits.specs.Fields.{◌>>=◌}

@@ -3,8 +3,8 @@ use Rattle.std.proofs.Common.{◌≡◌, ◌∙◌, ap, sym, subst, ℕ, ◌<◌
 use Rattle.std.specs.Prelude.{flat_map}
 use Rattle.hs_answered.specs.Standing.{store_with}
 use Rattle.hs_answered.specs.Telling.{Judging}
-use Rattle.hs_answers.proofs.ReadyLemmas.{core_behind}
-use Rattle.hs_answers.specs.Answered.{AreAnswers, IsAskedAlong, IsReady, judging_of, steps_whole}
+use Rattle.hs_standing.proofs.ReadyLemmas.{core_behind}
+use Rattle.hs_standing.specs.Answered.{AreAnswers, IsAskedAlong, IsReady, judging_of, steps_whole}
 use Rattle.hs_clauses.proofs.AlongLemmas.{along_front, along_rest, rises_front, rises_rest}
 use Rattle.hs_clauses.proofs.FirstLemmas.{opens_first}
 use Rattle.hs_clauses.proofs.LineLemmas.{flat_same, joined, opening_due}
@@ -21,12 +21,12 @@ use Rattle.hs_events.specs.Whole.{Whole, open_whole}
 use Rattle.hs_fold.specs.Runs.Facts.{Catalogue as Folded}
 use Rattle.hs_fold.specs.Runs.Opened.{store_of}
 use Rattle.hs_fold.specs.Shards.Setting.{Setting}
-use Rattle.hs_held.specs.Held.{GivesAddresses}
+use Rattle.hs_standing.specs.Held.{GivesAddresses}
 use Rattle.hs_journal.specs.Events.{client_op}
 use Rattle.hs_laws.specs.Valid.{IsValid}
-use Rattle.hs_legal.specs.Opens.{MayOpen}
+use Rattle.hs_standing.specs.Opens.{MayOpen}
 use Rattle.hs_limits.specs.declared.limits.Limits.{Limits}
-use Rattle.hs_lines.specs.Script.{AreLines, IsNext, Script as Lined, all_events as lines_events}
+use Rattle.hs_standing.specs.Script.{AreLines, IsNext, Script as Lined, all_events as lines_events}
 use Rattle.hs_model.specs.Store.{Store}
 use Rattle.hs_promise.specs.Entry.{entry_store}
 use Rattle.hs_promise.specs.Machine.{Went, opening_is_whole}
@@ -35,7 +35,7 @@ use Rattle.hs_promise.specs.Story.{Story, last_core}
 use Rattle.hs_standing.proofs.TakenLemmas.{FoldsInMemory, may_open}
 use Rattle.hs_standing.specs.Opening.{opened_folds}
 use Rattle.hs_standing.specs.Run.{IsRunning, RunOpens}
-use Rattle.hs_stops.specs.Start.{Start}
+use Rattle.hs_standing.specs.Start.{Start}
 use Rattle.hs_told.specs.InTurn.{IsInTurn, told_of}
 
 -- the laws below, in one place

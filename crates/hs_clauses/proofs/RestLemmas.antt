@@ -33,14 +33,14 @@ use Rattle.hs_promise.specs.Run.{Ran, Script}
 use Rattle.hs_promise.specs.Stops.{Reopens as ReopensAt, stop_at}
 use Rattle.hs_side.specs.Current.{list_in}
 use Rattle.hs_sound.specs.Stay.{AreSoundAlong}
-use Rattle.hs_stops.proofs.ImageLemmas.{good_image_is_log, images_reopen}
-use Rattle.hs_stops.proofs.OpenLemmas.{opened_left, opened_took}
-use Rattle.hs_stops.proofs.RecordLemmas.{lines_once}
-use Rattle.hs_stops.specs.Left.{EachLineOnce, TookEffect}
-use Rattle.hs_stops.specs.Lists.{Lists, whole_from}
-use Rattle.hs_stops.specs.Stands.{Stands, lists_of}
-use Rattle.hs_stops.specs.Start.{IsAwaited, events_in}
-use Rattle.hs_stops.specs.Suffices.{all_asked, asked_lines}
+use Rattle.hs_standing.proofs.ImageLemmas.{good_image_is_log, images_reopen}
+use Rattle.hs_standing.proofs.StopsOpenLemmas.{opened_left, opened_took}
+use Rattle.hs_standing.proofs.StopsRecordLemmas.{lines_once}
+use Rattle.hs_standing.specs.Left.{EachLineOnce, TookEffect}
+use Rattle.hs_standing.specs.Lists.{Lists, whole_from}
+use Rattle.hs_standing.specs.Stands.{Stands, lists_of}
+use Rattle.hs_standing.specs.Start.{IsAwaited, events_in}
+use Rattle.hs_standing.specs.Suffices.{all_asked, asked_lines}
 
 -- at a moment the disk of a peer has the list that it had at entry, which counts and all of which took effect
 pub record IsRested (S : Script) (r : Ran) (m p : ℕ) : Type 0 where

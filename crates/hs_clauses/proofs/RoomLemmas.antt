@@ -7,8 +7,8 @@ use Rattle.std.proofs.lemmas.List.FromFn.{get_or-map-range_with_len, length-map-
 use Rattle.std.proofs.lemmas.List.Sums.{sum_by-cons}
 use Rattle.std.specs.List.{AllByRecursion, range_with_len}
 use Rattle.std.specs.Prelude.{count_by, slice_index_or}
-use Rattle.hs_along.specs.Walks.{HasRecordRoom}
-use Rattle.hs_answers.specs.Answered.{KeepsRecordRoom}
+use Rattle.hs_standing.specs.Walks.{HasRecordRoom}
+use Rattle.hs_standing.specs.Answered.{KeepsRecordRoom}
 use Rattle.hs_clauses.proofs.NoteLemmas.{opens_noted}
 use Rattle.hs_cluster.specs.Rooms.{HaveRecordRoom}
 use Rattle.hs_core.specs.Looking.{catalogue_of, front_of, group_of, shape_of}
@@ -34,7 +34,7 @@ use Rattle.hs_sound.specs.Stay.{AreSoundAlong}
 use Rattle.hs_standing.proofs.TakenLemmas.{FoldsInMemory}
 use Rattle.hs_standing.proofs.ViewLemmas.{IsFirstView, OpensOn, opens_on}
 use Rattle.hs_standing.specs.Opening.{opened_lists}
-use Rattle.hs_stops.specs.Lists.{Lists, whole_from}
+use Rattle.hs_standing.specs.Lists.{Lists, whole_from}
 
 -- ---- along events
 

@@ -41,11 +41,11 @@ use Rattle.hs_promise.specs.Story.{Story, all_events}
 use Rattle.hs_side.specs.Current.{list_in}
 use Rattle.hs_standing.specs.Run.{IsRunning, MayRun, RunOpens}
 use Rattle.hs_standing.specs.Standing.{AllMayKeep, AreBegun, IsStateAt}
-use Rattle.hs_stops.proofs.ImageLemmas.{good_image_is_log}
-use Rattle.hs_stops.proofs.SaneLemmas.{good_counts, good_counts_after}
-use Rattle.hs_stops.specs.Reopens.{Reopens}
-use Rattle.hs_stops.specs.Stands.{GoodPeersCount}
-use Rattle.hs_stops.specs.Start.{Start}
+use Rattle.hs_standing.proofs.ImageLemmas.{good_image_is_log}
+use Rattle.hs_standing.proofs.SaneLemmas.{good_counts, good_counts_after}
+use Rattle.hs_standing.specs.Reopens.{Reopens}
+use Rattle.hs_standing.specs.Stands.{GoodPeersCount}
+use Rattle.hs_standing.specs.Start.{Start}
 
 -- what hs_standing says of runs, with what is said of events
 pub record StopLaws : Type 0 where

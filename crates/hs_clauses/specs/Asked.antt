@@ -1,9 +1,9 @@
 -- A script as its lines see it, and how a run of it begins.
-use Rattle.hs_lines.specs.Script.{Script as Lined}
+use Rattle.hs_standing.specs.Script.{Script as Lined}
 use Rattle.hs_promise.specs.Ending.{ending_of}
 use Rattle.hs_promise.specs.Entry.{entry_store}
 use Rattle.hs_promise.specs.Run.{Ran, Script}
-use Rattle.hs_stops.specs.Start.{Start}
+use Rattle.hs_standing.specs.Start.{Start}
 
 -- the script of a run as its lines see it
 abbrev pub lined : Script → Ran → Lined

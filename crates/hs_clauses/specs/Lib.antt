@@ -1,2 +1,6 @@
+pub mod Along
 pub mod Asked
+pub mod Awaiting
+pub mod Home
+pub mod Run
 pub mod Shown

@@ -9,7 +9,7 @@ use Rattle.hs_events.specs.Whole.{open_whole}
 use Rattle.hs_fold.specs.Images.{IsLeft}
 use Rattle.hs_fold.specs.Shards.Images.{Image}
 use Rattle.hs_fold.specs.Shards.Setting.{Numbered}
-use Rattle.hs_held.specs.Held.{GivesAddresses}
+use Rattle.hs_standing.specs.Held.{GivesAddresses}
 use Rattle.hs_journal.specs.Events.{client_op}
 use Rattle.hs_limits.specs.Shape.{IsShape}
 use Rattle.hs_moments.specs.Moments.{ListsAtMoments}

@@ -6,12 +6,12 @@ ghost use Rattle.hs_promise.specs.Causes.{FullCause};
 ghost use Rattle.hs_promise.specs.Entry.{IsSoundAtEntry, entry_store};
 ghost use Rattle.hs_promise.specs.Run.{Ran, Script};
 
-use hs_answers::a_script_is_answered;
-use hs_legal::a_line_asks_as_its_command;
-use hs_lines::{a_scripts_events_may_come, a_scripts_lines_are_new};
+use crate::each_report_tells_its_block;
 use hs_memory::catalogues_in_memory_are_folds;
-use hs_reads::each_report_tells_its_block;
-use hs_standing::a_run_goes_on;
+use hs_standing::{
+    a_line_asks_as_its_command, a_run_goes_on, a_script_is_answered, a_scripts_events_may_come,
+    a_scripts_lines_are_new,
+};
 use hs_told::answers_stay_in_order;
 
 /// The store at entry of sound disks is valid (`valid`). What a run answers on them, with one copy of

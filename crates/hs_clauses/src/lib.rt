@@ -4,11 +4,15 @@
 mod answered;
 mod images;
 mod kept;
+mod reading;
 mod standing;
 mod stopped;
+mod telling;
 
 pub use answered::a_run_is_answered;
 pub use images::images_of_good_peers_count;
 pub use kept::a_run_keeps;
+pub use reading::a_run_reads_on;
 pub use standing::a_run_stands;
 pub use stopped::a_run_may_stop;
+pub use telling::each_report_tells_its_block;

@@ -9,10 +9,9 @@ ghost use Rattle.hs_promise.specs.Story.{Story, all_events};
 ghost use Rattle.hs_standing.specs.Run.{MayRun, RunOpens};
 ghost use Rattle.hs_standing.specs.Standing.{AllMayKeep};
 
-use hs_legal::a_line_asks_as_its_command;
-use hs_lines::{a_scripts_events_may_come, a_scripts_lines_are_new};
+use crate::each_report_tells_its_block;
 use hs_memory::catalogues_in_memory_are_folds;
-use hs_reads::each_report_tells_its_block;
+use hs_standing::{a_line_asks_as_its_command, a_scripts_events_may_come, a_scripts_lines_are_new};
 use hs_told::answers_stay_in_order;
 
 /// A run on sound disks, with one copy of each shard, whose core goes on behind its opening, opens at

@@ -4,11 +4,12 @@ ghost use Rattle.hs_promise.specs.Entry.{MayStop, entry_store};
 ghost use Rattle.hs_promise.specs.Run.{Ran, Script};
 ghost use Rattle.hs_promise.specs.Stops.{Stops};
 
-use hs_legal::a_line_asks_as_its_command;
-use hs_lines::{a_scripts_events_may_come, a_scripts_lines_are_new};
+use crate::each_report_tells_its_block;
 use hs_memory::catalogues_in_memory_are_folds;
-use hs_reads::each_report_tells_its_block;
-use hs_standing::{a_run_goes_on, each_moment_of_a_run_stands};
+use hs_standing::{
+    a_line_asks_as_its_command, a_run_goes_on, a_scripts_events_may_come, a_scripts_lines_are_new,
+    each_moment_of_a_run_stands,
+};
 use hs_told::answers_stay_in_order;
 
 /// At each moment of a run on sound disks, with one copy of each shard: the images of good peers are

@@ -5,10 +5,10 @@ use Rattle.std.specs.BTreeMap.{is_at}
 use Rattle.std.specs.Map.{lookup}
 use Rattle.std.specs.Ordering.{nat_cmp}
 use Rattle.std.specs.Prelude.{slice_set}
-use Rattle.hs_along.proofs.BesideLemmas.{beside_catalogue}
-use Rattle.hs_along.proofs.WalkLemmas.{walks_step}
-use Rattle.hs_along.specs.Changes.{IsBeside, told_at_once}
-use Rattle.hs_along.specs.Walks.{MayEvent, Walks}
+use Rattle.hs_standing.proofs.BesideLemmas.{beside_catalogue}
+use Rattle.hs_standing.proofs.AlongWalkLemmas.{walks_step}
+use Rattle.hs_standing.specs.Changes.{IsBeside, told_at_once}
+use Rattle.hs_standing.specs.Walks.{MayEvent, Walks}
 use Rattle.hs_core.specs.Asking.{send_round}
 use Rattle.hs_core.specs.Changing.{change_pool, note, refuse}
 use Rattle.hs_core.specs.declared.event.Event.{Event}
@@ -35,12 +35,12 @@ use Rattle.hs_events.specs.Found.{Found, first_core, opens_with}
 use Rattle.hs_events.specs.Whole.{Whole}
 use Rattle.hs_fold.proofs.Shards.PlaceLemmas.{other-at}
 use Rattle.hs_journal.specs.declared.entry.Who.TheVariants as who
-use Rattle.hs_legal.proofs.EffectLemmas.{epochs_effect}
-use Rattle.hs_legal.proofs.EpochLemmas.{epochs_begin, epochs_go_on, epochs_propose, epochs_same, going_within, telling_within}
-use Rattle.hs_legal.proofs.LineLemmas.{begun_quiet}
-use Rattle.hs_legal.proofs.MuteLemmas.{at_once_quiet}
-use Rattle.hs_legal.proofs.OrderLemmas.{again_alike, orderly_again, orderly_beside, orderly_downed, orderly_due, orderly_effect, orderly_goes, orderly_line, orderly_refused, orderly_round, orderly_told}
-use Rattle.hs_legal.specs.Epochs.{HaveEpochs}
+use Rattle.hs_standing.proofs.LegalEffectLemmas.{epochs_effect}
+use Rattle.hs_standing.proofs.EpochLemmas.{epochs_begin, epochs_go_on, epochs_propose, epochs_same, going_within, telling_within}
+use Rattle.hs_standing.proofs.LegalLineLemmas.{begun_quiet}
+use Rattle.hs_standing.proofs.MuteLemmas.{at_once_quiet}
+use Rattle.hs_standing.proofs.OrderLemmas.{again_alike, orderly_again, orderly_beside, orderly_downed, orderly_due, orderly_effect, orderly_goes, orderly_line, orderly_refused, orderly_round, orderly_told}
+use Rattle.hs_standing.specs.Epochs.{HaveEpochs}
 use Rattle.hs_limits.specs.declared.address.Address.{Address}
 use Rattle.hs_limits.specs.declared.limits.Limits.{Limits}
 use Rattle.hs_limits.specs.declared.limits.TheConstants.{LAST_EPOCH}
@@ -54,13 +54,13 @@ use Rattle.hs_model.specs.declared.reply.Reply.TheVariants as reply
 use Rattle.hs_ops.specs.Operations.{bytes_step, go_step}
 use Rattle.hs_post.specs.Pool.{without}
 use Rattle.hs_replica.specs.Group.{committed}
-use Rattle.hs_rests.proofs.ListLemmas.{each_viewed}
+use Rattle.hs_standing.proofs.RestsListLemmas.{each_viewed}
 use Rattle.hs_settled.proofs.OwnLemmas.{AreCounted, NoneOwn, going_asks, own_begin, own_effect, own_go_on, own_propose, own_same, telling_asks}
 use Rattle.hs_shard.specs.Facts.{Catalogue, empty_catalogue}
 use Rattle.hs_standing.proofs.FirstLemmas.{KeepsFirst, first_held}
 use Rattle.hs_standing.specs.Run.{IsRunning, MayRun}
 use Rattle.hs_standing.specs.Standing.{AllMayKeep, MayKeep}
-use Rattle.hs_stops.specs.Start.{Start}
+use Rattle.hs_standing.specs.Start.{Start}
 use Rattle.hs_tokens.specs.Seats.{Seats}
 
 -- ---- changes of no catalogue

@@ -5,7 +5,7 @@ use Rattle.std.specs.Map.{lookup}
 use Rattle.std.specs.Option.{option_map_or}
 use Rattle.std.specs.Ordering.{nat_cmp}
 use Rattle.std.specs.Prelude.{if◌then◌else◌}
-use Rattle.hs_along.proofs.AloneLemmas.{within}
+use Rattle.hs_standing.proofs.AloneLemmas.{within}
 use Rattle.hs_core.specs.Asking.{deliver, no_peer, not_up, nudge, nudge_good, send_round, send_rounds, unless_refused, with_message}
 use Rattle.hs_core.specs.Changing.{change_pool, post}
 use Rattle.hs_core.specs.declared.event.Event.{Event}
@@ -23,7 +23,7 @@ use Rattle.hs_events.specs.declared.due.Due.{Due}
 use Rattle.hs_events.specs.declared.due.Due.TheVariants.{Reporting, Handling, Nudging}
 use Rattle.hs_events.specs.declared.due.Place.{Place}
 use Rattle.hs_events.specs.Due.{is_answer, is_it, is_same_due}
-use Rattle.hs_lines.proofs.DueLemmas.{IsPart, is_part, next_fits}
+use Rattle.hs_standing.proofs.DueLemmas.{IsPart, is_part, next_fits}
 use Rattle.hs_measure.specs.Measure.{reports_left}
 use Rattle.hs_measure.specs.Walks.{IsDone}
 use Rattle.hs_members.specs.Members.{is_good_status}

@@ -1,6 +1,6 @@
 -- A message that is handled is gone, and none is sent.
 use Rattle.std.proofs.Common.{◌≡◌, ◌∙◌, ap, refl, ℕ, ◌+◌, ◌<◌, Bool, true, false, cond, List, [], Option, Some, None, length, nat_lt}
-use Rattle.hs_along.proofs.AloneLemmas.{is_a_round}
+use Rattle.hs_standing.proofs.AloneLemmas.{is_a_round}
 use Rattle.hs_core.specs.Asking.{deliver}
 use Rattle.hs_core.specs.Changing.{add_entry_tasks, change_group, change_pool, post}
 use Rattle.hs_core.specs.Delivering.{is_new_round}

@@ -2,7 +2,7 @@
 use Rattle.std.proofs.Common.{◌≡◌, ◌∙◌, ◌⊎◌, inl, inr, sym, ap, subst, refl, ℕ, zero, suc, ◌+◌, ◌-◌, Bool, true, false, List, [], ◌∷◌, Option, Some, None, tests, arith, nat_lt}
 use Rattle.std.specs.List.{list_any}
 use Rattle.std.specs.Prelude.{slice_index_or, slice_set}
-use Rattle.hs_along.proofs.AloneLemmas.{is_a_round}
+use Rattle.hs_standing.proofs.AloneLemmas.{is_a_round}
 use Rattle.hs_core.specs.Asking.{deliver, no_peer, not_up, nudge_good}
 use Rattle.hs_core.specs.Changing.{add_entry_tasks, change_group, change_pool, post}
 use Rattle.hs_core.specs.declared.event.Event.{Event}

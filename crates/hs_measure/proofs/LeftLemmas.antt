@@ -5,8 +5,8 @@ use Rattle.std.proofs.lemmas.List.Elements.{All-contains}
 use Rattle.std.specs.List.{list_any}
 use Rattle.std.specs.Map.{values_of}
 use Rattle.std.specs.Option.{option_map_or}
-use Rattle.hs_along.proofs.AloneLemmas.{is_a_round, taken_out}
-use Rattle.hs_along.proofs.BesideLemmas.{under_way}
+use Rattle.hs_standing.proofs.AloneLemmas.{is_a_round, taken_out}
+use Rattle.hs_standing.proofs.BesideLemmas.{under_way}
 use Rattle.hs_core.specs.Asking.{deliver, no_peer, not_up, nudge_good}
 use Rattle.hs_core.specs.Changing.{change_pool}
 use Rattle.hs_core.specs.declared.event.Event.{Event}
@@ -46,14 +46,14 @@ use Rattle.hs_rounds.specs.declared.body.RoundBody.{RoundBody}
 use Rattle.hs_rounds.specs.declared.place.Place.{Place as Row}
 use Rattle.hs_rounds.specs.declared.sending.SentRound.{SentRound}
 use Rattle.hs_rounds.specs.Rounds.{body}
-use Rattle.hs_sent.proofs.AcceptLemmas.{accepted_by}
-use Rattle.hs_sent.proofs.WasLemmas.{kept_now, told_low}
-use Rattle.hs_sent.specs.Sent.{IsOfSent, WasSent}
+use Rattle.hs_standing.proofs.AcceptLemmas.{accepted_by}
+use Rattle.hs_standing.proofs.WasLemmas.{kept_now, told_low}
+use Rattle.hs_standing.specs.Sent.{IsOfSent, WasSent}
 use Rattle.hs_shard.specs.Facts.{Catalogue, empty_catalogue}
 use Rattle.hs_shard.specs.Rounds.{is_due}
 use Rattle.hs_standing.proofs.SettleLemmas.{forget_at}
 use Rattle.hs_standing.specs.Run.{IsRunning}
-use Rattle.hs_stops.specs.Start.{Start}
+use Rattle.hs_standing.specs.Start.{Start}
 
 same_le : (x y : ℕ) → x ≡ y → x ≤ y
 same_le x y e = omega (arith, e)

@@ -3,8 +3,8 @@ use Rattle.std.proofs.Common.{◌≡◌, ◌∙◌, sym, ap, subst, ℕ, ◌+◌
 use Rattle.std.specs.BTreeMap.{is_at}
 use Rattle.std.specs.Map.{lookup}
 use Rattle.std.specs.Ordering.{nat_cmp}
-use Rattle.hs_along.proofs.BesideLemmas.{beside_catalogue}
-use Rattle.hs_along.specs.Changes.{IsBeside}
+use Rattle.hs_standing.proofs.BesideLemmas.{beside_catalogue}
+use Rattle.hs_standing.specs.Changes.{IsBeside}
 use Rattle.hs_answered.specs.Standing.{store_with}
 use Rattle.hs_core.specs.declared.waiting.Waiting.{Waiting}
 use Rattle.hs_core.specs.Looking.{catalogue_of, group_of, shape_of, shards_of}
@@ -12,10 +12,10 @@ use Rattle.hs_core.specs.State.{Core}
 use Rattle.hs_effects.specs.Answered.{HoldAddresses}
 use Rattle.hs_entry.specs.declared.entry.Entry.{Entry}
 use Rattle.hs_fold.specs.Runs.Facts.{Catalogue as Folded}
-use Rattle.hs_going.specs.Causes.{OwnWaits}
+use Rattle.hs_settled.specs.Causes.{OwnWaits}
 use Rattle.hs_laws.specs.Valid.{IsValid}
-use Rattle.hs_legal.proofs.HistoryLemmas.{lawful_on}
-use Rattle.hs_legal.proofs.OrderLemmas.{orderly_beside}
+use Rattle.hs_standing.proofs.HistoryLemmas.{lawful_on}
+use Rattle.hs_standing.proofs.OrderLemmas.{orderly_beside}
 use Rattle.hs_limits.specs.declared.address.Address.{Address}
 use Rattle.hs_limits.specs.declared.limits.Limits.{Limits}
 use Rattle.hs_limits.specs.declared.limits.TheConstants.{LAST_EPOCH}
@@ -26,9 +26,9 @@ use Rattle.hs_measure.proofs.LowersParts.{due_by, new_by}
 use Rattle.hs_measure.proofs.LowersStand.{Stand}
 use Rattle.hs_measure.proofs.LowersTaken.{AreOwned}
 use Rattle.hs_measure.specs.Measure.{deletion_left, dues_of, gots_of, is_any_got, is_left_over, jobs_of, news_of, reports_left, way_by, ways_left}
-use Rattle.hs_rests.proofs.RestLemmas.{rests_beside}
-use Rattle.hs_rests.proofs.StoredLemmas.{stored_beside}
-use Rattle.hs_rests.specs.Rests.{IsGrounded}
+use Rattle.hs_standing.proofs.RestLemmas.{rests_beside}
+use Rattle.hs_standing.proofs.StoredLemmas.{stored_beside}
+use Rattle.hs_standing.specs.Rests.{IsGrounded}
 use Rattle.hs_rounds.specs.declared.sending.SentRound.{SentRound}
 use Rattle.hs_shard.specs.Facts.{Catalogue}
 use Rattle.hs_tokens.specs.Seats.{Seats}

@@ -20,9 +20,9 @@ use Rattle.hs_fold.specs.Runs.Facts.{Catalogue as Folded}
 use Rattle.hs_fold.specs.Runs.Facts.{Facts as FoldedFacts}
 use Rattle.hs_fold.specs.Runs.Facts.{facts_at as fold_facts}
 use Rattle.hs_fold.specs.Runs.Fits.{catalogue_at}
-use Rattle.hs_held.proofs.ToldLemmas.{block_there}
-use Rattle.hs_legal.proofs.OrderLemmas.{orderly_told}
-use Rattle.hs_legal.specs.Bytes.{AreOfBlock}
+use Rattle.hs_standing.proofs.ToldLemmas.{block_there}
+use Rattle.hs_standing.proofs.OrderLemmas.{orderly_told}
+use Rattle.hs_standing.specs.Bytes.{AreOfBlock}
 use Rattle.hs_limits.specs.declared.address.Address.{Address}
 use Rattle.hs_limits.specs.Shape.{shard_of}
 use Rattle.hs_measure.proofs.DeletionStandLemmas.{now_at}

@@ -2,7 +2,7 @@
 use Rattle.std.proofs.Common.{◌≡◌, ◌∙◌, sym, ap, refl, ℕ, ◌+◌, ◌*◌, ◌≤◌, true, false, cond, List, Option, Some, None, arith, length, nat_le}
 use Rattle.std.proofs.lemmas.List.{length-set}
 use Rattle.std.specs.Option.{option_map}
-use Rattle.hs_along.specs.Changes.{told_at_once}
+use Rattle.hs_standing.specs.Changes.{told_at_once}
 use Rattle.hs_core.specs.declared.waiting.Waiting.{Waiting}
 use Rattle.hs_core.specs.Delivering.{is_got}
 use Rattle.hs_core.specs.Entering.{enters}

@@ -4,7 +4,7 @@ use Rattle.std.proofs.lemmas.List.{length-set}
 use Rattle.std.specs.BTreeMap.{is_at}
 use Rattle.std.specs.Map.{remove_entry}
 use Rattle.std.specs.Ordering.{nat_cmp}
-use Rattle.hs_along.specs.Changes.{tells_at_once, told_at_once}
+use Rattle.hs_standing.specs.Changes.{tells_at_once, told_at_once}
 use Rattle.hs_core.specs.declared.waiting.Waiting.{Waiting}
 use Rattle.hs_core.specs.Effects.{after_entry}
 use Rattle.hs_core.specs.Looking.{catalogue_of, group_of, operation_of, shape_of}
@@ -17,7 +17,7 @@ use Rattle.hs_effects.specs.Logged.{IsOrderly, asked_by}
 use Rattle.hs_effects.specs.Taking.{done_by, taken}
 use Rattle.hs_entry.specs.declared.entry.Entry.{Entry}
 use Rattle.hs_entry.specs.declared.entry.Entry.TheVariants as kind
-use Rattle.hs_legal.proofs.OrderLemmas.{orderly_effect}
+use Rattle.hs_standing.proofs.OrderLemmas.{orderly_effect}
 use Rattle.hs_limits.specs.declared.address.Address.{Address}
 use Rattle.hs_measure.proofs.DeletionMeasure.{deletion_by}
 use Rattle.hs_measure.proofs.LowersCounts.{asks_is, is_own, product_falls, sweeps_le}

@@ -4,7 +4,7 @@ use Rattle.std.proofs.lemmas.Bool.{and_parts, eq-eqb, eqb-true, ltb-false, ne_eq
 use Rattle.std.proofs.lemmas.List.{length-set}
 use Rattle.std.specs.List.{list_any}
 use Rattle.std.specs.Prelude.{if◌then◌else◌}
-use Rattle.hs_along.specs.Changes.{told_at_once}
+use Rattle.hs_standing.specs.Changes.{told_at_once}
 use Rattle.hs_core.specs.declared.waiting.Waiting.{Waiting}
 use Rattle.hs_core.specs.Effects.{note_enter, tell_operation}
 use Rattle.hs_core.specs.Entering.{enters, has_begun, is_enter_due}

@@ -4,7 +4,7 @@ use Rattle.std.proofs.lemmas.Bool.{and_from, and_parts, eqb-true, lt-ltb}
 use Rattle.std.specs.BTreeMap.{insert_entry, is_at}
 use Rattle.std.specs.List.{list_all, list_any}
 use Rattle.std.specs.Ordering.{match_ordering}
-use Rattle.hs_along.specs.Changes.{told_at_once}
+use Rattle.hs_standing.specs.Changes.{told_at_once}
 use Rattle.hs_core.specs.Changing.{note}
 use Rattle.hs_core.specs.Delivering.{is_got}
 use Rattle.hs_core.specs.Effects.{note_sweep}

@@ -2,7 +2,7 @@
 use Rattle.std.proofs.Common.{◌≡◌, ◌∙◌, sym, ap, subst, refl, ℕ, ◌+◌, ◌<◌, ◌≤◌, ◌==◌, ◌&&◌, ◌||◌, Bool, true, false, not, List, Option, Some, None, Ok, arith, is_none, is_some, length, nat_le, nat_lt}
 use Rattle.std.proofs.lemmas.Bool.{eq-eqb, lt-ltb, ltb-true}
 use Rattle.std.specs.Prelude.{if◌then◌else◌}
-use Rattle.hs_along.specs.Changes.{told_at_once}
+use Rattle.hs_standing.specs.Changes.{told_at_once}
 use Rattle.hs_core.specs.Looking.{catalogue_of, front_of, shape_of}
 use Rattle.hs_core.specs.State.{Core}
 use Rattle.hs_desk.specs.declared.what.What.TheVariants as what

@@ -12,7 +12,7 @@ use Rattle.hs_events.specs.Whole.{Whole}
 use Rattle.hs_measure.proofs.LowersReport.{report_lowers}
 use Rattle.hs_measure.proofs.WantedLemmas.{Reported, Wanted}
 use Rattle.hs_measure.specs.Measure.{reports_left}
-use Rattle.hs_stops.specs.Start.{Start}
+use Rattle.hs_standing.specs.Start.{Start}
 
 module _ (start : Start) (line : ℕ) (c : Whole) (place : Place) (peer : ℕ) where
   -- it is a report of a first job

@@ -2,9 +2,9 @@
 use Rattle.std.proofs.Common.{◌≡◌, ◌∙◌, sym, ap, subst, refl, ◌⊎◌, inl, inr, ℕ, suc, ◌+◌, ◌<◌, ◌≤◌, Bool, true, false, List, [], ◌∷◌, Option, Some, None, arith, drop, eqb-true, is_some, length, slice_get, ◌++◌}
 use Rattle.std.proofs.lemmas.List.{length-set}
 use Rattle.std.specs.Option.{option_map, option_map_or}
-use Rattle.hs_along.proofs.BesideLemmas.{beside_begun, beside_both, beside_group, beside_tasks}
-use Rattle.hs_along.specs.Changes.{IsBeside}
-use Rattle.hs_along.specs.Walks.{IsReadFor, MayReport}
+use Rattle.hs_standing.proofs.BesideLemmas.{beside_begun, beside_both, beside_group, beside_tasks}
+use Rattle.hs_standing.specs.Changes.{IsBeside}
+use Rattle.hs_standing.specs.Walks.{IsReadFor, MayReport}
 use Rattle.hs_answered.specs.Standing.{forget_all, store_with}
 use Rattle.hs_core.specs.Changing.{change_group, set_tasks}
 use Rattle.hs_core.specs.declared.event.Event.TheVariants as event
@@ -34,12 +34,12 @@ use Rattle.hs_events.specs.Whole.{Whole}
 use Rattle.hs_fold.specs.Runs.Facts.{Catalogue as Folded}
 use Rattle.hs_fold.specs.Runs.Fits.{catalogue_at}
 use Rattle.hs_fold.specs.Runs.Rounds.{is_accepted}
-use Rattle.hs_going.specs.Causes.{HasCause, asker_of}
-use Rattle.hs_going.specs.Moving.{IsMoving}
-use Rattle.hs_held.proofs.HandleLemmas.{hold_addresses}
+use Rattle.hs_settled.specs.Causes.{HasCause, asker_of}
+use Rattle.hs_settled.specs.Moving.{IsMoving}
+use Rattle.hs_standing.proofs.HandleLemmas.{hold_addresses}
 use Rattle.hs_joint.proofs.HistoryLemmas.{shape_some}
-use Rattle.hs_legal.proofs.StandingLemmas.{tell_beside}
-use Rattle.hs_legal.specs.Bytes.{AreOfBlock, TellsItsBlock}
+use Rattle.hs_standing.proofs.StandingLemmas.{tell_beside}
+use Rattle.hs_standing.specs.Bytes.{AreOfBlock, TellsItsBlock}
 use Rattle.hs_limits.specs.declared.address.Address.{Address}
 use Rattle.hs_limits.specs.declared.delta.Delta.{Delta}
 use Rattle.hs_limits.specs.declared.shape.Shape.{Shape}
@@ -59,13 +59,13 @@ use Rattle.hs_moments.proofs.AloneEventLemmas.{Falls, alone_begun, begun, ends, 
 use Rattle.hs_moments.proofs.AloneReportLemmas.{AreSettled, answered_within, first_here, is_answered, reports}
 use Rattle.hs_ops.specs.Operations.{bytes_step}
 use Rattle.hs_replica.specs.Group.{committed, on_sealed}
-use Rattle.hs_rests.proofs.RestLemmas.{rests_follows}
-use Rattle.hs_rests.proofs.ValidLemmas.{told_valid}
-use Rattle.hs_rests.specs.Rests.{IsGrounded, IsResting}
+use Rattle.hs_standing.proofs.RestLemmas.{rests_follows}
+use Rattle.hs_standing.proofs.ValidLemmas.{told_valid}
+use Rattle.hs_standing.specs.Rests.{IsGrounded, IsResting}
 use Rattle.hs_shard.specs.Facts.{Catalogue}
 use Rattle.hs_standing.specs.Run.{IsRunning}
 use Rattle.hs_standing.specs.Standing.{judging_of}
-use Rattle.hs_stops.specs.Start.{Start}
+use Rattle.hs_standing.specs.Start.{Start}
 
 -- ---- plain facts
 

@@ -4,10 +4,10 @@ use Rattle.std.proofs.lemmas.Bool.{eqb-true}
 use Rattle.std.proofs.lemmas.List.Sums.{sum_by-cons}
 use Rattle.std.specs.List.{enumerate_from}
 use Rattle.std.specs.Option.{option_map, option_map_or}
-use Rattle.hs_along.proofs.BesideLemmas.{beside_catalogue}
-use Rattle.hs_along.proofs.RecordLemmas.{applied_adds}
-use Rattle.hs_along.specs.Changes.{IsBeside}
-use Rattle.hs_along.specs.Walks.{HasRecordRoom}
+use Rattle.hs_standing.proofs.BesideLemmas.{beside_catalogue}
+use Rattle.hs_standing.proofs.AlongRecordLemmas.{applied_adds}
+use Rattle.hs_standing.specs.Changes.{IsBeside}
+use Rattle.hs_standing.specs.Walks.{HasRecordRoom}
 use Rattle.hs_core.specs.Changing.{change_group, post, set_tasks}
 use Rattle.hs_core.specs.declared.task.Task.{Task}
 use Rattle.hs_core.specs.Effects.{commit, commit_next}

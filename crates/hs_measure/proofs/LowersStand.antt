@@ -18,7 +18,7 @@ use Rattle.hs_entry.specs.declared.entry.Entry.{Entry}
 use Rattle.hs_entry.specs.declared.entry.Entry.TheVariants as kind
 use Rattle.hs_fold.specs.Runs.Facts.{Catalogue as Folded}
 use Rattle.hs_fold.specs.Runs.Fits.{catalogue_at}
-use Rattle.hs_legal.proofs.HistoryLemmas.{history_more}
+use Rattle.hs_standing.proofs.HistoryLemmas.{history_more}
 use Rattle.hs_limits.specs.Block.{spell}
 use Rattle.hs_limits.specs.declared.address.Address.{Address}
 use Rattle.hs_limits.specs.declared.limits.TheConstants.{LAST_EPOCH}

@@ -21,7 +21,7 @@ use Rattle.hs_effects.proofs.GroupLemmas.{group_changed, propose_front}
 use Rattle.hs_effects.specs.Logged.{IsOrderly}
 use Rattle.hs_entry.specs.declared.entry.Entry.{Entry}
 use Rattle.hs_entry.specs.declared.entry.Entry.TheVariants as kind
-use Rattle.hs_legal.proofs.MuteLemmas.{Words, proposed_words}
+use Rattle.hs_standing.proofs.MuteLemmas.{Words, proposed_words}
 use Rattle.hs_limits.specs.declared.address.Address.{Address}
 use Rattle.hs_limits.specs.declared.shape.Shape.{Shape}
 use Rattle.hs_measure.proofs.DeletionMeasure.{deletion_by, deletion_rises, unmoved_from, unmoved_same}

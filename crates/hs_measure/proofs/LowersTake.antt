@@ -5,8 +5,8 @@ use Rattle.std.proofs.lemmas.List.{length-set}
 use Rattle.std.specs.List.{list_all, list_any}
 use Rattle.std.specs.Option.{option_map_or}
 use Rattle.std.specs.Prelude.{if◌then◌else◌}
-use Rattle.hs_along.proofs.BesideLemmas.{beside_viewed}
-use Rattle.hs_along.specs.Changes.{told_at_once, tells_at_once}
+use Rattle.hs_standing.proofs.BesideLemmas.{beside_viewed}
+use Rattle.hs_standing.specs.Changes.{told_at_once, tells_at_once}
 use Rattle.hs_core.specs.Changing.{add_entry_tasks, change_group, note, post, set_viewed}
 use Rattle.hs_core.specs.declared.wait.Wait.{Wait}
 use Rattle.hs_core.specs.declared.wait.Wait.TheVariants as wait
@@ -29,8 +29,8 @@ use Rattle.hs_fold.specs.Runs.Facts.{Catalogue as Folded}
 use Rattle.hs_fold.specs.Runs.Fits.{catalogue_at}
 use Rattle.hs_fold.specs.Runs.Rounds.{is_accepted}
 use Rattle.hs_journal.specs.declared.entry.Who.TheVariants as who
-use Rattle.hs_legal.proofs.MuteLemmas.{Words, at_once_quiet, proposed_words}
-use Rattle.hs_legal.proofs.OrderLemmas.{orderly_beside, orderly_due, orderly_effect}
+use Rattle.hs_standing.proofs.MuteLemmas.{Words, at_once_quiet, proposed_words}
+use Rattle.hs_standing.proofs.OrderLemmas.{orderly_beside, orderly_due, orderly_effect}
 use Rattle.hs_limits.specs.declared.delta.Delta.{Delta}
 use Rattle.hs_limits.specs.declared.address.Address.{Address}
 use Rattle.hs_limits.specs.declared.shape.Shape.{Shape}

@@ -20,8 +20,8 @@ use Rattle.hs_effects.specs.Taking.{done_by, taken}
 use Rattle.hs_entry.specs.declared.entry.Entry.{Entry}
 use Rattle.hs_entry.specs.declared.entry.Entry.TheVariants as kind
 use Rattle.hs_fold.proofs.Shards.PlaceLemmas.{other-at, same-at}
-use Rattle.hs_going.specs.Causes.{OwnWaits}
-use Rattle.hs_legal.proofs.OrderLemmas.{taken_orderly}
+use Rattle.hs_settled.specs.Causes.{OwnWaits}
+use Rattle.hs_standing.proofs.OrderLemmas.{taken_orderly}
 use Rattle.hs_limits.specs.declared.address.Address.{Address}
 use Rattle.hs_measure.proofs.DeletionMeasure.{deletion_by, deletion_rises}
 use Rattle.hs_measure.proofs.LowersCounts.{asks_is, is_own, le_both, product_less, sweeps_le}

@@ -34,7 +34,7 @@ use Rattle.hs_fold.specs.Shards.Setting.{Setting}
 use Rattle.hs_limits.specs.declared.limits.Limits.{Limits}
 use Rattle.hs_limits.specs.declared.limits.PeerStatus.TheVariants.{Good}
 use Rattle.hs_limits.specs.declared.shape.Shape.{Shape}
-use Rattle.hs_lines.proofs.StepLemmas.{step_ended}
+use Rattle.hs_standing.proofs.LinesStepLemmas.{step_ended}
 use Rattle.hs_measure.proofs.RoomLemmas.{HasRoom, send_all_room}
 use Rattle.hs_members.specs.Members.{all_peers, has_good, is_good_status, view_of}
 use Rattle.hs_journal.specs.declared.entry.Who.TheVariants as who
@@ -43,7 +43,7 @@ use Rattle.hs_model.specs.declared.reply.Reply.{Reply}
 use Rattle.hs_model.specs.declared.reply.Reply.TheVariants as reply
 use Rattle.hs_moments.proofs.AloneEventLemmas.{begun, step_is}
 use Rattle.hs_moments.proofs.StepsKeepLemmas.{StepLeaves, keeps_begin_line, keeps_commits, keeps_propose_due, keeps_send_rounds, keeps_tell_bytes, message_by, unless_by}
-use Rattle.hs_noted.proofs.AsideLemmas.{all_limit}
+use Rattle.hs_settled.proofs.AsideLemmas.{all_limit}
 use Rattle.hs_post.specs.declared.message.Message.{Message}
 use Rattle.hs_post.specs.declared.message.Message.TheVariants as message
 use Rattle.hs_post.specs.Pool.{Pool, is_empty, is_for_peer, is_full, restart_numbers, without}

@@ -13,7 +13,7 @@ use Rattle.hs_events.specs.declared.due.Place.{Place}
 use Rattle.hs_events.specs.Due.{Events, Walked, first_place, is_walk, next_due, walk}
 use Rattle.hs_events.specs.Found.{Found, first_core}
 use Rattle.hs_events.specs.Whole.{Whole, open_whole, step_whole}
-use Rattle.hs_going.specs.Moving.{IsMoving}
+use Rattle.hs_settled.specs.Moving.{IsMoving}
 use Rattle.hs_joint.proofs.HistoryLemmas.{shape_some}
 use Rattle.hs_measure.proofs.BoundLemmas.{IsLow, first_own, low_step}
 use Rattle.hs_measure.proofs.CountedLemmas.{job_counted}
@@ -30,10 +30,10 @@ use Rattle.hs_moments.specs.WholeMachine.{whole_machine}
 use Rattle.hs_settled.proofs.EndLemmas.{going_before}
 use Rattle.hs_settled.proofs.LastLemmas.{keep_rest}
 use Rattle.hs_settled.proofs.OwnLemmas.{NoneOwn}
-use Rattle.hs_deletes.proofs.RunLemmas.{Running}
+use Rattle.hs_settled.proofs.DeletesRunLemmas.{Running}
 use Rattle.hs_standing.specs.Run.{IsRunning, MayRun, RunOpens}
 use Rattle.hs_standing.specs.Standing.{AllMayKeep}
-use Rattle.hs_stops.specs.Start.{Start}
+use Rattle.hs_standing.specs.Start.{Start}
 
 -- ---- what is asked
 

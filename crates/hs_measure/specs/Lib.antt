@@ -1,3 +1,9 @@
+pub mod Between
+pub mod Ending
+pub mod Finite
 pub mod Left
 pub mod Measure
+pub mod Opens
+pub mod Promised
+pub mod Unsound
 pub mod Walks

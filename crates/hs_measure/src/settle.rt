@@ -9,9 +9,9 @@ ghost use Rattle.hs_measure.specs.Measure.{events_left, left_by};
 ghost use Rattle.hs_measure.specs.Walks.{AllCount, IsBounded};
 ghost use Rattle.hs_standing.specs.Run.{MayRun, RunOpens};
 ghost use Rattle.hs_standing.specs.Standing.{AllMayKeep};
-ghost use Rattle.hs_stops.specs.Start.{Start};
+ghost use Rattle.hs_standing.specs.Start.{Start};
 
-use hs_going::each_operation_goes_on;
+use hs_settled::each_operation_goes_on;
 use hs_standing::a_run_goes_on;
 
 /// Where a count falls with each report that a core goes on from, and rises with no delivery and no nudge,

@@ -6,13 +6,13 @@ use Rattle.std.specs.List.{AllByRecursion}
 use Rattle.std.specs.Option.{option_map_or}
 use Rattle.std.specs.Prelude.{flat_map}
 use Rattle.hs_answered.specs.Telling.{Judging, events_in}
-use Rattle.hs_causes.proofs.AskLemmas.{opening_due}
-use Rattle.hs_causes.proofs.FirstLemmas.{line_first}
-use Rattle.hs_causes.proofs.RunLemmas.{all_ask_so, all_come_so, flat_is, mute, opened_kept}
+use Rattle.hs_settled.proofs.AskLemmas.{opening_due}
+use Rattle.hs_settled.proofs.CausesFirstLemmas.{line_first}
+use Rattle.hs_settled.proofs.CausesRunLemmas.{all_ask_so, all_come_so, flat_is, mute, opened_kept}
 use Rattle.hs_core.specs.State.{Core}
 use Rattle.hs_core.specs.Step.{step}
-use Rattle.hs_deletes.proofs.RuleLemmas.{all_front}
-use Rattle.hs_deletes.proofs.RunLemmas.{Running}
+use Rattle.hs_settled.proofs.RuleLemmas.{all_front}
+use Rattle.hs_settled.proofs.DeletesRunLemmas.{Running}
 use Rattle.hs_events.proofs.RunLemmas.{steps_append}
 use Rattle.hs_events.specs.Commands.{AreOfLine}
 use Rattle.hs_events.specs.Course.{steps}
@@ -20,17 +20,17 @@ use Rattle.hs_events.specs.declared.due.Due.{Due}
 use Rattle.hs_events.specs.Due.{Events, Walked, first_place, is_walk, next_due, walk}
 use Rattle.hs_events.specs.Found.{first_core, opens_with}
 use Rattle.hs_events.specs.Whole.{Whole, open_whole, step_whole}
-use Rattle.hs_going.specs.Causes.{NothingWaits}
-use Rattle.hs_going.specs.Moving.{IsMoving}
+use Rattle.hs_settled.specs.Causes.{NothingWaits}
+use Rattle.hs_settled.specs.Moving.{IsMoving}
 use Rattle.hs_journal.specs.declared.entry.JournalEntry.{JournalEntry}
 use Rattle.hs_journal.specs.declared.entry.Who.TheVariants as who
 use Rattle.hs_journal.specs.Events.{client_op}
 use Rattle.hs_journal.specs.Order.{IsOfLine}
 use Rattle.hs_journal.specs.Telling.{IsAnsweredBefore, IsFirstAbove}
 use Rattle.hs_laws.specs.Kept.{IsLevel}
-use Rattle.hs_legal.specs.Telling.{told_so_far}
-use Rattle.hs_lines.proofs.LineLemmas.{first_next}
-use Rattle.hs_lines.specs.Script.{AreLines, IsNext, all_events}
+use Rattle.hs_standing.specs.Telling.{told_so_far}
+use Rattle.hs_standing.proofs.LinesLineLemmas.{first_next}
+use Rattle.hs_standing.specs.Script.{AreLines, IsNext, all_events}
 use Rattle.hs_model.specs.declared.command.Command.{Command}
 use Rattle.hs_model.specs.declared.command.Command.TheVariants as command
 use Rattle.hs_model.specs.declared.op.Op.{Op}
@@ -47,7 +47,7 @@ use Rattle.hs_promise.specs.Lost.{IsPast}
 use Rattle.hs_promise.specs.Machine.{Went, opening_is_whole}
 use Rattle.hs_promise.specs.Run.{Ran, Script}
 use Rattle.hs_promise.specs.Story.{Story, all_events as all_of, last_core}
-use Rattle.hs_rests.proofs.ValidLemmas.{told_valid}
+use Rattle.hs_standing.proofs.ValidLemmas.{told_valid}
 use Rattle.hs_settled.proofs.EndLemmas.{Ended, Going, all_begin, nothing_waits, same_steps, walk_core, walk_ended}
 use Rattle.hs_settled.proofs.FirstLemmas.{run_told}
 use Rattle.hs_settled.proofs.LastLemmas.{AllRoomy, Turns as TurnsLaw, all_roomy, keep_rest, open_or_quiet, roomy_front, roomy_rest, settle_walk}
@@ -62,7 +62,7 @@ use Rattle.hs_settled.specs.Quiet.{IsQuiet}
 use Rattle.hs_settled.specs.Settled.{IsNoFirst, NothingOpen, core_behind, events_up_to}
 use Rattle.hs_standing.specs.Run.{IsRunning, MayRun, RunOpens}
 use Rattle.hs_standing.specs.Standing.{AllMayKeep, judging_of}
-use Rattle.hs_stops.specs.Start.{Start}
+use Rattle.hs_standing.specs.Start.{Start}
 use Rattle.hs_told.specs.InTurn.{told_of}
 use Rattle.hs_told.specs.Part.{asking}
 use Rattle.hs_told.specs.Turns.{Turns}

@@ -7,7 +7,7 @@ use Rattle.std.specs.Option.{option_map, option_map_or, option_or}
 use Rattle.std.specs.Prelude.{find, if◌then◌else◌}
 use Rattle.hs_core.specs.Looking.{first_job, group_of, lead_of, leads_of, oldest_message, open_work, shape_of, status_of}
 use Rattle.hs_core.specs.State.{Core}
-use Rattle.hs_deletes.proofs.RuleLemmas.{all_back, all_front}
+use Rattle.hs_settled.proofs.RuleLemmas.{all_back, all_front}
 use Rattle.hs_desk.specs.declared.job.Job.{Job}
 use Rattle.hs_events.specs.Alone.{AreAlone, face, own}
 use Rattle.hs_events.specs.declared.due.Due.{Due}
@@ -23,7 +23,7 @@ use Rattle.hs_post.specs.declared.message.Message.{Message}
 use Rattle.hs_post.specs.declared.message.Message.TheVariants as message
 use Rattle.hs_post.specs.Pool.{is_for}
 use Rattle.hs_replica.specs.declared.replica.Replica.{Replica}
-use Rattle.hs_noted.proofs.NotingLemmas.{all_append}
+use Rattle.hs_settled.proofs.NotingLemmas.{all_append}
 
 -- ---- lists
 

@@ -6,7 +6,7 @@ use Rattle.hs_core.specs.declared.event.Event.{Event}
 use Rattle.hs_core.specs.declared.event.Event.TheVariants as event
 use Rattle.hs_core.specs.State.{Core}
 use Rattle.hs_core.specs.Step.{step}
-use Rattle.hs_deletes.proofs.RunLemmas.{steps_ended}
+use Rattle.hs_settled.proofs.DeletesRunLemmas.{steps_ended}
 use Rattle.hs_desk.specs.declared.fault.CoreFault.{CoreFault}
 use Rattle.hs_effects.specs.Logged.{MayBegin, MayBeginAll}
 use Rattle.hs_effects.specs.Logged.{steps as steps_so}
@@ -19,15 +19,15 @@ use Rattle.hs_events.specs.Sane.{IsFromOne}
 use Rattle.hs_events.specs.Taken.{peer_count}
 use Rattle.hs_events.specs.Whole.{Whole, open_whole, step_whole}
 use Rattle.hs_fold.specs.Shards.Setting.{Setting}
-use Rattle.hs_going.specs.Causes.{NothingWaits}
-use Rattle.hs_going.specs.Moving.{IsMoving}
+use Rattle.hs_settled.specs.Causes.{NothingWaits}
+use Rattle.hs_settled.specs.Moving.{IsMoving}
 use Rattle.hs_limits.specs.declared.address.Address.{Address}
 use Rattle.hs_limits.specs.Shape.{IsShape}
 use Rattle.hs_moments.specs.Machine.{runs}
 use Rattle.hs_moments.specs.WholeMachine.{whole_machine}
 use Rattle.hs_standing.specs.Run.{MayRun, RunOpens}
 use Rattle.hs_standing.specs.Standing.{AllMayKeep}
-use Rattle.hs_stops.specs.Start.{Start}
+use Rattle.hs_standing.specs.Start.{Start}
 
 -- ---- a walk that came to its end
 

@@ -6,9 +6,9 @@ use Rattle.std.specs.List.{AllByRecursion, list_all}
 use Rattle.std.specs.Map.{lookup}
 use Rattle.std.specs.Ordering.{nat_cmp}
 use Rattle.std.specs.Prelude.{if◌then◌else◌, nat_le}
-use Rattle.hs_along.proofs.WalkLemmas.{walks_step}
-use Rattle.hs_along.specs.Changes.{IsBeside, tells_at_once, told_at_once}
-use Rattle.hs_along.specs.Walks.{MayEvent, Walks}
+use Rattle.hs_standing.proofs.AlongWalkLemmas.{walks_step}
+use Rattle.hs_standing.specs.Changes.{IsBeside, tells_at_once, told_at_once}
+use Rattle.hs_standing.specs.Walks.{MayEvent, Walks}
 use Rattle.hs_core.specs.Asking.{send_round}
 use Rattle.hs_core.specs.Changing.{add_operation, change_pool, note, refuse}
 use Rattle.hs_core.specs.declared.event.Event.{Event}
@@ -25,9 +25,9 @@ use Rattle.hs_core.specs.State.{Core}
 use Rattle.hs_core.specs.Step.{step}
 use Rattle.hs_core.specs.Views.{begin_view}
 use Rattle.hs_core.specs.Words.{change_if, change_with}
-use Rattle.hs_deletes.proofs.RuleLemmas.{all_front}
-use Rattle.hs_deletes.proofs.RunLemmas.{Running, steps_ended}
-use Rattle.hs_deletes.proofs.SaidLemmas.{Says, again_told, more_told, proposed_told, same_told, says_nothing, says_note, view_told}
+use Rattle.hs_settled.proofs.RuleLemmas.{all_front}
+use Rattle.hs_settled.proofs.DeletesRunLemmas.{Running, steps_ended}
+use Rattle.hs_settled.proofs.SaidLemmas.{Says, again_told, more_told, proposed_told, same_told, says_nothing, says_note, view_told}
 use Rattle.hs_desk.specs.declared.done.Done.TheVariants as done
 use Rattle.hs_desk.specs.declared.fault.CoreFault.{CoreFault}
 use Rattle.hs_desk.specs.declared.what.What.{What}
@@ -43,9 +43,9 @@ use Rattle.hs_events.specs.Found.{Found, first_core, opens_with}
 use Rattle.hs_events.specs.Whole.{Whole, open_whole, step_whole}
 use Rattle.hs_journal.specs.declared.entry.JournalEntry.{JournalEntry}
 use Rattle.hs_journal.specs.declared.entry.Who.TheVariants as who
-use Rattle.hs_legal.proofs.MuteLemmas.{Words, step_books, step_stays}
-use Rattle.hs_legal.proofs.OrderLemmas.{again_alike, orderly_again, orderly_beside, orderly_downed, orderly_due, orderly_effect, orderly_goes, orderly_line, orderly_refused, orderly_round, orderly_told}
-use Rattle.hs_legal.specs.Telling.{told_so_far}
+use Rattle.hs_standing.proofs.MuteLemmas.{Words, step_books, step_stays}
+use Rattle.hs_standing.proofs.OrderLemmas.{again_alike, orderly_again, orderly_beside, orderly_downed, orderly_due, orderly_effect, orderly_goes, orderly_line, orderly_refused, orderly_round, orderly_told}
+use Rattle.hs_standing.specs.Telling.{told_so_far}
 use Rattle.hs_limits.specs.declared.address.Address.{Address}
 use Rattle.hs_limits.specs.declared.limits.Limits.{Limits}
 use Rattle.hs_limits.specs.declared.shape.Shape.{Shape}
@@ -53,7 +53,7 @@ use Rattle.hs_model.specs.declared.deed.Deed.TheVariants as deed
 use Rattle.hs_model.specs.declared.op.Op.{Op}
 use Rattle.hs_model.specs.declared.reply.Reply.{Reply}
 use Rattle.hs_model.specs.declared.reply.Reply.TheVariants as reply
-use Rattle.hs_noted.proofs.NotingLemmas.{all_append}
+use Rattle.hs_settled.proofs.NotingLemmas.{all_append}
 use Rattle.hs_ops.specs.Answers.{deed_of}
 use Rattle.hs_ops.specs.declared.step.OpStep.{OpStep}
 use Rattle.hs_ops.specs.declared.step.OpStep.TheVariants.{Answer, Compare, Propose, Wait}
@@ -62,7 +62,7 @@ use Rattle.hs_ops.specs.Speaking.{judging_shard}
 use Rattle.hs_ops.specs.Views.{OpView}
 use Rattle.hs_post.specs.Pool.{without}
 use Rattle.hs_replica.specs.Group.{Group, commit_front, committed}
-use Rattle.hs_rests.proofs.ListLemmas.{each_viewed}
+use Rattle.hs_standing.proofs.RestsListLemmas.{each_viewed}
 use Rattle.hs_settled.specs.Settled.{IsNoFirst}
 use Rattle.hs_settled.proofs.OwnLemmas.{AreCounted, NoneOwn, going_asks, own_begin, own_effect, own_go_on, own_propose, own_same, telling_asks}
 use Rattle.hs_shard.specs.declared.effect.Effect.{Effect}
@@ -70,7 +70,7 @@ use Rattle.hs_shard.specs.Facts.{Catalogue}
 use Rattle.hs_standing.proofs.FirstLemmas.{KeepsFirst, first_held}
 use Rattle.hs_standing.specs.Run.{IsRunning, MayRun, RunOpens}
 use Rattle.hs_standing.specs.Standing.{AllMayKeep, MayKeep}
-use Rattle.hs_stops.specs.Start.{Start}
+use Rattle.hs_standing.specs.Start.{Start}
 use Rattle.hs_told.specs.InTurn.{told_of}
 use Rattle.hs_tokens.specs.Seats.{Seats}
 use Rattle.std.specs.Option.{option_map}

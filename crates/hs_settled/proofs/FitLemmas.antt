@@ -15,15 +15,15 @@ use Rattle.hs_events.specs.Whole.{Whole}
 use Rattle.hs_fold.specs.Lawful.{Deed}
 use Rattle.hs_fold.specs.Runs.Facts.{Catalogue as Folded}
 use Rattle.hs_fold.specs.Runs.Fits.{catalogue_at}
-use Rattle.hs_going.specs.Causes.{NothingWaits}
+use Rattle.hs_settled.specs.Causes.{NothingWaits}
 use Rattle.hs_joint.proofs.HistoryLemmas.{shape_some}
 use Rattle.hs_limits.specs.declared.shape.Shape.{Shape}
 use Rattle.hs_memory.specs.Forget.{forget}
 use Rattle.hs_post.specs.declared.message.Message.{Message}
 use Rattle.hs_post.specs.declared.message.Message.TheVariants as message
 use Rattle.hs_rounds.specs.declared.sending.SentRound.{SentRound}
-use Rattle.hs_sent.proofs.WasLemmas.{told_low}
-use Rattle.hs_sent.specs.Sent.{IsOfSent}
+use Rattle.hs_standing.proofs.WasLemmas.{told_low}
+use Rattle.hs_standing.specs.Sent.{IsOfSent}
 use Rattle.hs_settled.proofs.ListLemmas.{all_at}
 use Rattle.hs_settled.proofs.WalkLemmas.{Fit, IsLow}
 use Rattle.hs_shard.specs.Facts.{Catalogue, empty_catalogue}
@@ -32,7 +32,7 @@ use Rattle.hs_sound.proofs.PlaceLemmas.{here_each}
 use Rattle.hs_sound.specs.Told.{TellsEachItsOwn}
 use Rattle.hs_standing.proofs.SettleLemmas.{forget_at}
 use Rattle.hs_standing.specs.Run.{IsRunning}
-use Rattle.hs_stops.specs.Start.{Start}
+use Rattle.hs_standing.specs.Start.{Start}
 
 lookup_at : (number : ℕ) (es : List (ℕ × Message)) (m : Message) → lookup (is_at (nat_cmp number)) es ≡ Some m → (i : ℕ) × ((k : ℕ) × (slice_get es i ≡ Some (k, m)))
 lookup_at number [] m e = absurd (cc e)

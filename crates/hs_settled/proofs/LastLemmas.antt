@@ -2,21 +2,21 @@
 use Rattle.std.proofs.Common.{◌≡◌, ◌∙◌, ◌⊎◌, inl, inr, sym, ap, subst, ℕ, ◌*◌, ◌<◌, ◌≤◌, ◌||◌, ◌++◌, Bool, true, false, not, List, [], ◌∷◌, Option, Some, None, refl, arith, length, is_some}
 use Rattle.std.specs.Option.{option_and_then, option_map, option_or}
 use Rattle.std.specs.Prelude.{if◌then◌else◌}
-use Rattle.hs_causes.proofs.AskLemmas.{AllAsk}
-use Rattle.hs_causes.proofs.KeptLemmas.{Kept, all_kept}
+use Rattle.hs_settled.proofs.AskLemmas.{AllAsk}
+use Rattle.hs_settled.proofs.KeptLemmas.{Kept, all_kept}
 use Rattle.hs_core.specs.Delivering.{is_new_round}
 use Rattle.hs_core.specs.Looking.{open_work, shape_of}
 use Rattle.hs_core.specs.State.{Core}
 use Rattle.hs_core.specs.Step.{step}
-use Rattle.hs_deletes.proofs.RunLemmas.{Running}
+use Rattle.hs_settled.proofs.DeletesRunLemmas.{Running}
 use Rattle.hs_events.specs.Course.{steps}
 use Rattle.hs_events.specs.declared.due.Due.{Due}
 use Rattle.hs_events.specs.declared.due.Due.TheVariants.{Nudging}
 use Rattle.hs_events.specs.declared.due.Place.{Place}
 use Rattle.hs_events.specs.Due.{Events, Walked, is_it, next_due, next_good, next_nudge, next_nudger, next_turn, place_after, raises_known, walk}
 use Rattle.hs_events.specs.Whole.{Whole, step_whole}
-use Rattle.hs_going.specs.Causes.{NothingWaits}
-use Rattle.hs_going.specs.Moving.{IsMoving}
+use Rattle.hs_settled.specs.Causes.{NothingWaits}
+use Rattle.hs_settled.specs.Moving.{IsMoving}
 use Rattle.hs_limits.specs.declared.address.Address.{Address}
 use Rattle.hs_limits.specs.declared.limits.Limits.{Limits}
 use Rattle.hs_limits.specs.declared.shape.Shape.{Shape}
@@ -35,7 +35,7 @@ use Rattle.hs_settled.specs.Quiet.{IsQuiet}
 use Rattle.hs_settled.specs.Settled.{NothingOpen}
 use Rattle.hs_standing.specs.Run.{IsRunning, MayRun}
 use Rattle.hs_standing.specs.Standing.{AllMayKeep}
-use Rattle.hs_stops.specs.Start.{Start}
+use Rattle.hs_standing.specs.Start.{Start}
 use Rattle.hs_told.specs.InTurn.{AllMayCome}
 
 -- ---- the end

@@ -4,8 +4,8 @@ use Rattle.hs_core.specs.State.{Core}
 use Rattle.hs_events.proofs.RunLemmas.{steps_append}
 use Rattle.hs_events.specs.Course.{steps}
 use Rattle.hs_events.specs.Due.{Events}
-use Rattle.hs_lines.proofs.LineLemmas.{Passes, line_passes}
-use Rattle.hs_lines.specs.Script.{AreLines, IsLine, IsNext, Script as Lined, all_events}
+use Rattle.hs_standing.proofs.LinesLineLemmas.{Passes, line_passes}
+use Rattle.hs_standing.specs.Script.{AreLines, IsLine, IsNext, Script as Lined, all_events}
 use Rattle.hs_promise.specs.Lines.{AreLines as AreBegunLines}
 use Rattle.hs_promise.specs.Ending.{ending_of}
 use Rattle.hs_promise.specs.Run.{Ran, Script}

@@ -4,9 +4,9 @@ use Rattle.std.proofs.lemmas.Bool.{cases_eq}
 use Rattle.std.specs.List.{flat_map, list_any, range_with_len}
 use Rattle.std.specs.Option.{option_and_then, option_map, option_map_or}
 use Rattle.std.specs.Prelude.{find}
-use Rattle.hs_along.proofs.BesideLemmas.{beside_catalogue, beside_without}
-use Rattle.hs_along.proofs.AloneLemmas.{is_a_round}
-use Rattle.hs_along.specs.Changes.{IsBeside}
+use Rattle.hs_standing.proofs.BesideLemmas.{beside_catalogue, beside_without}
+use Rattle.hs_standing.proofs.AloneLemmas.{is_a_round}
+use Rattle.hs_standing.specs.Changes.{IsBeside}
 use Rattle.hs_core.specs.Asking.{deliver, nudge, nudge_good, send_round, send_rounds}
 use Rattle.hs_core.specs.Changing.{add_entry_tasks, change_group, change_pool, post}
 use Rattle.hs_core.specs.Delivering.{is_got, is_new_round}

@@ -1,7 +1,7 @@
 -- No Enter that shard 0 proposes by itself ever waits.
 use Rattle.std.proofs.Common.{◌≡◌, ◌∙◌, sym, ap, subst, ◌⊎◌, inl, inr, ℕ, suc, ◌+◌, ◌≤◌, Bool, true, false, cond, not, List, [], length, Option, Some, None, refl, arith, slice_get, slice_index}
 use Rattle.std.specs.Option.{option_map_or}
-use Rattle.hs_along.specs.Changes.{tells_at_once, told_at_once}
+use Rattle.hs_standing.specs.Changes.{tells_at_once, told_at_once}
 use Rattle.hs_core.specs.Changing.{add_entry_tasks, add_operation, change_group, note, post, put_operation}
 use Rattle.hs_journal.specs.declared.entry.Who.TheVariants as who
 use Rattle.hs_model.specs.declared.deed.Deed.TheVariants as deed

@@ -6,7 +6,7 @@ use Rattle.std.specs.declared.cmp.Ordering.TheVariants.{Greater}
 use Rattle.std.specs.List.{AllByRecursion}
 use Rattle.std.specs.Map.{lookup, remove_entry}
 use Rattle.std.specs.Ordering.{nat_cmp}
-use Rattle.hs_noted.proofs.NotingLemmas.{all_append, all_weaker}
+use Rattle.hs_settled.proofs.NotingLemmas.{all_append, all_weaker}
 use Rattle.hs_post.specs.declared.message.Message.{Message}
 use Rattle.hs_post.specs.Pool.{Pool, send}
 use Rattle.hs_replica.specs.Group.{send_all}

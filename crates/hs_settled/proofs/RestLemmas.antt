@@ -21,16 +21,16 @@ use Rattle.hs_replica.specs.Group.{Group, new_group}
 use Rattle.hs_settled.proofs.LevelLemmas.{le_or}
 use Rattle.hs_settled.proofs.OpenLemmas.{epochs_are, swept_are}
 use Rattle.hs_events.specs.Whole.{Whole}
-use Rattle.hs_going.specs.Causes.{NothingWaits}
+use Rattle.hs_settled.specs.Causes.{NothingWaits}
 use Rattle.hs_joint.proofs.HistoryLemmas.{shape_some}
-use Rattle.hs_legal.specs.Telling.{told_so_far}
-use Rattle.hs_rests.proofs.ValidLemmas.{told_valid}
+use Rattle.hs_standing.specs.Telling.{told_so_far}
+use Rattle.hs_standing.proofs.ValidLemmas.{told_valid}
 use Rattle.hs_settled.proofs.QuietLemmas.{Below, all_swept}
 use Rattle.hs_settled.specs.Quiet.{IsQuiet}
 use Rattle.hs_settled.specs.Settled.{NothingOpen}
 use Rattle.hs_standing.specs.Run.{IsRunning}
 use Rattle.hs_standing.specs.Standing.{judging_of}
-use Rattle.hs_stops.specs.Start.{Start}
+use Rattle.hs_standing.specs.Start.{Start}
 use Rattle.hs_shard.specs.Facts.{Catalogue}
 
 -- ---- lists

@@ -5,7 +5,7 @@ use Rattle.std.specs.Map.{lookup}
 use Rattle.std.specs.Option.{option_map_or, option_or}
 use Rattle.std.specs.Ordering.{nat_cmp}
 use Rattle.std.specs.Prelude.{if◌then◌else◌}
-use Rattle.hs_along.proofs.BesideLemmas.{beside_begun}
+use Rattle.hs_standing.proofs.BesideLemmas.{beside_begun}
 use Rattle.hs_core.specs.Asking.{deliver, no_peer, not_up, nudge_good, unless_refused, with_message}
 use Rattle.hs_core.specs.declared.event.Event.{Event}
 use Rattle.hs_core.specs.declared.event.Event.TheVariants as event
@@ -19,9 +19,9 @@ use Rattle.hs_events.specs.declared.due.Due.{Due}
 use Rattle.hs_events.specs.declared.due.Due.TheVariants.{Reporting, Handling, Nudging}
 use Rattle.hs_events.specs.declared.due.Place.{Place}
 use Rattle.hs_events.specs.Due.{is_answer, is_it, is_same_due, next_due, next_good, next_nudger, next_turn, place_after}
-use Rattle.hs_going.specs.Causes.{NothingWaits}
+use Rattle.hs_settled.specs.Causes.{NothingWaits}
 use Rattle.hs_limits.specs.declared.delta.Delta.{Delta}
-use Rattle.hs_lines.proofs.DueLemmas.{IsPart, is_part, next_fits}
+use Rattle.hs_standing.proofs.DueLemmas.{IsPart, is_part, next_fits}
 use Rattle.hs_model.specs.declared.reply.Reply.{Reply}
 use Rattle.hs_model.specs.Refusals.{first}
 use Rattle.hs_moments.proofs.AloneEventLemmas.{alone_begun, begun, step_is}

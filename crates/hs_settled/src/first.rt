@@ -6,7 +6,7 @@ ghost use Rattle.hs_events.specs.Found.{Found, first_core};
 ghost use Rattle.hs_settled.specs.Settled.{IsNoFirst};
 ghost use Rattle.hs_standing.specs.Run.{MayRun, RunOpens};
 ghost use Rattle.hs_standing.specs.Standing.{AllMayKeep};
-ghost use Rattle.hs_stops.specs.Start.{Start};
+ghost use Rattle.hs_standing.specs.Start.{Start};
 ghost use Rattle.hs_told.specs.InTurn.{told_of};
 
 use hs_standing::a_run_goes_on;

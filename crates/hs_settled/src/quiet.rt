@@ -1,10 +1,10 @@
 //! What is open of a store to which nothing new can come.
 ghost use Rattle.hs_events.specs.Whole.{Whole};
-ghost use Rattle.hs_going.specs.Causes.{NothingWaits};
+ghost use Rattle.hs_settled.specs.Causes.{NothingWaits};
 ghost use Rattle.hs_settled.specs.Quiet.{IsQuiet};
 ghost use Rattle.hs_settled.specs.Settled.{NothingOpen};
 ghost use Rattle.hs_standing.specs.Run.{IsRunning};
-ghost use Rattle.hs_stops.specs.Start.{Start};
+ghost use Rattle.hs_standing.specs.Start.{Start};
 
 use hs_deletion::{a_run_goes_on, rounds_run_in_step};
 use hs_joint::folds_follow_the_machine;

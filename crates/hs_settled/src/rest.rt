@@ -3,7 +3,7 @@ ghost use Rattle.std.specs.Prelude.{◌≡◌, ℕ, None, Some};
 ghost use Rattle.hs_events.specs.declared.due.Place.{Place};
 ghost use Rattle.hs_events.specs.Due.{next_due};
 ghost use Rattle.hs_events.specs.Found.{first_core};
-ghost use Rattle.hs_going.specs.Causes.{NothingWaits};
+ghost use Rattle.hs_settled.specs.Causes.{NothingWaits};
 ghost use Rattle.hs_model.specs.declared.command.Command.TheVariants as command;
 ghost use Rattle.hs_promise.specs.Entry.{entry_store};
 ghost use Rattle.hs_promise.specs.Lost.{IsPast};
@@ -13,9 +13,9 @@ ghost use Rattle.hs_promise.specs.Story.{Story, all_events};
 ghost use Rattle.hs_settled.specs.Settled.{core_behind};
 ghost use Rattle.hs_standing.specs.Run.{MayRun, RunOpens};
 ghost use Rattle.hs_standing.specs.Standing.{AllMayKeep};
-ghost use Rattle.hs_stops.specs.Start.{Start};
+ghost use Rattle.hs_standing.specs.Start.{Start};
 
-use hs_going::{each_operation_goes_on, nothing_waits_where_no_job_is_left};
+use crate::{each_operation_goes_on, nothing_waits_where_no_job_is_left};
 use hs_standing::a_run_goes_on;
 
 /// Behind a settle of a run over sound lists, with one copy of each shard, that was gone past nothing is

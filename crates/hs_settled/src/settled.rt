@@ -13,10 +13,10 @@ ghost use Rattle.hs_settled.specs.Quiet.{IsQuiet};
 ghost use Rattle.hs_settled.specs.Settled.{NothingOpen, core_behind};
 ghost use Rattle.hs_standing.specs.Run.{MayRun, RunOpens};
 ghost use Rattle.hs_standing.specs.Standing.{AllMayKeep};
-ghost use Rattle.hs_stops.specs.Start.{Start};
+ghost use Rattle.hs_standing.specs.Start.{Start};
 
+use crate::{each_operation_goes_on, nothing_waits_where_no_job_is_left};
 use hs_deletion::rounds_run_in_step;
-use hs_going::{each_operation_goes_on, nothing_waits_where_no_job_is_left};
 use hs_joint::folds_follow_the_machine;
 use hs_standing::a_run_goes_on;
 

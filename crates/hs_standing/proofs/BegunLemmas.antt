@@ -23,7 +23,7 @@ use Rattle.hs_journal.specs.Events.{client_op}
 use Rattle.hs_limits.specs.declared.limits.PeerStatus.{PeerStatus}
 use Rattle.hs_limits.specs.declared.limits.PeerStatus.TheVariants.{Good, Joining, Down}
 use Rattle.hs_limits.specs.declared.shape.Shape.{Shape}
-use Rattle.hs_lines.proofs.StepLemmas.{step_ended, step_line, went}
+use Rattle.hs_standing.proofs.LinesStepLemmas.{step_ended, step_line, went}
 use Rattle.hs_members.specs.Members.{Members, has_good, is_good_status, status}
 use Rattle.hs_model.specs.declared.command.Command.{Command}
 use Rattle.hs_model.specs.declared.course.CourseItem.{CourseItem}
@@ -34,7 +34,7 @@ use Rattle.hs_moments.proofs.CoreLemmas.{shape_at}
 use Rattle.hs_moments.specs.Machine.{runs}
 use Rattle.hs_moments.specs.WholeMachine.{whole_machine}
 use Rattle.hs_standing.specs.Standing.{AreBegun}
-use Rattle.hs_stops.specs.Start.{Start}
+use Rattle.hs_standing.specs.Start.{Start}
 use Rattle.hs_told.specs.InTurn.{AllMayCome, ClientMay, MayBegin, NoneBetween, OtherMay}
 
 -- ---- lines

@@ -3,7 +3,7 @@ use Rattle.std.proofs.Common.{◌≡◌, ◌∙◌, ap, sym, subst, ℕ, ◌<◌
 use Rattle.std.proofs.lemmas.List.{take-append-le}
 use Rattle.std.proofs.lemmas.List.Elements.{All-from_recursion, recursion_from_All}
 use Rattle.std.specs.Prelude.{AllPairs}
-use Rattle.hs_along.specs.Walks.{HasRecordRoom}
+use Rattle.hs_standing.specs.Walks.{HasRecordRoom}
 use Rattle.hs_core.specs.declared.event.Event.{Event}
 use Rattle.hs_core.specs.Looking.{front_of, shape_of}
 use Rattle.hs_core.specs.State.{Core}
@@ -26,10 +26,10 @@ use Rattle.hs_standing.proofs.JoinLemmas.{StandsWithin}
 use Rattle.hs_standing.proofs.SettleLemmas.{settled_alike, within_as}
 use Rattle.hs_standing.specs.Settled.{AreSettled}
 use Rattle.hs_standing.specs.Standing.{CoreStands, StandsWith}
-use Rattle.hs_stops.proofs.SaneLemmas.{front_within, waits_in_core}
-use Rattle.hs_stops.specs.Lists.{Lists}
-use Rattle.hs_stops.specs.Stands.{lists_of}
-use Rattle.hs_stops.specs.Start.{Start}
+use Rattle.hs_standing.proofs.SaneLemmas.{front_within, waits_in_core}
+use Rattle.hs_standing.specs.Lists.{Lists}
+use Rattle.hs_standing.specs.Stands.{lists_of}
+use Rattle.hs_standing.specs.Start.{Start}
 use Rattle.hs_told.specs.InTurn.{IsInTurn}
 
 -- ---- as an event begins

@@ -1,8 +1,8 @@
 -- What first views, notes and changes beside a run keep, a core keeps as it opens.
 use Rattle.std.proofs.Common.{◌≡◌, ◌∙◌, ap, sym, subst, ℕ, zero, suc, ◌+◌, ◌<◌, not, Bool, true, false, List, [], ◌∷◌, Option, Some, None, refl, arith, map}
 use Rattle.std.specs.List.{range_with_len}
-use Rattle.hs_along.proofs.BesideLemmas.{beside_ended}
-use Rattle.hs_along.specs.Changes.{IsBeside}
+use Rattle.hs_standing.proofs.BesideLemmas.{beside_ended}
+use Rattle.hs_standing.specs.Changes.{IsBeside}
 use Rattle.hs_core.specs.Changing.{add_entry_tasks, change_group, note, post, set_viewed}
 use Rattle.hs_core.specs.declared.waiting.Waiting.{Waiting}
 use Rattle.hs_core.specs.Looking.{group_of, lead_of, shape_of, status_of}

@@ -31,11 +31,11 @@ use Rattle.hs_replica.specs.Group.{Group, commit_front, committed, new_group, ta
 use Rattle.hs_standing.proofs.ProposeLemmas.{Proposes}
 use Rattle.hs_standing.proofs.QuietLemmas.{BringsNoView}
 use Rattle.hs_standing.specs.Settled.{AreSettled}
-use Rattle.hs_stops.proofs.EffectLemmas.{back_there, later_back, later_fronts, one_deed, settled_count, there_low}
-use Rattle.hs_stops.proofs.PartLemmas.{parted, parted_done, parted_whole}
-use Rattle.hs_stops.specs.Effect.{one_more}
-use Rattle.hs_stops.specs.Left.{AreFronts}
-use Rattle.hs_stops.specs.Lists.{Lists, settled, settled_catalogues, settled_from, waiting}
+use Rattle.hs_standing.proofs.StopsEffectLemmas.{back_there, later_back, later_fronts, one_deed, settled_count, there_low}
+use Rattle.hs_standing.proofs.PartLemmas.{parted, parted_done, parted_whole}
+use Rattle.hs_standing.specs.Effect.{one_more}
+use Rattle.hs_standing.specs.Left.{AreFronts}
+use Rattle.hs_standing.specs.Lists.{Lists, settled, settled_catalogues, settled_from, waiting}
 use Rattle.hs_waiting.proofs.ListLemmas.{fit_append, follow_append, gives_whole}
 use Rattle.hs_waiting.specs.Lists.{pending_deeds}
 

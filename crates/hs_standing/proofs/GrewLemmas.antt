@@ -30,7 +30,7 @@ use Rattle.hs_moments.specs.Moments.{Grows}
 use Rattle.hs_moments.specs.WholeMachine.{IsFrontOf, last_of, whole_machine}
 use Rattle.hs_moments.specs.Working.{HasReported, IsBehind, IsNextEntry, NextJob}
 use Rattle.hs_replica.specs.Group.{Group, entries_above, length_of, new_group}
-use Rattle.hs_stops.proofs.SaneLemmas.{front_within}
+use Rattle.hs_standing.proofs.SaneLemmas.{front_within}
 
 -- a shard's list begins with the old one, and of it nothing took effect that stands behind that
 pub record Grew (c new : Whole) (shard : ℕ) : Type 0 where

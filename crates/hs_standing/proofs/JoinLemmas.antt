@@ -1,7 +1,7 @@
 -- What the single changes keep of a core and its folds, beside lists that go on, each event keeps.
 use Rattle.std.proofs.Common.{subst, ℕ, ◌+◌, ◌<◌, List, Option, refl}
-use Rattle.hs_along.specs.Changes.{told_at_once}
-use Rattle.hs_along.specs.Walks.{Walks}
+use Rattle.hs_standing.specs.Changes.{told_at_once}
+use Rattle.hs_standing.specs.Walks.{Walks}
 use Rattle.hs_core.specs.Changing.{change_pool, note, refuse}
 use Rattle.hs_core.specs.Asking.{send_round}
 use Rattle.hs_core.specs.declared.waiting.Waiting.{Waiting}
@@ -27,7 +27,7 @@ use Rattle.hs_standing.proofs.GoLemmas.{GoesOn, goes_proposes, goes_taken, setti
 use Rattle.hs_standing.proofs.ProposeLemmas.{Proposes, proposes_as, proposes_beside, proposes_both, proposes_entry, proposes_go_on, proposes_line, proposes_round, proposes_told}
 use Rattle.hs_standing.proofs.QuietLemmas.{quiet_bytes, quiet_step}
 use Rattle.hs_standing.proofs.KeepLemmas.{Keeps}
-use Rattle.hs_stops.specs.Lists.{Lists}
+use Rattle.hs_standing.specs.Lists.{Lists}
 
 -- P is known of a core within an event, with folds that are what took effect of its lists, which go on from the old ones
 pub record StandsWithin (set : Setting) (old : Lists) (P : Core → List Folded → Type 0) (core : Core) : Type 0 where

@@ -1,6 +1,6 @@
 -- What every single change keeps of a core and its folds, where each shard has one copy: any P of which this holds is kept by every event.
 use Rattle.std.specs.Prelude.{◌≡◌, ℕ, ◌+◌, ◌<◌, ◌≤◌, true, List, Option, Some, length}
-use Rattle.hs_along.specs.Changes.{IsBeside, IsIdle, told_at_once}
+use Rattle.hs_standing.specs.Changes.{IsBeside, IsIdle, told_at_once}
 use Rattle.hs_core.specs.Asking.{send_round}
 use Rattle.hs_core.specs.Changing.{change_pool, note, refuse}
 use Rattle.hs_core.specs.declared.wait.Wait.TheVariants as wait
@@ -34,7 +34,7 @@ use Rattle.hs_replica.specs.Group.{committed}
 abbrev pub TakesFewRecords : ℕ → Entry → Core → Type 0
 TakesFewRecords shard entry core = (g : ℕ) → length (catalogue_of g (taken shard entry core)).roots ≤ most_records
 
--- as Walks of hs_along, of a core with folds: an entry that takes effect leads to the folds behind it, which it may follow; every other change leaves the folds
+-- as Walks of hs_standing, of a core with folds: an entry that takes effect leads to the folds behind it, which it may follow; every other change leaves the folds
 pub record Keeps (name : List ℕ → Address) (MayLine : ℕ → Op → Core → Type 0) (MayTell : ℕ → Option (List ℕ) → Waiting → Core → Type 0) (MayRefuse : ℕ → Type 0) (P : Core → List Folded → Type 0) : Type 0 where
   pub orderly : (c : Core) (cs : List Folded) → P c cs → IsOrderly name c
   pub line_beside : (line : ℕ) (o : Op) (a b : Core) → IsBeside a b → MayLine line o a → MayLine line o b

@@ -3,8 +3,8 @@ use Rattle.std.proofs.Common.{◌≡◌, ◌∙◌, ap, sym, subst, inl, inr, �
 use Rattle.std.proofs.lemmas.Bool.{cases_lt}
 use Rattle.std.proofs.lemmas.List.Elements.{Contains-append_left, Contains-append_right}
 use Rattle.std.specs.Prelude.{Contains}
-use Rattle.hs_along.proofs.WalkLemmas.{walks_step}
-use Rattle.hs_along.specs.Walks.{MayEvent}
+use Rattle.hs_standing.proofs.AlongWalkLemmas.{walks_step}
+use Rattle.hs_standing.specs.Walks.{MayEvent}
 use Rattle.hs_core.specs.declared.event.Event.{Event}
 use Rattle.hs_core.specs.declared.waiting.Waiting.{Waiting}
 use Rattle.hs_core.specs.Looking.{status_of}
@@ -30,8 +30,8 @@ use Rattle.hs_standing.proofs.JoinLemmas.{StandsWithin, joined}
 use Rattle.hs_standing.proofs.KeepLemmas.{Keeps}
 use Rattle.hs_standing.proofs.StandLemmas.{NoLineWaitsTwice, whole_stands}
 use Rattle.hs_standing.specs.Standing.{AllMayKeep, AreBegun, CoreStands, MayKeep, StandsWith}
-use Rattle.hs_stops.specs.Stands.{StandsWhereGood, lists_of}
-use Rattle.hs_stops.specs.Start.{Start}
+use Rattle.hs_standing.specs.Stands.{StandsWhereGood, lists_of}
+use Rattle.hs_standing.specs.Start.{Start}
 use Rattle.hs_told.specs.InTurn.{IsInTurn, MayCome}
 
 -- what an event that may come keeps, as hs_told has it

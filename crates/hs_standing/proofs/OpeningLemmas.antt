@@ -40,10 +40,10 @@ use Rattle.hs_standing.proofs.ViewLemmas.{OpensOn, opens_on}
 use Rattle.hs_standing.specs.Opening.{OpensWell, opened_folds, opened_lists}
 use Rattle.hs_standing.specs.Settled.{AreSettled}
 use Rattle.hs_standing.specs.Standing.{AreBegun, CoreStands, StandsWith}
-use Rattle.hs_stops.proofs.SaneLemmas.{waits_in_core}
-use Rattle.hs_stops.specs.Lists.{Lists, settled_from, whole_from}
-use Rattle.hs_stops.specs.Stands.{lists_of}
-use Rattle.hs_stops.specs.Start.{Start}
+use Rattle.hs_standing.proofs.SaneLemmas.{waits_in_core}
+use Rattle.hs_standing.specs.Lists.{Lists, settled_from, whole_from}
+use Rattle.hs_standing.specs.Stands.{lists_of}
+use Rattle.hs_standing.specs.Start.{Start}
 use Rattle.hs_told.specs.InTurn.{IsInTurn}
 
 -- ---- views of a list never exceed that of its last View

@@ -4,7 +4,7 @@ use Rattle.std.proofs.lemmas.Bool.{cases_eq, cases_lt, eq-eqb, ne_eqb}
 use Rattle.std.proofs.lemmas.List.{get_or-set_other, get_or-set_same, set_past}
 use Rattle.std.specs.List.{AllByRecursion, list_all}
 use Rattle.std.specs.Prelude.{is_some, nat_le, slice_index_or}
-use Rattle.hs_along.specs.Changes.{IsBeside, tells_at_once}
+use Rattle.hs_standing.specs.Changes.{IsBeside, tells_at_once}
 use Rattle.hs_core.specs.Asking.{send_round}
 use Rattle.hs_core.specs.Changing.{add_entry_tasks, add_operation, change_group, note, post}
 use Rattle.hs_core.specs.declared.wait.Wait.{Wait}

@@ -9,10 +9,10 @@ use Rattle.hs_moments.specs.Joint.{AtMoment}
 use Rattle.hs_moments.specs.WholeMachine.{IsFrontOf, last_of, whole_machine}
 use Rattle.hs_standing.proofs.StandLemmas.{NoLineWaitsTwice, whole_stands}
 use Rattle.hs_standing.specs.Standing.{AreBegun, IsStateAt, WholeStands}
-use Rattle.hs_stops.proofs.ImageLemmas.{images_reopen}
-use Rattle.hs_stops.specs.Reopens.{Reopens}
-use Rattle.hs_stops.specs.Stands.{StandsWhereGood}
-use Rattle.hs_stops.specs.Start.{Start}
+use Rattle.hs_standing.proofs.ImageLemmas.{images_reopen}
+use Rattle.hs_standing.specs.Reopens.{Reopens}
+use Rattle.hs_standing.specs.Stands.{StandsWhereGood}
+use Rattle.hs_standing.specs.Start.{Start}
 
 -- a moment of a run of which this is the state
 pub reopens_where : (start : Start) (stop : Stop) (journal : List JournalEntry) (images : List Image) (c : Whole) → IsShape start.set.shape → start.set.shape.copies ≡ 1 → length stop.disks ≡ start.set.shape.shards

@@ -12,17 +12,17 @@ use Rattle.hs_events.specs.Whole.{Whole, open_whole}
 use Rattle.hs_fold.specs.Runs.Facts.{Catalogue as Folded}
 use Rattle.hs_fold.specs.Runs.Opened.{store_of}
 use Rattle.hs_fold.specs.Shards.Images.{AreGoodImages, Image, Stop}
-use Rattle.hs_held.specs.Held.{GivesAddresses}
+use Rattle.hs_standing.specs.Held.{GivesAddresses}
 use Rattle.hs_journal.specs.declared.entry.JournalEntry.{JournalEntry}
 use Rattle.hs_journal.specs.Events.{client_op}
 use Rattle.hs_journal.specs.Moments.{below as below_moment}
 use Rattle.hs_laws.specs.Valid.{IsValid}
-use Rattle.hs_legal.proofs.Laws.{Entries, Steps}
-use Rattle.hs_legal.proofs.OpenLemmas.{folds_valid, standing_new, standing_opens}
-use Rattle.hs_legal.proofs.StandingLemmas.{line_beside, standing_again, standing_beside, standing_downed, standing_due, standing_effect, standing_follows, standing_goes, standing_line, standing_refused, standing_round, standing_told, tell_beside}
-use Rattle.hs_legal.specs.Bytes.{TellsItsBlock}
-use Rattle.hs_legal.specs.Commands.{IsLineOf, IsNobodys}
-use Rattle.hs_legal.specs.Standing.{IsStanding}
+use Rattle.hs_standing.proofs.Laws.{Entries, Steps}
+use Rattle.hs_standing.proofs.LegalOpenLemmas.{folds_valid, standing_new, standing_opens}
+use Rattle.hs_standing.proofs.StandingLemmas.{line_beside, standing_again, standing_beside, standing_downed, standing_due, standing_effect, standing_follows, standing_goes, standing_line, standing_refused, standing_round, standing_told, tell_beside}
+use Rattle.hs_standing.specs.Bytes.{TellsItsBlock}
+use Rattle.hs_standing.specs.Commands.{IsLineOf, IsNobodys}
+use Rattle.hs_standing.specs.Legal.{IsStanding}
 use Rattle.hs_limits.specs.Shape.{IsShape}
 use Rattle.hs_model.specs.declared.course.CourseItem.{CourseItem}
 use Rattle.hs_model.specs.declared.op.Op.{Op}
@@ -40,9 +40,9 @@ use Rattle.hs_standing.proofs.TakenLemmas.{FoldsInMemory, may_open}
 use Rattle.hs_standing.specs.Opening.{opened_folds}
 use Rattle.hs_standing.specs.Run.{IsRunning, MayRun, RunOpens, RunStands}
 use Rattle.hs_standing.specs.Standing.{AllMayKeep, AreBegun, CoreStands, IsStateAt, judging_of}
-use Rattle.hs_stops.specs.Reopens.{Reopens}
-use Rattle.hs_stops.specs.Stands.{StandsWhereGood}
-use Rattle.hs_stops.specs.Start.{Start}
+use Rattle.hs_standing.specs.Reopens.{Reopens}
+use Rattle.hs_standing.specs.Stands.{StandsWhereGood}
+use Rattle.hs_standing.specs.Start.{Start}
 
 -- ---- the laws below, in one place
 

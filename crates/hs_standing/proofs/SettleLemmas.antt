@@ -13,7 +13,7 @@ use Rattle.hs_fold.specs.Shards.Setting.{Setting, shard_in}
 use Rattle.hs_limits.specs.declared.shape.Shape.{Shape}
 use Rattle.hs_memory.specs.Forget.{forget}
 use Rattle.hs_shard.specs.Facts.{Catalogue}
-use Rattle.hs_stops.specs.Lists.{Lists, settled_from}
+use Rattle.hs_standing.specs.Lists.{Lists, settled_from}
 
 zero_right : (a : ℕ) → a ≡ a + 0
 zero_right a = omega arith

@@ -42,13 +42,13 @@ use Rattle.hs_shard.specs.Facts.{Catalogue, empty_catalogue}
 use Rattle.hs_standing.proofs.SettleLemmas.{folds_at, forget_at, settled_at, within_as}
 use Rattle.hs_standing.proofs.WaitLemmas.{NoneTwice, all_waits, lines_apart, roots_are, same_asked}
 use Rattle.hs_standing.specs.Standing.{AreBegun, WholeStands, judging_of}
-use Rattle.hs_stops.proofs.RecordLemmas.{few_wait, lines_once}
-use Rattle.hs_stops.proofs.SaneLemmas.{front_sealed, front_within, good_counts, reach_numbered, waits_in_core}
-use Rattle.hs_stops.specs.Left.{HasFewRecords, MayBeLeft, TookEffect}
-use Rattle.hs_stops.specs.Lists.{Lists, settled, settled_catalogues, waiting}
-use Rattle.hs_stops.specs.Stands.{Stands, lists_of}
-use Rattle.hs_stops.specs.Start.{IsAwaited, Start}
-use Rattle.hs_stops.specs.Suffices.{roots_in}
+use Rattle.hs_standing.proofs.StopsRecordLemmas.{few_wait, lines_once}
+use Rattle.hs_standing.proofs.SaneLemmas.{front_sealed, front_within, good_counts, reach_numbered, waits_in_core}
+use Rattle.hs_standing.specs.Left.{HasFewRecords, MayBeLeft, TookEffect}
+use Rattle.hs_standing.specs.Lists.{Lists, settled, settled_catalogues, waiting}
+use Rattle.hs_standing.specs.Stands.{Stands, lists_of}
+use Rattle.hs_standing.specs.Start.{IsAwaited, Start}
+use Rattle.hs_standing.specs.Suffices.{roots_in}
 use Rattle.hs_told.specs.InTurn.{told_of}
 use Rattle.hs_told.specs.Part.{asking}
 use Rattle.hs_waiting.specs.Waits.{EntryWaits}

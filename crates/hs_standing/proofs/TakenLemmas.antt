@@ -19,20 +19,20 @@ use Rattle.hs_fold.specs.Runs.Fits.{catalogue_at}
 use Rattle.hs_fold.specs.Runs.Opened.{catalogues}
 use Rattle.hs_fold.specs.Runs.Own.{AreOwn}
 use Rattle.hs_fold.specs.Shards.Setting.{Numbered, Setting, shard_in}
-use Rattle.hs_held.specs.Held.{KeepsAddresses}
+use Rattle.hs_standing.specs.Held.{KeepsAddresses}
 use Rattle.hs_joint.proofs.HistoryLemmas.{history_goes, shape_few, shape_some}
-use Rattle.hs_legal.specs.Opens.{MayOpen}
+use Rattle.hs_standing.specs.Opens.{MayOpen}
 use Rattle.hs_limits.specs.declared.address.Address.{Address}
 use Rattle.hs_limits.specs.declared.shape.Shape.{Shape}
 use Rattle.hs_limits.specs.Shape.{IsShape}
 use Rattle.hs_memory.specs.Forget.{apply_all, forget, reading}
 use Rattle.hs_moments.proofs.WorkLemmas.{last_is}
-use Rattle.hs_rests.proofs.OpenLemmas.{list_numbers, stored_new}
+use Rattle.hs_standing.proofs.RestsOpenLemmas.{list_numbers, stored_new}
 use Rattle.hs_shard.specs.Facts.{empty_catalogue}
 use Rattle.hs_standing.specs.Opening.{OpensWell, opened_folds, opened_lists}
 use Rattle.hs_standing.specs.Standing.{judging_of}
-use Rattle.hs_stops.specs.Lists.{Lists, whole_from}
-use Rattle.hs_stops.specs.Start.{Start}
+use Rattle.hs_standing.specs.Lists.{Lists, whole_from}
+use Rattle.hs_standing.specs.Start.{Start}
 
 -- a catalogue in memory is the fold of its list, as hs_memory has it
 abbrev pub FoldsInMemory : Type 0

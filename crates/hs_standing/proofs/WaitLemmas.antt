@@ -12,8 +12,8 @@ use Rattle.hs_fold.specs.Pending.{asked_by}
 use Rattle.hs_fold.specs.Shards.Setting.{Numbered}
 use Rattle.hs_fold.specs.Shards.Unrooted.{puts_root}
 use Rattle.hs_replica.specs.Kinds.{is_root}
-use Rattle.hs_stops.specs.Lists.{Lists, waiting}
-use Rattle.hs_stops.specs.Suffices.{all_asked, asked_lines, roots_in, with_asked}
+use Rattle.hs_standing.specs.Lists.{Lists, waiting}
+use Rattle.hs_standing.specs.Suffices.{all_asked, asked_lines, roots_in, with_asked}
 
 -- ---- all that waits
 

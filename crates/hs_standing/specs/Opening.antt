@@ -1,6 +1,6 @@
 -- How a run opens, so that its whole stands.
 use Rattle.std.specs.Prelude.{◌≡◌, ℕ, ◌<◌, List, None, length}
-use Rattle.hs_along.specs.Walks.{HasRecordRoom}
+use Rattle.hs_standing.specs.Walks.{HasRecordRoom}
 use Rattle.hs_events.specs.Found.{Found, first_core, opened_list}
 use Rattle.hs_events.specs.Sane.{IsFromOne}
 use Rattle.hs_events.specs.Taken.{peer_count}
@@ -9,8 +9,8 @@ use Rattle.hs_fold.specs.Runs.Opened.{catalogues}
 use Rattle.hs_fold.specs.Shards.Setting.{Setting}
 use Rattle.hs_journal.specs.Events.{client_op}
 use Rattle.hs_sound.specs.Stay.{AreSoundAlong}
-use Rattle.hs_stops.specs.Lists.{Lists, whole_from}
-use Rattle.hs_stops.specs.Start.{Start}
+use Rattle.hs_standing.specs.Lists.{Lists, whole_from}
+use Rattle.hs_standing.specs.Start.{Start}
 
 -- the lists with which a store opens, all of which took effect, and their folds
 abbrev pub opened_lists : Setting → Found → Lists

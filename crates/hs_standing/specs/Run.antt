@@ -7,13 +7,13 @@ use Rattle.hs_events.specs.Found.{Found, opens_with}
 use Rattle.hs_events.specs.Whole.{Whole}
 use Rattle.hs_fold.specs.Runs.Facts.{Catalogue as Folded}
 use Rattle.hs_fold.specs.Runs.Opened.{store_of}
-use Rattle.hs_held.specs.Held.{GivesAddresses, KeepsAddresses}
+use Rattle.hs_standing.specs.Held.{GivesAddresses, KeepsAddresses}
 use Rattle.hs_laws.specs.Valid.{IsValid}
-use Rattle.hs_legal.specs.Standing.{IsStanding, MayStand}
+use Rattle.hs_standing.specs.Legal.{IsStanding, MayStand}
 use Rattle.hs_limits.specs.Shape.{IsShape}
 use Rattle.hs_standing.specs.Opening.{OpensWell, opened_folds}
 use Rattle.hs_standing.specs.Standing.{StandsWith, judging_of}
-use Rattle.hs_stops.specs.Start.{Start}
+use Rattle.hs_standing.specs.Start.{Start}
 
 -- it opens well, of a shape, at the store of its lists; blocks are named by addresses of 32 bytes, and such are all that the lists have
 pub record RunOpens (start : Start) (found : Found) : Type 0 where

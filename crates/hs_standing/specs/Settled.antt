@@ -5,7 +5,7 @@ use Rattle.hs_fold.specs.Runs.Facts.{Catalogue as Folded}
 use Rattle.hs_fold.specs.Runs.History.{FitAll, follow_all, no_entries}
 use Rattle.hs_fold.specs.Shards.Setting.{Setting}
 use Rattle.hs_joint.specs.Along.{KeepFewRecords}
-use Rattle.hs_stops.specs.Lists.{Lists, settled_catalogues}
+use Rattle.hs_standing.specs.Lists.{Lists, settled_catalogues}
 
 -- these folds are what took effect of the lists, and a lawful history gives them, in which the numbers of each shard ascend, up to its front at most
 pub record AreSettled (set : Setting) (lists : Lists) (cs : List Folded) : Type 0 where

@@ -1,6 +1,6 @@
 -- A whole of one copy a shard that stands between two events, and events by which it goes on.
 use Rattle.std.specs.Prelude.{◌≡◌, ℕ, ◌++◌, ◌<◌, ◌≤◌, List, [], ◌∷◌, Some, None, IsSome, slice_get}
-use Rattle.hs_along.specs.Walks.{HasRecordRoom}
+use Rattle.hs_standing.specs.Walks.{HasRecordRoom}
 use Rattle.hs_answered.specs.Standing.{IsFolded, store_with}
 use Rattle.hs_answered.specs.Telling.{Judging, Tells}
 use Rattle.hs_core.specs.declared.event.Event.{Event}
@@ -21,8 +21,8 @@ use Rattle.hs_fold.specs.Shards.Sound.{HasRisingViews}
 use Rattle.hs_journal.specs.Events.{client_op}
 use Rattle.hs_moments.specs.WholeMachine.{whole_machine}
 use Rattle.hs_standing.specs.Settled.{AreSettled}
-use Rattle.hs_stops.specs.Stands.{lists_of}
-use Rattle.hs_stops.specs.Start.{Start}
+use Rattle.hs_standing.specs.Stands.{lists_of}
+use Rattle.hs_standing.specs.Start.{Start}
 use Rattle.hs_told.specs.InTurn.{IsInTurn, MayCome}
 use Rattle.hs_waiting.specs.Waits.{EntryWaits}
 

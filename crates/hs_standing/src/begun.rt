@@ -9,7 +9,7 @@ ghost use Rattle.hs_events.specs.Due.{Events};
 ghost use Rattle.hs_fold.specs.Shards.Images.{Stop};
 ghost use Rattle.hs_model.specs.declared.course.CourseItem.{CourseItem};
 ghost use Rattle.hs_standing.specs.Standing.{AreBegun};
-ghost use Rattle.hs_stops.specs.Start.{Start};
+ghost use Rattle.hs_standing.specs.Start.{Start};
 ghost use Rattle.hs_told.specs.InTurn.{AllMayCome, MayCome};
 
 /// Where each client's line up to the last one was begun below the moment of a stop, so it is behind an

@@ -3,7 +3,7 @@ ghost use Rattle.hs_events.specs.Found.{Found, first_core};
 ghost use Rattle.hs_events.specs.Whole.{open_whole};
 ghost use Rattle.hs_standing.specs.Opening.{OpensWell, opened_folds};
 ghost use Rattle.hs_standing.specs.Standing.{CoreStands, WholeStands};
-ghost use Rattle.hs_stops.specs.Start.{Start};
+ghost use Rattle.hs_standing.specs.Start.{Start};
 
 use hs_told::answers_stay_in_order;
 

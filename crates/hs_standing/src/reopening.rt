@@ -8,8 +8,8 @@ ghost use Rattle.hs_limits.specs.Shape.{IsShape};
 ghost use Rattle.hs_moments.specs.Joint.{AtMoment};
 ghost use Rattle.hs_moments.specs.WholeMachine.{IsFrontOf, last_of, whole_machine};
 ghost use Rattle.hs_standing.specs.Standing.{AreBegun, IsStateAt, WholeStands};
-ghost use Rattle.hs_stops.specs.Reopens.{Reopens};
-ghost use Rattle.hs_stops.specs.Start.{Start};
+ghost use Rattle.hs_standing.specs.Reopens.{Reopens};
+ghost use Rattle.hs_standing.specs.Start.{Start};
 
 use hs_effects::no_line_waits_twice;
 

@@ -14,9 +14,9 @@ ghost use Rattle.hs_moments.specs.Machine.{runs, state_at};
 ghost use Rattle.hs_moments.specs.WholeMachine.{IsFrontOf, last_of, whole_machine};
 ghost use Rattle.hs_standing.specs.Run.{IsRunning, MayRun, RunOpens};
 ghost use Rattle.hs_standing.specs.Standing.{AllMayKeep, AreBegun, IsStateAt};
-ghost use Rattle.hs_stops.specs.Reopens.{Reopens};
-ghost use Rattle.hs_stops.specs.Stands.{StandsWhereGood};
-ghost use Rattle.hs_stops.specs.Start.{Start};
+ghost use Rattle.hs_standing.specs.Reopens.{Reopens};
+ghost use Rattle.hs_standing.specs.Stands.{StandsWhereGood};
+ghost use Rattle.hs_standing.specs.Start.{Start};
 
 use hs_answered::{
     a_read_is_the_judges, a_step_that_answers_is_the_judges, a_write_is_the_judges,

@@ -3,8 +3,8 @@ ghost use Rattle.hs_events.specs.Whole.{Whole};
 ghost use Rattle.hs_fold.specs.Shards.Images.{Stop};
 ghost use Rattle.hs_moments.specs.WholeMachine.{whole_machine};
 ghost use Rattle.hs_standing.specs.Standing.{AreBegun, WholeStands};
-ghost use Rattle.hs_stops.specs.Stands.{Stands};
-ghost use Rattle.hs_stops.specs.Start.{Start};
+ghost use Rattle.hs_standing.specs.Stands.{Stands};
+ghost use Rattle.hs_standing.specs.Start.{Start};
 
 use hs_effects::no_line_waits_twice;
 

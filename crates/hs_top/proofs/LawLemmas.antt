@@ -1,13 +1,13 @@
 -- The laws by which a run keeps what is promised of it, as calls of them ensure them.
 use Rattle.std.specs.Prelude.{All, IfSome, None, Option, Some, [], false, true, ℕ, ◌++◌, ◌+◌, ◌<◌, ◌≡◌, ◌≤◌, Bool, List}
-use Rattle.hs_answers.specs.Answered.{KeepsRecordRoom}
-use Rattle.hs_causes.specs.Printing.{FailsInOpening, FailsInText, LeavesUnread}
+use Rattle.hs_standing.specs.Answered.{KeepsRecordRoom}
+use Rattle.hs_settled.specs.Printing.{FailsInOpening, FailsInText, LeavesUnread}
 use Rattle.hs_clauses.specs.Asked.{start_of}
 use Rattle.hs_clauses.specs.Shown.{IsShown, IsToldRun, OnDisks}
 use Rattle.hs_cluster.specs.Kept.{AreStored, AreTold}
 use Rattle.hs_desk.specs.declared.fault.CoreFault.{CoreFault}
-use Rattle.hs_ends.specs.Calm.{AreLed, whole_of}
-use Rattle.hs_ends.specs.Ending.{HasItsCause, TellsAsPromised}
+use Rattle.hs_settled.specs.Calm.{AreLed, whole_of}
+use Rattle.hs_settled.specs.Ending.{HasItsCause, TellsAsPromised}
 use Rattle.hs_events.specs.Course.{steps}
 use Rattle.hs_events.specs.Due.{Events, MomentsRise, is_walk, next_due}
 use Rattle.hs_events.specs.Beginning.{first_items}
@@ -23,8 +23,8 @@ use Rattle.hs_journal.specs.Order.{IsOrdered}
 use Rattle.hs_journal.specs.Telling.{AreDated}
 use Rattle.hs_laws.specs.Valid.{IsValid}
 use Rattle.hs_limits.specs.Shape.{IsShape}
-use Rattle.hs_lines.specs.Script.{AreLines}
-use Rattle.hs_lines.specs.Script.{all_events as lines_events}
+use Rattle.hs_standing.specs.Script.{AreLines}
+use Rattle.hs_standing.specs.Script.{all_events as lines_events}
 use Rattle.hs_ports.specs.Fault.{HasRisen}
 use Rattle.hs_ports.specs.Objects.{faults_at}
 use Rattle.hs_promise.specs.Answers.{Answers, BeganNothing, IsEntry}
@@ -42,12 +42,12 @@ use Rattle.hs_promise.specs.Run.{DiskRose, Ran, Script}
 use Rattle.hs_promise.specs.Stops.{Stops}
 use Rattle.hs_promise.specs.Story.{Story, all_events}
 use Rattle.hs_promise.specs.Untold.{NoneFails}
-use Rattle.hs_reads.specs.Run.{script_of}
+use Rattle.hs_clauses.specs.Run.{script_of}
 use Rattle.hs_script.specs.Reading.{commands}
 use Rattle.hs_side.specs.declared.header.Header.{Header}
 use Rattle.hs_standing.specs.Run.{MayRun, RunOpens}
 use Rattle.hs_standing.specs.Standing.{AllMayKeep}
-use Rattle.hs_stops.specs.Start.{Start}
+use Rattle.hs_standing.specs.Start.{Start}
 
 -- what a peer is to read is in what is sealed of its list
 abbrev pub StoresBlocks : Type 0

@@ -1,7 +1,7 @@
 -- Why peers are set aside, and that the count of each disk rose by all failures that its reports tell.
 use Rattle.std.proofs.Common.{◌≡◌, ◌∙◌, ◌⊎◌, inl, inr, ap, sym, subst, ℕ, ◌+◌, ◌*◌, ◌<◌, ◌++◌, ◌&&◌, not, List, [], Option, Some, None, false, true, refl, length, arith}
 use Rattle.std.specs.Prelude.{IsSome, slice_index_or}
-use Rattle.hs_answers.specs.Answered.{KeepsRecordRoom}
+use Rattle.hs_standing.specs.Answered.{KeepsRecordRoom}
 use Rattle.hs_clauses.proofs.LineLemmas.{flat_same, joined, opening_due}
 use Rattle.hs_clauses.proofs.ListLemmas.{log_counts}
 use Rattle.hs_clauses.proofs.RoomLemmas.{keeps_room}
@@ -17,7 +17,7 @@ use Rattle.hs_fold.specs.Shards.Course.{begins}
 use Rattle.hs_fold.specs.Shards.Setting.{Numbered}
 use Rattle.hs_journal.specs.declared.entry.JournalEntry.{JournalEntry}
 use Rattle.hs_journal.specs.Notes.{is_first_noted}
-use Rattle.hs_lines.specs.Script.{all_events as lines_events}
+use Rattle.hs_standing.specs.Script.{all_events as lines_events}
 use Rattle.hs_ports.specs.Moments.{disk_at}
 use Rattle.hs_promise.specs.Ending.{ending_of}
 use Rattle.hs_promise.specs.Entry.{IsSoundAtEntry, is_aside}

@@ -2,15 +2,15 @@
 use Rattle.std.proofs.Common.{◌≡◌, ◌∙◌, ap, refl, true, ℕ, ◌*◌, ◌<◌, ◌++◌, arith, List, Option, Some, None, length}
 use Rattle.std.proofs.lemmas.Bool.{false≢true}
 use Rattle.std.specs.Prelude.{IfSome, IsSome}
-use Rattle.hs_causes.specs.Printing.{FailsInOpening, FailsInText, LeavesUnread}
+use Rattle.hs_settled.specs.Printing.{FailsInOpening, FailsInText, LeavesUnread}
 use Rattle.hs_clauses.proofs.FoundLemmas.{opens_good}
 use Rattle.hs_clauses.proofs.ShownLemmas.{shown_of, unopened_of}
 use Rattle.hs_clauses.specs.Shown.{IsToldRun, OnDisks, ShownAs}
 use Rattle.hs_desk.specs.declared.fault.CoreFault.{CoreFault}
-use Rattle.hs_ends.specs.Calm.{AreLed, whole_of}
-use Rattle.hs_ends.specs.Ending.{HasItsCause, TellsAsPromised}
+use Rattle.hs_settled.specs.Calm.{AreLed, whole_of}
+use Rattle.hs_settled.specs.Ending.{HasItsCause, TellsAsPromised}
 use Rattle.hs_events.specs.Found.{first_core, starts_good}
-use Rattle.hs_held.specs.Held.{GivesAddresses}
+use Rattle.hs_standing.specs.Held.{GivesAddresses}
 use Rattle.hs_journal.specs.Events.{client_op}
 use Rattle.hs_model.specs.declared.command.Command.{Command}
 use Rattle.hs_promise.specs.Answers.{Prints}

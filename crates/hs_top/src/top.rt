@@ -6,20 +6,19 @@ ghost use Rattle.hs_top.specs.Calls.{IsCalled};
 ghost use Rattle.hs_top.specs.Words.{is_load};
 
 use hs_block::Addresser;
-use hs_causes::{
-    a_journal_is_in_order, a_note_ends_the_run, a_peer_is_good_until_it_is_told,
-    a_prompt_line_has_its_entry, a_run_without_a_course_began_nothing,
-    a_run_without_a_course_has_its_cause, each_entry_stands_for_its_cause, each_note_has_its_cause,
-    each_status_has_its_cause, notes_have_their_line,
+use hs_clauses::{
+    a_run_is_answered, a_run_keeps, a_run_may_stop, a_run_stands, each_report_tells_its_block,
 };
-use hs_clauses::{a_run_is_answered, a_run_keeps, a_run_may_stop, a_run_stands};
-use hs_deletes::a_run_deletes_as_promised;
-use hs_ends::{a_calm_run_ends_well, a_full_journal_deletes_as_promised, shard_0_is_led_by_lines};
 use hs_ports::{Disk, Sink, Source, Watch};
 use hs_promise::Outcome;
-use hs_reads::each_report_tells_its_block;
 use hs_run::run_on_cluster;
-use hs_settled::each_settle_settles;
+use hs_settled::{
+    a_calm_run_ends_well, a_full_journal_deletes_as_promised, a_journal_is_in_order,
+    a_note_ends_the_run, a_peer_is_good_until_it_is_told, a_prompt_line_has_its_entry,
+    a_run_deletes_as_promised, a_run_without_a_course_began_nothing,
+    a_run_without_a_course_has_its_cause, each_entry_stands_for_its_cause, each_note_has_its_cause,
+    each_settle_settles, each_status_has_its_cause, notes_have_their_line, shard_0_is_led_by_lines,
+};
 use std::alloc::Global;
 use std::sync::Wait;
 use std::thread::Threads;

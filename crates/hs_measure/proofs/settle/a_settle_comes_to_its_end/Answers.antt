@@ -4,7 +4,7 @@ use Rattle.hs_measure.proofs.LowersLemmas.{wanted}
 use Rattle.hs_measure.proofs.settle.a_settle_comes_to_its_end.Goals as goal
 use Rattle.hs_measure.proofs.WantedLemmas.{Moving, settle_ends, walk_ends}
 use Rattle.hs_settled.proofs.EndLemmas.{all_begin, same_steps}
-use Rattle.hs_deletes.proofs.RunLemmas.{Running}
+use Rattle.hs_settled.proofs.DeletesRunLemmas.{Running}
 
 pub returns-clause-settle : goal.returns-clause-settle
 returns-clause-settle c = λ start found before events line whole opens bounded may due.

@@ -1,4 +1,4 @@
-use Rattle.hs_deletes.proofs.RunLemmas.{Running}
+use Rattle.hs_settled.proofs.DeletesRunLemmas.{Running}
 use Rattle.hs_settled.proofs.AnsweredLemmas.{ends, rests}
 use Rattle.hs_settled.proofs.EndLemmas.{Going}
 use Rattle.hs_settled.proofs.rest.a_settle_comes_to_rest.Goals as goal

@@ -1,4 +1,4 @@
-use Rattle.hs_deletes.proofs.RunLemmas.{Running}
+use Rattle.hs_settled.proofs.DeletesRunLemmas.{Running}
 use Rattle.hs_settled.proofs.AnsweredLemmas.{quiet_settles}
 use Rattle.hs_settled.proofs.EndLemmas.{Going}
 use Rattle.hs_settled.proofs.QuietLemmas.{Below}

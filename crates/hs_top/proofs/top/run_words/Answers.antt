@@ -1,6 +1,6 @@
 use Rattle.std.proofs.Common.{sym, subst, ℕ, List, map, length}
 use Rattle.std.specs.Prelude.{string_bytes}
-use Rattle.hs_held.specs.Held.{GivesAddresses}
+use Rattle.hs_standing.specs.Held.{GivesAddresses}
 use Rattle.hs_limits.specs.declared.address.Address.{Address}
 use Rattle.hs_ports.specs.Objects.{Objects, handed}
 use Rattle.hs_promise.specs.Run.{ran_of}

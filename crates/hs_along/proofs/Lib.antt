@@ -1,9 +1,0 @@
-pub mod AloneLemmas
-pub mod BesideLemmas
-pub mod CommitLemmas
-pub mod GrownLemmas
-pub mod IdleLemmas
-pub mod OpenLemmas
-pub mod RecordLemmas
-pub mod ReportLemmas
-pub mod WalkLemmas

@@ -1,5 +1,0 @@
-use Rattle.hs_along.proofs.OpenLemmas.{opens_core}
-use Rattle.hs_along.proofs.walk.opening_keeps_it.Goals as goal
-
-pub returns : goal.returns
-returns c = λ name tests shape limits found moment kept holds. opens_core kept shape limits found moment holds

@@ -1,2 +1,0 @@
-pub mod AddressedLemmas
-pub mod ReadyLemmas

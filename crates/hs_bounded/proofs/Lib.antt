@@ -1,4 +1,0 @@
-pub mod EndLemmas
-pub mod LimitLemmas
-pub mod LowLemmas
-pub mod MachineLemmas

@@ -1,8 +1,0 @@
-use Rattle.hs_causes.proofs.good.a_peer_is_good_until_it_is_told.Goals as goal
-use Rattle.hs_causes.proofs.UntoldLemmas.{all_start_good, good_untold}
-
-pub returns-clause-opens : goal.returns-clause-opens
-returns-clause-opens c = λ S r story one went past peer low. all_start_good S r story went one past peer low
-
-pub returns-clause-stays : goal.returns-clause-stays
-returns-clause-stays c = λ S r story one went past m peer low begins untold none. good_untold S r story went one past m peer low begins untold none

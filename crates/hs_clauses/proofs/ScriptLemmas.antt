@@ -1,0 +1,129 @@
+-- The events of a script come: those that are due for opening, and those of its lines.
+use Rattle.std.proofs.Common.{◌≡◌, sym, subst, ℕ, ◌≤◌, ◌++◌, Bool, true, List, [], ◌∷◌, Option, Some, None, refl, arith}
+use Rattle.hs_answered.specs.Telling.{Judging}
+use Rattle.hs_standing.proofs.AddressedLemmas.{AllAddressed, LinesAsk, lines_addressed, settle_addressed}
+use Rattle.hs_standing.specs.Answered.{KeepsRecordRoom, TellTheirBlocks}
+use Rattle.hs_cluster.specs.Kept.{AreStored, AreTold}
+use Rattle.hs_core.specs.declared.event.Event.{Event}
+use Rattle.hs_core.specs.Opening.{new_core}
+use Rattle.hs_core.specs.State.{Core}
+use Rattle.hs_core.specs.Step.{step}
+use Rattle.hs_desk.specs.declared.fault.CoreFault.{CoreFault}
+use Rattle.hs_effects.specs.Logged.{MayBeginAll}
+use Rattle.hs_events.proofs.GoingLemmas.{step_goes}
+use Rattle.hs_events.specs.Course.{steps}
+use Rattle.hs_events.specs.Due.{Events, MomentsRise, is_walk, next_due}
+use Rattle.hs_events.specs.Found.{Found, first_core, opens_with}
+use Rattle.hs_events.specs.Whole.{open_whole}
+use Rattle.hs_journal.specs.Events.{client_op}
+use Rattle.hs_limits.specs.declared.address.Address.{Address}
+use Rattle.hs_standing.proofs.LinesStepLemmas.{step_ended}
+use Rattle.hs_standing.specs.Script.{AreLines, IsNext, Script, all_events}
+use Rattle.hs_model.specs.declared.command.Command.{Command}
+use Rattle.hs_clauses.proofs.ReadsFirstLemmas.{Stays, opens_first}
+use Rattle.hs_clauses.proofs.RunLemmas.{all_stored, all_tell, reads_open}
+use Rattle.hs_clauses.specs.Along.{AllCome}
+use Rattle.hs_clauses.specs.Run.{IsReading, script_of}
+use Rattle.hs_standing.proofs.RunLemmas.{LawsBelow}
+use Rattle.hs_standing.specs.Run.{RunOpens}
+use Rattle.hs_standing.specs.Standing.{judging_of}
+use Rattle.hs_standing.specs.Start.{Start}
+use Rattle.hs_told.specs.InTurn.{AllMayCome, IsInTurn, after_all}
+
+-- the laws below, in one place
+pub record ScriptLaws : Type 0 where
+  pub opening : (commands : ℕ → Option Command) (whole : Bool) (core : Core) (es : Events) (to : ℕ) → client_op (commands 0) ≡ None → core.event_line ≡ 0 → MomentsRise core.moment es to → is_walk next_due whole 0 core es ≡ true → AllMayCome commands core es
+  pub first : (commands : ℕ → Option Command) (whole : Bool) (core : Core) (es : Events) → client_op (commands 0) ≡ None → core.event_line ≡ 0 → is_walk next_due whole 0 core es ≡ true → IsNext commands (steps core es) 1
+  pub lines : (s : Script) (line : ℕ) (core : Core) (lines : List Events) (to : ℕ) → IsNext s.commands core line → MomentsRise core.moment (all_events lines) to → AreLines s line core lines → AllMayCome s.commands core (all_events lines)
+  pub opening_new : (name : List ℕ → Address) (whole : Bool) (core : Core) (es : Events) → is_walk next_due whole 0 core es ≡ true → MayBeginAll name es core
+  pub lines_new : (s : Script) (line : ℕ) (core : Core) (lines : List Events) (to : ℕ) → IsInTurn s.commands core → IsNext s.commands core line → MomentsRise core.moment (all_events lines) to → AreLines s line core lines → MayBeginAll s.name (all_events lines) core
+  pub turns : (commands : ℕ → Option Command) (core : Core) (es : List (Event × ℕ)) → IsInTurn commands core → AllMayCome commands core es → IsInTurn commands (after_all core es)
+  pub asks : (by : Judging) → LinesAsk by
+
+-- ---- moments, of a front and of the rest
+
+rises_low : (from to : ℕ) (es : Events) → MomentsRise from es to → from ≤ to
+rises_low from to [] h = h
+rises_low from to (e ∷ es) h = let first = h.0 in let later = rises_low e.1 to es h.1 in omega (arith, first, later)
+
+rises_front : (from to : ℕ) (es fs : Events) → MomentsRise from (es ++ fs) to → MomentsRise from es to
+rises_front from to [] fs h = rises_low from to fs h
+rises_front from to (e ∷ es) fs h = (h.0, rises_front e.1 to es fs h.1)
+
+rises_below : (low from to : ℕ) (es : Events) → low ≤ from → MomentsRise from es to → MomentsRise low es to
+rises_below low from to [] below h = let up = h in omega (arith, below, up)
+rises_below low from to (e ∷ es) below h = let first = h.0 in (omega (arith, below, first), h.1)
+
+-- a core is no later than its last event
+step_by : (core : Core) (e : Event) (at : ℕ) → core.moment ≤ at → (step e at core).moment ≤ at
+step_by core e at low = by core.ended refl
+  where
+    by : (o : Option CoreFault) → core.ended ≡ o → (step e at core).moment ≤ at
+    by None going = let is : (step e at core).moment ≡ at = (step_goes e at core going).moment in omega (arith, is)
+    by (Some fault) h = subst (λ (c : Core). c.moment ≤ at) (sym (step_ended e at core fault h)) low
+
+rises_rest : (core : Core) (from to : ℕ) (es fs : Events) → core.moment ≤ from → MomentsRise from (es ++ fs) to → MomentsRise (steps core es).moment fs to
+rises_rest core from to [] fs low h = rises_below core.moment from to fs low h
+rises_rest core from to (e ∷ es) fs low h =
+    let first = h.0 in
+    rises_rest (step e.0 e.1 core) e.1 to es fs (step_by core e.0 e.1 (omega (arith, low, first))) h.1
+
+-- ---- events that come
+
+all_come : (by : Judging) (core : Core) (es : Events) → AllMayCome by.commands core es → MayBeginAll by.name es core → AllAddressed by es core → AllCome by core es
+all_come by core [] may new addressed = tt
+all_come by core (e ∷ es) may new addressed = (
+  λ going. record { may = may.0 going; begins = new.0; addressed = addressed.0 },
+  all_come by (step e.0 e.1 core) es may.1 new.1 addressed.1,
+)
+
+come_append : (by : Judging) (core : Core) (es fs : Events) → AllCome by core es → AllCome by (steps core es) fs → AllCome by core (es ++ fs)
+come_append by core [] fs one two = two
+come_append by core (e ∷ es) fs one two = (one.0, come_append by (step e.0 e.1 core) es fs one.1 two)
+
+same_steps : (core : Core) (es : Events) → after_all core es ≡ steps core es
+same_steps core [] = refl
+same_steps core (e ∷ es) = same_steps (step e.0 e.1 core) es
+
+pub script_comes : (laws : ScriptLaws) (start : Start) (past done : Bool) (core : Core) (opening : Events) (lines : List Events) (to : ℕ) → client_op (start.commands 0) ≡ None → core.event_line ≡ 0 → IsInTurn start.commands core
+    → MomentsRise core.moment (opening ++ all_events lines) to → is_walk next_due done 0 core opening ≡ true → AreLines (script_of start past) 1 (steps core opening) lines → AllCome (judging_of start) core (opening ++ all_events lines)
+script_comes laws start past done core opening lines to nobody none turn rise walks are =
+    come_append (judging_of start) core opening (all_events lines)
+    (all_come (judging_of start) core opening may (laws.opening_new start.set.name done core opening walks) (settle_addressed (judging_of start) done 0 core opening walks))
+    (all_come (judging_of start) (steps core opening) (all_events lines) (laws.lines (script_of start past) 1 (steps core opening) lines to next rest are) new
+    (lines_addressed (script_of start past) start.set.limits (laws.asks (judging_of start)) 1 (steps core opening) lines next new are))
+  where
+    may : AllMayCome start.commands core opening
+    may = laws.opening start.commands done core opening to nobody none (rises_front core.moment to opening (all_events lines) rise) walks
+
+    next : IsNext start.commands (steps core opening) 1
+    next = laws.first start.commands done core opening nobody none walks
+
+    rest : MomentsRise (steps core opening).moment (all_events lines) to
+    rest = rises_rest core core.moment to opening (all_events lines) (omega arith) rise
+
+    new : MayBeginAll start.set.name (all_events lines) (steps core opening)
+    new = laws.lines_new (script_of start past) 1 (steps core opening) lines to
+        (subst (λ (d : Core). IsInTurn start.commands d) (same_steps core opening) (laws.turns start.commands core opening turn may)) next rest are
+
+-- ---- a script's run, from opening on
+
+module _ (below : LawsBelow) (laws : ScriptLaws) (start : Start) (found : Found) (o : RunOpens start found) (past done : Bool) (opening : Events) (lines : List Events) (to : ℕ)
+    (rise : MomentsRise found.opened (opening ++ all_events lines) to) (walks : is_walk next_due done 0 (first_core start.set found) opening ≡ true)
+    (are : AreLines (script_of start past) 1 (steps (first_core start.set found) opening) lines) where
+  opened : IsReading start (open_whole start.set found)
+  opened = reads_open below start found o
+
+  come : AllCome (judging_of start) (first_core start.set found) (opening ++ all_events lines)
+  come =
+      let first : Stays (new_core start.set.shape start.set.limits (opens_with start.set found) found.opened) (first_core start.set found) = opens_first start.set.shape start.set.limits (opens_with start.set found) found.opened in
+      script_comes laws start past done (first_core start.set found) opening lines to o.well.nobody first.event_line opened.stands.whole.turn
+      (subst (λ (m : ℕ). MomentsRise m (opening ++ all_events lines) to) (sym first.moment) rise) walks are
+
+  pub script_tells : KeepsRecordRoom (first_core start.set found) (opening ++ all_events lines) → AreTold (open_whole start.set found) (opening ++ all_events lines)
+      → TellTheirBlocks (judging_of start) start.entry (first_core start.set found) (opening ++ all_events lines)
+  script_tells room told = all_tell below start (open_whole start.set found) (opening ++ all_events lines) opened come room told
+
+  pub script_stored : KeepsRecordRoom (first_core start.set found) (opening ++ all_events lines) → AreTold (open_whole start.set found) (opening ++ all_events lines)
+      → AreStored (open_whole start.set found) (opening ++ all_events lines)
+  script_stored room told = all_stored below start (open_whole start.set found) (opening ++ all_events lines) opened come room told

@@ -1,5 +1,0 @@
-use Rattle.hs_ends.proofs.EndLemmas.{ends_well}
-use Rattle.hs_ends.proofs.ending.a_calm_run_ends_well.Goals as goal
-
-pub returns : goal.returns
-returns c = λ S r script left says its ends told may. ends_well c.a_calm_journal_is_short.ensures S r script left says its ends told may

@@ -1,8 +1,0 @@
--- Changes beside what is counted at most.
-use Rattle.std.proofs.Common.{◌≡◌}
-use Rattle.hs_core.specs.State.{Core}
-use Rattle.hs_finite.specs.Measure.{reports_most}
-use Rattle.hs_measure.proofs.DueLemmas.{IsAlike}
-
-pub alike_left : (a b : Core) → IsAlike a b → reports_most b ≡ reports_most a
-alike_left a b like = λ i. reports_most (record a { members = like.members i; catalogues = like.catalogues i; groups = like.groups i; tasks = like.tasks i; operations = like.operations i })

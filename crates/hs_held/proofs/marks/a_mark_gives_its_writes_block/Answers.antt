@@ -1,5 +1,0 @@
-use Rattle.hs_held.proofs.ToldLemmas.{is_written}
-use Rattle.hs_held.proofs.marks.a_mark_gives_its_writes_block.Goals as goal
-
-pub returns : goal.returns
-returns c = λ name cs core folded order its shard number line least block a low leads did. is_written name cs core folded order its shard number line least block a low leads did

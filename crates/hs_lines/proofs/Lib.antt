@@ -1,4 +1,0 @@
-pub mod DueLemmas
-pub mod LineLemmas
-pub mod NewLemmas
-pub mod StepLemmas

@@ -1,0 +1,406 @@
+-- An Enter takes effect: no more reports are left than before.
+use Rattle.std.proofs.Common.{◌≡◌, ◌∙◌, sym, ap, subst, refl, ◌⊎◌, inl, inr, ℕ, suc, ◌+◌, ◌*◌, ◌<◌, ◌≤◌, ◌==◌, ◌&&◌, Bool, true, false, cond, not, List, Option, Some, None, arith, is_some, length, slice_get, slice_index}
+use Rattle.std.proofs.lemmas.Bool.{and_parts, eq-eqb, eqb-true, ltb-false, ne_eqb}
+use Rattle.std.proofs.lemmas.List.{length-set}
+use Rattle.std.specs.List.{list_any}
+use Rattle.std.specs.Prelude.{if◌then◌else◌}
+use Rattle.hs_standing.specs.Changes.{told_at_once}
+use Rattle.hs_core.specs.declared.waiting.Waiting.{Waiting}
+use Rattle.hs_core.specs.Effects.{note_enter, tell_operation}
+use Rattle.hs_core.specs.Entering.{enters, has_begun, is_enter_due}
+use Rattle.hs_core.specs.Looking.{catalogue_of, front_of, group_of, operation_of, shape_of}
+use Rattle.hs_core.specs.State.{Core}
+use Rattle.hs_desk.specs.declared.what.What.{What}
+use Rattle.hs_desk.specs.declared.what.What.TheVariants as what
+use Rattle.hs_effects.proofs.EndingLemmas.{enter_did}
+use Rattle.hs_effects.proofs.LookLemmas.{one_or_other}
+use Rattle.hs_effects.specs.Logged.{HasAsked, asked_by}
+use Rattle.hs_effects.specs.Taking.{done_by, taken}
+use Rattle.hs_entry.specs.declared.entry.Entry.{Entry}
+use Rattle.hs_entry.specs.declared.entry.Entry.TheVariants as kind
+use Rattle.hs_limits.specs.declared.address.Address.{Address}
+use Rattle.hs_limits.specs.declared.limits.TheConstants.{LAST_EPOCH}
+use Rattle.hs_measure.proofs.FoundCore.{most_in}
+use Rattle.hs_measure.proofs.FoundEntries.{enters_fewer}
+use Rattle.hs_measure.proofs.FallsClient.{apart_bools, held, lists_le, next_step, refused_cheap, step_is, unsure_cheap, v}
+use Rattle.hs_measure.proofs.FallsCounts.{sweeps_le, sweeps_less}
+use Rattle.hs_measure.proofs.LowersCounts.{is_own, product_falls, product_less}
+use Rattle.hs_measure.proofs.FallsEffect.{answered_counts, kept_counts}
+use Rattle.hs_measure.proofs.LowersFresh.{delete_idle}
+use Rattle.hs_measure.proofs.FallsSlots.{news_most}
+use Rattle.hs_measure.proofs.LowersParts.{due_by, dues_le, dues_most}
+use Rattle.hs_measure.proofs.LowersRounds.{KeepsNumbers, advance_numbers, each_numbers}
+use Rattle.hs_measure.proofs.FallsStand.{Next, Stand, beside_it, enter_low, enter_op, first_is, first_swept, room_here, so_far, steps_then, swept_low, swept_then}
+use Rattle.hs_measure.proofs.LowersSteps.{cost}
+use Rattle.hs_measure.proofs.FallsTaken.{deletion_falls, news_quiet, quiet_counts}
+use Rattle.hs_measure.proofs.LowersTaken.{all_bumped, all_same, any_all, as_much, asks_taken, catalogue_here, catalogue_other, catalogues_by, due_same, gots_le, group_other, way_same}
+use Rattle.hs_measure.proofs.LowersWays.{HasSameNumbers}
+use Rattle.hs_measure.proofs.StepLemmas.{mul_le}
+use Rattle.hs_measure.specs.Finite.{reports_most, rounds_left, slots_of, sweeps_to_come}
+use Rattle.hs_measure.specs.Measure.{asks_of, dues_of, gots_of, jobs_of, way_left, ways_left}
+use Rattle.hs_model.specs.declared.op.Op.{Op}
+use Rattle.hs_model.specs.declared.op.Op.TheVariants as op
+use Rattle.hs_model.specs.declared.reply.Reply.TheVariants as reply
+use Rattle.hs_ops.specs.Refusals.{refusal_of}
+use Rattle.hs_ops.specs.Speaking.{judging_shard}
+use Rattle.hs_ops.specs.Views.{OpView}
+use Rattle.hs_replica.specs.Group.{Group}
+use Rattle.hs_shard.specs.Clients.{Applied, only}
+use Rattle.hs_shard.specs.declared.facts.Facts.{Facts}
+use Rattle.hs_shard.specs.Facts.{Catalogue, number_at}
+use Rattle.hs_shard.specs.Rounds.{advanced, count_block, entered, is_new, may_enter}
+use Rattle.std.proofs.Math.Nat.{mul-suc}
+
+-- ---- numbers
+
+-- a shard has entered: one step of deletion pays for all rounds that may be new, and an Enter that may be due
+pub account_entered : (j n g d w p y n' g' d' w' p' y' s : ℕ) → n' ≤ n + 4 * s → g' ≤ g → d' ≤ d + 1 → w' + 3 * p' ≤ w + 3 * p → y' + (16 * s + 2) ≤ y → ((j + 4 * n') + (2 * g' + 2 * d')) + ((w' + 3 * p') + y') ≤ ((j + 4 * n) + (2 * g + 2 * d)) + ((w + 3 * p) + y)
+account_entered j n g d w p y n' g' d' w' p' y' s a b c e f = omega (arith, a, b, c, e, f)
+
+heavy_entered : (n n' d d' y y' s : ℕ) → n' ≤ n + 4 * s → d' ≤ d + 1 → y' + (16 * s + 2) ≤ y → (4 * n' + 2 * d') + y' ≤ (4 * n + 2 * d) + y
+heavy_entered n n' d d' y y' s a b c = omega (arith, a, b, c)
+
+-- a factor more
+pub pays_factor : (k x y : ℕ) → x + 1 ≤ y → k * x + k ≤ k * y
+pays_factor k x y less = subst (λ n. n ≤ k * y) (mul-suc k x) (mul_le k y (suc x) (omega (arith, less)))
+
+note_same : (shard : ℕ) (did : What) (c : Core) → reports_most (note_enter shard did c) ≡ reports_most c
+note_same shard what.Nothing c = refl
+note_same shard (what.Viewed view) c = refl
+note_same shard what.Stored c = refl
+note_same shard what.Marked c = refl
+note_same shard what.Again c = refl
+note_same shard what.Rooted c = refl
+note_same shard what.Dropped c = refl
+note_same shard (what.Entered epoch) c = refl
+note_same shard what.Refused c = refl
+
+count_number : (epoch : ℕ) (f : Facts) → (count_block epoch f).number ≡ f.number
+count_number epoch f = go (is_new epoch f)
+  where
+    go : (b : Bool) → (cond b (record f { counted = true }) f).number ≡ f.number
+    go true = refl
+    go false = refl
+
+module _ (name : List ℕ → Address) (c : Core) (its : Stand name c) (shard number line epoch : ℕ) (next : Next c shard number (kind.Enter line epoch)) where
+  abbrev entry : Entry
+  entry = kind.Enter line epoch
+
+  abbrev factor : ℕ
+  factor = 16 * (shape_of c).shards + 2
+
+  after : (catalogue_of shard c).swept ≤ (catalogue_of shard c).epoch
+  after = swept_low name c its shard number entry next
+
+  -- ---- it is refused
+
+  -- no Enter is due that was not
+  refused_dues : (done_by shard (kind.Enter line epoch) c).catalogue ≡ catalogue_of shard c → may_enter epoch (catalogue_of shard c) ≡ false → dues_of (taken shard (kind.Enter line epoch) c) ≤ dues_of c
+  refused_dues same refused = dues_le c (taken shard entry c) refl less
+    where
+      less : (k : ℕ) → is_enter_due k (taken shard (kind.Enter line epoch) c) ≡ true → is_enter_due k c ≡ true
+      less k h = by_shard (one_or_other k shard)
+        where
+          of_any : list_any (enters ((catalogue_of k c).epoch + 1)) (group_of k (taken shard (kind.Enter line epoch) c)).waiting ≡ list_any (enters ((catalogue_of k c).epoch + 1)) (group_of k c).waiting → is_enter_due k c ≡ true
+          of_any any =
+              sym (due_same name shard number entry c its.orderly its.placed next.low next.leads (ap (λ (x : Catalogue). x.run) same) (ap (λ (x : Catalogue). x.epoch) same) (ap (λ (x : Catalogue). x.swept) same) k any) ∙ h
+
+          by_test : (k ≡ shard) → (b : Bool) → (epoch == (catalogue_of shard c).epoch + 1) ≡ b → is_enter_due k c ≡ true
+          by_test is false e =
+              of_any (any_all name shard number entry c its.orderly its.placed next.low next.leads (enters ((catalogue_of k c).epoch + 1)) (ap (λ j. epoch == (catalogue_of j c).epoch + 1) is ∙ e) k)
+          by_test is true e = absurd (apart_bools (sym h ∙ idle))
+            where
+              unswept : ((catalogue_of shard c).swept == (catalogue_of shard c).epoch) ≡ false
+              unswept = sym (ap (λ b. b && (catalogue_of shard c).swept == (catalogue_of shard c).epoch) e) ∙ refused
+
+              swept_is : ((catalogue_of k (taken shard (kind.Enter line epoch) c)).swept == (catalogue_of k (taken shard (kind.Enter line epoch) c)).epoch) ≡ false
+              swept_is =
+                  (λ i. catalogues_by name shard number entry c its.orderly its.placed next.low next.leads (λ (x : Catalogue). x.swept) (ap (λ (x : Catalogue). x.swept) same) k i
+                  == catalogues_by name shard number entry c its.orderly its.placed next.low next.leads (λ (x : Catalogue). x.epoch) (ap (λ (x : Catalogue). x.epoch) same) k i)
+                  ∙ ap (λ j. (catalogue_of j c).swept == (catalogue_of j c).epoch) is ∙ unswept
+
+              none_by : (a b x : Bool) → b ≡ false → ((a && b) && x) ≡ false
+              none_by true b x e = ap (λ y. (true && y) && x) e
+              none_by false b x e = refl
+
+              idle : is_enter_due k (taken shard (kind.Enter line epoch) c) ≡ false
+              idle =
+                  none_by (not (k == 0)) ((catalogue_of k (taken shard (kind.Enter line epoch) c)).swept == (catalogue_of k (taken shard (kind.Enter line epoch) c)).epoch)
+                  (has_begun ((catalogue_of k (taken shard (kind.Enter line epoch) c)).epoch + 1) (catalogue_of k (taken shard (kind.Enter line epoch) c)).run
+                  && not (list_any (enters ((catalogue_of k (taken shard (kind.Enter line epoch) c)).epoch + 1)) (group_of k (taken shard (kind.Enter line epoch) c)).waiting)) swept_is
+
+          by_shard : (k ≡ shard) ⊎ (k ≡ shard → ⊥) → is_enter_due k c ≡ true
+          by_shard (inl is) = by_test is (epoch == (catalogue_of shard c).epoch + 1) refl
+          by_shard (inr d) = of_any (ap (λ (g : Group). list_any (enters ((catalogue_of k c).epoch + 1)) g.waiting) (group_other name shard number entry c its.orderly its.placed next.low next.leads k d))
+
+  module _ (refused : may_enter epoch (catalogue_of shard c) ≡ false) where
+    is_refused : done_by shard (kind.Enter line epoch) c ≡ only what.Refused (catalogue_of shard c)
+    is_refused = ap (λ b. cond b (advanced (entered epoch (catalogue_of shard c))) (only what.Refused (catalogue_of shard c))) refused
+
+    stays : (done_by shard (kind.Enter line epoch) c).catalogue ≡ catalogue_of shard c
+    stays = ap (λ (x : Applied). x.catalogue) is_refused
+
+    news_then : slots_of (taken shard (kind.Enter line epoch) c) ≤ slots_of c
+    news_then = news_quiet name shard number entry c its.orderly its.placed next.low next.leads (ap (λ (x : Catalogue). x.run) stays) (ap (λ (x : Catalogue). x.epoch) stays) (λ from n round. refl)
+
+    lists_then : gots_of (taken shard (kind.Enter line epoch) c) + dues_of (taken shard (kind.Enter line epoch) c) ≤ gots_of c + dues_of c
+    lists_then = lists_le (gots_of c) (gots_of (taken shard entry c)) (dues_of c) (dues_of (taken shard entry c)) 0 (gots_le name shard number entry c its.orderly its.placed next.low next.leads) (refused_dues stays refused)
+
+    -- of nobody
+    refused_own : (asked_by (kind.Enter line epoch) ≡ None) → reports_most (taken shard (kind.Enter line epoch) c) ≤ reports_most c
+    refused_own none =
+        plain (reports_most (taken shard entry c)) (reports_most c)
+        (quiet_counts name shard number entry c its.orderly its.placed next.low next.leads (ap (λ (x : Catalogue). x.epoch) stays) (ap (λ (x : Catalogue). x.swept) stays) news_then lists_then (steps_then name c its shard number entry next) 0 0
+        (padded (ways_left (taken shard entry c)) (ways_left c)
+        (all_same name shard number entry c its.orderly its.placed next.low next.leads its.owned
+        (λ l w at. way_same name shard number entry c its.orderly its.placed next.low next.leads its.owned (λ a. ap (λ (x : Catalogue). number_at a x) stays) (λ place k n is far few. ap (λ (x : Catalogue). x.epoch) stays) l w at (λ e. cc (sym none ∙ e))))))
+      where
+        padded : (x y : ℕ) → x ≤ y → x + 0 ≤ y + 0
+        padded x y h = omega (arith, h)
+
+        plain : (x y : ℕ) → x + 0 ≤ y + 0 → x ≤ y
+        plain x y h = omega (arith, h)
+
+    module _ (by : asked_by (kind.Enter line epoch) ≡ Some line) where
+      abbrev h : HasAsked name c shard (front_of shard c + 1 + 0) line (kind.Enter line epoch)
+      h = held name c its shard number line entry next by
+
+      abbrev see : OpView
+      see = v name c its shard number line entry next by
+
+      deletes : h.waiting.operation.op ≡ op.Delete
+      deletes = enter_op name c.sessions line line epoch h.waiting.operation.op h.asks
+
+      first : shard ≡ 0
+      first = sym h.judges ∙ (its.orderly.pending line h.waiting h.at).judges ∙ ap (λ (x : Op). judging_shard (shape_of c).shards c.sessions x) deletes
+
+      some : 0 < length (taken shard (kind.Enter line epoch) c).catalogues
+      some = let long = length-set c.catalogues shard (done_by shard (kind.Enter line epoch) c).catalogue in let l = its.placed.catalogues in let s = its.placed.some in omega (arith, long, l, s)
+
+      epoch_seen : slice_index see.epochs 0 ≡ (catalogue_of shard c).epoch
+      epoch_seen =
+          first_is h.waiting.shard h.waiting.operation.op (taken shard entry c) some ∙ catalogues_by name shard number entry c its.orderly its.placed next.low next.leads (λ (x : Catalogue). x.epoch) (ap (λ (x : Catalogue). x.epoch) stays) 0
+          ∙ ap (λ k. (catalogue_of k c).epoch) (sym first)
+
+      swept_seen : slice_index see.swept 0 ≡ (catalogue_of shard c).swept
+      swept_seen =
+          first_swept h.waiting.shard h.waiting.operation.op (taken shard entry c) some ∙ catalogues_by name shard number entry c its.orderly its.placed next.low next.leads (λ (x : Catalogue). x.swept) (ap (λ (x : Catalogue). x.swept) stays) 0
+          ∙ ap (λ k. (catalogue_of k c).swept) (sym first)
+
+      -- where its epoch is the next one, the run of the one before goes on
+      never : (epoch == (catalogue_of shard c).epoch + 1) ≡ true → refusal_of see h.waiting.operation.op ≡ None → ⊥
+      never next_is none =
+          let idle = delete_idle see (ap (λ (x : Op). refusal_of see x) (sym deletes) ∙ none) in
+          let low = ltb-false (slice_index see.swept 0) (slice_index see.epochs 0) idle in
+          let a = epoch_seen in
+          let b = swept_seen in
+          let c1 = after in
+          let same : (catalogue_of shard c).swept ≡ (catalogue_of shard c).epoch = level (slice_index see.swept 0) (slice_index see.epochs 0) (catalogue_of shard c).swept (catalogue_of shard c).epoch low b a c1 in
+          apart_bools (sym ((λ i. next_is i && eq-eqb (catalogue_of shard c).swept (catalogue_of shard c).epoch same i)) ∙ refused)
+        where
+          level : (s e x y : ℕ) → e ≤ s → s ≡ x → e ≡ y → x ≤ y → x ≡ y
+          level s e x y h k l m = omega (arith, h, k, l, m)
+
+      cheap : cost (next_step name c its shard number line entry next by) ≤ way_left c h.waiting
+      cheap = by_sure (epoch == (catalogue_of shard c).epoch + 1) refl
+        where
+          by_sure : (b : Bool) → (epoch == (catalogue_of shard c).epoch + 1) ≡ b → cost (next_step name c its shard number line entry next by) ≤ way_left c h.waiting
+          by_sure true e = refused_cheap name c its shard number line entry next by (ap (λ (x : Applied). x.effect.what) is_refused) (never e)
+          by_sure false e = unsure_cheap name c its shard number line entry next by e
+
+      refused_asked : reports_most (told_at_once shard (kind.Enter line epoch) c) ≤ reports_most c
+      refused_asked =
+          kept_counts name shard number entry c its.orderly its.placed next.low next.leads its.owned line by h.waiting h.at stays news_then lists_then (steps_then name c its shard number entry next) cheap
+
+  -- ---- it enters
+
+  module _ (may : may_enter epoch (catalogue_of shard c) ≡ true) where
+    news_more : slots_of (taken shard (kind.Enter line epoch) c) ≤ slots_of c + 4 * (shape_of c).shards
+    news_more =
+        news_most c (taken shard entry c) shard refl (λ k d. catalogue_other name shard number entry c its.orderly its.placed next.low next.leads k d) (λ k d. ap (λ (g : Group). g.waiting) (group_other name shard number entry c its.orderly its.placed next.low next.leads k d))
+
+    dues_more : dues_of (taken shard (kind.Enter line epoch) c) ≤ dues_of c + 1
+    dues_more =
+        dues_most c (taken shard entry c) shard refl
+        (λ k d h. sym (λ i. due_by k (catalogue_other name shard number entry c its.orderly its.placed next.low next.leads k d i) (group_other name shard number entry c its.orderly its.placed next.low next.leads k d i).waiting) ∙ h)
+
+    low_then : epoch ≤ LAST_EPOCH
+    low_then = enter_low name c its shard number entry next line epoch refl
+
+    -- one step of deletion fewer is left then
+    left_then : rounds_left (taken shard (kind.Enter line epoch) c) + 1 ≤ rounds_left c
+    left_then =
+        deletion_falls name shard number entry c its.orderly its.placed next.low next.leads
+        (enters_fewer (shape_of c) shard (most_in (shape_of c)) (beside_it name c its shard number entry next) (room_here name c its shard number entry next) epoch (catalogue_of shard c) (so_far name c its shard number entry next) low_then may)
+
+    factor_then : factor * rounds_left (taken shard (kind.Enter line epoch) c) + factor ≤ factor * rounds_left c
+    factor_then = pays_factor factor (rounds_left (taken shard entry c)) (rounds_left c) left_then
+
+    swept_after : (k : ℕ) → (catalogue_of k c).swept ≤ (catalogue_of k (taken shard (kind.Enter line epoch) c)).swept
+    swept_after = swept_then name c its shard number entry next
+
+    did : (done_by shard (kind.Enter line epoch) c).effect.what ≡ what.Entered epoch
+    did = enter_did epoch (catalogue_of shard c) ∙ ap (λ b. cond b (what.Entered epoch) what.Refused) may
+
+    -- a client's
+    entered_asked : asked_by (kind.Enter line epoch) ≡ Some line → reports_most (told_at_once shard (kind.Enter line epoch) c) ≤ reports_most c
+    entered_asked by =
+        answered_counts name shard number entry c its.orderly its.placed next.low next.leads its.owned line by h.waiting h.at (reply.Run epoch) (step_is name c its shard number line entry next by (what.Entered epoch) (reply.Run epoch) did refl) swept_after
+        (heavy_entered (slots_of c) (slots_of (taken shard entry c)) (dues_of c) (dues_of (taken shard entry c)) (factor * rounds_left c) (factor * rounds_left (taken shard entry c)) (shape_of c).shards news_more dues_more factor_then)
+      where
+        h : HasAsked name c shard (front_of shard c + 1 + 0) line (kind.Enter line epoch)
+        h = held name c its shard number line entry next by
+
+    -- its shard's
+    module _ (none : asked_by (kind.Enter line epoch) ≡ None) where
+      own_line : line ≡ 0
+      own_line = by_line (line == 0) refl none
+        where
+          by_line : (b : Bool) → (line == 0) ≡ b → (if b then None else Some line) ≡ None → line ≡ 0
+          by_line true e n = eqb-true line 0 e
+          by_line false e n = absurd (cc n)
+
+      -- the asks that are left
+      asks_then : asks_of (taken shard (kind.Enter line epoch) c) + cond (is_own shard (kind.Enter line epoch)) 1 0 ≤ asks_of c
+      asks_then = asks_taken name shard number entry c its.orderly its.placed next.low next.leads
+
+      own_at : (shard ≡ 0) → ◌≡◌ {A = ℕ} (cond (is_own shard (kind.Enter line epoch)) 1 0) 1
+      own_at is = λ i. cond (eq-eqb line 0 own_line i && eq-eqb shard 0 is i) 1 0
+
+      asks_drop : asks_of (taken shard (kind.Enter line epoch) c) ≤ asks_of c
+      asks_drop = let a = asks_then in drop_more (asks_of (taken shard entry c)) (asks_of c) (cond (is_own shard entry) 1 0) a
+        where
+          drop_more : (x y z : ℕ) → x + z ≤ y → x ≤ y
+          drop_more x y z h = omega (arith, h)
+
+      finish : ways_left (taken shard (kind.Enter line epoch) c) + 3 * (length c.operations * (sweeps_to_come (taken shard (kind.Enter line epoch) c) + asks_of (taken shard (kind.Enter line epoch) c))) ≤ ways_left c + 3 * (length c.operations * (sweeps_to_come c + asks_of c))
+          → reports_most (taken shard (kind.Enter line epoch) c) ≤ reports_most c
+      finish ways =
+          account_entered (jobs_of c) (slots_of c) (gots_of c) (dues_of c) (ways_left c) (length c.operations * (sweeps_to_come c + asks_of c)) (factor * rounds_left c)
+          (slots_of (taken shard entry c)) (gots_of (taken shard entry c)) (dues_of (taken shard entry c)) (ways_left (taken shard entry c)) (length c.operations * (sweeps_to_come (taken shard entry c) + asks_of (taken shard entry c))) (factor * rounds_left (taken shard entry c)) (shape_of c).shards
+          news_more (drop_none (gots_of (taken shard entry c)) (gots_of c) (gots_le name shard number entry c its.orderly its.placed next.low next.leads)) dues_more ways factor_then
+        where
+          drop_none : (x y : ℕ) → x + 0 ≤ y → x ≤ y
+          drop_none x y h = omega (arith, h)
+
+      -- where sweeps and asks are fewer, all may have lost what they met
+      bumped : suc (sweeps_to_come (taken shard (kind.Enter line epoch) c) + asks_of (taken shard (kind.Enter line epoch) c)) ≤ sweeps_to_come c + asks_of c → reports_most (taken shard (kind.Enter line epoch) c) ≤ reports_most c
+      bumped fewer =
+          finish
+          (sums (ways_left (taken shard entry c)) (ways_left c) (length c.operations) (length c.operations * (sweeps_to_come (taken shard entry c) + asks_of (taken shard entry c))) (length c.operations * (sweeps_to_come c + asks_of c)) (all_bumped name shard number entry c its.orderly its.placed next.low next.leads its.owned)
+          (product_falls (length c.operations) (length c.operations) (sweeps_to_come (taken shard entry c) + asks_of (taken shard entry c)) (sweeps_to_come c + asks_of c) (as_much (length c.operations) (length c.operations) refl) fewer))
+        where
+          sums : (w' w k p' p : ℕ) → w' ≤ w + 3 * k → p' + k ≤ p → w' + 3 * p' ≤ w + 3 * p
+          sums w' w k p' p h l = omega (arith, h, l)
+
+      -- the first shard's pays with its ask
+      first_own : (shard ≡ 0) → reports_most (taken shard (kind.Enter line epoch) c) ≤ reports_most c
+      first_own is = bumped (both (sweeps_to_come (taken shard entry c)) (sweeps_to_come c) (asks_of (taken shard entry c)) (asks_of c) (sweeps_le c (taken shard entry c) refl swept_after) fewer)
+        where
+          fewer : asks_of (taken shard (kind.Enter line epoch) c) + 1 ≤ asks_of c
+          fewer = subst (λ n. asks_of (taken shard entry c) + n ≤ asks_of c) (own_at is) asks_then
+
+          both : (s t x y : ℕ) → s ≤ t → x + 1 ≤ y → suc (s + x) ≤ t + y
+          both s t x y h k = omega (arith, h, k)
+
+      parts : ((epoch == (catalogue_of shard c).epoch + 1) ≡ true) × (((catalogue_of shard c).swept == (catalogue_of shard c).epoch) ≡ true)
+      parts = and_parts (epoch == (catalogue_of shard c).epoch + 1) ((catalogue_of shard c).swept == (catalogue_of shard c).epoch) may
+
+      first_part : epoch ≡ (catalogue_of shard c).epoch + 1
+      first_part = eqb-true epoch ((catalogue_of shard c).epoch + 1) parts.0
+
+      second_part : (catalogue_of shard c).swept ≡ (catalogue_of shard c).epoch
+      second_part = eqb-true (catalogue_of shard c).swept (catalogue_of shard c).epoch parts.1
+
+      is_entered : done_by shard (kind.Enter line epoch) c ≡ advanced (entered epoch (catalogue_of shard c))
+      is_entered = ap (λ b. cond b (advanced (entered epoch (catalogue_of shard c))) (only what.Refused (catalogue_of shard c))) may
+
+      -- it sweeps at once, where lists have its rounds already
+      sweeps_too : (done_by shard (kind.Enter line epoch) c).catalogue.swept ≡ epoch → reports_most (taken shard (kind.Enter line epoch) c) ≤ reports_most c
+      sweeps_too is =
+          bumped
+          (both (sweeps_to_come (taken shard entry c)) (sweeps_to_come c) (asks_of (taken shard entry c)) (asks_of c)
+          (sweeps_less c (taken shard entry c) refl swept_after shard next.low
+          (up (catalogue_of shard c).swept (catalogue_of shard c).epoch epoch (catalogue_of shard (taken shard entry c)).swept second_part first_part (ap (λ (x : Catalogue). x.swept) (catalogue_here name shard number entry c its.orderly its.placed next.low next.leads) ∙ is))
+          (below (catalogue_of shard c).swept (catalogue_of shard c).epoch epoch LAST_EPOCH second_part first_part low_then)) asks_drop)
+        where
+          up : (s e n t : ℕ) → s ≡ e → n ≡ e + 1 → t ≡ n → s < t
+          up s e n t a b d = omega (arith, a, b, d)
+
+          below : (s e n l : ℕ) → s ≡ e → n ≡ e + 1 → n ≤ l → s < l
+          below s e n l a b d = omega (arith, a, b, d)
+
+          both : (s t x y : ℕ) → suc s ≤ t → x ≤ y → suc (s + x) ≤ t + y
+          both s t x y h k = omega (arith, h, k)
+
+      -- in another shard no client's Enter waits
+      module _ (d : shard ≡ 0 → ⊥) where
+        nowhere : (place k n : ℕ) → slice_get (group_of shard c).waiting place ≡ Some (kind.Enter k n) → 1 ≤ k → ⊥
+        nowhere place k n is few =
+            let counted : asked_by (kind.Enter k n) ≡ Some k = ap (λ (b : Bool). if b then None else Some k) (ne_eqb k 0 (λ e. omega (arith, e, few))) in
+            let h = its.orderly.asked shard place k (kind.Enter k n) is counted in
+            d (sym h.judges ∙ (its.orderly.pending k h.waiting h.at).judges ∙ ap (λ (x : Op). judging_shard (shape_of c).shards c.sessions x) (enter_op name c.sessions k k n h.waiting.operation.op h.asks))
+
+        -- blocks are of the same entries
+        stays_there : HasSameNumbers (catalogue_of shard c) (done_by shard (kind.Enter line epoch) c).catalogue → reports_most (taken shard (kind.Enter line epoch) c) ≤ reports_most c
+        stays_there numbers =
+            finish
+            (sums (ways_left (taken shard entry c)) (ways_left c) (length c.operations * (sweeps_to_come (taken shard entry c) + asks_of (taken shard entry c))) (length c.operations * (sweeps_to_come c + asks_of c))
+            (all_same name shard number entry c its.orderly its.placed next.low next.leads its.owned (λ l w at. way_same name shard number entry c its.orderly its.placed next.low next.leads its.owned numbers (λ place k n is far few. absurd (nowhere place k n is few)) l w at (λ e. cc (sym none ∙ e))))
+            (product_less (length c.operations) (length c.operations) (sweeps_to_come (taken shard entry c) + asks_of (taken shard entry c)) (sweeps_to_come c + asks_of c) (as_much (length c.operations) (length c.operations) refl)
+            (both (sweeps_to_come (taken shard entry c)) (sweeps_to_come c) (asks_of (taken shard entry c)) (asks_of c) (sweeps_le c (taken shard entry c) refl swept_after) asks_drop)))
+          where
+            both : (s t x y : ℕ) → s ≤ t → x ≤ y → s + x ≤ t + y
+            both s t x y h k = omega (arith, h, k)
+
+            sums : (w' w p' p : ℕ) → w' ≤ w → p' ≤ p → w' + 3 * p' ≤ w + 3 * p
+            sums w' w p' p h l = omega (arith, h, l)
+
+        other_own : reports_most (taken shard (kind.Enter line epoch) c) ≤ reports_most c
+        other_own = by_keeps (advance_numbers (length (entered epoch (catalogue_of shard c)).catalogue.run.gots + 1) (entered epoch (catalogue_of shard c)) epoch 0 refl)
+          where
+            by_keeps : KeepsNumbers epoch (entered epoch (catalogue_of shard c)).catalogue (advanced (entered epoch (catalogue_of shard c))).catalogue → reports_most (taken shard (kind.Enter line epoch) c) ≤ reports_most c
+            by_keeps (inl same) =
+                stays_there
+                (λ a. ap (λ (x : Applied). number_at a x.catalogue) is_entered ∙ same a ∙ each_numbers (count_block epoch) (catalogue_of shard c).blocks (λ f. count_number epoch f) a)
+            by_keeps (inr is) = sweeps_too (ap (λ (x : Applied). x.catalogue.swept) is_entered ∙ is)
+
+      entered_own : reports_most (taken shard (kind.Enter line epoch) c) ≤ reports_most c
+      entered_own = by_shard (one_or_other shard 0)
+        where
+          by_shard : (shard ≡ 0) ⊎ (shard ≡ 0 → ⊥) → reports_most (taken shard (kind.Enter line epoch) c) ≤ reports_most c
+          by_shard (inl is) = first_own is
+          by_shard (inr d) = other_own d
+
+  -- ---- either
+
+  counts_own : asked_by (kind.Enter line epoch) ≡ None → reports_most (taken shard (kind.Enter line epoch) c) ≤ reports_most c
+  counts_own none = by_test (may_enter epoch (catalogue_of shard c)) refl
+    where
+      by_test : (b : Bool) → may_enter epoch (catalogue_of shard c) ≡ b → reports_most (taken shard (kind.Enter line epoch) c) ≤ reports_most c
+      by_test false e = refused_own e none
+      by_test true e = entered_own e none
+
+  counts_asked : asked_by (kind.Enter line epoch) ≡ Some line → reports_most (told_at_once shard (kind.Enter line epoch) c) ≤ reports_most c
+  counts_asked by = by_test (may_enter epoch (catalogue_of shard c)) refl
+    where
+      by_test : (b : Bool) → may_enter epoch (catalogue_of shard c) ≡ b → reports_most (told_at_once shard (kind.Enter line epoch) c) ≤ reports_most c
+      by_test false e = refused_asked e by
+      by_test true e = entered_asked e by
+
+  pub enter_counts : reports_most (told_at_once shard (kind.Enter line epoch) c) ≤ reports_most c
+  enter_counts = by_line (line == 0) refl
+    where
+      by_line : (b : Bool) → (line == 0) ≡ b → reports_most (told_at_once shard (kind.Enter line epoch) c) ≤ reports_most c
+      by_line false e = counts_asked (ap (λ (b : Bool). if b then None else Some line) e)
+      by_line true e = by_operation (operation_of line c) refl
+        where
+          did : What
+          did = (done_by shard (kind.Enter line epoch) c).effect.what
+
+          by_operation : (o : Option Waiting) → operation_of line c ≡ o → reports_most (told_at_once shard (kind.Enter line epoch) c) ≤ reports_most c
+          by_operation (Some w) at = let one = (its.orderly.pending line w at).counted in let is : line ≡ 0 = eqb-true line 0 e in absurd (omega (arith, one, is))
+          by_operation None at =
+              subst (λ n. n ≤ reports_most c)
+              (sym (ap (λ (o : Option Waiting). reports_most (cond (is_some o) (tell_operation line did (taken shard entry c)) (note_enter shard did (taken shard entry c)))) at ∙ note_same shard did (taken shard entry c)))
+              (counts_own (ap (λ (b : Bool). if b then None else Some line) e))

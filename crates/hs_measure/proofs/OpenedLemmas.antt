@@ -1,0 +1,219 @@
+-- A cluster that opens over sound lists is in a run.
+use Rattle.std.proofs.Common.{◌≡◌, ◌⊎◌, ◌∙◌, inl, inr, ap, sym, subst, ℕ, zero, suc, ◌+◌, ◌*◌, ◌<◌, ◌≤◌, ◌||◌, ◌++◌, not, Bool, true, false, List, [], Option, Some, None, refl, length, map, arith, if◌then◌else◌}
+use Rattle.std.specs.List.{AllByRecursion, list_any, range_with_len}
+use Rattle.std.specs.Prelude.{⊤, Result, Ok, unwrap_or}
+use Rattle.hs_answered.specs.Telling.{Judging}
+use Rattle.hs_standing.proofs.AddressedLemmas.{settle_addressed}
+use Rattle.hs_clauses.proofs.FirstLemmas.{opens_first}
+use Rattle.hs_clauses.proofs.LineLemmas.{opening_due}
+use Rattle.hs_clauses.proofs.ReadLemmas.{BringsAll, applied_all, from_empty, read_brings, read_from_one}
+use Rattle.hs_clauses.proofs.RoomLemmas.{first_room}
+use Rattle.hs_clauses.proofs.TakenLemmas.{list_is, peers_are}
+use Rattle.hs_cluster.proofs.OpeningMoves.{all_good}
+use Rattle.hs_cluster.specs.Calls.{ran_out}
+use Rattle.hs_cluster.specs.declared.fault.ClusterFault.{ClusterFault}
+use Rattle.hs_cluster.specs.Opens.{Opens, log_in}
+use Rattle.hs_cluster.specs.Running.{Running}
+use Rattle.hs_core.specs.Opening.{Taken, open_core}
+use Rattle.hs_core.specs.State.{Core}
+use Rattle.hs_settled.specs.Deletion.{TellsDeletion}
+use Rattle.hs_effects.specs.Logged.{MayBeginAll}
+use Rattle.hs_effects.specs.Logged.{steps as steps_so}
+use Rattle.hs_events.specs.Course.{steps}
+use Rattle.hs_events.specs.Due.{Events, MomentsRise, is_walk, next_due}
+use Rattle.hs_events.specs.Found.{Found, first_core, opened_catalogue, opened_list, opens_with, starts_good}
+use Rattle.hs_events.specs.Sane.{IsFromOne}
+use Rattle.hs_events.specs.Taken.{peer_count, taken_list}
+use Rattle.hs_events.specs.Whole.{Whole, open_whole}
+use Rattle.hs_fold.specs.Shards.Setting.{Numbered, Setting}
+use Rattle.hs_settled.specs.Moving.{IsMoving}
+use Rattle.hs_standing.specs.Held.{GivesAddresses, KeepsAddresses}
+use Rattle.hs_journal.specs.Events.{client_op}
+use Rattle.hs_limits.specs.declared.address.Address.{Address}
+use Rattle.hs_limits.specs.declared.limits.Limits.{Limits}
+use Rattle.hs_limits.specs.declared.shape.Shape.{Shape}
+use Rattle.hs_limits.specs.Shape.{IsShape}
+use Rattle.hs_standing.specs.Script.{IsNext}
+use Rattle.hs_model.specs.declared.command.Command.{Command}
+use Rattle.hs_model.specs.Store.{Store}
+use Rattle.hs_moments.specs.Machine.{runs}
+use Rattle.hs_moments.specs.WholeMachine.{whole_machine}
+use Rattle.hs_settled.specs.Noted.{IsNoted}
+use Rattle.hs_ports.specs.declared.disk.Side.{Side}
+use Rattle.hs_ports.specs.Fault.{HasRisen}
+use Rattle.hs_clauses.specs.Run.{IsReading}
+use Rattle.hs_measure.proofs.AlongLemmas.{AlongLaws, Comes, goes_on, kept, moments}
+use Rattle.hs_measure.proofs.LineLemmas.{from_ok, going_of, on_ok}
+use Rattle.hs_measure.proofs.RestLemmas.{runs_core}
+use Rattle.hs_measure.specs.Between.{IsAlong, IsInRun, KeepsOn, start_of}
+use Rattle.hs_measure.specs.Promised.{KeepsPromise}
+use Rattle.hs_settled.proofs.EndLemmas.{same_steps}
+use Rattle.hs_shard.specs.Facts.{Catalogue, empty_catalogue}
+use Rattle.hs_side.specs.Current.{list_in}
+use Rattle.hs_sound.specs.Stay.{AreSoundAlong}
+use Rattle.hs_standing.proofs.TakenLemmas.{FoldsInMemory}
+use Rattle.hs_standing.specs.Opening.{opened_lists}
+use Rattle.hs_standing.specs.Run.{RunOpens}
+use Rattle.hs_standing.specs.Standing.{judging_of}
+use Rattle.hs_standing.specs.Lists.{whole_from}
+use Rattle.hs_standing.specs.Start.{Start}
+use Rattle.hs_taking.specs.Disks.{seen_at}
+use Rattle.hs_taking.specs.Shares.{Span}
+use Rattle.hs_told.specs.InTurn.{AllMayCome}
+
+-- events keep what is open going on, as hs_settled has it
+pub moves_on : ((name : List ℕ → Address) (c : Whole) (events : Events) → IsMoving name c → MayBeginAll name events c.core → (steps_so c.core events).ended ≡ None → IsMoving name (runs whole_machine c events))
+    → (name : List ℕ → Address) (c : Whole) (events : Events) → IsMoving name c → MayBeginAll name events c.core → (steps c.core events).ended ≡ None → IsMoving name (runs whole_machine c events)
+moves_on events name c es moving fresh going = events name c es moving fresh (ap (λ (x : Core). x.ended) (same_steps c.core es) ∙ going)
+
+-- ---- the laws below, in one place
+
+pub record OpenLaws : Type 0 where
+  pub memory : FoldsInMemory
+  pub reads : (start : Start) (found : Found) → RunOpens start found → IsReading start (open_whole start.set found)
+  pub moves : (name : List ℕ → Address) (set : Setting) (found : Found) → IsShape set.shape → set.shape.copies ≡ 1 → (first_core set found).ended ≡ None → ((shard : ℕ) → shard < set.shape.shards → IsFromOne (opened_list set found shard))
+      → length found.good ≡ peer_count set.shape → IsMoving name (open_whole set found)
+  pub deletes : (by : Judging) (start : Store) (shape : Shape) (limits : Limits) (taken : Taken) (moment : ℕ) → TellsDeletion by start (open_core shape limits taken moment)
+  pub noted : (commands : ℕ → Option Command) (shape : Shape) (limits : Limits) (taken : Taken) (moment : ℕ) → length taken.good ≡ shape.shards * shape.copies → IsNoted commands (open_core shape limits taken moment)
+  pub come : (commands : ℕ → Option Command) (whole : Bool) (core : Core) (es : Events) (to : ℕ) → client_op (commands 0) ≡ None → core.event_line ≡ 0 → MomentsRise core.moment es to → is_walk next_due whole 0 core es ≡ true → AllMayCome commands core es
+  pub next : (commands : ℕ → Option Command) (whole : Bool) (core : Core) (es : Events) → client_op (commands 0) ≡ None → core.event_line ≡ 0 → is_walk next_due whole 0 core es ≡ true → IsNext commands (steps core es) 1
+  pub fresh : (name : List ℕ → Address) (whole : Bool) (core : Core) (es : Events) → is_walk next_due whole 0 core es ≡ true → MayBeginAll name es core
+
+-- ---- what was read
+
+from_one : (seen : Side → List ℕ) → IsFromOne (unwrap_or (list_in seen) [])
+from_one seen = go (list_in seen) refl
+  where
+    go : (o : Option Numbered) → list_in seen ≡ o → IsFromOne (unwrap_or o [])
+    go None e = from_empty
+    go (Some list) e = read_from_one seen list e
+
+each_of : (P : Catalogue → Type 0) (f : ℕ → Catalogue) (k n : ℕ) → ((j : ℕ) → k ≤ j → j < k + n → P (f j)) → AllByRecursion P (map f (range_with_len k n))
+each_of P f k zero h = tt
+each_of P f k (suc n) h = (h k (omega arith) (omega arith), each_of P f (k + 1) n (λ j low high. h j (omega (arith, low)) (omega (arith, high))))
+
+module _ (laws : OpenLaws) (along : AlongLaws) (tells : Type 0) (told : tells) (set : Setting) (commands : ℕ → Option Command) (span : Span) (cluster : Running) (done : Result ⊤ ClusterFault)
+    (shape : IsShape set.shape) (one : set.shape.copies ≡ 1) (names : GivesAddresses set.name) (nobody : client_op (commands 0) ≡ None) (o : Opens tells set span cluster done) (first_going : (first_core set o.found).ended ≡ None)
+    (sound : AreSoundAlong set (whole_from (opened_lists set o.found) 0 set.shape.shards)) where
+  abbrev found : Found
+  found = o.found
+
+  abbrev first : Core
+  first = first_core set o.found
+
+  abbrev start : Start
+  start = start_of set commands o.found
+
+  many : length o.found.logs ≡ set.shape.shards
+  many = o.finds.logs ∙ ap (λ n. set.shape.shards * n) one ∙ omega arith
+
+  good : (p : ℕ) → p < set.shape.shards → starts_good o.found p ≡ true
+  good p low = all_good set found one o.finds.goods first_going p low
+
+  opened_is : (p : ℕ) → p < set.shape.shards → opened_list set o.found p ≡ unwrap_or (log_in o.found p) []
+  opened_is p low =
+      ap (λ ps. if list_any (starts_good found) ps then taken_list set.shape found.logs p else []) (peers_are set.shape found.logs one many p)
+      ∙ ap (λ b. if b || false then taken_list set.shape found.logs p else []) (good p low)
+      ∙ list_is set.shape found.logs one many p low
+
+  -- its log is what its disk read as, or it has none
+  by_read : (P : Numbered → Type 0) (p : ℕ) → p < set.shape.shards → P (unwrap_or (list_in (seen_at span.old p).stands.seen) []) → P [] → P (opened_list set o.found p)
+  by_read P p low read blank = subst P (sym (opened_is p low)) (go ((o.finds.each p (let all = ap (λ n. set.shape.shards * n) one in omega (arith, low, all))).read told))
+    where
+      go : (log_in o.found p ≡ list_in (seen_at span.old p).stands.seen) ⊎ ((log_in o.found p ≡ None) × HasRisen (seen_at span.old p).faults (seen_at o.disks p).faults) → P (unwrap_or (log_in o.found p) [])
+      go (inl same) = subst (λ (x : Option Numbered). P (unwrap_or x [])) (sym same) read
+      go (inr failed) = subst (λ (x : Option Numbered). P (unwrap_or x [])) (sym failed.0) blank
+
+  lists : (shard : ℕ) → shard < set.shape.shards → IsFromOne (opened_list set o.found shard)
+  lists p low = by_read (λ (list : Numbered). IsFromOne list) p low (from_one (seen_at span.old p).stands.seen) from_empty
+
+  brings : (p : ℕ) → p < set.shape.shards → BringsAll set.name names (opened_list set o.found p)
+  brings p low = by_read (λ (list : Numbered). BringsAll set.name names list) p low (go (list_in (seen_at span.old p).stands.seen) refl) tt
+    where
+      go : (x : Option Numbered) → list_in (seen_at span.old p).stands.seen ≡ x → BringsAll set.name names (unwrap_or x [])
+      go None e = tt
+      go (Some list) e = read_brings set.name names (seen_at span.old p).stands.seen list e
+
+  addressed : AllByRecursion KeepsAddresses (opens_with set o.found).catalogues
+  addressed =
+      each_of KeepsAddresses (opened_catalogue set found) 0 set.shape.shards
+      (λ g low high. applied_all set.name names (opened_list set found g) (empty_catalogue set.shape g) (brings g (omega (arith, high))) (record { blocks = tt; roots = tt }))
+
+  opens : RunOpens (start_of set commands o.found) o.found
+  opens = record {
+    well = record {
+      one = one;
+      going = first_going;
+      many = o.finds.goods;
+      lists = lists;
+      sound = sound;
+      nobody = nobody;
+      few = first_room set found laws.memory sound;
+    };
+    shape = shape;
+    entry = refl;
+    names = names;
+    addressed = addressed;
+  }
+
+  -- ---- as the core opens
+
+  moment_is : (first_core set o.found).moment ≡ o.found.opened
+  moment_is = (opens_first set.shape set.limits (opens_with set found) found.opened).moment
+
+  no_line : (first_core set o.found).event_line ≡ 0
+  no_line = (opens_first set.shape set.limits (opens_with set found) found.opened).event_line
+
+  limits_is : (first_core set o.found).limits ≡ set.limits
+  limits_is = (opens_first set.shape set.limits (opens_with set found) found.opened).limits
+
+  first_along : IsAlong (start_of set commands o.found) (open_whole set o.found)
+  first_along = record {
+    reading = laws.reads start found opens;
+    moving = laws.moves set.name set found shape one first_going lists o.finds.goods;
+    deletes = laws.deletes (judging_of start) start.entry set.shape set.limits (opens_with set found) found.opened;
+    pool = (laws.noted commands set.shape set.limits (opens_with set found) found.opened o.finds.goods).pool ∙ ap (λ (l : Limits). l.pool) limits_is;
+  }
+
+  -- ---- the events of opening
+
+  walks : is_walk next_due false 0 (first_core set o.found) o.events ≡ true
+  walks = opening_due (not (ran_out done)) first o.events o.due
+
+  rises : MomentsRise (first_core set o.found).moment o.events span.now
+  rises = subst (λ (m : ℕ). MomentsRise m o.events span.now) (sym moment_is) o.rises
+
+  comes : Comes (start_of set commands o.found) (open_whole set o.found) o.events
+  comes = record {
+    come = laws.come commands false first o.events span.now nobody no_line rises walks;
+    fresh = laws.fresh set.name false first o.events walks;
+    addressed = settle_addressed (judging_of start) false 0 first o.events walks;
+    rooms = o.rooms;
+    told = o.told told first_going;
+  }
+
+  module _ (ok : done ≡ Ok tt) where
+    fine : ran_out done ≡ false
+    fine = ap (λ (x : Result ⊤ ClusterFault). ran_out x) ok
+
+    going : (steps (first_core set o.found) o.events).ended ≡ None
+    going = ap (λ (x : Core). x.ended) (sym (o.core fine)) ∙ going_of done cluster.core o.outcome ok
+
+    in_run : IsInRun (start_of set commands o.found) cluster span.new
+    in_run = record {
+      whole = runs whole_machine (open_whole set found) o.events;
+      same = runs_core (open_whole set found) o.events ∙ sym (o.core fine);
+      along = goes_on along start (open_whole set found) first_along o.events comes going;
+      logs = from_ok done ok (o.reads_on told);
+    }
+
+    first_next : IsNext commands cluster.core 1
+    first_next = subst (λ (x : Core). IsNext commands x 1) (sym (o.core fine)) (laws.next commands false first o.events nobody no_line walks)
+
+  pub opens_keeps : KeepsOn (start_of set commands o.found) 0 (first_core set o.found) o.events done cluster span.new
+  opens_keeps = record {
+    moments = λ n. moments along start (open_whole set found) first_along o.events comes n;
+    left = λ fine. subst (λ (x : Core). KeepsPromise start x) (sym (o.core fine)) (kept along start (open_whole set found) first_along o.events comes);
+    goes_on = on_ok done in_run;
+    next = on_ok done first_next;
+  }

@@ -1,0 +1,23 @@
+use Rattle.hs_measure.proofs.AlongLemmas.{AlongLaws}
+use Rattle.hs_measure.proofs.opened.a_cluster_opens_in_a_run.Goals as goal
+use Rattle.hs_measure.proofs.OpenedLemmas.{OpenLaws, moves_on, opens_keeps}
+
+pub returns : goal.returns
+returns g c = λ set commands span cluster done told shape one names nobody opens going sound.
+    let along : AlongLaws = record {
+      events = c.each_event_keeps_the_promise.ensures.events;
+      told = c.each_report_tells_its_block.ensures.told;
+      reads = c.a_run_reads_on.ensures.goes_on;
+      moves = moves_on c.each_operation_goes_on.ensures.events;
+    } in
+    let laws : OpenLaws = record {
+      memory = c.catalogues_in_memory_are_folds.ensures.list;
+      reads = c.a_run_reads_on.ensures.opens;
+      moves = c.each_operation_goes_on.ensures.opened;
+      deletes = c.each_event_keeps_the_rule_of_done.ensures.opens;
+      noted = c.each_entry_has_its_cause.ensures.opened;
+      come = c.a_scripts_events_may_come.ensures.opening;
+      next = c.a_scripts_events_may_come.ensures.first;
+      fresh = c.a_scripts_lines_are_new.ensures.opening;
+    } in
+    opens_keeps laws along g.D.Disk.tells told set commands span cluster done shape one names nobody opens going sound

@@ -1,9 +1,0 @@
-pub mod AsideLemmas
-pub mod CalmLemmas
-pub mod CountLemmas
-pub mod EventLemmas
-pub mod FirstLemmas
-pub mod NotingLemmas
-pub mod OpenLemmas
-pub mod RefusalLemmas
-pub mod WalkLemmas

@@ -1,4 +1,0 @@
-pub mod Along
-pub mod Awaiting
-pub mod Home
-pub mod Run

@@ -1,0 +1,255 @@
+-- How many entries of lines, and how many notes, a journal has.
+use Rattle.std.proofs.Common.{◌≡◌, ◌∙◌, sym, ap, subst, ◌⊎◌, inl, inr, ℕ, zero, suc, ◌+◌, ◌-◌, ◌<◌, ◌≤◌, ◌==◌, Bool, true, false, cond, List, [], ◌∷◌, length, Option, Some, None, IsSome, refl, arith, tests, is_none, is_some, bytes_eq, codes, count_by, nat_le, replicate, slice_get}
+use Rattle.std.proofs.lemmas.List.{length-replicate}
+use Rattle.std.proofs.lemmas.Option.{slice_get_within}
+use Rattle.std.specs.List.{AllByRecursion}
+use Rattle.std.specs.Option.{option_map, option_map_or}
+use Rattle.hs_settled.proofs.EndsCountLemmas.{at_key, from_key, keyed, many, many-all, many-counted, many_le, many_none, many_once, one}
+use Rattle.hs_settled.proofs.DoneLemmas.{is_done, is_down}
+use Rattle.hs_settled.proofs.ScriptLemmas.{deletes, line_says_delete}
+use Rattle.hs_settled.proofs.StepLemmas.{is_delete, is_deletion, is_entered, is_of_line, is_swept}
+use Rattle.hs_events.specs.Taken.{peer_count}
+use Rattle.hs_journal.specs.declared.entry.JournalEntry.{JournalEntry}
+use Rattle.hs_journal.specs.declared.entry.Who.{Who}
+use Rattle.hs_journal.specs.declared.entry.Who.TheVariants as who
+use Rattle.hs_journal.specs.Events.{client_op}
+use Rattle.hs_journal.specs.Notes.{down_in, is_note, note_count}
+use Rattle.hs_journal.specs.Order.{IsOfLine}
+use Rattle.hs_journal.specs.Telling.{IsOfStore, Done, Down}
+use Rattle.hs_model.specs.declared.command.Command.{Command}
+use Rattle.hs_model.specs.declared.command.Command.TheVariants as command
+use Rattle.hs_model.specs.declared.deed.Deed.{Deed}
+use Rattle.hs_model.specs.declared.deed.Deed.TheVariants as deed
+use Rattle.hs_model.specs.declared.op.Op.{Op}
+use Rattle.hs_model.specs.declared.op.Op.TheVariants as op
+use Rattle.hs_model.specs.declared.reply.Reply.{Reply}
+use Rattle.hs_promise.specs.Answers.{IsEntry}
+use Rattle.hs_promise.specs.Run.{Script}
+use Rattle.hs_script.specs.Lines.{line_at}
+use Rattle.hs_script.specs.Reading.{command_at, commands_of}
+use Rattle.hs_script.specs.Scripts.{delete_count}
+
+-- ---- each entry is of one kind
+
+parts_kind : (S : Script) (last : ℕ) (w : Who) (m : ℕ) (d : Deed) (r : Reply) → IsEntry S last (record { who = w; moment = m; deed = d; reply = r }) → let e : JournalEntry = record { who = w; moment = m; deed = d; reply = r } in
+    1 ≤ one (is_of_line (λ o. true) S e) + one (is_entered e) + one (is_swept e) + one (is_done e) + one (is_down e)
+parts_kind S last (who.Line n) m d r is = omega arith
+parts_kind S last (who.Shard g) m d r is = go is.1
+  where
+    e : Deed → JournalEntry
+    e x = record { who = who.Shard g; moment = m; deed = x; reply = r }
+
+    Kinds : Deed → Type 0
+    Kinds x = 1 ≤ one (is_of_line (λ o. true) S (e x)) + one (is_entered (e x)) + one (is_swept (e x)) + one (is_done (e x)) + one (is_down (e x))
+
+    go : (d ≡ deed.Entered g) ⊎ (d ≡ deed.Swept g) → Kinds d
+    go (inl did) = subst Kinds (sym did) (omega arith)
+    go (inr did) = subst Kinds (sym did) (omega arith)
+parts_kind S last who.Store m d r is = go (down_in r)
+  where
+    go : (o : Option (ℕ × ℕ)) → 1 ≤ 0 + 0 + 0 + one (is_none o) + one (is_some o)
+    go None = omega arith
+    go (Some at) = omega arith
+
+pub all_kinds : (S : Script) (last : ℕ) (entries : List JournalEntry) → AllByRecursion (IsEntry S last) entries
+    → length entries ≤ many (is_of_line (λ o. true) S) entries + many is_entered entries + many is_swept entries + many is_done entries + many is_down entries
+all_kinds S last [] each = omega arith
+all_kinds S last (e ∷ entries) each =
+    let here : 1 ≤ one (is_of_line (λ o. true) S e) + one (is_entered e) + one (is_swept e) + one (is_done e) + one (is_down e) = parts_kind S last e.who e.moment e.deed e.reply each.0 in
+    omega (arith, here, all_kinds S last entries each.1)
+
+-- ---- entries of lines
+
+abbrev key_by : (Option Op → Bool) → Script → Who → Option ℕ
+key_by test S (who.Line n) = cond (test (client_op (S.commands n))) (Some n) None
+key_by test S (who.Shard g) = None
+key_by test S who.Store = None
+
+abbrev key_of : (Option Op → Bool) → Script → JournalEntry → Option ℕ
+key_of test S e = key_by test S e.who
+
+-- the number of a line, where the entry is of one whose operation passes the test
+record IsKeyed (test : Option Op → Bool) (S : Script) (n : ℕ) (e : JournalEntry) : Type 0 where
+  line : e.who ≡ who.Line n
+  passes : test (client_op (S.commands n)) ≡ true
+
+key_line : (test : Option Op → Bool) (S : Script) (P : ℕ → Bool) (e : JournalEntry) → option_map_or P (key_of test S e) false ≡ true → (n : ℕ) × IsKeyed test S n e × (P n ≡ true)
+key_line test S P e is = by_who e.who refl is
+  where
+    by_test : (n : ℕ) → e.who ≡ who.Line n → (b : Bool) → test (client_op (S.commands n)) ≡ b → option_map_or P (cond b (Some n) None) false ≡ true → (k : ℕ) × IsKeyed test S k e × (P k ≡ true)
+    by_test n of true t f = (n, record { line = of; passes = t }, f)
+    by_test n of false t f = absurd (cc f)
+
+    by_who : (w : Who) → e.who ≡ w → option_map_or P (key_by test S w) false ≡ true → (k : ℕ) × IsKeyed test S k e × (P k ≡ true)
+    by_who (who.Line n) of f = by_test n of (test (client_op (S.commands n))) refl f
+    by_who (who.Shard g) of f = absurd (cc f)
+    by_who who.Store of f = absurd (cc f)
+
+of_line_keyed : (test : Option Op → Bool) (S : Script) (e : JournalEntry) → is_of_line test S e ≡ true → (n : ℕ) × IsKeyed test S n e
+of_line_keyed test S e is = by_who e.who refl is
+  where
+    by_who : (w : Who) → e.who ≡ w → is_of_line test S (record { who = w; moment = e.moment; deed = e.deed; reply = e.reply }) ≡ true → (n : ℕ) × IsKeyed test S n e
+    by_who (who.Line n) of f = (n, record { line = of; passes = f })
+    by_who (who.Shard g) of f = absurd (cc f)
+    by_who who.Store of f = absurd (cc f)
+
+keyed_from : (test : Option Op → Bool) (S : Script) (low n : ℕ) (e : JournalEntry) → IsKeyed test S n e → low ≤ n → from_key (key_of test S) low e ≡ true
+keyed_from test S low n e is above =
+    ap (λ (w : Who). option_map_or (λ k. nat_le low k) (key_by test S w) false) is.line
+    ∙ ap (λ (b : Bool). option_map_or (λ k. nat_le low k) (cond b (Some n) None) false) is.passes
+    ∙ grind (arith, tests, above)
+
+-- lines are numbered from 1
+line_next : (lines : List (List ℕ)) (n k : ℕ) → n ≡ suc k → line_at lines n ≡ slice_get lines k
+line_next lines n k is = go (n == 0) refl
+  where
+    go : (b : Bool) → (n == 0) ≡ b → cond b None (slice_get lines (n - 1)) ≡ slice_get lines k
+    go true e = absurd (grind (arith, tests, e, is))
+    go false e = ap (λ m. slice_get lines m) (omega (arith, is))
+
+zero_below : (k : ℕ) → nat_le 0 k ≡ true
+zero_below k = grind (arith, tests)
+
+module _ (S : Script) (lines : List (List ℕ)) (says : (n : ℕ) → S.commands n ≡ commands_of lines n) (entries : List JournalEntry)
+    (named : (i n : ℕ) → IsOfLine entries i n → IsSome (S.commands n)) (once : (i j n : ℕ) → IsOfLine entries i n → IsOfLine entries j n → i ≡ j) where
+  -- a line that has a command is one of the script
+  within : (n : ℕ) → IsSome (S.commands n) → (1 ≤ n) × (n < 1 + length lines)
+  within n some = go n (subst (λ (c : Option Command). IsSome c) (says n) some)
+    where
+      at : (k : ℕ) (o : Option (List ℕ)) → slice_get lines k ≡ o → IsSome (command_at o) → k < length lines
+      at k None is f = absurd (cc f)
+      at k (Some line) is f = slice_get_within lines k line is
+
+      go : (k : ℕ) → IsSome (commands_of lines k) → (1 ≤ k) × (k < 1 + length lines)
+      go zero f = absurd (cc f)
+      go (suc k) f = (omega arith, omega (arith, at k (slice_get lines k) refl (subst (λ (o : Option (List ℕ)). IsSome (command_at o)) (line_next lines (suc k) k refl) f)))
+
+  lines_most : (test : Option Op → Bool) (passes : List ℕ → Bool)
+      → ((i : ℕ) (line : List ℕ) → slice_get lines i ≡ Some line → test (client_op (S.commands (1 + i))) ≡ true → passes line ≡ true)
+      → many (is_of_line test S) entries ≤ count_by passes lines
+  lines_most test passes marks =
+      let all : many (is_of_line test S) entries ≤ many (from_key (key_of test S) 1) entries = many_le (is_of_line test S) (from_key (key_of test S) 1) entries first in
+      let most : many (from_key (key_of test S) 1) entries ≤ many passes lines = keyed (key_of test S) passes entries lines 1 caps (many_none (from_key (key_of test S) (1 + length lines)) entries none) in
+      let counted : many passes lines ≡ count_by passes lines = many-counted passes lines in
+      omega (arith, all, most, counted)
+    where
+      first : (i : ℕ) (e : JournalEntry) → slice_get entries i ≡ Some e → is_of_line test S e ≡ true → from_key (key_of test S) 1 e ≡ true
+      first i e at is =
+          let n = of_line_keyed test S e is in
+          keyed_from test S 1 n.0 e n.1 (within n.0 (named i n.0 (record { entry = e; at = at; line = n.1.line }))).0
+
+      none : (i : ℕ) (e : JournalEntry) → slice_get entries i ≡ Some e → from_key (key_of test S) (1 + length lines) e ≡ true → ⊥
+      none i e at is =
+          let n = key_line test S (λ k. nat_le (1 + length lines) k) e is in
+          let low = (within n.0 (named i n.0 (record { entry = e; at = at; line = n.1.line }))).1 in
+          let above : 1 + length lines ≤ n.0 = grind (arith, tests, n.2) in
+          omega (arith, low, above)
+
+      same_number : (k n : ℕ) → (k == n) ≡ true → k ≡ n
+      same_number k n is = grind (arith, tests, is)
+
+      keyed_at : (n : ℕ) (e : JournalEntry) → at_key (key_of test S) n e ≡ true → IsKeyed test S n e
+      keyed_at n e is = let k = key_line test S (λ k. k == n) e is in subst (λ j. IsKeyed test S j e) (same_number k.0 n k.2) k.1
+
+      caps : (i : ℕ) (line : List ℕ) → slice_get lines i ≡ Some line → many (at_key (key_of test S) (1 + i)) entries ≤ cond (passes line) 1 0
+      caps i line there = go (passes line) refl
+        where
+          go : (b : Bool) → passes line ≡ b → many (at_key (key_of test S) (1 + i)) entries ≤ cond b 1 0
+          go true p = many_once (at_key (key_of test S) (1 + i)) entries (λ j k x y first second is too.
+              once j k (1 + i) (record { entry = x; at = first; line = (keyed_at (1 + i) x is).line }) (record { entry = y; at = second; line = (keyed_at (1 + i) y too).line }))
+          go false p =
+              let nobody = many_none (at_key (key_of test S) (1 + i)) entries (λ j x first is. cc (marks i line there (keyed_at (1 + i) x is).passes, p)) in
+              omega (arith, nobody)
+
+  pub all_lines : many (is_of_line (λ o. true) S) entries ≤ length lines
+  all_lines =
+      let most : many (is_of_line (λ o. true) S) entries ≤ count_by (λ (line : List ℕ). true) lines = lines_most (λ o. true) (λ line. true) (λ i line at is. refl) in
+      let counted : many (λ (line : List ℕ). true) lines ≡ count_by (λ (line : List ℕ). true) lines = many-counted (λ line. true) lines in
+      let whole : many (λ (line : List ℕ). true) lines ≡ length lines = many-all lines in
+      omega (arith, most, counted, whole)
+
+  deletion_deletes : (c : Option Command) → is_deletion (client_op c) ≡ true → deletes c ≡ true
+  deletion_deletes (Some (command.Client op.Delete)) e = refl
+  deletion_deletes (Some (command.Client other)) e = e
+  deletion_deletes other e = cc e
+
+  pub all_deletes : many (is_delete S) entries ≤ delete_count lines
+  all_deletes = lines_most is_deletion (λ line. bytes_eq line (codes "delete")) (λ i line at is.
+      line_says_delete line (sym (ap (λ (o : Option (List ℕ)). deletes (command_at o)) (line_next lines (1 + i) i (omega arith) ∙ at)) ∙ sym (ap (λ (c : Option Command). deletes c) (says (1 + i))) ∙ deletion_deletes (S.commands (1 + i)) is))
+
+-- ---- notes
+
+abbrev note_by : Who → Reply → Option ℕ
+note_by (who.Line n) r = None
+note_by (who.Shard g) r = None
+note_by who.Store r = option_map (λ (d : ℕ × ℕ). d.0) (down_in r)
+
+abbrev note_of : JournalEntry → Option ℕ
+note_of e = note_by e.who e.reply
+
+module _ (S : Script) (last : ℕ) (entries : List JournalEntry) (each : AllByRecursion (IsEntry S last) entries) where
+  at_each : (P : JournalEntry → Type 0) (xs : List JournalEntry) → AllByRecursion P xs → (i : ℕ) (e : JournalEntry) → slice_get xs i ≡ Some e → P e
+  at_each P [] all i e at = absurd (cc at)
+  at_each P (x ∷ xs) all zero e at = subst P (cc at) all.0
+  at_each P (x ∷ xs) all (suc i) e at = at_each P xs all.1 i e at
+
+  is_noted : (peer : ℕ) (e : JournalEntry) → at_key note_of peer e ≡ true → is_note peer e ≡ true
+  is_noted peer e is = by_who e.who is
+    where
+      by_down : (o : Option (ℕ × ℕ)) → option_map_or (λ k. k == peer) (option_map (λ (d : ℕ × ℕ). d.0) o) false ≡ true → option_map_or (λ (d : ℕ × ℕ). d.0 == peer) o false ≡ true
+      by_down None f = cc f
+      by_down (Some d) f = f
+
+      by_who : (w : Who) → option_map_or (λ k. k == peer) (note_by w e.reply) false ≡ true → is_note peer e ≡ true
+      by_who (who.Line n) f = absurd (cc f)
+      by_who (who.Shard g) f = absurd (cc f)
+      by_who who.Store f = by_down (down_in e.reply) f
+
+  downs : (e : JournalEntry) → is_down e ≡ true → from_key note_of 0 e ≡ true
+  downs e is = by_who e.who is
+    where
+      by_down : (o : Option (ℕ × ℕ)) → is_some o ≡ true → option_map_or (λ k. nat_le 0 k) (option_map (λ (d : ℕ × ℕ). d.0) o) false ≡ true
+      by_down None f = cc f
+      by_down (Some d) f = zero_below d.0
+
+      by_who : (w : Who) → is_down (record { who = w; moment = e.moment; deed = e.deed; reply = e.reply }) ≡ true → option_map_or (λ k. nat_le 0 k) (note_by w e.reply) false ≡ true
+      by_who (who.Line n) f = absurd (cc f)
+      by_who (who.Shard g) f = absurd (cc f)
+      by_who who.Store f = by_down (down_in e.reply) f
+
+  low : (e : JournalEntry) → IsEntry S last e → from_key note_of (0 + peer_count S.set.shape) e ≡ true → ⊥
+  low e is above = by_parts e.who e.moment e.deed e.reply is above
+    where
+      by_told : (r : Reply) → IsOfStore S.set.shape last r → option_map_or (λ k. nat_le (0 + peer_count S.set.shape) k) (option_map (λ (d : ℕ × ℕ). d.0) (down_in r)) false ≡ true → ⊥
+      by_told r (Done epoch told) f =
+          let other : option_map_or (λ k. nat_le (0 + peer_count S.set.shape) k) (option_map (λ (d : ℕ × ℕ). d.0) (down_in r)) false ≡ false =
+          ap (λ (x : Reply). option_map_or (λ k. nat_le (0 + peer_count S.set.shape) k) (option_map (λ (d : ℕ × ℕ). d.0) (down_in x)) false) told in
+          cc (other, f)
+      by_told r (Down peer line told within late) f =
+          let is : option_map_or (λ k. nat_le (0 + peer_count S.set.shape) k) (option_map (λ (d : ℕ × ℕ). d.0) (down_in r)) false ≡ nat_le (0 + peer_count S.set.shape) peer =
+          ap (λ (x : Reply). option_map_or (λ k. nat_le (0 + peer_count S.set.shape) k) (option_map (λ (d : ℕ × ℕ). d.0) (down_in x)) false) told in
+          let above : nat_le (0 + peer_count S.set.shape) peer ≡ true = sym is ∙ f in
+          let at_least : 0 + peer_count S.set.shape ≤ peer = grind (arith, tests, above) in
+          omega (arith, at_least, within)
+
+      by_parts : (w : Who) (m : ℕ) (d : Deed) (r : Reply) → IsEntry S last (record { who = w; moment = m; deed = d; reply = r }) → option_map_or (λ k. nat_le (0 + peer_count S.set.shape) k) (note_by w r) false ≡ true → ⊥
+      by_parts (who.Line n) m d r is f = cc f
+      by_parts (who.Shard g) m d r is f = cc f
+      by_parts who.Store m d r is f = by_told r is.1 f
+
+  pub all_downs : ((peer : ℕ) → note_count peer entries ≤ 1) → many is_down entries ≤ peer_count S.set.shape
+  all_downs notes =
+      let peers : List ℕ = replicate (peer_count S.set.shape) 0 in
+      let long : length {A = ℕ} (replicate (peer_count S.set.shape) 0) ≡ peer_count S.set.shape = length-replicate (peer_count S.set.shape) 0 in
+      let all : many is_down entries ≤ many (from_key note_of 0) entries = many_le is_down (from_key note_of 0) entries (λ i e at is. downs e is) in
+      let most : many (from_key note_of 0) entries ≤ many (λ (x : ℕ). true) (replicate (peer_count S.set.shape) 0) =
+      keyed note_of (λ (x : ℕ). true) entries (replicate (peer_count S.set.shape) 0) 0
+      (λ i x at.
+      let counted : many (is_note (0 + i)) entries ≡ note_count (0 + i) entries = many-counted (is_note (0 + i)) entries in
+      let fewer : many (at_key note_of (0 + i)) entries ≤ many (is_note (0 + i)) entries = many_le (at_key note_of (0 + i)) (is_note (0 + i)) entries (λ j e there is. is_noted (0 + i) e is) in
+      let once : note_count (0 + i) entries ≤ 1 = notes (0 + i) in
+      omega (arith, counted, fewer, once))
+      (subst (λ k. many (from_key note_of (0 + k)) entries ≡ 0) (sym long)
+      (many_none (from_key note_of (0 + peer_count S.set.shape)) entries (λ i e at is. low e (at_each (IsEntry S last) entries each i e at) is))) in
+      let whole : many (λ (x : ℕ). true) (replicate (peer_count S.set.shape) 0) ≡ length (replicate (peer_count S.set.shape) 0) = many-all (replicate (peer_count S.set.shape) 0) in
+      omega (arith, all, most, whole, long)

@@ -1,0 +1,295 @@
+-- Why a shard of one copy is lost: a `fail` line, or the note of its peer's disk, was the last thing that happened.
+use Rattle.std.proofs.Common.{◌≡◌, ◌⊎◌, inl, inr, ◌∙◌, ap, sym, subst, ℕ, ◌+◌, ◌*◌, ◌<◌, ◌≤◌, ◌==◌, ◌&&◌, ◌++◌, Bool, true, false, cond, not, List, [], ◌∷◌, Option, Some, None, IfSome, refl, arith, length, append-nil}
+use Rattle.std.proofs.lemmas.Bool.{eq-eqb, eqb-true}
+use Rattle.std.specs.List.{AllByRecursion, slice_get}
+use Rattle.hs_settled.proofs.AddingLemmas.{Grows, IsLate}
+use Rattle.hs_settled.proofs.AskLemmas.{AllAsk, Asks, Speaks, reached}
+use Rattle.hs_settled.proofs.CausesFirstLemmas.{IsFirst, line_first, members_first, told_first}
+use Rattle.hs_settled.proofs.KeptLemmas.{Kept, grows_by, peers_of_shape, step_kept}
+use Rattle.hs_settled.proofs.CausesListLemmas.{NoteAt, all_at, at_right, count_parts, find_low, find_none, find_true, range_each, some_note}
+use Rattle.hs_settled.proofs.NoteLemmas.{Notes, note_is}
+use Rattle.hs_settled.proofs.PromptLemmas.{ended_spoke}
+use Rattle.hs_settled.proofs.CausesRunLemmas.{all_ask_so, all_come_so, are_lines, begun_line, last_behind, last_is, last_kept, last_line, lined, mute, mute_is, mute_some, opened_kept}
+use Rattle.hs_settled.proofs.SeatLemmas.{FallsBy, Seated, peers_in, seats_run}
+use Rattle.hs_core.specs.declared.event.Event.{Event}
+use Rattle.hs_core.specs.declared.event.Event.TheVariants as event
+use Rattle.hs_core.specs.Looking.{lost_shard, shape_of, shards_of, status_of}
+use Rattle.hs_core.specs.Opening.{new_core}
+use Rattle.hs_core.specs.State.{Core}
+use Rattle.hs_core.specs.Step.{line_of, step}
+use Rattle.hs_desk.specs.declared.done.Done.{Done}
+use Rattle.hs_desk.specs.declared.done.Done.TheVariants as done
+use Rattle.hs_desk.specs.declared.fault.CoreFault.{CoreFault}
+use Rattle.hs_desk.specs.declared.fault.CoreFault.TheVariants as fault
+use Rattle.hs_events.specs.Course.{steps}
+use Rattle.hs_events.specs.Due.{Events}
+use Rattle.hs_events.specs.Found.{first_core, opens_with}
+use Rattle.hs_journal.specs.declared.entry.JournalEntry.{JournalEntry}
+use Rattle.hs_journal.specs.declared.entry.Who.TheVariants as who
+use Rattle.hs_journal.specs.Notes.{note_count}
+use Rattle.hs_journal.specs.Telling.{IsDownAt}
+use Rattle.hs_limits.specs.declared.limits.Limits.{Limits}
+use Rattle.hs_limits.specs.declared.limits.PeerStatus.{PeerStatus}
+use Rattle.hs_limits.specs.declared.limits.PeerStatus.TheVariants.{Down, Good, Joining}
+use Rattle.hs_limits.specs.declared.shape.Shape.{Shape}
+use Rattle.hs_limits.specs.Shape.{peer_of}
+use Rattle.hs_standing.proofs.LinesStepLemmas.{step_ended, step_line}
+use Rattle.hs_standing.specs.Script.{all_events}
+use Rattle.hs_members.specs.Members.{Members, has_good, is_good_status, status}
+use Rattle.hs_model.specs.declared.command.Command.{Command}
+use Rattle.hs_model.specs.declared.command.Command.TheVariants as command
+use Rattle.hs_model.specs.declared.reply.Reply.TheVariants as reply
+use Rattle.hs_moments.proofs.AloneEventLemmas.{has_good_is}
+use Rattle.hs_settled.proofs.NotedCountLemmas.{step_counts, told_by}
+use Rattle.hs_settled.proofs.NotedEventLemmas.{line_then}
+use Rattle.hs_settled.proofs.NotedFirstLemmas.{first_notes}
+use Rattle.hs_settled.specs.Noted.{IsAnswering}
+use Rattle.hs_promise.specs.Lost.{LostCause, NotGood, NotStartedAfter}
+use Rattle.hs_promise.specs.Lost.NotGood.{Failed, Noted}
+use Rattle.hs_promise.specs.Machine.{Went}
+use Rattle.hs_promise.specs.Run.{Ran, Script}
+use Rattle.hs_promise.specs.Story.{Story, last_core}
+use Rattle.hs_told.specs.InTurn.{AllMayCome, MayCome, OtherMay, told_of}
+
+-- ---- shards and their peers
+
+good_is : (s : PeerStatus) → is_good_status s ≡ true → s ≡ Good
+good_is Good e = refl
+good_is Joining e = absurd (cc e)
+good_is Down e = absurd (cc e)
+
+not_true : (b : Bool) → not b ≡ true → b ≡ false
+not_true true e = absurd (cc e)
+not_true false e = refl
+
+not_false : (b : Bool) → not b ≡ false → b ≡ true
+not_false true e = refl
+not_false false e = absurd (cc e)
+
+apart : true ≡ false → ⊥
+apart e = cc e
+
+pub lost_low : (c : Core) (g : ℕ) → lost_shard c ≡ Some g → g < (shape_of c).shards
+lost_low c g e = let low : g < 0 + (shape_of c).shards = find_low (λ shard. not (has_good shard c.members)) (shape_of c).shards 0 g e in omega (arith, low)
+
+-- of a core whose shards have one copy
+module _ (c : Core) (one : (shape_of c).copies ≡ 1) where
+  by_status : (x : ℕ) → has_good x c.members ≡ is_good_status (status_of x c)
+  by_status x = has_good_is c.members x (status_of x c) one refl
+
+  pub all_good : lost_shard c ≡ None → (x : ℕ) → x < (shape_of c).shards → status_of x c ≡ Good
+  all_good none x low =
+      let each : AllByRecursion (λ shard. not (has_good shard c.members) ≡ false) (shards_of c) = find_none (λ shard. not (has_good shard c.members)) (shards_of c) none in
+      let here : not (has_good x c.members) ≡ false = range_each (λ shard. not (has_good shard c.members) ≡ false) (shape_of c).shards 0 x each (omega arith) (omega (arith, low)) in
+      good_is (status_of x c) (sym (by_status x) ∙ not_false (has_good x c.members) here)
+
+  pub lost_down : (g : ℕ) → lost_shard c ≡ Some g → is_good_status (status_of g c) ≡ false
+  lost_down g e = sym (by_status g) ∙ not_true (has_good g c.members) (find_true (λ shard. not (has_good shard c.members)) (shards_of c) g e)
+
+pub steps_over : (c : Core) (es : Events) (f : CoreFault) → c.ended ≡ Some f → steps c es ≡ c
+steps_over c [] f over = refl
+steps_over c (e ∷ es) f over = ap (λ x. steps x es) (step_ended e.0 e.1 c f over) ∙ steps_over c es f over
+
+-- ---- what happened last
+
+-- the note of a peer that is down has the last line, or that line is its `fail`
+pub data Loss (commands : ℕ → Option Command) (g : ℕ) (c : Core) : Type 0 where
+  IsNoted : (place : ℕ) → IsDownAt (told_of c) place g c.event_line → Loss commands g c
+  IsFailed : commands c.event_line ≡ Some (command.Fail g) → Loss commands g c
+
+pub line_up : (line : ℕ) (c : Core) → c.event_line ≤ line → line_then line c ≡ line
+line_up line c up = go (line == 0) refl
+  where
+    go : (b : Bool) → (line == 0) ≡ b → cond b c.event_line line ≡ line
+    go true t = let zero_line : line ≡ 0 = eqb-true line 0 t in omega (arith, up, zero_line)
+    go false t = refl
+
+pub costs_one : (peer g : ℕ) (c : Core) → told_by g (event.Report peer (done.Failed g)) c ≡ 1
+costs_one peer g c = ap (λ b. cond (b && true) 1 0) (eq-eqb g g refl)
+
+module _ (commands : ℕ → Option Command) (shape : Shape) (limits : Limits) (one : shape.copies ≡ 1) where
+  abbrev K : Core → Type 0
+  K c = Kept commands shape limits c
+
+  count_is : peers_of_shape shape ≡ shape.shards
+  count_is = ap (λ k. shape.shards * k) one ∙ omega arith
+
+  one_copy : (c : Core) → K c → (shape_of c).copies ≡ 1
+  one_copy c kept = ap (λ (z : Shape). z.copies) kept.shaped ∙ one
+
+  module _ (c : Core) (kept : K c) (going : c.ended ≡ None) (e : Event) (at : ℕ) (may : MayCome commands c e at) (asks : Asks commands c e) (g : ℕ) where
+    abbrev after : Core
+    after = step e at c
+
+    after_kept : K after
+    after_kept = step_kept commands shape limits e at c kept going may asks
+
+    grows : Grows (IsLate c.event_line (line_then (line_of e) c)) c after
+    grows = grows_by commands shape limits e at c kept going
+
+    line_is : after.event_line ≡ line_then (line_of e) c
+    line_is = step_line e at c going
+
+    -- whoever is not good then went down by this event
+    fell : lost_shard after ≡ Some g → FallsBy e g
+    fell lost = elim (seated.good g low) [
+      | inl falls ↦ falls
+      | inr good ↦ absurd (apart (sym (ap is_good_status good) ∙ lost_down after (one_copy after after_kept) g lost))
+    ]
+      where
+        low : g < peers_of_shape shape
+        low = let l : g < (shape_of after).shards = lost_low after g lost in let s : (shape_of after).shards ≡ shape.shards = ap (λ (z : Shape). z.shards) after_kept.shaped in
+            let n : peers_of_shape shape ≡ shape.shards = count_is in omega (arith, l, s, n)
+
+        each : (x : ℕ) → x < peers_of_shape shape → FallsBy e x ⊎ (status_of x c ≡ Good)
+        each x l = inr (all_good c (one_copy c kept) (kept.ends.going going) x
+            (let s : (shape_of c).shards ≡ shape.shards = ap (λ (z : Shape). z.shards) kept.shaped in let n : peers_of_shape shape ≡ shape.shards = count_is in omega (arith, l, s, n)))
+
+        seated : Seated (peers_of_shape shape) (FallsBy e) (peers_in after)
+        seated = seats_run (peers_of_shape shape) (FallsBy e) e at c (λ x falls l. falls)
+            (record { statuses = kept.seats.statuses; count = kept.seats.count; good = each; tasks = kept.seats.tasks; rejoins = kept.seats.rejoins })
+
+    -- and the note of its disk comes with that event
+    noted : (peer : ℕ) → e ≡ event.Report peer (done.Failed g) → Loss commands g after
+    noted peer is =
+        let one_more : note_count g (told_of after) ≡ note_count g (told_of c) + told_by g e c = step_counts commands c kept.noted going at g e (answers is) in
+        let cost : told_by g e c ≡ 1 = ap (λ x. told_by g x c) is ∙ costs_one peer g c in
+        let all : note_count g (told_of after) ≡ note_count g (told_of c) + note_count g grows.more = ap (λ (es : List JournalEntry). note_count g es) grows.told ∙ count_parts g (told_of c) grows.more in
+        let n : NoteAt g grows.more = some_note g grows.more (omega (arith, one_more, cost, all)) in
+        let tells : Notes g n.entry = note_is g n.entry n.note in
+        let late : IsLate c.event_line (line_then (line_of e) c) n.entry = all_at (IsLate c.event_line (line_then (line_of e) c)) grows.more n.place n.entry grows.each n.at in
+        let of : (n.entry.who ≡ who.Store) × (tells.line ≡ c.event_line) × (line_then (line_of e) c ≡ c.event_line) =
+        subst (λ (o : Option (ℕ × ℕ)). IfSome o (λ d. (n.entry.who ≡ who.Store) × (d.1 ≡ c.event_line) × (line_then (line_of e) c ≡ c.event_line))) tells.in_it late in
+        let line : tells.line ≡ after.event_line = of.1 ∙ sym of.2 ∙ sym line_is in
+        IsNoted (length (told_of c) + n.place) (record {
+          note = n.entry;
+          at = subst (λ es. slice_get es (length (told_of c) + n.place) ≡ Some n.entry) (sym grows.told) (at_right (told_of c) grows.more n.place n.entry n.at);
+          store = of.0;
+          told = tells.told ∙ ap (λ k. reply.Down g k) line;
+        })
+      where
+        answers : e ≡ event.Report peer (done.Failed g) → IsAnswering c e
+        answers same = subst (λ x. IsAnswering c x) (sym same) (subst (λ x. Asks commands c x) same asks)
+
+    pub event_loss : lost_shard after ≡ Some g → Loss commands g after
+    event_loss lost = by_event e refl (fell lost)
+      where
+        by_event : (x : Event) → e ≡ x → FallsBy x g → Loss commands g after
+        by_event (event.Line line o) is f = absurd f
+        by_event (event.Report peer d) is f = noted peer (is ∙ ap (λ (y : Done). event.Report peer y) f)
+        by_event (event.Turn line peer) is f = absurd f
+        by_event (event.Deliver line number) is f = absurd f
+        by_event (event.Lose line number) is f = absurd f
+        by_event (event.Repeat line number) is f = absurd f
+        by_event (event.Nudge line peer) is f = absurd f
+        by_event (event.Fail line peer) is f =
+            let own : commands line ≡ Some (command.Fail peer) = subst (λ x. Asks commands c x) is asks in
+            let other : OtherMay commands c line (event.Fail line peer) = (subst (λ x. MayCome commands c x at) is may).begins in
+            let here : after.event_line ≡ line = line_is ∙ ap (λ x. line_then (line_of x) c) is ∙ line_up line c other.upward in
+            IsFailed (ap commands here ∙ own ∙ ap (λ p. Some (command.Fail p)) f)
+        by_event (event.Start line peer) is f = absurd f
+
+  -- ---- any number of events
+
+  pub lost_by : (c : Core) (es : Events) → K c → AllMayCome commands c es → AllAsk commands c es → (g : ℕ) → c.ended ≡ None → (steps c es).ended ≡ Some (fault.ShardLost g) → Loss commands g (steps c es)
+  lost_by c [] kept may ask g going over = let both : None ≡ Some (fault.ShardLost g) = sym going ∙ over in absurd (cc both)
+  lost_by c (e ∷ es) kept may ask g going over =
+      go (λ on. lost_by (step e.0 e.1 c) es next may.1 ask.1 g on over) (step e.0 e.1 c).ended refl
+    where
+      next : K (step e.0 e.1 c)
+      next = step_kept commands shape limits e.0 e.1 c kept going (may.0 going) ask.0.1
+
+      go : ((step e.0 e.1 c).ended ≡ None → Loss commands g (steps (step e.0 e.1 c) es)) → (o : Option CoreFault) → (step e.0 e.1 c).ended ≡ o → Loss commands g (steps (step e.0 e.1 c) es)
+      go ih None is = ih is
+      go ih (Some f) is =
+          let same : steps (step e.0 e.1 c) es ≡ step e.0 e.1 c = steps_over (step e.0 e.1 c) es f is in
+          let lost : (step e.0 e.1 c).ended ≡ Some (fault.ShardLost g) = ap (λ (x : Core). x.ended) (sym same) ∙ over in
+          subst (λ (x : Core). Loss commands g x) (sym same) (event_loss c kept going e.0 e.1 (may.0 going) ask.0.1 g (next.ends.lost g lost))
+
+-- ---- a run
+
+module _ (S : Script) (r : Ran) (story : Story) (went : Went S r story) (one : S.set.shape.copies ≡ 1) (g : ℕ) (over : (last_core S story).ended ≡ Some (fault.ShardLost g)) where
+  abbrev opened : Core
+  opened = first_core S.set story.found
+
+  abbrev commands : ℕ → Option Command
+  commands = mute S.commands
+
+  lost_is : lost_shard (last_core S story) ≡ Some g
+  lost_is = (last_kept S r story went).ends.lost g over
+
+  shard_low : g < S.set.shape.shards
+  shard_low = let l : g < (shape_of (last_core S story)).shards = lost_low (last_core S story) g lost_is in
+      let s : (shape_of (last_core S story)).shards ≡ S.set.shape.shards = ap (λ (z : Shape). z.shards) (last_kept S r story went).shaped in omega (arith, l, s)
+
+  -- it was lost as the core opened
+  opened_loss : opened.ended ≡ Some (fault.ShardLost g) → Loss commands g opened
+  opened_loss lost =
+      let kept : Kept commands S.set.shape S.set.limits opened = opened_kept S r story went in
+      let copies : (shape_of opened).copies ≡ 1 = ap (λ (z : Shape). z.copies) kept.shaped ∙ one in
+      let down : is_good_status (status_of g opened) ≡ false = lost_down opened copies g (kept.ends.lost g lost) in
+      let members : opened.members ≡ (new_core S.set.shape S.set.limits (opens_with S.set story.found) story.found.opened).members =
+      members_first S.set.shape S.set.limits (opens_with S.set story.found) story.found.opened went.found.goods in
+      let low : g < S.set.shape.shards * S.set.shape.copies =
+      let n : S.set.shape.shards * S.set.shape.copies ≡ S.set.shape.shards = ap (λ k. S.set.shape.shards * k) one ∙ omega arith in let l : g < S.set.shape.shards = shard_low in omega (arith, n, l) in
+      let count : note_count g (told_of opened) ≡ 1 =
+      first_notes S.set.shape S.set.limits (opens_with S.set story.found) story.found.opened g low
+      ∙ ap (λ (m : Members). cond (is_good_status (status g m)) 0 1) (sym members) ∙ ap (λ b. cond b 0 1) down in
+      let n : NoteAt g (told_of opened) = some_note g (told_of opened) (omega (arith, count)) in
+      let tells : Notes g n.entry = note_is g n.entry n.note in
+      let first : IsFirst (S.set.shape.shards * S.set.shape.copies) n.entry =
+      all_at (λ (e : JournalEntry). IsFirst (S.set.shape.shards * S.set.shape.copies) e) (told_of opened) n.place n.entry (told_first S.set.shape S.set.limits (opens_with S.set story.found) story.found.opened went.found.goods) n.at in
+      let zero_line : opened.event_line ≡ 0 = line_first S.set.shape S.set.limits (opens_with S.set story.found) story.found.opened went.found.goods in
+      let line : tells.line ≡ 0 = line_of_note first.peer g tells.line (sym first.told ∙ tells.told) in
+      IsNoted n.place (record { note = n.entry; at = n.at; store = first.store; told = tells.told ∙ ap (λ k. reply.Down g k) (line ∙ sym zero_line) })
+    where
+      line_of_note : (p q k : ℕ) → reply.Down p 0 ≡ reply.Down q k → k ≡ 0
+      line_of_note p q k e = cc e
+
+  loss : Loss commands g (last_core S story)
+  loss = go opened.ended refl
+    where
+      all : Events
+      all = story.opening ++ all_events story.lines
+
+      there : (steps opened all).ended ≡ Some (fault.ShardLost g)
+      there = ap (λ (c : Core). c.ended) (sym (last_is S r story went)) ∙ over
+
+      go : (o : Option CoreFault) → opened.ended ≡ o → Loss commands g (last_core S story)
+      go None is = subst (λ (c : Core). Loss commands g c) (sym (last_is S r story went))
+          (lost_by commands S.set.shape S.set.limits one opened all (opened_kept S r story went) (all_come_so S r story went) (all_ask_so S r story went) g is there)
+      go (Some f) is =
+          let same : steps opened all ≡ opened = steps_over opened all f is in
+          subst (λ (c : Core). Loss commands g c) (sym (last_is S r story went ∙ same)) (opened_loss (ap (λ (c : Core). c.ended) (sym same) ∙ there))
+
+  -- no line behind the last one of an event starts the peer
+  none_started : NotStartedAfter S r g (last_core S story).event_line
+  none_started k above started =
+      let count : r.line ≡ length story.lines = went.line in
+      let upto : k ≤ r.line = started.begun in
+      let behind : Core = steps opened story.opening in
+      let reach : k ≤ (steps behind (all_events story.lines)).event_line =
+      reached (lined S r) 1 behind story.lines (are_lines S r story went) (omega arith) (begun_line S r story went) k (omega (arith, above)) (omega (arith, upto, count))
+      (subst (λ c. Speaks c) (sym (mute_is S.commands k (omega (arith, above)) ∙ started.starts)) tt)
+      (inr (inr (ended_spoke (lined S r) 1 behind story.lines (fault.ShardLost g) (are_lines S r story went) (ap (λ (c : Core). c.ended) (sym (last_behind S r story went)) ∙ over)))) in
+      let same : (last_core S story).event_line ≡ (steps behind (all_events story.lines)).event_line = ap (λ (c : Core). c.event_line) (last_behind S r story went) in
+      omega (arith, above, reach, same)
+
+  not_good : NotGood S r g
+  not_good = go loss
+    where
+      told_is : told_of (last_core S story) ≡ r.journal
+      told_is = ap (λ (es : List JournalEntry). (last_core S story).journal ++ es) ((last_kept S r story went).ends.clean g over) ∙ append-nil (last_core S story).journal ∙ sym went.journal
+
+      go : Loss commands g (last_core S story) → NotGood S r g
+      go (IsNoted place at) = Noted place (last_core S story).event_line (subst (λ es. IsDownAt es place g (last_core S story).event_line) told_is at) none_started
+      go (IsFailed own) = Failed (last_core S story).event_line (last_line S r story went) (mute_some S.commands (last_core S story).event_line (command.Fail g) own) none_started
+
+  pub lost_cause : LostCause S r g
+  lost_cause = record {
+    within = shard_low;
+    each = λ copy low. subst (λ p. NotGood S r p) (sym (peer_is copy low)) not_good;
+  }
+    where
+      peer_is : (copy : ℕ) → copy < S.set.shape.copies → peer_of S.set.shape g copy ≡ g
+      peer_is copy low = ap (λ k. g * k + copy) one ∙ omega (arith, low, one)

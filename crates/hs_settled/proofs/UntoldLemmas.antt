@@ -1,0 +1,292 @@
+-- With one copy a shard, a peer is good until a note tells that it is down, where no line asks it to fail.
+use Rattle.std.proofs.Common.{◌≡◌, ◌⊎◌, inl, inr, ◌∙◌, ap, sym, subst, ℕ, ◌+◌, ◌*◌, ◌<◌, ◌≤◌, ◌==◌, ◌++◌, Bool, true, false, cond, List, [], ◌∷◌, Option, Some, None, refl, arith, length, is_none, nat_lt}
+use Rattle.std.proofs.lemmas.Bool.{eq-eqb}
+use Rattle.std.proofs.lemmas.List.{append_assoc}
+use Rattle.std.specs.List.{AllByRecursion}
+use Rattle.std.specs.Option.{option_map, option_map_or}
+use Rattle.std.specs.Prelude.{if◌then◌else◌}
+use Rattle.hs_settled.proofs.AskLemmas.{AllAsk, Asks}
+use Rattle.hs_settled.proofs.CausesFirstLemmas.{IsFirst, told_first}
+use Rattle.hs_settled.proofs.CausesGoodLemmas.{last_opened, no_line, opened_good}
+use Rattle.hs_settled.proofs.KeptLemmas.{Kept, all_kept, answering, ask_first, come_first, peers_of_shape, step_kept}
+use Rattle.hs_settled.proofs.CausesListLemmas.{both_nil, count_parts, not_both}
+use Rattle.hs_settled.proofs.LostLemmas.{all_good, costs_one, line_up, steps_over}
+use Rattle.hs_settled.proofs.NotesEndLemmas.{Untold, bad_ended, first_untold, none_counted}
+use Rattle.hs_settled.proofs.CausesRunLemmas.{all_ask_so, all_come_so, flat_is, last_is, last_line, mute, mute_some, opened_kept}
+use Rattle.hs_settled.proofs.SeatLemmas.{FallsBy, Seated, peers_in, seats_run}
+use Rattle.hs_core.specs.declared.event.Event.{Event}
+use Rattle.hs_core.specs.declared.event.Event.TheVariants as event
+use Rattle.hs_core.specs.Looking.{lost_shard, shape_of, status_of}
+use Rattle.hs_core.specs.State.{Core}
+use Rattle.hs_core.specs.Step.{begin_event, do_event, end_event, keep_entries, line_of, refuse_entries, run_event, step}
+use Rattle.hs_core.specs.Words.{change_if}
+use Rattle.hs_desk.specs.declared.done.Done.{Done}
+use Rattle.hs_desk.specs.declared.done.Done.TheVariants as done
+use Rattle.hs_desk.specs.declared.fault.CoreFault.{CoreFault}
+use Rattle.hs_desk.specs.declared.fault.CoreFault.TheVariants as fault
+use Rattle.hs_events.proofs.RunLemmas.{steps_append}
+use Rattle.hs_events.specs.Beginning.{first_items}
+use Rattle.hs_events.specs.Course.{happened, is_refused, items_of, steps}
+use Rattle.hs_events.specs.Due.{Events, MomentsRise}
+use Rattle.hs_events.specs.Found.{first_core, opens_with, starts_good}
+use Rattle.hs_fold.specs.Good.{good_from, is_good}
+use Rattle.hs_journal.specs.declared.entry.JournalEntry.{JournalEntry}
+use Rattle.hs_journal.specs.Moments.{below}
+use Rattle.hs_journal.specs.Notes.{down_in, is_note, note_count}
+use Rattle.hs_limits.specs.declared.limits.Limits.{Limits}
+use Rattle.hs_limits.specs.declared.limits.PeerStatus.TheVariants.{Good}
+use Rattle.hs_limits.specs.declared.shape.Shape.{Shape}
+use Rattle.hs_standing.proofs.LinesStepLemmas.{step_line}
+use Rattle.hs_standing.specs.Script.{all_events}
+use Rattle.hs_members.specs.Members.{is_good_status}
+use Rattle.hs_model.specs.declared.command.Command.{Command}
+use Rattle.hs_model.specs.declared.command.Command.TheVariants as command
+use Rattle.hs_moments.proofs.CoreLemmas.{good_at, journal_at}
+use Rattle.hs_moments.proofs.CourseLemmas.{good-append}
+use Rattle.hs_moments.specs.CoreMachine.{core_at}
+use Rattle.hs_moments.specs.Machine.{until}
+use Rattle.hs_settled.proofs.NotedCountLemmas.{step_counts, told_by}
+use Rattle.hs_settled.proofs.NotedEventLemmas.{line_then}
+use Rattle.hs_promise.specs.Lost.{IsPast}
+use Rattle.hs_promise.specs.Machine.{Went}
+use Rattle.hs_promise.specs.Run.{Ran, Script}
+use Rattle.hs_promise.specs.Story.{Story, last_core, all_events as all_of}
+use Rattle.hs_promise.specs.Untold.{NoneFails}
+use Rattle.hs_told.specs.InTurn.{AllMayCome, MayCome, OtherMay, told_of}
+
+-- ---- parts of a run
+
+record IsFront (front all : Events) : Type 0 where
+  rest : Events
+  is : all ≡ front ++ rest
+
+until_front : (m : ℕ) (es : Events) → IsFront (until m es) es
+until_front m [] = record { rest = []; is = refl }
+until_front m (e ∷ es) = go (nat_lt e.1 m) (until_front m es)
+  where
+    go : (b : Bool) → IsFront (until m es) es → IsFront (if b then e ∷ until m es else []) (e ∷ es)
+    go true f = record { rest = f.rest; is = ap (λ xs. e ∷ xs) f.is }
+    go false f = record { rest = e ∷ es; is = refl }
+
+happened_front : (c : Core) (es : Events) → IsFront (happened c es) es
+happened_front c [] = record { rest = []; is = refl }
+happened_front c (e ∷ es) = go (is_refused (step e.0 e.1 c).ended) (happened_front (step e.0 e.1 c) es)
+  where
+    go : (b : Bool) → IsFront (happened (step e.0 e.1 c) es) es → IsFront (if b then [] else e ∷ happened (step e.0 e.1 c) es) (e ∷ es)
+    go true f = record { rest = e ∷ es; is = refl }
+    go false f = record { rest = f.rest; is = ap (λ xs. e ∷ xs) f.is }
+
+-- the events below a moment that happened
+front_at : (c : Core) (es : Events) (m : ℕ) → IsFront (until m (happened c es)) es
+front_at c es m =
+    let a : IsFront (until m (happened c es)) (happened c es) = until_front m (happened c es) in
+    let b : IsFront (happened c es) es = happened_front c es in
+    record { rest = a.rest ++ b.rest; is = b.is ∙ ap (λ xs. xs ++ b.rest) a.is ∙ append_assoc (until m (happened c es)) a.rest b.rest }
+
+-- none of them was refused
+not_refused : (c : Core) (es : Events) (m : ℕ) → is_refused c.ended ≡ false → is_refused (core_at c es m).ended ≡ false
+not_refused c [] m h = h
+not_refused c (e ∷ es) m h = go (is_refused (step e.0 e.1 c).ended) refl (λ k. not_refused (step e.0 e.1 c) es m k)
+  where
+    later : (b : Bool) → is_refused (steps (step e.0 e.1 c) (until m (happened (step e.0 e.1 c) es))).ended ≡ false → is_refused (steps c (if b then e ∷ until m (happened (step e.0 e.1 c) es) else [])).ended ≡ false
+    later true k = k
+    later false k = h
+
+    go : (b : Bool) → is_refused (step e.0 e.1 c).ended ≡ b → (is_refused (step e.0 e.1 c).ended ≡ false → is_refused (core_at (step e.0 e.1 c) es m).ended ≡ false)
+        → is_refused (steps c (until m (if b then [] else e ∷ happened (step e.0 e.1 c) es))).ended ≡ false
+    go true t ih = h
+    go false t ih = later (nat_lt e.1 m) (ih t)
+
+-- ---- want of memory ends no step
+
+clash : None ≡ Some fault.NoMemory → ⊥
+clash e = cc e
+
+end_memory : (x : Core) → (end_event x).ended ≡ Some fault.NoMemory → ⊥
+end_memory x = go (nat_lt x.limits.ops (length x.journal + length x.entries))
+  where
+    lost : (o : Option ℕ) → option_map fault.ShardLost o ≡ Some fault.NoMemory → ⊥
+    lost None e = cc e
+    lost (Some g) e = cc e
+
+    go : (b : Bool) → (cond b (refuse_entries x) (keep_entries x)).ended ≡ Some fault.NoMemory → ⊥
+    go true e = cc e
+    go false e = lost (lost_shard x) e
+
+step_memory : (e : Event) (at : ℕ) (c : Core) → (c.ended ≡ Some fault.NoMemory → ⊥) → (step e at c).ended ≡ Some fault.NoMemory → ⊥
+step_memory e at c h = go c.ended
+  where
+    go : (o : Option CoreFault) → (change_if (is_none o) (run_event e at) c).ended ≡ Some fault.NoMemory → ⊥
+    go None k = end_memory (do_event e (begin_event (line_of e) at c)) k
+    go (Some f) k = h k
+
+steps_memory : (c : Core) (es : Events) → (c.ended ≡ Some fault.NoMemory → ⊥) → (steps c es).ended ≡ Some fault.NoMemory → ⊥
+steps_memory c [] h = h
+steps_memory c (e ∷ es) h = steps_memory (step e.0 e.1 c) es (step_memory e.0 e.1 c h)
+
+-- ---- who is not good was noted, or was to fail
+
+abbrev Fell : (ℕ → Option Command) → ℕ → Core → Type 0
+Fell commands x c = (1 ≤ note_count x (told_of c)) ⊎ (commands c.event_line ≡ Some (command.Fail x))
+
+module _ (commands : ℕ → Option Command) (shape : Shape) (limits : Limits) (one : shape.copies ≡ 1) where
+  abbrev K : Core → Type 0
+  K c = Kept commands shape limits c
+
+  every_good : (c : Core) → K c → c.ended ≡ None → (x : ℕ) → x < peers_of_shape shape → status_of x c ≡ Good
+  every_good c kept going x low =
+      let count : peers_of_shape shape ≡ shape.shards = ap (λ k. shape.shards * k) one ∙ omega arith in
+      let shards : (shape_of c).shards ≡ shape.shards = ap (λ (z : Shape). z.shards) kept.shaped in
+      all_good c (ap (λ (z : Shape). z.copies) kept.shaped ∙ one) (kept.ends.going going) x (omega (arith, low, count, shards))
+
+  fell_by : (c : Core) (e : Event) (at : ℕ) → K c → c.ended ≡ None → MayCome commands c e at → Asks commands c e → (x : ℕ) → x < peers_of_shape shape
+      → (status_of x (step e at c) ≡ Good) ⊎ Fell commands x (step e at c)
+  fell_by c e at kept going may asks x low = elim (seated.good x low) [
+    | inl falls ↦ inr (by_event e refl falls)
+    | inr good ↦ inl good
+  ]
+    where
+      seated : Seated (peers_of_shape shape) (FallsBy e) (peers_in (step e at c))
+      seated = seats_run (peers_of_shape shape) (FallsBy e) e at c (λ y falls l. falls)
+          (record { statuses = kept.seats.statuses; count = kept.seats.count; good = λ y l. inr (every_good c kept going y l); tasks = kept.seats.tasks; rejoins = kept.seats.rejoins })
+
+      noted : (peer : ℕ) → e ≡ event.Report peer (done.Failed x) → 1 ≤ note_count x (told_of (step e at c))
+      noted peer is =
+          let more : note_count x (told_of (step e at c)) ≡ note_count x (told_of c) + told_by x e c = step_counts commands c kept.noted going at x e (answering commands shape limits e c asks) in
+          let cost : told_by x e c ≡ 1 = ap (λ y. told_by x y c) is ∙ costs_one peer x c in
+          omega (arith, more, cost)
+
+      by_event : (y : Event) → e ≡ y → FallsBy y x → Fell commands x (step e at c)
+      by_event (event.Line line o) is f = absurd f
+      by_event (event.Report peer d) is f = inl (noted peer (is ∙ ap (λ (z : Done). event.Report peer z) f))
+      by_event (event.Turn line peer) is f = absurd f
+      by_event (event.Deliver line number) is f = absurd f
+      by_event (event.Lose line number) is f = absurd f
+      by_event (event.Repeat line number) is f = absurd f
+      by_event (event.Nudge line peer) is f = absurd f
+      by_event (event.Fail line peer) is f =
+          let own : commands line ≡ Some (command.Fail peer) = subst (λ z. Asks commands c z) is asks in
+          let other : OtherMay commands c line (event.Fail line peer) = (subst (λ z. MayCome commands c z at) is may).begins in
+          let here : (step e at c).event_line ≡ line = step_line e at c going ∙ ap (λ z. line_then (line_of z) c) is ∙ line_up line c other.upward in
+          inr (ap commands here ∙ own ∙ ap (λ p. Some (command.Fail p)) f)
+      by_event (event.Start line peer) is f = absurd f
+
+  all_fell : (c : Core) (es : Events) → K c → AllMayCome commands c es → AllAsk commands c es → c.ended ≡ None → (x : ℕ) → x < peers_of_shape shape
+      → (status_of x (steps c es) ≡ Good) ⊎ Fell commands x (steps c es)
+  all_fell c [] kept may ask going x low = inl (every_good c kept going x low)
+  all_fell c (e ∷ es) kept may ask going x low = go (λ on. all_fell (step e.0 e.1 c) es (step_kept commands shape limits e.0 e.1 c kept going (may.0 going) ask.0.1) may.1 ask.1 on x low) (step e.0 e.1 c).ended refl
+    where
+      go : ((step e.0 e.1 c).ended ≡ None → (status_of x (steps (step e.0 e.1 c) es) ≡ Good) ⊎ Fell commands x (steps (step e.0 e.1 c) es))
+          → (o : Option CoreFault) → (step e.0 e.1 c).ended ≡ o → (status_of x (steps (step e.0 e.1 c) es) ≡ Good) ⊎ Fell commands x (steps (step e.0 e.1 c) es)
+      go ih None is = ih is
+      go ih (Some f) is = subst (λ (d : Core). (status_of x d ≡ Good) ⊎ Fell commands x d) (sym (steps_over (step e.0 e.1 c) es f is)) (fell_by c e.0 e.1 kept going (may.0 going) ask.0.1 x low)
+
+-- first notes that note nobody are none
+firsts_nil : (n : ℕ) (es : List JournalEntry) → AllByRecursion (λ (e : JournalEntry). IsFirst n e) es → Untold es → es ≡ []
+firsts_nil n [] all untold = refl
+firsts_nil n (e ∷ es) all untold =
+    let none : is_note all.0.peer e ≡ false = (none_counted all.0.peer (e ∷ es) (untold all.0.peer)).0 in
+    let some : is_note all.0.peer e ≡ true = ap (λ o. option_map_or (λ (d : ℕ × ℕ). d.0 == all.0.peer) o false) (ap down_in all.0.told) ∙ eq-eqb all.0.peer all.0.peer refl in
+    absurd (not_both (sym some ∙ none))
+
+-- ---- a run
+
+module _ (S : Script) (r : Ran) (story : Story) (went : Went S r story) (one : S.set.shape.copies ≡ 1) (past : IsPast r 0) where
+  abbrev opened : Core
+  opened = first_core S.set story.found
+
+  abbrev es : Events
+  es = story.opening ++ all_events story.lines
+
+  kept : Kept (mute S.commands) S.set.shape S.set.limits opened
+  kept = opened_kept S r story went
+
+  going : opened.ended ≡ None
+  going = go opened.ended refl
+    where
+      over : (f : CoreFault) → opened.ended ≡ Some f → ⊥
+      over f is = elim past [
+        | inl more ↦ let none : r.line ≡ 0 = no_line S r story went f is in omega (arith, more, none)
+        | inr here ↦
+            let both : Some f ≡ None = sym is ∙ ap (λ (c : Core). c.ended) (sym (last_opened S r story went f is)) ∙ went.ends.past here.1 in
+            cc both
+      ]
+
+      go : (o : Option CoreFault) → opened.ended ≡ o → opened.ended ≡ None
+      go None is = is
+      go (Some f) is = absurd (over f is)
+
+  first_good : (peer : ℕ) → peer < S.set.shape.shards * S.set.shape.copies → is_good_status (status_of peer opened) ≡ true
+  first_good peer low = ap is_good_status (every_good (mute S.commands) S.set.shape S.set.limits one opened kept going peer low)
+
+  pub all_start_good : (peer : ℕ) → peer < S.set.shape.shards * S.set.shape.copies → starts_good story.found peer ≡ true
+  all_start_good peer low = sym (opened_good S r story went peer) ∙ first_good peer low
+
+  silent : opened.journal ≡ []
+  silent = (both_nil opened.journal opened.refused (firsts_nil (S.set.shape.shards * S.set.shape.copies) (told_of opened)
+      (told_first S.set.shape S.set.limits (opens_with S.set story.found) story.found.opened went.found.goods) (first_untold S r story went one going))).0
+
+  same_events : all_of story ≡ story.opening ++ all_events story.lines
+  same_events = ap (λ xs. story.opening ++ xs) (flat_is story.lines)
+
+  rises : MomentsRise story.found.opened es r.new.moment
+  rises = subst (λ xs. MomentsRise story.found.opened xs r.new.moment) same_events went.rises
+
+  module _ (m : ℕ) where
+    abbrev now : Core
+    now = core_at opened es m
+
+    front : IsFront (until m (happened opened es)) es
+    front = front_at opened es m
+
+    may : AllMayCome (mute S.commands) opened (until m (happened opened es))
+    may = come_first (mute S.commands) opened (until m (happened opened es)) front.rest (subst (λ xs. AllMayCome (mute S.commands) opened xs) front.is (all_come_so S r story went))
+
+    ask : AllAsk (mute S.commands) opened (until m (happened opened es))
+    ask = ask_first (mute S.commands) opened (until m (happened opened es)) front.rest (subst (λ xs. AllAsk (mute S.commands) opened xs) front.is (all_ask_so S r story went))
+
+    now_kept : Kept (mute S.commands) S.set.shape S.set.limits now
+    now_kept = all_kept (mute S.commands) S.set.shape S.set.limits opened (until m (happened opened es)) kept may ask
+
+    answered : now.journal ≡ below m r.journal
+    answered =
+        journal_at opened es story.found.opened r.new.moment m kept.noted.quiet rises (ap (λ (xs : List JournalEntry). below m xs) silent ∙ sym silent)
+        ∙ ap (λ (c : Core). below m c.journal) (sym (last_is S r story went)) ∙ ap (λ (xs : List JournalEntry). below m xs) (sym went.journal)
+
+    none_refused : (o : Option CoreFault) → now.ended ≡ o → is_refused o ≡ false → now.refused ≡ []
+    none_refused None is h = now_kept.noted.going is
+    none_refused (Some (fault.ShardLost g)) is h = now_kept.ends.clean g is
+    none_refused (Some fault.OpsFull) is h = absurd (not_both h)
+    none_refused (Some fault.NoMemory) is h = absurd (steps_memory opened (until m (happened opened es)) (λ e. clash (sym going ∙ e)) is)
+
+    -- who is not good then was the last to fall
+    fallen : (peer : ℕ) → peer < S.set.shape.shards * S.set.shape.copies → note_count peer (below m r.journal) ≡ 0 → NoneFails S r peer → (f : CoreFault) → now.ended ≡ Some f → Fell (mute S.commands) peer now → ⊥
+    fallen peer low untold none f over (inl noted) =
+        let all : note_count peer (told_of now) ≡ note_count peer now.journal + note_count peer now.refused = count_parts peer now.journal now.refused in
+        let clean : note_count peer now.refused ≡ 0 = ap (λ (xs : List JournalEntry). note_count peer xs) (none_refused now.ended refl (not_refused opened es m (ap is_refused going))) ∙ refl in
+        let told : note_count peer now.journal ≡ 0 = ap (λ (xs : List JournalEntry). note_count peer xs) answered ∙ untold in
+        omega (arith, noted, all, clean, told)
+    fallen peer low untold none f over (inr own) =
+        let last : last_core S story ≡ now =
+        last_is S r story went ∙ ap (λ xs. steps opened xs) front.is ∙ steps_append opened (until m (happened opened es)) front.rest ∙ steps_over now front.rest f over in
+        none now.event_line (subst (λ (c : Core). c.event_line ≤ r.line) last (last_line S r story went)) (mute_some S.commands now.event_line (command.Fail peer) own)
+
+    is_now : (peer : ℕ) → peer < S.set.shape.shards * S.set.shape.copies → note_count peer (below m r.journal) ≡ 0 → NoneFails S r peer → (b : Bool) → is_good_status (status_of peer now) ≡ b → is_good_status (status_of peer now) ≡ true
+    is_now peer low untold none true is = is
+    is_now peer low untold none false is = by_end now.ended refl
+      where
+        by_end : (o : Option CoreFault) → now.ended ≡ o → is_good_status (status_of peer now) ≡ true
+        by_end None on = absurd (bad_ended (mute S.commands) S.set.shape S.set.limits one now now_kept peer low is on)
+        by_end (Some f) over = elim (all_fell (mute S.commands) S.set.shape S.set.limits one opened (until m (happened opened es)) kept may ask going peer low) [
+          | inl good ↦ ap is_good_status good
+          | inr fell ↦ absurd (fallen peer low untold none f over fell)
+        ]
+
+    pub good_untold : (peer : ℕ) → peer < S.set.shape.shards * S.set.shape.copies → good_from false (first_items S.set.shape story.found r.old.moment) m peer ≡ true
+        → note_count peer (below m r.journal) ≡ 0 → NoneFails S r peer → is_good r.course m peer ≡ true
+    good_untold peer low begins untold none =
+        ap (λ items. good_from false items m peer) (went.course ∙ ap (λ xs. first_items S.set.shape story.found r.old.moment ++ items_of opened xs) same_events)
+        ∙ good-append false (first_items S.set.shape story.found r.old.moment) (items_of opened es) m peer
+        ∙ ap (λ b. good_from b (items_of opened es) m peer) (begins ∙ sym (first_good peer low))
+        ∙ good_at opened es story.found.opened r.new.moment m peer rises (subst (λ (z : Shape). peer < z.shards * z.copies) (sym kept.shaped) low)
+        ∙ is_now peer low untold none (is_good_status (status_of peer now)) refl

@@ -1,0 +1,43 @@
+use Rattle.hs_settled.proofs.DeletesCountLemmas.{CountLaws, core_right}
+use Rattle.hs_settled.proofs.FrontLemmas.{Stands, front_stands}
+use Rattle.hs_settled.proofs.DeletesRunLemmas.{Running}
+use Rattle.hs_settled.proofs.counts.each_core_of_a_run_counts_right.Goals as goal
+use Rattle.hs_events.specs.Course.{steps}
+use Rattle.hs_events.specs.Found.{first_core}
+use Rattle.hs_events.specs.Whole.{open_whole}
+use Rattle.hs_standing.specs.Standing.{judging_of}
+use Rattle.std.specs.Prelude.{take}
+
+pub returns-clause-stands : goal.returns-clause-stands
+returns-clause-stands c = λ by start core cs its.
+    let laws : CountLaws = record {
+      counts = c.counts_of_catalogues_are_right.ensures.counts;
+      none = c.no_reached_block_is_a_wrong_zero.ensures.none;
+      found = c.each_unreached_block_is_found.ensures.found;
+      counted = c.histories_are_counted.ensures.counted;
+    } in
+    core_right laws by start core cs its
+
+pub returns-clause-events : goal.returns-clause-events
+returns-clause-events c = λ start w events run may n.
+    let laws : CountLaws = record {
+      counts = c.counts_of_catalogues_are_right.ensures.counts;
+      none = c.no_reached_block_is_a_wrong_zero.ensures.none;
+      found = c.each_unreached_block_is_found.ensures.found;
+      counted = c.histories_are_counted.ensures.counted;
+    } in
+    let running : Running = record { opens = c.a_run_goes_on.ensures.opens; goes_on = c.a_run_goes_on.ensures.goes_on } in
+    let its : Stands start (steps w.core (take n events)) = front_stands c.each_event_is_told.ensures.event running start events w run may n in
+    core_right laws (judging_of start) start.entry (steps w.core (take n events)) its.0 its.1
+
+pub returns-clause-run : goal.returns-clause-run
+returns-clause-run c = λ start found events opens may n.
+    let laws : CountLaws = record {
+      counts = c.counts_of_catalogues_are_right.ensures.counts;
+      none = c.no_reached_block_is_a_wrong_zero.ensures.none;
+      found = c.each_unreached_block_is_found.ensures.found;
+      counted = c.histories_are_counted.ensures.counted;
+    } in
+    let running : Running = record { opens = c.a_run_goes_on.ensures.opens; goes_on = c.a_run_goes_on.ensures.goes_on } in
+    let its : Stands start (steps (first_core start.set found) (take n events)) = front_stands c.each_event_is_told.ensures.event running start events (open_whole start.set found) (running.opens start found opens) may n in
+    core_right laws (judging_of start) start.entry (steps (first_core start.set found) (take n events)) its.0 its.1

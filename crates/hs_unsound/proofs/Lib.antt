@@ -1,9 +1,0 @@
-pub mod ByteLemmas
-pub mod EndLemmas
-pub mod GoLemmas
-pub mod KnownLemmas
-pub mod MachineLemmas
-pub mod NumberLemmas
-pub mod OpenLemmas
-pub mod TellLemmas
-pub mod WantLemmas
