@@ -1,8 +1,9 @@
 #!/usr/bin/env python3
-"""Counts which bytes a built hydra copies, for writes of blocks of 64 KiB.
+"""Counts which bytes a built hydra copies, for writes and for reads of blocks of 64 KiB.
 
-A small library stands before the C library's memcpy and memmove, and counts their calls of at least 16 KiB by the place
-that called. What realloc moves, and what the system copies, is not counted. It makes and removes folders of its own.
+A small library stands before the C library's memcpy and memmove, and counts their calls by the place that called: of a
+write those of at least 16 KiB, of a read those of at least 4 KiB. What realloc moves, and what the system copies, is not
+counted. It makes and removes folders of its own.
 """
 import argparse
 import bisect
@@ -17,11 +18,17 @@ COUNTER = r"""
 #include <dlfcn.h>
 #include <stddef.h>
 #include <stdio.h>
+#include <stdlib.h>
 
 static struct { void *at; unsigned long calls, bytes; } places[256];
+static size_t least = (size_t)-1;
+
+__attribute__((constructor)) static void begin(void) {
+    least = strtoul(getenv("LEAST"), 0, 10);
+}
 
 static void count(void *at, size_t n) {
-    if (n < 16384) return;
+    if (n < least) return;
     for (int i = 0; i < 256; i++) {
         if (places[i].at && places[i].at != at) continue;
         places[i].at = at, places[i].calls++, places[i].bytes += n;
@@ -65,6 +72,18 @@ def functions(program):
     return [(int(at, 16), name) for at, kind, name in lines if at and kind in "tT"]
 
 
+def copied(program, counter, script, least):
+    """The calls and the bytes that a run of a script copies, of at least so many bytes a call, by the address of the place."""
+    with tempfile.TemporaryDirectory() as top:
+        run = [program, "script", os.path.join(top, "store"), "1", "1"]
+        done = subprocess.run(run, input=("\n".join(script) + "\n").encode(), capture_output=True, check=False,
+                              env={**os.environ, "LD_PRELOAD": counter, "LEAST": str(least)})
+    if done.returncode != 0:
+        sys.exit(f"{program} ended with {done.returncode}: {done.stderr.decode(errors='replace')[-500:]}")
+    told = [map(int, line.split()[1:]) for line in done.stderr.decode().splitlines()]
+    return {at: (calls, size) for at, calls, size in told}
+
+
 def main():
     here = os.path.dirname(os.path.abspath(__file__))
     words = argparse.ArgumentParser(description=__doc__)
@@ -72,25 +91,27 @@ def main():
     words.add_argument("--lines", type=int, default=60)
     asked = words.parse_args()
     program = os.path.abspath(asked.program)
-    script = ["open a"]
+    writes, reads = ["open a"], []
     for number in range(asked.lines):
-        script += [f"write a {(number.to_bytes(4, 'big') * (SIZE // 4)).hex()}", "settle"]
+        writes += [f"write a {(number.to_bytes(4, 'big') * (SIZE // 4)).hex()}", "settle"]
+        reads += [f"read a h{number}", "settle"]
     with tempfile.TemporaryDirectory() as top:
         source, counter = os.path.join(top, "counter.c"), os.path.join(top, "counter.so")
         with open(source, "w", encoding="utf-8") as file:
             file.write(COUNTER)
         how = ["-O1", "-fno-builtin", "-fno-tree-loop-distribute-patterns", "-shared", "-fPIC"]
         subprocess.run(["cc", *how, "-o", counter, source, "-ldl"], check=True)
-        run = [program, "script", os.path.join(top, "store"), "1", "1"]
-        done = subprocess.run(run, input=("\n".join(script) + "\n").encode(), capture_output=True, check=False,
-                              env={**os.environ, "LD_PRELOAD": counter})
-    if done.returncode != 0:
-        sys.exit(f"{program} ended with {done.returncode}: {done.stderr.decode(errors='replace')[-500:]}")
+        written = copied(program, counter, writes, 16_384)
+        without = copied(program, counter, writes, 4_096)
+        both = copied(program, counter, writes + reads, 4_096)
+    none = (0, 0)
+    read = {at: (calls - without.get(at, none)[0], size - without.get(at, none)[1]) for at, (calls, size) in both.items()}
     names = functions(program)
-    for line in done.stderr.decode().splitlines():
-        at, calls, size = map(int, line.split()[1:])
-        name = names[bisect.bisect_right(names, (at, "")) - 1][1]
-        print(f"{size / asked.lines / SIZE:.2f} of a block's bytes in each line, {calls} calls, by {name}")
+    for what, places in (("write", written), ("read", read)):
+        for at, (calls, size) in places.items():
+            if calls:
+                name = names[bisect.bisect_right(names, (at, "")) - 1][1]
+                print(f"{size / asked.lines / SIZE:.2f} of a block's bytes in each {what}, {calls} calls, by {name}")
 
 
 main()

@@ -2,12 +2,14 @@
 use crate::show::put_hex;
 use hs_entry::{Entry, EntryFault, read_entry};
 use hs_limits::{Address, Delta, Key};
+use hs_shared::SharedBytes;
 use std::alloc::Global;
 use std::io;
 use std::io::Write;
 
 /// Puts the number and the entry that the bytes spell, or why they spell none.
 pub fn put_entry(alloc: Global, bytes: &[u8], out: &mut Vec<u8>) -> io::Result<()> {
+    let bytes = SharedBytes::from_vec(alloc, Vec::from_slice(alloc, bytes)?)?;
     match read_entry(alloc, bytes) {
         Ok((number, entry)) => {
             write!(out, "{number} ")?;

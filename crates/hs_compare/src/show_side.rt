@@ -3,6 +3,7 @@ use crate::show::put_numbers;
 use crate::show_entry::kind_of;
 use hs_entry::read_entry;
 use hs_ports::{MemoryDisk, Side, Watch};
+use hs_shared::SharedBytes;
 use hs_side::{SideFault, SideLog};
 use std::alloc::Global;
 use std::io;
@@ -53,6 +54,7 @@ pub fn put_kinds(alloc: Global, side: &[u8], out: &mut Vec<u8>) -> io::Result<()
 
 /// Puts the kind of an entry.
 fn put_kind(alloc: Global, payload: &[u8], out: &mut Vec<u8>) -> io::Result<()> {
+    let payload = SharedBytes::from_vec(alloc, Vec::from_slice(alloc, payload)?)?;
     match read_entry(alloc, payload) {
         Ok((_, entry)) => write!(out, "{}", kind_of(&entry)),
         Err(_) => write!(out, "none"),

@@ -168,9 +168,7 @@ fn next_step(
 {
     match how {
         Next::Go => operation.go(view),
-        Next::Bytes { bytes: Some(bytes) } => {
-            operation.bytes(view, Some(bytes.as_slice()), pointers)
-        }
+        Next::Bytes { bytes: Some(bytes) } => operation.bytes(view, Some(bytes), pointers),
         Next::Bytes { bytes: None } => operation.bytes(view, None, pointers),
         Next::Effect { did } => operation.effect(view, did),
     }

@@ -1,6 +1,6 @@
 //! By what an operation goes on.
 use hs_desk::What;
-use hs_entry::SharedBytes;
+use hs_shared::SharedBytes;
 
 /// By what an operation goes on.
 #[derive(Drop)]

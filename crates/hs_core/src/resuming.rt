@@ -9,8 +9,9 @@ ghost use Rattle.hs_core.specs.Words.{each};
 use crate::Core;
 use crate::next::Next;
 use crate::no_memory::NoMemory;
-use hs_entry::{Entry, SharedBytes};
+use hs_entry::Entry;
 use hs_limits::Address;
+use hs_shared::SharedBytes;
 
 impl Core {
     /// What waited for the View of a shard's view goes on, by line.

@@ -1,6 +1,6 @@
 //! Blocks, and names of sessions, by number; and a key.
-use hs_entry::SharedBytes;
 use hs_limits::{Address, Key, ListOf, Name};
+use hs_shared::SharedBytes;
 use std::alloc::{AllocError, Global};
 
 /// The four bytes of data of a block.

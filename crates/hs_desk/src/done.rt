@@ -3,7 +3,7 @@ ghost use Rattle.std.specs.Prelude.{◌≡◌};
 ghost use Rattle.hs_desk.specs.Answers.{answers};
 
 use crate::Job;
-use hs_entry::SharedBytes;
+use hs_shared::SharedBytes;
 
 /// The report of a job.
 #[derive(Debug, Drop)]

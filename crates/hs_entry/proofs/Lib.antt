@@ -7,3 +7,4 @@ mod KindLemmas
 mod ListLemmas
 pub mod ShortLemmas
 pub mod RankLemmas
+mod LentLemmas

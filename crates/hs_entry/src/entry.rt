@@ -1,6 +1,6 @@
 //! The kinds of entries.
-use crate::SharedBytes;
 use hs_limits::{Address, Delta, Key, ListOf};
+use hs_shared::SharedBytes;
 
 /// An entry of a shard's log, or a frame that stands for earlier ones.
 #[derive(Debug, Drop)]

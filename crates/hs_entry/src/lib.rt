@@ -11,7 +11,6 @@ mod parts;
 mod rank;
 mod reading;
 mod same;
-mod shared;
 mod writing;
 
 pub use entry::Entry;
@@ -20,5 +19,4 @@ pub use laws::no_payload_begins_another;
 pub use list::EntryList;
 pub use rank::Rank;
 pub use reading::{read_entry, read_rank};
-pub use shared::SharedBytes;
 pub use writing::write_entry;

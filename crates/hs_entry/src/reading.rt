@@ -1,5 +1,5 @@
 //! Reading entries from their payloads.
-ghost use Rattle.std.specs.Prelude.{◌≡◌, ℕ, ◌^◌, ◌<◌, Ok, IfOk};
+ghost use Rattle.std.specs.Prelude.{◌≡◌, ◌≢◌, ℕ, ◌^◌, ◌<◌, length, slice_index, Ok, IfOk};
 ghost use Rattle.hs_entry.specs.declared.entry.Entry.{Entry};
 ghost use Rattle.hs_entry.specs.declared.entry.Entry.TheVariants as kinds;
 ghost use Rattle.hs_entry.specs.Entries.{view_after};
@@ -7,23 +7,33 @@ ghost use Rattle.hs_entry.specs.Payload.{payload};
 ghost use Rattle.hs_entry.specs.Reading.{IsReadable, IsReading, is_kind, view_at, block_at, mark_at, root_at, drop_at, enter_at, got_at, fields_at, entry_at, view_read, rank_read};
 
 use crate::parts::{address_at, deltas_of, epoch_at, key_at, key_of, u8_at, u32_at, u64_at};
-use crate::{Entry, EntryFault, Rank, SharedBytes};
-use hs_limits::{ListOf, spelt};
+use crate::{Entry, EntryFault, Rank};
+use hs_limits::spelt;
+use hs_shared::SharedBytes;
 use std::alloc::Global;
 
-/// The number and the entry that the bytes spell, all of them. It copies the bytes of a block.
-/// A Base and the kept frames are no kinds here.
-pub fn read_entry(alloc: Global, bytes: &[u8]) -> Result<(u64, Entry), EntryFault>
+/// The number and the entry that the bytes spell, all of them. A Block keeps the bytes and lends its
+/// spelling from them; it copies no bytes of a block. A Base and the kept frames are no kinds here.
+pub fn read_entry(alloc: Global, bytes: SharedBytes) -> Result<(u64, Entry), EntryFault>
     // What is read is within the bounds, and spelled so.
     ensures found { IfOk result (λ x.
-        (x.0 < 2 ^ 64) × IsReadable x.1 × (bytes.now ≡ payload x.0 x.1)) }
+        (x.0 < 2 ^ 64) × IsReadable x.1 × (bytes ≡ payload x.0 x.1)) }
     // What is spelled so is read, unless memory runs out.
     ensures only { (number : ℕ) (entry : Entry) → number < 2 ^ 64 → IsReadable entry →
-        bytes.now ≡ payload number entry → IsReading (λ x. x) result (Ok (number, entry)) }
+        bytes ≡ payload number entry → IsReading (λ x. x) result (Ok (number, entry)) }
     // Which fault it is: the first in the order of the bytes.
-    ensures exact { IsReading (λ x. x) result (entry_at bytes.now) }
+    ensures exact { IsReading (λ x. x) result (entry_at bytes) }
 {
-    entry_of(alloc, bytes)
+    let whole = len_of(bytes.as_slice());
+    entry_of(alloc, whole, bytes)
+}
+
+/// How many bytes these are, each of them below 2^8.
+fn len_of(bytes: &[u8]) -> u64
+    ensures value { result ≡ length bytes.now }
+    ensures each { (i : ℕ) → slice_index bytes.now i < 2 ^ 8 }
+{
+    bytes.len() as u64
 }
 
 /// The rank behind the entry that the bytes spell, where `before` is the rank without it. It reads
@@ -57,7 +67,7 @@ fn view_in(
         block_in(whole, bytes)?;
         return Ok(before);
     }
-    let entry = fields_of(alloc, kind, whole, bytes)?;
+    let entry = plain_of(alloc, kind, whole, bytes)?;
     Ok(view_after(before, &entry))
 }
 
@@ -71,17 +81,18 @@ pub(crate) fn view_after(before: u64, entry: &Entry) -> u64
     }
 }
 
+/// The number and the entry that bytes spell, which are an input of `whole` bytes.
 #[tactic(auto, unfolding(crate::specs::Reading::entry_at))]
-fn entry_of(alloc: Global, bytes: &[u8]) -> Result<(u64, Entry), EntryFault>
-    ensures { IsReading (λ x. x) result (entry_at bytes.now) }
+fn entry_of(alloc: Global, whole: u64, bytes: SharedBytes) -> Result<(u64, Entry), EntryFault>
+    requires { whole ≡ length bytes }
+    ensures { IsReading (λ x. x) result (entry_at bytes) }
 {
-    let whole = bytes.len() as u64;
-    let (kind, rest) = u8_at(whole, bytes)?;
+    let (kind, rest) = u8_at(whole, bytes.as_slice())?;
     if !is_kind(kind) {
         return Err(EntryFault::BadKind { found: kind });
     }
-    let (number, fields) = u64_at(whole, rest)?;
-    let entry = fields_of(alloc, kind, whole, fields)?;
+    let (number, _) = u64_at(whole, rest)?;
+    let entry = fields_of(alloc, kind, whole, bytes.behind(9))?;
     Ok((number, entry))
 }
 
@@ -94,12 +105,23 @@ fn is_kind(kind: u8) -> bool
 
 /// The fields of an entry of this kind, in an input of `whole` bytes.
 #[tactic(auto, unfolding(crate::specs::Reading::fields_at))]
-fn fields_of(alloc: Global, kind: u8, whole: u64, bytes: &[u8]) -> Result<Entry, EntryFault>
+fn fields_of(alloc: Global, kind: u8, whole: u64, fields: SharedBytes) -> Result<Entry, EntryFault>
+    ensures { IsReading (λ x. x) result (fields_at kind whole fields) }
+{
+    if kind == 2 {
+        return block_of(whole, fields);
+    }
+    plain_of(alloc, kind, whole, fields.as_slice())
+}
+
+/// The fields of an entry of this kind, which is not a Block's, in an input of `whole` bytes.
+#[tactic(auto, unfolding(crate::specs::Reading::fields_at))]
+fn plain_of(alloc: Global, kind: u8, whole: u64, bytes: &[u8]) -> Result<Entry, EntryFault>
+    requires { kind ≢ 2 }
     ensures { IsReading (λ x. x) result (fields_at kind whole bytes.now) }
 {
     match kind {
         1 => view_of(whole, bytes),
-        2 => block_of(alloc, whole, bytes),
         3 => mark_of(whole, bytes),
         4 => root_of(alloc, whole, bytes),
         5 => drop_of(alloc, whole, bytes),
@@ -136,11 +158,12 @@ fn block_in(whole: u64, bytes: &[u8]) -> Result<(u64, u64, &[u8]), EntryFault>
     Ok((op, least, rest))
 }
 
-fn block_of(alloc: Global, whole: u64, bytes: &[u8]) -> Result<Entry, EntryFault>
-    ensures { IsReading (λ x. x) result (block_at whole bytes.now) }
+/// The Block of these fields. It keeps them, and lends its bytes from them.
+fn block_of(whole: u64, fields: SharedBytes) -> Result<Entry, EntryFault>
+    ensures { IsReading (λ x. x) result (block_at whole fields) }
 {
-    let (op, least, bytes) = block_in(whole, bytes)?;
-    let bytes = SharedBytes::from_vec(alloc, Vec::from_slice(alloc, bytes)?)?;
+    let (op, least, _) = block_in(whole, fields.as_slice())?;
+    let bytes = fields.behind(16);
     Ok(Entry::Block { op, least, bytes })
 }
 

@@ -8,6 +8,7 @@ use hs_entry::{Entry, EntryFault, read_entry};
 use hs_limits::Shape;
 use hs_peerlog::{LogFault, PeerLog};
 use hs_ports::{Disk, MemoryDisk, Watch};
+use hs_shared::SharedBytes;
 use std::alloc::Global;
 
 pub(crate) const SHAPE: Shape = Shape {
@@ -25,7 +26,8 @@ pub(crate) fn blank(alloc: Global) -> Counted<MemoryDisk> {
 pub(crate) fn spelled(alloc: Global, payload: &[u8]) -> Result<Entry, EntryFault>
     ensures { IfOk result IsReadable }
 {
-    let (_number, entry) = read_entry(alloc, payload)?;
+    let bytes = SharedBytes::from_vec(alloc, Vec::from_slice(alloc, payload)?)?;
+    let (_number, entry) = read_entry(alloc, bytes)?;
     Ok(entry)
 }
 

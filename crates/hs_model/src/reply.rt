@@ -1,5 +1,6 @@
 //! What the store answers.
 use hs_limits::{Address, Key, ListOf, Name};
+use hs_shared::SharedBytes;
 
 /// An answer, or a note that stands beside the answers. How each is printed is in docs/FORMATS.md.
 #[derive(Debug, Drop)]
@@ -13,8 +14,9 @@ pub enum Reply {
         handle: u32,
         epoch: u64,
     },
+    /// The data of a block, which may share the bytes of its spelling, and a handle for each pointer.
     Bytes {
-        bytes: ListOf<u8>,
+        bytes: SharedBytes,
         handles: ListOf<u32>,
     },
     Held {

@@ -1,16 +1,22 @@
-//! A write, from its line to its answer.
-use crate::seen::{BLOCK, one_session, view_of, write};
+//! A write, from its line to its answer, and a read.
+use crate::seen::{BLOCK, holding_session, one_session, read, view_of, write};
 use hs_desk::What;
 use hs_entry::Entry;
 use hs_limits::Shape;
 use hs_model::{Deed, Op, Reply};
 use hs_ops::{OpFault, OpStep, OpView, Operation, Stage};
+use hs_shared::SharedBytes;
 use hs_tokens::Sessions;
-use std::alloc::Global;
+use std::alloc::{AllocError, Global};
 use std::test::Fail;
 
 /// The spelling of the block of the text `ab`.
 const BYTES: [u8; 9] = [1, 0, 0, 0, 0, 0, 2, 0x61, 0x62];
+
+/// Those bytes, as a disk reports them.
+fn stored(alloc: Global) -> Result<SharedBytes, AllocError> {
+    SharedBytes::from_vec(alloc, Vec::from_slice(alloc, &BYTES)?)
+}
 
 /// The first step of a write, and how far it has come then.
 fn first_step(
@@ -34,7 +40,7 @@ fn compared(alloc: Global, sessions: &Sessions) -> Result<OpStep, Fail> {
     let mut operation = write(alloc)?;
     let view = view_of(sessions, Some(2));
     operation.go(&view)?;
-    Ok(operation.bytes(&view, Some(&BYTES), &[])?)
+    Ok(operation.bytes(&view, Some(&stored(alloc)?), &[])?)
 }
 
 /// How many handles a write gains.
@@ -122,5 +128,21 @@ fn a_write_of_a_present_block_is_compared(rt: HostRuntime) -> Result<(), Fail> {
             })
         )
     );
+    Ok(())
+}
+
+#[test]
+fn a_read_tells_the_data_of_its_block(rt: HostRuntime) -> Result<(), Fail> {
+    let sessions = holding_session(rt.alloc())?;
+    let view = view_of(&sessions, Some(2));
+    let mut operation = read(rt.alloc())?;
+    let step = operation.go(&view)?;
+    assert!(rt; matches!(step, OpStep::Compare { number: 2 }));
+    let step = operation.bytes(&view, Some(&stored(rt.alloc())?), &[])?;
+    let told = match &step {
+        OpStep::Answer(Reply::Bytes { bytes, .. }) => bytes.as_slice(),
+        _ => b"".as_slice(),
+    };
+    assert_eq!(rt; told, b"ab".as_slice());
     Ok(())
 }

@@ -1,5 +1,5 @@
 //! What the operations of the tests see and ask.
-use hs_limits::{Address, Limits, ListOf, Name};
+use hs_limits::{Address, Held, Limits, ListOf, Name};
 use hs_model::Op;
 use hs_ops::{OpView, Operation};
 use hs_tokens::{Sessions, SessionsView};
@@ -25,6 +25,17 @@ pub(crate) fn name(alloc: Global) -> Result<Name, Fail> {
 pub(crate) fn one_session(alloc: Global) -> Result<Sessions, Fail> {
     let mut sessions = Sessions::new(alloc, Limits::greatest());
     sessions.open(&name(alloc)?)?;
+    Ok(sessions)
+}
+
+/// Sessions of which `a` alone is open, which holds the block by its handle 0.
+pub(crate) fn holding_session(alloc: Global) -> Result<Sessions, Fail> {
+    let mut sessions = one_session(alloc)?;
+    let held = Held {
+        address: BLOCK,
+        epoch: 1,
+    };
+    sessions.hold(&name(alloc)?, held)?;
     Ok(sessions)
 }
 
@@ -55,6 +66,15 @@ pub(crate) fn write(alloc: Global) -> Result<Operation, Fail> {
         payload: list(alloc, b"ab")?,
         handles: ListOf::new(alloc),
         address: Some(BLOCK),
+    };
+    Ok(Operation::begin(alloc, 2, op)?)
+}
+
+/// A read of that block in the session `a`, in line 2.
+pub(crate) fn read(alloc: Global) -> Result<Operation, Fail> {
+    let op = Op::Read {
+        session: name(alloc)?,
+        handle: 0,
     };
     Ok(Operation::begin(alloc, 2, op)?)
 }

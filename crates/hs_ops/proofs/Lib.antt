@@ -1,4 +1,5 @@
 mod BlockLemmas
+mod DataLemmas
 mod DeleteLemmas
 mod Examples
 mod RangeLemmas

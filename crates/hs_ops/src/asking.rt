@@ -6,10 +6,11 @@ ghost use Rattle.hs_ops.specs.declared.step.OpStep.TheVariants.{Answer, Propose}
 ghost use Rattle.hs_ops.specs.Going.{asked_for, block_entry, judged_in, propose_unless, read_or, read_reply, root_entry};
 ghost use Rattle.hs_ops.specs.Speaking.{asked_block};
 
+use crate::telling::no_data;
 use crate::view::number_at;
 use crate::{OpFault, OpStep, OpView};
 use hs_entry::Entry;
-use hs_limits::{Key, ListOf, Name};
+use hs_limits::{Key, Name};
 use hs_model::Op;
 use std::alloc::Global;
 
@@ -76,7 +77,7 @@ impl<'a> OpView<'a> {
         if let Some(number) = self.present {
             return Ok(OpStep::Compare { number });
         }
-        let reply = self.read_reply(alloc, session, ListOf::new(alloc))?;
+        let reply = self.read_reply(alloc, session, no_data(alloc)?)?;
         Ok(OpStep::Answer(reply))
     }
 

@@ -1,17 +1,20 @@
 //! What reported bytes bring.
-ghost use Rattle.std.specs.Prelude.{◌≡◌, ◌++◌, None, bytes_eq, IfOk};
+ghost use Rattle.std.specs.Prelude.{◌≡◌, ◌≤◌, ◌++◌, None, bytes_eq, drop, length, IfOk};
 ghost use Rattle.std.specs.Option.{option_map};
 ghost use Rattle.hs_limits.specs.Block.{IsBlock};
-ghost use Rattle.hs_ops.specs.Going.{compared, data_of, is_reported, is_same_block, on_bytes};
+ghost use Rattle.hs_limits.specs.Reading.{read_block};
+ghost use Rattle.hs_ops.specs.Going.{compared, data_in, data_of, is_reported, is_same_block, on_bytes};
 ghost use Rattle.hs_ops.specs.Refusals.{refusal_of};
 ghost use Rattle.hs_ops.specs.Speaking.{asked_block};
 
 use crate::entries::{addresses_of, head_of};
 use crate::going::go;
 use crate::table::refusal_of;
+use crate::telling::no_data;
 use crate::{OpFault, OpStep, OpView};
-use hs_limits::{Address, ListOf, Name, parts_of};
+use hs_limits::{Address, Name, parts_of};
 use hs_model::{Op, Reply};
+use hs_shared::SharedBytes;
 use std::alloc::Global;
 
 /// What was reported of a block: the number of its entry, its bytes, if they are not gone, and the
@@ -19,7 +22,7 @@ use std::alloc::Global;
 #[derive(Drop)]
 pub(crate) struct Report<'a> {
     pub(crate) number: u64,
-    pub(crate) bytes: Option<&'a [u8]>,
+    pub(crate) bytes: Option<&'a SharedBytes>,
     pub(crate) pointers: &'a [Address],
 }
 
@@ -109,7 +112,7 @@ impl<'a> OpView<'a> {
         let pointers = addresses_of(alloc, &self.sessions, session, handles)?;
         let head = head_of(alloc, pointers.as_slice(), payload.len())?;
         let asked = pointers.as_slice();
-        Ok(are_joined(head.as_slice(), payload, bytes) && asked == report.pointers)
+        Ok(are_joined(head.as_slice(), payload, bytes.as_slice()) && asked == report.pointers)
     }
 }
 
@@ -124,16 +127,26 @@ fn are_joined(head: &[u8], payload: &[u8], bytes: &[u8]) -> bool
     }
 }
 
-/// The data of the block that some bytes spell, none where they spell none.
+/// The data of the block that some bytes spell, none where they spell none. They stay where they lie.
 #[tactic(auto, unfolding(crate::specs::Going::data_of))]
-fn data_of(alloc: Global, bytes: Option<&[u8]>) -> Result<ListOf<u8>, OpFault>
+fn data_of(alloc: Global, bytes: Option<&SharedBytes>) -> Result<SharedBytes, OpFault>
     ensures { IfOk result (λ told. told ≡ data_of (option_map (λ told. told.now) bytes.entry)) }
 {
     let Some(bytes) = bytes else {
-        return Ok(ListOf::new(alloc));
+        return no_data(alloc);
     };
+    let head = head_len(bytes.as_slice());
+    Ok(bytes.copy()?.behind(head))
+}
+
+/// How many bytes stand in front of the data of the block that some bytes spell: all of them where
+/// they spell none.
+fn head_len(bytes: &[u8]) -> usize
+    ensures within { result ≤ length bytes.now }
+    ensures behind { drop result bytes.now ≡ data_in (read_block bytes.now) }
+{
     match parts_of(bytes) {
-        Ok((_, _, content)) => Ok(ListOf::from_vec(Vec::from_slice(alloc, content)?)),
-        Err(_) => Ok(ListOf::new(alloc)),
+        Ok((_, _, content)) => bytes.len() - content.len(),
+        Err(_) => bytes.len(),
     }
 }

@@ -9,8 +9,9 @@ ghost use Rattle.hs_ops.specs.Speaking.{asked_block, asked_pointers, helds, leas
 use crate::view::found_in;
 use crate::{OpFault, OpView};
 use hs_block::{write_head, write_spelling};
-use hs_entry::{Entry, SharedBytes};
+use hs_entry::Entry;
 use hs_limits::{Address, Key, LAST_EPOCH, ListOf, Name};
+use hs_shared::SharedBytes;
 use hs_tokens::SessionsView;
 use std::alloc::Global;
 

@@ -12,6 +12,7 @@ use crate::{OpFault, OpStep, OpView};
 use hs_desk::What;
 use hs_limits::{Address, Held, ListOf};
 use hs_model::{Deed, Op, Reply};
+use hs_shared::SharedBytes;
 use hs_tokens::Sessions;
 use std::alloc::Global;
 use std::marker::Model;
@@ -101,11 +102,11 @@ impl Operation {
 
     /// The step where the bytes that it wanted were reported, None where they are gone, with the
     /// pointers that the catalogue has for that block, none where it is gone. It is judged again
-    /// first. Without memory it stays as it was.
+    /// first. A read's answer shares the bytes. Without memory it stays as it was.
     pub fn bytes(
         &mut self,
         view: &OpView,
-        bytes: Option<&[u8]>,
+        bytes: Option<&SharedBytes>,
         pointers: &[Address],
     ) -> Result<OpStep, OpFault>
         ensures step { IfOk result (λ step. step ≡ bytes_step view.now

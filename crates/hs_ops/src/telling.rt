@@ -1,5 +1,5 @@
 //! The replies of operations that are not refused.
-ghost use Rattle.std.specs.Prelude.{◌≡◌, length, Some, IfOk};
+ghost use Rattle.std.specs.Prelude.{◌≡◌, [], length, Some, IfOk};
 ghost use Rattle.std.specs.List.{range_with_len};
 ghost use Rattle.std.specs.Option.{option_map};
 ghost use Rattle.hs_model.specs.declared.reply.Reply.TheVariants as reply;
@@ -12,6 +12,7 @@ ghost use Rattle.hs_tokens.specs.Seats.{found};
 use crate::{OpFault, OpView};
 use hs_limits::{Key, ListOf, Name};
 use hs_model::Reply;
+use hs_shared::SharedBytes;
 use std::alloc::Global;
 
 impl<'a> OpView<'a> {
@@ -65,7 +66,7 @@ impl<'a> OpView<'a> {
         &self,
         alloc: Global,
         session: &Name,
-        bytes: ListOf<u8>,
+        bytes: SharedBytes,
     ) -> Result<Reply, OpFault>
         ensures { IfOk result (λ told. told ≡ read_reply self.now session.now bytes) }
     {
@@ -84,6 +85,13 @@ impl<'a> OpView<'a> {
         }
         Reply::New { handle, epoch }
     }
+}
+
+/// The data of a block that is not there: none.
+pub(crate) fn no_data(alloc: Global) -> Result<SharedBytes, OpFault>
+    ensures { IfOk result (λ bytes. bytes ≡ []) }
+{
+    Ok(SharedBytes::from_vec(alloc, Vec::new(alloc))?)
 }
 
 /// So many numbers from a first one on. A number that is none of a handle counts as want of memory.

@@ -10,13 +10,15 @@ ghost use Rattle.hs_peerlog.specs.Lists.{numbered_entry, HasFrames, IsKept, IsNu
 use crate::{LogFault, PeerLog};
 use hs_entry::{Entry, EntryFault, read_entry};
 use hs_ports::Disk;
+use hs_shared::SharedBytes;
 use hs_side::{SideFault, SideLog};
 use std::alloc::Global;
 
 impl PeerLog {
     /// The entry of a number, and None exactly where none is kept. Where what is read is no entry of
     /// that number it answers `NotALog` with the place of the frame; a disk that tells its contents
-    /// never gives that. It reads one frame.
+    /// never gives that. It reads one frame, and copies no bytes of a block: the entry keeps what was
+    /// read.
     pub fn read_entry<D: Disk>(&self, disk: &mut D, number: u64) -> Result<Option<Entry>, LogFault>
         requires ready { IsReady D.tells self.now (D.size disk.old self.now.log.side)
             (D.stands disk.old) }
@@ -70,7 +72,10 @@ pub(crate) fn entry_of<D: Disk>(
         Err(SideFault::Disk) => return Err(LogFault::Disk),
         Err(SideFault::NoMemory) => return Err(LogFault::NoMemory),
     }
-    entry_in(alloc, number, place, &payload)
+    let Ok(bytes) = SharedBytes::from_vec(alloc, payload) else {
+        return Err(LogFault::NoMemory);
+    };
+    entry_in(alloc, number, place, bytes)
 }
 
 /// The place of the frame of a number, and None exactly where none has it.
@@ -92,14 +97,14 @@ fn entry_in(
     alloc: Global,
     number: u64,
     place: u64,
-    payload: &[u8],
+    payload: SharedBytes,
 ) -> Result<Option<Entry>, LogFault>
-    ensures value { (entry : Entry) → entry_at payload.now ≡ Ok (number, entry)
+    ensures value { (entry : Entry) → entry_at payload ≡ Ok (number, entry)
         → IfOk result (λ found. found ≡ Some entry) }
-    ensures refused { (entry : Entry) → entry_at payload.now ≡ Ok (number, entry)
+    ensures refused { (entry : Entry) → entry_at payload ≡ Ok (number, entry)
         → IfErr result (λ fault. fault ≡ LogFault.NoMemory) }
     ensures only { IfOk result (λ found. IfSome found (λ entry.
-        entry_at payload.now ≡ Ok (number, entry))) }
+        entry_at payload ≡ Ok (number, entry))) }
     ensures place { IfErr result (λ fault. (at : ℕ) → fault ≡ LogFault.NotALog at → at ≡ place) }
     ensures memory { IfErr result (λ fault. fault ≡ LogFault.Disk → ⊥) }
 {

@@ -1,7 +1,7 @@
 //! What the entries of the shard's log are made of.
 use crate::plan::{Plan, address_of};
-use hs_entry::SharedBytes;
 use hs_limits::{Key, ListOf};
+use hs_shared::SharedBytes;
 use std::alloc::{AllocError, Global};
 
 /// The spelling of a block of the plan. Its data is its number.

@@ -2,9 +2,10 @@
 ghost use Rattle.std.specs.Prelude.{◌≡◌, []};
 
 use hs_desk::What;
-use hs_entry::{Entry, SharedBytes};
+use hs_entry::Entry;
 use hs_limits::{Address, Key, LAST_EPOCH, Limits, ListOf, Shape};
 use hs_shard::{Catalogue, ShardFault};
+use hs_shared::SharedBytes;
 use std::alloc::{AllocError, Global};
 use std::test::Fail;
 

@@ -1,5 +1,5 @@
 -- The payload of the frame at a place.
-use Rattle.std.proofs.Common.{◌≡◌, ◌∙◌, ℕ, zero, suc, ◌+◌, ◌<◌, ◌≤◌, List, [], ◌∷◌, ◌++◌, length, get_or, drop, map, Option, None, Some, IsSome, MatchOption, Ok, Err, refl, ap, sym, subst, arith, append_assoc, length-append}
+use Rattle.std.proofs.Common.{◌≡◌, ◌∙◌, ℕ, zero, suc, ◌+◌, ◌<◌, ◌≤◌, List, [], ◌∷◌, ◌++◌, length, get_or, drop, map, Option, None, Some, IsSome, MatchOption, Result, Ok, Err, OnOk, IfErr, refl, ap, sym, subst, arith, append_assoc, length-append}
 use Rattle.std.specs.List.{Contains}
 use Rattle.std.proofs.lemmas.List.{drop_at, length-map, length-drop}
 use Rattle.hs_ports.specs.Disk.{Loose}
@@ -82,7 +82,7 @@ place_is log place seen loose held told =
     frames_in (Some l) = l.frames
 
 -- what is read of it is appended
-pub read_more :
+read_more :
     (log : Kept) (place : ℕ) (seen payload old new : List ℕ) → PlaceIs log place seen → length payload ≤ 600000 → IsPayload (Ok tt) place seen payload → new ≡ old ++ payload → ReadsAt seen place old new
 read_more log place seen payload old new p short spelled more =
     let read : payload_at (drop (place + 1) seen) ≡ Some payload = ap payload_at spelled ∙ payload_again payload (drop (place + 5 + length payload) seen) short in
@@ -95,13 +95,25 @@ read_more log place seen payload old new p short spelled more =
     }
 
 -- it is there
-pub read_there : (log : Kept) (place : ℕ) (seen held : List ℕ) (fault : SideFault) → PlaceIs log place seen → IsPayload (Err fault) place seen held → IsOutside fault
+read_there : (log : Kept) (place : ℕ) (seen held : List ℕ) (fault : SideFault) → PlaceIs log place seen → IsPayload (Err fault) place seen held → IsOutside fault
 read_there log place seen held (NotALog at) p e = absurd (none_some p.payload (sym e.1 ∙ p.read))
   where
     none_some : (x : List ℕ) → let n : Option (List ℕ) = None in n ≡ Some x → ⊥
     none_some x e = cc
 read_there log place seen held Disk p e = tt
 read_there log place seen held NoMemory p e = tt
+
+-- whatever came of reading it
+pub read_found :
+    (log : Kept) (place : ℕ) (seen old new : List ℕ) (r : Result (Unit {0}) SideFault) → PlaceIs log place seen → IsPayload r place seen (drop (length old) new)
+    → OnOk r (length new ≤ length old + 600000) → OnOk r (new ≡ old ++ drop (length old) new) → OnOk r (ReadsAt seen place old new)
+read_found log place seen old new (Ok done) p e short more =
+    read_more log place seen (drop (length old) new) old new p (omega (arith, short, length-drop (length old) new)) e more
+read_found log place seen old new (Err fault) p e short more = tt
+
+pub read_refused : (log : Kept) (place : ℕ) (seen held : List ℕ) (r : Result (Unit {0}) SideFault) → PlaceIs log place seen → IsPayload r place seen held → IfErr r IsOutside
+read_refused log place seen held (Ok done) p e = tt
+read_refused log place seen held (Err fault) p e = read_there log place seen held fault p e
 
 -- it is not past the end
 pub place_low : (log : Kept) (place : ℕ) (seen : List ℕ) → PlaceIs log place seen → length seen ≤ place → ⊥

@@ -1,5 +1,6 @@
 -- Words of the private steps of opening; no public clause cites them.
 use Rattle.std.specs.Prelude.{◌≡◌, ℕ, ◌+◌, ◌^◌, ◌<◌, ◌≤◌, ⊤, Bool, true, false, List, ◌∷◌, ◌++◌, length, take, drop, map, Option, None, Some, Result, Ok, Err}
+use Rattle.std.specs.Int.{w32, to_be_bytes}
 use Rattle.hs_ports.specs.Disk.{byte_at}
 use Rattle.hs_entry.specs.declared.fault.EntryFault.{EntryFault}
 use Rattle.hs_entry.specs.declared.rank.Rank.{Rank}
@@ -37,6 +38,15 @@ IsGate (Ok opens) at seen = (at < length seen) × (is_open (byte_at seen at) ≡
 IsGate (Err (NotALog place)) at seen = (place ≡ at) × (length seen ≤ at)
 IsGate (Err Disk) at seen = ⊤
 IsGate (Err NoMemory) at seen = ⊤
+
+-- the length of the payload behind the gate at a place
+abbrev pub IsLength : Result ℕ SideFault → ℕ → List ℕ → Type 0
+IsLength (Ok len) at seen =
+    (to_be_bytes w32 len ≡ take 4 (drop (at + 1) seen)) × (at + 5 + len ≤ length seen)
+IsLength (Err (NotALog place)) at seen =
+    (place ≡ at) × (payload_at (drop (at + 1) seen) ≡ None)
+IsLength (Err Disk) at seen = ⊤
+IsLength (Err NoMemory) at seen = ⊤
 
 -- the payload behind the gate at a place
 abbrev pub IsPayload : Result (Unit {0}) SideFault → ℕ → List ℕ → List ℕ → Type 0

@@ -61,7 +61,6 @@ impl SideLog {
         write_head(disk, watch, side, header, generation)?;
         open_gate(disk, watch, side, header, generation)?;
         Ok(SideLog {
-            alloc,
             side,
             head: Some((header, generation)),
             places: Vec::new(alloc),

@@ -1,9 +1,9 @@
 //! Reading one frame of a side.
 ghost use Rattle.hs_ports.specs.declared.disk.Side.{Side};
-ghost use Rattle.std.specs.Prelude.{◌≡◌, ◌<◌, ◌≤◌, ◌+◌, ℕ, length, IfOk, OnOk, IfErr, None, Some, ◌==◌, if◌then◌else◌};
+ghost use Rattle.std.specs.Prelude.{◌≡◌, ◌<◌, ◌≤◌, ◌+◌, ◌++◌, ℕ, length, drop, IfOk, OnOk, OnErr, IfErr, None, Some, ◌==◌, if◌then◌else◌};
 ghost use Rattle.std.specs.Int.{w32, from_be_bytes, to_be_bytes};
 ghost use Rattle.hs_side.specs.Caused.{IsCalm, IsCaused};
-ghost use Rattle.hs_side.specs.Steps.{IsGate, IsPayload, IsNext, IsFrame, refusal};
+ghost use Rattle.hs_side.specs.Steps.{IsGate, IsLength, IsPayload, IsNext, IsFrame, refusal};
 
 use crate::SideFault;
 use crate::format::is_open;
@@ -49,7 +49,45 @@ fn length_of(bytes: &[u8]) -> u32
     u32::from_be_bytes([bytes[0], bytes[1], bytes[2], bytes[3]])
 }
 
-/// Reads the payload behind the gate at a place into `held`.
+/// The length of the payload behind the gate at a place, all of which the side has. It is read
+/// behind what is held, which stays.
+fn len_at<D: Disk>(
+    disk: &mut D,
+    side: Side,
+    size: u64,
+    at: u64,
+    held: &mut Vec<u8>,
+) -> Result<usize, SideFault>
+    requires size { size ≡ D.size disk.old side }
+    requires inside { at < size }
+
+    ensures exact { D.tells → IsLength result at ((D.stands disk.old).seen side) }
+    ensures short { IfOk result (λ len. len ≤ MOST_PAYLOAD) }
+    ensures within { IfOk result (λ len. at + 5 + len ≤ size) }
+    ensures held { held.new.items ≡ held.old.items }
+
+    ensures same_size { (s : Side) → D.size disk.new s ≡ D.size disk.old s }
+    ensures same { D.tells → D.stands disk.new ≡ D.stands disk.old }
+    ensures calm { IsCalm (D.faults disk.old) (D.faults disk.new) result }
+    ensures cause { IsCaused (D.faults disk.old) (D.faults disk.new) result }
+{
+    if size - at < 5 {
+        return Err(SideFault::NotALog { at });
+    }
+    let was = held.len();
+    fill(disk, side, at + 1, 4, held)?;
+    let len = length_of(&held[was..]);
+    held.truncate(was);
+    if len > MOST_PAYLOAD {
+        return Err(SideFault::NotALog { at });
+    }
+    if size - at - 5 < len as u64 {
+        return Err(SideFault::NotALog { at });
+    }
+    Ok(len as usize)
+}
+
+/// Appends the payload behind the gate at a place to `held`. An error leaves `held` as it was.
 pub(crate) fn read_payload<D: Disk>(
     disk: &mut D,
     side: Side,
@@ -60,29 +98,26 @@ pub(crate) fn read_payload<D: Disk>(
     requires size { size ≡ D.size disk.old side }
     requires inside { at < size }
 
-    ensures exact { D.tells → IsPayload result at ((D.stands disk.old).seen side) held.new.items }
-    ensures short { OnOk result (length held.new.items ≤ MOST_PAYLOAD) }
-    ensures within { OnOk result (at + 5 + length held.new.items ≤ size) }
+    ensures exact { D.tells → IsPayload result at ((D.stands disk.old).seen side)
+        (drop (length held.old.items) held.new.items) }
+    ensures more { OnOk result (held.new.items
+        ≡ held.old.items ++ drop (length held.old.items) held.new.items) }
+    ensures untaken { OnErr result (held.new.items ≡ held.old.items) }
+    ensures short { OnOk result (
+        length held.new.items ≤ length held.old.items + MOST_PAYLOAD) }
+    ensures within { OnOk result (
+        at + 5 + length held.new.items ≤ size + length held.old.items) }
 
     ensures same_size { (s : Side) → D.size disk.new s ≡ D.size disk.old s }
     ensures same { D.tells → D.stands disk.new ≡ D.stands disk.old }
     ensures calm { IsCalm (D.faults disk.old) (D.faults disk.new) result }
     ensures cause { IsCaused (D.faults disk.old) (D.faults disk.new) result }
 {
-    if size - at < 5 {
-        return Err(SideFault::NotALog { at });
-    }
-    held.clear();
-    fill(disk, side, at + 1, 4, held)?;
-    let len = length_of(held);
-    if len > MOST_PAYLOAD {
-        return Err(SideFault::NotALog { at });
-    }
-    if size - at - 5 < len as u64 {
-        return Err(SideFault::NotALog { at });
-    }
-    held.clear();
-    fill(disk, side, at + 5, len as usize, held)?;
+    let len = match len_at(disk, side, size, at, held) {
+        Ok(len) => len,
+        Err(fault) => return Err(fault),
+    };
+    fill(disk, side, at + 5, len, held)?;
     Ok(())
 }
 
@@ -144,6 +179,7 @@ pub(crate) fn read_frame<D: Disk>(
     ensures calm { IsCalm (D.faults disk.old) (D.faults disk.new) result }
     ensures cause { IsCaused (D.faults disk.old) (D.faults disk.new) result }
 {
+    held.clear();
     match read_payload(disk, side, size, at, held) {
         Ok(()) => {}
         Err(fault) => return Err(fault),

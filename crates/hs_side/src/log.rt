@@ -12,7 +12,6 @@ ghost use Rattle.hs_side.specs.Standing.{Stands, opened};
 use crate::device::{put_and_settle, settle};
 use crate::{Header, SideFault};
 use hs_ports::{Disk, Side, Watch};
-use std::alloc::Global;
 use std::marker::Model;
 
 /// One side of a disk as a log: its sealed frames in order, and at most one frame that is appended
@@ -20,7 +19,6 @@ use std::marker::Model;
 /// is on the disk.
 #[derive(Drop)]
 pub struct SideLog {
-    pub(crate) alloc: Global,
     pub(crate) side: Side,
     pub(crate) head: Option<(Header, u64)>,
     pub(crate) places: Vec<u64>,

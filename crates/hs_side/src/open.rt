@@ -100,7 +100,6 @@ impl SideLog {
         } }
     {
         SideLog {
-            alloc,
             side,
             head: None,
             places: Vec::new(alloc),
@@ -137,7 +136,6 @@ fn read_log<D: Disk>(alloc: Global, disk: &mut D, side: Side) -> Result<(SideLog
         Err(fault) => return Err(fault),
     };
     let log = SideLog {
-        alloc,
         side,
         head: Some(head),
         places,

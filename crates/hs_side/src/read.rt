@@ -11,8 +11,9 @@ use crate::{SideFault, SideLog};
 use hs_ports::Disk;
 
 impl SideLog {
-    /// Appends the payload of the sealed frame at a place to `out`, or nothing. A disk that tells
-    /// its contents never gives `NotALog`: it comes where a later read gives no frame there.
+    /// Appends the payload of the sealed frame at a place to `out`, or nothing. The disk puts the
+    /// bytes there itself. A disk that tells its contents never gives `NotALog`: it comes where a
+    /// later read gives no frame there.
     pub fn read<D: Disk>(
         &self,
         disk: &mut D,
@@ -38,12 +39,6 @@ impl SideLog {
         if place >= size {
             return Err(SideFault::NotALog { at: place });
         }
-        let mut held = Vec::new(self.alloc);
-        match read_payload(disk, self.side, size, place, &mut held) {
-            Ok(()) => {}
-            Err(fault) => return Err(fault),
-        }
-        out.extend_from_slice(&held)?;
-        Ok(())
+        read_payload(disk, self.side, size, place, out)
     }
 }

@@ -12,6 +12,7 @@ mod piece;
 mod retry;
 mod run;
 mod side_file;
+mod straight;
 mod streams;
 mod usage;
 

@@ -9,8 +9,8 @@ use std::os::unix::fs::FileExt;
 /// The most bytes that one call reads: where it goes on from where the last one ended.
 const WHOLE: u64 = 65_536;
 
-/// The most bytes that it reads elsewhere.
-const NEAR: u64 = 4096;
+/// The most bytes that it reads elsewhere, and the least that go past the piece.
+pub const NEAR: u64 = 4096;
 
 /// Bytes of a file from a place on, as they were read last. Its room is kept, and only a front of it
 /// is filled.

@@ -4,15 +4,16 @@ ghost use Rattle.hs_ports.specs.Disk.{HasRead, IsBetween};
 ghost use Rattle.hydra.specs.SideFault.{Keeps, Tells};
 
 use crate::file_fault::{Deed, SideFault, note};
-use crate::piece::Piece;
+use crate::piece::{NEAR, Piece};
 use crate::retry::write_some_at;
+use crate::straight::read_straight;
 use hs_ports::PortFault;
 use std::fs::OpenFile;
 use std::io;
 use std::os::unix::fs::FileExt;
 
 /// A file and its length, or none: then the length is 0, and each call fails. The piece that was read
-/// last is kept until something is written or cut, or a read fails.
+/// last is kept until something is written or cut, or reading one fails.
 #[derive(Drop)]
 pub struct SideFile<F> {
     pub file: Option<F>,
@@ -62,7 +63,10 @@ impl<F: FileExt + OpenFile> SideFile<F> {
         }
     }
 
-    /// Appends some of what stands from the place on, or nothing.
+    /// Appends some of what stands from the place on, or nothing. What the piece holds comes from it.
+    /// Else 4,096 bytes or more go straight from the file to the end of `into`, and fewer by a piece
+    /// that is read anew. So of 65,572 bytes at a new place, of which 4 are asked for and then the
+    /// rest, the first 4,096 come from a piece, and the system alone copies the other 61,476.
     pub fn read(&mut self, at: u64, max: usize, into: &mut Vec<u8>) -> Result<usize, PortFault>
         requires { 0 < max }
         ensures found { IfOk result (λ n.
@@ -174,8 +178,8 @@ impl<F: FileExt + OpenFile> SideFile<F> {
     }
 }
 
-// Appends what the piece holds of a file of this length from a place on, or nothing. A piece that
-// holds nothing of it is read anew, by one call.
+// Appends what the piece holds of a file of this length from a place on, or nothing. Where it holds
+// nothing of it, one call reads what is asked for straight, or the piece anew where that is little.
 fn read_from<F: FileExt>(
     file: &F,
     piece: &mut Piece,
@@ -197,6 +201,9 @@ fn read_from<F: FileExt>(
     let most = (len - at).min(max as u64) as usize;
     if let Some(held) = piece.held(at) {
         return append(held, most, into);
+    }
+    if most as u64 >= NEAR {
+        return read_straight(file, fault, at, most, into);
     }
     if piece.make_room(at, len - at).is_err() {
         return Err(PortFault::NoMemory);

@@ -307,7 +307,18 @@ fn reads_go_on_over_the_end_of_a_piece_and_see_what_was_written(
         Ok(())
     );
     let mut into = Vec::new(alloc);
-    for (at, want) in [(0, 50_000), (50_000, 15_536), (65_536, 4464), (70_000, 0)] {
+    for (at, want) in [(0, 60_000), (60_000, 10_000), (70_000, 0)] {
+        assert_eq!(rt;
+            read_most(&mut disk, at, 60_000, &mut into),
+            Ok(want),
+            "straight at {at}"
+        );
+    }
+    assert_eq!(rt; into, text);
+
+    into.clear();
+    assert_eq!(rt; read_most(&mut disk, 0, 9, &mut into), Ok(9));
+    for (at, want) in [(9, 50_000), (50_009, 15_527), (65_536, 4464), (70_000, 0)] {
         assert_eq!(rt;
             read_most(&mut disk, at, 50_000, &mut into),
             Ok(want),
@@ -393,6 +404,32 @@ fn a_write_that_fails_leaves_a_length_between(rt: HostRuntime) -> Result<(), Fai
         );
         assert_eq!(rt; length(&mut disk, Side::Zero), Ok(len));
     }
+    Ok(())
+}
+
+#[test]
+fn a_read_that_fails_appends_nothing(rt: HostRuntime) -> Result<(), Fail> {
+    let alloc = rt.alloc();
+    let zero = FaultyFile::new(0, ErrorKind::Other);
+    let one = FaultyFile::new(0, ErrorKind::Other);
+    let mut watch = Watch::new();
+    let mut disk = FileDisk::new(Some((zero, one)));
+    let bytes = vec![in alloc; 7u8; 5000]?;
+    assert_eq!(rt;
+        append(&mut disk, &mut watch, Side::One, bytes.as_slice()),
+        Ok(())
+    );
+    let mut into = Vec::from_slice(alloc, b"ab")?;
+    assert_eq!(rt;
+        read_most(&mut disk, 0, 9, &mut into),
+        Err(PortFault::Failed)
+    );
+    assert_eq!(rt;
+        read_most(&mut disk, 0, 5000, &mut into),
+        Err(PortFault::Failed)
+    );
+    assert_eq!(rt; into.as_slice(), b"ab".as_slice());
+    assert_eq!(rt; disk.faults(), 2);
     Ok(())
 }
 

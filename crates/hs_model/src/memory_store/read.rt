@@ -10,6 +10,7 @@ ghost use Rattle.hs_model.specs.Store.{session_at, block_at, next_of, hold_all, 
 use super::MemoryStore;
 use crate::{Answer, Asked, Deed, ModelFault, Reply};
 use hs_limits::{Address, Held, Limits, ListOf, Name};
+use hs_shared::SharedBytes;
 
 impl MemoryStore {
     /// Reads a block.
@@ -87,13 +88,14 @@ impl MemoryStore {
     }
 
     /// The bytes of a block that is present, and none of one that is not.
-    fn bytes_at(&self, address: &Address) -> Result<ListOf<u8>, ModelFault>
+    fn bytes_at(&self, address: &Address) -> Result<SharedBytes, ModelFault>
         ensures { IfOk result (λ bytes. bytes ≡ bytes_of (block_at self.now address.now)) }
     {
         let Some(stored) = self.blocks.as_map().get(address) else {
-            return Ok(ListOf::new(self.alloc));
+            return Ok(SharedBytes::from_vec(self.alloc, Vec::new(self.alloc))?);
         };
-        Ok(stored.bytes.copy(self.alloc)?)
+        let bytes = Vec::from_slice(self.alloc, stored.bytes.as_slice())?;
+        Ok(SharedBytes::from_vec(self.alloc, bytes)?)
     }
 
     /// The pointers of a block that is present, and none of one that is not.

@@ -18,8 +18,8 @@ returns-clause-found g c = λ told list has numbered.
     let there = some-there c.args.log.now.places seen list index has some.1 in
     let f = frame-at c.args.log.now.places seen list index there numbered some.1 in
     let found : ReadsAt seen (slice_index c.args.log.now.places index) c.new-payload.result.items c.read.new.out.items = rw some.2 at (c.in-Ok.ensures.found told) in
-    let read : entry_at c.deref.result.now ≡ Ok (c.args.number, f.frame.entry) =
-    ap (λ bytes. entry_at bytes) c.deref.ensures.value ∙ payload-is c.args.log.now.places seen list index there f c.new-payload.result.items c.read.new.out.items c.new-payload.ensures.items found ∙ ap (λ n. Ok (n, f.frame.entry)) number in
+    let read : entry_at c.in-Ok-from_vec.bytes ≡ Ok (c.args.number, f.frame.entry) =
+    ap (λ bytes. entry_at bytes) c.in-Ok-from_vec.ensures ∙ payload-is c.args.log.now.places seen list index there f c.new-payload.result.items c.read.new.out.items c.new-payload.ensures.items found ∙ ap (λ n. Ok (n, f.frame.entry)) number in
     found-is c.entry_in.result f.frame.entry _ (sym (ap (λ n. numbered_entry list n) number) ∙ f.found) (c.entry_in.ensures.value f.frame.entry read)
 
 pub returns-clause-refused : goal.returns-clause-refused
@@ -31,8 +31,8 @@ returns-clause-refused g c = λ told list has numbered.
     let there = some-there c.args.log.now.places seen list index has some.1 in
     let f = frame-at c.args.log.now.places seen list index there numbered some.1 in
     let found : ReadsAt seen (slice_index c.args.log.now.places index) c.new-payload.result.items c.read.new.out.items = rw some.2 at (c.in-Ok.ensures.found told) in
-    let read : entry_at c.deref.result.now ≡ Ok (c.args.number, f.frame.entry) =
-    ap (λ bytes. entry_at bytes) c.deref.ensures.value ∙ payload-is c.args.log.now.places seen list index there f c.new-payload.result.items c.read.new.out.items c.new-payload.ensures.items found ∙ ap (λ n. Ok (n, f.frame.entry)) number in
+    let read : entry_at c.in-Ok-from_vec.bytes ≡ Ok (c.args.number, f.frame.entry) =
+    ap (λ bytes. entry_at bytes) c.in-Ok-from_vec.ensures ∙ payload-is c.args.log.now.places seen list index there f c.new-payload.result.items c.read.new.out.items c.new-payload.ensures.items found ∙ ap (λ n. Ok (n, f.frame.entry)) number in
     memory_is_outside c.entry_in.result (c.entry_in.ensures.refused f.frame.entry read)
 
 pub returns-clause-place : goal.returns-clause-place

@@ -19,10 +19,11 @@ returns c =
     let spelled = ap (λ (xs : List ℕ). xs ++ a.payload.now) c.as_slice-2.ensures.value
     ∙ c.in_ok-head.ensures a.payload.now refl
     ∙ ap (λ (ps : List Address). spell (record { pointers = ps; bytes = a.payload.now })) (c.as_slice.ensures ∙ sym c.as_slice-asked.ensures) in
+    let joined = c.are_joined.ensures ∙ ap (λ (xs : List ℕ). bytes_eq (c.as_slice-2.result.now ++ a.payload.now) xs) c.as_slice-3.ensures in
     let told = ap (λ (o : Option (Bor (List ℕ))). option_map (λ told. told.now) o) c.in-Some.is in
     let same : c.if-are_joined.result ≡ (c.are_joined.result && pointwise (λ p q. bytes_eq p.0 q.0) asked given) =
     elim c.if-are_joined.branch [
       | then-are_joined w ↦ w.result-is ∙ w.eq.ensures ∙ ap (λ (b : Bool). b && pointwise (λ p q. bytes_eq p.0 q.0) asked given) (sym w.if-are_joined.true)
       | else-are_joined w ↦ w.result-is ∙ w.if-are_joined.false ∙ ap (λ (b : Bool). b && pointwise (λ p q. bytes_eq p.0 q.0) asked given) (sym w.if-are_joined.false)
     ] in
-    same_is block _ c.are_joined.result c.if-are_joined.result _ c.in-Some.bytes.now given _ is_asked told spelled c.are_joined.ensures same
+    same_is block _ c.are_joined.result c.if-are_joined.result _ c.in-Some.bytes.now given _ is_asked told spelled joined same

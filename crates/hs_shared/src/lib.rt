@@ -1,0 +1,6 @@
+//! Bytes that their copies share.
+#![tactic(auto)]
+
+mod shared;
+
+pub use shared::SharedBytes;
