@@ -27,7 +27,7 @@ use Rattle.hs_promise.specs.Run.{Ran, Script}
 use Rattle.hs_promise.specs.Story.{Story, all_events}
 use Rattle.hs_told.specs.InTurn.{AllMayCome, IsInTurn, after_all}
 
--- what hs_told, hs_standing and hs_standing say of events, in one place
+-- what hs_told and hs_standing say of events, in one place
 pub record ComingLaws : Type 0 where
   pub opens : (commands : ℕ → Option Command) (shape : Shape) (limits : Limits) (taken : Taken) (moment : ℕ) → client_op (commands 0) ≡ None → IsInTurn commands (open_core shape limits taken moment)
   pub turns : (commands : ℕ → Option Command) (core : Core) (es : Events) → IsInTurn commands core → AllMayCome commands core es → IsInTurn commands (after_all core es)

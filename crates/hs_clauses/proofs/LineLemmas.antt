@@ -1,4 +1,4 @@
--- Opening and the lines of a story are those of hs_lines.
+-- Opening and the lines of a story are those of hs_standing.
 use Rattle.std.proofs.Common.{◌≡◌, ap, sym, subst, ℕ, ◌+◌, ◌++◌, Bool, true, false, not, ◌||◌, List, [], ◌∷◌, Option, Some, None, refl, is_none}
 use Rattle.std.specs.Option.{option_and_then, option_map_or, option_or}
 use Rattle.std.specs.Prelude.{flat_map, if◌then◌else◌}

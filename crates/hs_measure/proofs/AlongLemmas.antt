@@ -102,7 +102,7 @@ module _ (laws : AlongLaws) (start : Start) (c : Whole) (its : IsAlong start c) 
 
 -- ---- the events of a line
 
--- what hs_told, hs_standing and hs_standing say of them
+-- what hs_told and hs_standing say of them
 pub record LineLaws : Type 0 where
   pub come : (s : Script) (line : ℕ) (core : Core) (lines : List Events) (to : ℕ) → IsNext s.commands core line → MomentsRise core.moment (all_events lines) to → AreLines s line core lines → AllMayCome s.commands core (all_events lines)
   pub fresh : (s : Script) (line : ℕ) (core : Core) (lines : List Events) (to : ℕ) → IsInTurn s.commands core → IsNext s.commands core line → MomentsRise core.moment (all_events lines) to → AreLines s line core lines → MayBeginAll s.name (all_events lines) core

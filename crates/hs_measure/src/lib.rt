@@ -1,4 +1,5 @@
-//! That a settle ends: laws, each a function without parameters whose clauses are the law.
+//! That a settle ends, whatever the lists say, and what each event of a run keeps: laws, each a function without parameters
+//! whose clauses are the law.
 #![tactic(auto)]
 
 mod bounded;

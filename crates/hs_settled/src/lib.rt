@@ -1,4 +1,5 @@
-//! What a settle has done that was gone past: laws, each a function without parameters whose clauses are the law.
+//! What a run has done that was gone past, what it has deleted, and why it ended: laws, each a function without parameters
+//! whose clauses are the law.
 #![tactic(auto)]
 
 mod causes;

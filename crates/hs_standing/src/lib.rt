@@ -1,4 +1,5 @@
-//! A store of one copy a shard stands at each moment of its run: laws, each a function without parameters whose clauses are the law.
+//! A store of one copy a shard stands at each moment of its run, and its journal is a legal run of the plain store: laws,
+//! each a function without parameters whose clauses are the law.
 #![tactic(auto)]
 
 mod addresses;
