@@ -10,6 +10,7 @@ pub mod CountedLemmas
 pub mod CourseLemmas
 pub mod EndedLemmas
 pub mod EntryLemmas
+pub mod EventLemmas
 pub mod FirstLemmas
 pub mod FitLemmas
 pub mod FoundLemmas
@@ -22,7 +23,9 @@ pub mod LineLemmas
 pub mod ListLemmas
 pub mod MomentLemmas
 pub mod NoteLemmas
+pub mod NumberLemmas
 pub mod NumberedLemmas
+pub mod OpenLemmas
 pub mod ReadLemmas
 pub mod ReadsFirstLemmas
 pub mod ReadsListLemmas
@@ -31,10 +34,12 @@ pub mod RestLemmas
 pub mod RoomLemmas
 pub mod RunLemmas
 pub mod ScriptLemmas
+pub mod SealedLemmas
 pub mod ShownLemmas
 pub mod StepLemmas
 pub mod StillLemmas
 pub mod StopLemmas
+pub mod StoredFrontLemmas
 pub mod TakenLemmas
 pub mod TellLemmas
 pub mod UnopenedLemmas

@@ -8,6 +8,7 @@ mod kept;
 mod reading;
 mod standing;
 mod stopped;
+mod stored;
 mod telling;
 
 pub use answered::a_run_is_answered;
@@ -16,4 +17,5 @@ pub use kept::a_run_keeps;
 pub use reading::a_run_reads_on;
 pub use standing::a_run_stands;
 pub use stopped::a_run_may_stop;
+pub use stored::{each_block_is_of_an_entry, what_is_read_is_sealed};
 pub use telling::each_report_tells_its_block;

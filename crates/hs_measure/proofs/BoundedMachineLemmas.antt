@@ -1,22 +1,19 @@
--- What the machine's run shows of its disks, over disks that tell; and that each of its settles comes to its end.
-use Rattle.std.proofs.Common.{◌≡◌, ◌∙◌, ap, Option, Some, None}
+-- Each settle of the machine's run comes to its end, over sound disks.
+use Rattle.std.proofs.Common.{◌≡◌, None}
 use Rattle.std.specs.Prelude.{IfSome}
 use Rattle.hs_measure.proofs.BoundedEndLemmas.{SettleLaw, story_ends}
 use Rattle.hs_measure.proofs.LowLemmas.{first_bounded}
+use Rattle.hs_measure.proofs.ShownLemmas.{if_shown}
 use Rattle.hs_measure.specs.Ending.{EachSettleEnds}
-use Rattle.hs_clauses.proofs.ShownLemmas.{shown_of}
 use Rattle.hs_clauses.specs.Asked.{start_of}
 use Rattle.hs_clauses.specs.Shown.{IsShown, OnDisks}
 use Rattle.hs_events.specs.Found.{first_core}
 use Rattle.hs_standing.specs.Held.{GivesAddresses}
-use Rattle.hs_journal.specs.Events.{client_op}
 use Rattle.hs_limits.specs.Limits.{IsLimits}
-use Rattle.hs_model.specs.declared.command.Command.{Command}
 use Rattle.hs_promise.specs.Entry.{IsSoundAtEntry}
-use Rattle.hs_promise.specs.Machine.{WentAs}
 use Rattle.hs_promise.specs.Run.{Ran, Script}
 use Rattle.hs_promise.specs.Story.{Story, all_events}
-use Rattle.hs_run.specs.Machine.{HasReadDisks, IsOfCluster, RunsOnDisks}
+use Rattle.hs_run.specs.Machine.{IsOfCluster}
 use Rattle.hs_standing.specs.Run.{MayRun, RunOpens}
 use Rattle.hs_standing.specs.Standing.{AllMayKeep}
 
@@ -28,20 +25,7 @@ pub record Stands : Type 0 where
 
 pub machine_ends : SettleLaw → Stands → (tells : Type 0) (S : Script) (r : Ran) → GivesAddresses S.set.name → IsLimits S.set.limits → (machine : IsOfCluster tells S r) → tells → IsSoundAtEntry S r
     → IfSome machine.how (EachSettleEnds S)
-machine_ends law stands tells S r names limits machine told sound = by_how machine.how machine.went (machine.told told) machine.runs
-  where
-    on : OnDisks S r
-    on = record {
-      shape = machine.shape;
-      one = machine.one;
-      names = names;
-      nobody = ap (λ (c : Option Command). client_op c) machine.nobody;
-      disks = machine.count;
-      left = machine.served.handed_back ∙ machine.count;
-    }
-
-    by_how : (how : Option Story) → WentAs S r how → IfSome how (HasReadDisks S r) → IfSome how (RunsOnDisks tells S r) → IfSome how (EachSettleEnds S)
-    by_how None went read runs = tt
-    by_how (Some story) went read runs =
-        let shown : IsShown S r story = shown_of tells S r story on runs.span told runs.before runs.now runs.old.stands runs.new.stands runs.shown went read.read in
-        story_ends law S r story went (λ going. stands.opens S r story on shown sound going) (λ going. stands.keeps S r story on shown sound going) (λ going. first_bounded S r story on shown limits going)
+machine_ends law stands tells S r names limits machine told sound =
+    if_shown tells S r (EachSettleEnds S) names machine told
+    (λ story on shown.
+    story_ends law S r story shown.went (λ going. stands.opens S r story on shown sound going) (λ going. stands.keeps S r story on shown sound going) (λ going. first_bounded S r story on shown limits going))

@@ -64,13 +64,15 @@ some_task (xs ∷ ts) (suc p) task h =
     let c = sum_by-cons (λ (zs : List Task). length zs) xs ts in
     omega (arith, r, c)
 
-pub job_counted : (line : ℕ) (c : Core) (p : ℕ) (e : Event) → AreAlone (face c) → is_it line c (Reporting p) e ≡ true → 1 ≤ reports_left c
-job_counted line c p e alone it =
+pub job_there : (line : ℕ) (c : Core) (p : ℕ) (e : Event) → AreAlone (face c) → is_it line c (Reporting p) e ≡ true → 1 ≤ jobs_of c
+job_there line c p e alone it =
     let d = answered line c p e it in
     let task = task_of line c p d.0 d.1 in
-    let one : 1 ≤ jobs_of c = by_place task.0 task.1 (le_or (shape_of c).shards p) in
-    omega (arith, one)
+    by_place task.0 task.1 (le_or (shape_of c).shards p)
   where
     by_place : (task : Task) → first_task p c ≡ Some task → ((shape_of c).shards ≤ p) ⊎ (p < (shape_of c).shards) → 1 ≤ jobs_of c
     by_place task is (inl past) = let both : None ≡ Some task = sym (first_past c p alone past) ∙ is in absurd (cc both)
     by_place task is (inr low) = some_task c.tasks p task (sym (first_here c p alone low) ∙ is)
+
+pub job_counted : (line : ℕ) (c : Core) (p : ℕ) (e : Event) → AreAlone (face c) → is_it line c (Reporting p) e ≡ true → 1 ≤ reports_left c
+job_counted line c p e alone it = let one : 1 ≤ jobs_of c = job_there line c p e alone it in omega (arith, one)

@@ -1,15 +1,10 @@
 -- A change beside a run: as much is left but for jobs, and a core of a run stays one.
-use Rattle.std.proofs.Common.{◌≡◌, ◌∙◌, sym, ap, subst, ℕ, ◌+◌, ◌*◌, ◌≤◌, List, arith, count_by, length, slice_get, sum_by}
-use Rattle.std.specs.BTreeMap.{is_at}
-use Rattle.std.specs.Map.{lookup}
-use Rattle.std.specs.Ordering.{nat_cmp}
+use Rattle.std.proofs.Common.{◌≡◌, sym, subst, ℕ, ◌+◌, ◌*◌, ◌≤◌, List, count_by, length, sum_by}
 use Rattle.hs_standing.specs.Changes.{IsBeside}
-use Rattle.hs_core.specs.declared.waiting.Waiting.{Waiting}
 use Rattle.hs_core.specs.Looking.{catalogue_of, group_of, shape_of, shards_of}
 use Rattle.hs_core.specs.State.{Core}
 use Rattle.hs_effects.specs.Answered.{HoldAddresses}
 use Rattle.hs_entry.specs.declared.entry.Entry.{Entry}
-use Rattle.hs_settled.specs.Causes.{OwnWaits}
 use Rattle.hs_standing.proofs.EpochLemmas.{epochs_same}
 use Rattle.hs_standing.proofs.OrderLemmas.{orderly_beside}
 use Rattle.hs_limits.specs.declared.address.Address.{Address}
@@ -17,29 +12,18 @@ use Rattle.hs_limits.specs.declared.limits.Limits.{Limits}
 use Rattle.hs_limits.specs.Limits.{IsLimits}
 use Rattle.hs_measure.proofs.FoundAlong.{few_beside}
 use Rattle.hs_measure.proofs.LowersGoes.{IsPlaced}
-use Rattle.hs_measure.proofs.LowersParts.{due_by, new_by}
+use Rattle.hs_measure.proofs.LowersParts.{new_by}
 use Rattle.hs_measure.proofs.FallsStand.{Stand}
-use Rattle.hs_measure.proofs.LowersTaken.{AreOwned}
 use Rattle.hs_measure.specs.Finite.{due_rounds, reports_most, rounds_left, slots_of, sweeps_to_come}
-use Rattle.hs_measure.specs.Measure.{dues_of, gots_of, is_any_got, is_left_over, jobs_of, way_by, ways_left}
+use Rattle.hs_measure.proofs.LowersBeside.{asks_by, lists_by, one_fewer, owned_beside, ways_by}
+use Rattle.hs_measure.specs.Measure.{dues_of, gots_of, jobs_of, ways_left}
 use Rattle.hs_rounds.specs.declared.place.Place.{Place as Row}
 use Rattle.hs_tokens.specs.Seats.{Seats}
 
 -- ---- what is left
 
--- by what waits in each list, and by its front
-abbrev asks_by : (ℕ → List Entry) → Core → ℕ
-asks_by waiting c = length c.operations + sum_by (λ shard. count_by (is_left_over shard c) (waiting shard)) (shards_of c)
-
-abbrev lists_by : (ℕ → List Entry) → Core → ℕ
-lists_by waiting c =
-    2 * sum_by (λ shard. count_by is_any_got (waiting shard)) (shards_of c) + 2 * count_by (λ shard. due_by shard (catalogue_of shard c) (waiting shard)) (shards_of c)
-
 abbrev news_by : (ℕ → List Entry) → Core → ℕ
 news_by waiting c = sum_by (λ from. sum_by (λ to. count_by (λ (row : Row). new_by (catalogue_of to c) (waiting to) from row.epoch row.round) (due_rounds from (catalogue_of to c))) (shards_of c)) (shards_of c)
-
-abbrev ways_by : (ℕ → List Entry) → (ℕ → ℕ) → Core → ℕ
-ways_by waiting front c = sum_by (λ (e : ℕ × Waiting). way_by (catalogue_of e.1.shard c) (front e.1.shard) (waiting e.1.shard) e.1.operation e.1.wait) c.operations
 
 abbrev rest_by : ℕ → Core → ℕ
 rest_by asks c = 3 * (length c.operations * (sweeps_to_come c + asks))
@@ -48,9 +32,6 @@ abbrev reports_by : ℕ → (ℕ → List Entry) → (ℕ → ℕ) → Core → 
 reports_by jobs waiting front c =
     let asks : ℕ = asks_by waiting c in
     ((jobs + 4 * news_by waiting c) + lists_by waiting c) + ((ways_by waiting front c + rest_by asks c) + (16 * (shape_of c).shards + 2) * rounds_left c)
-
-one_fewer : (j j' n l w y : ℕ) → j' + 1 ≤ j → (((j' + 4 * n) + l) + (w + y)) + 1 ≤ ((j + 4 * n) + l) + (w + y)
-one_fewer j j' n l w y h = omega (arith, h)
 
 module _ (a b : Core) (beside : IsBeside a b) where
   -- with as many jobs
@@ -65,19 +46,6 @@ module _ (a b : Core) (beside : IsBeside a b) where
       ((16 * (shape_of a).shards + 2) * rounds_left a) fewer)
 
 -- ---- it stays a core of a run
-
-pub owned_beside : (a b : Core) → IsBeside a b → AreOwned a → AreOwned b
-owned_beside a b beside owned line w number at waits =
-    by_own (owned line w number (sym (ap (λ (es : List (ℕ × Waiting)). lookup (is_at (nat_cmp line)) es) beside.operations) ∙ at) waits)
-  where
-    by_own : OwnWaits a w.shard number line → OwnWaits b w.shard number line
-    by_own own = record {
-      place = own.place;
-      entry = own.entry;
-      at = ap (λ (es : List Entry). slice_get es own.place) (beside.waiting w.shard) ∙ own.at;
-      numbered = own.numbered ∙ ap (λ k. k + 1 + own.place) (sym (beside.front w.shard));
-      asked = own.asked;
-    }
 
 pub stand_beside : (name : List ℕ → Address) (a b : Core) → IsBeside a b → IsPlaced b → Stand name a → Stand name b
 stand_beside name a b beside placed its = record {

@@ -19,12 +19,14 @@ use Rattle.hs_limits.specs.declared.limits.TheConstants.{LAST_EPOCH}
 use Rattle.hs_measure.proofs.FallsEffect.{answered_counts, kept_counts, taken_step}
 use Rattle.hs_measure.proofs.LowersFresh.{write_late}
 use Rattle.hs_measure.proofs.LowersJudged.{cost_most}
-use Rattle.hs_measure.proofs.FallsStand.{Next, Stand, answer_cheap, asked, effect_answer, epoch_low, now_is, steps_then, swept_then, unsure_way}
+use Rattle.hs_measure.proofs.LowersStand.{answer_cheap, effect_answer, now_is}
+use Rattle.hs_measure.proofs.FallsStand.{Next, Stand, asked, epoch_low, steps_then, swept_then, unsure_way}
 use Rattle.hs_measure.proofs.LowersSteps.{cost}
 use Rattle.hs_measure.proofs.FallsTaken.{news_quiet, quiet_counts}
 use Rattle.hs_measure.proofs.LowersTaken.{all_same, catalogues_by, dues_quiet, gots_le, way_same}
 use Rattle.hs_measure.proofs.StepLemmas.{mul_le}
 use Rattle.hs_measure.specs.Finite.{reports_most, rounds_left, slots_of}
+use Rattle.hs_measure.proofs.LowersClient.{heavy_sum, lists_le}
 use Rattle.hs_measure.specs.Measure.{dues_of, gots_of, is_any_got, is_sure, way_left, ways_left}
 use Rattle.hs_model.specs.declared.op.Op.{Op}
 use Rattle.hs_model.specs.declared.op.Op.TheVariants as op
@@ -38,20 +40,6 @@ use Rattle.hs_ops.specs.Speaking.{helds, least_epoch}
 use Rattle.hs_ops.specs.Views.{OpView, now_in}
 use Rattle.hs_shard.specs.declared.facts.Facts.{Facts}
 use Rattle.hs_shard.specs.Facts.{BlockList, Catalogue, facts_in, is_fresh}
-
--- ---- numbers
-
-pub apart_bools : true ≡ false → ⊥
-apart_bools e = cc e
-
-pub heavy_sum : (n n' d d' y y' : ℕ) → n' ≤ n → d' ≤ d → y' ≤ y → (4 * n' + 2 * d') + y' ≤ (4 * n + 2 * d) + y
-heavy_sum n n' d d' y y' a b c = omega (arith, a, b, c)
-
-pub both_le : (x y z : ℕ) → x ≤ y → y ≤ z → x ≤ z
-both_le x y z h k = omega (arith, h, k)
-
-pub lists_le : (g g' d d' one : ℕ) → g' + one ≤ g → d' ≤ d → g' + d' ≤ g + d
-lists_le g g' d d' one h k = omega (arith, h, k)
 
 -- ---- any of them
 

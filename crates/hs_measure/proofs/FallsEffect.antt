@@ -4,9 +4,8 @@ use Rattle.std.proofs.lemmas.List.{length-set}
 use Rattle.std.specs.BTreeMap.{is_at}
 use Rattle.std.specs.Map.{remove_entry}
 use Rattle.std.specs.Ordering.{nat_cmp}
-use Rattle.hs_standing.specs.Changes.{tells_at_once, told_at_once}
+use Rattle.hs_standing.specs.Changes.{told_at_once}
 use Rattle.hs_core.specs.declared.waiting.Waiting.{Waiting}
-use Rattle.hs_core.specs.Effects.{after_entry}
 use Rattle.hs_core.specs.Looking.{catalogue_of, group_of, operation_of, shape_of}
 use Rattle.hs_core.specs.Operating.{answer, take_step}
 use Rattle.hs_core.specs.Seeing.{view_for}
@@ -16,11 +15,11 @@ use Rattle.hs_effects.proofs.RefusedLemmas.{heard_by}
 use Rattle.hs_effects.specs.Logged.{IsOrderly, asked_by}
 use Rattle.hs_effects.specs.Taking.{done_by, taken}
 use Rattle.hs_entry.specs.declared.entry.Entry.{Entry}
-use Rattle.hs_entry.specs.declared.entry.Entry.TheVariants as kind
 use Rattle.hs_standing.proofs.OrderLemmas.{orderly_effect}
 use Rattle.hs_limits.specs.declared.address.Address.{Address}
 use Rattle.hs_measure.proofs.FallsCounts.{sweeps_le}
 use Rattle.hs_measure.proofs.LowersCounts.{asks_is, is_own, product_falls}
+use Rattle.hs_measure.proofs.LowersEffect.{account_answered, at_once_is, no_more, other_line}
 use Rattle.hs_measure.proofs.LowersGoes.{IsPlaced, counted_line, shard_low, shows_here}
 use Rattle.hs_measure.proofs.LowersJudged.{done_suits}
 use Rattle.hs_measure.proofs.LowersParts.{in_lists}
@@ -37,35 +36,9 @@ use Rattle.hs_ops.specs.declared.step.OpStep.TheVariants as step
 use Rattle.hs_ops.specs.Operations.{after_step, effect_step}
 use Rattle.hs_ops.specs.Views.{OpView}
 use Rattle.hs_replica.specs.Group.{committed, take_committed}
-use Rattle.hs_shard.specs.declared.effect.Effect.{Effect}
 use Rattle.hs_shard.specs.Facts.{Catalogue, number_at}
 
 -- ---- what is told of an entry that a line asked for
-
-at_once_is : (shard line : ℕ) (entry : Entry) (effect : Effect) (x : Core) → asked_by entry ≡ Some line → tells_at_once shard entry effect x ≡ after_entry shard entry effect x
-at_once_is shard line (kind.Block l least bytes) effect x by = refl
-at_once_is shard line (kind.Mark l least block a) effect x by = refl
-at_once_is shard line (kind.Root l held a key) effect x by = refl
-at_once_is shard line (kind.Drop l key) effect x by = refl
-at_once_is shard line (kind.Enter l epoch) effect x by = refl
-at_once_is shard line (kind.View view) effect x by = absurd (cc by)
-at_once_is shard line (kind.Got from epoch round total deltas) effect x by = absurd (cc by)
-at_once_is shard line (kind.Base view epoch swept round frames) effect x by = absurd (cc by)
-at_once_is shard line (kind.KeptBlock born mark flags count bytes) effect x by = absurd (cc by)
-at_once_is shard line (kind.KeptRoot created dropped counted a key) effect x by = absurd (cc by)
-at_once_is shard line (kind.KeptRound way other epoch round total deltas) effect x by = absurd (cc by)
-
-other_line : (l line : ℕ) → Some line ≡ Some l → l ≡ line
-other_line l line e = let same : line ≡ l = cc e in sym same
-
--- numbers
-no_more : (h t c way wt k : ℕ) → h + wt ≤ t + k → t + way ≤ c + wt → k ≤ way → h ≤ c
-no_more h t c way wt k a b d = omega (arith, a, b, d)
-
--- a sum of all parts where an operation is answered: ways may rise by three each, for which the product falls
-account_answered : (j n g d w p y n' g' d' w' p' y' rest : ℕ) → (4 * n' + 2 * d') + y' ≤ (4 * n + 2 * d) + y → g' ≤ g → w' ≤ w + 3 * rest → p' + rest ≤ p
-    → ((j + 4 * n') + (2 * g' + 2 * d')) + ((w' + 3 * p') + y') ≤ ((j + 4 * n) + (2 * g + 2 * d)) + ((w + 3 * p) + y)
-account_answered j n g d w p y n' g' d' w' p' y' rest a b c e = omega (arith, a, b, c, e)
 
 module _ (name : List ℕ → Address) (shard number : ℕ) (entry : Entry) (c : Core) (its : IsOrderly name c) (placed : IsPlaced c) (low : shard < (shape_of c).shards) (leads : committed (group_of shard c) ≡ Some (number, entry)) where
   pub placed_taken : IsPlaced (taken shard entry c)

@@ -22,7 +22,7 @@ use Rattle.hs_limits.specs.declared.address.Address.{Address}
 use Rattle.hs_limits.specs.declared.limits.TheConstants.{LAST_EPOCH}
 use Rattle.hs_measure.proofs.FoundCore.{most_in}
 use Rattle.hs_measure.proofs.FoundEntries.{enters_fewer}
-use Rattle.hs_measure.proofs.FallsClient.{apart_bools, held, lists_le, next_step, refused_cheap, step_is, unsure_cheap, v}
+use Rattle.hs_measure.proofs.FallsClient.{held, next_step, refused_cheap, step_is, unsure_cheap, v}
 use Rattle.hs_measure.proofs.FallsCounts.{sweeps_le, sweeps_less}
 use Rattle.hs_measure.proofs.LowersCounts.{is_own, product_falls, product_less}
 use Rattle.hs_measure.proofs.FallsEffect.{answered_counts, kept_counts}
@@ -30,13 +30,16 @@ use Rattle.hs_measure.proofs.LowersFresh.{delete_idle}
 use Rattle.hs_measure.proofs.FallsSlots.{news_most}
 use Rattle.hs_measure.proofs.LowersParts.{due_by, dues_le, dues_most}
 use Rattle.hs_measure.proofs.LowersRounds.{KeepsNumbers, advance_numbers, each_numbers}
-use Rattle.hs_measure.proofs.FallsStand.{Next, Stand, beside_it, enter_low, enter_op, first_is, first_swept, room_here, so_far, steps_then, swept_low, swept_then}
+use Rattle.hs_measure.proofs.FallsStand.{Next, Stand, beside_it, enter_low, room_here, so_far, steps_then, swept_low, swept_then}
 use Rattle.hs_measure.proofs.LowersSteps.{cost}
 use Rattle.hs_measure.proofs.FallsTaken.{deletion_falls, news_quiet, quiet_counts}
 use Rattle.hs_measure.proofs.LowersTaken.{all_bumped, all_same, any_all, as_much, asks_taken, catalogue_here, catalogue_other, catalogues_by, due_same, gots_le, group_other, way_same}
 use Rattle.hs_measure.proofs.LowersWays.{HasSameNumbers}
 use Rattle.hs_measure.proofs.StepLemmas.{mul_le}
 use Rattle.hs_measure.specs.Finite.{reports_most, rounds_left, slots_of, sweeps_to_come}
+use Rattle.hs_measure.proofs.LowersClient.{apart_bools, lists_le}
+use Rattle.hs_measure.proofs.LowersEnter.{account_entered, count_number, heavy_entered}
+use Rattle.hs_measure.proofs.LowersStand.{enter_op, first_is, first_swept}
 use Rattle.hs_measure.specs.Measure.{asks_of, dues_of, gots_of, jobs_of, way_left, ways_left}
 use Rattle.hs_model.specs.declared.op.Op.{Op}
 use Rattle.hs_model.specs.declared.op.Op.TheVariants as op
@@ -46,19 +49,11 @@ use Rattle.hs_ops.specs.Speaking.{judging_shard}
 use Rattle.hs_ops.specs.Views.{OpView}
 use Rattle.hs_replica.specs.Group.{Group}
 use Rattle.hs_shard.specs.Clients.{Applied, only}
-use Rattle.hs_shard.specs.declared.facts.Facts.{Facts}
 use Rattle.hs_shard.specs.Facts.{Catalogue, number_at}
-use Rattle.hs_shard.specs.Rounds.{advanced, count_block, entered, is_new, may_enter}
+use Rattle.hs_shard.specs.Rounds.{advanced, count_block, entered, may_enter}
 use Rattle.std.proofs.Math.Nat.{mul-suc}
 
 -- ---- numbers
-
--- a shard has entered: one step of deletion pays for all rounds that may be new, and an Enter that may be due
-pub account_entered : (j n g d w p y n' g' d' w' p' y' s : ℕ) → n' ≤ n + 4 * s → g' ≤ g → d' ≤ d + 1 → w' + 3 * p' ≤ w + 3 * p → y' + (16 * s + 2) ≤ y → ((j + 4 * n') + (2 * g' + 2 * d')) + ((w' + 3 * p') + y') ≤ ((j + 4 * n) + (2 * g + 2 * d)) + ((w + 3 * p) + y)
-account_entered j n g d w p y n' g' d' w' p' y' s a b c e f = omega (arith, a, b, c, e, f)
-
-heavy_entered : (n n' d d' y y' s : ℕ) → n' ≤ n + 4 * s → d' ≤ d + 1 → y' + (16 * s + 2) ≤ y → (4 * n' + 2 * d') + y' ≤ (4 * n + 2 * d) + y
-heavy_entered n n' d d' y y' s a b c = omega (arith, a, b, c)
 
 -- a factor more
 pub pays_factor : (k x y : ℕ) → x + 1 ≤ y → k * x + k ≤ k * y
@@ -74,13 +69,6 @@ note_same shard what.Rooted c = refl
 note_same shard what.Dropped c = refl
 note_same shard (what.Entered epoch) c = refl
 note_same shard what.Refused c = refl
-
-count_number : (epoch : ℕ) (f : Facts) → (count_block epoch f).number ≡ f.number
-count_number epoch f = go (is_new epoch f)
-  where
-    go : (b : Bool) → (cond b (record f { counted = true }) f).number ≡ f.number
-    go true = refl
-    go false = refl
 
 module _ (name : List ℕ → Address) (c : Core) (its : Stand name c) (shard number line epoch : ℕ) (next : Next c shard number (kind.Enter line epoch)) where
   abbrev entry : Entry

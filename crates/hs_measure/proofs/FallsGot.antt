@@ -1,5 +1,5 @@
 -- A Got takes effect: it goes, and where it completes a round, one step of deletion pays for what may be new.
-use Rattle.std.proofs.Common.{◌≡◌, ◌∙◌, sym, ap, subst, refl, ◌⊎◌, inl, inr, ℕ, suc, ◌+◌, ◌*◌, ◌<◌, ◌≤◌, ◌==◌, ◌&&◌, ◌||◌, Bool, true, false, cond, not, List, [], ◌∷◌, Option, Some, None, arith, is_none, length, nat_le, nat_lt}
+use Rattle.std.proofs.Common.{◌≡◌, ◌∙◌, sym, ap, subst, refl, ◌⊎◌, inl, inr, ℕ, suc, ◌+◌, ◌*◌, ◌<◌, ◌≤◌, ◌==◌, ◌&&◌, ◌||◌, Bool, true, false, cond, not, List, ◌∷◌, Option, Some, None, arith, is_none, length, nat_le, nat_lt}
 use Rattle.std.proofs.Common.{Ordering, Less, Equal, Greater}
 use Rattle.std.proofs.lemmas.Bool.{and_from, and_parts, eqb-true, lt-ltb, ltb-true}
 use Rattle.std.specs.BTreeMap.{insert_entry, is_at}
@@ -27,10 +27,9 @@ use Rattle.hs_limits.specs.declared.shape.Shape.{Shape}
 use Rattle.hs_measure.proofs.FoundCore.{most_in}
 use Rattle.hs_measure.proofs.FoundEntries.{gets_fewer}
 use Rattle.hs_measure.proofs.FoundRounds.{IsOfShard, IsPhase}
-use Rattle.hs_measure.proofs.FallsClient.{apart_bools}
 use Rattle.hs_measure.proofs.FallsCounts.{sweeps_le, sweeps_less}
 use Rattle.hs_measure.proofs.LowersCounts.{product_falls, product_less}
-use Rattle.hs_measure.proofs.FallsEnter.{account_entered, pays_factor}
+use Rattle.hs_measure.proofs.FallsEnter.{pays_factor}
 use Rattle.hs_measure.proofs.FallsSlots.{news_le, news_most, same_rows}
 use Rattle.hs_measure.proofs.LowersParts.{due_by, dues_most, new_by}
 use Rattle.hs_measure.proofs.LowersRounds.{KeepsNumbers, advance_epoch, advance_numbers}
@@ -39,6 +38,8 @@ use Rattle.hs_measure.proofs.FallsTaken.{deletion_falls, quiet_counts}
 use Rattle.hs_measure.proofs.LowersTaken.{all_bumped, all_same, any_here, as_much, asks_taken, catalogue_here, catalogue_other, catalogues_by, gots_le, group_other, way_same}
 use Rattle.hs_measure.proofs.LowersWays.{HasSameNumbers}
 use Rattle.hs_measure.specs.Finite.{most_rounds, reports_most, rounds_left, slot_at, slots_of, sweeps_to_come}
+use Rattle.hs_measure.proofs.LowersClient.{apart_bools}
+use Rattle.hs_measure.proofs.LowersEnter.{account_entered}
 use Rattle.hs_measure.specs.Measure.{asks_of, dues_of, gots_of, jobs_of, ways_left}
 use Rattle.hs_model.specs.declared.deed.Deed.TheVariants as deed
 use Rattle.hs_model.specs.declared.reply.Reply.TheVariants as reply

@@ -19,11 +19,13 @@ use Rattle.hs_limits.specs.declared.address.Address.{Address}
 use Rattle.hs_limits.specs.Limits.{greatest_limits}
 use Rattle.hs_limits.specs.Reading.{read_block}
 use Rattle.hs_limits.specs.Shape.{shard_of, shard_of_key}
-use Rattle.hs_measure.proofs.FallsClient.{answered, apart_bools, held, kept, nobody, now, refused_cheap, step_is, unsure_cheap, v, write_fresh}
+use Rattle.hs_measure.proofs.FallsClient.{answered, held, kept, nobody, now, refused_cheap, step_is, unsure_cheap, v, write_fresh}
 use Rattle.hs_measure.proofs.LowersFresh.{drop_kept, root_kept, root_late}
-use Rattle.hs_measure.proofs.FallsStand.{IsBlockOp, IsMarkOp, IsRootOp, Next, Stand, block_op, drop_op, mark_op, root_op, shape_here, shard_here}
+use Rattle.hs_measure.proofs.FallsStand.{Next, Stand, shape_here, shard_here}
 use Rattle.hs_measure.proofs.LowersTaken.{catalogues_by}
 use Rattle.hs_measure.specs.Finite.{reports_most}
+use Rattle.hs_measure.proofs.LowersClient.{apart_bools}
+use Rattle.hs_measure.proofs.LowersStand.{IsBlockOp, IsMarkOp, IsRootOp, block_op, drop_op, mark_op, root_op}
 use Rattle.hs_measure.specs.Measure.{is_free_for, is_stored_at}
 use Rattle.hs_model.specs.declared.op.Op.{Op}
 use Rattle.hs_model.specs.declared.op.Op.TheVariants as op

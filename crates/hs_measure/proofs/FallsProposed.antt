@@ -1,5 +1,5 @@
 -- What an entry that is proposed adds to what is counted at most.
-use Rattle.std.proofs.Common.{◌≡◌, ◌∙◌, sym, ap, subst, inl, inr, refl, ℕ, ◌+◌, ◌*◌, ◌≤◌, ◌<◌, ◌==◌, ◌&&◌, ◌||◌, Bool, true, false, cond, not, List, [], ◌∷◌, ◌++◌, Option, Some, None, arith, count_by, is_none, is_some, length, sum_by, tests}
+use Rattle.std.proofs.Common.{◌≡◌, ◌∙◌, sym, ap, subst, inl, inr, refl, ℕ, ◌+◌, ◌*◌, ◌≤◌, ◌<◌, ◌==◌, ◌&&◌, ◌||◌, Bool, true, false, cond, not, List, ◌∷◌, ◌++◌, Option, Some, None, arith, count_by, is_none, is_some, length, sum_by}
 use Rattle.std.proofs.lemmas.Bool.{and_parts, eqb-true}
 use Rattle.std.specs.List.{list_any}
 use Rattle.std.specs.Option.{option_map_or}
@@ -21,7 +21,7 @@ use Rattle.hs_rounds.specs.declared.place.Place.{Place as Row}
 use Rattle.hs_rounds.specs.Rounds.{body}
 use Rattle.hs_shard.specs.Facts.{Catalogue}
 use Rattle.hs_shard.specs.Rounds.{is_due}
-use Rattle.hs_measure.proofs.ProposedLemmas.{asks_same, due_still, dues_le, gots_more, jobs_more, new_still, proposed_is, waits_there, ways_le, with_entry}
+use Rattle.hs_measure.proofs.ProposedLemmas.{asks_same, due_still, dues_le, gots_more, jobs_more, new_still, old_now, proposed_is, same_true, total, total_le, waits_there, ways_le, with_entry}
 
 module _ (s : ℕ) (entry : Entry) (c : Core) (alone : AreAlone (face c)) (low : s < (shape_of c).shards) where
   pub new_of_le : (from to : ℕ) → count_by (slot_at from to (with_entry s entry c)) (due_rounds from (catalogue_of to c)) ≤ count_by (slot_at from to c) (due_rounds from (catalogue_of to c))
@@ -38,14 +38,6 @@ module _ (s : ℕ) (entry : Entry) (c : Core) (alone : AreAlone (face c)) (low :
 
 -- ---- all that is counted
 
-abbrev total : ℕ → ℕ → ℕ → ℕ → ℕ → ℕ → ℕ → ℕ → ℕ → ℕ
-total shards jobs news gots dues ways operations taken left = ((jobs + 4 * news) + (2 * gots + 2 * dues)) + ((ways + 3 * (operations * taken)) + (16 * shards + 2) * left)
-
-total_le : (shards jobs news gots dues ways less_jobs less_news less_gots less_dues less_ways operations taken left : ℕ)
-    → ((less_jobs + 4 * less_news) + (2 * less_gots + 2 * less_dues)) + less_ways ≤ ((jobs + 4 * news) + (2 * gots + 2 * dues)) + ways
-    → total shards less_jobs less_news less_gots less_dues less_ways operations taken left ≤ total shards jobs news gots dues ways operations taken left
-total_le shards jobs news gots dues ways less_jobs less_news less_gots less_dues less_ways operations taken left le = omega (arith, le)
-
 module _ (s : ℕ) (entry : Entry) (c : Core) (alone : AreAlone (face c)) (low : s < (shape_of c).shards) (own : is_left_over s c entry ≡ false) where
   -- its jobs are paid by what is new or due no more
   pub proposed_le : (2 + 2 * cond (is_any_got entry) 1 0) + (4 * slots_of (with_entry s entry c) + 2 * dues_of (with_entry s entry c)) ≤ 4 * slots_of c + 2 * dues_of c → reports_most (propose_entry s entry c) ≤ reports_most c
@@ -59,17 +51,6 @@ module _ (s : ℕ) (entry : Entry) (c : Core) (alone : AreAlone (face c)) (low :
       let ways = ways_le s entry c alone low in
       let le = total_le (shape_of c).shards (jobs_of c) (slots_of c) (gots_of c) (dues_of c) (ways_left c) (jobs_of n) (slots_of n) (gots_of n) (dues_of n) (ways_left n) (length c.operations) (sweeps_to_come c + asks_of c) (rounds_left c) (omega (arith, jobs, gots, ways, paid)) in
       subst (λ x. x ≤ reports_most c) (sym is) le
-
--- a test that fails for what is there now
-old_now : (a b x y : Bool) → y ≡ true → (a && (b && not (x || y))) ≡ false
-old_now a b x false is = absurd (cc is)
-old_now true true true true is = refl
-old_now true true false true is = refl
-old_now true false x true is = refl
-old_now false b x true is = refl
-
-same_true : (x : ℕ) → (x == x) ≡ true
-same_true x = grind (arith, tests)
 
 -- ---- a due Enter
 

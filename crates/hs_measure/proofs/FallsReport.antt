@@ -1,5 +1,5 @@
 -- A report that is due lowers what is left.
-use Rattle.std.proofs.Common.{◌≡◌, ◌∙◌, sym, ap, subst, refl, ◌⊎◌, inl, inr, ℕ, ◌+◌, ◌<◌, ◌≤◌, Bool, true, false, List, [], ◌∷◌, Option, Some, None, arith, drop, eqb-true, is_some, slice_get}
+use Rattle.std.proofs.Common.{◌≡◌, ◌∙◌, sym, ap, subst, refl, ◌⊎◌, inl, inr, ℕ, ◌+◌, ◌<◌, ◌≤◌, Bool, true, false, List, Option, Some, None, arith, drop, is_some}
 use Rattle.std.proofs.lemmas.List.{length-set}
 use Rattle.std.specs.Option.{option_map, option_map_or}
 use Rattle.hs_standing.proofs.BesideLemmas.{beside_begun, beside_both, beside_group, beside_tasks}
@@ -9,22 +9,20 @@ use Rattle.hs_core.specs.Changing.{change_group, set_tasks}
 use Rattle.hs_core.specs.declared.event.Event.TheVariants as event
 use Rattle.hs_core.specs.declared.task.Task.{Task}
 use Rattle.hs_core.specs.declared.wait.Wait.{Wait}
-use Rattle.hs_core.specs.declared.wait.Wait.TheVariants as wait
 use Rattle.hs_core.specs.declared.waiting.Waiting.{Waiting}
 use Rattle.hs_core.specs.Effects.{take_effect}
 use Rattle.hs_core.specs.Looking.{first_task, group_of, lost_shard, operation_of, shape_of, tasks_of}
 use Rattle.hs_core.specs.Operating.{go_on_with}
-use Rattle.hs_core.specs.Reporting.{is_reading, on_report, take_report, take_sealed, tell_bytes}
+use Rattle.hs_core.specs.Reporting.{is_reading, on_report, take_sealed, tell_bytes}
 use Rattle.hs_core.specs.Seeing.{pointers_for}
 use Rattle.hs_core.specs.State.{Core}
 use Rattle.hs_core.specs.Step.{end_event, step}
-use Rattle.hs_core.specs.Words.{change_if, change_with, ◌▸◌}
+use Rattle.hs_core.specs.Words.{change_if, change_with}
 use Rattle.hs_desk.specs.Answers.{answers, is_read_of}
 use Rattle.hs_desk.specs.declared.done.Done.{Done}
 use Rattle.hs_desk.specs.declared.done.Done.TheVariants as done
 use Rattle.hs_desk.specs.declared.fault.CoreFault.TheVariants as fault
 use Rattle.hs_desk.specs.declared.job.Job.{Job}
-use Rattle.hs_desk.specs.declared.job.Job.TheVariants as job
 use Rattle.hs_entry.specs.declared.entry.Entry.{Entry}
 use Rattle.hs_events.specs.Alone.{AreAlone, face}
 use Rattle.hs_events.specs.Whole.{Whole}
@@ -39,6 +37,7 @@ use Rattle.hs_measure.proofs.DueLemmas.{alike_ended}
 use Rattle.hs_measure.proofs.FallsBeside.{beside_fewer, stand_beside}
 use Rattle.hs_measure.proofs.FallsBytes.{told_counts}
 use Rattle.hs_measure.proofs.LowersGoes.{IsPlaced}
+use Rattle.hs_measure.proofs.LowersReport.{less_then, read_is, reading_is, report_is, same_le, task_first}
 use Rattle.hs_measure.proofs.LowersSealed.{sealed_is}
 use Rattle.hs_measure.proofs.FallsStand.{Stand}
 use Rattle.hs_measure.proofs.LowersSums.{lists_taken}
@@ -52,40 +51,7 @@ use Rattle.hs_moments.proofs.AloneReportLemmas.{AreSettled, answered_within, fir
 use Rattle.hs_ops.specs.Operations.{bytes_step}
 use Rattle.hs_replica.specs.Group.{committed, on_sealed}
 
--- ---- plain facts
-
-task_first : (ts : List Task) (task : Task) → slice_get ts 0 ≡ Some task → ts ≡ task ∷ drop 1 ts
-task_first [] task e = absurd (cc e)
-task_first (t ∷ ts) task e = let same : t ≡ task = cc e in ap (λ (x : Task). x ∷ ts) same
-
-read_is : (number : ℕ) (j : Job) → is_read_of number j ≡ true → j ≡ job.Read number
-read_is number (job.Append n entry) e = absurd (cc e)
-read_is number (job.Seal n) e = absurd (cc e)
-read_is number (job.Read n) e = ap (λ k. job.Read k) (sym (eqb-true number n e))
-read_is number job.Reset e = absurd (cc e)
-read_is number (job.Copy from n) e = absurd (cc e)
-read_is number job.Reclaim e = absurd (cc e)
-
-reading_is : (number : ℕ) (x : Wait) → is_reading number x ≡ true → x ≡ wait.Bytes number
-reading_is number wait.View e = absurd (cc e)
-reading_is number wait.Address e = absurd (cc e)
-reading_is number wait.Room e = absurd (cc e)
-reading_is number (wait.Bytes n) e = ap (λ k. wait.Bytes k) (eqb-true n number e)
-reading_is number (wait.Entry n) e = absurd (cc e)
-
-less_then : (x y z : ℕ) → x ≤ y → y + 1 ≤ z → x + 1 ≤ z
-less_then x y z h k = omega (arith, h, k)
-
-same_le : (x : ℕ) → x ≤ x
-same_le x = omega arith
-
 -- ---- a report that answers the first job of a peer
-
-abbrev takes : ℕ → Done → Task → Core → Core
-takes p d task core = core ▸ set_tasks p (drop 1 (tasks_of p core)) ▸ take_report p task.line d
-
-report_is : (p : ℕ) (d : Done) (c : Core) (task : Task) → first_task p c ≡ Some task → answers p task.job d ≡ true → on_report p d c ≡ take_report p task.line d (set_tasks p (drop 1 (tasks_of p c)) c)
-report_is p d c task e f = ap (λ o. change_with o (λ task. change_if (answers p task.job d) (takes p d task)) c) e ∙ ap (λ b. change_if b (takes p d task) c) f
 
 module _ (name : List ℕ → Address) (c : Whole) (moving : IsMoving name c) (low : IsLow c.core) (p : ℕ) (d : Done) (at : ℕ) (fits : is_answered p d c.core ≡ true) where
   abbrev core : Core

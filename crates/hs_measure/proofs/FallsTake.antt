@@ -1,75 +1,42 @@
 -- An entry takes effect, and all goes on by it: no more reports are left than before.
-use Rattle.std.proofs.Common.{◌≡◌, ◌∙◌, sym, ap, subst, refl, ℕ, ◌+◌, ◌*◌, ◌<◌, ◌≤◌, ◌==◌, ◌&&◌, ◌||◌, Bool, true, false, cond, not, List, Option, Some, None, arith, is_some, length, nat_le, sum_by}
+use Rattle.std.proofs.Common.{◌≡◌, ◌∙◌, sym, ap, subst, refl, ℕ, ◌+◌, ◌*◌, ◌<◌, ◌≤◌, ◌==◌, ◌&&◌, Bool, true, false, not, List, Some, None, arith, is_some, length, sum_by}
 use Rattle.std.proofs.lemmas.Bool.{and_parts, eq-eqb}
-use Rattle.std.proofs.lemmas.List.{length-set}
-use Rattle.std.specs.List.{list_all, list_any}
+use Rattle.std.specs.List.{list_any}
 use Rattle.std.specs.Option.{option_map_or}
 use Rattle.std.specs.Prelude.{if◌then◌else◌}
-use Rattle.hs_standing.proofs.BesideLemmas.{beside_viewed}
-use Rattle.hs_standing.specs.Changes.{told_at_once, tells_at_once}
-use Rattle.hs_core.specs.Changing.{add_entry_tasks, change_group, note, post, set_viewed}
-use Rattle.hs_core.specs.declared.wait.Wait.{Wait}
-use Rattle.hs_core.specs.declared.wait.Wait.TheVariants as wait
+use Rattle.hs_standing.specs.Changes.{told_at_once}
+use Rattle.hs_core.specs.Changing.{set_viewed}
 use Rattle.hs_core.specs.declared.waiting.Waiting.{Waiting}
-use Rattle.hs_core.specs.Effects.{after_entry, is_for_address, is_for_room, is_for_view, note_enter, note_sweep, take_effect, tell_enter, tell_operation, wakes}
-use Rattle.hs_core.specs.Entering.{enters, has_begun, is_enter_due, propose_due}
-use Rattle.hs_core.specs.Looking.{catalogue_of, group_of, lead_of, operation_of, shape_of}
-use Rattle.hs_core.specs.Operating.{propose_entry, resume_where, take_step}
-use Rattle.hs_core.specs.Pending.{named, puts_root, writes_block}
-use Rattle.hs_core.specs.Seeing.{view_for}
+use Rattle.hs_core.specs.Effects.{take_effect}
+use Rattle.hs_core.specs.Entering.{enters, has_begun, is_enter_due}
+use Rattle.hs_core.specs.Looking.{catalogue_of, group_of, operation_of, shape_of}
+use Rattle.hs_core.specs.Operating.{propose_entry}
 use Rattle.hs_core.specs.State.{Core}
-use Rattle.hs_core.specs.Words.{change_if, change_with}
-use Rattle.hs_desk.specs.declared.what.What.{What}
-use Rattle.hs_desk.specs.declared.what.What.TheVariants as what
-use Rattle.hs_effects.specs.Taking.{done_by, taken}
 use Rattle.hs_entry.specs.declared.entry.Entry.{Entry}
 use Rattle.hs_entry.specs.declared.entry.Entry.TheVariants as kind
-use Rattle.hs_journal.specs.declared.entry.Who.TheVariants as who
-use Rattle.hs_standing.proofs.MuteLemmas.{Words, at_once_quiet, proposed_words}
-use Rattle.hs_standing.proofs.OrderLemmas.{orderly_beside, orderly_due, orderly_effect}
+use Rattle.hs_standing.proofs.MuteLemmas.{Words, proposed_words}
 use Rattle.hs_limits.specs.declared.address.Address.{Address}
 use Rattle.hs_limits.specs.declared.shape.Shape.{Shape}
 use Rattle.hs_measure.proofs.FallsClient.{nobody}
 use Rattle.hs_measure.proofs.FallsCounts.{deletion_le, sweeps_le}
 use Rattle.hs_measure.proofs.LowersCounts.{product_less}
-use Rattle.hs_measure.proofs.FallsEffect.{placed_taken}
 use Rattle.hs_measure.proofs.FallsEnter.{enter_counts}
-use Rattle.hs_measure.proofs.FallsGoes.{Holds, where_holds}
-use Rattle.hs_measure.proofs.LowersGoes.{IsParked, IsPlaced, PassesParked, placed_step}
+use Rattle.hs_measure.proofs.LowersGoes.{IsPlaced, Pays}
 use Rattle.hs_measure.proofs.FallsGot.{got_counts}
 use Rattle.hs_measure.proofs.FallsKinds.{block_counts, drop_counts, mark_counts, root_counts, view_counts}
 use Rattle.hs_measure.proofs.LowersParts.{dues_fewer, in_lists}
 use Rattle.hs_measure.proofs.FallsStand.{Next, Stand}
-use Rattle.hs_measure.proofs.FallsSteps.{adds_news}
+use Rattle.hs_measure.proofs.FallsSteps.{adds_news, stepped}
 use Rattle.hs_measure.proofs.LowersSteps.{Adds, adds_due, adds_lists, adds_way, proposed_adds, proposed_here, proposed_jobs}
 use Rattle.hs_measure.proofs.LowersSums.{any_last, sum_le}
+use Rattle.hs_measure.proofs.LowersTake.{account_due, both_sum, none_due, take_pays}
+use Rattle.hs_measure.proofs.LowersTaken.{as_much}
 use Rattle.hs_measure.proofs.StepLemmas.{mul_le}
 use Rattle.hs_measure.specs.Finite.{most_rounds, reports_most, rounds_left, slots_of, steps_of, sweeps_to_come}
 use Rattle.hs_measure.specs.Measure.{asks_of, dues_of, gots_of, is_any_got, is_left_over, jobs_of, way_left, ways_left}
-use Rattle.hs_members.specs.Members.{Members}
-use Rattle.hs_model.specs.declared.deed.Deed.TheVariants as deed
-use Rattle.hs_model.specs.declared.reply.Reply.TheVariants as reply
-use Rattle.hs_ops.specs.Operations.{effect_step}
-use Rattle.hs_replica.specs.Group.{last_number, proposal, propose}
-use Rattle.hs_shard.specs.declared.effect.Effect.{Effect}
 use Rattle.hs_shard.specs.Facts.{Catalogue}
 
 -- ---- a due Enter is proposed
-
--- it is due no more, which pays for its jobs
-account_due : (j n g d w p y j' n' g' d' w' p' y' : ℕ) → j' ≤ j + 2 → n' ≤ n → g' ≤ g → d' + 1 ≤ d → w' ≤ w → p' ≤ p → y' ≤ y → ((j' + 4 * n') + (2 * g' + 2 * d')) + ((w' + 3 * p') + y') ≤ ((j + 4 * n) + (2 * g + 2 * d)) + ((w + 3 * p) + y)
-account_due j n g d w p y j' n' g' d' w' p' y' a b c e f h i = omega (arith, a, b, c, e, f, h, i)
-
-none_due : (a b x : Bool) → x ≡ true → (a && (b && not x)) ≡ false
-none_due true true x e = ap not e
-none_due true false x e = refl
-none_due false b x e = refl
-
-as_much : (x y : ℕ) → x ≡ y → x ≤ y
-as_much x y e = omega (arith, e)
-
-both_sum : (s t x y : ℕ) → s ≤ t → x ≤ y → s + x ≤ t + y
-both_sum s t x y h k = omega (arith, h, k)
 
 module _ (name : List ℕ → Address) (c : Core) (placed : IsPlaced c) (shard : ℕ) (low : shard < (shape_of c).shards) (due : is_enter_due shard c ≡ true) where
   abbrev entry : Entry
@@ -129,155 +96,14 @@ module _ (name : List ℕ → Address) (c : Core) (placed : IsPlaced c) (shard :
       (jobs_of later) (slots_of later) (gots_of later) (dues_of later) (ways_left later) (length later.operations * (sweeps_to_come later + asks_of later)) ((16 * (shape_of c).shards + 2) * rounds_left later)
       (proposed_jobs shard entry c) (adds_news c later shard entry adds) (as_much (gots_of later) (gots_of c) (adds_lists c later shard entry adds (λ k. is_any_got) refl)) fewer ways_less product_same deletion_same)
 
--- ---- lists and catalogues stand
-
-placed_proposed : (shard : ℕ) (entry : Entry) (c : Core) → IsPlaced c → IsPlaced (propose_entry shard entry c)
-placed_proposed shard entry c its = by_lead (lead_of shard c)
-  where
-    sent : Core
-    sent = post (proposal entry (group_of shard c)) (change_group shard (propose entry) c)
-
-    long : length (change_group shard (propose entry) c).groups ≡ (shape_of c).shards
-    long = length-set c.groups shard (propose entry (group_of shard c)) ∙ its.groups
-
-    by_lead : (lead : Option ℕ) → IsPlaced (change_with lead (λ peer. add_entry_tasks peer (last_number (group_of shard c) + 1) entry) sent)
-    by_lead None = record { groups = long; catalogues = its.catalogues; some = its.some }
-    by_lead (Some peer) = record { groups = long; catalogues = its.catalogues; some = its.some }
-
-placed_told : (line : ℕ) (did : What) (c : Core) → IsPlaced c → IsPlaced (tell_operation line did c)
-placed_told line did c its = by_operation (operation_of line c)
-  where
-    by_operation : (o : Option Waiting) → IsPlaced (change_with o (λ w. take_step line w (effect_step (view_for w.shard w.operation.op c) did w.operation)) c)
-    by_operation None = its
-    by_operation (Some w) = placed_step line w (effect_step (view_for w.shard w.operation.op c) did w.operation) c its
-
-placed_noted : (shard : ℕ) (did : What) (c : Core) → IsPlaced c → IsPlaced (note_enter shard did c)
-placed_noted shard what.Nothing c its = its
-placed_noted shard (what.Viewed view) c its = its
-placed_noted shard what.Stored c its = its
-placed_noted shard what.Marked c its = its
-placed_noted shard what.Again c its = its
-placed_noted shard what.Rooted c its = its
-placed_noted shard what.Dropped c its = its
-placed_noted shard (what.Entered epoch) c its = record { groups = its.groups; catalogues = its.catalogues; some = its.some }
-placed_noted shard what.Refused c its = its
-
-placed_enter : (shard line : ℕ) (did : What) (c : Core) → IsPlaced c → IsPlaced (tell_enter shard line did c)
-placed_enter shard line did c its = by_operation (is_some (operation_of line c))
-  where
-    by_operation : (b : Bool) → IsPlaced (cond b (tell_operation line did c) (note_enter shard did c))
-    by_operation true = placed_told line did c its
-    by_operation false = placed_noted shard did c its
-
-placed_swept : (shard : ℕ) (removed : Option ℕ) (c : Core) → IsPlaced c → IsPlaced (change_with removed (note_sweep shard) c)
-placed_swept shard None c its = its
-placed_swept shard (Some count) c its = go (list_all (λ (x : Catalogue). nat_le (catalogue_of shard c).swept x.swept) c.catalogues)
-  where
-    go : (b : Bool) → IsPlaced (change_if b (note who.Store deed.Nothing (reply.Done (catalogue_of shard c).swept)) (note (who.Shard shard) (deed.Swept shard) (reply.Sweep (catalogue_of shard c).swept count) c))
-    go true = record { groups = its.groups; catalogues = its.catalogues; some = its.some }
-    go false = record { groups = its.groups; catalogues = its.catalogues; some = its.some }
-
-placed_at_once : (shard : ℕ) (entry : Entry) (effect : Effect) (c : Core) → IsPlaced c → IsPlaced (tells_at_once shard entry effect c)
-placed_at_once shard (kind.View view) effect c its = its
-placed_at_once shard (kind.Block line least bytes) effect c its = placed_told line effect.what c its
-placed_at_once shard (kind.Mark line least block a) effect c its = placed_told line effect.what c its
-placed_at_once shard (kind.Root line held a key) effect c its = placed_told line effect.what c its
-placed_at_once shard (kind.Drop line key) effect c its = placed_told line effect.what c its
-placed_at_once shard (kind.Enter line epoch) effect c its = placed_enter shard line effect.what c its
-placed_at_once shard (kind.Got from epoch round total deltas) effect c its = placed_swept shard effect.removed c its
-placed_at_once shard (kind.Base view epoch swept round frames) effect c its = its
-placed_at_once shard (kind.KeptBlock born mark flags count bytes) effect c its = its
-placed_at_once shard (kind.KeptRoot created dropped counted a key) effect c its = its
-placed_at_once shard (kind.KeptRound way other epoch round total deltas) effect c its = its
-
--- ---- what goes on by an entry
-
-view_parks : PassesParked is_for_view
-view_parks w e = by_wait w.wait refl e
-  where
-    by_wait : (x : Wait) → w.wait ≡ x → is_for_view (record w { wait = x }) ≡ true → IsParked x
-    by_wait wait.View is e = tt
-    by_wait wait.Address is e = tt
-    by_wait wait.Room is e = tt
-    by_wait (wait.Bytes number) is e = absurd (cc e)
-    by_wait (wait.Entry number) is e = absurd (cc e)
-
--- what waits for room, or for a Block of an address
-either_parks : (a : Option Address) (c : Core) (w : Waiting) (x y : Bool) → (is_for_address a c w || is_for_room w && x) ≡ true → IsParked w.wait
-either_parks a c w x y e = by_wait w.wait e
-  where
-    by_wait : (z : Wait) → (is_for_address a c (record w { wait = z }) || is_for_room (record w { wait = z }) && x) ≡ true → IsParked z
-    by_wait wait.View e = tt
-    by_wait wait.Address e = tt
-    by_wait wait.Room e = tt
-    by_wait (wait.Bytes number) e = absurd (cc e)
-    by_wait (wait.Entry number) e = absurd (cc e)
-
-room_parks : (w : Waiting) (x : Bool) → (is_for_room w && x) ≡ true → IsParked w.wait
-room_parks w x e = by_wait w.wait e
-  where
-    by_wait : (z : Wait) → (is_for_room (record w { wait = z }) && x) ≡ true → IsParked z
-    by_wait wait.View e = tt
-    by_wait wait.Address e = tt
-    by_wait wait.Room e = tt
-    by_wait (wait.Bytes number) e = absurd (cc e)
-    by_wait (wait.Entry number) e = absurd (cc e)
-
-wakes_park : (entry : Entry) (a : Option Address) (c : Core) → PassesParked (wakes entry a c)
-wakes_park (kind.View view) a c w e = absurd (cc e)
-wakes_park (kind.Block line least bytes) a c w e = either_parks a c w (writes_block w.operation.op) true e
-wakes_park (kind.Mark line least block address) a c w e = absurd (cc e)
-wakes_park (kind.Root line held address key) a c w e = room_parks w (puts_root w.operation.op) e
-wakes_park (kind.Drop line key) a c w e = absurd (cc e)
-wakes_park (kind.Enter line epoch) a c w e = absurd (cc e)
-wakes_park (kind.Got from epoch round total deltas) a c w e = absurd (cc e)
-wakes_park (kind.Base view epoch swept round frames) a c w e = absurd (cc e)
-wakes_park (kind.KeptBlock born mark flags count bytes) a c w e = absurd (cc e)
-wakes_park (kind.KeptRoot created dropped counted address key) a c w e = absurd (cc e)
-wakes_park (kind.KeptRound way other epoch round total deltas) a c w e = absurd (cc e)
-
-module _ (name : List ℕ → Address) (most : ℕ) where
-  due_holds : (shard : ℕ) (c : Core) → shard < (shape_of c).shards → Holds name most c → Holds name most (propose_due shard c)
-  due_holds shard c low holds = by_due (is_enter_due shard c) refl
-    where
-      less : (x y : ℕ) → x ≤ y → y ≤ most → x ≤ most
-      less x y h k = omega (arith, h, k)
-
-      later : Core
-      later = propose_entry shard (kind.Enter 0 ((catalogue_of shard c).epoch + 1)) c
-
-      by_due : (b : Bool) → is_enter_due shard c ≡ b → Holds name most (change_if b (propose_entry shard (kind.Enter 0 ((catalogue_of shard c).epoch + 1))) c)
-      by_due false e = holds
-      by_due true e = record {
-        orderly = orderly_due name c holds.orderly shard;
-        placed = placed_proposed shard (kind.Enter 0 ((catalogue_of shard c).epoch + 1)) c holds.placed;
-        few = less (reports_most later) (reports_most c) (due_counts name c holds.placed shard low e) holds.few;
-      }
-
-  view_holds : (shard : ℕ) (b : Bool) (c : Core) → Holds name most c → Holds name most (change_if b (λ x. resume_where shard is_for_view (set_viewed shard true x)) c)
-  view_holds shard false c holds = holds
-  view_holds shard true c holds =
-      where_holds name most shard is_for_view view_parks (set_viewed shard true c)
-      (record {
-        orderly = orderly_beside name c holds.orderly (set_viewed shard true c) (beside_viewed shard true c);
-        placed = record { groups = holds.placed.groups; catalogues = holds.placed.catalogues; some = holds.placed.some };
-        few = holds.few;
-      })
-
-  behind_holds : (shard : ℕ) (entry : Entry) (effect : Effect) (c : Core) → shard < (shape_of (tells_at_once shard entry effect c)).shards → Holds name most (tells_at_once shard entry effect c) → Holds name most (after_entry shard entry effect c)
-  behind_holds shard (kind.View view) effect c low holds = view_holds shard (view == (group_of shard c).view) c holds
-  behind_holds shard (kind.Block line least bytes) effect c low holds = holds
-  behind_holds shard (kind.Mark line least block a) effect c low holds = holds
-  behind_holds shard (kind.Root line held a key) effect c low holds = holds
-  behind_holds shard (kind.Drop line key) effect c low holds = holds
-  behind_holds shard (kind.Enter line epoch) effect c low holds = holds
-  behind_holds shard (kind.Got from epoch round total deltas) effect c low holds = due_holds shard (tells_at_once shard (kind.Got from epoch round total deltas) effect c) low holds
-  behind_holds shard (kind.Base view epoch swept round frames) effect c low holds = holds
-  behind_holds shard (kind.KeptBlock born mark flags count bytes) effect c low holds = holds
-  behind_holds shard (kind.KeptRoot created dropped counted address key) effect c low holds = holds
-  behind_holds shard (kind.KeptRound way other epoch round total deltas) effect c low holds = holds
-
 -- ---- an entry takes effect
+
+most_pays : (name : List ℕ → Address) → Pays name reports_most
+most_pays name = record {
+  stepped = λ c its line u at s order apt low. stepped name c its line u at s order apt low;
+  viewed = λ shard c. as_much (reports_most (set_viewed shard true c)) (reports_most c) refl;
+  due = λ c placed shard low due. due_counts name c placed shard low due;
+}
 
 module _ (name : List ℕ → Address) (c : Core) (its : Stand name c) where
   -- what is told at once, by its kind
@@ -294,28 +120,6 @@ module _ (name : List ℕ → Address) (c : Core) (its : Stand name c) where
   at_once shard number (kind.KeptRoot created dropped counted a key) next = nobody name c its shard number (kind.KeptRoot created dropped counted a key) next refl refl refl (λ f n r. refl) (λ n. refl) (λ line e. cc e) refl
   at_once shard number (kind.KeptRound way other epoch round total deltas) next = nobody name c its shard number (kind.KeptRound way other epoch round total deltas) next refl refl refl (λ f n r. refl) (λ n. refl) (λ line e. cc e) refl
 
-  told_placed : (shard number : ℕ) (entry : Entry) → Next c shard number entry → IsPlaced (told_at_once shard entry c)
-  told_placed shard number entry next = placed_at_once shard entry (done_by shard entry c).effect (taken shard entry c) (placed_taken name shard number entry c its.orderly its.placed next.low next.leads)
-
-  told_shape : (shard : ℕ) (entry : Entry) → shape_of (told_at_once shard entry c) ≡ shape_of c
-  told_shape shard entry = ap (λ (m : Members). m.shape) (at_once_quiet shard entry (done_by shard entry c).effect (taken shard entry c)).members
-
   -- and all goes on
-  pub take_counts : (shard number : ℕ) (entry : Entry) → Next c shard number entry
-      → reports_most (take_effect shard entry c) ≤ reports_most c
-  take_counts shard number entry next = end.few
-    where
-      most : ℕ
-      most = reports_most c
-
-      told : Holds name (reports_most c) (told_at_once shard entry c)
-      told = record { orderly = orderly_effect name c its.orderly shard number entry next.leads; placed = told_placed shard number entry next; few = at_once shard number entry next }
-
-      after : Core
-      after = after_entry shard entry (done_by shard entry c).effect (taken shard entry c)
-
-      behind : Holds name (reports_most c) (after_entry shard entry (done_by shard entry c).effect (taken shard entry c))
-      behind = behind_holds name (reports_most c) shard entry (done_by shard entry c).effect (taken shard entry c) (subst (λ (s : Shape). shard < s.shards) (sym (told_shape shard entry)) next.low) told
-
-      end : Holds name (reports_most c) (take_effect shard entry c)
-      end = where_holds name (reports_most c) shard (wakes entry (named entry c) after) (wakes_park entry (named entry c) after) after behind
+  pub take_counts : (shard number : ℕ) (entry : Entry) → Next c shard number entry → reports_most (take_effect shard entry c) ≤ reports_most c
+  take_counts shard number entry next = take_pays name reports_most (most_pays name) c its.orderly its.placed shard number entry next.low next.leads (at_once shard number entry next)

@@ -27,7 +27,6 @@ pub mod FallsCounts
 pub mod FallsDue
 pub mod FallsEffect
 pub mod FallsEnter
-pub mod FallsGoes
 pub mod FallsGot
 pub mod FallsKinds
 pub mod FallsLeft
@@ -77,13 +76,13 @@ pub mod LowersSwept
 pub mod LowersTake
 pub mod LowersTaken
 pub mod LowersWays
-pub mod NumberLemmas
 pub mod OpenLemmas
 pub mod OpenedLemmas
 pub mod ProposedLemmas
 pub mod RestLemmas
 pub mod RoomLemmas
 pub mod RoomyLemmas
+pub mod ShownLemmas
 pub mod StepLemmas
 pub mod TellLemmas
 pub mod UnderWay

@@ -36,17 +36,17 @@ use Rattle.hs_tokens.specs.Seats.{Seats}
 -- ---- what is left
 
 -- by what waits in each list, and by its front
-abbrev asks_by : (ℕ → List Entry) → Core → ℕ
+abbrev pub asks_by : (ℕ → List Entry) → Core → ℕ
 asks_by waiting c = length c.operations + sum_by (λ shard. count_by (is_left_over shard c) (waiting shard)) (shards_of c)
 
-abbrev lists_by : (ℕ → List Entry) → Core → ℕ
+abbrev pub lists_by : (ℕ → List Entry) → Core → ℕ
 lists_by waiting c =
     2 * sum_by (λ shard. count_by is_any_got (waiting shard)) (shards_of c) + 2 * count_by (λ shard. due_by shard (catalogue_of shard c) (waiting shard)) (shards_of c)
 
 abbrev news_by : (ℕ → List Entry) → Core → ℕ
 news_by waiting c = sum_by (λ from. sum_by (λ to. count_by (λ (kept : SentRound). new_by (catalogue_of to c) (waiting to) from kept.epoch kept.round) (catalogue_of from c).run.sent) (shards_of c)) (shards_of c)
 
-abbrev ways_by : (ℕ → List Entry) → (ℕ → ℕ) → Core → ℕ
+abbrev pub ways_by : (ℕ → List Entry) → (ℕ → ℕ) → Core → ℕ
 ways_by waiting front c = sum_by (λ (e : ℕ × Waiting). way_by (catalogue_of e.1.shard c) (front e.1.shard) (waiting e.1.shard) e.1.operation e.1.wait) c.operations
 
 abbrev rest_by : ℕ → ℕ → Core → ℕ
@@ -58,7 +58,7 @@ reports_by jobs waiting front c =
     let last : ℕ = (catalogue_of 0 c).epoch + asks in
     ((jobs + 4 * news_by waiting c) + lists_by waiting c) + ((ways_by waiting front c + rest_by last asks c) + (16 * (shape_of c).shards + 2) * deletion_by last asks c)
 
-one_fewer : (j j' n l w y : ℕ) → j' + 1 ≤ j → (((j' + 4 * n) + l) + (w + y)) + 1 ≤ ((j + 4 * n) + l) + (w + y)
+pub one_fewer : (j j' n l w y : ℕ) → j' + 1 ≤ j → (((j' + 4 * n) + l) + (w + y)) + 1 ≤ ((j + 4 * n) + l) + (w + y)
 one_fewer j j' n l w y h = omega (arith, h)
 
 module _ (a b : Core) (beside : IsBeside a b) where

@@ -39,7 +39,7 @@ use Rattle.hs_shard.specs.Facts.{Catalogue, number_at}
 
 -- ---- what is told of an entry that a line asked for
 
-at_once_is : (shard line : ℕ) (entry : Entry) (effect : Effect) (x : Core) → asked_by entry ≡ Some line → tells_at_once shard entry effect x ≡ after_entry shard entry effect x
+pub at_once_is : (shard line : ℕ) (entry : Entry) (effect : Effect) (x : Core) → asked_by entry ≡ Some line → tells_at_once shard entry effect x ≡ after_entry shard entry effect x
 at_once_is shard line (kind.Block l least bytes) effect x by = refl
 at_once_is shard line (kind.Mark l least block a) effect x by = refl
 at_once_is shard line (kind.Root l held a key) effect x by = refl
@@ -52,15 +52,15 @@ at_once_is shard line (kind.KeptBlock born mark flags count bytes) effect x by =
 at_once_is shard line (kind.KeptRoot created dropped counted a key) effect x by = absurd (cc by)
 at_once_is shard line (kind.KeptRound way other epoch round total deltas) effect x by = absurd (cc by)
 
-other_line : (l line : ℕ) → Some line ≡ Some l → l ≡ line
+pub other_line : (l line : ℕ) → Some line ≡ Some l → l ≡ line
 other_line l line e = let same : line ≡ l = cc e in sym same
 
 -- numbers
-no_more : (h t c way wt k : ℕ) → h + wt ≤ t + k → t + way ≤ c + wt → k ≤ way → h ≤ c
+pub no_more : (h t c way wt k : ℕ) → h + wt ≤ t + k → t + way ≤ c + wt → k ≤ way → h ≤ c
 no_more h t c way wt k a b d = omega (arith, a, b, d)
 
 -- a sum of all parts where an operation is answered: ways may rise by three each, for which the product falls
-account_answered : (j n g d w p y n' g' d' w' p' y' rest : ℕ) → (4 * n' + 2 * d') + y' ≤ (4 * n + 2 * d) + y → g' ≤ g → w' ≤ w + 3 * rest → p' + rest ≤ p
+pub account_answered : (j n g d w p y n' g' d' w' p' y' rest : ℕ) → (4 * n' + 2 * d') + y' ≤ (4 * n + 2 * d) + y → g' ≤ g → w' ≤ w + 3 * rest → p' + rest ≤ p
     → ((j + 4 * n') + (2 * g' + 2 * d')) + ((w' + 3 * p') + y') ≤ ((j + 4 * n) + (2 * g + 2 * d)) + ((w + 3 * p) + y)
 account_answered j n g d w p y n' g' d' w' p' y' rest a b c e = omega (arith, a, b, c, e)
 

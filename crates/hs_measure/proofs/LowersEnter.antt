@@ -55,7 +55,7 @@ use Rattle.std.proofs.Math.Nat.{mul-suc}
 pub account_entered : (j n g d w p y n' g' d' w' p' y' s : ℕ) → n' ≤ n + 4 * s → g' ≤ g → d' ≤ d + 1 → w' + 3 * p' ≤ w + 3 * p → y' + (16 * s + 2) ≤ y → ((j + 4 * n') + (2 * g' + 2 * d')) + ((w' + 3 * p') + y') ≤ ((j + 4 * n) + (2 * g + 2 * d)) + ((w + 3 * p) + y)
 account_entered j n g d w p y n' g' d' w' p' y' s a b c e f = omega (arith, a, b, c, e, f)
 
-heavy_entered : (n n' d d' y y' s : ℕ) → n' ≤ n + 4 * s → d' ≤ d + 1 → y' + (16 * s + 2) ≤ y → (4 * n' + 2 * d') + y' ≤ (4 * n + 2 * d) + y
+pub heavy_entered : (n n' d d' y y' s : ℕ) → n' ≤ n + 4 * s → d' ≤ d + 1 → y' + (16 * s + 2) ≤ y → (4 * n' + 2 * d') + y' ≤ (4 * n + 2 * d) + y
 heavy_entered n n' d d' y y' s a b c = omega (arith, a, b, c)
 
 -- a factor more
@@ -76,7 +76,7 @@ note_same shard what.Dropped c = refl
 note_same shard (what.Entered epoch) c = refl
 note_same shard what.Refused c = refl
 
-count_number : (epoch : ℕ) (f : Facts) → (count_block epoch f).number ≡ f.number
+pub count_number : (epoch : ℕ) (f : Facts) → (count_block epoch f).number ≡ f.number
 count_number epoch f = go (is_new epoch f)
   where
     go : (b : Bool) → (cond b (record f { counted = true }) f).number ≡ f.number

@@ -8,12 +8,13 @@ use Rattle.std.specs.Map.{lookup}
 use Rattle.std.specs.Option.{option_map, option_or}
 use Rattle.std.specs.Ordering.{nat_cmp}
 use Rattle.std.specs.Prelude.{unwrap_or}
-use Rattle.hs_core.specs.Changing.{add_entry_tasks, change_group, post, put_operation}
+use Rattle.hs_core.specs.Changing.{add_entry_tasks, change_group, post, put_operation, set_viewed}
 use Rattle.hs_core.specs.declared.wait.Wait.{Wait}
 use Rattle.hs_core.specs.declared.wait.Wait.TheVariants as wait
 use Rattle.hs_core.specs.declared.waiting.Waiting.{Waiting}
+use Rattle.hs_core.specs.Entering.{is_enter_due}
 use Rattle.hs_core.specs.Looking.{catalogue_of, group_of, lead_of, operation_of, shape_of}
-use Rattle.hs_core.specs.Operating.{add_read, carry_out, lines_where, resume, resume_where, take_step, wait_for, what_holds}
+use Rattle.hs_core.specs.Operating.{add_read, carry_out, lines_where, propose_entry, resume, resume_where, take_step, wait_for, what_holds}
 use Rattle.hs_core.specs.Seeing.{view_for}
 use Rattle.hs_core.specs.State.{Core}
 use Rattle.hs_core.specs.Words.{change_with, each}
@@ -23,11 +24,12 @@ use Rattle.hs_effects.proofs.OrderlyLemmas.{some_is}
 use Rattle.hs_effects.proofs.StepLemmas.{going_asks}
 use Rattle.hs_effects.specs.Logged.{AreOnce, IsOrderly, IsPending}
 use Rattle.hs_entry.specs.declared.entry.Entry.{Entry}
+use Rattle.hs_entry.specs.declared.entry.Entry.TheVariants as kind
 use Rattle.hs_limits.specs.declared.address.Address.{Address}
 use Rattle.hs_limits.specs.Shape.{shard_of, shard_of_key}
 use Rattle.hs_measure.proofs.LowersJudged.{Shows, cost_most, going_suits}
-use Rattle.hs_measure.proofs.LowersSteps.{IsApt, cost, stepped}
-use Rattle.hs_measure.specs.Measure.{reports_left, way_left}
+use Rattle.hs_measure.proofs.LowersSteps.{IsApt, cost}
+use Rattle.hs_measure.specs.Measure.{way_left}
 use Rattle.hs_model.specs.declared.op.Op.{Op}
 use Rattle.hs_model.specs.declared.op.Op.TheVariants as op
 use Rattle.hs_ops.specs.declared.step.OpStep.{OpStep}
@@ -138,31 +140,40 @@ parked_way c shard operation wait.Room h = refl
 parked_way c shard operation (wait.Bytes number) h = absurd h
 parked_way c shard operation (wait.Entry number) h = absurd h
 
+-- ---- what is asked of a count of reports
+
+-- a step pays for what it asks by the way of its operation, a View costs nothing, and an Enter that is due has been paid for
+pub record Pays (name : List ℕ → Address) (count : Core → ℕ) : Type 0 where
+  pub stepped : (c : Core) → IsOrderly name c → (line : ℕ) (u : Waiting) → operation_of line c ≡ Some u → (s : OpStep) → IsOrderly name (take_step line u s c) → IsApt c u s → u.shard < length c.groups
+      → count (take_step line u s c) + way_left c u ≤ count c + cost s
+  pub viewed : (shard : ℕ) (c : Core) → count (set_viewed shard true c) ≤ count c
+  pub due : (c : Core) → IsPlaced c → (shard : ℕ) → shard < (shape_of c).shards → is_enter_due shard c ≡ true → count (propose_entry shard (kind.Enter 0 ((catalogue_of shard c).epoch + 1)) c) ≤ count c
+
 -- ---- one goes on
 
 -- in order, placed, and with no more reports left than so many
-pub record Holds (name : List ℕ → Address) (most : ℕ) (c : Core) : Type 0 where
+pub record Holds (name : List ℕ → Address) (count : Core → ℕ) (most : ℕ) (c : Core) : Type 0 where
   pub orderly : IsOrderly name c
   pub placed : IsPlaced c
-  pub few : reports_left c ≤ most
+  pub few : count c ≤ most
 
 pays_three : (x y z m : ℕ) → x + 3 ≤ y + z → z ≤ 3 → y ≤ m → x ≤ m
 pays_three x y z m h k l = omega (arith, h, k, l)
 
-module _ (name : List ℕ → Address) (most : ℕ) where
-  pub goes_holds : (line : ℕ) (c : Core) → ((w : Waiting) → operation_of line c ≡ Some w → IsParked w.wait) → Holds name most c → Holds name most (resume line c)
+module _ (name : List ℕ → Address) (count : Core → ℕ) (pays : Pays name count) (most : ℕ) where
+  pub goes_holds : (line : ℕ) (c : Core) → ((w : Waiting) → operation_of line c ≡ Some w → IsParked w.wait) → Holds name count most c → Holds name count most (resume line c)
   goes_holds line c parked holds = by_operation (operation_of line c) refl order
     where
       order : IsOrderly name (resume line c)
       order = going_orderly go_step going_asks name line c holds.orderly (idle_free name c line holds.orderly (λ w at. parked_idle w.wait (parked w at)))
 
       by_operation : (o : Option Waiting) → operation_of line c ≡ o → IsOrderly name (change_with o (λ w. take_step line w (go_step (view_for w.shard w.operation.op c) w.operation)) c)
-          → Holds name most (change_with o (λ w. take_step line w (go_step (view_for w.shard w.operation.op c) w.operation)) c)
+          → Holds name count most (change_with o (λ w. take_step line w (go_step (view_for w.shard w.operation.op c) w.operation)) c)
       by_operation None at order = holds
       by_operation (Some u) at order = record {
         orderly = order;
         placed = placed_step line u s c holds.placed;
-        few = pays_three (reports_left (take_step line u s c)) (reports_left c) (cost s) most paid (cost_most s) holds.few;
+        few = pays_three (count (take_step line u s c)) (count c) (cost s) most paid (cost_most s) holds.few;
       }
         where
           s : OpStep
@@ -174,10 +185,10 @@ module _ (name : List ℕ → Address) (most : ℕ) where
           way : way_left c u ≡ 3
           way = parked_way c u.shard u.operation u.wait (parked u at)
 
-          paid : reports_left (take_step line u (go_step (view_for u.shard u.operation.op c) u.operation) c) + 3 ≤ reports_left c + cost (go_step (view_for u.shard u.operation.op c) u.operation)
+          paid : count (take_step line u (go_step (view_for u.shard u.operation.op c) u.operation) c) + 3 ≤ count c + cost (go_step (view_for u.shard u.operation.op c) u.operation)
           paid =
-              subst (λ n. reports_left (take_step line u s c) + n ≤ reports_left c + cost s) way
-              (stepped name c holds.orderly line u at s order apt (shard_low name c holds.orderly holds.placed line u at))
+              subst (λ n. count (take_step line u s c) + n ≤ count c + cost s) way
+              (pays.stepped c holds.orderly line u at s order apt (shard_low name c holds.orderly holds.placed line u at))
 
 -- ---- lines that go on one after another
 
@@ -250,11 +261,11 @@ parked_lines shard test parks c (e ∷ es) once all = go (e.1.shard == shard) (t
     go true false t ih = ih
     go false b t ih = ih
 
-module _ (name : List ℕ → Address) (most : ℕ) where
-  each_holds : (lines : List ℕ) (c : Core) → AreParked c lines → Holds name most c → Holds name most (each lines resume c)
+module _ (name : List ℕ → Address) (count : Core → ℕ) (pays : Pays name count) (most : ℕ) where
+  each_holds : (lines : List ℕ) (c : Core) → AreParked c lines → Holds name count most c → Holds name count most (each lines resume c)
   each_holds [] c parked holds = holds
-  each_holds (line ∷ rest) c parked holds = each_holds rest (resume line c) (parked_on c line rest parked.0 parked.1.1) (goes_holds name most line c parked.1.0 holds)
+  each_holds (line ∷ rest) c parked holds = each_holds rest (resume line c) (parked_on c line rest parked.0 parked.1.1) (goes_holds name count pays most line c parked.1.0 holds)
 
-  pub where_holds : (shard : ℕ) (test : Waiting → Bool) → PassesParked test → (c : Core) → Holds name most c → Holds name most (resume_where shard test c)
+  pub where_holds : (shard : ℕ) (test : Waiting → Bool) → PassesParked test → (c : Core) → Holds name count most c → Holds name count most (resume_where shard test c)
   where_holds shard test parks c holds =
       each_holds (lines_where shard test c) c (parked_lines shard test parks c c.operations holds.orderly.once (each_found c.operations holds.orderly.once)) holds

@@ -69,11 +69,11 @@ use Rattle.hs_standing.specs.Start.{Start}
 
 -- ---- plain facts
 
-task_first : (ts : List Task) (task : Task) → slice_get ts 0 ≡ Some task → ts ≡ task ∷ drop 1 ts
+pub task_first : (ts : List Task) (task : Task) → slice_get ts 0 ≡ Some task → ts ≡ task ∷ drop 1 ts
 task_first [] task e = absurd (cc e)
 task_first (t ∷ ts) task e = let same : t ≡ task = cc e in ap (λ (x : Task). x ∷ ts) same
 
-read_is : (number : ℕ) (j : Job) → is_read_of number j ≡ true → j ≡ job.Read number
+pub read_is : (number : ℕ) (j : Job) → is_read_of number j ≡ true → j ≡ job.Read number
 read_is number (job.Append n entry) e = absurd (cc e)
 read_is number (job.Seal n) e = absurd (cc e)
 read_is number (job.Read n) e = ap (λ k. job.Read k) (sym (eqb-true number n e))
@@ -81,7 +81,7 @@ read_is number job.Reset e = absurd (cc e)
 read_is number (job.Copy from n) e = absurd (cc e)
 read_is number job.Reclaim e = absurd (cc e)
 
-reading_is : (number : ℕ) (x : Wait) → is_reading number x ≡ true → x ≡ wait.Bytes number
+pub reading_is : (number : ℕ) (x : Wait) → is_reading number x ≡ true → x ≡ wait.Bytes number
 reading_is number wait.View e = absurd (cc e)
 reading_is number wait.Address e = absurd (cc e)
 reading_is number wait.Room e = absurd (cc e)
@@ -92,10 +92,10 @@ long_forget : (shape : Shape) (from : ℕ) (cs : List Folded) → length (forget
 long_forget shape from [] = refl
 long_forget shape from (c ∷ cs) = ap suc (long_forget shape (from + 1) cs)
 
-less_then : (x y z : ℕ) → x ≤ y → y + 1 ≤ z → x + 1 ≤ z
+pub less_then : (x y z : ℕ) → x ≤ y → y + 1 ≤ z → x + 1 ≤ z
 less_then x y z h k = omega (arith, h, k)
 
-same_le : (x : ℕ) → x ≤ x
+pub same_le : (x : ℕ) → x ≤ x
 same_le x = omega arith
 
 -- ---- a report that answers the first job of a peer
@@ -103,7 +103,7 @@ same_le x = omega arith
 abbrev takes : ℕ → Done → Task → Core → Core
 takes p d task core = core ▸ set_tasks p (drop 1 (tasks_of p core)) ▸ take_report p task.line d
 
-report_is : (p : ℕ) (d : Done) (c : Core) (task : Task) → first_task p c ≡ Some task → answers p task.job d ≡ true → on_report p d c ≡ take_report p task.line d (set_tasks p (drop 1 (tasks_of p c)) c)
+pub report_is : (p : ℕ) (d : Done) (c : Core) (task : Task) → first_task p c ≡ Some task → answers p task.job d ≡ true → on_report p d c ≡ take_report p task.line d (set_tasks p (drop 1 (tasks_of p c)) c)
 report_is p d c task e f = ap (λ o. change_with o (λ task. change_if (answers p task.job d) (takes p d task)) c) e ∙ ap (λ b. change_if b (takes p d task) c) f
 
 module _ (start : Start) (c : Whole) (run : IsRunning start c) (moving : IsMoving start.set.name c) (bounded : IsBounded c.core) (p : ℕ) (d : Done) (at : ℕ) (fits : is_answered p d c.core ≡ true) where

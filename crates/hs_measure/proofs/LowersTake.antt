@@ -21,6 +21,7 @@ use Rattle.hs_core.specs.State.{Core}
 use Rattle.hs_core.specs.Words.{change_if, change_with}
 use Rattle.hs_desk.specs.declared.what.What.{What}
 use Rattle.hs_desk.specs.declared.what.What.TheVariants as what
+use Rattle.hs_effects.specs.Logged.{IsOrderly}
 use Rattle.hs_effects.specs.Taking.{done_by, taken}
 use Rattle.hs_entry.specs.declared.entry.Entry.{Entry}
 use Rattle.hs_entry.specs.declared.entry.Entry.TheVariants as kind
@@ -38,12 +39,12 @@ use Rattle.hs_measure.proofs.DeletionMeasure.{deletion_by, unmoved_from, unmoved
 use Rattle.hs_measure.proofs.LowersCounts.{product_less, sweeps_le}
 use Rattle.hs_measure.proofs.LowersEffect.{placed_taken}
 use Rattle.hs_measure.proofs.LowersEnter.{enter_counts}
-use Rattle.hs_measure.proofs.LowersGoes.{Holds, IsParked, IsPlaced, PassesParked, placed_step, where_holds}
+use Rattle.hs_measure.proofs.LowersGoes.{Holds, IsParked, IsPlaced, PassesParked, Pays, placed_step, where_holds}
 use Rattle.hs_measure.proofs.LowersGot.{got_counts}
 use Rattle.hs_measure.proofs.LowersKinds.{block_counts, drop_counts, mark_counts, root_counts, view_counts}
 use Rattle.hs_measure.proofs.LowersParts.{dues_fewer, in_lists}
 use Rattle.hs_measure.proofs.LowersStand.{Next, Stand}
-use Rattle.hs_measure.proofs.LowersSteps.{Adds, adds_due, adds_lists, adds_news, adds_way, proposed_adds, proposed_here, proposed_jobs}
+use Rattle.hs_measure.proofs.LowersSteps.{Adds, adds_due, adds_lists, adds_news, adds_way, proposed_adds, proposed_here, proposed_jobs, stepped}
 use Rattle.hs_measure.proofs.LowersSums.{any_last, sum_le}
 use Rattle.hs_measure.proofs.StepLemmas.{mul_le}
 use Rattle.hs_measure.specs.Measure.{asks_of, deletion_left, dues_of, gots_of, is_any_got, is_left_over, jobs_of, last_epoch, news_of, reports_left, sweeps_of, way_left, ways_left}
@@ -51,17 +52,17 @@ use Rattle.hs_members.specs.Members.{Members}
 use Rattle.hs_model.specs.declared.deed.Deed.TheVariants as deed
 use Rattle.hs_model.specs.declared.reply.Reply.TheVariants as reply
 use Rattle.hs_ops.specs.Operations.{effect_step}
-use Rattle.hs_replica.specs.Group.{last_number, proposal, propose}
+use Rattle.hs_replica.specs.Group.{committed, last_number, proposal, propose}
 use Rattle.hs_shard.specs.declared.effect.Effect.{Effect}
 use Rattle.hs_shard.specs.Facts.{Catalogue}
 
 -- ---- a due Enter is proposed
 
 -- it is due no more, which pays for its jobs
-account_due : (j n g d w p y j' n' g' d' w' p' y' : ℕ) → j' ≤ j + 2 → n' ≤ n → g' ≤ g → d' + 1 ≤ d → w' ≤ w → p' ≤ p → y' ≤ y → ((j' + 4 * n') + (2 * g' + 2 * d')) + ((w' + 3 * p') + y') ≤ ((j + 4 * n) + (2 * g + 2 * d)) + ((w + 3 * p) + y)
+pub account_due : (j n g d w p y j' n' g' d' w' p' y' : ℕ) → j' ≤ j + 2 → n' ≤ n → g' ≤ g → d' + 1 ≤ d → w' ≤ w → p' ≤ p → y' ≤ y → ((j' + 4 * n') + (2 * g' + 2 * d')) + ((w' + 3 * p') + y') ≤ ((j + 4 * n) + (2 * g + 2 * d)) + ((w + 3 * p) + y)
 account_due j n g d w p y j' n' g' d' w' p' y' a b c e f h i = omega (arith, a, b, c, e, f, h, i)
 
-none_due : (a b x : Bool) → x ≡ true → (a && (b && not x)) ≡ false
+pub none_due : (a b x : Bool) → x ≡ true → (a && (b && not x)) ≡ false
 none_due true true x e = ap not e
 none_due true false x e = refl
 none_due false b x e = refl
@@ -69,7 +70,7 @@ none_due false b x e = refl
 as_much : (x y : ℕ) → x ≡ y → x ≤ y
 as_much x y e = omega (arith, e)
 
-both_sum : (s t x y : ℕ) → s ≤ t → x ≤ y → s + x ≤ t + y
+pub both_sum : (s t x y : ℕ) → s ≤ t → x ≤ y → s + x ≤ t + y
 both_sum s t x y h k = omega (arith, h, k)
 
 module _ (name : List ℕ → Address) (c : Core) (placed : IsPlaced c) (shard : ℕ) (low : shard < (shape_of c).shards) (due : is_enter_due shard c ≡ true) where
@@ -241,35 +242,35 @@ wakes_park (kind.KeptBlock born mark flags count bytes) a c w e = absurd (cc e)
 wakes_park (kind.KeptRoot created dropped counted address key) a c w e = absurd (cc e)
 wakes_park (kind.KeptRound way other epoch round total deltas) a c w e = absurd (cc e)
 
-module _ (name : List ℕ → Address) (most : ℕ) where
-  due_holds : (shard : ℕ) (c : Core) → shard < (shape_of c).shards → Holds name most c → Holds name most (propose_due shard c)
+module _ (name : List ℕ → Address) (count : Core → ℕ) (pays : Pays name count) (most : ℕ) where
+  less : (x y : ℕ) → x ≤ y → y ≤ most → x ≤ most
+  less x y h k = omega (arith, h, k)
+
+  due_holds : (shard : ℕ) (c : Core) → shard < (shape_of c).shards → Holds name count most c → Holds name count most (propose_due shard c)
   due_holds shard c low holds = by_due (is_enter_due shard c) refl
     where
-      less : (x y : ℕ) → x ≤ y → y ≤ most → x ≤ most
-      less x y h k = omega (arith, h, k)
-
       later : Core
       later = propose_entry shard (kind.Enter 0 ((catalogue_of shard c).epoch + 1)) c
 
-      by_due : (b : Bool) → is_enter_due shard c ≡ b → Holds name most (change_if b (propose_entry shard (kind.Enter 0 ((catalogue_of shard c).epoch + 1))) c)
+      by_due : (b : Bool) → is_enter_due shard c ≡ b → Holds name count most (change_if b (propose_entry shard (kind.Enter 0 ((catalogue_of shard c).epoch + 1))) c)
       by_due false e = holds
       by_due true e = record {
         orderly = orderly_due name c holds.orderly shard;
         placed = placed_proposed shard (kind.Enter 0 ((catalogue_of shard c).epoch + 1)) c holds.placed;
-        few = less (reports_left later) (reports_left c) (due_counts name c holds.placed shard low e) holds.few;
+        few = less (count later) (count c) (pays.due c holds.placed shard low e) holds.few;
       }
 
-  view_holds : (shard : ℕ) (b : Bool) (c : Core) → Holds name most c → Holds name most (change_if b (λ x. resume_where shard is_for_view (set_viewed shard true x)) c)
+  view_holds : (shard : ℕ) (b : Bool) (c : Core) → Holds name count most c → Holds name count most (change_if b (λ x. resume_where shard is_for_view (set_viewed shard true x)) c)
   view_holds shard false c holds = holds
   view_holds shard true c holds =
-      where_holds name most shard is_for_view view_parks (set_viewed shard true c)
+      where_holds name count pays most shard is_for_view view_parks (set_viewed shard true c)
       (record {
         orderly = orderly_beside name c holds.orderly (set_viewed shard true c) (beside_viewed shard true c);
         placed = record { groups = holds.placed.groups; catalogues = holds.placed.catalogues; some = holds.placed.some };
-        few = holds.few;
+        few = less (count (set_viewed shard true c)) (count c) (pays.viewed shard c) holds.few;
       })
 
-  behind_holds : (shard : ℕ) (entry : Entry) (effect : Effect) (c : Core) → shard < (shape_of (tells_at_once shard entry effect c)).shards → Holds name most (tells_at_once shard entry effect c) → Holds name most (after_entry shard entry effect c)
+  behind_holds : (shard : ℕ) (entry : Entry) (effect : Effect) (c : Core) → shard < (shape_of (tells_at_once shard entry effect c)).shards → Holds name count most (tells_at_once shard entry effect c) → Holds name count most (after_entry shard entry effect c)
   behind_holds shard (kind.View view) effect c low holds = view_holds shard (view == (group_of shard c).view) c holds
   behind_holds shard (kind.Block line least bytes) effect c low holds = holds
   behind_holds shard (kind.Mark line least block a) effect c low holds = holds
@@ -283,6 +284,38 @@ module _ (name : List ℕ → Address) (most : ℕ) where
   behind_holds shard (kind.KeptRound way other epoch round total deltas) effect c low holds = holds
 
 -- ---- an entry takes effect
+
+-- where what is told at once leaves no more, all that goes on by it leaves no more
+module _ (name : List ℕ → Address) (count : Core → ℕ) (pays : Pays name count) (c : Core) (its : IsOrderly name c) (placed : IsPlaced c) (shard number : ℕ) (entry : Entry) (low : shard < (shape_of c).shards) (leads : committed (group_of shard c) ≡ Some (number, entry))
+    (once : count (told_at_once shard entry c) ≤ count c) where
+  told_placed : IsPlaced (told_at_once shard entry c)
+  told_placed = placed_at_once shard entry (done_by shard entry c).effect (taken shard entry c) (placed_taken name shard number entry c its placed low leads)
+
+  told_shape : shape_of (told_at_once shard entry c) ≡ shape_of c
+  told_shape = ap (λ (m : Members). m.shape) (at_once_quiet shard entry (done_by shard entry c).effect (taken shard entry c)).members
+
+  told : Holds name count (count c) (told_at_once shard entry c)
+  told = record { orderly = orderly_effect name c its shard number entry leads; placed = told_placed; few = once }
+
+  abbrev after : Core
+  after = after_entry shard entry (done_by shard entry c).effect (taken shard entry c)
+
+  behind : Holds name count (count c) (after_entry shard entry (done_by shard entry c).effect (taken shard entry c))
+  behind = behind_holds name count pays (count c) shard entry (done_by shard entry c).effect (taken shard entry c) (subst (λ (s : Shape). shard < s.shards) (sym told_shape) low) told
+
+  end : Holds name count (count c) (take_effect shard entry c)
+  end = where_holds name count pays (count c) shard (wakes entry (named entry c) after) (wakes_park entry (named entry c) after) after behind
+
+  pub take_pays : count (take_effect shard entry c) ≤ count c
+  take_pays = end.few
+
+-- so it is of what is left
+left_pays : (name : List ℕ → Address) → Pays name reports_left
+left_pays name = record {
+  stepped = λ c its line u at s order apt low. stepped name c its line u at s order apt low;
+  viewed = λ shard c. as_much (reports_left (set_viewed shard true c)) (reports_left c) refl;
+  due = λ c placed shard low due. due_counts name c placed shard low due;
+}
 
 module _ (name : List ℕ → Address) (cs : List Folded) (c : Core) (its : Stand name cs c) where
   -- what is told at once, by its kind
@@ -301,29 +334,8 @@ module _ (name : List ℕ → Address) (cs : List Folded) (c : Core) (its : Stan
   at_once shard number (kind.KeptRoot created dropped counted a key) next ordinary accepted = absurd (cc ordinary)
   at_once shard number (kind.KeptRound way other epoch round total deltas) next ordinary accepted = absurd (cc ordinary)
 
-  told_placed : (shard number : ℕ) (entry : Entry) → Next name cs c shard number entry → IsPlaced (told_at_once shard entry c)
-  told_placed shard number entry next = placed_at_once shard entry (done_by shard entry c).effect (taken shard entry c) (placed_taken name shard number entry c its.orderly its.placed next.low next.leads)
-
-  told_shape : (shard : ℕ) (entry : Entry) → shape_of (told_at_once shard entry c) ≡ shape_of c
-  told_shape shard entry = ap (λ (m : Members). m.shape) (at_once_quiet shard entry (done_by shard entry c).effect (taken shard entry c)).members
-
   -- and all goes on
   pub take_counts : (shard number : ℕ) (entry : Entry) → Next name cs c shard number entry → is_of_base entry ≡ false
       → ((from epoch round total : ℕ) (deltas : List Delta) → entry ≡ kind.Got from epoch round total deltas → is_accepted (shape_of c).shards (catalogue_at cs shard) (record { epoch = epoch; round = round; from = from }) ≡ true)
       → reports_left (take_effect shard entry c) ≤ reports_left c
-  take_counts shard number entry next ordinary accepted = end.few
-    where
-      most : ℕ
-      most = reports_left c
-
-      told : Holds name (reports_left c) (told_at_once shard entry c)
-      told = record { orderly = orderly_effect name c its.orderly shard number entry next.leads; placed = told_placed shard number entry next; few = at_once shard number entry next ordinary accepted }
-
-      after : Core
-      after = after_entry shard entry (done_by shard entry c).effect (taken shard entry c)
-
-      behind : Holds name (reports_left c) (after_entry shard entry (done_by shard entry c).effect (taken shard entry c))
-      behind = behind_holds name (reports_left c) shard entry (done_by shard entry c).effect (taken shard entry c) (subst (λ (s : Shape). shard < s.shards) (sym (told_shape shard entry)) next.low) told
-
-      end : Holds name (reports_left c) (take_effect shard entry c)
-      end = where_holds name (reports_left c) shard (wakes entry (named entry c) after) (wakes_park entry (named entry c) after) after behind
+  take_counts shard number entry next ordinary accepted = take_pays name reports_left (left_pays name) c its.orderly its.placed shard number entry next.low next.leads (at_once shard number entry next ordinary accepted)

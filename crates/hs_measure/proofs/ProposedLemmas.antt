@@ -201,10 +201,10 @@ module _ (s : ℕ) (entry : Entry) (c : Core) (alone : AreAlone (face c)) (low :
 
 -- ---- all that is counted
 
-abbrev total : ℕ → ℕ → ℕ → ℕ → ℕ → ℕ → ℕ → ℕ → ℕ → ℕ
+abbrev pub total : ℕ → ℕ → ℕ → ℕ → ℕ → ℕ → ℕ → ℕ → ℕ → ℕ
 total shards jobs news gots dues ways operations taken left = ((jobs + 4 * news) + (2 * gots + 2 * dues)) + ((ways + 3 * (operations * taken)) + (16 * shards + 2) * left)
 
-total_le : (shards jobs news gots dues ways less_jobs less_news less_gots less_dues less_ways operations taken left : ℕ)
+pub total_le : (shards jobs news gots dues ways less_jobs less_news less_gots less_dues less_ways operations taken left : ℕ)
     → ((less_jobs + 4 * less_news) + (2 * less_gots + 2 * less_dues)) + less_ways ≤ ((jobs + 4 * news) + (2 * gots + 2 * dues)) + ways
     → total shards less_jobs less_news less_gots less_dues less_ways operations taken left ≤ total shards jobs news gots dues ways operations taken left
 total_le shards jobs news gots dues ways less_jobs less_news less_gots less_dues less_ways operations taken left le = omega (arith, le)
@@ -224,14 +224,14 @@ module _ (s : ℕ) (entry : Entry) (c : Core) (alone : AreAlone (face c)) (low :
       subst (λ x. x ≤ reports_left c) (sym is) le
 
 -- a test that fails for what is there now
-old_now : (a b x y : Bool) → y ≡ true → (a && (b && not (x || y))) ≡ false
+pub old_now : (a b x y : Bool) → y ≡ true → (a && (b && not (x || y))) ≡ false
 old_now a b x false is = absurd (cc is)
 old_now true true true true is = refl
 old_now true true false true is = refl
 old_now true false x true is = refl
 old_now false b x true is = refl
 
-same_true : (x : ℕ) → (x == x) ≡ true
+pub same_true : (x : ℕ) → (x == x) ≡ true
 same_true x = grind (arith, tests)
 
 -- ---- a due Enter

@@ -1,8 +1,8 @@
 -- A write is not told that a block is gone which it sees, where reports tell what the lists have, whatever these say.
-use Rattle.std.proofs.Common.{◌≡◌, ◌≢◌, ◌∙◌, sym, ap, subst, refl, ◌⊎◌, inl, inr, ℕ, zero, suc, ◌+◌, ◌<◌, ◌≤◌, ◌++◌, false, List, [], ◌∷◌, Option, Some, None, arith, is_none, length, slice_get, take}
-use Rattle.std.proofs.lemmas.Bool.{cases_eq, cases_lt}
+use Rattle.std.proofs.Common.{◌≡◌, ◌∙◌, sym, subst, refl, ◌⊎◌, inl, inr, ℕ, ◌<◌, ◌≤◌, false, List, [], ◌∷◌, Option, Some, None, is_none, slice_get}
+use Rattle.std.proofs.lemmas.Bool.{cases_lt}
 use Rattle.std.specs.BTreeMap.{is_at}
-use Rattle.std.specs.List.{AllByRecursion, enumerate_from}
+use Rattle.std.specs.List.{AllByRecursion}
 use Rattle.std.specs.Option.{option_and_then, option_map}
 use Rattle.hs_standing.specs.Walks.{IsReadFor, MayEvent, MayReport}
 use Rattle.hs_cluster.specs.Kept.{IsTold, sealed_front}
@@ -10,7 +10,7 @@ use Rattle.hs_core.specs.declared.event.Event.{Event}
 use Rattle.hs_core.specs.declared.event.Event.TheVariants as event
 use Rattle.hs_core.specs.declared.task.Task.{Task}
 use Rattle.hs_core.specs.declared.waiting.Waiting.{Waiting}
-use Rattle.hs_core.specs.Looking.{catalogue_of, first_task, front_of, group_of, shape_of, tasks_of}
+use Rattle.hs_core.specs.Looking.{catalogue_of, first_task, front_of, shape_of, tasks_of}
 use Rattle.hs_core.specs.Seeing.{view_for}
 use Rattle.hs_core.specs.State.{Core}
 use Rattle.hs_desk.specs.declared.done.Done.{Done}
@@ -22,9 +22,8 @@ use Rattle.hs_events.specs.Alone.{AreAlone, face}
 use Rattle.hs_events.specs.Asked.{report_in}
 use Rattle.hs_events.specs.Reports.{LacksEntry}
 use Rattle.hs_events.specs.Sane.{IsSane}
-use Rattle.hs_events.specs.Whole.{Whole, floor, reach}
+use Rattle.hs_events.specs.Whole.{Whole}
 use Rattle.hs_measure.specs.Opens.{IsToldThere, IsToldTo}
-use Rattle.hs_fold.specs.Shards.Setting.{Numbered}
 use Rattle.hs_standing.proofs.AllLemmas.{each_found}
 use Rattle.hs_limits.specs.declared.address.Address.{Address}
 use Rattle.hs_model.proofs.Members.{Member, contains_from_member}
@@ -32,15 +31,15 @@ use Rattle.hs_model.specs.declared.op.Op.{Op}
 use Rattle.hs_model.specs.declared.op.Op.TheVariants as op
 use Rattle.hs_model.specs.Store.{address_cmp}
 use Rattle.hs_moments.proofs.AloneReportLemmas.{first_here, first_past}
-use Rattle.hs_moments.proofs.WorkLemmas.{floor_alone, reach_sane}
 use Rattle.hs_ops.specs.Operations.{wanted_number}
 use Rattle.hs_ops.specs.Speaking.{wanted_address}
 use Rattle.hs_clauses.proofs.HomeLemmas.{Fine}
 use Rattle.hs_clauses.specs.Home.{IsAtHome}
 use Rattle.hs_shard.specs.declared.facts.Facts.{Facts}
 use Rattle.hs_shard.specs.Facts.{facts_at}
+use Rattle.hs_clauses.proofs.SealedLemmas.{sealed_has}
+use Rattle.hs_clauses.specs.Numbered.{IsWithin}
 use Rattle.hs_measure.proofs.UnsoundKnownLemmas.{IsKnown}
-use Rattle.hs_measure.proofs.NumberLemmas.{IsWithin}
 
 -- ---- plain facts
 
@@ -54,19 +53,6 @@ first_fits : {X : Type 0} (P : X → Type 0) (xs : List X) (x : X) → AllByRecu
 first_fits P [] x all e = absurd (cc e)
 first_fits P (y ∷ xs) x all e = subst P (some_is y x e) all.0
 
--- so many entries have each number up to there
-entry_at : (m front : ℕ) (es : List Entry) → front ≤ length es → (n : ℕ) → m ≤ n → n < m + front → (x : Entry) × Member (n, x) (take front (enumerate_from m es))
-entry_at m zero es long n low high = absurd (omega (arith, low, high))
-entry_at m (suc front) [] long n low high = absurd (omega (arith, long))
-entry_at m (suc front) (x ∷ es) long n low high = by (cases_eq n m) (λ d. entry_at (m + 1) front es (omega (arith, long)) n (omega (arith, low, d)) (omega (arith, high)))
-  where
-    Found : List (ℕ × Entry) → Type 0
-    Found list = (y : Entry) × Member (n, y) list
-
-    by : (n ≡ m) ⊎ (n ≢ m) → (n ≢ m → Found (take front (enumerate_from (m + 1) es))) → Found ((m, x) ∷ take front (enumerate_from (m + 1) es))
-    by (inl is) again = (x, inl (ap (λ k. (k, x)) is))
-    by (inr d) again = let rest = again d in (rest.0, inr rest.1)
-
 module _ (c : Whole) (sane : IsSane c) (known : IsKnown c.core) (fine : Fine c.core) where
   alone : AreAlone (face c.core)
   alone = sane.alone
@@ -74,32 +60,9 @@ module _ (c : Whole) (sane : IsSane c) (known : IsKnown c.core) (fine : Fine c.c
   -- ---- what is sealed
 
   not_lacking : (peer : ℕ) → peer < (shape_of c.core).shards → (n : ℕ) → 1 ≤ n → n ≤ front_of peer c.core → LacksEntry n (Some (sealed_front c peer)) → ⊥
-  not_lacking peer low n some few lacks = lacks there.0 (contains_from_member (n, there.0) (sealed_front c peer) (subst (λ (list : Numbered). Member (n, there.0) list) (sym sealed_is) there.1))
-    where
-      taken : List Entry
-      taken = (sane.lists peer low).taken
-
-      all : List Entry
-      all = (sane.lists peer low).taken ++ (group_of peer c.core).waiting
-
-      floor_is : floor c peer ≡ front_of peer c.core
-      floor_is = floor_alone c peer alone low ∙ (sane.settled peer low).settled
-
-      list_is : reach c peer ≡ enumerate_from 1 ((sane.lists peer low).taken ++ (group_of peer c.core).waiting)
-      list_is = reach_sane c peer sane ∙ (sane.lists peer low).counted
-
-      sealed_is : sealed_front c peer ≡ take (front_of peer c.core) (enumerate_from 1 ((sane.lists peer low).taken ++ (group_of peer c.core).waiting))
-      sealed_is = λ i. take (floor_is i) (list_is i)
-
-      long_by : (xs ys : List Entry) (n : ℕ) → length xs ≡ n → n ≤ length (xs ++ ys)
-      long_by [] ys n e = omega (arith, e)
-      long_by (x ∷ xs) ys zero e = omega arith
-      long_by (x ∷ xs) ys (suc n) e = let rest = long_by xs ys n (omega (arith, e)) in omega (arith, rest)
-
-      there : (x : Entry) × Member (n, x) (take (front_of peer c.core) (enumerate_from 1 ((sane.lists peer low).taken ++ (group_of peer c.core).waiting)))
-      there =
-          entry_at 1 (front_of peer c.core) ((sane.lists peer low).taken ++ (group_of peer c.core).waiting)
-          (long_by (sane.lists peer low).taken (group_of peer c.core).waiting (front_of peer c.core) (sane.lists peer low).handed) n some (omega (arith, few))
+  not_lacking peer low n some few lacks =
+      let there : (x : Entry) × Member (n, x) (sealed_front c peer) = sealed_has c sane peer low n some few in
+      lacks there.0 (contains_from_member (n, there.0) (sealed_front c peer) there.1)
 
   -- ---- what an operation sees
 

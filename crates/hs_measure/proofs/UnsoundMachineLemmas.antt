@@ -1,20 +1,17 @@
--- What the machine's run shows of its disks, over disks that tell bytes; and that each of its settles comes to its end, whatever its lists say.
-use Rattle.std.proofs.Common.{◌≡◌, ◌∙◌, ap, Option, Some, None}
+-- Each settle of the machine's run comes to its end, over disks that tell bytes, whatever its lists say.
+use Rattle.std.proofs.Common.{◌≡◌, None}
 use Rattle.std.specs.Prelude.{IfSome}
+use Rattle.hs_measure.proofs.ShownLemmas.{if_shown}
 use Rattle.hs_clauses.proofs.ComingLemmas.{ComingLaws, come_all, new_all}
-use Rattle.hs_clauses.proofs.ShownLemmas.{shown_of}
 use Rattle.hs_clauses.specs.Shown.{IsShown, OnDisks}
 use Rattle.hs_events.specs.Found.{first_core}
 use Rattle.hs_measure.proofs.FiniteWantedLemmas.{Moving}
 use Rattle.hs_measure.specs.Opens.{AllMayGoOn, OpensReadable}
 use Rattle.hs_standing.specs.Held.{GivesAddresses}
-use Rattle.hs_journal.specs.Events.{client_op}
 use Rattle.hs_limits.specs.Limits.{IsLimits}
-use Rattle.hs_model.specs.declared.command.Command.{Command}
-use Rattle.hs_promise.specs.Machine.{WentAs}
 use Rattle.hs_promise.specs.Run.{Ran, Script}
 use Rattle.hs_promise.specs.Story.{Story, all_events}
-use Rattle.hs_run.specs.Machine.{HasReadDisks, IsOfCluster, RunsOnDisks}
+use Rattle.hs_run.specs.Machine.{IsOfCluster}
 use Rattle.hs_measure.proofs.UnsoundEndLemmas.{SettleLaw, story_ends}
 use Rattle.hs_measure.proofs.GoLemmas.{run_goes}
 use Rattle.hs_measure.proofs.OpenLemmas.{opens_readable}
@@ -26,20 +23,7 @@ story_goes moves coming S r story on shown going opens =
     run_goes moves S.set story.found S.commands (all_events story) opens (come_all coming S r story shown.went on.nobody) (new_all coming S r story shown.went on.nobody) (shown.told going) shown.rooms
 
 pub machine_ends : SettleLaw → Moving → ComingLaws → (tells : Type 0) (S : Script) (r : Ran) → GivesAddresses S.set.name → IsLimits S.set.limits → (machine : IsOfCluster tells S r) → tells → HoldBytes r.old.disks → IfSome machine.how (EachSettleEnds S)
-machine_ends law moves coming tells S r names limits machine told bytes = by_how machine.how machine.went (machine.told told) machine.runs
-  where
-    on : OnDisks S r
-    on = record {
-      shape = machine.shape;
-      one = machine.one;
-      names = names;
-      nobody = ap (λ (c : Option Command). client_op c) machine.nobody;
-      disks = machine.count;
-      left = machine.served.handed_back ∙ machine.count;
-    }
-
-    by_how : (how : Option Story) → WentAs S r how → IfSome how (HasReadDisks S r) → IfSome how (RunsOnDisks tells S r) → IfSome how (EachSettleEnds S)
-    by_how None went read runs = tt
-    by_how (Some story) went read runs =
-        let shown : IsShown S r story = shown_of tells S r story on runs.span told runs.before runs.now runs.old.stands runs.new.stands runs.shown went read.read in
-        story_ends law S r story went (λ going few. opens_readable S r story on shown going limits bytes few) (λ going opens. story_goes moves coming S r story on shown going opens)
+machine_ends law moves coming tells S r names limits machine told bytes =
+    if_shown tells S r (EachSettleEnds S) names machine told
+    (λ story on shown.
+    story_ends law S r story shown.went (λ going few. opens_readable S r story on shown going limits bytes few) (λ going opens. story_goes moves coming S r story on shown going opens))

@@ -5,5 +5,6 @@ pub mod Left
 pub mod Measure
 pub mod Opens
 pub mod Promised
+pub mod Served
 pub mod Unsound
 pub mod Walks

@@ -1,21 +1,21 @@
 -- The laws by which a run keeps what is promised of it, as calls of them ensure them.
-use Rattle.std.specs.Prelude.{All, IfSome, None, Option, Some, [], false, true, ℕ, ◌++◌, ◌+◌, ◌<◌, ◌≡◌, ◌≤◌, Bool, List}
-use Rattle.hs_standing.specs.Answered.{KeepsRecordRoom}
+use Rattle.std.specs.Prelude.{All, IfSome, None, Option, Some, [], false, length, true, ℕ, ◌++◌, ◌+◌, ◌<◌, ◌≡◌, ◌≤◌, List}
 use Rattle.hs_settled.specs.Printing.{FailsInOpening, FailsInText, LeavesUnread}
 use Rattle.hs_clauses.specs.Asked.{start_of}
 use Rattle.hs_clauses.specs.Shown.{IsShown, IsToldRun, OnDisks}
-use Rattle.hs_cluster.specs.Kept.{AreStored, AreTold}
+use Rattle.hs_cluster.specs.Kept.{AreStored}
 use Rattle.hs_desk.specs.declared.fault.CoreFault.{CoreFault}
 use Rattle.hs_settled.specs.Calm.{AreLed, whole_of}
 use Rattle.hs_settled.specs.Ending.{HasItsCause, TellsAsPromised}
-use Rattle.hs_events.specs.Course.{steps}
-use Rattle.hs_events.specs.Due.{Events, MomentsRise, is_walk, next_due}
+use Rattle.hs_events.specs.Due.{Events}
 use Rattle.hs_events.specs.Beginning.{first_items}
-use Rattle.hs_events.specs.Found.{Found, first_core, starts_good}
+use Rattle.hs_events.specs.Found.{Found, first_core, opened_list, starts_good}
 use Rattle.hs_events.specs.Reports.{failures}
+use Rattle.hs_events.specs.Sane.{IsFromOne}
 use Rattle.hs_events.specs.Taken.{peer_count}
 use Rattle.hs_events.specs.Whole.{open_whole}
 use Rattle.hs_fold.specs.Good.{good_from, is_good}
+use Rattle.hs_fold.specs.Shards.Setting.{Setting}
 use Rattle.hs_journal.specs.Events.{client_op}
 use Rattle.hs_journal.specs.Moments.{below}
 use Rattle.hs_journal.specs.Notes.{note_count}
@@ -23,8 +23,6 @@ use Rattle.hs_journal.specs.Order.{IsOrdered}
 use Rattle.hs_journal.specs.Telling.{AreDated}
 use Rattle.hs_laws.specs.Valid.{IsValid}
 use Rattle.hs_limits.specs.Shape.{IsShape}
-use Rattle.hs_standing.specs.Script.{AreLines}
-use Rattle.hs_standing.specs.Script.{all_events as lines_events}
 use Rattle.hs_ports.specs.Fault.{HasRisen}
 use Rattle.hs_ports.specs.Objects.{faults_at}
 use Rattle.hs_promise.specs.Answers.{Answers, BeganNothing, IsEntry}
@@ -42,20 +40,16 @@ use Rattle.hs_promise.specs.Run.{DiskRose, Ran, Script}
 use Rattle.hs_promise.specs.Stops.{Stops}
 use Rattle.hs_promise.specs.Story.{Story, all_events}
 use Rattle.hs_promise.specs.Untold.{NoneFails}
-use Rattle.hs_clauses.specs.Run.{script_of}
 use Rattle.hs_script.specs.Reading.{commands}
 use Rattle.hs_side.specs.declared.header.Header.{Header}
 use Rattle.hs_standing.specs.Run.{MayRun, RunOpens}
 use Rattle.hs_standing.specs.Standing.{AllMayKeep}
-use Rattle.hs_standing.specs.Start.{Start}
 
 -- what a peer is to read is in what is sealed of its list
 abbrev pub StoresBlocks : Type 0
 StoresBlocks =
-    (start : Start) (found : Found) (past done : Bool) (opening : Events) (lines : List Events) (to : ℕ) → RunOpens start found → MomentsRise found.opened (opening ++ lines_events lines) to
-    → is_walk next_due done 0 (first_core start.set found) opening ≡ true → AreLines (script_of start past) 1 (steps (first_core start.set found) opening) lines
-    → KeepsRecordRoom (first_core start.set found) (opening ++ lines_events lines) → AreTold (open_whole start.set found) (opening ++ lines_events lines)
-    → AreStored (open_whole start.set found) (opening ++ lines_events lines)
+    (set : Setting) (found : Found) (events : Events) → set.shape.copies ≡ 1 → (first_core set found).ended ≡ None
+    → ((shard : ℕ) → shard < set.shape.shards → IsFromOne (opened_list set found shard)) → length found.good ≡ peer_count set.shape → AreStored (open_whole set found) events
 
 pub record Laws : Type 0 where
   -- clauses

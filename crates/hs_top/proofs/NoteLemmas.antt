@@ -1,28 +1,24 @@
 -- Why peers are set aside, and that the count of each disk rose by all failures that its reports tell.
 use Rattle.std.proofs.Common.{◌≡◌, ◌∙◌, ◌⊎◌, inl, inr, ap, sym, subst, ℕ, ◌+◌, ◌*◌, ◌<◌, ◌++◌, ◌&&◌, not, List, [], Option, Some, None, false, true, refl, length, arith}
-use Rattle.std.specs.Prelude.{IsSome, slice_index_or}
-use Rattle.hs_standing.specs.Answered.{KeepsRecordRoom}
-use Rattle.hs_clauses.proofs.LineLemmas.{flat_same, joined, opening_due}
-use Rattle.hs_clauses.proofs.ListLemmas.{log_counts}
-use Rattle.hs_clauses.proofs.RoomLemmas.{keeps_room}
-use Rattle.hs_clauses.specs.Asked.{start_of}
+use Rattle.std.specs.Prelude.{IsSome, slice_index_or, unwrap_or}
+use Rattle.hs_clauses.proofs.ListLemmas.{log_counts, opened_is}
+use Rattle.hs_clauses.proofs.ReadLemmas.{from_empty, read_from_one}
 use Rattle.hs_clauses.specs.Shown.{IsShown, OnDisks}
-use Rattle.hs_cluster.specs.Kept.{AreStored, AreTold}
-use Rattle.hs_events.specs.Course.{steps}
-use Rattle.hs_events.specs.Due.{Events, MomentsRise}
-use Rattle.hs_events.specs.Found.{first_core}
+use Rattle.hs_cluster.proofs.OpeningMoves.{all_good}
+use Rattle.hs_cluster.specs.Kept.{AreStored}
+use Rattle.hs_events.specs.Found.{first_core, opened_list, starts_good}
 use Rattle.hs_events.specs.Reports.{failures}
+use Rattle.hs_events.specs.Sane.{IsFromOne}
 use Rattle.hs_events.specs.Whole.{open_whole}
 use Rattle.hs_fold.specs.Shards.Course.{begins}
 use Rattle.hs_fold.specs.Shards.Setting.{Numbered}
 use Rattle.hs_journal.specs.declared.entry.JournalEntry.{JournalEntry}
 use Rattle.hs_journal.specs.Notes.{is_first_noted}
-use Rattle.hs_standing.specs.Script.{all_events as lines_events}
+use Rattle.hs_ports.specs.declared.disk.Side.{Side}
 use Rattle.hs_ports.specs.Moments.{disk_at}
-use Rattle.hs_promise.specs.Ending.{ending_of}
-use Rattle.hs_promise.specs.Entry.{IsSoundAtEntry, is_aside}
+use Rattle.hs_promise.specs.Entry.{is_aside}
 use Rattle.hs_promise.specs.Found.{IsReadAs}
-use Rattle.hs_promise.specs.Machine.{NeverOpened, loss_count, opening_is_whole}
+use Rattle.hs_promise.specs.Machine.{NeverOpened, loss_count}
 use Rattle.hs_promise.specs.Run.{DiskRose, Ran, Script}
 use Rattle.hs_promise.specs.Story.{Story, all_events}
 use Rattle.hs_run.specs.Machine.{RunsOnDisks}
@@ -59,21 +55,24 @@ why_aside S r story on shown p low is = by_log (slice_index_or story.found.logs 
 
 -- ---- what it is to read stands in its list, so that it counted each failure
 
-module _ (laws : Laws) (S : Script) (r : Ran) (story : Story) (on : OnDisks S r) (shown : IsShown S r story) (sound : IsSoundAtEntry S r) (going : (first_core S.set story.found).ended ≡ None) where
-  same_events : all_events story ≡ story.opening ++ lines_events story.lines
-  same_events = ap (λ (es : Events). story.opening ++ es) (flat_same story.lines)
+disk_from_one : (seen : Side → List ℕ) → IsFromOne (unwrap_or (list_in seen) [])
+disk_from_one seen = go (list_in seen) refl
+  where
+    go : (o : Option Numbered) → list_in seen ≡ o → IsFromOne (unwrap_or o [])
+    go None e = from_empty
+    go (Some list) e = read_from_one seen list e
+
+module _ (laws : Laws) (S : Script) (r : Ran) (story : Story) (on : OnDisks S r) (shown : IsShown S r story) (going : (first_core S.set story.found).ended ≡ None) where
+  good : (p : ℕ) → p < S.set.shape.shards → starts_good story.found p ≡ true
+  good p low = all_good S.set story.found on.one shown.went.found.goods going p low
+
+  lists : (shard : ℕ) → shard < S.set.shape.shards → IsFromOne (opened_list S.set story.found shard)
+  lists p low =
+      subst (λ (list : Numbered). IsFromOne list) (sym (opened_is S r story shown.went on.one shown.read on.disks good p low))
+      (disk_from_one (disk_at r.old.disks p).seen)
 
   stored_by : AreStored (open_whole S.set story.found) (all_events story)
-  stored_by =
-      let opens = laws.opens S r story on shown sound going in
-      subst (λ (es : Events). AreStored (open_whole S.set story.found) es) (sym same_events)
-      (laws.stored (start_of S r) story.found (ending_of r.ending).past false story.opening story.lines r.new.moment opens
-      (subst (λ (es : Events). MomentsRise story.found.opened es r.new.moment) same_events shown.went.rises)
-      (opening_due (opening_is_whole r story.lines) (first_core S.set story.found) story.opening shown.went.opening)
-      (joined S r 1 (steps (first_core S.set story.found) story.opening) story.lines shown.went.lines)
-      (subst (λ (es : Events). KeepsRecordRoom (first_core S.set story.found) es) same_events
-      (keeps_room (first_core S.set story.found) (all_events story) (λ goes. opens.well.few) shown.rooms))
-      (subst (λ (es : Events). AreTold (open_whole S.set story.found) es) same_events (shown.told going)))
+  stored_by = laws.stored S.set story.found (all_events story) on.one going lists shown.went.found.goods
 
   pub failed_by : (tells : Type 0) → tells → RunsOnDisks tells S r story
       → (disk : ℕ) → DiskRose r (failures true disk (first_core S.set story.found) (all_events story) + loss_count story disk) disk

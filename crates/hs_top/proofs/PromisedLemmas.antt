@@ -109,10 +109,10 @@ module _ (laws : Laws) (tells : Type 0) (S : Script) (r : Ran) (names : GivesAdd
     aside_by None went so p low is = never_aside S r went p is
     aside_by (Some story) went so p low is = why_aside S r story on so p low is
 
-    notes_by : (how : Option Story) → WentAs S r how → IfSome how (HasReadDisks S r) → IfSome how (RunsOnDisks tells S r) → ShownAs S r how → IsSoundAtEntry S r → NotesCause S r
-    notes_by None went read runs so sound = laws.notes_never S r went cluster.served.counts.disks
-    notes_by (Some story) went read runs so sound =
-        laws.notes S r story cluster.one went read.read (runs.lost told) (λ going. failed_by laws S r story on so sound going tells told runs)
+    notes_by : (how : Option Story) → WentAs S r how → IfSome how (HasReadDisks S r) → IfSome how (RunsOnDisks tells S r) → ShownAs S r how → NotesCause S r
+    notes_by None went read runs so = laws.notes_never S r went cluster.served.counts.disks
+    notes_by (Some story) went read runs so =
+        laws.notes S r story cluster.one went read.read (runs.lost told) (λ going. failed_by laws S r story on so going tells told runs)
 
     -- ---- what each settle has done
 
@@ -149,7 +149,7 @@ module _ (laws : Laws) (tells : Type 0) (S : Script) (r : Ran) (names : GivesAdd
     tells_so sound = record {
       valid = laws.valid S r sound;
       entries = laws.entries S r cluster.how cluster.went;
-      notes = notes_by cluster.how cluster.went (cluster.told told) cluster.runs shown sound;
+      notes = notes_by cluster.how cluster.went (cluster.told told) cluster.runs shown;
       full = laws.full S r run sound;
       deletes = whole_by cluster.how cluster.went shown sound;
       led = led_by cluster.how cluster.went shown sound;
@@ -180,7 +180,7 @@ module _ (laws : Laws) (tells : Type 0) (S : Script) (r : Ran) (names : GivesAdd
       past = cluster.served.past told;
       shape = cluster.served.shape told;
       aside = aside_by cluster.how cluster.went shown;
-      notes = λ sound. notes_by cluster.how cluster.went (cluster.told told) cluster.runs shown sound;
+      notes = notes_by cluster.how cluster.went (cluster.told told) cluster.runs shown;
     }
 
   pub promised_of : Promised tells S r

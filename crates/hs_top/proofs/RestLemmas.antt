@@ -1,5 +1,5 @@
 -- On which disks a run may begin.
-use Rattle.std.proofs.Common.{◌≡◌, ◌∙◌, ap, sym, subst, ℕ, zero, suc, ◌+◌, Bool, true, false, List, [], ◌∷◌, length, take, drop, replicate, Option, Some, None, unwrap_or, refl, arith}
+use Rattle.std.proofs.Common.{◌≡◌, ◌∙◌, ◌⊎◌, inl, inr, ap, sym, subst, ℕ, zero, suc, ◌+◌, Bool, true, false, List, [], ◌∷◌, length, take, drop, replicate, Option, Some, None, unwrap_or, refl, arith}
 use Rattle.std.specs.Prelude.{⊤, if◌then◌else◌}
 use Rattle.hs_entry.specs.Entries.{rank_of}
 use Rattle.hs_events.specs.Taken.{or_blank, taken_lists}
@@ -97,3 +97,50 @@ stopped_may S r images sound rest same none =
     rest_may S r (λ peer. image_at images peer) rest
     (subst (λ (logs : List (Option Numbered)). AreSoundAlong S.set (taken_lists S.set.shape logs))
     (sym (logs_are S r 0 r.old.disks images same none (λ k side. (rest.each k).seen side))) sound)
+
+-- ---- what a stop left of one shard of one copy
+
+abbrev blank_lists : ℕ → List Numbered
+blank_lists n = replicate n []
+
+-- the list of its only peer is taken
+one_taken : (S : Script) (logs : List (Option Numbered)) → S.set.shape.shards ≡ 1 → S.set.shape.copies ≡ 1 → taken_lists S.set.shape logs ≡ chosen (take 1 (or_blank logs)) ∷ []
+one_taken S logs shards copies = ap (λ (n : ℕ). chosen_each n S.set.shape.copies (or_blank logs)) shards ∙ ap (λ (n : ℕ). chosen_each 1 n (or_blank logs)) copies
+
+-- and it is that of its image, or blank where the peer is set aside
+abbrev IsLeftOrBlank : Script → Ran → List Standing → List Image → Type 0
+IsLeftOrBlank S r disks images =
+    (take 1 (or_blank (logs_from S r 0 disks)) ≡ take 1 (or_blank (image_logs images))) ⊎ (take 1 (or_blank (logs_from S r 0 disks)) ≡ [] ∷ [])
+
+first_is : (S : Script) (r : Ran) (disks : List Standing) (images : List Image) → length disks ≡ length images → ((k : ℕ) (side : Side) → (disk_at disks k).seen side ≡ image_at images k side)
+    → IsLeftOrBlank S r disks images
+first_is S r [] [] same h = inl refl
+first_is S r [] (image ∷ images) same h = absurd (omega (arith, same))
+first_is S r (disk ∷ disks) [] same h = absurd (omega (arith, same))
+first_is S r (disk ∷ disks) (image ∷ images) same h = go (is_aside S r 0) refl
+  where
+    go : (b : Bool) → is_aside S r 0 ≡ b → IsLeftOrBlank S r (disk ∷ disks) (image ∷ images)
+    go true e = inr (ap (λ (b : Bool). unwrap_or (if b then None else list_in disk.seen) [] ∷ []) e)
+    go false e = inl
+        (ap (λ (b : Bool). unwrap_or (if b then None else list_in disk.seen) [] ∷ []) e
+        ∙ ap (λ (log : Option Numbered). unwrap_or log [] ∷ []) (list-same image disk.seen (λ side. h 0 side)))
+
+pub alone_may : (S : Script) (r : Ran) (images : List Image) → S.set.shape.shards ≡ 1 → S.set.shape.copies ≡ 1 → AreSoundAlong S.set (replicate S.set.shape.shards [])
+    → AreSoundAlong S.set (taken_lists S.set.shape (image_logs images)) → AreAtRest (λ peer. image_at images peer) r.old → length r.old.disks ≡ length images → MayStop S r
+alone_may S r images shards copies blank sound rest same =
+    rest_may S r (λ peer. image_at images peer) rest (go (first_is S r r.old.disks images same (λ k side. (rest.each k).seen side)))
+  where
+    taken : taken_lists S.set.shape (entry_logs S r) ≡ chosen (take 1 (or_blank (entry_logs S r))) ∷ []
+    taken = one_taken S (entry_logs S r) shards copies
+
+    go : IsLeftOrBlank S r r.old.disks images → AreSoundAlong S.set (taken_lists S.set.shape (entry_logs S r))
+    go (inl left) =
+        subst (λ (lists : List Numbered). AreSoundAlong S.set lists)
+        (sym (taken ∙ ap (λ (lists : List Numbered). chosen lists ∷ []) left ∙ sym (one_taken S (image_logs images) shards copies))) sound
+    go (inr empty) =
+        subst (λ (lists : List Numbered). AreSoundAlong S.set lists)
+        (sym
+        (taken
+        ∙ ap (λ (lists : List Numbered). chosen lists ∷ []) empty
+        ∙ ap (λ (list : Numbered). list ∷ []) (chosen_empty ([] ∷ []) (refl, tt))
+        ∙ sym (ap blank_lists shards))) blank

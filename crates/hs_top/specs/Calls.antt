@@ -22,7 +22,7 @@ use Rattle.hs_run.specs.Machine.{IsOfCluster}
 use Rattle.hs_run.specs.Words.{built_of}
 use Rattle.hs_side.specs.Current.{list_in}
 
--- ---- what is promised of a run: `Promise` of hs_promise, but that notes ask for sound disks, and what stands beside it of any run
+-- ---- what is promised of a run: `Promise` of hs_promise, and what stands beside it of any run
 
 -- over disks that tell their contents; a peer is set aside only where its disk failed, or has no log
 pub record PromisedWhereTold (S : Script) (r : Ran) : Type 0 where
@@ -31,7 +31,7 @@ pub record PromisedWhereTold (S : Script) (r : Ran) : Type 0 where
   pub past : KeepsPast r.old r.new
   pub shape : ShapeCause S r
   pub aside : (peer : ℕ) → peer < length r.old.disks → is_aside S r peer ≡ true → DiskRose r 1 peer ⊎ (list_in (disk_at r.old.disks peer).seen ≡ None)
-  pub notes : IsSoundAtEntry S r → NotesCause S r
+  pub notes : NotesCause S r
 
 -- all of it: what stands whatever the objects tell, and what stands where they do
 pub record Promised (tells : Type 0) (S : Script) (r : Ran) : Type 0 where

@@ -16,7 +16,8 @@ use hs_sound::waiting_lists_are_sound_with_runs;
 
 /// A run may begin on blank disks at rest, and on any images that count of a stop of an earlier run:
 /// what is asked at entry of what a stop leaves holds there, whatever the limits of the run. One whose
-/// opening sets no peer aside has all of them.
+/// opening sets no peer aside has all of them (`stopped`). A store of one shard of one copy needs no such
+/// premise: where its only peer is set aside the run begins with a blank list (`alone`).
 pub fn a_run_may_begin()
     ensures blank { (S : Script) (r : Ran) → 0 < S.set.shape.shards
         → AreAtRest (λ peer side. []) r.old → MayStop S r }
@@ -27,6 +28,14 @@ pub fn a_run_may_begin()
         → AreAtRest (λ peer. image_at images peer) next.old
         → length next.old.disks ≡ length images
         → ((peer : ℕ) → is_aside (script_after S limits commands) next peer ≡ false)
+        → MayStop (script_after S limits commands) next }
+    ensures alone { (S : Script) (entry : Store) (r : Ran) (m : ℕ) (images : List Image)
+        → S.set.shape.shards ≡ 1 → S.set.shape.copies ≡ 1
+        → Stops S entry r → IsDuring r.old r.new m
+        → AreGoodImages S.set.shape (stop_at S r m) images
+        → (limits : Limits) (commands : ℕ → Option Command) (next : Ran)
+        → AreAtRest (λ peer. image_at images peer) next.old
+        → length next.old.disks ≡ length images
         → MayStop (script_after S limits commands) next }
 {
     waiting_lists_are_sound_with_runs();

@@ -7,7 +7,7 @@ ghost use Rattle.hs_top.specs.Words.{is_load};
 
 use hs_block::Addresser;
 use hs_clauses::{
-    a_run_is_answered, a_run_keeps, a_run_may_stop, a_run_stands, each_report_tells_its_block,
+    a_run_is_answered, a_run_keeps, a_run_may_stop, a_run_stands, what_is_read_is_sealed,
 };
 use hs_ports::{Disk, Sink, Source, Watch};
 use hs_promise::Outcome;
@@ -50,7 +50,7 @@ fn run_words<A: Addresser, S: Source, K: Sink, D: Disk>(
     a_prompt_line_has_its_entry();
     each_status_has_its_cause();
     each_note_has_its_cause();
-    each_report_tells_its_block();
+    what_is_read_is_sealed();
     a_run_stands();
     a_run_is_answered();
     a_run_keeps();

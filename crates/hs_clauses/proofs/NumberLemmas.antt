@@ -1,7 +1,6 @@
 -- Each block of a shard has the number of an entry that took effect, whatever the entries are.
 use Rattle.std.proofs.Common.{◌≡◌, sym, subst, ℕ, zero, suc, ◌+◌, ◌≤◌, ◌==◌, Bool, true, false, cond, not, ◌&&◌, ◌||◌, List, [], ◌∷◌, arith, filter, is_none, is_some, length, Option, Some, None, Ok, Err, Result, refl}
 use Rattle.std.specs.BTreeMap.{is_at}
-use Rattle.std.specs.List.{AllByRecursion}
 use Rattle.std.specs.Option.{option_map, option_map_or}
 use Rattle.hs_desk.specs.declared.what.What.TheVariants as what
 use Rattle.hs_entry.specs.declared.entry.Entry.{Entry}
@@ -24,15 +23,9 @@ use Rattle.hs_shard.specs.Clients.{Applied, change_at, drop_root, give, mark_blo
 use Rattle.hs_shard.specs.Facts.{BlockList, Catalogue, facts_at, facts_in, has_room, is_fresh, is_mine}
 use Rattle.hs_shard.specs.Rounds.{advance, advanced, count_block, each_block, end_open, enter, entered, find_zero, get_round, is_accepted, is_gone, is_new, is_new_zero, log_got, may_enter, move_count, searched, settle, settled, spare, swept}
 use Rattle.hs_shard.specs.declared.facts.Facts.{Facts}
+use Rattle.hs_clauses.specs.Numbered.{AreWithin, IsWithin}
 
 -- ---- numbers of blocks
-
--- it is the number of one of so many entries
-abbrev pub IsWithin : ℕ → Address → Facts → Type 0
-IsWithin top a f = (1 ≤ f.number) × (f.number ≤ top)
-
-abbrev pub AreWithin : ℕ → BlockList → Type 0
-AreWithin top blocks = AllByRecursion (λ (e : Address × Facts). IsWithin top e.0 e.1) blocks
 
 pub within_rise : (low top : ℕ) → low ≤ top → (blocks : BlockList) → AreWithin low blocks → AreWithin top blocks
 within_rise low top up [] h = tt
