@@ -1,5 +1,5 @@
 -- What an entry that is proposed adds to what is counted at most.
-use Rattle.std.proofs.Common.{◌≡◌, ◌∙◌, sym, ap, subst, inl, inr, refl, ℕ, ◌+◌, ◌*◌, ◌≤◌, ◌<◌, ◌==◌, ◌&&◌, ◌||◌, Bool, true, false, cond, not, List, ◌∷◌, ◌++◌, Option, Some, None, arith, count_by, is_none, is_some, length, sum_by}
+use Rattle.std.proofs.Common.{[], ◌≡◌, ◌∙◌, sym, ap, subst, inl, inr, refl, ℕ, ◌+◌, ◌*◌, ◌≤◌, ◌<◌, ◌==◌, ◌&&◌, ◌||◌, Bool, true, false, cond, not, List, ◌∷◌, ◌++◌, Option, Some, None, arith, count_by, is_none, is_some, length, sum_by}
 use Rattle.std.proofs.lemmas.Bool.{and_parts, eqb-true}
 use Rattle.std.specs.List.{list_any}
 use Rattle.std.specs.Option.{option_map_or}

@@ -1,5 +1,5 @@
 -- On which disks a run may begin.
-use Rattle.std.proofs.Common.{◌≡◌, ◌∙◌, ◌⊎◌, inl, inr, ap, sym, subst, ℕ, zero, suc, ◌+◌, Bool, true, false, List, [], ◌∷◌, length, take, drop, replicate, Option, Some, None, unwrap_or, refl, arith}
+use Rattle.std.proofs.Common.{◌≡◌, ◌∙◌, ◌⊎◌, inl, inr, ap, sym, subst, ℕ, zero, suc, ◌+◌, ◌<◌, Bool, true, false, List, [], ◌∷◌, length, take, drop, replicate, Option, Some, None, unwrap_or, refl, arith}
 use Rattle.std.specs.Prelude.{⊤, if◌then◌else◌}
 use Rattle.hs_entry.specs.Entries.{rank_of}
 use Rattle.hs_events.specs.Taken.{or_blank, taken_lists}
@@ -99,6 +99,9 @@ stopped_may S r images sound rest same none =
     (sym (logs_are S r 0 r.old.disks images same none (λ k side. (rest.each k).seen side))) sound)
 
 -- ---- what a stop left of one shard of one copy
+
+pub one_low : (n : ℕ) → n ≡ 1 → 0 < n
+one_low n e = omega (arith, e)
 
 abbrev blank_lists : ℕ → List Numbered
 blank_lists n = replicate n []

@@ -1,9 +1,8 @@
-use Rattle.std.proofs.Common.{arith}
 use Rattle.hs_events.specs.Taken.{taken_lists}
 use Rattle.hs_promise.specs.Stops.{image_logs}
 use Rattle.hs_top.specs.Next.{script_after}
 use Rattle.hs_top.proofs.LimitLemmas.{sound_too}
-use Rattle.hs_top.proofs.RestLemmas.{alone_may, blank_may, stopped_may}
+use Rattle.hs_top.proofs.RestLemmas.{alone_may, blank_may, one_low, stopped_may}
 use Rattle.hs_top.proofs.laws.a_run_may_begin.Goals as goal
 
 pub returns-clause-blank : goal.returns-clause-blank
@@ -17,5 +16,5 @@ returns-clause-stopped c = λ S entry r m images stops during good limits comman
 pub returns-clause-alone : goal.returns-clause-alone
 returns-clause-alone c = λ S entry r m images shards copies stops during good limits commands next rest same.
     alone_may (script_after S limits commands) next images shards copies
-    (c.waiting_lists_are_sound_with_runs.ensures.blank (record S.set { limits = limits }) (omega (arith, shards)))
+    (c.waiting_lists_are_sound_with_runs.ensures.blank (record S.set { limits = limits }) (one_low S.set.shape.shards shards))
     (sound_too S.set limits (taken_lists S.set.shape (image_logs images)) (stops.reopens m during images good).sound) rest same
