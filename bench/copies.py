@@ -2,7 +2,7 @@
 """Counts which bytes a built hydra copies, for writes and for reads of blocks of 64 KiB.
 
 A small library stands before the C library's memcpy and memmove, and counts their calls by the place that called: of a
-write those of at least 16 KiB, of a read those of at least 4 KiB. What realloc moves, and what the system copies, is not
+write those of at least 16 KiB, of a read those of at least 2 KiB. What realloc moves, and what the system copies, is not
 counted. It makes and removes folders of its own.
 """
 import argparse
@@ -102,8 +102,8 @@ def main():
         how = ["-O1", "-fno-builtin", "-fno-tree-loop-distribute-patterns", "-shared", "-fPIC"]
         subprocess.run(["cc", *how, "-o", counter, source, "-ldl"], check=True)
         written = copied(program, counter, writes, 16_384)
-        without = copied(program, counter, writes, 4_096)
-        both = copied(program, counter, writes + reads, 4_096)
+        without = copied(program, counter, writes, 2_048)
+        both = copied(program, counter, writes + reads, 2_048)
     none = (0, 0)
     read = {at: (calls - without.get(at, none)[0], size - without.get(at, none)[1]) for at, (calls, size) in both.items()}
     names = functions(program)
