@@ -45,10 +45,10 @@ told_as v number bytes op.Stat told = tt
 paid_back : (x way y c : ℕ) → x + way ≤ y + c → c ≤ way → x ≤ y
 paid_back x way y c h k = omega (arith, h, k)
 
-module _ (name : List ℕ → Address) (c : Core) (orderly : IsOrderly name c) (placed : IsPlaced c) (line number : ℕ) (bytes : Option (List ℕ)) (u : Waiting) (at : operation_of line c ≡ Some u) where
+module _ (rounds : ℕ) (name : List ℕ → Address) (c : Core) (orderly : IsOrderly name c) (placed : IsPlaced c) (line number : ℕ) (bytes : Option (List ℕ)) (u : Waiting) (at : operation_of line c ≡ Some u) where
   -- it costs no more than it did to wait for them
-  pub told_counts : u.wait ≡ wait.Bytes number → IsToldThere number bytes u c → reports_most (go_on_with (λ v o. bytes_step v bytes (pointers_for u.shard u.operation.op c) o) line c) ≤ reports_most c
-  told_counts waits there = subst (λ (x : Core). reports_most x ≤ reports_most c) (sym is) (paid_back (reports_most (take_step line u s c)) (way_left c u) (reports_most c) (cost s) paid cheap)
+  pub told_counts : u.wait ≡ wait.Bytes number → IsToldThere number bytes u c → reports_most rounds (go_on_with (λ v o. bytes_step v bytes (pointers_for u.shard u.operation.op c) o) line c) ≤ reports_most rounds c
+  told_counts waits there = subst (λ (x : Core). reports_most rounds x ≤ reports_most rounds c) (sym is) (paid_back (reports_most rounds (take_step line u s c)) (way_left c u) (reports_most rounds c) (cost s) paid cheap)
     where
       pointers : List Address
       pointers = pointers_for u.shard u.operation.op c
@@ -65,9 +65,9 @@ module _ (name : List ℕ → Address) (c : Core) (orderly : IsOrderly name c) (
       apt : IsApt c u (bytes_step (view_for u.shard u.operation.op c) bytes (pointers_for u.shard u.operation.op c) u.operation)
       apt = told_suits (catalogue_of u.shard c) (view_for u.shard u.operation.op c) u.operation (counted_line name c orderly placed line u at) (shows_here name c orderly placed line u at) bytes pointers
 
-      paid : reports_most (take_step line u (bytes_step (view_for u.shard u.operation.op c) bytes (pointers_for u.shard u.operation.op c) u.operation) c) + way_left c u
-          ≤ reports_most c + cost (bytes_step (view_for u.shard u.operation.op c) bytes (pointers_for u.shard u.operation.op c) u.operation)
-      paid = stepped name c orderly line u at s order apt (shard_low name c orderly placed line u at)
+      paid : reports_most rounds (take_step line u (bytes_step (view_for u.shard u.operation.op c) bytes (pointers_for u.shard u.operation.op c) u.operation) c) + way_left c u
+          ≤ reports_most rounds c + cost (bytes_step (view_for u.shard u.operation.op c) bytes (pointers_for u.shard u.operation.op c) u.operation)
+      paid = stepped rounds name c orderly line u at s order apt (shard_low name c orderly placed line u at)
 
       way : way_left c u ≡ (if is_there_for (catalogue_of u.shard c) (wanted_number u.operation.stage) u.operation.op then 2 else 3)
       way = ap (λ (x : Wait). way_by (catalogue_of u.shard c) (group_of u.shard c).front (group_of u.shard c).waiting u.operation x) waits

@@ -43,7 +43,7 @@ use Rattle.hs_shard.specs.Facts.{BlockList, Catalogue, facts_in, is_fresh}
 
 -- ---- any of them
 
-module _ (name : List ℕ → Address) (c : Core) (its : Stand name c) (shard number : ℕ) (entry : Entry) (next : Next c shard number entry) where
+module _ (rounds : ℕ) (name : List ℕ → Address) (c : Core) (its : Stand rounds name c) (shard number : ℕ) (entry : Entry) (next : Next c shard number entry) where
   abbrev Then : Core
   Then = taken shard entry c
 
@@ -54,7 +54,7 @@ module _ (name : List ℕ → Address) (c : Core) (its : Stand name c) (shard nu
   module _ (run : (done_by shard entry c).catalogue.run ≡ (catalogue_of shard c).run) (epoch : (done_by shard entry c).catalogue.epoch ≡ (catalogue_of shard c).epoch) (swept : (done_by shard entry c).catalogue.swept ≡ (catalogue_of shard c).swept)
       (no_got : (from n round : ℕ) → is_got from n round entry ≡ false) (no_enter : (n : ℕ) → enters n entry ≡ false) where
     news : slots_of (taken shard entry c) ≤ slots_of c
-    news = news_quiet name shard number entry c its.orderly its.placed next.low next.leads run epoch no_got
+    news = news_quiet rounds name shard number entry c its.orderly its.placed next.low next.leads run epoch no_got
 
     dues : dues_of (taken shard entry c) ≤ dues_of c
     dues = dues_quiet name shard number entry c its.orderly its.placed next.low next.leads run epoch swept no_enter
@@ -64,29 +64,29 @@ module _ (name : List ℕ → Address) (c : Core) (its : Stand name c) (shard nu
 
     module _ (line : ℕ) (by : asked_by entry ≡ Some line) where
       abbrev h : HasAsked name c shard (front_of shard c + 1 + 0) line entry
-      h = asked name c its shard number entry next line by
+      h = asked rounds name c its shard number entry next line by
 
       abbrev s : OpStep
-      s = taken_step name shard number entry c its.orderly its.placed next.low next.leads its.owned line by h.waiting h.at
+      s = taken_step rounds name shard number entry c its.orderly its.placed next.low next.leads its.owned line by h.waiting h.at
 
       -- the catalogue stays, and it costs no more than its way
-      pub kept : (done_by shard entry c).catalogue ≡ catalogue_of shard c → cost s ≤ way_left c h.waiting → reports_most (told_at_once shard entry c) ≤ reports_most c
+      pub kept : (done_by shard entry c).catalogue ≡ catalogue_of shard c → cost s ≤ way_left c h.waiting → reports_most rounds (told_at_once shard entry c) ≤ reports_most rounds c
       kept same cheap =
-          kept_counts name shard number entry c its.orderly its.placed next.low next.leads its.owned line by h.waiting h.at same news lists (steps_then name c its shard number entry next) cheap
+          kept_counts rounds name shard number entry c its.orderly its.placed next.low next.leads its.owned line by h.waiting h.at same news lists (steps_then rounds name c its shard number entry next) cheap
 
       -- it is answered
-      pub answered : (r : Reply) → s ≡ step.Answer r → reports_most (told_at_once shard entry c) ≤ reports_most c
+      pub answered : (r : Reply) → s ≡ step.Answer r → reports_most rounds (told_at_once shard entry c) ≤ reports_most rounds c
       answered r is =
-          answered_counts name shard number entry c its.orderly its.placed next.low next.leads its.owned line by h.waiting h.at r is (swept_then name c its shard number entry next)
-          (heavy_sum (slots_of c) (slots_of (taken shard entry c)) (dues_of c) (dues_of (taken shard entry c)) ((16 * (shape_of c).shards + 2) * rounds_left c) ((16 * (shape_of c).shards + 2) * rounds_left (taken shard entry c)) news dues
-          (mul_le (16 * (shape_of c).shards + 2) (rounds_left c) (rounds_left (taken shard entry c)) (steps_then name c its shard number entry next)))
+          answered_counts rounds name shard number entry c its.orderly its.placed next.low next.leads its.owned line by h.waiting h.at r is (swept_then rounds name c its shard number entry next)
+          (heavy_sum (slots_of c) (slots_of (taken shard entry c)) (dues_of c) (dues_of (taken shard entry c)) ((16 * (shape_of c).shards + 2) * rounds_left rounds c) ((16 * (shape_of c).shards + 2) * rounds_left rounds (taken shard entry c)) news dues
+          (mul_le (16 * (shape_of c).shards + 2) (rounds_left rounds c) (rounds_left rounds (taken shard entry c)) (steps_then rounds name c its shard number entry next)))
 
     -- nobody asked for it, and its shard's blocks, roots and rounds stay
     module _ (none : (line : ℕ) → asked_by entry ≡ Some line → ⊥) where
-      pub nobody : (done_by shard entry c).catalogue.blocks ≡ (catalogue_of shard c).blocks → reports_most (taken shard entry c) ≤ reports_most c
+      pub nobody : (done_by shard entry c).catalogue.blocks ≡ (catalogue_of shard c).blocks → reports_most rounds (taken shard entry c) ≤ reports_most rounds c
       nobody blocks =
-          plain (reports_most (taken shard entry c)) (reports_most c)
-          (quiet_counts name shard number entry c its.orderly its.placed next.low next.leads epoch swept news lists (steps_then name c its shard number entry next) 0 0
+          plain (reports_most rounds (taken shard entry c)) (reports_most rounds c)
+          (quiet_counts rounds name shard number entry c its.orderly its.placed next.low next.leads epoch swept news lists (steps_then rounds name c its shard number entry next) 0 0
           (padded (ways_left (taken shard entry c)) (ways_left c)
           (all_same name shard number entry c its.orderly its.placed next.low next.leads its.owned
           (λ l w at. way_same name shard number entry c its.orderly its.placed next.low next.leads its.owned (λ a. ap (λ (bs : BlockList). option_map (λ (f : Facts). f.number) (facts_in a bs)) blocks) (λ place k n is far few. epoch) l w at (none l)))))
@@ -99,9 +99,9 @@ module _ (name : List ℕ → Address) (c : Core) (its : Stand name c) (shard nu
 
 -- ---- where an operation is refused, or not
 
-module _ (name : List ℕ → Address) (c : Core) (its : Stand name c) (shard number line : ℕ) (entry : Entry) (next : Next c shard number entry) (by : asked_by entry ≡ Some line) where
+module _ (rounds : ℕ) (name : List ℕ → Address) (c : Core) (its : Stand rounds name c) (shard number line : ℕ) (entry : Entry) (next : Next c shard number entry) (by : asked_by entry ≡ Some line) where
   abbrev pub held : HasAsked name c shard (front_of shard c + 1 + 0) line entry
-  held = asked name c its shard number entry next line by
+  held = asked rounds name c its shard number entry next line by
 
   abbrev pub u : Waiting
   u = held.waiting
@@ -110,7 +110,7 @@ module _ (name : List ℕ → Address) (c : Core) (its : Stand name c) (shard nu
   v = view_for u.shard u.operation.op (taken shard entry c)
 
   abbrev pub next_step : OpStep
-  next_step = taken_step name shard number entry c its.orderly its.placed next.low next.leads its.owned line by u held.at
+  next_step = taken_step rounds name shard number entry c its.orderly its.placed next.low next.leads its.owned line by u held.at
 
   -- what its effect answers is the step
   pub step_is : (did : What) (r : Reply) → (done_by shard entry c).effect.what ≡ did → effect_reply v did u.operation.op ≡ Some r → next_step ≡ step.Answer r
@@ -127,7 +127,7 @@ module _ (name : List ℕ → Address) (c : Core) (its : Stand name c) (shard nu
       length_same = length-set c.catalogues shard (done_by shard entry c).catalogue
 
   pub now_low : (done_by shard entry c).catalogue.epoch ≡ (catalogue_of shard c).epoch → now_in v ≤ LAST_EPOCH + 1
-  now_low same = let e = now same in let low = epoch_low name c its shard number entry next in more (now_in v) (catalogue_of shard c).epoch LAST_EPOCH e low
+  now_low same = let e = now same in let low = epoch_low rounds name c its shard number entry next in more (now_in v) (catalogue_of shard c).epoch LAST_EPOCH e low
     where
       more : (x y z : ℕ) → x ≡ y → y ≤ z → x ≤ z + 1
       more x y z e h = omega (arith, e, h)
@@ -142,7 +142,7 @@ module _ (name : List ℕ → Address) (c : Core) (its : Stand name c) (shard nu
 
   -- one that is not sure costs no more than its way
   pub unsure_cheap : is_sure (catalogue_of shard c) u.operation.op entry ≡ false → cost next_step ≤ way_left c u
-  unsure_cheap unsure = let way = unsure_way name c its shard number entry next line by unsure in let most = cost_most next_step in paid (cost next_step) (way_left c u) most way
+  unsure_cheap unsure = let way = unsure_way rounds name c its shard number entry next line by unsure in let most = cost_most next_step in paid (cost next_step) (way_left c u) most way
     where
       paid : (x y : ℕ) → x ≤ 3 → y ≡ 3 → x ≤ y
       paid x y h e = omega (arith, h, e)

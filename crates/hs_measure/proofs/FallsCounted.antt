@@ -9,5 +9,5 @@ use Rattle.hs_measure.specs.Finite.{reports_most}
 use Rattle.hs_measure.proofs.CountedLemmas.{job_there}
 use Rattle.hs_measure.specs.Measure.{jobs_of}
 
-pub job_counted : (line : ℕ) (c : Core) (p : ℕ) (e : Event) → AreAlone (face c) → is_it line c (Reporting p) e ≡ true → 1 ≤ reports_most c
-job_counted line c p e alone it = let one : 1 ≤ jobs_of c = job_there line c p e alone it in omega (arith, one)
+pub job_counted : (rounds line : ℕ) (c : Core) (p : ℕ) (e : Event) → AreAlone (face c) → is_it line c (Reporting p) e ≡ true → 1 ≤ reports_most rounds c
+job_counted rounds line c p e alone it = let one : 1 ≤ jobs_of c = job_there line c p e alone it in omega (arith, one)

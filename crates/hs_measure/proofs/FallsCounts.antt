@@ -34,27 +34,27 @@ module _ (a b : Core) (shape : shape_of b ≡ shape_of a) (swept : (k : ℕ) →
 
 -- ---- steps of deletion
 
-module _ (a b : Core) (shape : shape_of b ≡ shape_of a) where
+module _ (rounds : ℕ) (a b : Core) (shape : shape_of b ≡ shape_of a) where
   abbrev most : ℕ
-  most = most_rounds (shape_of a).shards
+  most = most_rounds rounds (shape_of a).shards
 
   abbrev steps_at : Core → ℕ → ℕ
   steps_at c k = steps_of most (catalogue_of k c)
 
   abbrev left_by : Shape → ℕ
-  left_by s = sum_by (λ k. steps_of (most_rounds s.shards) (catalogue_of k b)) (range_with_len 0 s.shards)
+  left_by s = sum_by (λ k. steps_of (most_rounds rounds s.shards) (catalogue_of k b)) (range_with_len 0 s.shards)
 
   -- where no shard has more
-  pub deletion_le : ((k : ℕ) → steps_of (most_rounds (shape_of a).shards) (catalogue_of k b) ≤ steps_of (most_rounds (shape_of a).shards) (catalogue_of k a)) → rounds_left b ≤ rounds_left a
-  deletion_le less = subst (λ (s : Shape). left_by s ≤ rounds_left a) (sym shape) (sum_le (steps_at b) (steps_at a) (shards_of a) less)
+  pub deletion_le : ((k : ℕ) → steps_of (most_rounds rounds (shape_of a).shards) (catalogue_of k b) ≤ steps_of (most_rounds rounds (shape_of a).shards) (catalogue_of k a)) → rounds_left rounds b ≤ rounds_left rounds a
+  deletion_le less = subst (λ (s : Shape). left_by s ≤ rounds_left rounds a) (sym shape) (sum_le (steps_at b) (steps_at a) (shards_of a) less)
 
   -- and one has fewer
-  pub deletion_less : (g : ℕ) → g < (shape_of a).shards → ((k : ℕ) → (k ≡ g → ⊥) → steps_of (most_rounds (shape_of a).shards) (catalogue_of k b) ≤ steps_of (most_rounds (shape_of a).shards) (catalogue_of k a))
-      → steps_of (most_rounds (shape_of a).shards) (catalogue_of g b) + 1 ≤ steps_of (most_rounds (shape_of a).shards) (catalogue_of g a) → rounds_left b + 1 ≤ rounds_left a
+  pub deletion_less : (g : ℕ) → g < (shape_of a).shards → ((k : ℕ) → (k ≡ g → ⊥) → steps_of (most_rounds rounds (shape_of a).shards) (catalogue_of k b) ≤ steps_of (most_rounds rounds (shape_of a).shards) (catalogue_of k a))
+      → steps_of (most_rounds rounds (shape_of a).shards) (catalogue_of g b) + 1 ≤ steps_of (most_rounds rounds (shape_of a).shards) (catalogue_of g a) → rounds_left rounds b + 1 ≤ rounds_left rounds a
   deletion_less g low less fewer =
-      subst (λ (s : Shape). left_by s + 1 ≤ rounds_left a) (sym shape)
+      subst (λ (s : Shape). left_by s + 1 ≤ rounds_left rounds a) (sym shape)
       (let at = sum_at (steps_at b) (steps_at a) g 0 (shape_of a).shards (omega arith) (omega (arith, low)) less in
-      sum (sum_by (steps_at b) (shards_of a)) (rounds_left a) (steps_at b g) (steps_at a g) at fewer)
+      sum (sum_by (steps_at b) (shards_of a)) (rounds_left rounds a) (steps_at b g) (steps_at a g) at fewer)
     where
       sum : (x y p q : ℕ) → x + q ≤ y + p → p + 1 ≤ q → x + 1 ≤ y
       sum x y p q h k = omega (arith, h, k)

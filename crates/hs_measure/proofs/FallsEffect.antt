@@ -40,7 +40,7 @@ use Rattle.hs_shard.specs.Facts.{Catalogue, number_at}
 
 -- ---- what is told of an entry that a line asked for
 
-module _ (name : List ℕ → Address) (shard number : ℕ) (entry : Entry) (c : Core) (its : IsOrderly name c) (placed : IsPlaced c) (low : shard < (shape_of c).shards) (leads : committed (group_of shard c) ≡ Some (number, entry)) where
+module _ (rounds : ℕ) (name : List ℕ → Address) (shard number : ℕ) (entry : Entry) (c : Core) (its : IsOrderly name c) (placed : IsPlaced c) (low : shard < (shape_of c).shards) (leads : committed (group_of shard c) ≡ Some (number, entry)) where
   pub placed_taken : IsPlaced (taken shard entry c)
   placed_taken = record { groups = length-set c.groups shard (take_committed (group_of shard c)) ∙ placed.groups; catalogues = length-set c.catalogues shard (done_by shard entry c).catalogue ∙ placed.catalogues; some = placed.some }
 
@@ -88,13 +88,13 @@ module _ (name : List ℕ → Address) (shard number : ℕ) (entry : Entry) (c :
           sums x y a b p q h k l = omega (arith, h, k, l)
 
       -- where it goes on for no more than its way, no more is left
-      pub kept_counts : slots_of (taken shard entry c) ≤ slots_of c → gots_of (taken shard entry c) + dues_of (taken shard entry c) ≤ gots_of c + dues_of c → rounds_left (taken shard entry c) ≤ rounds_left c
-          → cost taken_step ≤ way_left c u → reports_most (told_at_once shard entry c) ≤ reports_most c
+      pub kept_counts : slots_of (taken shard entry c) ≤ slots_of c → gots_of (taken shard entry c) + dues_of (taken shard entry c) ≤ gots_of c + dues_of c → rounds_left rounds (taken shard entry c) ≤ rounds_left rounds c
+          → cost taken_step ≤ way_left c u → reports_most rounds (told_at_once shard entry c) ≤ reports_most rounds c
       kept_counts news lists deletion few =
-          subst (λ (x : Core). reports_most x ≤ reports_most c) (sym told_is)
-          (no_more (reports_most (take_step line u taken_step (taken shard entry c))) (reports_most (taken shard entry c)) (reports_most c) (way_left c u) (way_left (taken shard entry c) u) (cost taken_step)
-          (stepped name (taken shard entry c) order line u at taken_step told_order apt (shard_low name (taken shard entry c) order placed_taken line u at))
-          (quiet_counts name shard number entry c its placed low leads (ap (λ (x : Catalogue). x.epoch) same) (ap (λ (x : Catalogue). x.swept) same) news lists deletion (way_left c u) (way_left (taken shard entry c) u) ways) few)
+          subst (λ (x : Core). reports_most rounds x ≤ reports_most rounds c) (sym told_is)
+          (no_more (reports_most rounds (take_step line u taken_step (taken shard entry c))) (reports_most rounds (taken shard entry c)) (reports_most rounds c) (way_left c u) (way_left (taken shard entry c) u) (cost taken_step)
+          (stepped rounds name (taken shard entry c) order line u at taken_step told_order apt (shard_low name (taken shard entry c) order placed_taken line u at))
+          (quiet_counts rounds name shard number entry c its placed low leads (ap (λ (x : Catalogue). x.epoch) same) (ap (λ (x : Catalogue). x.swept) same) news lists deletion (way_left c u) (way_left (taken shard entry c) u) ways) few)
 
     -- ---- it is answered
 
@@ -133,13 +133,13 @@ module _ (name : List ℕ → Address) (shard number : ℕ) (entry : Entry) (c :
             both : (s t x y : ℕ) → s ≤ t → x + 1 ≤ y → suc (s + x) ≤ t + y
             both s t x y h k = omega (arith, h, k)
 
-        pub answered_counts : (4 * slots_of (taken shard entry c) + 2 * dues_of (taken shard entry c)) + (16 * (shape_of c).shards + 2) * rounds_left (taken shard entry c) ≤ (4 * slots_of c + 2 * dues_of c) + (16 * (shape_of c).shards + 2) * rounds_left c
-            → reports_most (told_at_once shard entry c) ≤ reports_most c
+        pub answered_counts : (4 * slots_of (taken shard entry c) + 2 * dues_of (taken shard entry c)) + (16 * (shape_of c).shards + 2) * rounds_left rounds (taken shard entry c) ≤ (4 * slots_of c + 2 * dues_of c) + (16 * (shape_of c).shards + 2) * rounds_left rounds c
+            → reports_most rounds (told_at_once shard entry c) ≤ reports_most rounds c
         answered_counts heavy =
-            subst (λ (x : Core). reports_most x ≤ reports_most c) (sym done_is)
-            (account_answered (jobs_of c) (slots_of c) (gots_of c) (dues_of c) (ways_left c) (length c.operations * (sweeps_to_come c + asks_of c)) ((16 * (shape_of c).shards + 2) * rounds_left c)
+            subst (λ (x : Core). reports_most rounds x ≤ reports_most rounds c) (sym done_is)
+            (account_answered (jobs_of c) (slots_of c) (gots_of c) (dues_of c) (ways_left c) (length c.operations * (sweeps_to_come c + asks_of c)) ((16 * (shape_of c).shards + 2) * rounds_left rounds c)
             (slots_of (taken shard entry c)) (gots_of (taken shard entry c)) (dues_of (taken shard entry c)) (sum_by (λ (e : ℕ × Waiting). way_left (taken shard entry c) e.1) rest) (length rest * (sweeps_to_come done + asks_of done))
-            ((16 * (shape_of c).shards + 2) * rounds_left (taken shard entry c)) (length rest)
+            ((16 * (shape_of c).shards + 2) * rounds_left rounds (taken shard entry c)) (length rest)
             heavy
             (drop_less (gots_of (taken shard entry c)) (gots_of c) (cond (is_any_got entry) 1 0) (gots_le name shard number entry c its placed low leads))
             (sums (sum_by (λ (e : ℕ × Waiting). way_left (taken shard entry c) e.1) rest) (sum_by (λ (e : ℕ × Waiting). way_left c e.1) rest) (length rest) (way_left c u) (ways_left c) (rest_bumped name shard number entry c its placed low leads owned line u at) (sum_removed (λ (w : Waiting). way_left c w) line c.operations u at))

@@ -59,18 +59,18 @@ use Rattle.std.proofs.Math.Nat.{mul-suc}
 pub pays_factor : (k x y : ℕ) → x + 1 ≤ y → k * x + k ≤ k * y
 pays_factor k x y less = subst (λ n. n ≤ k * y) (mul-suc k x) (mul_le k y (suc x) (omega (arith, less)))
 
-note_same : (shard : ℕ) (did : What) (c : Core) → reports_most (note_enter shard did c) ≡ reports_most c
-note_same shard what.Nothing c = refl
-note_same shard (what.Viewed view) c = refl
-note_same shard what.Stored c = refl
-note_same shard what.Marked c = refl
-note_same shard what.Again c = refl
-note_same shard what.Rooted c = refl
-note_same shard what.Dropped c = refl
-note_same shard (what.Entered epoch) c = refl
-note_same shard what.Refused c = refl
+note_same : (rounds shard : ℕ) (did : What) (c : Core) → reports_most rounds (note_enter shard did c) ≡ reports_most rounds c
+note_same rounds shard what.Nothing c = refl
+note_same rounds shard (what.Viewed view) c = refl
+note_same rounds shard what.Stored c = refl
+note_same rounds shard what.Marked c = refl
+note_same rounds shard what.Again c = refl
+note_same rounds shard what.Rooted c = refl
+note_same rounds shard what.Dropped c = refl
+note_same rounds shard (what.Entered epoch) c = refl
+note_same rounds shard what.Refused c = refl
 
-module _ (name : List ℕ → Address) (c : Core) (its : Stand name c) (shard number line epoch : ℕ) (next : Next c shard number (kind.Enter line epoch)) where
+module _ (rounds : ℕ) (name : List ℕ → Address) (c : Core) (its : Stand rounds name c) (shard number line epoch : ℕ) (next : Next c shard number (kind.Enter line epoch)) where
   abbrev entry : Entry
   entry = kind.Enter line epoch
 
@@ -78,7 +78,7 @@ module _ (name : List ℕ → Address) (c : Core) (its : Stand name c) (shard nu
   factor = 16 * (shape_of c).shards + 2
 
   after : (catalogue_of shard c).swept ≤ (catalogue_of shard c).epoch
-  after = swept_low name c its shard number entry next
+  after = swept_low rounds name c its shard number entry next
 
   -- ---- it is refused
 
@@ -129,16 +129,16 @@ module _ (name : List ℕ → Address) (c : Core) (its : Stand name c) (shard nu
     stays = ap (λ (x : Applied). x.catalogue) is_refused
 
     news_then : slots_of (taken shard (kind.Enter line epoch) c) ≤ slots_of c
-    news_then = news_quiet name shard number entry c its.orderly its.placed next.low next.leads (ap (λ (x : Catalogue). x.run) stays) (ap (λ (x : Catalogue). x.epoch) stays) (λ from n round. refl)
+    news_then = news_quiet rounds name shard number entry c its.orderly its.placed next.low next.leads (ap (λ (x : Catalogue). x.run) stays) (ap (λ (x : Catalogue). x.epoch) stays) (λ from n round. refl)
 
     lists_then : gots_of (taken shard (kind.Enter line epoch) c) + dues_of (taken shard (kind.Enter line epoch) c) ≤ gots_of c + dues_of c
     lists_then = lists_le (gots_of c) (gots_of (taken shard entry c)) (dues_of c) (dues_of (taken shard entry c)) 0 (gots_le name shard number entry c its.orderly its.placed next.low next.leads) (refused_dues stays refused)
 
     -- of nobody
-    refused_own : (asked_by (kind.Enter line epoch) ≡ None) → reports_most (taken shard (kind.Enter line epoch) c) ≤ reports_most c
+    refused_own : (asked_by (kind.Enter line epoch) ≡ None) → reports_most rounds (taken shard (kind.Enter line epoch) c) ≤ reports_most rounds c
     refused_own none =
-        plain (reports_most (taken shard entry c)) (reports_most c)
-        (quiet_counts name shard number entry c its.orderly its.placed next.low next.leads (ap (λ (x : Catalogue). x.epoch) stays) (ap (λ (x : Catalogue). x.swept) stays) news_then lists_then (steps_then name c its shard number entry next) 0 0
+        plain (reports_most rounds (taken shard entry c)) (reports_most rounds c)
+        (quiet_counts rounds name shard number entry c its.orderly its.placed next.low next.leads (ap (λ (x : Catalogue). x.epoch) stays) (ap (λ (x : Catalogue). x.swept) stays) news_then lists_then (steps_then rounds name c its shard number entry next) 0 0
         (padded (ways_left (taken shard entry c)) (ways_left c)
         (all_same name shard number entry c its.orderly its.placed next.low next.leads its.owned
         (λ l w at. way_same name shard number entry c its.orderly its.placed next.low next.leads its.owned (λ a. ap (λ (x : Catalogue). number_at a x) stays) (λ place k n is far few. ap (λ (x : Catalogue). x.epoch) stays) l w at (λ e. cc (sym none ∙ e))))))
@@ -151,10 +151,10 @@ module _ (name : List ℕ → Address) (c : Core) (its : Stand name c) (shard nu
 
     module _ (by : asked_by (kind.Enter line epoch) ≡ Some line) where
       abbrev h : HasAsked name c shard (front_of shard c + 1 + 0) line (kind.Enter line epoch)
-      h = held name c its shard number line entry next by
+      h = held rounds name c its shard number line entry next by
 
       abbrev see : OpView
-      see = v name c its shard number line entry next by
+      see = v rounds name c its shard number line entry next by
 
       deletes : h.waiting.operation.op ≡ op.Delete
       deletes = enter_op name c.sessions line line epoch h.waiting.operation.op h.asks
@@ -189,16 +189,16 @@ module _ (name : List ℕ → Address) (c : Core) (its : Stand name c) (shard nu
           level : (s e x y : ℕ) → e ≤ s → s ≡ x → e ≡ y → x ≤ y → x ≡ y
           level s e x y h k l m = omega (arith, h, k, l, m)
 
-      cheap : cost (next_step name c its shard number line entry next by) ≤ way_left c h.waiting
+      cheap : cost (next_step rounds name c its shard number line entry next by) ≤ way_left c h.waiting
       cheap = by_sure (epoch == (catalogue_of shard c).epoch + 1) refl
         where
-          by_sure : (b : Bool) → (epoch == (catalogue_of shard c).epoch + 1) ≡ b → cost (next_step name c its shard number line entry next by) ≤ way_left c h.waiting
-          by_sure true e = refused_cheap name c its shard number line entry next by (ap (λ (x : Applied). x.effect.what) is_refused) (never e)
-          by_sure false e = unsure_cheap name c its shard number line entry next by e
+          by_sure : (b : Bool) → (epoch == (catalogue_of shard c).epoch + 1) ≡ b → cost (next_step rounds name c its shard number line entry next by) ≤ way_left c h.waiting
+          by_sure true e = refused_cheap rounds name c its shard number line entry next by (ap (λ (x : Applied). x.effect.what) is_refused) (never e)
+          by_sure false e = unsure_cheap rounds name c its shard number line entry next by e
 
-      refused_asked : reports_most (told_at_once shard (kind.Enter line epoch) c) ≤ reports_most c
+      refused_asked : reports_most rounds (told_at_once shard (kind.Enter line epoch) c) ≤ reports_most rounds c
       refused_asked =
-          kept_counts name shard number entry c its.orderly its.placed next.low next.leads its.owned line by h.waiting h.at stays news_then lists_then (steps_then name c its shard number entry next) cheap
+          kept_counts rounds name shard number entry c its.orderly its.placed next.low next.leads its.owned line by h.waiting h.at stays news_then lists_then (steps_then rounds name c its shard number entry next) cheap
 
   -- ---- it enters
 
@@ -213,31 +213,31 @@ module _ (name : List ℕ → Address) (c : Core) (its : Stand name c) (shard nu
         (λ k d h. sym (λ i. due_by k (catalogue_other name shard number entry c its.orderly its.placed next.low next.leads k d i) (group_other name shard number entry c its.orderly its.placed next.low next.leads k d i).waiting) ∙ h)
 
     low_then : epoch ≤ LAST_EPOCH
-    low_then = enter_low name c its shard number entry next line epoch refl
+    low_then = enter_low rounds name c its shard number entry next line epoch refl
 
     -- one step of deletion fewer is left then
-    left_then : rounds_left (taken shard (kind.Enter line epoch) c) + 1 ≤ rounds_left c
+    left_then : rounds_left rounds (taken shard (kind.Enter line epoch) c) + 1 ≤ rounds_left rounds c
     left_then =
-        deletion_falls name shard number entry c its.orderly its.placed next.low next.leads
-        (enters_fewer (shape_of c) shard (most_in (shape_of c)) (beside_it name c its shard number entry next) (room_here name c its shard number entry next) epoch (catalogue_of shard c) (so_far name c its shard number entry next) low_then may)
+        deletion_falls rounds name shard number entry c its.orderly its.placed next.low next.leads
+        (enters_fewer (shape_of c) shard (most_in rounds (shape_of c)) (beside_it rounds name c its shard number entry next) (room_here rounds name c its shard number entry next) epoch (catalogue_of shard c) (so_far rounds name c its shard number entry next) low_then may)
 
-    factor_then : factor * rounds_left (taken shard (kind.Enter line epoch) c) + factor ≤ factor * rounds_left c
-    factor_then = pays_factor factor (rounds_left (taken shard entry c)) (rounds_left c) left_then
+    factor_then : factor * rounds_left rounds (taken shard (kind.Enter line epoch) c) + factor ≤ factor * rounds_left rounds c
+    factor_then = pays_factor factor (rounds_left rounds (taken shard entry c)) (rounds_left rounds c) left_then
 
     swept_after : (k : ℕ) → (catalogue_of k c).swept ≤ (catalogue_of k (taken shard (kind.Enter line epoch) c)).swept
-    swept_after = swept_then name c its shard number entry next
+    swept_after = swept_then rounds name c its shard number entry next
 
     did : (done_by shard (kind.Enter line epoch) c).effect.what ≡ what.Entered epoch
     did = enter_did epoch (catalogue_of shard c) ∙ ap (λ b. cond b (what.Entered epoch) what.Refused) may
 
     -- a client's
-    entered_asked : asked_by (kind.Enter line epoch) ≡ Some line → reports_most (told_at_once shard (kind.Enter line epoch) c) ≤ reports_most c
+    entered_asked : asked_by (kind.Enter line epoch) ≡ Some line → reports_most rounds (told_at_once shard (kind.Enter line epoch) c) ≤ reports_most rounds c
     entered_asked by =
-        answered_counts name shard number entry c its.orderly its.placed next.low next.leads its.owned line by h.waiting h.at (reply.Run epoch) (step_is name c its shard number line entry next by (what.Entered epoch) (reply.Run epoch) did refl) swept_after
-        (heavy_entered (slots_of c) (slots_of (taken shard entry c)) (dues_of c) (dues_of (taken shard entry c)) (factor * rounds_left c) (factor * rounds_left (taken shard entry c)) (shape_of c).shards news_more dues_more factor_then)
+        answered_counts rounds name shard number entry c its.orderly its.placed next.low next.leads its.owned line by h.waiting h.at (reply.Run epoch) (step_is rounds name c its shard number line entry next by (what.Entered epoch) (reply.Run epoch) did refl) swept_after
+        (heavy_entered (slots_of c) (slots_of (taken shard entry c)) (dues_of c) (dues_of (taken shard entry c)) (factor * rounds_left rounds c) (factor * rounds_left rounds (taken shard entry c)) (shape_of c).shards news_more dues_more factor_then)
       where
         h : HasAsked name c shard (front_of shard c + 1 + 0) line (kind.Enter line epoch)
-        h = held name c its shard number line entry next by
+        h = held rounds name c its shard number line entry next by
 
     -- its shard's
     module _ (none : asked_by (kind.Enter line epoch) ≡ None) where
@@ -262,17 +262,17 @@ module _ (name : List ℕ → Address) (c : Core) (its : Stand name c) (shard nu
           drop_more x y z h = omega (arith, h)
 
       finish : ways_left (taken shard (kind.Enter line epoch) c) + 3 * (length c.operations * (sweeps_to_come (taken shard (kind.Enter line epoch) c) + asks_of (taken shard (kind.Enter line epoch) c))) ≤ ways_left c + 3 * (length c.operations * (sweeps_to_come c + asks_of c))
-          → reports_most (taken shard (kind.Enter line epoch) c) ≤ reports_most c
+          → reports_most rounds (taken shard (kind.Enter line epoch) c) ≤ reports_most rounds c
       finish ways =
-          account_entered (jobs_of c) (slots_of c) (gots_of c) (dues_of c) (ways_left c) (length c.operations * (sweeps_to_come c + asks_of c)) (factor * rounds_left c)
-          (slots_of (taken shard entry c)) (gots_of (taken shard entry c)) (dues_of (taken shard entry c)) (ways_left (taken shard entry c)) (length c.operations * (sweeps_to_come (taken shard entry c) + asks_of (taken shard entry c))) (factor * rounds_left (taken shard entry c)) (shape_of c).shards
+          account_entered (jobs_of c) (slots_of c) (gots_of c) (dues_of c) (ways_left c) (length c.operations * (sweeps_to_come c + asks_of c)) (factor * rounds_left rounds c)
+          (slots_of (taken shard entry c)) (gots_of (taken shard entry c)) (dues_of (taken shard entry c)) (ways_left (taken shard entry c)) (length c.operations * (sweeps_to_come (taken shard entry c) + asks_of (taken shard entry c))) (factor * rounds_left rounds (taken shard entry c)) (shape_of c).shards
           news_more (drop_none (gots_of (taken shard entry c)) (gots_of c) (gots_le name shard number entry c its.orderly its.placed next.low next.leads)) dues_more ways factor_then
         where
           drop_none : (x y : ℕ) → x + 0 ≤ y → x ≤ y
           drop_none x y h = omega (arith, h)
 
       -- where sweeps and asks are fewer, all may have lost what they met
-      bumped : suc (sweeps_to_come (taken shard (kind.Enter line epoch) c) + asks_of (taken shard (kind.Enter line epoch) c)) ≤ sweeps_to_come c + asks_of c → reports_most (taken shard (kind.Enter line epoch) c) ≤ reports_most c
+      bumped : suc (sweeps_to_come (taken shard (kind.Enter line epoch) c) + asks_of (taken shard (kind.Enter line epoch) c)) ≤ sweeps_to_come c + asks_of c → reports_most rounds (taken shard (kind.Enter line epoch) c) ≤ reports_most rounds c
       bumped fewer =
           finish
           (sums (ways_left (taken shard entry c)) (ways_left c) (length c.operations) (length c.operations * (sweeps_to_come (taken shard entry c) + asks_of (taken shard entry c))) (length c.operations * (sweeps_to_come c + asks_of c)) (all_bumped name shard number entry c its.orderly its.placed next.low next.leads its.owned)
@@ -282,7 +282,7 @@ module _ (name : List ℕ → Address) (c : Core) (its : Stand name c) (shard nu
           sums w' w k p' p h l = omega (arith, h, l)
 
       -- the first shard's pays with its ask
-      first_own : (shard ≡ 0) → reports_most (taken shard (kind.Enter line epoch) c) ≤ reports_most c
+      first_own : (shard ≡ 0) → reports_most rounds (taken shard (kind.Enter line epoch) c) ≤ reports_most rounds c
       first_own is = bumped (both (sweeps_to_come (taken shard entry c)) (sweeps_to_come c) (asks_of (taken shard entry c)) (asks_of c) (sweeps_le c (taken shard entry c) refl swept_after) fewer)
         where
           fewer : asks_of (taken shard (kind.Enter line epoch) c) + 1 ≤ asks_of c
@@ -304,7 +304,7 @@ module _ (name : List ℕ → Address) (c : Core) (its : Stand name c) (shard nu
       is_entered = ap (λ b. cond b (advanced (entered epoch (catalogue_of shard c))) (only what.Refused (catalogue_of shard c))) may
 
       -- it sweeps at once, where lists have its rounds already
-      sweeps_too : (done_by shard (kind.Enter line epoch) c).catalogue.swept ≡ epoch → reports_most (taken shard (kind.Enter line epoch) c) ≤ reports_most c
+      sweeps_too : (done_by shard (kind.Enter line epoch) c).catalogue.swept ≡ epoch → reports_most rounds (taken shard (kind.Enter line epoch) c) ≤ reports_most rounds c
       sweeps_too is =
           bumped
           (both (sweeps_to_come (taken shard entry c)) (sweeps_to_come c) (asks_of (taken shard entry c)) (asks_of c)
@@ -330,7 +330,7 @@ module _ (name : List ℕ → Address) (c : Core) (its : Stand name c) (shard nu
             d (sym h.judges ∙ (its.orderly.pending k h.waiting h.at).judges ∙ ap (λ (x : Op). judging_shard (shape_of c).shards c.sessions x) (enter_op name c.sessions k k n h.waiting.operation.op h.asks))
 
         -- blocks are of the same entries
-        stays_there : HasSameNumbers (catalogue_of shard c) (done_by shard (kind.Enter line epoch) c).catalogue → reports_most (taken shard (kind.Enter line epoch) c) ≤ reports_most c
+        stays_there : HasSameNumbers (catalogue_of shard c) (done_by shard (kind.Enter line epoch) c).catalogue → reports_most rounds (taken shard (kind.Enter line epoch) c) ≤ reports_most rounds c
         stays_there numbers =
             finish
             (sums (ways_left (taken shard entry c)) (ways_left c) (length c.operations * (sweeps_to_come (taken shard entry c) + asks_of (taken shard entry c))) (length c.operations * (sweeps_to_come c + asks_of c))
@@ -344,51 +344,51 @@ module _ (name : List ℕ → Address) (c : Core) (its : Stand name c) (shard nu
             sums : (w' w p' p : ℕ) → w' ≤ w → p' ≤ p → w' + 3 * p' ≤ w + 3 * p
             sums w' w p' p h l = omega (arith, h, l)
 
-        other_own : reports_most (taken shard (kind.Enter line epoch) c) ≤ reports_most c
+        other_own : reports_most rounds (taken shard (kind.Enter line epoch) c) ≤ reports_most rounds c
         other_own = by_keeps (advance_numbers (length (entered epoch (catalogue_of shard c)).catalogue.run.gots + 1) (entered epoch (catalogue_of shard c)) epoch 0 refl)
           where
-            by_keeps : KeepsNumbers epoch (entered epoch (catalogue_of shard c)).catalogue (advanced (entered epoch (catalogue_of shard c))).catalogue → reports_most (taken shard (kind.Enter line epoch) c) ≤ reports_most c
+            by_keeps : KeepsNumbers epoch (entered epoch (catalogue_of shard c)).catalogue (advanced (entered epoch (catalogue_of shard c))).catalogue → reports_most rounds (taken shard (kind.Enter line epoch) c) ≤ reports_most rounds c
             by_keeps (inl same) =
                 stays_there
                 (λ a. ap (λ (x : Applied). number_at a x.catalogue) is_entered ∙ same a ∙ each_numbers (count_block epoch) (catalogue_of shard c).blocks (λ f. count_number epoch f) a)
             by_keeps (inr is) = sweeps_too (ap (λ (x : Applied). x.catalogue.swept) is_entered ∙ is)
 
-      entered_own : reports_most (taken shard (kind.Enter line epoch) c) ≤ reports_most c
+      entered_own : reports_most rounds (taken shard (kind.Enter line epoch) c) ≤ reports_most rounds c
       entered_own = by_shard (one_or_other shard 0)
         where
-          by_shard : (shard ≡ 0) ⊎ (shard ≡ 0 → ⊥) → reports_most (taken shard (kind.Enter line epoch) c) ≤ reports_most c
+          by_shard : (shard ≡ 0) ⊎ (shard ≡ 0 → ⊥) → reports_most rounds (taken shard (kind.Enter line epoch) c) ≤ reports_most rounds c
           by_shard (inl is) = first_own is
           by_shard (inr d) = other_own d
 
   -- ---- either
 
-  counts_own : asked_by (kind.Enter line epoch) ≡ None → reports_most (taken shard (kind.Enter line epoch) c) ≤ reports_most c
+  counts_own : asked_by (kind.Enter line epoch) ≡ None → reports_most rounds (taken shard (kind.Enter line epoch) c) ≤ reports_most rounds c
   counts_own none = by_test (may_enter epoch (catalogue_of shard c)) refl
     where
-      by_test : (b : Bool) → may_enter epoch (catalogue_of shard c) ≡ b → reports_most (taken shard (kind.Enter line epoch) c) ≤ reports_most c
+      by_test : (b : Bool) → may_enter epoch (catalogue_of shard c) ≡ b → reports_most rounds (taken shard (kind.Enter line epoch) c) ≤ reports_most rounds c
       by_test false e = refused_own e none
       by_test true e = entered_own e none
 
-  counts_asked : asked_by (kind.Enter line epoch) ≡ Some line → reports_most (told_at_once shard (kind.Enter line epoch) c) ≤ reports_most c
+  counts_asked : asked_by (kind.Enter line epoch) ≡ Some line → reports_most rounds (told_at_once shard (kind.Enter line epoch) c) ≤ reports_most rounds c
   counts_asked by = by_test (may_enter epoch (catalogue_of shard c)) refl
     where
-      by_test : (b : Bool) → may_enter epoch (catalogue_of shard c) ≡ b → reports_most (told_at_once shard (kind.Enter line epoch) c) ≤ reports_most c
+      by_test : (b : Bool) → may_enter epoch (catalogue_of shard c) ≡ b → reports_most rounds (told_at_once shard (kind.Enter line epoch) c) ≤ reports_most rounds c
       by_test false e = refused_asked e by
       by_test true e = entered_asked e by
 
-  pub enter_counts : reports_most (told_at_once shard (kind.Enter line epoch) c) ≤ reports_most c
+  pub enter_counts : reports_most rounds (told_at_once shard (kind.Enter line epoch) c) ≤ reports_most rounds c
   enter_counts = by_line (line == 0) refl
     where
-      by_line : (b : Bool) → (line == 0) ≡ b → reports_most (told_at_once shard (kind.Enter line epoch) c) ≤ reports_most c
+      by_line : (b : Bool) → (line == 0) ≡ b → reports_most rounds (told_at_once shard (kind.Enter line epoch) c) ≤ reports_most rounds c
       by_line false e = counts_asked (ap (λ (b : Bool). if b then None else Some line) e)
       by_line true e = by_operation (operation_of line c) refl
         where
           did : What
           did = (done_by shard (kind.Enter line epoch) c).effect.what
 
-          by_operation : (o : Option Waiting) → operation_of line c ≡ o → reports_most (told_at_once shard (kind.Enter line epoch) c) ≤ reports_most c
+          by_operation : (o : Option Waiting) → operation_of line c ≡ o → reports_most rounds (told_at_once shard (kind.Enter line epoch) c) ≤ reports_most rounds c
           by_operation (Some w) at = let one = (its.orderly.pending line w at).counted in let is : line ≡ 0 = eqb-true line 0 e in absurd (omega (arith, one, is))
           by_operation None at =
-              subst (λ n. n ≤ reports_most c)
-              (sym (ap (λ (o : Option Waiting). reports_most (cond (is_some o) (tell_operation line did (taken shard entry c)) (note_enter shard did (taken shard entry c)))) at ∙ note_same shard did (taken shard entry c)))
+              subst (λ n. n ≤ reports_most rounds c)
+              (sym (ap (λ (o : Option Waiting). reports_most rounds (cond (is_some o) (tell_operation line did (taken shard entry c)) (note_enter shard did (taken shard entry c)))) at ∙ note_same rounds shard did (taken shard entry c)))
               (counts_own (ap (λ (b : Bool). if b then None else Some line) e))

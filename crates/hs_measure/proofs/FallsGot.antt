@@ -80,12 +80,12 @@ still_none (x ∷ gots) p q told e = go (place_cmp p x.0) refl (λ k. still_none
     go Greater o ih e = later (is_at (place_cmp q) x.0) ih e
 
 -- a sweep's notes are nothing to the count
-sweep_same : (shard : ℕ) (removed : Option ℕ) (c : Core) → reports_most (change_with removed (note_sweep shard) c) ≡ reports_most c
-sweep_same shard None c = refl
-sweep_same shard (Some count) c = go (list_all (λ (x : Catalogue). nat_le (catalogue_of shard c).swept x.swept) c.catalogues)
+sweep_same : (rounds shard : ℕ) (removed : Option ℕ) (c : Core) → reports_most rounds (change_with removed (note_sweep shard) c) ≡ reports_most rounds c
+sweep_same rounds shard None c = refl
+sweep_same rounds shard (Some count) c = go (list_all (λ (x : Catalogue). nat_le (catalogue_of shard c).swept x.swept) c.catalogues)
   where
     go : (b : Bool)
-        → reports_most (change_if b (note who.Store deed.Nothing (reply.Done (catalogue_of shard c).swept)) (note (who.Shard shard) (deed.Swept shard) (reply.Sweep (catalogue_of shard c).swept count) c)) ≡ reports_most c
+        → reports_most rounds (change_if b (note who.Store deed.Nothing (reply.Done (catalogue_of shard c).swept)) (note (who.Shard shard) (deed.Swept shard) (reply.Sweep (catalogue_of shard c).swept count) c)) ≡ reports_most rounds c
     go true = refl
     go false = refl
 
@@ -128,7 +128,7 @@ not_past place most c phase due = by_open c.run.opened refl phase
         (either (place.epoch == at.0 && (place.round == at.1 || place.round == at.1 + 1)) (place.epoch == c.epoch + 1 && place.round == 0)
         (sym (ap (λ (x : Option (ℕ × ℕ)). option_map_or (λ (at : ℕ × ℕ). place.epoch == at.0 && (place.round == at.1 || place.round == at.1 + 1)) x false || place.epoch == c.epoch + 1 && place.round == 0) e) ∙ due))
 
-module _ (name : List ℕ → Address) (c : Core) (its : Stand name c) (shard number from epoch round total : ℕ) (deltas : List Delta) (next : Next c shard number (kind.Got from epoch round total deltas)) where
+module _ (rounds : ℕ) (name : List ℕ → Address) (c : Core) (its : Stand rounds name c) (shard number from epoch round total : ℕ) (deltas : List Delta) (next : Next c shard number (kind.Got from epoch round total deltas)) where
   abbrev entry : Entry
   entry = kind.Got from epoch round total deltas
 
@@ -150,12 +150,12 @@ module _ (name : List ℕ → Address) (c : Core) (its : Stand name c) (shard nu
   abbrev logs : Applied
   logs = only what.Nothing (log_got place told (catalogue_of shard c))
 
-  stands : IsOfShard (shape_of c) shard (most_rounds (shape_of c).shards) (catalogue_of shard c)
-  stands = here_stands name c its shard number entry next
+  stands : IsOfShard (shape_of c) shard (most_rounds rounds (shape_of c).shards) (catalogue_of shard c)
+  stands = here_stands rounds name c its shard number entry next
 
   -- its sender is a shard
   from_low : nat_lt from (catalogue_of shard c).shape.shards ≡ true
-  from_low = ap (λ (s : Shape). nat_lt from s.shards) stands.shape_is ∙ lt-ltb from (shape_of c).shards (came name c its shard number entry next).0
+  from_low = ap (λ (s : Shape). nat_lt from s.shards) stands.shape_is ∙ lt-ltb from (shape_of c).shards (came rounds name c its shard number entry next).0
 
   -- one Got fewer waits
   gots_fewer : gots_of (taken shard (kind.Got from epoch round total deltas) c) + 1 ≤ gots_of c
@@ -187,12 +187,12 @@ module _ (name : List ℕ → Address) (c : Core) (its : Stand name c) (shard nu
             by_shard (inr d) =
                 sym (λ i. new_by (catalogue_other name shard number entry c its.orderly its.placed next.low next.leads to d i) (group_other name shard number entry c its.orderly its.placed next.low next.leads to d i).waiting k row.epoch row.round) ∙ h
 
-    waits_counts : reports_most (taken shard (kind.Got from epoch round total deltas) c) ≤ reports_most c
+    waits_counts : reports_most rounds (taken shard (kind.Got from epoch round total deltas) c) ≤ reports_most rounds c
     waits_counts =
-        plain (reports_most (taken shard entry c)) (reports_most c)
-        (quiet_counts name shard number entry c its.orderly its.placed next.low next.leads epoch_is swept_is news_then
+        plain (reports_most rounds (taken shard entry c)) (reports_most rounds c)
+        (quiet_counts rounds name shard number entry c its.orderly its.placed next.low next.leads epoch_is swept_is news_then
         (lists (gots_of (taken shard entry c)) (gots_of c) (dues_of (taken shard entry c)) (dues_of c) gots_fewer dues_more)
-        (steps_then name c its shard number entry next) 0 0
+        (steps_then rounds name c its shard number entry next) 0 0
         (padded (ways_left (taken shard entry c)) (ways_left c)
         (all_same name shard number entry c its.orderly its.placed next.low next.leads its.owned
         (λ l w at. way_same name shard number entry c its.orderly its.placed next.low next.leads its.owned (λ a. ap (λ (bs : BlockList). option_map (λ (f : Facts). f.number) (facts_in a bs)) blocks) (λ p k n there far few. epoch_is) l w at (λ e. cc e)))))
@@ -242,7 +242,7 @@ module _ (name : List ℕ → Address) (c : Core) (its : Stand name c) (shard nu
             absurd (old_row (subst (λ (x : Row). (is_due x (catalogue_of shard c) && is_none (body_at x (catalogue_of shard c).run.gots)) ≡ true) (same_row other row e)
             (and_from (is_due that (catalogue_of shard c)) (is_none (body_at that (catalogue_of shard c).run.gots)) p.0 q.0)))
 
-    refused_counts : reports_most (taken shard (kind.Got from epoch round total deltas) c) ≤ reports_most c
+    refused_counts : reports_most rounds (taken shard (kind.Got from epoch round total deltas) c) ≤ reports_most rounds c
     refused_counts = waits_counts (ap (λ (x : Catalogue). x.run.opened) unchanged) (ap (λ (x : Catalogue). x.epoch) unchanged) (ap (λ (x : Catalogue). x.swept) unchanged) (ap (λ (x : Catalogue). x.blocks) unchanged) new_refused
 
   -- ---- it is
@@ -257,7 +257,7 @@ module _ (name : List ℕ → Address) (c : Core) (its : Stand name c) (shard nu
     kept =
         and_from (nat_lt from (catalogue_of shard c).run.shape.shards && not (is_past place (catalogue_of shard c).run)) (is_none (body_at place (catalogue_of shard c).run.gots))
         (and_from (nat_lt from (catalogue_of shard c).run.shape.shards) (not (is_past place (catalogue_of shard c).run)) (ap (λ (s : Shape). nat_lt from s.shards) (stands.run_is ∙ sym stands.shape_is) ∙ from_low)
-        (ap (λ b. not b) (not_past place (most_rounds (shape_of c).shards) (catalogue_of shard c) stands.phase accepts.1))) accepts.0
+        (ap (λ b. not b) (not_past place (most_rounds rounds (shape_of c).shards) (catalogue_of shard c) stands.phase accepts.1))) accepts.0
 
     run_then : (log_got place told (catalogue_of shard c)).run ≡ record (catalogue_of shard c).run { gots = insert_entry place_cmp (catalogue_of shard c).run.gots place told }
     run_then = ap (λ b. cond b (record (catalogue_of shard c).run { gots = insert_entry place_cmp (catalogue_of shard c).run.gots place told }) (catalogue_of shard c).run) kept
@@ -305,7 +305,7 @@ module _ (name : List ℕ → Address) (c : Core) (its : Stand name c) (shard nu
           by_same true e =
               absurd (apart_bools (sym none_there ∙ ap (λ q. is_none (body_at q (insert_entry place_cmp (catalogue_of shard c).run.gots place told))) (same_row other row e) ∙ ap (λ (o : Option RoundBody). is_none o) (logged_here (catalogue_of shard c).run.gots place told)))
 
-      logged_counts : reports_most (taken shard (kind.Got from epoch round total deltas) c) ≤ reports_most c
+      logged_counts : reports_most rounds (taken shard (kind.Got from epoch round total deltas) c) ≤ reports_most rounds c
       logged_counts = waits_counts (ap (λ (x : Catalogue). x.run.opened) then_is ∙ opens) (ap (λ (x : Catalogue). x.epoch) then_is) (ap (λ (x : Catalogue). x.swept) then_is) (ap (λ (x : Catalogue). x.blocks) then_is) new_logged
 
     -- ---- it completes a round
@@ -325,27 +325,27 @@ module _ (name : List ℕ → Address) (c : Core) (its : Stand name c) (shard nu
           drop_none x y h = omega (arith, h)
 
       swept_after : (k : ℕ) → (catalogue_of k c).swept ≤ (catalogue_of k (taken shard (kind.Got from epoch round total deltas) c)).swept
-      swept_after = swept_then name c its shard number entry next
+      swept_after = swept_then rounds name c its shard number entry next
 
-      factor_then : factor * rounds_left (taken shard (kind.Got from epoch round total deltas) c) + factor ≤ factor * rounds_left c
+      factor_then : factor * rounds_left rounds (taken shard (kind.Got from epoch round total deltas) c) + factor ≤ factor * rounds_left rounds c
       factor_then =
-          pays_factor factor (rounds_left (taken shard entry c)) (rounds_left c)
-          (deletion_falls name shard number entry c its.orderly its.placed next.low next.leads
-          (gets_fewer (shape_of c) shard (most_in (shape_of c)) (beside_it name c its shard number entry next) (room_here name c its shard number entry next) place told (catalogue_of shard c) (so_far name c its shard number entry next) (brings_here name c its shard number entry next) accepted whole))
+          pays_factor factor (rounds_left rounds (taken shard entry c)) (rounds_left rounds c)
+          (deletion_falls rounds name shard number entry c its.orderly its.placed next.low next.leads
+          (gets_fewer (shape_of c) shard (most_in rounds (shape_of c)) (beside_it rounds name c its shard number entry next) (room_here rounds name c its shard number entry next) place told (catalogue_of shard c) (so_far rounds name c its shard number entry next) (brings_here rounds name c its shard number entry next) accepted whole))
 
       finish : ways_left (taken shard (kind.Got from epoch round total deltas) c) + 3 * (length c.operations * (sweeps_to_come (taken shard (kind.Got from epoch round total deltas) c) + asks_of (taken shard (kind.Got from epoch round total deltas) c)))
           ≤ ways_left c + 3 * (length c.operations * (sweeps_to_come c + asks_of c))
-          → reports_most (taken shard (kind.Got from epoch round total deltas) c) ≤ reports_most c
+          → reports_most rounds (taken shard (kind.Got from epoch round total deltas) c) ≤ reports_most rounds c
       finish ways =
-          account_entered (jobs_of c) (slots_of c) (gots_of c) (dues_of c) (ways_left c) (length c.operations * (sweeps_to_come c + asks_of c)) (factor * rounds_left c)
-          (slots_of (taken shard entry c)) (gots_of (taken shard entry c)) (dues_of (taken shard entry c)) (ways_left (taken shard entry c)) (length c.operations * (sweeps_to_come (taken shard entry c) + asks_of (taken shard entry c))) (factor * rounds_left (taken shard entry c)) (shape_of c).shards
+          account_entered (jobs_of c) (slots_of c) (gots_of c) (dues_of c) (ways_left c) (length c.operations * (sweeps_to_come c + asks_of c)) (factor * rounds_left rounds c)
+          (slots_of (taken shard entry c)) (gots_of (taken shard entry c)) (dues_of (taken shard entry c)) (ways_left (taken shard entry c)) (length c.operations * (sweeps_to_come (taken shard entry c) + asks_of (taken shard entry c))) (factor * rounds_left rounds (taken shard entry c)) (shape_of c).shards
           news_more (drop_one (gots_of (taken shard entry c)) (gots_of c) gots_fewer) dues_more ways factor_then
         where
           drop_one : (x y : ℕ) → x + 1 ≤ y → x ≤ y
           drop_one x y h = omega (arith, h)
 
       -- it goes on to another round
-      goes_on : HasSameNumbers (catalogue_of shard c) (done_by shard (kind.Got from epoch round total deltas) c).catalogue → reports_most (taken shard (kind.Got from epoch round total deltas) c) ≤ reports_most c
+      goes_on : HasSameNumbers (catalogue_of shard c) (done_by shard (kind.Got from epoch round total deltas) c).catalogue → reports_most rounds (taken shard (kind.Got from epoch round total deltas) c) ≤ reports_most rounds c
       goes_on numbers =
           finish
           (sums (ways_left (taken shard entry c)) (ways_left c) (length c.operations * (sweeps_to_come (taken shard entry c) + asks_of (taken shard entry c))) (length c.operations * (sweeps_to_come c + asks_of c))
@@ -361,7 +361,7 @@ module _ (name : List ℕ → Address) (c : Core) (its : Stand name c) (shard nu
           sums w' w p' p h l = omega (arith, h, l)
 
       -- it sweeps
-      sweeps : (catalogue_of shard c).swept < (catalogue_of shard c).epoch → (done_by shard (kind.Got from epoch round total deltas) c).catalogue.swept ≡ (catalogue_of shard c).epoch → reports_most (taken shard (kind.Got from epoch round total deltas) c) ≤ reports_most c
+      sweeps : (catalogue_of shard c).swept < (catalogue_of shard c).epoch → (done_by shard (kind.Got from epoch round total deltas) c).catalogue.swept ≡ (catalogue_of shard c).epoch → reports_most rounds (taken shard (kind.Got from epoch round total deltas) c) ≤ reports_most rounds c
       sweeps running up =
           finish
           (sums (ways_left (taken shard entry c)) (ways_left c) (length c.operations) (length c.operations * (sweeps_to_come (taken shard entry c) + asks_of (taken shard entry c))) (length c.operations * (sweeps_to_come c + asks_of c)) (all_bumped name shard number entry c its.orderly its.placed next.low next.leads its.owned)
@@ -383,32 +383,32 @@ module _ (name : List ℕ → Address) (c : Core) (its : Stand name c) (shard nu
           sums : (w' w k p' p : ℕ) → w' ≤ w + 3 * k → p' + k ≤ p → w' + 3 * p' ≤ w + 3 * p
           sums w' w k p' p h l = omega (arith, h, l)
 
-      completed_counts : reports_most (taken shard (kind.Got from epoch round total deltas) c) ≤ reports_most c
+      completed_counts : reports_most rounds (taken shard (kind.Got from epoch round total deltas) c) ≤ reports_most rounds c
       completed_counts = by_open (catalogue_of shard c).run.opened refl stands.phase
         where
-          by_open : (o : Option (ℕ × ℕ)) → (catalogue_of shard c).run.opened ≡ o → IsPhase (most_rounds (shape_of c).shards) (catalogue_of shard c).epoch (catalogue_of shard c).swept o → reports_most (taken shard (kind.Got from epoch round total deltas) c) ≤ reports_most c
+          by_open : (o : Option (ℕ × ℕ)) → (catalogue_of shard c).run.opened ≡ o → IsPhase (most_rounds rounds (shape_of c).shards) (catalogue_of shard c).epoch (catalogue_of shard c).swept o → reports_most rounds (taken shard (kind.Got from epoch round total deltas) c) ≤ reports_most rounds c
           by_open None e phase = absurd (no_run (opens ∙ e))
             where
               no_run : (log_got place told (catalogue_of shard c)).run.opened ≡ None → ⊥
               no_run none = apart_bools (sym whole ∙ ap (λ (o : Option (ℕ × ℕ)). complete (record logged.run { opened = o })) none)
           by_open (Some at) e phase = by_keeps (advance_numbers (length logs.catalogue.run.gots + 1) logs at.0 at.1 (opens ∙ e))
             where
-              by_keeps : KeepsNumbers at.0 (log_got place told (catalogue_of shard c)) (advanced (only what.Nothing (log_got place told (catalogue_of shard c)))).catalogue → reports_most (taken shard (kind.Got from epoch round total deltas) c) ≤ reports_most c
+              by_keeps : KeepsNumbers at.0 (log_got place told (catalogue_of shard c)) (advanced (only what.Nothing (log_got place told (catalogue_of shard c)))).catalogue → reports_most rounds (taken shard (kind.Got from epoch round total deltas) c) ≤ reports_most rounds c
               by_keeps (inl keeps) = goes_on (λ a. ap (λ (x : Applied). number_at a x.catalogue) done_is ∙ keeps a)
               by_keeps (inr ends) = sweeps phase.1.0 (ap (λ (x : Applied). x.catalogue.swept) done_is ∙ ends ∙ phase.0)
 
   -- ---- either
 
-  taken_counts : reports_most (taken shard (kind.Got from epoch round total deltas) c) ≤ reports_most c
+  taken_counts : reports_most rounds (taken shard (kind.Got from epoch round total deltas) c) ≤ reports_most rounds c
   taken_counts = by_accepted (is_accepted place (catalogue_of shard c)) refl
     where
-      by_whole : is_accepted place (catalogue_of shard c) ≡ true → (b : Bool) → complete (log_got place told (catalogue_of shard c)).run ≡ b → reports_most (taken shard (kind.Got from epoch round total deltas) c) ≤ reports_most c
+      by_whole : is_accepted place (catalogue_of shard c) ≡ true → (b : Bool) → complete (log_got place told (catalogue_of shard c)).run ≡ b → reports_most rounds (taken shard (kind.Got from epoch round total deltas) c) ≤ reports_most rounds c
       by_whole accepted true e = completed_counts accepted e
       by_whole accepted false e = logged_counts accepted e
 
-      by_accepted : (b : Bool) → is_accepted place (catalogue_of shard c) ≡ b → reports_most (taken shard (kind.Got from epoch round total deltas) c) ≤ reports_most c
+      by_accepted : (b : Bool) → is_accepted place (catalogue_of shard c) ≡ b → reports_most rounds (taken shard (kind.Got from epoch round total deltas) c) ≤ reports_most rounds c
       by_accepted true e = by_whole e (complete logged.run) refl
       by_accepted false e = refused_counts e
 
-  pub got_counts : reports_most (told_at_once shard (kind.Got from epoch round total deltas) c) ≤ reports_most c
-  got_counts = subst (λ n. n ≤ reports_most c) (sym (sweep_same shard (done_by shard entry c).effect.removed (taken shard entry c))) taken_counts
+  pub got_counts : reports_most rounds (told_at_once shard (kind.Got from epoch round total deltas) c) ≤ reports_most rounds c
+  got_counts = subst (λ n. n ≤ reports_most rounds c) (sym (sweep_same rounds shard (done_by shard entry c).effect.removed (taken shard entry c))) taken_counts

@@ -52,7 +52,7 @@ some_none (Some f) e = refl
 
 -- ---- a Block
 
-module _ (name : List ℕ → Address) (c : Core) (its : Stand name c) (shard number line least : ℕ) (bytes : List ℕ) (next : Next c shard number (kind.Block line least bytes)) where
+module _ (rounds : ℕ) (name : List ℕ → Address) (c : Core) (its : Stand rounds name c) (shard number line least : ℕ) (bytes : List ℕ) (next : Next c shard number (kind.Block line least bytes)) where
   abbrev b_entry : Entry
   b_entry = kind.Block line least bytes
 
@@ -60,7 +60,7 @@ module _ (name : List ℕ → Address) (c : Core) (its : Stand name c) (shard nu
   b_here = catalogue_of shard c
 
   abbrev b_held : HasAsked name c shard (front_of shard c + 1 + 0) line (kind.Block line least bytes)
-  b_held = held name c its shard number line b_entry next refl
+  b_held = held rounds name c its shard number line b_entry next refl
 
   b_op : IsBlockOp name c.sessions least bytes b_held.waiting.operation.op
   b_op = block_op name c.sessions line least bytes b_held.waiting.operation.op b_held.asks
@@ -86,7 +86,7 @@ module _ (name : List ℕ → Address) (c : Core) (its : Stand name c) (shard nu
 
     b_mine : is_mine (name bytes) (catalogue_of shard c) ≡ true
     b_mine =
-        (λ i. shard_of (shape_here name c its shard number b_entry next i).shards (name bytes) == shard_here name c its shard number b_entry next i)
+        (λ i. shard_of (shape_here rounds name c its shard number b_entry next i).shards (name bytes) == shard_here rounds name c its shard number b_entry next i)
         ∙ eq-eqb (shard_of (shape_of c).shards (name bytes)) shard (sym (ap (λ (x : Op). judging_shard (shape_of c).shards c.sessions x) o.is) ∙ sym b_pending.judges ∙ b_held.judges)
 
     b_room : has_room (catalogue_of shard c) ≡ true
@@ -102,78 +102,78 @@ module _ (name : List ℕ → Address) (c : Core) (its : Stand name c) (shard nu
     b_stored = only what.Stored (with_block (name bytes) (new_facts (front_of shard c + 1) (catalogue_of shard c).epoch (asked_block c.sessions o.session o.payload o.handles).pointers) (catalogue_of shard c))
 
     by_tests : (p f : Bool) → is_some (facts_at (name bytes) (catalogue_of shard c)) ≡ p → is_fresh least (catalogue_of shard c) ≡ f → done_by shard b_entry c ≡ (if not true || p then only what.Nothing (catalogue_of shard c) else (if not (f && true) then only what.Refused (catalogue_of shard c) else b_stored))
-        → reports_most (told_at_once shard b_entry c) ≤ reports_most c
+        → reports_most rounds (told_at_once shard b_entry c) ≤ reports_most rounds c
     by_tests true f p_is f_is is =
-        kept name c its shard number b_entry next (ap (λ (x : Applied). x.catalogue.run) is) (ap (λ (x : Applied). x.catalogue.epoch) is) (ap (λ (x : Applied). x.catalogue.swept) is) (λ from n round. refl) (λ n. refl) line refl (ap (λ (x : Applied). x.catalogue) is)
-        (unsure_cheap name c its shard number line b_entry next refl (ap (λ (x : Op). is_free_for (catalogue_of shard c) x) o.is ∙ some_none (facts_at (name bytes) (catalogue_of shard c)) p_is))
+        kept rounds name c its shard number b_entry next (ap (λ (x : Applied). x.catalogue.run) is) (ap (λ (x : Applied). x.catalogue.epoch) is) (ap (λ (x : Applied). x.catalogue.swept) is) (λ from n round. refl) (λ n. refl) line refl (ap (λ (x : Applied). x.catalogue) is)
+        (unsure_cheap rounds name c its shard number line b_entry next refl (ap (λ (x : Op). is_free_for (catalogue_of shard c) x) o.is ∙ some_none (facts_at (name bytes) (catalogue_of shard c)) p_is))
     by_tests false false p_is f_is is =
-        kept name c its shard number b_entry next (ap (λ (x : Applied). x.catalogue.run) is) (ap (λ (x : Applied). x.catalogue.epoch) is) (ap (λ (x : Applied). x.catalogue.swept) is) (λ from n round. refl) (λ n. refl) line refl (ap (λ (x : Applied). x.catalogue) is)
-        (refused_cheap name c its shard number line b_entry next refl (ap (λ (x : Applied). x.effect.what) is)
-        (λ none. apart_bools (sym (write_fresh name c its shard number line b_entry next refl (ap (λ (x : Applied). x.catalogue.epoch) is) o.session o.payload o.handles (Some (name bytes)) least o.is o.since none) ∙ f_is)))
+        kept rounds name c its shard number b_entry next (ap (λ (x : Applied). x.catalogue.run) is) (ap (λ (x : Applied). x.catalogue.epoch) is) (ap (λ (x : Applied). x.catalogue.swept) is) (λ from n round. refl) (λ n. refl) line refl (ap (λ (x : Applied). x.catalogue) is)
+        (refused_cheap rounds name c its shard number line b_entry next refl (ap (λ (x : Applied). x.effect.what) is)
+        (λ none. apart_bools (sym (write_fresh rounds name c its shard number line b_entry next refl (ap (λ (x : Applied). x.catalogue.epoch) is) o.session o.payload o.handles (Some (name bytes)) least o.is o.since none) ∙ f_is)))
     by_tests false true p_is f_is is =
-        answered name c its shard number b_entry next (ap (λ (x : Applied). x.catalogue.run) is) (ap (λ (x : Applied). x.catalogue.epoch) is) (ap (λ (x : Applied). x.catalogue.swept) is) (λ from n round. refl) (λ n. refl) line refl told
-        (step_is name c its shard number line b_entry next refl what.Stored told (ap (λ (x : Applied). x.effect.what) is) (ap (λ (x : Op). effect_reply see what.Stored x) o.is))
+        answered rounds name c its shard number b_entry next (ap (λ (x : Applied). x.catalogue.run) is) (ap (λ (x : Applied). x.catalogue.epoch) is) (ap (λ (x : Applied). x.catalogue.swept) is) (λ from n round. refl) (λ n. refl) line refl told
+        (step_is rounds name c its shard number line b_entry next refl what.Stored told (ap (λ (x : Applied). x.effect.what) is) (ap (λ (x : Op). effect_reply see what.Stored x) o.is))
       where
         see : OpView
-        see = v name c its shard number line b_entry next refl
+        see = v rounds name c its shard number line b_entry next refl
 
         told : Reply
         told = written_reply false (next_of (open_in see o.session)) (now_in see)
 
-    by_block : reports_most (told_at_once shard b_entry c) ≤ reports_most c
+    by_block : reports_most rounds (told_at_once shard b_entry c) ≤ reports_most rounds c
     by_block =
         by_tests (is_some (facts_at (name bytes) (catalogue_of shard c))) (is_fresh least (catalogue_of shard c)) refl refl
         (b_done ∙ (λ i. if not (b_mine i) || is_some (facts_at (name bytes) (catalogue_of shard c)) then only what.Nothing (catalogue_of shard c) else (if not (is_fresh least (catalogue_of shard c) && b_room i) then only what.Refused (catalogue_of shard c) else b_stored)))
 
-  pub block_counts : reports_most (told_at_once shard (kind.Block line least bytes) c) ≤ reports_most c
+  pub block_counts : reports_most rounds (told_at_once shard (kind.Block line least bytes) c) ≤ reports_most rounds c
   block_counts = by_block b_op
 
 -- ---- a Mark
 
-module _ (name : List ℕ → Address) (c : Core) (its : Stand name c) (shard number line least block : ℕ) (a : Address) (next : Next c shard number (kind.Mark line least block a)) where
+module _ (rounds : ℕ) (name : List ℕ → Address) (c : Core) (its : Stand rounds name c) (shard number line least block : ℕ) (a : Address) (next : Next c shard number (kind.Mark line least block a)) where
   abbrev m_entry : Entry
   m_entry = kind.Mark line least block a
 
   abbrev m_held : HasAsked name c shard (front_of shard c + 1 + 0) line (kind.Mark line least block a)
-  m_held = held name c its shard number line m_entry next refl
+  m_held = held rounds name c its shard number line m_entry next refl
 
   abbrev m_marked : Applied
   m_marked = only what.Marked (record (catalogue_of shard c) { blocks = change_at a (give (catalogue_of shard c).epoch) (catalogue_of shard c).blocks })
 
   module _ (o : IsMarkOp c.sessions least m_held.waiting.operation.op) where
     by_mark : (s f : Bool) → is_stored_at block a (catalogue_of shard c) ≡ s → is_fresh least (catalogue_of shard c) ≡ f → done_by shard m_entry c ≡ (if not s then only what.Again (catalogue_of shard c) else (if not f then only what.Refused (catalogue_of shard c) else m_marked))
-        → reports_most (told_at_once shard m_entry c) ≤ reports_most c
+        → reports_most rounds (told_at_once shard m_entry c) ≤ reports_most rounds c
     by_mark false f s_is f_is is =
-        kept name c its shard number m_entry next (ap (λ (x : Applied). x.catalogue.run) is) (ap (λ (x : Applied). x.catalogue.epoch) is) (ap (λ (x : Applied). x.catalogue.swept) is) (λ from n round. refl) (λ n. refl) line refl (ap (λ (x : Applied). x.catalogue) is)
-        (unsure_cheap name c its shard number line m_entry next refl s_is)
+        kept rounds name c its shard number m_entry next (ap (λ (x : Applied). x.catalogue.run) is) (ap (λ (x : Applied). x.catalogue.epoch) is) (ap (λ (x : Applied). x.catalogue.swept) is) (λ from n round. refl) (λ n. refl) line refl (ap (λ (x : Applied). x.catalogue) is)
+        (unsure_cheap rounds name c its shard number line m_entry next refl s_is)
     by_mark true false s_is f_is is =
-        kept name c its shard number m_entry next (ap (λ (x : Applied). x.catalogue.run) is) (ap (λ (x : Applied). x.catalogue.epoch) is) (ap (λ (x : Applied). x.catalogue.swept) is) (λ from n round. refl) (λ n. refl) line refl (ap (λ (x : Applied). x.catalogue) is)
-        (refused_cheap name c its shard number line m_entry next refl (ap (λ (x : Applied). x.effect.what) is)
-        (λ none. apart_bools (sym (write_fresh name c its shard number line m_entry next refl (ap (λ (x : Applied). x.catalogue.epoch) is) o.session o.payload o.handles o.address least o.is o.since none) ∙ f_is)))
+        kept rounds name c its shard number m_entry next (ap (λ (x : Applied). x.catalogue.run) is) (ap (λ (x : Applied). x.catalogue.epoch) is) (ap (λ (x : Applied). x.catalogue.swept) is) (λ from n round. refl) (λ n. refl) line refl (ap (λ (x : Applied). x.catalogue) is)
+        (refused_cheap rounds name c its shard number line m_entry next refl (ap (λ (x : Applied). x.effect.what) is)
+        (λ none. apart_bools (sym (write_fresh rounds name c its shard number line m_entry next refl (ap (λ (x : Applied). x.catalogue.epoch) is) o.session o.payload o.handles o.address least o.is o.since none) ∙ f_is)))
     by_mark true true s_is f_is is =
-        answered name c its shard number m_entry next (ap (λ (x : Applied). x.catalogue.run) is) (ap (λ (x : Applied). x.catalogue.epoch) is) (ap (λ (x : Applied). x.catalogue.swept) is) (λ from n round. refl) (λ n. refl) line refl told
-        (step_is name c its shard number line m_entry next refl what.Marked told (ap (λ (x : Applied). x.effect.what) is) (ap (λ (x : Op). effect_reply see what.Marked x) o.is))
+        answered rounds name c its shard number m_entry next (ap (λ (x : Applied). x.catalogue.run) is) (ap (λ (x : Applied). x.catalogue.epoch) is) (ap (λ (x : Applied). x.catalogue.swept) is) (λ from n round. refl) (λ n. refl) line refl told
+        (step_is rounds name c its shard number line m_entry next refl what.Marked told (ap (λ (x : Applied). x.effect.what) is) (ap (λ (x : Op). effect_reply see what.Marked x) o.is))
       where
         see : OpView
-        see = v name c its shard number line m_entry next refl
+        see = v rounds name c its shard number line m_entry next refl
 
         told : Reply
         told = written_reply true (next_of (open_in see o.session)) (now_in see)
 
-  pub mark_counts : reports_most (told_at_once shard (kind.Mark line least block a) c) ≤ reports_most c
+  pub mark_counts : reports_most rounds (told_at_once shard (kind.Mark line least block a) c) ≤ reports_most rounds c
   mark_counts = by_mark (mark_op name c.sessions line least block a m_held.waiting.operation.op m_held.asks) (is_stored_at block a (catalogue_of shard c)) (is_fresh least (catalogue_of shard c)) refl refl refl
 
 -- ---- a Root
 
-module _ (name : List ℕ → Address) (c : Core) (its : Stand name c) (shard number line epoch : ℕ) (a : Address) (key : List ℕ) (next : Next c shard number (kind.Root line epoch a key)) where
+module _ (rounds : ℕ) (name : List ℕ → Address) (c : Core) (its : Stand rounds name c) (shard number line epoch : ℕ) (a : Address) (key : List ℕ) (next : Next c shard number (kind.Root line epoch a key)) where
   abbrev r_entry : Entry
   r_entry = kind.Root line epoch a key
 
   abbrev r_held : HasAsked name c shard (front_of shard c + 1 + 0) line (kind.Root line epoch a key)
-  r_held = held name c its shard number line r_entry next refl
+  r_held = held rounds name c its shard number line r_entry next refl
 
   abbrev r_see : OpView
-  r_see = v name c its shard number line r_entry next refl
+  r_see = v rounds name c its shard number line r_entry next refl
 
   r_pending : IsPending name c line r_held.waiting
   r_pending = its.orderly.pending line r_held.waiting r_held.at
@@ -193,13 +193,13 @@ module _ (name : List ℕ → Address) (c : Core) (its : Stand name c) (shard nu
   module _ (o : IsRootOp c.sessions epoch a key r_held.waiting.operation.op) where
     r_mine : (shard_of_key (catalogue_of shard c).shape.shards key == (catalogue_of shard c).shard) ≡ true
     r_mine =
-        (λ i. shard_of_key (shape_here name c its shard number r_entry next i).shards key == shard_here name c its shard number r_entry next i)
+        (λ i. shard_of_key (shape_here rounds name c its shard number r_entry next i).shards key == shard_here rounds name c its shard number r_entry next i)
         ∙ eq-eqb (shard_of_key (shape_of c).shards key) shard (sym (ap (λ (x : Op). judging_shard (shape_of c).shards c.sessions x) o.is) ∙ sym r_pending.judges ∙ r_held.judges)
 
     -- where nothing refuses the root, neither does the catalogue
     r_fresh : (done_by shard r_entry c).catalogue ≡ catalogue_of shard c → refusal_of r_see r_held.waiting.operation.op ≡ None → is_fresh epoch (catalogue_of shard c) ≡ true
     r_fresh same none =
-        (λ i. nat_le (sym (now name c its shard number line r_entry next refl (ap (λ (x : Catalogue). x.epoch) same)) i) (o.since i + 1))
+        (λ i. nat_le (sym (now rounds name c its shard number line r_entry next refl (ap (λ (x : Catalogue). x.epoch) same)) i) (o.since i + 1))
         ∙ root_late r_see o.session key o.handle (ap (λ (x : Op). refusal_of r_see x) (sym o.is) ∙ none)
 
     r_free : (done_by shard r_entry c).catalogue ≡ catalogue_of shard c → refusal_of r_see r_held.waiting.operation.op ≡ None → is_some (root_refusal a key (catalogue_of shard c)) ≡ false
@@ -210,38 +210,38 @@ module _ (name : List ℕ → Address) (c : Core) (its : Stand name c) (shard nu
         roots : r_see.roots ≡ (catalogue_of shard c).roots
         roots = ap (λ k. (catalogue_of k (taken shard r_entry c)).roots) r_held.judges ∙ catalogues_by name shard number r_entry c its.orderly its.placed next.low next.leads (λ (x : Catalogue). x.roots) (ap (λ (x : Catalogue). x.roots) same) shard
 
-    r_refused : done_by shard r_entry c ≡ only what.Refused (catalogue_of shard c) → (refusal_of r_see r_held.waiting.operation.op ≡ None → ⊥) → reports_most (told_at_once shard r_entry c) ≤ reports_most c
+    r_refused : done_by shard r_entry c ≡ only what.Refused (catalogue_of shard c) → (refusal_of r_see r_held.waiting.operation.op ≡ None → ⊥) → reports_most rounds (told_at_once shard r_entry c) ≤ reports_most rounds c
     r_refused is never =
-        kept name c its shard number r_entry next (ap (λ (x : Applied). x.catalogue.run) is) (ap (λ (x : Applied). x.catalogue.epoch) is) (ap (λ (x : Applied). x.catalogue.swept) is) (λ from n round. refl) (λ n. refl) line refl (ap (λ (x : Applied). x.catalogue) is)
-        (refused_cheap name c its shard number line r_entry next refl (ap (λ (x : Applied). x.effect.what) is) never)
+        kept rounds name c its shard number r_entry next (ap (λ (x : Applied). x.catalogue.run) is) (ap (λ (x : Applied). x.catalogue.epoch) is) (ap (λ (x : Applied). x.catalogue.swept) is) (λ from n round. refl) (λ n. refl) line refl (ap (λ (x : Applied). x.catalogue) is)
+        (refused_cheap rounds name c its shard number line r_entry next refl (ap (λ (x : Applied). x.effect.what) is) never)
 
     by_root : (f r : Bool) → is_fresh epoch (catalogue_of shard c) ≡ f → is_some (root_refusal a key (catalogue_of shard c)) ≡ r
-        → done_by shard r_entry c ≡ (if not true then only what.Nothing (catalogue_of shard c) else (if not f || r then only what.Refused (catalogue_of shard c) else r_put)) → reports_most (told_at_once shard r_entry c) ≤ reports_most c
+        → done_by shard r_entry c ≡ (if not true then only what.Nothing (catalogue_of shard c) else (if not f || r then only what.Refused (catalogue_of shard c) else r_put)) → reports_most rounds (told_at_once shard r_entry c) ≤ reports_most rounds c
     by_root false r f_is r_is is = r_refused is (λ none. apart_bools (sym (r_fresh (ap (λ (x : Applied). x.catalogue) is) none) ∙ f_is))
     by_root true true f_is r_is is = r_refused is (λ none. apart_bools (sym r_is ∙ r_free (ap (λ (x : Applied). x.catalogue) is) none))
     by_root true false f_is r_is is =
-        answered name c its shard number r_entry next (ap (λ (x : Applied). x.catalogue.run) is) (ap (λ (x : Applied). x.catalogue.epoch) is) (ap (λ (x : Applied). x.catalogue.swept) is) (λ from n round. refl) (λ n. refl) line refl reply.Ok
-        (step_is name c its shard number line r_entry next refl what.Rooted reply.Ok (ap (λ (x : Applied). x.effect.what) is) refl)
+        answered rounds name c its shard number r_entry next (ap (λ (x : Applied). x.catalogue.run) is) (ap (λ (x : Applied). x.catalogue.epoch) is) (ap (λ (x : Applied). x.catalogue.swept) is) (λ from n round. refl) (λ n. refl) line refl reply.Ok
+        (step_is rounds name c its shard number line r_entry next refl what.Rooted reply.Ok (ap (λ (x : Applied). x.effect.what) is) refl)
 
-    r_done : reports_most (told_at_once shard r_entry c) ≤ reports_most c
+    r_done : reports_most rounds (told_at_once shard r_entry c) ≤ reports_most rounds c
     r_done =
         by_root (is_fresh epoch (catalogue_of shard c)) (is_some (root_refusal a key (catalogue_of shard c))) refl refl
         (λ i. if not (r_mine i) then only what.Nothing (catalogue_of shard c) else (if not (is_fresh epoch (catalogue_of shard c)) || is_some (root_refusal a key (catalogue_of shard c)) then only what.Refused (catalogue_of shard c) else r_put))
 
-  pub root_counts : reports_most (told_at_once shard (kind.Root line epoch a key) c) ≤ reports_most c
+  pub root_counts : reports_most rounds (told_at_once shard (kind.Root line epoch a key) c) ≤ reports_most rounds c
   root_counts = r_done (root_op name c.sessions line epoch a key r_held.waiting.operation.op r_held.asks)
 
 -- ---- a Drop
 
-module _ (name : List ℕ → Address) (c : Core) (its : Stand name c) (shard number line : ℕ) (key : List ℕ) (next : Next c shard number (kind.Drop line key)) where
+module _ (rounds : ℕ) (name : List ℕ → Address) (c : Core) (its : Stand rounds name c) (shard number line : ℕ) (key : List ℕ) (next : Next c shard number (kind.Drop line key)) where
   abbrev d_entry : Entry
   d_entry = kind.Drop line key
 
   abbrev d_held : HasAsked name c shard (front_of shard c + 1 + 0) line (kind.Drop line key)
-  d_held = held name c its shard number line d_entry next refl
+  d_held = held rounds name c its shard number line d_entry next refl
 
   abbrev d_see : OpView
-  d_see = v name c its shard number line d_entry next refl
+  d_see = v rounds name c its shard number line d_entry next refl
 
   abbrev d_dropped : Applied
   d_dropped = only what.Dropped (record (catalogue_of shard c) { roots = without_root key (catalogue_of shard c).epoch (catalogue_of shard c).roots })
@@ -256,19 +256,19 @@ module _ (name : List ℕ → Address) (c : Core) (its : Stand name c) (shard nu
       roots : d_see.roots ≡ (catalogue_of shard c).roots
       roots = ap (λ k. (catalogue_of k (taken shard d_entry c)).roots) d_held.judges ∙ catalogues_by name shard number d_entry c its.orderly its.placed next.low next.leads (λ (x : Catalogue). x.roots) (ap (λ (x : Catalogue). x.roots) same) shard
 
-  by_drop : (n : Bool) → is_none (retained_of key (catalogue_of shard c).roots) ≡ n → done_by shard d_entry c ≡ (if n then only what.Refused (catalogue_of shard c) else d_dropped) → reports_most (told_at_once shard d_entry c) ≤ reports_most c
+  by_drop : (n : Bool) → is_none (retained_of key (catalogue_of shard c).roots) ≡ n → done_by shard d_entry c ≡ (if n then only what.Refused (catalogue_of shard c) else d_dropped) → reports_most rounds (told_at_once shard d_entry c) ≤ reports_most rounds c
   by_drop true n_is is =
-      kept name c its shard number d_entry next (ap (λ (x : Applied). x.catalogue.run) is) (ap (λ (x : Applied). x.catalogue.epoch) is) (ap (λ (x : Applied). x.catalogue.swept) is) (λ from n round. refl) (λ n. refl) line refl (ap (λ (x : Applied). x.catalogue) is)
-      (refused_cheap name c its shard number line d_entry next refl (ap (λ (x : Applied). x.effect.what) is) (λ none. apart_bools (sym n_is ∙ d_kept (ap (λ (x : Applied). x.catalogue) is) none)))
+      kept rounds name c its shard number d_entry next (ap (λ (x : Applied). x.catalogue.run) is) (ap (λ (x : Applied). x.catalogue.epoch) is) (ap (λ (x : Applied). x.catalogue.swept) is) (λ from n round. refl) (λ n. refl) line refl (ap (λ (x : Applied). x.catalogue) is)
+      (refused_cheap rounds name c its shard number line d_entry next refl (ap (λ (x : Applied). x.effect.what) is) (λ none. apart_bools (sym n_is ∙ d_kept (ap (λ (x : Applied). x.catalogue) is) none)))
   by_drop false n_is is =
-      answered name c its shard number d_entry next (ap (λ (x : Applied). x.catalogue.run) is) (ap (λ (x : Applied). x.catalogue.epoch) is) (ap (λ (x : Applied). x.catalogue.swept) is) (λ from n round. refl) (λ n. refl) line refl reply.Ok
-      (step_is name c its shard number line d_entry next refl what.Dropped reply.Ok (ap (λ (x : Applied). x.effect.what) is) refl)
+      answered rounds name c its shard number d_entry next (ap (λ (x : Applied). x.catalogue.run) is) (ap (λ (x : Applied). x.catalogue.epoch) is) (ap (λ (x : Applied). x.catalogue.swept) is) (λ from n round. refl) (λ n. refl) line refl reply.Ok
+      (step_is rounds name c its shard number line d_entry next refl what.Dropped reply.Ok (ap (λ (x : Applied). x.effect.what) is) refl)
 
-  pub drop_counts : reports_most (told_at_once shard (kind.Drop line key) c) ≤ reports_most c
+  pub drop_counts : reports_most rounds (told_at_once shard (kind.Drop line key) c) ≤ reports_most rounds c
   drop_counts = by_drop (is_none (retained_of key (catalogue_of shard c).roots)) refl refl
 
 -- ---- a View
 
-module _ (name : List ℕ → Address) (c : Core) (its : Stand name c) (shard number : ℕ) where
-  pub view_counts : (view : ℕ) → Next c shard number (kind.View view) → reports_most (taken shard (kind.View view) c) ≤ reports_most c
-  view_counts view next = nobody name c its shard number (kind.View view) next refl refl refl (λ from n round. refl) (λ n. refl) (λ line e. cc e) refl
+module _ (rounds : ℕ) (name : List ℕ → Address) (c : Core) (its : Stand rounds name c) (shard number : ℕ) where
+  pub view_counts : (view : ℕ) → Next c shard number (kind.View view) → reports_most rounds (taken shard (kind.View view) c) ≤ reports_most rounds c
+  view_counts view next = nobody rounds name c its shard number (kind.View view) next refl refl refl (λ from n round. refl) (λ n. refl) (λ line e. cc e) refl

@@ -37,28 +37,28 @@ use Rattle.hs_shard.specs.Rounds.{is_due}
 same_le : (x y : ℕ) → x ≡ y → x ≤ y
 same_le x y e = omega (arith, e)
 
-alike_le : (a b : Core) → IsAlike a b → reports_most b ≤ reports_most a
-alike_le a b like = same_le (reports_most b) (reports_most a) (alike_left a b like)
+alike_le : (rounds : ℕ) (a b : Core) → IsAlike a b → reports_most rounds b ≤ reports_most rounds a
+alike_le rounds a b like = same_le (reports_most rounds b) (reports_most rounds a) (alike_left rounds a b like)
 
 then_le : (x y z : ℕ) → x ≤ y → y ≤ z → x ≤ z
 then_le x y z a b = omega (arith, a, b)
 
 -- beside what is counted, before and behind
-event_le : (e : Event) (at : ℕ) (c b : Core) → reports_most b ≤ reports_most (begun e at c) → reports_most (end_event b) ≤ reports_most c
-event_le e at c b le =
-    let first = alike_left c (begun e at c) (alike_begun e at c) in
-    let last = alike_left b (end_event b) (alike_ended b) in
+event_le : (rounds : ℕ) (e : Event) (at : ℕ) (c b : Core) → reports_most rounds b ≤ reports_most rounds (begun e at c) → reports_most rounds (end_event b) ≤ reports_most rounds c
+event_le rounds e at c b le =
+    let first = alike_left rounds c (begun e at c) (alike_begun e at c) in
+    let last = alike_left rounds b (end_event b) (alike_ended b) in
     omega (arith, first, last, le)
 
 -- ---- a delivery
 
-module _ (c : Core) (few : AreFew c) where
+module _ (rounds : ℕ) (c : Core) (few : AreFew rounds c) where
   -- each Round under way is from a shard and to one
   pub low_is : (k from to epoch round total : ℕ) (deltas : List Delta) → message_at k c.pool ≡ Some (message.Round from to epoch round total deltas) → to < (shape_of c).shards
-  low_is k from to epoch round total deltas at = (round_few k from to epoch round total deltas c at few).0
+  low_is k from to epoch round total deltas at = (round_few rounds k from to epoch round total deltas c at few).0
 
   -- of a core with other messages alone
-  deliver_le : (k : ℕ) (m : Message) (x : Core) → IsAlike c x → AreAlone (face x) → message_at k c.pool ≡ Some m → message_at k x.pool ≡ Some m → reports_most (deliver k m x) ≤ reports_most x
+  deliver_le : (k : ℕ) (m : Message) (x : Core) → IsAlike c x → AreAlone (face x) → message_at k c.pool ≡ Some m → message_at k x.pool ≡ Some m → reports_most rounds (deliver k m x) ≤ reports_most rounds x
   deliver_le k (message.Copy shard to view n entry) x like alone at there = let bad : false ≡ true = is_a_round x k (message.Copy shard to view n entry) alone there in absurd (cc bad)
   deliver_le k (message.Have shard from to view sealed) x like alone at there = let bad : false ≡ true = is_a_round x k (message.Have shard from to view sealed) alone there in absurd (cc bad)
   deliver_le k (message.Round from to epoch round total deltas) x like alone at there = go (is_new_round to from epoch round (change_pool (without k) x)) refl
@@ -69,36 +69,36 @@ module _ (c : Core) (few : AreFew c) where
       lift : (j : ℕ) → j < (shape_of c).shards → j < (shape_of x).shards
       lift j low = subst (λ (m : Members). j < m.shape.shards) (sym like.members) low
 
-      here : is_new_round to from epoch round (change_pool (without k) x) ≡ true → reports_most (propose_entry to (kind.Got from epoch round total deltas) (change_pool (without k) x)) ≤ reports_most (change_pool (without k) x)
+      here : is_new_round to from epoch round (change_pool (without k) x) ≡ true → reports_most rounds (propose_entry to (kind.Got from epoch round total deltas) (change_pool (without k) x)) ≤ reports_most rounds (change_pool (without k) x)
       here new =
-          let lows = round_few k from to epoch round total deltas c at few in
-          round_le from to total deltas (record { epoch = epoch; round = round; from = from }) y (taken_out x k alone) (lift from lows.1.0) (lift to lows.0)
+          let lows = round_few rounds k from to epoch round total deltas c at few in
+          round_le rounds from to total deltas (record { epoch = epoch; round = round; from = from }) y (taken_out x k alone) (lift from lows.1.0) (lift to lows.0)
           (due_among from epoch round (catalogue_of to y) (and_parts (is_due (record { epoch = epoch; round = round; from = from }) (catalogue_of to y)) (is_none (body from epoch round (catalogue_of to y).run) && not (list_any (is_got from epoch round) (group_of to y).waiting)) new).0) new
 
-      go : (b : Bool) → is_new_round to from epoch round (change_pool (without k) x) ≡ b → reports_most (change_if b (propose_entry to (kind.Got from epoch round total deltas)) (change_pool (without k) x)) ≤ reports_most x
-      go true new = then_le _ (reports_most y) (reports_most x) (here new) (alike_le x y (alike_without k x))
-      go false old = alike_le x y (alike_without k x)
+      go : (b : Bool) → is_new_round to from epoch round (change_pool (without k) x) ≡ b → reports_most rounds (change_if b (propose_entry to (kind.Got from epoch round total deltas)) (change_pool (without k) x)) ≤ reports_most rounds x
+      go true new = then_le _ (reports_most rounds y) (reports_most rounds x) (here new) (alike_le rounds x y (alike_without k x))
+      go false old = alike_le rounds x y (alike_without k x)
 
-  pub handled_le : (line : ℕ) (place : Place) (peer number : ℕ) (e : Event) (at : ℕ) → IsDone line place c (Handling peer number) e → reports_most (step e at c) ≤ reports_most c
-  handled_le line place peer number e at done = by_handling line place c peer number (λ f. reports_most (step f at c) ≤ reports_most c) each e done
+  pub handled_le : (line : ℕ) (place : Place) (peer number : ℕ) (e : Event) (at : ℕ) → IsDone line place c (Handling peer number) e → reports_most rounds (step e at c) ≤ reports_most rounds c
+  handled_le line place peer number e at done = by_handling line place c peer number (λ f. reports_most rounds (step f at c) ≤ reports_most rounds c) each e done
     where
-      each : (l k : ℕ) (m : Message) → message_at k c.pool ≡ Some m → reports_most (step (event.Deliver l k) at c) ≤ reports_most c
+      each : (l k : ℕ) (m : Message) → message_at k c.pool ≡ Some m → reports_most rounds (step (event.Deliver l k) at c) ≤ reports_most rounds c
       each l k m there =
           let f : Event = event.Deliver l k in
           let x : Core = begun f at c in
-          subst (λ (y : Core). reports_most y ≤ reports_most c) (sym (deliver_is l k at c m done.fitting.going there))
-          (event_le f at c (deliver k m x) (deliver_le k m x (alike_begun f at c) (alone_begun f at c done.fitting.alone) there (begun_at f at k c m there)))
+          subst (λ (y : Core). reports_most rounds y ≤ reports_most rounds c) (sym (deliver_is l k at c m done.fitting.going there))
+          (event_le rounds f at c (deliver k m x) (deliver_le k m x (alike_begun f at c) (alone_begun f at c done.fitting.alone) there (begun_at f at k c m there)))
 
 -- ---- a nudge
 
-pub nudged_le : (line : ℕ) (place : Place) (c : Core) (p : ℕ) (e : Event) (at : ℕ) → IsDone line place c (Nudging p) e → reports_most (step e at c) ≤ reports_most c
-nudged_le line place c p e at done = by_nudging line place c p (λ f. reports_most (step f at c) ≤ reports_most c) each e done
+pub nudged_le : (rounds line : ℕ) (place : Place) (c : Core) (p : ℕ) (e : Event) (at : ℕ) → IsDone line place c (Nudging p) e → reports_most rounds (step e at c) ≤ reports_most rounds c
+nudged_le rounds line place c p e at done = by_nudging line place c p (λ f. reports_most rounds (step f at c) ≤ reports_most rounds c) each e done
   where
-    each : (l q : ℕ) → first (no_peer q c ∷ not_up q c ∷ []) ≡ None → reports_most (step (event.Nudge l q) at c) ≤ reports_most c
+    each : (l q : ℕ) → first (no_peer q c ∷ not_up q c ∷ []) ≡ None → reports_most rounds (step (event.Nudge l q) at c) ≤ reports_most rounds c
     each l q up =
         let f : Event = event.Nudge l q in
         let x : Core = begun f at c in
         let alone : AreAlone (face x) = alone_begun f at c done.fitting.alone in
-        subst (λ (y : Core). reports_most y ≤ reports_most c) (sym (nudge_is l q at c done.fitting.going up))
-        (event_le f at c (nudge_good q x)
-        (by_nudge q x (λ y. reports_most y ≤ reports_most x) alone (λ a b like le. then_le (reports_most b) (reports_most a) (reports_most x) (alike_le a b like) le) (same_le (reports_most x) (reports_most x) refl) (λ s low due. due_le s x alone low due)))
+        subst (λ (y : Core). reports_most rounds y ≤ reports_most rounds c) (sym (nudge_is l q at c done.fitting.going up))
+        (event_le rounds f at c (nudge_good q x)
+        (by_nudge q x (λ y. reports_most rounds y ≤ reports_most rounds x) alone (λ a b like le. then_le (reports_most rounds b) (reports_most rounds a) (reports_most rounds x) (alike_le rounds a b like) le) (same_le (reports_most rounds x) (reports_most rounds x) refl) (λ s low due. due_le rounds s x alone low due)))

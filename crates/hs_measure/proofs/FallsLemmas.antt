@@ -14,11 +14,11 @@ use Rattle.hs_measure.proofs.FallsReport.{report_lowers}
 use Rattle.hs_measure.proofs.FiniteWantedLemmas.{Reported, Wanted}
 use Rattle.hs_measure.specs.Finite.{reports_most}
 
-module _ (name : List ℕ → Address) (line : ℕ) (c : Whole) (place : Place) (peer : ℕ) where
+module _ (rounds : ℕ) (name : List ℕ → Address) (line : ℕ) (c : Whole) (place : Place) (peer : ℕ) where
   -- it is a report of a first job
-  by_event : (e : Event) (at : ℕ) → Reported name line c place peer e at → is_it line c.core (Reporting peer) e ≡ true → reports_most (step e at c.core) < reports_most c.core
+  by_event : (e : Event) (at : ℕ) → Reported rounds name line c place peer e at → is_it line c.core (Reporting peer) e ≡ true → reports_most rounds (step e at c.core) < reports_most rounds c.core
   by_event (event.Line l o) at its it = absurd (cc it)
-  by_event (event.Report p d) at its it = report_lowers name c its.moving its.low p d at (by_answer (is_answer c.core p d) refl it) its.may.may its.going
+  by_event (event.Report p d) at its it = report_lowers rounds name c its.moving its.low p d at (by_answer (is_answer c.core p d) refl it) its.may.may its.going
     where
       by_answer : (b : Bool) → is_answer c.core p d ≡ b → option_map_or (is_same_due (Reporting peer)) (if b then Some (Reporting p) else None) false ≡ true → is_answer c.core p d ≡ true
       by_answer true is k = is
@@ -39,5 +39,5 @@ module _ (name : List ℕ → Address) (line : ℕ) (c : Whole) (place : Place) 
   by_event (event.Fail l p) at its it = absurd (cc it)
   by_event (event.Start l p) at its it = absurd (cc it)
 
-pub wanted : (name : List ℕ → Address) (line : ℕ) → Wanted name line
-wanted name line = record { lowers = λ c place peer e at its. by_event name line c place peer e at its its.done.it }
+pub wanted : (rounds : ℕ) (name : List ℕ → Address) (line : ℕ) → Wanted rounds name line
+wanted rounds name line = record { lowers = λ c place peer e at its. by_event rounds name line c place peer e at its its.done.it }

@@ -38,23 +38,23 @@ module _ (s : ℕ) (entry : Entry) (c : Core) (alone : AreAlone (face c)) (low :
 
 -- ---- all that is counted
 
-module _ (s : ℕ) (entry : Entry) (c : Core) (alone : AreAlone (face c)) (low : s < (shape_of c).shards) (own : is_left_over s c entry ≡ false) where
+module _ (rounds s : ℕ) (entry : Entry) (c : Core) (alone : AreAlone (face c)) (low : s < (shape_of c).shards) (own : is_left_over s c entry ≡ false) where
   -- its jobs are paid by what is new or due no more
-  pub proposed_le : (2 + 2 * cond (is_any_got entry) 1 0) + (4 * slots_of (with_entry s entry c) + 2 * dues_of (with_entry s entry c)) ≤ 4 * slots_of c + 2 * dues_of c → reports_most (propose_entry s entry c) ≤ reports_most c
+  pub proposed_le : (2 + 2 * cond (is_any_got entry) 1 0) + (4 * slots_of (with_entry s entry c) + 2 * dues_of (with_entry s entry c)) ≤ 4 * slots_of c + 2 * dues_of c → reports_most rounds (propose_entry s entry c) ≤ reports_most rounds c
   proposed_le paid =
       let n : Core = with_entry s entry c in
-      let is : reports_most (propose_entry s entry c) ≡ total (shape_of c).shards (jobs_of n) (slots_of n) (gots_of n) (dues_of n) (ways_left n) (length c.operations) (sweeps_to_come c + asks_of c) (rounds_left c) =
-      ap (λ (x : Core). reports_most x) (proposed_is s entry c alone low)
-      ∙ (λ i. total (shape_of c).shards (jobs_of (with_entry s entry c)) (slots_of (with_entry s entry c)) (gots_of (with_entry s entry c)) (dues_of (with_entry s entry c)) (ways_left (with_entry s entry c)) (length c.operations) (sweeps_to_come c + asks_same s entry c alone low own i) (rounds_left c)) in
+      let is : reports_most rounds (propose_entry s entry c) ≡ total (shape_of c).shards (jobs_of n) (slots_of n) (gots_of n) (dues_of n) (ways_left n) (length c.operations) (sweeps_to_come c + asks_of c) (rounds_left rounds c) =
+      ap (λ (x : Core). reports_most rounds x) (proposed_is s entry c alone low)
+      ∙ (λ i. total (shape_of c).shards (jobs_of (with_entry s entry c)) (slots_of (with_entry s entry c)) (gots_of (with_entry s entry c)) (dues_of (with_entry s entry c)) (ways_left (with_entry s entry c)) (length c.operations) (sweeps_to_come c + asks_same s entry c alone low own i) (rounds_left rounds c)) in
       let jobs = jobs_more s entry c alone low in
       let gots = gots_more s entry c alone low in
       let ways = ways_le s entry c alone low in
-      let le = total_le (shape_of c).shards (jobs_of c) (slots_of c) (gots_of c) (dues_of c) (ways_left c) (jobs_of n) (slots_of n) (gots_of n) (dues_of n) (ways_left n) (length c.operations) (sweeps_to_come c + asks_of c) (rounds_left c) (omega (arith, jobs, gots, ways, paid)) in
-      subst (λ x. x ≤ reports_most c) (sym is) le
+      let le = total_le (shape_of c).shards (jobs_of c) (slots_of c) (gots_of c) (dues_of c) (ways_left c) (jobs_of n) (slots_of n) (gots_of n) (dues_of n) (ways_left n) (length c.operations) (sweeps_to_come c + asks_of c) (rounds_left rounds c) (omega (arith, jobs, gots, ways, paid)) in
+      subst (λ x. x ≤ reports_most rounds c) (sym is) le
 
 -- ---- a due Enter
 
-module _ (s : ℕ) (c : Core) (alone : AreAlone (face c)) (low : s < (shape_of c).shards) (due : is_enter_due s c ≡ true) where
+module _ (rounds s : ℕ) (c : Core) (alone : AreAlone (face c)) (low : s < (shape_of c).shards) (due : is_enter_due s c ≡ true) where
   due_no_more : is_enter_due s (with_entry s (kind.Enter 0 ((catalogue_of s c).epoch + 1)) c) ≡ false
   due_no_more =
       ap (λ (es : List Entry). (not (s == 0) && (catalogue_of s c).swept == (catalogue_of s c).epoch) && (has_begun ((catalogue_of s c).epoch + 1) (catalogue_of s c).run && not (list_any (enters ((catalogue_of s c).epoch + 1)) es)))
@@ -72,13 +72,13 @@ module _ (s : ℕ) (c : Core) (alone : AreAlone (face c)) (low : s < (shape_of c
       ap (λ (x : Bool). option_map_or (λ (line : ℕ). not (is_some (operation_of line c))) (if 0 == 0 && x then None else Some 0) false) b.0
 
   -- it is due no more, which pays for its jobs
-  pub due_le : reports_most (propose_entry s (kind.Enter 0 ((catalogue_of s c).epoch + 1)) c) ≤ reports_most c
+  pub due_le : reports_most rounds (propose_entry s (kind.Enter 0 ((catalogue_of s c).epoch + 1)) c) ≤ reports_most rounds c
   due_le =
       let fewer : dues_of (with_entry s (kind.Enter 0 ((catalogue_of s c).epoch + 1)) c) + 1 ≤ dues_of c =
       range_fewer (λ k. is_enter_due k (with_entry s (kind.Enter 0 ((catalogue_of s c).epoch + 1)) c)) (λ k. is_enter_due k c) 0 (shape_of c).shards s (omega arith) (omega (arith, low))
       (λ k l u h. due_still s (kind.Enter 0 ((catalogue_of s c).epoch + 1)) c alone low k h) due_no_more due in
       let news = news_le s (kind.Enter 0 ((catalogue_of s c).epoch + 1)) c alone low in
-      proposed_le s (kind.Enter 0 ((catalogue_of s c).epoch + 1)) c alone low unasked (omega (arith, fewer, news))
+      proposed_le rounds s (kind.Enter 0 ((catalogue_of s c).epoch + 1)) c alone low unasked (omega (arith, fewer, news))
 
 -- ---- a new Round
 
@@ -107,7 +107,7 @@ due_among from epoch round c due = by_open c.run.opened due
         by_epoch true false false p q r k = inr (inr (inl (last k)))
         by_epoch false y z p q r k = inr (inr (inl (last k)))
 
-module _ (from to total_told : ℕ) (deltas : List Delta) (kept : Row) (c : Core) (alone : AreAlone (face c)) (from_low : from < (shape_of c).shards) (low : to < (shape_of c).shards)
+module _ (rounds from to total_told : ℕ) (deltas : List Delta) (kept : Row) (c : Core) (alone : AreAlone (face c)) (from_low : from < (shape_of c).shards) (low : to < (shape_of c).shards)
     (among : Member kept (due_rounds from (catalogue_of to c))) (new : is_new_round to from kept.epoch kept.round c ≡ true) where
   abbrev got : Entry
   got = kind.Got from kept.epoch kept.round total_told deltas
@@ -137,8 +137,8 @@ module _ (from to total_told : ℕ) (deltas : List Delta) (kept : Row) (c : Core
       (omega arith) (omega (arith, from_low)) (λ j l u. new_from_le to got c alone low j) fewer_from
 
   -- it is new no more, which pays for its Got and an Enter behind it
-  pub round_le : reports_most (propose_entry to (kind.Got from kept.epoch kept.round total_told deltas) c) ≤ reports_most c
+  pub round_le : reports_most rounds (propose_entry to (kind.Got from kept.epoch kept.round total_told deltas) c) ≤ reports_most rounds c
   round_le =
       let fewer = fewer_news in
       let dues = dues_le to got c alone low in
-      proposed_le to got c alone low refl (omega (arith, fewer, dues))
+      proposed_le rounds to got c alone low refl (omega (arith, fewer, dues))

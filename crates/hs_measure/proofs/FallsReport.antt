@@ -53,7 +53,7 @@ use Rattle.hs_replica.specs.Group.{committed, on_sealed}
 
 -- ---- a report that answers the first job of a peer
 
-module _ (name : List ℕ → Address) (c : Whole) (moving : IsMoving name c) (low : IsLow c.core) (p : ℕ) (d : Done) (at : ℕ) (fits : is_answered p d c.core ≡ true) where
+module _ (rounds : ℕ) (name : List ℕ → Address) (c : Whole) (moving : IsMoving name c) (low : IsLow rounds c.core) (p : ℕ) (d : Done) (at : ℕ) (fits : is_answered p d c.core ≡ true) where
   abbrev core : Core
   core = c.core
 
@@ -77,7 +77,7 @@ module _ (name : List ℕ → Address) (c : Whole) (moving : IsMoving name c) (l
   placed : IsPlaced c.core
   placed = record { groups = moving.sane.alone.groups; catalogues = low.few.standing.long; some = shape_some (shape_of core) moving.shape }
 
-  stands : Stand name c.core
+  stands : Stand rounds name c.core
   stands = record {
     orderly = moving.orderly;
     placed = placed;
@@ -106,19 +106,19 @@ module _ (name : List ℕ → Address) (c : Whole) (moving : IsMoving name c) (l
         at_most : (m n : ℕ) → m + 1 ≡ n → m + 1 ≤ n
         at_most m n e = omega (arith, e)
 
-    x_fewer : reports_most x + 1 ≤ reports_most c.core
-    x_fewer = beside_fewer core x beside_x fewer
+    x_fewer : reports_most rounds x + 1 ≤ reports_most rounds c.core
+    x_fewer = beside_fewer rounds core x beside_x fewer
 
     x_placed : IsPlaced x
     x_placed = record { groups = placed.groups; catalogues = placed.catalogues; some = placed.some }
 
-    x_stands : Stand name x
-    x_stands = stand_beside name core x beside_x x_placed stands
+    x_stands : Stand rounds name x
+    x_stands = stand_beside rounds name core x beside_x x_placed stands
 
     -- ---- bytes
 
     bytes_fewer : (number : ℕ) (bytes : Option (List ℕ)) → is_read_of number task.job ≡ true → ((w : Waiting) → IsReadFor p number c.core w → IsToldThere number bytes w c.core)
-        → reports_most (tell_bytes task.line number bytes x) ≤ reports_most x
+        → reports_most rounds (tell_bytes task.line number bytes x) ≤ reports_most rounds x
     bytes_fewer number bytes reads may = by_operation (operation_of task.line core) refl
       where
         -- what an operation sees stays
@@ -126,21 +126,21 @@ module _ (name : List ℕ → Address) (c : Whole) (moving : IsMoving name c) (l
         still w there = there
 
         by_reading : (w : Waiting) → operation_of task.line c.core ≡ Some w → (b : Bool) → is_reading number w.wait ≡ b
-            → reports_most (change_if b (λ y. go_on_with (λ v o. bytes_step v bytes (pointers_for w.shard w.operation.op y) o) task.line y) x) ≤ reports_most x
-        by_reading w there false e = same_le (reports_most x)
+            → reports_most rounds (change_if b (λ y. go_on_with (λ v o. bytes_step v bytes (pointers_for w.shard w.operation.op y) o) task.line y) x) ≤ reports_most rounds x
+        by_reading w there false e = same_le (reports_most rounds x)
         by_reading w there true e =
-            told_counts name x x_stands.orderly x_placed task.line number bytes w there (reading_is number w.wait e)
+            told_counts rounds name x x_stands.orderly x_placed task.line number bytes w there (reading_is number w.wait e)
             (still w (may w (record { line = task.line; first = is ∙ ap (λ (j : Job). Some (record { job = j; line = task.line })) (read_is number task.job reads); at = there; waits = reading_is number w.wait e })))
 
         by_operation : (o : Option Waiting) → operation_of task.line c.core ≡ o
-            → reports_most (change_with o (λ w. change_if (is_reading number w.wait) (λ y. go_on_with (λ v o. bytes_step v bytes (pointers_for w.shard w.operation.op y) o) task.line y)) x) ≤ reports_most x
-        by_operation None there = same_le (reports_most x)
+            → reports_most rounds (change_with o (λ w. change_if (is_reading number w.wait) (λ y. go_on_with (λ v o. bytes_step v bytes (pointers_for w.shard w.operation.op y) o) task.line y)) x) ≤ reports_most rounds x
+        by_operation None there = same_le (reports_most rounds x)
         by_operation (Some w) there = by_reading w there (is_reading number w.wait) refl
 
     -- ---- a Seal
 
-    sealed_fewer : (number : ℕ) → d ≡ done.Sealed number → reports_most (take_sealed p number x) + 1 ≤ reports_most c.core
-    sealed_fewer number d_is = subst (λ (b : Core). reports_most b + 1 ≤ reports_most core) (sym (sealed_is p number first alone settled fits_sealed behind)) (by_committed (committed (group_of p y)) refl)
+    sealed_fewer : (number : ℕ) → d ≡ done.Sealed number → reports_most rounds (take_sealed p number x) + 1 ≤ reports_most rounds c.core
+    sealed_fewer number d_is = subst (λ (b : Core). reports_most rounds b + 1 ≤ reports_most rounds core) (sym (sealed_is p number first alone settled fits_sealed behind)) (by_committed (committed (group_of p y)) refl)
       where
         fits_sealed : is_answered p (done.Sealed number) first ≡ true
         fits_sealed = sym (ap (λ (e : Done). is_answered p e core) d_is) ∙ fits
@@ -151,22 +151,22 @@ module _ (name : List ℕ → Address) (c : Whole) (moving : IsMoving name c) (l
         beside_y : IsBeside c.core (change_group p (on_sealed p number) x)
         beside_y = beside_both core x y beside_x (beside_group p (on_sealed p number) x refl refl)
 
-        y_fewer : reports_most (change_group p (on_sealed p number) x) + 1 ≤ reports_most c.core
-        y_fewer = beside_fewer core y beside_y fewer
+        y_fewer : reports_most rounds (change_group p (on_sealed p number) x) + 1 ≤ reports_most rounds c.core
+        y_fewer = beside_fewer rounds core y beside_y fewer
 
         y_placed : IsPlaced (change_group p (on_sealed p number) x)
         y_placed = record { groups = length-set first.groups p (on_sealed p number (group_of p x)) ∙ placed.groups; catalogues = placed.catalogues; some = placed.some }
 
-        y_stands : Stand name (change_group p (on_sealed p number) x)
-        y_stands = stand_beside name core y beside_y y_placed stands
+        y_stands : Stand rounds name (change_group p (on_sealed p number) x)
+        y_stands = stand_beside rounds name core y beside_y y_placed stands
 
-        takes_one : (n : ℕ) (entry : Entry) → committed (group_of p (change_group p (on_sealed p number) x)) ≡ Some (n, entry) → reports_most (take_effect p entry (change_group p (on_sealed p number) x)) ≤ reports_most (change_group p (on_sealed p number) x)
-        takes_one n entry leads = take_counts name y y_stands p n entry (record { low = p_low; leads = leads })
+        takes_one : (n : ℕ) (entry : Entry) → committed (group_of p (change_group p (on_sealed p number) x)) ≡ Some (n, entry) → reports_most rounds (take_effect p entry (change_group p (on_sealed p number) x)) ≤ reports_most rounds (change_group p (on_sealed p number) x)
+        takes_one n entry leads = take_counts rounds name y y_stands p n entry (record { low = p_low; leads = leads })
 
         by_committed : (o : Option (ℕ × Entry)) → committed (group_of p (change_group p (on_sealed p number) x)) ≡ o
-            → reports_most (change_with o (λ (e : ℕ × Entry). take_effect p e.1) (change_group p (on_sealed p number) x)) + 1 ≤ reports_most c.core
+            → reports_most rounds (change_with o (λ (e : ℕ × Entry). take_effect p e.1) (change_group p (on_sealed p number) x)) + 1 ≤ reports_most rounds c.core
         by_committed None leads = y_fewer
-        by_committed (Some e) leads = less_then (reports_most (take_effect p e.1 y)) (reports_most y) (reports_most core) (takes_one e.0 e.1 leads) y_fewer
+        by_committed (Some e) leads = less_then (reports_most rounds (take_effect p e.1 y)) (reports_most rounds y) (reports_most rounds core) (takes_one e.0 e.1 leads) y_fewer
 
   -- ---- a disk fails
 
@@ -186,46 +186,46 @@ module _ (name : List ℕ → Address) (c : Whole) (moving : IsMoving name c) (l
 
   -- ---- what is left behind it
 
-  lowered : (r : Core) → on_report p d first ≡ r → reports_most r + 1 ≤ reports_most c.core → reports_most (step (event.Report p d) at c.core) < reports_most c.core
+  lowered : (r : Core) → on_report p d first ≡ r → reports_most rounds r + 1 ≤ reports_most rounds c.core → reports_most rounds (step (event.Report p d) at c.core) < reports_most rounds c.core
   lowered r is less =
-      let end : reports_most (step (event.Report p d) at core) ≡ reports_most (on_report p d first) =
-      ap (λ (y : Core). reports_most y) (step_is (event.Report p d) at core moving.sane.going) ∙ alike_left (on_report p d first) (end_event (on_report p d first)) (alike_ended (on_report p d first)) in
-      below (reports_most (step (event.Report p d) at core)) (reports_most r) (reports_most core) (end ∙ ap (λ (y : Core). reports_most y) is) less
+      let end : reports_most rounds (step (event.Report p d) at core) ≡ reports_most rounds (on_report p d first) =
+      ap (λ (y : Core). reports_most rounds y) (step_is (event.Report p d) at core moving.sane.going) ∙ alike_left rounds (on_report p d first) (end_event (on_report p d first)) (alike_ended (on_report p d first)) in
+      below (reports_most rounds (step (event.Report p d) at core)) (reports_most rounds r) (reports_most rounds core) (end ∙ ap (λ (y : Core). reports_most rounds y) is) less
     where
       below : (x y z : ℕ) → x ≡ y → y + 1 ≤ z → x < z
       below x y z e h = omega (arith, e, h)
 
 -- ---- by its kind
 
-module _ (name : List ℕ → Address) (c : Whole) (moving : IsMoving name c) (low : IsLow c.core) (p : ℕ) where
+module _ (rounds : ℕ) (name : List ℕ → Address) (c : Whole) (moving : IsMoving name c) (low : IsLow rounds c.core) (p : ℕ) where
   abbrev Lowers : Done → ℕ → Type 0
-  Lowers d at = reports_most (step (event.Report p d) at c.core) < reports_most c.core
+  Lowers d at = reports_most rounds (step (event.Report p d) at c.core) < reports_most rounds c.core
 
   -- with the job that it answers
   by_kind : (d : Done) (at : ℕ) → is_answered p d c.core ≡ true → MayReport IsToldThere p d c.core → (step (event.Report p d) at c.core).ended ≡ None → (task : Task) → first_task p c.core ≡ Some task → answers p task.job d ≡ true → Lowers d at
   by_kind (done.Stored number) at fits may going task is answers_it =
-      lowered name c moving low p (done.Stored number) at fits (x name c moving low p (done.Stored number) at fits task is answers_it)
-      (report_is p (done.Stored number) (begun (event.Report p (done.Stored number)) at c.core) task is answers_it) (x_fewer name c moving low p (done.Stored number) at fits task is answers_it)
+      lowered rounds name c moving low p (done.Stored number) at fits (x rounds name c moving low p (done.Stored number) at fits task is answers_it)
+      (report_is p (done.Stored number) (begun (event.Report p (done.Stored number)) at c.core) task is answers_it) (x_fewer rounds name c moving low p (done.Stored number) at fits task is answers_it)
   by_kind (done.Sealed number) at fits may going task is answers_it =
-      lowered name c moving low p (done.Sealed number) at fits (take_sealed p number (x name c moving low p (done.Sealed number) at fits task is answers_it))
-      (report_is p (done.Sealed number) (begun (event.Report p (done.Sealed number)) at c.core) task is answers_it) (sealed_fewer name c moving low p (done.Sealed number) at fits task is answers_it number refl)
+      lowered rounds name c moving low p (done.Sealed number) at fits (take_sealed p number (x rounds name c moving low p (done.Sealed number) at fits task is answers_it))
+      (report_is p (done.Sealed number) (begun (event.Report p (done.Sealed number)) at c.core) task is answers_it) (sealed_fewer rounds name c moving low p (done.Sealed number) at fits task is answers_it number refl)
   by_kind (done.Bytes number bytes) at fits may going task is answers_it =
-      let after : Core = x name c moving low p (done.Bytes number bytes) at fits task is answers_it in
-      lowered name c moving low p (done.Bytes number bytes) at fits (tell_bytes task.line number (Some bytes) after)
+      let after : Core = x rounds name c moving low p (done.Bytes number bytes) at fits task is answers_it in
+      lowered rounds name c moving low p (done.Bytes number bytes) at fits (tell_bytes task.line number (Some bytes) after)
       (report_is p (done.Bytes number bytes) (begun (event.Report p (done.Bytes number bytes)) at c.core) task is answers_it)
-      (less_then (reports_most (tell_bytes task.line number (Some bytes) after)) (reports_most after) (reports_most c.core) (bytes_fewer name c moving low p (done.Bytes number bytes) at fits task is answers_it number (Some bytes) answers_it may)
-      (x_fewer name c moving low p (done.Bytes number bytes) at fits task is answers_it))
+      (less_then (reports_most rounds (tell_bytes task.line number (Some bytes) after)) (reports_most rounds after) (reports_most rounds c.core) (bytes_fewer rounds name c moving low p (done.Bytes number bytes) at fits task is answers_it number (Some bytes) answers_it may)
+      (x_fewer rounds name c moving low p (done.Bytes number bytes) at fits task is answers_it))
   by_kind (done.Gone number) at fits may going task is answers_it =
-      let after : Core = x name c moving low p (done.Gone number) at fits task is answers_it in
-      lowered name c moving low p (done.Gone number) at fits (tell_bytes task.line number None after)
+      let after : Core = x rounds name c moving low p (done.Gone number) at fits task is answers_it in
+      lowered rounds name c moving low p (done.Gone number) at fits (tell_bytes task.line number None after)
       (report_is p (done.Gone number) (begun (event.Report p (done.Gone number)) at c.core) task is answers_it)
-      (less_then (reports_most (tell_bytes task.line number None after)) (reports_most after) (reports_most c.core) (bytes_fewer name c moving low p (done.Gone number) at fits task is answers_it number None answers_it may)
-      (x_fewer name c moving low p (done.Gone number) at fits task is answers_it))
+      (less_then (reports_most rounds (tell_bytes task.line number None after)) (reports_most rounds after) (reports_most rounds c.core) (bytes_fewer rounds name c moving low p (done.Gone number) at fits task is answers_it number None answers_it may)
+      (x_fewer rounds name c moving low p (done.Gone number) at fits task is answers_it))
   by_kind done.Emptied at fits may going task is answers_it = absurd (reports p done.Emptied c.core moving.sane.alone moving.sane.settled fits)
   by_kind (done.Copied number) at fits may going task is answers_it = absurd (reports p (done.Copied number) c.core moving.sane.alone moving.sane.settled fits)
   by_kind (done.Stepped switched) at fits may going task is answers_it = absurd (reports p (done.Stepped switched) c.core moving.sane.alone moving.sane.settled fits)
   by_kind (done.Failed disk) at fits may going task is answers_it =
-      absurd (fallen name c moving low p (done.Failed disk) at fits
+      absurd (fallen rounds name c moving low p (done.Failed disk) at fits
       (reports p (done.Failed disk) (begun (event.Report p (done.Failed disk)) at c.core) (alone_begun (event.Report p (done.Failed disk)) at c.core moving.sane.alone) moving.sane.settled fits) going)
 
   pub report_lowers : (d : Done) (at : ℕ) → is_answered p d c.core ≡ true → MayReport IsToldThere p d c.core → (step (event.Report p d) at c.core).ended ≡ None → Lowers d at

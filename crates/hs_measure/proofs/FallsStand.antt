@@ -30,24 +30,24 @@ use Rattle.hs_shard.specs.Facts.{Catalogue}
 
 -- ---- a core of a run
 
-pub record Stand (name : List ℕ → Address) (c : Core) : Type 0 where
+pub record Stand (rounds : ℕ) (name : List ℕ → Address) (c : Core) : Type 0 where
   pub orderly : IsOrderly name c
   pub placed : IsPlaced c
   pub owned : AreOwned c
   pub holds : HoldAddresses c.sessions
   pub limits : IsLimits c.limits
   pub epochs : HaveEpochs c
-  pub few : AreFew c
+  pub few : AreFew rounds c
 
 -- whose entry is the next of its shard
 pub record Next (c : Core) (shard number : ℕ) (entry : Entry) : Type 0 where
   pub low : shard < (shape_of c).shards
   pub leads : committed (group_of shard c) ≡ Some (number, entry)
 
-module _ (name : List ℕ → Address) (c : Core) (its : Stand name c) (shard number : ℕ) (entry : Entry) (next : Next c shard number entry) where
+module _ (rounds : ℕ) (name : List ℕ → Address) (c : Core) (its : Stand rounds name c) (shard number : ℕ) (entry : Entry) (next : Next c shard number entry) where
   -- ---- the shard
 
-  pub here_stands : IsOfShard (shape_of c) shard (most_rounds (shape_of c).shards) (catalogue_of shard c)
+  pub here_stands : IsOfShard (shape_of c) shard (most_rounds rounds (shape_of c).shards) (catalogue_of shard c)
   here_stands = its.few.standing.each shard next.low
 
   pub shape_here : (catalogue_of shard c).shape ≡ shape_of c
@@ -63,12 +63,12 @@ module _ (name : List ℕ → Address) (c : Core) (its : Stand name c) (shard nu
   pub swept_low : (catalogue_of shard c).swept ≤ (catalogue_of shard c).epoch
   swept_low = by_open (catalogue_of shard c).run.opened here_stands.phase
     where
-      by_open : (o : Option (ℕ × ℕ)) → IsPhase (most_rounds (shape_of c).shards) (catalogue_of shard c).epoch (catalogue_of shard c).swept o → (catalogue_of shard c).swept ≤ (catalogue_of shard c).epoch
+      by_open : (o : Option (ℕ × ℕ)) → IsPhase (most_rounds rounds (shape_of c).shards) (catalogue_of shard c).epoch (catalogue_of shard c).swept o → (catalogue_of shard c).swept ≤ (catalogue_of shard c).epoch
       by_open None is = omega (arith, is)
       by_open (Some at) is = let below = is.1.0 in omega (arith, below)
 
   -- it waited, so that it may come
-  pub came : FewEntry (shape_of c).shards (most_in (shape_of c)) (finds_in (shape_of c) c.catalogues) entry
+  pub came : FewEntry (shape_of c).shards (most_in rounds (shape_of c)) (finds_in (shape_of c) c.catalogues) entry
   came = its.few.waiting shard 0 entry (first_waits name shard number entry c its.orderly its.placed next.low next.leads)
 
   pub enter_low : (line epoch : ℕ) → entry ≡ kind.Enter line epoch → epoch ≤ LAST_EPOCH
@@ -78,7 +78,7 @@ module _ (name : List ℕ → Address) (c : Core) (its : Stand name c) (shard nu
       there l is = first_waits name shard number entry c its.orderly its.placed next.low next.leads ∙ ap (λ (x : Entry). Some x) (sym is)
 
       by_line : (l : ℕ) → kind.Enter l epoch ≡ entry → epoch ≤ LAST_EPOCH
-      by_line zero is = subst (λ (x : Entry). FewEntry (shape_of c).shards (most_in (shape_of c)) (finds_in (shape_of c) c.catalogues) x) (sym is) came refl
+      by_line zero is = subst (λ (x : Entry). FewEntry (shape_of c).shards (most_in rounds (shape_of c)) (finds_in (shape_of c) c.catalogues) x) (sym is) came refl
       by_line (suc l) is = let within = its.epochs shard 0 (suc l) epoch (there (suc l) is) (omega arith) in let most = its.limits.epochs in below epoch c.limits.epochs LAST_EPOCH within most
         where
           below : (x y z : ℕ) → x ≤ y → y ≤ z → x ≤ z
@@ -86,23 +86,23 @@ module _ (name : List ℕ → Address) (c : Core) (its : Stand name c) (shard nu
 
   -- what its catalogue is behind it, while others may find as much
   abbrev pub beside_it : ℕ → ℕ
-  beside_it = others (shape_of c) c.catalogues its.few.standing shard next.low
+  beside_it = others rounds (shape_of c) c.catalogues its.few.standing shard next.low
 
-  abbrev pub room_here : (epoch : ℕ) → (most_blocks + 2) + beside_it epoch ≤ most_in (shape_of c)
-  room_here = wide (shape_of c) c.catalogues its.few.standing shard next.low
+  abbrev pub room_here : (epoch : ℕ) → (most_blocks + 2) + beside_it epoch ≤ most_in rounds (shape_of c)
+  room_here = wide rounds (shape_of c) c.catalogues its.few.standing shard next.low
 
-  pub behind : After (shape_of c) shard (most_in (shape_of c)) beside_it room_here (catalogue_of shard c) (done_by shard entry c)
-  behind = after shard number entry c next.low next.leads its.few came enter_low
+  pub behind : After (shape_of c) shard (most_in rounds (shape_of c)) beside_it room_here (catalogue_of shard c) (done_by shard entry c)
+  behind = after rounds shard number entry c next.low next.leads its.few came enter_low
 
-  pub so_far : Good (shape_of c) shard (most_in (shape_of c)) beside_it room_here (only what.Nothing (catalogue_of shard c))
-  so_far = good (shape_of c) c.catalogues its.few.standing shard next.low
+  pub so_far : Good (shape_of c) shard (most_in rounds (shape_of c)) beside_it room_here (only what.Nothing (catalogue_of shard c))
+  so_far = good rounds (shape_of c) c.catalogues its.few.standing shard next.low
 
-  pub brings_here : Brings (most_in (shape_of c)) (all_finds (shape_of c) shard (most_in (shape_of c)) beside_it room_here (catalogue_of shard c)) entry
-  brings_here = brings (shape_of c) c.catalogues its.few.standing shard next.low entry came enter_low
+  pub brings_here : Brings (most_in rounds (shape_of c)) (all_finds (shape_of c) shard (most_in rounds (shape_of c)) beside_it room_here (catalogue_of shard c)) entry
+  brings_here = brings rounds (shape_of c) c.catalogues its.few.standing shard next.low entry came enter_low
 
   -- what it leaves of steps
-  pub steps_then : rounds_left (taken shard entry c) ≤ rounds_left c
-  steps_then = deletion_then name shard number entry c its.orderly its.placed next.low next.leads behind.steps
+  pub steps_then : rounds_left rounds (taken shard entry c) ≤ rounds_left rounds c
+  steps_then = deletion_then rounds name shard number entry c its.orderly its.placed next.low next.leads behind.steps
 
   pub swept_then : (k : ℕ) → (catalogue_of k c).swept ≤ (catalogue_of k (taken shard entry c)).swept
   swept_then k = by_shard (one_or_other k shard)

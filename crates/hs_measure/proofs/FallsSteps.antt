@@ -62,7 +62,7 @@ module _ (a b : Core) (shard : ℕ) (entry : Entry) (adds : Adds a b shard entry
           new_less (catalogue_of to a) (group_of to a).waiting (group_of to b).waiting from kept.epoch kept.round (any_kept (is_got from kept.epoch kept.round) to)
           (subst (λ (c : Catalogue). new_by c (group_of to b).waiting from kept.epoch kept.round ≡ true) (adds.catalogue to) h)
 
-module _ (name : List ℕ → Address) (c : Core) (its : IsOrderly name c) (line : ℕ) (u : Waiting) (at : operation_of line c ≡ Some u) where
+module _ (rounds : ℕ) (name : List ℕ → Address) (c : Core) (its : IsOrderly name c) (line : ℕ) (u : Waiting) (at : operation_of line c ≡ Some u) where
   abbrev rest : List (ℕ × Waiting)
   rest = remove_entry (is_at (nat_cmp line)) c.operations
 
@@ -85,15 +85,15 @@ module _ (name : List ℕ → Address) (c : Core) (its : IsOrderly name c) (line
     sweeps_fewer : sweeps_to_come (answer line w r c) ≤ sweeps_to_come c
     sweeps_fewer = sweeps_le c (answer line w r c) refl (λ k. le_same (catalogue_of k c).swept)
 
-    pub answered_counts : reports_most (answer line w r c) + way_left c u ≤ reports_most c + 0
+    pub answered_counts : reports_most rounds (answer line w r c) + way_left c u ≤ reports_most rounds c + 0
     answered_counts =
-        account (jobs_of c) (slots_of c) (gots_of c) (dues_of c) (ways_left c) (length c.operations * (sweeps_to_come c + asks_of c)) (factor * rounds_left c)
-        (jobs_of c) (slots_of c) (gots_of c) (dues_of c) (sum_by (λ (e : ℕ × Waiting). way_left c e.1) rest) (length rest * (sweeps_to_come done + asks_of done)) (factor * rounds_left done) (way_left c u) 0 0
+        account (jobs_of c) (slots_of c) (gots_of c) (dues_of c) (ways_left c) (length c.operations * (sweeps_to_come c + asks_of c)) (factor * rounds_left rounds c)
+        (jobs_of c) (slots_of c) (gots_of c) (dues_of c) (sum_by (λ (e : ℕ × Waiting). way_left c e.1) rest) (length rest * (sweeps_to_come done + asks_of done)) (factor * rounds_left rounds done) (way_left c u) 0 0
         (no_more (jobs_of c)) (le_same (slots_of c)) (le_same (gots_of c)) (le_same (dues_of c))
         (ways (sum_by (λ (e : ℕ × Waiting). way_left c e.1) rest) (way_left c u) (ways_left c) (sum_removed (λ (x : Waiting). way_left c x) line c.operations u at))
         (product_less (length rest) (length c.operations) (sweeps_to_come done + asks_of done) (sweeps_to_come c + asks_of c) (fewer (length rest) (length c.operations) (length_removed line c.operations u at))
         (both_fewer (sweeps_to_come done) (sweeps_to_come c) (asks_of done) (asks_of c) sweeps_fewer (fewer (asks_of done) (asks_of c) asks_fewer)))
-        (le_same (factor * rounds_left c))
+        (le_same (factor * rounds_left rounds c))
       where
         no_more : (n : ℕ) → n ≤ n + 0
         no_more n = omega arith
@@ -137,20 +137,20 @@ module _ (name : List ℕ → Address) (c : Core) (its : IsOrderly name c) (line
         sums : (x s bu all bw rb rc cu wc : ℕ) → x ≡ s → s + bu ≡ all + bw → rb + bu ≡ all → rc + cu ≡ wc → rb ≤ rc → x + cu ≤ wc + bw
         sums x s bu all bw rb rc cu wc e f g h l = omega (arith, e, f, g, h, l)
 
-    deletion_same : factor * rounds_left b ≤ factor * rounds_left c
+    deletion_same : factor * rounds_left rounds b ≤ factor * rounds_left rounds c
     deletion_same =
-        mul_le factor (rounds_left c) (rounds_left b)
-        (deletion_le c b adds.shape (λ k. as_much (steps_of (most_rounds (shape_of c).shards) (catalogue_of k b)) (steps_of (most_rounds (shape_of c).shards) (catalogue_of k c)) (ap (λ (x : Catalogue). steps_of (most_rounds (shape_of c).shards) x) (adds.catalogue k))))
+        mul_le factor (rounds_left rounds c) (rounds_left rounds b)
+        (deletion_le rounds c b adds.shape (λ k. as_much (steps_of (most_rounds rounds (shape_of c).shards) (catalogue_of k b)) (steps_of (most_rounds rounds (shape_of c).shards) (catalogue_of k c)) (ap (λ (x : Catalogue). steps_of (most_rounds rounds (shape_of c).shards) x) (adds.catalogue k))))
       where
         as_much : (x y : ℕ) → x ≡ y → x ≤ y
         as_much x y e = omega (arith, e)
 
-    pub set_counts : (most : ℕ) → way_left b w + jobs ≤ most → reports_most b + way_left c u ≤ reports_most c + most
+    pub set_counts : (most : ℕ) → way_left b w + jobs ≤ most → reports_most rounds b + way_left c u ≤ reports_most rounds c + most
     set_counts most few =
-        subst (λ n. (((jobs_of b + 4 * slots_of b) + (2 * gots_of b + 2 * dues_of b)) + ((ways_left b + 3 * (length b.operations * (sweeps_to_come b + asks_of b))) + (16 * n + 2) * rounds_left b)) + way_left c u ≤ reports_most c + most)
+        subst (λ n. (((jobs_of b + 4 * slots_of b) + (2 * gots_of b + 2 * dues_of b)) + ((ways_left b + 3 * (length b.operations * (sweeps_to_come b + asks_of b))) + (16 * n + 2) * rounds_left rounds b)) + way_left c u ≤ reports_most rounds c + most)
         (ap (λ (s : Shape). s.shards) (sym adds.shape))
-        (account (jobs_of c) (slots_of c) (gots_of c) (dues_of c) (ways_left c) (length c.operations * (sweeps_to_come c + asks_of c)) (factor * rounds_left c)
-        (jobs_of b) (slots_of b) (gots_of b) (dues_of b) (ways_left b) (length b.operations * (sweeps_to_come b + asks_of b)) (factor * rounds_left b) (way_left c u) most jobs
+        (account (jobs_of c) (slots_of c) (gots_of c) (dues_of c) (ways_left c) (length c.operations * (sweeps_to_come c + asks_of c)) (factor * rounds_left rounds c)
+        (jobs_of b) (slots_of b) (gots_of b) (dues_of b) (ways_left b) (length b.operations * (sweeps_to_come b + asks_of b)) (factor * rounds_left rounds b) (way_left c u) most jobs
         more (adds_news c b shard entry adds) (as_much (gots_of b) (gots_of c) lists.1) (adds_dues c b shard entry adds)
         (sums (ways_left b) (way_left c u) jobs (ways_left c) (way_left b w) most ways_then few) product_same deletion_same)
       where
@@ -174,7 +174,7 @@ module _ (name : List ℕ → Address) (c : Core) (its : IsOrderly name c) (line
   no_lists : (b : Core) → Adds c b 0 (kind.View 0) → (in_lists is_own b ≡ in_lists is_own c) × (gots_of b ≡ gots_of c)
   no_lists b adds = (adds_lists c b 0 (kind.View 0) adds is_own refl, adds_lists c b 0 (kind.View 0) adds (λ k. is_any_got) refl)
 
-  proposes : (entry : Entry) → IsOrderly name (take_step line u (step.Propose entry) c) → IsApt c u (step.Propose entry) → u.shard < length c.groups → reports_most (take_step line u (step.Propose entry) c) + way_left c u ≤ reports_most c + 2
+  proposes : (entry : Entry) → IsOrderly name (take_step line u (step.Propose entry) c) → IsApt c u (step.Propose entry) → u.shard < length c.groups → reports_most rounds (take_step line u (step.Propose entry) c) + way_left c u ≤ reports_most rounds c + 2
   proposes entry order apt low = set_counts after w u.shard entry 2 adds lists operations order jobs 2 few
     where
       w : Waiting
@@ -210,7 +210,7 @@ module _ (name : List ℕ → Address) (c : Core) (its : IsOrderly name c) (line
       few = let e = way in omega (arith, e)
 
   compares : (number : ℕ) (lead : Option ℕ) (w : Waiting) → w ≡ record u { operation = after_step (step.Compare number) u.operation; wait = wait.Bytes number } → IsOrderly name (change_with lead (add_read number line) (put_operation line w c))
-      → is_there_for (catalogue_of u.shard c) number u.operation.op ≡ true → reports_most (change_with lead (add_read number line) (put_operation line w c)) + way_left c u ≤ reports_most c + 3
+      → is_there_for (catalogue_of u.shard c) number u.operation.op ≡ true → reports_most rounds (change_with lead (add_read number line) (put_operation line w c)) + way_left c u ≤ reports_most rounds c + 3
   compares number None w is order there =
       let b : Core = put_operation line w c in
       let adds : Adds c b 0 (kind.View 0) = still b refl (λ k. refl) (λ k. refl) in
@@ -235,7 +235,7 @@ module _ (name : List ℕ → Address) (c : Core) (its : IsOrderly name c) (line
           ∙ ap (λ (x : Catalogue). if is_there_for x number u.operation.op then 2 else 3) e
           ∙ ap (λ (t : Bool). if t then 2 else 3) there
 
-  waits_on : IsOrderly name (take_step line u step.Wait c) → reports_most (take_step line u step.Wait c) + way_left c u ≤ reports_most c + 3
+  waits_on : IsOrderly name (take_step line u step.Wait c) → reports_most rounds (take_step line u step.Wait c) + way_left c u ≤ reports_most rounds c + 3
   waits_on order =
       let b : Core = take_step line u step.Wait c in
       let w : Waiting = record u { operation = after_step step.Wait u.operation; wait = what_holds (record u { operation = after_step step.Wait u.operation }) c } in
@@ -249,7 +249,7 @@ module _ (name : List ℕ → Address) (c : Core) (its : IsOrderly name c) (line
       most : (n : ℕ) → n ≤ 3 → n + 0 ≤ 3
       most n h = omega (arith, h)
 
-  pub stepped : (s : OpStep) → IsOrderly name (take_step line u s c) → IsApt c u s → u.shard < length c.groups → reports_most (take_step line u s c) + way_left c u ≤ reports_most c + cost s
+  pub stepped : (s : OpStep) → IsOrderly name (take_step line u s c) → IsApt c u s → u.shard < length c.groups → reports_most rounds (take_step line u s c) + way_left c u ≤ reports_most rounds c + cost s
   stepped (step.Answer r) order apt low = answered_counts (record u { operation = after_step (step.Answer r) u.operation }) r order
   stepped (step.Propose entry) order apt low = proposes entry order apt low
   stepped (step.Compare number) order apt low = compares number (lead_of u.shard c) (record u { operation = after_step (step.Compare number) u.operation; wait = wait.Bytes number }) refl order apt

@@ -38,7 +38,7 @@ use Rattle.hs_shard.specs.Facts.{Catalogue}
 
 -- ---- a due Enter is proposed
 
-module _ (name : List ℕ → Address) (c : Core) (placed : IsPlaced c) (shard : ℕ) (low : shard < (shape_of c).shards) (due : is_enter_due shard c ≡ true) where
+module _ (rounds : ℕ) (name : List ℕ → Address) (c : Core) (placed : IsPlaced c) (shard : ℕ) (low : shard < (shape_of c).shards) (due : is_enter_due shard c ≡ true) where
   abbrev entry : Entry
   entry = kind.Enter 0 ((catalogue_of shard c).epoch + 1)
 
@@ -83,43 +83,43 @@ module _ (name : List ℕ → Address) (c : Core) (placed : IsPlaced c) (shard :
       (sweeps_le c later adds.shape (λ k. as_much (catalogue_of k c).swept (catalogue_of k later).swept (sym (ap (λ (x : Catalogue). x.swept) (adds.catalogue k)))))
       (as_much (asks_of later) (asks_of c) asks_same))
 
-  deletion_same : (16 * (shape_of c).shards + 2) * rounds_left later ≤ (16 * (shape_of c).shards + 2) * rounds_left c
+  deletion_same : (16 * (shape_of c).shards + 2) * rounds_left rounds later ≤ (16 * (shape_of c).shards + 2) * rounds_left rounds c
   deletion_same =
-      mul_le (16 * (shape_of c).shards + 2) (rounds_left c) (rounds_left later)
-      (deletion_le c later adds.shape (λ k. as_much (steps_of (most_rounds (shape_of c).shards) (catalogue_of k later)) (steps_of (most_rounds (shape_of c).shards) (catalogue_of k c)) (ap (λ (x : Catalogue). steps_of (most_rounds (shape_of c).shards) x) (adds.catalogue k))))
+      mul_le (16 * (shape_of c).shards + 2) (rounds_left rounds c) (rounds_left rounds later)
+      (deletion_le rounds c later adds.shape (λ k. as_much (steps_of (most_rounds rounds (shape_of c).shards) (catalogue_of k later)) (steps_of (most_rounds rounds (shape_of c).shards) (catalogue_of k c)) (ap (λ (x : Catalogue). steps_of (most_rounds rounds (shape_of c).shards) x) (adds.catalogue k))))
 
-  pub due_counts : reports_most (propose_entry shard (kind.Enter 0 ((catalogue_of shard c).epoch + 1)) c) ≤ reports_most c
+  pub due_counts : reports_most rounds (propose_entry shard (kind.Enter 0 ((catalogue_of shard c).epoch + 1)) c) ≤ reports_most rounds c
   due_counts =
-      subst (λ n. ((jobs_of later + 4 * slots_of later) + (2 * gots_of later + 2 * dues_of later)) + ((ways_left later + 3 * (length later.operations * (sweeps_to_come later + asks_of later))) + (16 * n + 2) * rounds_left later) ≤ reports_most c)
+      subst (λ n. ((jobs_of later + 4 * slots_of later) + (2 * gots_of later + 2 * dues_of later)) + ((ways_left later + 3 * (length later.operations * (sweeps_to_come later + asks_of later))) + (16 * n + 2) * rounds_left rounds later) ≤ reports_most rounds c)
       (ap (λ (s : Shape). s.shards) (sym adds.shape))
-      (account_due (jobs_of c) (slots_of c) (gots_of c) (dues_of c) (ways_left c) (length c.operations * (sweeps_to_come c + asks_of c)) ((16 * (shape_of c).shards + 2) * rounds_left c)
-      (jobs_of later) (slots_of later) (gots_of later) (dues_of later) (ways_left later) (length later.operations * (sweeps_to_come later + asks_of later)) ((16 * (shape_of c).shards + 2) * rounds_left later)
+      (account_due (jobs_of c) (slots_of c) (gots_of c) (dues_of c) (ways_left c) (length c.operations * (sweeps_to_come c + asks_of c)) ((16 * (shape_of c).shards + 2) * rounds_left rounds c)
+      (jobs_of later) (slots_of later) (gots_of later) (dues_of later) (ways_left later) (length later.operations * (sweeps_to_come later + asks_of later)) ((16 * (shape_of c).shards + 2) * rounds_left rounds later)
       (proposed_jobs shard entry c) (adds_news c later shard entry adds) (as_much (gots_of later) (gots_of c) (adds_lists c later shard entry adds (λ k. is_any_got) refl)) fewer ways_less product_same deletion_same)
 
 -- ---- an entry takes effect
 
-most_pays : (name : List ℕ → Address) → Pays name reports_most
-most_pays name = record {
-  stepped = λ c its line u at s order apt low. stepped name c its line u at s order apt low;
-  viewed = λ shard c. as_much (reports_most (set_viewed shard true c)) (reports_most c) refl;
-  due = λ c placed shard low due. due_counts name c placed shard low due;
+most_pays : (rounds : ℕ) (name : List ℕ → Address) → Pays name (reports_most rounds)
+most_pays rounds name = record {
+  stepped = λ c its line u at s order apt low. stepped rounds name c its line u at s order apt low;
+  viewed = λ shard c. as_much (reports_most rounds (set_viewed shard true c)) (reports_most rounds c) refl;
+  due = λ c placed shard low due. due_counts rounds name c placed shard low due;
 }
 
-module _ (name : List ℕ → Address) (c : Core) (its : Stand name c) where
+module _ (rounds : ℕ) (name : List ℕ → Address) (c : Core) (its : Stand rounds name c) where
   -- what is told at once, by its kind
-  at_once : (shard number : ℕ) (entry : Entry) → Next c shard number entry → reports_most (told_at_once shard entry c) ≤ reports_most c
-  at_once shard number (kind.View view) next = view_counts name c its shard number view next
-  at_once shard number (kind.Block line least bytes) next = block_counts name c its shard number line least bytes next
-  at_once shard number (kind.Mark line least block a) next = mark_counts name c its shard number line least block a next
-  at_once shard number (kind.Root line held a key) next = root_counts name c its shard number line held a key next
-  at_once shard number (kind.Drop line key) next = drop_counts name c its shard number line key next
-  at_once shard number (kind.Enter line epoch) next = enter_counts name c its shard number line epoch next
-  at_once shard number (kind.Got from epoch round total deltas) next = got_counts name c its shard number from epoch round total deltas next
-  at_once shard number (kind.Base view epoch swept round frames) next = nobody name c its shard number (kind.Base view epoch swept round frames) next refl refl refl (λ f n r. refl) (λ n. refl) (λ line e. cc e) refl
-  at_once shard number (kind.KeptBlock born mark flags count bytes) next = nobody name c its shard number (kind.KeptBlock born mark flags count bytes) next refl refl refl (λ f n r. refl) (λ n. refl) (λ line e. cc e) refl
-  at_once shard number (kind.KeptRoot created dropped counted a key) next = nobody name c its shard number (kind.KeptRoot created dropped counted a key) next refl refl refl (λ f n r. refl) (λ n. refl) (λ line e. cc e) refl
-  at_once shard number (kind.KeptRound way other epoch round total deltas) next = nobody name c its shard number (kind.KeptRound way other epoch round total deltas) next refl refl refl (λ f n r. refl) (λ n. refl) (λ line e. cc e) refl
+  at_once : (shard number : ℕ) (entry : Entry) → Next c shard number entry → reports_most rounds (told_at_once shard entry c) ≤ reports_most rounds c
+  at_once shard number (kind.View view) next = view_counts rounds name c its shard number view next
+  at_once shard number (kind.Block line least bytes) next = block_counts rounds name c its shard number line least bytes next
+  at_once shard number (kind.Mark line least block a) next = mark_counts rounds name c its shard number line least block a next
+  at_once shard number (kind.Root line held a key) next = root_counts rounds name c its shard number line held a key next
+  at_once shard number (kind.Drop line key) next = drop_counts rounds name c its shard number line key next
+  at_once shard number (kind.Enter line epoch) next = enter_counts rounds name c its shard number line epoch next
+  at_once shard number (kind.Got from epoch round total deltas) next = got_counts rounds name c its shard number from epoch round total deltas next
+  at_once shard number (kind.Base view epoch swept round frames) next = nobody rounds name c its shard number (kind.Base view epoch swept round frames) next refl refl refl (λ f n r. refl) (λ n. refl) (λ line e. cc e) refl
+  at_once shard number (kind.KeptBlock born mark flags count bytes) next = nobody rounds name c its shard number (kind.KeptBlock born mark flags count bytes) next refl refl refl (λ f n r. refl) (λ n. refl) (λ line e. cc e) refl
+  at_once shard number (kind.KeptRoot created dropped counted a key) next = nobody rounds name c its shard number (kind.KeptRoot created dropped counted a key) next refl refl refl (λ f n r. refl) (λ n. refl) (λ line e. cc e) refl
+  at_once shard number (kind.KeptRound way other epoch round total deltas) next = nobody rounds name c its shard number (kind.KeptRound way other epoch round total deltas) next refl refl refl (λ f n r. refl) (λ n. refl) (λ line e. cc e) refl
 
   -- and all goes on
-  pub take_counts : (shard number : ℕ) (entry : Entry) → Next c shard number entry → reports_most (take_effect shard entry c) ≤ reports_most c
-  take_counts shard number entry next = take_pays name reports_most (most_pays name) c its.orderly its.placed shard number entry next.low next.leads (at_once shard number entry next)
+  pub take_counts : (shard number : ℕ) (entry : Entry) → Next c shard number entry → reports_most rounds (take_effect shard entry c) ≤ reports_most rounds c
+  take_counts shard number entry next = take_pays name (reports_most rounds) (most_pays rounds name) c its.orderly its.placed shard number entry next.low next.leads (at_once shard number entry next)

@@ -23,16 +23,16 @@ use Rattle.hs_shard.specs.Facts.{Catalogue}
 use Rattle.hs_shard.specs.Rounds.{is_of_run}
 use Rattle.hs_measure.proofs.LowersTaken.{account_taken, any_all, as_much, asks_taken, catalogue_here, catalogue_other, catalogues_by}
 
-module _ (name : List ℕ → Address) (shard number : ℕ) (entry : Entry) (c : Core) (its : IsOrderly name c) (placed : IsPlaced c) (low : shard < (shape_of c).shards) (leads : committed (group_of shard c) ≡ Some (number, entry)) where
+module _ (rounds : ℕ) (name : List ℕ → Address) (shard number : ℕ) (entry : Entry) (c : Core) (its : IsOrderly name c) (placed : IsPlaced c) (low : shard < (shape_of c).shards) (leads : committed (group_of shard c) ≡ Some (number, entry)) where
   -- no more steps are left where its shard has no more, and fewer where it has fewer
   abbrev steps_in : Catalogue → ℕ
-  steps_in x = steps_of (most_rounds (shape_of c).shards) x
+  steps_in x = steps_of (most_rounds rounds (shape_of c).shards) x
 
   steps_other : (k : ℕ) → (k ≡ shard → ⊥) → steps_in (catalogue_of k (taken shard entry c)) ≤ steps_in (catalogue_of k c)
   steps_other k d = as_much (steps_in (catalogue_of k (taken shard entry c))) (steps_in (catalogue_of k c)) (ap (λ (x : Catalogue). steps_in x) (catalogue_other name shard number entry c its placed low leads k d))
 
-  pub deletion_then : steps_of (most_rounds (shape_of c).shards) (done_by shard entry c).catalogue ≤ steps_of (most_rounds (shape_of c).shards) (catalogue_of shard c) → rounds_left (taken shard entry c) ≤ rounds_left c
-  deletion_then less = deletion_le c (taken shard entry c) refl (λ k. by_shard k (one_or_other k shard))
+  pub deletion_then : steps_of (most_rounds rounds (shape_of c).shards) (done_by shard entry c).catalogue ≤ steps_of (most_rounds rounds (shape_of c).shards) (catalogue_of shard c) → rounds_left rounds (taken shard entry c) ≤ rounds_left rounds c
+  deletion_then less = deletion_le rounds c (taken shard entry c) refl (λ k. by_shard k (one_or_other k shard))
     where
       by_shard : (k : ℕ) → (k ≡ shard) ⊎ (k ≡ shard → ⊥) → steps_in (catalogue_of k (taken shard entry c)) ≤ steps_in (catalogue_of k c)
       by_shard k (inl is) =
@@ -40,9 +40,9 @@ module _ (name : List ℕ → Address) (shard number : ℕ) (entry : Entry) (c :
           (subst (λ (x : Catalogue). steps_in x ≤ steps_in (catalogue_of shard c)) (sym (catalogue_here name shard number entry c its placed low leads)) less)
       by_shard k (inr d) = steps_other k d
 
-  pub deletion_falls : steps_of (most_rounds (shape_of c).shards) (done_by shard entry c).catalogue + 1 ≤ steps_of (most_rounds (shape_of c).shards) (catalogue_of shard c) → rounds_left (taken shard entry c) + 1 ≤ rounds_left c
+  pub deletion_falls : steps_of (most_rounds rounds (shape_of c).shards) (done_by shard entry c).catalogue + 1 ≤ steps_of (most_rounds rounds (shape_of c).shards) (catalogue_of shard c) → rounds_left rounds (taken shard entry c) + 1 ≤ rounds_left rounds c
   deletion_falls fewer =
-      deletion_less c (taken shard entry c) refl shard low steps_other
+      deletion_less rounds c (taken shard entry c) refl shard low steps_other
       (subst (λ (x : Catalogue). steps_in x + 1 ≤ steps_in (catalogue_of shard c)) (sym (catalogue_here name shard number entry c its placed low leads)) fewer)
 
   module _ (run : (done_by shard entry c).catalogue.run ≡ (catalogue_of shard c).run) (epoch : (done_by shard entry c).catalogue.epoch ≡ (catalogue_of shard c).epoch) where
@@ -80,8 +80,8 @@ module _ (name : List ℕ → Address) (shard number : ℕ) (entry : Entry) (c :
 
     -- a quiet entry: no more is new or due than Gots that go, and as much of deletion is left
     pub quiet_counts : slots_of (taken shard entry c) ≤ slots_of c → gots_of (taken shard entry c) + dues_of (taken shard entry c) ≤ gots_of c + dues_of c
-        → rounds_left (taken shard entry c) ≤ rounds_left c → (less more : ℕ) → ways_left (taken shard entry c) + less ≤ ways_left c + more → reports_most (taken shard entry c) + less ≤ reports_most c + more
+        → rounds_left rounds (taken shard entry c) ≤ rounds_left rounds c → (less more : ℕ) → ways_left (taken shard entry c) + less ≤ ways_left c + more → reports_most rounds (taken shard entry c) + less ≤ reports_most rounds c + more
     quiet_counts news lists deletion less more ways =
-        account_taken (jobs_of c) (slots_of c) (gots_of c) (dues_of c) (ways_left c) (length c.operations * (sweeps_to_come c + asks_of c)) ((16 * (shape_of c).shards + 2) * rounds_left c)
-        (slots_of (taken shard entry c)) (gots_of (taken shard entry c)) (dues_of (taken shard entry c)) (ways_left (taken shard entry c)) (length c.operations * (sweeps_to_come (taken shard entry c) + asks_of (taken shard entry c))) ((16 * (shape_of c).shards + 2) * rounds_left (taken shard entry c)) less more
-        news lists ways product_le (mul_le (16 * (shape_of c).shards + 2) (rounds_left c) (rounds_left (taken shard entry c)) deletion)
+        account_taken (jobs_of c) (slots_of c) (gots_of c) (dues_of c) (ways_left c) (length c.operations * (sweeps_to_come c + asks_of c)) ((16 * (shape_of c).shards + 2) * rounds_left rounds c)
+        (slots_of (taken shard entry c)) (gots_of (taken shard entry c)) (dues_of (taken shard entry c)) (ways_left (taken shard entry c)) (length c.operations * (sweeps_to_come (taken shard entry c) + asks_of (taken shard entry c))) ((16 * (shape_of c).shards + 2) * rounds_left rounds (taken shard entry c)) less more
+        news lists ways product_le (mul_le (16 * (shape_of c).shards + 2) (rounds_left rounds c) (rounds_left rounds (taken shard entry c)) deletion)

@@ -48,6 +48,7 @@ use Rattle.hs_limits.specs.Limits.{IsLimits}
 use Rattle.hs_measure.proofs.FoundAlong.{due_low, few_again, few_beside, few_downed, few_effect, few_goes, few_line, few_lost, few_proposed, few_refused, first_few, round_few, viewed_quiet}
 use Rattle.hs_measure.proofs.FoundCore.{AreFew}
 use Rattle.hs_measure.specs.Opens.{MayGoOn, OpensReadable}
+use Rattle.hs_measure.specs.Rounds.{rounds_told}
 use Rattle.hs_model.specs.declared.op.Op.{Op}
 use Rattle.hs_moments.proofs.AloneEventLemmas.{begun, step_is}
 use Rattle.hs_ops.specs.Operations.{bytes_step, go_step}
@@ -61,29 +62,29 @@ use Rattle.hs_tokens.specs.Seats.{Seats}
 -- ---- what is known of a core
 
 -- its limits are some that a run may have, clients' Enters are within them, rounds may be, and addresses have 32 bytes; no shard has too many root records, and nothing found the journal full
-pub record IsLow (c : Core) : Type 0 where
+pub record IsLow (rounds : ℕ) (c : Core) : Type 0 where
   pub limits : IsLimits c.limits
   pub epochs : HaveEpochs c
-  pub few : AreFew c
+  pub few : AreFew rounds c
   pub addressed : AreAddressed c
   pub room : HasRecordRoom c
   pub clean : c.refused ≡ []
 
 -- ---- every single change keeps it
 
-record Bounds (name : List ℕ → Address) (c : Core) : Type 0 where
+record Bounds (rounds : ℕ) (name : List ℕ → Address) (c : Core) : Type 0 where
   orderly : IsOrderly name c
   limits : IsLimits c.limits
   epochs : HaveEpochs c
-  few : AreFew c
+  few : AreFew rounds c
   addressed : AreAddressed c
 
 limits_on : (a b : Core) → b.limits ≡ a.limits → IsLimits a.limits → IsLimits b.limits
 limits_on a b same its = subst (λ (l : Limits). IsLimits l) (sym same) its
 
 -- an Enter that takes effect is of an epoch that may be
-enter_low : (shard number : ℕ) (x : Entry) (c : Core) → committed (group_of shard c) ≡ Some (number, x) → IsLimits c.limits → HaveEpochs c → AreFew c → (line epoch : ℕ) → x ≡ kind.Enter line epoch → epoch ≤ LAST_EPOCH
-enter_low shard number x c leads limits epochs few line epoch is = by_line line (there ∙ ap (λ (y : Entry). Some y) is)
+enter_low : (rounds shard number : ℕ) (x : Entry) (c : Core) → committed (group_of shard c) ≡ Some (number, x) → IsLimits c.limits → HaveEpochs c → AreFew rounds c → (line epoch : ℕ) → x ≡ kind.Enter line epoch → epoch ≤ LAST_EPOCH
+enter_low rounds shard number x c leads limits epochs few line epoch is = by_line line (there ∙ ap (λ (y : Entry). Some y) is)
   where
     there : slice_get (group_of shard c).waiting 0 ≡ Some x
     there = (committed_first (group_of shard c) number x leads).first
@@ -95,7 +96,7 @@ enter_low shard number x c leads limits epochs few line epoch is = by_line line 
         below : (x y z : ℕ) → x ≤ y → y ≤ z → x ≤ z
         below x y z h k = omega (arith, h, k)
 
-module _ (name : List ℕ → Address) (names : GivesAddresses name) where
+module _ (rounds : ℕ) (name : List ℕ → Address) (names : GivesAddresses name) where
   new_beside : (line : ℕ) (o : Op) (a b : Core) → IsBeside a b → IsNewLine name a line o → IsNewLine name b line o
   new_beside line o a b beside its = record {
     new = ap (λ (es : List _). lookup (is_at (nat_cmp line)) es) beside.operations ∙ its.new;
@@ -106,7 +107,7 @@ module _ (name : List ℕ → Address) (names : GivesAddresses name) where
   zero_line : (epoch line n : ℕ) → kind.Enter 0 epoch ≡ kind.Enter line n → line ≡ 0
   zero_line epoch line n e = cc e
 
-  bounds : Walks name (λ line o c. IsNewLine name c line o) (λ number bytes w c. Unit {0}) (λ line. Unit {0}) (λ c. Bounds name c)
+  bounds : Walks name (λ line o c. IsNewLine name c line o) (λ number bytes w c. Unit {0}) (λ line. Unit {0}) (λ c. Bounds rounds name c)
   bounds = record {
     orderly = λ c q. q.orderly;
     line_beside = new_beside;
@@ -115,70 +116,70 @@ module _ (name : List ℕ → Address) (names : GivesAddresses name) where
       orderly = orderly_beside name a q.orderly b beside;
       limits = limits_on a b beside.limits q.limits;
       epochs = epochs_same a b beside.limits beside.waiting q.epochs;
-      few = few_beside a b beside q.few;
+      few = few_beside rounds a b beside q.few;
       addressed = held_beside a b beside q.addressed;
     };
     downed = λ peer line c q. record {
       orderly = orderly_downed name c q.orderly peer line;
       limits = q.limits;
       epochs = q.epochs;
-      few = few_downed peer line c q.few;
+      few = few_downed rounds peer line c q.few;
       addressed = held_downed c q.addressed peer line;
     };
     refused = λ line refusal c may q. record {
       orderly = orderly_refused name c q.orderly line refusal;
       limits = q.limits;
       epochs = q.epochs;
-      few = few_refused line refusal c q.few;
+      few = few_refused rounds line refusal c q.few;
       addressed = held_refused c q.addressed line refusal;
     };
     line = λ line o c may q. record {
       orderly = orderly_line name c q.orderly line o may;
       limits = limits_on c (begin_line line o c) (begun_quiet line o c).limits q.limits;
       epochs = epochs_begin line o c q.epochs;
-      few = few_line name line o c may q.few;
+      few = few_line rounds name line o c may q.few;
       addressed = held_line name names c q.addressed line o may;
     };
     goes = λ line c idle q. record {
       orderly = orderly_goes name c q.orderly line idle;
       limits = limits_on c (resume line c) (going_quiet go_step line c).limits q.limits;
       epochs = epochs_go_on go_step going_within line c q.epochs;
-      few = few_goes name go_step going_asks line c q.orderly q.few;
+      few = few_goes rounds name go_step going_asks line c q.orderly q.few;
       addressed = held_goes name names c q.orderly q.addressed line;
     };
     told = λ line number bytes w c at waits may q. record {
       orderly = orderly_told name c q.orderly line number bytes w at waits;
       limits = limits_on c (go_on_with (λ v o. bytes_step v bytes (pointers_for w.shard w.operation.op c) o) line c) (going_quiet (λ v o. bytes_step v bytes (pointers_for w.shard w.operation.op c) o) line c).limits q.limits;
       epochs = epochs_go_on (λ v o. bytes_step v bytes (pointers_for w.shard w.operation.op c) o) (telling_within bytes (pointers_for w.shard w.operation.op c)) line c q.epochs;
-      few = few_goes name (λ v o. bytes_step v bytes (pointers_for w.shard w.operation.op c) o) (told_asks bytes (pointers_for w.shard w.operation.op c)) line c q.orderly q.few;
+      few = few_goes rounds name (λ v o. bytes_step v bytes (pointers_for w.shard w.operation.op c) o) (told_asks bytes (pointers_for w.shard w.operation.op c)) line c q.orderly q.few;
       addressed = held_told name names c q.orderly q.addressed line bytes w;
     };
     effect = λ shard number x c low leads roots q. record {
       orderly = orderly_effect name c q.orderly shard number x leads;
       limits = limits_on (taken shard x c) (told_at_once shard x c) (at_once_quiet shard x (done_by shard x c).effect (taken shard x c)).limits q.limits;
       epochs = epochs_effect shard x c q.epochs;
-      few = few_effect name shard number x c low leads q.orderly (q.few.waiting shard 0 x (committed_first (group_of shard c) number x leads).first) (enter_low shard number x c leads q.limits q.epochs q.few) q.few;
+      few = few_effect rounds name shard number x c low leads q.orderly (q.few.waiting shard 0 x (committed_first (group_of shard c) number x leads).first) (enter_low rounds shard number x c leads q.limits q.epochs q.few) q.few;
       addressed = held_effect name names c q.orderly q.addressed shard number x leads;
     };
     due = λ shard c low due q. record {
       orderly = orderly_due name c q.orderly shard;
       limits = limits_on c (propose_entry shard (kind.Enter 0 ((catalogue_of shard c).epoch + 1)) c) (proposed_quiet shard (kind.Enter 0 ((catalogue_of shard c).epoch + 1)) c).limits q.limits;
       epochs = epochs_propose shard (kind.Enter 0 ((catalogue_of shard c).epoch + 1)) c (λ line n is one. (let zero_is = zero_line ((catalogue_of shard c).epoch + 1) line n is in absurd (omega (arith, zero_is, one)))) q.epochs;
-      few = few_proposed name shard (kind.Enter 0 ((catalogue_of shard c).epoch + 1)) c (λ zero_is. due_low shard c low due q.few) q.few;
+      few = few_proposed rounds name shard (kind.Enter 0 ((catalogue_of shard c).epoch + 1)) c (λ zero_is. due_low rounds shard c low due q.few) q.few;
       addressed = held_due c q.addressed shard;
     };
     round = λ number from to epoch round total deltas c low at new q. record {
       orderly = orderly_round name c q.orderly number from to epoch round total deltas;
       limits = limits_on (change_pool (without number) c) (propose_entry to (kind.Got from epoch round total deltas) (change_pool (without number) c)) (proposed_quiet to (kind.Got from epoch round total deltas) (change_pool (without number) c)).limits q.limits;
       epochs = epochs_propose to (kind.Got from epoch round total deltas) (change_pool (without number) c) (λ line n is one. absurd (cc is)) q.epochs;
-      few = few_proposed name to (kind.Got from epoch round total deltas) (change_pool (without number) c) (round_few number from to epoch round total deltas c at q.few).1 (few_lost number c q.few);
+      few = few_proposed rounds name to (kind.Got from epoch round total deltas) (change_pool (without number) c) (round_few rounds number from to epoch round total deltas c at q.few).1 (few_lost rounds number c q.few);
       addressed = held_round c q.addressed to (kind.Got from epoch round total deltas) (without number);
     };
     again = λ back shard c q. record {
       orderly = orderly_again name c q.orderly back shard;
       limits = limits_on c (send_round back shard c) (again_alike back shard c).limits q.limits;
       epochs = epochs_same c (send_round back shard c) (again_alike back shard c).limits (again_alike back shard c).waiting q.epochs;
-      few = few_again back shard c q.few;
+      few = few_again rounds back shard c q.few;
       addressed = held_again c q.addressed back shard;
     };
   }
@@ -264,11 +265,11 @@ keeps_limits = record { beside = λ a b beside its. limits_on a b beside.limits 
 first_clean : (set : Setting) (found : Found) → (first_core set found).ended ≡ None → (first_core set found).refused ≡ []
 first_clean set found going = (opened_turn (λ n. None) set.shape set.limits (opens_with set found) found.opened refl).going going
 
-pub first_low : (set : Setting) (found : Found) → OpensReadable set found → IsLow (first_core set found)
+pub first_low : (set : Setting) (found : Found) → OpensReadable set found → IsLow (rounds_told set found) (first_core set found)
 first_low set found opens = record {
   limits = first_held (λ c. IsLimits c.limits) keeps_limits set.shape set.limits (opens_with set found) found.opened opens.limits;
   epochs = first_held HaveEpochs keeps_epochs set.shape set.limits (opens_with set found) found.opened (λ g place line epoch at one. absurd (nothing_waits set.name set.shape set.limits (opens_with set found) found.opened g place (kind.Enter line epoch) at));
-  few = first_few set found opens.readable;
+  few = first_few set found opens.epochs;
   addressed = first_held AreAddressed keeps_addressed set.shape set.limits (opens_with set found) found.opened (held_new set.shape set.limits (opens_with set found) found.opened opens.addressed);
   room = opens.few;
   clean = first_clean set found opens.going;
@@ -295,8 +296,8 @@ may_bound name (event.Nudge line peer) c at may = tt
 may_bound name (event.Fail line peer) c at may = tt
 may_bound name (event.Start line peer) c at may = tt
 
-pub low_step : (name : List ℕ → Address) → GivesAddresses name → (c : Whole) (e : Event) (at : ℕ) → IsMoving name c → MayGoOn name c.core e at → (step e at c.core).ended ≡ None → IsLow c.core → IsLow (step e at c.core)
-low_step name names c e at moving may going low = record {
+pub low_step : (rounds : ℕ) (name : List ℕ → Address) → GivesAddresses name → (c : Whole) (e : Event) (at : ℕ) → IsMoving name c → MayGoOn name c.core e at → (step e at c.core).ended ≡ None → IsLow rounds c.core → IsLow rounds (step e at c.core)
+low_step rounds name names c e at moving may going low = record {
   limits = behind.limits;
   epochs = behind.epochs;
   few = behind.few;
@@ -305,6 +306,6 @@ low_step name names c e at moving may going low = record {
   clean = still_clean e at c.core moving.sane.going going low.clean;
 }
   where
-    behind : Bounds name (step e at c.core)
-    behind = walks_step (bounds name names) c e at moving.sane low.room low.clean (may_bound name e c.core at may)
+    behind : Bounds rounds name (step e at c.core)
+    behind = walks_step (bounds rounds name names) c e at moving.sane low.room low.clean (may_bound name e c.core at may)
         (record { orderly = moving.orderly; limits = low.limits; epochs = low.epochs; few = low.few; addressed = low.addressed })

@@ -1,5 +1,5 @@
--- Along any events each round that is had, under way or waiting stays one that may be; and so it is as a core opens over lists that may be read.
-use Rattle.std.proofs.Common.{◌≡◌, ◌∙◌, sym, ap, subst, refl, ◌⊎◌, inl, inr, ℕ, zero, suc, ◌+◌, ◌*◌, ◌^◌, ◌<◌, ◌≤◌, ◌==◌, ◌&&◌, ◌||◌, Bool, true, false, cond, not, List, [], ◌∷◌, Contains, IfSome, Option, Some, None, arith, flat_map, length, map, slice_get, slice_index_or}
+-- Along any events each round that is had, under way or waiting stays one that may be; and so it is as a core opens over lists whose epochs may be.
+use Rattle.std.proofs.Common.{◌≡◌, ◌∙◌, sym, ap, subst, refl, ◌⊎◌, inl, inr, ℕ, zero, suc, ◌+◌, ◌*◌, ◌<◌, ◌≤◌, ◌==◌, ◌&&◌, ◌||◌, Bool, true, false, cond, not, List, [], ◌∷◌, Contains, IfSome, Option, Some, None, arith, flat_map, length, map, slice_get, slice_index_or}
 use Rattle.std.proofs.lemmas.Bool.{and_parts, eqb-true, leb-true}
 use Rattle.std.proofs.lemmas.List.{length-map}
 use Rattle.std.proofs.lemmas.List.Elements.{All-contains, All-nil, All-weaker}
@@ -30,7 +30,6 @@ use Rattle.hs_effects.specs.Logged.{IsEntryOf, IsNewLine, IsOrderly}
 use Rattle.hs_effects.specs.Taking.{done_by, taken}
 use Rattle.hs_entry.specs.declared.entry.Entry.{Entry}
 use Rattle.hs_entry.specs.declared.entry.Entry.TheVariants as kind
-use Rattle.hs_entry.specs.Reading.{IsReadable}
 use Rattle.hs_events.specs.Alone.{is_round}
 use Rattle.hs_events.specs.Found.{Found, first_core, opened_catalogue, opened_list, opens_with}
 use Rattle.hs_fold.specs.Shards.Setting.{Numbered, Setting}
@@ -46,8 +45,11 @@ use Rattle.hs_measure.proofs.FoundBlocks.{le_or}
 use Rattle.hs_measure.proofs.FoundCore.{AreFew, AreStanding, EntriesFew, FewEntry, FewMessage, MessagesFew, base_some, few_taken, finds_all, finds_in, messages_go, most_in, shard_at}
 use Rattle.hs_measure.proofs.FoundEntries.{Brings, applied}
 use Rattle.hs_measure.proofs.FoundRounds.{Good, IsFew, MayGo, all_finds, few_less, finds_most, finds_of, messages_few, most_blocks, sent_less, some_most, some_of}
+use Rattle.hs_measure.proofs.GreatestLemmas.{told_all}
 use Rattle.hs_measure.proofs.LowersSums.{length_range}
 use Rattle.hs_measure.proofs.UnderWay.{way_begun, way_goes, way_proposed, way_told, way_viewed}
+use Rattle.hs_measure.specs.Opens.{IsOfLowEpoch}
+use Rattle.hs_measure.specs.Rounds.{round_of, rounds_told}
 use Rattle.hs_members.specs.Members.{Members, view_of}
 use Rattle.hs_memory.specs.Forget.{apply_all}
 use Rattle.hs_memory.specs.Forget.{named as named_by}
@@ -81,16 +83,16 @@ use Rattle.hs_tokens.specs.Seats.{Seats}
 
 -- ---- where catalogues stay
 
-few_on : (a b : Core) → shape_of b ≡ shape_of a → b.catalogues ≡ a.catalogues → EntriesFew (shape_of a) a.catalogues b → MessagesFew (shape_of a) a.catalogues b → AreFew a → AreFew b
-few_on a b shape catalogues waiting messages few = record { standing = all.0; waiting = all.1.0; messages = all.1.1 }
+few_on : (rounds : ℕ) (a b : Core) → shape_of b ≡ shape_of a → b.catalogues ≡ a.catalogues → EntriesFew rounds (shape_of a) a.catalogues b → MessagesFew rounds (shape_of a) a.catalogues b → AreFew rounds a → AreFew rounds b
+few_on rounds a b shape catalogues waiting messages few = record { standing = all.0; waiting = all.1.0; messages = all.1.1 }
   where
-    all : AreStanding (shape_of b) b.catalogues × (EntriesFew (shape_of b) b.catalogues b × MessagesFew (shape_of b) b.catalogues b)
+    all : AreStanding rounds (shape_of b) b.catalogues × (EntriesFew rounds (shape_of b) b.catalogues b × MessagesFew rounds (shape_of b) b.catalogues b)
     all =
-        subst (λ (s : Shape). AreStanding s b.catalogues × (EntriesFew s b.catalogues b × MessagesFew s b.catalogues b)) (sym shape)
-        (subst (λ (cs : List Catalogue). AreStanding (shape_of a) cs × (EntriesFew (shape_of a) cs b × MessagesFew (shape_of a) cs b)) (sym catalogues) (few.standing, (waiting, messages)))
+        subst (λ (s : Shape). AreStanding rounds s b.catalogues × (EntriesFew rounds s b.catalogues b × MessagesFew rounds s b.catalogues b)) (sym shape)
+        (subst (λ (cs : List Catalogue). AreStanding rounds (shape_of a) cs × (EntriesFew rounds (shape_of a) cs b × MessagesFew rounds (shape_of a) cs b)) (sym catalogues) (few.standing, (waiting, messages)))
 
-few_quiet : (a b : Core) → Quiet a b → EntriesFew (shape_of a) a.catalogues b → MessagesFew (shape_of a) a.catalogues b → AreFew a → AreFew b
-few_quiet a b quiet waiting messages few = few_on a b (ap (λ (m : Members). m.shape) quiet.members) quiet.catalogues waiting messages few
+few_quiet : (rounds : ℕ) (a b : Core) → Quiet a b → EntriesFew rounds (shape_of a) a.catalogues b → MessagesFew rounds (shape_of a) a.catalogues b → AreFew rounds a → AreFew rounds b
+few_quiet rounds a b quiet waiting messages few = few_on rounds a b (ap (λ (m : Members). m.shape) quiet.members) quiet.catalogues waiting messages few
 
 -- ---- what operations propose
 
@@ -118,54 +120,54 @@ module _ (name : List ℕ → Address) (next : OpView → Operation → OpStep) 
       each_goes (λ g n x. FewEntry shards most finds x) next line c
       (λ u at entry made. asked_few shards most finds name c.sessions u.operation.line (counted line u at) u.operation.op entry (asks name (view_for u.shard u.operation.op c) u.operation (orderly.pending line u at).called entry made).0) all
 
-abbrev asks_rounds : (shape : Shape) (cs : List Catalogue) → (shard to view number : ℕ) (entry : Entry) → FewMessage shape.shards (most_in shape) (finds_in shape cs) (message.Copy shard to view number entry)
-asks_rounds shape cs = λ shard to view number entry. tt
+abbrev asks_rounds : (rounds : ℕ) (shape : Shape) (cs : List Catalogue) → (shard to view number : ℕ) (entry : Entry) → FewMessage shape.shards (most_in rounds shape) (finds_in shape cs) (message.Copy shard to view number entry)
+asks_rounds rounds shape cs = λ shard to view number entry. tt
 
 -- ---- each single change
 
-pub few_beside : (a b : Core) → IsBeside a b → AreFew a → AreFew b
-few_beside a b same few =
-    few_on a b same.shape same.catalogues
-    (each_same (λ g n x. FewEntry (shape_of a).shards (most_in (shape_of a)) (finds_in (shape_of a) a.catalogues) x) a b same.waiting same.front few.waiting)
+pub few_beside : (rounds : ℕ) (a b : Core) → IsBeside a b → AreFew rounds a → AreFew rounds b
+few_beside rounds a b same few =
+    few_on rounds a b same.shape same.catalogues
+    (each_same (λ g n x. FewEntry (shape_of a).shards (most_in rounds (shape_of a)) (finds_in (shape_of a) a.catalogues) x) a b same.waiting same.front few.waiting)
     (All-weaker (λ (m : Message). is_round m ≡ true → Contains (values_of a.pool.messages) m) P of_few (values_of b.pool.messages) same.rounds) few
   where
     P : Message → Type 0
-    P = FewMessage (shape_of a).shards (most_in (shape_of a)) (finds_in (shape_of a) a.catalogues)
+    P = FewMessage (shape_of a).shards (most_in rounds (shape_of a)) (finds_in (shape_of a) a.catalogues)
 
-    of_few : (m : Message) → (is_round m ≡ true → Contains (values_of a.pool.messages) m) → FewMessage (shape_of a).shards (most_in (shape_of a)) (finds_in (shape_of a) a.catalogues) m
+    of_few : (m : Message) → (is_round m ≡ true → Contains (values_of a.pool.messages) m) → FewMessage (shape_of a).shards (most_in rounds (shape_of a)) (finds_in (shape_of a) a.catalogues) m
     of_few (message.Copy g to view k e) h = tt
     of_few (message.Have g from to view sealed) h = tt
     of_few (message.Round from to epoch round total deltas) h =
-        All-contains (FewMessage (shape_of a).shards (most_in (shape_of a)) (finds_in (shape_of a) a.catalogues)) (values_of a.pool.messages) (message.Round from to epoch round total deltas) few.messages (h refl)
+        All-contains (FewMessage (shape_of a).shards (most_in rounds (shape_of a)) (finds_in (shape_of a) a.catalogues)) (values_of a.pool.messages) (message.Round from to epoch round total deltas) few.messages (h refl)
 
-pub few_downed : (peer line : ℕ) (c : Core) → AreFew c → AreFew (note who.Store deed.Nothing (reply.Down peer line) c)
-few_downed peer line c few = record { standing = few.standing; waiting = few.waiting; messages = few.messages }
+pub few_downed : (rounds peer line : ℕ) (c : Core) → AreFew rounds c → AreFew rounds (note who.Store deed.Nothing (reply.Down peer line) c)
+few_downed rounds peer line c few = record { standing = few.standing; waiting = few.waiting; messages = few.messages }
 
-pub few_refused : (line : ℕ) (refusal : Reply) (c : Core) → AreFew c → AreFew (refuse line refusal c)
-few_refused line refusal c few = record { standing = few.standing; waiting = few.waiting; messages = few.messages }
+pub few_refused : (rounds line : ℕ) (refusal : Reply) (c : Core) → AreFew rounds c → AreFew rounds (refuse line refusal c)
+few_refused rounds line refusal c few = record { standing = few.standing; waiting = few.waiting; messages = few.messages }
 
-module _ (name : List ℕ → Address) where
-  pub few_line : (line : ℕ) (o : Op) (c : Core) → IsNewLine name c line o → AreFew c → AreFew (begin_line line o c)
+module _ (rounds : ℕ) (name : List ℕ → Address) where
+  pub few_line : (line : ℕ) (o : Op) (c : Core) → IsNewLine name c line o → AreFew rounds c → AreFew rounds (begin_line line o c)
   few_line line o c may few =
-      few_quiet c (begin_line line o c) (begun_quiet line o c)
-      (each_begun (λ g n x. FewEntry (shape_of c).shards (most_in (shape_of c)) (finds_in (shape_of c) c.catalogues) x) line o c
-      (λ entry made. asked_few (shape_of c).shards (most_in (shape_of c)) (finds_in (shape_of c) c.catalogues) name c.sessions line may.counted o entry (going_asks name v (new_operation line o) may.called entry made).0) few.waiting)
-      (way_begun (FewMessage (shape_of c).shards (most_in (shape_of c)) (finds_in (shape_of c) c.catalogues)) (asks_rounds (shape_of c) c.catalogues) line o c few.messages) few
+      few_quiet rounds c (begin_line line o c) (begun_quiet line o c)
+      (each_begun (λ g n x. FewEntry (shape_of c).shards (most_in rounds (shape_of c)) (finds_in (shape_of c) c.catalogues) x) line o c
+      (λ entry made. asked_few (shape_of c).shards (most_in rounds (shape_of c)) (finds_in (shape_of c) c.catalogues) name c.sessions line may.counted o entry (going_asks name v (new_operation line o) may.called entry made).0) few.waiting)
+      (way_begun (FewMessage (shape_of c).shards (most_in rounds (shape_of c)) (finds_in (shape_of c) c.catalogues)) (asks_rounds rounds (shape_of c) c.catalogues) line o c few.messages) few
     where
       v : OpView
       v = record (view_for (judging_shard (shape_of c).shards c.sessions o) o (record c { last_line = line })) { busy = busy_line o c }
 
-  pub few_goes : (next : OpView → Operation → OpStep) → AsksWith next → (line : ℕ) (c : Core) → IsOrderly name c → AreFew c → AreFew (go_on_with next line c)
+  pub few_goes : (next : OpView → Operation → OpStep) → AsksWith next → (line : ℕ) (c : Core) → IsOrderly name c → AreFew rounds c → AreFew rounds (go_on_with next line c)
   few_goes next asks line c orderly few =
-      few_quiet c (go_on_with next line c) (going_quiet next line c)
-      (entries_go name next asks (shape_of c).shards (most_in (shape_of c)) (finds_in (shape_of c) c.catalogues) line c (of_line name c orderly) orderly few.waiting)
-      (way_goes (FewMessage (shape_of c).shards (most_in (shape_of c)) (finds_in (shape_of c) c.catalogues)) (asks_rounds (shape_of c) c.catalogues) next line c few.messages) few
+      few_quiet rounds c (go_on_with next line c) (going_quiet next line c)
+      (entries_go name next asks (shape_of c).shards (most_in rounds (shape_of c)) (finds_in (shape_of c) c.catalogues) line c (of_line name c orderly) orderly few.waiting)
+      (way_goes (FewMessage (shape_of c).shards (most_in rounds (shape_of c)) (finds_in (shape_of c) c.catalogues)) (asks_rounds rounds (shape_of c) c.catalogues) next line c few.messages) few
 
-  pub few_proposed : (shard : ℕ) (entry : Entry) (c : Core) → FewEntry (shape_of c).shards (most_in (shape_of c)) (finds_in (shape_of c) c.catalogues) entry → AreFew c → AreFew (propose_entry shard entry c)
+  pub few_proposed : (shard : ℕ) (entry : Entry) (c : Core) → FewEntry (shape_of c).shards (most_in rounds (shape_of c)) (finds_in (shape_of c) c.catalogues) entry → AreFew rounds c → AreFew rounds (propose_entry shard entry c)
   few_proposed shard entry c may few =
-      few_quiet c (propose_entry shard entry c) (proposed_quiet shard entry c)
-      (each_proposed (λ g n x. FewEntry (shape_of c).shards (most_in (shape_of c)) (finds_in (shape_of c) c.catalogues) x) shard entry c may few.waiting)
-      (way_proposed (FewMessage (shape_of c).shards (most_in (shape_of c)) (finds_in (shape_of c) c.catalogues)) (asks_rounds (shape_of c) c.catalogues) shard entry c few.messages) few
+      few_quiet rounds c (propose_entry shard entry c) (proposed_quiet shard entry c)
+      (each_proposed (λ g n x. FewEntry (shape_of c).shards (most_in rounds (shape_of c)) (finds_in (shape_of c) c.catalogues) x) shard entry c may few.waiting)
+      (way_proposed (FewMessage (shape_of c).shards (most_in rounds (shape_of c)) (finds_in (shape_of c) c.catalogues)) (asks_rounds rounds (shape_of c) c.catalogues) shard entry c few.messages) few
 
 -- ---- an Enter that is due
 
@@ -197,8 +199,8 @@ some_begun epoch (x ∷ gots) begun = go (x.0.epoch == epoch && x.0.round == 0) 
         record { place = old.place; told = found.0; at = found.1; of_epoch = old.of_epoch }
 
 -- it is of no epoch behind the last one
-pub due_low : (shard : ℕ) (c : Core) → shard < (shape_of c).shards → is_enter_due shard c ≡ true → AreFew c → (catalogue_of shard c).epoch + 1 ≤ LAST_EPOCH
-due_low shard c low due few =
+pub due_low : (rounds shard : ℕ) (c : Core) → shard < (shape_of c).shards → is_enter_due shard c ≡ true → AreFew rounds c → (catalogue_of shard c).epoch + 1 ≤ LAST_EPOCH
+due_low rounds shard c low due few =
     let begun : HasBegun (catalogue_of shard c).run.gots ((catalogue_of shard c).epoch + 1) = some_begun ((catalogue_of shard c).epoch + 1) (catalogue_of shard c).run.gots (third due) in
     subst (λ n. n ≤ LAST_EPOCH) begun.of_epoch (few.standing.gots shard low begun.place begun.told begun.at).0
   where
@@ -218,26 +220,26 @@ due_low shard c low due few =
 
 -- ---- a Round is handled, and sent again
 
-pub few_lost : (number : ℕ) (c : Core) → AreFew c → AreFew (change_pool (without number) c)
-few_lost number c few = record {
+pub few_lost : (rounds number : ℕ) (c : Core) → AreFew rounds c → AreFew rounds (change_pool (without number) c)
+few_lost rounds number c few = record {
   standing = few.standing;
   waiting = few.waiting;
-  messages = All-map-remove_entry (is_at (nat_cmp number)) (λ (e : ℕ × Message). e.1) (FewMessage (shape_of c).shards (most_in (shape_of c)) (finds_in (shape_of c) c.catalogues)) c.pool.messages few.messages;
+  messages = All-map-remove_entry (is_at (nat_cmp number)) (λ (e : ℕ × Message). e.1) (FewMessage (shape_of c).shards (most_in rounds (shape_of c)) (finds_in (shape_of c) c.catalogues)) c.pool.messages few.messages;
 }
 
-pub round_few : (number from to epoch round total : ℕ) (deltas : List Delta) (c : Core) → message_at number c.pool ≡ Some (message.Round from to epoch round total deltas) → AreFew c
-    → (to < (shape_of c).shards) × ((from < (shape_of c).shards) × IsFew (most_in (shape_of c)) (finds_in (shape_of c) c.catalogues) epoch round total)
-round_few number from to epoch round total deltas c at few =
-    subst (λ (o : Option Message). IfSome o (FewMessage (shape_of c).shards (most_in (shape_of c)) (finds_in (shape_of c) c.catalogues))) at
-    (IfSome-lookup_from_All (FewMessage (shape_of c).shards (most_in (shape_of c)) (finds_in (shape_of c) c.catalogues)) (is_at (nat_cmp number)) c.pool.messages few.messages)
+pub round_few : (rounds number from to epoch round total : ℕ) (deltas : List Delta) (c : Core) → message_at number c.pool ≡ Some (message.Round from to epoch round total deltas) → AreFew rounds c
+    → (to < (shape_of c).shards) × ((from < (shape_of c).shards) × IsFew (most_in rounds (shape_of c)) (finds_in (shape_of c) c.catalogues) epoch round total)
+round_few rounds number from to epoch round total deltas c at few =
+    subst (λ (o : Option Message). IfSome o (FewMessage (shape_of c).shards (most_in rounds (shape_of c)) (finds_in (shape_of c) c.catalogues))) at
+    (IfSome-lookup_from_All (FewMessage (shape_of c).shards (most_in rounds (shape_of c)) (finds_in (shape_of c) c.catalogues)) (is_at (nat_cmp number)) c.pool.messages few.messages)
 
-pub few_again : (back shard : ℕ) (c : Core) → AreFew c → AreFew (send_round back shard c)
-few_again back shard c few = go (sent_back back (catalogue_of shard c).run)
+pub few_again : (rounds back shard : ℕ) (c : Core) → AreFew rounds c → AreFew rounds (send_round back shard c)
+few_again rounds back shard c few = go (sent_back back (catalogue_of shard c).run)
   where
     P : Message → Type 0
-    P = FewMessage (shape_of c).shards (most_in (shape_of c)) (finds_in (shape_of c) c.catalogues)
+    P = FewMessage (shape_of c).shards (most_in rounds (shape_of c)) (finds_in (shape_of c) c.catalogues)
 
-    posted : (ms : List Message) → ((m : Message) → Member m ms → FewMessage (shape_of c).shards (most_in (shape_of c)) (finds_in (shape_of c) c.catalogues) m) → AreFew (post ms c)
+    posted : (ms : List Message) → ((m : Message) → Member m ms → FewMessage (shape_of c).shards (most_in rounds (shape_of c)) (finds_in (shape_of c) c.catalogues) m) → AreFew rounds (post ms c)
     posted ms all = record { standing = few.standing; waiting = few.waiting; messages = all_sent P ms c.pool all few.messages }
 
     past : (cs : List Catalogue) (none : Catalogue) (k : ℕ) → length cs ≤ k → slice_index_or cs k none ≡ none
@@ -254,28 +256,28 @@ few_again back shard c few = go (sent_back back (catalogue_of shard c).run)
     never [] all m k = elim k [ ]
     never (s ∷ sends) all m k = all.0
 
-    all_go : (at : ℕ × ℕ) → (m : Message) → Member m (round_messages shard (messages (catalogue_of shard c).shape.shards at.0 at.1 (catalogue_of shard c).run)) → FewMessage (shape_of c).shards (most_in (shape_of c)) (finds_in (shape_of c) c.catalogues) m
+    all_go : (at : ℕ × ℕ) → (m : Message) → Member m (round_messages shard (messages (catalogue_of shard c).shape.shards at.0 at.1 (catalogue_of shard c).run)) → FewMessage (shape_of c).shards (most_in rounds (shape_of c)) (finds_in (shape_of c) c.catalogues) m
     all_go at m k = by_place (le_or (shape_of c).shards shard)
       where
-        by_place : ((shape_of c).shards ≤ shard) ⊎ (shard < (shape_of c).shards) → FewMessage (shape_of c).shards (most_in (shape_of c)) (finds_in (shape_of c) c.catalogues) m
+        by_place : ((shape_of c).shards ≤ shard) ⊎ (shard < (shape_of c).shards) → FewMessage (shape_of c).shards (most_in rounds (shape_of c)) (finds_in (shape_of c) c.catalogues) m
         by_place (inr low) =
-            messages_go (shape_of c).shards (most_in (shape_of c)) (finds_in (shape_of c) c.catalogues) shard low (messages (catalogue_of shard c).shape.shards at.0 at.1 (catalogue_of shard c).run)
-            (subst (λ (s : Shape). AllByRecursion (MayGo (shape_of c).shards (most_in (shape_of c)) (finds_in (shape_of c) c.catalogues)) (messages s.shards at.0 at.1 (catalogue_of shard c).run)) (sym (few.standing.each shard low).shape_is)
-            (messages_few (most_in (shape_of c)) (finds_in (shape_of c) c.catalogues) (shape_of c).shards at.0 at.1 (catalogue_of shard c).run (few.standing.sent shard low))) m k
+            messages_go (shape_of c).shards (most_in rounds (shape_of c)) (finds_in (shape_of c) c.catalogues) shard low (messages (catalogue_of shard c).shape.shards at.0 at.1 (catalogue_of shard c).run)
+            (subst (λ (s : Shape). AllByRecursion (MayGo (shape_of c).shards (most_in rounds (shape_of c)) (finds_in (shape_of c) c.catalogues)) (messages s.shards at.0 at.1 (catalogue_of shard c).run)) (sym (few.standing.each shard low).shape_is)
+            (messages_few (most_in rounds (shape_of c)) (finds_in (shape_of c) c.catalogues) (shape_of c).shards at.0 at.1 (catalogue_of shard c).run (few.standing.sent shard low))) m k
         by_place (inl high) =
             absurd (never (messages (shape_of c).shards at.0 at.1 (empty_catalogue (shape_of c) shard).run) (none_go (shape_of c).shards at.0 at.1 0 (shape_of c).shards) m
             (subst (λ (x : Catalogue). Member m (round_messages shard (messages x.shape.shards at.0 at.1 x.run))) (past c.catalogues (empty_catalogue (shape_of c) shard) shard (let l = few.standing.long in omega (arith, l, high))) k))
 
-    go : (o : Option (ℕ × ℕ)) → AreFew (change_with o (λ at. post (round_messages shard (messages (catalogue_of shard c).shape.shards at.0 at.1 (catalogue_of shard c).run))) c)
+    go : (o : Option (ℕ × ℕ)) → AreFew rounds (change_with o (λ at. post (round_messages shard (messages (catalogue_of shard c).shape.shards at.0 at.1 (catalogue_of shard c).run))) c)
     go None = few
     go (Some at) = posted (round_messages shard (messages (catalogue_of shard c).shape.shards at.0 at.1 (catalogue_of shard c).run)) (all_go at)
 
 -- ---- an entry takes effect
 
-pub few_effect : (name : List ℕ → Address) (shard number : ℕ) (x : Entry) (c : Core) → shard < (shape_of c).shards → committed (group_of shard c) ≡ Some (number, x) → IsOrderly name c
-    → FewEntry (shape_of c).shards (most_in (shape_of c)) (finds_in (shape_of c) c.catalogues) x → ((line epoch : ℕ) → x ≡ kind.Enter line epoch → epoch ≤ LAST_EPOCH) → AreFew c → AreFew (told_at_once shard x c)
-few_effect name shard number x c low leads orderly came enter few =
-    few_quiet then (told_at_once shard x c) (at_once_quiet shard x (done_by shard x c).effect then)
+pub few_effect : (rounds : ℕ) (name : List ℕ → Address) (shard number : ℕ) (x : Entry) (c : Core) → shard < (shape_of c).shards → committed (group_of shard c) ≡ Some (number, x) → IsOrderly name c
+    → FewEntry (shape_of c).shards (most_in rounds (shape_of c)) (finds_in (shape_of c) c.catalogues) x → ((line epoch : ℕ) → x ≡ kind.Enter line epoch → epoch ≤ LAST_EPOCH) → AreFew rounds c → AreFew rounds (told_at_once shard x c)
+few_effect rounds name shard number x c low leads orderly came enter few =
+    few_quiet rounds then (told_at_once shard x c) (at_once_quiet shard x (done_by shard x c).effect then)
     (each_told (λ g n y. FewEntry shards most finds y) shard then x (done_by shard x c).effect (λ line did. each_goes (λ g n y. FewEntry shards most finds y) (λ v o. effect_step v did o) line then
     (λ u at entry made. asked_few shards most finds name c.sessions u.operation.line (of_line name c orderly line u at) u.operation.op entry (done_asks did name (view_for u.shard u.operation.op then) u.operation (orderly.pending line u at).called entry made).0) behind.waiting) behind.waiting)
     (way_told (FewMessage (shape_of c).shards most finds) (λ g to view n entry. tt) shard x (done_by shard x c).effect then behind.messages) behind
@@ -287,13 +289,13 @@ few_effect name shard number x c low leads orderly came enter few =
     shards = (shape_of c).shards
 
     most : ℕ
-    most = most_in (shape_of c)
+    most = most_in rounds (shape_of c)
 
     finds : ℕ → ℕ
     finds = finds_in (shape_of c) (taken shard x c).catalogues
 
-    behind : AreFew (taken shard x c)
-    behind = few_taken shard number x c low leads few came enter
+    behind : AreFew rounds (taken shard x c)
+    behind = few_taken rounds shard number x c low leads few came enter
 
 -- ---- as a core opens
 
@@ -307,32 +309,29 @@ viewed_quiet shard c = both c told (propose_entry shard (kind.View (view_of shar
     told : Core
     told = post (renewal (group_of shard cut)) cut
 
-few_viewed : (shard : ℕ) (c : Core) → AreFew c → AreFew (begin_view shard c)
-few_viewed shard c few =
-    few_quiet c (begin_view shard c) (viewed_quiet shard c)
-    (each_viewed shard c (λ g n x. FewEntry (shape_of c).shards (most_in (shape_of c)) (finds_in (shape_of c) c.catalogues) x) tt few.waiting)
-    (way_viewed (FewMessage (shape_of c).shards (most_in (shape_of c)) (finds_in (shape_of c) c.catalogues)) (asks_rounds (shape_of c) c.catalogues) shard c few.messages) few
+few_viewed : (rounds shard : ℕ) (c : Core) → AreFew rounds c → AreFew rounds (begin_view shard c)
+few_viewed rounds shard c few =
+    few_quiet rounds c (begin_view shard c) (viewed_quiet shard c)
+    (each_viewed shard c (λ g n x. FewEntry (shape_of c).shards (most_in rounds (shape_of c)) (finds_in (shape_of c) c.catalogues) x) tt few.waiting)
+    (way_viewed (FewMessage (shape_of c).shards (most_in rounds (shape_of c)) (finds_in (shape_of c) c.catalogues)) (asks_rounds rounds (shape_of c) c.catalogues) shard c few.messages) few
 
-keeps_few : KeepsFirst AreFew
-keeps_few = record { beside = few_beside; downed = λ peer c few. few_downed peer 0 c few; views = λ shard c low none few. few_viewed shard c few }
+keeps_few : (rounds : ℕ) → KeepsFirst (AreFew rounds)
+keeps_few rounds = record { beside = few_beside rounds; downed = λ peer c few. few_downed rounds peer 0 c few; views = λ shard c low none few. few_viewed rounds shard c few }
 
--- ---- lists that may be read
-
-last_low : (n : ℕ) → n < 2 ^ 48 → n ≤ LAST_EPOCH
-last_low n h = let is : 2 ^ 48 ≡ LAST_EPOCH + 1 = refl in omega (arith, h, is)
+-- ---- lists whose epochs may be, and which tell no round above some number
 
 first_low : 1 ≤ LAST_EPOCH
 first_low = leb-true 1 LAST_EPOCH refl
 
-module _ (shape : Shape) (shard : ℕ) where
+module _ (rounds : ℕ) (shape : Shape) (shard : ℕ) where
   -- whatever others may find
   abbrev most_others : ℕ → ℕ
   most_others epoch = (most_blocks + 1) * shape.shards
 
-  room : (epoch : ℕ) → (most_blocks + 2) + most_others epoch ≤ most_in shape
+  room : (epoch : ℕ) → (most_blocks + 2) + most_others epoch ≤ most_in rounds shape
   room epoch =
       let up : (most_blocks + 1) * (shape.shards + 1) ≡ (most_blocks + 1) * shape.shards + (most_blocks + 1) = ap (λ k. (most_blocks + 1) * k) (next shape.shards) ∙ mul-suc (most_blocks + 1) shape.shards in
-      plus most_blocks ((most_blocks + 1) * shape.shards) ((most_blocks + 1) * (shape.shards + 1)) (2 ^ 32) up base_some
+      plus most_blocks ((most_blocks + 1) * shape.shards) ((most_blocks + 1) * (shape.shards + 1)) (rounds + 1) up (base_some rounds)
     where
       next : (k : ℕ) → k + 1 ≡ suc k
       next k = omega arith
@@ -341,42 +340,42 @@ module _ (shape : Shape) (shard : ℕ) where
       plus b o m p e h = omega (arith, e, h)
 
   abbrev Opens : Catalogue → Type 0
-  Opens c = Good shape shard (most_in shape) most_others room (only what.Nothing c)
+  Opens c = Good shape shard (most_in rounds shape) most_others room (only what.Nothing c)
 
-  read_few : (c : Catalogue) → Opens c → (epoch round total : ℕ) → epoch < 2 ^ 48 → round < 2 ^ 32 → IsFew (most_in shape) (all_finds shape shard (most_in shape) most_others room c) epoch round total
+  read_few : (c : Catalogue) → Opens c → (epoch round total : ℕ) → epoch ≤ LAST_EPOCH → round ≤ rounds → IsFew (most_in rounds shape) (all_finds shape shard (most_in rounds shape) most_others room c) epoch round total
   read_few c good epoch round total low few = (
-    last_low epoch low,
+    low,
     (
         let up : (most_blocks + 1) * (shape.shards + 1) ≡ (most_blocks + 1) * shape.shards + (most_blocks + 1) = ap (λ k. (most_blocks + 1) * k) (next shape.shards) ∙ mul-suc (most_blocks + 1) shape.shards in
         let one = some_most total in
         let most = finds_most epoch c good.stands.blocks in
-        plus round (some_of total) (finds_of epoch c) most_blocks ((most_blocks + 1) * shape.shards) ((most_blocks + 1) * (shape.shards + 1)) (2 ^ 32) one most few up),
+        plus round (some_of total) (finds_of epoch c) most_blocks ((most_blocks + 1) * shape.shards) ((most_blocks + 1) * (shape.shards + 1)) rounds one most few up),
   )
     where
       next : (k : ℕ) → k + 1 ≡ suc k
       next k = omega arith
 
-      plus : (r s f b o m p : ℕ) → s ≤ 1 → f ≤ b + 1 → r < p → m ≡ o + (b + 1) → (r + s) + (f + o) ≤ p + m
+      plus : (r s f b o m p : ℕ) → s ≤ 1 → f ≤ b + 1 → r ≤ p → m ≡ o + (b + 1) → (r + s) + (f + o) ≤ (p + 1) + m
       plus r s f b o m p a c d e = omega (arith, a, c, d, e)
 
-  read_brings : (c : Catalogue) → Opens c → (x : Entry) → IsReadable x → Brings (most_in shape) (all_finds shape shard (most_in shape) most_others room c) x
-  read_brings c good (kind.Got from epoch round total deltas) read = read_few c good epoch round total read.2 read.3
-  read_brings c good (kind.Enter line epoch) read = last_low epoch read.2
-  read_brings c good (kind.View view) read = tt
-  read_brings c good (kind.Block line least bytes) read = tt
-  read_brings c good (kind.Mark line least block a) read = tt
-  read_brings c good (kind.Root line held a key) read = tt
-  read_brings c good (kind.Drop line key) read = tt
-  read_brings c good (kind.Base view epoch swept round frames) read = tt
-  read_brings c good (kind.KeptBlock born mark flags count bytes) read = tt
-  read_brings c good (kind.KeptRoot created dropped counted a key) read = tt
-  read_brings c good (kind.KeptRound way other epoch round total deltas) read = tt
+  read_brings : (c : Catalogue) → Opens c → (x : Entry) → IsOfLowEpoch x → round_of x ≤ rounds → Brings (most_in rounds shape) (all_finds shape shard (most_in rounds shape) most_others room c) x
+  read_brings c good (kind.Got from epoch round total deltas) low told = read_few c good epoch round total low told
+  read_brings c good (kind.Enter line epoch) low told = low
+  read_brings c good (kind.View view) low told = tt
+  read_brings c good (kind.Block line least bytes) low told = tt
+  read_brings c good (kind.Mark line least block a) low told = tt
+  read_brings c good (kind.Root line held a key) low told = tt
+  read_brings c good (kind.Drop line key) low told = tt
+  read_brings c good (kind.Base view epoch swept round frames) low told = tt
+  read_brings c good (kind.KeptBlock born mark flags count bytes) low told = tt
+  read_brings c good (kind.KeptRoot created dropped counted a key) low told = tt
+  read_brings c good (kind.KeptRound way other epoch round total deltas) low told = tt
 
-  all_opens : (name : List ℕ → Address) (list : Numbered) (c : Catalogue) → AllByRecursion (λ (e : ℕ × Entry). IsReadable e.1) list → Opens c → Opens (apply_all name c list)
-  all_opens name [] c read good = good
-  all_opens name (e ∷ list) c read good =
-      let one = applied shape shard (most_in shape) most_others room e.0 e.1 (named_by name e.1) c good (read_brings c good e.1 read.0) in
-      all_opens name list (apply e.0 e.1 (named_by name e.1) c).catalogue read.1 (record { stands = one.good.stands; gots = one.good.gots; sent = one.good.sent; sends = tt })
+  all_opens : (name : List ℕ → Address) (list : Numbered) (c : Catalogue) → AllByRecursion (λ (e : ℕ × Entry). IsOfLowEpoch e.1) list → AllByRecursion (λ (e : ℕ × Entry). round_of e.1 ≤ rounds) list → Opens c → Opens (apply_all name c list)
+  all_opens name [] c lows told good = good
+  all_opens name (e ∷ list) c lows told good =
+      let one = applied shape shard (most_in rounds shape) most_others room e.0 e.1 (named_by name e.1) c good (read_brings c good e.1 lows.0 told.0) in
+      all_opens name list (apply e.0 e.1 (named_by name e.1) c).catalogue lows.1 told.1 (record { stands = one.good.stands; gots = one.good.gots; sent = one.good.sent; sends = tt })
 
   opens_empty : Opens (empty_catalogue shape shard)
   opens_empty = record {
@@ -391,15 +390,18 @@ map_at f none from zero k low = absurd (omega (arith, low))
 map_at f none from (suc n) zero low = ap f (omega arith)
 map_at f none from (suc n) (suc k) low = map_at f none (from + 1) n k (omega (arith, low)) ∙ ap f (omega arith)
 
-module _ (set : Setting) (found : Found) (read : (shard : ℕ) → shard < set.shape.shards → AllByRecursion (λ (e : ℕ × Entry). IsReadable e.1) (opened_list set found shard)) where
+module _ (set : Setting) (found : Found) (lows : (shard : ℕ) → shard < set.shape.shards → AllByRecursion (λ (e : ℕ × Entry). IsOfLowEpoch e.1) (opened_list set found shard)) where
+  abbrev rounds : ℕ
+  rounds = rounds_told set found
+
   abbrev opened : List Catalogue
   opened = (opens_with set found).catalogues
 
   opened_at : (k : ℕ) → k < set.shape.shards → shard_at set.shape (opens_with set found).catalogues k ≡ opened_catalogue set found k
   opened_at k low = map_at (opened_catalogue set found) (empty_catalogue set.shape k) 0 set.shape.shards k low ∙ ap (opened_catalogue set found) (omega arith)
 
-  opens_good : (k : ℕ) → k < set.shape.shards → Opens set.shape k (shard_at set.shape (opens_with set found).catalogues k)
-  opens_good k low = subst (λ (x : Catalogue). Opens set.shape k x) (sym (opened_at k low)) (all_opens set.shape k set.name (opened_list set found k) (empty_catalogue set.shape k) (read k low) (opens_empty set.shape k))
+  opens_good : (k : ℕ) → k < set.shape.shards → Opens rounds set.shape k (shard_at set.shape (opens_with set found).catalogues k)
+  opens_good k low = subst (λ (x : Catalogue). Opens rounds set.shape k x) (sym (opened_at k low)) (all_opens rounds set.shape k set.name (opened_list set found k) (empty_catalogue set.shape k) (lows k low) (told_all set found k low) (opens_empty rounds set.shape k))
 
   long : length (opens_with set found).catalogues ≡ set.shape.shards
   long = length-map (range_with_len 0 set.shape.shards) (opened_catalogue set found) ∙ length_range 0 set.shape.shards
@@ -407,23 +409,23 @@ module _ (set : Setting) (found : Found) (read : (shard : ℕ) → shard < set.s
   few_all : (epoch : ℕ) → finds_in set.shape (opens_with set found).catalogues epoch ≤ (most_blocks + 1) * set.shape.shards
   few_all epoch = finds_all set.shape (opens_with set found).catalogues long (λ k low. (opens_good k low).stands.blocks) epoch
 
-  less : (k : ℕ) → (epoch : ℕ) → finds_in set.shape (opens_with set found).catalogues epoch ≤ all_finds set.shape k (most_in set.shape) (most_others set.shape k) (room set.shape k) (shard_at set.shape (opens_with set found).catalogues k) epoch
+  less : (k : ℕ) → (epoch : ℕ) → finds_in set.shape (opens_with set found).catalogues epoch ≤ all_finds set.shape k (most_in rounds set.shape) (most_others rounds set.shape k) (room rounds set.shape k) (shard_at set.shape (opens_with set found).catalogues k) epoch
   less k epoch = let h = few_all epoch in plus (finds_in set.shape (opens_with set found).catalogues epoch) ((most_blocks + 1) * set.shape.shards) (finds_of epoch (shard_at set.shape (opens_with set found).catalogues k)) h
     where
       plus : (x y z : ℕ) → x ≤ y → x ≤ z + y
       plus x y z h = omega (arith, h)
 
-  opens_standing : AreStanding set.shape (opens_with set found).catalogues
+  opens_standing : AreStanding rounds set.shape (opens_with set found).catalogues
   opens_standing = record {
     long = long;
     each = λ k low. (opens_good k low).stands;
     gots = λ k low place told at.
-        few_less (most_in set.shape) (all_finds set.shape k (most_in set.shape) (most_others set.shape k) (room set.shape k) (shard_at set.shape opened k)) (finds_in set.shape opened) place.epoch place.round told.total (less k place.epoch) ((opens_good k low).gots place told at);
+        few_less (most_in rounds set.shape) (all_finds set.shape k (most_in rounds set.shape) (most_others rounds set.shape k) (room rounds set.shape k) (shard_at set.shape opened k)) (finds_in set.shape opened) place.epoch place.round told.total (less k place.epoch) ((opens_good k low).gots place told at);
     sent = λ k low.
-        sent_less (most_in set.shape) (all_finds set.shape k (most_in set.shape) (most_others set.shape k) (room set.shape k) (shard_at set.shape opened k)) (finds_in set.shape opened) (less k) (shard_at set.shape opened k).run.sent (opens_good k low).sent;
+        sent_less (most_in rounds set.shape) (all_finds set.shape k (most_in rounds set.shape) (most_others rounds set.shape k) (room rounds set.shape k) (shard_at set.shape opened k)) (finds_in set.shape opened) (less k) (shard_at set.shape opened k).run.sent (opens_good k low).sent;
   }
 
-  few_new : (name : List ℕ → Address) (limits : Limits) (moment : ℕ) → AreFew (new_core set.shape limits (opens_with set found) moment)
+  few_new : (name : List ℕ → Address) (limits : Limits) (moment : ℕ) → AreFew rounds (new_core set.shape limits (opens_with set found) moment)
   few_new name limits moment = record { standing = opens_standing; waiting = λ g place x at. absurd (never g place x at); messages = All-nil _ }
     where
       nothing : (at : ℕ) (e : Entry) → slice_get [] at ≡ Some e → ⊥
@@ -433,5 +435,5 @@ module _ (set : Setting) (found : Found) (read : (shard : ℕ) → shard < set.s
       never : (g at : ℕ) (e : Entry) → slice_get (group_of g (new_core set.shape limits (opens_with set found) moment)).waiting at ≡ Some e → ⊥
       never g at e h = nothing at e (sym (ap (λ es. slice_get es at) (none_wait name set.shape (opens_with set found) _ g _ refl)) ∙ h)
 
-  pub first_few : AreFew (first_core set found)
-  first_few = first_held AreFew keeps_few set.shape set.limits (opens_with set found) found.opened (few_new set.name set.limits found.opened)
+  pub first_few : AreFew (rounds_told set found) (first_core set found)
+  first_few = first_held (AreFew rounds) (keeps_few rounds) set.shape set.limits (opens_with set found) found.opened (few_new set.name set.limits found.opened)

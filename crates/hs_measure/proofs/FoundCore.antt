@@ -1,6 +1,5 @@
 -- How all shards stand: each round that they have, and each that is under way or waits, is one that may be; and so it is behind an entry.
-use Rattle.std.proofs.Common.{◌≡◌, ◌∙◌, sym, ap, subst, refl, ◌⊎◌, inl, inr, ℕ, zero, suc, ◌+◌, ◌-◌, ◌*◌, ◌^◌, ◌<◌, ◌≤◌, List, [], ◌∷◌, Some, arith, length, slice_index_or, sum_by}
-use Rattle.std.proofs.lemmas.Bool.{leb-true}
+use Rattle.std.proofs.Common.{◌≡◌, ◌∙◌, sym, ap, subst, refl, ◌⊎◌, inl, inr, ℕ, zero, suc, ◌+◌, ◌-◌, ◌*◌, ◌<◌, ◌≤◌, List, [], ◌∷◌, Some, arith, length, slice_index_or, sum_by}
 use Rattle.std.proofs.lemmas.List.{length-set}
 use Rattle.std.proofs.lemmas.List.Elements.{All-weaker}
 use Rattle.std.proofs.lemmas.List.Sums.{sum_by-cons}
@@ -44,14 +43,14 @@ shard_at shape cs k = slice_index_or cs k (empty_catalogue shape k)
 abbrev pub finds_in : Shape → List Catalogue → ℕ → ℕ
 finds_in shape cs epoch = sum_by (λ k. finds_of epoch (shard_at shape cs k)) (range_with_len 0 shape.shards)
 
-abbrev pub most_in : Shape → ℕ
-most_in shape = most_rounds shape.shards
+abbrev pub most_in : ℕ → Shape → ℕ
+most_in rounds shape = most_rounds rounds shape.shards
 
-pub record AreStanding (shape : Shape) (cs : List Catalogue) : Type 0 where
+pub record AreStanding (rounds : ℕ) (shape : Shape) (cs : List Catalogue) : Type 0 where
   pub long : length cs ≡ shape.shards
-  pub each : (k : ℕ) → k < shape.shards → IsOfShard shape k (most_in shape) (shard_at shape cs k)
-  pub gots : (k : ℕ) → k < shape.shards → GotsFew (most_in shape) (finds_in shape cs) (shard_at shape cs k).run.gots
-  pub sent : (k : ℕ) → k < shape.shards → SentFew (most_in shape) (finds_in shape cs) (shard_at shape cs k).run.sent
+  pub each : (k : ℕ) → k < shape.shards → IsOfShard shape k (most_in rounds shape) (shard_at shape cs k)
+  pub gots : (k : ℕ) → k < shape.shards → GotsFew (most_in rounds shape) (finds_in shape cs) (shard_at shape cs k).run.gots
+  pub sent : (k : ℕ) → k < shape.shards → SentFew (most_in rounds shape) (finds_in shape cs) (shard_at shape cs k).run.sent
 
 -- ---- what waits and what is under way
 
@@ -74,16 +73,16 @@ FewMessage shards most finds (message.Copy shard to view number entry) = Unit {0
 FewMessage shards most finds (message.Have shard from to view sealed) = Unit {0}
 FewMessage shards most finds (message.Round from to epoch round total deltas) = (to < shards) × ((from < shards) × IsFew most finds epoch round total)
 
-abbrev pub EntriesFew : Shape → List Catalogue → Core → Type 0
-EntriesFew shape cs c = Each (λ g n x. FewEntry shape.shards (most_in shape) (finds_in shape cs) x) c
+abbrev pub EntriesFew : ℕ → Shape → List Catalogue → Core → Type 0
+EntriesFew rounds shape cs c = Each (λ g n x. FewEntry shape.shards (most_in rounds shape) (finds_in shape cs) x) c
 
-abbrev pub MessagesFew : Shape → List Catalogue → Core → Type 0
-MessagesFew shape cs c = AreUnderWay (FewMessage shape.shards (most_in shape) (finds_in shape cs)) c
+abbrev pub MessagesFew : ℕ → Shape → List Catalogue → Core → Type 0
+MessagesFew rounds shape cs c = AreUnderWay (FewMessage shape.shards (most_in rounds shape) (finds_in shape cs)) c
 
-pub record AreFew (c : Core) : Type 0 where
-  pub standing : AreStanding (shape_of c) c.catalogues
-  pub waiting : EntriesFew (shape_of c) c.catalogues c
-  pub messages : MessagesFew (shape_of c) c.catalogues c
+pub record AreFew (rounds : ℕ) (c : Core) : Type 0 where
+  pub standing : AreStanding rounds (shape_of c) c.catalogues
+  pub waiting : EntriesFew rounds (shape_of c) c.catalogues c
+  pub messages : MessagesFew rounds (shape_of c) c.catalogues c
 
 pub entry_less : (shards most : ℕ) (f g : ℕ → ℕ) → ((e : ℕ) → g e ≤ f e) → (x : Entry) → FewEntry shards most f x → FewEntry shards most g x
 entry_less shards most f g le (kind.Got from epoch round total deltas) few = (few.0, few_less most f g epoch round total (le epoch) few.1)
@@ -139,8 +138,8 @@ past [] none k h = refl
 past (x ∷ cs) none zero h = absurd (omega (arith, h))
 past (x ∷ cs) none (suc k) h = past cs none k (omega (arith, h))
 
-pub base_some : 1 ≤ 2 ^ 32
-base_some = leb-true 1 (2 ^ 32) refl
+pub base_some : (rounds : ℕ) → 1 ≤ rounds + 1
+base_some rounds = omega arith
 
 -- all shards may find so much at most; one that there is not finds nothing
 module _ (shape : Shape) (cs : List Catalogue) (long : length cs ≡ shape.shards) (blocks : (k : ℕ) → k < shape.shards → length (shard_at shape cs k).blocks ≤ most_blocks) where
@@ -158,7 +157,7 @@ module _ (shape : Shape) (cs : List Catalogue) (long : length cs ≡ shape.shard
 
 -- ---- one of them
 
-module _ (shape : Shape) (cs : List Catalogue) (its : AreStanding shape cs) (shard : ℕ) (low : shard < shape.shards) where
+module _ (rounds : ℕ) (shape : Shape) (cs : List Catalogue) (its : AreStanding rounds shape cs) (shard : ℕ) (low : shard < shape.shards) where
   abbrev pub here : Catalogue
   here = shard_at shape cs shard
 
@@ -173,10 +172,10 @@ module _ (shape : Shape) (cs : List Catalogue) (its : AreStanding shape cs) (sha
   abbrev pub others : ℕ → ℕ
   others epoch = finds_in shape cs epoch - finds_of epoch (shard_at shape cs shard)
 
-  pub wide : (epoch : ℕ) → (most_blocks + 2) + others epoch ≤ most_in shape
+  pub wide : (epoch : ℕ) → (most_blocks + 2) + others epoch ≤ most_in rounds shape
   wide epoch =
       let all = all_few epoch in
-      plus most_blocks (others epoch) (most_in shape) (wide_by (most_blocks + 1) shape.shards (others epoch) (most_in shape) (2 ^ 32) (less (finds_in shape cs epoch) (finds_of epoch (shard_at shape cs shard)) ((most_blocks + 1) * shape.shards) all) base_some refl)
+      plus most_blocks (others epoch) (most_in rounds shape) (wide_by (most_blocks + 1) shape.shards (others epoch) (most_in rounds shape) (rounds + 1) (less (finds_in shape cs epoch) (finds_of epoch (shard_at shape cs shard)) ((most_blocks + 1) * shape.shards) all) (base_some rounds) refl)
     where
       less : (x y z : ℕ) → x ≤ z → x - y ≤ z
       less x y z h = omega (arith, h)
@@ -184,23 +183,23 @@ module _ (shape : Shape) (cs : List Catalogue) (its : AreStanding shape cs) (sha
       plus : (b o m : ℕ) → ((b + 1) + 1) + o ≤ m → (b + 2) + o ≤ m
       plus b o m h = omega (arith, h)
 
-  same_finds : (epoch : ℕ) → all_finds shape shard (most_in shape) others wide (shard_at shape cs shard) epoch ≤ finds_in shape cs epoch
+  same_finds : (epoch : ℕ) → all_finds shape shard (most_in rounds shape) others wide (shard_at shape cs shard) epoch ≤ finds_in shape cs epoch
   same_finds epoch = let h = among epoch in back (finds_of epoch (shard_at shape cs shard)) (finds_in shape cs epoch) h
     where
       back : (x y : ℕ) → x ≤ y → x + (y - x) ≤ y
       back x y h = omega (arith, h)
 
-  pub good : Good shape shard (most_in shape) others wide (only what.Nothing (shard_at shape cs shard))
+  pub good : Good shape shard (most_in rounds shape) others wide (only what.Nothing (shard_at shape cs shard))
   good = record {
     stands = its.each shard low;
-    gots = λ place told at. few_less (most_in shape) (finds_in shape cs) (all_finds shape shard (most_in shape) others wide (shard_at shape cs shard)) place.epoch place.round told.total (same_finds place.epoch) (its.gots shard low place told at);
-    sent = sent_less (most_in shape) (finds_in shape cs) (all_finds shape shard (most_in shape) others wide (shard_at shape cs shard)) same_finds (shard_at shape cs shard).run.sent (its.sent shard low);
+    gots = λ place told at. few_less (most_in rounds shape) (finds_in shape cs) (all_finds shape shard (most_in rounds shape) others wide (shard_at shape cs shard)) place.epoch place.round told.total (same_finds place.epoch) (its.gots shard low place told at);
+    sent = sent_less (most_in rounds shape) (finds_in shape cs) (all_finds shape shard (most_in rounds shape) others wide (shard_at shape cs shard)) same_finds (shard_at shape cs shard).run.sent (its.sent shard low);
     sends = tt;
   }
 
   -- an entry that may wait may come, where an Enter that a line asked for has an epoch that may be
-  pub brings : (x : Entry) → FewEntry shape.shards (most_in shape) (finds_in shape cs) x → ((line epoch : ℕ) → x ≡ kind.Enter line epoch → epoch ≤ LAST_EPOCH) → Brings (most_in shape) (all_finds shape shard (most_in shape) others wide (shard_at shape cs shard)) x
-  brings (kind.Got from epoch round total deltas) few enter = few_less (most_in shape) (finds_in shape cs) (all_finds shape shard (most_in shape) others wide (shard_at shape cs shard)) epoch round total (same_finds epoch) few.1
+  pub brings : (x : Entry) → FewEntry shape.shards (most_in rounds shape) (finds_in shape cs) x → ((line epoch : ℕ) → x ≡ kind.Enter line epoch → epoch ≤ LAST_EPOCH) → Brings (most_in rounds shape) (all_finds shape shard (most_in rounds shape) others wide (shard_at shape cs shard)) x
+  brings (kind.Got from epoch round total deltas) few enter = few_less (most_in rounds shape) (finds_in shape cs) (all_finds shape shard (most_in rounds shape) others wide (shard_at shape cs shard)) epoch round total (same_finds epoch) few.1
   brings (kind.Enter line epoch) few enter = enter line epoch refl
   brings (kind.View view) few enter = tt
   brings (kind.Block line least bytes) few enter = tt
@@ -214,7 +213,7 @@ module _ (shape : Shape) (cs : List Catalogue) (its : AreStanding shape cs) (sha
 
   -- ---- an entry takes effect
 
-  module _ (a : Applied) (after : After shape shard (most_in shape) others wide (shard_at shape cs shard) a) where
+  module _ (a : Applied) (after : After shape shard (most_in rounds shape) others wide (shard_at shape cs shard) a) where
     abbrev pub then : List Catalogue
     then = slice_set cs shard a.catalogue
 
@@ -245,7 +244,7 @@ module _ (shape : Shape) (cs : List Catalogue) (its : AreStanding shape cs) (sha
         down : (x y z w : ℕ) → x + y ≤ z + w → w ≤ y → x ≤ z
         down x y z w h k = omega (arith, h, k)
 
-    within : (epoch : ℕ) → finds_in shape (slice_set cs shard a.catalogue) epoch ≤ all_finds shape shard (most_in shape) others wide a.catalogue epoch
+    within : (epoch : ℕ) → finds_in shape (slice_set cs shard a.catalogue) epoch ≤ all_finds shape shard (most_in rounds shape) others wide a.catalogue epoch
     within epoch =
         let m = moved epoch in
         let h = among epoch in
@@ -254,68 +253,68 @@ module _ (shape : Shape) (cs : List Catalogue) (its : AreStanding shape cs) (sha
         in_all : (x y z w : ℕ) → x + y ≤ z + w → y ≤ z → x ≤ w + (z - y)
         in_all x y z w h k = omega (arith, h, k)
 
-    pub standing_then : AreStanding shape (slice_set cs shard a.catalogue)
+    pub standing_then : AreStanding rounds shape (slice_set cs shard a.catalogue)
     standing_then = record { long = length-set cs shard a.catalogue ∙ its.long; each = each; gots = gots; sent = sent }
       where
-        each : (k : ℕ) → k < shape.shards → IsOfShard shape k (most_in shape) (shard_at shape (slice_set cs shard a.catalogue) k)
+        each : (k : ℕ) → k < shape.shards → IsOfShard shape k (most_in rounds shape) (shard_at shape (slice_set cs shard a.catalogue) k)
         each k l = by_shard (one_or_other k shard)
           where
-            by_shard : (k ≡ shard) ⊎ (k ≡ shard → ⊥) → IsOfShard shape k (most_in shape) (shard_at shape (slice_set cs shard a.catalogue) k)
+            by_shard : (k ≡ shard) ⊎ (k ≡ shard → ⊥) → IsOfShard shape k (most_in rounds shape) (shard_at shape (slice_set cs shard a.catalogue) k)
             by_shard (inl is) =
-                subst (λ j. IsOfShard shape j (most_in shape) (shard_at shape (slice_set cs shard a.catalogue) j)) (sym is)
-                (subst (λ (x : Catalogue). IsOfShard shape shard (most_in shape) x) (sym here_then) after.good.stands)
-            by_shard (inr d) = subst (λ (x : Catalogue). IsOfShard shape k (most_in shape) x) (sym (other_then k d)) (its.each k l)
+                subst (λ j. IsOfShard shape j (most_in rounds shape) (shard_at shape (slice_set cs shard a.catalogue) j)) (sym is)
+                (subst (λ (x : Catalogue). IsOfShard shape shard (most_in rounds shape) x) (sym here_then) after.good.stands)
+            by_shard (inr d) = subst (λ (x : Catalogue). IsOfShard shape k (most_in rounds shape) x) (sym (other_then k d)) (its.each k l)
 
-        gots : (k : ℕ) → k < shape.shards → GotsFew (most_in shape) finds_then (shard_at shape (slice_set cs shard a.catalogue) k).run.gots
+        gots : (k : ℕ) → k < shape.shards → GotsFew (most_in rounds shape) finds_then (shard_at shape (slice_set cs shard a.catalogue) k).run.gots
         gots k l = by_shard (one_or_other k shard)
           where
-            by_shard : (k ≡ shard) ⊎ (k ≡ shard → ⊥) → GotsFew (most_in shape) finds_then (shard_at shape (slice_set cs shard a.catalogue) k).run.gots
+            by_shard : (k ≡ shard) ⊎ (k ≡ shard → ⊥) → GotsFew (most_in rounds shape) finds_then (shard_at shape (slice_set cs shard a.catalogue) k).run.gots
             by_shard (inl is) =
-                subst (λ j. GotsFew (most_in shape) finds_then (shard_at shape (slice_set cs shard a.catalogue) j).run.gots) (sym is)
-                (subst (λ (x : Catalogue). GotsFew (most_in shape) finds_then x.run.gots) (sym here_then)
-                (λ place told at. few_less (most_in shape) (all_finds shape shard (most_in shape) others wide a.catalogue) finds_then place.epoch place.round told.total (within place.epoch) (after.good.gots place told at)))
+                subst (λ j. GotsFew (most_in rounds shape) finds_then (shard_at shape (slice_set cs shard a.catalogue) j).run.gots) (sym is)
+                (subst (λ (x : Catalogue). GotsFew (most_in rounds shape) finds_then x.run.gots) (sym here_then)
+                (λ place told at. few_less (most_in rounds shape) (all_finds shape shard (most_in rounds shape) others wide a.catalogue) finds_then place.epoch place.round told.total (within place.epoch) (after.good.gots place told at)))
             by_shard (inr d) =
-                subst (λ (x : Catalogue). GotsFew (most_in shape) finds_then x.run.gots) (sym (other_then k d))
-                (λ place told at. few_less (most_in shape) (finds_in shape cs) finds_then place.epoch place.round told.total (fewer place.epoch) (its.gots k l place told at))
+                subst (λ (x : Catalogue). GotsFew (most_in rounds shape) finds_then x.run.gots) (sym (other_then k d))
+                (λ place told at. few_less (most_in rounds shape) (finds_in shape cs) finds_then place.epoch place.round told.total (fewer place.epoch) (its.gots k l place told at))
 
-        sent : (k : ℕ) → k < shape.shards → SentFew (most_in shape) finds_then (shard_at shape (slice_set cs shard a.catalogue) k).run.sent
+        sent : (k : ℕ) → k < shape.shards → SentFew (most_in rounds shape) finds_then (shard_at shape (slice_set cs shard a.catalogue) k).run.sent
         sent k l = by_shard (one_or_other k shard)
           where
-            by_shard : (k ≡ shard) ⊎ (k ≡ shard → ⊥) → SentFew (most_in shape) finds_then (shard_at shape (slice_set cs shard a.catalogue) k).run.sent
+            by_shard : (k ≡ shard) ⊎ (k ≡ shard → ⊥) → SentFew (most_in rounds shape) finds_then (shard_at shape (slice_set cs shard a.catalogue) k).run.sent
             by_shard (inl is) =
-                subst (λ j. SentFew (most_in shape) finds_then (shard_at shape (slice_set cs shard a.catalogue) j).run.sent) (sym is)
-                (subst (λ (x : Catalogue). SentFew (most_in shape) finds_then x.run.sent) (sym here_then)
-                (sent_less (most_in shape) (all_finds shape shard (most_in shape) others wide a.catalogue) finds_then within a.catalogue.run.sent after.good.sent))
+                subst (λ j. SentFew (most_in rounds shape) finds_then (shard_at shape (slice_set cs shard a.catalogue) j).run.sent) (sym is)
+                (subst (λ (x : Catalogue). SentFew (most_in rounds shape) finds_then x.run.sent) (sym here_then)
+                (sent_less (most_in rounds shape) (all_finds shape shard (most_in rounds shape) others wide a.catalogue) finds_then within a.catalogue.run.sent after.good.sent))
             by_shard (inr d) =
-                subst (λ (x : Catalogue). SentFew (most_in shape) finds_then x.run.sent) (sym (other_then k d))
-                (sent_less (most_in shape) (finds_in shape cs) finds_then fewer (shard_at shape cs k).run.sent (its.sent k l))
+                subst (λ (x : Catalogue). SentFew (most_in rounds shape) finds_then x.run.sent) (sym (other_then k d))
+                (sent_less (most_in rounds shape) (finds_in shape cs) finds_then fewer (shard_at shape cs k).run.sent (its.sent k l))
 
-    pub sends_then : AllByRecursion (MayGo shape.shards (most_in shape) finds_then) a.effect.sends
-    sends_then = goes_less shape.shards (most_in shape) (all_finds shape shard (most_in shape) others wide a.catalogue) finds_then within a.effect.sends after.good.sends
+    pub sends_then : AllByRecursion (MayGo shape.shards (most_in rounds shape) finds_then) a.effect.sends
+    sends_then = goes_less shape.shards (most_in rounds shape) (all_finds shape shard (most_in rounds shape) others wide a.catalogue) finds_then within a.effect.sends after.good.sends
 
 -- ---- of a core
 
-module _ (shard number : ℕ) (x : Entry) (c : Core) (low : shard < (shape_of c).shards) (leads : committed (group_of shard c) ≡ Some (number, x)) (few : AreFew c)
-    (came : FewEntry (shape_of c).shards (most_in (shape_of c)) (finds_in (shape_of c) c.catalogues) x) (enter : (line epoch : ℕ) → x ≡ kind.Enter line epoch → epoch ≤ LAST_EPOCH) where
+module _ (rounds shard number : ℕ) (x : Entry) (c : Core) (low : shard < (shape_of c).shards) (leads : committed (group_of shard c) ≡ Some (number, x)) (few : AreFew rounds c)
+    (came : FewEntry (shape_of c).shards (most_in rounds (shape_of c)) (finds_in (shape_of c) c.catalogues) x) (enter : (line epoch : ℕ) → x ≡ kind.Enter line epoch → epoch ≤ LAST_EPOCH) where
   abbrev most : ℕ
-  most = most_in (shape_of c)
+  most = most_in rounds (shape_of c)
 
   -- what its catalogue is then
-  pub after : After (shape_of c) shard (most_in (shape_of c)) (others (shape_of c) c.catalogues few.standing shard low) (wide (shape_of c) c.catalogues few.standing shard low) (catalogue_of shard c) (done_by shard x c)
+  pub after : After (shape_of c) shard (most_in rounds (shape_of c)) (others rounds (shape_of c) c.catalogues few.standing shard low) (wide rounds (shape_of c) c.catalogues few.standing shard low) (catalogue_of shard c) (done_by shard x c)
   after =
-      applied (shape_of c) shard (most_in (shape_of c)) (others (shape_of c) c.catalogues few.standing shard low) (wide (shape_of c) c.catalogues few.standing shard low) (front_of shard c + 1) x (named x c) (catalogue_of shard c)
-      (good (shape_of c) c.catalogues few.standing shard low) (brings (shape_of c) c.catalogues few.standing shard low x came enter)
+      applied (shape_of c) shard (most_in rounds (shape_of c)) (others rounds (shape_of c) c.catalogues few.standing shard low) (wide rounds (shape_of c) c.catalogues few.standing shard low) (front_of shard c + 1) x (named x c) (catalogue_of shard c)
+      (good rounds (shape_of c) c.catalogues few.standing shard low) (brings rounds (shape_of c) c.catalogues few.standing shard low x came enter)
 
   less_then : (epoch : ℕ) → finds_in (shape_of c) (slice_set c.catalogues shard (done_by shard x c).catalogue) epoch ≤ finds_in (shape_of c) c.catalogues epoch
-  less_then = fewer (shape_of c) c.catalogues few.standing shard low (done_by shard x c) after
+  less_then = fewer rounds (shape_of c) c.catalogues few.standing shard low (done_by shard x c) after
 
-  pub few_taken : AreFew (taken shard x c)
+  pub few_taken : AreFew rounds (taken shard x c)
   few_taken = record {
-    standing = standing_then (shape_of c) c.catalogues few.standing shard low (done_by shard x c) after;
+    standing = standing_then rounds (shape_of c) c.catalogues few.standing shard low (done_by shard x c) after;
     waiting = each_taken (λ g n y. FewEntry (shape_of c).shards most (finds_in (shape_of c) c.catalogues) y) (λ g n y. FewEntry (shape_of c).shards most (finds_in (shape_of c) (slice_set c.catalogues shard (done_by shard x c).catalogue)) y) shard number x c leads
         (λ g n y up was. entry_less (shape_of c).shards most (finds_in (shape_of c) c.catalogues) (finds_in (shape_of c) (slice_set c.catalogues shard (done_by shard x c).catalogue)) less_then y was) few.waiting;
     messages = all_sent (FewMessage (shape_of c).shards most (finds_in (shape_of c) (slice_set c.catalogues shard (done_by shard x c).catalogue))) (round_messages shard (done_by shard x c).effect.sends) c.pool
-        (messages_go (shape_of c).shards most (finds_in (shape_of c) (slice_set c.catalogues shard (done_by shard x c).catalogue)) shard low (done_by shard x c).effect.sends (sends_then (shape_of c) c.catalogues few.standing shard low (done_by shard x c) after))
+        (messages_go (shape_of c).shards most (finds_in (shape_of c) (slice_set c.catalogues shard (done_by shard x c).catalogue)) shard low (done_by shard x c).effect.sends (sends_then rounds (shape_of c) c.catalogues few.standing shard low (done_by shard x c) after))
         (All-weaker (FewMessage (shape_of c).shards most (finds_in (shape_of c) c.catalogues)) (FewMessage (shape_of c).shards most (finds_in (shape_of c) (slice_set c.catalogues shard (done_by shard x c).catalogue)))
         (message_less (shape_of c).shards most (finds_in (shape_of c) c.catalogues) (finds_in (shape_of c) (slice_set c.catalogues shard (done_by shard x c).catalogue)) less_then) (values_of c.pool.messages) few.messages);
   }

@@ -2,7 +2,6 @@ pub mod AlongLemmas
 pub mod BoundLemmas
 pub mod BoundedEndLemmas
 pub mod BoundedMachineLemmas
-pub mod ByteLemmas
 pub mod CountedLemmas
 pub mod DeletionEndLemmas
 pub mod DeletionEnterLemmas
@@ -17,6 +16,7 @@ pub mod DeletionSums
 pub mod DueLemmas
 pub mod EffectLemmas
 pub mod EpochLemmas
+pub mod EpochReadLemmas
 pub mod EventLemmas
 pub mod FallLemmas
 pub mod FallsBeside
@@ -47,6 +47,7 @@ pub mod FoundEntries
 pub mod FoundRounds
 pub mod GoLemmas
 pub mod GoneLemmas
+pub mod GreatestLemmas
 pub mod KnownLemmas
 pub mod LeftLemmas
 pub mod LimitLemmas

@@ -1,5 +1,5 @@
 -- A line of a cluster in its run.
-use Rattle.std.proofs.Common.{◌≡◌, ◌∙◌, ap, sym, subst, ℕ, ◌+◌, ◌*◌, ◌<◌, ◌≤◌, ◌++◌, Bool, true, false, List, [], ◌∷◌, Option, Some, None, refl, arith, take, append-nil}
+use Rattle.std.proofs.Common.{◌≡◌, ◌∙◌, ap, sym, subst, ℕ, ◌+◌, ◌*◌, ◌<◌, ◌≤◌, Bool, true, false, List, [], ◌∷◌, Option, Some, None, refl, arith, take, append-nil}
 use Rattle.std.specs.Prelude.{⊤, OnOk, Result, Ok, Err, is_ok}
 use Rattle.hs_standing.proofs.AddressedLemmas.{AllAddressed, lines_addressed}
 use Rattle.hs_cluster.specs.Calls.{RunsLine, outcome_by, ran_out}

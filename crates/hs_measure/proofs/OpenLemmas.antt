@@ -29,9 +29,8 @@ use Rattle.hs_clauses.proofs.HomeWalk.{fine_opens}
 use Rattle.hs_clauses.specs.Home.{IsAtHome}
 use Rattle.hs_replica.specs.Group.{Group, new_group, no_copy, whole_copy}
 use Rattle.hs_shard.specs.Facts.{Catalogue, empty_catalogue}
-use Rattle.hs_side.specs.Current.{current, list_in}
-use Rattle.hs_measure.proofs.ByteLemmas.{AreReadable, disk_readable}
-use Rattle.hs_measure.specs.Unsound.{HoldBytes}
+use Rattle.hs_side.specs.Current.{list_in}
+use Rattle.hs_measure.proofs.EpochReadLemmas.{AreOfLowEpoch, disk_epochs}
 
 -- ---- what a disk was read as
 
@@ -68,12 +67,11 @@ module _ (S : Script) (r : Ran) (story : Story) (on : OnDisks S r) (shown : IsSh
       each_range KeepsAddresses (opened_catalogue S.set story.found) 0 S.set.shape.shards
       (λ g low high. applied_all S.set.name on.names (opened_list S.set story.found g) (empty_catalogue S.set.shape g) (brings g (omega (arith, high))) (record { blocks = tt; roots = tt }))
 
-  readable : HoldBytes r.old.disks → (p : ℕ) → p < S.set.shape.shards → AreReadable (opened_list S.set story.found p)
-  readable bytes p low =
-      subst (λ (list : Numbered). AreReadable list) (sym (opens_disk p low)) (disk_readable (disk_at r.old.disks p).seen (λ i. bytes p (current (disk_at r.old.disks p).seen) i))
+  epochs : (p : ℕ) → p < S.set.shape.shards → AreOfLowEpoch (opened_list S.set story.found p)
+  epochs p low = subst (λ (list : Numbered). AreOfLowEpoch list) (sym (opens_disk p low)) (disk_epochs (disk_at r.old.disks p).seen)
 
-  pub opens_readable : IsLimits S.set.limits → HoldBytes r.old.disks → HasRecordRoom (first_core S.set story.found) → OpensReadable S.set story.found
-  opens_readable limits bytes few = record {
+  pub opens_readable : IsLimits S.set.limits → HasRecordRoom (first_core S.set story.found) → OpensReadable S.set story.found
+  opens_readable limits few = record {
     shape = on.shape;
     limits = limits;
     names = on.names;
@@ -81,7 +79,7 @@ module _ (S : Script) (r : Ran) (story : Story) (on : OnDisks S r) (shown : IsSh
     going = going;
     many = shown.went.found.goods;
     lists = lists;
-    readable = readable bytes;
+    epochs = epochs;
     addressed = addressed;
     few = few;
   }

@@ -1,5 +1,5 @@
 -- A cluster that opens over sound lists is in a run.
-use Rattle.std.proofs.Common.{◌≡◌, ◌⊎◌, ◌∙◌, inl, inr, ap, sym, subst, ℕ, zero, suc, ◌+◌, ◌*◌, ◌<◌, ◌≤◌, ◌||◌, ◌++◌, not, Bool, true, false, List, [], Option, Some, None, refl, length, map, arith, if◌then◌else◌}
+use Rattle.std.proofs.Common.{◌≡◌, ◌⊎◌, ◌∙◌, inl, inr, ap, sym, subst, ℕ, zero, suc, ◌+◌, ◌*◌, ◌<◌, ◌≤◌, ◌||◌, not, Bool, true, false, List, [], Option, Some, None, refl, length, map, arith, if◌then◌else◌}
 use Rattle.std.specs.List.{AllByRecursion, list_any, range_with_len}
 use Rattle.std.specs.Prelude.{⊤, Result, Ok, unwrap_or}
 use Rattle.hs_answered.specs.Telling.{Judging}

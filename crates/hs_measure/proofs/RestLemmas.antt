@@ -1,5 +1,5 @@
 -- Behind a settle nothing is open.
-use Rattle.std.proofs.Common.{◌≡◌, ◌⊎◌, ◌∙◌, inl, inr, ap, sym, subst, ℕ, ◌+◌, ◌*◌, ◌<◌, ◌≤◌, ◌||◌, ◌++◌, true, false, not, List, [], ◌∷◌, Option, Some, None, refl, arith, is_none, append-nil}
+use Rattle.std.proofs.Common.{◌≡◌, ◌⊎◌, ◌∙◌, inl, inr, ap, sym, subst, ℕ, ◌*◌, ◌<◌, ◌≤◌, ◌||◌, ◌++◌, true, false, not, List, [], ◌∷◌, Option, Some, None, refl, arith, is_none, append-nil}
 use Rattle.std.specs.Option.{option_map_or}
 use Rattle.std.specs.Prelude.{IsSome}
 use Rattle.hs_answered.specs.Standing.{store_with}

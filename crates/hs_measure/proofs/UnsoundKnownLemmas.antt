@@ -93,9 +93,9 @@ pub record IsKnown (c : Core) : Type 0 where
   pub wanted : AreWanted c
   pub numbers : AreNumbered c
 
-pub known_step : (name : List ℕ → Address) (c : Whole) (e : Event) (at : ℕ) → IsMoving name c → IsLow c.core → MayEvent (λ line o x. IsNewLine name x line o) (λ number bytes w x. Unit {0}) (λ line. Unit {0}) e c.core → IsKnown c.core
+pub known_step : (rounds : ℕ) (name : List ℕ → Address) (c : Whole) (e : Event) (at : ℕ) → IsMoving name c → IsLow rounds c.core → MayEvent (λ line o x. IsNewLine name x line o) (λ number bytes w x. Unit {0}) (λ line. Unit {0}) e c.core → IsKnown c.core
     → IsKnown (step e at c.core)
-known_step name c e at moving low may known = record { wanted = behind.wanted; numbers = numbers_run e at c.core known.numbers }
+known_step rounds name c e at moving low may known = record { wanted = behind.wanted; numbers = numbers_run e at c.core known.numbers }
   where
     behind : Knows name (step e at c.core)
     behind = walks_step (knows name) c e at moving.sane low.room low.clean may (record { orderly = moving.orderly; wanted = known.wanted })

@@ -1,4 +1,4 @@
--- Each settle of the machine's run comes to its end, over disks that tell bytes, whatever its lists say.
+-- Each settle of the machine's run comes to its end, whatever its lists say.
 use Rattle.std.proofs.Common.{◌≡◌, None}
 use Rattle.std.specs.Prelude.{IfSome}
 use Rattle.hs_measure.proofs.ShownLemmas.{if_shown}
@@ -15,15 +15,15 @@ use Rattle.hs_run.specs.Machine.{IsOfCluster}
 use Rattle.hs_measure.proofs.UnsoundEndLemmas.{SettleLaw, story_ends}
 use Rattle.hs_measure.proofs.GoLemmas.{run_goes}
 use Rattle.hs_measure.proofs.OpenLemmas.{opens_readable}
-use Rattle.hs_measure.specs.Unsound.{EachSettleEnds, HoldBytes}
+use Rattle.hs_measure.specs.Unsound.{EachSettleEnds}
 
 pub story_goes : Moving → ComingLaws → (S : Script) (r : Ran) (story : Story) → OnDisks S r → IsShown S r story → (first_core S.set story.found).ended ≡ None → OpensReadable S.set story.found
     → AllMayGoOn S.set.name (first_core S.set story.found) (all_events story)
 story_goes moves coming S r story on shown going opens =
     run_goes moves S.set story.found S.commands (all_events story) opens (come_all coming S r story shown.went on.nobody) (new_all coming S r story shown.went on.nobody) (shown.told going) shown.rooms
 
-pub machine_ends : SettleLaw → Moving → ComingLaws → (tells : Type 0) (S : Script) (r : Ran) → GivesAddresses S.set.name → IsLimits S.set.limits → (machine : IsOfCluster tells S r) → tells → HoldBytes r.old.disks → IfSome machine.how (EachSettleEnds S)
-machine_ends law moves coming tells S r names limits machine told bytes =
+pub machine_ends : SettleLaw → Moving → ComingLaws → (tells : Type 0) (S : Script) (r : Ran) → GivesAddresses S.set.name → IsLimits S.set.limits → (machine : IsOfCluster tells S r) → tells → IfSome machine.how (EachSettleEnds S)
+machine_ends law moves coming tells S r names limits machine told =
     if_shown tells S r (EachSettleEnds S) names machine told
     (λ story on shown.
-    story_ends law S r story shown.went (λ going few. opens_readable S r story on shown going limits bytes few) (λ going opens. story_goes moves coming S r story on shown going opens))
+    story_ends law S r story shown.went (λ going few. opens_readable S r story on shown going limits few) (λ going opens. story_goes moves coming S r story on shown going opens))

@@ -1,6 +1,6 @@
 -- How many events are left to a settle at most, with one copy of each shard, whatever its lists say.
 use Rattle.std.specs.Option.{option_map_or}
-use Rattle.std.specs.Prelude.{ℕ, ◌+◌, ◌-◌, ◌*◌, ◌^◌, ◌++◌, Bool, List, [], ◌∷◌, count_by, length, sum_by}
+use Rattle.std.specs.Prelude.{ℕ, ◌+◌, ◌-◌, ◌*◌, ◌++◌, Bool, List, [], ◌∷◌, count_by, length, sum_by}
 use Rattle.hs_core.specs.Delivering.{is_new_round}
 use Rattle.hs_core.specs.Looking.{catalogue_of, shape_of, shards_of}
 use Rattle.hs_core.specs.State.{Core}
@@ -13,16 +13,16 @@ use Rattle.hs_shard.specs.Facts.{Catalogue}
 
 -- ---- deletion, by what the core keeps
 
--- no round has a greater number: those that lists have are below the first part, and a round with a total, or behind a round 0, comes once for each block of each shard at most
-abbrev pub most_rounds : ℕ → ℕ
-most_rounds shards = 2 ^ 32 + (greatest_limits.blocks + 1) * (shards + 1)
+-- no round has a greater number, where lists tell none above `rounds`: one with a total, or behind a round 0, comes once for each block of each shard at most
+abbrev pub most_rounds : ℕ → ℕ → ℕ
+most_rounds rounds shards = (rounds + 1) + (greatest_limits.blocks + 1) * (shards + 1)
 
 -- how many epochs a shard may enter, with their rounds, and how many rounds of the open run are left
 abbrev pub steps_of : ℕ → Catalogue → ℕ
 steps_of most c = (most + 2) * (LAST_EPOCH - c.epoch) + option_map_or (λ at. most + 1 - at.1) c.run.opened 0
 
-abbrev pub rounds_left : Core → ℕ
-rounds_left core = sum_by (λ shard. steps_of (most_rounds (shape_of core).shards) (catalogue_of shard core)) (shards_of core)
+abbrev pub rounds_left : ℕ → Core → ℕ
+rounds_left rounds core = sum_by (λ shard. steps_of (most_rounds rounds (shape_of core).shards) (catalogue_of shard core)) (shards_of core)
 
 abbrev pub sweeps_to_come : Core → ℕ
 sweeps_to_come core = sum_by (λ shard. LAST_EPOCH - (catalogue_of shard core).swept) (shards_of core)
@@ -46,11 +46,11 @@ slots_of core = sum_by (λ from. sum_by (λ to. count_by (slot_at from to core) 
 
 -- a Got has two jobs, and may be followed by an Enter, which has two; a step of deletion makes other rounds due; a sweep, and an entry that is answered,
 -- may take away what other operations met
-abbrev pub reports_most : Core → ℕ
-reports_most core =
+abbrev pub reports_most : ℕ → Core → ℕ
+reports_most rounds core =
     ((jobs_of core + 4 * slots_of core) + (2 * gots_of core + 2 * dues_of core))
-    + ((ways_left core + 3 * (length core.operations * (sweeps_to_come core + asks_of core))) + (16 * (shape_of core).shards + 2) * rounds_left core)
+    + ((ways_left core + 3 * (length core.operations * (sweeps_to_come core + asks_of core))) + (16 * (shape_of core).shards + 2) * rounds_left rounds core)
 
 -- no settle does more events from here
-abbrev pub events_most : Place → Core → ℕ
-events_most place core = left_by (reports_most core) place core
+abbrev pub events_most : ℕ → Place → Core → ℕ
+events_most rounds place core = left_by (reports_most rounds core) place core

@@ -5,6 +5,7 @@ pub mod Left
 pub mod Measure
 pub mod Opens
 pub mod Promised
+pub mod Rounds
 pub mod Served
 pub mod Unsound
 pub mod Walks

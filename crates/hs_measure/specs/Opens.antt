@@ -1,6 +1,6 @@
 -- How a store opens over lists of any kind, and events by which it goes on.
 use Rattle.std.specs.List.{AllByRecursion}
-use Rattle.std.specs.Prelude.{◌≡◌, ℕ, ◌<◌, List, [], ◌∷◌, false, is_none, length, Option, None, Some}
+use Rattle.std.specs.Prelude.{◌≡◌, ℕ, ◌<◌, ◌≤◌, List, [], ◌∷◌, false, is_none, length, Option, None, Some}
 use Rattle.hs_standing.specs.Walks.{HasRecordRoom, MayEvent}
 use Rattle.hs_core.specs.declared.event.Event.{Event}
 use Rattle.hs_core.specs.declared.waiting.Waiting.{Waiting}
@@ -9,7 +9,7 @@ use Rattle.hs_core.specs.State.{Core}
 use Rattle.hs_core.specs.Step.{step}
 use Rattle.hs_effects.specs.Logged.{IsNewLine}
 use Rattle.hs_entry.specs.declared.entry.Entry.{Entry}
-use Rattle.hs_entry.specs.Reading.{IsReadable}
+use Rattle.hs_entry.specs.declared.entry.Entry.TheVariants as kind
 use Rattle.hs_events.specs.Due.{Events}
 use Rattle.hs_events.specs.Found.{Found, first_core, opened_list, opens_with}
 use Rattle.hs_events.specs.Sane.{IsFromOne}
@@ -17,6 +17,7 @@ use Rattle.hs_events.specs.Taken.{peer_count}
 use Rattle.hs_fold.specs.Shards.Setting.{Setting}
 use Rattle.hs_standing.specs.Held.{GivesAddresses, KeepsAddresses}
 use Rattle.hs_limits.specs.declared.address.Address.{Address}
+use Rattle.hs_limits.specs.declared.limits.TheConstants.{LAST_EPOCH}
 use Rattle.hs_limits.specs.Limits.{IsLimits}
 use Rattle.hs_limits.specs.Shape.{IsShape}
 use Rattle.hs_model.specs.declared.op.Op.{Op}
@@ -26,7 +27,21 @@ use Rattle.hs_ops.specs.Views.{OpView}
 
 -- ---- how a store opens, and events by which it goes on
 
--- each shard has one copy, whose list is from 1 on, of entries that a disk may give; the core goes on, within limits that a run may have; blocks are named by addresses
+-- an Enter and a Got are of no epoch past the last
+abbrev pub IsOfLowEpoch : Entry → Type 0
+IsOfLowEpoch (kind.Enter line epoch) = epoch ≤ LAST_EPOCH
+IsOfLowEpoch (kind.Got from epoch round total deltas) = epoch ≤ LAST_EPOCH
+IsOfLowEpoch (kind.View view) = Unit {0}
+IsOfLowEpoch (kind.Block line least bytes) = Unit {0}
+IsOfLowEpoch (kind.Mark line least block a) = Unit {0}
+IsOfLowEpoch (kind.Root line held a key) = Unit {0}
+IsOfLowEpoch (kind.Drop line key) = Unit {0}
+IsOfLowEpoch (kind.Base view epoch swept round frames) = Unit {0}
+IsOfLowEpoch (kind.KeptBlock born mark flags count bytes) = Unit {0}
+IsOfLowEpoch (kind.KeptRoot created dropped counted a key) = Unit {0}
+IsOfLowEpoch (kind.KeptRound way other epoch round total deltas) = Unit {0}
+
+-- each shard has one copy, whose list is from 1 on, of entries whose epochs a disk may give; the core goes on, within limits that a run may have; blocks are named by addresses
 -- of 32 bytes, and such are all that the lists have. Nothing is asked of what the lists say
 pub record OpensReadable (set : Setting) (found : Found) : Type 0 where
   pub shape : IsShape set.shape
@@ -36,7 +51,7 @@ pub record OpensReadable (set : Setting) (found : Found) : Type 0 where
   pub going : (first_core set found).ended ≡ None
   pub many : length found.good ≡ peer_count set.shape
   pub lists : (shard : ℕ) → shard < set.shape.shards → IsFromOne (opened_list set found shard)
-  pub readable : (shard : ℕ) → shard < set.shape.shards → AllByRecursion (λ (e : ℕ × Entry). IsReadable e.1) (opened_list set found shard)
+  pub epochs : (shard : ℕ) → shard < set.shape.shards → AllByRecursion (λ (e : ℕ × Entry). IsOfLowEpoch e.1) (opened_list set found shard)
   pub addressed : AllByRecursion KeepsAddresses (opens_with set found).catalogues
   pub few : HasRecordRoom (first_core set found)
 

@@ -1,5 +1,5 @@
 -- What a core keeps of what is promised, behind each event of a run.
-use Rattle.std.specs.Prelude.{◌≡◌, ◌≤◌, ℕ, IsSome}
+use Rattle.std.specs.Prelude.{◌≤◌, ℕ, IsSome}
 use Rattle.hs_answered.specs.Telling.{events_in}
 use Rattle.hs_standing.specs.Answered.{AreAnswers}
 use Rattle.hs_core.specs.State.{Core}

@@ -11,7 +11,7 @@ ghost use Rattle.hs_promise.specs.Story.{Story, all_events};
 ghost use Rattle.hs_run.specs.Machine.{IsOfCluster};
 ghost use Rattle.hs_run.specs.Words.{built_of};
 ghost use Rattle.hs_script.specs.CommandLine.{Wanted};
-ghost use Rattle.hs_measure.specs.Unsound.{EachSettleEnds, HoldBytes};
+ghost use Rattle.hs_measure.specs.Unsound.{EachSettleEnds};
 
 use crate::{a_run_is_bounded, a_settle_comes_to_its_end_over_any_lists};
 use hs_block::Addresser;
@@ -20,13 +20,13 @@ use hs_settled::each_operation_goes_on;
 use hs_standing::{a_line_asks_as_its_command, a_scripts_events_may_come, a_scripts_lines_are_new};
 use hs_told::answers_stay_in_order;
 
-/// A run on disks that tell bytes, with one copy of each shard, that opens with no more root records a
-/// shard than it takes, and whose core goes on behind its opening, opens as hs_measure asks, whatever its
-/// lists say (`opens`), and each of its events may come (`events`).
+/// A run with one copy of each shard, that opens with no more root records a shard than it takes, and
+/// whose core goes on behind its opening, opens as hs_measure asks, whatever its lists say (`opens`), and
+/// each of its events may come (`events`).
 pub fn a_run_goes_on_over_any_lists()
     ensures opens { (S : Script) (r : Ran) (story : Story)
         → OnDisks S r → IsShown S r story → IsLimits S.set.limits
-        → HoldBytes r.old.disks → HasRecordRoom (first_core S.set story.found)
+        → HasRecordRoom (first_core S.set story.found)
         → (first_core S.set story.found).ended ≡ None →
         OpensReadable S.set story.found }
     ensures events { (S : Script) (r : Ran) (story : Story)
@@ -41,15 +41,15 @@ pub fn a_run_goes_on_over_any_lists()
 }
 
 /// Of a run that is the machine's, as `hydra` says of the words that it serves: over disks that tell
-/// their contents, which are bytes, whatever lists they have, sound or not, each `settle` that was begun
-/// has no more events than `events_most` of the core before it, whether calls fail or not. The run opens
-/// with no more root records a shard than it takes.
+/// their contents, whatever lists they have, sound or not, each `settle` that was begun has no more
+/// events than `events_most` of the greatest round that the lists tell and of the core before it, whether
+/// calls fail or not. The run opens with no more root records a shard than it takes.
 pub fn each_settle_comes_to_its_end_over_any_lists<A: Addresser, D: Disk>()
     ensures { (naming : A) (words : List (List ℕ)) (wanted : Wanted)
         (commands : ℕ → Option Command) (r : Ran)
         → built_of words (length r.old.disks) ≡ Some wanted
         → (machine : IsOfCluster D.tells (script_of (A.name naming) wanted commands) r)
-        → D.tells → HoldBytes r.old.disks →
+        → D.tells →
         IfSome machine.how (EachSettleEnds (script_of (A.name naming) wanted commands)) }
 {
     a_settle_comes_to_its_end_over_any_lists();

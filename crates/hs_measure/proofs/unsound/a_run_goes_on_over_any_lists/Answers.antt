@@ -5,7 +5,7 @@ use Rattle.hs_measure.proofs.UnsoundMachineLemmas.{story_goes}
 use Rattle.hs_measure.proofs.OpenLemmas.{opens_readable}
 
 pub returns-clause-opens : goal.returns-clause-opens
-returns-clause-opens c = λ S r story on shown limits bytes few going. opens_readable S r story on shown going limits bytes few
+returns-clause-opens c = λ S r story on shown limits few going. opens_readable S r story on shown going limits few
 
 pub returns-clause-events : goal.returns-clause-events
 returns-clause-events c = λ S r story on shown opens.

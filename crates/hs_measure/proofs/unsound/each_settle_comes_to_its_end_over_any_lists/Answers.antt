@@ -5,7 +5,7 @@ use Rattle.hs_measure.proofs.unsound.each_settle_comes_to_its_end_over_any_lists
 use Rattle.hs_measure.proofs.UnsoundMachineLemmas.{machine_ends}
 
 pub returns : goal.returns
-returns g c = λ naming words wanted commands r built machine told bytes.
+returns g c = λ naming words wanted commands r built machine told.
     let moves : Moving = record {
       opened = λ s f o. c.each_operation_goes_on.ensures.opened s.name s f o.shape o.one o.going o.lists o.many;
       events = λ name w es moving all going. c.each_operation_goes_on.ensures.events name w es moving all going;
@@ -22,4 +22,4 @@ returns g c = λ naming words wanted commands r built machine told bytes.
       asks = c.a_line_asks_as_its_command.ensures;
     } in
     machine_ends c.a_settle_comes_to_its_end_over_any_lists.ensures.settle moves coming g.D.Disk.tells (script_of (g.A.Addresser.name naming) wanted commands) r (g.A.Addresser.sized naming)
-    (c.a_run_is_bounded.ensures.words words _ wanted built) machine told bytes
+    (c.a_run_is_bounded.ensures.words words _ wanted built) machine told
