@@ -1,4 +1,5 @@
 pub mod AlongLemmas
+pub mod AtOnceLemmas
 pub mod BoundLemmas
 pub mod BoundedEndLemmas
 pub mod BoundedMachineLemmas
@@ -40,6 +41,7 @@ pub mod FallsTake
 pub mod FallsTaken
 pub mod FiniteBoundLemmas
 pub mod FiniteWantedLemmas
+pub mod FirstEventLemmas
 pub mod FoundAlong
 pub mod FoundBlocks
 pub mod FoundCore

@@ -1,7 +1,6 @@
 -- Settles that come to their end, whatever the lists say with which a run opens.
 use Rattle.std.specs.Prelude.{List, Option, Some, [], length, ℕ, ⊤, ◌+◌, ◌∷◌, ◌≡◌, ◌≤◌}
 use Rattle.hs_cluster.specs.Jobs.{AreBytes}
-use Rattle.hs_core.specs.Records.{HasRecordRoom}
 use Rattle.hs_core.specs.State.{Core}
 use Rattle.hs_events.specs.Course.{steps}
 use Rattle.hs_events.specs.Due.{Events, first_place}
@@ -24,6 +23,6 @@ abbrev pub SettlesEnd : (ℕ → Option Command) → ℕ → Core → List Event
 SettlesEnd commands line core [] = ⊤
 SettlesEnd commands line core (es ∷ rest) = (commands line ≡ Some command.Settle → length es ≤ events_most first_place core) × SettlesEnd commands (line + 1) (steps core es) rest
 
--- and of each in a run whose shards open with no more root records than they take; its lines come behind its opening
+-- and of each in a run, whose lines come behind its opening
 abbrev pub EachSettleEnds : Script → Story → Type 0
-EachSettleEnds S story = HasRecordRoom (first_core S.set story.found) → SettlesEnd S.commands 1 (steps (first_core S.set story.found) story.opening) story.lines
+EachSettleEnds S story = SettlesEnd S.commands 1 (steps (first_core S.set story.found) story.opening) story.lines
