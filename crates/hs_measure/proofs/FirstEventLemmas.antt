@@ -18,7 +18,7 @@ use Rattle.hs_core.specs.Joining.{start}
 use Rattle.hs_core.specs.Looking.{catalogue_of, first_task, group_of, home, lead_of, operation_of, shape_of, shards_of, status_of, tasks_of}
 use Rattle.hs_core.specs.Opening.{begin_views, new_core, note_down, note_if_down}
 use Rattle.hs_core.specs.Operating.{begin_line, go_on_with, propose_entry}
-use Rattle.hs_core.specs.Records.{HasRecordRoom, most_records, records_in}
+use Rattle.hs_core.specs.Records.{HasRecordRoom, most_records}
 use Rattle.hs_core.specs.Reporting.{is_reading, on_report, take_report, tell_bytes}
 use Rattle.hs_core.specs.Seeing.{pointers_for}
 use Rattle.hs_core.specs.State.{Core}
