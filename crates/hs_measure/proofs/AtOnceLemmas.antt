@@ -46,7 +46,45 @@ room_or_end set found (e ∷ es) sane rooms = by_end (step e.0 e.1 (first_core s
     by_end None going = inl (first_room set found e.0 e.1 sane (rooms.0 going))
     by_end (Some fault) over = inr (λ going. let both : None ≡ Some fault = sym going ∙ over in cc both)
 
+-- ---- one settle
+
+front_once : (core : Core) (es fs : Events) → EndsAtOnce core (es ++ fs) → EndsAtOnce core es
+front_once core [] fs once = tt
+front_once core (e ∷ es) fs once = once
+
+module _ (line : ℕ) (core : Core) (whole : Bool) where
+  abbrev so_far : Option Walked → Bool
+  so_far o = option_map_or (λ at. not whole || is_none (next_due at.place at.core)) o false
+
+  one_short : (es : Events) → EndsAtOnce core es → is_walk next_due whole line core es ≡ true → length es ≤ 1
+  one_short [] once due = omega arith
+  one_short (e ∷ es) once due = by_due (next_due first_place core) due
+    where
+      at : Due → Walked
+      at d = record { place = place_after d (raises_known core (step e.0 e.1 core)) first_place; core = step e.0 e.1 core }
+
+      by_end : (place : Place) (end : Walked) → walk next_due line (record { place = place; core = step e.0 e.1 core }) es ≡ Some end → (o : Option CoreFault) → (step e.0 e.1 core).ended ≡ o → suc (length es) ≤ 1
+      by_end place end is None going = absurd (once going)
+      by_end place end is (Some fault) over =
+          let none = ended_short (λ (c : Core). 0) line place (step e.0 e.1 core) fault es end over is in
+          omega (arith, none)
+
+      by_walk : (place : Place) (o : Option Walked) → walk next_due line (record { place = place; core = step e.0 e.1 core }) es ≡ o → so_far o ≡ true → suc (length es) ≤ 1
+      by_walk place None is k = absurd (cc k)
+      by_walk place (Some end) is k = by_end place end is (step e.0 e.1 core).ended refl
+
+      by_it : (d : Due) (b : Bool) → so_far (option_and_then (λ next. walk next_due line next es) (if b then Some (at d) else None)) ≡ true → suc (length es) ≤ 1
+      by_it d true k = by_walk (place_after d (raises_known core (step e.0 e.1 core)) first_place) (walk next_due line (at d) es) refl k
+      by_it d false k = absurd (cc k)
+
+      by_due : (o : Option Due) → so_far (option_and_then (λ next. walk next_due line next es) (option_and_then (λ d. if is_it line core d e.0 then Some (at d) else None) o)) ≡ true → suc (length es) ≤ 1
+      by_due None k = absurd (cc k)
+      by_due (Some d) k = by_it d (is_it line core d e.0) k
+
 -- ---- something is left as a settle begins
+
+within : (events most : ℕ) → events ≤ 1 → 1 ≤ most → events ≤ most
+within events most few some = omega (arith, few, some)
 
 one_of : (messages rest : ℕ) → 1 * 1 ≤ rest → 1 ≤ messages + rest
 one_of messages rest some = omega (arith, some)
@@ -63,45 +101,8 @@ numbers_some shards limit messages reports some =
 some_left : (reports : ℕ) (core : Core) → 0 < (shape_of core).shards → 1 ≤ left_by reports first_place core
 some_left reports core some = numbers_some (shape_of core).shards core.pool.limit (length core.pool.messages) reports some
 
--- ---- one settle
-
-front_once : (core : Core) (es fs : Events) → EndsAtOnce core (es ++ fs) → EndsAtOnce core es
-front_once core [] fs once = tt
-front_once core (e ∷ es) fs once = once
-
-module _ (line : ℕ) (core : Core) (some : 0 < (shape_of core).shards) (whole : Bool) where
-  abbrev so_far : Option Walked → Bool
-  so_far o = option_map_or (λ at. not whole || is_none (next_due at.place at.core)) o false
-
-  one_short : (es : Events) → EndsAtOnce core es → is_walk next_due whole line core es ≡ true → length es ≤ events_most first_place core
-  one_short [] once due = omega arith
-  one_short (e ∷ es) once due = by_due (next_due first_place core) due
-    where
-      after : Core
-      after = step e.0 e.1 core
-
-      at : Due → Walked
-      at d = record { place = place_after d (raises_known core (step e.0 e.1 core)) first_place; core = step e.0 e.1 core }
-
-      by_end : (place : Place) (end : Walked) → walk next_due line (record { place = place; core = step e.0 e.1 core }) es ≡ Some end → (o : Option CoreFault) → (step e.0 e.1 core).ended ≡ o → suc (length es) ≤ events_most first_place core
-      by_end place end is None going = absurd (once going)
-      by_end place end is (Some fault) over =
-          let none = ended_short (λ (c : Core). 0) line place (step e.0 e.1 core) fault es end over is in
-          let left : 1 ≤ events_most first_place core = some_left (reports_most core) core some in
-          omega (arith, none, left)
-
-      by_walk : (place : Place) (o : Option Walked) → walk next_due line (record { place = place; core = step e.0 e.1 core }) es ≡ o → so_far o ≡ true → suc (length es) ≤ events_most first_place core
-      by_walk place None is k = absurd (cc k)
-      by_walk place (Some end) is k = by_end place end is (step e.0 e.1 core).ended refl
-
-      by_it : (d : Due) (b : Bool) → so_far (option_and_then (λ next. walk next_due line next es) (if b then Some (at d) else None)) ≡ true → suc (length es) ≤ events_most first_place core
-      by_it d true k =
-          by_walk (place_after d (raises_known core (step e.0 e.1 core)) first_place) (walk next_due line (at d) es) refl k
-      by_it d false k = absurd (cc k)
-
-      by_due : (o : Option Due) → so_far (option_and_then (λ next. walk next_due line next es) (option_and_then (λ d. if is_it line core d e.0 then Some (at d) else None) o)) ≡ true → suc (length es) ≤ events_most first_place core
-      by_due None k = absurd (cc k)
-      by_due (Some d) k = by_it d (is_it line core d e.0) k
+some_events : (core : Core) → 0 < (shape_of core).shards → 1 ≤ events_most first_place core
+some_events core some = some_left (reports_most core) core some
 
 -- ---- the lines of a run
 
@@ -115,7 +116,10 @@ module _ (S : Script) (r : Ran) (core : Core) (some : 0 < (shape_of core).shards
   settle_short : (line : ℕ) (es : Events) (whole : Bool) → EndsAtOnce core es → AreOfLine S.set.name (record { line = line; core = core; events = es; whole = whole }) (S.commands line)
       → S.commands line ≡ Some command.Settle → length es ≤ events_most first_place core
   settle_short line es whole once events settle =
-      one_short line core some whole es once (subst (λ (o : Option Command). AreOfLine S.set.name (record { line = line; core = core; events = es; whole = whole }) o) settle events)
+      within (length es) (events_most first_place core) (one_short line core whole es once due) (some_events core some)
+    where
+      due : is_walk next_due whole line core es ≡ true
+      due = subst (λ (o : Option Command). AreOfLine S.set.name (record { line = line; core = core; events = es; whole = whole }) o) settle events
 
   lines_short : (line : ℕ) (lines : List Events) → EndsAtOnce core (flat_map (λ (events : Events). events) lines) → AreLines S r line core lines → SettlesEnd S.commands line core lines
   lines_short line [] once are = tt

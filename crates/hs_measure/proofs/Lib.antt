@@ -88,6 +88,7 @@ pub mod ShownLemmas
 pub mod StepLemmas
 pub mod TellLemmas
 pub mod UnderWay
+pub mod UnsealedLemmas
 pub mod UnsoundEndLemmas
 pub mod UnsoundKnownLemmas
 pub mod UnsoundMachineLemmas
