@@ -42,8 +42,8 @@ pub fn a_run_goes_on_over_any_lists()
 
 /// Of a run that is the machine's, as `hydra` says of the words that it serves: over disks that tell
 /// their contents, which are bytes, whatever lists they have, sound or not, each `settle` that was begun
-/// has no more events than `events_most` of the core before it, whether calls fail or not. A run that
-/// opens with more root records of a shard than it takes has one event at most.
+/// has no more events than `events_most` of the core before it, whether calls fail or not. Where a
+/// shard opens with more root records than it takes, the run ends with its first event at the latest.
 pub fn each_settle_comes_to_its_end_over_any_lists<A: Addresser, D: Disk>()
     ensures { (naming : A) (words : List (List ℕ)) (wanted : Wanted)
         (commands : ℕ → Option Command) (r : Ran)
