@@ -1,4 +1,5 @@
 pub mod AlongLemmas
+pub mod AtOnceLemmas
 pub mod BoundLemmas
 pub mod BoundedEndLemmas
 pub mod BoundedMachineLemmas
@@ -40,6 +41,7 @@ pub mod FallsTake
 pub mod FallsTaken
 pub mod FiniteBoundLemmas
 pub mod FiniteWantedLemmas
+pub mod FirstEventLemmas
 pub mod FoundAlong
 pub mod FoundBlocks
 pub mod FoundCore
@@ -87,6 +89,7 @@ pub mod ShownLemmas
 pub mod StepLemmas
 pub mod TellLemmas
 pub mod UnderWay
+pub mod UnsealedLemmas
 pub mod UnsoundEndLemmas
 pub mod UnsoundKnownLemmas
 pub mod UnsoundMachineLemmas

@@ -52,7 +52,7 @@ module _ (S : Script) (r : Ran) (story : Story) (on : OnDisks S r) (shown : IsSh
   opens_disk : (p : ℕ) → p < S.set.shape.shards → opened_list S.set story.found p ≡ unwrap_or (list_in (disk_at r.old.disks p).seen) []
   opens_disk p low = opened_is S r story shown.went on.one shown.read on.disks good p low
 
-  lists : (shard : ℕ) → shard < S.set.shape.shards → IsFromOne (opened_list S.set story.found shard)
+  pub lists : (shard : ℕ) → shard < S.set.shape.shards → IsFromOne (opened_list S.set story.found shard)
   lists p low = subst (λ (list : Numbered). IsFromOne list) (sym (opens_disk p low)) (disk_from_one (disk_at r.old.disks p).seen)
 
   brings : (p : ℕ) → p < S.set.shape.shards → BringsAll S.set.name on.names (opened_list S.set story.found p)

@@ -1,7 +1,8 @@
 -- Each settle of a run comes to its end, whatever its lists say: line by line, behind opening.
-use Rattle.std.proofs.Common.{◌≡◌, ◌∙◌, ap, sym, subst, refl, ℕ, ◌+◌, ◌≤◌, ◌++◌, Bool, true, List, [], ◌∷◌, Option, Some, None, append_assoc, length}
+use Rattle.std.proofs.Common.{◌≡◌, ◌∙◌, ◌⊎◌, inl, inr, ap, sym, subst, refl, ℕ, ◌+◌, ◌<◌, ◌≤◌, ◌++◌, Bool, true, List, [], ◌∷◌, Option, Some, None, append_assoc, length}
 use Rattle.std.specs.Prelude.{flat_map}
 use Rattle.hs_cluster.proofs.GoingOnLemmas.{going_before}
+use Rattle.hs_core.specs.Looking.{shape_of}
 use Rattle.hs_core.specs.Records.{HasRecordRoom}
 use Rattle.hs_core.specs.State.{Core}
 use Rattle.hs_core.specs.Step.{step}
@@ -11,6 +12,7 @@ use Rattle.hs_events.specs.Commands.{AreOfLine}
 use Rattle.hs_events.specs.Course.{steps}
 use Rattle.hs_events.specs.Due.{Events, first_place, is_walk, next_due}
 use Rattle.hs_events.specs.Found.{Found, first_core}
+use Rattle.hs_measure.proofs.AtOnceLemmas.{EndsAtOnce, none_end, once_ends}
 use Rattle.hs_measure.specs.Finite.{events_most}
 use Rattle.hs_measure.specs.Opens.{AllMayGoOn, OpensReadable}
 use Rattle.hs_measure.specs.Rounds.{rounds_told}
@@ -37,12 +39,6 @@ flat lines = flat_map (λ (events : Events). events) lines
 front_go : (name : List ℕ → Address) (core : Core) (es fs : Events) → AllMayGoOn name core (es ++ fs) → AllMayGoOn name core es
 front_go name core [] fs may = tt
 front_go name core (e ∷ es) fs may = (may.0, front_go name (step e.0 e.1 core) es fs may.1)
-
--- a core that does not go on begins no line
-none_end : (rounds : ℕ) (S : Script) (r : Ran) (line : ℕ) (core : Core) (lines : List Events) → (core.ended ≡ None → ⊥) → AreLines S r line core lines → SettlesEnd rounds S.commands line core lines
-none_end rounds S r line core [] over are = tt
-none_end rounds S r line core (es ∷ []) over are = absurd (over are.going)
-none_end rounds S r line core (es ∷ next ∷ rest) over are = absurd (over are.0.going)
 
 module _ (law : SettleLaw) (S : Script) (r : Ran) (story : Story) (went : Went S r story) where
   abbrev first : Core
@@ -74,15 +70,21 @@ module _ (law : SettleLaw) (S : Script) (r : Ran) (story : Story) (went : Went S
           (subst (λ (fs : Events). AllMayGoOn S.set.name first fs) (sym (append_assoc before es (flat (next ∷ rest)))) may) are.1,
     )
 
-  -- a run whose core goes on behind its opening, or has ended with it
-  pub story_ends : ((first_core S.set story.found).ended ≡ None → HasRecordRoom (first_core S.set story.found) → OpensReadable S.set story.found)
+  -- a run whose core goes on behind its opening, or has ended with it, or ends with the first event of all
+  pub story_ends : 0 < (shape_of (first_core S.set story.found)).shards
+      → ((first_core S.set story.found).ended ≡ None → HasRecordRoom (first_core S.set story.found) ⊎ EndsAtOnce (first_core S.set story.found) (all_events story))
+      → ((first_core S.set story.found).ended ≡ None → HasRecordRoom (first_core S.set story.found) → OpensReadable S.set story.found)
       → ((first_core S.set story.found).ended ≡ None → OpensReadable S.set story.found → AllMayGoOn S.set.name (first_core S.set story.found) (all_events story)) → EachSettleEnds S story
-  story_ends opens keeps few = by_end first.ended refl
+  story_ends some rooms opens keeps = by_end first.ended refl
     where
-      by_end : (o : Option CoreFault) → first.ended ≡ o → SettlesEnd rounds S.commands 1 (steps (first_core S.set story.found) story.opening) story.lines
-      by_end None going =
+      by_room : first.ended ≡ None → HasRecordRoom first ⊎ EndsAtOnce first (all_events story) → SettlesEnd rounds S.commands 1 (steps first story.opening) story.lines
+      by_room going (inl few) =
           let open_so : OpensReadable S.set story.found = opens going few in
           lines_end open_so 1 story.opening (steps first story.opening) story.lines refl (keeps going open_so) went.lines
+      by_room going (inr once) = once_ends rounds S r first some story.opening story.lines once went.lines
+
+      by_end : (o : Option CoreFault) → first.ended ≡ o → SettlesEnd rounds S.commands 1 (steps (first_core S.set story.found) story.opening) story.lines
+      by_end None going = by_room going (rooms going)
       by_end (Some fault) over =
           none_end rounds S r 1 (steps first story.opening) story.lines
           (λ going. let both : None ≡ Some fault = sym (going_before first story.opening going) ∙ over in cc both) went.lines

@@ -1,6 +1,5 @@
 -- Settles that come to their end, whatever the lists say with which a run opens.
 use Rattle.std.specs.Prelude.{List, Option, Some, [], length, ℕ, ⊤, ◌+◌, ◌∷◌, ◌≡◌, ◌≤◌}
-use Rattle.hs_core.specs.Records.{HasRecordRoom}
 use Rattle.hs_core.specs.State.{Core}
 use Rattle.hs_events.specs.Course.{steps}
 use Rattle.hs_events.specs.Due.{Events, first_place}
@@ -17,6 +16,6 @@ abbrev pub SettlesEnd : ℕ → (ℕ → Option Command) → ℕ → Core → Li
 SettlesEnd rounds commands line core [] = ⊤
 SettlesEnd rounds commands line core (es ∷ rest) = (commands line ≡ Some command.Settle → length es ≤ events_most rounds first_place core) × SettlesEnd rounds commands (line + 1) (steps core es) rest
 
--- and of each in a run whose shards open with no more root records than they take; its lines come behind its opening
+-- and of each in a run, whose lines come behind its opening
 abbrev pub EachSettleEnds : Script → Story → Type 0
-EachSettleEnds S story = HasRecordRoom (first_core S.set story.found) → SettlesEnd (rounds_told S.set story.found) S.commands 1 (steps (first_core S.set story.found) story.opening) story.lines
+EachSettleEnds S story = SettlesEnd (rounds_told S.set story.found) S.commands 1 (steps (first_core S.set story.found) story.opening) story.lines

@@ -43,7 +43,8 @@ pub fn a_run_goes_on_over_any_lists()
 /// Of a run that is the machine's, as `hydra` says of the words that it serves: over disks that tell
 /// their contents, whatever lists they have, sound or not, each `settle` that was begun has no more
 /// events than `events_most` of the greatest round that the lists tell and of the core before it, whether
-/// calls fail or not. The run opens with no more root records a shard than it takes.
+/// calls fail or not. Where a shard opens with more root records than it takes, the run ends with its
+/// first event at the latest.
 pub fn each_settle_comes_to_its_end_over_any_lists<A: Addresser, D: Disk>()
     ensures { (naming : A) (words : List (List ℕ)) (wanted : Wanted)
         (commands : ℕ → Option Command) (r : Ran)
