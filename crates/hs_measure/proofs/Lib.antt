@@ -18,6 +18,7 @@ pub mod DueLemmas
 pub mod EffectLemmas
 pub mod EpochLemmas
 pub mod EventLemmas
+pub mod FailedLemmas
 pub mod FallLemmas
 pub mod FallsBeside
 pub mod FallsBytes
@@ -91,3 +92,4 @@ pub mod UnsoundKnownLemmas
 pub mod UnsoundMachineLemmas
 pub mod WantLemmas
 pub mod WantedLemmas
+pub mod ZeroLemmas

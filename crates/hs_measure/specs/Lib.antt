@@ -1,4 +1,5 @@
 pub mod Between
+pub mod Counted
 pub mod Ending
 pub mod Finite
 pub mod Left
@@ -8,3 +9,4 @@ pub mod Promised
 pub mod Served
 pub mod Unsound
 pub mod Walks
+pub mod Zeros
