@@ -1,5 +1,5 @@
 -- The count of each disk rose by all failures that its reports tell: what a peer is to read stands in its list, and a core that ended with its opening has no report.
-use Rattle.std.proofs.Common.{◌≡◌, sym, ap, subst, refl, ℕ, ◌+◌, ◌<◌, ◌++◌, Option, Some, None, length, arith}
+use Rattle.std.proofs.Common.{◌≡◌, sym, ap, subst, refl, ℕ, ◌+◌, ◌<◌, ◌++◌, [], Option, Some, None, length, arith}
 use Rattle.std.specs.Prelude.{IfSome, flat_map, true}
 use Rattle.hs_clauses.proofs.ListLemmas.{opened_is}
 use Rattle.hs_clauses.specs.Shown.{IsShown, OnDisks}
