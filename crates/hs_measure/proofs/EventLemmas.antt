@@ -11,16 +11,19 @@ use Rattle.hs_settled.proofs.FrontLemmas.{EventStands, Stands, front_stands}
 use Rattle.hs_settled.proofs.DeletesRunLemmas.{Running, may_front}
 use Rattle.hs_settled.specs.Counts.{CountsRight}
 use Rattle.hs_settled.specs.Deletion.{TellsDeletion}
+use Rattle.hs_effects.specs.Lawful.{IsLawful}
 use Rattle.hs_events.specs.Course.{steps}
 use Rattle.hs_events.specs.Due.{Events}
 use Rattle.hs_events.specs.Whole.{Whole}
 use Rattle.hs_fold.specs.Runs.Facts.{Catalogue as Folded}
 use Rattle.hs_journal.specs.declared.entry.JournalEntry.{JournalEntry}
 use Rattle.hs_journal.specs.Order.{IsOrdered}
+use Rattle.hs_limits.specs.declared.address.Address.{Address}
 use Rattle.hs_standing.specs.Legal.{IsStanding}
 use Rattle.hs_model.specs.declared.command.Command.{Command}
 use Rattle.hs_model.specs.Store.{Store}
 use Rattle.hs_measure.specs.Promised.{KeepsPromise}
+use Rattle.hs_measure.specs.Zeros.{ZerosRight}
 use Rattle.hs_standing.specs.Run.{IsRunning, MayRun}
 use Rattle.hs_standing.specs.Standing.{AllMayKeep, judging_of}
 use Rattle.hs_standing.specs.Start.{Start}
@@ -29,6 +32,7 @@ use Rattle.hs_told.specs.InTurn.{AllMayCome, IsInTurn, after_all, told_of}
 -- what is known of single cores and events, in one place
 pub record EventLaws : Type 0 where
   pub right : (by : Judging) (start : Store) (core : Core) (cs : List Folded) → IsStanding by start core cs → CountsRight by.name core
+  pub zeros : (name : List ℕ → Address) (core : Core) (cs : List Folded) → IsLawful name core cs → ZerosRight name core
   pub stands : EventStands
   pub turns : (commands : ℕ → Option Command) (core : Core) (es : Events) → IsInTurn commands core → AllMayCome commands core es → IsInTurn commands (after_all core es)
   pub ordered : (commands : ℕ → Option Command) (core : Core) → IsInTurn commands core → IsOrdered commands (core.journal ++ core.refused)
@@ -62,6 +66,7 @@ module _ (laws : EventLaws) (start : Start) (core : Core) (turn : IsInTurn start
     answers = record { legal = told.legal; replied = told.answered; ordered = laws.ordered start.commands core turn };
     deletes = deletes;
     counts = laws.right by start.entry core its.0 its.1;
+    zeros = laws.zeros start.set.name core its.0 its.1.lawful;
     prompt = λ line low prompt. prompt_told start.commands core turn line prompt low;
   }
 

@@ -19,6 +19,7 @@ pub mod EffectLemmas
 pub mod EpochLemmas
 pub mod EpochReadLemmas
 pub mod EventLemmas
+pub mod FailedLemmas
 pub mod FallLemmas
 pub mod FallsBeside
 pub mod FallsBytes
@@ -95,3 +96,4 @@ pub mod UnsoundKnownLemmas
 pub mod UnsoundMachineLemmas
 pub mod WantLemmas
 pub mod WantedLemmas
+pub mod ZeroLemmas

@@ -81,7 +81,7 @@ pub record OpenLaws : Type 0 where
 
 -- ---- what was read
 
-from_one : (seen : Side → List ℕ) → IsFromOne (unwrap_or (list_in seen) [])
+pub from_one : (seen : Side → List ℕ) → IsFromOne (unwrap_or (list_in seen) [])
 from_one seen = go (list_in seen) refl
   where
     go : (o : Option Numbered) → list_in seen ≡ o → IsFromOne (unwrap_or o [])

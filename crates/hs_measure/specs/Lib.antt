@@ -1,4 +1,5 @@
 pub mod Between
+pub mod Counted
 pub mod Ending
 pub mod Finite
 pub mod Left
@@ -9,3 +10,4 @@ pub mod Rounds
 pub mod Served
 pub mod Unsound
 pub mod Walks
+pub mod Zeros

@@ -12,15 +12,17 @@ use Rattle.hs_model.specs.Run.{run}
 use Rattle.hs_settled.specs.Settled.{NothingOpen}
 use Rattle.hs_standing.specs.Standing.{judging_of}
 use Rattle.hs_standing.specs.Start.{Start}
+use Rattle.hs_measure.specs.Zeros.{ZerosRight}
 use Rattle.hs_told.specs.InTurn.{told_of}
 
--- its journal is answered as the plain store does, and so it is with what found it full; sweeps and `done` are told as promised; its counts are right;
+-- its journal is answered as the plain store does, and so it is with what found it full; sweeps and `done` are told as promised; its counts are right, and so are its zero blocks;
 -- and each line that is answered in its own event has its entry, up to the last line
 pub record KeepsPromise (start : Start) (core : Core) : Type 0 where
   pub journal : AreAnswers (judging_of start) start.entry core.journal
   pub answers : AreAnswers (judging_of start) start.entry (told_of core)
   pub deletes : TellsDeletion (judging_of start) start.entry core
   pub counts : CountsRight start.set.name core
+  pub zeros : ZerosRight start.set.name core
   pub prompt : (line : ℕ) → line ≤ core.event_line → IsPrompt (client_op (start.commands line)) → (place : ℕ) × IsOfLine (told_of core) place line
 
 -- nothing is open: each client's line up to the last line has its entry, and the store that the journal leaves is level

@@ -10,6 +10,7 @@ ghost use Rattle.hs_standing.specs.Run.{IsRunning, MayRun, RunOpens};
 ghost use Rattle.hs_standing.specs.Standing.{AllMayKeep, judging_of};
 ghost use Rattle.hs_standing.specs.Start.{Start};
 
+use crate::zeros::zero_blocks_are_right;
 use hs_settled::{
     each_core_of_a_run_counts_right, each_event_keeps_the_rule_of_done,
     each_front_of_a_run_keeps_the_rule_of_done,
@@ -19,9 +20,9 @@ use hs_told::answers_stay_in_order;
 
 /// Of a run over sound lists, with one copy of each shard: behind each front of any events that may
 /// come, the journal is a legal run of the plain store with its answers, in order, each sweep is exact
-/// and each `done` in its place, the counts are right, and each line that is answered in its own event
-/// has its entry. So it is from a state of the run on (`events`), and from opening on (`run`), also
-/// where the core has ended with one of the events.
+/// and each `done` in its place, counts and zero blocks are right, and each line that is answered in
+/// its own event has its entry. So it is from a state of the run on (`events`), and from opening on
+/// (`run`), also where the core has ended with one of the events.
 pub fn each_event_keeps_the_promise()
     ensures events { (start : Start) (c : Whole) (events : Events)
         → IsRunning start c → AllMayKeep start (MayRun start) c.core events
@@ -33,6 +34,7 @@ pub fn each_event_keeps_the_promise()
         (n : ℕ) → KeepsPromise start (steps (first_core start.set found) (take n events)) }
 {
     each_core_of_a_run_counts_right();
+    zero_blocks_are_right();
     each_event_keeps_the_rule_of_done();
     each_front_of_a_run_keeps_the_rule_of_done();
     each_event_is_told();

@@ -14,8 +14,8 @@ use hs_ports::Disk;
 /// Of a run that is the machine's, as `hydra` says of the words that it serves: over disks that tell
 /// their contents, and are sound at entry, each core of it, behind each front of its events, keeps what
 /// is promised of answers, deletion and completeness, where the core goes on behind its opening. So its
-/// counts are right at each moment: no zero block is a wrong one, and each block that is out of reach at
-/// a last round is one.
+/// counts and zero blocks are right at each moment: as the plain store says what anchors reach, no zero
+/// block is a wrong one, and each block that is out of reach at a last round is one.
 pub fn each_core_of_the_machines_run_keeps_the_promise<A: Addresser, D: Disk>()
     ensures { (naming : A) (wanted : Wanted) (commands : ℕ → Option Command) (r : Ran)
         → (machine : IsOfCluster D.tells (script_of (A.name naming) wanted commands) r)

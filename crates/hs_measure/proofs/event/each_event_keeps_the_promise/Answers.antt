@@ -9,6 +9,7 @@ pub returns-clause-events : goal.returns-clause-events
 returns-clause-events c = λ start w events run may its n.
     let laws : EventLaws = record {
       right = c.each_core_of_a_run_counts_right.ensures.stands;
+      zeros = c.zero_blocks_are_right.ensures.of_core;
       stands = c.each_event_is_told.ensures.event;
       turns = c.answers_stay_in_order.ensures.events;
       ordered = c.answers_stay_in_order.ensures.with_refused;
@@ -20,6 +21,7 @@ pub returns-clause-run : goal.returns-clause-run
 returns-clause-run c = λ start found events opens may n.
     let laws : EventLaws = record {
       right = c.each_core_of_a_run_counts_right.ensures.stands;
+      zeros = c.zero_blocks_are_right.ensures.of_core;
       stands = c.each_event_is_told.ensures.event;
       turns = c.answers_stay_in_order.ensures.events;
       ordered = c.answers_stay_in_order.ensures.with_refused;
