@@ -76,15 +76,15 @@ read_points bytes block e =
 
 -- ---- an entry
 
--- the address of a Root is such a one, and the epoch of an Enter is not past the last
-abbrev HasFields : Entry → Type 0
+-- the address of a Root is such a one, and the epochs of an Enter and of a Got are not past the last
+abbrev pub HasFields : Entry → Type 0
 HasFields (kind.View view) = Unit {0}
 HasFields (kind.Block line least bytes) = Unit {0}
 HasFields (kind.Mark line least block a) = Unit {0}
 HasFields (kind.Root line held a key) = Has32Bytes a
 HasFields (kind.Drop line key) = Unit {0}
 HasFields (kind.Enter line epoch) = epoch ≤ LAST_EPOCH
-HasFields (kind.Got from epoch round total deltas) = Unit {0}
+HasFields (kind.Got from epoch round total deltas) = epoch ≤ LAST_EPOCH
 HasFields (kind.Base view epoch swept round frames) = Unit {0}
 HasFields (kind.KeptBlock born mark flags count bytes) = Unit {0}
 HasFields (kind.KeptRoot created dropped counted address key) = Unit {0}
@@ -154,7 +154,7 @@ unfolding got_at
 got_has whole bytes =
     behind (byte_at (faults.Short whole) bytes) _ (λ sender s. behind (epoch_at whole 10 sender.1) _ (λ epoch p. behind (number_at (faults.Short whole) w32 epoch.1) _ (λ round r. behind (number_at (faults.Short whole) w32 round.1) _ (λ total t.
     behind (number_at (faults.Short whole) w32 total.1) _ (λ count c. behind (check (leb count.0 16665) (faults.BadField 26)) _ (λ few f. behind (deltas_at whole 30 count.0 None count.1) _ (λ deltas d.
-    behind (check (eqb (length deltas.1) 0) (faults.Trailing (30 + 36 * count.0))) _ (λ ended n. gives (kind.Got sender.0 epoch.0 round.0 total.0 deltas.0) tt))))))))
+    behind (check (eqb (length deltas.1) 0) (faults.Trailing (30 + 36 * count.0))) _ (λ ended n. gives (kind.Got sender.0 epoch.0 round.0 total.0 deltas.0) (epoch_low whole 10 sender.1 epoch p)))))))))
 
 fields_have : (of whole : ℕ) (bytes : List ℕ) → ReadsFields (fields_at of whole bytes)
 unfolding fields_at
@@ -170,7 +170,7 @@ fields_have of whole bytes =
 same_fields : (x y : ℕ × Entry) → given x ≡ given y → HasFields x.1 → HasFields y.1
 same_fields x y e own = subst (λ (z : ℕ × Entry). HasFields z.1) (ok_is {E = EntryFault} x y e) own
 
-has_fields : (bytes : List ℕ) (number : ℕ) (entry : Entry) → entry_at bytes ≡ Ok (number, entry) → HasFields entry
+pub has_fields : (bytes : List ℕ) (number : ℕ) (entry : Entry) → entry_at bytes ≡ Ok (number, entry) → HasFields entry
 unfolding entry_at
 has_fields bytes number entry e =
     let whole : ℕ = length bytes in
