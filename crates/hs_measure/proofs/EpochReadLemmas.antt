@@ -1,5 +1,5 @@
 -- No Enter and no Got that is read is of an epoch past the last: reading tests it.
-use Rattle.std.proofs.Common.{◌≡◌, ℕ, List, Option, None, Some, refl, Ok}
+use Rattle.std.proofs.Common.{◌≡◌, ℕ, List, [], Option, None, Some, refl, Ok}
 use Rattle.std.specs.List.{AllByRecursion}
 use Rattle.std.specs.Prelude.{unwrap_or}
 use Rattle.hs_clauses.proofs.BlockLemmas.{HasFields, has_fields}
