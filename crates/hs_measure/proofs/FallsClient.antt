@@ -23,7 +23,7 @@ use Rattle.hs_measure.proofs.LowersStand.{answer_cheap, effect_answer, now_is}
 use Rattle.hs_measure.proofs.FallsStand.{Next, Stand, asked, epoch_low, steps_then, swept_then, unsure_way}
 use Rattle.hs_measure.proofs.LowersSteps.{cost}
 use Rattle.hs_measure.proofs.FallsTaken.{news_quiet, quiet_counts}
-use Rattle.hs_measure.proofs.LowersTaken.{all_same, catalogues_by, dues_quiet, gots_le, way_same}
+use Rattle.hs_measure.proofs.LowersTaken.{all_same, catalogues_by, dues_quiet, gots_le, padded, plain, way_same}
 use Rattle.hs_measure.proofs.StepLemmas.{mul_le}
 use Rattle.hs_measure.specs.Finite.{reports_most, rounds_left, slots_of}
 use Rattle.hs_measure.proofs.LowersClient.{heavy_sum, lists_le}
@@ -90,12 +90,6 @@ module _ (rounds : ℕ) (name : List ℕ → Address) (c : Core) (its : Stand ro
           (padded (ways_left (taken shard entry c)) (ways_left c)
           (all_same name shard number entry c its.orderly its.placed next.low next.leads its.owned
           (λ l w at. way_same name shard number entry c its.orderly its.placed next.low next.leads its.owned (λ a. ap (λ (bs : BlockList). option_map (λ (f : Facts). f.number) (facts_in a bs)) blocks) (λ place k n is far few. epoch) l w at (none l)))))
-        where
-          padded : (x y : ℕ) → x ≤ y → x + 0 ≤ y + 0
-          padded x y h = omega (arith, h)
-
-          plain : (x y : ℕ) → x + 0 ≤ y + 0 → x ≤ y
-          plain x y h = omega (arith, h)
 
 -- ---- where an operation is refused, or not
 

@@ -35,7 +35,7 @@ use Rattle.hs_measure.proofs.LowersParts.{due_by, dues_most, new_by}
 use Rattle.hs_measure.proofs.LowersRounds.{KeepsNumbers, advance_epoch, advance_numbers}
 use Rattle.hs_measure.proofs.FallsStand.{Next, Stand, beside_it, brings_here, came, here_stands, room_here, so_far, steps_then, swept_then}
 use Rattle.hs_measure.proofs.FallsTaken.{deletion_falls, quiet_counts}
-use Rattle.hs_measure.proofs.LowersTaken.{all_bumped, all_same, any_here, as_much, asks_taken, catalogue_here, catalogue_other, catalogues_by, gots_le, group_other, way_same}
+use Rattle.hs_measure.proofs.LowersTaken.{all_bumped, all_same, any_here, as_much, asks_taken, catalogue_here, catalogue_other, catalogues_by, gots_le, group_other, padded, plain, way_same}
 use Rattle.hs_measure.proofs.LowersWays.{HasSameNumbers}
 use Rattle.hs_measure.specs.Finite.{most_rounds, reports_most, rounds_left, slot_at, slots_of, sweeps_to_come}
 use Rattle.hs_measure.proofs.LowersClient.{apart_bools}
@@ -197,12 +197,6 @@ module _ (rounds : ℕ) (name : List ℕ → Address) (c : Core) (its : Stand ro
         (all_same name shard number entry c its.orderly its.placed next.low next.leads its.owned
         (λ l w at. way_same name shard number entry c its.orderly its.placed next.low next.leads its.owned (λ a. ap (λ (bs : BlockList). option_map (λ (f : Facts). f.number) (facts_in a bs)) blocks) (λ p k n there far few. epoch_is) l w at (λ e. cc e)))))
       where
-        padded : (x y : ℕ) → x ≤ y → x + 0 ≤ y + 0
-        padded x y h = omega (arith, h)
-
-        plain : (x y : ℕ) → x + 0 ≤ y + 0 → x ≤ y
-        plain x y h = omega (arith, h)
-
         lists : (g' g d' d : ℕ) → g' + 1 ≤ g → d' ≤ d + 1 → g' + d' ≤ g + d
         lists g' g d' d h k = omega (arith, h, k)
 

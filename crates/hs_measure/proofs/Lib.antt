@@ -70,6 +70,7 @@ pub mod LowersJudged
 pub mod LowersKinds
 pub mod LowersLemmas
 pub mod LowersParts
+pub mod LowersRefused
 pub mod LowersReport
 pub mod LowersRounds
 pub mod LowersSealed

@@ -27,7 +27,7 @@ use Rattle.hs_measure.proofs.LowersFresh.{write_late}
 use Rattle.hs_measure.proofs.LowersJudged.{cost_most}
 use Rattle.hs_measure.proofs.LowersStand.{Next, Stand, answer_cheap, asked, effect_answer, epoch_low, now_is, same_left, taken_lawful, unsure_way}
 use Rattle.hs_measure.proofs.LowersSteps.{cost}
-use Rattle.hs_measure.proofs.LowersTaken.{all_same, as_much, catalogues_by, dues_quiet, gots_le, news_quiet, quiet_counts, way_same}
+use Rattle.hs_measure.proofs.LowersTaken.{all_same, as_much, catalogues_by, dues_quiet, gots_le, news_quiet, padded, plain, quiet_counts, way_same}
 use Rattle.hs_measure.proofs.StepLemmas.{mul_le}
 use Rattle.hs_measure.specs.Measure.{asks_of, deletion_left, dues_of, gots_of, is_any_got, is_sure, last_epoch, news_of, reports_left, way_left, ways_left}
 use Rattle.hs_model.specs.declared.op.Op.{Op}
@@ -119,12 +119,6 @@ module _ (name : List ℕ → Address) (cs : List Folded) (c : Core) (its : Stan
           (padded (ways_left (taken shard entry c)) (ways_left c)
           (all_same name shard number entry c its.orderly its.placed next.low next.leads its.owned
           (λ l w at. way_same name shard number entry c its.orderly its.placed next.low next.leads its.owned (λ a. ap (λ (bs : BlockList). option_map (λ (f : Facts). f.number) (facts_in a bs)) blocks) (λ place k n is far few. epoch) l w at (none l)))))
-        where
-          padded : (x y : ℕ) → x ≤ y → x + 0 ≤ y + 0
-          padded x y h = omega (arith, h)
-
-          plain : (x y : ℕ) → x + 0 ≤ y + 0 → x ≤ y
-          plain x y h = omega (arith, h)
 
 -- ---- where an operation is refused, or not
 

@@ -1,13 +1,10 @@
 -- An Enter takes effect: no more reports are left than before.
-use Rattle.std.proofs.Common.{◌≡◌, ◌∙◌, sym, ap, subst, refl, ◌⊎◌, inl, inr, ℕ, suc, ◌+◌, ◌*◌, ◌<◌, ◌≤◌, ◌==◌, ◌&&◌, Bool, true, false, cond, not, List, Option, Some, None, arith, is_some, length, slice_get, slice_index}
-use Rattle.std.proofs.lemmas.Bool.{and_parts, eq-eqb, eqb-true, ltb-false, ne_eqb}
-use Rattle.std.proofs.lemmas.List.{length-set}
-use Rattle.std.specs.List.{list_any}
+use Rattle.std.proofs.Common.{◌≡◌, ◌∙◌, sym, ap, subst, refl, ◌⊎◌, inl, inr, ℕ, suc, ◌+◌, ◌*◌, ◌<◌, ◌≤◌, ◌==◌, ◌&&◌, Bool, true, false, cond, List, Option, Some, None, arith, is_some, length, slice_get}
+use Rattle.std.proofs.lemmas.Bool.{and_parts, eq-eqb, eqb-true, ne_eqb}
 use Rattle.std.specs.Prelude.{if◌then◌else◌}
 use Rattle.hs_standing.specs.Changes.{told_at_once}
 use Rattle.hs_core.specs.declared.waiting.Waiting.{Waiting}
 use Rattle.hs_core.specs.Effects.{note_enter, tell_operation}
-use Rattle.hs_core.specs.Entering.{enters, has_begun, is_enter_due}
 use Rattle.hs_core.specs.Looking.{catalogue_of, front_of, group_of, operation_of, shape_of}
 use Rattle.hs_core.specs.State.{Core}
 use Rattle.hs_desk.specs.declared.what.What.{What}
@@ -24,24 +21,21 @@ use Rattle.hs_measure.proofs.LowersSwept.{swept_low}
 use Rattle.hs_measure.proofs.DeletionMeasure.{deletion_by, deletion_rises}
 use Rattle.hs_measure.proofs.DeletionMoves.{HasEntered, enter_moves}
 use Rattle.hs_measure.proofs.DeletionStandLemmas.{NoneMoved, ahead_of_all}
-use Rattle.hs_measure.proofs.LowersClient.{apart_bools, both_le, held, lists_le, next_step, refused_cheap, step_is, unsure_cheap, v}
+use Rattle.hs_measure.proofs.LowersClient.{apart_bools, both_le, held, next_step, refused_cheap, step_is, unsure_cheap}
 use Rattle.hs_measure.proofs.LowersCounts.{is_own, product_falls, product_less, sweeps_le}
 use Rattle.hs_measure.proofs.LowersEffect.{answered_counts, kept_counts}
-use Rattle.hs_measure.proofs.LowersFresh.{delete_idle}
-use Rattle.hs_measure.proofs.LowersParts.{due_by, dues_le, dues_most, news_most}
+use Rattle.hs_measure.proofs.LowersParts.{due_by, dues_most, news_most}
+use Rattle.hs_measure.proofs.LowersRefused.{is_refused, lists_then, never, stays, ways_then}
 use Rattle.hs_measure.proofs.LowersRounds.{KeepsNumbers, advance_epoch, advance_numbers, each_numbers}
-use Rattle.hs_measure.proofs.LowersStand.{Next, Stand, enter_op, few_all, first_is, first_swept, same_left, taken_lawful}
+use Rattle.hs_measure.proofs.LowersStand.{Next, Stand, enter_op, few_all, same_left, taken_lawful}
 use Rattle.hs_measure.proofs.LowersSteps.{cost}
-use Rattle.hs_measure.proofs.LowersTaken.{all_bumped, all_same, any_all, as_much, asks_taken, catalogue_here, catalogue_other, catalogues_by, due_same, gots_le, group_other, news_quiet, quiet_counts, way_same}
+use Rattle.hs_measure.proofs.LowersTaken.{all_bumped, all_same, as_much, asks_taken, catalogue_here, catalogue_other, gots_le, group_other, news_quiet, padded, plain, quiet_counts, way_same}
 use Rattle.hs_measure.proofs.LowersWays.{HasSameNumbers}
 use Rattle.hs_measure.proofs.StepLemmas.{mul_le}
 use Rattle.hs_measure.specs.Measure.{asks_of, deletion_left, dues_of, gots_of, jobs_of, last_epoch, news_of, reports_left, sweeps_of, way_left, ways_left}
 use Rattle.hs_model.specs.declared.op.Op.{Op}
-use Rattle.hs_model.specs.declared.op.Op.TheVariants as op
 use Rattle.hs_model.specs.declared.reply.Reply.TheVariants as reply
-use Rattle.hs_ops.specs.Refusals.{refusal_of}
 use Rattle.hs_ops.specs.Speaking.{judging_shard}
-use Rattle.hs_ops.specs.Views.{OpView}
 use Rattle.hs_replica.specs.Group.{Group}
 use Rattle.hs_shard.specs.Clients.{Applied, only}
 use Rattle.hs_shard.specs.declared.facts.Facts.{Facts}
@@ -95,123 +89,38 @@ module _ (name : List ℕ → Address) (cs : List Folded) (c : Core) (its : Stan
 
   -- ---- it is refused
 
-  -- no Enter is due that was not
-  refused_dues : (done_by shard (kind.Enter line epoch) c).catalogue ≡ catalogue_of shard c → may_enter epoch (catalogue_of shard c) ≡ false → dues_of (taken shard (kind.Enter line epoch) c) ≤ dues_of c
-  refused_dues same refused = dues_le c (taken shard entry c) refl less
-    where
-      less : (k : ℕ) → is_enter_due k (taken shard (kind.Enter line epoch) c) ≡ true → is_enter_due k c ≡ true
-      less k h = by_shard (one_or_other k shard)
-        where
-          of_any : list_any (enters ((catalogue_of k c).epoch + 1)) (group_of k (taken shard (kind.Enter line epoch) c)).waiting ≡ list_any (enters ((catalogue_of k c).epoch + 1)) (group_of k c).waiting → is_enter_due k c ≡ true
-          of_any any =
-              sym (due_same name shard number entry c its.orderly its.placed next.low next.leads (ap (λ (x : Catalogue). x.run) same) (ap (λ (x : Catalogue). x.epoch) same) (ap (λ (x : Catalogue). x.swept) same) k any) ∙ h
-
-          by_test : (k ≡ shard) → (b : Bool) → (epoch == (catalogue_of shard c).epoch + 1) ≡ b → is_enter_due k c ≡ true
-          by_test is false e =
-              of_any (any_all name shard number entry c its.orderly its.placed next.low next.leads (enters ((catalogue_of k c).epoch + 1)) (ap (λ j. epoch == (catalogue_of j c).epoch + 1) is ∙ e) k)
-          by_test is true e = absurd (apart_bools (sym h ∙ idle))
-            where
-              unswept : ((catalogue_of shard c).swept == (catalogue_of shard c).epoch) ≡ false
-              unswept = sym (ap (λ b. b && (catalogue_of shard c).swept == (catalogue_of shard c).epoch) e) ∙ refused
-
-              swept_is : ((catalogue_of k (taken shard (kind.Enter line epoch) c)).swept == (catalogue_of k (taken shard (kind.Enter line epoch) c)).epoch) ≡ false
-              swept_is =
-                  (λ i. catalogues_by name shard number entry c its.orderly its.placed next.low next.leads (λ (x : Catalogue). x.swept) (ap (λ (x : Catalogue). x.swept) same) k i
-                  == catalogues_by name shard number entry c its.orderly its.placed next.low next.leads (λ (x : Catalogue). x.epoch) (ap (λ (x : Catalogue). x.epoch) same) k i)
-                  ∙ ap (λ j. (catalogue_of j c).swept == (catalogue_of j c).epoch) is ∙ unswept
-
-              none_by : (a b x : Bool) → b ≡ false → ((a && b) && x) ≡ false
-              none_by true b x e = ap (λ y. (true && y) && x) e
-              none_by false b x e = refl
-
-              idle : is_enter_due k (taken shard (kind.Enter line epoch) c) ≡ false
-              idle =
-                  none_by (not (k == 0)) ((catalogue_of k (taken shard (kind.Enter line epoch) c)).swept == (catalogue_of k (taken shard (kind.Enter line epoch) c)).epoch)
-                  (has_begun ((catalogue_of k (taken shard (kind.Enter line epoch) c)).epoch + 1) (catalogue_of k (taken shard (kind.Enter line epoch) c)).run
-                  && not (list_any (enters ((catalogue_of k (taken shard (kind.Enter line epoch) c)).epoch + 1)) (group_of k (taken shard (kind.Enter line epoch) c)).waiting)) swept_is
-
-          by_shard : (k ≡ shard) ⊎ (k ≡ shard → ⊥) → is_enter_due k c ≡ true
-          by_shard (inl is) = by_test is (epoch == (catalogue_of shard c).epoch + 1) refl
-          by_shard (inr d) = of_any (ap (λ (g : Group). list_any (enters ((catalogue_of k c).epoch + 1)) g.waiting) (group_other name shard number entry c its.orderly its.placed next.low next.leads k d))
-
   module _ (refused : may_enter epoch (catalogue_of shard c) ≡ false) where
-    is_refused : done_by shard (kind.Enter line epoch) c ≡ only what.Refused (catalogue_of shard c)
-    is_refused = ap (λ b. cond b (advanced (entered epoch (catalogue_of shard c))) (only what.Refused (catalogue_of shard c))) refused
-
-    stays : (done_by shard (kind.Enter line epoch) c).catalogue ≡ catalogue_of shard c
-    stays = ap (λ (x : Applied). x.catalogue) is_refused
+    same : (done_by shard (kind.Enter line epoch) c).catalogue ≡ catalogue_of shard c
+    same = stays c shard line epoch refused
 
     news_then : news_of (taken shard (kind.Enter line epoch) c) ≤ news_of c
-    news_then = news_quiet name shard number entry c its.orderly its.placed next.low next.leads (ap (λ (x : Catalogue). x.run) stays) (ap (λ (x : Catalogue). x.epoch) stays) (λ from n round. refl)
+    news_then = news_quiet name shard number entry c its.orderly its.placed next.low next.leads (ap (λ (x : Catalogue). x.run) same) (ap (λ (x : Catalogue). x.epoch) same) (λ from n round. refl)
 
-    lists_then : gots_of (taken shard (kind.Enter line epoch) c) + dues_of (taken shard (kind.Enter line epoch) c) ≤ gots_of c + dues_of c
-    lists_then = lists_le (gots_of c) (gots_of (taken shard entry c)) (dues_of c) (dues_of (taken shard entry c)) 0 (gots_le name shard number entry c its.orderly its.placed next.low next.leads) (refused_dues stays refused)
+    lists : gots_of (taken shard (kind.Enter line epoch) c) + dues_of (taken shard (kind.Enter line epoch) c) ≤ gots_of c + dues_of c
+    lists = lists_then name shard number line epoch c its.orderly its.placed next.low next.leads refused
 
     -- of nobody
     refused_own : (asked_by (kind.Enter line epoch) ≡ None) → reports_left (taken shard (kind.Enter line epoch) c) ≤ reports_left c
     refused_own none =
         plain (reports_left (taken shard entry c)) (reports_left c)
-        (quiet_counts name shard number entry c its.orderly its.placed next.low next.leads (ap (λ (x : Catalogue). x.epoch) stays) (ap (λ (x : Catalogue). x.swept) stays) news_then lists_then (same_left name cs c its shard number entry next stays) 0 0
-        (padded (ways_left (taken shard entry c)) (ways_left c)
-        (all_same name shard number entry c its.orderly its.placed next.low next.leads its.owned
-        (λ l w at. way_same name shard number entry c its.orderly its.placed next.low next.leads its.owned (λ a. ap (λ (x : Catalogue). number_at a x) stays) (λ place k n is far few. ap (λ (x : Catalogue). x.epoch) stays) l w at (λ e. cc (sym none ∙ e))))))
-      where
-        padded : (x y : ℕ) → x ≤ y → x + 0 ≤ y + 0
-        padded x y h = omega (arith, h)
-
-        plain : (x y : ℕ) → x + 0 ≤ y + 0 → x ≤ y
-        plain x y h = omega (arith, h)
+        (quiet_counts name shard number entry c its.orderly its.placed next.low next.leads (ap (λ (x : Catalogue). x.epoch) same) (ap (λ (x : Catalogue). x.swept) same) news_then lists (same_left name cs c its shard number entry next same) 0 0
+        (padded (ways_left (taken shard entry c)) (ways_left c) (ways_then name shard number line epoch c its.orderly its.placed next.low next.leads refused its.owned none)))
 
     module _ (by : asked_by (kind.Enter line epoch) ≡ Some line) where
       abbrev h : HasAsked name c shard (front_of shard c + 1 + 0) line (kind.Enter line epoch)
       h = held name cs c its shard number line entry next by
 
-      abbrev see : OpView
-      see = v name cs c its shard number line entry next by
-
-      deletes : h.waiting.operation.op ≡ op.Delete
-      deletes = enter_op name c.sessions line line epoch h.waiting.operation.op h.asks
-
-      first : shard ≡ 0
-      first = sym h.judges ∙ (its.orderly.pending line h.waiting h.at).judges ∙ ap (λ (x : Op). judging_shard (shape_of c).shards c.sessions x) deletes
-
-      some : 0 < length (taken shard (kind.Enter line epoch) c).catalogues
-      some = let long = length-set c.catalogues shard (done_by shard (kind.Enter line epoch) c).catalogue in let l = its.placed.catalogues in let s = its.placed.some in omega (arith, long, l, s)
-
-      epoch_seen : slice_index see.epochs 0 ≡ (catalogue_of shard c).epoch
-      epoch_seen =
-          first_is h.waiting.shard h.waiting.operation.op (taken shard entry c) some ∙ catalogues_by name shard number entry c its.orderly its.placed next.low next.leads (λ (x : Catalogue). x.epoch) (ap (λ (x : Catalogue). x.epoch) stays) 0
-          ∙ ap (λ k. (catalogue_of k c).epoch) (sym first)
-
-      swept_seen : slice_index see.swept 0 ≡ (catalogue_of shard c).swept
-      swept_seen =
-          first_swept h.waiting.shard h.waiting.operation.op (taken shard entry c) some ∙ catalogues_by name shard number entry c its.orderly its.placed next.low next.leads (λ (x : Catalogue). x.swept) (ap (λ (x : Catalogue). x.swept) stays) 0
-          ∙ ap (λ k. (catalogue_of k c).swept) (sym first)
-
-      -- where its epoch is the next one, the run of the one before goes on
-      never : (epoch == (catalogue_of shard c).epoch + 1) ≡ true → refusal_of see h.waiting.operation.op ≡ None → ⊥
-      never next_is none =
-          let idle = delete_idle see (ap (λ (x : Op). refusal_of see x) (sym deletes) ∙ none) in
-          let low = ltb-false (slice_index see.swept 0) (slice_index see.epochs 0) idle in
-          let a = epoch_seen in
-          let b = swept_seen in
-          let c1 = after in
-          let same : (catalogue_of shard c).swept ≡ (catalogue_of shard c).epoch = level (slice_index see.swept 0) (slice_index see.epochs 0) (catalogue_of shard c).swept (catalogue_of shard c).epoch low b a c1 in
-          apart_bools (sym ((λ i. next_is i && eq-eqb (catalogue_of shard c).swept (catalogue_of shard c).epoch same i)) ∙ refused)
-        where
-          level : (s e x y : ℕ) → e ≤ s → s ≡ x → e ≡ y → x ≤ y → x ≡ y
-          level s e x y h k l m = omega (arith, h, k, l, m)
-
       cheap : cost (next_step name cs c its shard number line entry next by) ≤ way_left c h.waiting
       cheap = by_sure (epoch == (catalogue_of shard c).epoch + 1) refl
         where
           by_sure : (b : Bool) → (epoch == (catalogue_of shard c).epoch + 1) ≡ b → cost (next_step name cs c its shard number line entry next by) ≤ way_left c h.waiting
-          by_sure true e = refused_cheap name cs c its shard number line entry next by (ap (λ (x : Applied). x.effect.what) is_refused) (never e)
+          by_sure true e = refused_cheap name cs c its shard number line entry next by (ap (λ (x : Applied). x.effect.what) (is_refused c shard line epoch refused))
+              (never name shard number line epoch c its.orderly its.placed next.low next.leads refused after h e)
           by_sure false e = unsure_cheap name cs c its shard number line entry next by e
 
       refused_asked : reports_left (told_at_once shard (kind.Enter line epoch) c) ≤ reports_left c
       refused_asked =
-          kept_counts name shard number entry c its.orderly its.placed next.low next.leads its.owned line by h.waiting h.at stays news_then lists_then (same_left name cs c its shard number entry next stays) cheap
+          kept_counts name shard number entry c its.orderly its.placed next.low next.leads its.owned line by h.waiting h.at same news_then lists (same_left name cs c its shard number entry next same) cheap
 
   -- ---- it enters
 

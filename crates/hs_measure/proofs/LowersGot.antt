@@ -31,7 +31,7 @@ use Rattle.hs_measure.proofs.LowersEnter.{account_entered, more_of, pays_factor}
 use Rattle.hs_measure.proofs.LowersParts.{due_by, dues_most, new_by, news_le, news_most}
 use Rattle.hs_measure.proofs.LowersRounds.{KeepsNumbers, advance_numbers}
 use Rattle.hs_measure.proofs.LowersStand.{Next, Stand, few_all, here_is, taken_lawful}
-use Rattle.hs_measure.proofs.LowersTaken.{all_bumped, all_same, any_here, as_much, asks_taken, catalogue_here, catalogue_other, catalogues_by, gots_le, group_other, quiet_counts, way_same}
+use Rattle.hs_measure.proofs.LowersTaken.{all_bumped, all_same, any_here, as_much, asks_taken, catalogue_here, catalogue_other, catalogues_by, gots_le, group_other, padded, plain, quiet_counts, way_same}
 use Rattle.hs_measure.proofs.LowersWays.{HasSameNumbers}
 use Rattle.hs_measure.specs.Measure.{asks_of, deletion_left, dues_of, gots_of, jobs_of, last_epoch, new_at, news_of, reports_left, sweeps_of, ways_left}
 use Rattle.hs_memory.specs.Forget.{forget}
@@ -170,12 +170,6 @@ module _ (name : List ℕ → Address) (cs : List Folded) (c : Core) (its : Stan
         (all_same name shard number entry c its.orderly its.placed next.low next.leads its.owned
         (λ l w at. way_same name shard number entry c its.orderly its.placed next.low next.leads its.owned (λ a. same_as (λ (x : Catalogue). number_at a x) refl) (λ p k n there far few. same_as (λ (x : Catalogue). x.epoch) refl) l w at (λ e. cc e)))))
       where
-        padded : (x y : ℕ) → x ≤ y → x + 0 ≤ y + 0
-        padded x y h = omega (arith, h)
-
-        plain : (x y : ℕ) → x + 0 ≤ y + 0 → x ≤ y
-        plain x y h = omega (arith, h)
-
         lists : (g' g d' d : ℕ) → g' + 1 ≤ g → d' ≤ d + 1 → g' + d' ≤ g + d
         lists g' g d' d h k = omega (arith, h, k)
 

@@ -56,6 +56,13 @@ pub account_taken : (j n g d w p y n' g' d' w' p' y' less more : ℕ) → n' ≤
     → (((j + 4 * n') + (2 * g' + 2 * d')) + ((w' + 3 * p') + y')) + less ≤ (((j + 4 * n) + (2 * g + 2 * d)) + ((w + 3 * p) + y)) + more
 account_taken j n g d w p y n' g' d' w' p' y' less more a b c e f = omega (arith, a, b, c, e, f)
 
+-- where nothing goes and nothing comes
+pub padded : (x y : ℕ) → x ≤ y → x + 0 ≤ y + 0
+padded x y h = omega (arith, h)
+
+pub plain : (x y : ℕ) → x + 0 ≤ y + 0 → x ≤ y
+plain x y h = omega (arith, h)
+
 module _ (name : List ℕ → Address) (shard number : ℕ) (entry : Entry) (c : Core) (its : IsOrderly name c) (placed : IsPlaced c) (low : shard < (shape_of c).shards) (leads : committed (group_of shard c) ≡ Some (number, entry)) where
   abbrev pub then : Core
   then = taken shard entry c
