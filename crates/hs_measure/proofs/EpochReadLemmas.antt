@@ -1,12 +1,11 @@
 -- No Enter and no Got that is read is of an epoch past the last: reading tests it.
-use Rattle.std.proofs.Common.{◌≡◌, ℕ, List, [], Option, None, Some, refl, Ok}
+use Rattle.std.proofs.Common.{◌≡◌, ℕ, List, [], Option, None, Some, refl}
 use Rattle.std.specs.List.{AllByRecursion}
 use Rattle.std.specs.Prelude.{unwrap_or}
 use Rattle.hs_clauses.proofs.BlockLemmas.{HasFields, has_fields}
 use Rattle.hs_clauses.proofs.ReadLemmas.{read_all}
 use Rattle.hs_entry.specs.declared.entry.Entry.{Entry}
 use Rattle.hs_entry.specs.declared.entry.Entry.TheVariants as kind
-use Rattle.hs_entry.specs.Reading.{entry_at}
 use Rattle.hs_fold.specs.Shards.Setting.{Numbered}
 use Rattle.hs_measure.specs.Opens.{IsOfLowEpoch}
 use Rattle.hs_ports.specs.declared.disk.Side.{Side}

@@ -16,7 +16,7 @@ use Rattle.hs_effects.specs.Taking.{done_by, taken}
 use Rattle.hs_entry.specs.declared.entry.Entry.{Entry}
 use Rattle.hs_limits.specs.declared.address.Address.{Address}
 use Rattle.hs_limits.specs.declared.limits.TheConstants.{LAST_EPOCH}
-use Rattle.hs_measure.proofs.FallsEffect.{answered_counts, kept_counts, taken_step}
+use Rattle.hs_measure.proofs.FallsEffect.{answered_counts, kept_counts}
 use Rattle.hs_measure.proofs.LowersFresh.{write_late}
 use Rattle.hs_measure.proofs.LowersJudged.{cost_most}
 use Rattle.hs_measure.proofs.LowersStand.{answer_cheap, effect_answer, now_is}
@@ -24,6 +24,7 @@ use Rattle.hs_measure.proofs.FallsStand.{Next, Stand, asked, epoch_low, steps_th
 use Rattle.hs_measure.proofs.LowersSteps.{cost}
 use Rattle.hs_measure.proofs.FallsTaken.{news_quiet, quiet_counts}
 use Rattle.hs_measure.proofs.LowersTaken.{all_same, catalogues_by, dues_quiet, gots_le, padded, plain, way_same}
+use Rattle.hs_measure.proofs.LowersTold.{taken_step}
 use Rattle.hs_measure.proofs.StepLemmas.{mul_le}
 use Rattle.hs_measure.specs.Finite.{reports_most, rounds_left, slots_of}
 use Rattle.hs_measure.proofs.LowersClient.{heavy_sum, lists_le}
@@ -67,7 +68,7 @@ module _ (rounds : ℕ) (name : List ℕ → Address) (c : Core) (its : Stand ro
       h = asked rounds name c its shard number entry next line by
 
       abbrev s : OpStep
-      s = taken_step rounds name shard number entry c its.orderly its.placed next.low next.leads its.owned line by h.waiting h.at
+      s = taken_step shard entry c h.waiting
 
       -- the catalogue stays, and it costs no more than its way
       pub kept : (done_by shard entry c).catalogue ≡ catalogue_of shard c → cost s ≤ way_left c h.waiting → reports_most rounds (told_at_once shard entry c) ≤ reports_most rounds c
@@ -104,7 +105,7 @@ module _ (rounds : ℕ) (name : List ℕ → Address) (c : Core) (its : Stand ro
   v = view_for u.shard u.operation.op (taken shard entry c)
 
   abbrev pub next_step : OpStep
-  next_step = taken_step rounds name shard number entry c its.orderly its.placed next.low next.leads its.owned line by u held.at
+  next_step = taken_step shard entry c u
 
   -- what its effect answers is the step
   pub step_is : (did : What) (r : Reply) → (done_by shard entry c).effect.what ≡ did → effect_reply v did u.operation.op ≡ Some r → next_step ≡ step.Answer r

@@ -30,7 +30,7 @@ use Rattle.hs_measure.proofs.LowersRounds.{KeepsNumbers, advance_numbers, each_n
 use Rattle.hs_measure.proofs.FallsStand.{Next, Stand, beside_it, enter_low, room_here, so_far, steps_then, swept_low, swept_then}
 use Rattle.hs_measure.proofs.LowersSteps.{cost}
 use Rattle.hs_measure.proofs.FallsTaken.{deletion_falls, news_quiet, quiet_counts}
-use Rattle.hs_measure.proofs.LowersTaken.{all_bumped, all_same, as_much, asks_taken, catalogue_here, catalogue_other, gots_le, group_other, padded, plain, way_same}
+use Rattle.hs_measure.proofs.LowersTaken.{all_bumped, all_same, as_much, asks_taken, catalogue_here, catalogue_other, gots_fewer, group_other, padded, plain, way_same}
 use Rattle.hs_measure.proofs.LowersWays.{HasSameNumbers}
 use Rattle.hs_measure.proofs.StepLemmas.{mul_le}
 use Rattle.hs_measure.specs.Finite.{reports_most, rounds_left, slots_of, sweeps_to_come}
@@ -174,10 +174,7 @@ module _ (rounds : ℕ) (name : List ℕ → Address) (c : Core) (its : Stand ro
       finish ways =
           account_entered (jobs_of c) (slots_of c) (gots_of c) (dues_of c) (ways_left c) (length c.operations * (sweeps_to_come c + asks_of c)) (factor * rounds_left rounds c)
           (slots_of (taken shard entry c)) (gots_of (taken shard entry c)) (dues_of (taken shard entry c)) (ways_left (taken shard entry c)) (length c.operations * (sweeps_to_come (taken shard entry c) + asks_of (taken shard entry c))) (factor * rounds_left rounds (taken shard entry c)) (shape_of c).shards
-          news_more (drop_none (gots_of (taken shard entry c)) (gots_of c) (gots_le name shard number entry c its.orderly its.placed next.low next.leads)) dues_more ways factor_then
-        where
-          drop_none : (x y : ℕ) → x + 0 ≤ y → x ≤ y
-          drop_none x y h = omega (arith, h)
+          news_more (gots_fewer name shard number entry c its.orderly its.placed next.low next.leads) dues_more ways factor_then
 
       -- where sweeps and asks are fewer, all may have lost what they met
       bumped : suc (sweeps_to_come (taken shard (kind.Enter line epoch) c) + asks_of (taken shard (kind.Enter line epoch) c)) ≤ sweeps_to_come c + asks_of c → reports_most rounds (taken shard (kind.Enter line epoch) c) ≤ reports_most rounds c

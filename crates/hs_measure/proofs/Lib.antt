@@ -80,6 +80,7 @@ pub mod LowersSums
 pub mod LowersSwept
 pub mod LowersTake
 pub mod LowersTaken
+pub mod LowersTold
 pub mod LowersWays
 pub mod OpenLemmas
 pub mod OpenedLemmas

@@ -22,12 +22,13 @@ use Rattle.hs_measure.proofs.DeletionGrownLemmas.{adds}
 use Rattle.hs_measure.proofs.DeletionMeasure.{deletion_by, deletion_rises}
 use Rattle.hs_measure.proofs.DeletionMoves.{added_one, client_moves}
 use Rattle.hs_measure.proofs.DeletionStandLemmas.{HasAdded}
-use Rattle.hs_measure.proofs.LowersEffect.{answered_counts, kept_counts, taken_step}
+use Rattle.hs_measure.proofs.LowersEffect.{answered_counts, kept_counts}
 use Rattle.hs_measure.proofs.LowersFresh.{write_late}
 use Rattle.hs_measure.proofs.LowersJudged.{cost_most}
 use Rattle.hs_measure.proofs.LowersStand.{Next, Stand, answer_cheap, asked, effect_answer, epoch_low, now_is, same_left, taken_lawful, unsure_way}
 use Rattle.hs_measure.proofs.LowersSteps.{cost}
 use Rattle.hs_measure.proofs.LowersTaken.{all_same, as_much, catalogues_by, dues_quiet, gots_le, news_quiet, padded, plain, quiet_counts, way_same}
+use Rattle.hs_measure.proofs.LowersTold.{taken_step}
 use Rattle.hs_measure.proofs.StepLemmas.{mul_le}
 use Rattle.hs_measure.specs.Measure.{asks_of, deletion_left, dues_of, gots_of, is_any_got, is_sure, last_epoch, news_of, reports_left, way_left, ways_left}
 use Rattle.hs_model.specs.declared.op.Op.{Op}
@@ -80,7 +81,7 @@ module _ (name : List ℕ → Address) (cs : List Folded) (c : Core) (its : Stan
       h = asked name cs c its shard number entry next line by
 
       abbrev s : OpStep
-      s = taken_step name shard number entry c its.orderly its.placed next.low next.leads its.owned line by h.waiting h.at
+      s = taken_step shard entry c h.waiting
 
       -- the catalogue stays, and it costs no more than its way
       pub kept : (done_by shard entry c).catalogue ≡ catalogue_of shard c → cost s ≤ way_left c h.waiting → reports_left (told_at_once shard entry c) ≤ reports_left c
@@ -133,7 +134,7 @@ module _ (name : List ℕ → Address) (cs : List Folded) (c : Core) (its : Stan
   v = view_for u.shard u.operation.op (taken shard entry c)
 
   abbrev pub next_step : OpStep
-  next_step = taken_step name shard number entry c its.orderly its.placed next.low next.leads its.owned line by u held.at
+  next_step = taken_step shard entry c u
 
   -- what its effect answers is the step
   pub step_is : (did : What) (r : Reply) → (done_by shard entry c).effect.what ≡ did → effect_reply v did u.operation.op ≡ Some r → next_step ≡ step.Answer r

@@ -29,7 +29,7 @@ use Rattle.hs_measure.proofs.LowersRefused.{is_refused, lists_then, never, stays
 use Rattle.hs_measure.proofs.LowersRounds.{KeepsNumbers, advance_epoch, advance_numbers, each_numbers}
 use Rattle.hs_measure.proofs.LowersStand.{Next, Stand, enter_op, few_all, same_left, taken_lawful}
 use Rattle.hs_measure.proofs.LowersSteps.{cost}
-use Rattle.hs_measure.proofs.LowersTaken.{all_bumped, all_same, as_much, asks_taken, catalogue_here, catalogue_other, gots_le, group_other, news_quiet, padded, plain, quiet_counts, way_same}
+use Rattle.hs_measure.proofs.LowersTaken.{all_bumped, all_same, as_much, asks_taken, catalogue_here, catalogue_other, gots_fewer, group_other, news_quiet, padded, plain, quiet_counts, way_same}
 use Rattle.hs_measure.proofs.LowersWays.{HasSameNumbers}
 use Rattle.hs_measure.proofs.StepLemmas.{mul_le}
 use Rattle.hs_measure.specs.Measure.{asks_of, deletion_left, dues_of, gots_of, jobs_of, last_epoch, news_of, reports_left, sweeps_of, way_left, ways_left}
@@ -198,14 +198,11 @@ module _ (name : List ℕ → Address) (cs : List Folded) (c : Core) (its : Stan
       finish last ways =
           account_entered (jobs_of c) (news_of c) (gots_of c) (dues_of c) (ways_left c) (length c.operations * (sweeps_of c + asks_of c)) (factor * deletion_left c)
           (news_of (taken shard entry c)) (gots_of (taken shard entry c)) (dues_of (taken shard entry c)) (ways_left (taken shard entry c)) (length c.operations * (sweeps_of (taken shard entry c) + asks_of (taken shard entry c))) (factor * deletion_left (taken shard entry c)) (shape_of c).shards
-          news_more (drop_none (gots_of (taken shard entry c)) (gots_of c) (gots_le name shard number entry c its.orderly its.placed next.low next.leads)) dues_more ways
+          news_more (gots_fewer name shard number entry c its.orderly its.placed next.low next.leads) dues_more ways
           (factor_then (last_epoch (taken shard entry c)) (asks_of (taken shard entry c)) (within (catalogue_of 0 (taken shard entry c)).epoch (asks_of (taken shard entry c))) last (drop_more (asks_of (taken shard entry c)) (asks_of c) (cond (is_own shard entry) 1 0) asks_then))
         where
           within : (e a : ℕ) → e ≤ e + a
           within e a = omega arith
-
-          drop_none : (x y : ℕ) → x + 0 ≤ y → x ≤ y
-          drop_none x y h = omega (arith, h)
 
           drop_more : (x y z : ℕ) → x + z ≤ y → x ≤ y
           drop_more x y z h = omega (arith, h)

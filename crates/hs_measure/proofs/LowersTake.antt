@@ -37,7 +37,6 @@ use Rattle.hs_limits.specs.declared.address.Address.{Address}
 use Rattle.hs_limits.specs.declared.shape.Shape.{Shape}
 use Rattle.hs_measure.proofs.DeletionMeasure.{deletion_by, unmoved_from, unmoved_same}
 use Rattle.hs_measure.proofs.LowersCounts.{product_less, sweeps_le}
-use Rattle.hs_measure.proofs.LowersEffect.{placed_taken}
 use Rattle.hs_measure.proofs.LowersEnter.{enter_counts}
 use Rattle.hs_measure.proofs.LowersGoes.{Holds, IsParked, IsPlaced, PassesParked, Pays, placed_step, where_holds}
 use Rattle.hs_measure.proofs.LowersGot.{got_counts}
@@ -46,6 +45,7 @@ use Rattle.hs_measure.proofs.LowersParts.{dues_fewer, in_lists}
 use Rattle.hs_measure.proofs.LowersStand.{Next, Stand}
 use Rattle.hs_measure.proofs.LowersSteps.{Adds, adds_due, adds_lists, adds_news, adds_way, proposed_adds, proposed_here, proposed_jobs, stepped}
 use Rattle.hs_measure.proofs.LowersSums.{any_last, sum_le}
+use Rattle.hs_measure.proofs.LowersTold.{placed_taken}
 use Rattle.hs_measure.proofs.StepLemmas.{mul_le}
 use Rattle.hs_measure.specs.Measure.{asks_of, deletion_left, dues_of, gots_of, is_any_got, is_left_over, jobs_of, last_epoch, news_of, reports_left, sweeps_of, way_left, ways_left}
 use Rattle.hs_members.specs.Members.{Members}

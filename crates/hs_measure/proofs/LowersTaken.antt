@@ -134,6 +134,12 @@ module _ (name : List ℕ → Address) (shard number : ℕ) (entry : Entry) (c :
   pub gots_le : gots_of (taken shard entry c) + cond (is_any_got entry) 1 0 ≤ gots_of c
   gots_le = lists_taken (λ k. is_any_got)
 
+  pub gots_fewer : gots_of (taken shard entry c) ≤ gots_of c
+  gots_fewer = let h = gots_le in drop_more (gots_of (taken shard entry c)) (gots_of c) (cond (is_any_got entry) 1 0) h
+    where
+      drop_more : (x y z : ℕ) → x + z ≤ y → x ≤ y
+      drop_more x y z h = omega (arith, h)
+
   module _ (run : (done_by shard entry c).catalogue.run ≡ (catalogue_of shard c).run) (epoch : (done_by shard entry c).catalogue.epoch ≡ (catalogue_of shard c).epoch) where
     pub news_quiet : ((from n round : ℕ) → is_got from n round entry ≡ false) → news_of (taken shard entry c) ≤ news_of c
     news_quiet none = news_le c (taken shard entry c) refl (λ from. ap (λ (r : Run). r.sent) (catalogues_by (λ (x : Catalogue). x.run) run from)) less
