@@ -13,10 +13,10 @@ use Rattle.hs_measure.proofs.FallsCounts.{sweeps_le}
 use Rattle.hs_measure.proofs.LowersEffect.{account_answered, no_more}
 use Rattle.hs_measure.proofs.LowersGoes.{IsPlaced, shard_low}
 use Rattle.hs_measure.proofs.FallsSteps.{stepped}
-use Rattle.hs_measure.proofs.LowersSteps.{cost}
+use Rattle.hs_measure.proofs.LowersSteps.{cost, rest}
 use Rattle.hs_measure.proofs.FallsTaken.{quiet_counts}
 use Rattle.hs_measure.proofs.LowersTaken.{AreOwned, gots_fewer}
-use Rattle.hs_measure.proofs.LowersTold.{apt, asks_fewer, done, done_is, order, placed_taken, product, rest, taken_step, told_is, told_order, ways, ways_rest}
+use Rattle.hs_measure.proofs.LowersTold.{apt, asks_fewer, done, done_is, order, placed_taken, product, taken_step, told_is, told_order, ways, ways_rest}
 use Rattle.hs_measure.specs.Finite.{reports_most, rounds_left, slots_of, sweeps_to_come}
 use Rattle.hs_measure.specs.Measure.{asks_of, dues_of, gots_of, jobs_of, way_left, ways_left}
 use Rattle.hs_model.specs.declared.reply.Reply.{Reply}

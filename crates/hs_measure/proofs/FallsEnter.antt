@@ -28,9 +28,9 @@ use Rattle.hs_measure.proofs.LowersParts.{due_by, dues_most}
 use Rattle.hs_measure.proofs.LowersRefused.{is_refused, lists_then, never, stays, ways_then}
 use Rattle.hs_measure.proofs.LowersRounds.{KeepsNumbers, advance_numbers, each_numbers}
 use Rattle.hs_measure.proofs.FallsStand.{Next, Stand, beside_it, enter_low, room_here, so_far, steps_then, swept_low, swept_then}
-use Rattle.hs_measure.proofs.LowersSteps.{cost}
+use Rattle.hs_measure.proofs.LowersSteps.{as_much, cost}
 use Rattle.hs_measure.proofs.FallsTaken.{deletion_falls, news_quiet, quiet_counts}
-use Rattle.hs_measure.proofs.LowersTaken.{all_bumped, all_same, as_much, asks_taken, catalogue_here, catalogue_other, gots_fewer, group_other, padded, plain, way_same}
+use Rattle.hs_measure.proofs.LowersTaken.{all_bumped, all_same, asks_taken, catalogue_here, catalogue_other, gots_fewer, group_other, padded, plain, way_same}
 use Rattle.hs_measure.proofs.LowersWays.{HasSameNumbers}
 use Rattle.hs_measure.proofs.StepLemmas.{mul_le}
 use Rattle.hs_measure.specs.Finite.{reports_most, rounds_left, slots_of, sweeps_to_come}

@@ -35,7 +35,8 @@ use Rattle.hs_measure.proofs.LowersParts.{due_by, dues_most, new_by}
 use Rattle.hs_measure.proofs.LowersRounds.{KeepsNumbers, advance_epoch, advance_numbers}
 use Rattle.hs_measure.proofs.FallsStand.{Next, Stand, beside_it, brings_here, came, here_stands, room_here, so_far, steps_then, swept_then}
 use Rattle.hs_measure.proofs.FallsTaken.{deletion_falls, quiet_counts}
-use Rattle.hs_measure.proofs.LowersTaken.{all_bumped, all_same, any_here, as_much, asks_taken, catalogue_here, catalogue_other, catalogues_by, gots_le, group_other, padded, plain, way_same}
+use Rattle.hs_measure.proofs.LowersSteps.{as_much}
+use Rattle.hs_measure.proofs.LowersTaken.{all_bumped, all_same, any_here, asks_taken, catalogue_here, catalogue_other, catalogues_by, gots_le, group_other, padded, plain, way_same}
 use Rattle.hs_measure.proofs.LowersWays.{HasSameNumbers}
 use Rattle.hs_measure.specs.Finite.{most_rounds, reports_most, rounds_left, slot_at, slots_of, sweeps_to_come}
 use Rattle.hs_measure.proofs.LowersClient.{apart_bools}

@@ -1,39 +1,30 @@
 -- An entry takes effect, and all goes on by it: no more reports are left than before.
-use Rattle.std.proofs.Common.{◌≡◌, ◌∙◌, sym, ap, subst, refl, ℕ, ◌+◌, ◌*◌, ◌<◌, ◌≤◌, ◌==◌, ◌&&◌, Bool, true, false, not, List, Some, None, arith, is_some, length, sum_by}
-use Rattle.std.proofs.lemmas.Bool.{and_parts, eq-eqb}
-use Rattle.std.specs.List.{list_any}
-use Rattle.std.specs.Option.{option_map_or}
-use Rattle.std.specs.Prelude.{if◌then◌else◌}
+use Rattle.std.proofs.Common.{◌≡◌, sym, ap, subst, refl, ℕ, ◌+◌, ◌*◌, ◌<◌, ◌≤◌, true, List, length}
 use Rattle.hs_standing.specs.Changes.{told_at_once}
 use Rattle.hs_core.specs.Changing.{set_viewed}
-use Rattle.hs_core.specs.declared.waiting.Waiting.{Waiting}
 use Rattle.hs_core.specs.Effects.{take_effect}
-use Rattle.hs_core.specs.Entering.{enters, has_begun, is_enter_due}
-use Rattle.hs_core.specs.Looking.{catalogue_of, group_of, operation_of, shape_of}
+use Rattle.hs_core.specs.Entering.{is_enter_due}
+use Rattle.hs_core.specs.Looking.{catalogue_of, shape_of}
 use Rattle.hs_core.specs.Operating.{propose_entry}
 use Rattle.hs_core.specs.State.{Core}
 use Rattle.hs_entry.specs.declared.entry.Entry.{Entry}
 use Rattle.hs_entry.specs.declared.entry.Entry.TheVariants as kind
-use Rattle.hs_standing.proofs.MuteLemmas.{Words, proposed_words}
 use Rattle.hs_limits.specs.declared.address.Address.{Address}
 use Rattle.hs_limits.specs.declared.shape.Shape.{Shape}
 use Rattle.hs_measure.proofs.FallsClient.{nobody}
 use Rattle.hs_measure.proofs.FallsCounts.{deletion_le, sweeps_le}
-use Rattle.hs_measure.proofs.LowersCounts.{product_less}
 use Rattle.hs_measure.proofs.FallsEnter.{enter_counts}
+use Rattle.hs_measure.proofs.LowersDue.{dues_fall, product_same, ways_less, with_enter}
 use Rattle.hs_measure.proofs.LowersGoes.{IsPlaced, Pays}
 use Rattle.hs_measure.proofs.FallsGot.{got_counts}
 use Rattle.hs_measure.proofs.FallsKinds.{block_counts, drop_counts, mark_counts, root_counts, view_counts}
-use Rattle.hs_measure.proofs.LowersParts.{dues_fewer, in_lists}
 use Rattle.hs_measure.proofs.FallsStand.{Next, Stand}
 use Rattle.hs_measure.proofs.FallsSteps.{adds_news, stepped}
-use Rattle.hs_measure.proofs.LowersSteps.{Adds, adds_due, adds_lists, adds_way, proposed_adds, proposed_here, proposed_jobs}
-use Rattle.hs_measure.proofs.LowersSums.{any_last, sum_le}
-use Rattle.hs_measure.proofs.LowersTake.{account_due, both_sum, none_due, take_pays}
-use Rattle.hs_measure.proofs.LowersTaken.{as_much}
+use Rattle.hs_measure.proofs.LowersSteps.{Adds, adds_lists, as_much, proposed_adds, proposed_jobs}
+use Rattle.hs_measure.proofs.LowersTake.{account_due, take_pays}
 use Rattle.hs_measure.proofs.StepLemmas.{mul_le}
 use Rattle.hs_measure.specs.Finite.{most_rounds, reports_most, rounds_left, slots_of, steps_of, sweeps_to_come}
-use Rattle.hs_measure.specs.Measure.{asks_of, dues_of, gots_of, is_any_got, is_left_over, jobs_of, way_left, ways_left}
+use Rattle.hs_measure.specs.Measure.{asks_of, dues_of, gots_of, is_any_got, jobs_of, ways_left}
 use Rattle.hs_shard.specs.Facts.{Catalogue}
 
 -- ---- a due Enter is proposed
@@ -43,45 +34,13 @@ module _ (rounds : ℕ) (name : List ℕ → Address) (c : Core) (placed : IsPla
   entry = kind.Enter 0 ((catalogue_of shard c).epoch + 1)
 
   abbrev later : Core
-  later = propose_entry shard (kind.Enter 0 ((catalogue_of shard c).epoch + 1)) c
+  later = with_enter shard c
 
   adds : Adds c later shard entry
   adds = proposed_adds shard entry c
 
-  operations : later.operations ≡ c.operations
-  operations = ap (λ (x : Words). x.operations) (proposed_words shard entry c)
-
-  due_now : is_enter_due shard later ≡ false
-  due_now =
-      none_due (not (shard == 0) && (catalogue_of shard later).swept == (catalogue_of shard later).epoch) (has_begun ((catalogue_of shard later).epoch + 1) (catalogue_of shard later).run) (list_any (enters ((catalogue_of shard later).epoch + 1)) (group_of shard later).waiting)
-      (ap (λ (x : Catalogue). list_any (enters (x.epoch + 1)) (group_of shard later).waiting) (adds.catalogue shard)
-      ∙ ap (λ (es : List Entry). list_any (enters ((catalogue_of shard c).epoch + 1)) es) (proposed_here shard entry c (let g = placed.groups in omega (arith, g, low)))
-      ∙ any_last (enters ((catalogue_of shard c).epoch + 1)) (group_of shard c).waiting entry (eq-eqb ((catalogue_of shard c).epoch + 1) ((catalogue_of shard c).epoch + 1) refl))
-
-  fewer : dues_of later + 1 ≤ dues_of c
-  fewer = dues_fewer c later shard adds.shape low due due_now (adds_due c later shard entry adds)
-
-  -- no line asked for it
-  unasked : is_left_over shard c (kind.Enter 0 ((catalogue_of shard c).epoch + 1)) ≡ false
-  unasked =
-      let a = and_parts (not (shard == 0) && (catalogue_of shard c).swept == (catalogue_of shard c).epoch) (has_begun ((catalogue_of shard c).epoch + 1) (catalogue_of shard c).run && not (list_any (enters ((catalogue_of shard c).epoch + 1)) (group_of shard c).waiting)) due in
-      let b = and_parts (not (shard == 0)) ((catalogue_of shard c).swept == (catalogue_of shard c).epoch) a.0 in
-      ap (λ (x : Bool). option_map_or (λ (line : ℕ). not (is_some (operation_of line c))) (if 0 == 0 && x then None else Some 0) false) b.0
-
-  asks_same : asks_of later ≡ asks_of c
-  asks_same =
-      (λ i. length (operations i) + in_lists (λ k. is_left_over k (record c { operations = operations i })) later)
-      ∙ ap (λ n. length c.operations + n) (adds_lists c later shard entry adds (λ k. is_left_over k c) unasked)
-
-  ways_less : ways_left later ≤ ways_left c
-  ways_less = subst (λ (es : List (ℕ × Waiting)). sum_by (λ (e : ℕ × Waiting). way_left later e.1) es ≤ ways_left c) (sym operations) (sum_le (λ (e : ℕ × Waiting). way_left later e.1) (λ (e : ℕ × Waiting). way_left c e.1) c.operations (λ e. adds_way c later shard entry adds e.1))
-
-  product_same : length later.operations * (sweeps_to_come later + asks_of later) ≤ length c.operations * (sweeps_to_come c + asks_of c)
-  product_same =
-      product_less (length later.operations) (length c.operations) (sweeps_to_come later + asks_of later) (sweeps_to_come c + asks_of c) (as_much (length later.operations) (length c.operations) (ap (λ (es : List (ℕ × Waiting)). length es) operations))
-      (both_sum (sweeps_to_come later) (sweeps_to_come c) (asks_of later) (asks_of c)
-      (sweeps_le c later adds.shape (λ k. as_much (catalogue_of k c).swept (catalogue_of k later).swept (sym (ap (λ (x : Catalogue). x.swept) (adds.catalogue k)))))
-      (as_much (asks_of later) (asks_of c) asks_same))
+  products : length later.operations * (sweeps_to_come later + asks_of later) ≤ length c.operations * (sweeps_to_come c + asks_of c)
+  products = product_same c placed shard low due (sweeps_to_come later) (sweeps_to_come c) (sweeps_le c later adds.shape (λ k. as_much (catalogue_of k c).swept (catalogue_of k later).swept (sym (ap (λ (x : Catalogue). x.swept) (adds.catalogue k)))))
 
   deletion_same : (16 * (shape_of c).shards + 2) * rounds_left rounds later ≤ (16 * (shape_of c).shards + 2) * rounds_left rounds c
   deletion_same =
@@ -94,7 +53,7 @@ module _ (rounds : ℕ) (name : List ℕ → Address) (c : Core) (placed : IsPla
       (ap (λ (s : Shape). s.shards) (sym adds.shape))
       (account_due (jobs_of c) (slots_of c) (gots_of c) (dues_of c) (ways_left c) (length c.operations * (sweeps_to_come c + asks_of c)) ((16 * (shape_of c).shards + 2) * rounds_left rounds c)
       (jobs_of later) (slots_of later) (gots_of later) (dues_of later) (ways_left later) (length later.operations * (sweeps_to_come later + asks_of later)) ((16 * (shape_of c).shards + 2) * rounds_left rounds later)
-      (proposed_jobs shard entry c) (adds_news c later shard entry adds) (as_much (gots_of later) (gots_of c) (adds_lists c later shard entry adds (λ k. is_any_got) refl)) fewer ways_less product_same deletion_same)
+      (proposed_jobs shard entry c) (adds_news c later shard entry adds) (as_much (gots_of later) (gots_of c) (adds_lists c later shard entry adds (λ k. is_any_got) refl)) (dues_fall c placed shard low due) (ways_less c placed shard low due) products deletion_same)
 
 -- ---- an entry takes effect
 

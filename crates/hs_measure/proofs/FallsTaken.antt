@@ -12,7 +12,7 @@ use Rattle.hs_measure.proofs.FallsCounts.{deletion_le, deletion_less, sweeps_le}
 use Rattle.hs_measure.proofs.LowersCounts.{is_own, product_less}
 use Rattle.hs_measure.proofs.LowersGoes.{IsPlaced}
 use Rattle.hs_measure.proofs.FallsSlots.{news_le, same_rows}
-use Rattle.hs_measure.proofs.LowersSteps.{le_same}
+use Rattle.hs_measure.proofs.LowersSteps.{as_much, le_same}
 use Rattle.hs_measure.proofs.StepLemmas.{mul_le}
 use Rattle.hs_measure.specs.Finite.{most_rounds, reports_most, rounds_left, slot_at, slots_of, steps_of, sweeps_to_come}
 use Rattle.hs_measure.specs.Measure.{asks_of, dues_of, gots_of, jobs_of, ways_left}
@@ -21,7 +21,7 @@ use Rattle.hs_rounds.specs.declared.place.Place.{Place as Row}
 use Rattle.hs_rounds.specs.Rounds.{Run, body}
 use Rattle.hs_shard.specs.Facts.{Catalogue}
 use Rattle.hs_shard.specs.Rounds.{is_of_run}
-use Rattle.hs_measure.proofs.LowersTaken.{account_taken, any_all, as_much, asks_taken, catalogue_here, catalogue_other, catalogues_by}
+use Rattle.hs_measure.proofs.LowersTaken.{account_taken, any_all, asks_taken, catalogue_here, catalogue_other, catalogues_by}
 
 module _ (rounds : ℕ) (name : List ℕ → Address) (shard number : ℕ) (entry : Entry) (c : Core) (its : IsOrderly name c) (placed : IsPlaced c) (low : shard < (shape_of c).shards) (leads : committed (group_of shard c) ≡ Some (number, entry)) where
   -- no more steps are left where its shard has no more, and fewer where it has fewer

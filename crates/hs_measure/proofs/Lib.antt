@@ -61,6 +61,7 @@ pub mod LowersBeside
 pub mod LowersBytes
 pub mod LowersClient
 pub mod LowersCounts
+pub mod LowersDue
 pub mod LowersEffect
 pub mod LowersEnter
 pub mod LowersFresh

@@ -26,8 +26,8 @@ use Rattle.hs_measure.proofs.LowersEffect.{answered_counts, kept_counts}
 use Rattle.hs_measure.proofs.LowersFresh.{write_late}
 use Rattle.hs_measure.proofs.LowersJudged.{cost_most}
 use Rattle.hs_measure.proofs.LowersStand.{Next, Stand, answer_cheap, asked, effect_answer, epoch_low, now_is, same_left, taken_lawful, unsure_way}
-use Rattle.hs_measure.proofs.LowersSteps.{cost}
-use Rattle.hs_measure.proofs.LowersTaken.{all_same, as_much, catalogues_by, dues_quiet, gots_le, news_quiet, padded, plain, quiet_counts, way_same}
+use Rattle.hs_measure.proofs.LowersSteps.{as_much, cost}
+use Rattle.hs_measure.proofs.LowersTaken.{all_same, catalogues_by, dues_quiet, gots_le, news_quiet, padded, plain, quiet_counts, way_same}
 use Rattle.hs_measure.proofs.LowersTold.{taken_step}
 use Rattle.hs_measure.proofs.StepLemmas.{mul_le}
 use Rattle.hs_measure.specs.Measure.{asks_of, deletion_left, dues_of, gots_of, is_any_got, is_sure, last_epoch, news_of, reports_left, way_left, ways_left}

@@ -12,9 +12,9 @@ use Rattle.hs_limits.specs.declared.address.Address.{Address}
 use Rattle.hs_measure.proofs.DeletionMeasure.{deletion_by}
 use Rattle.hs_measure.proofs.LowersCounts.{sweeps_le}
 use Rattle.hs_measure.proofs.LowersGoes.{IsPlaced, shard_low}
-use Rattle.hs_measure.proofs.LowersSteps.{cost, stepped}
+use Rattle.hs_measure.proofs.LowersSteps.{cost, rest, stepped}
 use Rattle.hs_measure.proofs.LowersTaken.{AreOwned, gots_fewer, quiet_counts}
-use Rattle.hs_measure.proofs.LowersTold.{apt, asks_fewer, done, done_is, order, placed_taken, product, rest, taken_step, told_is, told_order, ways, ways_rest}
+use Rattle.hs_measure.proofs.LowersTold.{apt, asks_fewer, done, done_is, order, placed_taken, product, taken_step, told_is, told_order, ways, ways_rest}
 use Rattle.hs_measure.specs.Measure.{asks_of, deletion_left, dues_of, gots_of, jobs_of, last_epoch, news_of, reports_left, sweeps_of, way_left, ways_left}
 use Rattle.hs_model.specs.declared.reply.Reply.{Reply}
 use Rattle.hs_ops.specs.declared.step.OpStep.TheVariants as step

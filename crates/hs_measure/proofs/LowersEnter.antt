@@ -28,8 +28,8 @@ use Rattle.hs_measure.proofs.LowersParts.{due_by, dues_most, news_most}
 use Rattle.hs_measure.proofs.LowersRefused.{is_refused, lists_then, never, stays, ways_then}
 use Rattle.hs_measure.proofs.LowersRounds.{KeepsNumbers, advance_epoch, advance_numbers, each_numbers}
 use Rattle.hs_measure.proofs.LowersStand.{Next, Stand, enter_op, few_all, same_left, taken_lawful}
-use Rattle.hs_measure.proofs.LowersSteps.{cost}
-use Rattle.hs_measure.proofs.LowersTaken.{all_bumped, all_same, as_much, asks_taken, catalogue_here, catalogue_other, gots_fewer, group_other, news_quiet, padded, plain, quiet_counts, way_same}
+use Rattle.hs_measure.proofs.LowersSteps.{as_much, cost}
+use Rattle.hs_measure.proofs.LowersTaken.{all_bumped, all_same, asks_taken, catalogue_here, catalogue_other, gots_fewer, group_other, news_quiet, padded, plain, quiet_counts, way_same}
 use Rattle.hs_measure.proofs.LowersWays.{HasSameNumbers}
 use Rattle.hs_measure.proofs.StepLemmas.{mul_le}
 use Rattle.hs_measure.specs.Measure.{asks_of, deletion_left, dues_of, gots_of, jobs_of, last_epoch, news_of, reports_left, sweeps_of, way_left, ways_left}

@@ -31,7 +31,8 @@ use Rattle.hs_measure.proofs.LowersEnter.{account_entered, more_of, pays_factor}
 use Rattle.hs_measure.proofs.LowersParts.{due_by, dues_most, new_by, news_le, news_most}
 use Rattle.hs_measure.proofs.LowersRounds.{KeepsNumbers, advance_numbers}
 use Rattle.hs_measure.proofs.LowersStand.{Next, Stand, few_all, here_is, taken_lawful}
-use Rattle.hs_measure.proofs.LowersTaken.{all_bumped, all_same, any_here, as_much, asks_taken, catalogue_here, catalogue_other, catalogues_by, gots_le, group_other, padded, plain, quiet_counts, way_same}
+use Rattle.hs_measure.proofs.LowersSteps.{as_much}
+use Rattle.hs_measure.proofs.LowersTaken.{all_bumped, all_same, any_here, asks_taken, catalogue_here, catalogue_other, catalogues_by, gots_le, group_other, padded, plain, quiet_counts, way_same}
 use Rattle.hs_measure.proofs.LowersWays.{HasSameNumbers}
 use Rattle.hs_measure.specs.Measure.{asks_of, deletion_left, dues_of, gots_of, jobs_of, last_epoch, new_at, news_of, reports_left, sweeps_of, ways_left}
 use Rattle.hs_memory.specs.Forget.{forget}

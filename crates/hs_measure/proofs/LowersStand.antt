@@ -27,8 +27,8 @@ use Rattle.hs_measure.proofs.DeletionFewLemmas.{sent_few}
 use Rattle.hs_measure.proofs.DeletionMeasure.{deletion_by, unmoved_from, unmoved_same}
 use Rattle.hs_measure.proofs.DeletionStandLemmas.{ahead_of_all, now_at}
 use Rattle.hs_measure.proofs.LowersGoes.{IsPlaced}
-use Rattle.hs_measure.proofs.LowersSteps.{cost}
-use Rattle.hs_measure.proofs.LowersTaken.{AreOwned, as_much, catalogues_by, first_waits}
+use Rattle.hs_measure.proofs.LowersSteps.{as_much, cost}
+use Rattle.hs_measure.proofs.LowersTaken.{AreOwned, catalogues_by, first_waits}
 use Rattle.hs_measure.specs.Measure.{is_sure, way_by, way_left}
 use Rattle.hs_memory.specs.Forget.{forget}
 use Rattle.hs_model.specs.declared.op.Op.{Op}

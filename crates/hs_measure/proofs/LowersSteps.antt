@@ -45,13 +45,19 @@ use Rattle.hs_shard.specs.Facts.{Catalogue}
 pub le_same : (n : ℕ) → n ≤ n
 le_same n = omega arith
 
+pub as_much : (x y : ℕ) → x ≡ y → x ≤ y
+as_much x y e = omega (arith, e)
+
+pub le_none : (n : ℕ) → n ≤ n + 0
+le_none n = omega arith
+
 plus_one : (e x y : ℕ) → x + 1 ≡ y → (e + x) + 1 ≡ e + y
 plus_one e x y h = omega (arith, h)
 
 fewer : (x y : ℕ) → x + 1 ≡ y → x ≤ y
 fewer x y h = omega (arith, h)
 
-both_fewer : (s t x y : ℕ) → s ≤ t → x ≤ y → s + x ≤ t + y
+pub both_fewer : (s t x y : ℕ) → s ≤ t → x ≤ y → s + x ≤ t + y
 both_fewer s t x y h k = omega (arith, h, k)
 
 -- a sum of all parts, of which none but jobs and ways rises
@@ -69,7 +75,7 @@ pub record Adds (a b : Core) (shard : ℕ) (entry : Entry) : Type 0 where
   pub waiting : (k : ℕ) → ((group_of k b).waiting ≡ (group_of k a).waiting) ⊎ ((k ≡ shard) × ((group_of k b).waiting ≡ (group_of k a).waiting ++ entry ∷ []))
 
 module _ (a b : Core) (shard : ℕ) (entry : Entry) (adds : Adds a b shard entry) where
-  any_kept : (test : Entry → Bool) (k : ℕ) → list_any test (group_of k a).waiting ≡ true → list_any test (group_of k b).waiting ≡ true
+  pub any_kept : (test : Entry → Bool) (k : ℕ) → list_any test (group_of k a).waiting ≡ true → list_any test (group_of k b).waiting ≡ true
   any_kept test k h = by_list (adds.waiting k)
     where
       by_list : ((group_of k b).waiting ≡ (group_of k a).waiting) ⊎ ((k ≡ shard) × ((group_of k b).waiting ≡ (group_of k a).waiting ++ entry ∷ [])) → list_any test (group_of k b).waiting ≡ true
@@ -207,113 +213,81 @@ Suits c o step.Wait = Unit {0}
 abbrev pub IsApt : Core → Waiting → OpStep → Type 0
 IsApt c u s = Suits (catalogue_of u.shard c) u.operation.op s
 
+-- ---- a core in which an operation has done a step
+
+-- the operations of other lines
+abbrev pub rest : ℕ → Core → List (ℕ × Waiting)
+rest line c = remove_entry (is_at (nat_cmp line)) c.operations
+
+-- it stands at another wait, while lists grow by an entry at most
+pub record Sets (name : List ℕ → Address) (line : ℕ) (c b : Core) (w : Waiting) (shard : ℕ) (entry : Entry) (jobs : ℕ) : Type 0 where
+  pub adds : Adds c b shard entry
+  pub own : in_lists is_own b ≡ in_lists is_own c
+  pub gots : gots_of b ≡ gots_of c
+  pub operations : b.operations ≡ set_value (is_at (nat_cmp line)) c.operations w
+  pub order : IsOrderly name b
+  pub jobs_then : jobs_of b ≤ jobs_of c + jobs
+
 module _ (name : List ℕ → Address) (c : Core) (its : IsOrderly name c) (line : ℕ) (u : Waiting) (at : operation_of line c ≡ Some u) where
-  abbrev rest : List (ℕ × Waiting)
-  rest = remove_entry (is_at (nat_cmp line)) c.operations
-
-  abbrev factor : ℕ
-  factor = 16 * (shape_of c).shards + 2
-
+  -- it is answered
   module _ (w : Waiting) (r : Reply) (order : IsOrderly name (answer line w r c)) where
-    abbrev done : Core
-    done = answer line w r c
-
-    asks_fewer : asks_of (answer line w r c) + 1 ≡ asks_of c
+    pub asks_fewer : asks_of (answer line w r c) + 1 ≡ asks_of c
     asks_fewer =
-        let a : asks_of (answer line w r c) ≡ length (remove_entry (is_at (nat_cmp line)) c.operations) + in_lists is_own c = asks_is name (answer line w r c) order in
+        let a : asks_of (answer line w r c) ≡ length (rest line c) + in_lists is_own c = asks_is name (answer line w r c) order in
         let b : asks_of c ≡ length c.operations + in_lists is_own c = asks_is name c its in
-        sums (asks_of (answer line w r c)) (asks_of c) (length (remove_entry (is_at (nat_cmp line)) c.operations)) (length c.operations) (in_lists is_own c) a b (length_removed line c.operations u at)
+        sums (asks_of (answer line w r c)) (asks_of c) (length (rest line c)) (length c.operations) (in_lists is_own c) a b (length_removed line c.operations u at)
       where
         sums : (x y k l o : ℕ) → x ≡ k + o → y ≡ l + o → k + 1 ≡ l → x + 1 ≡ y
         sums x y k l o e f h = omega (arith, e, f, h)
 
-    last_fewer : last_epoch (answer line w r c) + 1 ≡ last_epoch c
-    last_fewer = plus_one (catalogue_of 0 c).epoch (asks_of (answer line w r c)) (asks_of c) asks_fewer
+    pub answered_product : (s t : ℕ) → s ≤ t → length (rest line c) * (s + asks_of (answer line w r c)) ≤ length c.operations * (t + asks_of c)
+    answered_product s t le =
+        product_less (length (rest line c)) (length c.operations) (s + asks_of (answer line w r c)) (t + asks_of c) (fewer (length (rest line c)) (length c.operations) (length_removed line c.operations u at))
+        (both_fewer s t (asks_of (answer line w r c)) (asks_of c) le (fewer (asks_of (answer line w r c)) (asks_of c) asks_fewer))
 
-    sweeps_fewer : sweeps_of (answer line w r c) ≤ sweeps_of c
-    sweeps_fewer = sweeps_le (last_epoch (answer line w r c)) (last_epoch c) c (answer line w r c) refl (fewer (last_epoch (answer line w r c)) (last_epoch c) last_fewer) (λ k. le_same (catalogue_of k c).swept)
+  pub answered_ways : (sum_by (λ (e : ℕ × Waiting). way_left c e.1) (rest line c) + way_left c u) + 0 ≤ ways_left c + 0
+  answered_ways = padded (sum_by (λ (e : ℕ × Waiting). way_left c e.1) (rest line c)) (way_left c u) (ways_left c) (sum_removed (λ (x : Waiting). way_left c x) line c.operations u at)
+    where
+      padded : (x y z : ℕ) → x + y ≡ z → (x + y) + 0 ≤ z + 0
+      padded x y z e = omega (arith, e)
 
-    pub answered_counts : reports_left (answer line w r c) + way_left c u ≤ reports_left c + 0
-    answered_counts =
-        account (jobs_of c) (news_of c) (gots_of c) (dues_of c) (ways_left c) (length c.operations * (sweeps_of c + asks_of c)) (factor * deletion_left c)
-        (jobs_of c) (news_of c) (gots_of c) (dues_of c) (sum_by (λ (e : ℕ × Waiting). way_left c e.1) rest) (length rest * (sweeps_of done + asks_of done)) (factor * deletion_left done) (way_left c u) 0 0
-        (no_more (jobs_of c)) (le_same (news_of c)) (le_same (gots_of c)) (le_same (dues_of c))
-        (ways (sum_by (λ (e : ℕ × Waiting). way_left c e.1) rest) (way_left c u) (ways_left c) (sum_removed (λ (x : Waiting). way_left c x) line c.operations u at))
-        (product_less (length rest) (length c.operations) (sweeps_of done + asks_of done) (sweeps_of c + asks_of c) (fewer (length rest) (length c.operations) (length_removed line c.operations u at))
-        (both_fewer (sweeps_of done) (sweeps_of c) (asks_of done) (asks_of c) sweeps_fewer (fewer (asks_of done) (asks_of c) asks_fewer)))
-        (mul_le factor (deletion_left c) (deletion_left done) (deletion_rises (last_epoch done) (last_epoch c) (asks_of done) (asks_of c) c (fewer (last_epoch done) (last_epoch c) last_fewer) (fewer (asks_of done) (asks_of c) asks_fewer)))
-      where
-        no_more : (n : ℕ) → n ≤ n + 0
-        no_more n = omega arith
+  -- it stands at another wait
+  module _ (b : Core) (w : Waiting) (shard : ℕ) (entry : Entry) (jobs : ℕ) (sets : Sets name line c b w shard entry jobs) where
+    long : length b.operations ≡ length c.operations
+    long = ap (λ (es : List (ℕ × Waiting)). length es) sets.operations ∙ length_set line c.operations w
 
-        ways : (x y z : ℕ) → x + y ≡ z → (x + y) + 0 ≤ z + 0
-        ways x y z e = omega (arith, e)
+    pub asks_same : asks_of b ≡ asks_of c
+    asks_same = asks_is name b sets.order ∙ ap (λ k. length b.operations + k) sets.own ∙ ap (λ k. k + in_lists is_own c) long ∙ sym (asks_is name c its)
 
-  -- an operation that stands there at another wait, while lists grow at most
-  module _ (b : Core) (w : Waiting) (shard : ℕ) (entry : Entry) (jobs : ℕ) (adds : Adds c b shard entry) (lists : (in_lists is_own b ≡ in_lists is_own c) × (gots_of b ≡ gots_of c))
-      (operations : b.operations ≡ set_value (is_at (nat_cmp line)) c.operations w) (order : IsOrderly name b) (more : jobs_of b ≤ jobs_of c + jobs) where
-    asks_same : asks_of b ≡ asks_of c
-    asks_same =
-        asks_is name b order ∙ ap (λ k. length b.operations + k) lists.0
-        ∙ ap (λ k. k + in_lists is_own c) (ap (λ (es : List (ℕ × Waiting)). length es) operations ∙ length_set line c.operations w) ∙ sym (asks_is name c its)
+    pub product_same : (s t : ℕ) → s ≤ t → length b.operations * (s + asks_of b) ≤ length c.operations * (t + asks_of c)
+    product_same s t le =
+        product_less (length b.operations) (length c.operations) (s + asks_of b) (t + asks_of c) (as_much (length b.operations) (length c.operations) long) (both_fewer s t (asks_of b) (asks_of c) le (as_much (asks_of b) (asks_of c) asks_same))
 
-    last_same : last_epoch b ≡ last_epoch c
-    last_same = λ i. (adds.catalogue 0 i).epoch + asks_same i
-
-    sweeps_same : sweeps_of b ≤ sweeps_of c
-    sweeps_same = sweeps_le (last_epoch b) (last_epoch c) c b adds.shape (as_much (last_epoch b) (last_epoch c) last_same) (λ k. as_much (catalogue_of k c).swept (catalogue_of k b).swept (sym (ap (λ (x : Catalogue). x.swept) (adds.catalogue k))))
-      where
-        as_much : (x y : ℕ) → x ≡ y → x ≤ y
-        as_much x y e = omega (arith, e)
-
-    product_same : length b.operations * (sweeps_of b + asks_of b) ≤ length c.operations * (sweeps_of c + asks_of c)
-    product_same =
-        product_less (length b.operations) (length c.operations) (sweeps_of b + asks_of b) (sweeps_of c + asks_of c) (as_much (length b.operations) (length c.operations) (ap (λ (es : List (ℕ × Waiting)). length es) operations ∙ length_set line c.operations w))
-        (both_fewer (sweeps_of b) (sweeps_of c) (asks_of b) (asks_of c) sweeps_same (as_much (asks_of b) (asks_of c) asks_same))
-      where
-        as_much : (x y : ℕ) → x ≡ y → x ≤ y
-        as_much x y e = omega (arith, e)
-
-    ways_then : (ways_left b + way_left c u) ≤ ways_left c + way_left b w
-    ways_then =
+    ways_stand : (ways_left b + way_left c u) ≤ ways_left c + way_left b w
+    ways_stand =
         let set : sum_by (λ (e : ℕ × Waiting). way_left b e.1) (set_value (is_at (nat_cmp line)) c.operations w) + way_left b u ≡ sum_by (λ (e : ℕ × Waiting). way_left b e.1) c.operations + way_left b w = sum_set (λ (x : Waiting). way_left b x) line c.operations u w at in
-        let out : sum_by (λ (e : ℕ × Waiting). way_left b e.1) rest + way_left b u ≡ sum_by (λ (e : ℕ × Waiting). way_left b e.1) c.operations = sum_removed (λ (x : Waiting). way_left b x) line c.operations u at in
-        let before : sum_by (λ (e : ℕ × Waiting). way_left c e.1) rest + way_left c u ≡ ways_left c = sum_removed (λ (x : Waiting). way_left c x) line c.operations u at in
-        let less : sum_by (λ (e : ℕ × Waiting). way_left b e.1) rest ≤ sum_by (λ (e : ℕ × Waiting). way_left c e.1) rest =
-        sum_le (λ (e : ℕ × Waiting). way_left b e.1) (λ (e : ℕ × Waiting). way_left c e.1) rest (λ e. adds_way c b shard entry adds e.1) in
-        let is : ways_left b ≡ sum_by (λ (e : ℕ × Waiting). way_left b e.1) (set_value (is_at (nat_cmp line)) c.operations w) = ap (λ (es : List (ℕ × Waiting)). sum_by (λ (e : ℕ × Waiting). way_left b e.1) es) operations in
+        let out : sum_by (λ (e : ℕ × Waiting). way_left b e.1) (rest line c) + way_left b u ≡ sum_by (λ (e : ℕ × Waiting). way_left b e.1) c.operations = sum_removed (λ (x : Waiting). way_left b x) line c.operations u at in
+        let before : sum_by (λ (e : ℕ × Waiting). way_left c e.1) (rest line c) + way_left c u ≡ ways_left c = sum_removed (λ (x : Waiting). way_left c x) line c.operations u at in
+        let less : sum_by (λ (e : ℕ × Waiting). way_left b e.1) (rest line c) ≤ sum_by (λ (e : ℕ × Waiting). way_left c e.1) (rest line c) =
+        sum_le (λ (e : ℕ × Waiting). way_left b e.1) (λ (e : ℕ × Waiting). way_left c e.1) (rest line c) (λ e. adds_way c b shard entry sets.adds e.1) in
+        let is : ways_left b ≡ sum_by (λ (e : ℕ × Waiting). way_left b e.1) (set_value (is_at (nat_cmp line)) c.operations w) = ap (λ (es : List (ℕ × Waiting)). sum_by (λ (e : ℕ × Waiting). way_left b e.1) es) sets.operations in
         sums (ways_left b) (sum_by (λ (e : ℕ × Waiting). way_left b e.1) (set_value (is_at (nat_cmp line)) c.operations w)) (way_left b u) (sum_by (λ (e : ℕ × Waiting). way_left b e.1) c.operations) (way_left b w)
-        (sum_by (λ (e : ℕ × Waiting). way_left b e.1) rest) (sum_by (λ (e : ℕ × Waiting). way_left c e.1) rest) (way_left c u) (ways_left c) is set out before less
+        (sum_by (λ (e : ℕ × Waiting). way_left b e.1) (rest line c)) (sum_by (λ (e : ℕ × Waiting). way_left c e.1) (rest line c)) (way_left c u) (ways_left c) is set out before less
       where
         sums : (x s bu all bw rb rc cu wc : ℕ) → x ≡ s → s + bu ≡ all + bw → rb + bu ≡ all → rc + cu ≡ wc → rb ≤ rc → x + cu ≤ wc + bw
         sums x s bu all bw rb rc cu wc e f g h l = omega (arith, e, f, g, h, l)
 
-    deletion_same : factor * deletion_left b ≤ factor * deletion_left c
-    deletion_same = mul_le factor (deletion_left c) (deletion_left b) (as_much (deletion_left b) (deletion_left c) (ap (λ k. deletion_by k (asks_of b) b) last_same ∙ ap (λ k. deletion_by (last_epoch c) k b) asks_same ∙ same_left))
+    pub ways_then : (most : ℕ) → way_left b w + jobs ≤ most → (ways_left b + way_left c u) + jobs ≤ ways_left c + most
+    ways_then most few = sums (ways_left b) (way_left c u) jobs (ways_left c) (way_left b w) most ways_stand few
       where
-        as_much : (x y : ℕ) → x ≡ y → x ≤ y
-        as_much x y e = omega (arith, e)
-
-        same_left : deletion_by (last_epoch c) (asks_of c) b ≡ deletion_by (last_epoch c) (asks_of c) c
-        same_left = unmoved_same c b adds.shape (λ k low. unmoved_from (catalogue_of k c) (catalogue_of k b) (adds.catalogue k)) (last_epoch c) (asks_of c)
-
-    pub set_counts : (most : ℕ) → way_left b w + jobs ≤ most → reports_left b + way_left c u ≤ reports_left c + most
-    set_counts most few =
-        subst (λ n. (((jobs_of b + 4 * news_of b) + (2 * gots_of b + 2 * dues_of b)) + ((ways_left b + 3 * (length b.operations * (sweeps_of b + asks_of b))) + (16 * n + 2) * deletion_left b)) + way_left c u ≤ reports_left c + most)
-        (ap (λ (s : Shape). s.shards) (sym adds.shape))
-        (account (jobs_of c) (news_of c) (gots_of c) (dues_of c) (ways_left c) (length c.operations * (sweeps_of c + asks_of c)) (factor * deletion_left c)
-        (jobs_of b) (news_of b) (gots_of b) (dues_of b) (ways_left b) (length b.operations * (sweeps_of b + asks_of b)) (factor * deletion_left b) (way_left c u) most jobs
-        more (adds_news c b shard entry adds) (as_much (gots_of b) (gots_of c) lists.1) (adds_dues c b shard entry adds)
-        (sums (ways_left b) (way_left c u) jobs (ways_left c) (way_left b w) most ways_then few) product_same deletion_same)
-      where
-        as_much : (x y : ℕ) → x ≡ y → x ≤ y
-        as_much x y e = omega (arith, e)
-
         sums : (x cu j wc bw m : ℕ) → x + cu ≤ wc + bw → bw + j ≤ m → (x + cu) + j ≤ wc + m
         sums x cu j wc bw m h k = omega (arith, h, k)
 
-  -- ---- each step
+-- ---- each step, of any count that pays for an answer and for another wait
 
+module _ (name : List ℕ → Address) (count : Core → ℕ) (c : Core) (line : ℕ) (u : Waiting)
+    (answered : (w : Waiting) (r : Reply) → IsOrderly name (answer line w r c) → count (answer line w r c) + way_left c u ≤ count c + 0)
+    (set : (b : Core) (w : Waiting) (shard : ℕ) (entry : Entry) (jobs : ℕ) → Sets name line c b w shard entry jobs → (most : ℕ) → way_left b w + jobs ≤ most → count b + way_left c u ≤ count c + most) where
   -- nothing is listed
   still : (b : Core) → shape_of b ≡ shape_of c → ((k : ℕ) → catalogue_of k b ≡ catalogue_of k c) → ((k : ℕ) → group_of k b ≡ group_of k c) → Adds c b 0 (kind.View 0)
   still b shape catalogue group = record {
@@ -323,11 +297,18 @@ module _ (name : List ℕ → Address) (c : Core) (its : IsOrderly name c) (line
     waiting = λ k. inl (ap (λ (g : Group). g.waiting) (group k));
   }
 
-  no_lists : (b : Core) → Adds c b 0 (kind.View 0) → (in_lists is_own b ≡ in_lists is_own c) × (gots_of b ≡ gots_of c)
-  no_lists b adds = (adds_lists c b 0 (kind.View 0) adds is_own refl, adds_lists c b 0 (kind.View 0) adds (λ k. is_any_got) refl)
+  quiet : (b : Core) (w : Waiting) (jobs : ℕ) → Adds c b 0 (kind.View 0) → b.operations ≡ set_value (is_at (nat_cmp line)) c.operations w → IsOrderly name b → jobs_of b ≤ jobs_of c + jobs → Sets name line c b w 0 (kind.View 0) jobs
+  quiet b w jobs adds operations order more = record {
+    adds = adds;
+    own = adds_lists c b 0 (kind.View 0) adds is_own refl;
+    gots = adds_lists c b 0 (kind.View 0) adds (λ k. is_any_got) refl;
+    operations = operations;
+    order = order;
+    jobs_then = more;
+  }
 
-  proposes : (entry : Entry) → IsOrderly name (take_step line u (step.Propose entry) c) → IsApt c u (step.Propose entry) → u.shard < length c.groups → reports_left (take_step line u (step.Propose entry) c) + way_left c u ≤ reports_left c + 2
-  proposes entry order apt low = set_counts after w u.shard entry 2 adds lists operations order jobs 2 few
+  proposes : (entry : Entry) → IsOrderly name (take_step line u (step.Propose entry) c) → IsApt c u (step.Propose entry) → u.shard < length c.groups → count (take_step line u (step.Propose entry) c) + way_left c u ≤ count c + 2
+  proposes entry order apt low = set after w u.shard entry 2 sets 2 few
     where
       w : Waiting
       w = record u { operation = after_step (step.Propose entry) u.operation; wait = wait.Entry (last_number (group_of u.shard c) + 1) }
@@ -344,14 +325,15 @@ module _ (name : List ℕ → Address) (c : Core) (its : IsOrderly name c) (line
       adds : Adds c (take_step line u (step.Propose entry) c) u.shard entry
       adds = record { shape = proposed.shape; catalogue = proposed.catalogue; front = proposed.front; waiting = proposed.waiting }
 
-      lists : (in_lists is_own (take_step line u (step.Propose entry) c) ≡ in_lists is_own c) × (gots_of (take_step line u (step.Propose entry) c) ≡ gots_of c)
-      lists = (adds_lists c after u.shard entry adds is_own (apt.1.1 u.shard), adds_lists c after u.shard entry adds (λ k. is_any_got) apt.1.0)
-
-      operations : (take_step line u (step.Propose entry) c).operations ≡ set_value (is_at (nat_cmp line)) c.operations w
-      operations = ap (λ (x : Words). x.operations) (proposed_words u.shard entry waits)
-
-      jobs : jobs_of (take_step line u (step.Propose entry) c) ≤ jobs_of c + 2
-      jobs = proposed_jobs u.shard entry waits
+      sets : Sets name line c (take_step line u (step.Propose entry) c) w u.shard entry 2
+      sets = record {
+        adds = adds;
+        own = adds_lists c after u.shard entry adds is_own (apt.1.1 u.shard);
+        gots = adds_lists c after u.shard entry adds (λ k. is_any_got) apt.1.0;
+        operations = ap (λ (x : Words). x.operations) (proposed_words u.shard entry waits);
+        order = order;
+        jobs_then = proposed_jobs u.shard entry waits;
+      }
 
       way : way_left (take_step line u (step.Propose entry) c) w ≡ 0
       way =
@@ -361,48 +343,91 @@ module _ (name : List ℕ → Address) (c : Core) (its : IsOrderly name c) (line
       few : way_left (take_step line u (step.Propose entry) c) w + 2 ≤ 2
       few = let e = way in omega (arith, e)
 
+  -- a block that it compares is there
+  compared : (number : ℕ) (w : Waiting) → w ≡ record u { operation = after_step (step.Compare number) u.operation; wait = wait.Bytes number } → is_there_for (catalogue_of u.shard c) number u.operation.op ≡ true
+      → (b : Core) → catalogue_of u.shard b ≡ catalogue_of u.shard c → way_left b w + 1 ≤ 3
+  compared number w is there b e = let way = two in omega (arith, way)
+    where
+      two : way_left b w ≡ 2
+      two =
+          ap (λ (x : Waiting). way_left b x) is
+          ∙ ap (λ (x : Catalogue). if is_there_for x number u.operation.op then 2 else 3) e
+          ∙ ap (λ (t : Bool). if t then 2 else 3) there
+
   compares : (number : ℕ) (lead : Option ℕ) (w : Waiting) → w ≡ record u { operation = after_step (step.Compare number) u.operation; wait = wait.Bytes number } → IsOrderly name (change_with lead (add_read number line) (put_operation line w c))
-      → is_there_for (catalogue_of u.shard c) number u.operation.op ≡ true → reports_left (change_with lead (add_read number line) (put_operation line w c)) + way_left c u ≤ reports_left c + 3
+      → is_there_for (catalogue_of u.shard c) number u.operation.op ≡ true → count (change_with lead (add_read number line) (put_operation line w c)) + way_left c u ≤ count c + 3
   compares number None w is order there =
       let b : Core = put_operation line w c in
-      let adds : Adds c b 0 (kind.View 0) = still b refl (λ k. refl) (λ k. refl) in
-      set_counts b w 0 (kind.View 0) 1 adds (no_lists b adds) refl order (more (jobs_of c)) 3 (let e = way_of b refl in omega (arith, e))
+      set b w 0 (kind.View 0) 1 (quiet b w 1 (still b refl (λ k. refl) (λ k. refl)) refl order (more (jobs_of c))) 3 (compared number w is there b refl)
     where
       more : (n : ℕ) → n ≤ n + 1
       more n = omega arith
-
-      way_of : (b : Core) → catalogue_of u.shard b ≡ catalogue_of u.shard c → way_left b w ≡ 2
-      way_of b e =
-          ap (λ (x : Waiting). way_left b x) is
-          ∙ ap (λ (x : Catalogue). if is_there_for x number u.operation.op then 2 else 3) e
-          ∙ ap (λ (t : Bool). if t then 2 else 3) there
   compares number (Some peer) w is order there =
       let b : Core = add_read number line peer (put_operation line w c) in
-      let adds : Adds c b 0 (kind.View 0) = still b refl (λ k. refl) (λ k. refl) in
-      set_counts b w 0 (kind.View 0) 1 adds (no_lists b adds) refl order (lists_added c.tasks peer (record { job = job.Read number; line = line })) 3 (let e = way_of b refl in omega (arith, e))
-    where
-      way_of : (b : Core) → catalogue_of u.shard b ≡ catalogue_of u.shard c → way_left b w ≡ 2
-      way_of b e =
-          ap (λ (x : Waiting). way_left b x) is
-          ∙ ap (λ (x : Catalogue). if is_there_for x number u.operation.op then 2 else 3) e
-          ∙ ap (λ (t : Bool). if t then 2 else 3) there
+      set b w 0 (kind.View 0) 1 (quiet b w 1 (still b refl (λ k. refl) (λ k. refl)) refl order (lists_added c.tasks peer (record { job = job.Read number; line = line }))) 3 (compared number w is there b refl)
 
-  waits_on : IsOrderly name (take_step line u step.Wait c) → reports_left (take_step line u step.Wait c) + way_left c u ≤ reports_left c + 3
+  waits_on : IsOrderly name (take_step line u step.Wait c) → count (take_step line u step.Wait c) + way_left c u ≤ count c + 3
   waits_on order =
       let b : Core = take_step line u step.Wait c in
       let w : Waiting = record u { operation = after_step step.Wait u.operation; wait = what_holds (record u { operation = after_step step.Wait u.operation }) c } in
-      let adds : Adds c b 0 (kind.View 0) = still b refl (λ k. refl) (λ k. refl) in
-      set_counts b w 0 (kind.View 0) 0 adds (no_lists b adds) refl order (no_more (jobs_of c)) 3
+      set b w 0 (kind.View 0) 0 (quiet b w 0 (still b refl (λ k. refl) (λ k. refl)) refl order (le_none (jobs_of c))) 3
       (most (way_left b w) (way_most (catalogue_of u.shard c) (group_of u.shard c).front (group_of u.shard c).waiting (after_step step.Wait u.operation) (what_holds (record u { operation = after_step step.Wait u.operation }) c)))
     where
-      no_more : (n : ℕ) → n ≤ n + 0
-      no_more n = omega arith
-
       most : (n : ℕ) → n ≤ 3 → n + 0 ≤ 3
       most n h = omega (arith, h)
 
+  pub each_step : (s : OpStep) → IsOrderly name (take_step line u s c) → IsApt c u s → u.shard < length c.groups → count (take_step line u s c) + way_left c u ≤ count c + cost s
+  each_step (step.Answer r) order apt low = answered (record u { operation = after_step (step.Answer r) u.operation }) r order
+  each_step (step.Propose entry) order apt low = proposes entry order apt low
+  each_step (step.Compare number) order apt low = compares number (lead_of u.shard c) (record u { operation = after_step (step.Compare number) u.operation; wait = wait.Bytes number }) refl order apt
+  each_step step.Wait order apt low = waits_on order
+
+-- ---- the count of reports that are left
+
+module _ (name : List ℕ → Address) (c : Core) (its : IsOrderly name c) (line : ℕ) (u : Waiting) (at : operation_of line c ≡ Some u) where
+  abbrev factor : ℕ
+  factor = 16 * (shape_of c).shards + 2
+
+  module _ (w : Waiting) (r : Reply) (order : IsOrderly name (answer line w r c)) where
+    abbrev done : Core
+    done = answer line w r c
+
+    last_fewer : last_epoch (answer line w r c) + 1 ≡ last_epoch c
+    last_fewer = plus_one (catalogue_of 0 c).epoch (asks_of (answer line w r c)) (asks_of c) (asks_fewer name c its line u at w r order)
+
+    sweeps_fewer : sweeps_of (answer line w r c) ≤ sweeps_of c
+    sweeps_fewer = sweeps_le (last_epoch (answer line w r c)) (last_epoch c) c (answer line w r c) refl (fewer (last_epoch (answer line w r c)) (last_epoch c) last_fewer) (λ k. le_same (catalogue_of k c).swept)
+
+    pub answered_counts : reports_left (answer line w r c) + way_left c u ≤ reports_left c + 0
+    answered_counts =
+        account (jobs_of c) (news_of c) (gots_of c) (dues_of c) (ways_left c) (length c.operations * (sweeps_of c + asks_of c)) (factor * deletion_left c)
+        (jobs_of c) (news_of c) (gots_of c) (dues_of c) (sum_by (λ (e : ℕ × Waiting). way_left c e.1) (rest line c)) (length (rest line c) * (sweeps_of done + asks_of done)) (factor * deletion_left done) (way_left c u) 0 0
+        (le_none (jobs_of c)) (le_same (news_of c)) (le_same (gots_of c)) (le_same (dues_of c))
+        (answered_ways name c its line u at) (answered_product name c its line u at w r order (sweeps_of done) (sweeps_of c) sweeps_fewer)
+        (mul_le factor (deletion_left c) (deletion_left done) (deletion_rises (last_epoch done) (last_epoch c) (asks_of done) (asks_of c) c (fewer (last_epoch done) (last_epoch c) last_fewer) (fewer (asks_of done) (asks_of c) (asks_fewer name c its line u at w r order))))
+
+  -- an operation that stands there at another wait, while lists grow at most
+  module _ (b : Core) (w : Waiting) (shard : ℕ) (entry : Entry) (jobs : ℕ) (sets : Sets name line c b w shard entry jobs) where
+    last_same : last_epoch b ≡ last_epoch c
+    last_same = λ i. (sets.adds.catalogue 0 i).epoch + asks_same name c its line u at b w shard entry jobs sets i
+
+    sweeps_same : sweeps_of b ≤ sweeps_of c
+    sweeps_same = sweeps_le (last_epoch b) (last_epoch c) c b sets.adds.shape (as_much (last_epoch b) (last_epoch c) last_same) (λ k. as_much (catalogue_of k c).swept (catalogue_of k b).swept (sym (ap (λ (x : Catalogue). x.swept) (sets.adds.catalogue k))))
+
+    deletion_same : factor * deletion_left b ≤ factor * deletion_left c
+    deletion_same = mul_le factor (deletion_left c) (deletion_left b) (as_much (deletion_left b) (deletion_left c) (ap (λ k. deletion_by k (asks_of b) b) last_same ∙ ap (λ k. deletion_by (last_epoch c) k b) (asks_same name c its line u at b w shard entry jobs sets) ∙ same_left))
+      where
+        same_left : deletion_by (last_epoch c) (asks_of c) b ≡ deletion_by (last_epoch c) (asks_of c) c
+        same_left = unmoved_same c b sets.adds.shape (λ k low. unmoved_from (catalogue_of k c) (catalogue_of k b) (sets.adds.catalogue k)) (last_epoch c) (asks_of c)
+
+    pub set_counts : (most : ℕ) → way_left b w + jobs ≤ most → reports_left b + way_left c u ≤ reports_left c + most
+    set_counts most few =
+        subst (λ n. (((jobs_of b + 4 * news_of b) + (2 * gots_of b + 2 * dues_of b)) + ((ways_left b + 3 * (length b.operations * (sweeps_of b + asks_of b))) + (16 * n + 2) * deletion_left b)) + way_left c u ≤ reports_left c + most)
+        (ap (λ (s : Shape). s.shards) (sym sets.adds.shape))
+        (account (jobs_of c) (news_of c) (gots_of c) (dues_of c) (ways_left c) (length c.operations * (sweeps_of c + asks_of c)) (factor * deletion_left c)
+        (jobs_of b) (news_of b) (gots_of b) (dues_of b) (ways_left b) (length b.operations * (sweeps_of b + asks_of b)) (factor * deletion_left b) (way_left c u) most jobs
+        sets.jobs_then (adds_news c b shard entry sets.adds) (as_much (gots_of b) (gots_of c) sets.gots) (adds_dues c b shard entry sets.adds)
+        (ways_then name c its line u at b w shard entry jobs sets most few) (product_same name c its line u at b w shard entry jobs sets (sweeps_of b) (sweeps_of c) sweeps_same) deletion_same)
+
   pub stepped : (s : OpStep) → IsOrderly name (take_step line u s c) → IsApt c u s → u.shard < length c.groups → reports_left (take_step line u s c) + way_left c u ≤ reports_left c + cost s
-  stepped (step.Answer r) order apt low = answered_counts (record u { operation = after_step (step.Answer r) u.operation }) r order
-  stepped (step.Propose entry) order apt low = proposes entry order apt low
-  stepped (step.Compare number) order apt low = compares number (lead_of u.shard c) (record u { operation = after_step (step.Compare number) u.operation; wait = wait.Bytes number }) refl order apt
-  stepped step.Wait order apt low = waits_on order
+  stepped s order apt low = each_step name reports_left c line u (λ w r order. answered_counts w r order) (λ b w shard entry jobs sets most few. set_counts b w shard entry jobs sets most few) s order apt low

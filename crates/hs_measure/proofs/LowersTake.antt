@@ -1,9 +1,7 @@
 -- An entry takes effect, and all goes on by it: no more reports are left than before.
-use Rattle.std.proofs.Common.{◌≡◌, ◌∙◌, sym, ap, subst, refl, ℕ, ◌+◌, ◌*◌, ◌<◌, ◌≤◌, ◌==◌, ◌&&◌, ◌||◌, Bool, true, false, cond, not, List, Option, Some, None, arith, is_some, length, nat_le, sum_by}
-use Rattle.std.proofs.lemmas.Bool.{and_parts, eq-eqb}
+use Rattle.std.proofs.Common.{◌≡◌, ◌∙◌, sym, ap, subst, refl, ℕ, ◌+◌, ◌*◌, ◌<◌, ◌≤◌, ◌==◌, ◌&&◌, ◌||◌, Bool, true, false, cond, List, Option, Some, None, arith, is_some, length, nat_le}
 use Rattle.std.proofs.lemmas.List.{length-set}
-use Rattle.std.specs.List.{list_all, list_any}
-use Rattle.std.specs.Option.{option_map_or}
+use Rattle.std.specs.List.{list_all}
 use Rattle.std.specs.Prelude.{if◌then◌else◌}
 use Rattle.hs_standing.proofs.BesideLemmas.{beside_viewed}
 use Rattle.hs_standing.specs.Changes.{told_at_once, tells_at_once}
@@ -12,7 +10,7 @@ use Rattle.hs_core.specs.declared.wait.Wait.{Wait}
 use Rattle.hs_core.specs.declared.wait.Wait.TheVariants as wait
 use Rattle.hs_core.specs.declared.waiting.Waiting.{Waiting}
 use Rattle.hs_core.specs.Effects.{after_entry, is_for_address, is_for_room, is_for_view, note_enter, note_sweep, take_effect, tell_enter, tell_operation, wakes}
-use Rattle.hs_core.specs.Entering.{enters, has_begun, is_enter_due, propose_due}
+use Rattle.hs_core.specs.Entering.{is_enter_due, propose_due}
 use Rattle.hs_core.specs.Looking.{catalogue_of, group_of, lead_of, operation_of, shape_of}
 use Rattle.hs_core.specs.Operating.{propose_entry, resume_where, take_step}
 use Rattle.hs_core.specs.Pending.{named, puts_root, writes_block}
@@ -30,24 +28,23 @@ use Rattle.hs_fold.specs.Runs.Facts.{Catalogue as Folded}
 use Rattle.hs_fold.specs.Runs.Fits.{catalogue_at}
 use Rattle.hs_fold.specs.Runs.Rounds.{is_accepted}
 use Rattle.hs_journal.specs.declared.entry.Who.TheVariants as who
-use Rattle.hs_standing.proofs.MuteLemmas.{Words, at_once_quiet, proposed_words}
+use Rattle.hs_standing.proofs.MuteLemmas.{at_once_quiet}
 use Rattle.hs_standing.proofs.OrderLemmas.{orderly_beside, orderly_due, orderly_effect}
 use Rattle.hs_limits.specs.declared.delta.Delta.{Delta}
 use Rattle.hs_limits.specs.declared.address.Address.{Address}
 use Rattle.hs_limits.specs.declared.shape.Shape.{Shape}
 use Rattle.hs_measure.proofs.DeletionMeasure.{deletion_by, unmoved_from, unmoved_same}
-use Rattle.hs_measure.proofs.LowersCounts.{product_less, sweeps_le}
+use Rattle.hs_measure.proofs.LowersCounts.{sweeps_le}
+use Rattle.hs_measure.proofs.LowersDue.{asks_same, dues_fall, product_same, ways_less, with_enter}
 use Rattle.hs_measure.proofs.LowersEnter.{enter_counts}
 use Rattle.hs_measure.proofs.LowersGoes.{Holds, IsParked, IsPlaced, PassesParked, Pays, placed_step, where_holds}
 use Rattle.hs_measure.proofs.LowersGot.{got_counts}
 use Rattle.hs_measure.proofs.LowersKinds.{block_counts, drop_counts, mark_counts, root_counts, view_counts}
-use Rattle.hs_measure.proofs.LowersParts.{dues_fewer, in_lists}
 use Rattle.hs_measure.proofs.LowersStand.{Next, Stand}
-use Rattle.hs_measure.proofs.LowersSteps.{Adds, adds_due, adds_lists, adds_news, adds_way, proposed_adds, proposed_here, proposed_jobs, stepped}
-use Rattle.hs_measure.proofs.LowersSums.{any_last, sum_le}
+use Rattle.hs_measure.proofs.LowersSteps.{Adds, adds_lists, adds_news, as_much, proposed_adds, proposed_jobs, stepped}
 use Rattle.hs_measure.proofs.LowersTold.{placed_taken}
 use Rattle.hs_measure.proofs.StepLemmas.{mul_le}
-use Rattle.hs_measure.specs.Measure.{asks_of, deletion_left, dues_of, gots_of, is_any_got, is_left_over, jobs_of, last_epoch, news_of, reports_left, sweeps_of, way_left, ways_left}
+use Rattle.hs_measure.specs.Measure.{asks_of, deletion_left, dues_of, gots_of, is_any_got, jobs_of, last_epoch, news_of, reports_left, sweeps_of, ways_left}
 use Rattle.hs_members.specs.Members.{Members}
 use Rattle.hs_model.specs.declared.deed.Deed.TheVariants as deed
 use Rattle.hs_model.specs.declared.reply.Reply.TheVariants as reply
@@ -62,69 +59,26 @@ use Rattle.hs_shard.specs.Facts.{Catalogue}
 pub account_due : (j n g d w p y j' n' g' d' w' p' y' : ℕ) → j' ≤ j + 2 → n' ≤ n → g' ≤ g → d' + 1 ≤ d → w' ≤ w → p' ≤ p → y' ≤ y → ((j' + 4 * n') + (2 * g' + 2 * d')) + ((w' + 3 * p') + y') ≤ ((j + 4 * n) + (2 * g + 2 * d)) + ((w + 3 * p) + y)
 account_due j n g d w p y j' n' g' d' w' p' y' a b c e f h i = omega (arith, a, b, c, e, f, h, i)
 
-pub none_due : (a b x : Bool) → x ≡ true → (a && (b && not x)) ≡ false
-none_due true true x e = ap not e
-none_due true false x e = refl
-none_due false b x e = refl
-
-as_much : (x y : ℕ) → x ≡ y → x ≤ y
-as_much x y e = omega (arith, e)
-
-pub both_sum : (s t x y : ℕ) → s ≤ t → x ≤ y → s + x ≤ t + y
-both_sum s t x y h k = omega (arith, h, k)
-
 module _ (name : List ℕ → Address) (c : Core) (placed : IsPlaced c) (shard : ℕ) (low : shard < (shape_of c).shards) (due : is_enter_due shard c ≡ true) where
   abbrev entry : Entry
   entry = kind.Enter 0 ((catalogue_of shard c).epoch + 1)
 
   abbrev later : Core
-  later = propose_entry shard (kind.Enter 0 ((catalogue_of shard c).epoch + 1)) c
+  later = with_enter shard c
 
   adds : Adds c later shard entry
   adds = proposed_adds shard entry c
 
-  operations : later.operations ≡ c.operations
-  operations = ap (λ (x : Words). x.operations) (proposed_words shard entry c)
-
-  due_now : is_enter_due shard later ≡ false
-  due_now =
-      none_due (not (shard == 0) && (catalogue_of shard later).swept == (catalogue_of shard later).epoch) (has_begun ((catalogue_of shard later).epoch + 1) (catalogue_of shard later).run) (list_any (enters ((catalogue_of shard later).epoch + 1)) (group_of shard later).waiting)
-      (ap (λ (x : Catalogue). list_any (enters (x.epoch + 1)) (group_of shard later).waiting) (adds.catalogue shard)
-      ∙ ap (λ (es : List Entry). list_any (enters ((catalogue_of shard c).epoch + 1)) es) (proposed_here shard entry c (let g = placed.groups in omega (arith, g, low)))
-      ∙ any_last (enters ((catalogue_of shard c).epoch + 1)) (group_of shard c).waiting entry (eq-eqb ((catalogue_of shard c).epoch + 1) ((catalogue_of shard c).epoch + 1) refl))
-
-  fewer : dues_of later + 1 ≤ dues_of c
-  fewer = dues_fewer c later shard adds.shape low due due_now (adds_due c later shard entry adds)
-
-  -- no line asked for it
-  unasked : is_left_over shard c (kind.Enter 0 ((catalogue_of shard c).epoch + 1)) ≡ false
-  unasked =
-      let a = and_parts (not (shard == 0) && (catalogue_of shard c).swept == (catalogue_of shard c).epoch) (has_begun ((catalogue_of shard c).epoch + 1) (catalogue_of shard c).run && not (list_any (enters ((catalogue_of shard c).epoch + 1)) (group_of shard c).waiting)) due in
-      let b = and_parts (not (shard == 0)) ((catalogue_of shard c).swept == (catalogue_of shard c).epoch) a.0 in
-      ap (λ (x : Bool). option_map_or (λ (line : ℕ). not (is_some (operation_of line c))) (if 0 == 0 && x then None else Some 0) false) b.0
-
-  asks_same : asks_of later ≡ asks_of c
-  asks_same =
-      (λ i. length (operations i) + in_lists (λ k. is_left_over k (record c { operations = operations i })) later)
-      ∙ ap (λ n. length c.operations + n) (adds_lists c later shard entry adds (λ k. is_left_over k c) unasked)
-
   last_same : last_epoch later ≡ last_epoch c
-  last_same = λ i. (adds.catalogue 0 i).epoch + asks_same i
+  last_same = λ i. (adds.catalogue 0 i).epoch + asks_same c placed shard low due i
 
-  ways_less : ways_left later ≤ ways_left c
-  ways_less = subst (λ (es : List (ℕ × Waiting)). sum_by (λ (e : ℕ × Waiting). way_left later e.1) es ≤ ways_left c) (sym operations) (sum_le (λ (e : ℕ × Waiting). way_left later e.1) (λ (e : ℕ × Waiting). way_left c e.1) c.operations (λ e. adds_way c later shard entry adds e.1))
-
-  product_same : length later.operations * (sweeps_of later + asks_of later) ≤ length c.operations * (sweeps_of c + asks_of c)
-  product_same =
-      product_less (length later.operations) (length c.operations) (sweeps_of later + asks_of later) (sweeps_of c + asks_of c) (as_much (length later.operations) (length c.operations) (ap (λ (es : List (ℕ × Waiting)). length es) operations))
-      (both_sum (sweeps_of later) (sweeps_of c) (asks_of later) (asks_of c)
-      (sweeps_le (last_epoch later) (last_epoch c) c later adds.shape (as_much (last_epoch later) (last_epoch c) last_same) (λ k. as_much (catalogue_of k c).swept (catalogue_of k later).swept (sym (ap (λ (x : Catalogue). x.swept) (adds.catalogue k)))))
-      (as_much (asks_of later) (asks_of c) asks_same))
+  products : length later.operations * (sweeps_of later + asks_of later) ≤ length c.operations * (sweeps_of c + asks_of c)
+  products = product_same c placed shard low due (sweeps_of later) (sweeps_of c) (sweeps_le (last_epoch later) (last_epoch c) c later adds.shape (as_much (last_epoch later) (last_epoch c) last_same) (λ k. as_much (catalogue_of k c).swept (catalogue_of k later).swept (sym (ap (λ (x : Catalogue). x.swept) (adds.catalogue k)))))
 
   deletion_same : (16 * (shape_of c).shards + 2) * deletion_left later ≤ (16 * (shape_of c).shards + 2) * deletion_left c
   deletion_same =
       mul_le (16 * (shape_of c).shards + 2) (deletion_left c) (deletion_left later)
-      (as_much (deletion_left later) (deletion_left c) (ap (λ k. deletion_by k (asks_of later) later) last_same ∙ ap (λ k. deletion_by (last_epoch c) k later) asks_same
+      (as_much (deletion_left later) (deletion_left c) (ap (λ k. deletion_by k (asks_of later) later) last_same ∙ ap (λ k. deletion_by (last_epoch c) k later) (asks_same c placed shard low due)
       ∙ unmoved_same c later adds.shape (λ k l. unmoved_from (catalogue_of k c) (catalogue_of k later) (adds.catalogue k)) (last_epoch c) (asks_of c)))
 
   pub due_counts : reports_left (propose_entry shard (kind.Enter 0 ((catalogue_of shard c).epoch + 1)) c) ≤ reports_left c
@@ -133,7 +87,7 @@ module _ (name : List ℕ → Address) (c : Core) (placed : IsPlaced c) (shard :
       (ap (λ (s : Shape). s.shards) (sym adds.shape))
       (account_due (jobs_of c) (news_of c) (gots_of c) (dues_of c) (ways_left c) (length c.operations * (sweeps_of c + asks_of c)) ((16 * (shape_of c).shards + 2) * deletion_left c)
       (jobs_of later) (news_of later) (gots_of later) (dues_of later) (ways_left later) (length later.operations * (sweeps_of later + asks_of later)) ((16 * (shape_of c).shards + 2) * deletion_left later)
-      (proposed_jobs shard entry c) (adds_news c later shard entry adds) (as_much (gots_of later) (gots_of c) (adds_lists c later shard entry adds (λ k. is_any_got) refl)) fewer ways_less product_same deletion_same)
+      (proposed_jobs shard entry c) (adds_news c later shard entry adds) (as_much (gots_of later) (gots_of c) (adds_lists c later shard entry adds (λ k. is_any_got) refl)) (dues_fall c placed shard low due) (ways_less c placed shard low due) products deletion_same)
 
 -- ---- lists and catalogues stand
 
@@ -250,7 +204,7 @@ module _ (name : List ℕ → Address) (count : Core → ℕ) (pays : Pays name 
   due_holds shard c low holds = by_due (is_enter_due shard c) refl
     where
       later : Core
-      later = propose_entry shard (kind.Enter 0 ((catalogue_of shard c).epoch + 1)) c
+      later = with_enter shard c
 
       by_due : (b : Bool) → is_enter_due shard c ≡ b → Holds name count most (change_if b (propose_entry shard (kind.Enter 0 ((catalogue_of shard c).epoch + 1))) c)
       by_due false e = holds

@@ -27,7 +27,7 @@ use Rattle.hs_measure.proofs.DeletionMeasure.{deletion_by, deletion_rises}
 use Rattle.hs_measure.proofs.LowersCounts.{asks_is, is_own, le_both, product_less, sweeps_le}
 use Rattle.hs_measure.proofs.LowersGoes.{IsPlaced}
 use Rattle.hs_measure.proofs.LowersParts.{dues_le, in_lists, lists_at, news_le}
-use Rattle.hs_measure.proofs.LowersSteps.{le_same}
+use Rattle.hs_measure.proofs.LowersSteps.{as_much, le_same}
 use Rattle.hs_measure.proofs.LowersSums.{sum_found, sum_threes}
 use Rattle.hs_measure.proofs.LowersWays.{HasSameNumbers, way_handed, way_kept, way_most}
 use Rattle.hs_measure.proofs.StepLemmas.{mul_le}
@@ -47,9 +47,6 @@ AreOwned c = (line : ℕ) (w : Waiting) (number : ℕ) → operation_of line c �
 first_is : (entries : List Entry) (entry : Entry) → slice_get entries 0 ≡ Some entry → entries ≡ entry ∷ drop 1 entries
 first_is [] entry e = absurd (cc e)
 first_is (x ∷ entries) entry e = ap (λ y. y ∷ entries) (some_is x entry e)
-
-pub as_much : (x y : ℕ) → x ≡ y → x ≤ y
-as_much x y e = omega (arith, e)
 
 -- a sum of all parts: those of lists and of ways have their own
 pub account_taken : (j n g d w p y n' g' d' w' p' y' less more : ℕ) → n' ≤ n → g' + d' ≤ g + d → w' + less ≤ w + more → p' ≤ p → y' ≤ y

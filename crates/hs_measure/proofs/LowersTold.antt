@@ -1,9 +1,6 @@
 -- An entry that an operation asked for takes effect: what its operation does, and what is left where it is answered, whatever is counted.
 use Rattle.std.proofs.Common.{◌≡◌, ◌∙◌, sym, ap, subst, refl, ℕ, suc, ◌+◌, ◌*◌, ◌<◌, ◌≤◌, cond, List, Option, Some, arith, length, sum_by}
 use Rattle.std.proofs.lemmas.List.{length-set}
-use Rattle.std.specs.BTreeMap.{is_at}
-use Rattle.std.specs.Map.{remove_entry}
-use Rattle.std.specs.Ordering.{nat_cmp}
 use Rattle.hs_core.specs.declared.waiting.Waiting.{Waiting}
 use Rattle.hs_core.specs.Effects.{after_entry}
 use Rattle.hs_core.specs.Looking.{catalogue_of, group_of, operation_of, shape_of}
@@ -21,7 +18,7 @@ use Rattle.hs_measure.proofs.LowersCounts.{asks_is, is_own, product_falls}
 use Rattle.hs_measure.proofs.LowersGoes.{IsPlaced, counted_line, shows_here}
 use Rattle.hs_measure.proofs.LowersJudged.{done_suits}
 use Rattle.hs_measure.proofs.LowersParts.{in_lists}
-use Rattle.hs_measure.proofs.LowersSteps.{IsApt}
+use Rattle.hs_measure.proofs.LowersSteps.{IsApt, rest}
 use Rattle.hs_measure.proofs.LowersSums.{length_removed, sum_removed}
 use Rattle.hs_measure.proofs.LowersTaken.{AreOwned, lists_taken, rest_bumped, rest_same, taken_order, way_same}
 use Rattle.hs_measure.specs.Measure.{asks_of, way_left, ways_left}
@@ -40,10 +37,6 @@ use Rattle.hs_standing.specs.Changes.{tells_at_once, told_at_once}
 -- the step of an operation of whose entry it is told
 abbrev pub taken_step : ℕ → Entry → Core → Waiting → OpStep
 taken_step shard entry c u = effect_step (view_for u.shard u.operation.op (taken shard entry c)) (done_by shard entry c).effect.what u.operation
-
--- the operations of other lines
-abbrev pub rest : ℕ → Core → List (ℕ × Waiting)
-rest line c = remove_entry (is_at (nat_cmp line)) c.operations
 
 -- a core that has answered a line
 abbrev pub done : ℕ → Waiting → Reply → Core → Core
