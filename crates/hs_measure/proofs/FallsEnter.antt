@@ -1,15 +1,9 @@
 -- An Enter takes effect: no more reports are left than before.
-use Rattle.std.proofs.Common.{◌≡◌, ◌∙◌, sym, ap, subst, refl, ◌⊎◌, inl, inr, ℕ, suc, ◌+◌, ◌*◌, ◌<◌, ◌≤◌, ◌==◌, ◌&&◌, Bool, true, false, cond, List, Option, Some, None, arith, is_some, length, slice_get}
-use Rattle.std.proofs.lemmas.Bool.{and_parts, eq-eqb, eqb-true, ne_eqb}
-use Rattle.std.specs.Prelude.{if◌then◌else◌}
+use Rattle.std.proofs.Common.{◌≡◌, ◌∙◌, ap, subst, refl, ◌⊎◌, inl, inr, ℕ, suc, ◌+◌, ◌*◌, ◌<◌, ◌≤◌, ◌==◌, Bool, true, false, List, Some, None, arith, length}
 use Rattle.hs_standing.specs.Changes.{told_at_once}
-use Rattle.hs_core.specs.declared.waiting.Waiting.{Waiting}
-use Rattle.hs_core.specs.Effects.{note_enter, tell_operation}
-use Rattle.hs_core.specs.Looking.{catalogue_of, front_of, group_of, operation_of, shape_of}
+use Rattle.hs_core.specs.Looking.{catalogue_of, front_of, shape_of}
 use Rattle.hs_core.specs.State.{Core}
-use Rattle.hs_desk.specs.declared.what.What.{What}
 use Rattle.hs_desk.specs.declared.what.What.TheVariants as what
-use Rattle.hs_effects.proofs.EndingLemmas.{enter_did}
 use Rattle.hs_effects.proofs.LookLemmas.{one_or_other}
 use Rattle.hs_effects.specs.Logged.{HasAsked, asked_by}
 use Rattle.hs_effects.specs.Taking.{done_by, taken}
@@ -21,29 +15,25 @@ use Rattle.hs_measure.proofs.FoundCore.{most_in}
 use Rattle.hs_measure.proofs.FoundEntries.{enters_fewer}
 use Rattle.hs_measure.proofs.FallsClient.{held, next_step, refused_cheap, step_is, unsure_cheap}
 use Rattle.hs_measure.proofs.FallsCounts.{sweeps_le, sweeps_less}
-use Rattle.hs_measure.proofs.LowersCounts.{is_own, product_falls, product_less}
+use Rattle.hs_measure.proofs.LowersCounts.{product_falls, product_less}
 use Rattle.hs_measure.proofs.FallsEffect.{answered_counts, kept_counts}
 use Rattle.hs_measure.proofs.FallsSlots.{news_most}
-use Rattle.hs_measure.proofs.LowersParts.{due_by, dues_most}
+use Rattle.hs_measure.proofs.LowersEntered.{all_swept, asks_drop, asks_first, did_enter, dues_more, next_one, stays_or_sweeps, told_enter, ways_other}
 use Rattle.hs_measure.proofs.LowersRefused.{is_refused, lists_then, never, stays, ways_then}
-use Rattle.hs_measure.proofs.LowersRounds.{KeepsNumbers, advance_numbers, each_numbers}
 use Rattle.hs_measure.proofs.FallsStand.{Next, Stand, beside_it, enter_low, room_here, so_far, steps_then, swept_low, swept_then}
 use Rattle.hs_measure.proofs.LowersSteps.{as_much, cost}
 use Rattle.hs_measure.proofs.FallsTaken.{deletion_falls, news_quiet, quiet_counts}
-use Rattle.hs_measure.proofs.LowersTaken.{all_bumped, all_same, asks_taken, catalogue_here, catalogue_other, gots_fewer, group_other, padded, plain, way_same}
+use Rattle.hs_measure.proofs.LowersTaken.{all_bumped, catalogue_here, catalogue_other, gots_fewer, group_other, padded, plain}
 use Rattle.hs_measure.proofs.LowersWays.{HasSameNumbers}
 use Rattle.hs_measure.proofs.StepLemmas.{mul_le}
 use Rattle.hs_measure.specs.Finite.{reports_most, rounds_left, slots_of, sweeps_to_come}
-use Rattle.hs_measure.proofs.LowersEnter.{account_entered, count_number, heavy_entered}
-use Rattle.hs_measure.proofs.LowersStand.{enter_op}
+use Rattle.hs_measure.proofs.LowersEnter.{account_entered, heavy_entered}
 use Rattle.hs_measure.specs.Measure.{asks_of, dues_of, gots_of, jobs_of, way_left, ways_left}
-use Rattle.hs_model.specs.declared.op.Op.{Op}
 use Rattle.hs_model.specs.declared.reply.Reply.TheVariants as reply
-use Rattle.hs_ops.specs.Speaking.{judging_shard}
 use Rattle.hs_replica.specs.Group.{Group}
-use Rattle.hs_shard.specs.Clients.{Applied, only}
-use Rattle.hs_shard.specs.Facts.{Catalogue, number_at}
-use Rattle.hs_shard.specs.Rounds.{advanced, count_block, entered, may_enter}
+use Rattle.hs_shard.specs.Clients.{Applied}
+use Rattle.hs_shard.specs.Facts.{Catalogue}
+use Rattle.hs_shard.specs.Rounds.{may_enter}
 use Rattle.std.proofs.Math.Nat.{mul-suc}
 
 -- ---- numbers
@@ -51,17 +41,6 @@ use Rattle.std.proofs.Math.Nat.{mul-suc}
 -- a factor more
 pub pays_factor : (k x y : ℕ) → x + 1 ≤ y → k * x + k ≤ k * y
 pays_factor k x y less = subst (λ n. n ≤ k * y) (mul-suc k x) (mul_le k y (suc x) (omega (arith, less)))
-
-note_same : (rounds shard : ℕ) (did : What) (c : Core) → reports_most rounds (note_enter shard did c) ≡ reports_most rounds c
-note_same rounds shard what.Nothing c = refl
-note_same rounds shard (what.Viewed view) c = refl
-note_same rounds shard what.Stored c = refl
-note_same rounds shard what.Marked c = refl
-note_same rounds shard what.Again c = refl
-note_same rounds shard what.Rooted c = refl
-note_same rounds shard what.Dropped c = refl
-note_same rounds shard (what.Entered epoch) c = refl
-note_same rounds shard what.Refused c = refl
 
 module _ (rounds : ℕ) (name : List ℕ → Address) (c : Core) (its : Stand rounds name c) (shard number line epoch : ℕ) (next : Next c shard number (kind.Enter line epoch)) where
   abbrev entry : Entry
@@ -115,11 +94,6 @@ module _ (rounds : ℕ) (name : List ℕ → Address) (c : Core) (its : Stand ro
     news_more =
         news_most c (taken shard entry c) shard refl (λ k d. catalogue_other name shard number entry c its.orderly its.placed next.low next.leads k d) (λ k d. ap (λ (g : Group). g.waiting) (group_other name shard number entry c its.orderly its.placed next.low next.leads k d))
 
-    dues_more : dues_of (taken shard (kind.Enter line epoch) c) ≤ dues_of c + 1
-    dues_more =
-        dues_most c (taken shard entry c) shard refl
-        (λ k d h. sym (λ i. due_by k (catalogue_other name shard number entry c its.orderly its.placed next.low next.leads k d i) (group_other name shard number entry c its.orderly its.placed next.low next.leads k d i).waiting) ∙ h)
-
     low_then : epoch ≤ LAST_EPOCH
     low_then = enter_low rounds name c its shard number entry next line epoch refl
 
@@ -135,46 +109,23 @@ module _ (rounds : ℕ) (name : List ℕ → Address) (c : Core) (its : Stand ro
     swept_after : (k : ℕ) → (catalogue_of k c).swept ≤ (catalogue_of k (taken shard (kind.Enter line epoch) c)).swept
     swept_after = swept_then rounds name c its shard number entry next
 
-    did : (done_by shard (kind.Enter line epoch) c).effect.what ≡ what.Entered epoch
-    did = enter_did epoch (catalogue_of shard c) ∙ ap (λ b. cond b (what.Entered epoch) what.Refused) may
-
     -- a client's
     entered_asked : asked_by (kind.Enter line epoch) ≡ Some line → reports_most rounds (told_at_once shard (kind.Enter line epoch) c) ≤ reports_most rounds c
     entered_asked by =
-        answered_counts rounds name shard number entry c its.orderly its.placed next.low next.leads its.owned line by h.waiting h.at (reply.Run epoch) (step_is rounds name c its shard number line entry next by (what.Entered epoch) (reply.Run epoch) did refl) swept_after
-        (heavy_entered (slots_of c) (slots_of (taken shard entry c)) (dues_of c) (dues_of (taken shard entry c)) (factor * rounds_left rounds c) (factor * rounds_left rounds (taken shard entry c)) (shape_of c).shards news_more dues_more factor_then)
+        answered_counts rounds name shard number entry c its.orderly its.placed next.low next.leads its.owned line by h.waiting h.at (reply.Run epoch) (step_is rounds name c its shard number line entry next by (what.Entered epoch) (reply.Run epoch) (did_enter shard line epoch c may) refl) swept_after
+        (heavy_entered (slots_of c) (slots_of (taken shard entry c)) (dues_of c) (dues_of (taken shard entry c)) (factor * rounds_left rounds c) (factor * rounds_left rounds (taken shard entry c)) (shape_of c).shards news_more (dues_more name shard number line epoch c its.orderly its.placed next.low next.leads) factor_then)
       where
         h : HasAsked name c shard (front_of shard c + 1 + 0) line (kind.Enter line epoch)
         h = held rounds name c its shard number line entry next by
 
     -- its shard's
     module _ (none : asked_by (kind.Enter line epoch) ≡ None) where
-      own_line : line ≡ 0
-      own_line = by_line (line == 0) refl none
-        where
-          by_line : (b : Bool) → (line == 0) ≡ b → (if b then None else Some line) ≡ None → line ≡ 0
-          by_line true e n = eqb-true line 0 e
-          by_line false e n = absurd (cc n)
-
-      -- the asks that are left
-      asks_then : asks_of (taken shard (kind.Enter line epoch) c) + cond (is_own shard (kind.Enter line epoch)) 1 0 ≤ asks_of c
-      asks_then = asks_taken name shard number entry c its.orderly its.placed next.low next.leads
-
-      own_at : (shard ≡ 0) → ◌≡◌ {A = ℕ} (cond (is_own shard (kind.Enter line epoch)) 1 0) 1
-      own_at is = λ i. cond (eq-eqb line 0 own_line i && eq-eqb shard 0 is i) 1 0
-
-      asks_drop : asks_of (taken shard (kind.Enter line epoch) c) ≤ asks_of c
-      asks_drop = let a = asks_then in drop_more (asks_of (taken shard entry c)) (asks_of c) (cond (is_own shard entry) 1 0) a
-        where
-          drop_more : (x y z : ℕ) → x + z ≤ y → x ≤ y
-          drop_more x y z h = omega (arith, h)
-
       finish : ways_left (taken shard (kind.Enter line epoch) c) + 3 * (length c.operations * (sweeps_to_come (taken shard (kind.Enter line epoch) c) + asks_of (taken shard (kind.Enter line epoch) c))) ≤ ways_left c + 3 * (length c.operations * (sweeps_to_come c + asks_of c))
           → reports_most rounds (taken shard (kind.Enter line epoch) c) ≤ reports_most rounds c
       finish ways =
           account_entered (jobs_of c) (slots_of c) (gots_of c) (dues_of c) (ways_left c) (length c.operations * (sweeps_to_come c + asks_of c)) (factor * rounds_left rounds c)
           (slots_of (taken shard entry c)) (gots_of (taken shard entry c)) (dues_of (taken shard entry c)) (ways_left (taken shard entry c)) (length c.operations * (sweeps_to_come (taken shard entry c) + asks_of (taken shard entry c))) (factor * rounds_left rounds (taken shard entry c)) (shape_of c).shards
-          news_more (gots_fewer name shard number entry c its.orderly its.placed next.low next.leads) dues_more ways factor_then
+          news_more (gots_fewer name shard number entry c its.orderly its.placed next.low next.leads) (dues_more name shard number line epoch c its.orderly its.placed next.low next.leads) ways factor_then
 
       -- where sweeps and asks are fewer, all may have lost what they met
       bumped : suc (sweeps_to_come (taken shard (kind.Enter line epoch) c) + asks_of (taken shard (kind.Enter line epoch) c)) ≤ sweeps_to_come c + asks_of c → reports_most rounds (taken shard (kind.Enter line epoch) c) ≤ reports_most rounds c
@@ -188,25 +139,10 @@ module _ (rounds : ℕ) (name : List ℕ → Address) (c : Core) (its : Stand ro
 
       -- the first shard's pays with its ask
       first_own : (shard ≡ 0) → reports_most rounds (taken shard (kind.Enter line epoch) c) ≤ reports_most rounds c
-      first_own is = bumped (both (sweeps_to_come (taken shard entry c)) (sweeps_to_come c) (asks_of (taken shard entry c)) (asks_of c) (sweeps_le c (taken shard entry c) refl swept_after) fewer)
+      first_own is = bumped (both (sweeps_to_come (taken shard entry c)) (sweeps_to_come c) (asks_of (taken shard entry c)) (asks_of c) (sweeps_le c (taken shard entry c) refl swept_after) (asks_first name shard number line epoch c its.orderly its.placed next.low next.leads none is))
         where
-          fewer : asks_of (taken shard (kind.Enter line epoch) c) + 1 ≤ asks_of c
-          fewer = subst (λ n. asks_of (taken shard entry c) + n ≤ asks_of c) (own_at is) asks_then
-
           both : (s t x y : ℕ) → s ≤ t → x + 1 ≤ y → suc (s + x) ≤ t + y
           both s t x y h k = omega (arith, h, k)
-
-      parts : ((epoch == (catalogue_of shard c).epoch + 1) ≡ true) × (((catalogue_of shard c).swept == (catalogue_of shard c).epoch) ≡ true)
-      parts = and_parts (epoch == (catalogue_of shard c).epoch + 1) ((catalogue_of shard c).swept == (catalogue_of shard c).epoch) may
-
-      first_part : epoch ≡ (catalogue_of shard c).epoch + 1
-      first_part = eqb-true epoch ((catalogue_of shard c).epoch + 1) parts.0
-
-      second_part : (catalogue_of shard c).swept ≡ (catalogue_of shard c).epoch
-      second_part = eqb-true (catalogue_of shard c).swept (catalogue_of shard c).epoch parts.1
-
-      is_entered : done_by shard (kind.Enter line epoch) c ≡ advanced (entered epoch (catalogue_of shard c))
-      is_entered = ap (λ b. cond b (advanced (entered epoch (catalogue_of shard c))) (only what.Refused (catalogue_of shard c))) may
 
       -- it sweeps at once, where lists have its rounds already
       sweeps_too : (done_by shard (kind.Enter line epoch) c).catalogue.swept ≡ epoch → reports_most rounds (taken shard (kind.Enter line epoch) c) ≤ reports_most rounds c
@@ -214,8 +150,8 @@ module _ (rounds : ℕ) (name : List ℕ → Address) (c : Core) (its : Stand ro
           bumped
           (both (sweeps_to_come (taken shard entry c)) (sweeps_to_come c) (asks_of (taken shard entry c)) (asks_of c)
           (sweeps_less c (taken shard entry c) refl swept_after shard next.low
-          (up (catalogue_of shard c).swept (catalogue_of shard c).epoch epoch (catalogue_of shard (taken shard entry c)).swept second_part first_part (ap (λ (x : Catalogue). x.swept) (catalogue_here name shard number entry c its.orderly its.placed next.low next.leads) ∙ is))
-          (below (catalogue_of shard c).swept (catalogue_of shard c).epoch epoch LAST_EPOCH second_part first_part low_then)) asks_drop)
+          (up (catalogue_of shard c).swept (catalogue_of shard c).epoch epoch (catalogue_of shard (taken shard entry c)).swept (all_swept shard line epoch c may) (next_one shard line epoch c may) (ap (λ (x : Catalogue). x.swept) (catalogue_here name shard number entry c its.orderly its.placed next.low next.leads) ∙ is))
+          (below (catalogue_of shard c).swept (catalogue_of shard c).epoch epoch LAST_EPOCH (all_swept shard line epoch c may) (next_one shard line epoch c may) low_then)) (asks_drop name shard number line epoch c its.orderly its.placed next.low next.leads))
         where
           up : (s e n t : ℕ) → s ≡ e → n ≡ e + 1 → t ≡ n → s < t
           up s e n t a b d = omega (arith, a, b, d)
@@ -226,22 +162,15 @@ module _ (rounds : ℕ) (name : List ℕ → Address) (c : Core) (its : Stand ro
           both : (s t x y : ℕ) → suc s ≤ t → x ≤ y → suc (s + x) ≤ t + y
           both s t x y h k = omega (arith, h, k)
 
-      -- in another shard no client's Enter waits
       module _ (d : shard ≡ 0 → ⊥) where
-        nowhere : (place k n : ℕ) → slice_get (group_of shard c).waiting place ≡ Some (kind.Enter k n) → 1 ≤ k → ⊥
-        nowhere place k n is few =
-            let counted : asked_by (kind.Enter k n) ≡ Some k = ap (λ (b : Bool). if b then None else Some k) (ne_eqb k 0 (λ e. omega (arith, e, few))) in
-            let h = its.orderly.asked shard place k (kind.Enter k n) is counted in
-            d (sym h.judges ∙ (its.orderly.pending k h.waiting h.at).judges ∙ ap (λ (x : Op). judging_shard (shape_of c).shards c.sessions x) (enter_op name c.sessions k k n h.waiting.operation.op h.asks))
-
         -- blocks are of the same entries
         stays_there : HasSameNumbers (catalogue_of shard c) (done_by shard (kind.Enter line epoch) c).catalogue → reports_most rounds (taken shard (kind.Enter line epoch) c) ≤ reports_most rounds c
         stays_there numbers =
             finish
             (sums (ways_left (taken shard entry c)) (ways_left c) (length c.operations * (sweeps_to_come (taken shard entry c) + asks_of (taken shard entry c))) (length c.operations * (sweeps_to_come c + asks_of c))
-            (all_same name shard number entry c its.orderly its.placed next.low next.leads its.owned (λ l w at. way_same name shard number entry c its.orderly its.placed next.low next.leads its.owned numbers (λ place k n is far few. absurd (nowhere place k n is few)) l w at (λ e. cc (sym none ∙ e))))
+            (ways_other name shard number line epoch c its.orderly its.placed next.low next.leads none d its.owned numbers)
             (product_less (length c.operations) (length c.operations) (sweeps_to_come (taken shard entry c) + asks_of (taken shard entry c)) (sweeps_to_come c + asks_of c) (as_much (length c.operations) (length c.operations) refl)
-            (both (sweeps_to_come (taken shard entry c)) (sweeps_to_come c) (asks_of (taken shard entry c)) (asks_of c) (sweeps_le c (taken shard entry c) refl swept_after) asks_drop)))
+            (both (sweeps_to_come (taken shard entry c)) (sweeps_to_come c) (asks_of (taken shard entry c)) (asks_of c) (sweeps_le c (taken shard entry c) refl swept_after) (asks_drop name shard number line epoch c its.orderly its.placed next.low next.leads))))
           where
             both : (s t x y : ℕ) → s ≤ t → x ≤ y → s + x ≤ t + y
             both s t x y h k = omega (arith, h, k)
@@ -250,13 +179,11 @@ module _ (rounds : ℕ) (name : List ℕ → Address) (c : Core) (its : Stand ro
             sums w' w p' p h l = omega (arith, h, l)
 
         other_own : reports_most rounds (taken shard (kind.Enter line epoch) c) ≤ reports_most rounds c
-        other_own = by_keeps (advance_numbers (length (entered epoch (catalogue_of shard c)).catalogue.run.gots + 1) (entered epoch (catalogue_of shard c)) epoch 0 refl)
+        other_own = by_keeps (stays_or_sweeps shard line epoch c may)
           where
-            by_keeps : KeepsNumbers epoch (entered epoch (catalogue_of shard c)).catalogue (advanced (entered epoch (catalogue_of shard c))).catalogue → reports_most rounds (taken shard (kind.Enter line epoch) c) ≤ reports_most rounds c
-            by_keeps (inl same) =
-                stays_there
-                (λ a. ap (λ (x : Applied). number_at a x.catalogue) is_entered ∙ same a ∙ each_numbers (count_block epoch) (catalogue_of shard c).blocks (λ f. count_number epoch f) a)
-            by_keeps (inr is) = sweeps_too (ap (λ (x : Applied). x.catalogue.swept) is_entered ∙ is)
+            by_keeps : HasSameNumbers (catalogue_of shard c) (done_by shard (kind.Enter line epoch) c).catalogue ⊎ ((done_by shard (kind.Enter line epoch) c).catalogue.swept ≡ epoch) → reports_most rounds (taken shard (kind.Enter line epoch) c) ≤ reports_most rounds c
+            by_keeps (inl same) = stays_there same
+            by_keeps (inr is) = sweeps_too is
 
       entered_own : reports_most rounds (taken shard (kind.Enter line epoch) c) ≤ reports_most rounds c
       entered_own = by_shard (one_or_other shard 0)
@@ -282,18 +209,4 @@ module _ (rounds : ℕ) (name : List ℕ → Address) (c : Core) (its : Stand ro
       by_test true e = entered_asked e by
 
   pub enter_counts : reports_most rounds (told_at_once shard (kind.Enter line epoch) c) ≤ reports_most rounds c
-  enter_counts = by_line (line == 0) refl
-    where
-      by_line : (b : Bool) → (line == 0) ≡ b → reports_most rounds (told_at_once shard (kind.Enter line epoch) c) ≤ reports_most rounds c
-      by_line false e = counts_asked (ap (λ (b : Bool). if b then None else Some line) e)
-      by_line true e = by_operation (operation_of line c) refl
-        where
-          did : What
-          did = (done_by shard (kind.Enter line epoch) c).effect.what
-
-          by_operation : (o : Option Waiting) → operation_of line c ≡ o → reports_most rounds (told_at_once shard (kind.Enter line epoch) c) ≤ reports_most rounds c
-          by_operation (Some w) at = let one = (its.orderly.pending line w at).counted in let is : line ≡ 0 = eqb-true line 0 e in absurd (omega (arith, one, is))
-          by_operation None at =
-              subst (λ n. n ≤ reports_most rounds c)
-              (sym (ap (λ (o : Option Waiting). reports_most rounds (cond (is_some o) (tell_operation line did (taken shard entry c)) (note_enter shard did (taken shard entry c)))) at ∙ note_same rounds shard did (taken shard entry c)))
-              (counts_own (ap (λ (b : Bool). if b then None else Some line) e))
+  enter_counts = told_enter (reports_most rounds) (λ shard epoch c. refl) name c its.orderly shard line epoch counts_own counts_asked

@@ -64,6 +64,7 @@ pub mod LowersCounts
 pub mod LowersDue
 pub mod LowersEffect
 pub mod LowersEnter
+pub mod LowersEntered
 pub mod LowersFresh
 pub mod LowersGoes
 pub mod LowersGot

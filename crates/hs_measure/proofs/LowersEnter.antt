@@ -1,15 +1,9 @@
 -- An Enter takes effect: no more reports are left than before.
-use Rattle.std.proofs.Common.{◌≡◌, ◌∙◌, sym, ap, subst, refl, ◌⊎◌, inl, inr, ℕ, suc, ◌+◌, ◌*◌, ◌<◌, ◌≤◌, ◌==◌, ◌&&◌, Bool, true, false, cond, List, Option, Some, None, arith, is_some, length, slice_get}
-use Rattle.std.proofs.lemmas.Bool.{and_parts, eq-eqb, eqb-true, ne_eqb}
-use Rattle.std.specs.Prelude.{if◌then◌else◌}
+use Rattle.std.proofs.Common.{◌≡◌, ◌∙◌, sym, ap, subst, refl, ◌⊎◌, inl, inr, ℕ, suc, ◌+◌, ◌*◌, ◌<◌, ◌≤◌, ◌==◌, Bool, true, false, cond, List, Some, None, arith, length}
 use Rattle.hs_standing.specs.Changes.{told_at_once}
-use Rattle.hs_core.specs.declared.waiting.Waiting.{Waiting}
-use Rattle.hs_core.specs.Effects.{note_enter, tell_operation}
-use Rattle.hs_core.specs.Looking.{catalogue_of, front_of, group_of, operation_of, shape_of}
+use Rattle.hs_core.specs.Looking.{catalogue_of, front_of, shape_of}
 use Rattle.hs_core.specs.State.{Core}
-use Rattle.hs_desk.specs.declared.what.What.{What}
 use Rattle.hs_desk.specs.declared.what.What.TheVariants as what
-use Rattle.hs_effects.proofs.EndingLemmas.{enter_did}
 use Rattle.hs_effects.proofs.LookLemmas.{one_or_other}
 use Rattle.hs_effects.specs.Logged.{HasAsked, asked_by}
 use Rattle.hs_effects.specs.Taking.{done_by, folds_behind, taken}
@@ -17,30 +11,28 @@ use Rattle.hs_entry.specs.declared.entry.Entry.{Entry}
 use Rattle.hs_entry.specs.declared.entry.Entry.TheVariants as kind
 use Rattle.hs_fold.specs.Runs.Facts.{Catalogue as Folded}
 use Rattle.hs_limits.specs.declared.address.Address.{Address}
+use Rattle.hs_measure.proofs.LowersEntered.{all_swept, asks_drop, asks_first, did_enter, dues_more, next_one, stays_or_sweeps, told_enter, ways_other}
 use Rattle.hs_measure.proofs.LowersSwept.{swept_low}
 use Rattle.hs_measure.proofs.DeletionMeasure.{deletion_by, deletion_rises}
 use Rattle.hs_measure.proofs.DeletionMoves.{HasEntered, enter_moves}
 use Rattle.hs_measure.proofs.DeletionStandLemmas.{NoneMoved, ahead_of_all}
 use Rattle.hs_measure.proofs.LowersClient.{apart_bools, both_le, held, next_step, refused_cheap, step_is, unsure_cheap}
-use Rattle.hs_measure.proofs.LowersCounts.{is_own, product_falls, product_less, sweeps_le}
+use Rattle.hs_measure.proofs.LowersCounts.{product_falls, product_less, sweeps_le}
 use Rattle.hs_measure.proofs.LowersEffect.{answered_counts, kept_counts}
-use Rattle.hs_measure.proofs.LowersParts.{due_by, dues_most, news_most}
+use Rattle.hs_measure.proofs.LowersParts.{news_most}
 use Rattle.hs_measure.proofs.LowersRefused.{is_refused, lists_then, never, stays, ways_then}
-use Rattle.hs_measure.proofs.LowersRounds.{KeepsNumbers, advance_epoch, advance_numbers, each_numbers}
-use Rattle.hs_measure.proofs.LowersStand.{Next, Stand, enter_op, few_all, same_left, taken_lawful}
+use Rattle.hs_measure.proofs.LowersRounds.{advance_epoch}
+use Rattle.hs_measure.proofs.LowersStand.{Next, Stand, few_all, same_left, taken_lawful}
 use Rattle.hs_measure.proofs.LowersSteps.{as_much, cost}
-use Rattle.hs_measure.proofs.LowersTaken.{all_bumped, all_same, asks_taken, catalogue_here, catalogue_other, gots_fewer, group_other, news_quiet, padded, plain, quiet_counts, way_same}
+use Rattle.hs_measure.proofs.LowersTaken.{all_bumped, catalogue_here, catalogue_other, gots_fewer, group_other, news_quiet, padded, plain, quiet_counts}
 use Rattle.hs_measure.proofs.LowersWays.{HasSameNumbers}
 use Rattle.hs_measure.proofs.StepLemmas.{mul_le}
 use Rattle.hs_measure.specs.Measure.{asks_of, deletion_left, dues_of, gots_of, jobs_of, last_epoch, news_of, reports_left, sweeps_of, way_left, ways_left}
-use Rattle.hs_model.specs.declared.op.Op.{Op}
 use Rattle.hs_model.specs.declared.reply.Reply.TheVariants as reply
-use Rattle.hs_ops.specs.Speaking.{judging_shard}
 use Rattle.hs_replica.specs.Group.{Group}
 use Rattle.hs_shard.specs.Clients.{Applied, only}
-use Rattle.hs_shard.specs.declared.facts.Facts.{Facts}
-use Rattle.hs_shard.specs.Facts.{Catalogue, number_at}
-use Rattle.hs_shard.specs.Rounds.{advanced, count_block, entered, is_new, may_enter}
+use Rattle.hs_shard.specs.Facts.{Catalogue}
+use Rattle.hs_shard.specs.Rounds.{advanced, entered, may_enter}
 use Rattle.std.proofs.Math.Nat.{mul-suc}
 
 -- ---- numbers
@@ -58,24 +50,6 @@ pays_factor k x y less = subst (λ n. n ≤ k * y) (mul-suc k x) (mul_le k y (su
 
 pub more_of : (k x z w : ℕ) → k * x + k ≤ k * z → z ≤ w → k * x + k ≤ k * w
 more_of k x z w h le = both_le (k * x + k) (k * z) (k * w) h (mul_le k w z le)
-
-note_same : (shard : ℕ) (did : What) (c : Core) → reports_left (note_enter shard did c) ≡ reports_left c
-note_same shard what.Nothing c = refl
-note_same shard (what.Viewed view) c = refl
-note_same shard what.Stored c = refl
-note_same shard what.Marked c = refl
-note_same shard what.Again c = refl
-note_same shard what.Rooted c = refl
-note_same shard what.Dropped c = refl
-note_same shard (what.Entered epoch) c = refl
-note_same shard what.Refused c = refl
-
-pub count_number : (epoch : ℕ) (f : Facts) → (count_block epoch f).number ≡ f.number
-count_number epoch f = go (is_new epoch f)
-  where
-    go : (b : Bool) → (cond b (record f { counted = true }) f).number ≡ f.number
-    go true = refl
-    go false = refl
 
 module _ (name : List ℕ → Address) (cs : List Folded) (c : Core) (its : Stand name cs c) (shard number line epoch : ℕ) (next : Next name cs c shard number (kind.Enter line epoch)) where
   abbrev entry : Entry
@@ -130,11 +104,6 @@ module _ (name : List ℕ → Address) (cs : List Folded) (c : Core) (its : Stan
         news_most c (taken shard entry c) shard refl (λ k d. catalogue_other name shard number entry c its.orderly its.placed next.low next.leads k d) (λ k d. ap (λ (g : Group). g.waiting) (group_other name shard number entry c its.orderly its.placed next.low next.leads k d))
         (few_all name cs c its shard number entry next)
 
-    dues_more : dues_of (taken shard (kind.Enter line epoch) c) ≤ dues_of c + 1
-    dues_more =
-        dues_most c (taken shard entry c) shard refl
-        (λ k d h. sym (λ i. due_by k (catalogue_other name shard number entry c its.orderly its.placed next.low next.leads k d i) (group_other name shard number entry c its.orderly its.placed next.low next.leads k d i).waiting) ∙ h)
-
     -- so much is left then, with any last epoch that is not behind the first shard's
     left_then : (last asks : ℕ) → (catalogue_of 0 (taken shard (kind.Enter line epoch) c)).epoch ≤ last → deletion_by last asks (taken shard (kind.Enter line epoch) c) < deletion_by last asks c
     left_then last asks within = has.falls last asks (λ k low. both_le (catalogue_of k (taken shard entry c)).epoch (catalogue_of 0 (taken shard entry c)).epoch last (ahead_of_all name (taken shard entry c) (folds_behind name cs shard entry c) (taken_lawful name cs c its shard number entry next) k low) within)
@@ -151,14 +120,11 @@ module _ (name : List ℕ → Address) (cs : List Folded) (c : Core) (its : Stan
         by_shard (inl is) = subst (λ j. (catalogue_of j c).swept ≤ (catalogue_of j (taken shard entry c)).swept) (sym is) (as_much (catalogue_of shard c).swept (catalogue_of shard (taken shard entry c)).swept (sym has.swept))
         by_shard (inr d) = as_much (catalogue_of k c).swept (catalogue_of k (taken shard entry c)).swept (sym (ap (λ (x : Catalogue). x.swept) (catalogue_other name shard number entry c its.orderly its.placed next.low next.leads k d)))
 
-    did : (done_by shard (kind.Enter line epoch) c).effect.what ≡ what.Entered epoch
-    did = enter_did epoch (catalogue_of shard c) ∙ ap (λ b. cond b (what.Entered epoch) what.Refused) may
-
     -- a client's
     entered_asked : asked_by (kind.Enter line epoch) ≡ Some line → reports_left (told_at_once shard (kind.Enter line epoch) c) ≤ reports_left c
     entered_asked by =
-        answered_counts name shard number entry c its.orderly its.placed next.low next.leads its.owned line by h.waiting h.at (reply.Run epoch) (step_is name cs c its shard number line entry next by (what.Entered epoch) (reply.Run epoch) did refl) first_more swept_then
-        (λ last asks within le few. heavy_entered (news_of c) (news_of (taken shard entry c)) (dues_of c) (dues_of (taken shard entry c)) (factor * deletion_left c) (factor * deletion_by last asks (taken shard entry c)) (shape_of c).shards news_more dues_more
+        answered_counts name shard number entry c its.orderly its.placed next.low next.leads its.owned line by h.waiting h.at (reply.Run epoch) (step_is name cs c its shard number line entry next by (what.Entered epoch) (reply.Run epoch) (did_enter shard line epoch c may) refl) first_more swept_then
+        (λ last asks within le few. heavy_entered (news_of c) (news_of (taken shard entry c)) (dues_of c) (dues_of (taken shard entry c)) (factor * deletion_left c) (factor * deletion_by last asks (taken shard entry c)) (shape_of c).shards news_more (dues_more name shard number line epoch c its.orderly its.placed next.low next.leads)
         (factor_then last asks within le (fewer asks (asks_of c) few)))
       where
         h : HasAsked name c shard (front_of shard c + 1 + 0) line (kind.Enter line epoch)
@@ -179,33 +145,16 @@ module _ (name : List ℕ → Address) (cs : List Folded) (c : Core) (its : Stan
 
     -- its shard's
     module _ (none : asked_by (kind.Enter line epoch) ≡ None) where
-      own_line : line ≡ 0
-      own_line = by_line (line == 0) refl none
-        where
-          by_line : (b : Bool) → (line == 0) ≡ b → (if b then None else Some line) ≡ None → line ≡ 0
-          by_line true e n = eqb-true line 0 e
-          by_line false e n = absurd (cc n)
-
-      -- the asks that are left, and so the last epoch
-      asks_then : asks_of (taken shard (kind.Enter line epoch) c) + cond (is_own shard (kind.Enter line epoch)) 1 0 ≤ asks_of c
-      asks_then = asks_taken name shard number entry c its.orderly its.placed next.low next.leads
-
-      own_at : (shard ≡ 0) → ◌≡◌ {A = ℕ} (cond (is_own shard (kind.Enter line epoch)) 1 0) 1
-      own_at is = λ i. cond (eq-eqb line 0 own_line i && eq-eqb shard 0 is i) 1 0
-
       finish : last_epoch (taken shard (kind.Enter line epoch) c) ≤ last_epoch c → ways_left (taken shard (kind.Enter line epoch) c) + 3 * (length c.operations * (sweeps_of (taken shard (kind.Enter line epoch) c) + asks_of (taken shard (kind.Enter line epoch) c))) ≤ ways_left c + 3 * (length c.operations * (sweeps_of c + asks_of c))
           → reports_left (taken shard (kind.Enter line epoch) c) ≤ reports_left c
       finish last ways =
           account_entered (jobs_of c) (news_of c) (gots_of c) (dues_of c) (ways_left c) (length c.operations * (sweeps_of c + asks_of c)) (factor * deletion_left c)
           (news_of (taken shard entry c)) (gots_of (taken shard entry c)) (dues_of (taken shard entry c)) (ways_left (taken shard entry c)) (length c.operations * (sweeps_of (taken shard entry c) + asks_of (taken shard entry c))) (factor * deletion_left (taken shard entry c)) (shape_of c).shards
-          news_more (gots_fewer name shard number entry c its.orderly its.placed next.low next.leads) dues_more ways
-          (factor_then (last_epoch (taken shard entry c)) (asks_of (taken shard entry c)) (within (catalogue_of 0 (taken shard entry c)).epoch (asks_of (taken shard entry c))) last (drop_more (asks_of (taken shard entry c)) (asks_of c) (cond (is_own shard entry) 1 0) asks_then))
+          news_more (gots_fewer name shard number entry c its.orderly its.placed next.low next.leads) (dues_more name shard number line epoch c its.orderly its.placed next.low next.leads) ways
+          (factor_then (last_epoch (taken shard entry c)) (asks_of (taken shard entry c)) (within (catalogue_of 0 (taken shard entry c)).epoch (asks_of (taken shard entry c))) last (asks_drop name shard number line epoch c its.orderly its.placed next.low next.leads))
         where
           within : (e a : ℕ) → e ≤ e + a
           within e a = omega arith
-
-          drop_more : (x y z : ℕ) → x + z ≤ y → x ≤ y
-          drop_more x y z h = omega (arith, h)
 
       -- the first shard's pays with its ask
       first_own : (shard ≡ 0) → reports_left (taken shard (kind.Enter line epoch) c) ≤ reports_left c
@@ -216,7 +165,7 @@ module _ (name : List ℕ → Address) (cs : List Folded) (c : Core) (its : Stan
           (both (sweeps_of (taken shard entry c)) (sweeps_of c) (asks_of (taken shard entry c)) (asks_of c) (sweeps_le (last_epoch (taken shard entry c)) (last_epoch c) c (taken shard entry c) refl last swept_then) fewer)))
         where
           fewer : asks_of (taken shard (kind.Enter line epoch) c) + 1 ≤ asks_of c
-          fewer = subst (λ n. asks_of (taken shard entry c) + n ≤ asks_of c) (own_at is) asks_then
+          fewer = asks_first name shard number line epoch c its.orderly its.placed next.low next.leads none is
 
           last : last_epoch (taken shard (kind.Enter line epoch) c) ≤ last_epoch c
           last =
@@ -237,15 +186,12 @@ module _ (name : List ℕ → Address) (cs : List Folded) (c : Core) (its : Stan
       other_own d =
           finish last
           (sums (ways_left (taken shard entry c)) (ways_left c) (length c.operations * (sweeps_of (taken shard entry c) + asks_of (taken shard entry c))) (length c.operations * (sweeps_of c + asks_of c))
-          (all_same name shard number entry c its.orderly its.placed next.low next.leads its.owned (λ l w at. way_same name shard number entry c its.orderly its.placed next.low next.leads its.owned numbers (λ place k n is far few. absurd (nowhere place k n is few)) l w at (λ e. cc (sym none ∙ e))))
+          (ways_other name shard number line epoch c its.orderly its.placed next.low next.leads none d its.owned numbers)
           (product_less (length c.operations) (length c.operations) (sweeps_of (taken shard entry c) + asks_of (taken shard entry c)) (sweeps_of c + asks_of c) (as_much (length c.operations) (length c.operations) refl)
           (both (sweeps_of (taken shard entry c)) (sweeps_of c) (asks_of (taken shard entry c)) (asks_of c) (sweeps_le (last_epoch (taken shard entry c)) (last_epoch c) c (taken shard entry c) refl last swept_then) fewer)))
         where
           fewer : asks_of (taken shard (kind.Enter line epoch) c) ≤ asks_of c
-          fewer = drop_more (asks_of (taken shard entry c)) (asks_of c) (cond (is_own shard entry) 1 0) asks_then
-            where
-              drop_more : (x y z : ℕ) → x + z ≤ y → x ≤ y
-              drop_more x y z h = omega (arith, h)
+          fewer = asks_drop name shard number line epoch c its.orderly its.placed next.low next.leads
 
           last : last_epoch (taken shard (kind.Enter line epoch) c) ≤ last_epoch c
           last =
@@ -261,36 +207,15 @@ module _ (name : List ℕ → Address) (cs : List Folded) (c : Core) (its : Stan
           sums : (w' w p' p : ℕ) → w' ≤ w → p' ≤ p → w' + 3 * p' ≤ w + 3 * p
           sums w' w p' p h l = omega (arith, h, l)
 
-          nowhere : (place k n : ℕ) → slice_get (group_of shard c).waiting place ≡ Some (kind.Enter k n) → 1 ≤ k → ⊥
-          nowhere place k n is few =
-              let counted : asked_by (kind.Enter k n) ≡ Some k = ap (λ (b : Bool). if b then None else Some k) (ne_eqb k 0 (λ e. omega (arith, e, few))) in
-              let h = its.orderly.asked shard place k (kind.Enter k n) is counted in
-              d (sym h.judges ∙ (its.orderly.pending k h.waiting h.at).judges ∙ ap (λ (x : Op). judging_shard (shape_of c).shards c.sessions x) (enter_op name c.sessions k k n h.waiting.operation.op h.asks))
-
-          parts : ((epoch == (catalogue_of shard c).epoch + 1) ≡ true) × (((catalogue_of shard c).swept == (catalogue_of shard c).epoch) ≡ true)
-          parts = and_parts (epoch == (catalogue_of shard c).epoch + 1) ((catalogue_of shard c).swept == (catalogue_of shard c).epoch) may
-
-          first_part : epoch ≡ (catalogue_of shard c).epoch + 1
-          first_part = eqb-true epoch ((catalogue_of shard c).epoch + 1) parts.0
-
-          second_part : (catalogue_of shard c).swept ≡ (catalogue_of shard c).epoch
-          second_part = eqb-true (catalogue_of shard c).swept (catalogue_of shard c).epoch parts.1
-
-          is_entered : done_by shard (kind.Enter line epoch) c ≡ advanced (entered epoch (catalogue_of shard c))
-          is_entered = ap (λ b. cond b (advanced (entered epoch (catalogue_of shard c))) (only what.Refused (catalogue_of shard c))) may
-
           numbers : HasSameNumbers (catalogue_of shard c) (done_by shard (kind.Enter line epoch) c).catalogue
-          numbers = by_keeps (advance_numbers (length (entered epoch (catalogue_of shard c)).catalogue.run.gots + 1) (entered epoch (catalogue_of shard c)) epoch 0 refl)
+          numbers = by_keeps (stays_or_sweeps shard line epoch c may)
             where
               swept_same : (done_by shard (kind.Enter line epoch) c).catalogue.swept ≡ (catalogue_of shard c).swept
               swept_same = sym (ap (λ (x : Catalogue). x.swept) (catalogue_here name shard number entry c its.orderly its.placed next.low next.leads)) ∙ has.swept
 
-              by_keeps : KeepsNumbers epoch (entered epoch (catalogue_of shard c)).catalogue (advanced (entered epoch (catalogue_of shard c))).catalogue → HasSameNumbers (catalogue_of shard c) (done_by shard (kind.Enter line epoch) c).catalogue
-              by_keeps (inl same) a =
-                  ap (λ (x : Applied). number_at a x.catalogue) is_entered ∙ same a ∙ each_numbers (count_block epoch) (catalogue_of shard c).blocks (λ f. count_number epoch f) a
-              by_keeps (inr is) a =
-                  let now : (done_by shard (kind.Enter line epoch) c).catalogue.swept ≡ epoch = ap (λ (x : Applied). x.catalogue.swept) is_entered ∙ is in
-                  absurd (far (done_by shard (kind.Enter line epoch) c).catalogue.swept epoch (catalogue_of shard c).swept (catalogue_of shard c).epoch now swept_same first_part second_part)
+              by_keeps : HasSameNumbers (catalogue_of shard c) (done_by shard (kind.Enter line epoch) c).catalogue ⊎ ((done_by shard (kind.Enter line epoch) c).catalogue.swept ≡ epoch) → HasSameNumbers (catalogue_of shard c) (done_by shard (kind.Enter line epoch) c).catalogue
+              by_keeps (inl same) = same
+              by_keeps (inr is) = absurd (far (done_by shard (kind.Enter line epoch) c).catalogue.swept epoch (catalogue_of shard c).swept (catalogue_of shard c).epoch is swept_same (next_one shard line epoch c may) (all_swept shard line epoch c may))
                 where
                   far : (x e s t : ℕ) → x ≡ e → x ≡ s → e ≡ t + 1 → s ≡ t → ⊥
                   far x e s t p q r w = omega (arith, p, q, r, w)
@@ -310,13 +235,10 @@ module _ (name : List ℕ → Address) (cs : List Folded) (c : Core) (its : Stan
     where
       by_moves : (NoneMoved c (taken shard (kind.Enter line epoch) c) × (catalogue_of shard (taken shard (kind.Enter line epoch) c) ≡ catalogue_of shard c)) ⊎ HasEntered shard c (taken shard (kind.Enter line epoch) c) → HasEntered shard c (taken shard (kind.Enter line epoch) c) ⊎ (true ≡ false)
       by_moves (inr has) = inl has
-      by_moves (inl none) = absurd (far (catalogue_of shard (taken shard entry c)).epoch (catalogue_of shard c).epoch epoch then_epoch (ap (λ (x : Catalogue). x.epoch) none.1) first_part)
+      by_moves (inl none) = absurd (far (catalogue_of shard (taken shard entry c)).epoch (catalogue_of shard c).epoch epoch then_epoch (ap (λ (x : Catalogue). x.epoch) none.1) (next_one shard line epoch c e))
         where
           far : (x y e : ℕ) → x ≡ e → x ≡ y → e ≡ y + 1 → ⊥
           far x y e p q r = omega (arith, p, q, r)
-
-          first_part : epoch ≡ (catalogue_of shard c).epoch + 1
-          first_part = eqb-true epoch ((catalogue_of shard c).epoch + 1) (and_parts (epoch == (catalogue_of shard c).epoch + 1) ((catalogue_of shard c).swept == (catalogue_of shard c).epoch) e).0
 
           then_epoch : (catalogue_of shard (taken shard (kind.Enter line epoch) c)).epoch ≡ epoch
           then_epoch =
@@ -347,18 +269,4 @@ module _ (name : List ℕ → Address) (cs : List Folded) (c : Core) (its : Stan
           by_has (inr bad) = absurd (apart_bools bad)
 
   pub enter_counts : reports_left (told_at_once shard (kind.Enter line epoch) c) ≤ reports_left c
-  enter_counts = by_line (line == 0) refl
-    where
-      by_line : (b : Bool) → (line == 0) ≡ b → reports_left (told_at_once shard (kind.Enter line epoch) c) ≤ reports_left c
-      by_line false e = counts_asked (ap (λ (b : Bool). if b then None else Some line) e)
-      by_line true e = by_operation (operation_of line c) refl
-        where
-          did : What
-          did = (done_by shard (kind.Enter line epoch) c).effect.what
-
-          by_operation : (o : Option Waiting) → operation_of line c ≡ o → reports_left (told_at_once shard (kind.Enter line epoch) c) ≤ reports_left c
-          by_operation (Some w) at = let one = (its.orderly.pending line w at).counted in let is : line ≡ 0 = eqb-true line 0 e in absurd (omega (arith, one, is))
-          by_operation None at =
-              subst (λ n. n ≤ reports_left c)
-              (sym (ap (λ (o : Option Waiting). reports_left (cond (is_some o) (tell_operation line did (taken shard entry c)) (note_enter shard did (taken shard entry c)))) at ∙ note_same shard did (taken shard entry c)))
-              (counts_own (ap (λ (b : Bool). if b then None else Some line) e))
+  enter_counts = told_enter reports_left (λ shard epoch c. refl) name c its.orderly shard line epoch counts_own counts_asked

@@ -2,7 +2,6 @@
 use Rattle.std.proofs.Common.{◌≡◌, ◌∙◌, sym, ap, subst, refl, ℕ, ◌+◌, ◌*◌, ◌<◌, ◌≤◌, ◌==◌, ◌&&◌, ◌||◌, Bool, true, false, cond, List, Option, Some, None, arith, is_some, length, nat_le}
 use Rattle.std.proofs.lemmas.List.{length-set}
 use Rattle.std.specs.List.{list_all}
-use Rattle.std.specs.Prelude.{if◌then◌else◌}
 use Rattle.hs_standing.proofs.BesideLemmas.{beside_viewed}
 use Rattle.hs_standing.specs.Changes.{told_at_once, tells_at_once}
 use Rattle.hs_core.specs.Changing.{add_entry_tasks, change_group, note, post, set_viewed}
