@@ -20,11 +20,11 @@ use Rattle.hs_measure.proofs.FallsEffect.{answered_counts, kept_counts}
 use Rattle.hs_measure.proofs.LowersFresh.{write_late}
 use Rattle.hs_measure.proofs.LowersJudged.{cost_most}
 use Rattle.hs_measure.proofs.LowersStand.{answer_cheap, effect_answer, now_is}
-use Rattle.hs_measure.proofs.FallsStand.{Next, Stand, asked, epoch_low, steps_then, swept_then, unsure_way}
+use Rattle.hs_measure.proofs.FallsStand.{Next, Stand, epoch_low, steps_then, swept_then}
 use Rattle.hs_measure.proofs.LowersSteps.{cost}
 use Rattle.hs_measure.proofs.FallsTaken.{news_quiet, quiet_counts}
 use Rattle.hs_measure.proofs.LowersTaken.{all_same, catalogues_by, dues_quiet, gots_le, padded, plain, way_same}
-use Rattle.hs_measure.proofs.LowersTold.{taken_step}
+use Rattle.hs_measure.proofs.LowersTold.{asked, taken_step, unsure_way}
 use Rattle.hs_measure.proofs.StepLemmas.{mul_le}
 use Rattle.hs_measure.specs.Finite.{reports_most, rounds_left, slots_of}
 use Rattle.hs_measure.proofs.LowersClient.{heavy_sum, lists_le}
@@ -65,7 +65,7 @@ module _ (rounds : ℕ) (name : List ℕ → Address) (c : Core) (its : Stand ro
 
     module _ (line : ℕ) (by : asked_by entry ≡ Some line) where
       abbrev h : HasAsked name c shard (front_of shard c + 1 + 0) line entry
-      h = asked rounds name c its shard number entry next line by
+      h = asked name shard number entry c its.orderly its.placed next.low next.leads line by
 
       abbrev s : OpStep
       s = taken_step shard entry c h.waiting
@@ -96,7 +96,7 @@ module _ (rounds : ℕ) (name : List ℕ → Address) (c : Core) (its : Stand ro
 
 module _ (rounds : ℕ) (name : List ℕ → Address) (c : Core) (its : Stand rounds name c) (shard number line : ℕ) (entry : Entry) (next : Next c shard number entry) (by : asked_by entry ≡ Some line) where
   abbrev pub held : HasAsked name c shard (front_of shard c + 1 + 0) line entry
-  held = asked rounds name c its shard number entry next line by
+  held = asked name shard number entry c its.orderly its.placed next.low next.leads line by
 
   abbrev pub u : Waiting
   u = held.waiting
@@ -137,7 +137,7 @@ module _ (rounds : ℕ) (name : List ℕ → Address) (c : Core) (its : Stand ro
 
   -- one that is not sure costs no more than its way
   pub unsure_cheap : is_sure (catalogue_of shard c) u.operation.op entry ≡ false → cost next_step ≤ way_left c u
-  unsure_cheap unsure = let way = unsure_way rounds name c its shard number entry next line by unsure in let most = cost_most next_step in paid (cost next_step) (way_left c u) most way
+  unsure_cheap unsure = let way = unsure_way name shard number entry c its.orderly its.placed next.low next.leads line by unsure in let most = cost_most next_step in paid (cost next_step) (way_left c u) most way
     where
       paid : (x y : ℕ) → x ≤ 3 → y ≡ 3 → x ≤ y
       paid x y h e = omega (arith, h, e)

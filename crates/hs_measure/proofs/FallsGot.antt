@@ -1,11 +1,9 @@
 -- A Got takes effect: it goes, and where it completes a round, one step of deletion pays for what may be new.
-use Rattle.std.proofs.Common.{[], ◌≡◌, ◌∙◌, sym, ap, subst, refl, ◌⊎◌, inl, inr, ℕ, suc, ◌+◌, ◌*◌, ◌<◌, ◌≤◌, ◌==◌, ◌&&◌, ◌||◌, Bool, true, false, cond, not, List, ◌∷◌, Option, Some, None, arith, is_none, length, nat_le, nat_lt}
-use Rattle.std.proofs.Common.{Ordering, Less, Equal, Greater}
+use Rattle.std.proofs.Common.{◌≡◌, ◌∙◌, sym, ap, subst, refl, ◌⊎◌, inl, inr, ℕ, suc, ◌+◌, ◌*◌, ◌<◌, ◌≤◌, ◌==◌, ◌&&◌, ◌||◌, Bool, true, false, cond, not, List, Option, Some, None, arith, is_none, length, nat_le, nat_lt}
 use Rattle.std.proofs.lemmas.Bool.{and_from, and_parts, eqb-true, lt-ltb, ltb-true}
-use Rattle.std.specs.BTreeMap.{insert_entry, is_at}
+use Rattle.std.specs.BTreeMap.{insert_entry}
 use Rattle.std.specs.List.{list_all, list_any}
 use Rattle.std.specs.Option.{option_map, option_map_or}
-use Rattle.std.specs.Ordering.{match_ordering}
 use Rattle.hs_standing.specs.Changes.{told_at_once}
 use Rattle.hs_core.specs.Changing.{note}
 use Rattle.hs_core.specs.Delivering.{is_got}
@@ -31,6 +29,7 @@ use Rattle.hs_measure.proofs.FallsCounts.{sweeps_le, sweeps_less}
 use Rattle.hs_measure.proofs.LowersCounts.{product_falls, product_less}
 use Rattle.hs_measure.proofs.FallsEnter.{pays_factor}
 use Rattle.hs_measure.proofs.FallsSlots.{news_le, news_most, same_rows}
+use Rattle.hs_measure.proofs.LowersGot.{still_none}
 use Rattle.hs_measure.proofs.LowersParts.{due_by, dues_most, new_by}
 use Rattle.hs_measure.proofs.LowersRounds.{KeepsNumbers, advance_epoch, advance_numbers}
 use Rattle.hs_measure.proofs.FallsStand.{Next, Stand, beside_it, brings_here, came, here_stands, room_here, so_far, steps_then, swept_then}
@@ -47,38 +46,12 @@ use Rattle.hs_model.specs.declared.reply.Reply.TheVariants as reply
 use Rattle.hs_replica.specs.Group.{Group}
 use Rattle.hs_rounds.specs.declared.body.RoundBody.{RoundBody}
 use Rattle.hs_rounds.specs.declared.place.Place.{Place as Row}
-use Rattle.hs_rounds.specs.Rounds.{GotList, Run, body, body_at, complete, is_before, is_kept, is_past, place_cmp}
+use Rattle.hs_rounds.specs.Rounds.{Run, body, body_at, complete, is_before, is_kept, is_past, place_cmp}
 use Rattle.hs_shard.proofs.AdvanceLemmas.{advance_done}
 use Rattle.hs_shard.specs.Clients.{Applied, only}
 use Rattle.hs_shard.specs.declared.facts.Facts.{Facts}
 use Rattle.hs_shard.specs.Facts.{BlockList, Catalogue, facts_in, number_at}
 use Rattle.hs_shard.specs.Rounds.{advanced, is_accepted, is_due, log_got}
-
--- ---- what stands among Gots
-
--- what stood stands, where one more is logged
-still_none : (gots : GotList) (p q : Row) (told : RoundBody) → is_none (body_at q (insert_entry place_cmp gots p told)) ≡ true → is_none (body_at q gots) ≡ true
-still_none [] p q told e = refl
-still_none (x ∷ gots) p q told e = go (place_cmp p x.0) refl (λ k. still_none gots p q told k) e
-  where
-    first : (t : Bool) → is_none (cond t (Some told) (body_at q (x ∷ gots))) ≡ true → is_none (body_at q (x ∷ gots)) ≡ true
-    first true e = absurd (apart_bools (sym e))
-    first false e = e
-
-    here : (t : Bool) → is_none (cond t (Some told) (body_at q gots)) ≡ true → is_none (cond t (Some x.1) (body_at q gots)) ≡ true
-    here true e = absurd (apart_bools (sym e))
-    here false e = e
-
-    later : (t : Bool) → (is_none (body_at q (insert_entry place_cmp gots p told)) ≡ true → is_none (body_at q gots) ≡ true) → is_none (cond t (Some x.1) (body_at q (insert_entry place_cmp gots p told))) ≡ true
-        → is_none (cond t (Some x.1) (body_at q gots)) ≡ true
-    later true ih e = absurd (apart_bools (sym e))
-    later false ih e = ih e
-
-    go : (o : Ordering) → place_cmp p x.0 ≡ o → (is_none (body_at q (insert_entry place_cmp gots p told)) ≡ true → is_none (body_at q gots) ≡ true)
-        → is_none (body_at q (match_ordering o ((p, told) ∷ x ∷ gots) ((x.0, told) ∷ gots) (x ∷ insert_entry place_cmp gots p told))) ≡ true → is_none (body_at q (x ∷ gots)) ≡ true
-    go Less o ih e = first (is_at (place_cmp q) p) e
-    go Equal o ih e = here (is_at (place_cmp q) x.0) e
-    go Greater o ih e = later (is_at (place_cmp q) x.0) ih e
 
 -- a sweep's notes are nothing to the count
 sweep_same : (rounds shard : ℕ) (removed : Option ℕ) (c : Core) → reports_most rounds (change_with removed (note_sweep shard) c) ≡ reports_most rounds c

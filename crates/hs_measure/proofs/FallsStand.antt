@@ -1,13 +1,10 @@
 -- A core of a run whose next entry takes effect, and what its operation has asked for.
-use Rattle.std.proofs.Common.{◌≡◌, ◌∙◌, sym, ap, subst, refl, ◌⊎◌, inl, inr, ℕ, zero, suc, ◌+◌, ◌-◌, ◌<◌, ◌≤◌, Bool, false, List, None, Option, Some, arith, slice_get}
-use Rattle.std.specs.Option.{option_map_or}
-use Rattle.std.specs.Prelude.{if◌then◌else◌}
-use Rattle.hs_core.specs.declared.wait.Wait.{Wait}
-use Rattle.hs_core.specs.Looking.{catalogue_of, front_of, group_of, shape_of}
+use Rattle.std.proofs.Common.{◌≡◌, ◌∙◌, sym, ap, subst, refl, ◌⊎◌, inl, inr, ℕ, zero, suc, ◌+◌, ◌<◌, ◌≤◌, List, None, Option, Some, arith, slice_get}
+use Rattle.hs_core.specs.Looking.{catalogue_of, group_of, shape_of}
 use Rattle.hs_core.specs.State.{Core}
 use Rattle.hs_desk.specs.declared.what.What.TheVariants as what
 use Rattle.hs_effects.specs.Answered.{HoldAddresses}
-use Rattle.hs_effects.specs.Logged.{HasAsked, IsOrderly, asked_by}
+use Rattle.hs_effects.specs.Logged.{IsOrderly}
 use Rattle.hs_effects.proofs.LookLemmas.{one_or_other}
 use Rattle.hs_effects.specs.Taking.{done_by, taken}
 use Rattle.hs_entry.specs.declared.entry.Entry.{Entry}
@@ -23,7 +20,6 @@ use Rattle.hs_measure.proofs.LowersGoes.{IsPlaced}
 use Rattle.hs_measure.proofs.FallsTaken.{deletion_then}
 use Rattle.hs_measure.proofs.LowersTaken.{AreOwned, catalogue_here, catalogue_other, first_waits}
 use Rattle.hs_measure.specs.Finite.{most_rounds, rounds_left}
-use Rattle.hs_measure.specs.Measure.{is_sure, way_by, way_left}
 use Rattle.hs_replica.specs.Group.{committed}
 use Rattle.hs_shard.specs.Clients.{only}
 use Rattle.hs_shard.specs.Facts.{Catalogue}
@@ -115,23 +111,3 @@ module _ (rounds : ℕ) (name : List ℕ → Address) (c : Core) (its : Stand ro
           subst (λ j. (catalogue_of j c).swept ≤ (catalogue_of j (taken shard entry c)).swept) (sym is)
           (subst (λ (x : Catalogue). (catalogue_of shard c).swept ≤ x.swept) (sym (catalogue_here name shard number entry c its.orderly its.placed next.low next.leads)) behind.rises)
       by_shard (inr d) = as_it (catalogue_of k c).swept (catalogue_of k (taken shard entry c)).swept (sym (ap (λ (x : Catalogue). x.swept) (catalogue_other name shard number entry c its.orderly its.placed next.low next.leads k d)))
-
-  -- ---- the operation that asked for the entry
-
-  module _ (line : ℕ) (by : asked_by entry ≡ Some line) where
-    pub asked : HasAsked name c shard (front_of shard c + 1 + 0) line entry
-    asked = its.orderly.asked shard 0 line entry (first_waits name shard number entry c its.orderly its.placed next.low next.leads) by
-
-    pub way_first : way_left c asked.waiting ≡ (if is_sure (catalogue_of shard c) asked.waiting.operation.op entry then 0 else 3)
-    way_first =
-        ap (λ k. way_by (catalogue_of k c) (group_of k c).front (group_of k c).waiting asked.waiting.operation asked.waiting.wait) asked.judges
-        ∙ ap (λ (x : Wait). way_by (catalogue_of shard c) (group_of shard c).front (group_of shard c).waiting asked.waiting.operation x) asked.waits
-        ∙ ap (λ (o : Option Entry). if option_map_or (is_sure (catalogue_of shard c) asked.waiting.operation.op) o false then 0 else 3)
-        (ap (λ k. slice_get (group_of shard c).waiting k) (none_behind (group_of shard c).front) ∙ first_waits name shard number entry c its.orderly its.placed next.low next.leads)
-      where
-        none_behind : (f : ℕ) → f + 1 + 0 - f - 1 ≡ 0
-        none_behind f = omega arith
-
-    -- what is not sure may cost all
-    pub unsure_way : is_sure (catalogue_of shard c) asked.waiting.operation.op entry ≡ false → way_left c asked.waiting ≡ 3
-    unsure_way unsure = way_first ∙ ap (λ (b : Bool). if b then 0 else 3) unsure

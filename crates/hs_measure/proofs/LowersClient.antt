@@ -25,10 +25,10 @@ use Rattle.hs_measure.proofs.DeletionStandLemmas.{HasAdded}
 use Rattle.hs_measure.proofs.LowersEffect.{answered_counts, kept_counts}
 use Rattle.hs_measure.proofs.LowersFresh.{write_late}
 use Rattle.hs_measure.proofs.LowersJudged.{cost_most}
-use Rattle.hs_measure.proofs.LowersStand.{Next, Stand, answer_cheap, asked, effect_answer, epoch_low, now_is, same_left, taken_lawful, unsure_way}
+use Rattle.hs_measure.proofs.LowersStand.{Next, Stand, answer_cheap, effect_answer, epoch_low, now_is, same_left, taken_lawful}
 use Rattle.hs_measure.proofs.LowersSteps.{as_much, cost}
 use Rattle.hs_measure.proofs.LowersTaken.{all_same, catalogues_by, dues_quiet, gots_le, news_quiet, padded, plain, quiet_counts, way_same}
-use Rattle.hs_measure.proofs.LowersTold.{taken_step}
+use Rattle.hs_measure.proofs.LowersTold.{asked, taken_step, unsure_way}
 use Rattle.hs_measure.proofs.StepLemmas.{mul_le}
 use Rattle.hs_measure.specs.Measure.{asks_of, deletion_left, dues_of, gots_of, is_any_got, is_sure, last_epoch, news_of, reports_left, way_left, ways_left}
 use Rattle.hs_model.specs.declared.op.Op.{Op}
@@ -78,7 +78,7 @@ module _ (name : List ℕ → Address) (cs : List Folded) (c : Core) (its : Stan
 
     module _ (line : ℕ) (by : asked_by entry ≡ Some line) where
       abbrev h : HasAsked name c shard (front_of shard c + 1 + 0) line entry
-      h = asked name cs c its shard number entry next line by
+      h = asked name shard number entry c its.orderly its.placed next.low next.leads line by
 
       abbrev s : OpStep
       s = taken_step shard entry c h.waiting
@@ -125,7 +125,7 @@ module _ (name : List ℕ → Address) (cs : List Folded) (c : Core) (its : Stan
 
 module _ (name : List ℕ → Address) (cs : List Folded) (c : Core) (its : Stand name cs c) (shard number line : ℕ) (entry : Entry) (next : Next name cs c shard number entry) (by : asked_by entry ≡ Some line) where
   abbrev pub held : HasAsked name c shard (front_of shard c + 1 + 0) line entry
-  held = asked name cs c its shard number entry next line by
+  held = asked name shard number entry c its.orderly its.placed next.low next.leads line by
 
   abbrev pub u : Waiting
   u = held.waiting
@@ -166,7 +166,7 @@ module _ (name : List ℕ → Address) (cs : List Folded) (c : Core) (its : Stan
 
   -- one that is not sure costs no more than its way
   pub unsure_cheap : is_sure (catalogue_of shard c) u.operation.op entry ≡ false → cost next_step ≤ way_left c u
-  unsure_cheap unsure = let way = unsure_way name cs c its shard number entry next line by unsure in let most = cost_most next_step in paid (cost next_step) (way_left c u) most way
+  unsure_cheap unsure = let way = unsure_way name shard number entry c its.orderly its.placed next.low next.leads line by unsure in let most = cost_most next_step in paid (cost next_step) (way_left c u) most way
     where
       paid : (x y : ℕ) → x ≤ 3 → y ≡ 3 → x ≤ y
       paid x y h e = omega (arith, h, e)

@@ -54,7 +54,7 @@ use Rattle.std.proofs.Common.{Ordering, Less, Equal, Greater}
 -- ---- what stands among Gots
 
 -- what stood stands, where one more is logged
-still_none : (gots : GotList) (p q : Place) (told : RoundBody) → is_none (body_at q (insert_entry place_cmp gots p told)) ≡ true → is_none (body_at q gots) ≡ true
+pub still_none : (gots : GotList) (p q : Place) (told : RoundBody) → is_none (body_at q (insert_entry place_cmp gots p told)) ≡ true → is_none (body_at q gots) ≡ true
 still_none [] p q told e = refl
 still_none (x ∷ gots) p q told e = go (place_cmp p x.0) refl (λ k. still_none gots p q told k) e
   where

@@ -1,10 +1,8 @@
 -- A core of a run whose next entry takes effect, and what its operation has asked for.
-use Rattle.std.proofs.Common.{◌≡◌, ◌∙◌, sym, ap, subst, refl, ◌⊎◌, inl, inr, ℕ, zero, suc, ◌+◌, ◌-◌, ◌<◌, ◌≤◌, Bool, false, map, List, [], ◌∷◌, Option, Some, arith, length, slice_get, slice_index, slice_index_or}
+use Rattle.std.proofs.Common.{◌≡◌, ◌∙◌, sym, ap, subst, refl, ◌⊎◌, inl, inr, ℕ, zero, suc, ◌<◌, ◌≤◌, map, List, [], ◌∷◌, Option, Some, arith, length, slice_index, slice_index_or}
 use Rattle.std.proofs.lemmas.List.{length-set}
 use Rattle.std.specs.Option.{option_map_or}
-use Rattle.std.specs.Prelude.{if◌then◌else◌}
-use Rattle.hs_core.specs.declared.wait.Wait.{Wait}
-use Rattle.hs_core.specs.Looking.{catalogue_of, front_of, group_of, shape_of}
+use Rattle.hs_core.specs.Looking.{catalogue_of, group_of, shape_of}
 use Rattle.hs_core.specs.Seeing.{view_for}
 use Rattle.hs_core.specs.State.{Core}
 use Rattle.hs_desk.specs.declared.what.What.{What}
@@ -12,7 +10,7 @@ use Rattle.hs_effects.proofs.EffectLemmas.{committed_named}
 use Rattle.hs_effects.proofs.FoldLemmas.{taken_folds}
 use Rattle.hs_effects.specs.Answered.{HoldAddresses}
 use Rattle.hs_effects.specs.Lawful.{IsLawful, MayFollow}
-use Rattle.hs_effects.specs.Logged.{HasAsked, IsEntryOf, IsOrderly, asked_by}
+use Rattle.hs_effects.specs.Logged.{IsEntryOf, IsOrderly}
 use Rattle.hs_effects.specs.Taking.{done_by, folds_behind, next_deed, setting_of, taken}
 use Rattle.hs_entry.specs.declared.entry.Entry.{Entry}
 use Rattle.hs_entry.specs.declared.entry.Entry.TheVariants as kind
@@ -28,8 +26,7 @@ use Rattle.hs_measure.proofs.DeletionMeasure.{deletion_by, unmoved_from, unmoved
 use Rattle.hs_measure.proofs.DeletionStandLemmas.{ahead_of_all, now_at}
 use Rattle.hs_measure.proofs.LowersGoes.{IsPlaced}
 use Rattle.hs_measure.proofs.LowersSteps.{as_much, cost}
-use Rattle.hs_measure.proofs.LowersTaken.{AreOwned, catalogues_by, first_waits}
-use Rattle.hs_measure.specs.Measure.{is_sure, way_by, way_left}
+use Rattle.hs_measure.proofs.LowersTaken.{AreOwned, catalogues_by}
 use Rattle.hs_memory.specs.Forget.{forget}
 use Rattle.hs_model.specs.declared.op.Op.{Op}
 use Rattle.hs_model.specs.declared.op.Op.TheVariants as op
@@ -139,26 +136,6 @@ module _ (name : List ℕ → Address) (cs : List Folded) (c : Core) (its : Stan
   same_left same last asks =
       as_much (deletion_by last asks (taken shard entry c)) (deletion_by last asks c)
       (unmoved_same c (taken shard entry c) refl (λ k low. unmoved_from (catalogue_of k c) (catalogue_of k (taken shard entry c)) (catalogues_by name shard number entry c its.orderly its.placed next.low next.leads (λ (x : Catalogue). x) same k)) last asks)
-
-  -- ---- the operation that asked for the entry
-
-  module _ (line : ℕ) (by : asked_by entry ≡ Some line) where
-    pub asked : HasAsked name c shard (front_of shard c + 1 + 0) line entry
-    asked = its.orderly.asked shard 0 line entry (first_waits name shard number entry c its.orderly its.placed next.low next.leads) by
-
-    pub way_first : way_left c asked.waiting ≡ (if is_sure (catalogue_of shard c) asked.waiting.operation.op entry then 0 else 3)
-    way_first =
-        ap (λ k. way_by (catalogue_of k c) (group_of k c).front (group_of k c).waiting asked.waiting.operation asked.waiting.wait) asked.judges
-        ∙ ap (λ (x : Wait). way_by (catalogue_of shard c) (group_of shard c).front (group_of shard c).waiting asked.waiting.operation x) asked.waits
-        ∙ ap (λ (o : Option Entry). if option_map_or (is_sure (catalogue_of shard c) asked.waiting.operation.op) o false then 0 else 3)
-        (ap (λ k. slice_get (group_of shard c).waiting k) (none_behind (group_of shard c).front) ∙ first_waits name shard number entry c its.orderly its.placed next.low next.leads)
-      where
-        none_behind : (f : ℕ) → f + 1 + 0 - f - 1 ≡ 0
-        none_behind f = omega arith
-
-    -- what is not sure may cost all
-    pub unsure_way : is_sure (catalogue_of shard c) asked.waiting.operation.op entry ≡ false → way_left c asked.waiting ≡ 3
-    unsure_way unsure = way_first ∙ ap (λ (b : Bool). if b then 0 else 3) unsure
 
 -- ---- what an operation asked for
 

@@ -1,15 +1,18 @@
 -- An entry that an operation asked for takes effect: what its operation does, and what is left where it is answered, whatever is counted.
-use Rattle.std.proofs.Common.{◌≡◌, ◌∙◌, sym, ap, subst, refl, ℕ, suc, ◌+◌, ◌*◌, ◌<◌, ◌≤◌, cond, List, Option, Some, arith, length, sum_by}
+use Rattle.std.proofs.Common.{◌≡◌, ◌∙◌, sym, ap, subst, refl, ℕ, suc, ◌+◌, ◌*◌, ◌<◌, ◌≤◌, cond, List, Option, Some, arith, length, sum_by, ◌-◌, Bool, false, slice_get}
 use Rattle.std.proofs.lemmas.List.{length-set}
+use Rattle.std.specs.Option.{option_map_or}
+use Rattle.std.specs.Prelude.{if◌then◌else◌}
+use Rattle.hs_core.specs.declared.wait.Wait.{Wait}
 use Rattle.hs_core.specs.declared.waiting.Waiting.{Waiting}
 use Rattle.hs_core.specs.Effects.{after_entry}
-use Rattle.hs_core.specs.Looking.{catalogue_of, group_of, operation_of, shape_of}
+use Rattle.hs_core.specs.Looking.{catalogue_of, front_of, group_of, operation_of, shape_of}
 use Rattle.hs_core.specs.Operating.{answer, take_step}
 use Rattle.hs_core.specs.Seeing.{view_for}
 use Rattle.hs_core.specs.State.{Core}
 use Rattle.hs_core.specs.Words.{change_with}
 use Rattle.hs_effects.proofs.RefusedLemmas.{heard_by}
-use Rattle.hs_effects.specs.Logged.{IsOrderly, asked_by}
+use Rattle.hs_effects.specs.Logged.{HasAsked, IsOrderly, asked_by}
 use Rattle.hs_effects.specs.Taking.{done_by, taken}
 use Rattle.hs_entry.specs.declared.entry.Entry.{Entry}
 use Rattle.hs_entry.specs.declared.entry.Entry.TheVariants as kind
@@ -20,8 +23,8 @@ use Rattle.hs_measure.proofs.LowersJudged.{done_suits}
 use Rattle.hs_measure.proofs.LowersParts.{in_lists}
 use Rattle.hs_measure.proofs.LowersSteps.{IsApt, rest}
 use Rattle.hs_measure.proofs.LowersSums.{length_removed, sum_removed}
-use Rattle.hs_measure.proofs.LowersTaken.{AreOwned, lists_taken, rest_bumped, rest_same, taken_order, way_same}
-use Rattle.hs_measure.specs.Measure.{asks_of, way_left, ways_left}
+use Rattle.hs_measure.proofs.LowersTaken.{AreOwned, first_waits, lists_taken, rest_bumped, rest_same, taken_order, way_same}
+use Rattle.hs_measure.specs.Measure.{asks_of, is_sure, way_by, way_left, ways_left}
 use Rattle.hs_model.specs.declared.reply.Reply.{Reply}
 use Rattle.hs_ops.specs.declared.step.OpStep.{OpStep}
 use Rattle.hs_ops.specs.declared.step.OpStep.TheVariants as step
@@ -63,6 +66,25 @@ other_line l line e = let same : line ≡ l = cc e in sym same
 module _ (name : List ℕ → Address) (shard number : ℕ) (entry : Entry) (c : Core) (its : IsOrderly name c) (placed : IsPlaced c) (low : shard < (shape_of c).shards) (leads : committed (group_of shard c) ≡ Some (number, entry)) where
   pub placed_taken : IsPlaced (taken shard entry c)
   placed_taken = record { groups = length-set c.groups shard (take_committed (group_of shard c)) ∙ placed.groups; catalogues = length-set c.catalogues shard (done_by shard entry c).catalogue ∙ placed.catalogues; some = placed.some }
+
+  -- the operation that asked for it, and its way
+  module _ (line : ℕ) (by : asked_by entry ≡ Some line) where
+    pub asked : HasAsked name c shard (front_of shard c + 1 + 0) line entry
+    asked = its.asked shard 0 line entry (first_waits name shard number entry c its placed low leads) by
+
+    way_first : way_left c asked.waiting ≡ (if is_sure (catalogue_of shard c) asked.waiting.operation.op entry then 0 else 3)
+    way_first =
+        ap (λ k. way_by (catalogue_of k c) (group_of k c).front (group_of k c).waiting asked.waiting.operation asked.waiting.wait) asked.judges
+        ∙ ap (λ (x : Wait). way_by (catalogue_of shard c) (group_of shard c).front (group_of shard c).waiting asked.waiting.operation x) asked.waits
+        ∙ ap (λ (o : Option Entry). if option_map_or (is_sure (catalogue_of shard c) asked.waiting.operation.op) o false then 0 else 3)
+        (ap (λ k. slice_get (group_of shard c).waiting k) (none_behind (group_of shard c).front) ∙ first_waits name shard number entry c its placed low leads)
+      where
+        none_behind : (f : ℕ) → f + 1 + 0 - f - 1 ≡ 0
+        none_behind f = omega arith
+
+    -- what is not sure may cost all
+    pub unsure_way : is_sure (catalogue_of shard c) asked.waiting.operation.op entry ≡ false → way_left c asked.waiting ≡ 3
+    unsure_way unsure = way_first ∙ ap (λ (b : Bool). if b then 0 else 3) unsure
 
   module _ (owned : AreOwned c) (line : ℕ) (by : asked_by entry ≡ Some line) (u : Waiting) (at : operation_of line c ≡ Some u) where
     apart : (l : ℕ) → (l ≡ line → ⊥) → asked_by entry ≡ Some l → ⊥
