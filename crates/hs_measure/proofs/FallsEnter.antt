@@ -13,8 +13,9 @@ use Rattle.hs_limits.specs.declared.address.Address.{Address}
 use Rattle.hs_limits.specs.declared.limits.TheConstants.{LAST_EPOCH}
 use Rattle.hs_measure.proofs.FoundCore.{most_in}
 use Rattle.hs_measure.proofs.FoundEntries.{enters_fewer}
-use Rattle.hs_measure.proofs.FallsClient.{held, next_step, refused_cheap, step_is, unsure_cheap}
 use Rattle.hs_measure.proofs.FallsCounts.{sweeps_le, sweeps_less}
+use Rattle.hs_measure.proofs.FallsClient.{comes}
+use Rattle.hs_measure.proofs.LowersAsked.{held, next_step, refused_cheap, step_is, unsure_cheap}
 use Rattle.hs_measure.proofs.LowersCounts.{product_falls, product_less}
 use Rattle.hs_measure.proofs.FallsEffect.{answered_counts, kept_counts}
 use Rattle.hs_measure.proofs.FallsSlots.{news_most}
@@ -73,15 +74,15 @@ module _ (rounds : ℕ) (name : List ℕ → Address) (c : Core) (its : Stand ro
 
     module _ (by : asked_by (kind.Enter line epoch) ≡ Some line) where
       abbrev h : HasAsked name c shard (front_of shard c + 1 + 0) line (kind.Enter line epoch)
-      h = held rounds name c its shard number line entry next by
+      h = held name c shard number line entry (comes rounds name c its shard number entry next) by
 
-      cheap : cost (next_step rounds name c its shard number line entry next by) ≤ way_left c h.waiting
+      cheap : cost (next_step name c shard number line entry (comes rounds name c its shard number entry next) by) ≤ way_left c h.waiting
       cheap = by_sure (epoch == (catalogue_of shard c).epoch + 1) refl
         where
-          by_sure : (b : Bool) → (epoch == (catalogue_of shard c).epoch + 1) ≡ b → cost (next_step rounds name c its shard number line entry next by) ≤ way_left c h.waiting
-          by_sure true e = refused_cheap rounds name c its shard number line entry next by (ap (λ (x : Applied). x.effect.what) (is_refused c shard line epoch refused))
+          by_sure : (b : Bool) → (epoch == (catalogue_of shard c).epoch + 1) ≡ b → cost (next_step name c shard number line entry (comes rounds name c its shard number entry next) by) ≤ way_left c h.waiting
+          by_sure true e = refused_cheap name c shard number line entry (comes rounds name c its shard number entry next) by (ap (λ (x : Applied). x.effect.what) (is_refused c shard line epoch refused))
               (never name shard number line epoch c its.orderly its.placed next.low next.leads refused after h e)
-          by_sure false e = unsure_cheap rounds name c its shard number line entry next by e
+          by_sure false e = unsure_cheap name c shard number line entry (comes rounds name c its shard number entry next) by e
 
       refused_asked : reports_most rounds (told_at_once shard (kind.Enter line epoch) c) ≤ reports_most rounds c
       refused_asked =
@@ -112,11 +113,11 @@ module _ (rounds : ℕ) (name : List ℕ → Address) (c : Core) (its : Stand ro
     -- a client's
     entered_asked : asked_by (kind.Enter line epoch) ≡ Some line → reports_most rounds (told_at_once shard (kind.Enter line epoch) c) ≤ reports_most rounds c
     entered_asked by =
-        answered_counts rounds name shard number entry c its.orderly its.placed next.low next.leads its.owned line by h.waiting h.at (reply.Run epoch) (step_is rounds name c its shard number line entry next by (what.Entered epoch) (reply.Run epoch) (did_enter shard line epoch c may) refl) swept_after
+        answered_counts rounds name shard number entry c its.orderly its.placed next.low next.leads its.owned line by h.waiting h.at (reply.Run epoch) (step_is name c shard number line entry (comes rounds name c its shard number entry next) by (what.Entered epoch) (reply.Run epoch) (did_enter shard line epoch c may) refl) swept_after
         (heavy_entered (slots_of c) (slots_of (taken shard entry c)) (dues_of c) (dues_of (taken shard entry c)) (factor * rounds_left rounds c) (factor * rounds_left rounds (taken shard entry c)) (shape_of c).shards news_more (dues_more name shard number line epoch c its.orderly its.placed next.low next.leads) factor_then)
       where
         h : HasAsked name c shard (front_of shard c + 1 + 0) line (kind.Enter line epoch)
-        h = held rounds name c its shard number line entry next by
+        h = held name c shard number line entry (comes rounds name c its shard number entry next) by
 
     -- its shard's
     module _ (none : asked_by (kind.Enter line epoch) ≡ None) where

@@ -57,9 +57,11 @@ pub mod LimitLemmas
 pub mod LineLemmas
 pub mod ListLemmas
 pub mod LowLemmas
+pub mod LowersAsked
 pub mod LowersBeside
 pub mod LowersBytes
 pub mod LowersClient
+pub mod LowersClients
 pub mod LowersCounts
 pub mod LowersDue
 pub mod LowersEffect

@@ -11,12 +11,13 @@ use Rattle.hs_entry.specs.declared.entry.Entry.{Entry}
 use Rattle.hs_entry.specs.declared.entry.Entry.TheVariants as kind
 use Rattle.hs_fold.specs.Runs.Facts.{Catalogue as Folded}
 use Rattle.hs_limits.specs.declared.address.Address.{Address}
+use Rattle.hs_measure.proofs.LowersAsked.{held, next_step, refused_cheap, step_is, unsure_cheap}
 use Rattle.hs_measure.proofs.LowersEntered.{all_swept, asks_drop, asks_first, did_enter, dues_more, next_one, stays_or_sweeps, told_enter, ways_other}
 use Rattle.hs_measure.proofs.LowersSwept.{swept_low}
 use Rattle.hs_measure.proofs.DeletionMeasure.{deletion_by, deletion_rises}
 use Rattle.hs_measure.proofs.DeletionMoves.{HasEntered, enter_moves}
 use Rattle.hs_measure.proofs.DeletionStandLemmas.{NoneMoved, ahead_of_all}
-use Rattle.hs_measure.proofs.LowersClient.{apart_bools, both_le, held, next_step, refused_cheap, step_is, unsure_cheap}
+use Rattle.hs_measure.proofs.LowersClient.{apart_bools, both_le, comes}
 use Rattle.hs_measure.proofs.LowersCounts.{product_falls, product_less, sweeps_le}
 use Rattle.hs_measure.proofs.LowersEffect.{answered_counts, kept_counts}
 use Rattle.hs_measure.proofs.LowersParts.{news_most}
@@ -82,15 +83,15 @@ module _ (name : List ℕ → Address) (cs : List Folded) (c : Core) (its : Stan
 
     module _ (by : asked_by (kind.Enter line epoch) ≡ Some line) where
       abbrev h : HasAsked name c shard (front_of shard c + 1 + 0) line (kind.Enter line epoch)
-      h = held name cs c its shard number line entry next by
+      h = held name c shard number line entry (comes name cs c its shard number entry next) by
 
-      cheap : cost (next_step name cs c its shard number line entry next by) ≤ way_left c h.waiting
+      cheap : cost (next_step name c shard number line entry (comes name cs c its shard number entry next) by) ≤ way_left c h.waiting
       cheap = by_sure (epoch == (catalogue_of shard c).epoch + 1) refl
         where
-          by_sure : (b : Bool) → (epoch == (catalogue_of shard c).epoch + 1) ≡ b → cost (next_step name cs c its shard number line entry next by) ≤ way_left c h.waiting
-          by_sure true e = refused_cheap name cs c its shard number line entry next by (ap (λ (x : Applied). x.effect.what) (is_refused c shard line epoch refused))
+          by_sure : (b : Bool) → (epoch == (catalogue_of shard c).epoch + 1) ≡ b → cost (next_step name c shard number line entry (comes name cs c its shard number entry next) by) ≤ way_left c h.waiting
+          by_sure true e = refused_cheap name c shard number line entry (comes name cs c its shard number entry next) by (ap (λ (x : Applied). x.effect.what) (is_refused c shard line epoch refused))
               (never name shard number line epoch c its.orderly its.placed next.low next.leads refused after h e)
-          by_sure false e = unsure_cheap name cs c its shard number line entry next by e
+          by_sure false e = unsure_cheap name c shard number line entry (comes name cs c its shard number entry next) by e
 
       refused_asked : reports_left (told_at_once shard (kind.Enter line epoch) c) ≤ reports_left c
       refused_asked =
@@ -123,12 +124,12 @@ module _ (name : List ℕ → Address) (cs : List Folded) (c : Core) (its : Stan
     -- a client's
     entered_asked : asked_by (kind.Enter line epoch) ≡ Some line → reports_left (told_at_once shard (kind.Enter line epoch) c) ≤ reports_left c
     entered_asked by =
-        answered_counts name shard number entry c its.orderly its.placed next.low next.leads its.owned line by h.waiting h.at (reply.Run epoch) (step_is name cs c its shard number line entry next by (what.Entered epoch) (reply.Run epoch) (did_enter shard line epoch c may) refl) first_more swept_then
+        answered_counts name shard number entry c its.orderly its.placed next.low next.leads its.owned line by h.waiting h.at (reply.Run epoch) (step_is name c shard number line entry (comes name cs c its shard number entry next) by (what.Entered epoch) (reply.Run epoch) (did_enter shard line epoch c may) refl) first_more swept_then
         (λ last asks within le few. heavy_entered (news_of c) (news_of (taken shard entry c)) (dues_of c) (dues_of (taken shard entry c)) (factor * deletion_left c) (factor * deletion_by last asks (taken shard entry c)) (shape_of c).shards news_more (dues_more name shard number line epoch c its.orderly its.placed next.low next.leads)
         (factor_then last asks within le (fewer asks (asks_of c) few)))
       where
         h : HasAsked name c shard (front_of shard c + 1 + 0) line (kind.Enter line epoch)
-        h = held name cs c its shard number line entry next by
+        h = held name c shard number line entry (comes name cs c its shard number entry next) by
 
         fewer : (x y : ℕ) → x + 1 ≤ y → x ≤ y
         fewer x y k = omega (arith, k)
