@@ -1,27 +1,24 @@
 -- What an entry that is proposed adds to what is counted at most.
-use Rattle.std.proofs.Common.{[], ◌≡◌, ◌∙◌, sym, ap, subst, inl, inr, refl, ℕ, ◌+◌, ◌*◌, ◌≤◌, ◌<◌, ◌==◌, ◌&&◌, ◌||◌, Bool, true, false, cond, not, List, ◌∷◌, ◌++◌, Option, Some, None, arith, count_by, is_none, is_some, length, sum_by}
+use Rattle.std.proofs.Common.{[], ◌≡◌, ◌∙◌, sym, ap, subst, inl, inr, refl, ℕ, ◌+◌, ◌*◌, ◌≤◌, ◌<◌, ◌==◌, ◌&&◌, ◌||◌, Bool, true, false, cond, List, ◌∷◌, ◌++◌, Option, Some, None, arith, count_by, length, sum_by}
 use Rattle.std.proofs.lemmas.Bool.{and_parts, eqb-true}
-use Rattle.std.specs.List.{list_any}
 use Rattle.std.specs.Option.{option_map_or}
-use Rattle.std.specs.Prelude.{if◌then◌else◌}
-use Rattle.hs_core.specs.Delivering.{is_got, is_new_round}
-use Rattle.hs_core.specs.Entering.{enters, has_begun, is_enter_due}
-use Rattle.hs_core.specs.Looking.{catalogue_of, group_of, operation_of, shape_of, shards_of}
+use Rattle.hs_core.specs.Delivering.{is_new_round}
+use Rattle.hs_core.specs.Entering.{is_enter_due}
+use Rattle.hs_core.specs.Looking.{catalogue_of, shape_of, shards_of}
 use Rattle.hs_core.specs.Operating.{propose_entry}
 use Rattle.hs_core.specs.State.{Core}
 use Rattle.hs_entry.specs.declared.entry.Entry.{Entry}
 use Rattle.hs_entry.specs.declared.entry.Entry.TheVariants as kind
 use Rattle.hs_events.specs.Alone.{AreAlone, face}
 use Rattle.hs_limits.specs.declared.delta.Delta.{Delta}
-use Rattle.hs_measure.proofs.ListLemmas.{any_push, counts_le, counts_less, range_fewer, range_le, range_less}
+use Rattle.hs_measure.proofs.ListLemmas.{counts_le, counts_less, range_le, range_less}
 use Rattle.hs_measure.specs.Finite.{due_rounds, reports_most, rounds_left, slot_at, slots_of, sweeps_to_come}
 use Rattle.hs_measure.specs.Measure.{asks_of, dues_of, gots_of, is_any_got, is_left_over, jobs_of, ways_left}
 use Rattle.hs_model.proofs.Members.{Member}
 use Rattle.hs_rounds.specs.declared.place.Place.{Place as Row}
-use Rattle.hs_rounds.specs.Rounds.{body}
 use Rattle.hs_shard.specs.Facts.{Catalogue}
 use Rattle.hs_shard.specs.Rounds.{is_due}
-use Rattle.hs_measure.proofs.ProposedLemmas.{asks_same, due_still, dues_le, gots_more, jobs_more, new_still, old_now, proposed_is, same_true, total, total_le, waits_there, ways_le, with_entry}
+use Rattle.hs_measure.proofs.ProposedLemmas.{asks_same, dues_fall, dues_le, gots_more, jobs_more, new_no_more, new_still, proposed_is, total, total_le, unasked, ways_le, with_entry}
 
 module _ (s : ℕ) (entry : Entry) (c : Core) (alone : AreAlone (face c)) (low : s < (shape_of c).shards) where
   pub new_of_le : (from to : ℕ) → count_by (slot_at from to (with_entry s entry c)) (due_rounds from (catalogue_of to c)) ≤ count_by (slot_at from to c) (due_rounds from (catalogue_of to c))
@@ -55,30 +52,12 @@ module _ (rounds s : ℕ) (entry : Entry) (c : Core) (alone : AreAlone (face c))
 -- ---- a due Enter
 
 module _ (rounds s : ℕ) (c : Core) (alone : AreAlone (face c)) (low : s < (shape_of c).shards) (due : is_enter_due s c ≡ true) where
-  due_no_more : is_enter_due s (with_entry s (kind.Enter 0 ((catalogue_of s c).epoch + 1)) c) ≡ false
-  due_no_more =
-      ap (λ (es : List Entry). (not (s == 0) && (catalogue_of s c).swept == (catalogue_of s c).epoch) && (has_begun ((catalogue_of s c).epoch + 1) (catalogue_of s c).run && not (list_any (enters ((catalogue_of s c).epoch + 1)) es)))
-      (waits_there s (kind.Enter 0 ((catalogue_of s c).epoch + 1)) c alone low)
-      ∙ ap (λ b. (not (s == 0) && (catalogue_of s c).swept == (catalogue_of s c).epoch) && (has_begun ((catalogue_of s c).epoch + 1) (catalogue_of s c).run && not b))
-      (any_push (enters ((catalogue_of s c).epoch + 1)) (group_of s c).waiting (kind.Enter 0 ((catalogue_of s c).epoch + 1)))
-      ∙ old_now (not (s == 0) && (catalogue_of s c).swept == (catalogue_of s c).epoch) (has_begun ((catalogue_of s c).epoch + 1) (catalogue_of s c).run) (list_any (enters ((catalogue_of s c).epoch + 1)) (group_of s c).waiting)
-      ((catalogue_of s c).epoch + 1 == (catalogue_of s c).epoch + 1) (same_true ((catalogue_of s c).epoch + 1))
-
-  -- no line asked for it
-  unasked : is_left_over s c (kind.Enter 0 ((catalogue_of s c).epoch + 1)) ≡ false
-  unasked =
-      let a = and_parts (not (s == 0) && (catalogue_of s c).swept == (catalogue_of s c).epoch) (has_begun ((catalogue_of s c).epoch + 1) (catalogue_of s c).run && not (list_any (enters ((catalogue_of s c).epoch + 1)) (group_of s c).waiting)) due in
-      let b = and_parts (not (s == 0)) ((catalogue_of s c).swept == (catalogue_of s c).epoch) a.0 in
-      ap (λ (x : Bool). option_map_or (λ (line : ℕ). not (is_some (operation_of line c))) (if 0 == 0 && x then None else Some 0) false) b.0
-
   -- it is due no more, which pays for its jobs
   pub due_le : reports_most rounds (propose_entry s (kind.Enter 0 ((catalogue_of s c).epoch + 1)) c) ≤ reports_most rounds c
   due_le =
-      let fewer : dues_of (with_entry s (kind.Enter 0 ((catalogue_of s c).epoch + 1)) c) + 1 ≤ dues_of c =
-      range_fewer (λ k. is_enter_due k (with_entry s (kind.Enter 0 ((catalogue_of s c).epoch + 1)) c)) (λ k. is_enter_due k c) 0 (shape_of c).shards s (omega arith) (omega (arith, low))
-      (λ k l u h. due_still s (kind.Enter 0 ((catalogue_of s c).epoch + 1)) c alone low k h) due_no_more due in
+      let fewer = dues_fall s c alone low due in
       let news = news_le s (kind.Enter 0 ((catalogue_of s c).epoch + 1)) c alone low in
-      proposed_le rounds s (kind.Enter 0 ((catalogue_of s c).epoch + 1)) c alone low unasked (omega (arith, fewer, news))
+      proposed_le rounds s (kind.Enter 0 ((catalogue_of s c).epoch + 1)) c alone low (unasked s c alone low due) (omega (arith, fewer, news))
 
 -- ---- a new Round
 
@@ -112,18 +91,9 @@ module _ (rounds from to total_told : ℕ) (deltas : List Delta) (kept : Row) (c
   abbrev got : Entry
   got = kind.Got from kept.epoch kept.round total_told deltas
 
-  new_no_more : is_new_round to from kept.epoch kept.round (with_entry to got c) ≡ false
-  new_no_more =
-      ap (λ (es : List Entry). is_due (record { epoch = kept.epoch; round = kept.round; from = from }) (catalogue_of to c) && (is_none (body from kept.epoch kept.round (catalogue_of to c).run) && not (list_any (is_got from kept.epoch kept.round) es)))
-      (waits_there to got c alone low)
-      ∙ ap (λ b. is_due (record { epoch = kept.epoch; round = kept.round; from = from }) (catalogue_of to c) && (is_none (body from kept.epoch kept.round (catalogue_of to c).run) && not b))
-      (any_push (is_got from kept.epoch kept.round) (group_of to c).waiting got)
-      ∙ old_now (is_due (record { epoch = kept.epoch; round = kept.round; from = from }) (catalogue_of to c)) (is_none (body from kept.epoch kept.round (catalogue_of to c).run))
-      (list_any (is_got from kept.epoch kept.round) (group_of to c).waiting) (from == from && (kept.epoch == kept.epoch && kept.round == kept.round)) (λ i. same_true from i && (same_true kept.epoch i && same_true kept.round i))
-
   fewer_there : count_by (slot_at from to (with_entry to got c)) (due_rounds from (catalogue_of to c)) + 1 ≤ count_by (slot_at from to c) (due_rounds from (catalogue_of to c))
   fewer_there =
-      let less = counts_less (slot_at from to (with_entry to got c)) (slot_at from to c) (due_rounds from (catalogue_of to c)) kept (λ row h. new_still to got c alone low to from row.epoch row.round h) among new_no_more new in
+      let less = counts_less (slot_at from to (with_entry to got c)) (slot_at from to c) (due_rounds from (catalogue_of to c)) kept (λ row h. new_still to got c alone low to from row.epoch row.round h) among (new_no_more from to kept.epoch kept.round total_told deltas c alone low) new in
       omega (arith, less)
 
   fewer_from : sum_by (λ k. count_by (slot_at from k (with_entry to got c)) (due_rounds from (catalogue_of k c))) (shards_of c) + 1 ≤ sum_by (λ k. count_by (slot_at from k c) (due_rounds from (catalogue_of k c))) (shards_of c)

@@ -2,7 +2,7 @@
 use Rattle.std.proofs.Common.{◌≡◌, ◌∙◌, sym, ap, subst, refl, ◌⊎◌, inl, inr, ℕ, ◌+◌, ◌<◌, ◌≤◌, Bool, true, false, List, Option, Some, None, arith, drop, is_some}
 use Rattle.std.proofs.lemmas.List.{length-set}
 use Rattle.std.specs.Option.{option_map, option_map_or}
-use Rattle.hs_standing.proofs.BesideLemmas.{beside_begun, beside_both, beside_group, beside_tasks}
+use Rattle.hs_standing.proofs.BesideLemmas.{beside_both, beside_group}
 use Rattle.hs_standing.specs.Changes.{IsBeside}
 use Rattle.hs_standing.specs.Walks.{IsReadFor, MayReport}
 use Rattle.hs_core.specs.Changing.{change_group, set_tasks}
@@ -37,17 +37,15 @@ use Rattle.hs_measure.proofs.DueLemmas.{alike_ended}
 use Rattle.hs_measure.proofs.FallsBeside.{beside_fewer, stand_beside}
 use Rattle.hs_measure.proofs.FallsBytes.{told_counts}
 use Rattle.hs_measure.proofs.LowersGoes.{IsPlaced}
-use Rattle.hs_measure.proofs.LowersReport.{less_then, read_is, reading_is, report_is, same_le, task_first}
+use Rattle.hs_measure.proofs.LowersReport.{jobs_fewer, less_then, read_is, reading_is, report_is, same_le, taken_beside}
 use Rattle.hs_measure.proofs.LowersSealed.{sealed_is}
 use Rattle.hs_measure.proofs.FallsStand.{Stand}
-use Rattle.hs_measure.proofs.LowersSums.{lists_taken}
 use Rattle.hs_measure.proofs.FallsTake.{take_counts}
 use Rattle.hs_measure.proofs.LowersTaken.{AreOwned}
 use Rattle.hs_measure.specs.Finite.{reports_most}
-use Rattle.hs_measure.specs.Measure.{jobs_of}
 use Rattle.hs_measure.specs.Opens.{IsToldThere}
 use Rattle.hs_moments.proofs.AloneEventLemmas.{Falls, alone_begun, begun, ends, one_lost, step_is}
-use Rattle.hs_moments.proofs.AloneReportLemmas.{AreSettled, answered_within, first_here, is_answered, reports}
+use Rattle.hs_moments.proofs.AloneReportLemmas.{AreSettled, answered_within, is_answered, reports}
 use Rattle.hs_ops.specs.Operations.{bytes_step}
 use Rattle.hs_replica.specs.Group.{committed, on_sealed}
 
@@ -98,16 +96,10 @@ module _ (rounds : ℕ) (name : List ℕ → Address) (c : Whole) (moving : IsMo
     x = set_tasks p (drop 1 (tasks_of p first)) first
 
     beside_x : IsBeside c.core x
-    beside_x = beside_both core first x (beside_begun (event.Report p d) at core) (beside_tasks p behind first)
-
-    fewer : jobs_of x + 1 ≤ jobs_of c.core
-    fewer = at_most (jobs_of x) (jobs_of core) (lists_taken core.tasks p task behind (task_first (tasks_of p first) task (sym (first_here first p alone p_low) ∙ is)))
-      where
-        at_most : (m n : ℕ) → m + 1 ≡ n → m + 1 ≤ n
-        at_most m n e = omega (arith, e)
+    beside_x = taken_beside p d at core alone p_low task is
 
     x_fewer : reports_most rounds x + 1 ≤ reports_most rounds c.core
-    x_fewer = beside_fewer rounds core x beside_x fewer
+    x_fewer = beside_fewer rounds core x beside_x (jobs_fewer p d at core alone p_low task is)
 
     x_placed : IsPlaced x
     x_placed = record { groups = placed.groups; catalogues = placed.catalogues; some = placed.some }
@@ -152,7 +144,7 @@ module _ (rounds : ℕ) (name : List ℕ → Address) (c : Whole) (moving : IsMo
         beside_y = beside_both core x y beside_x (beside_group p (on_sealed p number) x refl refl)
 
         y_fewer : reports_most rounds (change_group p (on_sealed p number) x) + 1 ≤ reports_most rounds c.core
-        y_fewer = beside_fewer rounds core y beside_y fewer
+        y_fewer = beside_fewer rounds core y beside_y (jobs_fewer p d at core alone p_low task is)
 
         y_placed : IsPlaced (change_group p (on_sealed p number) x)
         y_placed = record { groups = length-set first.groups p (on_sealed p number (group_of p x)) ∙ placed.groups; catalogues = placed.catalogues; some = placed.some }

@@ -1,5 +1,5 @@
 -- Bytes that a report tells: a write whose block is there compares them, and all else costs no more than it did.
-use Rattle.std.proofs.Common.{◌≡◌, ◌∙◌, sym, ap, subst, refl, ℕ, ◌+◌, ◌<◌, ◌≤◌, false, List, Option, Some, None, arith, is_none}
+use Rattle.std.proofs.Common.{◌≡◌, ◌∙◌, sym, ap, subst, refl, ℕ, ◌+◌, ◌<◌, ◌≤◌, false, List, Option, Some, None, arith, is_none, length}
 use Rattle.std.proofs.lemmas.Map.Made.{lookup-map_values}
 use Rattle.std.specs.BTreeMap.{is_at}
 use Rattle.std.specs.Option.{option_map}
@@ -49,6 +49,40 @@ some_bytes block bytes has = ap (λ (o : Option (List ℕ)). is_none o) has.0
 paid_back : (x way y c : ℕ) → x + way ≤ y + c → c ≤ way → x ≤ y
 paid_back x way y c h k = omega (arith, h, k)
 
+module _ (name : List ℕ → Address) (count : Core → ℕ) (c : Core) (orderly : IsOrderly name c) (placed : IsPlaced c) (line number : ℕ) (bytes : Option (List ℕ)) (u : Waiting) (at : operation_of line c ≡ Some u)
+    (pays : (s : OpStep) → IsOrderly name (take_step line u s c) → IsApt c u s → u.shard < length c.groups → count (take_step line u s c) + way_left c u ≤ count c + cost s) where
+  -- it costs no more than it did to wait for them, of any count in which a step pays
+  pub told_pays : u.wait ≡ wait.Bytes number → IsToldTo (view_for u.shard u.operation.op c) (wanted_number u.operation.stage) bytes u.operation.op → count (go_on_with (λ v o. bytes_step v bytes (pointers_for u.shard u.operation.op c) o) line c) ≤ count c
+  told_pays waits told = subst (λ (x : Core). count x ≤ count c) (sym is) (paid_back (count (take_step line u s c)) (way_left c u) (count c) (cost s) paid cheap)
+    where
+      pointers : List Address
+      pointers = pointers_for u.shard u.operation.op c
+
+      s : OpStep
+      s = bytes_step (view_for u.shard u.operation.op c) bytes (pointers_for u.shard u.operation.op c) u.operation
+
+      is : go_on_with (λ v o. bytes_step v bytes (pointers_for u.shard u.operation.op c) o) line c ≡ take_step line u (bytes_step (view_for u.shard u.operation.op c) bytes (pointers_for u.shard u.operation.op c) u.operation) c
+      is = ap (λ (o : Option Waiting). change_with o (λ w. take_step line w (bytes_step (view_for w.shard w.operation.op c) bytes (pointers_for u.shard u.operation.op c) w.operation)) c) at
+
+      order : IsOrderly name (take_step line u (bytes_step (view_for u.shard u.operation.op c) bytes (pointers_for u.shard u.operation.op c) u.operation) c)
+      order = subst (λ (x : Core). IsOrderly name x) is (orderly_told name c orderly line number bytes u at waits)
+
+      apt : IsApt c u (bytes_step (view_for u.shard u.operation.op c) bytes (pointers_for u.shard u.operation.op c) u.operation)
+      apt = told_suits (catalogue_of u.shard c) (view_for u.shard u.operation.op c) u.operation (counted_line name c orderly placed line u at) (shows_here name c orderly placed line u at) bytes pointers
+
+      paid : count (take_step line u (bytes_step (view_for u.shard u.operation.op c) bytes (pointers_for u.shard u.operation.op c) u.operation) c) + way_left c u
+          ≤ count c + cost (bytes_step (view_for u.shard u.operation.op c) bytes (pointers_for u.shard u.operation.op c) u.operation)
+      paid = pays s order apt (shard_low name c orderly placed line u at)
+
+      way : way_left c u ≡ (if is_there_for (catalogue_of u.shard c) (wanted_number u.operation.stage) u.operation.op then 2 else 3)
+      way = ap (λ (x : Wait). way_by (catalogue_of u.shard c) (group_of u.shard c).front (group_of u.shard c).waiting u.operation x) waits
+
+      cheap : cost (bytes_step (view_for u.shard u.operation.op c) bytes (pointers_for u.shard u.operation.op c) u.operation) ≤ way_left c u
+      cheap =
+          subst (λ n. cost (bytes_step (view_for u.shard u.operation.op c) bytes (pointers_for u.shard u.operation.op c) u.operation) ≤ n) (sym way)
+          (told_costs (catalogue_of u.shard c) (view_for u.shard u.operation.op c) u.operation bytes pointers (shows_here name c orderly placed line u at)
+          told)
+
 module _ (name : List ℕ → Address) (cs : List Folded) (c : Core) (orderly : IsOrderly name c) (placed : IsPlaced c) (lawful : IsLawful name c cs) (line number : ℕ) (bytes : Option (List ℕ)) (u : Waiting) (at : operation_of line c ≡ Some u) where
   -- a block that the shard's catalogue has, the plain store has
   told_by : (a : Address) (n : ℕ) → shard_of (shape_of c).shards a ≡ u.shard → option_map (λ (f : Facts). f.number) (facts_at a (catalogue_of u.shard c)) ≡ Some n → HasBytes (block_at (store_with cs c.sessions) a) bytes → is_none bytes ≡ false
@@ -87,32 +121,6 @@ module _ (name : List ℕ → Address) (cs : List Folded) (c : Core) (orderly : 
 
   -- it costs no more than it did to wait for them
   pub told_counts : u.wait ≡ wait.Bytes number → AreOfBlock (store_with cs c.sessions) c bytes u u.operation.op → reports_left (go_on_with (λ v o. bytes_step v bytes (pointers_for u.shard u.operation.op c) o) line c) ≤ reports_left c
-  told_counts waits true_bytes = subst (λ (x : Core). reports_left x ≤ reports_left c) (sym is) (paid_back (reports_left (take_step line u s c)) (way_left c u) (reports_left c) (cost s) paid cheap)
-    where
-      pointers : List Address
-      pointers = pointers_for u.shard u.operation.op c
-
-      s : OpStep
-      s = bytes_step (view_for u.shard u.operation.op c) bytes (pointers_for u.shard u.operation.op c) u.operation
-
-      is : go_on_with (λ v o. bytes_step v bytes (pointers_for u.shard u.operation.op c) o) line c ≡ take_step line u (bytes_step (view_for u.shard u.operation.op c) bytes (pointers_for u.shard u.operation.op c) u.operation) c
-      is = ap (λ (o : Option Waiting). change_with o (λ w. take_step line w (bytes_step (view_for w.shard w.operation.op c) bytes (pointers_for u.shard u.operation.op c) w.operation)) c) at
-
-      order : IsOrderly name (take_step line u (bytes_step (view_for u.shard u.operation.op c) bytes (pointers_for u.shard u.operation.op c) u.operation) c)
-      order = subst (λ (x : Core). IsOrderly name x) is (orderly_told name c orderly line number bytes u at waits)
-
-      apt : IsApt c u (bytes_step (view_for u.shard u.operation.op c) bytes (pointers_for u.shard u.operation.op c) u.operation)
-      apt = told_suits (catalogue_of u.shard c) (view_for u.shard u.operation.op c) u.operation (counted_line name c orderly placed line u at) (shows_here name c orderly placed line u at) bytes pointers
-
-      paid : reports_left (take_step line u (bytes_step (view_for u.shard u.operation.op c) bytes (pointers_for u.shard u.operation.op c) u.operation) c) + way_left c u
-          ≤ reports_left c + cost (bytes_step (view_for u.shard u.operation.op c) bytes (pointers_for u.shard u.operation.op c) u.operation)
-      paid = stepped name c orderly line u at s order apt (shard_low name c orderly placed line u at)
-
-      way : way_left c u ≡ (if is_there_for (catalogue_of u.shard c) (wanted_number u.operation.stage) u.operation.op then 2 else 3)
-      way = ap (λ (x : Wait). way_by (catalogue_of u.shard c) (group_of u.shard c).front (group_of u.shard c).waiting u.operation x) waits
-
-      cheap : cost (bytes_step (view_for u.shard u.operation.op c) bytes (pointers_for u.shard u.operation.op c) u.operation) ≤ way_left c u
-      cheap =
-          subst (λ n. cost (bytes_step (view_for u.shard u.operation.op c) bytes (pointers_for u.shard u.operation.op c) u.operation) ≤ n) (sym way)
-          (told_costs (catalogue_of u.shard c) (view_for u.shard u.operation.op c) u.operation bytes pointers (shows_here name c orderly placed line u at)
-          (is_told u.operation.op (orderly.pending line u at).judges (λ session payload handles address e. e) true_bytes))
+  told_counts waits true_bytes =
+      told_pays name reports_left c orderly placed line number bytes u at (λ s order apt low. stepped name c orderly line u at s order apt low) waits
+      (is_told u.operation.op (orderly.pending line u at).judges (λ session payload handles address e. e) true_bytes)

@@ -106,6 +106,22 @@ takes p d task core = core ▸ set_tasks p (drop 1 (tasks_of p core)) ▸ take_r
 pub report_is : (p : ℕ) (d : Done) (c : Core) (task : Task) → first_task p c ≡ Some task → answers p task.job d ≡ true → on_report p d c ≡ take_report p task.line d (set_tasks p (drop 1 (tasks_of p c)) c)
 report_is p d c task e f = ap (λ o. change_with o (λ task. change_if (answers p task.job d) (takes p d task)) c) e ∙ ap (λ b. change_if b (takes p d task) c) f
 
+-- the job is taken out
+module _ (p : ℕ) (d : Done) (at : ℕ) (core : Core) (alone : AreAlone (face (begun (event.Report p d) at core))) (low : p < (begun (event.Report p d) at core).members.shape.shards) (task : Task) (is : first_task p core ≡ Some task) where
+  abbrev opening : Core
+  opening = begun (event.Report p d) at core
+
+  pub taken_beside : IsBeside core (set_tasks p (drop 1 (tasks_of p (begun (event.Report p d) at core))) (begun (event.Report p d) at core))
+  taken_beside = beside_both core opening (set_tasks p (drop 1 (tasks_of p opening)) opening) (beside_begun (event.Report p d) at core) (beside_tasks p (drop 1 (tasks_of p opening)) opening)
+
+  pub jobs_fewer : jobs_of (set_tasks p (drop 1 (tasks_of p (begun (event.Report p d) at core))) (begun (event.Report p d) at core)) + 1 ≤ jobs_of core
+  jobs_fewer =
+      at_most (jobs_of (set_tasks p (drop 1 (tasks_of p opening)) opening)) (jobs_of core)
+      (lists_taken core.tasks p task (drop 1 (tasks_of p opening)) (task_first (tasks_of p opening) task (sym (first_here opening p alone low) ∙ is)))
+    where
+      at_most : (m n : ℕ) → m + 1 ≡ n → m + 1 ≤ n
+      at_most m n e = omega (arith, e)
+
 module _ (start : Start) (c : Whole) (run : IsRunning start c) (moving : IsMoving start.set.name c) (bounded : IsBounded c.core) (p : ℕ) (d : Done) (at : ℕ) (fits : is_answered p d c.core ≡ true) where
   abbrev name : List ℕ → Address
   name = start.set.name
@@ -171,16 +187,10 @@ module _ (start : Start) (c : Whole) (run : IsRunning start c) (moving : IsMovin
     x = set_tasks p (drop 1 (tasks_of p first)) first
 
     beside_x : IsBeside c.core x
-    beside_x = beside_both core first x (beside_begun (event.Report p d) at core) (beside_tasks p behind first)
-
-    fewer : jobs_of x + 1 ≤ jobs_of c.core
-    fewer = at_most (jobs_of x) (jobs_of core) (lists_taken core.tasks p task behind (task_first (tasks_of p first) task (sym (first_here first p alone p_low) ∙ is)))
-      where
-        at_most : (m n : ℕ) → m + 1 ≡ n → m + 1 ≤ n
-        at_most m n e = omega (arith, e)
+    beside_x = taken_beside p d at core alone p_low task is
 
     x_fewer : reports_left x + 1 ≤ reports_left c.core
-    x_fewer = beside_fewer core x beside_x fewer
+    x_fewer = beside_fewer core x beside_x (jobs_fewer p d at core alone p_low task is)
 
     x_placed : IsPlaced x
     x_placed = record { groups = placed.groups; catalogues = placed.catalogues; some = placed.some }
@@ -223,7 +233,7 @@ module _ (start : Start) (c : Whole) (run : IsRunning start c) (moving : IsMovin
         beside_y = beside_both core x y beside_x (beside_group p (on_sealed p number) x refl refl)
 
         y_fewer : reports_left (change_group p (on_sealed p number) x) + 1 ≤ reports_left c.core
-        y_fewer = beside_fewer core y beside_y fewer
+        y_fewer = beside_fewer core y beside_y (jobs_fewer p d at core alone p_low task is)
 
         y_placed : IsPlaced (change_group p (on_sealed p number) x)
         y_placed = record { groups = length-set first.groups p (on_sealed p number (group_of p x)) ∙ placed.groups; catalogues = placed.catalogues; some = placed.some }

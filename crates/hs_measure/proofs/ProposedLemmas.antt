@@ -247,40 +247,47 @@ module _ (s : ℕ) (c : Core) (alone : AreAlone (face c)) (low : s < (shape_of c
       ((catalogue_of s c).epoch + 1 == (catalogue_of s c).epoch + 1) (same_true ((catalogue_of s c).epoch + 1))
 
   -- no line asked for it
-  unasked : is_left_over s c (kind.Enter 0 ((catalogue_of s c).epoch + 1)) ≡ false
+  pub unasked : is_left_over s c (kind.Enter 0 ((catalogue_of s c).epoch + 1)) ≡ false
   unasked =
       let a = and_parts (not (s == 0) && (catalogue_of s c).swept == (catalogue_of s c).epoch) (has_begun ((catalogue_of s c).epoch + 1) (catalogue_of s c).run && not (list_any (enters ((catalogue_of s c).epoch + 1)) (group_of s c).waiting)) due in
       let b = and_parts (not (s == 0)) ((catalogue_of s c).swept == (catalogue_of s c).epoch) a.0 in
       ap (λ (x : Bool). option_map_or (λ (line : ℕ). not (is_some (operation_of line c))) (if 0 == 0 && x then None else Some 0) false) b.0
 
+  pub dues_fall : dues_of (with_entry s (kind.Enter 0 ((catalogue_of s c).epoch + 1)) c) + 1 ≤ dues_of c
+  dues_fall =
+      range_fewer (λ k. is_enter_due k (with_entry s (kind.Enter 0 ((catalogue_of s c).epoch + 1)) c)) (λ k. is_enter_due k c) 0 (shape_of c).shards s (omega arith) (omega (arith, low))
+      (λ k l u h. due_still s (kind.Enter 0 ((catalogue_of s c).epoch + 1)) c alone low k h) due_no_more due
+
   -- it is due no more, which pays for its jobs
   pub due_le : reports_left (propose_entry s (kind.Enter 0 ((catalogue_of s c).epoch + 1)) c) ≤ reports_left c
   due_le =
-      let fewer : dues_of (with_entry s (kind.Enter 0 ((catalogue_of s c).epoch + 1)) c) + 1 ≤ dues_of c =
-      range_fewer (λ k. is_enter_due k (with_entry s (kind.Enter 0 ((catalogue_of s c).epoch + 1)) c)) (λ k. is_enter_due k c) 0 (shape_of c).shards s (omega arith) (omega (arith, low))
-      (λ k l u h. due_still s (kind.Enter 0 ((catalogue_of s c).epoch + 1)) c alone low k h) due_no_more due in
+      let fewer = dues_fall in
       let news = news_le s (kind.Enter 0 ((catalogue_of s c).epoch + 1)) c alone low in
       proposed_le s (kind.Enter 0 ((catalogue_of s c).epoch + 1)) c alone low unasked (omega (arith, fewer, news))
 
 -- ---- a new Round
+
+module _ (from to epoch round told : ℕ) (deltas : List Delta) (c : Core) (alone : AreAlone (face c)) (low : to < (shape_of c).shards) where
+  abbrev asked : Entry
+  asked = kind.Got from epoch round told deltas
+
+  pub new_no_more : is_new_round to from epoch round (with_entry to (kind.Got from epoch round told deltas) c) ≡ false
+  new_no_more =
+      ap (λ (es : List Entry). is_due (record { epoch = epoch; round = round; from = from }) (catalogue_of to c) && (is_none (body from epoch round (catalogue_of to c).run) && not (list_any (is_got from epoch round) es)))
+      (waits_there to asked c alone low)
+      ∙ ap (λ b. is_due (record { epoch = epoch; round = round; from = from }) (catalogue_of to c) && (is_none (body from epoch round (catalogue_of to c).run) && not b))
+      (any_push (is_got from epoch round) (group_of to c).waiting asked)
+      ∙ old_now (is_due (record { epoch = epoch; round = round; from = from }) (catalogue_of to c)) (is_none (body from epoch round (catalogue_of to c).run))
+      (list_any (is_got from epoch round) (group_of to c).waiting) (from == from && (epoch == epoch && round == round)) (λ i. same_true from i && (same_true epoch i && same_true round i))
 
 module _ (from to total_told : ℕ) (deltas : List Delta) (kept : SentRound) (c : Core) (alone : AreAlone (face c)) (from_low : from < (shape_of c).shards) (low : to < (shape_of c).shards)
     (among : Member kept (catalogue_of from c).run.sent) (new : is_new_round to from kept.epoch kept.round c ≡ true) where
   abbrev got : Entry
   got = kind.Got from kept.epoch kept.round total_told deltas
 
-  new_no_more : is_new_round to from kept.epoch kept.round (with_entry to got c) ≡ false
-  new_no_more =
-      ap (λ (es : List Entry). is_due (record { epoch = kept.epoch; round = kept.round; from = from }) (catalogue_of to c) && (is_none (body from kept.epoch kept.round (catalogue_of to c).run) && not (list_any (is_got from kept.epoch kept.round) es)))
-      (waits_there to got c alone low)
-      ∙ ap (λ b. is_due (record { epoch = kept.epoch; round = kept.round; from = from }) (catalogue_of to c) && (is_none (body from kept.epoch kept.round (catalogue_of to c).run) && not b))
-      (any_push (is_got from kept.epoch kept.round) (group_of to c).waiting got)
-      ∙ old_now (is_due (record { epoch = kept.epoch; round = kept.round; from = from }) (catalogue_of to c)) (is_none (body from kept.epoch kept.round (catalogue_of to c).run))
-      (list_any (is_got from kept.epoch kept.round) (group_of to c).waiting) (from == from && (kept.epoch == kept.epoch && kept.round == kept.round)) (λ i. same_true from i && (same_true kept.epoch i && same_true kept.round i))
-
   fewer_there : count_by (new_at from to (with_entry to got c)) (catalogue_of from c).run.sent + 1 ≤ count_by (new_at from to c) (catalogue_of from c).run.sent
   fewer_there =
-      let less = counts_less (new_at from to (with_entry to got c)) (new_at from to c) (catalogue_of from c).run.sent kept (λ sent h. new_still to got c alone low to from sent.epoch sent.round h) among new_no_more new in
+      let less = counts_less (new_at from to (with_entry to got c)) (new_at from to c) (catalogue_of from c).run.sent kept (λ sent h. new_still to got c alone low to from sent.epoch sent.round h) among (new_no_more from to kept.epoch kept.round total_told deltas c alone low) new in
       omega (arith, less)
 
   fewer_from : sum_by (λ k. count_by (new_at from k (with_entry to got c)) (catalogue_of from c).run.sent) (shards_of c) + 1 ≤ sum_by (λ k. count_by (new_at from k c) (catalogue_of from c).run.sent) (shards_of c)
