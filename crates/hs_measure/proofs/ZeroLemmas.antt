@@ -215,50 +215,12 @@ zeros_behind set history shape fits few =
     let all = history_goes set (shape_some set.shape shape) (shape_few set.shape shape) history fits few in
     zeros_of set (shape_some set.shape shape) (follow_all set (no_entries set) history) all.later all.standing
 
-fit_front : (set : Setting) (cs : List Folded) (front later : List Deed) → FitAll set cs (front ++ later) → FitAll set cs front
-fit_front set cs [] later f = tt
-fit_front set cs (d ∷ front) later f = (f.0, f.1, fit_front set (follow set cs d) front later f.2)
-
-few_front : (set : Setting) (cs : List Folded) (front later : List Deed) → KeepFewRecords set cs (front ++ later) → KeepFewRecords set cs front
-few_front set cs [] later f = tt
-few_front set cs (d ∷ front) later f = (f.0, few_front set (follow set cs d) front later f.1)
-
-fit_back : (set : Setting) (cs : List Folded) (front later : List Deed) → FitAll set cs (front ++ later) → FitAll set (follow_all set cs front) later
-fit_back set cs [] later f = f
-fit_back set cs (d ∷ front) later f = fit_back set (follow set cs d) front later f.2
-
-few_back : (set : Setting) (cs : List Folded) (front later : List Deed) → KeepFewRecords set cs (front ++ later) → KeepFewRecords set (follow_all set cs front) later
-few_back set cs [] later f = f
-few_back set cs (d ∷ front) later f = few_back set (follow set cs d) front later f.1
-
 zeros_now : (set : Setting) (cs : List Folded) → IsShape set.shape → AreOfHistory set cs → AreZerosRight set cs
 zeros_now set cs shape its = subst (λ (ds : List Folded). AreZerosRight set ds) its.gives (zeros_behind set its.history shape its.fits its.records)
-
-module _ (set : Setting) (cs : List Folded) (shape : IsShape set.shape) (its : AreOfHistory set cs) where
-  abbrev behind : List Deed → List Folded
-  behind front = follow_all set (no_entries set) front
-
-  fits : (front later : List Deed) → front ++ later ≡ its.history → FitAll set (no_entries set) (front ++ later)
-  fits front later parted = subst (λ (ds : List Deed). FitAll set (no_entries set) ds) (sym parted) its.fits
-
-  few : (front later : List Deed) → front ++ later ≡ its.history → KeepFewRecords set (no_entries set) (front ++ later)
-  few front later parted = subst (λ (ds : List Deed). KeepFewRecords set (no_entries set) ds) (sym parted) its.records
-
-  zeros_along : (front later : List Deed) → front ++ later ≡ its.history → AreZerosRight set (behind front)
-  zeros_along front later parted =
-      zeros_behind set front shape (fit_front set (no_entries set) front later (fits front later parted)) (few_front set (no_entries set) front later (few front later parted))
-
-  zeros_swept : (front later : List Deed) (deed : Deed) → front ++ deed ∷ later ≡ its.history → happening_by set (behind front) deed ≡ Some (sweeps deed.shard) → EachUnreachedIsZero (behind front) deed.shard
-  zeros_swept front later deed parted e =
-      let fit = fit_back set (no_entries set) front (deed ∷ later) (fits front (deed ∷ later) parted) in
-      let room = few_back set (no_entries set) front (deed ∷ later) (few front (deed ∷ later) parted) in
-      (zeros_along front (deed ∷ later) parted).exact_zero deed (record { of = fit.0; rests = fit.1; records = room.0 }) e
 
 pub zeros_right : (name : List ℕ → Address) (core : Core) (cs : List Folded) → IsLawful name core cs → ZerosRight name core
 zeros_right name core cs its = record {
   folds = cs;
   lawful = its;
   now = zeros_now (setting_of name core) cs its.folded.valid its.lawful;
-  along = λ front later parted. zeros_along (setting_of name core) cs its.folded.valid its.lawful front later parted;
-  swept = λ front later deed parted e. zeros_swept (setting_of name core) cs its.folded.valid its.lawful front later deed parted e;
 }

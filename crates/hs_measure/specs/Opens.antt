@@ -42,7 +42,7 @@ IsOfLowEpoch (kind.KeptRoot created dropped counted a key) = Unit {0}
 IsOfLowEpoch (kind.KeptRound way other epoch round total deltas) = Unit {0}
 
 -- each shard has one copy, whose list is from 1 on, of entries whose epochs a disk may give; the core goes on, within limits that a run may have; blocks are named by addresses
--- of 32 bytes, and such are all that the lists have. Nothing is asked of what the lists say
+-- of 32 bytes, and such are all that the lists have. No shard has too many root records. Nothing else is asked of what the lists say
 pub record OpensReadable (set : Setting) (found : Found) : Type 0 where
   pub shape : IsShape set.shape
   pub limits : IsLimits set.limits

@@ -32,15 +32,8 @@ pub record AreZerosRight (set : Setting) (cs : List Folded) : Type 0 where
   pub no_wrong_zero : NoReachedIsZero cs
   pub exact_zero : (deed : Deed) → MayFollow set cs deed → happening_by set cs deed ≡ Some (sweeps deed.shard) → EachUnreachedIsZero cs deed.shard
 
--- the catalogues of all shards behind some entries, as the shards of a core are set up
-abbrev pub catalogues_behind : (List ℕ → Address) → Core → List Deed → List Folded
-catalogues_behind name core entries = follow_all (setting_of name core) (no_entries (setting_of name core)) entries
-
--- so it is of a core, whose catalogues are those of a lawful history of entries: as they are now, and as they were behind each front of it; and each entry of it by which a shard swept found each
+-- so it is of a core, whose catalogues are those of a lawful history of entries
 pub record ZerosRight (name : List ℕ → Address) (core : Core) : Type 0 where
   pub folds : List Folded
   pub lawful : IsLawful name core folds
   pub now : AreZerosRight (setting_of name core) folds
-  pub along : (front later : List Deed) → front ++ later ≡ lawful.lawful.history → AreZerosRight (setting_of name core) (catalogues_behind name core front)
-  pub swept : (front later : List Deed) (deed : Deed) → front ++ deed ∷ later ≡ lawful.lawful.history
-      → happening_by (setting_of name core) (catalogues_behind name core front) deed ≡ Some (sweeps deed.shard) → EachUnreachedIsZero (catalogues_behind name core front) deed.shard

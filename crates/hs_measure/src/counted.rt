@@ -12,7 +12,8 @@ use hs_ports::Disk;
 
 /// Of a run that is the machine's, as `hydra` says of the words that it serves: over disks that tell
 /// their contents, whatever lists they have, sound or not, the count of each disk rose by all failed
-/// calls that its reports tell, those of reads too, and by those before the core was opened.
+/// calls that its reports tell, those of reads too, and by its loss before the core was opened, where
+/// its log was the taken one.
 pub fn reads_that_fail_are_counted<A: Addresser, D: Disk>()
     ensures { (naming : A) (wanted : Wanted) (commands : ℕ → Option Command) (r : Ran)
         → (machine : IsOfCluster D.tells (script_of (A.name naming) wanted commands) r)

@@ -15,7 +15,7 @@ use hs_ports::Disk;
 /// their contents, and are sound at entry, each core of it, behind each front of its events, keeps what
 /// is promised of answers, deletion and completeness, where the core goes on behind its opening. So its
 /// counts and zero blocks are right at each moment: as the plain store says what anchors reach, no zero
-/// block is a wrong one, and each block that is out of reach at a last round is one.
+/// block is a wrong one, and at a last round each older block of its shard that is out of reach is one.
 pub fn each_core_of_the_machines_run_keeps_the_promise<A: Addresser, D: Disk>()
     ensures { (naming : A) (wanted : Wanted) (commands : ℕ → Option Command) (r : Ran)
         → (machine : IsOfCluster D.tells (script_of (A.name naming) wanted commands) r)

@@ -13,9 +13,9 @@ ghost use Rattle.hs_measure.specs.Zeros.{AreZerosRight, ZerosRight};
 
 /// Behind a lawful history of entries (`behind`), and so of a core whose catalogues are those of one
 /// (`of_core`): a present block that the anchors of its shard's epoch reach, in the plain store that
-/// the catalogues are, was given in that epoch or is no zero block; and where a Got completes the last
-/// round of a run, each block of its shard that was born before the epoch and that these anchors don't
-/// reach is a zero block, and was last given before it.
+/// the catalogues are, was given in that epoch or is no zero block; and where a Got that may come next
+/// completes the last round of a run, each block of its shard that was born before the epoch and that
+/// these anchors don't reach is a zero block, and was last given before it.
 pub fn zero_blocks_are_right()
     ensures behind { (set : Setting) (history : List Deed)
         → IsShape set.shape → FitAll set (no_entries set) history
