@@ -1,5 +1,5 @@
 -- Zero blocks behind a lawful history, in the words of the plain store: what it reaches the machine of deletion reaches, and a Got by which a shard sweeps completes the last row there.
-use Rattle.std.proofs.Common.{◌≡◌, ◌∙◌, ◌⊎◌, inl, inr, sym, ap, subst, refl, ℕ, zero, suc, ◌+◌, ◌<◌, ◌&&◌, ◌||◌, ◌++◌, Bool, true, false, cond, List, [], ◌∷◌, length, Option, Some, None, nat_lt, arith}
+use Rattle.std.proofs.Common.{◌≡◌, ◌∙◌, ◌⊎◌, inl, inr, sym, ap, subst, refl, ℕ, zero, suc, ◌+◌, ◌<◌, ◌&&◌, ◌||◌, Bool, true, false, cond, List, [], ◌∷◌, length, Option, Some, None, nat_lt, arith}
 use Rattle.std.proofs.lemmas.Bool.{and_parts, ltb-true}
 use Rattle.std.proofs.lemmas.Grind.{common_steps}
 use Rattle.hs_core.specs.State.{Core}
@@ -21,7 +21,7 @@ use Rattle.hs_fold.specs.Lawful.{Deed}
 use Rattle.hs_fold.specs.Runs.Facts.{Facts, Catalogue as Folded, plain}
 use Rattle.hs_fold.specs.Runs.Fits.{HasSent, catalogue_at}
 use Rattle.hs_fold.specs.Runs.Happening.{ends_run}
-use Rattle.hs_fold.specs.Runs.History.{FitAll, follow, follow_all, no_entries}
+use Rattle.hs_fold.specs.Runs.History.{FitAll, follow_all, no_entries}
 use Rattle.hs_fold.specs.Runs.Opened.{store_of}
 use Rattle.hs_fold.specs.Runs.Rounds.{end_round, ends_last, is_accepted, is_complete, is_last, log_got, may_enter}
 use Rattle.hs_fold.specs.Shards.Happening.{Happening, enters, sweeps}

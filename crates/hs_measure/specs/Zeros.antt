@@ -1,12 +1,11 @@
 -- Which blocks of a core are zero blocks, in the words of the plain store: of the store that its catalogues are, and what the anchors of a run reach there.
-use Rattle.std.specs.Prelude.{◌≡◌, ◌⊎◌, ◌++◌, ◌<◌, ◌∷◌, ℕ, true, false, Contains, List, Some}
+use Rattle.std.specs.Prelude.{◌≡◌, ◌⊎◌, ◌<◌, ℕ, true, false, Contains, List, Some}
 use Rattle.hs_core.specs.State.{Core}
 use Rattle.hs_effects.specs.Lawful.{IsLawful, MayFollow}
 use Rattle.hs_effects.specs.Taking.{setting_of}
 use Rattle.hs_fold.specs.Lawful.{Deed}
 use Rattle.hs_fold.specs.Runs.Facts.{Facts, Catalogue as Folded}
 use Rattle.hs_fold.specs.Runs.Fits.{catalogue_at}
-use Rattle.hs_fold.specs.Runs.History.{follow_all, no_entries}
 use Rattle.hs_fold.specs.Runs.Opened.{store_of}
 use Rattle.hs_fold.specs.Shards.Happening.{sweeps}
 use Rattle.hs_fold.specs.Shards.Setting.{Setting}
