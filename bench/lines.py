@@ -1,7 +1,7 @@
 #!/usr/bin/env python3
 """Measures a built hydra at 1,000 and at 16,000 blocks: the processor time of a line, its instructions, and opening.
 
-Of several rounds the least time counts. The folder lies on a file system in memory, so that the disk takes no part. It
+Of several rounds the least time is told, and the median. The folder lies on a file system in memory, so that the disk takes no part. It
 makes and removes folders of its own.
 """
 import argparse
@@ -9,6 +9,7 @@ import os
 import re
 import resource
 import shutil
+import statistics
 import subprocess
 import sys
 import tempfile
@@ -115,22 +116,30 @@ def instructions(program, folder, shards, lines):
     return int(COUNTED.search(told).group(1).replace(",", ""))
 
 
+def ratio(name, few, many):
+    return f"{name} {few * 1e6:.1f} us and {many * 1e6:.1f} us, {many / few:.2f} of it"
+
+
 def line(program, top, shards, rounds, counts):
     most, run_in = 0, os.path.join(top, "run")
     for blocks in (FEW, MANY):
         run(words(program, os.path.join(top, f"stored{blocks}"), shards), stored(blocks))
     for name, before, make in KINDS:
-        times, numbers = [], []
-        for blocks in (FEW, MANY):
-            planted, first, lines = os.path.join(top, f"stored{blocks}"), before(blocks), make(blocks)
-            runs = [timed(words(program, copied(planted, run_in), shards), first, lines) for _ in range(rounds)]
-            times.append(min(seconds for seconds, _ in runs) / PART)
-            most = max(most, *(peak for _, peak in runs))
-            if counts:
-                without, whole = (instructions(program, copied(planted, run_in), shards, part) for part in (first, first + lines))
-                numbers.append((whole - without) / PART)
-        told = f"{times[0] * 1e6:.1f} us and {times[1] * 1e6:.1f} us, {times[1] / times[0]:.2f} of it"
+        times, numbers = {FEW: [], MANY: []}, []
+        # A round has one run of each store, so that what slows the machine for a while slows both.
+        for _ in range(rounds):
+            for blocks, seen in times.items():
+                planted = os.path.join(top, f"stored{blocks}")
+                seconds, peak = timed(words(program, copied(planted, run_in), shards), before(blocks), make(blocks))
+                seen.append(seconds / PART)
+                most = max(most, peak)
+        told = ratio("the least", *(min(seen) for seen in times.values())) + "; " \
+            + ratio("the median", *(statistics.median(seen) for seen in times.values()))
         if counts:
+            for blocks in times:
+                planted, first = os.path.join(top, f"stored{blocks}"), before(blocks)
+                without, whole = (instructions(program, copied(planted, run_in), shards, part) for part in (first, first + make(blocks)))
+                numbers.append((whole - without) / PART)
             told += f"; {numbers[0]:,.0f} and {numbers[1]:,.0f} instructions, {numbers[1] / numbers[0]:.2f} of it"
         print(f"{name} at {FEW} and at {MANY} blocks: {told}", flush=True)
     print(f"greatest memory of a run: {most / 1024:.0f} MiB")
@@ -162,7 +171,7 @@ def main():
     asked.add_argument("--program", default=os.path.join(here, "..", "crates", "hydra", "out", "hydra"))
     asked.add_argument("--memory", default="/dev/shm", help="a folder in memory")
     asked.add_argument("--shards", type=int, default=1)
-    asked.add_argument("--rounds", type=int, default=5)
+    asked.add_argument("--rounds", type=int, default=25)
     asked = asked.parse_args()
     program = os.path.abspath(asked.program)
     if not os.access(program, os.X_OK):
