@@ -9,39 +9,7 @@ use Rattle.hs_model.specs.declared.reply.Reply.TheVariants as reply
 -- the peer that a reply tells to be down, with the line of the last event that had one: 0 in opening
 abbrev pub down_in : Reply → Option (ℕ × ℕ)
 down_in (reply.Down peer line) = Some (peer, line)
-down_in reply.Ok = None
-down_in (reply.New handle epoch) = None
-down_in (reply.Dup handle epoch) = None
-down_in (reply.Bytes bytes handles) = None
-down_in (reply.Held handle epoch) = None
-down_in (reply.Name address) = None
-down_in (reply.Stat blocks roots sessions epochs swept) = None
-down_in (reply.Run epoch) = None
-down_in (reply.Enter epoch) = None
-down_in (reply.Sweep epoch removed) = None
-down_in (reply.Done epoch) = None
-down_in (reply.Visits epoch count) = None
-down_in (reply.NoSession session) = None
-down_in (reply.SessionTaken session) = None
-down_in (reply.SessionsFull limit) = None
-down_in (reply.Busy line) = None
-down_in (reply.TooLong found) = None
-down_in (reply.TooMany found) = None
-down_in (reply.NoHandle handle) = None
-down_in (reply.HandlesFull limit) = None
-down_in (reply.Stale handle held now) = None
-down_in reply.Collision = None
-down_in (reply.ShardFull limit) = None
-down_in (reply.KeyTaken key) = None
-down_in (reply.NoKey key) = None
-down_in (reply.RootsFull limit) = None
-down_in (reply.Running epoch) = None
-down_in (reply.EpochEnd limit) = None
-down_in (reply.NoPeer peer) = None
-down_in (reply.NotUp peer) = None
-down_in (reply.NotDown peer) = None
-down_in (reply.NoMessage message) = None
-down_in (reply.PoolFull limit) = None
+down_in other = None
 
 -- whether an entry tells that a peer is down, and whether it tells so before any line had an event
 abbrev pub is_note : ℕ → JournalEntry → Bool

@@ -48,10 +48,10 @@ IsPrompt (Some (op.Name name handle)) = Unit {0}
 IsPrompt (Some op.Stat) = Unit {0}
 IsPrompt other = ⊥
 
--- a line of a session, below line k, has no entry before place i
-pub record IsWaiting (commands : ℕ → Option Command) (entries : List JournalEntry) (i k : ℕ) (session : List ℕ) (line : ℕ) : Type 0 where
+-- a line below line k, of its session, has no entry before place i
+pub record IsWaiting (commands : ℕ → Option Command) (entries : List JournalEntry) (i k line : ℕ) : Type 0 where
   pub earlier : line < k
-  pub same_session : session_of (client_op (commands line)) ≡ Some session
+  pub same_session : session_of (client_op (commands line)) ≡ session_of (client_op (commands k))
   pub unanswered : (j : ℕ) → j < i → IsOfLine entries j line → ⊥
 
 pub record IsOrdered (commands : ℕ → Option Command) (entries : List JournalEntry) : Type 0 where
@@ -61,13 +61,13 @@ pub record IsOrdered (commands : ℕ → Option Command) (entries : List Journal
   pub once : (i j n : ℕ) → IsOfLine entries i n → IsOfLine entries j n → i ≡ j
   -- beside an entry of a session's line, at most one earlier line of the session is without its answer
   pub alone : (i k : ℕ) (session : List ℕ) → IsOfLine entries i k → session_of (client_op (commands k)) ≡ Some session → (IsOpen (client_op (commands k)) → ⊥)
-      → (l m : ℕ) → IsWaiting commands entries i k session l → IsWaiting commands entries i k session m → l ≡ m
+      → (l m : ℕ) → IsWaiting commands entries i k l → IsWaiting commands entries i k m → l ≡ m
   -- where there is one, the line is refused as busy with it
   pub busy : (i k : ℕ) (session : List ℕ) (entry : JournalEntry) → IsAt entries i entry → entry.who ≡ who.Line k → session_of (client_op (commands k)) ≡ Some session → (IsOpen (client_op (commands k)) → ⊥)
-      → (l : ℕ) → IsWaiting commands entries i k session l → entry.reply ≡ reply.Busy l
+      → (l : ℕ) → IsWaiting commands entries i k l → entry.reply ≡ reply.Busy l
   -- and no line is refused as busy with anything else
   pub only_busy : (i k l : ℕ) (entry : JournalEntry) → IsAt entries i entry → entry.who ≡ who.Line k → entry.reply ≡ reply.Busy l
-      → (session : List ℕ) × (session_of (client_op (commands k)) ≡ Some session) × (IsOpen (client_op (commands k)) → ⊥) × IsWaiting commands entries i k session l
+      → (session : List ℕ) × (session_of (client_op (commands k)) ≡ Some session) × (IsOpen (client_op (commands k)) → ⊥) × IsWaiting commands entries i k l
   -- a line that is answered in its own event has its entry before those of all later lines
   pub prompt : (i j k n : ℕ) → IsOfLine entries i k → IsPrompt (client_op (commands k)) → IsOfLine entries j n → k < n → i < j
   -- so has one that is refused as busy

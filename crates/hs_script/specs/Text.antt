@@ -38,6 +38,40 @@ shard_text (who.Shard g) = decimal g
 shard_text (who.Line n) = decimal 0
 shard_text who.Store = decimal 0
 
+-- what the store has, and the epochs of its shards
+abbrev pub stat_text : ℕ → ℕ → ℕ → List ℕ → List ℕ → List ℕ
+stat_text blocks roots sessions epochs swept =
+    codes "stat blocks " ++ (decimal blocks ++ (codes " roots " ++ (decimal roots ++ (codes " sessions " ++ (decimal sessions ++ (codes " epochs " ++ (list_text epochs ++ (codes " swept " ++ list_text swept))))))))
+
+-- why a root, a deletion, or a command that is no client's was refused; any other reply is no refusal
+abbrev pub other_refusal_text : Reply → List ℕ
+other_refusal_text (reply.KeyTaken key) = codes "no keytaken " ++ key
+other_refusal_text (reply.NoKey key) = codes "no key " ++ key
+other_refusal_text (reply.RootsFull limit) = codes "no rootsfull " ++ decimal limit
+other_refusal_text (reply.Running epoch) = codes "no running e" ++ decimal epoch
+other_refusal_text (reply.EpochEnd limit) = codes "no epochend " ++ decimal limit
+other_refusal_text (reply.NoPeer peer) = codes "no peer " ++ decimal peer
+other_refusal_text (reply.NotUp peer) = codes "no notup " ++ decimal peer
+other_refusal_text (reply.NotDown peer) = codes "no notdown " ++ decimal peer
+other_refusal_text (reply.NoMessage message) = codes "no message " ++ decimal message
+other_refusal_text (reply.PoolFull limit) = codes "no poolfull " ++ decimal limit
+other_refusal_text answer = []
+
+-- why a command was refused, first what sessions and blocks refuse
+abbrev pub refusal_text : Reply → List ℕ
+refusal_text (reply.NoSession session) = codes "no session " ++ session
+refusal_text (reply.SessionTaken session) = codes "no taken " ++ session
+refusal_text (reply.SessionsFull limit) = codes "no sessionsfull " ++ decimal limit
+refusal_text (reply.Busy line) = codes "no busy " ++ decimal line
+refusal_text (reply.TooLong found) = codes "no toolong " ++ decimal found
+refusal_text (reply.TooMany found) = codes "no toomany " ++ decimal found
+refusal_text (reply.NoHandle handle) = codes "no handle h" ++ decimal handle
+refusal_text (reply.HandlesFull limit) = codes "no handlesfull " ++ decimal limit
+refusal_text (reply.Stale handle held now) = codes "no stale h" ++ (decimal handle ++ (codes " e" ++ (decimal held ++ (codes " e" ++ decimal now))))
+refusal_text reply.Collision = codes "no collision"
+refusal_text (reply.ShardFull limit) = codes "no shardfull " ++ decimal limit
+refusal_text other = other_refusal_text other
+
 -- the text of a reply; an enter and a sweep name the shard that the entry is about
 abbrev pub reply_text : Who → Reply → List ℕ
 reply_text w reply.Ok = codes "ok"
@@ -46,35 +80,14 @@ reply_text w (reply.Dup handle epoch) = codes "dup " ++ held_text handle epoch
 reply_text w (reply.Bytes bytes handles) = codes "bytes " ++ (data_text bytes ++ handles_text handles)
 reply_text w (reply.Held handle epoch) = codes "held " ++ held_text handle epoch
 reply_text w (reply.Name address) = codes "name " ++ encode_lower address.0
-reply_text w (reply.Stat blocks roots sessions epochs swept) =
-    codes "stat blocks " ++ (decimal blocks ++ (codes " roots " ++ (decimal roots ++ (codes " sessions " ++ (decimal sessions ++ (codes " epochs " ++ (list_text epochs ++ (codes " swept " ++ list_text swept))))))))
+reply_text w (reply.Stat blocks roots sessions epochs swept) = stat_text blocks roots sessions epochs swept
 reply_text w (reply.Run epoch) = codes "run e" ++ decimal epoch
 reply_text w (reply.Enter epoch) = codes "enter " ++ (shard_text w ++ (codes " e" ++ decimal epoch))
 reply_text w (reply.Sweep epoch removed) = codes "sweep " ++ (shard_text w ++ (codes " e" ++ (decimal epoch ++ (codes " " ++ decimal removed))))
 reply_text w (reply.Done epoch) = codes "done e" ++ decimal epoch
 reply_text w (reply.Down peer line) = codes "down " ++ decimal peer
 reply_text w (reply.Visits epoch count) = codes "visits e" ++ (decimal epoch ++ (codes " " ++ decimal count))
-reply_text w (reply.NoSession session) = codes "no session " ++ session
-reply_text w (reply.SessionTaken session) = codes "no taken " ++ session
-reply_text w (reply.SessionsFull limit) = codes "no sessionsfull " ++ decimal limit
-reply_text w (reply.Busy line) = codes "no busy " ++ decimal line
-reply_text w (reply.TooLong found) = codes "no toolong " ++ decimal found
-reply_text w (reply.TooMany found) = codes "no toomany " ++ decimal found
-reply_text w (reply.NoHandle handle) = codes "no handle h" ++ decimal handle
-reply_text w (reply.HandlesFull limit) = codes "no handlesfull " ++ decimal limit
-reply_text w (reply.Stale handle held now) = codes "no stale h" ++ (decimal handle ++ (codes " e" ++ (decimal held ++ (codes " e" ++ decimal now))))
-reply_text w reply.Collision = codes "no collision"
-reply_text w (reply.ShardFull limit) = codes "no shardfull " ++ decimal limit
-reply_text w (reply.KeyTaken key) = codes "no keytaken " ++ key
-reply_text w (reply.NoKey key) = codes "no key " ++ key
-reply_text w (reply.RootsFull limit) = codes "no rootsfull " ++ decimal limit
-reply_text w (reply.Running epoch) = codes "no running e" ++ decimal epoch
-reply_text w (reply.EpochEnd limit) = codes "no epochend " ++ decimal limit
-reply_text w (reply.NoPeer peer) = codes "no peer " ++ decimal peer
-reply_text w (reply.NotUp peer) = codes "no notup " ++ decimal peer
-reply_text w (reply.NotDown peer) = codes "no notdown " ++ decimal peer
-reply_text w (reply.NoMessage message) = codes "no message " ++ decimal message
-reply_text w (reply.PoolFull limit) = codes "no poolfull " ++ decimal limit
+reply_text w refusal = refusal_text refusal
 
 -- the line of an entry
 unfoldable pub entry_text : JournalEntry → List ℕ

@@ -42,11 +42,11 @@ module _ (commands : ℕ → Option Command) (nobody : client_op (commands 0) �
   some_command zero h = absurd (cc h)
   some_command (suc n) h = h
 
-  waits : (i k : ℕ) (session : List ℕ) (l : ℕ) → IsWaiting commands entries i k session l → IsWaiting (mute commands) entries i k session l
-  waits i k session l w = record { earlier = w.earlier; same_session = session_is l ∙ w.same_session; unanswered = w.unanswered }
+  waits : (i k l : ℕ) → IsWaiting commands entries i k l → IsWaiting (mute commands) entries i k l
+  waits i k l w = record { earlier = w.earlier; same_session = session_is l ∙ w.same_session ∙ sym (session_is k); unanswered = w.unanswered }
 
-  waits_too : (i k : ℕ) (session : List ℕ) (l : ℕ) → IsWaiting (mute commands) entries i k session l → IsWaiting commands entries i k session l
-  waits_too i k session l w = record { earlier = w.earlier; same_session = sym (session_is l) ∙ w.same_session; unanswered = w.unanswered }
+  waits_too : (i k l : ℕ) → IsWaiting (mute commands) entries i k l → IsWaiting commands entries i k l
+  waits_too i k l w = record { earlier = w.earlier; same_session = sym (session_is l) ∙ w.same_session ∙ session_is k; unanswered = w.unanswered }
 
   opens : (n : ℕ) → IsOpen (client_op (mute commands n)) → IsOpen (client_op (commands n))
   opens n h = subst (λ (o : Option Op). IsOpen o) (same n) h
@@ -58,11 +58,11 @@ module _ (commands : ℕ → Option Command) (nobody : client_op (commands 0) �
   in_order h = record {
     named = λ i n a. some_command n (h.named i n a);
     once = h.once;
-    alone = λ i k session a of differs l m x y. h.alone i k session a (session_is k ∙ of) (λ o. differs (opens k o)) l m (waits i k session l x) (waits i k session m y);
-    busy = λ i k session e at line of differs l x. h.busy i k session e at line (session_is k ∙ of) (λ o. differs (opens k o)) l (waits i k session l x);
+    alone = λ i k session a of differs l m x y. h.alone i k session a (session_is k ∙ of) (λ o. differs (opens k o)) l m (waits i k l x) (waits i k m y);
+    busy = λ i k session e at line of differs l x. h.busy i k session e at line (session_is k ∙ of) (λ o. differs (opens k o)) l (waits i k l x);
     only_busy = λ i k l e at line told.
         let b = h.only_busy i k l e at line told in
-        (b.0, sym (session_is k) ∙ b.1, (λ o. b.2 (opens_too k o)), waits_too i k b.0 l b.3);
+        (b.0, sym (session_is k) ∙ b.1, (λ o. b.2 (opens_too k o)), waits_too i k l b.3);
     prompt = λ i j k n a asks b lt. h.prompt i j k n a (subst (λ (o : Option Op). IsPrompt o) (sym (same k)) asks) b lt;
     prompt_busy = h.prompt_busy;
     moments = h.moments;

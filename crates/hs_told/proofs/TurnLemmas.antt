@@ -45,20 +45,20 @@ module _ (entries : List JournalEntry) (e : JournalEntry) where
   within : (i n : ℕ) → IsOfLine entries i n → i < length entries
   within i n o = slice_get_within entries i o.entry o.at
 
-  waits_back : (commands : ℕ → Option Command) (i k : ℕ) (session : List ℕ) (l : ℕ) → IsWaiting commands more i k session l → IsWaiting commands entries i k session l
-  waits_back commands i k session l w = record { earlier = w.earlier; same_session = w.same_session; unanswered = λ j lt o. w.unanswered j lt (of_stays j l o) }
+  waits_back : (commands : ℕ → Option Command) (i k l : ℕ) → IsWaiting commands more i k l → IsWaiting commands entries i k l
+  waits_back commands i k l w = record { earlier = w.earlier; same_session = w.same_session; unanswered = λ j lt o. w.unanswered j lt (of_stays j l o) }
 
-  waits_stays : (commands : ℕ → Option Command) (i k : ℕ) (session : List ℕ) (l : ℕ) → i ≤ length entries → IsWaiting commands entries i k session l → IsWaiting commands more i k session l
-  waits_stays commands i k session l h w = record { earlier = w.earlier; same_session = w.same_session; unanswered = λ j lt o. elim (of_more j l o) [ inl x ↦ w.unanswered j lt x | inr x ↦ let f : j ≡ length entries = x.0 in absurd (omega (arith, f, lt, h)) ] }
+  waits_stays : (commands : ℕ → Option Command) (i k l : ℕ) → i ≤ length entries → IsWaiting commands entries i k l → IsWaiting commands more i k l
+  waits_stays commands i k l h w = record { earlier = w.earlier; same_session = w.same_session; unanswered = λ j lt o. elim (of_more j l o) [ inl x ↦ w.unanswered j lt x | inr x ↦ let f : j ≡ length entries = x.0 in absurd (omega (arith, f, lt, h)) ] }
 
 -- an entry of line n may come next
 pub record MayCome (commands : ℕ → Option Command) (entries : List JournalEntry) (n : ℕ) (e : JournalEntry) : Type 0 where
   pub line : e.who ≡ who.Line n
   pub named : IsSome (commands n)
   pub fresh : (i : ℕ) → IsOfLine entries i n → ⊥
-  pub alone : (session : List ℕ) → session_of (client_op (commands n)) ≡ Some session → (IsOpen (client_op (commands n)) → ⊥) → (l m : ℕ) → IsWaiting commands entries (length entries) n session l → IsWaiting commands entries (length entries) n session m → l ≡ m
-  pub busy : (session : List ℕ) → session_of (client_op (commands n)) ≡ Some session → (IsOpen (client_op (commands n)) → ⊥) → (l : ℕ) → IsWaiting commands entries (length entries) n session l → e.reply ≡ reply.Busy l
-  pub only_busy : (l : ℕ) → e.reply ≡ reply.Busy l → (session : List ℕ) × (session_of (client_op (commands n)) ≡ Some session) × (IsOpen (client_op (commands n)) → ⊥) × IsWaiting commands entries (length entries) n session l
+  pub alone : (session : List ℕ) → session_of (client_op (commands n)) ≡ Some session → (IsOpen (client_op (commands n)) → ⊥) → (l m : ℕ) → IsWaiting commands entries (length entries) n l → IsWaiting commands entries (length entries) n m → l ≡ m
+  pub busy : (session : List ℕ) → session_of (client_op (commands n)) ≡ Some session → (IsOpen (client_op (commands n)) → ⊥) → (l : ℕ) → IsWaiting commands entries (length entries) n l → e.reply ≡ reply.Busy l
+  pub only_busy : (l : ℕ) → e.reply ≡ reply.Busy l → (session : List ℕ) × (session_of (client_op (commands n)) ≡ Some session) × (IsOpen (client_op (commands n)) → ⊥) × IsWaiting commands entries (length entries) n l
   pub prompt : IsPrompt (client_op (commands n)) → (j k : ℕ) → IsOfLine entries j k → k < n
   pub prompt_busy : (l : ℕ) → e.reply ≡ reply.Busy l → (j k : ℕ) → IsOfLine entries j k → k < n
   pub later : (i : ℕ) (f : JournalEntry) → IsAt entries i f → f.moment ≤ e.moment
@@ -81,28 +81,28 @@ module _ (commands : ℕ → Option Command) (entries : List JournalEntry) (n : 
       ]
     ];
     alone = λ i k session x s d l m v w. elim (of_more entries e i k x) [
-      | inl g ↦ o.alone i k session g s d l m (waits_back entries e commands i k session l v) (waits_back entries e commands i k session m w)
+      | inl g ↦ o.alone i k session g s d l m (waits_back entries e commands i k l v) (waits_back entries e commands i k m w)
       | inr g ↦
           let at_n = same_line k g.1 in
-          let back : (l : ℕ) → IsWaiting commands (entries ++ e ∷ []) i k session l → IsWaiting commands entries (length entries) n session l = λ l v. subst (λ j. IsWaiting commands entries j n session l) g.0 (subst (λ j. IsWaiting commands entries i j session l) (sym at_n) (waits_back entries e commands i k session l v)) in
+          let back : (l : ℕ) → IsWaiting commands (entries ++ e ∷ []) i k l → IsWaiting commands entries (length entries) n l = λ l v. subst (λ j. IsWaiting commands entries j n l) g.0 (subst (λ j. IsWaiting commands entries i j l) (sym at_n) (waits_back entries e commands i k l v)) in
           c.alone session (ap (λ j. session_of (client_op (commands j))) at_n ∙ s) (λ y. d (subst (λ j. IsOpen (client_op (commands j))) at_n y)) l m (back l v) (back m w)
     ];
     busy = λ i k session f a h s d l v. elim (at_more entries e i f a) [
-      | inl g ↦ o.busy i k session f g h s d l (waits_back entries e commands i k session l v)
+      | inl g ↦ o.busy i k session f g h s d l (waits_back entries e commands i k l v)
       | inr g ↦
           let at_n = same_line k (ap (λ (x : JournalEntry). x.who) (sym g.1) ∙ h) in
-          let back : IsWaiting commands entries (length entries) n session l = subst (λ j. IsWaiting commands entries j n session l) g.0 (subst (λ j. IsWaiting commands entries i j session l) (sym at_n) (waits_back entries e commands i k session l v)) in
+          let back : IsWaiting commands entries (length entries) n l = subst (λ j. IsWaiting commands entries j n l) g.0 (subst (λ j. IsWaiting commands entries i j l) (sym at_n) (waits_back entries e commands i k l v)) in
           ap (λ (x : JournalEntry). x.reply) g.1 ∙ c.busy session (ap (λ j. session_of (client_op (commands j))) at_n ∙ s) (λ y. d (subst (λ j. IsOpen (client_op (commands j))) at_n y)) l back
     ];
     only_busy = λ i k l f a h b. elim (at_more entries e i f a) [
-      | inl g ↦ let r = o.only_busy i k l f g h b in (r.0, r.1, r.2, waits_stays entries e commands i k r.0 l (below i f g) r.3)
+      | inl g ↦ let r = o.only_busy i k l f g h b in (r.0, r.1, r.2, waits_stays entries e commands i k l (below i f g) r.3)
       | inr g ↦
           let at_n = same_line k (ap (λ (x : JournalEntry). x.who) (sym g.1) ∙ h) in
           let r = c.only_busy l (ap (λ (x : JournalEntry). x.reply) (sym g.1) ∙ b) in (
             r.0,
             ap (λ j. session_of (client_op (commands j))) (sym at_n) ∙ r.1,
             λ y. r.2 (subst (λ j. IsOpen (client_op (commands j))) (sym at_n) y),
-            subst (λ j. IsWaiting commands (entries ++ e ∷ []) i j r.0 l) at_n (subst (λ j. IsWaiting commands (entries ++ e ∷ []) j n r.0 l) (sym g.0) (waits_stays entries e commands (length entries) n r.0 l (omega arith) r.3)),
+            subst (λ j. IsWaiting commands (entries ++ e ∷ []) i j l) at_n (subst (λ j. IsWaiting commands (entries ++ e ∷ []) j n l) (sym g.0) (waits_stays entries e commands (length entries) n l (omega arith) r.3)),
           )
     ];
     prompt = λ i j k m x p y lt. elim (of_more entries e i k x) [
@@ -158,9 +158,9 @@ ordered_noted : (commands : ℕ → Option Command) (entries : List JournalEntry
 ordered_noted commands entries e o nobody later = record {
   named = λ i n x. o.named i n (old i n x);
   once = λ i j n x y. o.once i j n (old i n x) (old j n y);
-  alone = λ i k session x s d l m v w. o.alone i k session (old i k x) s d l m (waits_back entries e commands i k session l v) (waits_back entries e commands i k session m w);
-  busy = λ i k session f a h s d l v. o.busy i k session f (old_at entries e nobody i k f a h) h s d l (waits_back entries e commands i k session l v);
-  only_busy = λ i k l f a h b. let r = o.only_busy i k l f (old_at entries e nobody i k f a h) h b in (r.0, r.1, r.2, waits_stays entries e commands i k r.0 l (below i f (old_at entries e nobody i k f a h)) r.3);
+  alone = λ i k session x s d l m v w. o.alone i k session (old i k x) s d l m (waits_back entries e commands i k l v) (waits_back entries e commands i k m w);
+  busy = λ i k session f a h s d l v. o.busy i k session f (old_at entries e nobody i k f a h) h s d l (waits_back entries e commands i k l v);
+  only_busy = λ i k l f a h b. let r = o.only_busy i k l f (old_at entries e nobody i k f a h) h b in (r.0, r.1, r.2, waits_stays entries e commands i k l (below i f (old_at entries e nobody i k f a h)) r.3);
   prompt = λ i j k m x p y lt. o.prompt i j k m (old i k x) p (old j m y) lt;
   prompt_busy = λ i j k m l f a h b y lt. o.prompt_busy i j k m l f (old_at entries e nobody i k f a h) h b (old j m y) lt;
   moments = λ i j f g a b le. elim (at_more entries e i f a) [
@@ -185,14 +185,14 @@ ordered_noted commands entries e o nobody later = record {
 
 module _ (commands : ℕ → Option Command) (bound moment : ℕ) (entries : List JournalEntry) (waits : ℕ → Option Op) (t : Turns commands bound moment entries waits) where
   -- a line of a session without an entry waits
-  waiting_of : (k : ℕ) (session : List ℕ) (l : ℕ) → k ≤ bound → IsWaiting commands entries (length entries) k session l → (o : Op) × (waits l ≡ Some o) × (session_of (Some o) ≡ Some session)
-  waiting_of k session l le w = go (client_op (commands l)) refl
+  waiting_of : (k : ℕ) (session : List ℕ) (l : ℕ) → k ≤ bound → session_of (client_op (commands k)) ≡ Some session → IsWaiting commands entries (length entries) k l → (o : Op) × (waits l ≡ Some o) × (session_of (Some o) ≡ Some session)
+  waiting_of k session l le of w = go (client_op (commands l)) refl
     where
       go : (x : Option Op) → client_op (commands l) ≡ x → (o : Op) × (waits l ≡ Some o) × (session_of (Some o) ≡ Some session)
-      go None e = let s = w.same_session in let n : session_of (client_op (commands l)) ≡ None = ap session_of e in absurd (cc (s, n))
+      go None e = let s = w.same_session ∙ of in let n : session_of (client_op (commands l)) ≡ None = ap session_of e in absurd (cc (s, n))
       go (Some o) e = elim (t.each l o (let lt : l < k = w.earlier in omega (arith, lt, le)) e) [
         | inl h ↦ absurd (w.unanswered h.0 (slice_get_within entries h.0 h.1.entry h.1.at) h.1)
-        | inr h ↦ (h.0, h.1, sym (t.asked l h.0 h.1).same ∙ w.same_session)
+        | inr h ↦ (h.0, h.1, sym (t.asked l h.0 h.1).same ∙ w.same_session ∙ of)
       ]
 
   -- an operation that waited is answered
@@ -228,10 +228,10 @@ module _ (commands : ℕ → Option Command) (bound moment : ℕ) (entries : Lis
         | inr d ↦ (d, sym (others m d) ∙ h)
       ]
 
-      none : (session : List ℕ) → session_of (client_op (commands n)) ≡ Some session → (l : ℕ) → IsWaiting commands entries (length entries) n session l → ⊥
+      none : (session : List ℕ) → session_of (client_op (commands n)) ≡ Some session → (l : ℕ) → IsWaiting commands entries (length entries) n l → ⊥
       none session s l v =
           let lt : n < bound = t.below n o here in
-          let q = waiting_of n session l (omega (arith, lt)) v in
+          let q = waiting_of n session l (omega (arith, lt)) s v in
           let same : l ≡ n = t.alone l n q.0 o session q.1 here q.2 (sym (t.asked n o here).same ∙ s) in
           let before : l < n = v.earlier in
           omega (arith, same, before)
@@ -246,15 +246,15 @@ module _ (commands : ℕ → Option Command) (bound moment : ℕ) (entries : Lis
       line = line;
       named = named;
       fresh = λ i x. let lt : bound < bound = t.begun i bound x in omega (arith, lt);
-      alone = λ session s d l m v w. let p = waiting_of bound session l (omega arith) v in let q = waiting_of bound session m (omega arith) w in t.alone l m p.0 q.0 session p.1 q.1 p.2 q.2;
-      busy = λ session s d l v. let p = waiting_of bound session l (omega arith) v in busy session s d l p.0 p.1 p.2;
+      alone = λ session s d l m v w. let p = waiting_of bound session l (omega arith) s v in let q = waiting_of bound session m (omega arith) s w in t.alone l m p.0 q.0 session p.1 q.1 p.2 q.2;
+      busy = λ session s d l v. let p = waiting_of bound session l (omega arith) s v in busy session s d l p.0 p.1 p.2;
       only_busy = λ l b. let r = only l b in (
         r.0,
         r.2,
         r.3,
         record {
           earlier = t.below l r.1 r.4;
-          same_session = (t.asked l r.1 r.4).same ∙ r.5;
+          same_session = (t.asked l r.1 r.4).same ∙ r.5 ∙ sym r.2;
           unanswered = λ j lt x. t.unanswered l r.1 r.4 j x;
         },
       );
