@@ -1,16 +1,5 @@
-pub mod FitLemmas
-pub mod HistoryLemmas
-pub mod KeepingLemmas
-pub mod LineLemmas
 pub mod NumberedLemmas
 pub mod OneListLemmas
-pub mod OrderLemmas
 pub mod PrefixLemmas
-pub mod ServedLemmas
 pub mod Runs
 pub mod Shards
-pub mod SessionLemmas
-pub mod SoundLemmas
-pub mod StepLemmas
-pub mod StoreLemmas
-pub mod ViewLemmas

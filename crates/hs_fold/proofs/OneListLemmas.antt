@@ -1,13 +1,10 @@
 -- Of one list that list counts.
 use Rattle.std.proofs.Common.{◌≡◌, ℕ, ◌==◌, ◌&&◌, ◌||◌, List, [], ◌∷◌, false, cond, ap, nat_lt, arith}
 use Rattle.std.proofs.lemmas.Bool.Decides.{nat_tests}
-use Rattle.hs_limits.specs.declared.address.Address.{Address}
 use Rattle.hs_entry.specs.declared.entry.Entry.{Entry}
 use Rattle.hs_entry.specs.declared.rank.Rank.{Rank}
 use Rattle.hs_entry.specs.Entries.{rank_of}
-use Rattle.hs_fold.specs.Catalogue.{catalogue_of}
-use Rattle.hs_fold.specs.Opened.{outranks, chosen_each, catalogues, opened, store_of}
-use Rattle.hs_fold.specs.Served.{only_shard}
+use Rattle.hs_fold.specs.Opened.{outranks, chosen_each}
 
 -- no list is below the empty one
 none-below : (rank : Rank) → outranks (rank_of []) rank ≡ false
@@ -19,6 +16,3 @@ none-below rank = low rank.view rank.number
 
 pub one-chosen : (list : List (ℕ × Entry)) → chosen_each 1 1 (list ∷ []) ≡ list ∷ []
 one-chosen list = ap (λ b. cond b [] list ∷ []) (none-below (rank_of list))
-
-pub one-opened : (name : List ℕ → Address) (list : List (ℕ × Entry)) → opened name (record { shards = 1; copies = 1 }) (list ∷ []) ≡ store_of (catalogue_of (only_shard name) list ∷ [])
-one-opened name list = ap (λ lists. store_of (catalogues name 1 0 lists)) (one-chosen list)

@@ -1,13 +1,12 @@
 -- Lists whose entries are numbered one after another.
-use Rattle.std.proofs.Common.{◌≡◌, ℕ, ◌+◌, ◌<◌, ◌≤◌, inl, inr, List, [], ◌∷◌, ◌++◌, length, filter, true, false, refl, sym, ap, ◌∙◌, subst, nat_le, fold, arith, length-append}
+use Rattle.std.proofs.Common.{◌≡◌, ℕ, ◌+◌, ◌<◌, ◌≤◌, inl, inr, List, [], ◌∷◌, ◌++◌, length, filter, true, false, refl, sym, ap, ◌∙◌, subst, nat_le, fold, arith}
 use Rattle.std.proofs.lemmas.Bool.Decides.{nat_tests}
-use Rattle.hs_model.proofs.Members.{Member, contains_from_member, member_from_contains}
+use Rattle.hs_model.proofs.Members.{Member}
 use Rattle.hs_entry.specs.declared.entry.Entry.{Entry}
 use Rattle.hs_entry.specs.declared.entry.Entry.TheVariants as kind
 use Rattle.hs_entry.specs.declared.rank.Rank.{Rank}
 use Rattle.hs_entry.specs.Entries.{rank_after, rank_of, is_of_base, IsPrefix}
-use Rattle.hs_fold.specs.Catalogue.{Shard, catalogue_of}
-use Rattle.hs_fold.specs.Prefix.{last_of, IsListPrefix, GoOn, IsNumbered}
+use Rattle.hs_fold.specs.Prefix.{last_of, GoOn, IsNumbered}
 
 -- ---- the last number
 
@@ -70,14 +69,7 @@ front-up_to n k (e ∷ front) rest g h =
     let within : nat_le e.0 k ≡ true = rw g.0 (grind (arith, nat_tests, h)) in
     rw within (ap (λ es. e ∷ es) (front-up_to (n + 1) k front rest g.2 (omega (arith, h))))
 
--- ---- the two ways to say it
-
-prefix-list : (at : Shard) (front rest : List (ℕ × Entry)) → IsNumbered front → IsNumbered (front ++ rest) → IsListPrefix at front (front ++ rest)
-prefix-list at front rest f g = record {
-  shorter = rw (last-length front f, last-length (front ++ rest) g) (grind (arith, length-append front rest));
-  same = λ number a b p q. one-each 0 (front ++ rest) g number a b (in-front front rest (number, a) (member_from_contains (number, a) front p)) (member_from_contains (number, b) (front ++ rest) q);
-  amounts = ap (λ es. catalogue_of at es) (sym (front-up_to 0 (last_of front) front rest g (last-length front f ∙ omega arith)));
-}
+-- ---- prefixes
 
 -- by the numbers alone
 abbrev Agrees : List (ℕ × Entry) → List (ℕ × Entry) → Type 0
@@ -92,9 +84,3 @@ list-prefix n (x ∷ front) (y ∷ all) f g h same =
     let more : length front ≤ length all = omega (arith, h) in
     let rest : IsPrefix front all = list-prefix (n + 1) front all f.2 g.2 more (λ k a b p q. same k a b (inr p) (inr q)) in
     (rest.0, λ i. (sym numbers i, sym entries i) ∷ rest.1 i)
-
-pub exact : (at : Shard) (front all : List (ℕ × Entry)) → IsNumbered front → IsNumbered all → (IsListPrefix at front all → IsPrefix front all) × (IsPrefix front all → IsListPrefix at front all)
-exact at front all f g = (
-  λ p. list-prefix 0 front all f g (subst (λ n. n ≤ length all) (last-length front f) (subst (λ n. last_of front ≤ n) (last-length all g) p.shorter)) (λ k a b q r. p.same k a b (contains_from_member (k, a) front q) (contains_from_member (k, b) all r)),
-  λ p. subst (λ es. IsListPrefix at front es) (sym p.1) (prefix-list at front p.0 f (subst (λ es. IsNumbered es) p.1 g)),
-)

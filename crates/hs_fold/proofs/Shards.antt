@@ -15,8 +15,5 @@ pub mod RootLemmas
 pub mod SoundLemmas
 pub mod StayLemmas
 pub mod StoreLemmas
-pub mod UnrootedDeedLemmas
-pub mod UnrootedLemmas
-pub mod UnrootedSoundLemmas
-pub mod UnrootedViewLemmas
+pub mod RoomLemmas
 pub mod WaitLemmas

@@ -3,10 +3,7 @@ pub mod Opened
 pub mod Pending
 pub mod Good
 pub mod Images
-pub mod Keeping
 pub mod Lawful
-pub mod Order
 pub mod Prefix
-pub mod Served
 pub mod Runs
 pub mod Shards

@@ -13,5 +13,4 @@ pub mod Pending
 pub mod Prefix
 pub mod Setting
 pub mod Sound
-pub mod Unrooted
 pub mod Outstanding

@@ -1,5 +1,5 @@
 //! A front of a numbered list is a prefix of it.
-ghost use Rattle.std.specs.Prelude.{◌↔◌, ℕ, List};
+ghost use Rattle.std.specs.Prelude.{◌↔◌};
 ghost use Rattle.hs_entry.specs.Entries.{IsPrefix};
 ghost use Rattle.hs_fold.specs.Catalogue.{Shard};
 ghost use Rattle.hs_fold.specs.Prefix.{IsNumbered};

@@ -1,5 +1,5 @@
 //! Sound lists of several shards stay sound.
-ghost use Rattle.std.specs.Prelude.{◌≡◌, ◌<◌, ◌≤◌, [], ℕ, List, All, length, replicate};
+ghost use Rattle.std.specs.Prelude.{◌≡◌, ◌<◌, ◌≤◌, [], List, All, length, replicate};
 ghost use Rattle.hs_fold.specs.Runs.Sound.{AreSound as SoundWithRuns};
 ghost use Rattle.hs_fold.specs.Shards.Catalogue.{Catalogue};
 ghost use Rattle.hs_fold.specs.Shards.Opened.{catalogues};

@@ -21,7 +21,7 @@ use Rattle.hs_fold.specs.Shards.Happening.{Happening}
 use Rattle.hs_fold.specs.Shards.Pending.{changing_lines, with_line}
 use Rattle.hs_fold.specs.Shards.Setting.{Numbered, Setting, shard_in}
 use Rattle.hs_fold.specs.Shards.Sound.{most_records}
-use Rattle.hs_fold.specs.Shards.Unrooted.{puts_root}
+use Rattle.hs_fold.specs.Shards.Fits.{puts_root}
 use Rattle.hs_model.specs.Store.{address_cmp}
 use Rattle.hs_fold.specs.Runs.Catalogue.{apply, apply_all, catalogue_of}
 use Rattle.hs_fold.specs.Runs.Clients.{drop_key, end_retention, give_block, keep_root, marked, new_facts, new_root, store_block}

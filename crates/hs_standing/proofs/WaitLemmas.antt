@@ -10,7 +10,7 @@ use Rattle.hs_entry.specs.declared.entry.Entry.TheVariants as kind
 use Rattle.hs_fold.proofs.Shards.LawfulLemmas.{PairsBy, each-append, each-from, pairs-append, pairs-to}
 use Rattle.hs_fold.specs.Pending.{asked_by}
 use Rattle.hs_fold.specs.Shards.Setting.{Numbered}
-use Rattle.hs_fold.specs.Shards.Unrooted.{puts_root}
+use Rattle.hs_fold.specs.Shards.Fits.{puts_root}
 use Rattle.hs_replica.specs.Kinds.{is_root}
 use Rattle.hs_standing.specs.Lists.{Lists, waiting}
 use Rattle.hs_standing.specs.Suffices.{all_asked, asked_lines, roots_in, with_asked}

@@ -3,7 +3,7 @@ use Rattle.std.specs.Prelude.{List, Option, Some, None, [], if◌then◌else◌,
 use Rattle.std.proofs.Common.{zero, suc}
 use Rattle.hs_fold.specs.Pending.{asked_by}
 use Rattle.hs_fold.specs.Shards.Setting.{Numbered}
-use Rattle.hs_fold.specs.Shards.Unrooted.{puts_root}
+use Rattle.hs_fold.specs.Shards.Fits.{puts_root}
 use Rattle.hs_standing.specs.Lists.{Lists, waiting}
 
 -- how many Root entries there are among some

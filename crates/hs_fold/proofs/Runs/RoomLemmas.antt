@@ -1,10 +1,9 @@
 -- A shard has no more blocks than it takes.
-use Rattle.std.proofs.Common.{◌≡◌, ℕ, zero, suc, ◌+◌, ◌<◌, ◌≤◌, ◌==◌, ◌&&◌, Bool, true, false, cond, not, List, [], ◌∷◌, ◌++◌, length, map, filter, Option, Some, None, is_none, Result, Ok, Err, nat_lt, refl, sym, ap, ◌∙◌, arith, Ordering, Less, Equal, Greater}
+use Rattle.std.proofs.Common.{◌≡◌, ℕ, zero, suc, ◌+◌, ◌<◌, ◌≤◌, ◌==◌, ◌&&◌, Bool, true, false, cond, not, List, [], ◌∷◌, ◌++◌, length, map, filter, Option, Some, None, is_none, Result, Ok, Err, nat_lt, refl, sym, ap, ◌∙◌, arith}
 use Rattle.std.proofs.lemmas.Bool.Decides.{nat_tests}
 use Rattle.std.proofs.lemmas.Map.{length-set_value}
 use Rattle.std.specs.BTreeMap.{insert_entry, is_at}
 use Rattle.std.specs.Option.{option_map}
-use Rattle.std.specs.Ordering.{match_ordering}
 use Rattle.hs_limits.specs.declared.address.Address.{Address}
 use Rattle.hs_limits.specs.declared.spelling.SpellingFault.{SpellingFault}
 use Rattle.hs_limits.specs.Block.{Block}
@@ -23,6 +22,7 @@ use Rattle.hs_rounds.specs.declared.body.RoundBody.{RoundBody}
 use Rattle.hs_rounds.specs.declared.place.Place.{Place}
 use Rattle.hs_fold.specs.Runs.Rounds.{count_block, may_enter, enter_epoch, enter, moved_by, open_deltas, settled, find_zero, search, is_gone, spare, sweep, is_last, is_complete, end_round, advance, advanced, is_accepted, log_got, get_round}
 use Rattle.hs_fold.proofs.Runs.RoundLemmas.{no-more}
+use Rattle.hs_fold.proofs.Shards.RoomLemmas.{length-insert}
 
 abbrev pub Fits : List (Address × Facts) → Type 0
 Fits es = length es ≤ 16384
@@ -33,15 +33,6 @@ length-mapped f (x ∷ xs) = ap (λ n. suc n) (length-mapped f xs)
 
 mapped-fits : (f : Address × Facts → Address × Facts) (es : List (Address × Facts)) → Fits es → Fits (map f es)
 mapped-fits f es h = let same = length-mapped f es in omega (arith, same, h)
-
-inserted : (es : List (Address × Facts)) (a : Address) (f : Facts) → length (insert_entry address_cmp es a f) ≤ suc (length es)
-inserted [] a f = omega arith
-inserted (x ∷ es) a f = go (address_cmp a x.0) (inserted es a f)
-  where
-    go : (r : Ordering) → length (insert_entry address_cmp es a f) ≤ suc (length es) → length (match_ordering r ((a, f) ∷ x ∷ es) ((x.0, f) ∷ es) (x ∷ insert_entry address_cmp es a f)) ≤ suc (suc (length es))
-    go Less ih = omega arith
-    go Equal ih = omega arith
-    go Greater ih = omega (arith, ih)
 
 -- ---- clients' entries
 
@@ -56,7 +47,7 @@ store-fits at c number least a (Ok block) h = go ((shard_of at.shards a == at.sh
     room e = let low : nat_lt (length c.blocks) 16384 ≡ true = ap (λ n. nat_lt n 16384) (sym (length-mapped (λ (x : Address × Facts). (x.0, x.1.present)) c.blocks)) ∙ e in grind (arith, nat_tests, low)
 
     go : (p q : Bool) → has_room (plain c) ≡ q → Fits (cond (p && q) (record c { blocks = insert_entry address_cmp c.blocks a new }) c).blocks
-    go true true e = let more = inserted c.blocks a new in let low = room e in omega (arith, more, low)
+    go true true e = let more = length-insert c.blocks a new in let low = room e in omega (arith, more, low)
     go true false e = h
     go false q e = h
 

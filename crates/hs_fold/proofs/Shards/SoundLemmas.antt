@@ -14,7 +14,7 @@ use Rattle.hs_fold.specs.Shards.Parted.{Parted, done_lists, whole_lists, MayAllW
 use Rattle.hs_fold.specs.Shards.Setting.{Numbered, Setting, shard_in}
 use Rattle.hs_fold.specs.Shards.Sound.{HasRoom, HasRisingViews, AreSound, most_records}
 use Rattle.hs_fold.proofs.Shards.LawfulLemmas.{whole-valid, whole-lawful}
-use Rattle.hs_fold.proofs.Shards.UnrootedLemmas.{blocks-fit}
+use Rattle.hs_fold.proofs.Shards.RoomLemmas.{blocks-fit}
 
 -- ---- room
 

@@ -1,5 +1,5 @@
 -- What an entry rests on when it comes.
-use Rattle.std.specs.Prelude.{◌≡◌, ℕ, true, List, Ok, Some, Contains, slice_index_or}
+use Rattle.std.specs.Prelude.{◌≡◌, ℕ, Bool, true, false, List, Ok, Some, Contains, slice_index_or}
 use Rattle.hs_limits.specs.declared.address.Address.{Address}
 use Rattle.hs_limits.specs.Block.{Block}
 use Rattle.hs_limits.specs.Reading.{read_block}
@@ -50,3 +50,8 @@ MayCome cs shard (kind.Base view epoch swept round frames) = Unit {0}
 MayCome cs shard (kind.KeptBlock born mark flags count bytes) = Unit {0}
 MayCome cs shard (kind.KeptRoot created dropped counted address key) = Unit {0}
 MayCome cs shard (kind.KeptRound way other epoch round total deltas) = Unit {0}
+
+-- whether an entry puts a root
+abbrev pub puts_root : Entry → Bool
+puts_root (kind.Root op held address key) = true
+puts_root other = false

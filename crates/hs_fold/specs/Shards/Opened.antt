@@ -3,7 +3,7 @@ use Rattle.std.specs.Prelude.{ℕ, List, [], ◌∷◌, ◌+◌, map}
 use Rattle.hs_limits.specs.declared.address.Address.{Address}
 use Rattle.hs_model.specs.Store.{Root, Store, place_root}
 use Rattle.hs_fold.specs.Catalogue.{Present}
-use Rattle.hs_fold.specs.Opened.{both, chosen_each}
+use Rattle.hs_fold.specs.Opened.{both}
 use Rattle.hs_fold.specs.Shards.Catalogue.{Catalogue, catalogue_of}
 use Rattle.hs_fold.specs.Shards.Setting.{Numbered, Setting, shard_in}
 
@@ -37,7 +37,3 @@ store_of cs = record {
 abbrev pub catalogues : Setting → ℕ → List Numbered → List Catalogue
 catalogues set shard [] = []
 catalogues set shard (list ∷ lists) = catalogue_of (shard_in set shard) list ∷ catalogues set (shard + 1) lists
-
--- the store at which the lists of the peers open
-abbrev pub opened : Setting → List Numbered → Store
-opened set lists = store_of (catalogues set 0 (chosen_each set.shape.shards set.shape.copies lists))
