@@ -1,8 +1,8 @@
 #!/usr/bin/env python3
 """Measures a built hydra at 1,000 and at 16,000 blocks: the processor time of a line, its instructions, and opening.
 
-Of several rounds the least time is told, and the median. The folder lies on a file system in memory, so that the disk takes no part. It
-makes and removes folders of its own.
+Of several rounds the median time is told, and the least. The folder lies on a file system in memory, so that the disk takes no part. The
+program that is timed has a processor of its own, where the machine has two. It makes and removes folders of its own.
 """
 import argparse
 import os
@@ -21,6 +21,7 @@ HANDLES = 4096
 FEW, MANY, PART = 1000, 16_000, 300
 SIZES = (4000, 8000, 16_000)
 PEAK = re.compile(r"VmHWM:\s+(\d+) kB")
+PROCESSORS = sorted(os.sched_getaffinity(0))
 COUNTED = re.compile(r"I\s+refs:\s+([\d,]+)")
 
 
@@ -87,9 +88,18 @@ def children_time():
     return used.ru_utime + used.ru_stime
 
 
+def alone():
+    """Has the calling process run on one processor, which the others leave to it where there are two."""
+    os.sched_setaffinity(0, PROCESSORS[-1:])
+
+
+def apart():
+    os.sched_setaffinity(0, PROCESSORS[:-1] or PROCESSORS)
+
+
 def timed(before, first, lines):
     """The seconds of processor time of these lines behind the first ones, and the greatest memory of the run in kB."""
-    child = subprocess.Popen(before, stdin=subprocess.PIPE, stdout=subprocess.PIPE)
+    child = subprocess.Popen(before, stdin=subprocess.PIPE, stdout=subprocess.PIPE, preexec_fn=alone)
 
     def give(part):
         child.stdin.write(text_of(part))
@@ -176,6 +186,7 @@ def main():
     program = os.path.abspath(asked.program)
     if not os.access(program, os.X_OK):
         sys.exit(f"{program} is not built: bin/hydra --version builds it")
+    apart()
     counts = shutil.which("valgrind") is not None
     if not counts:
         print("instructions: not counted, there is no valgrind")
