@@ -62,6 +62,11 @@ abbrev pub read_refusals : Limits → Store → List ℕ → ℕ → Address →
 read_refusals limits s name handle a =
     no_session s name ∷ no_handle s name (handle ∷ []) ∷ stale s name (epoch_at s a) (handle ∷ []) ∷ handles_full limits s name (length (pointers_at s a)) ∷ []
 
+-- of a root
+abbrev pub root_refusals : Limits → Store → List ℕ → List ℕ → ℕ → List (Option Reply)
+root_refusals limits s name key handle =
+    no_session s name ∷ no_handle s name (handle ∷ []) ∷ stale s name (root_epoch s key) (handle ∷ []) ∷ key_taken s key (address_of s name handle) ∷ roots_full limits s key ∷ []
+
 -- of each operation
 unfoldable pub refusals : Limits → Store → Op → List (Option Reply)
 refusals limits s (op.Open name) = session_taken s name ∷ sessions_full limits s ∷ []
@@ -72,8 +77,7 @@ refusals limits s (op.Write name payload handles address) =
     no_session s name ∷ too_long payload ∷ too_many handles ∷ no_handle s name handles ∷ handles_full limits s name 1 ∷ stale s name (epoch_at s a) handles ∷ collision s a block ∷ shard_full limits s a ∷ []
 refusals limits s (op.Read name handle) = read_refusals limits s name handle (address_of s name handle)
 refusals limits s (op.Look name key) = no_session s name ∷ handles_full limits s name 1 ∷ no_key s key ∷ []
-refusals limits s (op.Root name key handle) =
-    no_session s name ∷ no_handle s name (handle ∷ []) ∷ stale s name (root_epoch s key) (handle ∷ []) ∷ key_taken s key (address_of s name handle) ∷ roots_full limits s key ∷ []
+refusals limits s (op.Root name key handle) = root_refusals limits s name key handle
 refusals limits s (op.Drop key) = no_key s key ∷ []
 refusals limits s (op.Forget name handle) = no_session s name ∷ no_handle s name (handle ∷ []) ∷ []
 refusals limits s (op.Name name handle) = no_session s name ∷ no_handle s name (handle ∷ []) ∷ []
