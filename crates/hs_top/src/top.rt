@@ -24,20 +24,20 @@ use std::sync::Wait;
 use std::thread::Threads;
 
 /// Runs a script as the words ask. The calls before it are laws.
-fn run_words<A: Addresser, S: Source, K: Sink, D: Disk>(
+fn run_words<A: Addresser, S: Source, K: Sink, D: Disk + Drop>(
     alloc: Global,
     words: &[String],
     naming: &A,
     source: &mut S,
     sink: &mut K,
-    disks: &mut [D],
+    disks: &mut Vec<D>,
     watch: &mut Watch,
 ) -> Outcome
     ensures called { IsCalled D.tells (A.name naming.now) (map (λ word. string_bytes word) words.now)
         (ran_of result
-        (handed watch.old (map (λ disk. (D.stands disk, D.faults disk)) disks.old)
+        (handed watch.old (map (λ disk. (D.stands disk, D.faults disk)) disks.old.items)
         (K.got sink.old, K.faults sink.old) (S.left source.old, S.faults source.old))
-        (handed watch.new (map (λ disk. (D.stands disk, D.faults disk)) disks.new)
+        (handed watch.new (map (λ disk. (D.stands disk, D.faults disk)) disks.new.items)
         (K.got sink.new, K.faults sink.new) (S.left source.new, S.faults source.new))) }
 {
     each_entry_stands_for_its_cause();
@@ -60,7 +60,8 @@ fn run_words<A: Addresser, S: Source, K: Sink, D: Disk>(
     a_full_journal_deletes_as_promised();
     shard_0_is_led_by_lines();
     a_calm_run_ends_well();
-    run_on_cluster(alloc, words, naming, source, sink, disks, watch)
+    let handed = disks.as_mut_slice();
+    run_on_cluster(alloc, words, naming, source, sink, handed, watch)
 }
 
 /// Does every command but `load`, and waits for nobody. So far that is `script DIR G 1` with its
@@ -83,15 +84,7 @@ pub fn hydra_alone<A: Addresser, S: Source, K: Sink, D: Disk + Drop>(
         (handed watch.new (map (λ disk. (D.stands disk, D.faults disk)) disks.new.items)
         (K.got sink.new, K.faults sink.new) (S.left source.new, S.faults source.new))) }
 {
-    run_words(
-        alloc,
-        words,
-        naming,
-        source,
-        sink,
-        disks.as_mut_slice(),
-        watch,
-    )
+    run_words(alloc, words, naming, source, sink, disks, watch)
 }
 
 /// Does a command. `load` is a faulty command line so far; every other command is `hydra_alone`'s.
@@ -118,13 +111,5 @@ pub fn hydra<
         (handed watch.new (map (λ disk. (D.stands disk, D.faults disk)) disks.new.items)
         (K.got sink.new, K.faults sink.new) (S.left source.new, S.faults source.new))) }
 {
-    run_words(
-        alloc,
-        words,
-        naming,
-        source,
-        sink,
-        disks.as_mut_slice(),
-        watch,
-    )
+    run_words(alloc, words, naming, source, sink, disks, watch)
 }

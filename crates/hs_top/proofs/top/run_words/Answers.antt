@@ -1,19 +1,26 @@
-use Rattle.std.proofs.Common.{sym, subst, ℕ, List, map, length}
+use Rattle.std.proofs.Common.{◌≡◌, sym, subst, ℕ, ◌++◌, List, length, map, take, drop}
 use Rattle.std.specs.Prelude.{string_bytes}
 use Rattle.hs_standing.specs.Held.{GivesAddresses}
 use Rattle.hs_limits.specs.declared.address.Address.{Address}
 use Rattle.hs_ports.specs.Objects.{Objects, handed}
 use Rattle.hs_promise.specs.Run.{ran_of}
-use Rattle.hs_top.proofs.CalledLemmas.{called_of, handed_count}
+use Rattle.hs_top.proofs.CalledLemmas.{called_of, handed_count, written_back}
 use Rattle.hs_top.proofs.LawLemmas.{Laws}
 use Rattle.hs_top.proofs.PromisedLemmas.{promised_of}
+use Rattle.hs_top.specs.Calls.{IsCalled}
 use Rattle.hs_top.proofs.top.run_words.Goals as goal
 
 pub returns : goal.returns
 returns g c =
     let name : List ℕ → Address = g.A.Addresser.name c.args.naming.now in
-    let old : Objects = handed c.args.watch.now (map (λ disk. (g.D.Disk.stands disk, g.D.Disk.faults disk)) c.args.disks.now) (g.K.Sink.got c.args.sink.now, g.K.Sink.faults c.args.sink.now) (g.S.Source.left c.args.source.now, g.S.Source.faults c.args.source.now) in
-    let new : Objects = handed c.run_on_cluster.new.watch (map (λ disk. (g.D.Disk.stands disk, g.D.Disk.faults disk)) c.run_on_cluster.new.disks) (g.K.Sink.got c.run_on_cluster.new.sink, g.K.Sink.faults c.run_on_cluster.new.sink) (g.S.Source.left c.run_on_cluster.new.source, g.S.Source.faults c.run_on_cluster.new.source) in
+    let words : List (List ℕ) = map (λ word. string_bytes word) c.args.words.now in
+    let before : List g.row.D.Denot → Objects = λ disks. handed c.args.watch.now (map (λ disk. (g.D.Disk.stands disk, g.D.Disk.faults disk)) disks) (g.K.Sink.got c.args.sink.now, g.K.Sink.faults c.args.sink.now) (g.S.Source.left c.args.source.now, g.S.Source.faults c.args.source.now) in
+    let behind : List g.row.D.Denot → Objects = λ disks. handed c.run_on_cluster.new.watch (map (λ disk. (g.D.Disk.stands disk, g.D.Disk.faults disk)) disks) (g.K.Sink.got c.run_on_cluster.new.sink, g.K.Sink.faults c.run_on_cluster.new.sink) (g.S.Source.left c.run_on_cluster.new.source, g.S.Source.faults c.run_on_cluster.new.source) in
+    let slice : List g.row.D.Denot = c.as_mut_slice-handed.result.now in
+    let left : List g.row.D.Denot = c.run_on_cluster.new.disks in
+    let all : slice ≡ c.args.disks.now.items = c.as_mut_slice-handed.ensures.value in
+    let count : length left ≡ length slice = c.run_on_cluster.auto.disks in
+    let long : length slice ≡ c.args.disks.now.len = c.as_mut_slice-handed.ensures.len in
     let laws : Laws = record {
       answers = c.a_run_is_answered.ensures.answers;
       full = c.a_run_is_answered.ensures.full;
@@ -47,10 +54,15 @@ returns g c =
       led_never = c.shard_0_is_led_by_lines.ensures.never;
       ends_well = c.a_calm_run_ends_well.ensures;
     } in
+    let called : IsCalled g.D.Disk.tells name words (ran_of c.run_on_cluster.result (before slice) (behind left)) =
+        called_of g.D.Disk.tells name words (length slice) (ran_of c.run_on_cluster.result (before slice) (behind left))
+        (handed_count (λ disk. (g.D.Disk.stands disk, g.D.Disk.faults disk)) slice)
+        c.run_on_cluster.ensures.usage c.run_on_cluster.ensures.only_usage c.run_on_cluster.ensures.ran
+        (λ S same asked run. promised_of laws g.D.Disk.tells S (ran_of c.run_on_cluster.result (before slice) (behind left))
+        (subst (λ (n : List ℕ → Address). GivesAddresses n) (sym same) (g.A.Addresser.sized c.args.naming.now)) asked run) in
     record {
-      called = called_of g.D.Disk.tells name (map (λ word. string_bytes word) c.args.words.now) (length c.args.disks.now) (ran_of c.run_on_cluster.result old new)
-          (handed_count (λ disk. (g.D.Disk.stands disk, g.D.Disk.faults disk)) c.args.disks.now)
-          c.run_on_cluster.ensures.usage c.run_on_cluster.ensures.only_usage c.run_on_cluster.ensures.ran
-          (λ S same asked run. promised_of laws g.D.Disk.tells S (ran_of c.run_on_cluster.result old new)
-          (subst (λ (n : List ℕ → Address). GivesAddresses n) (sym same) (g.A.Addresser.sized c.args.naming.now)) asked run);
+      called =
+          subst (λ (disks : List g.row.D.Denot). IsCalled g.D.Disk.tells name words (ran_of c.run_on_cluster.result (before disks) (behind (take c.args.disks.now.len (left ++ drop (length left) disks))))) all
+          (subst (λ (disks : List g.row.D.Denot). IsCalled g.D.Disk.tells name words (ran_of c.run_on_cluster.result (before slice) (behind disks)))
+          (sym (written_back c.args.disks.now.len left slice count long)) called);
     }
