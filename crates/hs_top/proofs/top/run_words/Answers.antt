@@ -55,11 +55,11 @@ returns g c =
       ends_well = c.a_calm_run_ends_well.ensures;
     } in
     let called : IsCalled g.D.Disk.tells name words (ran_of c.run_on_cluster.result (before slice) (behind left)) =
-        called_of g.D.Disk.tells name words (length slice) (ran_of c.run_on_cluster.result (before slice) (behind left))
-        (handed_count (λ disk. (g.D.Disk.stands disk, g.D.Disk.faults disk)) slice)
-        c.run_on_cluster.ensures.usage c.run_on_cluster.ensures.only_usage c.run_on_cluster.ensures.ran
-        (λ S same asked run. promised_of laws g.D.Disk.tells S (ran_of c.run_on_cluster.result (before slice) (behind left))
-        (subst (λ (n : List ℕ → Address). GivesAddresses n) (sym same) (g.A.Addresser.sized c.args.naming.now)) asked run) in
+    called_of g.D.Disk.tells name words (length slice) (ran_of c.run_on_cluster.result (before slice) (behind left))
+    (handed_count (λ disk. (g.D.Disk.stands disk, g.D.Disk.faults disk)) slice)
+    c.run_on_cluster.ensures.usage c.run_on_cluster.ensures.only_usage c.run_on_cluster.ensures.ran
+    (λ S same asked run. promised_of laws g.D.Disk.tells S (ran_of c.run_on_cluster.result (before slice) (behind left))
+    (subst (λ (n : List ℕ → Address). GivesAddresses n) (sym same) (g.A.Addresser.sized c.args.naming.now)) asked run) in
     record {
       called =
           subst (λ (disks : List g.row.D.Denot). IsCalled g.D.Disk.tells name words (ran_of c.run_on_cluster.result (before disks) (behind (take c.args.disks.now.len (left ++ drop (length left) disks))))) all
