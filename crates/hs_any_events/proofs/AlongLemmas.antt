@@ -1,0 +1,213 @@
+-- Behind each front of any events that its call takes a core is steady, also where it has ended with one of them.
+use Rattle.std.proofs.Common.{◌≡◌, ◌∙◌, sym, ap, subst, ℕ, zero, suc, ◌+◌, ◌<◌, ◌≤◌, Bool, true, false, cond, List, [], ◌∷◌, length, Option, Some, None, refl, arith, nat_lt, take}
+use Rattle.std.specs.Option.{option_map}
+use Rattle.hs_any_events.proofs.BytesLemmas.{ReadsAnyBytes}
+use Rattle.hs_any_events.proofs.SteadyLemmas.{IsFreshLine, IsSteady, walks_steady}
+use Rattle.hs_any_events.specs.Events.{AreTaken, IsTaken}
+use Rattle.hs_core.specs.Calls.{last_line_after}
+use Rattle.hs_core.specs.declared.event.Event.{Event}
+use Rattle.hs_core.specs.declared.event.Event.TheVariants as event
+use Rattle.hs_core.specs.declared.waiting.Waiting.{Waiting}
+use Rattle.hs_core.specs.Looking.{operation_of}
+use Rattle.hs_core.specs.State.{Core}
+use Rattle.hs_core.specs.Step.{do_event, keep_entries, refuse_entries, step}
+use Rattle.hs_desk.specs.declared.done.Done.{Done}
+use Rattle.hs_desk.specs.declared.done.Done.TheVariants as done
+use Rattle.hs_desk.specs.declared.fault.CoreFault.{CoreFault}
+use Rattle.hs_effects.proofs.SweepLemmas.{ByViews}
+use Rattle.hs_events.specs.Course.{steps}
+use Rattle.hs_events.specs.Due.{Events}
+use Rattle.hs_events.specs.Found.{Found, first_core, opens_with}
+use Rattle.hs_events.specs.Sane.{IsSane}
+use Rattle.hs_events.specs.Whole.{Whole, open_whole, step_whole}
+use Rattle.hs_fold.specs.Runs.Facts.{Catalogue as Folded}
+use Rattle.hs_limits.specs.declared.address.Address.{Address}
+use Rattle.hs_limits.specs.declared.limits.Limits.{Limits}
+use Rattle.hs_model.specs.declared.command.Command.{Command}
+use Rattle.hs_moments.proofs.AloneEventLemmas.{begun, step_is}
+use Rattle.hs_moments.proofs.CoreLemmas.{line_at}
+use Rattle.hs_moments.proofs.SaneLemmas.{sane_stays}
+use Rattle.hs_settled.proofs.DeletesEndLemmas.{does_keep}
+use Rattle.hs_settled.proofs.DeletesRunLemmas.{steps_ended}
+use Rattle.hs_standing.proofs.AlongWalkLemmas.{walks_step}
+use Rattle.hs_standing.proofs.Laws.{Entries, Steps}
+use Rattle.hs_standing.proofs.ValidLemmas.{told_valid}
+use Rattle.hs_standing.specs.Held.{GivesAddresses}
+use Rattle.hs_standing.specs.Run.{IsRunning, RunStands}
+use Rattle.hs_standing.specs.Start.{Start}
+use Rattle.hs_standing.specs.Standing.{judging_of}
+use Rattle.hs_standing.specs.Telling.{told_so_far}
+use Rattle.hs_standing.specs.Walks.{HasRecordRoom, MayEvent, MayReport}
+use Rattle.hs_answered.specs.Standing.{store_with}
+use Rattle.hs_told.proofs.OpenedLemmas.{opened_turn}
+use Rattle.hs_told.specs.InTurn.{IsInTurn}
+
+-- the laws below, in one place
+pub record LawsBelow : Type 0 where
+  pub views : ByViews
+  pub steps : Steps
+  pub reads : ReadsAnyBytes
+  pub laws : Entries
+
+-- a core is steady up to its last line, for some folds
+abbrev pub Steady : (List ℕ → Address) → Limits → Core → Type 0
+Steady name limits core = (cs : List Folded) × IsSteady name limits core.last_line core cs
+
+-- so is one between two events, on a sane store, where the root records are few and the journal had room so far
+pub record StaysSteady (name : List ℕ → Address) (limits : Limits) (c : Whole) : Type 0 where
+  pub sane : IsSane c
+  pub few : HasRecordRoom c.core
+  pub clean : c.core.refused ≡ []
+  pub steady : Steady name limits c.core
+
+-- ---- as a core opens
+
+module _ (start : Start) (found : Found) (r : IsRunning start (open_whole start.set found)) where
+  abbrev first : Core
+  first = first_core start.set found
+
+  turn : IsInTurn (λ n. None) (first_core start.set found)
+  turn = opened_turn (λ n. None) start.set.shape start.set.limits (opens_with start.set found) found.opened refl
+
+  its : RunStands start first r.stands.whole.cs
+  its = r.stands.holds
+
+  -- no line was begun
+  idle : (line : ℕ) (w : Waiting) → operation_of line first ≡ Some w → ⊥
+  idle line w at = cc (turn.turns.asked line w.operation.op (ap (λ (y : Option Waiting). option_map (λ (u : Waiting). u.operation.op) y) at)).named
+
+  abbrev nobody : ℕ → Option Command
+  nobody n = None
+
+  pub opens_steady : StaysSteady start.set.name start.set.limits (open_whole start.set found)
+  opens_steady = record {
+    sane = r.stands.whole.sane;
+    few = r.stands.whole.few;
+    clean = turn.going r.stands.whole.sane.going;
+    steady = (
+      r.stands.whole.cs,
+      record {
+        commands = nobody;
+        none_above = λ line up. refl;
+        limited = its.limits;
+        orderly = its.orderly;
+        lawful = its.lawful;
+        sent = its.sent;
+        resting = its.resting;
+        stored = its.stored;
+        addressed = its.addressed;
+        commanded = λ line w at. absurd (idle line w at);
+        epochs = its.epochs;
+        valid = told_valid (judging_of start) start.entry (told_so_far first) (store_with r.stands.whole.cs first.sessions) r.valid its.tells;
+      },
+    );
+  }
+
+-- ---- one event
+
+-- the last line goes up
+more_lines : (name : List ℕ → Address) (limits : Limits) (last next : ℕ) (core : Core) (cs : List Folded) → last ≤ next → IsSteady name limits last core cs → IsSteady name limits next core cs
+more_lines name limits last next core cs up its = record {
+  commands = its.commands;
+  none_above = λ line above. its.none_above line (omega (arith, up, above));
+  limited = its.limited;
+  orderly = its.orderly;
+  lawful = its.lawful;
+  sent = its.sent;
+  resting = its.resting;
+  stored = its.stored;
+  addressed = its.addressed;
+  commanded = its.commanded;
+  epochs = its.epochs;
+  valid = its.valid;
+}
+
+line_rises : (name : List ℕ → Address) (e : Event) (at : ℕ) (core : Core) → IsTaken name core e at → core.last_line ≤ last_line_after e core
+line_rises name (event.Line line o) at core may = let up : core.last_line < line = may.next in omega (arith, up)
+line_rises name (event.Report peer d) at core may = omega arith
+line_rises name (event.Turn line peer) at core may = omega arith
+line_rises name (event.Deliver line number) at core may = omega arith
+line_rises name (event.Lose line number) at core may = omega arith
+line_rises name (event.Repeat line number) at core may = omega arith
+line_rises name (event.Nudge line peer) at core may = omega arith
+line_rises name (event.Fail line peer) at core may = omega arith
+line_rises name (event.Start line peer) at core may = omega arith
+
+-- what each report may tell
+any_report : (peer : ℕ) (d : Done) (core : Core) → MayReport (λ number bytes w c. Unit {0}) peer d core
+any_report peer (done.Stored number) core = tt
+any_report peer (done.Sealed number) core = tt
+any_report peer (done.Bytes number bytes) core = λ w r. tt
+any_report peer (done.Gone number) core = λ w r. tt
+any_report peer done.Emptied core = tt
+any_report peer (done.Copied number) core = tt
+any_report peer (done.Stepped switched) core = tt
+any_report peer (done.Failed disk) core = tt
+
+module _ (name : List ℕ → Address) (limits : Limits) (core : Core) (its : Steady name limits core) where
+  -- a line above the last one is new
+  new_line : (line : ℕ) → core.last_line < line → operation_of line core ≡ None
+  new_line line up = by_operation (operation_of line core) refl
+    where
+      by_operation : (x : Option Waiting) → operation_of line core ≡ x → operation_of line core ≡ None
+      by_operation None at = at
+      by_operation (Some w) at =
+          let says = (its.1.commanded line w at).says in
+          let none : None ≡ Some says.said = sym (its.1.none_above line up) ∙ says.asks in
+          absurd (cc none)
+
+  may_event : (e : Event) (at : ℕ) → IsTaken name core e at → MayEvent (λ line o c. IsFreshLine name (last_line_after e core) line o c) (λ number bytes w c. Unit {0}) (λ line. Unit {0}) e core
+  may_event (event.Line line o) at may =
+      let up : core.last_line < line = may.next in
+      record { new = new_line line up; counted = omega (arith, up); until = omega arith; called = may.called }
+  may_event (event.Report peer d) at may = any_report peer d core
+  may_event (event.Turn line peer) at may = tt
+  may_event (event.Deliver line number) at may = tt
+  may_event (event.Lose line number) at may = tt
+  may_event (event.Repeat line number) at may = tt
+  may_event (event.Nudge line peer) at may = tt
+  may_event (event.Fail line peer) at may = tt
+  may_event (event.Start line peer) at may = tt
+
+-- a core that goes on has refused nothing
+still_clean : (e : Event) (at : ℕ) (core : Core) → core.ended ≡ None → (step e at core).ended ≡ None → core.refused ≡ [] → (step e at core).refused ≡ []
+still_clean e at core going then clean =
+    ap (λ (x : Core). x.refused) (step_is e at core going)
+    ∙ by_room (nat_lt (do_event e (begun e at core)).limits.ops (length (do_event e (begun e at core)).journal + length (do_event e (begun e at core)).entries))
+    (sym (ap (λ (x : Core). x.ended) (step_is e at core going)) ∙ then)
+  where
+    by_room : (full : Bool) → (cond full (refuse_entries (do_event e (begun e at core))) (keep_entries (do_event e (begun e at core)))).ended ≡ None
+        → (cond full (refuse_entries (do_event e (begun e at core))) (keep_entries (do_event e (begun e at core)))).refused ≡ []
+    by_room true over = absurd (cc over)
+    by_room false over = (does_keep e (begun e at core)).refused ∙ clean
+
+module _ (below : LawsBelow) (name : List ℕ → Address) (names : GivesAddresses name) (limits : Limits) where
+  -- it is steady behind the event
+  next_steady : (c : Whole) (e : Event) (at : ℕ) → StaysSteady name limits c → IsTaken name c.core e at → Steady name limits (step e at c.core)
+  next_steady c e at s may =
+      subst (λ (last : ℕ). (cs : List Folded) × IsSteady name limits last (step e at c.core) cs) (sym (line_at c.core e at s.sane.going))
+      (walks_step (walks_steady below.views below.steps below.reads below.laws name names limits (last_line_after e c.core)) c e at s.sane s.few s.clean (may_event name limits c.core s.steady e at may)
+      (s.steady.0, more_lines name limits c.core.last_line (last_line_after e c.core) c.core s.steady.0 (line_rises name e at c.core may) s.steady.1))
+
+  stays_steady : (c : Whole) (e : Event) (at : ℕ) → StaysSteady name limits c → IsTaken name c.core e at → (step e at c.core).ended ≡ None → StaysSteady name limits (step_whole e at c)
+  stays_steady c e at s may going = record {
+    sane = sane_stays c e at s.sane going;
+    few = may.room going;
+    clean = still_clean e at c.core s.sane.going going s.clean;
+    steady = next_steady c e at s may;
+  }
+
+  -- ---- each front
+
+  pub front_steady : (es : Events) (c : Whole) → StaysSteady name limits c → AreTaken name c.core es → (n : ℕ) → Steady name limits (steps c.core (take n es))
+  front_steady [] c s may zero = s.steady
+  front_steady [] c s may (suc n) = s.steady
+  front_steady (e ∷ es) c s may zero = s.steady
+  front_steady (e ∷ es) c s may (suc n) = by_end (λ t. front_steady es (step_whole e.0 e.1 c) t may.1 n) (step e.0 e.1 c.core).ended refl
+    where
+      m : IsTaken name c.core e.0 e.1
+      m = may.0 s.sane.going
+
+      by_end : (StaysSteady name limits (step_whole e.0 e.1 c) → Steady name limits (steps (step e.0 e.1 c.core) (take n es))) → (x : Option CoreFault) → (step e.0 e.1 c.core).ended ≡ x → Steady name limits (steps (step e.0 e.1 c.core) (take n es))
+      by_end later None going = later (stays_steady c e.0 e.1 s m going)
+      by_end later (Some fault) over = subst (λ (x : Core). Steady name limits x) (sym (steps_ended (step e.0 e.1 c.core) (take n es) fault over)) (next_steady c e.0 e.1 s m)

@@ -1,0 +1,6 @@
+pub mod AlongLemmas
+pub mod BytesLemmas
+pub mod GivenLemmas
+pub mod OpeningLemmas
+pub mod RightLemmas
+pub mod SteadyLemmas

@@ -1,0 +1,111 @@
+-- Where the folds of a core are those of a lawful history, and what is under way was sent, its counts are right, and so are its zero blocks.
+use Rattle.std.proofs.Common.{subst, ℕ, ◌<◌, List}
+use Rattle.std.proofs.lemmas.List.Elements.{All-weaker}
+use Rattle.std.specs.Map.{values_of}
+use Rattle.std.specs.Prelude.{All}
+use Rattle.hs_any_events.proofs.SteadyLemmas.{IsSteady, grounded_of}
+use Rattle.hs_any_events.specs.Events.{IsCountedRight, StaysCountedRight}
+use Rattle.hs_core.specs.Looking.{shape_of}
+use Rattle.hs_core.specs.State.{Core}
+use Rattle.hs_deletion.specs.Following.{IsSent}
+use Rattle.hs_deletion.specs.Machine.{Layout, empty_machine}
+use Rattle.hs_effects.specs.Lawful.{AreOfHistory, IsLawful}
+use Rattle.hs_effects.specs.Taking.{setting_of}
+use Rattle.hs_fold.specs.Lawful.{Deed}
+use Rattle.hs_fold.specs.Runs.Counts.{AreCounted}
+use Rattle.hs_fold.specs.Runs.Facts.{Catalogue as Folded}
+use Rattle.hs_fold.specs.Runs.History.{FitAll, follow_all, no_entries}
+use Rattle.hs_fold.specs.Shards.Setting.{Setting}
+use Rattle.hs_joint.proofs.HistoryLemmas.{empty_standing, shape_few, shape_some}
+use Rattle.hs_joint.specs.Along.{KeepFewRecords}
+use Rattle.hs_joint.specs.Joined.{AreJoined}
+use Rattle.hs_joint.specs.Seen.{all_seen, layout_of, seen_round}
+use Rattle.hs_limits.specs.declared.address.Address.{Address}
+use Rattle.hs_limits.specs.declared.limits.Limits.{Limits}
+use Rattle.hs_limits.specs.Shape.{IsShape}
+use Rattle.hs_measure.specs.Zeros.{AreZerosRight}
+use Rattle.hs_post.specs.declared.message.Message.{Message}
+use Rattle.hs_post.specs.declared.message.Message.TheVariants as message
+use Rattle.hs_rounds.specs.declared.body.RoundBody.{RoundBody}
+use Rattle.hs_rounds.specs.declared.place.Place.{Place}
+use Rattle.hs_settled.proofs.DeletesCountLemmas.{CountLaws}
+use Rattle.hs_settled.proofs.SentLemmas.{Sends, sends_all}
+use Rattle.hs_settled.specs.Counts.{AreRoundsSent, CountsRight, IsSentRound}
+use Rattle.hs_standing.proofs.RestLemmas.{rests_follows}
+use Rattle.hs_standing.specs.Sent.{AreSent, IsOfSent, WasSent}
+
+-- zero blocks behind a lawful history, as hs_measure has them
+abbrev pub ZerosBehind : Type 0
+ZerosBehind = (set : Setting) (history : List Deed) → IsShape set.shape → FitAll set (no_entries set) history → KeepFewRecords set (no_entries set) history → AreZerosRight set (follow_all set (no_entries set) history)
+
+module _ (laws : CountLaws) (zeros : ZerosBehind) (name : List ℕ → Address) (core : Core) (cs : List Folded) (its : IsLawful name core cs) (kept : AreSent (setting_of name core) its.lawful.history core) where
+  abbrev set : Setting
+  set = setting_of name core
+
+  abbrev lawful : AreOfHistory (setting_of name core) cs
+  lawful = its.lawful
+
+  some : 0 < (shape_of core).shards
+  some = shape_some (shape_of core) its.folded.valid
+
+  abbrev layout : Layout
+  layout = layout_of (shape_of core).shards some
+
+  sends : Sends (setting_of name core) some (no_entries (setting_of name core)) empty_machine lawful.history
+  sends = sends_all set some (shape_few (shape_of core) its.folded.valid) lawful.history (no_entries set) empty_machine (empty_standing set some) lawful.fits lawful.records
+
+  joined : AreJoined (setting_of name core) some cs sends.later
+  joined = subst (λ (ds : List Folded). AreJoined set some ds sends.later) lawful.gives sends.standing.joined
+
+  -- what was sent behind a front of the history was sent
+  was : (to : ℕ) (place : Place) (told : RoundBody) → WasSent (setting_of name core) lawful.history to place told → IsSent layout sends.later.states to place.from place.epoch place.round (seen_round place.round told)
+  was to place told sent = sends.sent sent.front sent.later sent.parted place.from sent.of to place.epoch place.round told sent.sent
+
+  of_message : (m : Message) → IsOfSent (setting_of name core) lawful.history m → IsSentRound layout sends.later m
+  of_message (message.Copy shard to view number entry) sent = tt
+  of_message (message.Have shard from to view sealed) sent = tt
+  of_message (message.Round from to epoch round total deltas) sent = was to (record { epoch = epoch; round = round; from = from }) (record { total = total; deltas = deltas }) sent
+
+  rounds : AreRoundsSent layout sends.later core
+  rounds = record {
+    messages = All-weaker (IsOfSent (setting_of name core) lawful.history) (IsSentRound layout sends.later) of_message (values_of core.pool.messages) kept.messages;
+    gots = λ shard at place told waits. was shard place told (kept.gots shard at place told waits);
+  }
+
+  counts : All (AreCounted cs) cs
+  counts = subst (λ (ds : List Folded). All (AreCounted ds) ds) lawful.gives (laws.counted set lawful.history its.folded.valid lawful.fits lawful.records)
+
+  pub zeros_now : AreZerosRight (setting_of name core) cs
+  zeros_now = subst (λ (ds : List Folded). AreZerosRight set ds) lawful.gives (zeros set lawful.history its.folded.valid lawful.fits lawful.records)
+
+  pub counts_right : CountsRight name core
+  counts_right = record {
+    some = some;
+    folds = cs;
+    folded = its.folded;
+    follows = record {
+      machine = sends.later;
+      joined = joined;
+      counts = laws.counts layout sends.later (all_seen cs) joined.followed;
+      no_wrong_zero = laws.none layout sends.later joined.followed.made;
+      exact_zero = laws.found layout sends.later joined.followed.made;
+    };
+    counted = counts;
+    sent = rounds;
+  }
+
+pub counted_right : (laws : CountLaws) (zeros : ZerosBehind) (name : List ℕ → Address) (core : Core) (cs : List Folded) (its : IsLawful name core cs) → AreSent (setting_of name core) its.lawful.history core → IsCountedRight name core
+counted_right laws zeros name core cs its sent = record {
+  counts = counts_right laws zeros name core cs its sent;
+  zeros = record { folds = cs; lawful = its; now = zeros_now laws zeros name core cs its sent };
+}
+
+-- and what a steady core takes next may come
+pub stays_right : (laws : CountLaws) (zeros : ZerosBehind) (name : List ℕ → Address) (limits : Limits) (last : ℕ) (core : Core) (cs : List Folded) → IsSteady name limits last core cs → StaysCountedRight name core
+stays_right laws zeros name limits last core cs its = record {
+  right = record {
+    counts = counts_right laws zeros name core cs its.lawful its.sent;
+    zeros = record { folds = cs; lawful = its.lawful; now = zeros_now laws zeros name core cs its.lawful its.sent };
+  };
+  next = λ shard number entry low leads few. rests_follows name cs core (grounded_of name limits last core cs its) shard number entry low leads few;
+}

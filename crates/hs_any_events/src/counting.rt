@@ -1,0 +1,69 @@
+//! What the counts of a core are worth, whatever reports tell.
+ghost use Rattle.std.specs.Prelude.{ℕ, take};
+ghost use Rattle.hs_any_events.specs.Events.{AreTaken, IsCountedRight, StaysCountedRight};
+ghost use Rattle.hs_events.specs.Course.{steps};
+ghost use Rattle.hs_events.specs.Due.{Events};
+ghost use Rattle.hs_events.specs.Found.{Found, first_core};
+ghost use Rattle.hs_fold.specs.Shards.Setting.{Setting};
+ghost use Rattle.hs_limits.specs.Shape.{IsShape};
+ghost use Rattle.hs_sound.specs.Stay.{AreSoundAlong};
+ghost use Rattle.hs_standing.specs.Lists.{whole_from};
+ghost use Rattle.hs_standing.specs.Opening.{opened_lists};
+ghost use Rattle.hs_standing.specs.Run.{RunOpens};
+ghost use Rattle.hs_standing.specs.Start.{Start};
+
+use hs_answered::{
+    a_read_is_the_judges, a_step_that_answers_is_the_judges, a_write_is_the_judges,
+    an_answer_is_the_judges, views_show_the_store,
+};
+use hs_deletion::{
+    counts_of_catalogues_are_right, each_unreached_block_is_found, no_reached_block_is_a_wrong_zero,
+};
+use hs_effects::{
+    a_delete_is_answered_at_its_effect, a_drop_is_answered_at_its_effect,
+    a_got_is_silent_or_a_sweep, a_new_block_is_answered_at_its_effect,
+    a_present_block_is_answered_at_its_effect, a_root_is_answered_at_its_effect,
+    an_enter_by_itself_is_told,
+};
+use hs_measure::zero_blocks_are_right;
+use hs_memory::catalogues_in_memory_are_folds;
+use hs_sound::histories_are_counted;
+use hs_standing::a_run_goes_on;
+
+/// The counts of a core are right, and so are its zero blocks (`IsCountedRight`): as it opens over sound
+/// lists, also where it has ended with that, for any number of copies (`opens`); and, with one copy of
+/// each shard and lists from 1 on, behind each front of any events that its call takes, also where it has
+/// ended with one of them (`events`): then also what each shard takes next may come. Nothing is asked of
+/// what reports tell, nor of other lines than clients', nor of moments; of a client's line that it is
+/// above those before, and of a write that it comes with the address that the naming gives its block.
+pub fn counts_are_right_behind_any_events()
+    ensures opens { (set : Setting) (found : Found)
+        → IsShape set.shape
+        → AreSoundAlong set (whole_from (opened_lists set found) 0 set.shape.shards) →
+        IsCountedRight set.name (first_core set found) }
+    ensures events { (start : Start) (found : Found) (events : Events)
+        → RunOpens start found
+        → AreTaken start.set.name (first_core start.set found) events →
+        (n : ℕ) → StaysCountedRight start.set.name
+        (steps (first_core start.set found) (take n events)) }
+{
+    views_show_the_store();
+    a_step_that_answers_is_the_judges();
+    an_answer_is_the_judges();
+    a_read_is_the_judges();
+    a_write_is_the_judges();
+    a_new_block_is_answered_at_its_effect();
+    a_present_block_is_answered_at_its_effect();
+    a_root_is_answered_at_its_effect();
+    a_drop_is_answered_at_its_effect();
+    a_delete_is_answered_at_its_effect();
+    an_enter_by_itself_is_told();
+    a_got_is_silent_or_a_sweep();
+    counts_of_catalogues_are_right();
+    no_reached_block_is_a_wrong_zero();
+    each_unreached_block_is_found();
+    histories_are_counted();
+    zero_blocks_are_right();
+    catalogues_in_memory_are_folds();
+    a_run_goes_on();
+}
