@@ -46,7 +46,7 @@ never_answers : (r : Reply) → Wait ≡ Answer r → ⊥
 never_answers r e = cc e
 
 -- an answer that is none of what was done leaves the sessions
-undone : (line : ℕ) (w : Waiting) (r : Reply) (core : Core) → is_done r ≡ false → (take_step line w (Answer r) core).sessions ≡ core.sessions
+pub undone : (line : ℕ) (w : Waiting) (r : Reply) (core : Core) → is_done r ≡ false → (take_step line w (Answer r) core).sessions ≡ core.sessions
 unfolding seats_after
 undone line w r core e = ap (λ (b : Bool). cond b (seated (gained (view_for w.shard w.operation.op core) (pointers_for w.shard w.operation.op core) w.operation.op) w.operation.op core.sessions) core.sessions) e
 

@@ -8,6 +8,7 @@ use Rattle.hs_answered.specs.Standing.{store_with}
 use Rattle.hs_answered.specs.Telling.{Judging}
 use Rattle.hs_any_events.proofs.BytesLemmas.{ReadsAnyBytes, told_valid}
 use Rattle.hs_any_events.proofs.GivenLemmas.{given_valid}
+use Rattle.hs_any_events.proofs.RefusedLemmas.{called_is, refused_commands, refused_seats, seen_at_line}
 use Rattle.hs_core.specs.Asking.{send_round}
 use Rattle.hs_core.specs.Changing.{change_pool, note, post, refuse}
 use Rattle.hs_core.specs.declared.wait.Wait.TheVariants as wait
@@ -27,11 +28,10 @@ use Rattle.hs_effects.proofs.OrderlyLemmas.{Alike}
 use Rattle.hs_effects.proofs.QuietLemmas.{going_quiet, proposed_quiet}
 use Rattle.hs_effects.proofs.SweepLemmas.{ByViews}
 use Rattle.hs_effects.specs.Lawful.{IsLawful, MayFollow}
-use Rattle.hs_effects.specs.Logged.{IsOrderly}
+use Rattle.hs_effects.specs.Logged.{IsCalled, IsNewLine, IsOrderly}
 use Rattle.hs_effects.specs.Taking.{IsNamed, done_by, folds_behind, next_deed, setting_of, taken}
 use Rattle.hs_entry.specs.declared.entry.Entry.{Entry}
 use Rattle.hs_entry.specs.declared.entry.Entry.TheVariants as kind
-use Rattle.hs_events.specs.Asked.{addressed}
 use Rattle.hs_fold.specs.Runs.Facts.{Catalogue as Folded}
 use Rattle.hs_fold.specs.Shards.Sound.{most_records}
 use Rattle.hs_journal.specs.declared.entry.Who.TheVariants as who
@@ -47,6 +47,7 @@ use Rattle.hs_model.specs.declared.op.Op.{Op}
 use Rattle.hs_model.specs.declared.reply.Reply.{Reply}
 use Rattle.hs_model.specs.declared.reply.Reply.TheVariants as reply
 use Rattle.hs_ops.specs.Operations.{bytes_step, go_step}
+use Rattle.hs_ops.specs.Refusals.{refusal_of}
 use Rattle.hs_post.specs.declared.message.Message.TheVariants as message
 use Rattle.hs_post.specs.Pool.{message_at, without}
 use Rattle.hs_replica.specs.Group.{committed}
@@ -100,12 +101,12 @@ pub record IsSteady (name : List ℕ → Address) (limits : Limits) (last : ℕ)
   pub epochs : HaveEpochs core
   pub valid : IsValid (store_with cs core.sessions)
 
--- a client's line is new, not above the last one, and comes with the address of its block
+-- a client's line is new, not above the last one, and a write comes with the address of its block, where it has one
 pub record IsFreshLine (name : List ℕ → Address) (last line : ℕ) (o : Op) (core : Core) : Type 0 where
   pub new : operation_of line core ≡ None
   pub counted : 1 ≤ line
   pub until : line ≤ last
-  pub called : addressed name core.sessions o ≡ o
+  pub called : IsCalled name core.sessions o
 
 -- ---- plain facts
 
@@ -216,15 +217,19 @@ module _ (views : ByViews) (steps : Steps) (reads : ReadsAnyBytes) (laws : Entri
       valid = its.valid;
     }
 
-    -- a line more has a command of its own: that of its operation
+    -- ---- a client's line
+
+    -- what of it depends on whether it is refused
+    record LineGoes (after : Core) : Type 0 where
+      pub commands : ℕ → Option Command
+      pub none_above : (line : ℕ) → last < line → client_op (commands line) ≡ None
+      pub commanded : AreCommanded (judging commands name limits) after
+      pub valid : IsValid (store_with cs after.sessions)
+
     module _ (line : ℕ) (o : Op) (fresh : IsFreshLine name last line o c) where
+      -- a line more has a command of its own: that of its operation
       abbrev commands : ℕ → Option Command
       commands = with_command line o its.commands
-
-      comes : IsLineOf (judging (with_command line o its.commands) name limits) c line o
-      comes =
-          subst (λ (p : Op). IsLineOf (judging commands name limits) c line p) fresh.called
-          (line_comes (judging commands name limits) c line o (its_command line o its.commands) fresh.new fresh.counted)
 
       waits_with : AreCommanded (judging (with_command line o its.commands) name limits) c
       waits_with k w at =
@@ -240,23 +245,56 @@ module _ (views : ByViews) (steps : Steps) (reads : ReadsAnyBytes) (laws : Entri
           let until = fresh.until in
           ap (λ (x : Option Command). client_op x) (other_command line k o its.commands (λ is. omega (arith, is, up, until))) ∙ its.none_above k up
 
+      -- nothing refuses it
+      free_goes : refusal_of (seen_at_line line o c) o ≡ None → LineGoes (begin_line line o c)
+      free_goes free = record {
+        commands = commands;
+        none_above = above_with;
+        commanded = commands_line (judging commands name limits) cs c its.orderly waits_with line o comes;
+        valid = led_on commands cs (begin_line line o c) (tells_line (judging commands name limits) cs c its.orderly waits_with line o comes steps its.limited its.lawful.folded);
+      }
+        where
+          comes : IsLineOf (judging (with_command line o its.commands) name limits) c line o
+          comes =
+              subst (λ (p : Op). IsLineOf (judging (with_command line o its.commands) name limits) c line p) (called_is name line c o fresh.called free)
+              (line_comes (judging (with_command line o its.commands) name limits) c line o (its_command line o its.commands) fresh.new fresh.counted)
+
+      -- it is refused
+      refused_goes : (q : Reply) → refusal_of (seen_at_line line o c) o ≡ Some q → LineGoes (begin_line line o c)
+      refused_goes q stops = record {
+        commands = its.commands;
+        none_above = its.none_above;
+        commanded = refused_commands c its.orderly.once line o fresh.new q stops by its.commanded;
+        valid = same_seats (begin_line line o c) (refused_seats c its.orderly.once line o fresh.new q stops);
+      }
+
+      line_goes : LineGoes (begin_line line o c)
+      line_goes = by_refusal (refusal_of (seen_at_line line o c) o) refl
+        where
+          by_refusal : (x : Option Reply) → refusal_of (seen_at_line line o c) o ≡ x → LineGoes (begin_line line o c)
+          by_refusal None free = free_goes free
+          by_refusal (Some q) stops = refused_goes q stops
+
       like_begun : Likewise c (begin_line line o c)
       like_begun = from_quiet c (begin_line line o c) (begun_quiet line o c)
 
+      newly : IsNewLine name c line o
+      newly = record { new = fresh.new; counted = fresh.counted; called = fresh.called }
+
       steady_line : IsSteady name limits last (begin_line line o c) cs
       steady_line = record {
-        commands = commands;
-        none_above = above_with;
+        commands = line_goes.commands;
+        none_above = line_goes.none_above;
         limited = like_begun.limits ∙ its.limited;
-        orderly = orderly_line name c its.orderly line o comes.fresh;
+        orderly = orderly_line name c its.orderly line o newly;
         lawful = lawful_on name c (begin_line line o c) cs like_begun its.lawful;
-        sent = sent_line name its.lawful.lawful.history c its.sent line o comes.fresh.called;
+        sent = sent_line name its.lawful.lawful.history c its.sent line o fresh.called;
         resting = rests_line name cs c grounded line o;
         stored = stored_line cs c its.stored line o;
-        addressed = held_line name names c its.addressed line o comes.fresh;
-        commanded = commands_line (judging commands name limits) cs c its.orderly waits_with line o comes;
+        addressed = held_line name names c its.addressed line o newly;
+        commanded = line_goes.commanded;
         epochs = epochs_begin line o c its.epochs;
-        valid = led_on commands cs (begin_line line o c) (tells_line (judging commands name limits) cs c its.orderly waits_with line o comes steps its.limited its.lawful.folded);
+        valid = line_goes.valid;
       }
 
     steady_goes : (line : ℕ) → ((w : Waiting) → operation_of line c ≡ Some w → IsIdle w.wait) → IsSteady name limits last (resume line c) cs
@@ -478,7 +516,7 @@ module _ (views : ByViews) (steps : Steps) (reads : ReadsAnyBytes) (laws : Entri
       new = ap (λ (es : List (ℕ × Waiting)). lookup (is_at (nat_cmp line)) es) beside.operations ∙ fresh.new;
       counted = fresh.counted;
       until = fresh.until;
-      called = subst (λ (seats : Seats). addressed name seats o ≡ o) (sym beside.sessions) fresh.called;
+      called = subst (λ (seats : Seats). IsCalled name seats o) (sym beside.sessions) fresh.called;
     };
     tell_beside = λ number bytes w a b beside may. tt;
     beside = λ a b beside s. (s.0, steady_beside a s.0 s.1 b beside);

@@ -8,18 +8,18 @@ use Rattle.hs_core.specs.Records.{HasRecordRoom, most_records}
 use Rattle.hs_core.specs.State.{Core}
 use Rattle.hs_core.specs.Step.{step}
 use Rattle.hs_effects.specs.Lawful.{MayFollow}
+use Rattle.hs_effects.specs.Logged.{IsCalled}
 use Rattle.hs_effects.specs.Taking.{next_deed, setting_of, taken}
 use Rattle.hs_entry.specs.declared.entry.Entry.{Entry}
-use Rattle.hs_events.specs.Asked.{addressed}
 use Rattle.hs_events.specs.Due.{Events}
 use Rattle.hs_limits.specs.declared.address.Address.{Address}
 use Rattle.hs_measure.specs.Zeros.{ZerosRight}
 use Rattle.hs_replica.specs.Group.{committed}
 use Rattle.hs_settled.specs.Counts.{CountsRight}
 
--- the write of a client's line comes with the address that the naming gives its block, and with none where it has no block
+-- the write of a client's line, where it has a block, comes with the address that the naming gives this
 abbrev pub IsAddressedLine : (List ℕ → Address) → Event → Core → Type 0
-IsAddressedLine name (event.Line line o) core = addressed name core.sessions o ≡ o
+IsAddressedLine name (event.Line line o) core = IsCalled name core.sessions o
 IsAddressedLine name other core = Unit {0}
 
 -- the call takes an event whose write is addressed: a client's line is above that of each one before; and where the core goes on behind it, no shard has more root records than it takes

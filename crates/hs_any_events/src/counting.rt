@@ -35,7 +35,8 @@ use hs_standing::a_run_goes_on;
 /// each shard and lists from 1 on, behind each front of any events that its call takes, also where it has
 /// ended with one of them (`events`): then also what each shard takes next may come. Nothing is asked of
 /// what reports tell, nor of other lines than clients', nor of moments; of a client's line that it is
-/// above those before, and of a write that it comes with the address that the naming gives its block.
+/// above those before, and of its write that, where it has a block, it comes with the address that the
+/// naming gives this.
 pub fn counts_are_right_behind_any_events()
     ensures opens { (set : Setting) (found : Found)
         → IsShape set.shape
