@@ -36,20 +36,20 @@ abbrev pub log_in : Found → ℕ → Option Numbered
 log_in found peer = slice_index_or found.logs peer None
 
 -- of one peer, from entry to the opening of the core, with the logs that are in use then
+-- read: its log is what its disk reads as at entry, or its disk failed and counts as having none
+-- good, kept, calm, aside: it is good where its log is in use, which is one that was read; any other had none, or it was lost since
+-- disk, log: the calls on its disk leave its list as it is, at each moment; and the log has it, right before the first turn
+-- reads: reads of the disk give it, whatever a stop leaves
 pub record IsFound (tells : Type 0) (set : Setting) (span : Span) (found : Found) (logs : List (Option Keeping)) (peer : ℕ) : Type 0 where
-  -- its log is what its disk reads as at entry, or its disk failed and counts as having none
   pub read : tells → (log_in found peer ≡ list_in (seen_at span.old peer).stands.seen)
       ⊎ ((log_in found peer ≡ None) × HasRisen (seen_at span.old peer).faults (seen_at span.new peer).faults)
-  -- it is good where its log is in use, which is one that was read; any other had none, or it was lost since
   pub good : starts_good found peer ≡ is_some (log_at logs peer)
   pub kept : starts_good found peer ≡ true → IsSome (log_in found peer)
   pub calm : starts_good found peer ≡ true → (seen_at span.new peer).faults ≡ (seen_at span.old peer).faults
   pub aside : starts_good found peer ≡ false → (log_in found peer ≡ None) ⊎ ((moment : ℕ) × Contains found.lost (peer, moment))
-  -- the calls on its disk leave its list as it is, at each moment; and the log has it, right before the first turn
   pub disk : KeepsDisk tells span.before span.now (seen_at span.old peer) (seen_at span.new peer)
   pub log : tells → (seen_at span.old peer).stands.last ≤ span.before → (keeping : Keeping) → log_at logs peer ≡ Some keeping
       → HasLog keeping (seen_at span.new peer).stands (opened_list set found peer) None
-  -- reads of the disk give it, whatever a stop leaves
   pub reads : tells → (keeping : Keeping) → log_at logs peer ≡ Some keeping
       → IsKept keeping ((seen_at span.new peer).stands.seen keeping.log.side) (opened_list set found peer) None
 

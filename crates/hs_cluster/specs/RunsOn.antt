@@ -22,23 +22,24 @@ use Rattle.hs_side.specs.declared.header.Header.{Header}
 use Rattle.hs_taking.specs.Past.{PastStays}
 
 -- what opening found; that counts of faults rose as the reports tell; and of disks that tell their contents, where a stop at entry leaves one list of each, the lists at each moment
+-- slots, disks: the logs in use right before the first turn, and the disks then
+-- own: a disk of another store failed
+-- still: where the core had ended nothing came behind the reading
+-- past: what is past of each disk stays, where no call of it was ahead
+-- told: however the disks were at entry: what was told of blocks
+-- read: and that reads too cost what they tell of failed calls, where the lists have what the catalogues say
 pub record RunsOn (tells : Type 0) (set : Setting) (span : Span) (found : Found) (events : Events) : Type 0 where
-  -- the logs in use right before the first turn, and the disks then
   pub slots : List (Option Keeping)
   pub disks : List DiskSeen
   pub finds : Finds tells set (record { before = span.before; now = found.opened; old = span.disks; new = disks }) found slots
-  -- a disk of another store failed
   pub own : tells → (peer : ℕ) (other : Header) → peer < length span.disks → refusal_in set.shape peer (seen_at span.disks peer).stands.seen ≡ Some (log.WrongShape other)
       → HasRisen (seen_at span.disks peer).faults (seen_at disks peer).faults
   pub falls : NoneFalls span.disks disks
   pub counted : AreCounted (first_core set found) events disks span.left
   pub rooms : HaveRecordRoom (first_core set found) events
-  -- where the core had ended nothing came behind the reading
   pub still : IsSome (first_core set found).ended → span.left ≡ disks
-  -- what is past of each disk stays, where no call of it was ahead
   pub past : tells → (peer : ℕ) → (disk_at (stands_of span.disks) peer).last ≤ span.before → PastStays span.before span.now (disk_at (stands_of span.disks) peer) (disk_at (stands_of span.left) peer)
   pub lists : tells → LeaveOneList span.before span.disks → (first_core set found).ended ≡ None → LeavesLists (open_whole set found) events span
-  -- however the disks were at entry: what was told of blocks; and that reads too cost what they tell of failed calls, where the lists have what the catalogues say
   pub told : tells → (first_core set found).ended ≡ None → AreTold (open_whole set found) events
   pub read : tells → (first_core set found).ended ≡ None → AreStored (open_whole set found) events → AreAllCounted (first_core set found) events disks span.left
 

@@ -54,23 +54,24 @@ pub record IsWaiting (commands : ℕ → Option Command) (entries : List Journal
   pub same_session : session_of (client_op (commands line)) ≡ session_of (client_op (commands k))
   pub unanswered : (j : ℕ) → j < i → IsOfLine entries j line → ⊥
 
+-- in which order entries stand
+-- named: an entry of a line names a line of the script that has a command
+-- once: no two entries name the same line
+-- alone: beside an entry of a session's line, at most one earlier line of the session is without its answer
+-- busy: where there is one, the line is refused as busy with it
+-- only_busy: and no line is refused as busy with anything else
+-- prompt: a line that is answered in its own event has its entry before those of all later lines
+-- prompt_busy: so has one that is refused as busy
+-- moments: moments never fall
 pub record IsOrdered (commands : ℕ → Option Command) (entries : List JournalEntry) : Type 0 where
-  -- an entry of a line names a line of the script that has a command
   pub named : (i n : ℕ) → IsOfLine entries i n → IsSome (commands n)
-  -- no two entries name the same line
   pub once : (i j n : ℕ) → IsOfLine entries i n → IsOfLine entries j n → i ≡ j
-  -- beside an entry of a session's line, at most one earlier line of the session is without its answer
   pub alone : (i k : ℕ) (session : List ℕ) → IsOfLine entries i k → session_of (client_op (commands k)) ≡ Some session → (IsOpen (client_op (commands k)) → ⊥)
       → (l m : ℕ) → IsWaiting commands entries i k l → IsWaiting commands entries i k m → l ≡ m
-  -- where there is one, the line is refused as busy with it
   pub busy : (i k : ℕ) (session : List ℕ) (entry : JournalEntry) → IsAt entries i entry → entry.who ≡ who.Line k → session_of (client_op (commands k)) ≡ Some session → (IsOpen (client_op (commands k)) → ⊥)
       → (l : ℕ) → IsWaiting commands entries i k l → entry.reply ≡ reply.Busy l
-  -- and no line is refused as busy with anything else
   pub only_busy : (i k l : ℕ) (entry : JournalEntry) → IsAt entries i entry → entry.who ≡ who.Line k → entry.reply ≡ reply.Busy l
       → (session : List ℕ) × (session_of (client_op (commands k)) ≡ Some session) × (IsOpen (client_op (commands k)) → ⊥) × IsWaiting commands entries i k l
-  -- a line that is answered in its own event has its entry before those of all later lines
   pub prompt : (i j k n : ℕ) → IsOfLine entries i k → IsPrompt (client_op (commands k)) → IsOfLine entries j n → k < n → i < j
-  -- so has one that is refused as busy
   pub prompt_busy : (i j k n l : ℕ) (entry : JournalEntry) → IsAt entries i entry → entry.who ≡ who.Line k → entry.reply ≡ reply.Busy l → IsOfLine entries j n → k < n → i < j
-  -- moments never fall
   pub moments : (i j : ℕ) (first second : JournalEntry) → IsAt entries i first → IsAt entries j second → i ≤ j → first.moment ≤ second.moment
