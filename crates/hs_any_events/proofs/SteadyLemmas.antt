@@ -509,9 +509,9 @@ module _ (views : ByViews) (steps : Steps) (reads : ReadsAnyBytes) (laws : Entri
 
   -- ---- so each event keeps it
 
-  pub walks_steady : Walks name (λ line o c. IsFreshLine name last line o c) (λ number bytes w c. Unit {0}) (λ line. Unit {0}) (λ c. (cs : List Folded) × IsSteady name limits last c cs)
+  pub walks_steady : Walks (λ line o c. IsFreshLine name last line o c) (λ number bytes w c. Unit {0}) (λ line. Unit {0}) (λ c. (cs : List Folded) × IsSteady name limits last c cs)
   walks_steady = record {
-    orderly = λ c s. s.1.orderly;
+    once = λ c s. s.1.orderly.once;
     line_beside = λ line o a b beside fresh. record {
       new = ap (λ (es : List (ℕ × Waiting)). lookup (is_at (nat_cmp line)) es) beside.operations ∙ fresh.new;
       counted = fresh.counted;

@@ -150,9 +150,9 @@ module _ (name : List ℕ → Address) where
   again_bounded : (back shard : ℕ) (c : Core) → IsBounded c → IsBounded (send_round back shard c)
   again_bounded back shard c its = bounded_same c (send_round back shard c) ((again_alike back shard c).catalogue 0) (again_alike back shard c).limits its
 
-  bounds : Walks name (λ line o c. IsNewLine name c line o) (λ number bytes w c. Unit {0}) (λ line. Unit {0}) (λ c. Bounds name c)
+  bounds : Walks (λ line o c. IsNewLine name c line o) (λ number bytes w c. Unit {0}) (λ line. Unit {0}) (λ c. Bounds name c)
   bounds = record {
-    orderly = λ c q. q.orderly;
+    once = λ c q. q.orderly.once;
     line_beside = new_beside;
     tell_beside = λ number bytes w a b beside may. tt;
     beside = λ a b beside q. record {

@@ -107,9 +107,9 @@ module _ (rounds : ℕ) (name : List ℕ → Address) (names : GivesAddresses na
   zero_line : (epoch line n : ℕ) → kind.Enter 0 epoch ≡ kind.Enter line n → line ≡ 0
   zero_line epoch line n e = cc e
 
-  bounds : Walks name (λ line o c. IsNewLine name c line o) (λ number bytes w c. Unit {0}) (λ line. Unit {0}) (λ c. Bounds rounds name c)
+  bounds : Walks (λ line o c. IsNewLine name c line o) (λ number bytes w c. Unit {0}) (λ line. Unit {0}) (λ c. Bounds rounds name c)
   bounds = record {
-    orderly = λ c q. q.orderly;
+    once = λ c q. q.orderly.once;
     line_beside = new_beside;
     tell_beside = λ number bytes w a b beside may. tt;
     beside = λ a b beside q. record {

@@ -46,9 +46,9 @@ module _ (name : List ℕ → Address) where
     called = subst (λ (seats : Seats). IsCalled name seats o) (sym beside.sessions) its.called;
   }
 
-  knows : Walks name (λ line o c. IsNewLine name c line o) (λ number bytes w c. Unit {0}) (λ line. Unit {0}) (λ c. Knows name c)
+  knows : Walks (λ line o c. IsNewLine name c line o) (λ number bytes w c. Unit {0}) (λ line. Unit {0}) (λ c. Knows name c)
   knows = record {
-    orderly = λ c q. q.orderly;
+    once = λ c q. q.orderly.once;
     line_beside = new_beside;
     tell_beside = λ number bytes w a b beside may. tt;
     beside = λ a b beside q. record {

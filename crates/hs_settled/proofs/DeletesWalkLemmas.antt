@@ -155,9 +155,9 @@ module _ (blocks : Blocks) (given : Given) (views : ByViews) (steps : Steps) (la
 
   -- ---- so every event keeps it
 
-  pub walks_sweeping : Walks by.name (λ line o c. IsLineOf by c line o) (TellsItsBlock by start) (IsNobodys by) (λ c. IsSweeping by start c)
+  pub walks_sweeping : Walks (λ line o c. IsLineOf by c line o) (TellsItsBlock by start) (IsNobodys by) (λ c. IsSweeping by start c)
   walks_sweeping = record {
-    orderly = λ c s. s.stands.orderly;
+    once = λ c s. s.stands.orderly.once;
     line_beside = λ line o a b beside may. line_beside by start line o a b beside may;
     tell_beside = λ number bytes w a b beside may. tell_beside by start number bytes w a b beside may;
     beside = λ a b beside s. swept_beside a s b beside;

@@ -232,9 +232,9 @@ module _ (name : List ℕ → Address) where
   due_elsewhere zero c due e = absurd (cc due)
   due_elsewhere (suc n) c due e = omega (arith, e)
 
-  asks : Walks name (MayAsk name) (λ number bytes w c. Unit {0}) (λ line. Unit {0}) (λ c. Asked name c)
+  asks : Walks (MayAsk name) (λ number bytes w c. Unit {0}) (λ line. Unit {0}) (λ c. Asked name c)
   asks = record {
-    orderly = λ c q. q.orderly;
+    once = λ c q. q.orderly.once;
     line_beside = new_beside;
     tell_beside = λ number bytes w a b beside may. tt;
     beside = λ a b beside q. record {

@@ -16,7 +16,6 @@ use Rattle.hs_effects.proofs.GroupLemmas.{group_changed}
 use Rattle.hs_entry.specs.declared.entry.Entry.{Entry}
 use Rattle.hs_entry.specs.declared.entry.Entry.TheVariants as kind
 use Rattle.hs_journal.specs.declared.entry.Who.TheVariants as who
-use Rattle.hs_limits.specs.declared.address.Address.{Address}
 use Rattle.hs_limits.specs.declared.limits.Limits.{Limits}
 use Rattle.hs_limits.specs.declared.shape.Shape.{Shape}
 use Rattle.hs_members.specs.Members.{Members, all_peers, has_good, is_good_status, view_of}
@@ -101,7 +100,7 @@ new_passed from shape c n = record { same_shape = n.same_shape; waits = λ g le.
 
 -- ---- a core as it opens
 
-module _ {name : List ℕ → Address} {MayLine : ℕ → Op → Core → Type 0} {MayTell : ℕ → Option (List ℕ) → Waiting → Core → Type 0} {MayRefuse : ℕ → Type 0} {Q : Core → Type 0} (V : WalksOpen name MayLine MayTell MayRefuse Q) where
+module _ {MayLine : ℕ → Op → Core → Type 0} {MayTell : ℕ → Option (List ℕ) → Waiting → Core → Type 0} {MayRefuse : ℕ → Type 0} {Q : Core → Type 0} (V : WalksOpen MayLine MayTell MayRefuse Q) where
   view_opens : (from : ℕ) (shape : Shape) (c : Core) → from < shape.shards → IsNew from shape c → Q c → Q (change_view from c) × IsNew (from + 1) shape (change_view from c)
   view_opens from shape c low n q = go (has_good from c.members)
     where

@@ -28,7 +28,6 @@ use Rattle.hs_events.proofs.KeepLemmas.{Leaves, ReportLeaves, keeps_do, with_lin
 use Rattle.hs_events.specs.Alone.{AreAlone, face}
 use Rattle.hs_events.specs.Sane.{IsSane}
 use Rattle.hs_events.specs.Whole.{Whole}
-use Rattle.hs_limits.specs.declared.address.Address.{Address}
 use Rattle.hs_members.specs.Members.{Members, is_good_status}
 use Rattle.hs_model.specs.declared.op.Op.{Op}
 use Rattle.hs_model.specs.declared.reply.Reply.TheVariants as reply
@@ -87,7 +86,7 @@ do_refuses e c = keeps_do refuses report_refuses e c ∙ line_refuses e c
 
 -- ---- each event
 
-module _ {name : List ℕ → Address} {MayLine : ℕ → Op → Core → Type 0} {MayTell : ℕ → Option (List ℕ) → Waiting → Core → Type 0} {MayRefuse : ℕ → Type 0} {Q : Core → Type 0} (W : Walks name MayLine MayTell MayRefuse Q) where
+module _ {MayLine : ℕ → Op → Core → Type 0} {MayTell : ℕ → Option (List ℕ) → Waiting → Core → Type 0} {MayRefuse : ℕ → Type 0} {Q : Core → Type 0} (W : Walks MayLine MayTell MayRefuse Q) where
   -- ---- messages
 
   deliver_goes : (number : ℕ) (m : Message) (c : Core) → AreAlone (face c) → message_at number c.pool ≡ Some m → Q c → Q (deliver number m c)

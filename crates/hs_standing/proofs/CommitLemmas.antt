@@ -18,7 +18,7 @@ use Rattle.hs_core.specs.Operating.{lines_where, propose_entry, resume, resume_w
 use Rattle.hs_core.specs.Pending.{named}
 use Rattle.hs_core.specs.State.{Core}
 use Rattle.hs_core.specs.Words.{change_if, change_with, each, times}
-use Rattle.hs_effects.specs.Logged.{IsOrderly}
+use Rattle.hs_effects.specs.Logged.{AreOnce}
 use Rattle.hs_effects.specs.Taking.{done_by, taken}
 use Rattle.hs_effects.proofs.EffectLemmas.{taken_here, view_idle, wakes_idle}
 use Rattle.hs_effects.proofs.GoingLemmas.{AreReady, PassesIdle, ready_lines, ready_on}
@@ -29,7 +29,6 @@ use Rattle.hs_entry.specs.declared.entry.Entry.{Entry}
 use Rattle.hs_entry.specs.declared.entry.Entry.TheVariants as kind
 use Rattle.hs_fold.proofs.Shards.PlaceLemmas.{other-at}
 use Rattle.hs_fold.specs.Shards.Sound.{most_records}
-use Rattle.hs_limits.specs.declared.address.Address.{Address}
 use Rattle.hs_limits.specs.declared.shape.Shape.{Shape}
 use Rattle.hs_model.specs.declared.op.Op.{Op}
 use Rattle.hs_ops.specs.Operations.{go_step}
@@ -171,7 +170,7 @@ module _ (shard number : ℕ) (entry : Entry) (c : Core) (next : committed (grou
 
 -- ---- what goes on behind it
 
-module _ {name : List ℕ → Address} {MayLine : ℕ → Op → Core → Type 0} {MayTell : ℕ → Option (List ℕ) → Waiting → Core → Type 0} {MayRefuse : ℕ → Type 0} {Q : Core → Type 0} (W : Walks name MayLine MayTell MayRefuse Q) where
+module _ {MayLine : ℕ → Op → Core → Type 0} {MayTell : ℕ → Option (List ℕ) → Waiting → Core → Type 0} {MayRefuse : ℕ → Type 0} {Q : Core → Type 0} (W : Walks MayLine MayTell MayRefuse Q) where
   -- Q holds, and only entries have come behind since
   abbrev pub Holds : Core → Core → Type 0
   Holds s c = Q c × Grown s c
@@ -183,8 +182,8 @@ module _ {name : List ℕ → Address} {MayLine : ℕ → Op → Core → Type 0
 
   goes_where : (s : Core) (shard : ℕ) (test : Waiting → Bool) → PassesIdle test → (c : Core) → Holds s c → Holds s (resume_where shard test c)
   goes_where s shard test idle c h =
-      let its : IsOrderly name c = W.orderly c h.0 in
-      goes_each s (lines_where shard test c) c h (ready_lines shard test idle c c.operations its.once (each_found c.operations its.once))
+      let once : AreOnce c.operations = W.once c h.0 in
+      goes_each s (lines_where shard test c) c h (ready_lines shard test idle c c.operations once (each_found c.operations once))
 
   pub due_goes : (s : Core) (shard : ℕ) (c : Core) → shard < (shape_of s).shards → Holds s c → Holds s (propose_due shard c)
   due_goes s shard c low h = go (is_enter_due shard c) refl

@@ -49,9 +49,9 @@ module _ (set : Setting) (old : Lists) (MayLine : ℕ → Op → Core → Type 0
     goes = goes_proposes set old (taken shard entry c) (told_at_once shard entry c) (follow set s.cs (next_deed shard entry c)) goes (proposes_told shard entry (done_by shard entry c).effect (taken shard entry c));
   }
 
-  pub joined : Walks set.name MayLine MayTell MayRefuse (StandsWithin set old P)
+  pub joined : Walks MayLine MayTell MayRefuse (StandsWithin set old P)
   joined = record {
-    orderly = λ c s. keeps.orderly c s.cs s.holds;
+    once = λ c s. (keeps.orderly c s.cs s.holds).once;
     line_beside = keeps.line_beside;
     tell_beside = keeps.tell_beside;
     beside = λ a b beside s. stays a b s (keeps.beside a b s.cs beside s.holds) (proposes_beside a b beside);

@@ -142,7 +142,7 @@ folds_valid name core cs its =
     (is_from_valid _ (history_goes (setting_of name core) (shape_some (shape_of core) its.folded.valid) (shape_few (shape_of core) its.folded.valid) its.lawful.history its.lawful.fits its.lawful.records).valid)
 
 module _ (views : ByViews) (steps : Steps) (laws : Entries) (by : Judging) (names : GivesAddresses by.name) where
-  opens_standing : (start : Store) → IsValid start → WalksOpen by.name (λ line o c. IsLineOf by c line o) (TellsItsBlock by start) (IsNobodys by) (λ c. (cs : List Folded) × IsStanding by start c cs)
+  opens_standing : (start : Store) → IsValid start → WalksOpen (λ line o c. IsLineOf by c line o) (TellsItsBlock by start) (IsNobodys by) (λ c. (cs : List Folded) × IsStanding by start c cs)
   opens_standing start valid = record {
     walks = walks_standing views steps laws by names start valid;
     opens = λ shard c low waits none s. (s.0, standing_opens by shard c start s.0 s.1 low none);

@@ -27,7 +27,6 @@ use Rattle.hs_entry.specs.declared.entry.Entry.{Entry}
 use Rattle.hs_events.specs.Alone.{AreAlone, IsAlone, face, group_in, own}
 use Rattle.hs_fold.specs.Shards.Sound.{most_records}
 use Rattle.hs_journal.specs.declared.entry.Who.TheVariants as who
-use Rattle.hs_limits.specs.declared.address.Address.{Address}
 use Rattle.hs_limits.specs.declared.shape.Shape.{Shape}
 use Rattle.hs_members.specs.Members.{Members}
 use Rattle.hs_model.specs.declared.deed.Deed.TheVariants as deed
@@ -146,7 +145,7 @@ module _ (p number : ℕ) (c : Core) (h : AreAlone (face c)) (settled : AreSettl
 
 -- ---- any report
 
-module _ {name : List ℕ → Address} {MayLine : ℕ → Op → Core → Type 0} {MayTell : ℕ → Option (List ℕ) → Waiting → Core → Type 0} {MayRefuse : ℕ → Type 0} {Q : Core → Type 0} (W : Walks name MayLine MayTell MayRefuse Q) where
+module _ {MayLine : ℕ → Op → Core → Type 0} {MayTell : ℕ → Option (List ℕ) → Waiting → Core → Type 0} {MayRefuse : ℕ → Type 0} {Q : Core → Type 0} (W : Walks MayLine MayTell MayRefuse Q) where
   -- bytes are told the operation that waits for them
   bytes_goes : (p number line : ℕ) (bytes : Option (List ℕ)) (tasks : List Task) (c : Core) → first_task p c ≡ Some (record { job = job.Read number; line = line })
       → ((w : Waiting) → IsReadFor p number c w → MayTell number bytes w c) → Q c → Q (tell_bytes line number bytes (set_tasks p tasks c))

@@ -468,9 +468,9 @@ module _ (views : ByViews) (steps : Steps) (laws : Entries) (by : Judging) (name
 
   -- ---- so every event keeps it
 
-  pub walks_standing : Walks by.name (λ line o c. IsLineOf by c line o) (TellsItsBlock by start) (IsNobodys by) (λ c. (cs : List Folded) × IsStanding by start c cs)
+  pub walks_standing : Walks (λ line o c. IsLineOf by c line o) (TellsItsBlock by start) (IsNobodys by) (λ c. (cs : List Folded) × IsStanding by start c cs)
   walks_standing = record {
-    orderly = λ c s. s.1.orderly;
+    once = λ c s. s.1.orderly.once;
     line_beside = λ line o a b beside may. line_beside by start line o a b beside may;
     tell_beside = λ number bytes w a b beside may. tell_beside by start number bytes w a b beside may;
     beside = λ a b beside s. (s.0, standing_beside a s.0 s.1 b beside);

@@ -4,7 +4,6 @@ use Rattle.hs_standing.specs.Walks.{MayEvent, Walks, WalksOpen}
 use Rattle.hs_core.specs.declared.event.Event.{Event}
 use Rattle.hs_core.specs.declared.waiting.Waiting.{Waiting}
 use Rattle.hs_core.specs.State.{Core}
-use Rattle.hs_limits.specs.declared.address.Address.{Address}
 use Rattle.hs_model.specs.declared.op.Op.{Op}
 
 -- of a core, of a client's line, of bytes that a report tells, of a line that is no client's
@@ -15,14 +14,14 @@ pub record Tests : Type 0 where
   pub may_refuse : ℕ → Bool
 
 -- each of the changes keeps what holds
-abbrev pub AreKept : (List ℕ → Address) → Tests → Type 0
-AreKept name tests =
-    Walks name (λ line o core. tests.may_line line o core ≡ true) (λ number bytes w core. tests.may_tell number bytes w core ≡ true) (λ line. tests.may_refuse line ≡ true) (λ core. tests.holds core ≡ true)
+abbrev pub AreKept : Tests → Type 0
+AreKept tests =
+    Walks (λ line o core. tests.may_line line o core ≡ true) (λ number bytes w core. tests.may_tell number bytes w core ≡ true) (λ line. tests.may_refuse line ≡ true) (λ core. tests.holds core ≡ true)
 
 -- and so does a first view
-abbrev pub AreKeptOpen : (List ℕ → Address) → Tests → Type 0
-AreKeptOpen name tests =
-    WalksOpen name (λ line o core. tests.may_line line o core ≡ true) (λ number bytes w core. tests.may_tell number bytes w core ≡ true) (λ line. tests.may_refuse line ≡ true) (λ core. tests.holds core ≡ true)
+abbrev pub AreKeptOpen : Tests → Type 0
+AreKeptOpen tests =
+    WalksOpen (λ line o core. tests.may_line line o core ≡ true) (λ number bytes w core. tests.may_tell number bytes w core ≡ true) (λ line. tests.may_refuse line ≡ true) (λ core. tests.holds core ≡ true)
 
 -- what is asked of an event holds
 abbrev pub IsGranted : Tests → Event → Core → Type 0

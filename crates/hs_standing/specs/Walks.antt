@@ -18,13 +18,12 @@ use Rattle.hs_core.specs.Views.{begin_view}
 use Rattle.hs_desk.specs.declared.done.Done.{Done}
 use Rattle.hs_desk.specs.declared.done.Done.TheVariants as done
 use Rattle.hs_desk.specs.declared.job.Job.TheVariants as job
-use Rattle.hs_effects.specs.Logged.{IsOrderly}
+use Rattle.hs_effects.specs.Logged.{AreOnce}
 use Rattle.hs_effects.specs.Taking.{taken}
 use Rattle.hs_entry.specs.declared.entry.Entry.{Entry}
 use Rattle.hs_entry.specs.declared.entry.Entry.TheVariants as kind
 use Rattle.hs_fold.specs.Shards.Sound.{most_records}
 use Rattle.hs_journal.specs.declared.entry.Who.TheVariants as who
-use Rattle.hs_limits.specs.declared.address.Address.{Address}
 use Rattle.hs_model.specs.declared.deed.Deed.TheVariants as deed
 use Rattle.hs_model.specs.declared.op.Op.{Op}
 use Rattle.hs_model.specs.declared.reply.Reply.{Reply}
@@ -37,9 +36,9 @@ use Rattle.hs_limits.specs.declared.delta.Delta.{Delta}
 
 -- ---- the changes
 
--- what is asked of a client's line, of bytes that a report tells, of a line that is no client's; each of the changes keeps Q, and those beside a run keep what is asked
-pub record Walks (name : List ℕ → Address) (MayLine : ℕ → Op → Core → Type 0) (MayTell : ℕ → Option (List ℕ) → Waiting → Core → Type 0) (MayRefuse : ℕ → Type 0) (Q : Core → Type 0) : Type 0 where
-  pub orderly : (c : Core) → Q c → IsOrderly name c
+-- what is asked of a client's line, of bytes that a report tells, of a line that is no client's; by Q no line has two operations, each of the changes keeps Q, and those beside a run keep what is asked
+pub record Walks (MayLine : ℕ → Op → Core → Type 0) (MayTell : ℕ → Option (List ℕ) → Waiting → Core → Type 0) (MayRefuse : ℕ → Type 0) (Q : Core → Type 0) : Type 0 where
+  pub once : (c : Core) → Q c → AreOnce c.operations
   pub line_beside : (line : ℕ) (o : Op) (a b : Core) → IsBeside a b → MayLine line o a → MayLine line o b
   pub tell_beside : (number : ℕ) (bytes : Option (List ℕ)) (w : Waiting) (a b : Core) → IsBeside a b → MayTell number bytes w a → MayTell number bytes w b
   pub beside : (a b : Core) → IsBeside a b → Q a → Q b
@@ -63,8 +62,8 @@ pub record Walks (name : List ℕ → Address) (MayLine : ℕ → Op → Core �
   pub again : (back shard : ℕ) (c : Core) → Q c → Q (send_round back shard c)
 
 -- and so does a first view, in a shard in whose list nothing waits, while there is no operation
-pub record WalksOpen (name : List ℕ → Address) (MayLine : ℕ → Op → Core → Type 0) (MayTell : ℕ → Option (List ℕ) → Waiting → Core → Type 0) (MayRefuse : ℕ → Type 0) (Q : Core → Type 0) : Type 0 where
-  pub walks : Walks name MayLine MayTell MayRefuse Q
+pub record WalksOpen (MayLine : ℕ → Op → Core → Type 0) (MayTell : ℕ → Option (List ℕ) → Waiting → Core → Type 0) (MayRefuse : ℕ → Type 0) (Q : Core → Type 0) : Type 0 where
+  pub walks : Walks MayLine MayTell MayRefuse Q
   pub opens : (shard : ℕ) (c : Core) → shard < (shape_of c).shards → (group_of shard c).waiting ≡ [] → c.operations ≡ [] → Q c → Q (begin_view shard c)
 
 -- ---- the event

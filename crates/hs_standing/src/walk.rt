@@ -7,7 +7,6 @@ ghost use Rattle.hs_core.specs.Opening.{Taken, new_core, open_core};
 ghost use Rattle.hs_core.specs.Step.{step};
 ghost use Rattle.hs_events.specs.Sane.{IsSane};
 ghost use Rattle.hs_events.specs.Whole.{Whole};
-ghost use Rattle.hs_limits.specs.declared.address.Address.{Address};
 ghost use Rattle.hs_limits.specs.declared.limits.Limits.{Limits};
 ghost use Rattle.hs_limits.specs.declared.shape.Shape.{Shape};
 
@@ -15,8 +14,8 @@ ghost use Rattle.hs_limits.specs.declared.shape.Shape.{Shape};
 /// beside a run, each event keeps it: on a sane store of one copy a shard, where the root records and
 /// the Roots that wait are few, the journal had room so far, and what is asked of the event holds.
 pub fn each_event_keeps_it()
-    ensures { (name : List ℕ → Address) (tests : Tests) (whole : Whole) (event : Event) (moment : ℕ)
-        → AreKept name tests → IsSane whole → HasRecordRoom whole.core → whole.core.refused ≡ []
+    ensures { (tests : Tests) (whole : Whole) (event : Event) (moment : ℕ)
+        → AreKept tests → IsSane whole → HasRecordRoom whole.core → whole.core.refused ≡ []
         → IsGranted tests event whole.core → tests.holds whole.core ≡ true →
         tests.holds (step event moment whole.core) ≡ true }
 {}
@@ -24,8 +23,8 @@ pub fn each_event_keeps_it()
 /// Where a first view keeps it too, whatever holds of a new core holds of the core that opens, for any
 /// number of copies.
 pub fn opening_keeps_it()
-    ensures { (name : List ℕ → Address) (tests : Tests) (shape : Shape) (limits : Limits)
+    ensures { (tests : Tests) (shape : Shape) (limits : Limits)
         (found : Taken) (moment : ℕ)
-        → AreKeptOpen name tests → tests.holds (new_core shape limits found moment) ≡ true →
+        → AreKeptOpen tests → tests.holds (new_core shape limits found moment) ≡ true →
         tests.holds (open_core shape limits found moment) ≡ true }
 {}
