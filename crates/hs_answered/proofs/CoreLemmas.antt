@@ -263,7 +263,7 @@ module _ (cs : List Folded) (core : Core) (line : ℕ) (o : Op) where
   g = judging_shard (shape_of core).shards core.sessions o
 
   abbrev begun : Core
-  begun = record core { last_line = line }
+  begun = record core { progress = record core.progress { last_line = line } }
 
   abbrev w : Waiting
   w = record { operation = new_operation line o; shard = g; wait = wait.View }

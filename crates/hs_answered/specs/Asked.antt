@@ -29,7 +29,7 @@ busy_with other core = busy_line other core
 abbrev pub first_step : ℕ → Op → Core → OpStep
 first_step line o core =
     let shard : ℕ = judging_shard (shape_of core).shards core.sessions o in
-    go_step (record (view_for shard o (record core { last_line = line })) { busy = busy_line o core }) (new_operation line o)
+    go_step (record (view_for shard o (record core { progress = record core.progress { last_line = line } })) { busy = busy_line o core }) (new_operation line o)
 
 -- bytes are those of a block: its spelling, which can be read; none are reported of one that is gone
 abbrev pub HasBytes : Option StoredBlock → Option (List ℕ) → Type 0

@@ -51,7 +51,7 @@ pub record LawsBelow : Type 0 where
 
 -- a core is steady up to its last line, for some folds
 abbrev pub Steady : (List ℕ → Address) → Limits → Core → Type 0
-Steady name limits core = (cs : List Folded) × IsSteady name limits core.last_line core cs
+Steady name limits core = (cs : List Folded) × IsSteady name limits core.progress.last_line core cs
 
 -- so is one between two events, on a sane store, where the root records are few and the journal had room so far
 pub record StaysSteady (name : List ℕ → Address) (limits : Limits) (c : Whole) : Type 0 where
@@ -122,8 +122,8 @@ more_lines name limits last next core cs up its = record {
   valid = its.valid;
 }
 
-line_rises : (name : List ℕ → Address) (e : Event) (at : ℕ) (core : Core) → IsTaken name core e at → core.last_line ≤ last_line_after e core
-line_rises name (event.Line line o) at core may = let up : core.last_line < line = may.next in omega (arith, up)
+line_rises : (name : List ℕ → Address) (e : Event) (at : ℕ) (core : Core) → IsTaken name core e at → core.progress.last_line ≤ last_line_after e core
+line_rises name (event.Line line o) at core may = let up : core.progress.last_line < line = may.next in omega (arith, up)
 line_rises name (event.Report peer d) at core may = omega arith
 line_rises name (event.Turn line peer) at core may = omega arith
 line_rises name (event.Deliver line number) at core may = omega arith
@@ -146,7 +146,7 @@ any_report peer (done.Failed disk) core = tt
 
 module _ (name : List ℕ → Address) (limits : Limits) (core : Core) (its : Steady name limits core) where
   -- a line above the last one is new
-  new_line : (line : ℕ) → core.last_line < line → operation_of line core ≡ None
+  new_line : (line : ℕ) → core.progress.last_line < line → operation_of line core ≡ None
   new_line line up = by_operation (operation_of line core) refl
     where
       by_operation : (x : Option Waiting) → operation_of line core ≡ x → operation_of line core ≡ None
@@ -158,7 +158,7 @@ module _ (name : List ℕ → Address) (limits : Limits) (core : Core) (its : St
 
   may_event : (e : Event) (at : ℕ) → IsTaken name core e at → MayEvent (λ line o c. IsFreshLine name (last_line_after e core) line o c) (λ number bytes w c. Unit {0}) (λ line. Unit {0}) e core
   may_event (event.Line line o) at may =
-      let up : core.last_line < line = may.next in
+      let up : core.progress.last_line < line = may.next in
       record { new = new_line line up; counted = omega (arith, up); until = omega arith; called = may.called }
   may_event (event.Report peer d) at may = any_report peer d core
   may_event (event.Turn line peer) at may = tt
@@ -187,7 +187,7 @@ module _ (below : LawsBelow) (name : List ℕ → Address) (names : GivesAddress
   next_steady c e at s may =
       subst (λ (last : ℕ). (cs : List Folded) × IsSteady name limits last (step e at c.core) cs) (sym (line_at c.core e at s.sane.going))
       (walks_step (walks_steady below.views below.steps below.reads below.laws name names limits (last_line_after e c.core)) c e at s.sane s.few s.clean (may_event name limits c.core s.steady e at may)
-      (s.steady.0, more_lines name limits c.core.last_line (last_line_after e c.core) c.core s.steady.0 (line_rises name e at c.core may) s.steady.1))
+      (s.steady.0, more_lines name limits c.core.progress.last_line (last_line_after e c.core) c.core s.steady.0 (line_rises name e at c.core may) s.steady.1))
 
   stays_steady : (c : Whole) (e : Event) (at : ℕ) → StaysSteady name limits c → IsTaken name c.core e at → (step e at c.core).ended ≡ None → StaysSteady name limits (step_whole e at c)
   stays_steady c e at s may going = record {

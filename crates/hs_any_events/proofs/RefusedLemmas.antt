@@ -34,7 +34,7 @@ use Rattle.hs_tokens.specs.Seats.{Seats}
 
 -- what a line sees as it begins
 abbrev pub seen_at_line : ℕ → Op → Core → OpView
-seen_at_line line o core = record (view_for (judging_shard (shape_of core).shards core.sessions o) o (record core { last_line = line })) { busy = busy_line o core }
+seen_at_line line o core = record (view_for (judging_shard (shape_of core).shards core.sessions o) o (record core { progress = record core.progress { last_line = line } })) { busy = busy_line o core }
 
 begin_answers : (v : OpView) (line : ℕ) (o : Op) (r : Reply) → judged_in v o ≡ Some r → begin v line o ≡ Answer r
 unfolding begin
@@ -66,7 +66,7 @@ module _ (core : Core) (once : AreOnce core.operations) (line : ℕ) (o : Op) (n
   w = record { operation = new_operation line o; shard = judging_shard (shape_of core).shards core.sessions o; wait = wait.View }
 
   abbrev with_it : Core
-  with_it = add_operation line w (record core { last_line = line })
+  with_it = add_operation line w (record core { progress = record core.progress { last_line = line } })
 
   begun_is : begin_line line o core ≡ take_step line w (Answer q) with_it
   begun_is = ap (λ (s : OpStep). take_step line w s with_it) (begin_answers (seen_at_line line o core) line o q (refused_judged (seen_at_line line o core) o q stops))

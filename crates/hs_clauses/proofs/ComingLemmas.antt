@@ -32,8 +32,8 @@ pub record ComingLaws : Type 0 where
   pub opens : (commands : ℕ → Option Command) (shape : Shape) (limits : Limits) (taken : Taken) (moment : ℕ) → client_op (commands 0) ≡ None → IsInTurn commands (open_core shape limits taken moment)
   pub turns : (commands : ℕ → Option Command) (core : Core) (es : Events) → IsInTurn commands core → AllMayCome commands core es → IsInTurn commands (after_all core es)
   pub full : (commands : ℕ → Option Command) (core : Core) → IsInTurn commands core → IsOrdered commands (core.journal ++ core.refused)
-  pub come_opening : (commands : ℕ → Option Command) (whole : Bool) (core : Core) (es : Events) (to : ℕ) → client_op (commands 0) ≡ None → core.event_line ≡ 0 → MomentsRise core.moment es to → is_walk next_due whole 0 core es ≡ true → AllMayCome commands core es
-  pub next_first : (commands : ℕ → Option Command) (whole : Bool) (core : Core) (es : Events) → client_op (commands 0) ≡ None → core.event_line ≡ 0 → is_walk next_due whole 0 core es ≡ true → IsNext commands (steps core es) 1
+  pub come_opening : (commands : ℕ → Option Command) (whole : Bool) (core : Core) (es : Events) (to : ℕ) → client_op (commands 0) ≡ None → core.progress.event_line ≡ 0 → MomentsRise core.moment es to → is_walk next_due whole 0 core es ≡ true → AllMayCome commands core es
+  pub next_first : (commands : ℕ → Option Command) (whole : Bool) (core : Core) (es : Events) → client_op (commands 0) ≡ None → core.progress.event_line ≡ 0 → is_walk next_due whole 0 core es ≡ true → IsNext commands (steps core es) 1
   pub come_lines : (s : Lined) (line : ℕ) (core : Core) (lines : List Events) (to : ℕ) → IsNext s.commands core line → MomentsRise core.moment (lines_events lines) to → AreLines s line core lines → AllMayCome s.commands core (lines_events lines)
   pub new_opening : (name : List ℕ → Address) (whole : Bool) (core : Core) (es : Events) → is_walk next_due whole 0 core es ≡ true → MayBeginAll name es core
   pub new_lines : (s : Lined) (line : ℕ) (core : Core) (lines : List Events) (to : ℕ) → IsInTurn s.commands core → IsNext s.commands core line → MomentsRise core.moment (lines_events lines) to → AreLines s line core lines → MayBeginAll s.name (lines_events lines) core
@@ -75,8 +75,8 @@ module _ (laws : ComingLaws) (S : Script) (r : Ran) (story : Story) (went : Went
   moment_is : (first_core S.set story.found).moment ≡ story.found.opened
   moment_is = (opens_first S.set.shape S.set.limits (opens_with S.set story.found) story.found.opened).moment
 
-  no_line : (first_core S.set story.found).event_line ≡ 0
-  no_line = (opens_first S.set.shape S.set.limits (opens_with S.set story.found) story.found.opened).event_line
+  no_line : (first_core S.set story.found).progress.event_line ≡ 0
+  no_line = (opens_first S.set.shape S.set.limits (opens_with S.set story.found) story.found.opened).progress.event_line
 
   turn_first : IsInTurn S.commands (first_core S.set story.found)
   turn_first = laws.opens S.commands S.set.shape S.set.limits (opens_with S.set story.found) story.found.opened nobody

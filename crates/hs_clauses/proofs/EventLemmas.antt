@@ -110,8 +110,8 @@ numbers_bytes line number bytes c its =
 numbers_line : (line : ℕ) (o : Op) (c : Core) → AreNumbered c → AreNumbered (begin_line line o c)
 numbers_line line o c its =
     let w : Waiting = record { operation = new_operation line o; shard = judging_shard (shape_of c).shards c.sessions o; wait = wait.View } in
-    let v : OpView = record (view_for (judging_shard (shape_of c).shards c.sessions o) o (record c { last_line = line })) { busy = busy_line o c } in
-    numbers_step line w (go_step v w.operation) (add_operation line w (record c { last_line = line })) its
+    let v : OpView = record (view_for (judging_shard (shape_of c).shards c.sessions o) o (record c { progress = record c.progress { last_line = line } })) { busy = busy_line o c } in
+    numbers_step line w (go_step v w.operation) (add_operation line w (record c { progress = record c.progress { last_line = line } })) its
 
 -- ---- entries that take effect
 
@@ -288,7 +288,7 @@ numbers_take peer line (done.Copied number) c its =
     let one : Core = change_rejoin peer (copied number) c in
     numbers_join_if peer (change_group (home peer c) (on_copied peer number) one) (numbers_group (home peer c) (on_copied peer number) one refl its)
 numbers_take peer line (done.Stepped switched) c its = its
-numbers_take peer line (done.Failed disk) c its = numbers_down disk (note who.Store deed.Nothing (reply.Down disk c.event_line) c) its
+numbers_take peer line (done.Failed disk) c its = numbers_down disk (note who.Store deed.Nothing (reply.Down disk c.progress.event_line) c) its
 
 numbers_report : (peer : ℕ) (d : Done) (c : Core) → AreNumbered c → AreNumbered (on_report peer d c)
 numbers_report peer d c its =
@@ -312,7 +312,7 @@ numbers_do (event.Start line peer) c its = unless_by line (no_peer peer c ∷ no
 numbers_begin : (line moment : ℕ) (c : Core) → AreNumbered c → AreNumbered (begin_event line moment c)
 numbers_begin line moment c its = go _
   where
-    go : (b : Bool) → AreNumbered (record (change_if b (change_pool restart_numbers) c) { moment = moment; event_line = cond (line == 0) c.event_line line })
+    go : (b : Bool) → AreNumbered (record (change_if b (change_pool restart_numbers) c) { moment = moment; progress = record c.progress { event_line = cond (line == 0) c.progress.event_line line } })
     go true = its
     go false = its
 

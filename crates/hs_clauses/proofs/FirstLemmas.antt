@@ -20,9 +20,9 @@ pub record Stays (c d : Core) : Type 0 where
   pub shape : d.members.shape ≡ c.members.shape
   pub limits : d.limits ≡ c.limits
   pub moment : d.moment ≡ c.moment
-  pub event_line : d.event_line ≡ c.event_line
+  pub event_line : d.progress.event_line ≡ c.progress.event_line
 
-stays : (c d : Core) → d.members.shape ≡ c.members.shape → d.limits ≡ c.limits → d.moment ≡ c.moment → d.event_line ≡ c.event_line → Stays c d
+stays : (c d : Core) → d.members.shape ≡ c.members.shape → d.limits ≡ c.limits → d.moment ≡ c.moment → d.progress.event_line ≡ c.progress.event_line → Stays c d
 stays c d shape limits moment event_line = record { shape = shape; limits = limits; moment = moment; event_line = event_line }
 
 then_stays : (a b c : Core) → Stays a b → Stays b c → Stays a c

@@ -66,7 +66,7 @@ pub record FineAt (shape : Shape) (groups : List Group) (tasks : List (List Task
   pub home : (peer : ℕ) → AllByRecursion (IsAtHome operations last peer) (slice_index_or tasks peer [])
 
 abbrev pub Fine : Core → Type 0
-Fine c = FineAt (shape_of c) c.groups c.tasks c.operations c.event_line
+Fine c = FineAt (shape_of c) c.groups c.tasks c.operations c.progress.event_line
 
 -- ---- queues
 
@@ -85,19 +85,19 @@ tasks_changed k peer ts tasks = by_place (cases_eq k peer)
     by_place (inr differs) = inl (get_or-set_other tasks peer k ts [] differs)
 
 -- a queue in which each job is at home
-pub fine_queue : (peer : ℕ) (ts : List Task) (c : Core) → AllByRecursion (IsAtHome c.operations c.event_line peer) ts → Fine c → Fine (set_tasks peer ts c)
+pub fine_queue : (peer : ℕ) (ts : List Task) (c : Core) → AllByRecursion (IsAtHome c.operations c.progress.event_line peer) ts → Fine c → Fine (set_tasks peer ts c)
 fine_queue peer ts c new h = record { one = h.one; single = h.single; once = h.once; begun = h.begun; home = λ k. by k (tasks_changed k peer ts c.tasks) }
   where
     by : (k : ℕ) → (slice_index_or (slice_set c.tasks peer ts) k [] ≡ slice_index_or c.tasks k []) ⊎ ((k ≡ peer) × (slice_index_or (slice_set c.tasks peer ts) k [] ≡ ts))
-        → AllByRecursion (IsAtHome c.operations c.event_line k) (slice_index_or (slice_set c.tasks peer ts) k [])
-    by k (inl same) = subst (λ xs. AllByRecursion (IsAtHome c.operations c.event_line k) xs) (sym same) (h.home k)
+        → AllByRecursion (IsAtHome c.operations c.progress.event_line k) (slice_index_or (slice_set c.tasks peer ts) k [])
+    by k (inl same) = subst (λ xs. AllByRecursion (IsAtHome c.operations c.progress.event_line k) xs) (sym same) (h.home k)
     by k (inr is) =
-        subst (λ xs. AllByRecursion (IsAtHome c.operations c.event_line k) xs) (sym is.1)
-        (subst (λ j. AllByRecursion (IsAtHome c.operations c.event_line j) ts) (sym is.0) new)
+        subst (λ xs. AllByRecursion (IsAtHome c.operations c.progress.event_line k) xs) (sym is.1)
+        (subst (λ j. AllByRecursion (IsAtHome c.operations c.progress.event_line j) ts) (sym is.0) new)
 
-fine_task : (peer : ℕ) (task : Task) (c : Core) → IsAtHome c.operations c.event_line peer task → Fine c → Fine (add_task peer task c)
+fine_task : (peer : ℕ) (task : Task) (c : Core) → IsAtHome c.operations c.progress.event_line peer task → Fine c → Fine (add_task peer task c)
 fine_task peer task c its h =
-    fine_queue peer (tasks_of peer c ++ task ∷ []) c (all_append (IsAtHome c.operations c.event_line peer) (tasks_of peer c) (task ∷ []) (h.home peer) (its, tt)) h
+    fine_queue peer (tasks_of peer c ++ task ∷ []) c (all_append (IsAtHome c.operations c.progress.event_line peer) (tasks_of peer c) (task ∷ []) (h.home peer) (its, tt)) h
 
 pub fine_entry_tasks : (peer number : ℕ) (entry : Entry) (c : Core) → Fine c → Fine (add_entry_tasks peer number entry c)
 fine_entry_tasks peer number entry c h =
@@ -184,15 +184,15 @@ fine_put line x u c at same h = record {
   single = h.single;
   once = once_set line c.operations x h.once;
   begun = λ l w e. begun l w e (one_or_other l line);
-  home = λ peer. all_weaker (IsAtHome c.operations c.event_line peer) (IsAtHome (set_value (is_at (nat_cmp line)) c.operations x) c.event_line peer)
+  home = λ peer. all_weaker (IsAtHome c.operations c.progress.event_line peer) (IsAtHome (set_value (is_at (nat_cmp line)) c.operations x) c.progress.event_line peer)
       (λ task its number is. ((its number is).0, λ w e. place peer task.line w (its number is).1 e (one_or_other task.line line))) (tasks_of peer c) (h.home peer);
 }
   where
     now : List (ℕ × Waiting)
     now = set_value (is_at (nat_cmp line)) c.operations x
 
-    begun : (l : ℕ) (w : Waiting) → lookup (is_at (nat_cmp l)) now ≡ Some w → (l ≡ line) ⊎ (l ≡ line → ⊥) → l ≤ c.event_line
-    begun l w e (inl is) = subst (λ k. k ≤ c.event_line) (sym is) (h.begun line u at)
+    begun : (l : ℕ) (w : Waiting) → lookup (is_at (nat_cmp l)) now ≡ Some w → (l ≡ line) ⊎ (l ≡ line → ⊥) → l ≤ c.progress.event_line
+    begun l w e (inl is) = subst (λ k. k ≤ c.progress.event_line) (sym is) (h.begun line u at)
     begun l w e (inr d) = h.begun l w (sym (set_other nat_cmp number_exact c.operations line l x d) ∙ e)
 
     place : (peer l : ℕ) (w : Waiting) → ((v : Waiting) → lookup (is_at (nat_cmp l)) c.operations ≡ Some v → v.shard ≡ peer) → lookup (is_at (nat_cmp l)) now ≡ Some w → (l ≡ line) ⊎ (l ≡ line → ⊥) → w.shard ≡ peer
@@ -207,7 +207,7 @@ fine_over line c h = record {
   single = h.single;
   once = once_remove line c.operations h.once;
   begun = λ l w e. h.begun l w (was l w e (one_or_other l line));
-  home = λ peer. all_weaker (IsAtHome c.operations c.event_line peer) (IsAtHome (remove_entry (is_at (nat_cmp line)) c.operations) c.event_line peer)
+  home = λ peer. all_weaker (IsAtHome c.operations c.progress.event_line peer) (IsAtHome (remove_entry (is_at (nat_cmp line)) c.operations) c.progress.event_line peer)
       (λ task its number is. ((its number is).0, λ w e. (its number is).1 w (was task.line w e (one_or_other task.line line)))) (tasks_of peer c) (h.home peer);
 }
   where
@@ -234,7 +234,7 @@ fine_restart shard last c h = record {
   single = h.single;
   once = once_map (restarted shard last) c.operations h.once;
   begun = λ l w e. let v = was l w e in h.begun l v.0 v.1;
-  home = λ peer. all_weaker (IsAtHome c.operations c.event_line peer) (IsAtHome (map (λ (e : ℕ × Waiting). (e.0, restarted shard last e.1)) c.operations) c.event_line peer)
+  home = λ peer. all_weaker (IsAtHome c.operations c.progress.event_line peer) (IsAtHome (map (λ (e : ℕ × Waiting). (e.0, restarted shard last e.1)) c.operations) c.progress.event_line peer)
       (λ task its number is. ((its number is).0, λ w e. (let v = was task.line w e in sym (ap (λ (y : Waiting). y.shard) v.2) ∙ restart_place shard last v.0 ∙ (its number is).1 v.0 v.1))) (tasks_of peer c) (h.home peer);
 }
   where

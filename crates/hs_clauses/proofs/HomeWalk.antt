@@ -287,13 +287,13 @@ fine_taken peer line (done.Copied number) c h =
     let one : Core = change_rejoin peer (copied number) c in
     fine_join_if peer (change_group (home peer one) (on_copied peer number) one) (fine_group (home peer one) (on_copied peer number) one (copied_long peer number (group_of (home peer one) one)) h)
 fine_taken peer line (done.Stepped switched) c h = h
-fine_taken peer line (done.Failed disk) c h = fine_down disk (note who.Store deed.Nothing (reply.Down disk c.event_line) c) h
+fine_taken peer line (done.Failed disk) c h = fine_down disk (note who.Store deed.Nothing (reply.Down disk c.progress.event_line) c) h
 
 fine_report : (peer : ℕ) (d : Done) (c : Core) → Fine c → Fine (on_report peer d c)
 fine_report peer d c h = by (first_task peer c)
   where
     fine_behind : Fine (set_tasks peer (drop 1 (tasks_of peer c)) c)
-    fine_behind = fine_queue peer (drop 1 (tasks_of peer c)) c (all_behind (IsAtHome c.operations c.event_line peer) (tasks_of peer c) (h.home peer)) h
+    fine_behind = fine_queue peer (drop 1 (tasks_of peer c)) c (all_behind (IsAtHome c.operations c.progress.event_line peer) (tasks_of peer c) (h.home peer)) h
 
     answered : (task : Task) (b : Bool) → Fine (change_if b (λ x. take_report peer task.line d (set_tasks peer (drop 1 (tasks_of peer x)) x)) c)
     answered task true = fine_taken peer task.line d (set_tasks peer (drop 1 (tasks_of peer c)) c) fine_behind
@@ -306,9 +306,9 @@ fine_report peer d c h = by (first_task peer c)
 -- ---- events
 
 -- a client's line that is above all others
-fine_line : (line : ℕ) (o : Op) (c : Core) (last : ℕ) → last < line → c.event_line ≡ line → FineAt (shape_of c) c.groups c.tasks c.operations last → Fine (begin_line line o c)
+fine_line : (line : ℕ) (o : Op) (c : Core) (last : ℕ) → last < line → c.progress.event_line ≡ line → FineAt (shape_of c) c.groups c.tasks c.operations last → Fine (begin_line line o c)
 fine_line line o c last high now h =
-    let begun : Core = record c { last_line = line } in
+    let begun : Core = record c { progress = record c.progress { last_line = line } } in
     let shard : ℕ = judging_shard (shape_of c).shards c.sessions o in
     let w : Waiting = record { operation = new_operation line o; shard = shard; wait = wait.View } in
     let v : OpView = record (view_for shard o begun) { busy = busy_line o c } in
@@ -352,14 +352,14 @@ line_is line last high = by (line == 0) not_none
 
 module _ (commands : ℕ → Option Command) (at : ℕ) (c : Core) (moment : ℕ) (h : Fine c) where
   -- it is no client's line
-  fine_other : (e : Event) → ((line : ℕ) (o : Op) → e ≡ event.Line line o → ⊥) → ((line_of e == 0) ≡ false → c.event_line ≤ line_of e) → Fine (do_event e (begun e at c))
+  fine_other : (e : Event) → ((line : ℕ) (o : Op) → e ≡ event.Line line o → ⊥) → ((line_of e == 0) ≡ false → c.progress.event_line ≤ line_of e) → Fine (do_event e (begun e at c))
   fine_other e other up =
       fine_do e (begun e at c) other
-      (later_by (shape_of c) c.groups c.tasks c.operations c.event_line (begun e at c).event_line (later_if (line_of e) c.event_line (line_of e == 0) up) h)
+      (later_by (shape_of c) c.groups c.tasks c.operations c.progress.event_line (begun e at c).progress.event_line (later_if (line_of e) c.progress.event_line (line_of e == 0) up) h)
 
   fine_happens : (e : Event) → MayCome commands c e moment → Fine (do_event e (begun e at c))
   fine_happens (event.Line line o) may =
-      fine_line line o (begun (event.Line line o) at c) c.event_line may.begins.above (line_is line c.event_line may.begins.above) h
+      fine_line line o (begun (event.Line line o) at c) c.progress.event_line may.begins.above (line_is line c.progress.event_line may.begins.above) h
   fine_happens (event.Report peer d) may = fine_other (event.Report peer d) (λ line o e. cc e) (λ e. (let bad : true ≡ false = e in absurd (cc bad)))
   fine_happens (event.Turn line peer) may = fine_other (event.Turn line peer) (λ l o e. cc e) (λ e. may.begins.upward)
   fine_happens (event.Deliver line number) may = fine_other (event.Deliver line number) (λ l o e. cc e) (λ e. may.begins.upward)

@@ -18,9 +18,9 @@ use Rattle.hs_model.specs.declared.reply.Reply.TheVariants as reply
 -- what no first view and no note changes
 pub record Stays (c d : Core) : Type 0 where
   pub moment : d.moment ≡ c.moment
-  pub event_line : d.event_line ≡ c.event_line
+  pub event_line : d.progress.event_line ≡ c.progress.event_line
 
-stays : (c d : Core) → d.moment ≡ c.moment → d.event_line ≡ c.event_line → Stays c d
+stays : (c d : Core) → d.moment ≡ c.moment → d.progress.event_line ≡ c.progress.event_line → Stays c d
 stays c d moment event_line = record { moment = moment; event_line = event_line }
 
 then_stays : (a b c : Core) → Stays a b → Stays b c → Stays a c

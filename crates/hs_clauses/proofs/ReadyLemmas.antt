@@ -43,7 +43,7 @@ pub record LawsHere : Type 0 where
   pub opens : (s : Lined) (set : Setting) (found : Found) (cs : List Folded) → set.shape.copies ≡ 1 → ((shard : ℕ) → shard < set.shape.shards → IsFromOne (opened_list set found shard)) → length found.good ≡ peer_count set.shape
       → client_op (s.commands 0) ≡ None → GivesAddresses s.name → MayOpen (judging_of s set.limits) set.shape (opens_with set found) found.opened cs → IsReady (judging_of s set.limits) (store_with cs []) (open_whole set found)
   pub opening : (s : Lined) (limits : Limits) (start : Store) (whole : Whole) (done : Bool) (es : Events) (to : ℕ) → GivesAddresses s.name → IsValid start → IsReady (judging_of s limits) start whole
-      → client_op (s.commands 0) ≡ None → whole.core.event_line ≡ 0 → MomentsRise whole.core.moment es to → is_walk next_due done 0 whole.core es ≡ true → IsAskedAlong (judging_of s limits) start whole.core es
+      → client_op (s.commands 0) ≡ None → whole.core.progress.event_line ≡ 0 → MomentsRise whole.core.moment es to → is_walk next_due done 0 whole.core es ≡ true → IsAskedAlong (judging_of s limits) start whole.core es
       → IsReady (judging_of s limits) start (steps_whole whole es) × IsNext s.commands (steps_whole whole es).core 1
   pub lines : (s : Lined) (limits : Limits) (start : Store) (whole : Whole) (line : ℕ) (lines : List Events) (to : ℕ) → GivesAddresses s.name → IsValid start → IsReady (judging_of s limits) start whole
       → IsNext s.commands whole.core line → MomentsRise whole.core.moment (lines_events lines) to → AreLines s line whole.core lines → IsAskedAlong (judging_of s limits) start whole.core (lines_events lines)
@@ -86,8 +86,8 @@ module _ (laws : LawsHere) (S : Script) (r : Ran) (story : Story) (went : Went S
   moment_is : first.moment ≡ story.found.opened
   moment_is = (opens_first S.set.shape S.set.limits (opens_with S.set story.found) story.found.opened).moment
 
-  no_line : first.event_line ≡ 0
-  no_line = (opens_first S.set.shape S.set.limits (opens_with S.set story.found) story.found.opened).event_line
+  no_line : first.progress.event_line ≡ 0
+  no_line = (opens_first S.set.shape S.set.limits (opens_with S.set story.found) story.found.opened).progress.event_line
 
   -- ---- opening
 

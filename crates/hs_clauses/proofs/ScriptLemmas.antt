@@ -32,8 +32,8 @@ use Rattle.hs_told.specs.InTurn.{AllMayCome, IsInTurn, after_all}
 
 -- the laws below, in one place
 pub record ScriptLaws : Type 0 where
-  pub opening : (commands : ℕ → Option Command) (whole : Bool) (core : Core) (es : Events) (to : ℕ) → client_op (commands 0) ≡ None → core.event_line ≡ 0 → MomentsRise core.moment es to → is_walk next_due whole 0 core es ≡ true → AllMayCome commands core es
-  pub first : (commands : ℕ → Option Command) (whole : Bool) (core : Core) (es : Events) → client_op (commands 0) ≡ None → core.event_line ≡ 0 → is_walk next_due whole 0 core es ≡ true → IsNext commands (steps core es) 1
+  pub opening : (commands : ℕ → Option Command) (whole : Bool) (core : Core) (es : Events) (to : ℕ) → client_op (commands 0) ≡ None → core.progress.event_line ≡ 0 → MomentsRise core.moment es to → is_walk next_due whole 0 core es ≡ true → AllMayCome commands core es
+  pub first : (commands : ℕ → Option Command) (whole : Bool) (core : Core) (es : Events) → client_op (commands 0) ≡ None → core.progress.event_line ≡ 0 → is_walk next_due whole 0 core es ≡ true → IsNext commands (steps core es) 1
   pub lines : (s : Script) (line : ℕ) (core : Core) (lines : List Events) (to : ℕ) → IsNext s.commands core line → MomentsRise core.moment (all_events lines) to → AreLines s line core lines → AllMayCome s.commands core (all_events lines)
   pub opening_new : (name : List ℕ → Address) (whole : Bool) (core : Core) (es : Events) → is_walk next_due whole 0 core es ≡ true → MayBeginAll name es core
   pub lines_new : (s : Script) (line : ℕ) (core : Core) (lines : List Events) (to : ℕ) → IsInTurn s.commands core → IsNext s.commands core line → MomentsRise core.moment (all_events lines) to → AreLines s line core lines → MayBeginAll s.name (all_events lines) core
@@ -85,7 +85,7 @@ same_steps : (core : Core) (es : Events) → after_all core es ≡ steps core es
 same_steps core [] = refl
 same_steps core (e ∷ es) = same_steps (step e.0 e.1 core) es
 
-pub script_comes : (laws : ScriptLaws) (start : Start) (past done : Bool) (core : Core) (opening : Events) (lines : List Events) (to : ℕ) → client_op (start.commands 0) ≡ None → core.event_line ≡ 0 → IsInTurn start.commands core
+pub script_comes : (laws : ScriptLaws) (start : Start) (past done : Bool) (core : Core) (opening : Events) (lines : List Events) (to : ℕ) → client_op (start.commands 0) ≡ None → core.progress.event_line ≡ 0 → IsInTurn start.commands core
     → MomentsRise core.moment (opening ++ all_events lines) to → is_walk next_due done 0 core opening ≡ true → AreLines (script_of start past) 1 (steps core opening) lines → AllCome (judging_of start) core (opening ++ all_events lines)
 script_comes laws start past done core opening lines to nobody none turn rise walks are =
     come_append (judging_of start) core opening (all_events lines)
@@ -117,7 +117,7 @@ module _ (below : LawsBelow) (laws : ScriptLaws) (start : Start) (found : Found)
   come : AllCome (judging_of start) (first_core start.set found) (opening ++ all_events lines)
   come =
       let first : Stays (new_core start.set.shape start.set.limits (opens_with start.set found) found.opened) (first_core start.set found) = opens_first start.set.shape start.set.limits (opens_with start.set found) found.opened in
-      script_comes laws start past done (first_core start.set found) opening lines to o.well.nobody first.event_line opened.stands.whole.turn
+      script_comes laws start past done (first_core start.set found) opening lines to o.well.nobody first.progress.event_line opened.stands.whole.turn
       (subst (λ (m : ℕ). MomentsRise m (opening ++ all_events lines) to) (sym first.moment) rise) walks are
 
   pub script_tells : KeepsRecordRoom (first_core start.set found) (opening ++ all_events lines) → AreTold (open_whole start.set found) (opening ++ all_events lines)

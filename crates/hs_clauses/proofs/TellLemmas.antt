@@ -239,8 +239,8 @@ module _ (start : Start) (c : Whole) (r : IsReading start c) where
     home : w.shard ≡ peer
     home =
         let first : slice_get (tasks_of peer core) 0 ≡ Some (record { job = job.Read number; line = read.line }) = sym (first_here core peer alone low) ∙ read.first in
-        let its : IsAtHome core.operations core.event_line peer (record { job = job.Read number; line = read.line }) =
-        first_fits (IsAtHome core.operations core.event_line peer) (tasks_of peer core) (record { job = job.Read number; line = read.line }) (r.home.jobs peer) first in
+        let its : IsAtHome core.operations core.progress.event_line peer (record { job = job.Read number; line = read.line }) =
+        first_fits (IsAtHome core.operations core.progress.event_line peer) (tasks_of peer core) (record { job = job.Read number; line = read.line }) (r.home.jobs peer) first in
         (its number refl).1 w read.at
 
     waits : IsAwaiting seats cs number w

@@ -17,5 +17,5 @@ IsAtHome operations last peer task =
 
 -- so it is with each job of each peer; and each operation without an answer is of a line up to that of the last event
 pub record AreAtHome (core : Core) : Type 0 where
-  pub begun : (line : ℕ) (w : Waiting) → operation_of line core ≡ Some w → line ≤ core.event_line
-  pub jobs : (peer : ℕ) → AllByRecursion (IsAtHome core.operations core.event_line peer) (tasks_of peer core)
+  pub begun : (line : ℕ) (w : Waiting) → operation_of line core ≡ Some w → line ≤ core.progress.event_line
+  pub jobs : (peer : ℕ) → AllByRecursion (IsAtHome core.operations core.progress.event_line peer) (tasks_of peer core)

@@ -16,7 +16,7 @@ use Rattle.hs_members.specs.Members.{all_peers, is_good_status}
 use Rattle.hs_model.specs.declared.deed.Deed.TheVariants as deed
 use Rattle.hs_model.specs.declared.reply.Reply.TheVariants as reply
 
-stays : (c d : Core) → d.members.shape ≡ c.members.shape → d.limits ≡ c.limits → d.moment ≡ c.moment → d.last_line ≡ c.last_line → Stays c d
+stays : (c d : Core) → d.members.shape ≡ c.members.shape → d.limits ≡ c.limits → d.moment ≡ c.moment → d.progress.last_line ≡ c.progress.last_line → Stays c d
 stays c d shape limits moment last_line = record { shape = shape; limits = limits; moment = moment; last_line = last_line }
 
 then_stays : (a b c : Core) → Stays a b → Stays b c → Stays a c

@@ -21,7 +21,7 @@ impl Cluster {
         ensures shape { self.new.core.members.shape ≡ self.old.core.members.shape }
         ensures moment { self.new.core.moment ≤ moment }
         ensures last_line { OnOk result
-            (self.new.core.last_line ≡ last_line_after event self.old.core) }
+            (self.new.core.progress.last_line ≡ last_line_after event self.old.core) }
     {
         let shape = self.core.shape();
         let peers = shape.shards * shape.copies;

@@ -28,7 +28,7 @@ impl Cluster {
         line: u64,
         command: Command,
     ) -> Result<(), ClusterFault>
-        requires line { self.old.core.last_line < line }
+        requires line { self.old.core.progress.last_line < line }
         requires moment { self.old.core.moment ≤ watch.old }
         requires count { length disks.old
             ≡ self.old.core.members.shape.shards * self.old.core.members.shape.copies }
@@ -92,7 +92,7 @@ impl Cluster {
         moment: u64,
     ) -> Result<(), ClusterFault>
         requires going { self.old.core.ended ≡ None }
-        requires line { self.old.core.last_line < line }
+        requires line { self.old.core.progress.last_line < line }
         requires moment { self.old.core.moment ≤ moment }
         ensures runs { (disks : List DiskSeen) → RunsLine (A.name naming.now) line
             (command.Client op) moment moment self.old self.new result

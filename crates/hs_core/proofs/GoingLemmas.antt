@@ -62,7 +62,7 @@ module _ (line : ℕ) (w : Waiting) (core : Core) (found : operation_of line cor
 
   holds : (s : OpStep) → holds_by (aim_of w.shard w.operation.op core) (moved s) ≡ what_holds (judged_by s w) core
   holds s =
-      ap (λ b. if not (slice_index_or core.viewed w.shard false) then wait.View else (if b then wait.Address else wait.Room))
+      ap (λ b. if not (slice_index_or core.progress.viewed w.shard false) then wait.View else (if b then wait.Address else wait.Room))
       (coming_put line core w (judged_by s w) found refl w.shard (wanted_address core.sessions w.operation.op))
 
   answers : (reply : Reply) → change_with (operation_of line (moved (step.Answer reply))) (answer_with line reply (gains w core)) (moved (step.Answer reply))
@@ -123,17 +123,17 @@ gone how line core between last aim s helds about judged steps gives carries = g
 -- ---- one of a client's line
 
 pub begun : (line : ℕ) (o : Op) (core last : Core) (s : OpStep) (helds : List Held)
-    → s ≡ step_by next.Go (aim_of (judging_shard (shape_of core).shards core.sessions o) o core) (busy_line o core) (record core { last_line = line }) (new_operation line o)
-    → helds ≡ given_by s (gains_by (aim_of (judging_shard (shape_of core).shards core.sessions o) o core) (busy_line o core) (record core { last_line = line }) o)
+    → s ≡ step_by next.Go (aim_of (judging_shard (shape_of core).shards core.sessions o) o core) (busy_line o core) (record core { progress = record core.progress { last_line = line } }) (new_operation line o)
+    → helds ≡ given_by s (gains_by (aim_of (judging_shard (shape_of core).shards core.sessions o) o core) (busy_line o core) (record core { progress = record core.progress { last_line = line } }) o)
     → last ≡ carry_by (aim_of (judging_shard (shape_of core).shards core.sessions o) o core) line s helds
     (add_operation line (record {
-      operation = after_step (step_by next.Go (aim_of (judging_shard (shape_of core).shards core.sessions o) o core) (busy_line o core) (record core { last_line = line }) (new_operation line o)) (new_operation line o);
+      operation = after_step (step_by next.Go (aim_of (judging_shard (shape_of core).shards core.sessions o) o core) (busy_line o core) (record core { progress = record core.progress { last_line = line } }) (new_operation line o)) (new_operation line o);
       shard = judging_shard (shape_of core).shards core.sessions o;
       wait = wait.View;
-    }) (record core { last_line = line }))
+    }) (record core { progress = record core.progress { last_line = line } }))
     → last ≡ begin_line line o core
 begun line o core last s helds steps gives carries =
-    let first : Core = record core { last_line = line } in
+    let first : Core = record core { progress = record core.progress { last_line = line } } in
     let shard : ℕ = judging_shard (shape_of core).shards core.sessions o in
     let aim : Aim = aim_of shard o core in
     let w : Waiting = record { operation = new_operation line o; shard = shard; wait = wait.View } in
@@ -164,15 +164,15 @@ pub begun_by : (line : ℕ) (o : Op) (core middle inserted last : Core) (operati
     → shard ≡ judging_shard (shape_of core).shards core.sessions operation.op
     → aim ≡ aim_of shard operation.op core
     → busy ≡ busy_line o core
-    → s ≡ step_by next.Go aim busy (record core { last_line = line }) operation
-    → helds ≡ given_by s (gains_by aim busy (record core { last_line = line }) operation.op)
-    → left ≡ after_step (step_by next.Go aim busy (record core { last_line = line }) operation) operation
-    → middle ≡ record core { last_line = line }
+    → s ≡ step_by next.Go aim busy (record core { progress = record core.progress { last_line = line } }) operation
+    → helds ≡ given_by s (gains_by aim busy (record core { progress = record core.progress { last_line = line } }) operation.op)
+    → left ≡ after_step (step_by next.Go aim busy (record core { progress = record core.progress { last_line = line } }) operation) operation
+    → middle ≡ record core { progress = record core.progress { last_line = line } }
     → inserted ≡ add_operation line (record { operation = left; shard = shard; wait = wait.View }) middle
     → last ≡ carry_by aim line s helds inserted
     → last ≡ begin_line line o core
 begun_by line o core middle inserted last operation left shard aim busy s helds made place about who steps gives leaves same puts carries =
-    let first : Core = record core { last_line = line } in
+    let first : Core = record core { progress = record core.progress { last_line = line } } in
     let new : Operation = new_operation line o in
     let J : ℕ = judging_shard (shape_of core).shards core.sessions o in
     let A : Aim = aim_of J o core in
@@ -194,7 +194,7 @@ begun_by line o core middle inserted last operation left shard aim busy s helds 
 
 -- and of the core in which that line is the last one already
 pub begun_from : (line : ℕ) (o : Op) (core first middle inserted last : Core) (operation left : Operation) (shard : ℕ) (aim : Aim) (busy : Option ℕ) (s : OpStep) (helds : List Held)
-    → first ≡ record core { last_line = line }
+    → first ≡ record core { progress = record core.progress { last_line = line } }
     → operation ≡ new_operation line o
     → shard ≡ judging_shard (shape_of first).shards first.sessions operation.op
     → aim ≡ aim_of shard operation.op first

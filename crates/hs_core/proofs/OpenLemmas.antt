@@ -61,8 +61,8 @@ none_joins (false ∷ rest) zero = refl
 none_joins (b ∷ rest) (suc peer) = none_joins rest peer
 
 -- a core with lists of all shards keeps to what it has to
-pub kept_of_all : (core : Core) (fs : List ℕ) → IsMembers core.members → AreLists core.members core.groups fs core.viewed core.tasks
-    → length core.catalogues ≡ core.members.shape.shards → length core.rejoins ≡ core.members.shape.shards * core.members.shape.copies → IsCore core
+pub kept_of_all : (core : Core) (fs : List ℕ) → IsMembers core.members → AreLists core.members core.groups fs core.progress.viewed core.tasks
+    → length core.catalogues ≡ core.members.shape.shards → length core.progress.rejoins ≡ core.members.shape.shards * core.members.shape.copies → IsCore core
 kept_of_all core fs ms all cs rs = record {
   members = ms;
   catalogues = cs;
@@ -73,7 +73,7 @@ kept_of_all core fs ms all cs rs = record {
   each = all.each;
 }
 
-pub fronts_of_all : (core : Core) (fs : List ℕ) → AreLists core.members core.groups fs core.viewed core.tasks → AreFronts core fs
+pub fronts_of_all : (core : Core) (fs : List ℕ) → AreLists core.members core.groups fs core.progress.viewed core.tasks → AreFronts core fs
 fronts_of_all core fs all = record { length = all.fronts; each = all.at }
 
 abbrev no_job : Option Job

@@ -44,7 +44,7 @@ become_nothing peer m h = become_same peer Down m (get_or_past m.statuses peer D
 
 -- a core whose members have changed
 pub core_told : (old new : Core) → IsCore old → IsMembers new.members → new.members.shape ≡ old.members.shape → new.groups ≡ old.groups
-    → length new.catalogues ≡ length old.catalogues → length new.viewed ≡ length old.viewed → length new.tasks ≡ length old.tasks → length new.rejoins ≡ length old.rejoins
+    → length new.catalogues ≡ length old.catalogues → length new.progress.viewed ≡ length old.progress.viewed → length new.tasks ≡ length old.tasks → length new.progress.rejoins ≡ length old.progress.rejoins
     → IsCore new
 core_told old new is ms e gs cs vs ts rs = record {
   members = ms;
@@ -75,7 +75,7 @@ fronts_same old new fs are e gs = record {
 -- its steps, where one peer has become something else, and only peers of its shard have gone on
 pub steps_told : (old new : Core) (peer shard : ℕ) (is : PeerStatus) (ss ts : List (Option Job)) → IsCore old → IsCore new → AreSteps old ss
     → home_of (shape_of old) peer ≡ shard → new.members ≡ become peer is old.members → new.groups ≡ old.groups
-    → Renews new.members (group_of shard old) new.rejoins shard ss ts
+    → Renews new.members (group_of shard old) new.progress.rejoins shard ss ts
     → ((k : ℕ) → home_of (shape_of old) k ≢ shard → rejoin_of k new ≡ rejoin_of k old)
     → AreSteps new ts
 steps_told old new peer shard is ss ts io iw are at m gs renews rs =

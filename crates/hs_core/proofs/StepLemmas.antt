@@ -121,11 +121,11 @@ same_lead m w shard lens e h =
 
 -- the step that is kept is that of the peer's status, lead and progress
 pub kept_step_at : (core : Core) (peer : ℕ) → IsOf (shape_of core) (home peer core) (group_of (home peer core) core)
-    → kept_step peer core ≡ step_at core.members (lead_of (home peer core) core) (lead_sealed (lead_of (home peer core) core) (group_of (home peer core) core)) core.rejoins peer
+    → kept_step peer core ≡ step_at core.members (lead_of (home peer core) core) (lead_sealed (lead_of (home peer core) core) (group_of (home peer core) core)) core.progress.rejoins peer
 kept_step_at core peer is = go (is_joining (status_of peer core)) refl (lead_of (home peer core) core) refl (rejoin_of peer core) refl
   where
     go : (b : Bool) → is_joining (status_of peer core) ≡ b → (lead : Option ℕ) → lead_of (home peer core) core ≡ lead → (r : Option Rejoin) → rejoin_of peer core ≡ r
-        → kept_step peer core ≡ step_at core.members (lead_of (home peer core) core) (lead_sealed (lead_of (home peer core) core) (group_of (home peer core) core)) core.rejoins peer
+        → kept_step peer core ≡ step_at core.members (lead_of (home peer core) core) (lead_sealed (lead_of (home peer core) core) (group_of (home peer core) core)) core.progress.rejoins peer
     go false e lead p r q = rw e refl
     go true e None p r q = rw (e, p) refl
     go true e (Some l) p None q = rw (e, p, q) refl
@@ -153,9 +153,9 @@ step_elsewhere old new peer is isn e g sts r =
     let s : ℕ = home peer old in
     let at : home peer new ≡ s = ap (λ shape. home_of shape peer) e in
     kept_step_at new peer isn
-    ∙ ap (λ t. step_at new.members (lead_of t new) (lead_sealed (lead_of t new) (group_of t new)) new.rejoins peer) at
-    ∙ ap (λ x. step_at new.members (lead_in new.members x s) (lead_sealed (lead_in new.members x s) x) new.rejoins peer) g
-    ∙ parts_elsewhere old.members new.members (group_of s old) old.rejoins new.rejoins s peer is.copies e refl sts r
+    ∙ ap (λ t. step_at new.members (lead_of t new) (lead_sealed (lead_of t new) (group_of t new)) new.progress.rejoins peer) at
+    ∙ ap (λ x. step_at new.members (lead_in new.members x s) (lead_sealed (lead_in new.members x s) x) new.progress.rejoins peer) g
+    ∙ parts_elsewhere old.members new.members (group_of s old) old.progress.rejoins new.progress.rejoins s peer is.copies e refl sts r
     ∙ sym (kept_step_at old peer is)
 
 -- ---- all steps
@@ -169,7 +169,7 @@ of_home core peer is h = is.each (home peer core) (home_within (shape_of core) p
 
 -- the steps of one shard's peers are renewed, and nothing changes that the others depend on
 pub steps_renewed : (old new : Core) (shard : ℕ) (ss ts : List (Option Job)) → IsCore old → IsCore new → AreSteps old ss → new.members.shape ≡ old.members.shape
-    → Renews new.members (group_of shard new) new.rejoins shard ss ts
+    → Renews new.members (group_of shard new) new.progress.rejoins shard ss ts
     → ((s : ℕ) → s ≢ shard → group_of s new ≡ group_of s old)
     → ((k : ℕ) → home_of (shape_of old) k ≢ shard → status_of k new ≡ status_of k old)
     → ((k : ℕ) → home_of (shape_of old) k ≢ shard → rejoin_of k new ≡ rejoin_of k old)
@@ -188,7 +188,7 @@ steps_renewed old new shard ss ts io iw are e renews gs sts rs = record {
     each_of : (peer : ℕ) → IsPeer (shape_of new) peer → slice_index_or ts peer None ≡ kept_step peer new
     each_of peer h = elim (ℕ_discrete (home peer new) shard) [
       | yes q ↦ renews.inside peer h q
-          ∙ ap (λ t. step_at new.members (lead_of t new) (lead_sealed (lead_of t new) (group_of t new)) new.rejoins peer) (sym q)
+          ∙ ap (λ t. step_at new.members (lead_of t new) (lead_sealed (lead_of t new) (group_of t new)) new.progress.rejoins peer) (sym q)
           ∙ sym (kept_step_at new peer (of_home new peer iw h))
       | no d ↦ renews.outside peer d ∙ are.each peer (old_peer peer h)
           ∙ sym (step_elsewhere old new peer (of_home old peer io (old_peer peer h)) (of_home new peer iw h) e
@@ -228,7 +228,7 @@ group_beside old new shard s g m gs d = rw (m, gs) (get_or-set_other old.groups 
 -- a core after a change of a group
 pub core_after : (old new : Core) (shard : ℕ) (g : Group) → IsCore old → IsShard (shape_of old) shard → KeepsFront (group_of shard old) g
     → new.members ≡ old.members → new.groups ≡ slice_set old.groups shard g
-    → length new.catalogues ≡ length old.catalogues → length new.viewed ≡ length old.viewed → length new.tasks ≡ length old.tasks → length new.rejoins ≡ length old.rejoins
+    → length new.catalogues ≡ length old.catalogues → length new.progress.viewed ≡ length old.progress.viewed → length new.tasks ≡ length old.tasks → length new.progress.rejoins ≡ length old.progress.rejoins
     → IsCore new
 core_after old new shard g is within kept m gs cs vs ts rs = record {
   members = rw m is.members;
@@ -277,7 +277,7 @@ fronts_told old new shard g fs is within are m gs = record {
 -- its steps, where they were renewed and only peers of the shard have gone on
 pub steps_after : (old new : Core) (shard : ℕ) (g : Group) (ss ts : List (Option Job)) → IsCore old → IsCore new → IsShard (shape_of old) shard → AreSteps old ss
     → new.members ≡ old.members → new.groups ≡ slice_set old.groups shard g
-    → Renews new.members g new.rejoins shard ss ts
+    → Renews new.members g new.progress.rejoins shard ss ts
     → ((k : ℕ) → home_of (shape_of old) k ≢ shard → rejoin_of k new ≡ rejoin_of k old)
     → AreSteps new ts
 steps_after old new shard g ss ts io iw within are m gs renews rs =
@@ -310,7 +310,7 @@ taken_parts m g rs shard peer = go (committed g) refl
 
 -- the core after the next entry of a shard was handed out
 pub steps_taken : (old new : Core) (shard : ℕ) (ss : List (Option Job)) → IsCore old → IsCore new → IsShard (shape_of old) shard → AreSteps old ss
-    → new.members ≡ old.members → new.groups ≡ slice_set old.groups shard (take_committed (group_of shard old)) → new.rejoins ≡ old.rejoins → AreSteps new ss
+    → new.members ≡ old.members → new.groups ≡ slice_set old.groups shard (take_committed (group_of shard old)) → new.progress.rejoins ≡ old.progress.rejoins → AreSteps new ss
 steps_taken old new shard ss io iw within are m gs rs = record {
   length = are.length ∙ ap (λ (x : Members). x.shape.shards * x.shape.copies) (sym m);
   each = each_of;
@@ -332,12 +332,12 @@ steps_taken old new shard ss io iw within are m gs rs = record {
     inside peer h q =
         let at : home peer old ≡ shard = sym (same_home peer) ∙ q in
         kept_step_at new peer (of_home new peer iw h)
-        ∙ ap (λ t. step_at new.members (lead_of t new) (lead_sealed (lead_of t new) (group_of t new)) new.rejoins peer) q
-        ∙ ap (λ x. step_at new.members (lead_in new.members x shard) (lead_sealed (lead_in new.members x shard) x) new.rejoins peer) put
-        ∙ taken_parts new.members g new.rejoins shard peer
-        ∙ ap (λ x. step_at x (lead_in x g shard) (lead_sealed (lead_in x g shard) g) new.rejoins peer) m
+        ∙ ap (λ t. step_at new.members (lead_of t new) (lead_sealed (lead_of t new) (group_of t new)) new.progress.rejoins peer) q
+        ∙ ap (λ x. step_at new.members (lead_in new.members x shard) (lead_sealed (lead_in new.members x shard) x) new.progress.rejoins peer) put
+        ∙ taken_parts new.members g new.progress.rejoins shard peer
+        ∙ ap (λ x. step_at x (lead_in x g shard) (lead_sealed (lead_in x g shard) g) new.progress.rejoins peer) m
         ∙ ap (λ x. step_at old.members (lead_in old.members g shard) (lead_sealed (lead_in old.members g shard) g) x peer) rs
-        ∙ ap (λ t. step_at old.members (lead_of t old) (lead_sealed (lead_of t old) (group_of t old)) old.rejoins peer) (sym at)
+        ∙ ap (λ t. step_at old.members (lead_of t old) (lead_sealed (lead_of t old) (group_of t old)) old.progress.rejoins peer) (sym at)
         ∙ sym (kept_step_at old peer (of_home old peer io (old_peer peer h)))
 
     each_of : (peer : ℕ) → IsPeer (shape_of new) peer → slice_index_or ss peer None ≡ kept_step peer new
@@ -360,7 +360,7 @@ taken_of shape shard g is = go (committed g) refl
 
 pub core_taken : (old new : Core) (shard : ℕ) → IsCore old → IsShard (shape_of old) shard
     → new.members ≡ old.members → new.groups ≡ slice_set old.groups shard (take_committed (group_of shard old))
-    → length new.catalogues ≡ length old.catalogues → length new.viewed ≡ length old.viewed → length new.tasks ≡ length old.tasks → length new.rejoins ≡ length old.rejoins
+    → length new.catalogues ≡ length old.catalogues → length new.progress.viewed ≡ length old.progress.viewed → length new.tasks ≡ length old.tasks → length new.progress.rejoins ≡ length old.progress.rejoins
     → IsCore new
 core_taken old new shard is within m gs cs vs ts rs = record {
   members = rw m is.members;

@@ -129,7 +129,7 @@ begin_view_told shard core h s =
     let g : Group = group_of shard core in
     let new : Group = renew m g in
     let put_at : ℕ → Core = λ last. record core {
-      viewed = slice_set core.viewed shard false;
+      progress = record core.progress { viewed = slice_set core.progress.viewed shard false };
       groups = slice_set core.groups shard new;
       operations = map (λ e. (e.0, restarted shard last e.1)) core.operations;
     } in
@@ -176,14 +176,14 @@ two_tasks ts peer number view h =
 pub viewed_known : (shard peer : ℕ) (core : Core) (g : Group) → group_of shard core ≡ g
     → lead_by shard (map (λ copy. length copy.stamps) g.copies) core.members ≡ Some peer → peer < length core.tasks
     → viewed_anew shard core ≡ record core {
-      viewed = slice_set core.viewed shard false;
+      progress = record core.progress { viewed = slice_set core.progress.viewed shard false };
       groups = slice_set core.groups shard (on_view core.members g);
       pool = send_all (view_messages core.members g) core.pool;
       tasks = slice_set core.tasks peer (view_tasks (last_number (on_view core.members g)) (view_of shard core.members) (slice_index_or core.tasks peer []));
     }
 viewed_known shard peer core g q p h =
     rw (q, p) (ap (λ tasks. record core {
-      viewed = slice_set core.viewed shard false;
+      progress = record core.progress { viewed = slice_set core.progress.viewed shard false };
       groups = slice_set core.groups shard (on_view core.members g);
       pool = send_all (view_messages core.members g) core.pool;
       tasks = tasks;

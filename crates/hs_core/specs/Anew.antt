@@ -17,7 +17,7 @@ abbrev pub with_lists : Lists → Core → Core
 with_lists lists core = record core {
   members = lists.members;
   groups = lists.groups.items;
-  viewed = lists.viewed.items;
+  progress = record core.progress { viewed = lists.viewed.items };
   pool = lists.pool;
   tasks = lists.tasks.items;
 }
@@ -33,7 +33,7 @@ group_anew shard core = on_view core.members (group_of shard core)
 -- the copies are told, and the messages of the view are sent
 abbrev pub told_anew : ℕ → Core → Core
 told_anew shard core = record core {
-  viewed = slice_set core.viewed shard false;
+  progress = record core.progress { viewed = slice_set core.progress.viewed shard false };
   groups = slice_set core.groups shard (group_anew shard core);
   pool = send_all (view_messages core.members (group_of shard core)) core.pool;
 }

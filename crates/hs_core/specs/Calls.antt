@@ -23,11 +23,11 @@ begun_line (event.Start line peer) = None
 
 -- it is above the last one
 abbrev pub IsNextLine : Core → Event → Type 0
-IsNextLine core event = IfSome (begun_line event) (λ line. core.last_line < line)
+IsNextLine core event = IfSome (begun_line event) (λ line. core.progress.last_line < line)
 
 -- the last line once the event has begun
 abbrev pub last_line_after : Event → Core → ℕ
-last_line_after event core = unwrap_or (begun_line event) core.last_line
+last_line_after event core = unwrap_or (begun_line event) core.progress.last_line
 
 -- ---- results
 
@@ -59,7 +59,7 @@ pub record GivesUp (event : Event) (at : ℕ) (old new : Core) : Type 0 where
   pub journal : new.journal ≡ old.journal
   pub refused : new.refused ≡ old.refused
   pub moment : new.moment ≡ at
-  pub last_line : new.last_line ≡ last_line_after event old
+  pub last_line : new.progress.last_line ≡ last_line_after event old
   pub limits : new.limits ≡ old.limits
   pub shape : new.members.shape ≡ old.members.shape
 
@@ -68,4 +68,4 @@ pub record GoesOn (event : Event) (at : ℕ) (old new : Core) : Type 0 where
   pub shape : new.members.shape ≡ old.members.shape
   pub limits : new.limits ≡ old.limits
   pub moment : old.ended ≡ None → new.moment ≡ at
-  pub last_line : old.ended ≡ None → new.last_line ≡ last_line_after event old
+  pub last_line : old.ended ≡ None → new.progress.last_line ≡ last_line_after event old

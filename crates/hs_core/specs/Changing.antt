@@ -34,7 +34,7 @@ abbrev pub change_group : ℕ → (Group → Group) → Core → Core
 change_group shard f core = record core { groups = slice_set core.groups shard (f (group_of shard core)) }
 
 abbrev pub set_viewed : ℕ → Bool → Core → Core
-set_viewed shard now core = record core { viewed = slice_set core.viewed shard now }
+set_viewed shard now core = record core { progress = record core.progress { viewed = slice_set core.progress.viewed shard now } }
 
 -- ---- a peer
 
@@ -55,7 +55,7 @@ add_entry_tasks peer number entry core =
     ▸ add_task peer (record { job = job.Seal number; line = 0 })
 
 abbrev pub set_rejoin : ℕ → Option Rejoin → Core → Core
-set_rejoin peer rejoin core = record core { rejoins = slice_set core.rejoins peer rejoin }
+set_rejoin peer rejoin core = record core { progress = record core.progress { rejoins = slice_set core.progress.rejoins peer rejoin } }
 
 abbrev pub change_rejoin : ℕ → (Rejoin → Rejoin) → Core → Core
 change_rejoin peer f core = set_rejoin peer (option_map f (rejoin_of peer core)) core

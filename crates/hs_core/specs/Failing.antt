@@ -36,4 +36,4 @@ go_down peer core =
 
 -- a disk has failed: its peer is told of, with the line of the last event that had one, and goes down
 abbrev pub fail_disk : ℕ → Core → Core
-fail_disk peer core = core ▸ note who.Store deed.Nothing (reply.Down peer core.event_line) ▸ go_down peer
+fail_disk peer core = core ▸ note who.Store deed.Nothing (reply.Down peer core.progress.event_line) ▸ go_down peer

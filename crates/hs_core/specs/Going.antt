@@ -78,7 +78,7 @@ sight_of aim core = record {
   pointers = option_map_or (λ facts. facts.pointers) (facts_by aim core) [];
   room = has_room_by aim core;
   pending = is_pending_by aim core;
-  viewed = slice_index_or core.viewed aim.shard false;
+  viewed = slice_index_or core.progress.viewed aim.shard false;
 }
 
 -- the view that an operation is given
@@ -148,7 +148,7 @@ set_wait line what core = core ▸ change_with (operation_of line core) (λ w. w
 -- for what
 abbrev pub holds_by : Aim → Core → Wait
 holds_by aim core =
-    if not (slice_index_or core.viewed aim.shard false) then wait.View else
+    if not (slice_index_or core.progress.viewed aim.shard false) then wait.View else
     if is_coming aim.shard aim.address core then wait.Address else wait.Room
 
 -- the sessions after an answer, by its deed

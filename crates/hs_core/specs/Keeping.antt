@@ -24,9 +24,9 @@ pub record IsCore (core : Core) : Type 0 where
   pub members : IsMembers core.members
   pub catalogues : length core.catalogues ≡ (shape_of core).shards
   pub groups : length core.groups ≡ (shape_of core).shards
-  pub viewed : length core.viewed ≡ (shape_of core).shards
+  pub viewed : length core.progress.viewed ≡ (shape_of core).shards
   pub tasks : length core.tasks ≡ (shape_of core).shards * (shape_of core).copies
-  pub rejoins : length core.rejoins ≡ (shape_of core).shards * (shape_of core).copies
+  pub rejoins : length core.progress.rejoins ≡ (shape_of core).shards * (shape_of core).copies
   pub each : (shard : ℕ) → IsShard (shape_of core) shard → IsOf (shape_of core) shard (group_of shard core)
 
 -- the next copying step of a peer that is joining
@@ -48,8 +48,8 @@ pub record Kept (old new : Core) : Type 0 where
   pub journal : new.journal ≡ old.journal
   pub limits : new.limits ≡ old.limits
   pub moment : new.moment ≡ old.moment
-  pub last_line : new.last_line ≡ old.last_line
-  pub event_line : new.event_line ≡ old.event_line
+  pub last_line : new.progress.last_line ≡ old.progress.last_line
+  pub event_line : new.progress.event_line ≡ old.progress.event_line
   pub refused : new.refused ≡ old.refused
   pub shape : new.members.shape ≡ old.members.shape
 
@@ -65,7 +65,7 @@ pub record Moves (event : Event) (at : ℕ) (old new : Core) : Type 0 where
   pub shape : new.members.shape ≡ old.members.shape
   pub limits : new.limits ≡ old.limits
   pub moment : new.moment ≡ at
-  pub last_line : new.last_line ≡ last_line_after event old
+  pub last_line : new.progress.last_line ≡ last_line_after event old
 
 -- the lists of all shards, each of its shard, with how many entries have taken effect, and the jobs of all peers
 pub record AreLists (m : Members) (gs : List Group) (fs : List ℕ) (vs : List Bool) (ts : List (List Task)) : Type 0 where

@@ -67,7 +67,7 @@ tasks_of peer core = slice_index_or core.tasks peer []
 
 -- how far it is, where it is joining
 abbrev pub rejoin_of : ℕ → Core → Option Rejoin
-rejoin_of peer core = slice_index_or core.rejoins peer None
+rejoin_of peer core = slice_index_or core.progress.rejoins peer None
 
 -- the next step of a joining peer: it copies what the lead has sealed
 abbrev pub copying_step : ℕ → Core → Option Job

@@ -3,7 +3,7 @@ use Rattle.std.specs.List.{range_with_len}
 use Rattle.std.specs.Prelude.{ℕ, ◌+◌, ◌*◌, Bool, false, not, List, [], None, drop, map, replicate, slice_index, take, if◌then◌else◌}
 use Rattle.hs_core.specs.Changing.{note}
 use Rattle.hs_core.specs.Looking.{shape_of, shards_of, status_of}
-use Rattle.hs_core.specs.State.{Core}
+use Rattle.hs_core.specs.State.{Core, Progress}
 use Rattle.hs_core.specs.Step.{end_event}
 use Rattle.hs_core.specs.Views.{change_view}
 use Rattle.hs_core.specs.Words.{change_if, each, ◌▸◌}
@@ -41,10 +41,14 @@ first_view m views shard = if has_good shard m then slice_index views shard + 1 
 abbrev pub first_views : Members → List ℕ → List ℕ
 first_views m views = map (first_view m views) (range_with_len 0 m.shape.shards)
 
+-- no View has taken effect, no peer is joining, and no line was begun
+abbrev pub none_yet : Progress
+none_yet = record { viewed = []; rejoins = []; last_line = 0; event_line = 0 }
+
 -- a core of these members with nothing in it
 abbrev pub empty_core : Limits → Members → ℕ → Core
 empty_core limits m moment =
-    record { limits = limits; members = m; catalogues = []; groups = []; viewed = []; tasks = []; rejoins = []; pool = empty_pool limits.pool; sessions = []; operations = []; journal = []; entries = []; refused = []; ended = None; moment = moment; last_line = 0; event_line = 0 }
+    record { limits = limits; members = m; catalogues = []; groups = []; tasks = []; progress = none_yet; pool = empty_pool limits.pool; sessions = []; operations = []; journal = []; entries = []; refused = []; ended = None; moment = moment }
 
 -- each peer has the status that its log gives it, and each shard its first view
 abbrev pub first_members : Shape → Taken → Members
@@ -55,9 +59,8 @@ abbrev pub new_core : Shape → Limits → Taken → ℕ → Core
 new_core shape limits taken moment = record (empty_core limits (first_members shape taken) moment) {
   catalogues = taken.catalogues;
   groups = map (taken_group shape taken) (range_with_len 0 shape.shards);
-  viewed = replicate shape.shards false;
   tasks = replicate (shape.shards * shape.copies) [];
-  rejoins = replicate (shape.shards * shape.copies) None;
+  progress = record none_yet { viewed = replicate shape.shards false; rejoins = replicate (shape.shards * shape.copies) None };
 }
 
 -- each shard with a good peer begins its first view

@@ -51,7 +51,7 @@ wait_for line w what core = put_operation line (record w { wait = what }) core
 -- for what: the current view's View, the Block of its address, or room
 abbrev pub what_holds : Waiting → Core → Wait
 what_holds w core =
-    if not (slice_index_or core.viewed w.shard false) then wait.View else
+    if not (slice_index_or core.progress.viewed w.shard false) then wait.View else
     if is_coming w.shard (wanted_address core.sessions w.operation.op) core then wait.Address else wait.Room
 
 -- a Read of an entry for the operation of a line is put into a peer's queue
@@ -105,7 +105,7 @@ busy_line o core = option_and_then line_in (session_of (Some o))
 -- an operation is begun: it is answered at once, or it waits for a job, an entry or a view
 abbrev pub begin_line : ℕ → Op → Core → Core
 begin_line line o core =
-    let begun : Core = record core { last_line = line } in
+    let begun : Core = record core { progress = record core.progress { last_line = line } } in
     let shard : ℕ = judging_shard (shape_of core).shards core.sessions o in
     let w : Waiting = record { operation = new_operation line o; shard = shard; wait = wait.View } in
     let v : OpView = record (view_for shard o begun) { busy = busy_line o core } in

@@ -39,5 +39,5 @@ view_for shard o core = record (empty_view core.limits shard) {
   pointers = length (pointers_for shard o core);
   room = has_room shard o 0 0 core;
   pending = is_pending shard o core;
-  viewed = slice_index_or core.viewed shard false;
+  viewed = slice_index_or core.progress.viewed shard false;
 }

@@ -30,13 +30,13 @@ line_of (event.Start line peer) = line
 -- with the first line the numbers of messages start at 1 again, if none is under way
 abbrev pub is_first_line : ℕ → Core → Core
 is_first_line line core =
-    core ▸ change_if ((core.event_line == 0 && not (line == 0)) && is_empty core.pool) (change_pool restart_numbers)
+    core ▸ change_if ((core.progress.event_line == 0 && not (line == 0)) && is_empty core.pool) (change_pool restart_numbers)
 
 -- the event's moment, and its line, where it has one
 abbrev pub begin_event : ℕ → ℕ → Core → Core
 begin_event line moment core = record (is_first_line line core) {
   moment = moment;
-  event_line = if line == 0 then core.event_line else line;
+  progress = record core.progress { event_line = if line == 0 then core.progress.event_line else line };
 }
 
 -- by the kind of the event

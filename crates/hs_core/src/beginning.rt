@@ -23,7 +23,9 @@ impl Core {
     /// view.
     pub(crate) fn begin_line(&mut self, line: u64, op: Op) -> Result<(), NoMemory>
         ensures ok { OnOk result (self.new ≡ begin_line line op self.old) }
-        ensures kept { Kept (record self.old { last_line = line }) self.new }
+        ensures kept { Kept (record self.old {
+          progress = record self.old.progress { last_line = line };
+        }) self.new }
     {
         self.set_line(line);
         let busy = self.busy_line(&op)?;
@@ -40,7 +42,9 @@ impl Core {
 
     /// A line is the last one. It takes no memory.
     fn set_line(&mut self, line: u64)
-        ensures { self.new ≡ record self.old { last_line = line } }
+        ensures { self.new ≡ record self.old {
+          progress = record self.old.progress { last_line = line };
+        } }
     {
         self.last_line = line;
     }

@@ -62,9 +62,13 @@ impl Model for Core {
       members = a.members;
       catalogues = a.catalogues.items;
       groups = a.groups.items;
-      viewed = a.viewed.items;
       tasks = a.tasks.items;
-      rejoins = a.rejoins.items;
+      progress = record {
+        viewed = a.viewed.items;
+        rejoins = a.rejoins.items;
+        last_line = a.last_line;
+        event_line = a.event_line;
+      };
       pool = a.pool;
       sessions = a.sessions.seats;
       operations = a.operations;
@@ -73,8 +77,6 @@ impl Model for Core {
       refused = a.refused.items;
       ended = a.ended;
       moment = a.moment;
-      last_line = a.last_line;
-      event_line = a.event_line;
     } };
 
     ghost invariant = { λ a. record {
@@ -90,7 +92,7 @@ impl Model for Core {
 impl Core {
     /// The line of the last client's operation, 0 before the first. It takes no memory.
     pub fn last_line(&self) -> u64
-        ensures { result ≡ self.now.last_line }
+        ensures { result ≡ self.now.progress.last_line }
     {
         self.last_line
     }

@@ -73,7 +73,7 @@ impl Core {
     fn give_up(&mut self, line: u64, moment: u64)
         ensures { self.new ≡ record self.old {
           ended = Some fault.NoMemory;
-          last_line = line;
+          progress = record self.old.progress { last_line = line };
           moment = moment;
         } }
     {
@@ -101,7 +101,7 @@ impl Core {
         ensures ok { self.new ≡ begin_event line moment self.old }
         ensures kept { Kept (record self.old {
           moment = moment;
-          event_line = self.new.event_line;
+          progress = record self.old.progress { event_line = self.new.progress.event_line };
         }) self.new }
     {
         self.first_line(line);
@@ -125,8 +125,9 @@ impl Core {
     fn do_event(&mut self, event: Event) -> Result<(), NoMemory>
         requires { IsNextLine self.old event }
         ensures ok { OnOk result (self.new ≡ do_event event self.old) }
-        ensures kept { Kept (record self.old { last_line = last_line_after event self.old })
-            self.new }
+        ensures kept { Kept (record self.old {
+          progress = record self.old.progress { last_line = last_line_after event self.old };
+        }) self.new }
     {
         match event {
             Event::Line { line, op } => self.begin_line(line, op),

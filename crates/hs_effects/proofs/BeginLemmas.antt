@@ -187,7 +187,7 @@ busy_by c m w o q at s t none = clash (find (λ (e : ℕ × Waiting). is_of q e.
 
 module _ (name : List ℕ → Address) (line : ℕ) (o : Op) (c : Core) (its : IsOrderly name c) (new : operation_of line c ≡ None) (counted : 1 ≤ line) (called : IsCalled name c.sessions o) where
   abbrev begun : Core
-  begun = record c { last_line = line }
+  begun = record c { progress = record c.progress { last_line = line } }
 
   abbrev shard : ℕ
   shard = judging_shard (shape_of c).shards c.sessions o

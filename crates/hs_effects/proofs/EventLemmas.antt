@@ -115,8 +115,8 @@ module _ (name : List ℕ → Address) where
       last b {x} h = if_orderly b (commit_rest (home peer c)) x h (λ h. rest_orderly (home peer c) x h)
 
   failed_orderly : (peer : ℕ) (c : Core) → O c → O (fail_disk peer c)
-  failed_orderly peer c its = down_orderly peer (note who.Store deed.Nothing (reply.Down peer c.event_line) c)
-      (alike_orderly name c (note who.Store deed.Nothing (reply.Down peer c.event_line) c) (record { operations = refl; sessions = refl; limits = refl; shape = refl; waiting = λ g. refl; front = λ g. refl; catalogue = λ g. refl }) its)
+  failed_orderly peer c its = down_orderly peer (note who.Store deed.Nothing (reply.Down peer c.progress.event_line) c)
+      (alike_orderly name c (note who.Store deed.Nothing (reply.Down peer c.progress.event_line) c) (record { operations = refl; sessions = refl; limits = refl; shape = refl; waiting = λ g. refl; front = λ g. refl; catalogue = λ g. refl }) its)
 
   started_orderly : (peer : ℕ) (c : Core) → O c → O (start peer c)
   started_orderly peer c its = alike_orderly name c (start peer c) (record { operations = refl; sessions = refl; limits = refl; shape = refl; waiting = λ g. refl; front = λ g. refl; catalogue = λ g. refl }) its
@@ -271,9 +271,9 @@ module _ (name : List ℕ → Address) where
   -- ---- one event at a moment
 
   began_alike : (line moment : ℕ) (c : Core) → Alike c (begin_event line moment c)
-  began_alike line moment c = go ((c.event_line == 0 && not (line == 0)) && is_empty c.pool)
+  began_alike line moment c = go ((c.progress.event_line == 0 && not (line == 0)) && is_empty c.pool)
     where
-      go : (b : Bool) → Alike c (record (change_if b (change_pool restart_numbers) c) { moment = moment; event_line = cond (line == 0) c.event_line line })
+      go : (b : Bool) → Alike c (record (change_if b (change_pool restart_numbers) c) { moment = moment; progress = record c.progress { event_line = cond (line == 0) c.progress.event_line line } })
       go true = record { operations = refl; sessions = refl; limits = refl; shape = refl; waiting = λ g. refl; front = λ g. refl; catalogue = λ g. refl }
       go false = record { operations = refl; sessions = refl; limits = refl; shape = refl; waiting = λ g. refl; front = λ g. refl; catalogue = λ g. refl }
 

@@ -16,9 +16,9 @@ pub record Stays (old new : Core) : Type 0 where
   pub shape : new.members.shape ≡ old.members.shape
   pub limits : new.limits ≡ old.limits
   pub moment : new.moment ≡ old.moment
-  pub last_line : new.last_line ≡ old.last_line
+  pub last_line : new.progress.last_line ≡ old.progress.last_line
 
-stays : (c d : Core) → d.members.shape ≡ c.members.shape → d.limits ≡ c.limits → d.moment ≡ c.moment → d.last_line ≡ c.last_line → Stays c d
+stays : (c d : Core) → d.members.shape ≡ c.members.shape → d.limits ≡ c.limits → d.moment ≡ c.moment → d.progress.last_line ≡ c.progress.last_line → Stays c d
 stays c d shape limits moment last_line = record { shape = shape; limits = limits; moment = moment; last_line = last_line }
 
 then_stays : (a b c : Core) → Stays a b → Stays b c → Stays a c
@@ -52,12 +52,12 @@ report_leaves = record {
 }
 
 -- an event begins
-begins_so : (b : Bool) (at line : ℕ) (c : Core) → Stays (record c { moment = at }) (record (change_if b (change_pool restart_numbers) c) { moment = at; event_line = line })
+begins_so : (b : Bool) (at line : ℕ) (c : Core) → Stays (record c { moment = at }) (record (change_if b (change_pool restart_numbers) c) { moment = at; progress = record c.progress { event_line = line } })
 begins_so true at line c = stays (record c { moment = at }) _ refl refl refl refl
 begins_so false at line c = stays (record c { moment = at }) _ refl refl refl refl
 
 begins : (line at : ℕ) (c : Core) → Stays (record c { moment = at }) (begin_event line at c)
-begins line at c = begins_so ((c.event_line == 0 && not (line == 0)) && is_empty c.pool) at _ c
+begins line at c = begins_so ((c.progress.event_line == 0 && not (line == 0)) && is_empty c.pool) at _ c
 
 ends : (c : Core) → Stays c (end_event c)
 ends c = go (nat_lt c.limits.ops (length c.journal + length c.entries)) refl
@@ -71,7 +71,7 @@ record HasLine (e : Event) (c d : Core) : Type 0 where
   pub shape : d.members.shape ≡ c.members.shape
   pub limits : d.limits ≡ c.limits
   pub moment : d.moment ≡ c.moment
-  pub last_line : d.last_line ≡ last_line_after e c
+  pub last_line : d.progress.last_line ≡ last_line_after e c
 
 lined : (e : Event) (c : Core) → HasLine e c (with_line e c)
 lined (event.Line line o) c = record { shape = refl; limits = refl; moment = refl; last_line = refl }
@@ -89,7 +89,7 @@ pub record Goes (e : Event) (at : ℕ) (old new : Core) : Type 0 where
   pub shape : new.members.shape ≡ old.members.shape
   pub limits : new.limits ≡ old.limits
   pub moment : new.moment ≡ at
-  pub last_line : new.last_line ≡ last_line_after e old
+  pub last_line : new.progress.last_line ≡ last_line_after e old
 
 run_goes : (e : Event) (at : ℕ) (c : Core) → Goes e at c (run_event e at c)
 run_goes e at c =

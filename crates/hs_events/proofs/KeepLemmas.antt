@@ -278,9 +278,9 @@ module _ {R : Core → Core → Type 0} (L : Leaves R) where
 
   -- ---- events: a client's line but for its number, and those that are no reports
 
-  pub keeps_begin : (line : ℕ) (o : Op) (c : Core) → R (record c { last_line = line }) (begin_line line o c)
+  pub keeps_begin : (line : ℕ) (o : Op) (c : Core) → R (record c { progress = record c.progress { last_line = line } }) (begin_line line o c)
   keeps_begin line o c =
-      let begun : Core = record c { last_line = line } in
+      let begun : Core = record c { progress = record c.progress { last_line = line } } in
       let shard : ℕ = judging_shard (shape_of c).shards c.sessions o in
       let w : Waiting = record { operation = new_operation line o; shard = shard; wait = wait.View } in
       let v : OpView = record (view_for shard o begun) { busy = busy_line o c } in
@@ -314,7 +314,7 @@ module _ {R : Core → Core → Type 0} (L : Leaves R) where
 
 -- a core with the last line of an event that begins
 abbrev pub with_line : Event → Core → Core
-with_line (event.Line line o) c = record c { last_line = line }
+with_line (event.Line line o) c = record c { progress = record c.progress { last_line = line } }
 with_line (event.Report peer d) c = c
 with_line (event.Turn line peer) c = c
 with_line (event.Deliver line number) c = c

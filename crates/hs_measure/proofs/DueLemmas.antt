@@ -90,7 +90,7 @@ alike_rounds shard c = alike_both c (send_round 1 shard c) (send_rounds shard c)
 -- ---- a message
 
 begun_messages : (e : Event) (at : ℕ) (c : Core) → (begun e at c).pool.messages ≡ c.pool.messages
-begun_messages e at c = go ((c.event_line == 0 && not (line_of e == 0)) && is_empty c.pool)
+begun_messages e at c = go ((c.progress.event_line == 0 && not (line_of e == 0)) && is_empty c.pool)
   where
     go : (b : Bool) → (change_if b restart_numbers c.pool).messages ≡ c.pool.messages
     go true = refl

@@ -155,7 +155,7 @@ grown_told line number bytes c = go (operation_of line c)
 
 grown_fails : (disk : ℕ) (c : Core) → AreAlone (face c) → Grown c (fail_disk disk c)
 grown_fails disk c h =
-    let noted : Core = note who.Store deed.Nothing (reply.Down disk c.event_line) c in
+    let noted : Core = note who.Store deed.Nothing (reply.Down disk c.progress.event_line) c in
     grown_both c noted (fail_disk disk c) (grown_still c noted refl refl (λ g. refl)) (grown_beside noted (go_down disk noted) (beside_down disk noted h))
 
 module _ (p : ℕ) (c : Core) where

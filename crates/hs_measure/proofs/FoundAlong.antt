@@ -155,7 +155,7 @@ module _ (rounds : ℕ) (name : List ℕ → Address) where
       (way_begun (FewMessage (shape_of c).shards (most_in rounds (shape_of c)) (finds_in (shape_of c) c.catalogues)) (asks_rounds rounds (shape_of c) c.catalogues) line o c few.messages) few
     where
       v : OpView
-      v = record (view_for (judging_shard (shape_of c).shards c.sessions o) o (record c { last_line = line })) { busy = busy_line o c }
+      v = record (view_for (judging_shard (shape_of c).shards c.sessions o) o (record c { progress = record c.progress { last_line = line } })) { busy = busy_line o c }
 
   pub few_goes : (next : OpView → Operation → OpStep) → AsksWith next → (line : ℕ) (c : Core) → IsOrderly name c → AreFew rounds c → AreFew rounds (go_on_with next line c)
   few_goes next asks line c orderly few =

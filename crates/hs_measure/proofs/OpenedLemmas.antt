@@ -75,8 +75,8 @@ pub record OpenLaws : Type 0 where
       → length found.good ≡ peer_count set.shape → IsMoving name (open_whole set found)
   pub deletes : (by : Judging) (start : Store) (shape : Shape) (limits : Limits) (taken : Taken) (moment : ℕ) → TellsDeletion by start (open_core shape limits taken moment)
   pub noted : (commands : ℕ → Option Command) (shape : Shape) (limits : Limits) (taken : Taken) (moment : ℕ) → length taken.good ≡ shape.shards * shape.copies → IsNoted commands (open_core shape limits taken moment)
-  pub come : (commands : ℕ → Option Command) (whole : Bool) (core : Core) (es : Events) (to : ℕ) → client_op (commands 0) ≡ None → core.event_line ≡ 0 → MomentsRise core.moment es to → is_walk next_due whole 0 core es ≡ true → AllMayCome commands core es
-  pub next : (commands : ℕ → Option Command) (whole : Bool) (core : Core) (es : Events) → client_op (commands 0) ≡ None → core.event_line ≡ 0 → is_walk next_due whole 0 core es ≡ true → IsNext commands (steps core es) 1
+  pub come : (commands : ℕ → Option Command) (whole : Bool) (core : Core) (es : Events) (to : ℕ) → client_op (commands 0) ≡ None → core.progress.event_line ≡ 0 → MomentsRise core.moment es to → is_walk next_due whole 0 core es ≡ true → AllMayCome commands core es
+  pub next : (commands : ℕ → Option Command) (whole : Bool) (core : Core) (es : Events) → client_op (commands 0) ≡ None → core.progress.event_line ≡ 0 → is_walk next_due whole 0 core es ≡ true → IsNext commands (steps core es) 1
   pub fresh : (name : List ℕ → Address) (whole : Bool) (core : Core) (es : Events) → is_walk next_due whole 0 core es ≡ true → MayBeginAll name es core
 
 -- ---- what was read
@@ -161,8 +161,8 @@ module _ (laws : OpenLaws) (along : AlongLaws) (tells : Type 0) (told : tells) (
   moment_is : (first_core set o.found).moment ≡ o.found.opened
   moment_is = (opens_first set.shape set.limits (opens_with set found) found.opened).moment
 
-  no_line : (first_core set o.found).event_line ≡ 0
-  no_line = (opens_first set.shape set.limits (opens_with set found) found.opened).event_line
+  no_line : (first_core set o.found).progress.event_line ≡ 0
+  no_line = (opens_first set.shape set.limits (opens_with set found) found.opened).progress.event_line
 
   limits_is : (first_core set o.found).limits ≡ set.limits
   limits_is = (opens_first set.shape set.limits (opens_with set found) found.opened).limits

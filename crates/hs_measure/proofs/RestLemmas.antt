@@ -71,7 +71,7 @@ module _ (start : Start) (c : Whole) (running : IsRunning start c) (nothing : No
   told_is : told_of c.core ≡ c.core.journal
   told_is = ap (λ (es : List JournalEntry). c.core.journal ++ es) (running.stands.whole.turn.going running.stands.whole.sane.going) ∙ append-nil c.core.journal
 
-  placed : (line : ℕ) → line ≤ c.core.event_line → IsSome (client_op (start.commands line)) → (place : ℕ) × IsOfLine c.core.journal place line
+  placed : (line : ℕ) → line ≤ c.core.progress.event_line → IsSome (client_op (start.commands line)) → (place : ℕ) × IsOfLine c.core.journal place line
   placed line low some = by_turn (running.stands.whole.turn.turns.each line said.0 (omega (arith, low)) said.1)
     where
       said : (o : Op) × (client_op (start.commands line) ≡ Some o)

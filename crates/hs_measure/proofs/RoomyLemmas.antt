@@ -224,7 +224,7 @@ roomy_report peer line (done.Copied number) c =
     roomy_both c one (take_report peer line (done.Copied number) c) (roomy_still c one refl) (roomy_level peer one)
 roomy_report peer line (done.Stepped switched) c = roomy_same c
 roomy_report peer line (done.Failed disk) c =
-    let one : Core = note who.Store deed.Nothing (reply.Down disk c.event_line) c in
+    let one : Core = note who.Store deed.Nothing (reply.Down disk c.progress.event_line) c in
     roomy_both c one (fail_disk disk c) (roomy_still c one refl) (roomy_down disk one)
 
 roomy_on_report : (peer : ℕ) (d : Done) (c : Core) → Roomy c (on_report peer d c)
@@ -247,7 +247,7 @@ refused_roomy : (line : ℕ) (told : Reply) (c : Core) → Roomy c (refuse line 
 refused_roomy line told c = roomy_still c (refuse line told c) refl
 
 roomy_do : (e : Event) (c : Core) → Roomy c (do_event e c)
-roomy_do (event.Line line o) c = roomy_both c (record c { last_line = line }) (do_event (event.Line line o) c) (roomy_still c (record c { last_line = line }) refl) (keeps_begin_line roomy_steps line o c)
+roomy_do (event.Line line o) c = roomy_both c (record c { progress = record c.progress { last_line = line } }) (do_event (event.Line line o) c) (roomy_still c (record c { progress = record c.progress { last_line = line } }) refl) (keeps_begin_line roomy_steps line o c)
 roomy_do (event.Report peer d) c = roomy_on_report peer d c
 roomy_do (event.Turn line peer) c = unless_by line (no_peer peer c ∷ not_up peer c ∷ []) (λ core. core) c (Roomy c) (λ r. refused_roomy line r c) (λ e. roomy_same c)
 roomy_do (event.Deliver line number) c = message_by line number (deliver number) c (Roomy c) (λ r. refused_roomy line r c) (λ m at. roomy_deliver number m c)
@@ -259,7 +259,7 @@ roomy_do (event.Fail line peer) c = unless_by line (no_peer peer c ∷ not_up pe
 roomy_do (event.Start line peer) c = unless_by line (no_peer peer c ∷ not_down peer c ∷ []) (start peer) c (Roomy c) (λ r. refused_roomy line r c) (λ e. roomy_still c (start peer c) refl)
 
 roomy_begun : (e : Event) (at : ℕ) (c : Core) → Roomy c (begun e at c)
-roomy_begun e at c = go ((c.event_line == 0 && not (line_of e == 0)) && is_empty c.pool)
+roomy_begun e at c = go ((c.progress.event_line == 0 && not (line_of e == 0)) && is_empty c.pool)
   where
     go : (b : Bool) → Roomy c (record (begun e at c) { pool = change_if b restart_numbers c.pool })
     go true = record { limit = refl; room = λ r. r }

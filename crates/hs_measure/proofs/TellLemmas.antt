@@ -96,8 +96,8 @@ module _ (c : Whole) (sane : IsSane c) (known : IsKnown c.core) (fine : Fine c.c
     home : w.shard ≡ peer
     home =
         let first : slice_get (tasks_of peer c.core) 0 ≡ Some (record { job = job.Read number; line = read.line }) = sym (first_here c.core peer alone low) ∙ read.first in
-        let its : IsAtHome c.core.operations c.core.event_line peer (record { job = job.Read number; line = read.line }) =
-        first_fits (IsAtHome c.core.operations c.core.event_line peer) (tasks_of peer c.core) (record { job = job.Read number; line = read.line }) (fine.home peer) first in
+        let its : IsAtHome c.core.operations c.core.progress.event_line peer (record { job = job.Read number; line = read.line }) =
+        first_fits (IsAtHome c.core.operations c.core.progress.event_line peer) (tasks_of peer c.core) (record { job = job.Read number; line = read.line }) (fine.home peer) first in
         (its number refl).1 w read.at
 
     wanted_is : wanted_number w.operation.stage ≡ number

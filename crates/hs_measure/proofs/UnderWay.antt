@@ -85,7 +85,7 @@ module _ (P : Message → Type 0) (asks : AsksOfRounds P) where
   way_begun line o c all = way_stepped line w (go_step v w.operation) (add_operation line w begun) all
     where
       begun : Core
-      begun = record c { last_line = line }
+      begun = record c { progress = record c.progress { last_line = line } }
 
       w : Waiting
       w = record { operation = new_operation line o; shard = judging_shard (shape_of c).shards c.sessions o; wait = wait.View }

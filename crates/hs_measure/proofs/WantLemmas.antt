@@ -89,7 +89,7 @@ bytes_is : (m n : ℕ) → wait.Bytes m ≡ wait.Bytes n → m ≡ n
 bytes_is m n e = cc e
 
 holds_not : (w : Waiting) (c : Core) (n : ℕ) → what_holds w c ≡ wait.Bytes n → ⊥
-holds_not w c n = by (not (slice_index_or c.viewed w.shard false)) (is_coming w.shard (wanted_address c.sessions w.operation.op) c)
+holds_not w c n = by (not (slice_index_or c.progress.viewed w.shard false)) (is_coming w.shard (wanted_address c.sessions w.operation.op) c)
   where
     by : (a b : Bool) → (if a then wait.View else (if b then wait.Address else wait.Room)) ≡ wait.Bytes n → ⊥
     by true b e = cc e
@@ -131,7 +131,7 @@ pub wanted_line : (name : List ℕ → Address) (line : ℕ) (o : Op) (c : Core)
 wanted_line name line o c order may its = stepped with_it (once_insert line c.operations w may.new order.once) added line w (found_insert line c.operations w) (go_step v w.operation)
   where
     begun : Core
-    begun = record c { last_line = line }
+    begun = record c { progress = record c.progress { last_line = line } }
 
     shard : ℕ
     shard = judging_shard (shape_of c).shards c.sessions o

@@ -23,10 +23,10 @@ pub record KeepsPromise (start : Start) (core : Core) : Type 0 where
   pub deletes : TellsDeletion (judging_of start) start.entry core
   pub counts : CountsRight start.set.name core
   pub zeros : ZerosRight start.set.name core
-  pub prompt : (line : ℕ) → line ≤ core.event_line → IsPrompt (client_op (start.commands line)) → (place : ℕ) × IsOfLine (told_of core) place line
+  pub prompt : (line : ℕ) → line ≤ core.progress.event_line → IsPrompt (client_op (start.commands line)) → (place : ℕ) × IsOfLine (told_of core) place line
 
 -- nothing is open: each client's line up to the last line has its entry, and the store that the journal leaves is level
 pub record IsAtRest (start : Start) (core : Core) : Type 0 where
   pub nothing : NothingOpen core
-  pub answered : (line : ℕ) → line ≤ core.event_line → IsSome (client_op (start.commands line)) → (place : ℕ) × IsOfLine core.journal place line
+  pub answered : (line : ℕ) → line ≤ core.progress.event_line → IsSome (client_op (start.commands line)) → (place : ℕ) × IsOfLine core.journal place line
   pub level : IsLevel (run start.set.limits start.entry (events_in (judging_of start) start.entry core.journal))

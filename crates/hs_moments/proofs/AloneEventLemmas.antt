@@ -237,20 +237,20 @@ quiet (event.Start line p) c h q = unless_by line (no_peer p c ∷ not_down p c 
 -- as it begins, numbers of messages may start again
 abbrev pub begun : Event → ℕ → Core → Core
 begun e at c = record c {
-  pool = change_if ((c.event_line == 0 && not (line_of e == 0)) && is_empty c.pool) restart_numbers c.pool;
+  pool = change_if ((c.progress.event_line == 0 && not (line_of e == 0)) && is_empty c.pool) restart_numbers c.pool;
   moment = at;
-  event_line = if line_of e == 0 then c.event_line else line_of e;
+  progress = record c.progress { event_line = if line_of e == 0 then c.progress.event_line else line_of e };
 }
 
 begun_is : (e : Event) (at : ℕ) (c : Core) → begin_event (line_of e) at c ≡ begun e at c
-begun_is e at c = go ((c.event_line == 0 && not (line_of e == 0)) && is_empty c.pool)
+begun_is e at c = go ((c.progress.event_line == 0 && not (line_of e == 0)) && is_empty c.pool)
   where
-    go : (b : Bool) → record (change_if b (change_pool restart_numbers) c) { moment = at; event_line = if line_of e == 0 then c.event_line else line_of e } ≡ record c { pool = change_if b restart_numbers c.pool; moment = at; event_line = if line_of e == 0 then c.event_line else line_of e }
+    go : (b : Bool) → record (change_if b (change_pool restart_numbers) c) { moment = at; progress = record c.progress { event_line = if line_of e == 0 then c.progress.event_line else line_of e } } ≡ record c { pool = change_if b restart_numbers c.pool; moment = at; progress = record c.progress { event_line = if line_of e == 0 then c.progress.event_line else line_of e } }
     go true = refl
     go false = refl
 
 pub alone_begun : (e : Event) (at : ℕ) (c : Core) → AreAlone (face c) → AreAlone (face (begun e at c))
-alone_begun e at c h = (moves_pool (face c) (begun e at c).pool h (go ((c.event_line == 0 && not (line_of e == 0)) && is_empty c.pool))).alone
+alone_begun e at c h = (moves_pool (face c) (begun e at c).pool h (go ((c.progress.event_line == 0 && not (line_of e == 0)) && is_empty c.pool))).alone
   where
     go : (b : Bool) → All (λ m. is_round m ≡ true) (values_of (change_if b restart_numbers c.pool).messages)
     go true = h.rounds

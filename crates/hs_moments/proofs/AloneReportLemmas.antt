@@ -174,13 +174,13 @@ module _ (c : Core) (p : ℕ) (h : AreAlone (face c)) (low : p < c.members.shape
   fails disk j other e = subst (λ k. Falls p c (fail_disk k x)) (sym (eqb-true disk p (own_disk (disk == p) (is_copy_from disk j) other e))) (lifts (falls p y (start_behind c p behind h).alone low))
     where
       y : Core
-      y = note who.Store deed.Nothing (reply.Down p c.event_line) (set_tasks p behind c)
+      y = note who.Store deed.Nothing (reply.Down p c.progress.event_line) (set_tasks p behind c)
 
       own_disk : (a b : Bool) → b ≡ false → (a || b) ≡ true → a ≡ true
       own_disk true b e f = refl
       own_disk false b e f = sym e ∙ f
 
-      lifts : Falls p (note who.Store deed.Nothing (reply.Down p c.event_line) (set_tasks p behind c)) (go_down p (note who.Store deed.Nothing (reply.Down p c.event_line) (set_tasks p behind c))) → Falls p c (fail_disk p (set_tasks p behind c))
+      lifts : Falls p (note who.Store deed.Nothing (reply.Down p c.progress.event_line) (set_tasks p behind c)) (go_down p (note who.Store deed.Nothing (reply.Down p c.progress.event_line) (set_tasks p behind c))) → Falls p c (fail_disk p (set_tasks p behind c))
       lifts f = record { low = f.low; down = f.down; others = f.others; shape = f.shape; groups = f.groups }
 
   -- a Read

@@ -180,5 +180,5 @@ limits_at core event moment = go (is_none core.ended) refl
 pub moment_at : (core : Core) (event : Event) (moment : ℕ) → core.ended ≡ None → (step event moment core).moment ≡ moment
 moment_at core event moment h = (step_goes event moment core h).moment
 
-pub line_at : (core : Core) (event : Event) (moment : ℕ) → core.ended ≡ None → (step event moment core).last_line ≡ last_line_after event core
+pub line_at : (core : Core) (event : Event) (moment : ℕ) → core.ended ≡ None → (step event moment core).progress.last_line ≡ last_line_after event core
 line_at core event moment h = (step_goes event moment core h).last_line

@@ -80,7 +80,7 @@ report_leaves = record {
 
 -- ---- of an event
 
-begins_so : (b : Bool) (at line : ℕ) (c : Core) → FrontsRise c (record (change_if b (change_pool restart_numbers) c) { moment = at; event_line = line })
+begins_so : (b : Bool) (at line : ℕ) (c : Core) → FrontsRise c (record (change_if b (change_pool restart_numbers) c) { moment = at; progress = record c.progress { event_line = line } })
 begins_so true at line c = same_fronts c _ (λ shard. refl)
 begins_so false at line c = same_fronts c _ (λ shard. refl)
 
@@ -105,7 +105,7 @@ ends c = go (nat_lt c.limits.ops (length c.journal + length c.entries)) refl
 run_rises : (e : Event) (at : ℕ) (c : Core) → FrontsRise c (run_event e at c)
 run_rises e at c =
     let b : Core = begin_event (line_of e) at c in
-    let one : FrontsRise c b = begins_so ((c.event_line == 0 && not (line_of e == 0)) && is_empty c.pool) at _ c in
+    let one : FrontsRise c b = begins_so ((c.progress.event_line == 0 && not (line_of e == 0)) && is_empty c.pool) at _ c in
     let two : FrontsRise b (with_line e b) = lined e b in
     let three : FrontsRise (with_line e b) (do_event e b) = keeps_do leaves report_leaves e b in
     let four : FrontsRise (do_event e b) (end_event (do_event e b)) = ends (do_event e b) in

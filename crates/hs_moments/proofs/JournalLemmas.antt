@@ -58,7 +58,7 @@ report_leaves = record {
   copies = λ shard peer number c. alike c _ refl refl refl;
 }
 
-begins_so : (b : Bool) (at line : ℕ) (c : Core) → Notes (record c { moment = at }) (record (change_if b (change_pool restart_numbers) c) { moment = at; event_line = line })
+begins_so : (b : Bool) (at line : ℕ) (c : Core) → Notes (record c { moment = at }) (record (change_if b (change_pool restart_numbers) c) { moment = at; progress = record c.progress { event_line = line } })
 begins_so true at line c = alike (record c { moment = at }) _ refl refl refl
 begins_so false at line c = alike (record c { moment = at }) _ refl refl refl
 
@@ -77,7 +77,7 @@ lined (event.Start line peer) c = alike c _ refl refl refl
 notes : (e : Event) (at : ℕ) (c : Core) → Notes (record c { moment = at }) (before_end e at c)
 notes e at c =
     let b : Core = begin_event (line_of e) at c in
-    let one : Notes (record c { moment = at }) b = begins_so ((c.event_line == 0 && not (line_of e == 0)) && is_empty c.pool) at _ c in
+    let one : Notes (record c { moment = at }) b = begins_so ((c.progress.event_line == 0 && not (line_of e == 0)) && is_empty c.pool) at _ c in
     leaves.both (record c { moment = at }) b (do_event e b) one (leaves.both b (with_line e b) (do_event e b) (lined e b) (keeps_do leaves report_leaves e b))
 
 at_moment : (e : Event) (at : ℕ) (c : Core) → c.entries ≡ [] → AreAt at (before_end e at c).entries

@@ -101,7 +101,7 @@ leaves = record {
 
 -- ---- of an event
 
-begins_so : (b : Bool) (at line : ℕ) (c : Core) → SealsStay c (record (change_if b (change_pool restart_numbers) c) { moment = at; event_line = line })
+begins_so : (b : Bool) (at line : ℕ) (c : Core) → SealsStay c (record (change_if b (change_pool restart_numbers) c) { moment = at; progress = record c.progress { event_line = line } })
 begins_so true at line c = same_seals c _ (λ peer. refl)
 begins_so false at line c = same_seals c _ (λ peer. refl)
 
@@ -114,7 +114,7 @@ ends c = go (nat_lt c.limits.ops (length c.journal + length c.entries)) refl
 
 -- but for reports
 quiet : (e : Event) (c : Core) → report_in e ≡ None → SealsStay c (do_event e c)
-quiet (event.Line line o) c h = leaves.both c (record c { last_line = line }) _ (same_seals c _ (λ peer. refl)) (keeps_begin leaves line o c)
+quiet (event.Line line o) c h = leaves.both c (record c { progress = record c.progress { last_line = line } }) _ (same_seals c _ (λ peer. refl)) (keeps_begin leaves line o c)
 quiet (event.Report p d) c h = absurd (some_is_not (p, d) h)
   where
     some_is_not : (x : ℕ × Done) → Some x ≡ None → ⊥
@@ -130,7 +130,7 @@ quiet (event.Start line p) c h = keeps_started leaves line p c
 run_quiet : (e : Event) (at : ℕ) (c : Core) → report_in e ≡ None → SealsStay c (run_event e at c)
 run_quiet e at c h =
     let b : Core = begin_event (line_of e) at c in
-    let one : SealsStay c b = begins_so ((c.event_line == 0 && not (line_of e == 0)) && is_empty c.pool) at _ c in
+    let one : SealsStay c b = begins_so ((c.progress.event_line == 0 && not (line_of e == 0)) && is_empty c.pool) at _ c in
     leaves.both c b _ one (leaves.both b (do_event e b) (end_event (do_event e b)) (quiet e b h) (ends (do_event e b)))
 
 pub seals_stay : (core : Core) (e : Event) (at peer : ℕ) → report_in e ≡ None → sealed_of peer (step e at core) ≡ sealed_of peer core

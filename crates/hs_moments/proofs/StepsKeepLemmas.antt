@@ -208,9 +208,9 @@ module _ {R : Core → Core → Type 0} (L : StepLeaves R) where
   keeps_resume_where : (shard : ℕ) (test : Waiting → Bool) (c : Core) → R c (resume_where shard test c)
   keeps_resume_where shard test c = keeps_each (lines_where shard test c) resume c (λ line x. keeps_go_on go_step line x plain_step)
 
-  pub keeps_begin_line : (line : ℕ) (o : Op) (c : Core) → R (record c { last_line = line }) (begin_line line o c)
+  pub keeps_begin_line : (line : ℕ) (o : Op) (c : Core) → R (record c { progress = record c.progress { last_line = line } }) (begin_line line o c)
   keeps_begin_line line o c =
-      let begun : Core = record c { last_line = line } in
+      let begun : Core = record c { progress = record c.progress { last_line = line } } in
       let shard : ℕ = judging_shard (shape_of c).shards c.sessions o in
       let w : Waiting = record { operation = new_operation line o; shard = shard; wait = wait.View } in
       let v : OpView = record (view_for shard o begun) { busy = busy_line o c } in

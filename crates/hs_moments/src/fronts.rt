@@ -19,5 +19,5 @@ pub fn what_took_effect_stays()
     ensures moment { (core : Core) (event : Event) (moment : ℕ) → core.ended ≡ None
         → (step event moment core).moment ≡ moment }
     ensures last_line { (core : Core) (event : Event) (moment : ℕ) → core.ended ≡ None
-        → (step event moment core).last_line ≡ last_line_after event core }
+        → (step event moment core).progress.last_line ≡ last_line_after event core }
 {}

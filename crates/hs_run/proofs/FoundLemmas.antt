@@ -142,14 +142,14 @@ pub opened_ready : (tells : Type 0) (set : Setting) (span : Span) (cluster : Run
 opened_ready tells set span cluster did opens disks got line fine count ready =
     let stays = opens_so set.shape set.limits (opens_with set opens.found) opens.found.opened in
     let core : cluster.core ≡ steps (first_core set opens.found) opens.events = opens.core (ok_there did fine) in
-    let none : (first_core set opens.found).last_line ≡ 0 = stays.last_line in
+    let none : (first_core set opens.found).progress.last_line ≡ 0 = stays.last_line in
     let at : (first_core set opens.found).moment ≡ opens.found.opened = stays.moment in
-    let last : (steps (first_core set opens.found) opens.events).last_line ≤ 0 =
+    let last : (steps (first_core set opens.found) opens.events).progress.last_line ≤ 0 =
     steps_up 0 (first_core set opens.found) opens.events (omega (arith, none)) (walk_up 0 0 next_turn (not (ran_out did)) (first_core set opens.found) opens.events opens.due) in
     let later : (steps (first_core set opens.found) opens.events).moment ≤ span.now = steps_later (first_core set opens.found) opens.events opens.found.opened span.now (omega (arith, at)) opens.rises in
     record {
       going = going_of did cluster.core.ended fine (opens.outcome (ok_there did fine));
-      last = subst (λ (c : Core). c.last_line ≤ line) (sym core) (omega (arith, last));
+      last = subst (λ (c : Core). c.progress.last_line ≤ line) (sym core) (omega (arith, last));
       moment = subst (λ (c : Core). c.moment ≤ span.now) (sym core) later;
       count = count;
       ready = ready;

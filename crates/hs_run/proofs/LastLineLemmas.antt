@@ -121,14 +121,14 @@ after_up : (n last : ℕ) (o : Option ℕ) → last ≤ n → IfSome o (λ l. l 
 after_up n last None low up = low
 after_up n last (Some l) low up = up
 
-step_up : (n : ℕ) (core : Core) (e : Event) (at : ℕ) → core.last_line ≤ n → IsUpTo n e → (step e at core).last_line ≤ n
+step_up : (n : ℕ) (core : Core) (e : Event) (at : ℕ) → core.progress.last_line ≤ n → IsUpTo n e → (step e at core).progress.last_line ≤ n
 step_up n core e at low up = go core.ended refl
   where
-    go : (o : Option CoreFault) → core.ended ≡ o → (step e at core).last_line ≤ n
-    go None going = subst (λ (l : ℕ). l ≤ n) (sym (step_goes e at core going).last_line) (after_up n core.last_line (begun_line e) low up)
-    go (Some fault) h = subst (λ (c : Core). c.last_line ≤ n) (sym (ended_stays e at core fault h)) low
+    go : (o : Option CoreFault) → core.ended ≡ o → (step e at core).progress.last_line ≤ n
+    go None going = subst (λ (l : ℕ). l ≤ n) (sym (step_goes e at core going).last_line) (after_up n core.progress.last_line (begun_line e) low up)
+    go (Some fault) h = subst (λ (c : Core). c.progress.last_line ≤ n) (sym (ended_stays e at core fault h)) low
 
-pub steps_up : (n : ℕ) (core : Core) (es : Events) → core.last_line ≤ n → AreUpTo n es → (steps core es).last_line ≤ n
+pub steps_up : (n : ℕ) (core : Core) (es : Events) → core.progress.last_line ≤ n → AreUpTo n es → (steps core es).progress.last_line ≤ n
 steps_up n core [] low up = low
 steps_up n core (e ∷ es) low up = steps_up n (step e.0 e.1 core) es (step_up n core e.0 e.1 low up.0) up.1
 

@@ -39,14 +39,14 @@ command_ready tells name asked old new result h runs ready moment shape count =
     subst (λ (r : Result ⊤ Stop). OnOk r (IsReadyAt tells new)) (sym runs.ended)
     (go runs.did runs.put ready moment runs.runs.does.outcome runs.runs.does.core)
   where
-    up : (steps old.cluster.core runs.runs.events).last_line ≤ old.line + 1
+    up : (steps old.cluster.core runs.runs.events).progress.last_line ≤ old.line + 1
     up = steps_up (old.line + 1) old.cluster.core runs.runs.events (let low = h.last in omega (arith, low)) (command_up name (old.line + 1) old.cluster.core runs.runs.events (is_ok runs.did) asked runs.runs.due)
 
     go : (did : Result ⊤ ClusterFault) (put : Result ⊤ Stop) → OnOk did (AreReady tells new.cluster.logs new.disks) → OnOk did (new.cluster.core.moment ≤ runs.mid) → (ran_out did ≡ false → did ≡ outcome_by new.cluster.core.ended)
         → (ran_out did ≡ false → new.cluster.core ≡ steps old.cluster.core runs.runs.events) → OnOk (end_of did put) (IsReadyAt tells new)
     go (Ok x) (Ok y) ready moment outcome core = record {
       going = going_of (Ok x) new.cluster.core.ended refl (outcome refl);
-      last = subst (λ (n : ℕ). new.cluster.core.last_line ≤ n) (sym runs.line) (subst (λ (c : Core). c.last_line ≤ old.line + 1) (sym (core refl)) up);
+      last = subst (λ (n : ℕ). new.cluster.core.progress.last_line ≤ n) (sym runs.line) (subst (λ (c : Core). c.progress.last_line ≤ old.line + 1) (sym (core refl)) up);
       moment = let late = runs.puts.late.later in omega (arith, moment, late);
       count = count ∙ h.count ∙ ap (λ (s : Shape). s.shards * s.copies) (sym shape);
       ready = ready;

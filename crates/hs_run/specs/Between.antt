@@ -15,7 +15,7 @@ pub record Point : Type 0 where
 -- the cluster may be asked its next line
 pub record IsReadyAt (tells : Type 0) (at : Point) : Type 0 where
   pub going : at.cluster.core.ended ≡ None
-  pub last : at.cluster.core.last_line ≤ at.line
+  pub last : at.cluster.core.progress.last_line ≤ at.line
   pub moment : at.cluster.core.moment ≤ at.now
   pub count : length at.disks ≡ at.cluster.core.members.shape.shards * at.cluster.core.members.shape.copies
   pub ready : AreReady tells at.cluster.logs at.disks

@@ -47,7 +47,7 @@ pub record Adding (shape : Shape) (limits : Limits) (before : List JournalEntry)
   pub shaped : shape_of c ≡ shape
   pub limited : c.limits ≡ limits
   pub groups : length c.groups ≡ shape.shards
-  pub line : c.event_line ≡ last
+  pub line : c.progress.event_line ≡ last
   pub journal : c.journal ≡ before
   pub refused : c.refused ≡ []
   pub entries : AllByRecursion Q c.entries
@@ -135,7 +135,7 @@ module _ (shape : Shape) (limits : Limits) (before : List JournalEntry) (last : 
   pub adds_do : (e : Event) (c : Core) → ((peer disk moment : ℕ) → e ≡ event.Report peer (done.Failed disk) → Q (record { who = who.Store; moment = moment; deed = deed.Nothing; reply = reply.Down disk last })) → A c → A (do_event e c)
   adds_do (event.Line line o) c may p = stays_line adding_tells line o c (record { shaped = p.shaped; limited = p.limited; groups = p.groups; line = p.line; journal = p.journal; refused = p.refused; entries = p.entries })
   adds_do (event.Report peer d) c may p = stays_report adding_tells peer d c
-      (λ disk is x q. more x (record { who = who.Store; moment = x.moment; deed = deed.Nothing; reply = reply.Down disk x.event_line })
+      (λ disk is x q. more x (record { who = who.Store; moment = x.moment; deed = deed.Nothing; reply = reply.Down disk x.progress.event_line })
       (subst (λ n. Q (record { who = who.Store; moment = x.moment; deed = deed.Nothing; reply = reply.Down disk n })) (sym q.line) (may peer disk x.moment (ap (λ (y : Done). event.Report peer y) is))) q) p
   adds_do (event.Turn line peer) c may p = up_adds line peer (λ x. x) c p p
   adds_do (event.Deliver line number) c may p = by_message A line number (deliver number) c (λ e. refused_adds line (reply.NoMessage number) c refl p) (λ m e. stays_deliver adding_tells number m c p)
@@ -227,7 +227,7 @@ module _ (commands : ℕ → Option Command) (core : Core) (its : IsNoted comman
   last = line_then (line_of e) core
 
   abbrev Q : JournalEntry → Type 0
-  Q entry = IsLate core.event_line last entry
+  Q entry = IsLate core.progress.event_line last entry
 
   abbrev B : Core → Type 0
   B c = Adding (shape_of core) core.limits core.journal last Q c
@@ -238,7 +238,7 @@ module _ (commands : ℕ → Option Command) (core : Core) (its : IsNoted comman
       none : AllByRecursion Q core.entries
       none = subst (λ (es : List JournalEntry). AllByRecursion Q es) (sym its.quiet) tt
 
-      go : (b : Bool) → B (record (change_if b (change_pool restart_numbers) core) { moment = moment; event_line = cond (line_of e == 0) core.event_line (line_of e) })
+      go : (b : Bool) → B (record (change_if b (change_pool restart_numbers) core) { moment = moment; progress = record core.progress { event_line = cond (line_of e == 0) core.progress.event_line (line_of e) } })
       go true = record { shaped = refl; limited = refl; groups = its.groups; line = refl; journal = refl; refused = its.going goes; entries = none }
       go false = record { shaped = refl; limited = refl; groups = its.groups; line = refl; journal = refl; refused = its.going goes; entries = none }
 
@@ -246,10 +246,10 @@ module _ (commands : ℕ → Option Command) (core : Core) (its : IsNoted comman
   done_core = do_event e (begin_event (line_of e) moment core)
 
   does : B done_core
-  does = adds_do (shape_of core) core.limits core.journal last Q (late_quiet core.event_line last) e (begin_event (line_of e) moment core) note begun
+  does = adds_do (shape_of core) core.limits core.journal last Q (late_quiet core.progress.event_line last) e (begin_event (line_of e) moment core) note begun
     where
       note : (peer disk at : ℕ) → e ≡ event.Report peer (done.Failed disk) → Q (record { who = who.Store; moment = at; deed = deed.Nothing; reply = reply.Down disk last })
-      note peer disk at is = let same : last ≡ core.event_line = ap (λ (x : Event). line_then (line_of x) core) is in (refl, same, same)
+      note peer disk at is = let same : last ≡ core.progress.event_line = ap (λ (x : Event). line_then (line_of x) core) is in (refl, same, same)
 
   before_is : told_of core ≡ core.journal
   before_is = ap (λ (es : List JournalEntry). core.journal ++ es) (its.going goes) ∙ append-nil core.journal
@@ -284,5 +284,5 @@ module _ (commands : ℕ → Option Command) (core : Core) (its : IsNoted comman
       shape_is true = does.shaped
       shape_is false = does.shaped
 
-  pub step_grows : Grows (IsLate core.event_line (line_then (line_of e) core)) core (step e moment core)
+  pub step_grows : Grows (IsLate core.progress.event_line (line_then (line_of e) core)) core (step e moment core)
   step_grows = subst (λ (x : Core). Grows Q core x) (sym (ap (λ x. change_if (is_none x) (run_event e moment) core) goes)) run_grows

@@ -211,9 +211,9 @@ module _ (S : Script) (r : Ran) (story : Story) (went : Went S r story) (none : 
     told_is : told_of (core_behind S story (suc count)) ≡ (core_behind S story (suc count)).journal
     told_is = ap (λ (es : List JournalEntry). E.journal ++ es) clean ∙ append-nil E.journal
 
-    turns : Turns S.commands (E.event_line + 1) E.moment (core_behind S story (suc count)).journal (asking E.operations)
-    turns = subst (λ (es : List JournalEntry). Turns S.commands (E.event_line + 1) E.moment es (asking E.operations)) told_is
-        (subst (λ (c : Core). Turns S.commands (c.event_line + 1) c.moment (told_of c) (asking c.operations)) state_core stands.stands.whole.turn.turns)
+    turns : Turns S.commands (E.progress.event_line + 1) E.moment (core_behind S story (suc count)).journal (asking E.operations)
+    turns = subst (λ (es : List JournalEntry). Turns S.commands (E.progress.event_line + 1) E.moment es (asking E.operations)) told_is
+        (subst (λ (c : Core). Turns S.commands (c.progress.event_line + 1) c.moment (told_of c) (asking c.operations)) state_core stands.stands.whole.turn.turns)
 
     -- an entry below is of no later line
     front_at : (i : ℕ) (n : ℕ) → i < length E.journal → IsOfLine r.journal i n → IsOfLine (core_behind S story (suc count)).journal i n
@@ -225,8 +225,8 @@ module _ (S : Script) (r : Ran) (story : Story) (went : Went S r story) (none : 
 
     not_later : (i n : ℕ) → i < length E.journal → suc count < n → IsOfLine r.journal i n → ⊥
     not_later i n less later of =
-        let bound : n < E.event_line + 1 = turns.begun i n (front_at i n less of) in
-        let below : E.event_line < suc count + 1 = next.above in
+        let bound : n < E.progress.event_line + 1 = turns.begun i n (front_at i n less of) in
+        let below : E.progress.event_line < suc count + 1 = next.above in
         omega (arith, bound, below, later)
 
     module _ (nothing : NothingOpen (core_behind S story (suc count))) where
@@ -242,10 +242,10 @@ module _ (S : Script) (r : Ran) (story : Story) (went : Went S r story) (none : 
           said : (o : Op) × (client_op (S.commands n) ≡ Some o)
           said = op_is (client_op (S.commands n)) some
 
-          below : n < E.event_line + 1
-          below = by_line (le_or n E.event_line)
+          below : n < E.progress.event_line + 1
+          below = by_line (le_or n E.progress.event_line)
             where
-              by_line : (n ≤ E.event_line) ⊎ (E.event_line < n) → n < E.event_line + 1
+              by_line : (n ≤ E.progress.event_line) ⊎ (E.progress.event_line < n) → n < E.progress.event_line + 1
               by_line (inl h) = omega (arith, h)
               by_line (inr h) = let both : None ≡ Some said.0 = sym (next.next n h (omega (arith, less))) ∙ said.1 in absurd (cc both)
 

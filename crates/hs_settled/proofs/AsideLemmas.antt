@@ -32,7 +32,7 @@ pub record Aside (a b : Core) : Type 0 where
   pub groups : length b.groups ≡ length a.groups
   pub peers : length b.members.statuses ≡ length a.members.statuses
   pub pool : b.pool.limit ≡ a.pool.limit
-  pub line : b.event_line ≡ a.event_line
+  pub line : b.progress.event_line ≡ a.progress.event_line
   pub operations : b.operations ≡ a.operations
   pub journal : b.journal ≡ a.journal
   pub refused : b.refused ≡ a.refused

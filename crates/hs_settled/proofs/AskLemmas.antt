@@ -204,16 +204,16 @@ module _ (commands : ℕ → Option Command) where
   -- ---- the last line while they come
 
   pub record Stays (line : ℕ) (old new : Core) : Type 0 where
-    pub upward : old.event_line ≤ new.event_line
-    pub within : new.event_line ≤ line
+    pub upward : old.progress.event_line ≤ new.progress.event_line
+    pub within : new.progress.event_line ≤ line
 
-  pub its_stay : (line : ℕ) (core : Core) (es : Events) → AllIts commands line core es → core.event_line ≤ line → Stays line core (steps core es)
+  pub its_stay : (line : ℕ) (core : Core) (es : Events) → AllIts commands line core es → core.progress.event_line ≤ line → Stays line core (steps core es)
   its_stay line core [] its low = record { upward = omega arith; within = low }
   its_stay line core (e ∷ es) its low = elim (step_moves e.0 e.1 line core its.0.of) [
     | inl same ↦ let rest : Stays line (step e.0 e.1 core) (steps (step e.0 e.1 core) es) = its_stay line (step e.0 e.1 core) es its.1 (omega (arith, same, low)) in
-        record { upward = (let u : (step e.0 e.1 core).event_line ≤ (steps (step e.0 e.1 core) es).event_line = rest.upward in omega (arith, same, u)); within = rest.within }
+        record { upward = (let u : (step e.0 e.1 core).progress.event_line ≤ (steps (step e.0 e.1 core) es).progress.event_line = rest.upward in omega (arith, same, u)); within = rest.within }
     | inr here ↦ let rest : Stays line (step e.0 e.1 core) (steps (step e.0 e.1 core) es) = its_stay line (step e.0 e.1 core) es its.1 (omega (arith, here)) in
-        record { upward = (let u : (step e.0 e.1 core).event_line ≤ (steps (step e.0 e.1 core) es).event_line = rest.upward in omega (arith, here, low, u)); within = rest.within }
+        record { upward = (let u : (step e.0 e.1 core).progress.event_line ≤ (steps (step e.0 e.1 core) es).progress.event_line = rest.upward in omega (arith, here, low, u)); within = rest.within }
   ]
 
   pub its_ask : (line : ℕ) (core : Core) (es : Events) → AllIts commands line core es → AllAsk commands core es
@@ -280,25 +280,25 @@ lines_ask s line core (es ∷ next ∷ rest) are =
     (lines_ask s (line + 1) (steps core es) (next ∷ rest) are.1)
 
 pub record Lasts (line : ℕ) (lines : List Events) (old new : Core) : Type 0 where
-  pub upward : old.event_line ≤ new.event_line
-  pub within : new.event_line < line + length lines
+  pub upward : old.progress.event_line ≤ new.progress.event_line
+  pub within : new.progress.event_line < line + length lines
 
-pub lines_last : (s : Script) (line : ℕ) (core : Core) (lines : List Events) → AreLines s line core lines → core.event_line < line → Lasts line lines core (steps core (all_events lines))
+pub lines_last : (s : Script) (line : ℕ) (core : Core) (lines : List Events) → AreLines s line core lines → core.progress.event_line < line → Lasts line lines core (steps core (all_events lines))
 lines_last s line core [] are low = record { upward = omega arith; within = omega (arith, low) }
 lines_last s line core (es ∷ []) are low =
     let its : AllIts s.commands line core es = line_its s.commands s.name (record { line = line; core = core; events = es; whole = s.past }) are.going are.events in
     let stay : Stays s.commands line core (steps core es) = its_stay s.commands line core es its (omega (arith, low)) in
     subst (λ (c : Core). Lasts line (es ∷ []) core c) (sym (steps_append core es []))
-    (record { upward = stay.upward; within = (let w : (steps core es).event_line ≤ line = stay.within in omega (arith, w)) })
+    (record { upward = stay.upward; within = (let w : (steps core es).progress.event_line ≤ line = stay.within in omega (arith, w)) })
 lines_last s line core (es ∷ next ∷ rest) are low =
     let its : AllIts s.commands line core es = line_its s.commands s.name (record { line = line; core = core; events = es; whole = true }) are.0.going are.0.events in
     let stay : Stays s.commands line core (steps core es) = its_stay s.commands line core es its (omega (arith, low)) in
     let more : Lasts (line + 1) (next ∷ rest) (steps core es) (steps (steps core es) (all_events (next ∷ rest))) =
-    lines_last s (line + 1) (steps core es) (next ∷ rest) are.1 (let w : (steps core es).event_line ≤ line = stay.within in omega (arith, w)) in
+    lines_last s (line + 1) (steps core es) (next ∷ rest) are.1 (let w : (steps core es).progress.event_line ≤ line = stay.within in omega (arith, w)) in
     subst (λ (c : Core). Lasts line (es ∷ next ∷ rest) core c) (sym (steps_append core es (all_events (next ∷ rest))))
     (record {
-      upward = (let a : core.event_line ≤ (steps core es).event_line = stay.upward in let b : (steps core es).event_line ≤ (steps (steps core es) (all_events (next ∷ rest))).event_line = more.upward in omega (arith, a, b));
-      within = (let w : (steps (steps core es) (all_events (next ∷ rest))).event_line < (line + 1) + length (next ∷ rest) = more.within in omega (arith, w));
+      upward = (let a : core.progress.event_line ≤ (steps core es).progress.event_line = stay.upward in let b : (steps core es).progress.event_line ≤ (steps (steps core es) (all_events (next ∷ rest))).progress.event_line = more.upward in omega (arith, a, b));
+      within = (let w : (steps (steps core es) (all_events (next ∷ rest))).progress.event_line < (line + 1) + length (next ∷ rest) = more.within in omega (arith, w));
     })
 
 -- ---- a line that has an event of its own
@@ -352,7 +352,7 @@ line_says name at (Some (command.Reclaim peer)) s a = absurd a
 
 -- behind it, where it had its event, it is the last line
 pub line_reached : (name : List ℕ → Address) (commands : ℕ → Option Command) (at : LineAt) → at.core.ended ≡ None → 1 ≤ at.line → Speaks (commands at.line) → AreOfLine name at (commands at.line)
-    → (at.events ≡ [] → ⊥) → at.line ≤ (steps at.core at.events).event_line
+    → (at.events ≡ [] → ⊥) → at.line ≤ (steps at.core at.events).progress.event_line
 line_reached name commands at going low speaks are some = go at.events refl
   where
     says : Says at
@@ -361,13 +361,13 @@ line_reached name commands at going low speaks are some = go at.events refl
     its : AllIts commands at.line at.core at.events
     its = line_its commands name at going are
 
-    go : (es : Events) → at.events ≡ es → at.line ≤ (steps at.core es).event_line
+    go : (es : Events) → at.events ≡ es → at.line ≤ (steps at.core es).progress.event_line
     go [] is = absurd (some is)
     go (e ∷ es) is =
-        let here : (step e.0 e.1 at.core).event_line ≡ at.line = step_at e.0 e.1 at.line at.core going (says.said e es is) low in
+        let here : (step e.0 e.1 at.core).progress.event_line ≡ at.line = step_at e.0 e.1 at.line at.core going (says.said e es is) low in
         let stay : Stays commands at.line (step e.0 e.1 at.core) (steps (step e.0 e.1 at.core) es) =
         its_stay commands at.line (step e.0 e.1 at.core) es (subst (λ xs. AllIts commands at.line at.core xs) is its).1 (omega (arith, here)) in
-        let up : (step e.0 e.1 at.core).event_line ≤ (steps (step e.0 e.1 at.core) es).event_line = stay.upward in
+        let up : (step e.0 e.1 at.core).progress.event_line ≤ (steps (step e.0 e.1 at.core) es).progress.event_line = stay.upward in
         omega (arith, here, up)
 
 -- the last of some lines had an event
@@ -375,11 +375,11 @@ abbrev pub LastSpoke : List Events → Type 0
 LastSpoke lines = (front : List Events) (es : Events) → lines ≡ front ++ es ∷ [] → es ≡ [] → ⊥
 
 -- a line that was gone past had its event, and so had the last one, where it was gone past or had any
-pub reached : (s : Script) (line : ℕ) (core : Core) (lines : List Events) → AreLines s line core lines → 1 ≤ line → core.event_line < line → (k : ℕ) → line ≤ k → k < line + length lines
-    → Speaks (s.commands k) → (k + 1 < line + length lines) ⊎ ((s.past ≡ true) ⊎ LastSpoke lines) → k ≤ (steps core (all_events lines)).event_line
+pub reached : (s : Script) (line : ℕ) (core : Core) (lines : List Events) → AreLines s line core lines → 1 ≤ line → core.progress.event_line < line → (k : ℕ) → line ≤ k → k < line + length lines
+    → Speaks (s.commands k) → (k + 1 < line + length lines) ⊎ ((s.past ≡ true) ⊎ LastSpoke lines) → k ≤ (steps core (all_events lines)).progress.event_line
 reached s line core [] are one low k from to speaks shut = absurd (omega (arith, from, to))
 reached s line core (es ∷ []) are one low k from to speaks shut =
-    subst (λ (c : Core). k ≤ c.event_line) (sym (steps_append core es [])) (subst (λ j. j ≤ (steps core es).event_line) (sym here) (line_reached s.name s.commands at are.going one speaks_here are.events some))
+    subst (λ (c : Core). k ≤ c.progress.event_line) (sym (steps_append core es [])) (subst (λ j. j ≤ (steps core es).progress.event_line) (sym here) (line_reached s.name s.commands at are.going one speaks_here are.events some))
   where
     at : LineAt
     at = record { line = line; core = core; events = es; whole = s.past }
@@ -399,7 +399,7 @@ reached s line core (es ∷ []) are one low k from to speaks shut =
       ]
     ]
 reached s line core (es ∷ next ∷ rest) are one low k from to speaks shut =
-    subst (λ (c : Core). k ≤ c.event_line) (sym (steps_append core es (all_events (next ∷ rest))))
+    subst (λ (c : Core). k ≤ c.progress.event_line) (sym (steps_append core es (all_events (next ∷ rest))))
     (elim (cases_eq k line) [
       | inl e ↦ first_one e
       | inr d ↦ reached s (line + 1) (steps core es) (next ∷ rest) are.1 (omega arith) next_low k (omega (arith, from, d)) (omega (arith, to)) speaks shut_next
@@ -414,16 +414,16 @@ reached s line core (es ∷ next ∷ rest) are one low k from to speaks shut =
     stay : Stays s.commands line core (steps core es)
     stay = its_stay s.commands line core es its (omega (arith, low))
 
-    next_low : (steps core es).event_line < line + 1
-    next_low = let w : (steps core es).event_line ≤ line = stay.within in omega (arith, w)
+    next_low : (steps core es).progress.event_line < line + 1
+    next_low = let w : (steps core es).progress.event_line ≤ line = stay.within in omega (arith, w)
 
-    first_one : k ≡ line → k ≤ (steps (steps core es) (all_events (next ∷ rest))).event_line
+    first_one : k ≡ line → k ≤ (steps (steps core es) (all_events (next ∷ rest))).progress.event_line
     first_one e =
         let speaks_here : Speaks (s.commands line) = subst (λ j. Speaks (s.commands j)) e speaks in
         let some : es ≡ [] → ⊥ = λ none. not_both ((line_says s.name at (s.commands line) speaks_here are.0.events).silent none) in
-        let here : line ≤ (steps core es).event_line = line_reached s.name s.commands at are.0.going one speaks_here are.0.events some in
+        let here : line ≤ (steps core es).progress.event_line = line_reached s.name s.commands at are.0.going one speaks_here are.0.events some in
         let more : Lasts (line + 1) (next ∷ rest) (steps core es) (steps (steps core es) (all_events (next ∷ rest))) = lines_last s (line + 1) (steps core es) (next ∷ rest) are.1 next_low in
-        let up : (steps core es).event_line ≤ (steps (steps core es) (all_events (next ∷ rest))).event_line = more.upward in
+        let up : (steps core es).progress.event_line ≤ (steps (steps core es) (all_events (next ∷ rest))).progress.event_line = more.upward in
         omega (arith, e, here, up)
 
     shut_next : (k + 1 < (line + 1) + length (next ∷ rest)) ⊎ ((s.past ≡ true) ⊎ LastSpoke (next ∷ rest))

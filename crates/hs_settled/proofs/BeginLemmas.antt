@@ -32,7 +32,7 @@ use Rattle.hs_ops.specs.Views.{OpView}
 
 module _ (name : List ℕ → Address) (line : ℕ) (o : Op) (c : Core) (g : IsGood name NoLine NoShard c) (new : operation_of line c ≡ None) (counted : 1 ≤ line) (called : IsCalled name c.sessions o) where
   abbrev begun : Core
-  begun = record c { last_line = line }
+  begun = record c { progress = record c.progress { last_line = line } }
 
   abbrev shard : ℕ
   shard = judging_shard (shape_of c).shards c.sessions o

@@ -18,7 +18,7 @@ use Rattle.hs_shard.specs.Facts.{Catalogue, empty_catalogue}
 -- all that the laws of operations speak of is the same
 pub record IsAside (a b : Core) : Type 0 where
   pub members : b.members ≡ a.members
-  pub viewed : b.viewed ≡ a.viewed
+  pub viewed : b.progress.viewed ≡ a.progress.viewed
   pub groups : b.groups ≡ a.groups
   pub tasks : b.tasks ≡ a.tasks
   pub operations : b.operations ≡ a.operations

@@ -36,7 +36,7 @@ pub record Quiet (a b : Core) : Type 0 where
   pub journal : b.journal ≡ a.journal
   pub refused : b.refused ≡ a.refused
   pub entries : b.entries ≡ a.entries
-  pub line : b.event_line ≡ a.event_line
+  pub line : b.progress.event_line ≡ a.progress.event_line
   pub moment : b.moment ≡ a.moment
 
 view_quiet : (shard : ℕ) (c : Core) → Quiet c (begin_view shard c)
@@ -91,7 +91,7 @@ pub record First (n : ℕ) (m : Members) (l : Limits) (at : ℕ) (c : Core) : Ty
   pub limits : c.limits ≡ l
   pub journal : c.journal ≡ []
   pub refused : c.refused ≡ []
-  pub line : c.event_line ≡ 0
+  pub line : c.progress.event_line ≡ 0
   pub moment : c.moment ≡ at
   pub entries : AllByRecursion (λ (e : JournalEntry). IsFirst n e) c.entries
 
@@ -176,10 +176,10 @@ module _ (shape : Shape) (limits : Limits) (found : Taken) (moment : ℕ) (peers
       go true = first_noted.limits
       go false = first_noted.limits
 
-  pub line_first : (open_core shape limits found moment).event_line ≡ 0
+  pub line_first : (open_core shape limits found moment).progress.event_line ≡ 0
   line_first = go (nat_lt noted.limits.ops (length noted.journal + length noted.entries))
     where
-      go : (b : Bool) → (cond b (refuse_entries noted) (keep_entries noted)).event_line ≡ 0
+      go : (b : Bool) → (cond b (refuse_entries noted) (keep_entries noted)).progress.event_line ≡ 0
       go true = first_noted.line
       go false = first_noted.line
 

@@ -99,7 +99,7 @@ module _ (S : Script) (r : Ran) (story : Story) (went : Went S r story) where
   pub opened_kept : Kept (mute S.commands) S.set.shape S.set.limits (first_core S.set story.found)
   opened_kept = first_kept commands S.set.shape S.set.limits (opens_with S.set story.found) story.found.opened refl went.found.goods
 
-  zero_line : opened.event_line ≡ 0
+  zero_line : opened.progress.event_line ≡ 0
   zero_line = line_first S.set.shape S.set.limits (opens_with S.set story.found) story.found.opened went.found.goods
 
   walks : is_walk next_due false 0 opened story.opening ≡ true
@@ -142,28 +142,28 @@ module _ (S : Script) (r : Ran) (story : Story) (went : Went S r story) where
       (all_kept commands S.set.shape S.set.limits opened (story.opening ++ all_events story.lines) opened_kept all_come_so all_ask_so)
 
   -- no line of an event is above the last one that was begun
-  pub begun_line : (steps (first_core S.set story.found) story.opening).event_line < 1
+  pub begun_line : (steps (first_core S.set story.found) story.opening).progress.event_line < 1
   begun_line =
       let stay : Stays commands 0 opened begun = its_stay commands 0 opened story.opening opening_are (omega (arith, zero_line)) in
-      let low : begun.event_line ≤ 0 = stay.within in
+      let low : begun.progress.event_line ≤ 0 = stay.within in
       omega (arith, low)
 
-  pub last_line : (last_core S story).event_line ≤ r.line
+  pub last_line : (last_core S story).progress.event_line ≤ r.line
   last_line =
       let lasts : Lasts 1 story.lines begun (steps begun (all_events story.lines)) = lines_last (lined S r) 1 begun story.lines are_lines begun_line in
-      let low : (steps begun (all_events story.lines)).event_line < 1 + length story.lines = lasts.within in
-      let same : (last_core S story).event_line ≡ (steps begun (all_events story.lines)).event_line = ap (λ (c : Core). c.event_line) last_behind in
+      let low : (steps begun (all_events story.lines)).progress.event_line < 1 + length story.lines = lasts.within in
+      let same : (last_core S story).progress.event_line ≡ (steps begun (all_events story.lines)).progress.event_line = ap (λ (c : Core). c.progress.event_line) last_behind in
       let count : r.line ≡ length story.lines = went.line in
       omega (arith, low, same, count)
 
   -- ---- what its entries stand for
 
-  stand : (entries : List JournalEntry) → AllByRecursion (StandsFor commands (shape_of (last_core S story)) (last_core S story).limits (last_core S story).event_line) entries → AllByRecursion (IsEntry S r.line) entries
+  stand : (entries : List JournalEntry) → AllByRecursion (StandsFor commands (shape_of (last_core S story)) (last_core S story).limits (last_core S story).progress.event_line) entries → AllByRecursion (IsEntry S r.line) entries
   stand entries h =
       all_weaker (StandsFor commands S.set.shape S.set.limits r.line) (IsEntry S r.line) (entry_is S r.line) entries
-      (all_later commands S.set.shape S.set.limits (last_core S story).event_line r.line last_line entries
-      (subst (λ (z : Shape). AllByRecursion (StandsFor commands z S.set.limits (last_core S story).event_line) entries) last_kept.shaped
-      (subst (λ (l : Limits). AllByRecursion (StandsFor commands (shape_of (last_core S story)) l (last_core S story).event_line) entries) last_kept.limited h)))
+      (all_later commands S.set.shape S.set.limits (last_core S story).progress.event_line r.line last_line entries
+      (subst (λ (z : Shape). AllByRecursion (StandsFor commands z S.set.limits (last_core S story).progress.event_line) entries) last_kept.shaped
+      (subst (λ (l : Limits). AllByRecursion (StandsFor commands (shape_of (last_core S story)) l (last_core S story).progress.event_line) entries) last_kept.limited h)))
 
   pub journal_stands : AllByRecursion (IsEntry S r.line) r.journal
   journal_stands = subst (λ es. AllByRecursion (IsEntry S r.line) es) (sym went.journal) (stand (last_core S story).journal last_kept.noted.journal)

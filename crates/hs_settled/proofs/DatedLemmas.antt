@@ -42,17 +42,17 @@ down_low shape last peer line told is (Done epoch e) = let bad : reply.Down peer
 down_low shape last peer line told is (Down p l e low upto) = let same : l ≡ line = line_in p l peer line (sym e ∙ is) in omega (arith, upto, same)
 
 -- each note so far has a line that is not above the last one
-pub note_low : (commands : ℕ → Option Command) (core : Core) → IsNoted commands core → (j peer line : ℕ) → IsDownAt (told_of core) j peer line → line ≤ core.event_line
+pub note_low : (commands : ℕ → Option Command) (core : Core) → IsNoted commands core → (j peer line : ℕ) → IsDownAt (told_of core) j peer line → line ≤ core.progress.event_line
 note_low commands core its j peer line b =
-    let all : AllByRecursion (StandsFor commands (shape_of core) core.limits core.event_line) (told_of core) =
-    all_append (StandsFor commands (shape_of core) core.limits core.event_line) core.journal core.refused its.journal its.refused in
-    let s : StandsFor commands (shape_of core) core.limits core.event_line b.note = all_at (StandsFor commands (shape_of core) core.limits core.event_line) (told_of core) j b.note all b.at in
-    down_low (shape_of core) core.event_line peer line b.note.reply b.told (store_stands commands (shape_of core) core.limits core.event_line b.note b.store s)
+    let all : AllByRecursion (StandsFor commands (shape_of core) core.limits core.progress.event_line) (told_of core) =
+    all_append (StandsFor commands (shape_of core) core.limits core.progress.event_line) core.journal core.refused its.journal its.refused in
+    let s : StandsFor commands (shape_of core) core.limits core.progress.event_line b.note = all_at (StandsFor commands (shape_of core) core.limits core.progress.event_line) (told_of core) j b.note all b.at in
+    down_low (shape_of core) core.progress.event_line peer line b.note.reply b.told (store_stands commands (shape_of core) core.limits core.progress.event_line b.note b.store s)
 
 -- ---- lines of prompt answers
 
 -- a line that is answered in its own event has its entry as soon as it is not above the last line
-pub prompt_told : (commands : ℕ → Option Command) (core : Core) → IsInTurn commands core → (n : ℕ) → IsPrompt (client_op (commands n)) → n ≤ core.event_line → (i : ℕ) × IsOfLine (told_of core) i n
+pub prompt_told : (commands : ℕ → Option Command) (core : Core) → IsInTurn commands core → (n : ℕ) → IsPrompt (client_op (commands n)) → n ≤ core.progress.event_line → (i : ℕ) × IsOfLine (told_of core) i n
 prompt_told commands core turn n prompt le =
     let asks : AsksFor (commands n) = prompt_op (commands n) prompt in
     elim (turn.turns.each n asks.op (omega (arith, le)) asks.is) [
@@ -71,22 +71,22 @@ of_either xs ys i n o = elim (at_either xs ys i o.entry o.at) [
 
 -- ---- one event
 
-module _ (commands : ℕ → Option Command) (core after : Core) (last : ℕ) (turn : IsInTurn commands core) (turns : IsInTurn commands after) (noted : IsNoted commands core) (line_is : after.event_line ≡ last) (grows : Grows (IsLate core.event_line last) core after) (dated : AreDated commands (told_of core)) where
+module _ (commands : ℕ → Option Command) (core after : Core) (last : ℕ) (turn : IsInTurn commands core) (turns : IsInTurn commands after) (noted : IsNoted commands core) (line_is : after.progress.event_line ≡ last) (grows : Grows (IsLate core.progress.event_line last) core after) (dated : AreDated commands (told_of core)) where
   -- a note is an older one, or has the line of the last event, which has not changed
   which : (j peer line : ℕ) → IsDownAt (told_of core ++ grows.more) j peer line
-      → IsDownAt (told_of core) j peer line ⊎ ((length (told_of core) ≤ j) × (line ≡ core.event_line) × (last ≡ core.event_line))
+      → IsDownAt (told_of core) j peer line ⊎ ((length (told_of core) ≤ j) × (line ≡ core.progress.event_line) × (last ≡ core.progress.event_line))
   which j peer line b = elim (at_either (told_of core) grows.more j b.note b.at) [
     | inl old ↦ inl (record { note = b.note; at = old; store = b.store; told = b.told })
     | inr new ↦
-        let late : IsLate core.event_line last b.note = all_at (IsLate core.event_line last) grows.more new.place b.note grows.each new.at in
-        let of : (b.note.who ≡ who.Store) × (line ≡ core.event_line) × (last ≡ core.event_line) =
-        subst (λ (o : Option (ℕ × ℕ)). IfSome o (λ d. (b.note.who ≡ who.Store) × (d.1 ≡ core.event_line) × (last ≡ core.event_line))) (ap down_in b.told) late in
+        let late : IsLate core.progress.event_line last b.note = all_at (IsLate core.progress.event_line last) grows.more new.place b.note grows.each new.at in
+        let of : (b.note.who ≡ who.Store) × (line ≡ core.progress.event_line) × (last ≡ core.progress.event_line) =
+        subst (λ (o : Option (ℕ × ℕ)). IfSome o (λ d. (b.note.who ≡ who.Store) × (d.1 ≡ core.progress.event_line) × (last ≡ core.progress.event_line))) (ap down_in b.told) late in
         let e : j ≡ length (told_of core) + new.place = new.is in
         inr (omega (arith, e), of.1, of.2)
   ]
 
   -- so that the entry of a prompt line that is not above it stands before what the event tells
-  before : (i n : ℕ) → IsOfLine (told_of core ++ grows.more) i n → IsPrompt (client_op (commands n)) → n ≤ core.event_line → IsOfLine (told_of core) i n
+  before : (i n : ℕ) → IsOfLine (told_of core ++ grows.more) i n → IsPrompt (client_op (commands n)) → n ≤ core.progress.event_line → IsOfLine (told_of core) i n
   before i n a prompt le =
       let there : (k : ℕ) × IsOfLine (told_of core) k n = prompt_told commands core turn n prompt le in
       let again : IsOfLine (told_of core ++ grows.more) there.0 n = of_left (told_of core) grows.more there.0 n there.1 in
@@ -104,17 +104,17 @@ module _ (commands : ℕ → Option Command) (core after : Core) (last : ℕ) (t
             | inr high ↦ absurd (omega (arith, low, lt, high))
           ]
       | inr new ↦
-          let up : n < after.event_line + 1 = turns.turns.begun i n (subst (λ es. IsOfLine es i n) (sym grows.told) a) in
-          let is : line ≡ core.event_line = new.1 in
-          let same : last ≡ core.event_line = new.2 in
+          let up : n < after.progress.event_line + 1 = turns.turns.begun i n (subst (λ es. IsOfLine es i n) (sym grows.told) a) in
+          let is : line ≡ core.progress.event_line = new.1 in
+          let same : last ≡ core.progress.event_line = new.2 in
           omega (arith, up, line_is, is, same)
     ];
     earlier = λ i j n peer line a prompt b le. elim (which j peer line b) [
       | inl old ↦
-          let low : line ≤ core.event_line = note_low commands core noted j peer line old in
+          let low : line ≤ core.progress.event_line = note_low commands core noted j peer line old in
           dated.earlier i j n peer line (before i n a prompt (omega (arith, le, low))) prompt old le
       | inr new ↦
-          let is : line ≡ core.event_line = new.1 in
+          let is : line ≡ core.progress.event_line = new.1 in
           let high : length (told_of core) ≤ j = new.0 in
           let o : IsOfLine (told_of core) i n = before i n a prompt (omega (arith, le, is)) in
           let low : i < length (told_of core) = slice_get_within (told_of core) i o.entry o.at in
@@ -127,11 +127,11 @@ module _ (commands : ℕ → Option Command) (core after : Core) (last : ℕ) (t
 
 -- ---- as a core opens, and a part of what was told
 
-pub dated_first : (commands : ℕ → Option Command) (core : Core) → client_op (commands 0) ≡ None → core.event_line ≡ 0 → IsInTurn commands core → AreDated commands (told_of core)
+pub dated_first : (commands : ℕ → Option Command) (core : Core) → client_op (commands 0) ≡ None → core.progress.event_line ≡ 0 → IsInTurn commands core → AreDated commands (told_of core)
 dated_first commands core nobody zero turn = record {
-  later = λ i j n peer line a b lt. let up : n < core.event_line + 1 = turn.turns.begun i n a in omega (arith, up, zero);
+  later = λ i j n peer line a b lt. let up : n < core.progress.event_line + 1 = turn.turns.begun i n a in omega (arith, up, zero);
   earlier = λ i j n peer line a prompt b le.
-      let up : n < core.event_line + 1 = turn.turns.begun i n a in
+      let up : n < core.progress.event_line + 1 = turn.turns.begun i n a in
       let none : n ≡ 0 = omega (arith, up, zero) in
       absurd (subst (λ o. IsPrompt o) (ap (λ k. client_op (commands k)) none ∙ nobody) prompt);
 }

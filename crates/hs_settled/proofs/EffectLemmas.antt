@@ -190,9 +190,9 @@ module _ (name : List ℕ → Address) (shard view : ℕ) (c : Core) (here : vie
   viewed_cause : (l : ℕ) (w : Waiting) (x : Wait) → w.wait ≡ x → HasCause name c (asker_of l w) x → ForView l w ⊎ HasCause name (set_viewed shard true c) (asker_of l w) x
   viewed_cause l w wait.View is h = by_shard (one_or_other w.shard shard)
     where
-      by_shard : (w.shard ≡ shard) ⊎ (w.shard ≡ shard → ⊥) → ForView l w ⊎ (slice_index_or (set_viewed shard true c).viewed w.shard false ≡ false)
+      by_shard : (w.shard ≡ shard) ⊎ (w.shard ≡ shard → ⊥) → ForView l w ⊎ (slice_index_or (set_viewed shard true c).progress.viewed w.shard false ≡ false)
       by_shard (inl s) = inl (s, is)
-      by_shard (inr d) = inr (get_or-set_other c.viewed shard w.shard true false d ∙ h)
+      by_shard (inr d) = inr (get_or-set_other c.progress.viewed shard w.shard true false d ∙ h)
   viewed_cause l w wait.Address is h = inr (record { place = h.place; entry = h.entry; at = h.at; is = h.is })
   viewed_cause l w wait.Room is h = inr (record { place = h.place; entry = h.entry; at = h.at; is = h.is })
   viewed_cause l w (wait.Bytes n) is h = inr (h.0, record { place = h.1.place; at = h.1.at })
@@ -200,7 +200,7 @@ module _ (name : List ℕ → Address) (shard view : ℕ) (c : Core) (here : vie
 
   viewed_most : (v : ℕ) → Most name (Left name shard (kind.View v)) (Unseen shard (kind.View v) view) c → Most name ForView NoShard (set_viewed shard true c)
   viewed_most v m = record {
-    views = length-set c.viewed shard true ∙ m.views;
+    views = length-set c.progress.viewed shard true ∙ m.views;
     viewing = λ g low off. by_shard g low off (one_or_other g shard);
     caused = λ l w at. by_line l w (m.caused l w at);
   }
@@ -209,13 +209,13 @@ module _ (name : List ℕ → Address) (shard view : ℕ) (c : Core) (here : vie
       by_view g d (inl u) = absurd (d u.0)
       by_view g d (inr h) = inr (record { place = h.place; entry = h.entry; at = h.at; is = h.is })
 
-      by_shard : (g : ℕ) → g < c.members.shape.shards → slice_index_or (set_viewed shard true c).viewed g false ≡ false → (g ≡ shard) ⊎ (g ≡ shard → ⊥) → NoShard g ⊎ ViewWaits (set_viewed shard true c) g
+      by_shard : (g : ℕ) → g < c.members.shape.shards → slice_index_or (set_viewed shard true c).progress.viewed g false ≡ false → (g ≡ shard) ⊎ (g ≡ shard → ⊥) → NoShard g ⊎ ViewWaits (set_viewed shard true c) g
       by_shard g low off (inl is) =
-          let inside : shard < length c.viewed = subst (λ k. shard < k) (sym m.views) (subst (λ k. k < c.members.shape.shards) is low) in
-          let seen : slice_index_or (set_viewed shard true c).viewed g false ≡ true =
-          ap (λ k. slice_index_or (set_viewed shard true c).viewed k false) is ∙ get_or-set_same c.viewed shard true false inside in
+          let inside : shard < length c.progress.viewed = subst (λ k. shard < k) (sym m.views) (subst (λ k. k < c.members.shape.shards) is low) in
+          let seen : slice_index_or (set_viewed shard true c).progress.viewed g false ≡ true =
+          ap (λ k. slice_index_or (set_viewed shard true c).progress.viewed k false) is ∙ get_or-set_same c.progress.viewed shard true false inside in
           absurd (cc (sym seen ∙ off))
-      by_shard g low off (inr d) = by_view g d (m.viewing g low (sym (get_or-set_other c.viewed shard g true false d) ∙ off))
+      by_shard g low off (inr d) = by_view g d (m.viewing g low (sym (get_or-set_other c.progress.viewed shard g true false d) ∙ off))
 
       by_line : (l : ℕ) (w : Waiting) → Left name shard (kind.View v) l w ⊎ HasCause name c (asker_of l w) w.wait → ForView l w ⊎ HasCause name (set_viewed shard true c) (asker_of l w) w.wait
       by_line l w (inl left) = absurd (nobody v l w left)

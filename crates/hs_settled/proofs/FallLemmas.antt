@@ -48,7 +48,7 @@ if_same false f x e = refl
 
 -- the note of a disk, as it is told
 abbrev pub down_entry : ℕ → Core → JournalEntry
-down_entry disk c = record { who = who.Store; moment = c.moment; deed = deed.Nothing; reply = reply.Down disk c.event_line }
+down_entry disk c = record { who = who.Store; moment = c.moment; deed = deed.Nothing; reply = reply.Down disk c.progress.event_line }
 
 -- its peer is not good, and beside this note nothing was told
 pub record Fallen (disk : ℕ) (a b : Core) : Type 0 where
@@ -94,7 +94,7 @@ module _ (peer disk : ℕ) (c : Core) (one : (shape_of c).copies ≡ 1) (low : d
   behind = set_tasks peer (drop 1 (tasks_of peer c)) c
 
   abbrev noted : Core
-  noted = note who.Store deed.Nothing (reply.Down disk behind.event_line) behind
+  noted = note who.Store deed.Nothing (reply.Down disk behind.progress.event_line) behind
 
   taken : (line : ℕ) → Fallen disk c (take_report peer line (done.Failed disk) behind)
   taken line =

@@ -111,7 +111,7 @@ line_says : (line : ℕ) (o : Op) (c : Core) → Says IsNoFirst c (begin_line li
 line_says line o c = record { more = s.more; told = s.told; each = s.each }
   where
     begun : Core
-    begun = record c { last_line = line }
+    begun = record c { progress = record c.progress { last_line = line } }
 
     w : Waiting
     w = record { operation = new_operation line o; shard = judging_shard (shape_of c).shards c.sessions o; wait = wait.View }

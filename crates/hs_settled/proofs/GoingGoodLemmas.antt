@@ -44,8 +44,8 @@ ViewWaits c shard = SomeWaits c shard (λ entry. entry ≡ kind.View (group_of s
 
 -- causes as AreCaused has them, but for some operations and some shards
 pub record Most (name : List ℕ → Address) (but : ℕ → Waiting → Type 0) (unseen : ℕ → Type 0) (c : Core) : Type 0 where
-  pub views : length c.viewed ≡ c.members.shape.shards
-  pub viewing : (shard : ℕ) → shard < c.members.shape.shards → slice_index_or c.viewed shard false ≡ false → unseen shard ⊎ ViewWaits c shard
+  pub views : length c.progress.viewed ≡ c.members.shape.shards
+  pub viewing : (shard : ℕ) → shard < c.members.shape.shards → slice_index_or c.progress.viewed shard false ≡ false → unseen shard ⊎ ViewWaits c shard
   pub caused : (line : ℕ) (w : Waiting) → operation_of line c ≡ Some w → but line w ⊎ HasCause name c (asker_of line w) w.wait
 
 -- no operation, no shard, and one line more
@@ -89,15 +89,15 @@ most_turn name but more un unmore c turn shards m = record { views = m.views; vi
 -- ---- where nothing goes
 
 module _ (name : List ℕ → Address) (a b : Core) (s : Stays a b) where
-  views_stay : length a.viewed ≡ a.members.shape.shards → length b.viewed ≡ b.members.shape.shards
+  views_stay : length a.progress.viewed ≡ a.members.shape.shards → length b.progress.viewed ≡ b.members.shape.shards
   views_stay e = ap (λ (vs : List Bool). length vs) s.viewed ∙ e ∙ ap (λ (m : Members). m.shape.shards) (sym s.members)
 
   view_stays : (un : ℕ → Type 0) (g : ℕ) → un g ⊎ ViewWaits a g → un g ⊎ ViewWaits b g
   view_stays un g (inl u) = inl u
   view_stays un g (inr h) = inr (record { place = h.place; entry = h.entry; at = s.waits g h.place h.entry h.at; is = h.is ∙ ap (λ v. kind.View v) (sym (s.view g)) })
 
-  viewing_stays : (un : ℕ → Type 0) → ((g : ℕ) → g < a.members.shape.shards → slice_index_or a.viewed g false ≡ false → un g ⊎ ViewWaits a g)
-      → (g : ℕ) → g < b.members.shape.shards → slice_index_or b.viewed g false ≡ false → un g ⊎ ViewWaits b g
+  viewing_stays : (un : ℕ → Type 0) → ((g : ℕ) → g < a.members.shape.shards → slice_index_or a.progress.viewed g false ≡ false → un g ⊎ ViewWaits a g)
+      → (g : ℕ) → g < b.members.shape.shards → slice_index_or b.progress.viewed g false ≡ false → un g ⊎ ViewWaits b g
   viewing_stays un h g low off =
       view_stays un g (h g (subst (λ (x : Members). g < x.shape.shards) s.members low) (sym (ap (λ (vs : List Bool). slice_index_or vs g false) s.viewed) ∙ off))
 

@@ -63,9 +63,9 @@ record Opens (un : ℕ → Type 0) (m : Members) (c : Core) : Type 0 where
   pub members : c.members ≡ m
   pub operations : c.operations ≡ []
   pub groups : length c.groups ≡ m.shape.shards
-  pub views : length c.viewed ≡ m.shape.shards
+  pub views : length c.progress.viewed ≡ m.shape.shards
   pub each_own : (g : ℕ) → g < m.shape.shards → (group_of g c).shard ≡ g
-  pub viewing : (g : ℕ) → g < m.shape.shards → slice_index_or c.viewed g false ≡ false → un g ⊎ ViewWaits c g
+  pub viewing : (g : ℕ) → g < m.shape.shards → slice_index_or c.progress.viewed g false ≡ false → un g ⊎ ViewWaits c g
 
 module _ (s : ℕ) (ss : List ℕ) (m : Members) (c : Core) (o : Opens (λ g. IsAmong g (s ∷ ss)) m c) where
   -- the copies are told, and nothing starts again
@@ -117,7 +117,7 @@ module _ (s : ℕ) (ss : List ℕ) (m : Members) (c : Core) (o : Opens (λ g. Is
     members = stays.members ∙ o.members;
     operations = proposal_operations s entry told ∙ ap (λ (es : List (ℕ × Waiting)). map (λ (e : ℕ × Waiting). (e.0, restarted s (last_number (group_of s listed)) e.1)) es) o.operations;
     groups = stays.groups ∙ length-set c.groups s (renew c.members (group_of s c)) ∙ o.groups;
-    views = ap (λ (vs : List Bool). length vs) stays.viewed ∙ length-set c.viewed s false ∙ o.views;
+    views = ap (λ (vs : List Bool). length vs) stays.viewed ∙ length-set c.progress.viewed s false ∙ o.views;
     each_own = shards_after;
     viewing = λ g low off. by_shard g low off (one_or_other g s);
   }
@@ -132,10 +132,10 @@ module _ (s : ℕ) (ss : List ℕ) (m : Members) (c : Core) (o : Opens (λ g. Is
         is = h.is ∙ ap (λ (x : Group). kind.View x.view) (sym (after_group g d));
       })
 
-      by_shard : (g : ℕ) → g < m.shape.shards → slice_index_or after.viewed g false ≡ false → (g ≡ s) ⊎ (g ≡ s → ⊥) → IsAmong g ss ⊎ ViewWaits after g
+      by_shard : (g : ℕ) → g < m.shape.shards → slice_index_or after.progress.viewed g false ≡ false → (g ≡ s) ⊎ (g ≡ s → ⊥) → IsAmong g ss ⊎ ViewWaits after g
       by_shard g low off (inl is) = inr (subst (λ k. ViewWaits after k) (sym is) (own_view (subst (λ k. k < m.shape.shards) is low)))
       by_shard g low off (inr d) =
-          by_other g d (o.viewing g low (sym (get_or-set_other c.viewed s g false false d) ∙ sym (ap (λ (vs : List Bool). slice_index_or vs g false) stays.viewed) ∙ off))
+          by_other g d (o.viewing g low (sym (get_or-set_other c.progress.viewed s g false false d) ∙ sym (ap (λ (vs : List Bool). slice_index_or vs g false) stays.viewed) ∙ off))
 
 opens_each : (m : Members) → ((g : ℕ) → g < m.shape.shards → has_good g m ≡ true) → (ss : List ℕ) (c : Core) → Opens (λ g. IsAmong g ss) m c → Opens NoShard m (each ss change_view c)
 opens_each m goods [] c o = record { members = o.members; operations = o.operations; groups = o.groups; views = o.views; each_own = o.each_own; viewing = o.viewing }

@@ -90,7 +90,7 @@ module _ (commands : ℕ → Option Command) (shape : Shape) (limits : Limits) w
   of_peer c peer (done.Stepped switched) p e = tt
 
   pub own_event : (e : Event) (c : Core) → K c → MayBegin commands c e → Asks commands c e → IsOwnEvent commands c e
-  own_event (event.Line line o) c p may asks = (let above : c.event_line < line = may.above in omega (arith, above), asks_some (commands line) o may.asks)
+  own_event (event.Line line o) c p may asks = (let above : c.progress.event_line < line = may.above in omega (arith, above), asks_some (commands line) o may.asks)
   own_event (event.Report peer d) c p may asks = of_peer c peer d p asks
   own_event (event.Turn line peer) c p may asks = (may.upward, inr asks)
   own_event (event.Deliver line number) c p may asks = (may.upward, asks)
@@ -113,7 +113,7 @@ module _ (commands : ℕ → Option Command) (shape : Shape) (limits : Limits) w
 
   -- ---- one event
 
-  pub grows_by : (e : Event) (moment : ℕ) (c : Core) → K c → c.ended ≡ None → Grows (IsLate c.event_line (line_then (line_of e) c)) c (step e moment c)
+  pub grows_by : (e : Event) (moment : ℕ) (c : Core) → K c → c.ended ≡ None → Grows (IsLate c.progress.event_line (line_then (line_of e) c)) c (step e moment c)
   grows_by e moment c p goes = step_grows commands c p.noted goes p.ends.fits e moment
 
   pub step_kept : (e : Event) (moment : ℕ) (c : Core) → K c → c.ended ≡ None → MayCome commands c e moment → Asks commands c e → K (step e moment c)
@@ -130,7 +130,7 @@ module _ (commands : ℕ → Option Command) (shape : Shape) (limits : Limits) w
       turn : IsInTurn commands (step e moment c)
       turn = step_turn commands e moment c p.turn (λ g. may)
 
-      grows : Grows (IsLate c.event_line (line_then (line_of e) c)) c (step e moment c)
+      grows : Grows (IsLate c.progress.event_line (line_then (line_of e) c)) c (step e moment c)
       grows = grows_by e moment c p goes
 
   -- ---- any number of them

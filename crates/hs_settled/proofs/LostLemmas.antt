@@ -94,13 +94,13 @@ steps_over c (e ∷ es) f over = ap (λ x. steps x es) (step_ended e.0 e.1 c f o
 
 -- the note of a peer that is down has the last line, or that line is its `fail`
 pub data Loss (commands : ℕ → Option Command) (g : ℕ) (c : Core) : Type 0 where
-  IsNoted : (place : ℕ) → IsDownAt (told_of c) place g c.event_line → Loss commands g c
-  IsFailed : commands c.event_line ≡ Some (command.Fail g) → Loss commands g c
+  IsNoted : (place : ℕ) → IsDownAt (told_of c) place g c.progress.event_line → Loss commands g c
+  IsFailed : commands c.progress.event_line ≡ Some (command.Fail g) → Loss commands g c
 
-pub line_up : (line : ℕ) (c : Core) → c.event_line ≤ line → line_then line c ≡ line
+pub line_up : (line : ℕ) (c : Core) → c.progress.event_line ≤ line → line_then line c ≡ line
 line_up line c up = go (line == 0) refl
   where
-    go : (b : Bool) → (line == 0) ≡ b → cond b c.event_line line ≡ line
+    go : (b : Bool) → (line == 0) ≡ b → cond b c.progress.event_line line ≡ line
     go true t = let zero_line : line ≡ 0 = eqb-true line 0 t in omega (arith, up, zero_line)
     go false t = refl
 
@@ -124,10 +124,10 @@ module _ (commands : ℕ → Option Command) (shape : Shape) (limits : Limits) (
     after_kept : K after
     after_kept = step_kept commands shape limits e at c kept going may asks
 
-    grows : Grows (IsLate c.event_line (line_then (line_of e) c)) c after
+    grows : Grows (IsLate c.progress.event_line (line_then (line_of e) c)) c after
     grows = grows_by commands shape limits e at c kept going
 
-    line_is : after.event_line ≡ line_then (line_of e) c
+    line_is : after.progress.event_line ≡ line_then (line_of e) c
     line_is = step_line e at c going
 
     -- whoever is not good then went down by this event
@@ -157,10 +157,10 @@ module _ (commands : ℕ → Option Command) (shape : Shape) (limits : Limits) (
         let all : note_count g (told_of after) ≡ note_count g (told_of c) + note_count g grows.more = ap (λ (es : List JournalEntry). note_count g es) grows.told ∙ count_parts g (told_of c) grows.more in
         let n : NoteAt g grows.more = some_note g grows.more (omega (arith, one_more, cost, all)) in
         let tells : Notes g n.entry = note_is g n.entry n.note in
-        let late : IsLate c.event_line (line_then (line_of e) c) n.entry = all_at (IsLate c.event_line (line_then (line_of e) c)) grows.more n.place n.entry grows.each n.at in
-        let of : (n.entry.who ≡ who.Store) × (tells.line ≡ c.event_line) × (line_then (line_of e) c ≡ c.event_line) =
-        subst (λ (o : Option (ℕ × ℕ)). IfSome o (λ d. (n.entry.who ≡ who.Store) × (d.1 ≡ c.event_line) × (line_then (line_of e) c ≡ c.event_line))) tells.in_it late in
-        let line : tells.line ≡ after.event_line = of.1 ∙ sym of.2 ∙ sym line_is in
+        let late : IsLate c.progress.event_line (line_then (line_of e) c) n.entry = all_at (IsLate c.progress.event_line (line_then (line_of e) c)) grows.more n.place n.entry grows.each n.at in
+        let of : (n.entry.who ≡ who.Store) × (tells.line ≡ c.progress.event_line) × (line_then (line_of e) c ≡ c.progress.event_line) =
+        subst (λ (o : Option (ℕ × ℕ)). IfSome o (λ d. (n.entry.who ≡ who.Store) × (d.1 ≡ c.progress.event_line) × (line_then (line_of e) c ≡ c.progress.event_line))) tells.in_it late in
+        let line : tells.line ≡ after.progress.event_line = of.1 ∙ sym of.2 ∙ sym line_is in
         IsNoted (length (told_of c) + n.place) (record {
           note = n.entry;
           at = subst (λ es. slice_get es (length (told_of c) + n.place) ≡ Some n.entry) (sym grows.told) (at_right (told_of c) grows.more n.place n.entry n.at);
@@ -185,7 +185,7 @@ module _ (commands : ℕ → Option Command) (shape : Shape) (limits : Limits) (
         by_event (event.Fail line peer) is f =
             let own : commands line ≡ Some (command.Fail peer) = subst (λ x. Asks commands c x) is asks in
             let other : OtherMay commands c line (event.Fail line peer) = (subst (λ x. MayCome commands c x at) is may).begins in
-            let here : after.event_line ≡ line = line_is ∙ ap (λ x. line_then (line_of x) c) is ∙ line_up line c other.upward in
+            let here : after.progress.event_line ≡ line = line_is ∙ ap (λ x. line_then (line_of x) c) is ∙ line_up line c other.upward in
             IsFailed (ap commands here ∙ own ∙ ap (λ p. Some (command.Fail p)) f)
         by_event (event.Start line peer) is f = absurd f
 
@@ -239,7 +239,7 @@ module _ (S : Script) (r : Ran) (story : Story) (went : Went S r story) (one : S
       let tells : Notes g n.entry = note_is g n.entry n.note in
       let first : IsFirst (S.set.shape.shards * S.set.shape.copies) n.entry =
       all_at (λ (e : JournalEntry). IsFirst (S.set.shape.shards * S.set.shape.copies) e) (told_of opened) n.place n.entry (told_first S.set.shape S.set.limits (opens_with S.set story.found) story.found.opened went.found.goods) n.at in
-      let zero_line : opened.event_line ≡ 0 = line_first S.set.shape S.set.limits (opens_with S.set story.found) story.found.opened went.found.goods in
+      let zero_line : opened.progress.event_line ≡ 0 = line_first S.set.shape S.set.limits (opens_with S.set story.found) story.found.opened went.found.goods in
       let line : tells.line ≡ 0 = line_of_note first.peer g tells.line (sym first.told ∙ tells.told) in
       IsNoted n.place (record { note = n.entry; at = n.at; store = first.store; told = tells.told ∙ ap (λ k. reply.Down g k) (line ∙ sym zero_line) })
     where
@@ -263,16 +263,16 @@ module _ (S : Script) (r : Ran) (story : Story) (went : Went S r story) (one : S
           subst (λ (c : Core). Loss commands g c) (sym (last_is S r story went ∙ same)) (opened_loss (ap (λ (c : Core). c.ended) (sym same) ∙ there))
 
   -- no line behind the last one of an event starts the peer
-  none_started : NotStartedAfter S r g (last_core S story).event_line
+  none_started : NotStartedAfter S r g (last_core S story).progress.event_line
   none_started k above started =
       let count : r.line ≡ length story.lines = went.line in
       let upto : k ≤ r.line = started.begun in
       let behind : Core = steps opened story.opening in
-      let reach : k ≤ (steps behind (all_events story.lines)).event_line =
+      let reach : k ≤ (steps behind (all_events story.lines)).progress.event_line =
       reached (lined S r) 1 behind story.lines (are_lines S r story went) (omega arith) (begun_line S r story went) k (omega (arith, above)) (omega (arith, upto, count))
       (subst (λ c. Speaks c) (sym (mute_is S.commands k (omega (arith, above)) ∙ started.starts)) tt)
       (inr (inr (ended_spoke (lined S r) 1 behind story.lines (fault.ShardLost g) (are_lines S r story went) (ap (λ (c : Core). c.ended) (sym (last_behind S r story went)) ∙ over)))) in
-      let same : (last_core S story).event_line ≡ (steps behind (all_events story.lines)).event_line = ap (λ (c : Core). c.event_line) (last_behind S r story went) in
+      let same : (last_core S story).progress.event_line ≡ (steps behind (all_events story.lines)).progress.event_line = ap (λ (c : Core). c.progress.event_line) (last_behind S r story went) in
       omega (arith, above, reach, same)
 
   not_good : NotGood S r g
@@ -282,8 +282,8 @@ module _ (S : Script) (r : Ran) (story : Story) (went : Went S r story) (one : S
       told_is = ap (λ (es : List JournalEntry). (last_core S story).journal ++ es) ((last_kept S r story went).ends.clean g over) ∙ append-nil (last_core S story).journal ∙ sym went.journal
 
       go : Loss commands g (last_core S story) → NotGood S r g
-      go (IsNoted place at) = Noted place (last_core S story).event_line (subst (λ es. IsDownAt es place g (last_core S story).event_line) told_is at) none_started
-      go (IsFailed own) = Failed (last_core S story).event_line (last_line S r story went) (mute_some S.commands (last_core S story).event_line (command.Fail g) own) none_started
+      go (IsNoted place at) = Noted place (last_core S story).progress.event_line (subst (λ es. IsDownAt es place g (last_core S story).progress.event_line) told_is at) none_started
+      go (IsFailed own) = Failed (last_core S story).progress.event_line (last_line S r story went) (mute_some S.commands (last_core S story).progress.event_line (command.Fail g) own) none_started
 
   pub lost_cause : LostCause S r g
   lost_cause = record {

@@ -134,13 +134,13 @@ failed_counts shape disk n before peer failed c answered p = go (first_task peer
     one : Core
     one = set_tasks peer (drop 1 (tasks_of peer c)) c
 
-    noted : Counts shape disk m before (note who.Store deed.Nothing (reply.Down failed one.event_line) one)
+    noted : Counts shape disk m before (note who.Store deed.Nothing (reply.Down failed one.progress.event_line) one)
     noted = record {
       groups = p.groups;
       journal = p.journal;
       refused = p.refused;
       count =
-          count_more disk c.entries (record { who = who.Store; moment = c.moment; deed = deed.Nothing; reply = reply.Down failed one.event_line }) ∙ ap (λ k. k + cond (failed == disk) 1 0) p.count;
+          count_more disk c.entries (record { who = who.Store; moment = c.moment; deed = deed.Nothing; reply = reply.Down failed one.progress.event_line }) ∙ ap (λ k. k + cond (failed == disk) 1 0) p.count;
     }
 
     taken : (line : ℕ) → Counts shape disk m before (take_report peer line (done.Failed failed) one)
@@ -173,7 +173,7 @@ module _ (commands : ℕ → Option Command) (core : Core) (its : IsNoted comman
       begun_groups : length (begin_event (line_of e) moment core).groups ≡ (shape_of core).shards
       begun_groups = go _
         where
-          go : (b : Bool) → length (record (change_if b (change_pool restart_numbers) core) { moment = moment; event_line = cond (line_of e == 0) core.event_line (line_of e) }).groups ≡ (shape_of core).shards
+          go : (b : Bool) → length (record (change_if b (change_pool restart_numbers) core) { moment = moment; progress = record core.progress { event_line = cond (line_of e == 0) core.progress.event_line (line_of e) } }).groups ≡ (shape_of core).shards
           go true = its.groups
           go false = its.groups
 
@@ -204,7 +204,7 @@ module _ (commands : ℕ → Option Command) (core : Core) (its : IsNoted comman
   same_answer : (e : Event) → IsAnswering core e → IsAnswering (begin_event (line_of e) moment core) e
   same_answer (event.Report peer d) may = same ∙ may
     where
-      go : (b : Bool) → is_answer (record (change_if b (change_pool restart_numbers) core) { moment = moment; event_line = cond (0 == 0) core.event_line 0 }) peer d ≡ is_answer core peer d
+      go : (b : Bool) → is_answer (record (change_if b (change_pool restart_numbers) core) { moment = moment; progress = record core.progress { event_line = cond (0 == 0) core.progress.event_line 0 } }) peer d ≡ is_answer core peer d
       go true = refl
       go false = refl
 

@@ -155,10 +155,10 @@ module _ (commands : ℕ → Option Command) (shape : Shape) (limits : Limits) (
 
   done_stays : (e : Event) (c : Core) → MayHere e c → D c → D (do_event e c)
   done_stays (event.Line line o) c may p = stays_line (during_tells commands shape limits last) line o c
-      (on_begin commands shape limits last line (record { operation = new_operation line o; shard = judging_shard (shape_of c).shards c.sessions o; wait = wait.View }) (record c { last_line = line }) may
-      (on_aside commands shape limits last c (record c { last_line = line }) (record { limits = refl; shape = refl; groups = refl; peers = refl; pool = refl; line = refl; operations = refl; journal = refl; refused = refl; entries = refl }) p))
+      (on_begin commands shape limits last line (record { operation = new_operation line o; shard = judging_shard (shape_of c).shards c.sessions o; wait = wait.View }) (record c { progress = record c.progress { last_line = line } }) may
+      (on_aside commands shape limits last c (record c { progress = record c.progress { last_line = line } }) (record { limits = refl; shape = refl; groups = refl; peers = refl; pool = refl; line = refl; operations = refl; journal = refl; refused = refl; entries = refl }) p))
   done_stays (event.Report peer d) c may p = stays_report (during_tells commands shape limits last) peer d c
-      (λ disk is x q. on_down commands shape limits last disk x.event_line x (subst (λ (y : Done). IsOfPeer shape y) is may) (upto x.event_line q.line) q) p
+      (λ disk is x q. on_down commands shape limits last disk x.progress.event_line x (subst (λ (y : Done). IsOfPeer shape y) is may) (upto x.progress.event_line q.line) q) p
   done_stays (event.Turn line peer) c may p = by_rows D line (no_peer peer c ∷ not_up peer c ∷ []) (λ x. x) c
       (λ r s. refusing commands shape limits last c p (event.Turn line peer) may.0 may.1 r s) p
   done_stays (event.Deliver line number) c may p = by_message D line number (deliver number) c
@@ -179,10 +179,10 @@ module _ (commands : ℕ → Option Command) (shape : Shape) (limits : Limits) (
 pub ended : (commands : ℕ → Option Command) (shape : Shape) (limits : Limits) (last : ℕ) (c : Core) → During commands shape limits last c → IsNoted commands (end_event c)
 ended commands shape limits last c p = go (nat_lt c.limits.ops (length c.journal + length c.entries))
   where
-    own : (es : List JournalEntry) → AllByRecursion (StandsFor commands shape limits last) es → AllByRecursion (StandsFor commands (shape_of c) c.limits c.event_line) es
+    own : (es : List JournalEntry) → AllByRecursion (StandsFor commands shape limits last) es → AllByRecursion (StandsFor commands (shape_of c) c.limits c.progress.event_line) es
     own es h =
-        subst (λ (z : Shape). AllByRecursion (StandsFor commands z c.limits c.event_line) es) (sym p.shaped)
-        (subst (λ (z : Limits). AllByRecursion (StandsFor commands shape z c.event_line) es) (sym p.limited)
+        subst (λ (z : Shape). AllByRecursion (StandsFor commands z c.limits c.progress.event_line) es) (sym p.shaped)
+        (subst (λ (z : Limits). AllByRecursion (StandsFor commands shape z c.progress.event_line) es) (sym p.limited)
         (subst (λ n. AllByRecursion (StandsFor commands shape limits n) es) (sym p.line) h))
 
     groups : length c.groups ≡ (shape_of c).shards
@@ -194,14 +194,14 @@ ended commands shape limits last c p = go (nat_lt c.limits.ops (length c.journal
     pool : c.pool.limit ≡ c.limits.pool
     pool = p.pool ∙ ap (λ (z : Limits). z.pool) (sym p.limited)
 
-    asking : (n : ℕ) (w : Waiting) → operation_of n c ≡ Some w → (n ≤ c.event_line) × IsSome (client_op (commands n))
+    asking : (n : ℕ) (w : Waiting) → operation_of n c ≡ Some w → (n ≤ c.progress.event_line) × IsSome (client_op (commands n))
     asking n w at = subst (λ k. (n ≤ k) × IsSome (client_op (commands n))) (sym p.line) (p.asking n w at)
 
     full : Some fault.OpsFull ≡ None → ⊥
     full e = cc e
 
-    nothing : AllByRecursion (StandsFor commands (shape_of c) c.limits c.event_line) c.refused
-    nothing = subst (λ (es : List JournalEntry). AllByRecursion (StandsFor commands (shape_of c) c.limits c.event_line) es) (sym p.refused) tt
+    nothing : AllByRecursion (StandsFor commands (shape_of c) c.limits c.progress.event_line) c.refused
+    nothing = subst (λ (es : List JournalEntry). AllByRecursion (StandsFor commands (shape_of c) c.limits c.progress.event_line) es) (sym p.refused) tt
 
     go : (b : Bool) → IsNoted commands (cond b (refuse_entries c) (keep_entries c))
     go true = record { groups = groups; peers = peers; pool = pool; asking = asking; journal = own c.journal p.journal; refused = own c.entries p.entries; quiet = refl; going = λ e. absurd (full e) }
@@ -210,7 +210,7 @@ ended commands shape limits last c p = go (nat_lt c.limits.ops (length c.journal
       peers = peers;
       pool = pool;
       asking = asking;
-      journal = all_append (StandsFor commands (shape_of c) c.limits c.event_line) c.journal c.entries (own c.journal p.journal) (own c.entries p.entries);
+      journal = all_append (StandsFor commands (shape_of c) c.limits c.progress.event_line) c.journal c.entries (own c.journal p.journal) (own c.entries p.entries);
       refused = nothing;
       quiet = refl;
       going = λ e. p.refused;
@@ -220,7 +220,7 @@ ended commands shape limits last c p = go (nat_lt c.limits.ops (length c.journal
 
 -- the line that was the last one then
 abbrev pub line_then : ℕ → Core → ℕ
-line_then line core = cond (line == 0) core.event_line line
+line_then line core = cond (line == 0) core.progress.event_line line
 
 itself : (n : ℕ) → n ≤ n
 itself n = omega arith
@@ -228,31 +228,31 @@ itself n = omega arith
 line_below : (line : ℕ) (core : Core) → line ≤ line_then line core
 line_below line core = go (line == 0) refl
   where
-    go : (b : Bool) → (line == 0) ≡ b → line ≤ cond b core.event_line line
+    go : (b : Bool) → (line == 0) ≡ b → line ≤ cond b core.progress.event_line line
     go true z = let e : line ≡ 0 = eqb-true line 0 z in omega (arith, e)
     go false z = itself line
 
 module _ (commands : ℕ → Option Command) (core : Core) (its : IsNoted commands core) (goes : core.ended ≡ None) where
-  over : (line : ℕ) → core.event_line ≤ line → core.event_line ≤ line_then line core
+  over : (line : ℕ) → core.progress.event_line ≤ line → core.progress.event_line ≤ line_then line core
   over line low = go (line == 0)
     where
-      go : (b : Bool) → core.event_line ≤ cond b core.event_line line
-      go true = itself core.event_line
+      go : (b : Bool) → core.progress.event_line ≤ cond b core.progress.event_line line
+      go true = itself core.progress.event_line
       go false = low
 
-  begun : (line moment : ℕ) → core.event_line ≤ line_then line core → During commands (shape_of core) core.limits (line_then line core) (begin_event line moment core)
+  begun : (line moment : ℕ) → core.progress.event_line ≤ line_then line core → During commands (shape_of core) core.limits (line_then line core) (begin_event line moment core)
   begun line moment low = go _
     where
-      up : (es : List JournalEntry) → AllByRecursion (StandsFor commands (shape_of core) core.limits core.event_line) es → AllByRecursion (StandsFor commands (shape_of core) core.limits (line_then line core)) es
-      up es h = all_later commands (shape_of core) core.limits core.event_line (line_then line core) low es h
+      up : (es : List JournalEntry) → AllByRecursion (StandsFor commands (shape_of core) core.limits core.progress.event_line) es → AllByRecursion (StandsFor commands (shape_of core) core.limits (line_then line core)) es
+      up es h = all_later commands (shape_of core) core.limits core.progress.event_line (line_then line core) low es h
 
       none : AllByRecursion (StandsFor commands (shape_of core) core.limits (line_then line core)) core.entries
       none = subst (λ (es : List JournalEntry). AllByRecursion (StandsFor commands (shape_of core) core.limits (line_then line core)) es) (sym its.quiet) tt
 
-      lift : (n : ℕ) → n ≤ core.event_line → n ≤ line_then line core
+      lift : (n : ℕ) → n ≤ core.progress.event_line → n ≤ line_then line core
       lift n h = omega (arith, h, low)
 
-      go : (b : Bool) → During commands (shape_of core) core.limits (line_then line core) (record (change_if b (change_pool restart_numbers) core) { moment = moment; event_line = cond (line == 0) core.event_line line })
+      go : (b : Bool) → During commands (shape_of core) core.limits (line_then line core) (record (change_if b (change_pool restart_numbers) core) { moment = moment; progress = record core.progress { event_line = cond (line == 0) core.progress.event_line line } })
       go true = record {
         shaped = refl;
         limited = refl;
@@ -297,9 +297,9 @@ module _ (commands : ℕ → Option Command) (core : Core) (its : IsNoted comman
   may_here (event.Start line peer) moment may = (line_below line core, here (event.Start line peer) line moment may.1)
 
   -- the last line does not fall
-  upward : (e : Event) → IsOwnEvent commands core e → core.event_line ≤ line_then (line_of e) core
+  upward : (e : Event) → IsOwnEvent commands core e → core.progress.event_line ≤ line_then (line_of e) core
   upward (event.Line line o) may = over line may.0
-  upward (event.Report peer d) may = itself core.event_line
+  upward (event.Report peer d) may = itself core.progress.event_line
   upward (event.Turn line peer) may = over line may.0
   upward (event.Deliver line number) may = over line may.0
   upward (event.Lose line number) may = over line may.0

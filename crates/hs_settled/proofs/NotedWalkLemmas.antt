@@ -83,7 +83,7 @@ pub record Tells (shape : Shape) (P : Core → Type 0) : Type 0 where
 
 -- a client's line has its operation, before its first step
 abbrev pub begun_with : ℕ → Op → Core → Core
-begun_with line o c = add_operation line (record { operation = new_operation line o; shard = judging_shard (shape_of c).shards c.sessions o; wait = wait.View }) (record c { last_line = line })
+begun_with line o c = add_operation line (record { operation = new_operation line o; shard = judging_shard (shape_of c).shards c.sessions o; wait = wait.View }) (record c { progress = record c.progress { last_line = line } })
 
 module _ {shape : Shape} {P : Core → Type 0} (T : Tells shape P) where
   -- ---- how changes are joined
@@ -143,7 +143,7 @@ module _ {shape : Shape} {P : Core → Type 0} (T : Tells shape P) where
       w = record { operation = new_operation line o; shard = judging_shard (shape_of c).shards c.sessions o; wait = wait.View }
 
       v : OpView
-      v = record (view_for (judging_shard (shape_of c).shards c.sessions o) o (record c { last_line = line })) { busy = busy_line o c }
+      v = record (view_for (judging_shard (shape_of c).shards c.sessions o) o (record c { progress = record c.progress { last_line = line } })) { busy = busy_line o c }
 
   -- ---- entries that take effect
 
@@ -264,8 +264,8 @@ module _ {shape : Shape} {P : Core → Type 0} (T : Tells shape P) where
       (stays_if was_good (change_view shard) one (λ x q. stays_change_view shard x q) (T.beside c one (aside_leave peer c) p)))
 
   -- a disk fails, where the note of it is kept
-  pub stays_fail : (peer : ℕ) (c : Core) → P (note who.Store deed.Nothing (reply.Down peer c.event_line) c) → P (fail_disk peer c)
-  stays_fail peer c noted = stays_down peer (note who.Store deed.Nothing (reply.Down peer c.event_line) c) noted
+  pub stays_fail : (peer : ℕ) (c : Core) → P (note who.Store deed.Nothing (reply.Down peer c.progress.event_line) c) → P (fail_disk peer c)
+  stays_fail peer c noted = stays_down peer (note who.Store deed.Nothing (reply.Down peer c.progress.event_line) c) noted
 
   -- ---- messages
 
@@ -308,7 +308,7 @@ module _ {shape : Shape} {P : Core → Type 0} (T : Tells shape P) where
       let two : Core = change_group (home peer c) f d in
       stays_join_if peer two (T.beside d two (aside_group (home peer c) f d) (T.beside c d s p))
 
-  stays_take_report : (peer line : ℕ) (d : Done) (c : Core) → ((disk : ℕ) → d ≡ done.Failed disk → P (note who.Store deed.Nothing (reply.Down disk c.event_line) c)) → P c → P (take_report peer line d c)
+  stays_take_report : (peer line : ℕ) (d : Done) (c : Core) → ((disk : ℕ) → d ≡ done.Failed disk → P (note who.Store deed.Nothing (reply.Down disk c.progress.event_line) c)) → P c → P (take_report peer line d c)
   stays_take_report peer line (done.Stored number) c may p = p
   stays_take_report peer line (done.Sealed number) c may p = stays_sealed peer number c p
   stays_take_report peer line (done.Bytes number bytes) c may p = stays_bytes line number (Some bytes) c p
@@ -320,7 +320,7 @@ module _ {shape : Shape} {P : Core → Type 0} (T : Tells shape P) where
   stays_take_report peer line (done.Stepped switched) c may p = p
   stays_take_report peer line (done.Failed disk) c may p = stays_fail disk c (may disk refl)
 
-  pub stays_report : (peer : ℕ) (d : Done) (c : Core) → ((disk : ℕ) → d ≡ done.Failed disk → (x : Core) → P x → P (note who.Store deed.Nothing (reply.Down disk x.event_line) x)) → P c → P (on_report peer d c)
+  pub stays_report : (peer : ℕ) (d : Done) (c : Core) → ((disk : ℕ) → d ≡ done.Failed disk → (x : Core) → P x → P (note who.Store deed.Nothing (reply.Down disk x.progress.event_line) x)) → P c → P (on_report peer d c)
   stays_report peer d c may p =
       stays_with (first_task peer c) (λ task. change_if (answers peer task.job d) (λ x. take_report peer task.line d (set_tasks peer (drop 1 (tasks_of peer x)) x))) c
       (λ task x q. stays_if (answers peer task.job d) (λ y. take_report peer task.line d (set_tasks peer (drop 1 (tasks_of peer y)) y)) x

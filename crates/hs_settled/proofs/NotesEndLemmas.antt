@@ -187,14 +187,14 @@ module _ (commands : ℕ → Option Command) (shape : Shape) (limits : Limits) (
         begun_members : (begin_event 0 at c).members ≡ c.members
         begun_members = go _
           where
-            go : (b : Bool) → (record (change_if b (change_pool restart_numbers) c) { moment = at; event_line = cond (0 == 0) c.event_line 0 }).members ≡ c.members
+            go : (b : Bool) → (record (change_if b (change_pool restart_numbers) c) { moment = at; progress = record c.progress { event_line = cond (0 == 0) c.progress.event_line 0 } }).members ≡ c.members
             go true = refl
             go false = refl
 
         begun_answer : is_answer (begin_event 0 at c) peer (done.Failed disk) ≡ is_answer c peer (done.Failed disk)
         begun_answer = go _
           where
-            go : (b : Bool) → is_answer (record (change_if b (change_pool restart_numbers) c) { moment = at; event_line = cond (0 == 0) c.event_line 0 }) peer (done.Failed disk) ≡ is_answer c peer (done.Failed disk)
+            go : (b : Bool) → is_answer (record (change_if b (change_pool restart_numbers) c) { moment = at; progress = record c.progress { event_line = cond (0 == 0) c.progress.event_line 0 } }) peer (done.Failed disk) ≡ is_answer c peer (done.Failed disk)
             go true = refl
             go false = refl
 

@@ -90,7 +90,7 @@ pub record During (commands : ℕ → Option Command) (shape : Shape) (limits : 
   pub groups : length c.groups ≡ shape.shards
   pub peers : length c.members.statuses ≡ shape.shards * shape.copies
   pub pool : c.pool.limit ≡ limits.pool
-  pub line : c.event_line ≡ last
+  pub line : c.progress.event_line ≡ last
   pub asking : OfEach (IsClients commands shape limits last) c.operations
   pub journal : AllByRecursion (Stands commands shape limits last) c.journal
   pub refused : c.refused ≡ []

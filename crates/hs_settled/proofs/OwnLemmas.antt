@@ -257,7 +257,7 @@ pub own_begin : (line : ℕ) (o : Op) (c : Core) → 1 ≤ line → NoneOwn c �
 own_begin line o c counted its = own_step line w (go_step v w.operation) with_it (from_asks v line counted stage.New o) its
   where
     begun : Core
-    begun = record c { last_line = line }
+    begun = record c { progress = record c.progress { last_line = line } }
 
     w : Waiting
     w = record { operation = new_operation line o; shard = judging_shard (shape_of c).shards c.sessions o; wait = wait.View }

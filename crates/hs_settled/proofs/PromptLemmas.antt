@@ -106,9 +106,9 @@ module _ (s : Lined) (shape : Shape) (limits : Limits) where
   -- the entry of a line of which this core has its event
   told_at : (at : LineAt) (c : Core) → at.core.ended ≡ None → 1 ≤ at.line → IsPrompt (client_op (s.commands at.line)) → (at.events ≡ [] → ⊥) → AreLines s at.line at.core (at.events ∷ []) ⊎ ((next : Events) × (rest : List Events) × AreLines s at.line at.core (at.events ∷ next ∷ rest))
       → steps at.core at.events ≡ c → K c → c.refused ≡ [] → Placed c.journal at.line
-  told_at at c going one prompt some are is kept clean = in_journal c at.line clean (prompt_told s.commands c kept.turn at.line prompt (subst (λ (x : Core). at.line ≤ x.event_line) is (by_lines are)))
+  told_at at c going one prompt some are is kept clean = in_journal c at.line clean (prompt_told s.commands c kept.turn at.line prompt (subst (λ (x : Core). at.line ≤ x.progress.event_line) is (by_lines are)))
     where
-      by_lines : AreLines s at.line at.core (at.events ∷ []) ⊎ ((next : Events) × (rest : List Events) × AreLines s at.line at.core (at.events ∷ next ∷ rest)) → at.line ≤ (steps at.core at.events).event_line
+      by_lines : AreLines s at.line at.core (at.events ∷ []) ⊎ ((next : Events) × (rest : List Events) × AreLines s at.line at.core (at.events ∷ next ∷ rest)) → at.line ≤ (steps at.core at.events).progress.event_line
       by_lines (inl last) =
           line_reached s.name s.commands (record { line = at.line; core = at.core; events = at.events; whole = s.past }) going one (prompt_speaks (s.commands at.line) prompt) last.events some
       by_lines (inr more) =

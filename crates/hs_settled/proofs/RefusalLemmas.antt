@@ -44,7 +44,7 @@ pub record Begins (a b : Core) : Type 0 where
 begins : (line moment : ℕ) (core : Core) → Begins core (begin_event line moment core)
 begins line moment core = go _
   where
-    go : (b : Bool) → Begins core (record (change_if b (change_pool restart_numbers) core) { moment = moment; event_line = cond (line == 0) core.event_line line })
+    go : (b : Bool) → Begins core (record (change_if b (change_pool restart_numbers) core) { moment = moment; progress = record core.progress { event_line = cond (line == 0) core.progress.event_line line } })
     go true = record { journal = refl; refused = refl; entries = refl; operations = refl }
     go false = record { journal = refl; refused = refl; entries = refl; operations = refl }
 

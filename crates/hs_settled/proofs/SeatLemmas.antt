@@ -129,7 +129,7 @@ pub record Peers : Type 0 where
   pub rejoins : List (Option Rejoin)
 
 abbrev pub peers_in : Core → Peers
-peers_in c = record { statuses = c.members.statuses; tasks = c.tasks; rejoins = c.rejoins }
+peers_in c = record { statuses = c.members.statuses; tasks = c.tasks; rejoins = c.progress.rejoins }
 
 -- there are so many peers, each is good or excused; their queues hold no copying step, and each that joins copies from one of them
 pub record Seated (n : ℕ) (R : ℕ → Type 0) (p : Peers) : Type 0 where
@@ -191,7 +191,7 @@ module _ (n : ℕ) (R : ℕ → Type 0) where
     count = p.count;
     good = p.good;
     tasks = p.tasks;
-    rejoins = set_keeps (λ q x. CopiesFrom n x) None c.rejoins peer o (λ low. from) p.rejoins;
+    rejoins = set_keeps (λ q x. CopiesFrom n x) None c.progress.rejoins peer o (λ low. from) p.rejoins;
   }
 
   on_status : (peer : ℕ) (s : PeerStatus) (c : Core) → (peer < n → R peer ⊎ (s ≡ Good)) → S c → S (set_status peer s c)
@@ -250,8 +250,8 @@ module _ (n : ℕ) (R : ℕ → Type 0) where
   seats_line : (line : ℕ) (o : Op) (c : Core) → S c → S (begin_line line o c)
   seats_line line o c p =
       let w : Waiting = record { operation = new_operation line o; shard = judging_shard (shape_of c).shards c.sessions o; wait = wait.View } in
-      let v : OpView = record (view_for (judging_shard (shape_of c).shards c.sessions o) o (record c { last_line = line })) { busy = busy_line o c } in
-      seats_step line w (go_step v w.operation) (add_operation line w (record c { last_line = line })) p
+      let v : OpView = record (view_for (judging_shard (shape_of c).shards c.sessions o) o (record c { progress = record c.progress { last_line = line } })) { busy = busy_line o c } in
+      seats_step line w (go_step v w.operation) (add_operation line w (record c { progress = record c.progress { last_line = line } })) p
 
   -- ---- entries that take effect
 
@@ -421,7 +421,7 @@ module _ (n : ℕ) (R : ℕ → Type 0) where
       let one : Core = change_rejoin peer (copied number) c in
       seats_join_if peer (change_group (home peer c) (on_copied peer number) one) (on_change peer (copied number) c (λ r low. low) p)
   seats_take peer line (done.Stepped switched) c may p = p
-  seats_take peer line (done.Failed disk) c may p = seats_down disk (note who.Store deed.Nothing (reply.Down disk c.event_line) c) (may disk refl) p
+  seats_take peer line (done.Failed disk) c may p = seats_down disk (note who.Store deed.Nothing (reply.Down disk c.progress.event_line) c) (may disk refl) p
 
   seats_report : (peer : ℕ) (d : Done) (c : Core) → ((disk : ℕ) → d ≡ done.Failed disk → disk < n → R disk) → S c → S (on_report peer d c)
   seats_report peer d c may p =
@@ -473,7 +473,7 @@ module _ (n : ℕ) (R : ℕ → Type 0) where
   seats_begin : (line moment : ℕ) (c : Core) → S n R c → S n R (begin_event line moment c)
   seats_begin line moment c p = go _
     where
-      go : (b : Bool) → S n R (record (change_if b (change_pool restart_numbers) c) { moment = moment; event_line = cond (line == 0) c.event_line line })
+      go : (b : Bool) → S n R (record (change_if b (change_pool restart_numbers) c) { moment = moment; progress = record c.progress { event_line = cond (line == 0) c.progress.event_line line } })
       go true = p
       go false = p
 

@@ -33,7 +33,7 @@ use Rattle.hs_replica.specs.Group.{Group, last_number, lead, lead_takes, new_gro
 -- entries and jobs only come, and views, fronts and leads are the same
 pub record Stays (a b : Core) : Type 0 where
   pub members : b.members ≡ a.members
-  pub viewed : b.viewed ≡ a.viewed
+  pub viewed : b.progress.viewed ≡ a.progress.viewed
   pub groups : length b.groups ≡ length a.groups
   pub tasks : length b.tasks ≡ length a.tasks
   pub copies : (g : ℕ) → length (group_of g b).copies ≡ length (group_of g a).copies
@@ -69,7 +69,7 @@ stays_both a b c x y = record {
 }
 
 -- neither lists nor jobs change
-pub stays_by : (a b : Core) → b.members ≡ a.members → b.viewed ≡ a.viewed → b.groups ≡ a.groups → b.tasks ≡ a.tasks → Stays a b
+pub stays_by : (a b : Core) → b.members ≡ a.members → b.progress.viewed ≡ a.progress.viewed → b.groups ≡ a.groups → b.tasks ≡ a.tasks → Stays a b
 stays_by a b members viewed groups tasks = record {
   members = members;
   viewed = viewed;

@@ -127,7 +127,7 @@ steps_memory c (e ∷ es) h = steps_memory (step e.0 e.1 c) es (step_memory e.0 
 -- ---- who is not good was noted, or was to fail
 
 abbrev Fell : (ℕ → Option Command) → ℕ → Core → Type 0
-Fell commands x c = (1 ≤ note_count x (told_of c)) ⊎ (commands c.event_line ≡ Some (command.Fail x))
+Fell commands x c = (1 ≤ note_count x (told_of c)) ⊎ (commands c.progress.event_line ≡ Some (command.Fail x))
 
 module _ (commands : ℕ → Option Command) (shape : Shape) (limits : Limits) (one : shape.copies ≡ 1) where
   abbrev K : Core → Type 0
@@ -167,7 +167,7 @@ module _ (commands : ℕ → Option Command) (shape : Shape) (limits : Limits) (
       by_event (event.Fail line peer) is f =
           let own : commands line ≡ Some (command.Fail peer) = subst (λ z. Asks commands c z) is asks in
           let other : OtherMay commands c line (event.Fail line peer) = (subst (λ z. MayCome commands c z at) is may).begins in
-          let here : (step e at c).event_line ≡ line = step_line e at c going ∙ ap (λ z. line_then (line_of z) c) is ∙ line_up line c other.upward in
+          let here : (step e at c).progress.event_line ≡ line = step_line e at c going ∙ ap (λ z. line_then (line_of z) c) is ∙ line_up line c other.upward in
           inr (ap commands here ∙ own ∙ ap (λ p. Some (command.Fail p)) f)
       by_event (event.Start line peer) is f = absurd f
 
@@ -269,7 +269,7 @@ module _ (S : Script) (r : Ran) (story : Story) (went : Went S r story) (one : S
     fallen peer low untold none f over (inr own) =
         let last : last_core S story ≡ now =
         last_is S r story went ∙ ap (λ xs. steps opened xs) front.is ∙ steps_append opened (until m (happened opened es)) front.rest ∙ steps_over now front.rest f over in
-        none now.event_line (subst (λ (c : Core). c.event_line ≤ r.line) last (last_line S r story went)) (mute_some S.commands now.event_line (command.Fail peer) own)
+        none now.progress.event_line (subst (λ (c : Core). c.progress.event_line ≤ r.line) last (last_line S r story went)) (mute_some S.commands now.progress.event_line (command.Fail peer) own)
 
     is_now : (peer : ℕ) → peer < S.set.shape.shards * S.set.shape.copies → note_count peer (below m r.journal) ≡ 0 → NoneFails S r peer → (b : Bool) → is_good_status (status_of peer now) ≡ b → is_good_status (status_of peer now) ≡ true
     is_now peer low untold none true is = is

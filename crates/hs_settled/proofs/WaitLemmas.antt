@@ -277,12 +277,12 @@ module _ (name : List ℕ → Address) (c : Core) (its : IsOrderly name c) (line
   pending_cause op.Stat p r coming f = absurd (cc p)
 
 pub wait_cause : (name : List ℕ → Address) (c : Core) (line : ℕ) (w : Waiting) → IsOrderly name c
-    → (slice_index_or c.viewed w.shard false ≡ false) ⊎ ((is_pending w.shard w.operation.op c ≡ true) × (has_room w.shard w.operation.op 0 0 c ≡ true))
+    → (slice_index_or c.progress.viewed w.shard false ≡ false) ⊎ ((is_pending w.shard w.operation.op c ≡ true) × (has_room w.shard w.operation.op 0 0 c ≡ true))
     → HasCause name c (asker_of line w) (what_holds w c)
-wait_cause name c line w its why = by_view (slice_index_or c.viewed w.shard false) refl (is_coming w.shard (wanted_address c.sessions w.operation.op) c) refl why
+wait_cause name c line w its why = by_view (slice_index_or c.progress.viewed w.shard false) refl (is_coming w.shard (wanted_address c.sessions w.operation.op) c) refl why
   where
-    by_view : (b : Bool) → slice_index_or c.viewed w.shard false ≡ b → (coming : Bool) → is_coming w.shard (wanted_address c.sessions w.operation.op) c ≡ coming
-        → (slice_index_or c.viewed w.shard false ≡ false) ⊎ ((is_pending w.shard w.operation.op c ≡ true) × (has_room w.shard w.operation.op 0 0 c ≡ true))
+    by_view : (b : Bool) → slice_index_or c.progress.viewed w.shard false ≡ b → (coming : Bool) → is_coming w.shard (wanted_address c.sessions w.operation.op) c ≡ coming
+        → (slice_index_or c.progress.viewed w.shard false ≡ false) ⊎ ((is_pending w.shard w.operation.op c ≡ true) × (has_room w.shard w.operation.op 0 0 c ≡ true))
         → HasCause name c (asker_of line w) (cond (not b) wait.View (cond coming wait.Address wait.Room))
     by_view false e coming f h = e
     by_view true e coming f (inl n) = absurd (cc (sym n ∙ e))

@@ -57,14 +57,14 @@ Inv place c = place.progress ≡ false → Busy c ⊎ QuietTo place.nudger c
 -- ---- how an event begins and ends
 
 begun_messages : (e : Event) (at : ℕ) (c : Core) → (begun e at c).pool.messages ≡ c.pool.messages
-begun_messages e at c = go ((c.event_line == 0 && not (line_of e == 0)) && is_empty c.pool)
+begun_messages e at c = go ((c.progress.event_line == 0 && not (line_of e == 0)) && is_empty c.pool)
   where
     go : (b : Bool) → (change_if b restart_numbers c.pool).messages ≡ c.pool.messages
     go true = refl
     go false = refl
 
 begun_limit : (e : Event) (at : ℕ) (c : Core) → (begun e at c).pool.limit ≡ c.pool.limit
-begun_limit e at c = go ((c.event_line == 0 && not (line_of e == 0)) && is_empty c.pool)
+begun_limit e at c = go ((c.progress.event_line == 0 && not (line_of e == 0)) && is_empty c.pool)
   where
     go : (b : Bool) → (change_if b restart_numbers c.pool).limit ≡ c.pool.limit
     go true = refl

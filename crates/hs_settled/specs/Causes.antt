@@ -96,7 +96,7 @@ asker_of line w = record { line = line; shard = w.shard; asks = w.operation.op }
 
 -- it waits for a View that has not taken effect; for a Block of its address; for an entry that takes its room; for bytes that its peer is to read for it; or for its own entry
 abbrev pub HasCause : (List ℕ → Address) → Core → Asker → Wait → Type 0
-HasCause name core a wait.View = slice_index_or core.viewed a.shard false ≡ false
+HasCause name core a wait.View = slice_index_or core.progress.viewed a.shard false ≡ false
 HasCause name core a wait.Address = SomeWaits core a.shard (StoresFor name a.asks)
 HasCause name core a wait.Room = SomeWaits core a.shard (TakesRoomFor a.asks)
 HasCause name core a (wait.Bytes number) = (reads_bytes a.asks ≡ true) × IsAmongJobs core a.shard (read_of number a.line)
@@ -104,8 +104,8 @@ HasCause name core a (wait.Entry number) = OwnWaits core a.shard number a.line
 
 -- so it is of each operation without an answer; and while a shard's current View has not taken effect, it stands in its list
 pub record AreCaused (name : List ℕ → Address) (core : Core) : Type 0 where
-  pub views : length core.viewed ≡ (shape_of core).shards
-  pub viewing : (shard : ℕ) → shard < (shape_of core).shards → slice_index_or core.viewed shard false ≡ false
+  pub views : length core.progress.viewed ≡ (shape_of core).shards
+  pub viewing : (shard : ℕ) → shard < (shape_of core).shards → slice_index_or core.progress.viewed shard false ≡ false
       → SomeWaits core shard (λ entry. entry ≡ kind.View (group_of shard core).view)
   pub caused : (line : ℕ) (w : Waiting) → operation_of line core ≡ Some w → HasCause name core (asker_of line w) w.wait
 

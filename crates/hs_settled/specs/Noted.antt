@@ -41,9 +41,9 @@ pub record IsNoted (commands : ℕ → Option Command) (core : Core) : Type 0 wh
   pub groups : length core.groups ≡ (shape_of core).shards
   pub peers : length core.members.statuses ≡ (shape_of core).shards * (shape_of core).copies
   pub pool : core.pool.limit ≡ core.limits.pool
-  pub asking : (n : ℕ) (w : Waiting) → operation_of n core ≡ Some w → (n ≤ core.event_line) × IsSome (client_op (commands n))
-  pub journal : AllByRecursion (StandsFor commands (shape_of core) core.limits core.event_line) core.journal
-  pub refused : AllByRecursion (StandsFor commands (shape_of core) core.limits core.event_line) core.refused
+  pub asking : (n : ℕ) (w : Waiting) → operation_of n core ≡ Some w → (n ≤ core.progress.event_line) × IsSome (client_op (commands n))
+  pub journal : AllByRecursion (StandsFor commands (shape_of core) core.limits core.progress.event_line) core.journal
+  pub refused : AllByRecursion (StandsFor commands (shape_of core) core.limits core.progress.event_line) core.refused
   pub quiet : core.entries ≡ []
   pub going : core.ended ≡ None → core.refused ≡ []
 
@@ -74,11 +74,11 @@ IsOfPeer shape (done.Stepped switched) = Unit {0}
 
 -- an event of a line that is no client's is not below the last one, and is of the line's command, or is not refused
 abbrev pub IsOfItsLine : (ℕ → Option Command) → Core → Event → Type 0
-IsOfItsLine commands core e = (core.event_line ≤ line_of e) × ((refusal_in e core ≡ None) ⊎ (commands (line_of e) ≡ command_in e))
+IsOfItsLine commands core e = (core.progress.event_line ≤ line_of e) × ((refusal_in e core ≡ None) ⊎ (commands (line_of e) ≡ command_in e))
 
 -- an event is of a line that comes next: a client's line is not below the last one, and has a client's command
 abbrev pub IsOwnEvent : (ℕ → Option Command) → Core → Event → Type 0
-IsOwnEvent commands core (event.Line line o) = (core.event_line ≤ line) × IsSome (client_op (commands line))
+IsOwnEvent commands core (event.Line line o) = (core.progress.event_line ≤ line) × IsSome (client_op (commands line))
 IsOwnEvent commands core (event.Report peer d) = IsOfPeer (shape_of core) d
 IsOwnEvent commands core (event.Turn line peer) = IsOfItsLine commands core (event.Turn line peer)
 IsOwnEvent commands core (event.Deliver line number) = IsOfItsLine commands core (event.Deliver line number)

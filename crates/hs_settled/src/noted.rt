@@ -27,7 +27,7 @@ pub fn each_entry_has_its_cause()
         → IsNoted commands core → AllAreOwn commands core es →
         IsNoted commands (after_all core es) }
     ensures journal { (commands : ℕ → Option Command) (core : Core) → IsNoted commands core →
-        All (StandsFor commands (shape_of core) core.limits core.event_line) core.journal }
+        All (StandsFor commands (shape_of core) core.limits core.progress.event_line) core.journal }
     ensures refused { (commands : ℕ → Option Command) (core : Core) → IsNoted commands core →
-        All (StandsFor commands (shape_of core) core.limits core.event_line) core.refused }
+        All (StandsFor commands (shape_of core) core.limits core.progress.event_line) core.refused }
 {}

@@ -140,7 +140,7 @@ module _ (name : List ℕ → Address) (history : List Deed) where
   sent_line c s line o called = on_quiet name history c (begin_line line o c) quiet there
     where
       begun : Core
-      begun = record c { last_line = line }
+      begun = record c { progress = record c.progress { last_line = line } }
 
       w : Waiting
       w = record { operation = new_operation line o; shard = judging_shard (shape_of c).shards c.sessions o; wait = wait.View }

@@ -41,7 +41,7 @@ use Rattle.hs_told.specs.InTurn.{AllMayCome, ClientMay, MayBegin, NoneBetween, O
 
 -- no client's line lies above the last one, up to this one
 abbrev pub NoneUpTo : (ℕ → Option Command) → Core → ℕ → Type 0
-NoneUpTo commands core line = (k : ℕ) → core.event_line < k → k ≤ line → client_op (commands k) ≡ None
+NoneUpTo commands core line = (k : ℕ) → core.progress.event_line < k → k ≤ line → client_op (commands k) ≡ None
 
 none_up_to : (commands : ℕ → Option Command) (core : Core) (line : ℕ) → NoneBetween commands core line → client_op (commands line) ≡ None → NoneUpTo commands core line
 none_up_to commands core line between nobody k above up = elim (cases_eq k line) [
@@ -76,19 +76,19 @@ item_there core line at o happened =
 module _ (start : Start) (stop : Stop) (core : Core) (e : Event) (at : ℕ) (going : core.ended ≡ None) (may : MayBegin start.commands core e) (happened : is_refused (step e at core).ended ≡ false) (below : at < stop.moment)
     (inside : (i : CourseItem) → Contains (event_items core (e, at)) i → Contains stop.course i) where
   -- the last line then
-  line_now : (step e at core).event_line ≡ (if line_of e == 0 then core.event_line else line_of e)
+  line_now : (step e at core).progress.event_line ≡ (if line_of e == 0 then core.progress.event_line else line_of e)
   line_now = step_line e at core going
 
-  last_line : (line_of e ≡ 0 → ⊥) → (step e at core).event_line ≡ line_of e
-  last_line some = line_now ∙ ap (λ b. if b then core.event_line else line_of e) (ne_eqb (line_of e) 0 some)
+  last_line : (line_of e ≡ 0 → ⊥) → (step e at core).progress.event_line ≡ line_of e
+  last_line some = line_now ∙ ap (λ b. if b then core.progress.event_line else line_of e) (ne_eqb (line_of e) 0 some)
 
-  up_to : (line_of e ≡ 0 → (step e at core).event_line ≡ core.event_line) × ((line_of e ≡ 0 → ⊥) → (step e at core).event_line ≡ line_of e)
-  up_to = (λ none. line_now ∙ ap (λ n. if n == 0 then core.event_line else n) none, last_line)
+  up_to : (line_of e ≡ 0 → (step e at core).progress.event_line ≡ core.progress.event_line) × ((line_of e ≡ 0 → ⊥) → (step e at core).progress.event_line ≡ line_of e)
+  up_to = (λ none. line_now ∙ ap (λ n. if n == 0 then core.progress.event_line else n) none, last_line)
 
   -- no client's line is above the last one before, where the event is of none
   quiet_begun : (line_of e ≡ 0) ⊎ NoneUpTo start.commands core (line_of e) → AreBegun start stop core → AreBegun start stop (step e at core)
   quiet_begun (inl none) before = λ k some low client. before k some (let same = up_to.0 none in omega (arith, low, same)) client
-  quiet_begun (inr clear) before = λ k some low client. elim (cases_lt core.event_line k) [
+  quiet_begun (inr clear) before = λ k some low client. elim (cases_lt core.progress.event_line k) [
     | inl above ↦ elim (cases_eq (line_of e) 0) [
       | inl none ↦ absurd (let same = up_to.0 none in omega (arith, low, same, above))
       | inr line ↦ absurd (some_is_none (client_op (start.commands k)) client (clear k above (let same = up_to.1 line in omega (arith, low, same))))
@@ -99,7 +99,7 @@ module _ (start : Start) (stop : Stop) (core : Core) (e : Event) (at : ℕ) (goi
 -- a client's line
 line_begun : (start : Start) (stop : Stop) (core : Core) (line : ℕ) (o : Op) (at : ℕ) → core.ended ≡ None → ClientMay start.commands core line o → is_refused (step (event.Line line o) at core).ended ≡ false → at < stop.moment
     → ((i : CourseItem) → Contains (event_items core (event.Line line o, at)) i → Contains stop.course i) → AreBegun start stop core → AreBegun start stop (step (event.Line line o) at core)
-line_begun start stop core line o at going may happened below inside before = λ k some low client. elim (cases_lt core.event_line k) [
+line_begun start stop core line o at going may happened below inside before = λ k some low client. elim (cases_lt core.progress.event_line k) [
   | inl above ↦ elim (cases_eq k line) [
     | inl same ↦ subst (λ n. IsBegun stop.course n stop.moment) (sym same) (record { at = at; below = below; begun = inside (item.Begun line at) (item_there core line at o happened) })
     | inr differs ↦ absurd (some_is_none (client_op (start.commands k)) client (may.next k above (let last = last_is in omega (arith, low, last, differs))))
@@ -110,8 +110,8 @@ line_begun start stop core line o at going may happened below inside before = λ
     some_line : line ≡ 0 → ⊥
     some_line none = let up = may.above in omega (arith, up, none)
 
-    last_is : (step (event.Line line o) at core).event_line ≡ line
-    last_is = step_line (event.Line line o) at core going ∙ ap (λ b. if b then core.event_line else line) (ne_eqb line 0 some_line)
+    last_is : (step (event.Line line o) at core).progress.event_line ≡ line
+    last_is = step_line (event.Line line o) at core going ∙ ap (λ b. if b then core.progress.event_line else line) (ne_eqb line 0 some_line)
 
 pub event_begun : (start : Start) (stop : Stop) (core : Core) (e : Event) (at : ℕ) → core.ended ≡ None → MayBegin start.commands core e → is_refused (step e at core).ended ≡ false → at < stop.moment
     → ((i : CourseItem) → Contains (event_items core (e, at)) i → Contains stop.course i) → AreBegun start stop core → AreBegun start stop (step e at core)

@@ -238,7 +238,7 @@ beside_down p c h = subst (IsBeside c) (sym is) (beside_both c left joined (besi
 -- ---- how an event begins and ends
 
 pub beside_begun : (e : Event) (at : ℕ) (c : Core) → IsBeside c (begun e at c)
-beside_begun e at c = beside_kept c (begun e at c) refl (go ((c.event_line == 0 && not (line_of e == 0)) && is_empty c.pool))
+beside_begun e at c = beside_kept c (begun e at c) refl (go ((c.progress.event_line == 0 && not (line_of e == 0)) && is_empty c.pool))
   where
     go : (b : Bool) → All (IsKnown c.pool.messages) (values_of (change_if b restart_numbers c.pool).messages)
     go true = known_same c.pool.messages

@@ -254,7 +254,7 @@ pub epochs_begin : (line : ℕ) (o : Op) (c : Core) → HaveEpochs c → HaveEpo
 epochs_begin line o c its = epochs_step line w (go_step v w.operation) with_it (from_within v line stage.New o) its
   where
     begun : Core
-    begun = record c { last_line = line }
+    begun = record c { progress = record c.progress { last_line = line } }
 
     w : Waiting
     w = record { operation = new_operation line o; shard = judging_shard (shape_of c).shards c.sessions o; wait = wait.View }

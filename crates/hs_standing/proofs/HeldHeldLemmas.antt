@@ -187,7 +187,7 @@ pub held_line : (name : List ℕ → Address) → GivesAddresses name → (c : C
 held_line name names c its line o may = stepped_held name names line with_it (record { sessions = its.sessions; catalogues = its.catalogues }) w (go_step v w.operation) may.called (from_blocks with_it v w.operation)
   where
     begun : Core
-    begun = record c { last_line = line }
+    begun = record c { progress = record c.progress { last_line = line } }
 
     w : Waiting
     w = record { operation = new_operation line o; shard = judging_shard (shape_of c).shards c.sessions o; wait = wait.View }

@@ -37,7 +37,7 @@ name_is a b e = cc e
 
 module _ (name : List ℕ → Address) (cs : List Folded) (line : ℕ) (o : Op) (c : Core) (order : IsOrderly name c) (may : IsNewLine name c line o) (its : AreWritten c cs) where
   abbrev begun : Core
-  begun = record c { last_line = line }
+  begun = record c { progress = record c.progress { last_line = line } }
 
   abbrev shard : ℕ
   shard = judging_shard (shape_of c).shards c.sessions o

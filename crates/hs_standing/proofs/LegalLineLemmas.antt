@@ -86,7 +86,7 @@ begin_is v line o r j = ap (λ (x : Option Reply). option_map_or Answer x (go v 
 
 module _ (by : Judging) (cs : List Folded) (core : Core) (order : IsOrderly by.name core) (commands : AreCommanded by core) (line : ℕ) (o : Op) (its : IsLineOf by core line o) where
   abbrev begun : Core
-  begun = record core { last_line = line }
+  begun = record core { progress = record core.progress { last_line = line } }
 
   abbrev shard : ℕ
   shard = judging_shard (shape_of core).shards core.sessions o
@@ -247,7 +247,7 @@ begun_quiet line o core = both core at_line (begin_line line o core) (record { c
     asking = record { operation = new_operation line o; shard = judging_shard (shape_of core).shards core.sessions o; wait = wait.View }
 
     at_line : Core
-    at_line = add_operation line asking (record core { last_line = line })
+    at_line = add_operation line asking (record core { progress = record core.progress { last_line = line } })
 
     first : OpStep
-    first = go_step (record (view_for (judging_shard (shape_of core).shards core.sessions o) o (record core { last_line = line })) { busy = busy_line o core }) asking.operation
+    first = go_step (record (view_for (judging_shard (shape_of core).shards core.sessions o) o (record core { progress = record core.progress { last_line = line } })) { busy = busy_line o core }) asking.operation

@@ -32,23 +32,23 @@ AllBegin commands core (e ∷ es) = (core.ended ≡ None → MayBegin commands c
 
 -- a line that is no client's is the last one, or is next
 pub record IsUpTo (commands : ℕ → Option Command) (core : Core) (line : ℕ) : Type 0 where
-  pub upward : core.event_line ≤ line
+  pub upward : core.progress.event_line ≤ line
   pub next : NoneBetween commands core line
   pub nobody : client_op (commands line) ≡ None
 
 module _ (commands : ℕ → Option Command) where
   next_up : (core : Core) (line : ℕ) → IsNext commands core line → client_op (commands line) ≡ None → IsUpTo commands core line
-  next_up core line its none = let above : core.event_line < line = its.above in record { upward = omega (arith, above); next = its.next; nobody = none }
+  next_up core line its none = let above : core.progress.event_line < line = its.above in record { upward = omega (arith, above); next = its.next; nobody = none }
 
   up_next : (core : Core) (line : ℕ) → IsUpTo commands core line → IsNext commands core (line + 1)
   up_next core line up = record {
-    above = let below : core.event_line ≤ line = up.upward in omega (arith, below);
+    above = let below : core.progress.event_line ≤ line = up.upward in omega (arith, below);
     next = λ k low high. elim (cases_eq k line) [ inl e ↦ ap (λ n. client_op (commands n)) e ∙ up.nobody | inr d ↦ up.next k low (omega (arith, high, d)) ];
   }
 
-  up_moved : (c d : Core) (line : ℕ) → IsUpTo commands c line → (d.event_line ≡ c.event_line) ⊎ (d.event_line ≡ line) → IsUpTo commands d line
+  up_moved : (c d : Core) (line : ℕ) → IsUpTo commands c line → (d.progress.event_line ≡ c.progress.event_line) ⊎ (d.progress.event_line ≡ line) → IsUpTo commands d line
   up_moved c d line up (inl e) = record {
-    upward = let below : c.event_line ≤ line = up.upward in omega (arith, below, e);
+    upward = let below : c.progress.event_line ≤ line = up.upward in omega (arith, below, e);
     next = λ k low high. up.next k (omega (arith, low, e)) high;
     nobody = up.nobody;
   }
@@ -117,11 +117,11 @@ module _ (commands : ℕ → Option Command) where
       by_end None e k = absurd (cc k)
       by_end (Some end) e k = walk_goes next_due next_fits line (record { place = first_place; core = core }) es end e up
 
-  pub opening_goes : (whole : Bool) (core : Core) (es : Events) → client_op (commands 0) ≡ None → core.event_line ≡ 0 → is_walk next_due whole 0 core es ≡ true → Goes 0 core es
+  pub opening_goes : (whole : Bool) (core : Core) (es : Events) → client_op (commands 0) ≡ None → core.progress.event_line ≡ 0 → is_walk next_due whole 0 core es ≡ true → Goes 0 core es
   opening_goes whole core es none zero walks =
       settle_goes whole 0 core es walks (record { upward = omega (arith, zero); next = λ k low high. absurd (omega (arith, high)); nobody = none })
 
-  pub first_next : (whole : Bool) (core : Core) (es : Events) → client_op (commands 0) ≡ None → core.event_line ≡ 0 → is_walk next_due whole 0 core es ≡ true → IsNext commands (steps core es) 1
+  pub first_next : (whole : Bool) (core : Core) (es : Events) → client_op (commands 0) ≡ None → core.progress.event_line ≡ 0 → is_walk next_due whole 0 core es ≡ true → IsNext commands (steps core es) 1
   first_next whole core es none zero walks = up_next (steps core es) 0 (opening_goes whole core es none zero walks).up
 
   one_goes : (line : ℕ) (core : Core) (whole : Bool) (o : Option Due) (es : Events) → ((d : Due) → o ≡ Some d → Fits core d)
@@ -196,8 +196,8 @@ module _ (commands : ℕ → Option Command) where
       may : MayBegin commands at.core asked
       may = record { above = its.above; next = its.next; asks = ap (λ c. option_map bare (client_op c)) is ∙ ap (λ x. Some x) (same_bare name at.core o) }
 
-      last : (e : Event × ℕ) → e.0 ≡ asked → at.core.ended ≡ None → (step e.0 e.1 at.core).event_line ≡ at.line
-      last e same going = step_at e.0 e.1 at.line at.core going (ap line_of same) (let above : at.core.event_line < at.line = its.above in omega (arith, above))
+      last : (e : Event × ℕ) → e.0 ≡ asked → at.core.ended ≡ None → (step e.0 e.1 at.core).progress.event_line ≡ at.line
+      last e same going = step_at e.0 e.1 at.line at.core going (ap line_of same) (let above : at.core.progress.event_line < at.line = its.above in omega (arith, above))
 
       go : (es : Events) → BeginsWith (it es) asked (λ core. None) → Passes (it es)
       go [] cut = record { begin = tt; next = λ whole going. let both : false ≡ true = sym cut ∙ whole in absurd (cc both) }

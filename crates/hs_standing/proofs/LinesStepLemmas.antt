@@ -11,7 +11,7 @@ use Rattle.hs_desk.specs.declared.fault.CoreFault.{CoreFault}
 use Rattle.hs_events.proofs.KeepLemmas.{Leaves, ReportLeaves, keeps_do, with_line}
 
 abbrev SameLine : Core → Core → Type 0
-SameLine old new = new.event_line ≡ old.event_line
+SameLine old new = new.progress.event_line ≡ old.progress.event_line
 
 leaves : Leaves SameLine
 leaves = record {
@@ -58,7 +58,7 @@ ends c = go (nat_lt c.limits.ops (length c.journal + length c.entries)) refl
     go true e = rw e refl
     go false e = rw e refl
 
-run_line : (e : Event) (at : ℕ) (c : Core) → (run_event e at c).event_line ≡ (if line_of e == 0 then c.event_line else line_of e)
+run_line : (e : Event) (at : ℕ) (c : Core) → (run_event e at c).progress.event_line ≡ (if line_of e == 0 then c.progress.event_line else line_of e)
 run_line e at c =
     let b : Core = begin_event (line_of e) at c in
     ends (do_event e b) ∙ keeps_do leaves report_leaves e b ∙ lined e b
@@ -67,7 +67,7 @@ run_line e at c =
 pub step_ended : (e : Event) (at : ℕ) (c : Core) (f : CoreFault) → c.ended ≡ Some f → step e at c ≡ c
 step_ended e at c f h = let over : is_none c.ended ≡ false = ap is_none h in rw over refl
 
-pub step_line : (e : Event) (at : ℕ) (c : Core) → c.ended ≡ None → (step e at c).event_line ≡ (if line_of e == 0 then c.event_line else line_of e)
+pub step_line : (e : Event) (at : ℕ) (c : Core) → c.ended ≡ None → (step e at c).progress.event_line ≡ (if line_of e == 0 then c.progress.event_line else line_of e)
 step_line e at c going = let goes : is_none c.ended ≡ true = ap is_none going in rw goes (run_line e at c)
 
 -- one that goes on after an event went on before it
@@ -81,22 +81,22 @@ went e at c h = go c.ended refl
         absurd (cc over)
 
 -- a line that is not 0 is then the last one
-pub step_at : (e : Event) (at line : ℕ) (c : Core) → c.ended ≡ None → line_of e ≡ line → 1 ≤ line → (step e at c).event_line ≡ line
+pub step_at : (e : Event) (at line : ℕ) (c : Core) → c.ended ≡ None → line_of e ≡ line → 1 ≤ line → (step e at c).progress.event_line ≡ line
 step_at e at line c going same low =
     let some : (line == 0) ≡ false = grind (arith, nat_tests, low) in
-    step_line e at c going ∙ ap (λ n. if n == 0 then c.event_line else n) same ∙ rw some refl
+    step_line e at c going ∙ ap (λ n. if n == 0 then c.progress.event_line else n) same ∙ rw some refl
 
 -- an event of no line, or of this one, leaves the last line or makes it this one
-pub step_moves : (e : Event) (at line : ℕ) (c : Core) → (line_of e ≡ 0) ⊎ (line_of e ≡ line) → ((step e at c).event_line ≡ c.event_line) ⊎ ((step e at c).event_line ≡ line)
+pub step_moves : (e : Event) (at line : ℕ) (c : Core) → (line_of e ≡ 0) ⊎ (line_of e ≡ line) → ((step e at c).progress.event_line ≡ c.progress.event_line) ⊎ ((step e at c).progress.event_line ≡ line)
 step_moves e at line c of = go c.ended refl
   where
-    by_line : c.ended ≡ None → (line_of e ≡ 0) ⊎ (line_of e ≡ line) → ((step e at c).event_line ≡ c.event_line) ⊎ ((step e at c).event_line ≡ line)
-    by_line going (inl zero) = inl (step_line e at c going ∙ ap (λ n. if n == 0 then c.event_line else n) zero)
+    by_line : c.ended ≡ None → (line_of e ≡ 0) ⊎ (line_of e ≡ line) → ((step e at c).progress.event_line ≡ c.progress.event_line) ⊎ ((step e at c).progress.event_line ≡ line)
+    by_line going (inl zero) = inl (step_line e at c going ∙ ap (λ n. if n == 0 then c.progress.event_line else n) zero)
     by_line going (inr same) = elim (cases_eq line 0) [
-      | inl z ↦ inl (step_line e at c going ∙ ap (λ n. if n == 0 then c.event_line else n) (same ∙ z))
+      | inl z ↦ inl (step_line e at c going ∙ ap (λ n. if n == 0 then c.progress.event_line else n) (same ∙ z))
       | inr d ↦ inr (step_at e at line c going same (omega (arith, d)))
     ]
 
-    go : (x : Option CoreFault) → c.ended ≡ x → ((step e at c).event_line ≡ c.event_line) ⊎ ((step e at c).event_line ≡ line)
+    go : (x : Option CoreFault) → c.ended ≡ x → ((step e at c).progress.event_line ≡ c.progress.event_line) ⊎ ((step e at c).progress.event_line ≡ line)
     go None f = by_line f of
-    go (Some fault) f = inl (ap (λ (d : Core). d.event_line) (step_ended e at c fault f))
+    go (Some fault) f = inl (ap (λ (d : Core). d.progress.event_line) (step_ended e at c fault f))

@@ -109,16 +109,16 @@ module _ (name : List ℕ → Address) where
   called core op.Delete = tt
   called core op.Stat = tt
 
-  no_operation : (commands : ℕ → Option Command) (core : Core) (line : ℕ) → IsInTurn commands core → core.event_line < line → operation_of line core ≡ None
+  no_operation : (commands : ℕ → Option Command) (core : Core) (line : ℕ) → IsInTurn commands core → core.progress.event_line < line → operation_of line core ≡ None
   no_operation commands core line turn above = go (operation_of line core) refl
     where
       go : (w : Option Waiting) → operation_of line core ≡ w → operation_of line core ≡ None
       go None e = e
       go (Some w) e =
-          let below : line < core.event_line + 1 = turn.turns.below line w.operation.op (rw e refl) in
+          let below : line < core.progress.event_line + 1 = turn.turns.below line w.operation.op (rw e refl) in
           absurd (omega (arith, below, above))
 
-  pub line_new : (commands : ℕ → Option Command) (at : LineAt) → IsInTurn commands at.core → at.core.event_line < at.line → AreOfLine name at (commands at.line) → MayBeginAll name at.events at.core
+  pub line_new : (commands : ℕ → Option Command) (at : LineAt) → IsInTurn commands at.core → at.core.progress.event_line < at.line → AreOfLine name at (commands at.line) → MayBeginAll name at.events at.core
   line_new commands at turn above are = by_command (commands at.line) are
     where
       by_command : (c : Option Command) → AreOfLine name at c → MayBeginAll name at.events at.core

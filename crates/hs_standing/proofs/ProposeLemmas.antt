@@ -173,7 +173,7 @@ proposes_go_on next line c h =
 
 pub proposes_line : (line : ℕ) (o : Op) (c : Core) → Proposes c (begin_line line o c)
 proposes_line line o c =
-    let begun : Core = record c { last_line = line } in
+    let begun : Core = record c { progress = record c.progress { last_line = line } } in
     let shard : ℕ = judging_shard (shape_of c).shards c.sessions o in
     let w : Waiting = record { operation = new_operation line o; shard = shard; wait = wait.View } in
     let v : OpView = record (view_for shard o begun) { busy = busy_line o c } in

@@ -176,8 +176,8 @@ module _ {MayLine : ℕ → Op → Core → Type 0} {MayTell : ℕ → Option (L
   -- a disk has failed
   failed_goes : (disk : ℕ) (c : Core) → AreAlone (face c) → Q c → Q (fail_disk disk c)
   failed_goes disk c h q =
-      let noted : Core = note who.Store deed.Nothing (reply.Down disk c.event_line) c in
-      W.beside noted (go_down disk noted) (beside_down disk noted h) (W.downed disk c.event_line c q)
+      let noted : Core = note who.Store deed.Nothing (reply.Down disk c.progress.event_line) c in
+      W.beside noted (go_down disk noted) (beside_down disk noted h) (W.downed disk c.progress.event_line c q)
 
   take_goes : (p : ℕ) (d : Done) (task : Task) (tasks : List Task) (c : Core) → AreAlone (face c) → AreSettled c → HasRecordRoom c → MayReport MayTell p d c → first_task p c ≡ Some task → answers p task.job d ≡ true → Q c
       → Q (take_report p task.line d (set_tasks p tasks c))

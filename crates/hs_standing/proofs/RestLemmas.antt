@@ -154,12 +154,12 @@ module _ (name : List ℕ → Address) (cs : List Folded) (c : Core) (its : IsGr
       (going_seeks (record (view_for shard o begun) { busy = busy_line o c }) (pointers_for shard o begun) (new_operation line o) entry e)) its.resting
     where
       begun : Core
-      begun = record c { last_line = line }
+      begun = record c { progress = record c.progress { last_line = line } }
 
       shard : ℕ
       shard = judging_shard (shape_of c).shards c.sessions o
 
-      folded : IsFolded (record c { last_line = line }) cs
+      folded : IsFolded (record c { progress = record c.progress { last_line = line } }) cs
       folded = record { valid = its.lawful.folded.valid; shards = its.lawful.folded.shards; own = its.lawful.folded.own; catalogues = its.lawful.folded.catalogues }
 
   -- ---- a Got of a round that has come

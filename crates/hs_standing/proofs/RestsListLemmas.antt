@@ -158,12 +158,12 @@ each_goes P next line c new all = go (operation_of line c) refl
 -- the first step of a line's operation
 abbrev pub first_made : ℕ → Op → Core → OpStep
 first_made line o c =
-    go_step (record (view_for (judging_shard (shape_of c).shards c.sessions o) o (record c { last_line = line })) { busy = busy_line o c }) (new_operation line o)
+    go_step (record (view_for (judging_shard (shape_of c).shards c.sessions o) o (record c { progress = record c.progress { last_line = line } })) { busy = busy_line o c }) (new_operation line o)
 
 pub each_begun : (P : ℕ → ℕ → Entry → Type 0) (line : ℕ) (o : Op) (c : Core)
     → ((entry : Entry) → first_made line o c ≡ step.Propose entry → P (judging_shard (shape_of c).shards c.sessions o) (front_of (judging_shard (shape_of c).shards c.sessions o) c) entry)
     → Each P c → Each P (begin_line line o c)
-each_begun P line o c new all = stepped P line w (first_made line o c) (add_operation line w (record c { last_line = line })) new all
+each_begun P line o c new all = stepped P line w (first_made line o c) (add_operation line w (record c { progress = record c.progress { last_line = line } })) new all
   where
     w : Waiting
     w = record { operation = new_operation line o; shard = judging_shard (shape_of c).shards c.sessions o; wait = wait.View }
@@ -189,7 +189,7 @@ front_goes g next line c = go (operation_of line c)
 
 pub front_begun : (g line : ℕ) (o : Op) (c : Core) → front_of g (begin_line line o c) ≡ front_of g c
 front_begun g line o c =
-    front_carried g line (record w { operation = after_step (first_made line o c) w.operation }) (first_made line o c) (add_operation line w (record c { last_line = line }))
+    front_carried g line (record w { operation = after_step (first_made line o c) w.operation }) (first_made line o c) (add_operation line w (record c { progress = record c.progress { last_line = line } }))
   where
     w : Waiting
     w = record { operation = new_operation line o; shard = judging_shard (shape_of c).shards c.sessions o; wait = wait.View }

@@ -163,7 +163,7 @@ module _ (start : Start) (c : Whole) (s : WholeStands start c) where
         asking_is : asking c.core.operations line ≡ Some has.waiting.operation.op
         asking_is = ap (option_map (λ (w : Waiting). w.operation.op)) has.at
 
-        below : line < c.core.event_line + 1
+        below : line < c.core.progress.event_line + 1
         below = s.turn.turns.below line has.waiting.operation.op asking_is
 
     pends : (shard place : ℕ) (entry : Entry) → slice_get (group_of shard c.core).waiting place ≡ Some entry → is_of_base entry ≡ false → MayPend (IsAwaited start stop c.core.journal) entry

@@ -58,11 +58,11 @@ IsFirstView members g entry = entry ≡ kind.View (view_of g members)
 pub record OpensOn (a b : Core) : Type 0 where
   pub members : b.members ≡ a.members
   pub limits : b.limits ≡ a.limits
-  pub line : b.event_line ≡ a.event_line
+  pub line : b.progress.event_line ≡ a.progress.event_line
   pub front : (g : ℕ) → front_of g b ≡ front_of g a
   pub views : (g : ℕ) → AllByRecursion (IsFirstView a.members g) (group_of g b).waiting
 
-opens_alike : (a b d : Core) → OpensOn a b → d.members ≡ b.members → d.limits ≡ b.limits → d.event_line ≡ b.event_line → ((g : ℕ) → group_of g d ≡ group_of g b) → OpensOn a d
+opens_alike : (a b d : Core) → OpensOn a b → d.members ≡ b.members → d.limits ≡ b.limits → d.progress.event_line ≡ b.progress.event_line → ((g : ℕ) → group_of g d ≡ group_of g b) → OpensOn a d
 opens_alike a b d o members limits line same = record {
   members = members ∙ o.members;
   limits = limits ∙ o.limits;

@@ -16,7 +16,7 @@ pub record Script : Type 0 where
 
 -- a line is above the last line of a core, and no client's line lies between
 pub record IsNext (commands : ℕ → Option Command) (core : Core) (line : ℕ) : Type 0 where
-  pub above : core.event_line < line
+  pub above : core.progress.event_line < line
   pub next : NoneBetween commands core line
 
 -- a line is begun by a core that goes on, and its events are those of its command

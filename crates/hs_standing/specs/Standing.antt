@@ -65,7 +65,7 @@ pub record StandsWith (start : Start) (P : Core → List Folded → Type 0) (c :
 
 -- each client's line up to the last one was begun below the moment of a stop
 abbrev pub AreBegun : Start → Stop → Core → Type 0
-AreBegun start stop core = (line : ℕ) → 1 ≤ line → line ≤ core.event_line → IsSome (client_op (start.commands line)) → IsBegun stop.course line stop.moment
+AreBegun start stop core = (line : ℕ) → 1 ≤ line → line ≤ core.progress.event_line → IsSome (client_op (start.commands line)) → IsBegun stop.course line stop.moment
 
 -- this is the state of a run at a moment
 abbrev pub IsStateAt : Whole → Whole → Type 0

@@ -44,7 +44,7 @@ pub fn a_script_is_answered()
     ensures opening { (s : Script) (limits : Limits) (start : Store) (whole : Whole) (done : Bool)
         (es : Events) (to : ℕ)
         → GivesAddresses s.name → IsValid start → IsReady (judging_of s limits) start whole
-        → client_op (s.commands 0) ≡ None → whole.core.event_line ≡ 0
+        → client_op (s.commands 0) ≡ None → whole.core.progress.event_line ≡ 0
         → MomentsRise whole.core.moment es to → is_walk next_due done 0 whole.core es ≡ true
         → IsAskedAlong (judging_of s limits) start whole.core es →
         IsReady (judging_of s limits) start (steps_whole whole es)

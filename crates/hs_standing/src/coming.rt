@@ -16,11 +16,11 @@ ghost use Rattle.hs_told.specs.InTurn.{AllMayCome};
 pub fn a_scripts_events_may_come()
     ensures opening { (commands : ℕ → Option Command) (whole : Bool) (core : Core)
         (es : Events) (to : ℕ)
-        → client_op (commands 0) ≡ None → core.event_line ≡ 0
+        → client_op (commands 0) ≡ None → core.progress.event_line ≡ 0
         → MomentsRise core.moment es to → is_walk next_due whole 0 core es ≡ true →
         AllMayCome commands core es }
     ensures first { (commands : ℕ → Option Command) (whole : Bool) (core : Core) (es : Events)
-        → client_op (commands 0) ≡ None → core.event_line ≡ 0
+        → client_op (commands 0) ≡ None → core.progress.event_line ≡ 0
         → is_walk next_due whole 0 core es ≡ true → IsNext commands (steps core es) 1 }
     ensures line { (name : List ℕ → Address) (commands : ℕ → Option Command) (at : LineAt)
         (to : ℕ)

@@ -18,7 +18,7 @@ pub fn a_scripts_lines_are_new()
     ensures opening { (name : List ℕ → Address) (whole : Bool) (core : Core) (es : Events)
         → is_walk next_due whole 0 core es ≡ true → MayBeginAll name es core }
     ensures line { (name : List ℕ → Address) (commands : ℕ → Option Command) (at : LineAt)
-        → IsInTurn commands at.core → at.core.event_line < at.line
+        → IsInTurn commands at.core → at.core.progress.event_line < at.line
         → AreOfLine name at (commands at.line) →
         MayBeginAll name at.events at.core }
     ensures lines { (s : Script) (line : ℕ) (core : Core) (lines : List Events) (to : ℕ)

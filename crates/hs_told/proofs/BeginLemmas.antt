@@ -172,7 +172,7 @@ module _ (commands : ℕ → Option Command) (last line : ℕ) (o : Op) (x : Cor
   g = judging_shard (shape_of x).shards x.sessions o
 
   abbrev begun : Core
-  begun = record x { last_line = line }
+  begun = record x { progress = record x.progress { last_line = line } }
 
   abbrev w : Waiting
   w = record { operation = new_operation line o; shard = g; wait = wait.View }

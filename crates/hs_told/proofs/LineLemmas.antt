@@ -107,12 +107,12 @@ folds_rest cs c d same folded =
 
 -- it is the core, but for its moment, its line and its pool
 abbrev begun : Core → Pool → ℕ → ℕ → Core
-begun core pool moment line = record core { pool = pool; moment = moment; event_line = line }
+begun core pool moment line = record core { pool = pool; moment = moment; progress = record core.progress { event_line = line } }
 
-begun_is : (line moment : ℕ) (core : Core) → (pool : Pool) × (begin_event line moment core ≡ begun core pool moment (if line == 0 then core.event_line else line))
+begun_is : (line moment : ℕ) (core : Core) → (pool : Pool) × (begin_event line moment core ≡ begun core pool moment (if line == 0 then core.progress.event_line else line))
 begun_is line moment core = go _
   where
-    go : (b : Bool) → (pool : Pool) × (record (change_if b (change_pool restart_numbers) core) { moment = moment; event_line = if line == 0 then core.event_line else line } ≡ begun core pool moment (if line == 0 then core.event_line else line))
+    go : (b : Bool) → (pool : Pool) × (record (change_if b (change_pool restart_numbers) core) { moment = moment; progress = record core.progress { event_line = if line == 0 then core.progress.event_line else line } } ≡ begun core pool moment (if line == 0 then core.progress.event_line else line))
     go true = (restart_numbers core.pool, refl)
     go false = (core.pool, refl)
 
@@ -129,7 +129,7 @@ busy_same (op.Name name handle) core pool moment line = refl
 busy_same op.Delete core pool moment line = refl
 busy_same op.Stat core pool moment line = refl
 
-stored_same : (entry : Entry) (core : Core) (pool : Pool) (moment line n : ℕ) → stored entry (record (begun core pool moment line) { last_line = n }) ≡ stored entry (record core { last_line = n })
+stored_same : (entry : Entry) (core : Core) (pool : Pool) (moment line n : ℕ) → stored entry (record (begun core pool moment line) { progress = record (begun core pool moment line).progress { last_line = n } }) ≡ stored entry (record core { progress = record core.progress { last_line = n } })
 stored_same (kind.View view) core pool moment line n = refl
 stored_same (kind.Block m least bytes) core pool moment line n = refl
 stored_same (kind.Mark m least block a) core pool moment line n = refl
@@ -142,7 +142,7 @@ stored_same (kind.KeptBlock born mark flags count bytes) core pool moment line n
 stored_same (kind.KeptRoot created dropped counted address key) core pool moment line n = refl
 stored_same (kind.KeptRound way other epoch round total deltas) core pool moment line n = refl
 
-coming_same : (shard : ℕ) (a : Option Address) (core : Core) (pool : Pool) (moment line n : ℕ) → is_coming shard a (record (begun core pool moment line) { last_line = n }) ≡ is_coming shard a (record core { last_line = n })
+coming_same : (shard : ℕ) (a : Option Address) (core : Core) (pool : Pool) (moment line n : ℕ) → is_coming shard a (record (begun core pool moment line) { progress = record (begun core pool moment line).progress { last_line = n } }) ≡ is_coming shard a (record core { progress = record core.progress { last_line = n } })
 coming_same shard a core pool moment line n =
     λ i. option_map_or (λ b. list_any (λ entry. is_address b (stored_same entry core pool moment line n i)) (group_of shard core).waiting) a false
 
@@ -195,7 +195,7 @@ module _ (cs : List Folded) (core : Core) (line moment : ℕ) (o : Op) where
 module _ (law : ByFirst) (commands : ℕ → Option Command) (cs : List Folded) (core : Core) (line moment : ℕ) (o : Op)
     (turn : IsInTurn commands core) (folds : IsFolded core cs) (asked : IsAsked (store_with cs core.sessions) o) where
   abbrev last : ℕ
-  last = if line == 0 then core.event_line else line
+  last = if line == 0 then core.progress.event_line else line
 
   module _ (pool : Pool) where
     abbrev x : Core
@@ -205,7 +205,7 @@ module _ (law : ByFirst) (commands : ℕ → Option Command) (cs : List Folded) 
     w = record { operation = new_operation line o; shard = judging_shard (shape_of core).shards core.sessions o; wait = wait.View }
 
     abbrev with_it : Core
-    with_it = add_operation line w (record x { last_line = line })
+    with_it = add_operation line w (record x { progress = record x.progress { last_line = line } })
 
     here : IsFolded x cs
     here = record { valid = folds.valid; shards = folds.shards; own = folds.own; catalogues = folds.catalogues }

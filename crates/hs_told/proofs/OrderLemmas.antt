@@ -151,15 +151,15 @@ module _ {P : Core → Type 0} (S : Stirs P) where
 
 -- ---- an event begins
 
-begun_part : (line moment : ℕ) (core : Core) → part_of (begin_event line moment core) ≡ record (part_of core) { moment = moment; event_line = if line == 0 then core.event_line else line }
+begun_part : (line moment : ℕ) (core : Core) → part_of (begin_event line moment core) ≡ record (part_of core) { moment = moment; event_line = if line == 0 then core.progress.event_line else line }
 begun_part line moment core =
-    ap (λ (p : Part). record p { moment = moment; event_line = if line == 0 then core.event_line else line })
+    ap (λ (p : Part). record p { moment = moment; event_line = if line == 0 then core.progress.event_line else line })
     (beside_if _ (change_pool restart_numbers) core (λ x. refl))
 
 pub same_refusal : (e : Event) (line moment : ℕ) (core : Core) → refusal_in e (begin_event line moment core) ≡ refusal_in e core
 same_refusal e line moment core = go _ e
   where
-    go : (b : Bool) (e : Event) → refusal_in e (record (change_if b (change_pool restart_numbers) core) { moment = moment; event_line = if line == 0 then core.event_line else line }) ≡ refusal_in e core
+    go : (b : Bool) (e : Event) → refusal_in e (record (change_if b (change_pool restart_numbers) core) { moment = moment; progress = record core.progress { event_line = if line == 0 then core.progress.event_line else line } }) ≡ refusal_in e core
     go true (event.Line l o) = refl
     go true (event.Report peer d) = refl
     go true (event.Turn l peer) = refl
@@ -185,7 +185,7 @@ module _ (commands : ℕ → Option Command) where
   pub ended : (l : ℕ) (c : Core) → During commands (l + 1) l (part_of c) → IsInTurn commands (end_event c)
   ended l c p = go (nat_lt c.limits.ops (length c.journal + length c.entries))
     where
-      turns : Turns commands (c.event_line + 1) c.moment (c.journal ++ c.entries) (asking c.operations)
+      turns : Turns commands (c.progress.event_line + 1) c.moment (c.journal ++ c.entries) (asking c.operations)
       turns = subst (λ n. Turns commands (n + 1) c.moment (c.journal ++ c.entries) (asking c.operations)) (sym p.at) p.turns
 
       all : (c.journal ++ c.entries) ++ c.refused ≡ c.journal ++ c.entries
@@ -197,7 +197,7 @@ module _ (commands : ℕ → Option Command) where
       go : (b : Bool) → IsInTurn commands (if b then refuse_entries c else keep_entries c)
       go true = record { turns = turns; journal = p.journal; apart = p.apart; opened = p.opened; told = refl; going = λ e. absurd (some_none e) }
       go false = record {
-        turns = subst (λ entries. Turns commands (c.event_line + 1) c.moment entries (asking c.operations)) (sym all) turns;
+        turns = subst (λ entries. Turns commands (c.progress.event_line + 1) c.moment entries (asking c.operations)) (sym all) turns;
         journal = p.turns.ordered;
         apart = p.apart;
         opened = p.opened;
@@ -207,16 +207,16 @@ module _ (commands : ℕ → Option Command) where
 
   module _ (core : Core) (moment : ℕ) (turn : IsInTurn commands core) (goes : core.ended ≡ None) (later : core.moment ≤ moment) where
     -- nothing has been told of it yet
-    at_moment : Turns commands (core.event_line + 1) moment (core.journal ++ core.entries) (asking core.operations)
+    at_moment : Turns commands (core.progress.event_line + 1) moment (core.journal ++ core.entries) (asking core.operations)
     at_moment =
-        turns_later commands (core.event_line + 1) core.moment (core.journal ++ core.entries) (asking core.operations)
-        (subst (λ entries. Turns commands (core.event_line + 1) core.moment (core.journal ++ entries) (asking core.operations)) (turn.going goes ∙ sym turn.told) turn.turns) moment later
+        turns_later commands (core.progress.event_line + 1) core.moment (core.journal ++ core.entries) (asking core.operations)
+        (subst (λ entries. Turns commands (core.progress.event_line + 1) core.moment (core.journal ++ entries) (asking core.operations)) (turn.going goes ∙ sym turn.told) turn.turns) moment later
 
     -- so does it begin, where no client's line lies between
-    started : (bound l line : ℕ) → core.event_line + 1 ≤ bound → ((k : ℕ) → core.event_line + 1 ≤ k → k < bound → client_op (commands k) ≡ None) → (if line == 0 then core.event_line else line) ≡ l
+    started : (bound l line : ℕ) → core.progress.event_line + 1 ≤ bound → ((k : ℕ) → core.progress.event_line + 1 ≤ k → k < bound → client_op (commands k) ≡ None) → (if line == 0 then core.progress.event_line else line) ≡ l
         → During commands bound l (part_of (begin_event line moment core))
     started bound l line le nobody is = subst (λ q. During commands bound l q) (sym (begun_part line moment core)) (record {
-      turns = turns_raised commands (core.event_line + 1) moment (core.journal ++ core.entries) (asking core.operations) at_moment bound le nobody;
+      turns = turns_raised commands (core.progress.event_line + 1) moment (core.journal ++ core.entries) (asking core.operations) at_moment bound le nobody;
       journal = turn.journal;
       apart = turn.apart;
       opened = turn.opened;
@@ -225,7 +225,7 @@ module _ (commands : ℕ → Option Command) where
     })
 
     -- its line is then the last one
-    line_is : (line : ℕ) → core.event_line ≤ line → (if line == 0 then core.event_line else line) ≡ line
+    line_is : (line : ℕ) → core.progress.event_line ≤ line → (if line == 0 then core.progress.event_line else line) ≡ line
     line_is line le = elim (cases_eq line 0) [
       | inl e ↦ let t : (line == 0) ≡ true = grind (arith, nat_tests, e) in rw t (omega (arith, le, e))
       | inr d ↦ let t : (line == 0) ≡ false = grind (arith, nat_tests, d) in rw t refl
@@ -236,16 +236,16 @@ module _ (commands : ℕ → Option Command) where
     client_turn : (line : ℕ) (o : Op) → ClientMay commands core line o → IsInTurn commands (run_event (event.Line line o) moment core)
     client_turn line o may =
         ended line (begin_line line o (begin_event line moment core)) (begins commands line line o (begin_event line moment core)
-        (started line line line (let u : core.event_line < line = may.above in omega (arith, u)) (λ k low high. may.next k (omega (arith, low)) high) (line_is line (let u : core.event_line < line = may.above in omega (arith, u))))
+        (started line line line (let u : core.progress.event_line < line = may.above in omega (arith, u)) (λ k low high. may.next k (omega (arith, low)) high) (line_is line (let u : core.progress.event_line < line = may.above in omega (arith, u))))
         (said_is (commands line) o may.asks))
 
     -- ---- a report
 
     report_turn : (e : Event) → IsOther e → line_of e ≡ 0 → refusal_in e core ≡ None → IsInTurn commands (run_event e moment core)
     report_turn e other zero free =
-        ended core.event_line (do_event e (begin_event (line_of e) moment core)) (event_stays (stirs commands (core.event_line + 1) core.event_line) e (begin_event (line_of e) moment core) other
+        ended core.progress.event_line (do_event e (begin_event (line_of e) moment core)) (event_stays (stirs commands (core.progress.event_line + 1) core.progress.event_line) e (begin_event (line_of e) moment core) other
         (same_refusal e (line_of e) moment core ∙ free)
-        (started (core.event_line + 1) core.event_line (line_of e) (omega arith) (λ k low high. absurd (omega (arith, low, high))) (ap (λ line. if line == 0 then core.event_line else line) zero)))
+        (started (core.progress.event_line + 1) core.progress.event_line (line_of e) (omega arith) (λ k low high. absurd (omega (arith, low, high))) (ap (λ line. if line == 0 then core.progress.event_line else line) zero)))
 
     -- ---- another line
 
@@ -258,13 +258,13 @@ module _ (commands : ℕ → Option Command) where
         x : Core
         x = begin_event line moment core
 
-        nobody : (k : ℕ) → core.event_line + 1 ≤ k → k < line + 1 → client_op (commands k) ≡ None
+        nobody : (k : ℕ) → core.progress.event_line + 1 ≤ k → k < line + 1 → client_op (commands k) ≡ None
         nobody k low high = elim (cases_eq k line) [ inl eq ↦ ap (λ n. client_op (commands n)) eq ∙ may.nobody | inr d ↦ may.next k (omega (arith, low)) (omega (arith, high, d)) ]
 
         by_refusal : (r : Option Reply) → refusal_in e core ≡ r → IsInTurn commands (run_event e moment core)
         by_refusal None free =
             ended line (do_event e x) (event_stays (stirs commands (line + 1) line) e x other (same_refusal e line moment core ∙ free)
-            (started (line + 1) line line (let u : core.event_line ≤ line = may.upward in omega (arith, u)) nobody (line_is line may.upward)))
+            (started (line + 1) line line (let u : core.progress.event_line ≤ line = may.upward in omega (arith, u)) nobody (line_is line may.upward)))
         by_refusal (Some r) stops = elim may.once [
           | inl above ↦ subst (λ c. IsInTurn commands (end_event c)) (sym (refused_does e x r (same_refusal e line moment core ∙ stops))) (ended line (refuse line r x) (refused above.0 above.1))
           | inr free ↦ let f : Some r ≡ None = sym stops ∙ free in absurd (cc f)
@@ -273,7 +273,7 @@ module _ (commands : ℕ → Option Command) where
             calm : (l : ℕ) → r ≡ reply.Busy l → ⊥
             calm l f = subst (λ q. IsNotBusy q) f (subst (λ q. IsOfKind IsNotBusy q) stops (refusal_calm e core))
 
-            refused : core.event_line < line → IsSome (commands line) → During commands (line + 1) line (part_of (refuse line r x))
+            refused : core.progress.event_line < line → IsSome (commands line) → During commands (line + 1) line (part_of (refuse line r x))
             refused above named = record {
               turns = subst (λ entries. Turns commands (line + 1) x.moment entries (asking x.operations)) (append_assoc x.journal x.entries (told ∷ []))
                   (turns_now commands line x.moment (x.journal ++ x.entries) (asking x.operations) p.turns told refl (omega arith) named

@@ -30,7 +30,7 @@ told_of core = core.journal ++ core.refused
 
 -- between two events: the answers are in order and each client's line up to the last line has its answer or waits; no line waits twice, and the session of each that waits is open
 pub record IsInTurn (commands : ℕ → Option Command) (core : Core) : Type 0 where
-  pub turns : Turns commands (core.event_line + 1) core.moment (told_of core) (asking core.operations)
+  pub turns : Turns commands (core.progress.event_line + 1) core.moment (told_of core) (asking core.operations)
   pub journal : IsOrdered commands core.journal
   pub apart : Apart core.operations
   pub opened : (n : ℕ) (o : Op) (name : List ℕ) → asking core.operations n ≡ Some o → session_of (Some o) ≡ Some name → IsSome (seat_of name core.sessions)
@@ -66,20 +66,20 @@ refusal_in (event.Start line peer) core = first (no_peer peer core ∷ not_down 
 
 -- no client's line lies between the last line and this one
 abbrev pub NoneBetween : (ℕ → Option Command) → Core → ℕ → Type 0
-NoneBetween commands core line = (k : ℕ) → core.event_line < k → k < line → client_op (commands k) ≡ None
+NoneBetween commands core line = (k : ℕ) → core.progress.event_line < k → k < line → client_op (commands k) ≡ None
 
 -- a client's line is above the last one, and its operation is asked for
 pub record ClientMay (commands : ℕ → Option Command) (core : Core) (line : ℕ) (o : Op) : Type 0 where
-  pub above : core.event_line < line
+  pub above : core.progress.event_line < line
   pub next : NoneBetween commands core line
   pub asks : option_map bare (client_op (commands line)) ≡ Some (bare o)
 
 -- another line, 0 where there is none, is not below the last one, and is no client's; only its first event may be refused, where it has a command
 pub record OtherMay (commands : ℕ → Option Command) (core : Core) (line : ℕ) (event : Event) : Type 0 where
-  pub upward : core.event_line ≤ line
+  pub upward : core.progress.event_line ≤ line
   pub next : NoneBetween commands core line
   pub nobody : client_op (commands line) ≡ None
-  pub once : ((core.event_line < line) × IsSome (commands line)) ⊎ (refusal_in event core ≡ None)
+  pub once : ((core.progress.event_line < line) × IsSome (commands line)) ⊎ (refusal_in event core ≡ None)
 
 abbrev pub MayBegin : (ℕ → Option Command) → Core → Event → Type 0
 MayBegin commands core (event.Line line o) = ClientMay commands core line o

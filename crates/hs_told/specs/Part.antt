@@ -27,7 +27,7 @@ part_of core = record {
   entries = core.entries;
   refused = core.refused;
   moment = core.moment;
-  event_line = core.event_line;
+  event_line = core.progress.event_line;
 }
 
 -- the operations without an answer, by line

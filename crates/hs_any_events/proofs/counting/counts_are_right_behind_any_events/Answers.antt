@@ -52,4 +52,4 @@ returns-clause-events c = λ start found events opens may n.
     } in
     let its : Steady start.set.name start.set.limits (steps (first_core start.set found) (take n events)) =
     front_steady below start.set.name opens.names start.set.limits events (open_whole start.set found) (opens_steady start found (c.a_run_goes_on.ensures.opens start found opens)) may n in
-    stays_right laws c.zero_blocks_are_right.ensures.behind start.set.name start.set.limits (steps (first_core start.set found) (take n events)).last_line (steps (first_core start.set found) (take n events)) its.0 its.1
+    stays_right laws c.zero_blocks_are_right.ensures.behind start.set.name start.set.limits (steps (first_core start.set found) (take n events)).progress.last_line (steps (first_core start.set found) (take n events)) its.0 its.1

@@ -15,7 +15,7 @@ pub returns-clause-events : goal.returns-clause-events
 returns-clause-events c = λ commands core es its may. all_noted commands core es its may
 
 pub returns-clause-journal : goal.returns-clause-journal
-returns-clause-journal c = λ commands core its. All-from_recursion (StandsFor commands (shape_of core) core.limits core.event_line) core.journal its.journal
+returns-clause-journal c = λ commands core its. All-from_recursion (StandsFor commands (shape_of core) core.limits core.progress.event_line) core.journal its.journal
 
 pub returns-clause-refused : goal.returns-clause-refused
-returns-clause-refused c = λ commands core its. All-from_recursion (StandsFor commands (shape_of core) core.limits core.event_line) core.refused its.refused
+returns-clause-refused c = λ commands core its. All-from_recursion (StandsFor commands (shape_of core) core.limits core.progress.event_line) core.refused its.refused

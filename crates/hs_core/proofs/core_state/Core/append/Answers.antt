@@ -30,7 +30,7 @@ invariant_of-self c =
     let g : Group = c.on_append-taken.new.self in
     let item : c.index_mut-group.result.now ≡ group_of shard old = grind (arith, common_steps) in
     let kept : KeepsFront (group_of shard old) g = rw (← item) c.on_append-taken.ensures.kept in
-    let renews : Renews old.members g old.rejoins shard c.self.inside.steps.items c.renew_steps.new.steps.items = rw (← c.as_slice.ensures.value) c.renew_steps.ensures.renewed in
+    let renews : Renews old.members g old.progress.rejoins shard c.self.inside.steps.items c.renew_steps.new.steps.items = rw (← c.as_slice.ensures.value) c.renew_steps.ensures.renewed in
     rw c.from.ensures (record {
       kept = core_after old _ shard g is.kept within kept refl refl refl refl refl refl;
       fronts = fronts_after old _ shard g c.self.inside.fronts.items is.kept within is.fronts kept refl refl;

@@ -47,7 +47,7 @@ invariant_of-self c =
     let g : Group = c.on_view-told.new.self in
     let item : c.index_mut-group.result.now ≡ group_of shard old = grind (arith, common_steps) in
     let kept : KeepsFront (group_of shard old) g = rw (← item) c.on_view-told.ensures.kept in
-    let renews : Renews old.members g old.rejoins shard c.self.inside.steps.items c.renew_steps.new.steps.items = rw (← c.as_slice.ensures.value) c.renew_steps.ensures.renewed in
+    let renews : Renews old.members g old.progress.rejoins shard c.self.inside.steps.items c.renew_steps.new.steps.items = rw (← c.as_slice.ensures.value) c.renew_steps.ensures.renewed in
     rw c.from-place.ensures (record {
       kept = core_after old _ shard g is.kept within kept refl refl refl (length-set c.self.inside.viewed.items shard false) refl refl;
       fronts = fronts_after old _ shard g c.self.inside.fronts.items is.kept within is.fronts kept refl refl;
@@ -66,7 +66,7 @@ invariant_of-self-2 c =
     let g : Group = c.on_view-told.new.self in
     let item : c.index_mut-group.result.now ≡ group_of shard old = grind (arith, common_steps) in
     let kept : KeepsFront (group_of shard old) g = rw (← item) c.on_view-told.ensures.kept in
-    let renews : Renews old.members g old.rejoins shard c.self.inside.steps.items c.renew_steps.new.steps.items = rw (← c.as_slice.ensures.value) c.renew_steps.ensures.renewed in
+    let renews : Renews old.members g old.progress.rejoins shard c.self.inside.steps.items c.renew_steps.new.steps.items = rw (← c.as_slice.ensures.value) c.renew_steps.ensures.renewed in
     let again : c.restart.new.self ≡ map (λ e. (e.0, restarted shard (c.last_number-number.result - 1) e.1)) old.operations
     = c.in_ok-restart.ensures.ok ∙ ap (λ n. map (λ e. (e.0, restarted shard n e.1)) old.operations) c.saturating_sub.ensures in
     rw c.from-place.ensures (record {
@@ -87,7 +87,7 @@ invariant_of-self-in_err-restart c =
     let g : Group = c.on_view-told.new.self in
     let item : c.index_mut-group.result.now ≡ group_of shard old = grind (arith, common_steps) in
     let kept : KeepsFront (group_of shard old) g = rw (← item) c.on_view-told.ensures.kept in
-    let renews : Renews old.members g old.rejoins shard c.self.inside.steps.items c.renew_steps.new.steps.items = rw (← c.as_slice.ensures.value) c.renew_steps.ensures.renewed in
+    let renews : Renews old.members g old.progress.rejoins shard c.self.inside.steps.items c.renew_steps.new.steps.items = rw (← c.as_slice.ensures.value) c.renew_steps.ensures.renewed in
     rw c.from-place.ensures (record {
       kept = core_after old _ shard g is.kept within kept refl refl refl (length-set c.self.inside.viewed.items shard false) refl refl;
       fronts = fronts_after old _ shard g c.self.inside.fronts.items is.kept within is.fronts kept refl refl;
