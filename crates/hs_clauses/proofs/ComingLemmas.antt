@@ -76,7 +76,7 @@ module _ (laws : ComingLaws) (S : Script) (r : Ran) (story : Story) (went : Went
   moment_is = (opens_first S.set.shape S.set.limits (opens_with S.set story.found) story.found.opened).moment
 
   no_line : (first_core S.set story.found).progress.event_line ≡ 0
-  no_line = (opens_first S.set.shape S.set.limits (opens_with S.set story.found) story.found.opened).progress.event_line
+  no_line = (opens_first S.set.shape S.set.limits (opens_with S.set story.found) story.found.opened).event_line
 
   turn_first : IsInTurn S.commands (first_core S.set story.found)
   turn_first = laws.opens S.commands S.set.shape S.set.limits (opens_with S.set story.found) story.found.opened nobody

@@ -87,7 +87,7 @@ module _ (laws : LawsHere) (S : Script) (r : Ran) (story : Story) (went : Went S
   moment_is = (opens_first S.set.shape S.set.limits (opens_with S.set story.found) story.found.opened).moment
 
   no_line : first.progress.event_line ≡ 0
-  no_line = (opens_first S.set.shape S.set.limits (opens_with S.set story.found) story.found.opened).progress.event_line
+  no_line = (opens_first S.set.shape S.set.limits (opens_with S.set story.found) story.found.opened).event_line
 
   -- ---- opening
 

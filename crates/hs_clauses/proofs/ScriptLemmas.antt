@@ -117,7 +117,7 @@ module _ (below : LawsBelow) (laws : ScriptLaws) (start : Start) (found : Found)
   come : AllCome (judging_of start) (first_core start.set found) (opening ++ all_events lines)
   come =
       let first : Stays (new_core start.set.shape start.set.limits (opens_with start.set found) found.opened) (first_core start.set found) = opens_first start.set.shape start.set.limits (opens_with start.set found) found.opened in
-      script_comes laws start past done (first_core start.set found) opening lines to o.well.nobody first.progress.event_line opened.stands.whole.turn
+      script_comes laws start past done (first_core start.set found) opening lines to o.well.nobody first.event_line opened.stands.whole.turn
       (subst (λ (m : ℕ). MomentsRise m (opening ++ all_events lines) to) (sym first.moment) rise) walks are
 
   pub script_tells : KeepsRecordRoom (first_core start.set found) (opening ++ all_events lines) → AreTold (open_whole start.set found) (opening ++ all_events lines)

@@ -162,7 +162,7 @@ module _ (laws : OpenLaws) (along : AlongLaws) (tells : Type 0) (told : tells) (
   moment_is = (opens_first set.shape set.limits (opens_with set found) found.opened).moment
 
   no_line : (first_core set o.found).progress.event_line ≡ 0
-  no_line = (opens_first set.shape set.limits (opens_with set found) found.opened).progress.event_line
+  no_line = (opens_first set.shape set.limits (opens_with set found) found.opened).event_line
 
   limits_is : (first_core set o.found).limits ≡ set.limits
   limits_is = (opens_first set.shape set.limits (opens_with set found) found.opened).limits
