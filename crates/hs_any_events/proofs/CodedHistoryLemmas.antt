@@ -92,7 +92,7 @@ module _ (code : Code) (limits : Limits) (shape : Shape) where
   follow_same : (cs : List Folded) (deed : Deed) → EntryBelow code.base deed.entry → follow coded cs deed ≡ follow set cs deed
   follow_same cs deed below = ap (λ (c : Folded). slice_set cs deed.shard c) (deed_same cs deed below)
 
-  fits_same : (history : List Deed) (cs : List Folded) → AreBelow code.base history → FitAll set cs history → FitAll coded cs history
+  pub fits_same : (history : List Deed) (cs : List Folded) → AreBelow code.base history → FitAll set cs history → FitAll coded cs history
   fits_same [] cs below fits = tt
   fits_same (deed ∷ deeds) cs below fits = (
     fits.0,
@@ -100,13 +100,13 @@ module _ (code : Code) (limits : Limits) (shape : Shape) where
     subst (λ (ds : List Folded). FitAll coded ds deeds) (sym (follow_same cs deed below.0)) (fits_same deeds (follow set cs deed) below.1 fits.2),
   )
 
-  records_same : (history : List Deed) (cs : List Folded) → AreBelow code.base history → KeepFewRecords set cs history → KeepFewRecords coded cs history
+  pub records_same : (history : List Deed) (cs : List Folded) → AreBelow code.base history → KeepFewRecords set cs history → KeepFewRecords coded cs history
   records_same [] cs below few = tt
   records_same (deed ∷ deeds) cs below few =
       let back : follow set cs deed ≡ follow coded cs deed = sym (follow_same cs deed below.0) in
       (subst (λ (ds : List Folded). HaveFewRecords ds) back few.0, subst (λ (ds : List Folded). KeepFewRecords coded ds deeds) back (records_same deeds (follow set cs deed) below.1 few.1))
 
-  gives_same : (history : List Deed) (cs : List Folded) → AreBelow code.base history → follow_all coded cs history ≡ follow_all set cs history
+  pub gives_same : (history : List Deed) (cs : List Folded) → AreBelow code.base history → follow_all coded cs history ≡ follow_all set cs history
   gives_same [] cs below = refl
   gives_same (deed ∷ deeds) cs below =
       ap (λ (ds : List Folded). follow_all coded ds deeds) (follow_same cs deed below.0) ∙ gives_same deeds (follow set cs deed) below.1

@@ -1,9 +1,7 @@
-pub mod AlongLemmas
 pub mod BytesLemmas
 pub mod CodedHistoryLemmas
 pub mod CodedLemmas
 pub mod GivenLemmas
 pub mod OpeningLemmas
 pub mod RefusedLemmas
-pub mod RightLemmas
 pub mod SteadyLemmas
