@@ -1,5 +1,5 @@
 -- Behind each front of any events that its call takes a core is beside a steady one, also where it has ended with one of them.
-use Rattle.std.proofs.Common.{◌≡◌, ◌∙◌, sym, ap, subst, ℕ, zero, suc, ◌+◌, ◌<◌, ◌≤◌, Bool, true, false, cond, List, [], ◌∷◌, ◌++◌, length, Option, Some, None, refl, arith, nat_lt, take}
+use Rattle.std.proofs.Common.{◌≡◌, ◌∙◌, sym, ap, subst, ℕ, zero, suc, ◌+◌, ◌<◌, ◌≤◌, Bool, true, false, cond, List, [], ◌∷◌, length, Option, Some, None, refl, arith, nat_lt, take}
 use Rattle.std.specs.Option.{option_map}
 use Rattle.hs_answered.specs.Standing.{store_with}
 use Rattle.hs_any_events.proofs.BytesLemmas.{ReadsAnyBytes}
@@ -116,7 +116,7 @@ module _ (start : Start) (found : Found) (r : IsRunning start (open_whole start.
       steady = (
         r.stands.whole.cs,
         steady_coded (opening_code events) first idle start.set.limits first.progress.last_line r.stands.whole.cs opens_steady
-        (base_is_above r.stands.holds.lawful.lawful.history (base_of r.stands.holds.lawful.lawful.history) (omega arith)),
+            (base_is_above r.stands.holds.lawful.lawful.history (base_of r.stands.holds.lawful.lawful.history) (omega arith)),
       );
     };
   }

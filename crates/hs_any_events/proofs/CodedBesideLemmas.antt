@@ -14,7 +14,6 @@ use Rattle.hs_core.specs.Looking.{group_of, shape_of}
 use Rattle.hs_core.specs.State.{Core}
 use Rattle.hs_entry.specs.declared.entry.Entry.{Entry}
 use Rattle.hs_events.specs.Alone.{is_round}
-use Rattle.hs_post.specs.declared.message.Message.{Message}
 use Rattle.hs_replica.specs.Group.{Group, new_group}
 use Rattle.hs_standing.specs.Changes.{IsBeside}
 

@@ -1,5 +1,5 @@
 -- A core beside one whose writes have payloads that tell their addresses: an operation sees the same in both.
-use Rattle.std.proofs.Common.{◌≡◌, ◌∙◌, sym, ap, ℕ, ◌+◌, ◌||◌, Bool, false, not, List, [], map, count_by, Option, Some, None, refl}
+use Rattle.std.proofs.Common.{◌≡◌, ◌∙◌, sym, ap, ℕ, ◌||◌, Bool, false, not, List, [], map, count_by, Option, Some, None, refl}
 use Rattle.std.specs.BTreeMap.{is_at}
 use Rattle.std.specs.List.{find, list_any}
 use Rattle.std.specs.Map.{lookup}
@@ -12,7 +12,6 @@ use Rattle.hs_any_events.proofs.CodedLemmas.{Code, coded_op}
 use Rattle.hs_any_events.proofs.CodedListLemmas.{any-map, count-map, find-map, index-map}
 use Rattle.hs_any_events.proofs.CodedOpLemmas.{coded_operation, op_kept}
 use Rattle.hs_any_events.proofs.CodedPoolLemmas.{bare_pool}
-use Rattle.hs_core.specs.declared.wait.Wait.{Wait}
 use Rattle.hs_core.specs.declared.wait.Wait.TheVariants as wait
 use Rattle.hs_core.specs.declared.waiting.Waiting.{Waiting}
 use Rattle.hs_core.specs.Looking.{catalogue_of, front_of, group_of, operation_of, shape_of}
@@ -25,7 +24,6 @@ use Rattle.hs_entry.specs.declared.entry.Entry.{Entry}
 use Rattle.hs_entry.specs.declared.entry.Entry.TheVariants as kind
 use Rattle.hs_journal.specs.Order.{session_of}
 use Rattle.hs_limits.specs.declared.address.Address.{Address}
-use Rattle.hs_limits.specs.declared.limits.Limits.{Limits}
 use Rattle.hs_model.specs.declared.op.Op.{Op}
 use Rattle.hs_model.specs.declared.op.Op.TheVariants as op
 use Rattle.hs_ops.specs.Speaking.{judging_shard, wanted_address}

@@ -1,10 +1,10 @@
 -- A write whose payload tells its address is judged and asks as it did, up to the outline of the Block that it asks for.
-use Rattle.std.proofs.Common.{◌≡◌, ◌∙◌, sym, ap, ℕ, Bool, true, false, cond, not, ◌&&◌, List, [], ◌∷◌, Option, Some, None, Ok, Result, refl, bytes_eq}
+use Rattle.std.proofs.Common.{◌≡◌, ◌∙◌, sym, ap, ℕ, Bool, true, false, cond, not, ◌&&◌, List, [], ◌∷◌, Option, Some, None, Ok, refl, bytes_eq}
 use Rattle.std.proofs.lemmas.Slice.Eq.{bytes_eq-Decides}
 use Rattle.std.specs.Cmp.Lexicographic.{pointwise}
 use Rattle.std.specs.Option.{option_map_or, option_or}
 use Rattle.std.specs.Prelude.{if◌then◌else◌}
-use Rattle.hs_any_events.proofs.CodedEntryLemmas.{Outline, outline, pointers_read}
+use Rattle.hs_any_events.proofs.CodedEntryLemmas.{outline, pointers_read}
 use Rattle.hs_any_events.proofs.CodedLemmas.{Code, coded_op, coded_payload, coded_short}
 use Rattle.hs_desk.specs.declared.what.What.{What}
 use Rattle.hs_desk.specs.declared.what.What.TheVariants as what
@@ -17,7 +17,6 @@ use Rattle.hs_entry.specs.declared.entry.Entry.TheVariants as kind
 use Rattle.hs_limits.proofs.ReadingLemmas.{read_again}
 use Rattle.hs_limits.specs.Block.{Block, spell}
 use Rattle.hs_limits.specs.declared.address.Address.{Address}
-use Rattle.hs_limits.specs.declared.spelling.SpellingFault.{SpellingFault}
 use Rattle.hs_limits.specs.Reading.{read_block}
 use Rattle.hs_model.specs.declared.op.Op.{Op}
 use Rattle.hs_model.specs.declared.op.Op.TheVariants as op
@@ -30,7 +29,7 @@ use Rattle.hs_ops.specs.declared.operation.Stage.TheVariants as stage
 use Rattle.hs_ops.specs.declared.step.OpStep.{OpStep}
 use Rattle.hs_ops.specs.declared.step.OpStep.TheVariants.{Answer, Propose, Wait}
 use Rattle.hs_ops.specs.Going.{asked_for, at_once, begin, block_entry, compared, effect_reply, given_reply, go, is_reported, is_same_block, judged_in, mark_entry, on_bytes, on_effect, propose_unless, read_or}
-use Rattle.hs_ops.specs.Operations.{Operation, bytes_step, effect_step, go_from, go_step, wanted_number}
+use Rattle.hs_ops.specs.Operations.{Operation, go_from, go_step}
 use Rattle.hs_ops.specs.Refusals.{is_busy, no_more_handles, no_room_for_block, not_held, not_open, outdated, refusal_of, refusals_of}
 use Rattle.hs_ops.specs.Speaking.{asked_block, asked_pointers, helds, least_epoch}
 use Rattle.hs_ops.specs.Views.{OpView}

@@ -1,5 +1,5 @@
 -- As a core opens no operation waits: it is beside itself, and steady by the naming that finds addresses in payloads.
-use Rattle.std.proofs.Common.{◌≡◌, ◌∙◌, sym, ap, subst, ℕ, ◌≤◌, List, [], ◌∷◌, ◌++◌, All, Option, Some, None, refl, arith}
+use Rattle.std.proofs.Common.{◌≡◌, ◌∙◌, sym, subst, ℕ, List, [], ◌∷◌, ◌++◌, Some, refl}
 use Rattle.std.proofs.lemmas.List.Elements.{All-weaker}
 use Rattle.std.specs.BTreeMap.{is_at}
 use Rattle.std.specs.Map.{lookup, values_of}
@@ -17,7 +17,7 @@ use Rattle.hs_effects.specs.Taking.{setting_of}
 use Rattle.hs_fold.specs.Lawful.{Deed}
 use Rattle.hs_fold.specs.Runs.Facts.{Catalogue as Folded}
 use Rattle.hs_fold.specs.Runs.Fits.{HasSent, catalogue_at}
-use Rattle.hs_fold.specs.Runs.History.{follow_all, no_entries}
+use Rattle.hs_fold.specs.Runs.History.{no_entries}
 use Rattle.hs_fold.specs.Shards.Setting.{Setting}
 use Rattle.hs_limits.specs.declared.limits.Limits.{Limits}
 use Rattle.hs_post.specs.declared.message.Message.{Message}

@@ -1,5 +1,5 @@
 -- Pools that are the same but for the entries of Copies: what is sent keeps them so, and each Round of one is under way in the other.
-use Rattle.std.proofs.Common.{◌≡◌, ◌∙◌, sym, ap, subst, ℕ, ◌+◌, Bool, true, false, cond, List, [], ◌∷◌, length, map, All, Contains, Option, Some, None, refl}
+use Rattle.std.proofs.Common.{◌≡◌, ◌∙◌, sym, ap, subst, ℕ, ◌+◌, Bool, true, false, cond, List, [], ◌∷◌, map, All, Contains, Option, Some, None, refl}
 use Rattle.std.proofs.lemmas.List.{length-map}
 use Rattle.std.proofs.lemmas.List.Elements.{All-from_recursion, recursion_from_All}
 use Rattle.std.proofs.lemmas.Map.Made.{lookup-map_values}
@@ -12,7 +12,6 @@ use Rattle.std.specs.Prelude.{nat_le}
 use Rattle.hs_any_events.proofs.CodedGroupLemmas.{bare}
 use Rattle.hs_any_events.proofs.CodedListLemmas.{insert_entry-map, remove_entry-map}
 use Rattle.hs_events.specs.Alone.{is_round}
-use Rattle.hs_limits.specs.declared.delta.Delta.{Delta}
 use Rattle.hs_model.proofs.Members.{Member, contains_from_member, member-map, member_from_contains, member_of_map}
 use Rattle.hs_post.specs.declared.message.Message.{Message}
 use Rattle.hs_post.specs.declared.message.Message.TheVariants as message

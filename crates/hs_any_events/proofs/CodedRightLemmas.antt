@@ -1,7 +1,6 @@
 -- The counts of a core that is beside a steady one are right, and so are its zero blocks by the naming of that.
-use Rattle.std.proofs.Common.{◌≡◌, ◌∙◌, sym, ap, subst, ℕ, ◌+◌, ◌<◌, ◌≤◌, true, false, List, map, length, Option, Some, None, refl, slice_get}
+use Rattle.std.proofs.Common.{◌≡◌, ◌∙◌, sym, ap, subst, ℕ, ◌+◌, ◌<◌, ◌≤◌, false, List, length, Option, Some, None, refl, slice_get}
 use Rattle.std.proofs.lemmas.Option.{slice_get-map}
-use Rattle.std.specs.Map.{values_of}
 use Rattle.std.specs.Option.{option_map}
 use Rattle.hs_any_events.proofs.CodedCoreLemmas.{group_alike, same_front, same_limits, waiting_alike}
 use Rattle.hs_any_events.proofs.CodedEntryLemmas.{Outline, outline, same_entry}
@@ -33,6 +32,7 @@ use Rattle.hs_settled.proofs.DeletesCountLemmas.{CountLaws}
 use Rattle.hs_standing.proofs.AtomLemmas.{set_on}
 use Rattle.hs_standing.proofs.HistoryLemmas.{Likewise, lawful_on}
 use Rattle.hs_standing.proofs.RestLemmas.{rests_follows}
+use Rattle.hs_standing.specs.Held.{GivesAddresses}
 use Rattle.hs_standing.specs.Sent.{AreSent, HasGot, IsOfSent, got_of}
 
 module _ (code : Code) (limits : Limits) (last : ℕ) (core : Core) (s : IsCodedSteady code limits last core) where
@@ -115,10 +115,11 @@ module _ (code : Code) (limits : Limits) (last : ℕ) (core : Core) (s : IsCoded
       its : IsCommitted (group_of shard core) (group_of shard s.coded) (group_alike code core s.coded s.beside shard) number entry
       its = committed_alike (group_of shard core) (group_of shard s.coded) (group_alike code core s.coded s.beside shard) number entry leads
 
-  pub stays_right : CountLaws → ZerosBehind → (other : List ℕ → Address) → StaysCountedRight other core
-  stays_right laws zeros other = record {
+  pub stays_right : CountLaws → ZerosBehind → GivesAddresses (coded_name code) → (other : List ℕ → Address) → StaysCountedRight other core
+  stays_right laws zeros names other = record {
     counts = counts_by other name core (counts_right laws zeros name core cs lawful_here sent_here);
     naming = name;
+    names = names;
     zeros = record { folds = cs; lawful = lawful_here; now = zeros_now laws zeros name core cs lawful_here sent_here };
     next = λ shard number entry low leads none few. follows_here shard number entry low leads none few;
   }

@@ -5,20 +5,20 @@ use Rattle.std.specs.Map.{remove_entry, set_value}
 use Rattle.std.specs.Option.{option_map}
 use Rattle.std.specs.Ordering.{nat_cmp}
 use Rattle.std.specs.Prelude.{slice_set}
-use Rattle.hs_any_events.proofs.CodedCoreLemmas.{IsCoded, coded_operations, coded_waiting, group_alike, holds_coded, operation_is, pointers_coded, same_last, same_sessions, view_coded}
-use Rattle.hs_any_events.proofs.CodedEntryLemmas.{Outline, outline}
-use Rattle.hs_any_events.proofs.CodedGroupLemmas.{GroupOutline, bare, group_outline, proposal_alike, propose_alike}
+use Rattle.hs_any_events.proofs.CodedCoreLemmas.{IsCoded, coded_waiting, group_alike, holds_coded, operation_is, pointers_coded, same_last, same_sessions, view_coded}
+use Rattle.hs_any_events.proofs.CodedEntryLemmas.{outline}
+use Rattle.hs_any_events.proofs.CodedGroupLemmas.{bare, group_outline, proposal_alike, propose_alike}
 use Rattle.hs_any_events.proofs.CodedLemmas.{Code, coded_op}
 use Rattle.hs_any_events.proofs.CodedListLemmas.{insert_entry-map, remove_entry-map, set-map, set_value-map}
 use Rattle.hs_any_events.proofs.CodedOpLemmas.{StepOutline, coded_operation, seats_kept, step_outline}
 use Rattle.hs_any_events.proofs.CodedPoolLemmas.{sends_alike}
-use Rattle.hs_core.specs.Changing.{add_entry_tasks, add_operation, change_group, note, post, put_operation}
+use Rattle.hs_core.specs.Changing.{add_entry_tasks, add_operation, change_group, post, put_operation}
 use Rattle.hs_core.specs.declared.task.Task.{Task}
 use Rattle.hs_core.specs.declared.wait.Wait.{Wait}
 use Rattle.hs_core.specs.declared.wait.Wait.TheVariants as wait
 use Rattle.hs_core.specs.declared.waiting.Waiting.{Waiting}
 use Rattle.hs_core.specs.Looking.{group_of, lead_of, operation_of}
-use Rattle.hs_core.specs.Operating.{add_read, answer, carry_out, go_on_with, propose_entry, take_step, what_holds}
+use Rattle.hs_core.specs.Operating.{add_read, answer, go_on_with, propose_entry, take_step, what_holds}
 use Rattle.hs_core.specs.Seeing.{pointers_for, view_for}
 use Rattle.hs_core.specs.State.{Core}
 use Rattle.hs_core.specs.Words.{change_with}
@@ -33,7 +33,6 @@ use Rattle.hs_ops.specs.Operations.{Operation, after_step}
 use Rattle.hs_ops.specs.Views.{OpView}
 use Rattle.hs_post.specs.declared.message.Message.{Message}
 use Rattle.hs_replica.specs.Group.{Group, last_number, proposal, propose}
-use Rattle.hs_tokens.specs.Seats.{Seats}
 
 module _ (code : Code) where
   -- ---- single changes

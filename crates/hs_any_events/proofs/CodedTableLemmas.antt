@@ -1,5 +1,5 @@
 -- The addresses that the writes of some events bring: a table of them has that of each write that has a block.
-use Rattle.std.proofs.Common.{◌≡◌, ℕ, ◌==◌, Bool, true, false, cond, inl, List, [], ◌∷◌, ◌++◌, length, Some, None, refl}
+use Rattle.std.proofs.Common.{◌≡◌, ◌==◌, Bool, true, false, cond, inl, List, [], ◌∷◌, ◌++◌, length, Some, None, refl}
 use Rattle.std.proofs.lemmas.Bool.{eq-eqb, eqb-true}
 use Rattle.std.specs.List.{AllByRecursion}
 use Rattle.std.specs.Prelude.{if◌then◌else◌}

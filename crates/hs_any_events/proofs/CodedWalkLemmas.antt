@@ -1,5 +1,5 @@
 -- A core beside a steady one whose writes have payloads that tell their addresses: each single change leaves such a core, whatever addresses writes bring.
-use Rattle.std.proofs.Common.{◌≡◌, ◌∙◌, sym, ap, subst, ℕ, ◌+◌, ◌<◌, ◌≤◌, Bool, true, List, [], ◌∷◌, length, map, Option, Some, None, refl}
+use Rattle.std.proofs.Common.{◌≡◌, ◌∙◌, sym, ap, subst, ℕ, ◌+◌, ◌<◌, ◌≤◌, true, List, [], ◌∷◌, length, map, Option, Some, None, refl}
 use Rattle.std.specs.BTreeMap.{is_at}
 use Rattle.std.specs.Map.{lookup}
 use Rattle.std.specs.Option.{IsSomeAnd, option_map}
@@ -7,10 +7,10 @@ use Rattle.std.specs.Ordering.{nat_cmp}
 use Rattle.hs_any_events.proofs.BytesLemmas.{ReadsAnyBytes}
 use Rattle.hs_any_events.proofs.CodedBesideLemmas.{moved, moved_beside, moved_coded}
 use Rattle.hs_any_events.proofs.CodedChangeLemmas.{again_coded, bytes_coded, due_alike, due_coded, effect_coded, goes_coded, line_coded, new_alike, round_coded, taken_coded}
-use Rattle.hs_any_events.proofs.CodedCoreLemmas.{IsCoded, coded_operations, coded_waiting, group_alike, operation_is, same_catalogue, same_sessions}
+use Rattle.hs_any_events.proofs.CodedCoreLemmas.{IsCoded, coded_waiting, group_alike, operation_is, same_catalogue, same_sessions}
 use Rattle.hs_any_events.proofs.CodedEntryLemmas.{outline}
 use Rattle.hs_any_events.proofs.CodedGroupLemmas.{IsCommitted, committed_alike}
-use Rattle.hs_any_events.proofs.CodedLemmas.{Code, coded_gives, coded_name, coded_named, coded_op, coded_payload, short_coded}
+use Rattle.hs_any_events.proofs.CodedLemmas.{Code, coded_name, coded_named, coded_op, short_coded}
 use Rattle.hs_any_events.proofs.CodedOpLemmas.{coded_bytes}
 use Rattle.hs_any_events.proofs.CodedPoolLemmas.{round_at}
 use Rattle.hs_any_events.proofs.CodedStepLemmas.{told_coded}
@@ -20,7 +20,6 @@ use Rattle.hs_core.specs.Changing.{change_pool, note, refuse}
 use Rattle.hs_core.specs.declared.wait.Wait.TheVariants as wait
 use Rattle.hs_core.specs.declared.waiting.Waiting.{Waiting}
 use Rattle.hs_core.specs.Delivering.{is_new_round}
-use Rattle.hs_core.specs.Entering.{is_enter_due}
 use Rattle.hs_core.specs.Looking.{catalogue_of, group_of, operation_of, shape_of}
 use Rattle.hs_core.specs.Operating.{begin_line, go_on_with, propose_entry, resume}
 use Rattle.hs_core.specs.Seeing.{pointers_for}
@@ -30,7 +29,7 @@ use Rattle.hs_effects.proofs.LookLemmas.{found_map}
 use Rattle.hs_effects.proofs.SweepLemmas.{ByViews}
 use Rattle.hs_effects.specs.Answered.{HoldAddresses}
 use Rattle.hs_effects.specs.Logged.{AreOnce, HasBlock, IsCalled}
-use Rattle.hs_effects.specs.Taking.{folds_behind, taken}
+use Rattle.hs_effects.specs.Taking.{taken}
 use Rattle.hs_entry.specs.declared.entry.Entry.{Entry}
 use Rattle.hs_entry.specs.declared.entry.Entry.TheVariants as kind
 use Rattle.hs_fold.specs.Runs.Facts.{Catalogue as Folded}
@@ -43,7 +42,6 @@ use Rattle.hs_model.proofs.Members.{Member}
 use Rattle.hs_model.specs.declared.deed.Deed.TheVariants as deed
 use Rattle.hs_model.specs.declared.op.Op.{Op}
 use Rattle.hs_model.specs.declared.op.Op.TheVariants as op
-use Rattle.hs_model.specs.declared.reply.Reply.{Reply}
 use Rattle.hs_model.specs.declared.reply.Reply.TheVariants as reply
 use Rattle.hs_ops.specs.Operations.{bytes_step}
 use Rattle.hs_ops.specs.Speaking.{asked_block, asked_pointers}
@@ -53,7 +51,7 @@ use Rattle.hs_replica.specs.Group.{committed}
 use Rattle.hs_shard.specs.Facts.{Catalogue}
 use Rattle.hs_standing.proofs.HandleLemmas.{hold_addresses}
 use Rattle.hs_standing.proofs.Laws.{Entries, Steps}
-use Rattle.hs_standing.specs.Changes.{IsBeside, IsIdle, told_at_once}
+use Rattle.hs_standing.specs.Changes.{IsIdle, told_at_once}
 use Rattle.hs_standing.specs.Held.{GivesAddresses}
 use Rattle.hs_standing.specs.Walks.{Walks}
 use Rattle.hs_tokens.specs.Seats.{Seats}
@@ -135,7 +133,6 @@ module _ (code : Code) (limits : Limits) (last : ℕ) (c : Core) (s : IsCodedSte
       by : (x : Option Waiting) → operation_of line c ≡ x → option_map (coded_waiting code) x ≡ Some w → IsIdle w.wait
       by None there e = absurd (cc e)
       by (Some u) there e = let is : coded_waiting code u ≡ w = cc e in subst (λ (x : Waiting). IsIdle x.wait) is (idle u there)
-
 
 module _ (views : ByViews) (steps : Steps) (reads : ReadsAnyBytes) (laws : Entries) (code : Code) (names : GivesAddresses (coded_name code)) (limits : Limits) (last : ℕ) where
   walks : Walks (λ line o c. IsFreshLine (coded_name code) last line o c) (λ number bytes w c. Unit {0}) (λ line. Unit {0}) (λ c. (cs : List Folded) × IsSteady (coded_name code) limits last c cs)

@@ -20,7 +20,6 @@ use Rattle.hs_joint.specs.Along.{KeepFewRecords}
 use Rattle.hs_joint.specs.Joined.{AreJoined}
 use Rattle.hs_joint.specs.Seen.{all_seen, layout_of, seen_round}
 use Rattle.hs_limits.specs.declared.address.Address.{Address}
-use Rattle.hs_limits.specs.declared.limits.Limits.{Limits}
 use Rattle.hs_limits.specs.Shape.{IsShape}
 use Rattle.hs_measure.specs.Zeros.{AreZerosRight}
 use Rattle.hs_post.specs.declared.message.Message.{Message}

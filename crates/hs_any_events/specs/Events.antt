@@ -20,7 +20,7 @@ use Rattle.hs_model.specs.declared.op.Op.TheVariants as op
 use Rattle.hs_replica.specs.Group.{committed}
 use Rattle.hs_replica.specs.Kinds.{is_block}
 use Rattle.hs_settled.specs.Counts.{CountsRight}
-use Rattle.hs_standing.specs.Held.{Has32Bytes}
+use Rattle.hs_standing.specs.Held.{GivesAddresses, Has32Bytes}
 use Rattle.hs_tokens.specs.Seats.{Seats}
 
 -- a write that has a block brings an address, whichever 32 bytes this is
@@ -49,10 +49,11 @@ pub record IsCountedRight (name : List ℕ → Address) (core : Core) : Type 0 w
   pub counts : CountsRight name core
   pub zeros : ZerosRight name core
 
--- its counts are right; by some naming of blocks so are its zero blocks, and what a shard takes next that is no Block may come behind these folds, where no shard has more root records then than it takes: where it completes a last round, each older block out of reach is a zero block
+-- its counts are right; and by some naming of blocks its zero blocks are, and what a shard takes next that is no Block may come behind these folds, where no shard has more root records then than it takes: where it completes a last round, each older block out of reach is a zero block
 pub record StaysCountedRight (name : List ℕ → Address) (core : Core) : Type 0 where
   pub counts : CountsRight name core
   pub naming : List ℕ → Address
+  pub names : GivesAddresses naming
   pub zeros : ZerosRight naming core
   pub next : (shard number : ℕ) (entry : Entry) → shard < (shape_of core).shards → committed (group_of shard core) ≡ Some (number, entry) → is_block entry ≡ false
       → ((g : ℕ) → length (catalogue_of g (taken shard entry core)).roots ≤ most_records)
