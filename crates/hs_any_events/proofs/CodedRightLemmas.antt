@@ -78,6 +78,7 @@ module _ (code : Code) (limits : Limits) (last : ℕ) (core : Core) (s : IsCoded
   got_there : (shard at : ℕ) (place : Place) (told : RoundBody) → HasGot core shard at place told → HasGot s.coded shard at place told
   got_there shard at place told got = waits_there shard at (got_of place told) refl got
 
+  -- of a Copy nothing is said
   full : (set : Setting) (m : Message) → IsOfSent set s.steady.1.lawful.lawful.history (bare m) → IsOfSent set s.steady.1.lawful.lawful.history m
   full set (message.Copy shard to view number entry) h = tt
   full set (message.Have shard from to view sealed) h = tt
@@ -91,9 +92,6 @@ module _ (code : Code) (limits : Limits) (last : ℕ) (core : Core) (s : IsCoded
   sent_here : AreSent (setting_of (coded_name code) core) s.steady.1.lawful.lawful.history core
   sent_here = subst (λ (set : Setting). AreSent set history core) set_there its
     where
-      set : Setting
-      set = setting_of (coded_name code) s.coded
-
       its : AreSent (setting_of (coded_name code) s.coded) s.steady.1.lawful.lawful.history core
       its = record {
         messages = all_alike core.pool s.coded.pool s.beside.pool (IsOfSent (setting_of (coded_name code) s.coded) history) (full (setting_of (coded_name code) s.coded)) (empty (setting_of (coded_name code) s.coded)) s.steady.1.sent.messages;
