@@ -1,8 +1,14 @@
--- Behind each front of any events that its call takes a core is steady, also where it has ended with one of them.
+-- Behind each front of any events that its call takes a core is beside a steady one, also where it has ended with one of them.
 use Rattle.std.proofs.Common.{◌≡◌, ◌∙◌, sym, ap, subst, ℕ, zero, suc, ◌+◌, ◌<◌, ◌≤◌, Bool, true, false, cond, List, [], ◌∷◌, length, Option, Some, None, refl, arith, nat_lt, take}
 use Rattle.std.specs.Option.{option_map}
+use Rattle.hs_answered.specs.Standing.{store_with}
 use Rattle.hs_any_events.proofs.BytesLemmas.{ReadsAnyBytes}
-use Rattle.hs_any_events.proofs.SteadyLemmas.{IsFreshLine, IsSteady, walks_steady}
+use Rattle.hs_any_events.proofs.CodedHistoryLemmas.{base_is_above, base_of}
+use Rattle.hs_any_events.proofs.CodedLemmas.{Code, coded_gives, coded_name}
+use Rattle.hs_any_events.proofs.CodedOpeningLemmas.{beside_itself, steady_coded}
+use Rattle.hs_any_events.proofs.CodedTableLemmas.{brought_by, is_tabled, table_of, table_whole}
+use Rattle.hs_any_events.proofs.CodedWalkLemmas.{IsCodedSteady, IsTabledLine, coded_new, walks_coded}
+use Rattle.hs_any_events.proofs.SteadyLemmas.{IsSteady}
 use Rattle.hs_any_events.specs.Events.{AreTaken, IsTaken}
 use Rattle.hs_core.specs.Calls.{last_line_after}
 use Rattle.hs_core.specs.declared.event.Event.{Event}
@@ -23,6 +29,7 @@ use Rattle.hs_events.specs.Whole.{Whole, open_whole, step_whole}
 use Rattle.hs_fold.specs.Runs.Facts.{Catalogue as Folded}
 use Rattle.hs_limits.specs.declared.address.Address.{Address}
 use Rattle.hs_limits.specs.declared.limits.Limits.{Limits}
+use Rattle.hs_model.proofs.Members.{Member, member-append_left, member-append_right}
 use Rattle.hs_model.specs.declared.command.Command.{Command}
 use Rattle.hs_moments.proofs.AloneEventLemmas.{begun, step_is}
 use Rattle.hs_moments.proofs.CoreLemmas.{line_at}
@@ -34,11 +41,10 @@ use Rattle.hs_standing.proofs.Laws.{Entries, Steps}
 use Rattle.hs_standing.proofs.ValidLemmas.{told_valid}
 use Rattle.hs_standing.specs.Held.{GivesAddresses}
 use Rattle.hs_standing.specs.Run.{IsRunning, RunStands}
-use Rattle.hs_standing.specs.Start.{Start}
 use Rattle.hs_standing.specs.Standing.{judging_of}
+use Rattle.hs_standing.specs.Start.{Start}
 use Rattle.hs_standing.specs.Telling.{told_so_far}
 use Rattle.hs_standing.specs.Walks.{HasRecordRoom, MayEvent, MayReport}
-use Rattle.hs_answered.specs.Standing.{store_with}
 use Rattle.hs_told.proofs.OpenedLemmas.{opened_turn}
 use Rattle.hs_told.specs.InTurn.{IsInTurn}
 
@@ -49,16 +55,16 @@ pub record LawsBelow : Type 0 where
   pub reads : ReadsAnyBytes
   pub laws : Entries
 
--- a core is steady up to its last line, for some folds
-abbrev pub Steady : (List ℕ → Address) → Limits → Core → Type 0
-Steady name limits core = (cs : List Folded) × IsSteady name limits core.progress.last_line core cs
+-- a core is beside one that is steady up to its last line
+abbrev pub Steady : Code → Limits → Core → Type 0
+Steady code limits core = IsCodedSteady code limits core.progress.last_line core
 
 -- so is one between two events, on a sane store, where the root records are few and the journal had room so far
-pub record StaysSteady (name : List ℕ → Address) (limits : Limits) (c : Whole) : Type 0 where
+pub record StaysSteady (code : Code) (limits : Limits) (c : Whole) : Type 0 where
   pub sane : IsSane c
   pub few : HasRecordRoom c.core
   pub clean : c.core.refused ≡ []
-  pub steady : Steady name limits c.core
+  pub steady : Steady code limits c.core
 
 -- ---- as a core opens
 
@@ -69,7 +75,7 @@ module _ (start : Start) (found : Found) (r : IsRunning start (open_whole start.
   turn : IsInTurn (λ n. None) (first_core start.set found)
   turn = opened_turn (λ n. None) start.set.shape start.set.limits (opens_with start.set found) found.opened refl
 
-  its : RunStands start first r.stands.whole.cs
+  abbrev its : RunStands start (first_core start.set found) r.stands.whole.cs
   its = r.stands.holds
 
   -- no line was begun
@@ -79,29 +85,44 @@ module _ (start : Start) (found : Found) (r : IsRunning start (open_whole start.
   abbrev nobody : ℕ → Option Command
   nobody n = None
 
-  pub opens_steady : StaysSteady start.set.name start.set.limits (open_whole start.set found)
+  abbrev opens_steady : IsSteady start.set.name start.set.limits (first_core start.set found).progress.last_line (first_core start.set found) r.stands.whole.cs
   opens_steady = record {
+    commands = nobody;
+    none_above = λ line up. refl;
+    limited = its.limits;
+    orderly = its.orderly;
+    lawful = its.lawful;
+    sent = its.sent;
+    resting = its.resting;
+    stored = its.stored;
+    addressed = its.addressed;
+    commanded = λ line w at. absurd (idle line w at);
+    epochs = its.epochs;
+    valid = told_valid (judging_of start) start.entry (told_so_far first) (store_with r.stands.whole.cs first.sessions) r.valid its.tells;
+  }
+
+  -- payloads start above those of the history with which it opens, and tell the addresses that these events bring
+  abbrev pub opening_code : Events → Code
+  opening_code events = record { name = start.set.name; base = base_of r.stands.holds.lawful.lawful.history; table = table_of events }
+
+  pub opens_coded : (events : Events) → StaysSteady (opening_code events) start.set.limits (open_whole start.set found)
+  opens_coded events = record {
     sane = r.stands.whole.sane;
     few = r.stands.whole.few;
     clean = turn.going r.stands.whole.sane.going;
-    steady = (
-      r.stands.whole.cs,
-      record {
-        commands = nobody;
-        none_above = λ line up. refl;
-        limited = its.limits;
-        orderly = its.orderly;
-        lawful = its.lawful;
-        sent = its.sent;
-        resting = its.resting;
-        stored = its.stored;
-        addressed = its.addressed;
-        commanded = λ line w at. absurd (idle line w at);
-        epochs = its.epochs;
-        valid = told_valid (judging_of start) start.entry (told_so_far first) (store_with r.stands.whole.cs first.sessions) r.valid its.tells;
-      },
-    );
+    steady = record {
+      coded = first;
+      beside = beside_itself (opening_code events) first idle;
+      steady = (
+        r.stands.whole.cs,
+        steady_coded (opening_code events) first idle start.set.limits first.progress.last_line r.stands.whole.cs opens_steady
+            (base_is_above r.stands.holds.lawful.lawful.history (base_of r.stands.holds.lawful.lawful.history) (omega arith)),
+      );
+    };
   }
+
+  pub opening_gives : GivesAddresses start.set.name → (events : Events) → GivesAddresses (coded_name (opening_code events))
+  opening_gives names events = coded_gives (opening_code events) names (table_whole events)
 
 -- ---- one event
 
@@ -122,16 +143,16 @@ more_lines name limits last next core cs up its = record {
   valid = its.valid;
 }
 
-line_rises : (name : List ℕ → Address) (e : Event) (at : ℕ) (core : Core) → IsTaken name core e at → core.progress.last_line ≤ last_line_after e core
-line_rises name (event.Line line o) at core may = let up : core.progress.last_line < line = may.next in omega (arith, up)
-line_rises name (event.Report peer d) at core may = omega arith
-line_rises name (event.Turn line peer) at core may = omega arith
-line_rises name (event.Deliver line number) at core may = omega arith
-line_rises name (event.Lose line number) at core may = omega arith
-line_rises name (event.Repeat line number) at core may = omega arith
-line_rises name (event.Nudge line peer) at core may = omega arith
-line_rises name (event.Fail line peer) at core may = omega arith
-line_rises name (event.Start line peer) at core may = omega arith
+line_rises : (e : Event) (at : ℕ) (core : Core) → IsTaken core e at → core.progress.last_line ≤ last_line_after e core
+line_rises (event.Line line o) at core may = let up : core.progress.last_line < line = may.next in omega (arith, up)
+line_rises (event.Report peer d) at core may = omega arith
+line_rises (event.Turn line peer) at core may = omega arith
+line_rises (event.Deliver line number) at core may = omega arith
+line_rises (event.Lose line number) at core may = omega arith
+line_rises (event.Repeat line number) at core may = omega arith
+line_rises (event.Nudge line peer) at core may = omega arith
+line_rises (event.Fail line peer) at core may = omega arith
+line_rises (event.Start line peer) at core may = omega arith
 
 -- what each report may tell
 any_report : (peer : ℕ) (d : Done) (core : Core) → MayReport (λ number bytes w c. Unit {0}) peer d core
@@ -144,30 +165,34 @@ any_report peer (done.Copied number) core = tt
 any_report peer (done.Stepped switched) core = tt
 any_report peer (done.Failed disk) core = tt
 
-module _ (name : List ℕ → Address) (limits : Limits) (core : Core) (its : Steady name limits core) where
+-- an event brings addresses of a table
+abbrev IsWithin : Code → List Address → Type 0
+IsWithin code addresses = (a : Address) → Member a addresses → Member a code.table
+
+module _ (code : Code) (limits : Limits) (core : Core) (its : Steady code limits core) where
   -- a line above the last one is new
   new_line : (line : ℕ) → core.progress.last_line < line → operation_of line core ≡ None
-  new_line line up = by_operation (operation_of line core) refl
+  new_line line up = coded_new code limits core.progress.last_line core its line (by_operation (operation_of line its.coded) refl)
     where
-      by_operation : (x : Option Waiting) → operation_of line core ≡ x → operation_of line core ≡ None
+      by_operation : (x : Option Waiting) → operation_of line its.coded ≡ x → operation_of line its.coded ≡ None
       by_operation None at = at
       by_operation (Some w) at =
-          let says = (its.1.commanded line w at).says in
-          let none : None ≡ Some says.said = sym (its.1.none_above line up) ∙ says.asks in
+          let says = (its.steady.1.commanded line w at).says in
+          let none : None ≡ Some says.said = sym (its.steady.1.none_above line up) ∙ says.asks in
           absurd (cc none)
 
-  may_event : (e : Event) (at : ℕ) → IsTaken name core e at → MayEvent (λ line o c. IsFreshLine name (last_line_after e core) line o c) (λ number bytes w c. Unit {0}) (λ line. Unit {0}) e core
-  may_event (event.Line line o) at may =
+  may_event : (e : Event) (at : ℕ) → IsTaken core e at → IsWithin code (brought_by e) → MayEvent (λ line o c. IsTabledLine code (last_line_after e core) line o c) (λ number bytes w c. Unit {0}) (λ line. Unit {0}) e core
+  may_event (event.Line line o) at may within =
       let up : core.progress.last_line < line = may.next in
-      record { new = new_line line up; counted = omega (arith, up); until = omega arith; called = may.called }
-  may_event (event.Report peer d) at may = any_report peer d core
-  may_event (event.Turn line peer) at may = tt
-  may_event (event.Deliver line number) at may = tt
-  may_event (event.Lose line number) at may = tt
-  may_event (event.Repeat line number) at may = tt
-  may_event (event.Nudge line peer) at may = tt
-  may_event (event.Fail line peer) at may = tt
-  may_event (event.Start line peer) at may = tt
+      record { new = new_line line up; counted = omega (arith, up); until = omega arith; tabled = is_tabled code core.sessions o within may.given }
+  may_event (event.Report peer d) at may within = any_report peer d core
+  may_event (event.Turn line peer) at may within = tt
+  may_event (event.Deliver line number) at may within = tt
+  may_event (event.Lose line number) at may within = tt
+  may_event (event.Repeat line number) at may within = tt
+  may_event (event.Nudge line peer) at may within = tt
+  may_event (event.Fail line peer) at may within = tt
+  may_event (event.Start line peer) at may within = tt
 
 -- a core that goes on has refused nothing
 still_clean : (e : Event) (at : ℕ) (core : Core) → core.ended ≡ None → (step e at core).ended ≡ None → core.refused ≡ [] → (step e at core).refused ≡ []
@@ -181,33 +206,43 @@ still_clean e at core going then clean =
     by_room true over = absurd (cc over)
     by_room false over = (does_keep e (begun e at core)).refused ∙ clean
 
-module _ (below : LawsBelow) (name : List ℕ → Address) (names : GivesAddresses name) (limits : Limits) where
+module _ (below : LawsBelow) (code : Code) (names : GivesAddresses (coded_name code)) (limits : Limits) where
   -- it is steady behind the event
-  next_steady : (c : Whole) (e : Event) (at : ℕ) → StaysSteady name limits c → IsTaken name c.core e at → Steady name limits (step e at c.core)
-  next_steady c e at s may =
-      subst (λ (last : ℕ). (cs : List Folded) × IsSteady name limits last (step e at c.core) cs) (sym (line_at c.core e at s.sane.going))
-      (walks_step (walks_steady below.views below.steps below.reads below.laws name names limits (last_line_after e c.core)) c e at s.sane s.few s.clean (may_event name limits c.core s.steady e at may)
-      (s.steady.0, more_lines name limits c.core.progress.last_line (last_line_after e c.core) c.core s.steady.0 (line_rises name e at c.core may) s.steady.1))
+  next_steady : (c : Whole) (e : Event) (at : ℕ) → StaysSteady code limits c → IsTaken c.core e at → IsWithin code (brought_by e) → Steady code limits (step e at c.core)
+  next_steady c e at s may within =
+      subst (λ (last : ℕ). IsCodedSteady code limits last (step e at c.core)) (sym (line_at c.core e at s.sane.going))
+      (walks_step (walks_coded below.views below.steps below.reads below.laws code names limits (last_line_after e c.core)) c e at s.sane s.few s.clean (may_event code limits c.core s.steady e at may within)
+      (record {
+        coded = s.steady.coded;
+        beside = s.steady.beside;
+        steady = (
+          s.steady.steady.0,
+          more_lines (coded_name code) limits c.core.progress.last_line (last_line_after e c.core) s.steady.coded s.steady.steady.0 (line_rises e at c.core may) s.steady.steady.1,
+        );
+      }))
 
-  stays_steady : (c : Whole) (e : Event) (at : ℕ) → StaysSteady name limits c → IsTaken name c.core e at → (step e at c.core).ended ≡ None → StaysSteady name limits (step_whole e at c)
-  stays_steady c e at s may going = record {
+  stays_steady : (c : Whole) (e : Event) (at : ℕ) → StaysSteady code limits c → IsTaken c.core e at → IsWithin code (brought_by e) → (step e at c.core).ended ≡ None → StaysSteady code limits (step_whole e at c)
+  stays_steady c e at s may within going = record {
     sane = sane_stays c e at s.sane going;
     few = may.room going;
     clean = still_clean e at c.core s.sane.going going s.clean;
-    steady = next_steady c e at s may;
+    steady = next_steady c e at s may within;
   }
 
   -- ---- each front
 
-  pub front_steady : (es : Events) (c : Whole) → StaysSteady name limits c → AreTaken name c.core es → (n : ℕ) → Steady name limits (steps c.core (take n es))
-  front_steady [] c s may zero = s.steady
-  front_steady [] c s may (suc n) = s.steady
-  front_steady (e ∷ es) c s may zero = s.steady
-  front_steady (e ∷ es) c s may (suc n) = by_end (λ t. front_steady es (step_whole e.0 e.1 c) t may.1 n) (step e.0 e.1 c.core).ended refl
+  pub front_steady : (es : Events) (c : Whole) → StaysSteady code limits c → AreTaken c.core es → IsWithin code (table_of es) → (n : ℕ) → Steady code limits (steps c.core (take n es))
+  front_steady [] c s may within zero = s.steady
+  front_steady [] c s may within (suc n) = s.steady
+  front_steady (e ∷ es) c s may within zero = s.steady
+  front_steady (e ∷ es) c s may within (suc n) = by_end (λ t. front_steady es (step_whole e.0 e.1 c) t may.1 (λ a m. within a (member-append_right a (brought_by e.0) (table_of es) m)) n) (step e.0 e.1 c.core).ended refl
     where
-      m : IsTaken name c.core e.0 e.1
+      m : IsTaken c.core e.0 e.1
       m = may.0 s.sane.going
 
-      by_end : (StaysSteady name limits (step_whole e.0 e.1 c) → Steady name limits (steps (step e.0 e.1 c.core) (take n es))) → (x : Option CoreFault) → (step e.0 e.1 c.core).ended ≡ x → Steady name limits (steps (step e.0 e.1 c.core) (take n es))
-      by_end later None going = later (stays_steady c e.0 e.1 s m going)
-      by_end later (Some fault) over = subst (λ (x : Core). Steady name limits x) (sym (steps_ended (step e.0 e.1 c.core) (take n es) fault over)) (next_steady c e.0 e.1 s m)
+      here : IsWithin code (brought_by e.0)
+      here a h = within a (member-append_left a (brought_by e.0) (table_of es) h)
+
+      by_end : (StaysSteady code limits (step_whole e.0 e.1 c) → Steady code limits (steps (step e.0 e.1 c.core) (take n es))) → (x : Option CoreFault) → (step e.0 e.1 c.core).ended ≡ x → Steady code limits (steps (step e.0 e.1 c.core) (take n es))
+      by_end later None going = later (stays_steady c e.0 e.1 s m here going)
+      by_end later (Some fault) over = subst (λ (x : Core). Steady code limits x) (sym (steps_ended (step e.0 e.1 c.core) (take n es) fault over)) (next_steady c e.0 e.1 s m here)

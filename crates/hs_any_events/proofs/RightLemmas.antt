@@ -3,8 +3,7 @@ use Rattle.std.proofs.Common.{subst, ℕ, ◌<◌, List}
 use Rattle.std.proofs.lemmas.List.Elements.{All-weaker}
 use Rattle.std.specs.Map.{values_of}
 use Rattle.std.specs.Prelude.{All}
-use Rattle.hs_any_events.proofs.SteadyLemmas.{IsSteady, grounded_of}
-use Rattle.hs_any_events.specs.Events.{IsCountedRight, StaysCountedRight}
+use Rattle.hs_any_events.specs.Events.{IsCountedRight}
 use Rattle.hs_core.specs.Looking.{shape_of}
 use Rattle.hs_core.specs.State.{Core}
 use Rattle.hs_deletion.specs.Following.{IsSent}
@@ -21,7 +20,6 @@ use Rattle.hs_joint.specs.Along.{KeepFewRecords}
 use Rattle.hs_joint.specs.Joined.{AreJoined}
 use Rattle.hs_joint.specs.Seen.{all_seen, layout_of, seen_round}
 use Rattle.hs_limits.specs.declared.address.Address.{Address}
-use Rattle.hs_limits.specs.declared.limits.Limits.{Limits}
 use Rattle.hs_limits.specs.Shape.{IsShape}
 use Rattle.hs_measure.specs.Zeros.{AreZerosRight}
 use Rattle.hs_post.specs.declared.message.Message.{Message}
@@ -31,7 +29,6 @@ use Rattle.hs_rounds.specs.declared.place.Place.{Place}
 use Rattle.hs_settled.proofs.DeletesCountLemmas.{CountLaws}
 use Rattle.hs_settled.proofs.SentLemmas.{Sends, sends_all}
 use Rattle.hs_settled.specs.Counts.{AreRoundsSent, CountsRight, IsSentRound}
-use Rattle.hs_standing.proofs.RestLemmas.{rests_follows}
 use Rattle.hs_standing.specs.Sent.{AreSent, IsOfSent, WasSent}
 
 -- zero blocks behind a lawful history, as hs_measure has them
@@ -100,12 +97,19 @@ counted_right laws zeros name core cs its sent = record {
   zeros = record { folds = cs; lawful = its; now = zeros_now laws zeros name core cs its sent };
 }
 
--- and what a steady core takes next may come
-pub stays_right : (laws : CountLaws) (zeros : ZerosBehind) (name : List ℕ → Address) (limits : Limits) (last : ℕ) (core : Core) (cs : List Folded) → IsSteady name limits last core cs → StaysCountedRight name core
-stays_right laws zeros name limits last core cs its = record {
-  right = record {
-    counts = counts_right laws zeros name core cs its.lawful its.sent;
-    zeros = record { folds = cs; lawful = its.lawful; now = zeros_now laws zeros name core cs its.lawful its.sent };
+-- of the naming only the shape is read, which it does not have
+pub counts_by : (name other : List ℕ → Address) (core : Core) → CountsRight other core → CountsRight name core
+counts_by name other core its = record {
+  some = its.some;
+  folds = its.folds;
+  folded = its.folded;
+  follows = record {
+    machine = its.follows.machine;
+    joined = record { each = its.follows.joined.each; own = its.follows.joined.own; followed = its.follows.joined.followed; sent = its.follows.joined.sent; last = its.follows.joined.last };
+    counts = its.follows.counts;
+    no_wrong_zero = its.follows.no_wrong_zero;
+    exact_zero = its.follows.exact_zero;
   };
-  next = λ shard number entry low leads few. rests_follows name cs core (grounded_of name limits last core cs its) shard number entry low leads few;
+  counted = its.counted;
+  sent = record { messages = its.sent.messages; gots = its.sent.gots };
 }

@@ -30,13 +30,13 @@ use hs_memory::catalogues_in_memory_are_folds;
 use hs_sound::histories_are_counted;
 use hs_standing::a_run_goes_on;
 
-/// The counts of a core are right, and so are its zero blocks (`IsCountedRight`): as it opens over sound
-/// lists, also where it has ended with that, for any number of copies (`opens`); and, with one copy of
-/// each shard and lists from 1 on, behind each front of any events that its call takes, also where it has
-/// ended with one of them (`events`): then also what each shard takes next may come. Nothing is asked of
-/// what reports tell, nor of other lines than clients', nor of moments; of a client's line that it is
-/// above those before, and of its write that, where it has a block, it comes with the address that the
-/// naming gives this.
+/// The counts of a core are right. So they are as it opens over sound lists, also where it has ended with
+/// that, for any number of copies, and its zero blocks too (`opens`). With one copy of each shard, and lists
+/// from 1 on, they are right behind each front of any events that its call takes, also where it has ended
+/// with one of them (`events`): by some naming of blocks its zero blocks are right then too, and what each
+/// shard takes next that is no Block may come. Nothing is asked of what reports tell, nor of other lines
+/// than clients', nor of moments; of a client's line that it is above those before, and of its write that,
+/// where it has a block, it brings an address, whichever this is.
 pub fn counts_are_right_behind_any_events()
     ensures opens { (set : Setting) (found : Found)
         → IsShape set.shape
@@ -44,7 +44,7 @@ pub fn counts_are_right_behind_any_events()
         IsCountedRight set.name (first_core set found) }
     ensures events { (start : Start) (found : Found) (events : Events)
         → RunOpens start found
-        → AreTaken start.set.name (first_core start.set found) events →
+        → AreTaken (first_core start.set found) events →
         (n : ℕ) → StaysCountedRight start.set.name
         (steps (first_core start.set found) (take n events)) }
 {

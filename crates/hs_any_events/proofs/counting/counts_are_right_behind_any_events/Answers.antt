@@ -1,13 +1,17 @@
 use Rattle.std.specs.Prelude.{take}
-use Rattle.hs_any_events.proofs.AlongLemmas.{LawsBelow, Steady, front_steady, opens_steady}
+use Rattle.hs_any_events.proofs.AlongLemmas.{LawsBelow, Steady, front_steady, opening_code, opening_gives, opens_coded}
+use Rattle.hs_any_events.proofs.CodedLemmas.{Code, coded_name}
+use Rattle.hs_any_events.proofs.CodedRightLemmas.{stays_right}
 use Rattle.hs_any_events.proofs.counting.counts_are_right_behind_any_events.Goals as goal
 use Rattle.hs_any_events.proofs.OpeningLemmas.{IsOfHistory, opens_of_history}
-use Rattle.hs_any_events.proofs.RightLemmas.{counted_right, stays_right}
+use Rattle.hs_any_events.proofs.RightLemmas.{counted_right}
 use Rattle.hs_events.specs.Course.{steps}
 use Rattle.hs_events.specs.Found.{first_core}
 use Rattle.hs_events.specs.Whole.{open_whole}
 use Rattle.hs_settled.proofs.DeletesCountLemmas.{CountLaws}
+use Rattle.hs_standing.specs.Held.{GivesAddresses}
 use Rattle.hs_standing.specs.Opening.{opened_folds}
+use Rattle.hs_standing.specs.Run.{IsRunning}
 
 pub returns-clause-opens : goal.returns-clause-opens
 returns-clause-opens c = λ set found shape sound.
@@ -50,6 +54,9 @@ returns-clause-events c = λ start found events opens may n.
       found = c.each_unreached_block_is_found.ensures.found;
       counted = c.histories_are_counted.ensures.counted;
     } in
-    let its : Steady start.set.name start.set.limits (steps (first_core start.set found) (take n events)) =
-    front_steady below start.set.name opens.names start.set.limits events (open_whole start.set found) (opens_steady start found (c.a_run_goes_on.ensures.opens start found opens)) may n in
-    stays_right laws c.zero_blocks_are_right.ensures.behind start.set.name start.set.limits (steps (first_core start.set found) (take n events)).progress.last_line (steps (first_core start.set found) (take n events)) its.0 its.1
+    let r : IsRunning start (open_whole start.set found) = c.a_run_goes_on.ensures.opens start found opens in
+    let code : Code = opening_code start found r events in
+    let names : GivesAddresses (coded_name code) = opening_gives start found r opens.names events in
+    let its : Steady code start.set.limits (steps (first_core start.set found) (take n events)) =
+    front_steady below code names start.set.limits events (open_whole start.set found) (opens_coded start found r events) may (λ a m. m) n in
+    stays_right code start.set.limits (steps (first_core start.set found) (take n events)).progress.last_line (steps (first_core start.set found) (take n events)) its laws c.zero_blocks_are_right.ensures.behind names start.set.name
