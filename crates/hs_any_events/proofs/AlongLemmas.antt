@@ -9,7 +9,7 @@ use Rattle.hs_any_events.proofs.CodedOpeningLemmas.{beside_itself, steady_coded}
 use Rattle.hs_any_events.proofs.CodedTableLemmas.{brought_by, is_tabled, table_of, table_whole}
 use Rattle.hs_any_events.proofs.CodedWalkLemmas.{IsCodedSteady, IsTabledLine, coded_new, walks_coded}
 use Rattle.hs_any_events.proofs.SteadyLemmas.{IsSteady}
-use Rattle.hs_any_events.specs.Events.{AreTaken, IsTaken}
+use Rattle.hs_any_events.specs.Events.{MayStepAll, MayStep}
 use Rattle.hs_core.specs.Calls.{last_line_after}
 use Rattle.hs_core.specs.declared.event.Event.{Event}
 use Rattle.hs_core.specs.declared.event.Event.TheVariants as event
@@ -39,6 +39,7 @@ use Rattle.hs_settled.proofs.DeletesRunLemmas.{steps_ended}
 use Rattle.hs_standing.proofs.AlongWalkLemmas.{walks_step}
 use Rattle.hs_standing.proofs.Laws.{Entries, Steps}
 use Rattle.hs_standing.proofs.ValidLemmas.{told_valid}
+use Rattle.hs_standing.proofs.LinesStepLemmas.{step_ended}
 use Rattle.hs_standing.specs.Held.{GivesAddresses}
 use Rattle.hs_standing.specs.Run.{IsRunning, RunStands}
 use Rattle.hs_standing.specs.Standing.{judging_of}
@@ -143,7 +144,7 @@ more_lines name limits last next core cs up its = record {
   valid = its.valid;
 }
 
-line_rises : (e : Event) (at : ℕ) (core : Core) → IsTaken core e at → core.progress.last_line ≤ last_line_after e core
+line_rises : (e : Event) (at : ℕ) (core : Core) → MayStep core e at → core.progress.last_line ≤ last_line_after e core
 line_rises (event.Line line o) at core may = let up : core.progress.last_line < line = may.next in omega (arith, up)
 line_rises (event.Report peer d) at core may = omega arith
 line_rises (event.Turn line peer) at core may = omega arith
@@ -181,7 +182,7 @@ module _ (code : Code) (limits : Limits) (core : Core) (its : Steady code limits
           let none : None ≡ Some says.said = sym (its.steady.1.none_above line up) ∙ says.asks in
           absurd (cc none)
 
-  may_event : (e : Event) (at : ℕ) → IsTaken core e at → IsWithin code (brought_by e) → MayEvent (λ line o c. IsTabledLine code (last_line_after e core) line o c) (λ number bytes w c. Unit {0}) (λ line. Unit {0}) e core
+  may_event : (e : Event) (at : ℕ) → MayStep core e at → IsWithin code (brought_by e) → MayEvent (λ line o c. IsTabledLine code (last_line_after e core) line o c) (λ number bytes w c. Unit {0}) (λ line. Unit {0}) e core
   may_event (event.Line line o) at may within =
       let up : core.progress.last_line < line = may.next in
       record { new = new_line line up; counted = omega (arith, up); until = omega arith; tabled = is_tabled code core.sessions o within may.given }
@@ -208,7 +209,7 @@ still_clean e at core going then clean =
 
 module _ (below : LawsBelow) (code : Code) (names : GivesAddresses (coded_name code)) (limits : Limits) where
   -- it is steady behind the event
-  next_steady : (c : Whole) (e : Event) (at : ℕ) → StaysSteady code limits c → IsTaken c.core e at → IsWithin code (brought_by e) → Steady code limits (step e at c.core)
+  next_steady : (c : Whole) (e : Event) (at : ℕ) → StaysSteady code limits c → MayStep c.core e at → IsWithin code (brought_by e) → Steady code limits (step e at c.core)
   next_steady c e at s may within =
       subst (λ (last : ℕ). IsCodedSteady code limits last (step e at c.core)) (sym (line_at c.core e at s.sane.going))
       (walks_step (walks_coded below.views below.steps below.reads below.laws code names limits (last_line_after e c.core)) c e at s.sane s.few s.clean (may_event code limits c.core s.steady e at may within)
@@ -221,7 +222,7 @@ module _ (below : LawsBelow) (code : Code) (names : GivesAddresses (coded_name c
         );
       }))
 
-  stays_steady : (c : Whole) (e : Event) (at : ℕ) → StaysSteady code limits c → IsTaken c.core e at → IsWithin code (brought_by e) → (step e at c.core).ended ≡ None → StaysSteady code limits (step_whole e at c)
+  stays_steady : (c : Whole) (e : Event) (at : ℕ) → StaysSteady code limits c → MayStep c.core e at → IsWithin code (brought_by e) → (step e at c.core).ended ≡ None → StaysSteady code limits (step_whole e at c)
   stays_steady c e at s may within going = record {
     sane = sane_stays c e at s.sane going;
     few = may.room going;
@@ -231,13 +232,13 @@ module _ (below : LawsBelow) (code : Code) (names : GivesAddresses (coded_name c
 
   -- ---- each front
 
-  pub front_steady : (es : Events) (c : Whole) → StaysSteady code limits c → AreTaken c.core es → IsWithin code (table_of es) → (n : ℕ) → Steady code limits (steps c.core (take n es))
+  pub front_steady : (es : Events) (c : Whole) → StaysSteady code limits c → MayStepAll c.core es → IsWithin code (table_of es) → (n : ℕ) → Steady code limits (steps c.core (take n es))
   front_steady [] c s may within zero = s.steady
   front_steady [] c s may within (suc n) = s.steady
   front_steady (e ∷ es) c s may within zero = s.steady
   front_steady (e ∷ es) c s may within (suc n) = by_end (λ t. front_steady es (step_whole e.0 e.1 c) t may.1 (λ a m. within a (member-append_right a (brought_by e.0) (table_of es) m)) n) (step e.0 e.1 c.core).ended refl
     where
-      m : IsTaken c.core e.0 e.1
+      m : MayStep c.core e.0 e.1
       m = may.0 s.sane.going
 
       here : IsWithin code (brought_by e.0)
@@ -246,3 +247,20 @@ module _ (below : LawsBelow) (code : Code) (names : GivesAddresses (coded_name c
       by_end : (StaysSteady code limits (step_whole e.0 e.1 c) → Steady code limits (steps (step e.0 e.1 c.core) (take n es))) → (x : Option CoreFault) → (step e.0 e.1 c.core).ended ≡ x → Steady code limits (steps (step e.0 e.1 c.core) (take n es))
       by_end later None going = later (stays_steady c e.0 e.1 s m here going)
       by_end later (Some fault) over = subst (λ (x : Core). Steady code limits x) (sym (steps_ended (step e.0 e.1 c.core) (take n es) fault over)) (next_steady c e.0 e.1 s m here)
+
+-- ---- room for root records
+
+-- a core that ended goes on with no event
+front_room : (es : Events) (c : Core) → (c.ended ≡ None → HasRecordRoom c) → MayStepAll c es → (n : ℕ) → (steps c (take n es)).ended ≡ None → HasRecordRoom (steps c (take n es))
+front_room [] c room may zero = room
+front_room [] c room may (suc n) = room
+front_room (e ∷ es) c room may zero = room
+front_room (e ∷ es) c room may (suc n) = front_room es (step e.0 e.1 c) (by_end c.ended refl) may.1 n
+  where
+    by_end : (x : Option CoreFault) → c.ended ≡ x → (step e.0 e.1 c).ended ≡ None → HasRecordRoom (step e.0 e.1 c)
+    by_end None going then = (may.0 going).room then
+    by_end (Some fault) over then = absurd (cc (sym over ∙ sym (ap (λ (x : Core). x.ended) (step_ended e.0 e.1 c fault over)) ∙ then))
+
+pub room_at : (start : Start) (found : Found) → IsRunning start (open_whole start.set found) → (es : Events) → MayStepAll (first_core start.set found) es → (n : ℕ)
+    → (steps (first_core start.set found) (take n es)).ended ≡ None → HasRecordRoom (steps (first_core start.set found) (take n es))
+room_at start found r es may n = front_room es (first_core start.set found) (λ going. r.stands.whole.few) may n

@@ -1,38 +1,44 @@
 -- The counts of a core that is beside a steady one are right, and so are its zero blocks by the naming of that.
-use Rattle.std.proofs.Common.{◌≡◌, ◌∙◌, sym, ap, subst, ℕ, ◌+◌, ◌<◌, ◌≤◌, false, List, length, Option, Some, None, refl, slice_get}
+use Rattle.std.proofs.Common.{◌≡◌, ◌∙◌, sym, ap, subst, ℕ, ◌+◌, ◌<◌, false, List, Option, Some, None, refl, slice_get}
 use Rattle.std.proofs.lemmas.Option.{slice_get-map}
 use Rattle.std.specs.Option.{option_map}
-use Rattle.hs_any_events.proofs.CodedCoreLemmas.{group_alike, same_front, same_limits, waiting_alike}
+use Rattle.hs_any_events.proofs.CodedCoreLemmas.{same_front, same_limits, waiting_alike}
 use Rattle.hs_any_events.proofs.CodedEntryLemmas.{Outline, outline, same_entry}
-use Rattle.hs_any_events.proofs.CodedGroupLemmas.{IsCommitted, bare, committed_alike}
+use Rattle.hs_any_events.proofs.CodedGroupLemmas.{bare}
 use Rattle.hs_any_events.proofs.CodedLemmas.{Code, coded_name}
 use Rattle.hs_any_events.proofs.CodedPoolLemmas.{all_alike}
-use Rattle.hs_any_events.proofs.CodedWalkLemmas.{IsCodedSteady, few_there, low_there}
-use Rattle.hs_any_events.proofs.RightLemmas.{ZerosBehind, counts_by, counts_right, zeros_now}
-use Rattle.hs_any_events.proofs.SteadyLemmas.{grounded_of}
+use Rattle.hs_any_events.proofs.CodedWalkLemmas.{IsCodedSteady, few_there}
+use Rattle.hs_any_events.proofs.RightLemmas.{ZerosBehind, counts_right, zeros_now}
+use Rattle.hs_any_events.proofs.SweepLemmas.{IsGot, few_behind, got_alone}
 use Rattle.hs_any_events.specs.Events.{StaysCountedRight}
-use Rattle.hs_core.specs.Looking.{catalogue_of, group_of, shape_of}
-use Rattle.hs_core.specs.Records.{most_records}
+use Rattle.hs_core.specs.Looking.{front_of, group_of, shape_of}
+use Rattle.hs_core.specs.Records.{HasRecordRoom}
 use Rattle.hs_core.specs.State.{Core}
 use Rattle.hs_effects.specs.Lawful.{IsLawful, MayFollow}
-use Rattle.hs_effects.specs.Taking.{next_deed, setting_of, taken}
+use Rattle.hs_effects.specs.Taking.{next_deed, setting_of}
 use Rattle.hs_entry.specs.declared.entry.Entry.{Entry}
+use Rattle.hs_entry.specs.declared.entry.Entry.TheVariants as kind
 use Rattle.hs_fold.specs.Lawful.{Deed}
 use Rattle.hs_fold.specs.Runs.Facts.{Catalogue as Folded}
-use Rattle.hs_fold.specs.Shards.Setting.{Setting}
+use Rattle.hs_fold.specs.Runs.Fits.{catalogue_at}
+use Rattle.hs_fold.specs.Shards.Happening.{sweeps}
+use Rattle.hs_fold.specs.Shards.Setting.{Setting, shard_in}
+use Rattle.hs_joint.specs.Along.{happening_by}
 use Rattle.hs_limits.specs.declared.address.Address.{Address}
+use Rattle.hs_limits.specs.declared.delta.Delta.{Delta}
 use Rattle.hs_limits.specs.declared.limits.Limits.{Limits}
+use Rattle.hs_measure.specs.Zeros.{AreZerosRight, EachUnreachedIsZero}
 use Rattle.hs_post.specs.declared.message.Message.{Message}
 use Rattle.hs_post.specs.declared.message.Message.TheVariants as message
-use Rattle.hs_replica.specs.Group.{committed}
 use Rattle.hs_replica.specs.Kinds.{is_block}
 use Rattle.hs_rounds.specs.declared.body.RoundBody.{RoundBody}
 use Rattle.hs_rounds.specs.declared.place.Place.{Place}
 use Rattle.hs_settled.proofs.DeletesCountLemmas.{CountLaws}
 use Rattle.hs_standing.proofs.AtomLemmas.{set_on}
+use Rattle.hs_standing.proofs.FollowLemmas.{may_follow}
 use Rattle.hs_standing.proofs.HistoryLemmas.{Likewise, lawful_on}
-use Rattle.hs_standing.proofs.RestLemmas.{rests_follows}
 use Rattle.hs_standing.specs.Held.{GivesAddresses}
+use Rattle.hs_standing.specs.Rests.{IsResting}
 use Rattle.hs_standing.specs.Sent.{AreSent, HasGot, IsOfSent, got_of}
 
 module _ (code : Code) (limits : Limits) (last : ℕ) (core : Core) (s : IsCodedSteady code limits last core) where
@@ -102,22 +108,43 @@ module _ (code : Code) (limits : Limits) (last : ℕ) (core : Core) (s : IsCoded
 
   -- ---- what it takes next
 
-  follows_here : (shard number : ℕ) (entry : Entry) → shard < (shape_of core).shards → committed (group_of shard core) ≡ Some (number, entry) → is_block entry ≡ false
-      → ((g : ℕ) → length (catalogue_of g (taken shard entry core)).roots ≤ most_records) → MayFollow (setting_of (coded_name code) core) s.steady.0 (next_deed shard entry core)
-  follows_here shard number entry low leads none few =
-      subst (λ (set : Setting). MayFollow set cs (next_deed shard entry core)) set_there
-      (subst (λ (n : ℕ). MayFollow (setting_of name s.coded) cs (record { shard = shard; number = n + 1; entry = entry })) (same_front code core s.coded s.beside shard)
-      (rests_follows name cs s.coded (grounded_of name limits last s.coded cs s.steady.1) shard number entry (low_there code limits last core s shard low)
-      (its.leads ∙ ap (λ (x : Entry). Some (number, x)) (same_entry entry its.other its.alike none)) (few_there code limits last core s shard entry entry refl few)))
+  -- a Got that waits first may come
+  follows_here : (shard from epoch round total : ℕ) (deltas : List Delta) → HasRecordRoom core → slice_get (group_of shard core).waiting 0 ≡ Some (kind.Got from epoch round total deltas)
+      → MayFollow (setting_of (coded_name code) core) s.steady.0 (next_deed shard (kind.Got from epoch round total deltas) core)
+  follows_here shard from epoch round total deltas room at =
+      subst (λ (set : Setting). MayFollow set cs (next_deed shard got core)) set_there
+      (subst (λ (n : ℕ). MayFollow (setting_of name s.coded) cs (record { shard = shard; number = n + 1; entry = got })) (same_front code core s.coded s.beside shard)
+      (may_follow name cs s.coded s.steady.1.lawful shard got low refl (few_there code limits last core s shard got got refl (few_behind core room shard from epoch round total deltas)) rests.waits))
     where
-      its : IsCommitted (group_of shard core) (group_of shard s.coded) (group_alike code core s.coded s.beside shard) number entry
-      its = committed_alike (group_of shard core) (group_of shard s.coded) (group_alike code core s.coded s.beside shard) number entry leads
+      got : Entry
+      got = kind.Got from epoch round total deltas
 
-  pub stays_right : CountLaws → ZerosBehind → GivesAddresses (coded_name code) → (other : List ℕ → Address) → StaysCountedRight other core
-  stays_right laws zeros names other = record {
-    counts = counts_by other name core (counts_right laws zeros name core cs lawful_here sent_here);
-    naming = name;
-    names = names;
-    zeros = record { folds = cs; lawful = lawful_here; now = zeros_now laws zeros name core cs lawful_here sent_here };
-    next = λ shard number entry low leads none few. follows_here shard number entry low leads none few;
-  }
+      rests : IsResting s.steady.0 shard (front_of shard s.coded) (kind.Got from epoch round total deltas)
+      rests = s.steady.1.resting shard 0 got (waits_there shard 0 got refl at)
+
+      low : shard < (shape_of s.coded).shards
+      low = subst (λ (n : ℕ). shard < n) s.steady.1.lawful.folded.shards rests.of
+
+  -- what sweeps there finds each zero block
+  module _ (laws : CountLaws) (zeros : ZerosBehind) (room : core.ended ≡ None → HasRecordRoom core) where
+    right : AreZerosRight (setting_of (coded_name code) core) s.steady.0
+    right = zeros_now laws zeros name core cs lawful_here sent_here
+
+    swept_here : (shard : ℕ) (entry : Entry) → core.ended ≡ None → slice_get (group_of shard core).waiting 0 ≡ Some entry
+        → happening_by (setting_of (coded_name code) core) s.steady.0 (next_deed shard entry core) ≡ Some (sweeps shard) → EachUnreachedIsZero s.steady.0 shard
+    swept_here shard entry going at e = by entry (got_alone (shard_in (setting_of name core) shard) (catalogue_at cs shard) entry shard e) at e
+      where
+        by : (x : Entry) → IsGot x → slice_get (group_of shard core).waiting 0 ≡ Some x
+            → happening_by (setting_of (coded_name code) core) s.steady.0 (next_deed shard x core) ≡ Some (sweeps shard) → EachUnreachedIsZero s.steady.0 shard
+        by (kind.Got from epoch round total deltas) is first sweeps_then =
+            right.exact_zero (next_deed shard (kind.Got from epoch round total deltas) core) (follows_here shard from epoch round total deltas (room going) first) sweeps_then
+        by other is first sweeps_then = absurd is
+
+    pub stays_right : GivesAddresses (coded_name code) → StaysCountedRight core
+    stays_right names = record {
+      naming = name;
+      names = names;
+      counts = counts_right laws zeros name core cs lawful_here sent_here;
+      zeros = record { folds = cs; lawful = lawful_here; now = right };
+      swept = swept_here;
+    }

@@ -5,7 +5,7 @@ use Rattle.std.specs.List.{AllByRecursion}
 use Rattle.std.specs.Prelude.{if◌then◌else◌}
 use Rattle.hs_any_events.proofs.CodedLemmas.{Code}
 use Rattle.hs_any_events.proofs.CodedWalkLemmas.{IsTabled}
-use Rattle.hs_any_events.specs.Events.{IsGiven}
+use Rattle.hs_any_events.specs.Events.{BringsAddress}
 use Rattle.hs_core.specs.declared.event.Event.{Event}
 use Rattle.hs_core.specs.declared.event.Event.TheVariants as event
 use Rattle.hs_events.specs.Due.{Events}
@@ -59,7 +59,7 @@ is_brought : (a : Address) (b : Bool) → (length a.0 == 32) ≡ b → Has32Byte
 is_brought a true e whole = inl refl
 is_brought a false e whole = absurd (cc (e, eq-eqb (length a.0) 32 whole))
 
-pub is_tabled : (code : Code) (seats : Seats) (o : Op) → ((a : Address) → Member a (brought o) → Member a code.table) → IsGiven seats o → IsTabled code seats o
+pub is_tabled : (code : Code) (seats : Seats) (o : Op) → ((a : Address) → Member a (brought o) → Member a code.table) → BringsAddress seats o → IsTabled code seats o
 is_tabled code seats (op.Write session payload handles (Some a)) within given = λ has. within a (is_brought a (length a.0 == 32) refl (given has))
 is_tabled code seats (op.Write session payload handles None) within given = λ has. given has
 is_tabled code seats other within given = tt

@@ -20,3 +20,4 @@ pub mod OpeningLemmas
 pub mod RefusedLemmas
 pub mod RightLemmas
 pub mod SteadyLemmas
+pub mod SweepLemmas

@@ -96,20 +96,3 @@ counted_right laws zeros name core cs its sent = record {
   counts = counts_right laws zeros name core cs its sent;
   zeros = record { folds = cs; lawful = its; now = zeros_now laws zeros name core cs its sent };
 }
-
--- of the naming only the shape is read, which it does not have
-pub counts_by : (name other : List ℕ → Address) (core : Core) → CountsRight other core → CountsRight name core
-counts_by name other core its = record {
-  some = its.some;
-  folds = its.folds;
-  folded = its.folded;
-  follows = record {
-    machine = its.follows.machine;
-    joined = record { each = its.follows.joined.each; own = its.follows.joined.own; followed = its.follows.joined.followed; sent = its.follows.joined.sent; last = its.follows.joined.last };
-    counts = its.follows.counts;
-    no_wrong_zero = its.follows.no_wrong_zero;
-    exact_zero = its.follows.exact_zero;
-  };
-  counted = its.counted;
-  sent = record { messages = its.sent.messages; gots = its.sent.gots };
-}

@@ -1,6 +1,6 @@
 //! What the counts of a core are worth, whatever reports tell.
 ghost use Rattle.std.specs.Prelude.{ℕ, take};
-ghost use Rattle.hs_any_events.specs.Events.{AreTaken, IsCountedRight, StaysCountedRight};
+ghost use Rattle.hs_any_events.specs.Events.{MayStepAll, IsCountedRight, StaysCountedRight};
 ghost use Rattle.hs_events.specs.Course.{steps};
 ghost use Rattle.hs_events.specs.Due.{Events};
 ghost use Rattle.hs_events.specs.Found.{Found, first_core};
@@ -30,13 +30,14 @@ use hs_memory::catalogues_in_memory_are_folds;
 use hs_sound::histories_are_counted;
 use hs_standing::a_run_goes_on;
 
-/// The counts of a core are right. So they are as it opens over sound lists, also where it has ended with
-/// that, for any number of copies, and its zero blocks too (`opens`). With one copy of each shard, and lists
-/// from 1 on, they are right behind each front of any events that its call takes, also where it has ended
-/// with one of them (`events`): by some naming of blocks its zero blocks are right then too, and what each
-/// shard takes next that is no Block may come. Nothing is asked of what reports tell, nor of other lines
-/// than clients', nor of moments; of a client's line that it is above those before, and of its write that,
-/// where it has a block, it brings an address, whichever this is.
+/// The counts of a core are right, and so are its zero blocks: as it opens over sound lists, also where it
+/// has ended with that, for any number of copies (`opens`); and, with one copy of each shard, behind each
+/// front of any events, also where it has ended with one of them (`events`): whatever reports tell, whatever
+/// addresses writes bring, and whichever lines there are beside clients'. There the lists go from 1 on
+/// without a Base, and the core goes on as it opens; a client's line is above those before, and its write
+/// brings an address where it has a block; and a core that goes on has room for root records. Zero blocks
+/// are right by some naming of blocks then; and where what waits first in a shard's list makes the shard
+/// sweep, each older block of it that is out of reach is a zero block.
 pub fn counts_are_right_behind_any_events()
     ensures opens { (set : Setting) (found : Found)
         → IsShape set.shape
@@ -44,9 +45,8 @@ pub fn counts_are_right_behind_any_events()
         IsCountedRight set.name (first_core set found) }
     ensures events { (start : Start) (found : Found) (events : Events)
         → RunOpens start found
-        → AreTaken (first_core start.set found) events →
-        (n : ℕ) → StaysCountedRight start.set.name
-        (steps (first_core start.set found) (take n events)) }
+        → MayStepAll (first_core start.set found) events →
+        (n : ℕ) → StaysCountedRight (steps (first_core start.set found) (take n events)) }
 {
     views_show_the_store();
     a_step_that_answers_is_the_judges();

@@ -1,5 +1,5 @@
-//! What holds of a core behind any events that its call takes, whatever their reports tell: a law, which is a function
-//! without parameters whose clauses are the law.
+//! What holds of a core behind any events, whatever their reports tell and whatever addresses their writes bring: a
+//! law, which is a function without parameters whose clauses are the law.
 #![tactic(auto)]
 
 mod counting;

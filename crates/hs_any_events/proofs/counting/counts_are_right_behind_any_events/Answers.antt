@@ -1,10 +1,11 @@
 use Rattle.std.specs.Prelude.{take}
-use Rattle.hs_any_events.proofs.AlongLemmas.{LawsBelow, Steady, front_steady, opening_code, opening_gives, opens_coded}
+use Rattle.hs_any_events.proofs.AlongLemmas.{LawsBelow, Steady, front_steady, opening_code, opening_gives, opens_coded, room_at}
 use Rattle.hs_any_events.proofs.CodedLemmas.{Code, coded_name}
 use Rattle.hs_any_events.proofs.CodedRightLemmas.{stays_right}
 use Rattle.hs_any_events.proofs.counting.counts_are_right_behind_any_events.Goals as goal
 use Rattle.hs_any_events.proofs.OpeningLemmas.{IsOfHistory, opens_of_history}
 use Rattle.hs_any_events.proofs.RightLemmas.{counted_right}
+use Rattle.hs_core.specs.State.{Core}
 use Rattle.hs_events.specs.Course.{steps}
 use Rattle.hs_events.specs.Found.{first_core}
 use Rattle.hs_events.specs.Whole.{open_whole}
@@ -59,4 +60,5 @@ returns-clause-events c = λ start found events opens may n.
     let names : GivesAddresses (coded_name code) = opening_gives start found r opens.names events in
     let its : Steady code start.set.limits (steps (first_core start.set found) (take n events)) =
     front_steady below code names start.set.limits events (open_whole start.set found) (opens_coded start found r events) may (λ a m. m) n in
-    stays_right code start.set.limits (steps (first_core start.set found) (take n events)).progress.last_line (steps (first_core start.set found) (take n events)) its laws c.zero_blocks_are_right.ensures.behind names start.set.name
+    let core : Core = steps (first_core start.set found) (take n events) in
+    stays_right code start.set.limits core.progress.last_line core its laws c.zero_blocks_are_right.ensures.behind (room_at start found r events may n) names
