@@ -1,5 +1,5 @@
 -- Only a Got makes a shard sweep, and by a Got no shard has more root records than before.
-use Rattle.std.proofs.Common.{◌≡◌, sym, subst, ◌⊎◌, inl, inr, ℕ, ◌+◌, ◌≤◌, ◌==◌, ◌&&◌, Bool, true, false, cond, List, length, slice_set, slice_index_or, Option, Some, None, is_none, Result, Ok, Err, arith}
+use Rattle.std.proofs.Common.{◌≡◌, sym, subst, ◌⊎◌, inl, inr, ℕ, ◌+◌, ◌≤◌, Bool, true, false, cond, List, length, slice_set, slice_index_or, Option, Some, None, arith}
 use Rattle.hs_core.specs.Looking.{catalogue_of, front_of, shape_of}
 use Rattle.hs_core.specs.Pending.{named}
 use Rattle.hs_core.specs.Records.{HasRecordRoom, most_records}
@@ -9,20 +9,15 @@ use Rattle.hs_effects.proofs.LookLemmas.{one_or_other}
 use Rattle.hs_effects.specs.Taking.{done_by, taken}
 use Rattle.hs_entry.specs.declared.entry.Entry.{Entry}
 use Rattle.hs_entry.specs.declared.entry.Entry.TheVariants as kind
+use Rattle.hs_fold.proofs.Shards.LegalLemmas.{MayBeChange, one-changes}
 use Rattle.hs_fold.proofs.Shards.PlaceLemmas.{other-at}
-use Rattle.hs_fold.specs.Catalogue.{Present, Shard}
+use Rattle.hs_fold.specs.Catalogue.{Shard}
 use Rattle.hs_fold.specs.Runs.Facts.{Catalogue as Folded, plain}
 use Rattle.hs_fold.specs.Runs.Happening.{happening_of}
 use Rattle.hs_fold.specs.Runs.Rounds.{may_enter}
-use Rattle.hs_fold.specs.Shards.Catalogue.{Catalogue as Plain, present_at}
-use Rattle.hs_fold.specs.Shards.Change.{Change, drops, gives, keeps, stores}
-use Rattle.hs_fold.specs.Shards.Happening.{block_happens, changes, enters, key_happens, mark_happens, sweeps}
-use Rattle.hs_limits.specs.Block.{Block}
-use Rattle.hs_limits.specs.declared.address.Address.{Address}
+use Rattle.hs_fold.specs.Shards.Happening.{Happening, enters, sweeps}
+use Rattle.hs_fold.specs.Shards.Happening.{happening_of as plain_happening}
 use Rattle.hs_limits.specs.declared.delta.Delta.{Delta}
-use Rattle.hs_limits.specs.declared.spelling.SpellingFault.{SpellingFault}
-use Rattle.hs_limits.specs.Reading.{read_block}
-use Rattle.hs_limits.specs.Shape.{shard_of, shard_of_key}
 use Rattle.hs_shard.specs.Facts.{Catalogue, empty_catalogue}
 use Rattle.hs_standing.proofs.AlongRecordLemmas.{AddsRecords, applied_adds}
 
@@ -32,31 +27,23 @@ abbrev pub IsGot : Entry → Type 0
 IsGot (kind.Got from epoch round total deltas) = Unit {0}
 IsGot other = ⊥
 
-no_change : (b : Bool) (one : Change) (shard : ℕ) → cond b (Some (changes one)) None ≡ Some (sweeps shard) → ⊥
-no_change true one shard e = cc e
-no_change false one shard e = cc e
+no_change : (o : Option Happening) (shard : ℕ) → MayBeChange o → o ≡ Some (sweeps shard) → ⊥
+no_change o shard may e = subst (λ (x : Option Happening). MayBeChange x) e may
 
 no_enter : (b : Bool) (other shard : ℕ) → cond b (Some (enters other)) None ≡ Some (sweeps shard) → ⊥
 no_enter true other shard e = cc e
 no_enter false other shard e = cc e
 
-no_block : (at : Shard) (c : Plain) (least : ℕ) (a : Address) (read : Result Block SpellingFault) (shard : ℕ) → block_happens at c least a read ≡ Some (sweeps shard) → ⊥
-no_block at c least a (Ok block) shard e = no_change (shard_of at.shards a == at.shard && is_none (present_at c a)) (stores least a block) shard e
-no_block at c least a (Err fault) shard e = cc e
-
-no_mark : (kept : Option Present) (least number : ℕ) (a : Address) (shard : ℕ) → mark_happens kept least number a ≡ Some (sweeps shard) → ⊥
-no_mark None least number a shard e = cc e
-no_mark (Some kept) least number a shard e = no_change (kept.number == number) (gives least a) shard e
-
-no_key : (at : Shard) (key : List ℕ) (one : Change) (shard : ℕ) → key_happens at key one ≡ Some (sweeps shard) → ⊥
-no_key at key one shard e = no_change (shard_of_key at.shards key == at.shard) one shard e
+-- a client's entry changes the store at most
+no_client : (at : Shard) (c : Folded) (entry : Entry) (shard : ℕ) → plain_happening at (plain c) entry ≡ Some (sweeps shard) → ⊥
+no_client at c entry shard e = no_change (plain_happening at (plain c) entry) shard (one-changes at (plain c) entry) e
 
 pub got_alone : (at : Shard) (c : Folded) (entry : Entry) (shard : ℕ) → happening_of at c entry ≡ Some (sweeps shard) → IsGot entry
 got_alone at c (kind.View view) shard e = cc e
-got_alone at c (kind.Block op least bytes) shard e = no_block at (plain c) least (at.name bytes) (read_block bytes) shard e
-got_alone at c (kind.Mark op least block address) shard e = no_mark (present_at (plain c) address) least block address shard e
-got_alone at c (kind.Root op held address key) shard e = no_key at key (keeps held address key) shard e
-got_alone at c (kind.Drop op key) shard e = no_key at key (drops key) shard e
+got_alone at c (kind.Block op least bytes) shard e = no_client at c (kind.Block op least bytes) shard e
+got_alone at c (kind.Mark op least block address) shard e = no_client at c (kind.Mark op least block address) shard e
+got_alone at c (kind.Root op held address key) shard e = no_client at c (kind.Root op held address key) shard e
+got_alone at c (kind.Drop op key) shard e = no_client at c (kind.Drop op key) shard e
 got_alone at c (kind.Enter op epoch) shard e = no_enter (may_enter c epoch) at.shard shard e
 got_alone at c (kind.Got from epoch round total deltas) shard e = tt
 got_alone at c (kind.Base view epoch swept round frames) shard e = cc e
