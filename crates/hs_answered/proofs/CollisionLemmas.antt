@@ -103,10 +103,10 @@ module _ (by_view : ByTheView) (by_bytes : ByTheBytes) (by_collision : ByCollisi
   pub write_judged : (line number : ℕ) (bytes : Option (List ℕ)) (name payload handles : List ℕ) (address : Option Address) (r : Reply) → Shows limits s (op.Write name payload handles address) v
       → ((a : Address) → looks_at s (op.Write name payload handles address) ≡ Some a → pointers ≡ pointers_at s a)
       → (v.present ≡ Some number → HasBytes (block_at s (given_address address)) bytes)
-      → on_bytes v line number bytes pointers (op.Write name payload handles address) ≡ Answer r → Judges limits s (op.Write name payload handles address) v pointers r
+      → on_bytes v line (record { number = number; bytes = bytes; pointers = pointers }) (op.Write name payload handles address) ≡ Answer r → Judges limits s (op.Write name payload handles address) v pointers r
   unfolding on_bytes compared
   write_judged line number bytes name payload handles address r shows alike true_bytes e =
-      elim (split_step (refusal_of v (op.Write name payload handles address)) (compared v line number bytes pointers (op.Write name payload handles address)) r e) [
+      elim (split_step (refusal_of v (op.Write name payload handles address)) (compared v line (record { number = number; bytes = bytes; pointers = pointers }) (op.Write name payload handles address)) r e) [
         | inl h ↦ sees_judged by_view by_bytes limits s v pointers (op.Write name payload handles address) r shows alike (inl (refused_at_once v (op.Write name payload handles address) r h))
         | inr h ↦ by_tests h.0 (is_reported v number bytes) refl (is_same_block (asked_block v.seats name payload handles) bytes pointers) refl h.1
       ]

@@ -88,7 +88,7 @@ module _ (by_view : ByTheView) (by_bytes : ByTheBytes) (cs : List Folded) (core 
 
   pub data_is : (line number : ℕ) (bytes : Option (List ℕ)) (w : Waiting) (name : List ℕ) (handle : ℕ) (r : Reply) → IsFolded core cs → IsAddressed core.sessions w.operation.op
       → w.shard ≡ judging_shard (shape_of core).shards core.sessions w.operation.op → w.operation.op ≡ op.Read name handle
-      → on_bytes (view_for w.shard w.operation.op core) w.operation.line number bytes (pointers_for w.shard w.operation.op core) w.operation.op ≡ Answer r
+      → on_bytes (view_for w.shard w.operation.op core) w.operation.line (record { number = number; bytes = bytes; pointers = pointers_for w.shard w.operation.op core }) w.operation.op ≡ Answer r
       → IsTold cs core (answer line w r core) line (telling (data_of bytes) (judged_at cs core w.operation.op))
   data_is line number bytes w name handle r folded addressed place is e = record {
     told =
@@ -104,7 +104,7 @@ module _ (by_view : ByTheView) (by_bytes : ByTheBytes) (cs : List Folded) (core 
       its : (r ≡ with_data (data_of bytes) (judged_at cs core w.operation.op).reply) × Leaves s w.operation.op (v w.operation.op) (pointers_for w.shard w.operation.op core) r (judged_at cs core w.operation.op)
       its =
           subst (λ o. Shows core.limits s o (v o) → ((a : Address) → looks_at s o ≡ Some a → pointers_for w.shard o core ≡ pointers_at s a)
-          → on_bytes (v o) w.operation.line number bytes (pointers_for w.shard o core) o ≡ Answer r
+          → on_bytes (v o) w.operation.line (record { number = number; bytes = bytes; pointers = pointers_for w.shard o core }) o ≡ Answer r
           → (r ≡ with_data (data_of bytes) (judged_at cs core o).reply) × Leaves s o (v o) (pointers_for w.shard o core) r (judged_at cs core o)) (sym is)
           (λ shows alike f. data_judged by_view by_bytes core.limits s (v (op.Read name handle)) (pointers_for w.shard (op.Read name handle) core) w.operation.line number bytes name handle r shows (alike (address_of s name handle) refl) f)
           (shows_at w.shard w.operation.op folded addressed place) (pointers_at_shard w.shard w.operation.op folded addressed place) e
@@ -125,7 +125,7 @@ writes_true by_view by_bytes by_collision cs core line bytes w name payload hand
     told_is cs core line (record w { operation = after_step (Answer r) w.operation }) r folded
     (subst (λ o. Shows core.limits s o (view_for w.shard o core) → ((a : Address) → looks_at s o ≡ Some a → pointers_for w.shard o core ≡ pointers_at s a)
     → ((view_for w.shard o core).present ≡ Some (wanted_number w.operation.stage) → HasBytes (block_at s (given_address address)) bytes)
-    → on_bytes (view_for w.shard o core) w.operation.line (wanted_number w.operation.stage) bytes (pointers_for w.shard o core) o ≡ Answer r
+    → on_bytes (view_for w.shard o core) w.operation.line (record { number = wanted_number w.operation.stage; bytes = bytes; pointers = pointers_for w.shard o core }) o ≡ Answer r
     → Judges core.limits s o (view_for w.shard o core) (pointers_for w.shard o core) r) (sym is)
     (λ shows alike true f. write_judged by_view by_bytes by_collision core.limits s (view_for w.shard (op.Write name payload handles address) core) (pointers_for w.shard (op.Write name payload handles address) core) w.operation.line (wanted_number w.operation.stage) bytes name payload handles address r shows alike true f)
     (shows_at by_view by_bytes cs core w.shard w.operation.op folded addressed place) (pointers_at_shard by_view by_bytes cs core w.shard w.operation.op folded addressed place) true_bytes e)

@@ -178,7 +178,7 @@ module _ (by_view : ByTheView) (by_bytes : ByTheBytes) (limits : Limits) (s : St
 
   -- whatever bytes a read is told, it is answered as the judge says, but for the data
   pub data_judged : (line number : ℕ) (bytes : Option (List ℕ)) (name : List ℕ) (handle : ℕ) (r : Reply) → Shows limits s (op.Read name handle) v → pointers ≡ pointers_at s (address_of s name handle)
-      → on_bytes v line number bytes pointers (op.Read name handle) ≡ Answer r → (r ≡ with_data (data_of bytes) (judge limits s (op.Read name handle)).reply) × Leaves s (op.Read name handle) v pointers r (judge limits s (op.Read name handle))
+      → on_bytes v line (record { number = number; bytes = bytes; pointers = pointers }) (op.Read name handle) ≡ Answer r → (r ≡ with_data (data_of bytes) (judge limits s (op.Read name handle)).reply) × Leaves s (op.Read name handle) v pointers r (judge limits s (op.Read name handle))
   unfolding on_bytes compared
   data_judged line number bytes name handle r shows same e = go (split_step (refusal_of v o) (Answer (read_reply v name (data_of bytes))) r e)
     where

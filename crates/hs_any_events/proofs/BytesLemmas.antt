@@ -72,20 +72,20 @@ module _ (reads : ReadsAnyBytes) (cs : List Folded) (core : Core) (folded : IsFo
 
   module _ (bytes : Option (List ℕ)) where
     -- it is refused by what it sees, or compares
-    by_refusal : (r : Reply) → (refusal_of v w.operation.op ≡ None → compared v w.operation.line (wanted_number w.operation.stage) bytes pointers w.operation.op ≡ Answer r → IsValid (store_with cs (take_step line w (Answer r) core).sessions))
+    by_refusal : (r : Reply) → (refusal_of v w.operation.op ≡ None → compared v w.operation.line (record { number = wanted_number w.operation.stage; bytes = bytes; pointers = pointers }) w.operation.op ≡ Answer r → IsValid (store_with cs (take_step line w (Answer r) core).sessions))
         → (x : Option Reply) → refusal_of v w.operation.op ≡ x
-        → option_map_or Answer x (compared v w.operation.line (wanted_number w.operation.stage) bytes pointers w.operation.op) ≡ Answer r → IsValid (store_with cs (take_step line w (Answer r) core).sessions)
+        → option_map_or Answer x (compared v w.operation.line (record { number = wanted_number w.operation.stage; bytes = bytes; pointers = pointers }) w.operation.op) ≡ Answer r → IsValid (store_with cs (take_step line w (Answer r) core).sessions)
     by_refusal r compares None free e = compares free e
     by_refusal r compares (Some q) stops e =
         undone_valid r (subst (λ (x : Reply). is_done x ≡ false) (same_answer q r e) (view_refusal_stops v w.operation.op q stops))
 
     -- what compares nothing is answered by a refusal alone
-    others : (o : Op) (r : Reply) → w.operation.op ≡ o → ((u : OpView) (l n : ℕ) (bs : Option (List ℕ)) (ps : List Address) → compared u l n bs ps o ≡ Wait) → bytes_step v bytes pointers w.operation ≡ Answer r
+    others : (o : Op) (r : Reply) → w.operation.op ≡ o → ((u : OpView) (l n : ℕ) (bs : Option (List ℕ)) (ps : List Address) → compared u l (record { number = n; bytes = bs; pointers = ps }) o ≡ Wait) → bytes_step v bytes pointers w.operation ≡ Answer r
         → IsValid (store_with cs (take_step line w (Answer r) core).sessions)
     unfolding on_bytes
     others o r is none e =
         by_refusal r
-        (λ free h. absurd (never_answers r (sym (ap (λ (p : Op). compared v w.operation.line (wanted_number w.operation.stage) bytes pointers p) is ∙ none v w.operation.line (wanted_number w.operation.stage) bytes pointers) ∙ h)))
+        (λ free h. absurd (never_answers r (sym (ap (λ (p : Op). compared v w.operation.line (record { number = wanted_number w.operation.stage; bytes = bytes; pointers = pointers }) p) is ∙ none v w.operation.line (wanted_number w.operation.stage) bytes pointers) ∙ h)))
         (refusal_of v w.operation.op) refl e
 
     answer_valid : (o : Op) (r : Reply) → w.operation.op ≡ o → bytes_step v bytes pointers w.operation ≡ Answer r → IsValid (store_with cs (take_step line w (Answer r) core).sessions)
@@ -94,7 +94,7 @@ module _ (reads : ReadsAnyBytes) (cs : List Folded) (core : Core) (folded : IsFo
     answer_valid (op.Write name payload handles address) r is e =
         undone_valid r
         (bytes_stops v w.operation.line name payload handles address r (wanted_number w.operation.stage) bytes pointers
-        (subst (λ (p : Op). on_bytes v w.operation.line (wanted_number w.operation.stage) bytes pointers p ≡ Answer r) is e))
+        (subst (λ (p : Op). on_bytes v w.operation.line (record { number = wanted_number w.operation.stage; bytes = bytes; pointers = pointers }) p ≡ Answer r) is e))
     answer_valid (op.Open name) r is e = others (op.Open name) r is (λ u l n bs ps. refl) e
     answer_valid (op.Close name) r is e = others (op.Close name) r is (λ u l n bs ps. refl) e
     answer_valid (op.Look name key) r is e = others (op.Look name key) r is (λ u l n bs ps. refl) e

@@ -185,7 +185,7 @@ module _ (code : Code) (v : OpView) (holds : HoldAddresses v.seats) (line number
       ap (λ (b : Bool). b && pointwise (λ p q. bytes_eq p.0 q.0) (asked_pointers v.seats session handles) pointers)
       (same_test (asked_block v.seats session (coded_payload code a payload) handles) (bytes_eq (spell (asked_block v.seats session payload handles)) bytes))
 
-  compared_kept : (bytes : Option (List ℕ)) (o : Op) → step_outline (compared v line number (coded_bytes code v.seats o bytes) pointers (coded_op code o)) ≡ step_outline (compared v line number bytes pointers o)
+  compared_kept : (bytes : Option (List ℕ)) (o : Op) → step_outline (compared v line (record { number = number; bytes = coded_bytes code v.seats o bytes; pointers = pointers }) (coded_op code o)) ≡ step_outline (compared v line (record { number = number; bytes = bytes; pointers = pointers }) o)
   unfolding compared is_same_block
   compared_kept None (op.Write session payload handles (Some a)) = by (not (is_reported v number None))
     where
@@ -207,11 +207,11 @@ module _ (code : Code) (v : OpView) (holds : HoldAddresses v.seats) (line number
   compared_kept bytes (op.Write session payload handles None) = refl
   compared_kept bytes other = refl
 
-  pub bytes_kept : (bytes : Option (List ℕ)) (o : Op) → step_outline (on_bytes v line number (coded_bytes code v.seats o bytes) pointers (coded_op code o)) ≡ step_outline (on_bytes v line number bytes pointers o)
+  pub bytes_kept : (bytes : Option (List ℕ)) (o : Op) → step_outline (on_bytes v line (record { number = number; bytes = coded_bytes code v.seats o bytes; pointers = pointers }) (coded_op code o)) ≡ step_outline (on_bytes v line (record { number = number; bytes = bytes; pointers = pointers }) o)
   unfolding on_bytes
   bytes_kept bytes o =
-      ap (λ (x : Option Reply). step_outline (option_map_or Answer x (compared v line number (coded_bytes code v.seats o bytes) pointers (coded_op code o)))) (refusal_kept code v o)
-      ∙ answered_or code v holds line (refusal_of v o) (compared v line number bytes pointers o) (compared v line number (coded_bytes code v.seats o bytes) pointers (coded_op code o)) (λ none. compared_kept bytes o)
+      ap (λ (x : Option Reply). step_outline (option_map_or Answer x (compared v line (record { number = number; bytes = coded_bytes code v.seats o bytes; pointers = pointers }) (coded_op code o)))) (refusal_kept code v o)
+      ∙ answered_or code v holds line (refusal_of v o) (compared v line (record { number = number; bytes = bytes; pointers = pointers }) o) (compared v line (record { number = number; bytes = coded_bytes code v.seats o bytes; pointers = pointers }) (coded_op code o)) (λ none. compared_kept bytes o)
 
 -- ---- an answer
 

@@ -68,7 +68,7 @@ pub effect_reads : (v : OpView) (did : What) (o : Operation) → ReadsPresent v 
 unfolding on_effect
 effect_reads v did o name handle number is e = go_reads v o.line o.op name handle number is (judged_compare (effect_reply v did o.op) (go v o.line o.op) number e)
 
-told_read : (v : OpView) (line n : ℕ) (bytes : Option (List ℕ)) (pointers : List Address) (name : List ℕ) (handle number : ℕ) → on_bytes v line n bytes pointers (op.Read name handle) ≡ Compare number → ⊥
+told_read : (v : OpView) (line n : ℕ) (bytes : Option (List ℕ)) (pointers : List Address) (name : List ℕ) (handle number : ℕ) → on_bytes v line (record { number = n; bytes = bytes; pointers = pointers }) (op.Read name handle) ≡ Compare number → ⊥
 unfolding on_bytes compared
 told_read v line n bytes pointers name handle number e =
     answer_not (read_reply v name (data_of bytes)) number (judged_compare (refusal_of v (op.Read name handle)) (Answer (read_reply v name (data_of bytes))) number e)
@@ -77,4 +77,4 @@ told_read v line n bytes pointers name handle number e =
 pub bytes_reads : (v : OpView) (bytes : Option (List ℕ)) (pointers : List Address) (o : Operation) → ReadsPresent v o.op (bytes_step v bytes pointers o)
 bytes_reads v bytes pointers o name handle number is e =
     absurd (told_read v o.line (wanted_number o.stage) bytes pointers name handle number
-    (subst (λ (p : Op). on_bytes v o.line (wanted_number o.stage) bytes pointers p ≡ Compare number) is e))
+    (subst (λ (p : Op). on_bytes v o.line (record { number = wanted_number o.stage; bytes = bytes; pointers = pointers }) p ≡ Compare number) is e))

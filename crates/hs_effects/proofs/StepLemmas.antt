@@ -190,7 +190,7 @@ module _ (name : List ℕ → Address) (v : OpView) (line : ℕ) where
       (inr (number, sym (proposed_is (mark_entry v line number session handles address) entry e)), own_if v (op.Write session payload handles address) passes, placeless v (mark_entry v line number session handles address) entry e refl)
   mark_asks session payload handles address number passes false entry e = absurd (cc e)
 
-  compared_asks : (number : ℕ) (bytes : Option (List ℕ)) (pointers : List Address) (o : Op) → refusal_of v o ≡ None → IsCalled name v.seats o → Asks name v line o (compared v line number bytes pointers o)
+  compared_asks : (number : ℕ) (bytes : Option (List ℕ)) (pointers : List Address) (o : Op) → refusal_of v o ≡ None → IsCalled name v.seats o → Asks name v line o (compared v line (record { number = number; bytes = bytes; pointers = pointers }) o)
   unfolding compared
   compared_asks number bytes pointers (op.Write session payload handles address) passes called = by_report (not (is_reported v number bytes))
     where
@@ -211,9 +211,9 @@ module _ (name : List ℕ → Address) (v : OpView) (line : ℕ) where
   compared_asks number bytes pointers op.Delete passes called = λ entry e. absurd (cc e)
   compared_asks number bytes pointers op.Stat passes called = λ entry e. absurd (cc e)
 
-  bytes_asks : (number : ℕ) (bytes : Option (List ℕ)) (pointers : List Address) (o : Op) → IsCalled name v.seats o → Asks name v line o (on_bytes v line number bytes pointers o)
+  bytes_asks : (number : ℕ) (bytes : Option (List ℕ)) (pointers : List Address) (o : Op) → IsCalled name v.seats o → Asks name v line o (on_bytes v line (record { number = number; bytes = bytes; pointers = pointers }) o)
   unfolding on_bytes
-  bytes_asks number bytes pointers o called = unless_answered o (refusal_of v o) (compared v line number bytes pointers o) (λ n. compared_asks number bytes pointers o n called)
+  bytes_asks number bytes pointers o called = unless_answered o (refusal_of v o) (compared v line (record { number = number; bytes = bytes; pointers = pointers }) o) (λ n. compared_asks number bytes pointers o n called)
 
   effect_asks : (did : What) (o : Op) → IsCalled name v.seats o → Asks name v line o (on_effect v line did o)
   unfolding on_effect

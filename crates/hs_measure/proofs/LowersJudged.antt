@@ -128,7 +128,7 @@ module _ (c : Catalogue) (v : OpView) (line : ℕ) (counted : 1 ≤ line) where
   present_is None number bytes e = absurd (cc e)
   present_is (Some p) number bytes e = ap (λ n. Some n) (eqb-true p number (and_parts (p == number) (not (is_none bytes)) e).0)
 
-  compared_suits : (number : ℕ) (bytes : Option (List ℕ)) (pointers : List Address) (o : Op) → Shows c v o → Suits c o (compared v line number bytes pointers o)
+  compared_suits : (number : ℕ) (bytes : Option (List ℕ)) (pointers : List Address) (o : Op) → Shows c v o → Suits c o (compared v line (record { number = number; bytes = bytes; pointers = pointers }) o)
   unfolding compared
   compared_suits number bytes pointers (op.Write name payload handles address) shows = by_report (is_reported v number bytes) refl
     where
@@ -148,9 +148,9 @@ module _ (c : Catalogue) (v : OpView) (line : ℕ) (counted : 1 ≤ line) where
   compared_suits number bytes pointers op.Delete shows = tt
   compared_suits number bytes pointers op.Stat shows = tt
 
-  bytes_suit : (number : ℕ) (bytes : Option (List ℕ)) (pointers : List Address) (o : Op) → Shows c v o → Suits c o (on_bytes v line number bytes pointers o)
+  bytes_suit : (number : ℕ) (bytes : Option (List ℕ)) (pointers : List Address) (o : Op) → Shows c v o → Suits c o (on_bytes v line (record { number = number; bytes = bytes; pointers = pointers }) o)
   unfolding on_bytes
-  bytes_suit number bytes pointers o shows = unless_suits o (refusal_of v o) (compared v line number bytes pointers o) (compared_suits number bytes pointers o shows)
+  bytes_suit number bytes pointers o shows = unless_suits o (refusal_of v o) (compared v line (record { number = number; bytes = bytes; pointers = pointers }) o) (compared_suits number bytes pointers o shows)
 
   effect_suits : (did : What) (o : Op) → Shows c v o → Suits c o (on_effect v line did o)
   unfolding on_effect
@@ -197,7 +197,7 @@ IsToldTo v number bytes other = Unit {0}
 
 -- where the block is there whose bytes are told, they are compared
 module _ (c : Catalogue) (v : OpView) (line number : ℕ) (bytes : Option (List ℕ)) (pointers : List Address) where
-  compared_costs : (o : Op) → Shows c v o → IsToldTo v number bytes o → is_there_for c number o ≡ true → cost (compared v line number bytes pointers o) ≤ 2
+  compared_costs : (o : Op) → Shows c v o → IsToldTo v number bytes o → is_there_for c number o ≡ true → cost (compared v line (record { number = number; bytes = bytes; pointers = pointers }) o) ≤ 2
   unfolding compared
   compared_costs (op.Write name payload handles address) shows told there = by_report (is_reported v number bytes) is
     where
@@ -225,9 +225,9 @@ module _ (c : Catalogue) (v : OpView) (line number : ℕ) (bytes : Option (List 
   compared_costs op.Delete shows told there = absurd (cc there)
   compared_costs op.Stat shows told there = absurd (cc there)
 
-  bytes_cost : (o : Op) → Shows c v o → IsToldTo v number bytes o → is_there_for c number o ≡ true → cost (on_bytes v line number bytes pointers o) ≤ 2
+  bytes_cost : (o : Op) → Shows c v o → IsToldTo v number bytes o → is_there_for c number o ≡ true → cost (on_bytes v line (record { number = number; bytes = bytes; pointers = pointers }) o) ≤ 2
   unfolding on_bytes
-  bytes_cost o shows told there = unless_costs (refusal_of v o) (compared v line number bytes pointers o) 2 (compared_costs o shows told there)
+  bytes_cost o shows told there = unless_costs (refusal_of v o) (compared v line (record { number = number; bytes = bytes; pointers = pointers }) o) 2 (compared_costs o shows told there)
 
 -- it costs no more than its way
 pub told_costs : (c : Catalogue) (v : OpView) (p : Operation) (bytes : Option (List ℕ)) (pointers : List Address) → Shows c v p.op → IsToldTo v (wanted_number p.stage) bytes p.op

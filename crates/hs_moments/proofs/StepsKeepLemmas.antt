@@ -100,7 +100,7 @@ plain_begin : (v : OpView) (line : ℕ) (o : Op) → ProposesPlain (begin v line
 unfolding begin
 plain_begin v line o = plain_answer (go v line o) (judged_in v o) (plain_go v line o)
 
-plain_compared : (v : OpView) (line number : ℕ) (bytes : Option (List ℕ)) (pointers : List Address) (o : Op) → ProposesPlain (compared v line number bytes pointers o)
+plain_compared : (v : OpView) (line number : ℕ) (bytes : Option (List ℕ)) (pointers : List Address) (o : Op) → ProposesPlain (compared v line (record { number = number; bytes = bytes; pointers = pointers }) o)
 unfolding compared mark_entry
 plain_compared v line number bytes pointers (op.Open name) = tt
 plain_compared v line number bytes pointers (op.Close name) = tt
@@ -126,7 +126,7 @@ plain_step v o = by_stage o.stage
 
 plain_bytes : (v : OpView) (bytes : Option (List ℕ)) (pointers : List Address) (o : Operation) → ProposesPlain (bytes_step v bytes pointers o)
 unfolding on_bytes
-plain_bytes v bytes pointers o = plain_answer (compared v o.line (wanted_number o.stage) bytes pointers o.op) (refusal_of v o.op) (plain_compared v o.line (wanted_number o.stage) bytes pointers o.op)
+plain_bytes v bytes pointers o = plain_answer (compared v o.line (record { number = wanted_number o.stage; bytes = bytes; pointers = pointers }) o.op) (refusal_of v o.op) (plain_compared v o.line (wanted_number o.stage) bytes pointers o.op)
 
 plain_effect : (v : OpView) (did : What) (o : Operation) → ProposesPlain (effect_step v did o)
 unfolding on_effect

@@ -171,19 +171,19 @@ begins_others = refl
 -- ---- what bytes bring
 
 -- the same block is marked; other bytes or other pointers are a collision; a block that is gone, or is another entry's, is stored anew; an old handle is refused first
-brings : on_bytes (record view { present = Some 3 }) 7 3 (Some (1 ∷ 0 ∷ 0 ∷ 0 ∷ 0 ∷ 0 ∷ 1 ∷ 65 ∷ [])) [] (write (65 ∷ []) [])
-    ∷ on_bytes (record view { present = Some 3 }) 7 3 (Some (1 ∷ 0 ∷ 0 ∷ 0 ∷ 0 ∷ 0 ∷ 1 ∷ 66 ∷ [])) [] (write (65 ∷ []) [])
-    ∷ on_bytes (record view { present = Some 3; pointers = 1 }) 7 3 (Some (1 ∷ 0 ∷ 0 ∷ 0 ∷ 0 ∷ 0 ∷ 1 ∷ 65 ∷ [])) (address 1 ∷ []) (write (65 ∷ []) [])
-    ∷ on_bytes view 7 3 None [] (write (65 ∷ []) [])
-    ∷ on_bytes (record view { present = Some 4 }) 7 3 (Some (1 ∷ 0 ∷ 0 ∷ 0 ∷ 0 ∷ 0 ∷ 1 ∷ 65 ∷ [])) [] (write (65 ∷ []) [])
-    ∷ on_bytes (record later { present = Some 3 }) 7 3 None [] (write (65 ∷ []) (0 ∷ [])) ∷ []
+brings : on_bytes (record view { present = Some 3 }) 7 (record { number = 3; bytes = (Some (1 ∷ 0 ∷ 0 ∷ 0 ∷ 0 ∷ 0 ∷ 1 ∷ 65 ∷ [])); pointers = [] }) (write (65 ∷ []) [])
+    ∷ on_bytes (record view { present = Some 3 }) 7 (record { number = 3; bytes = (Some (1 ∷ 0 ∷ 0 ∷ 0 ∷ 0 ∷ 0 ∷ 1 ∷ 66 ∷ [])); pointers = [] }) (write (65 ∷ []) [])
+    ∷ on_bytes (record view { present = Some 3; pointers = 1 }) 7 (record { number = 3; bytes = (Some (1 ∷ 0 ∷ 0 ∷ 0 ∷ 0 ∷ 0 ∷ 1 ∷ 65 ∷ [])); pointers = address 1 ∷ [] }) (write (65 ∷ []) [])
+    ∷ on_bytes view 7 (record { number = 3; bytes = None; pointers = [] }) (write (65 ∷ []) [])
+    ∷ on_bytes (record view { present = Some 4 }) 7 (record { number = 3; bytes = (Some (1 ∷ 0 ∷ 0 ∷ 0 ∷ 0 ∷ 0 ∷ 1 ∷ 65 ∷ [])); pointers = [] }) (write (65 ∷ []) [])
+    ∷ on_bytes (record later { present = Some 3 }) 7 (record { number = 3; bytes = None; pointers = [] }) (write (65 ∷ []) (0 ∷ [])) ∷ []
     ≡ Propose (kind.Mark 7 281474976710655 3 (address 9)) ∷ Answer reply.Collision ∷ Answer reply.Collision
     ∷ Propose (kind.Block 7 281474976710655 (1 ∷ 0 ∷ 0 ∷ 0 ∷ 0 ∷ 0 ∷ 1 ∷ 65 ∷ [])) ∷ Compare 4 ∷ Answer (reply.Stale 0 1 3) ∷ []
 unfolding on_bytes compared mark_entry is_same_block go judged_in refusals_of asked_for no_handle_in stale_in block_entry asked_block least_epoch
 brings = refl
 
 -- a read tells the data that the bytes spell, and a handle for each pointer of the catalogue
-brings_data : map (λ bytes. on_bytes (record view { present = Some 3; pointers = 1 }) 7 3 bytes (address 1 ∷ []) (op.Read a 0)) (Some (1 ∷ 0 ∷ 0 ∷ 0 ∷ 0 ∷ 0 ∷ 1 ∷ 65 ∷ []) ∷ Some (1 ∷ 0 ∷ []) ∷ None ∷ [])
+brings_data : map (λ bytes. on_bytes (record view { present = Some 3; pointers = 1 }) 7 (record { number = 3; bytes = bytes; pointers = address 1 ∷ [] }) (op.Read a 0)) (Some (1 ∷ 0 ∷ 0 ∷ 0 ∷ 0 ∷ 0 ∷ 1 ∷ 65 ∷ []) ∷ Some (1 ∷ 0 ∷ []) ∷ None ∷ [])
     ≡ Answer (reply.Bytes (65 ∷ []) (2 ∷ [])) ∷ Answer (reply.Bytes [] (2 ∷ [])) ∷ Answer (reply.Bytes [] (2 ∷ [])) ∷ []
 unfolding on_bytes compared data_of read_block block_at addresses refusals_of no_handle_in stale_in
 brings_data = refl

@@ -114,17 +114,23 @@ is_same_block block (Some bytes) pointers = bytes_eq (spell block) bytes && poin
 abbrev pub is_reported : OpView → ℕ → Option (List ℕ) → Bool
 is_reported v number bytes = option_map_or (λ present. present == number) v.present false && not (is_none bytes)
 
+-- what was reported of a block: the number of its entry, its bytes, if they are not gone, and the pointers that the catalogue has
+pub record Reported : Type 0 where
+  pub number : ℕ
+  pub bytes : Option (List ℕ)
+  pub pointers : List Address
+
 -- a write whose block is gone goes on anew; one of another block is refused; one of this block marks it
-unfoldable pub compared : OpView → ℕ → ℕ → Option (List ℕ) → List Address → Op → OpStep
-compared v line number bytes pointers (op.Write name payload handles address) =
-    if not (is_reported v number bytes) then go v line (op.Write name payload handles address) else
-    if is_same_block (asked_block v.seats name payload handles) bytes pointers then Propose (mark_entry v line number name handles address) else Answer reply.Collision
-compared v line number bytes pointers (op.Read name handle) = Answer (read_reply v name (data_of bytes))
-compared v line number bytes pointers other = Wait
+unfoldable pub compared : OpView → ℕ → Reported → Op → OpStep
+compared v line told (op.Write name payload handles address) =
+    if not (is_reported v told.number told.bytes) then go v line (op.Write name payload handles address) else
+    if is_same_block (asked_block v.seats name payload handles) told.bytes told.pointers then Propose (mark_entry v line told.number name handles address) else Answer reply.Collision
+compared v line told (op.Read name handle) = Answer (read_reply v name (data_of told.bytes))
+compared v line told other = Wait
 
 -- the bytes of an entry were reported, or that they are gone, with the catalogue's pointers of that block: the operation is judged again first
-unfoldable pub on_bytes : OpView → ℕ → ℕ → Option (List ℕ) → List Address → Op → OpStep
-on_bytes v line number bytes pointers o = option_map_or Answer (refusal_of v o) (compared v line number bytes pointers o)
+unfoldable pub on_bytes : OpView → ℕ → Reported → Op → OpStep
+on_bytes v line told o = option_map_or Answer (refusal_of v o) (compared v line told o)
 
 -- ---- its entry took effect
 

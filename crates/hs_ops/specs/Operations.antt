@@ -39,7 +39,7 @@ wanted_number (Reading number) = number
 wanted_number Logged = 0
 
 abbrev pub bytes_step : OpView → Option (List ℕ) → List Address → Operation → OpStep
-bytes_step v bytes pointers operation = on_bytes v operation.line (wanted_number operation.stage) bytes pointers operation.op
+bytes_step v bytes pointers operation = on_bytes v operation.line (record { number = wanted_number operation.stage; bytes = bytes; pointers = pointers }) operation.op
 
 abbrev pub effect_step : OpView → What → Operation → OpStep
 effect_step v w operation = on_effect v operation.line w operation.op

@@ -35,8 +35,11 @@ pub(crate) fn on_bytes(
     report: &Report,
     op: &Op,
 ) -> Result<OpStep, OpFault>
-    ensures { IfOk result (λ step. step ≡ on_bytes view.now line report.now.number
-        (option_map (λ told. told.now) report.now.bytes) report.now.pointers.now op.now) }
+    ensures { IfOk result (λ step. step ≡ on_bytes view.now line (record {
+      number = report.now.number;
+      bytes = option_map (λ told. told.now) report.now.bytes;
+      pointers = report.now.pointers.now;
+    }) op.now) }
 {
     match refusal_of(view, alloc, op)? {
         Some(refusal) => Ok(OpStep::Answer(refusal)),
@@ -54,8 +57,11 @@ fn compared(
     op: &Op,
 ) -> Result<OpStep, OpFault>
     requires { refusal_of view.now op.now ≡ None }
-    ensures { IfOk result (λ step. step ≡ compared view.now line report.now.number
-        (option_map (λ told. told.now) report.now.bytes) report.now.pointers.now op.now) }
+    ensures { IfOk result (λ step. step ≡ compared view.now line (record {
+      number = report.now.number;
+      bytes = option_map (λ told. told.now) report.now.bytes;
+      pointers = report.now.pointers.now;
+    }) op.now) }
 {
     match op {
         Op::Write {

@@ -125,7 +125,7 @@ effect_tells did v operation r e = elim (split_step (effect_reply v did operatio
 
 -- ---- bytes were reported
 
-compared_told : (v : OpView) (line number : ℕ) (bytes : Option (List ℕ)) (pointers : List Address) (o : Op) (r : Reply) → compared v line number bytes pointers o ≡ Answer r → IsNoNote r
+compared_told : (v : OpView) (line number : ℕ) (bytes : Option (List ℕ)) (pointers : List Address) (o : Op) (r : Reply) → compared v line (record { number = number; bytes = bytes; pointers = pointers }) o ≡ Answer r → IsNoNote r
 unfolding compared
 compared_told v line number bytes pointers (op.Write name payload handles address) r e =
     by_tests (is_reported v number bytes) (is_same_block (asked_block v.seats name payload handles) bytes pointers) e
@@ -153,7 +153,7 @@ compared_told v line number bytes pointers op.Stat r e = absurd (cc e)
 
 pub bytes_tells : (bytes : Option (List ℕ)) (pointers : List Address) (v : OpView) (operation : Operation) (r : Reply) → bytes_step v bytes pointers operation ≡ Answer r → IsNoNote r
 unfolding on_bytes
-bytes_tells bytes pointers v operation r e = elim (split_step (refusal_of v operation.op) (compared v operation.line (wanted_number operation.stage) bytes pointers operation.op) r e) [
+bytes_tells bytes pointers v operation r e = elim (split_step (refusal_of v operation.op) (compared v operation.line (record { number = wanted_number operation.stage; bytes = bytes; pointers = pointers }) operation.op) r e) [
   | inl h ↦ told_at (refusal_of v operation.op) r (refusal_told v operation.op) h
   | inr h ↦ compared_told v operation.line (wanted_number operation.stage) bytes pointers operation.op r h.1
 ]

@@ -116,7 +116,7 @@ module _ (v : OpView) (line : ℕ) (counted : 1 ≤ line) where
   unfolding begin
   begin_asks o = unless_answered (judged_in v o) (go v line o) (λ j. go_asks o)
 
-  compared_asks : (number : ℕ) (bytes : Option (List ℕ)) (pointers : List Address) (o : Op) → ProposesAsked (compared v line number bytes pointers o)
+  compared_asks : (number : ℕ) (bytes : Option (List ℕ)) (pointers : List Address) (o : Op) → ProposesAsked (compared v line (record { number = number; bytes = bytes; pointers = pointers }) o)
   unfolding compared
   compared_asks number bytes pointers (op.Write name payload handles address) = by_report (not (is_reported v number bytes))
     where
@@ -141,9 +141,9 @@ module _ (v : OpView) (line : ℕ) (counted : 1 ≤ line) where
   compared_asks number bytes pointers op.Delete = proposes_none Wait (λ entry e. cc e)
   compared_asks number bytes pointers op.Stat = proposes_none Wait (λ entry e. cc e)
 
-  bytes_asks : (number : ℕ) (bytes : Option (List ℕ)) (pointers : List Address) (o : Op) → ProposesAsked (on_bytes v line number bytes pointers o)
+  bytes_asks : (number : ℕ) (bytes : Option (List ℕ)) (pointers : List Address) (o : Op) → ProposesAsked (on_bytes v line (record { number = number; bytes = bytes; pointers = pointers }) o)
   unfolding on_bytes
-  bytes_asks number bytes pointers o = unless_answered (refusal_of v o) (compared v line number bytes pointers o) (λ free. compared_asks number bytes pointers o)
+  bytes_asks number bytes pointers o = unless_answered (refusal_of v o) (compared v line (record { number = number; bytes = bytes; pointers = pointers }) o) (λ free. compared_asks number bytes pointers o)
 
   effect_asks : (did : What) (o : Op) → ProposesAsked (on_effect v line did o)
   unfolding on_effect

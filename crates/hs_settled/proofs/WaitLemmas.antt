@@ -153,7 +153,7 @@ module _ (v : OpView) (line : ℕ) where
   marks_fit name payload handles address number true = tt
   marks_fit name payload handles address number false = tt
 
-  compared_fits : (number : ℕ) (bytes : Option (List ℕ)) (pointers : List Address) (o : Op) → reads_bytes o ≡ true → Fits v o (compared v line number bytes pointers o)
+  compared_fits : (number : ℕ) (bytes : Option (List ℕ)) (pointers : List Address) (o : Op) → reads_bytes o ≡ true → Fits v o (compared v line (record { number = number; bytes = bytes; pointers = pointers }) o)
   unfolding compared
   compared_fits number bytes pointers (op.Write name payload handles address) reads = by_report (not (is_reported v number bytes))
     where
@@ -173,9 +173,9 @@ module _ (v : OpView) (line : ℕ) where
   compared_fits number bytes pointers op.Delete reads = absurd (cc reads)
   compared_fits number bytes pointers op.Stat reads = absurd (cc reads)
 
-  bytes_fit : (number : ℕ) (bytes : Option (List ℕ)) (pointers : List Address) (o : Op) → reads_bytes o ≡ true → Fits v o (on_bytes v line number bytes pointers o)
+  bytes_fit : (number : ℕ) (bytes : Option (List ℕ)) (pointers : List Address) (o : Op) → reads_bytes o ≡ true → Fits v o (on_bytes v line (record { number = number; bytes = bytes; pointers = pointers }) o)
   unfolding on_bytes
-  bytes_fit number bytes pointers o reads = unless_fits o (refusal_of v o) (compared v line number bytes pointers o) (compared_fits number bytes pointers o reads)
+  bytes_fit number bytes pointers o reads = unless_fits o (refusal_of v o) (compared v line (record { number = number; bytes = bytes; pointers = pointers }) o) (compared_fits number bytes pointers o reads)
 
   effect_fits : (did : What) (o : Op) → Fits v o (on_effect v line did o)
   unfolding on_effect

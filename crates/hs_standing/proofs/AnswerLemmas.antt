@@ -66,7 +66,7 @@ module _ (v : OpView) (line : ℕ) (session payload handles : List ℕ) (address
   from_stops (stage.Reading number) e = go_stops e
   from_stops stage.Logged e = go_stops e
 
-  pub bytes_stops : (number : ℕ) (bytes : Option (List ℕ)) (pointers : List Address) → on_bytes v line number bytes pointers (op.Write session payload handles address) ≡ step.Answer told → is_done told ≡ false
+  pub bytes_stops : (number : ℕ) (bytes : Option (List ℕ)) (pointers : List Address) → on_bytes v line (record { number = number; bytes = bytes; pointers = pointers }) (op.Write session payload handles address) ≡ step.Answer told → is_done told ≡ false
   unfolding on_bytes compared
   bytes_stops number bytes pointers e = by_refusal (refusal_of v (op.Write session payload handles address)) refl e
     where
@@ -76,7 +76,7 @@ module _ (v : OpView) (line : ℕ) (session payload handles : List ℕ) (address
       by_tests false false f = subst (λ q. is_done q ≡ false) (answer_is reply.Collision told f) refl
 
       by_refusal : (x : Option Reply) → refusal_of v (op.Write session payload handles address) ≡ x
-          → option_map_or step.Answer x (compared v line number bytes pointers (op.Write session payload handles address)) ≡ step.Answer told → is_done told ≡ false
+          → option_map_or step.Answer x (compared v line (record { number = number; bytes = bytes; pointers = pointers }) (op.Write session payload handles address)) ≡ step.Answer told → is_done told ≡ false
       by_refusal None r f = by_tests (not (is_reported v number bytes)) (is_same_block (asked_block v.seats session payload handles) bytes pointers) f
       by_refusal (Some q) r f = refused_stops q r f
 
@@ -160,7 +160,7 @@ pub record HasCompared (v : OpView) (line number : ℕ) (bytes : Option (List �
   pub same : is_same_block (asked_block v.seats session payload handles) bytes pointers ≡ true
 
 pub bytes_mark : (v : OpView) (line number : ℕ) (bytes : Option (List ℕ)) (pointers : List Address) (session payload handles : List ℕ) (address : Option Address) (k least block : ℕ) (a : Address)
-    → on_bytes v line number bytes pointers (op.Write session payload handles address) ≡ step.Propose (kind.Mark k least block a)
+    → on_bytes v line (record { number = number; bytes = bytes; pointers = pointers }) (op.Write session payload handles address) ≡ step.Propose (kind.Mark k least block a)
     → HasCompared v line number bytes pointers session payload handles address k block a
 unfolding on_bytes compared mark_entry
 bytes_mark v line number bytes pointers session payload handles address k least block a e = by_refusal (refusal_of v (op.Write session payload handles address)) refl e
@@ -175,13 +175,13 @@ bytes_mark v line number bytes pointers session payload handles address k least 
         record { of_line = is.0; of_number = is.1; at = is.2; free = r; reported = f; same = g }
 
     by_refusal : (x : Option Reply) → refusal_of v (op.Write session payload handles address) ≡ x
-        → option_map_or step.Answer x (compared v line number bytes pointers (op.Write session payload handles address)) ≡ step.Propose (kind.Mark k least block a)
+        → option_map_or step.Answer x (compared v line (record { number = number; bytes = bytes; pointers = pointers }) (op.Write session payload handles address)) ≡ step.Propose (kind.Mark k least block a)
         → HasCompared v line number bytes pointers session payload handles address k block a
     by_refusal None r h = by_tests r (is_reported v number bytes) refl (is_same_block (asked_block v.seats session payload handles) bytes pointers) refl h
     by_refusal (Some q) r h = absurd (cc h)
 
 -- whatever operation proposes it, a Mark is of its line
-pub mark_line : (v : OpView) (line number : ℕ) (bytes : Option (List ℕ)) (pointers : List Address) (o : Op) (k least block : ℕ) (a : Address) → on_bytes v line number bytes pointers o ≡ step.Propose (kind.Mark k least block a) → k ≡ line
+pub mark_line : (v : OpView) (line number : ℕ) (bytes : Option (List ℕ)) (pointers : List Address) (o : Op) (k least block : ℕ) (a : Address) → on_bytes v line (record { number = number; bytes = bytes; pointers = pointers }) o ≡ step.Propose (kind.Mark k least block a) → k ≡ line
 unfolding on_bytes compared
 mark_line v line number bytes pointers (op.Write session payload handles address) k least block a e = (bytes_mark v line number bytes pointers session payload handles address k least block a e).of_line
 mark_line v line number bytes pointers (op.Read session handle) k least block a e =

@@ -153,7 +153,7 @@ module _ (v : OpView) (pointers : List Address) (line : ℕ) where
   )
   mark_seeks session payload handles address number bytes passes present false is entry e = absurd (cc e)
 
-  compared_seeks : (number : ℕ) (bytes : Option (List ℕ)) (o : Op) → refusal_of v o ≡ None → Seeks v pointers line o (compared v line number bytes pointers o)
+  compared_seeks : (number : ℕ) (bytes : Option (List ℕ)) (o : Op) → refusal_of v o ≡ None → Seeks v pointers line o (compared v line (record { number = number; bytes = bytes; pointers = pointers }) o)
   unfolding compared
   compared_seeks number bytes (op.Write session payload handles address) passes = by_report (is_reported v number bytes) refl
     where
@@ -174,9 +174,9 @@ module _ (v : OpView) (pointers : List Address) (line : ℕ) where
   compared_seeks number bytes op.Delete passes = λ entry e. absurd (cc e)
   compared_seeks number bytes op.Stat passes = λ entry e. absurd (cc e)
 
-  bytes_seeks : (number : ℕ) (bytes : Option (List ℕ)) (o : Op) → Seeks v pointers line o (on_bytes v line number bytes pointers o)
+  bytes_seeks : (number : ℕ) (bytes : Option (List ℕ)) (o : Op) → Seeks v pointers line o (on_bytes v line (record { number = number; bytes = bytes; pointers = pointers }) o)
   unfolding on_bytes
-  bytes_seeks number bytes o = unless_told o (refusal_of v o) (compared v line number bytes pointers o) (λ n. compared_seeks number bytes o n)
+  bytes_seeks number bytes o = unless_told o (refusal_of v o) (compared v line (record { number = number; bytes = bytes; pointers = pointers }) o) (λ n. compared_seeks number bytes o n)
 
   effect_seeks : (did : What) (o : Op) → Seeks v pointers line o (on_effect v line did o)
   unfolding on_effect

@@ -119,7 +119,7 @@ module _ (v : OpView) (line : ℕ) where
   unfolding begin
   begin_within o = unless_answered v.limits (judged_in v o) (go v line o) (λ j. go_within o)
 
-  compared_within : (number : ℕ) (bytes : Option (List ℕ)) (pointers : List Address) (o : Op) → ProposesWithin v.limits (compared v line number bytes pointers o)
+  compared_within : (number : ℕ) (bytes : Option (List ℕ)) (pointers : List Address) (o : Op) → ProposesWithin v.limits (compared v line (record { number = number; bytes = bytes; pointers = pointers }) o)
   unfolding compared
   compared_within number bytes pointers (op.Write name payload handles address) = by_report (not (is_reported v number bytes))
     where
@@ -144,9 +144,9 @@ module _ (v : OpView) (line : ℕ) where
   compared_within number bytes pointers op.Delete = proposes_none v.limits Wait (λ entry e. cc e)
   compared_within number bytes pointers op.Stat = proposes_none v.limits Wait (λ entry e. cc e)
 
-  bytes_within : (number : ℕ) (bytes : Option (List ℕ)) (pointers : List Address) (o : Op) → ProposesWithin v.limits (on_bytes v line number bytes pointers o)
+  bytes_within : (number : ℕ) (bytes : Option (List ℕ)) (pointers : List Address) (o : Op) → ProposesWithin v.limits (on_bytes v line (record { number = number; bytes = bytes; pointers = pointers }) o)
   unfolding on_bytes
-  bytes_within number bytes pointers o = unless_answered v.limits (refusal_of v o) (compared v line number bytes pointers o) (λ free. compared_within number bytes pointers o)
+  bytes_within number bytes pointers o = unless_answered v.limits (refusal_of v o) (compared v line (record { number = number; bytes = bytes; pointers = pointers }) o) (λ free. compared_within number bytes pointers o)
 
   effect_within : (did : What) (o : Op) → ProposesWithin v.limits (on_effect v line did o)
   unfolding on_effect

@@ -169,7 +169,7 @@ from_blocks c v p = never_done c p.op (go_step v p) (λ session payload handles 
 bytes_blocks : (c : Core) (v : OpView) (bytes : Option (List ℕ)) (pointers : List Address) (p : Operation) → AnswersBlocks c p.op (bytes_step v bytes pointers p)
 bytes_blocks c v bytes pointers p = never_done c p.op (bytes_step v bytes pointers p) (λ session payload handles address told is e.
     bytes_stops v p.line session payload handles address told (wanted_number p.stage) bytes pointers
-    (subst (λ (o : Op). on_bytes v p.line (wanted_number p.stage) bytes pointers o ≡ step.Answer told) is e))
+    (subst (λ (o : Op). on_bytes v p.line (record { number = wanted_number p.stage; bytes = bytes; pointers = pointers }) o ≡ step.Answer told) is e))
 
 pub held_goes : (name : List ℕ → Address) → GivesAddresses name → (c : Core) → IsOrderly name c → AreAddressed c → (line : ℕ) → AreAddressed (resume line c)
 held_goes name names c order its line =

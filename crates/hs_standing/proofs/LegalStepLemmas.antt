@@ -71,25 +71,25 @@ quiet_answer v line what.Refused o r quiet e = by_refusal (refusal_of v o) refl 
     by_refusal (Some q) f h = inl (f ∙ ap (λ (x : Reply). Some x) (same_answer q r h))
 
 -- of an operation that compares nothing bytes bring a refusal alone
-bytes_refuse : (v : OpView) (line number : ℕ) (bytes : Option (List ℕ)) (pointers : List Address) (o : Op) (r : Reply) → compared v line number bytes pointers o ≡ Wait → on_bytes v line number bytes pointers o ≡ Answer r → refusal_of v o ≡ Some r
+bytes_refuse : (v : OpView) (line number : ℕ) (bytes : Option (List ℕ)) (pointers : List Address) (o : Op) (r : Reply) → compared v line (record { number = number; bytes = bytes; pointers = pointers }) o ≡ Wait → on_bytes v line (record { number = number; bytes = bytes; pointers = pointers }) o ≡ Answer r → refusal_of v o ≡ Some r
 unfolding on_bytes
 bytes_refuse v line number bytes pointers o r waits e = by_refusal (refusal_of v o) refl e
   where
     never : Wait ≡ Answer r → ⊥
     never h = cc h
 
-    by_refusal : (x : Option Reply) → refusal_of v o ≡ x → option_map_or Answer x (compared v line number bytes pointers o) ≡ Answer r → refusal_of v o ≡ Some r
+    by_refusal : (x : Option Reply) → refusal_of v o ≡ x → option_map_or Answer x (compared v line (record { number = number; bytes = bytes; pointers = pointers }) o) ≡ Answer r → refusal_of v o ≡ Some r
     by_refusal None f h = absurd (never (sym waits ∙ h))
     by_refusal (Some q) f h = f ∙ ap (λ (x : Reply). Some x) (same_answer q r h)
 
 -- where an operation is refused by what it sees, bytes bring that refusal
-bytes_refused : (v : OpView) (line number : ℕ) (bytes : Option (List ℕ)) (pointers : List Address) (o : Op) (q r : Reply) → refusal_of v o ≡ Some q → on_bytes v line number bytes pointers o ≡ Answer r → q ≡ r
+bytes_refused : (v : OpView) (line number : ℕ) (bytes : Option (List ℕ)) (pointers : List Address) (o : Op) (q r : Reply) → refusal_of v o ≡ Some q → on_bytes v line (record { number = number; bytes = bytes; pointers = pointers }) o ≡ Answer r → q ≡ r
 unfolding on_bytes
-bytes_refused v line number bytes pointers o q r stops e = same_answer q r (sym (ap (λ (x : Option Reply). option_map_or Answer x (compared v line number bytes pointers o)) stops) ∙ e)
+bytes_refused v line number bytes pointers o q r stops e = same_answer q r (sym (ap (λ (x : Option Reply). option_map_or Answer x (compared v line (record { number = number; bytes = bytes; pointers = pointers }) o)) stops) ∙ e)
 
 -- what compares no bytes
 abbrev ComparesNone : Op → Type 0
-ComparesNone o = (v : OpView) (line number : ℕ) (bytes : Option (List ℕ)) (pointers : List Address) → compared v line number bytes pointers o ≡ Wait
+ComparesNone o = (v : OpView) (line number : ℕ) (bytes : Option (List ℕ)) (pointers : List Address) → compared v line (record { number = number; bytes = bytes; pointers = pointers }) o ≡ Wait
 
 -- ---- one step
 
@@ -148,7 +148,7 @@ module _ (laws : Steps) (by : Judging) (cs : List Folded) (core : Core) (limits 
     others : (bytes : Option (List ℕ)) (o : Op) (r : Reply) → w.operation.op ≡ o → ComparesNone o → bytes_step v bytes (pointers_for w.shard w.operation.op core) w.operation ≡ Answer r → IsJudged cs core (take_step line w (Answer r) core) line w.operation.op
     others bytes o r is none e =
         refused r (bytes_refuse v w.operation.line (wanted_number w.operation.stage) bytes (pointers_for w.shard w.operation.op core) w.operation.op r
-        (ap (λ (p : Op). compared v w.operation.line (wanted_number w.operation.stage) bytes (pointers_for w.shard w.operation.op core) p) is
+        (ap (λ (p : Op). compared v w.operation.line (record { number = wanted_number w.operation.stage; bytes = bytes; pointers = pointers_for w.shard w.operation.op core }) p) is
         ∙ none v w.operation.line (wanted_number w.operation.stage) bytes (pointers_for w.shard w.operation.op core)) e)
 
     -- a read whose bytes are its block's, where it is not refused

@@ -68,7 +68,7 @@ quiet_begin : (v : OpView) (line : ℕ) (o : Op) → ProposesNoView (begin v lin
 unfolding begin
 quiet_begin v line o = quiet_answer (go v line o) (judged_in v o) (quiet_go v line o)
 
-quiet_compared : (v : OpView) (line number : ℕ) (bytes : Option (List ℕ)) (pointers : List Address) (o : Op) → ProposesNoView (compared v line number bytes pointers o)
+quiet_compared : (v : OpView) (line number : ℕ) (bytes : Option (List ℕ)) (pointers : List Address) (o : Op) → ProposesNoView (compared v line (record { number = number; bytes = bytes; pointers = pointers }) o)
 unfolding compared mark_entry
 quiet_compared v line number bytes pointers (op.Open name) = tt
 quiet_compared v line number bytes pointers (op.Close name) = tt
@@ -95,7 +95,7 @@ quiet_step v o = by_stage o.stage
 
 pub quiet_bytes : (v : OpView) (bytes : Option (List ℕ)) (pointers : List Address) (o : Operation) → ProposesNoView (bytes_step v bytes pointers o)
 unfolding on_bytes
-quiet_bytes v bytes pointers o = quiet_answer (compared v o.line (wanted_number o.stage) bytes pointers o.op) (refusal_of v o.op) (quiet_compared v o.line (wanted_number o.stage) bytes pointers o.op)
+quiet_bytes v bytes pointers o = quiet_answer (compared v o.line (record { number = wanted_number o.stage; bytes = bytes; pointers = pointers }) o.op) (refusal_of v o.op) (quiet_compared v o.line (wanted_number o.stage) bytes pointers o.op)
 
 pub quiet_effect : (v : OpView) (did : What) (o : Operation) → ProposesNoView (effect_step v did o)
 unfolding on_effect

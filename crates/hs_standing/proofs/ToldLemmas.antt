@@ -171,7 +171,7 @@ module _ (name : List ℕ → Address) (cs : List Folded) (c : Core) (folded : I
           → HasCompared (view_for w.shard w.operation.op c) w.operation.line (wanted_number w.operation.stage) bytes pointers session payload handles address k number m
       compared session payload handles address is =
           bytes_mark (view_for w.shard w.operation.op c) w.operation.line (wanted_number w.operation.stage) bytes pointers session payload handles address k least number m
-          (subst (λ (o : Op). on_bytes (view_for w.shard w.operation.op c) w.operation.line (wanted_number w.operation.stage) bytes pointers o ≡ step.Propose (kind.Mark k least number m)) is e)
+          (subst (λ (o : Op). on_bytes (view_for w.shard w.operation.op c) w.operation.line (record { number = wanted_number w.operation.stage; bytes = bytes; pointers = pointers }) o ≡ step.Propose (kind.Mark k least number m)) is e)
 
       of_line : k ≡ line
       of_line = mark_line (view_for w.shard w.operation.op c) w.operation.line (wanted_number w.operation.stage) bytes pointers w.operation.op k least number m e ∙ (order.pending line w at).of_line

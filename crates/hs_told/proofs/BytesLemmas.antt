@@ -74,7 +74,7 @@ stays_if helds o seats true s e = e
 stays_if helds o seats false s e = refl
 
 compared_same : (v : OpView) (line number : ℕ) (one two : List ℕ) (pointers : List Address) (o : Op) (helds : List Held) (seats : Seats)
-    → seats_by (compared v line number (Some one) pointers o) helds o seats ≡ seats_by (compared v line number (Some two) pointers o) helds o seats
+    → seats_by (compared v line (record { number = number; bytes = Some one; pointers = pointers }) o) helds o seats ≡ seats_by (compared v line (record { number = number; bytes = Some two; pointers = pointers }) o) helds o seats
 unfolding compared seats_after
 compared_same v line number one two pointers (op.Write name payload handles address) helds seats =
     by_report (is_reported v number (Some one)) (is_same_block (asked_block v.seats name payload handles) (Some one) pointers) (is_same_block (asked_block v.seats name payload handles) (Some two) pointers)
@@ -105,8 +105,8 @@ bytes_same : (v : OpView) (one two : List ℕ) (pointers : List Address) (operat
 unfolding on_bytes
 bytes_same v one two pointers operation helds seats = by_refusal (refusal_of v operation.op)
   where
-    by_refusal : (x : Option Reply) → seats_by (option_map_or Answer x (compared v operation.line (wanted_number operation.stage) (Some one) pointers operation.op)) helds operation.op seats
-        ≡ seats_by (option_map_or Answer x (compared v operation.line (wanted_number operation.stage) (Some two) pointers operation.op)) helds operation.op seats
+    by_refusal : (x : Option Reply) → seats_by (option_map_or Answer x (compared v operation.line (record { number = wanted_number operation.stage; bytes = Some one; pointers = pointers }) operation.op)) helds operation.op seats
+        ≡ seats_by (option_map_or Answer x (compared v operation.line (record { number = wanted_number operation.stage; bytes = Some two; pointers = pointers }) operation.op)) helds operation.op seats
     by_refusal None = compared_same v operation.line (wanted_number operation.stage) one two pointers operation.op helds seats
     by_refusal (Some r) = refl
 

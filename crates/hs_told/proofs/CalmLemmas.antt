@@ -94,7 +94,7 @@ effect_calm v did operation r free e = elim (split_step (effect_reply v did oper
 
 -- ---- bytes were reported
 
-compared_calm : (v : OpView) (line number : ℕ) (bytes : Option (List ℕ)) (pointers : List Address) (o : Op) (r : Reply) → v.busy ≡ None → compared v line number bytes pointers o ≡ Answer r → IsNotBusy r
+compared_calm : (v : OpView) (line number : ℕ) (bytes : Option (List ℕ)) (pointers : List Address) (o : Op) (r : Reply) → v.busy ≡ None → compared v line (record { number = number; bytes = bytes; pointers = pointers }) o ≡ Answer r → IsNotBusy r
 unfolding compared
 compared_calm v line number bytes pointers (op.Write name payload handles address) r free e =
     by_tests (is_reported v number bytes) (is_same_block (asked_block v.seats name payload handles) bytes pointers) e
@@ -122,7 +122,7 @@ compared_calm v line number bytes pointers op.Stat r free e = absurd (cc e)
 
 pub bytes_calm : (v : OpView) (bytes : Option (List ℕ)) (pointers : List Address) (operation : Operation) (r : Reply) → v.busy ≡ None → bytes_step v bytes pointers operation ≡ Answer r → IsNotBusy r
 unfolding on_bytes
-bytes_calm v bytes pointers operation r free e = elim (split_step (refusal_of v operation.op) (compared v operation.line (wanted_number operation.stage) bytes pointers operation.op) r e) [
+bytes_calm v bytes pointers operation r free e = elim (split_step (refusal_of v operation.op) (compared v operation.line (record { number = wanted_number operation.stage; bytes = bytes; pointers = pointers }) operation.op) r e) [
   | inl h ↦ calm_at (refusal_of v operation.op) r (refusal_calm v operation.op free) h
   | inr h ↦ compared_calm v operation.line (wanted_number operation.stage) bytes pointers operation.op r free h.1
 ]
