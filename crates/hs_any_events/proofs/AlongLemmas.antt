@@ -6,10 +6,14 @@ use Rattle.hs_any_events.proofs.BytesLemmas.{ReadsAnyBytes}
 use Rattle.hs_any_events.proofs.CodedHistoryLemmas.{base_is_above, base_of}
 use Rattle.hs_any_events.proofs.CodedLemmas.{Code, coded_gives, coded_name}
 use Rattle.hs_any_events.proofs.CodedOpeningLemmas.{beside_itself, steady_coded}
+use Rattle.hs_any_events.proofs.CodedRightLemmas.{stays_right, swept_then}
 use Rattle.hs_any_events.proofs.CodedTableLemmas.{brought_by, is_tabled, table_of, table_whole}
 use Rattle.hs_any_events.proofs.CodedWalkLemmas.{IsCodedSteady, IsTabledLine, coded_new, walks_coded}
+use Rattle.hs_any_events.proofs.OneEntryLemmas.{at_most_one}
+use Rattle.hs_any_events.proofs.RightLemmas.{ZerosBehind}
+use Rattle.hs_any_events.proofs.SinceLemmas.{Since, since_same, walks_since}
 use Rattle.hs_any_events.proofs.SteadyLemmas.{IsSteady}
-use Rattle.hs_any_events.specs.Events.{MayStepAll, MayStep}
+use Rattle.hs_any_events.specs.Events.{MayStepAll, MayStep, StaysCountedRight}
 use Rattle.hs_core.specs.Calls.{last_line_after}
 use Rattle.hs_core.specs.declared.event.Event.{Event}
 use Rattle.hs_core.specs.declared.event.Event.TheVariants as event
@@ -34,12 +38,12 @@ use Rattle.hs_model.specs.declared.command.Command.{Command}
 use Rattle.hs_moments.proofs.AloneEventLemmas.{begun, step_is}
 use Rattle.hs_moments.proofs.CoreLemmas.{line_at}
 use Rattle.hs_moments.proofs.SaneLemmas.{sane_stays}
+use Rattle.hs_settled.proofs.DeletesCountLemmas.{CountLaws}
 use Rattle.hs_settled.proofs.DeletesEndLemmas.{does_keep}
 use Rattle.hs_settled.proofs.DeletesRunLemmas.{steps_ended}
 use Rattle.hs_standing.proofs.AlongWalkLemmas.{walks_step}
 use Rattle.hs_standing.proofs.Laws.{Entries, Steps}
 use Rattle.hs_standing.proofs.ValidLemmas.{told_valid}
-use Rattle.hs_standing.proofs.LinesStepLemmas.{step_ended}
 use Rattle.hs_standing.specs.Held.{GivesAddresses}
 use Rattle.hs_standing.specs.Run.{IsRunning, RunStands}
 use Rattle.hs_standing.specs.Standing.{judging_of}
@@ -208,19 +212,25 @@ still_clean e at core going then clean =
     by_room false over = (does_keep e (begun e at core)).refused ∙ clean
 
 module _ (below : LawsBelow) (code : Code) (names : GivesAddresses (coded_name code)) (limits : Limits) where
-  -- it is steady behind the event
+  -- behind the event it is steady up to its line, and of a shard it is known what came since
+  next_since : (c : Whole) (e : Event) (at : ℕ) → StaysSteady code limits c → MayStep c.core e at → IsWithin code (brought_by e) → (shard : ℕ)
+      → IsCodedSteady code limits (last_line_after e c.core) (step e at c.core) × Since shard c.core (step e at c.core)
+  next_since c e at s may within shard =
+      walks_step (walks_since (walks_coded below.views below.steps below.reads below.laws code names limits (last_line_after e c.core)) shard c.core) c e at s.sane s.few s.clean (may_event code limits c.core s.steady e at may within)
+      (
+        record {
+          coded = s.steady.coded;
+          beside = s.steady.beside;
+          steady = (
+            s.steady.steady.0,
+            more_lines (coded_name code) limits c.core.progress.last_line (last_line_after e c.core) s.steady.coded s.steady.steady.0 (line_rises e at c.core may) s.steady.steady.1,
+          );
+        },
+        since_same shard c.core,
+      )
+
   next_steady : (c : Whole) (e : Event) (at : ℕ) → StaysSteady code limits c → MayStep c.core e at → IsWithin code (brought_by e) → Steady code limits (step e at c.core)
-  next_steady c e at s may within =
-      subst (λ (last : ℕ). IsCodedSteady code limits last (step e at c.core)) (sym (line_at c.core e at s.sane.going))
-      (walks_step (walks_coded below.views below.steps below.reads below.laws code names limits (last_line_after e c.core)) c e at s.sane s.few s.clean (may_event code limits c.core s.steady e at may within)
-      (record {
-        coded = s.steady.coded;
-        beside = s.steady.beside;
-        steady = (
-          s.steady.steady.0,
-          more_lines (coded_name code) limits c.core.progress.last_line (last_line_after e c.core) s.steady.coded s.steady.steady.0 (line_rises e at c.core may) s.steady.steady.1,
-        );
-      }))
+  next_steady c e at s may within = subst (λ (last : ℕ). IsCodedSteady code limits last (step e at c.core)) (sym (line_at c.core e at s.sane.going)) (next_since c e at s may within 0).0
 
   stays_steady : (c : Whole) (e : Event) (at : ℕ) → StaysSteady code limits c → MayStep c.core e at → IsWithin code (brought_by e) → (step e at c.core).ended ≡ None → StaysSteady code limits (step_whole e at c)
   stays_steady c e at s may within going = record {
@@ -232,35 +242,42 @@ module _ (below : LawsBelow) (code : Code) (names : GivesAddresses (coded_name c
 
   -- ---- each front
 
-  pub front_steady : (es : Events) (c : Whole) → StaysSteady code limits c → MayStepAll c.core es → IsWithin code (table_of es) → (n : ℕ) → Steady code limits (steps c.core (take n es))
-  front_steady [] c s may within zero = s.steady
-  front_steady [] c s may within (suc n) = s.steady
-  front_steady (e ∷ es) c s may within zero = s.steady
-  front_steady (e ∷ es) c s may within (suc n) = by_end (λ t. front_steady es (step_whole e.0 e.1 c) t may.1 (λ a m. within a (member-append_right a (brought_by e.0) (table_of es) m)) n) (step e.0 e.1 c.core).ended refl
-    where
-      m : MayStep c.core e.0 e.1
-      m = may.0 s.sane.going
+  module _ (laws : CountLaws) (zeros : ZerosBehind) where
+    -- behind it, and the event that comes next
+    right_next : (c : Whole) (e : Event) (at : ℕ) → StaysSteady code limits c → MayStep c.core e at → IsWithin code (brought_by e) → StaysCountedRight c.core (step e at c.core)
+    right_next c e at s may within =
+        stays_right code limits c.core.progress.last_line c.core s.steady laws zeros names (step e at c.core) (λ shard low sweeps.
+        swept_then code limits c.core.progress.last_line c.core s.steady laws zeros s.few (step e at c.core) shard (at_most_one c e at s.sane shard low) sweeps (next_since c e at s may within shard).1)
 
-      here : IsWithin code (brought_by e.0)
-      here a h = within a (member-append_left a (brought_by e.0) (table_of es) h)
+    -- or where none comes
+    right_last : (core : Core) → Steady code limits core → StaysCountedRight core core
+    right_last core s = stays_right code limits core.progress.last_line core s laws zeros names core (λ shard low sweeps. absurd (sweeps refl))
 
-      by_end : (StaysSteady code limits (step_whole e.0 e.1 c) → Steady code limits (steps (step e.0 e.1 c.core) (take n es))) → (x : Option CoreFault) → (step e.0 e.1 c.core).ended ≡ x → Steady code limits (steps (step e.0 e.1 c.core) (take n es))
-      by_end later None going = later (stays_steady c e.0 e.1 s m here going)
-      by_end later (Some fault) over = subst (λ (x : Core). Steady code limits x) (sym (steps_ended (step e.0 e.1 c.core) (take n es) fault over)) (next_steady c e.0 e.1 s m here)
+    along_right : (es : Events) (c : Whole) → StaysSteady code limits c → MayStepAll c.core es → IsWithin code (table_of es) → (n : ℕ) → StaysCountedRight (steps c.core (take n es)) (steps c.core (take (suc n) es))
+    along_right [] c s may within zero = right_last c.core s.steady
+    along_right [] c s may within (suc n) = right_last c.core s.steady
+    along_right (e ∷ es) c s may within zero = right_next c e.0 e.1 s (may.0 s.sane.going) (λ a h. within a (member-append_left a (brought_by e.0) (table_of es) h))
+    along_right (e ∷ es) c s may within (suc n) =
+        by_end (λ stays. along_right es (step_whole e.0 e.1 c) stays may.1 (λ a h. within a (member-append_right a (brought_by e.0) (table_of es) h)) n) (step e.0 e.1 c.core).ended refl
+      where
+        m : MayStep c.core e.0 e.1
+        m = may.0 s.sane.going
 
--- ---- room for root records
+        here : IsWithin code (brought_by e.0)
+        here a h = within a (member-append_left a (brought_by e.0) (table_of es) h)
 
--- a core that ended goes on with no event
-front_room : (es : Events) (c : Core) → (c.ended ≡ None → HasRecordRoom c) → MayStepAll c es → (n : ℕ) → (steps c (take n es)).ended ≡ None → HasRecordRoom (steps c (take n es))
-front_room [] c room may zero = room
-front_room [] c room may (suc n) = room
-front_room (e ∷ es) c room may zero = room
-front_room (e ∷ es) c room may (suc n) = front_room es (step e.0 e.1 c) (by_end c.ended refl) may.1 n
-  where
-    by_end : (x : Option CoreFault) → c.ended ≡ x → (step e.0 e.1 c).ended ≡ None → HasRecordRoom (step e.0 e.1 c)
-    by_end None going then = (may.0 going).room then
-    by_end (Some fault) over then = absurd (cc (sym over ∙ sym (ap (λ (x : Core). x.ended) (step_ended e.0 e.1 c fault over)) ∙ then))
+        next : Core
+        next = step e.0 e.1 c.core
 
-pub room_at : (start : Start) (found : Found) → IsRunning start (open_whole start.set found) → (es : Events) → MayStepAll (first_core start.set found) es → (n : ℕ)
-    → (steps (first_core start.set found) (take n es)).ended ≡ None → HasRecordRoom (steps (first_core start.set found) (take n es))
-room_at start found r es may n = front_room es (first_core start.set found) (λ going. r.stands.whole.few) may n
+        -- a core that has ended goes on with no event
+        by_end : (StaysSteady code limits (step_whole e.0 e.1 c) → StaysCountedRight (steps (step e.0 e.1 c.core) (take n es)) (steps (step e.0 e.1 c.core) (take (suc n) es)))
+            → (x : Option CoreFault) → (step e.0 e.1 c.core).ended ≡ x → StaysCountedRight (steps (step e.0 e.1 c.core) (take n es)) (steps (step e.0 e.1 c.core) (take (suc n) es))
+        by_end later None going = later (stays_steady c e.0 e.1 s m here going)
+        by_end later (Some fault) over =
+            subst (λ (x : Core). StaysCountedRight x (steps next (take (suc n) es))) (sym (steps_ended next (take n es) fault over))
+            (subst (λ (x : Core). StaysCountedRight next x) (sym (steps_ended next (take (suc n) es) fault over)) (right_last next (next_steady c e.0 e.1 s m here)))
+
+    pub front_right : (es : Events) (c : Whole) → StaysSteady code limits c → MayStepAll c.core es → IsWithin code (table_of es) → (n : ℕ) → StaysCountedRight (steps c.core (take n es)) (steps c.core (take (n + 1) es))
+    front_right es c s may within n =
+        let next : suc n ≡ n + 1 = omega arith in
+        subst (λ k. StaysCountedRight (steps c.core (take n es)) (steps c.core (take k es))) next (along_right es c s may within n)

@@ -1,5 +1,5 @@
 -- The counts of a core that is beside a steady one are right, and so are its zero blocks by the naming of that.
-use Rattle.std.proofs.Common.{◌≡◌, ◌∙◌, sym, ap, subst, ℕ, ◌+◌, ◌<◌, false, List, Option, Some, None, refl, slice_get}
+use Rattle.std.proofs.Common.{◌≡◌, ◌≢◌, ◌∙◌, sym, ap, subst, ◌⊎◌, inl, inr, ℕ, ◌+◌, ◌<◌, false, length, List, Option, Some, None, refl, slice_get, arith}
 use Rattle.std.proofs.lemmas.Option.{slice_get-map}
 use Rattle.std.specs.Option.{option_map}
 use Rattle.hs_any_events.proofs.CodedCoreLemmas.{same_front, same_limits, waiting_alike}
@@ -9,23 +9,22 @@ use Rattle.hs_any_events.proofs.CodedLemmas.{Code, coded_name}
 use Rattle.hs_any_events.proofs.CodedPoolLemmas.{all_alike}
 use Rattle.hs_any_events.proofs.CodedWalkLemmas.{IsCodedSteady, few_there}
 use Rattle.hs_any_events.proofs.RightLemmas.{ZerosBehind, counts_right, zeros_now}
-use Rattle.hs_any_events.proofs.SweepLemmas.{IsGot, few_behind, got_alone}
-use Rattle.hs_any_events.specs.Events.{StaysCountedRight}
-use Rattle.hs_core.specs.Looking.{front_of, group_of, shape_of}
+use Rattle.hs_any_events.proofs.FewLemmas.{few_behind}
+use Rattle.hs_any_events.proofs.OneEntryLemmas.{AtMostOne}
+use Rattle.hs_any_events.proofs.SinceLemmas.{HasSweptBy, Since, TookOne, WaitedFirst}
+use Rattle.hs_any_events.proofs.SweptLemmas.{IsRound, round_called, round_named, round_no_block, round_or_same, round_sweeps, sweeps_up_to}
+use Rattle.hs_any_events.specs.Events.{StaysCountedRight, Sweeps}
+use Rattle.hs_core.specs.Looking.{catalogue_of, front_of, group_of, shape_of}
+use Rattle.hs_core.specs.Pending.{named}
 use Rattle.hs_core.specs.Records.{HasRecordRoom}
 use Rattle.hs_core.specs.State.{Core}
 use Rattle.hs_effects.specs.Lawful.{IsLawful, MayFollow}
-use Rattle.hs_effects.specs.Taking.{next_deed, setting_of}
+use Rattle.hs_effects.specs.Taking.{done_by, next_deed, setting_of}
 use Rattle.hs_entry.specs.declared.entry.Entry.{Entry}
-use Rattle.hs_entry.specs.declared.entry.Entry.TheVariants as kind
 use Rattle.hs_fold.specs.Lawful.{Deed}
 use Rattle.hs_fold.specs.Runs.Facts.{Catalogue as Folded}
-use Rattle.hs_fold.specs.Runs.Fits.{catalogue_at}
-use Rattle.hs_fold.specs.Shards.Happening.{sweeps}
-use Rattle.hs_fold.specs.Shards.Setting.{Setting, shard_in}
-use Rattle.hs_joint.specs.Along.{happening_by}
+use Rattle.hs_fold.specs.Shards.Setting.{Setting}
 use Rattle.hs_limits.specs.declared.address.Address.{Address}
-use Rattle.hs_limits.specs.declared.delta.Delta.{Delta}
 use Rattle.hs_limits.specs.declared.limits.Limits.{Limits}
 use Rattle.hs_measure.specs.Zeros.{AreZerosRight, EachUnreachedIsZero}
 use Rattle.hs_post.specs.declared.message.Message.{Message}
@@ -33,6 +32,9 @@ use Rattle.hs_post.specs.declared.message.Message.TheVariants as message
 use Rattle.hs_replica.specs.Kinds.{is_block}
 use Rattle.hs_rounds.specs.declared.body.RoundBody.{RoundBody}
 use Rattle.hs_rounds.specs.declared.place.Place.{Place}
+use Rattle.hs_shard.specs.Apply.{apply}
+use Rattle.hs_shard.specs.Clients.{Applied}
+use Rattle.hs_shard.specs.Facts.{Catalogue}
 use Rattle.hs_settled.proofs.DeletesCountLemmas.{CountLaws}
 use Rattle.hs_standing.proofs.AtomLemmas.{set_on}
 use Rattle.hs_standing.proofs.FollowLemmas.{may_follow}
@@ -108,43 +110,76 @@ module _ (code : Code) (limits : Limits) (last : ℕ) (core : Core) (s : IsCoded
 
   -- ---- what it takes next
 
-  -- a Got that waits first may come
-  follows_here : (shard from epoch round total : ℕ) (deltas : List Delta) → HasRecordRoom core → slice_get (group_of shard core).waiting 0 ≡ Some (kind.Got from epoch round total deltas)
-      → MayFollow (setting_of (coded_name code) core) s.steady.0 (next_deed shard (kind.Got from epoch round total deltas) core)
-  follows_here shard from epoch round total deltas room at =
-      subst (λ (set : Setting). MayFollow set cs (next_deed shard got core)) set_there
-      (subst (λ (n : ℕ). MayFollow (setting_of name s.coded) cs (record { shard = shard; number = n + 1; entry = got })) (same_front code core s.coded s.beside shard)
-      (may_follow name cs s.coded s.steady.1.lawful shard got low refl (few_there code limits last core s shard got got refl (few_behind core room shard from epoch round total deltas)) rests.waits))
+  -- an Enter or a Got that waits first may come
+  follows_here : (shard : ℕ) (entry : Entry) → IsRound entry → HasRecordRoom core → slice_get (group_of shard core).waiting 0 ≡ Some entry
+      → MayFollow (setting_of (coded_name code) core) s.steady.0 (next_deed shard entry core)
+  follows_here shard entry is room at =
+      subst (λ (set : Setting). MayFollow set cs (next_deed shard entry core)) set_there
+      (subst (λ (n : ℕ). MayFollow (setting_of name s.coded) cs (record { shard = shard; number = n + 1; entry = entry })) (same_front code core s.coded s.beside shard)
+      (may_follow name cs s.coded s.steady.1.lawful shard entry low (round_called name s.coded entry is)
+      (few_there code limits last core s shard entry entry refl (few_behind core room shard entry is)) rests.waits))
     where
-      got : Entry
-      got = kind.Got from epoch round total deltas
-
-      rests : IsResting s.steady.0 shard (front_of shard s.coded) (kind.Got from epoch round total deltas)
-      rests = s.steady.1.resting shard 0 got (waits_there shard 0 got refl at)
+      rests : IsResting s.steady.0 shard (front_of shard s.coded) entry
+      rests = s.steady.1.resting shard 0 entry (waits_there shard 0 entry (round_no_block entry is) at)
 
       low : shard < (shape_of s.coded).shards
       low = subst (λ (n : ℕ). shard < n) s.steady.1.lawful.folded.shards rests.of
 
-  -- what sweeps there finds each zero block
-  module _ (laws : CountLaws) (zeros : ZerosBehind) (room : core.ended ≡ None → HasRecordRoom core) where
+  module _ (laws : CountLaws) (zeros : ZerosBehind) where
     right : AreZerosRight (setting_of (coded_name code) core) s.steady.0
     right = zeros_now laws zeros name core cs lawful_here sent_here
 
-    swept_here : (shard : ℕ) (entry : Entry) → core.ended ≡ None → slice_get (group_of shard core).waiting 0 ≡ Some entry
-        → happening_by (setting_of (coded_name code) core) s.steady.0 (next_deed shard entry core) ≡ Some (sweeps shard) → EachUnreachedIsZero s.steady.0 shard
-    swept_here shard entry going at e = by entry (got_alone (shard_in (setting_of name core) shard) (catalogue_at cs shard) entry shard e) at e
+    -- where it takes effect, and the shard has swept otherwise then, it sweeps up to its epoch, and finds each zero block
+    swept_here : HasRecordRoom core → (shard : ℕ) (entry : Entry) → IsRound entry → slice_get (group_of shard core).waiting 0 ≡ Some entry
+        → (done_by shard entry core).catalogue.swept ≢ (catalogue_of shard core).swept
+        → ((done_by shard entry core).catalogue.swept ≡ (catalogue_of shard core).epoch) × EachUnreachedIsZero s.steady.0 shard
+    swept_here room shard entry is at differs = elim (round_sweeps name cs core shard lawful_here entry is may) [
+      | inl same ↦ absurd (differs same)
+      | inr sweeping ↦ (sweeps_up_to name cs core shard lawful_here entry is may sweeping, right.exact_zero (next_deed shard entry core) may sweeping)
+    ]
       where
-        by : (x : Entry) → IsGot x → slice_get (group_of shard core).waiting 0 ≡ Some x
-            → happening_by (setting_of (coded_name code) core) s.steady.0 (next_deed shard x core) ≡ Some (sweeps shard) → EachUnreachedIsZero s.steady.0 shard
-        by (kind.Got from epoch round total deltas) is first sweeps_then =
-            right.exact_zero (next_deed shard (kind.Got from epoch round total deltas) core) (follows_here shard from epoch round total deltas (room going) first) sweeps_then
-        by other is first sweeps_then = absurd is
+        may : MayFollow (setting_of (coded_name code) core) s.steady.0 (next_deed shard entry core)
+        may = follows_here shard entry is room at
 
-    pub stays_right : GivesAddresses (coded_name code) → StaysCountedRight core
-    stays_right names = record {
+    -- so it is by an event by which at most one entry of the shard took effect
+    module _ (room : HasRecordRoom core) (after : Core) (shard : ℕ) (most : AtMostOne shard core after) (sweeps : Sweeps shard core after) where
+      -- that entry waited first
+      waited : (t : TookOne shard core after) → AtMostOne shard core after → WaitedFirst shard core t.entry → slice_get (group_of shard core).waiting 0 ≡ Some t.entry
+      waited t some (inr first) = first
+      waited t (inl same) (inl none) = let one = t.front in absurd (omega (arith, same, one))
+      waited t (inr one) (inl none) = let some = one.waits in let zero_is : length (group_of shard core).waiting ≡ 0 = ap (λ ws. length ws) none in absurd (omega (arith, some, zero_is))
+
+      by_entry : (t : TookOne shard core after) (swept : HasSweptBy shard core after t.entry)
+          → IsRound t.entry ⊎ ((apply (front_of shard core + 1) t.entry swept.0 (catalogue_of shard core)).catalogue.swept ≡ (catalogue_of shard core).swept)
+          → ((catalogue_of shard after).swept ≡ (catalogue_of shard core).epoch) × EachUnreachedIsZero s.steady.0 shard
+      by_entry t swept (inr same) = absurd (sweeps (swept.1 ∙ same))
+      by_entry t swept (inl is) = (left ∙ its.0, its.1)
+        where
+          left : (catalogue_of shard after).swept ≡ (done_by shard t.entry core).catalogue.swept
+          left = swept.1 ∙ ap (λ (a : Applied). a.catalogue.swept) (round_named (front_of shard core + 1) t.entry swept.0 (named t.entry core) (catalogue_of shard core) is)
+
+          its : ((done_by shard t.entry core).catalogue.swept ≡ (catalogue_of shard core).epoch) × EachUnreachedIsZero s.steady.0 shard
+          its = swept_here room shard t.entry is (waited t most t.first) (λ same. sweeps (left ∙ same))
+
+      pub swept_then : Since shard core after → ((catalogue_of shard after).swept ≡ (catalogue_of shard core).epoch) × EachUnreachedIsZero s.steady.0 shard
+      swept_then (inl u) = absurd (sweeps (ap (λ (k : Catalogue). k.swept) u.catalogue))
+      swept_then (inr (inl t)) = elim t.swept [
+        | inl same ↦ absurd (sweeps same)
+        | inr swept ↦ by_entry t swept (round_or_same (front_of shard core + 1) t.entry swept.0 (catalogue_of shard core))
+      ]
+      swept_then (inr (inr m)) = elim most [
+        | inl same ↦ let up = m.front in absurd (omega (arith, same, up))
+        | inr one ↦ let up = m.front in let is = one.front in absurd (omega (arith, is, up))
+      ]
+
+    -- so it is behind a front, where what comes next is such an event, or changes nothing
+    pub stays_right : GivesAddresses (coded_name code) → (after : Core)
+        → ((shard : ℕ) → shard < (shape_of core).shards → Sweeps shard core after → ((catalogue_of shard after).swept ≡ (catalogue_of shard core).epoch) × EachUnreachedIsZero s.steady.0 shard)
+        → StaysCountedRight core after
+    stays_right names after exact = record {
       naming = name;
       names = names;
       counts = counts_right laws zeros name core cs lawful_here sent_here;
       zeros = record { folds = cs; lawful = lawful_here; now = right };
-      swept = swept_here;
+      exact = exact;
     }

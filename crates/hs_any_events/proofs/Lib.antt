@@ -15,9 +15,12 @@ pub mod CodedRightLemmas
 pub mod CodedStepLemmas
 pub mod CodedTableLemmas
 pub mod CodedWalkLemmas
+pub mod FewLemmas
 pub mod GivenLemmas
+pub mod OneEntryLemmas
 pub mod OpeningLemmas
 pub mod RefusedLemmas
 pub mod RightLemmas
+pub mod SinceLemmas
 pub mod SteadyLemmas
-pub mod SweepLemmas
+pub mod SweptLemmas

@@ -123,7 +123,7 @@ none_some : (w : Waiting) → None ≡ Some w → ⊥
 none_some w e = cc e
 
 -- rounds that are sent again change the pool alone
-again_like : (back shard : ℕ) (c : Core) → Likewise c (send_round back shard c)
+pub again_like : (back shard : ℕ) (c : Core) → Likewise c (send_round back shard c)
 again_like back shard c = by_round (sent_back back (catalogue_of shard c).run)
   where
     by_round : (at : Option (ℕ × ℕ)) → Likewise c (change_with at (λ r. post (round_messages shard (messages (catalogue_of shard c).shape.shards r.0 r.1 (catalogue_of shard c).run))) c)

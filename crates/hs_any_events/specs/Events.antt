@@ -1,19 +1,15 @@
 -- Events that may come to a core, whatever their reports tell and whatever addresses their writes bring, and what holds of the core behind them.
 use Rattle.std.specs.Option.{IsSomeAnd}
-use Rattle.std.specs.Prelude.{◌≡◌, ℕ, List, [], ◌∷◌, Some, None, slice_get}
+use Rattle.std.specs.Prelude.{◌≡◌, ◌≢◌, ◌<◌, ℕ, List, [], ◌∷◌, None}
 use Rattle.hs_core.specs.Calls.{IsNextLine}
 use Rattle.hs_core.specs.declared.event.Event.{Event}
 use Rattle.hs_core.specs.declared.event.Event.TheVariants as event
-use Rattle.hs_core.specs.Looking.{group_of}
+use Rattle.hs_core.specs.Looking.{catalogue_of, shape_of}
 use Rattle.hs_core.specs.Records.{HasRecordRoom}
 use Rattle.hs_core.specs.State.{Core}
 use Rattle.hs_core.specs.Step.{step}
 use Rattle.hs_effects.specs.Logged.{HasBlock}
-use Rattle.hs_effects.specs.Taking.{next_deed, setting_of}
-use Rattle.hs_entry.specs.declared.entry.Entry.{Entry}
 use Rattle.hs_events.specs.Due.{Events}
-use Rattle.hs_fold.specs.Shards.Happening.{sweeps}
-use Rattle.hs_joint.specs.Along.{happening_by}
 use Rattle.hs_limits.specs.declared.address.Address.{Address}
 use Rattle.hs_measure.specs.Zeros.{EachUnreachedIsZero, ZerosRight}
 use Rattle.hs_model.specs.declared.op.Op.{Op}
@@ -49,12 +45,16 @@ pub record IsCountedRight (name : List ℕ → Address) (core : Core) : Type 0 w
   pub counts : CountsRight name core
   pub zeros : ZerosRight name core
 
--- its counts are right, and so are its zero blocks, by some naming of blocks
--- swept: while it goes on, and the entry that waits first in a shard's list makes the shard sweep, each older block of the shard that is out of reach is a zero block
-pub record StaysCountedRight (core : Core) : Type 0 where
+-- a shard sweeps on the way from one core to another: the epoch up to which it has swept is not the same
+abbrev pub Sweeps : ℕ → Core → Core → Type 0
+Sweeps shard core after = (catalogue_of shard after).swept ≢ (catalogue_of shard core).swept
+
+-- the counts of a core are right, and so are its zero blocks, by some naming of blocks; after: the core behind the next event, or the same where there is none
+-- exact: where a shard sweeps by that event, it does up to its epoch, and each of its older blocks that are out of reach was a zero block
+pub record StaysCountedRight (core after : Core) : Type 0 where
   pub naming : List ℕ → Address
   pub names : GivesAddresses naming
   pub counts : CountsRight naming core
   pub zeros : ZerosRight naming core
-  pub swept : (shard : ℕ) (entry : Entry) → core.ended ≡ None → slice_get (group_of shard core).waiting 0 ≡ Some entry
-      → happening_by (setting_of naming core) zeros.folds (next_deed shard entry core) ≡ Some (sweeps shard) → EachUnreachedIsZero zeros.folds shard
+  pub exact : (shard : ℕ) → shard < (shape_of core).shards → Sweeps shard core after
+      → ((catalogue_of shard after).swept ≡ (catalogue_of shard core).epoch) × EachUnreachedIsZero zeros.folds shard

@@ -1,5 +1,5 @@
 //! What the counts of a core are worth, whatever reports tell.
-ghost use Rattle.std.specs.Prelude.{ℕ, take};
+ghost use Rattle.std.specs.Prelude.{ℕ, ◌+◌, take};
 ghost use Rattle.hs_any_events.specs.Events.{MayStepAll, IsCountedRight, StaysCountedRight};
 ghost use Rattle.hs_events.specs.Course.{steps};
 ghost use Rattle.hs_events.specs.Due.{Events};
@@ -36,8 +36,8 @@ use hs_standing::a_run_goes_on;
 /// addresses writes bring, and whichever lines there are beside clients'. There the lists go from 1 on
 /// without a Base, and the core goes on as it opens; a client's line is above those before, and its write
 /// brings an address where it has a block; and a core that goes on has room for root records. Zero blocks
-/// are right by some naming of blocks then; and where what waits first in a shard's list makes the shard
-/// sweep, each older block of it that is out of reach is a zero block.
+/// are right by some naming of blocks then; and where a shard sweeps by the event that comes next, each older
+/// block of it that is out of reach was a zero block.
 pub fn counts_are_right_behind_any_events()
     ensures opens { (set : Setting) (found : Found)
         → IsShape set.shape
@@ -46,7 +46,8 @@ pub fn counts_are_right_behind_any_events()
     ensures events { (start : Start) (found : Found) (events : Events)
         → RunOpens start found
         → MayStepAll (first_core start.set found) events →
-        (n : ℕ) → StaysCountedRight (steps (first_core start.set found) (take n events)) }
+        (n : ℕ) → StaysCountedRight (steps (first_core start.set found) (take n events))
+        (steps (first_core start.set found) (take (n + 1) events)) }
 {
     views_show_the_store();
     a_step_that_answers_is_the_judges();

@@ -32,7 +32,7 @@ use Rattle.hs_moments.proofs.CourseLemmas.{good-append, taken-append}
 use Rattle.hs_moments.specs.CoreMachine.{core_at}
 use Rattle.hs_moments.specs.Joint.{AtMoment}
 use Rattle.hs_moments.specs.Machine.{runs, state_at, until}
-use Rattle.hs_moments.specs.WholeMachine.{IsFrontOf, last_of, whole_machine}
+use Rattle.hs_moments.specs.WholeMachine.{whole_machine}
 use Rattle.hs_peerlog.specs.Images.{LeavesOnly}
 use Rattle.hs_ports.specs.Disk.{Standing}
 use Rattle.hs_ports.specs.MemoryDisk.{untold}
@@ -146,7 +146,7 @@ module _ (S : Script) (r : Ran) (story : Story) (went : Went S r story) (asked :
     -- ---- a moment of the machine
 
     pub at_moment : IsShown S r story → HaveOneList r
-        → AtMoment whole_machine (IsStateAt (state_then S story m)) IsFrontOf last_of S.set.shape (counted_course S r) r.journal m r.new.disks
+        → AtMoment whole_machine (IsStateAt (state_then S story m)) S.set.shape (counted_course S r) r.journal m r.new.disks
     at_moment shown lists = record {
       core = state_then S story m;
       tells = record {

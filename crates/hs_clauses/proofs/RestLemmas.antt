@@ -24,7 +24,7 @@ use Rattle.hs_model.specs.Run.{Event, IsLegal, run}
 use Rattle.hs_model.specs.Store.{reborn}
 use Rattle.hs_moments.specs.Joint.{AtMoment}
 use Rattle.hs_moments.specs.Machine.{Machine}
-use Rattle.hs_moments.specs.WholeMachine.{IsFrontOf, last_of}
+use Rattle.hs_moments.specs.WholeMachine.{last_of}
 use Rattle.hs_peerlog.specs.Images.{LeavesOnly}
 use Rattle.hs_ports.specs.Moments.{disk_at}
 use Rattle.hs_ports.specs.Objects.{IsDuring}
@@ -103,7 +103,7 @@ module _ (S : Script) (r : Ran) (on : OnDisks S r) (may : MayStop S r) (notes : 
   one_copy : S.set.shape.shards * S.set.shape.copies ≡ S.set.shape.shards
   one_copy = ap (λ n. S.set.shape.shards * n) on.one ∙ omega arith
 
-  moment : AtMoment at_rest (λ c. Unit {0}) IsFrontOf last_of S.set.shape (counted_course S r) r.journal m r.new.disks
+  moment : AtMoment at_rest (λ c. Unit {0}) S.set.shape (counted_course S r) r.journal m r.new.disks
   moment = record {
     core = 0;
     tells = record {

@@ -15,7 +15,7 @@ use Rattle.hs_events.specs.Whole.{open_whole}
 use Rattle.hs_fold.specs.Images.{IsLeft}
 use Rattle.hs_fold.specs.Shards.Setting.{Numbered}
 use Rattle.hs_moments.specs.Moments.{ListsAtMoments}
-use Rattle.hs_moments.specs.WholeMachine.{IsFrontOf, last_of, whole_machine}
+use Rattle.hs_moments.specs.WholeMachine.{whole_machine}
 use Rattle.hs_peerlog.specs.Images.{GivesList, Is, LeavesOnly}
 use Rattle.hs_ports.specs.Disk.{Standing}
 use Rattle.hs_ports.specs.Moments.{disk_at}
@@ -58,7 +58,7 @@ module _ (tells : Type 0) (S : Script) (r : Ran) (story : Story) (on : OnDisks S
   }
 
   moments : HaveOneList r → (first_core S.set story.found).ended ≡ None
-      → ListsAtMoments whole_machine IsFrontOf last_of (open_whole S.set story.found) (happened (first_core S.set story.found) (all_events story)) r.old.moment r.new.moment r.new.disks
+      → ListsAtMoments whole_machine (open_whole S.set story.found) (happened (first_core S.set story.found) (all_events story)) (record { before = r.old.moment; now = r.new.moment; disks = r.new.disks })
   moments h going = record {
     fine = λ m p above up_to early counts image left.
         (runs.lists told (sound h) going).moments.fine m p (omega (arith, above, before)) (omega (arith, up_to, now)) early counts image

@@ -30,7 +30,7 @@ use Rattle.hs_model.specs.declared.course.CourseItem.{CourseItem}
 use Rattle.hs_moments.proofs.OpeningLemmas.{opening_is_sane}
 use Rattle.hs_moments.specs.Joint.{AtMoment}
 use Rattle.hs_moments.specs.Machine.{runs, state_at, until}
-use Rattle.hs_moments.specs.WholeMachine.{IsFrontOf, last_of, whole_machine}
+use Rattle.hs_moments.specs.WholeMachine.{whole_machine}
 use Rattle.hs_ports.specs.Objects.{IsDuring}
 use Rattle.hs_promise.specs.Ending.{ending_of}
 use Rattle.hs_promise.specs.Entry.{MayStop, counted_course, entry_logs, entry_store, still_counts}
@@ -54,7 +54,7 @@ pub record StopLaws : Type 0 where
   pub first : (start : Start) (stop : Stop) (found : Found) → RunOpens start found → AreBegun start stop (first_core start.set found)
   pub reopens : (start : Start) (stop : Stop) (c : Whole) (events : Events) (journal : List JournalEntry) (images : List Image) → IsShape start.set.shape → start.set.shape.copies ≡ 1 → length stop.disks ≡ start.set.shape.shards
       → IsRunning start c → AreBegun start stop c.core → AllMayKeep start (MayRun start) c.core events → ((i : CourseItem) → Contains (items_of c.core events) i → Contains stop.course i)
-      → AtMoment whole_machine (IsStateAt (state_at whole_machine c (happened c.core events) stop.moment)) IsFrontOf last_of start.set.shape stop.course journal stop.moment stop.disks
+      → AtMoment whole_machine (IsStateAt (state_at whole_machine c (happened c.core events) stop.moment)) start.set.shape stop.course journal stop.moment stop.disks
       → AreGoodImages start.set.shape stop images → Reopens start stop (below stop.moment journal) images
 
 -- ---- small words
@@ -122,7 +122,7 @@ module _ (laws : StopLaws) (S : Script) (r : Ran) (story : Story) (went : Went S
       (λ p low. none_aside S r story went asked.on.one asked.read asked.on.disks (good S r story went asked) p (let disks = asked.on.disks in omega (arith, low, disks)))
 
   module _ (shown : IsShown S r story) (may : MayStop S r) where
-    at_each : (m : ℕ) → IsDuring r.old r.new m → AtMoment whole_machine (IsStateAt (state_then S story m)) IsFrontOf last_of S.set.shape (counted_course S r) r.journal m r.new.disks
+    at_each : (m : ℕ) → IsDuring r.old r.new m → AtMoment whole_machine (IsStateAt (state_then S story m)) S.set.shape (counted_course S r) r.journal m r.new.disks
     at_each m d = at_moment S r story went asked counted_is m d shown (lists_of may)
 
     low_peer : (peer : ℕ) → peer < length r.new.disks → peer < S.set.shape.shards * S.set.shape.copies

@@ -13,7 +13,7 @@ use Rattle.hs_standing.specs.Held.{GivesAddresses}
 use Rattle.hs_journal.specs.Events.{client_op}
 use Rattle.hs_limits.specs.Shape.{IsShape}
 use Rattle.hs_moments.specs.Moments.{ListsAtMoments}
-use Rattle.hs_moments.specs.WholeMachine.{IsFrontOf, last_of, whole_machine}
+use Rattle.hs_moments.specs.WholeMachine.{whole_machine}
 use Rattle.hs_peerlog.specs.Images.{LeavesOnly}
 use Rattle.hs_ports.specs.Moments.{disk_at}
 use Rattle.hs_ports.specs.Objects.{IsDuring}
@@ -51,7 +51,7 @@ pub record IsShown (S : Script) (r : Ran) (story : Story) : Type 0 where
   pub rooms : HaveRecordRoom (first_core S.set story.found) (all_events story)
   pub told : (first_core S.set story.found).ended ≡ None → AreTold (open_whole S.set story.found) (all_events story)
   pub lists : HaveOneList r → (first_core S.set story.found).ended ≡ None
-      → ListsAtMoments whole_machine IsFrontOf last_of (open_whole S.set story.found) (happened (first_core S.set story.found) (all_events story)) r.old.moment r.new.moment r.new.disks
+      → ListsAtMoments whole_machine (open_whole S.set story.found) (happened (first_core S.set story.found) (all_events story)) (record { before = r.old.moment; now = r.new.moment; disks = r.new.disks })
   pub ended : IsSome (first_core S.set story.found).ended → KeepLists S r
 
 -- no core was opened; where memory was wanting each disk keeps its list

@@ -251,7 +251,7 @@ module _ (tells : Type 0) (set : Setting) (span : Span) (taken : Taken) (one : s
             absurd (false_is_not (sym (ap (λ b. not (not b)) aside) ∙ is))
       ]
 
-      fine_at : (p : ℕ) → p < count → (image : Side → List ℕ) → list_in image ≡ Some (opened_list set f p) → GivesFine whole_machine IsFrontOf last_of c p image
+      fine_at : (p : ℕ) → p < count → (image : Side → List ℕ) → list_in image ≡ Some (opened_list set f p) → GivesFine whole_machine c p image
       fine_at p low image is = record {
         list = opened_list set f p;
         read = is;
@@ -268,7 +268,7 @@ module _ (tells : Type 0) (set : Setting) (span : Span) (taken : Taken) (one : s
         | inr high ↦ subst (λ (d : Standing). d.last ≤ span.now) (sym (new_past p high)) (omega arith)
       ])
 
-      keeps : Keeps whole_machine IsFrontOf last_of c span.now (stands_of span.new)
+      keeps : Keeps whole_machine c span.now (stands_of span.new)
       keeps = record {
         called = called;
         fine = λ p is image stands.
@@ -292,7 +292,7 @@ module _ (tells : Type 0) (set : Setting) (span : Span) (taken : Taken) (one : s
             | inr high ↦ ap (λ (d : Standing). d.past m side) (new_past p high) ∙ sym (ap (λ (d : Standing). d.past m side) (old_past p high))
           ]
 
-      pub read_moments : (m p : ℕ) → span.before < m → m < 2 ^ 64 - 1 → counts c p ≡ true → (image : Side → List ℕ) → IsLeft (disk_at (stands_of span.new) p) m image → GivesFine whole_machine IsFrontOf last_of c p image
+      pub read_moments : (m p : ℕ) → span.before < m → m < 2 ^ 64 - 1 → counts c p ≡ true → (image : Side → List ℕ) → IsLeft (disk_at (stands_of span.new) p) m image → GivesFine whole_machine c p image
       read_moments m p after fits is image left =
           let low : p < count = counted_low p is in
           let there : IsLeft (seen_at span.new p).stands m image = subst (λ d. IsLeft d m image) (stands_seen span.new p) left in
@@ -304,7 +304,7 @@ module _ (tells : Type 0) (set : Setting) (span : Span) (taken : Taken) (one : s
 -- the lists of the turns are put behind those of the reading
 joined : (c : Whole) (es : Events) (before mid now : ℕ) (old between left : List DiskSeen) (begun cluster : Running) → before ≤ mid → MomentsRise mid es now
     → ((p m : ℕ) (side : Side) → m ≤ before → m < 2 ^ 64 - 1 → (disk_at (stands_of between) p).past m side ≡ (disk_at (stands_of old) p).past m side)
-    → ((m p : ℕ) → before < m → m < 2 ^ 64 - 1 → counts c p ≡ true → (image : Side → List ℕ) → IsLeft (disk_at (stands_of between) p) m image → GivesFine whole_machine IsFrontOf last_of c p image)
+    → ((m p : ℕ) → before < m → m < 2 ^ 64 - 1 → counts c p ≡ true → (image : Side → List ℕ) → IsLeft (disk_at (stands_of between) p) m image → GivesFine whole_machine c p image)
     → LeavesLists c es (record { before = mid; now = now; old = begun; new = cluster; disks = between; left = left })
     → LeavesLists c es (record { before = before; now = now; old = begun; new = cluster; disks = old; left = left })
 joined c es before mid now old between left begun cluster ticks rises earlier moments turns = record {
@@ -320,10 +320,10 @@ joined c es before mid now old between left begun cluster ticks rises earlier mo
 }
   where
     early : (m p : ℕ) → before < m → m ≤ mid → m < 2 ^ 64 - 1 → counts (state_at whole_machine c (happened c.core es) m) p ≡ true → (image : Side → List ℕ) → IsLeft (disk_at (stands_of left) p) m image
-        → GivesFine whole_machine IsFrontOf last_of (state_at whole_machine c (happened c.core es) m) p image
+        → GivesFine whole_machine (state_at whole_machine c (happened c.core es) m) p image
     early m p after le fits counted image is_left =
         let same : state_at whole_machine c (happened c.core es) m ≡ c = ap (λ xs. runs whole_machine c xs) (none_below m mid now (happened c.core es) le (happened_rise c.core mid now es rises)) in
-        subst (λ s. GivesFine whole_machine IsFrontOf last_of s p image) (sym same)
+        subst (λ s. GivesFine whole_machine s p image) (sym same)
         (moments m p after fits (subst (λ s. counts s p ≡ true) same counted) image (record { sides = λ side. subst (λ x. IsImage x (image side)) (turns.earlier p m side le fits) (is_left.sides side) }))
 
 -- ---- all of it

@@ -23,7 +23,7 @@ use Rattle.hs_fold.specs.Shards.Setting.{Numbered}
 use Rattle.hs_limits.specs.declared.shape.Shape.{Shape}
 use Rattle.hs_members.specs.Members.{IsPeer}
 use Rattle.hs_moments.specs.Moments.{EachImageOfOne, GivesFine, IsStanding, Keeps}
-use Rattle.hs_moments.specs.WholeMachine.{IsFrontOf, last_of, whole_machine}
+use Rattle.hs_moments.specs.WholeMachine.{whole_machine}
 use Rattle.hs_peerlog.specs.Images.{GivesList, IsOne, LeavesAll, LeavesEach}
 use Rattle.hs_peerlog.specs.Lists.{HasLog, Keeping}
 use Rattle.hs_ports.specs.declared.disk.Side.{Side}
@@ -63,16 +63,16 @@ one_of_all before now peer disks left P count others run f = record {
   others = others;
 }
 
-fine_by : (c : Whole) (peer : ℕ) (image : Side → List ℕ) (list : Numbered) → list_in image ≡ Some list → MayHave c peer list → GivesFine whole_machine IsFrontOf last_of c peer image
+fine_by : (c : Whole) (peer : ℕ) (image : Side → List ℕ) (list : Numbered) → list_in image ≡ Some list → MayHave c peer list → GivesFine whole_machine c peer image
 fine_by c peer image list read may = record { list = list; read = read; front = may.front; long = may.long }
 
 length_stands : (disks : List DiskSeen) → length (stands_of disks) ≡ length disks
 length_stands [] = refl
 length_stands (d ∷ disks) = ap (λ n. suc n) (length_stands disks)
 
-module _ (c : Whole) (w : Working) (sane : IsSane c) (is : IsPeer c.core.members.shape w.peer) (logs : KeepsLogs c w.logs w.disks) (keeps : Keeps whole_machine IsFrontOf last_of c w.before (stands_of w.disks)) where
+module _ (c : Whole) (w : Working) (sane : IsSane c) (is : IsPeer c.core.members.shape w.peer) (logs : KeepsLogs c w.logs w.disks) (keeps : Keeps whole_machine c w.before (stands_of w.disks)) where
   abbrev Fine : Whole → (Side → List ℕ) → Type 0
-  Fine s image = GivesFine whole_machine IsFrontOf last_of s w.peer image
+  Fine s image = GivesFine whole_machine s w.peer image
 
   -- what is on the disk before the job, and the entry that waits
   abbrev list : Numbered

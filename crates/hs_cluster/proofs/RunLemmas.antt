@@ -31,7 +31,7 @@ use Rattle.hs_moments.proofs.HappenedLemmas.{happened_rise}
 use Rattle.hs_moments.proofs.MomentLemmas.{later-keeps, lt-is}
 use Rattle.hs_moments.specs.Machine.{runs, state_at, until}
 use Rattle.hs_moments.specs.Moments.{GivesFine, IsStanding, Keeps, ListsAtMoments, Since}
-use Rattle.hs_moments.specs.WholeMachine.{IsFrontOf, last_of, whole_machine}
+use Rattle.hs_moments.specs.WholeMachine.{whole_machine}
 use Rattle.hs_ports.specs.declared.disk.Side.{Side}
 use Rattle.hs_ports.specs.Disk.{IsImage}
 use Rattle.hs_ports.specs.Fault.{HasRisen}
@@ -100,10 +100,10 @@ module _ (tells : Type 0) (set : Setting) (found : Found) (before mid now : ℕ)
       let all : happened c.core (es ++ fs) ≡ es ++ happened behind.core fs = happened_then c.core es fs goes ∙ ap (λ x. es ++ happened x fs) (sym (runs_core c es)) in
       record {
         earlier = λ k m side low fits. two.earlier k m side (let ticks = rises_to before mid es rise in omega (arith, low, ticks)) fits ∙ one.earlier k m side low fits;
-        moments = subst (λ xs. ListsAtMoments whole_machine IsFrontOf last_of c xs before now (stands_of left)) (sym all)
+        moments = subst (λ xs. ListsAtMoments whole_machine c xs (record { before = before; now = now; disks = (stands_of left) })) (sym all)
             (moments_then c es (happened behind.core fs) before mid now (stands_of between) (stands_of left) rise (happened_rise behind.core mid now fs on) two.earlier
-            (subst (λ xs. ListsAtMoments whole_machine IsFrontOf last_of c xs before mid (stands_of between)) mine one.moments) two.moments);
-        keeps = subst (λ s. Keeps whole_machine IsFrontOf last_of s now (stands_of left)) (sym (ap (λ xs. runs whole_machine c xs) all ∙ runs_append c es (happened behind.core fs))) two.keeps;
+            (subst (λ xs. ListsAtMoments whole_machine c xs (record { before = before; now = mid; disks = (stands_of between) })) mine one.moments) two.moments);
+        keeps = subst (λ s. Keeps whole_machine s now (stands_of left)) (sym (ap (λ xs. runs whole_machine c xs) all ∙ runs_append c es (happened behind.core fs))) two.keeps;
         told = told_then c es fs one.told two.told;
       }
 
@@ -160,16 +160,16 @@ lists_later c es before now later begun cluster disks left ticks rises since so_
       | inr le ↦ so_far.moments.fine m k low le fits counted image is_left
     ];
   };
-  keeps = later-keeps whole_machine IsFrontOf last_of (runs whole_machine c (happened c.core es)) now later (stands_of left) ticks so_far.keeps;
+  keeps = later-keeps whole_machine (runs whole_machine c (happened c.core es)) now later (stands_of left) ticks so_far.keeps;
   told = so_far.told;
 }
   where
     late : (m k : ℕ) → now < m → counts (state_at whole_machine c (happened c.core es) m) k ≡ true → (image : Side → List ℕ) → IsLeft (disk_at (stands_of left) k) m image
-        → GivesFine whole_machine IsFrontOf last_of (state_at whole_machine c (happened c.core es) m) k image
+        → GivesFine whole_machine (state_at whole_machine c (happened c.core es) m) k image
     late m k above counted image is_left =
         let same : state_at whole_machine c (happened c.core es) m ≡ runs whole_machine c (happened c.core es) = ap (λ xs. runs whole_machine c xs) (until_all m before now (happened c.core es) above (happened_rise c.core before now es rises)) in
         let stands : IsStanding (disk_at (stands_of left) k) image = record { sides = λ side. subst (λ x. IsImage x (image side)) (since k side m (let last = so_far.keeps.called k in omega (arith, last, above))) (is_left.sides side) } in
-        subst (λ s. GivesFine whole_machine IsFrontOf last_of s k image) (sym same) (so_far.keeps.fine k (subst (λ s. counts s k ≡ true) same counted) image stands)
+        subst (λ s. GivesFine whole_machine s k image) (sym same) (so_far.keeps.fine k (subst (λ s. counts s k ≡ true) same counted) image stands)
 
 pub runs_later : (tells : Type 0) (set : Setting) (found : Found) (before now later : ℕ) (begun cluster : Running) (disks left : List DiskSeen) (es : Events) → now ≤ later → MomentsRise found.opened es now → (tells → Since (stands_of left))
     → RunsOn tells set (record { before = before; now = now; old = begun; new = cluster; disks = disks; left = left }) found es
@@ -202,7 +202,7 @@ can_later tells set found before now later begun cluster disks left es ticks can
       record {
         sane = so_far.sane;
         listed = so_far.listed;
-        keeps = later-keeps whole_machine IsFrontOf last_of (runs whole_machine (open_whole set found) es) now later (stands_of left) ticks so_far.keeps;
+        keeps = later-keeps whole_machine (runs whole_machine (open_whole set found) es) now later (stands_of left) ticks so_far.keeps;
       };
   reads = can.reads;
 }

@@ -44,7 +44,7 @@ use Rattle.hs_moments.proofs.HappenedLemmas.{happened_rise}
 use Rattle.hs_moments.proofs.MomentLemmas.{call-keeps, le-is, lt-is, quiet-keeps}
 use Rattle.hs_moments.specs.Machine.{runs, state_at, until}
 use Rattle.hs_moments.specs.Moments.{EachImageOfOne, GivesFine, Grows, IsStanding, Keeps, ListsAtMoments, Since}
-use Rattle.hs_moments.specs.WholeMachine.{IsFrontOf, last_of, whole_machine}
+use Rattle.hs_moments.specs.WholeMachine.{whole_machine}
 use Rattle.hs_peerlog.specs.Lists.{HasLog, IsKept, Keeping}
 use Rattle.hs_ports.specs.declared.disk.Side.{Side}
 use Rattle.hs_ports.specs.Disk.{IsImage, Standing}
@@ -173,8 +173,8 @@ quiet_shows e now old new disks r quiet was does less = record {
   lists = λ told c core can. record {
     earlier = λ peer m side low fits. refl;
     moments = record { fine = λ m peer low high fits counted image left. absurd (omega (arith, low, high)) };
-    keeps = behind c e now (λ s. Keeps whole_machine IsFrontOf last_of s now (stands_of disks)) r can.keeps
-        (λ there. quiet-keeps whole_machine IsFrontOf last_of c (step_whole e now c) now (stands_of disks) (λ peer. growing_without_call c e now peer can.sane quiet there) can.keeps);
+    keeps = behind c e now (λ s. Keeps whole_machine s now (stands_of disks)) r can.keeps
+        (λ there. quiet-keeps whole_machine c (step_whole e now c) now (stands_of disks) (λ peer. growing_without_call c e now peer can.sane quiet there) can.keeps);
     told = told_by c e now r (subst (λ o. IsTold c o) (sym quiet) tt);
   };
   goes_on = λ told c core can. go r does c core can;
@@ -200,7 +200,7 @@ quiet_shows e now old new disks r quiet was does less = record {
         record {
           sane = sane_stays c e now can.sane going;
           listed = quiet_logs c e now old.logs new.logs disks can.sane (ap (λ (x : Core). x.ended) core ∙ was) quiet going less can.listed;
-          keeps = quiet-keeps whole_machine IsFrontOf last_of c (step_whole e now c) now (stands_of disks) (λ peer. growing_without_call c e now peer can.sane quiet unrefused) can.keeps;
+          keeps = quiet-keeps whole_machine c (step_whole e now c) now (stands_of disks) (λ peer. growing_without_call c e now peer can.sane quiet unrefused) can.keeps;
         }
 
 -- nothing was done, and nothing came
@@ -248,8 +248,8 @@ cut_shows tells span fault es shows = record { counted = shows.counted; calm = �
 
 -- ---- a call and its report
 
-module _ (c : Whole) (before now peer : ℕ) (disks left : List Standing) (since : Since disks) (keeps : Keeps whole_machine IsFrontOf last_of c before disks)
-    (call : EachImageOfOne before now peer disks left (λ image. counts c peer ≡ true → GivesFine whole_machine IsFrontOf last_of c peer image)) where
+module _ (c : Whole) (before now peer : ℕ) (disks left : List Standing) (since : Since disks) (keeps : Keeps whole_machine c before disks)
+    (call : EachImageOfOne before now peer disks left (λ image. counts c peer ≡ true → GivesFine whole_machine c peer image)) where
   call_earlier : (k m : ℕ) (side : Side) → m ≤ before → m < 2 ^ 64 - 1 → (disk_at left k).past m side ≡ (disk_at disks k).past m side
   call_earlier k m side low fits = elim (cases_eq k peer) [
     | inl same ↦ subst (λ p. (disk_at left p).past m side ≡ (disk_at disks p).past m side) (sym same) (call.earlier side m low fits)
@@ -257,16 +257,16 @@ module _ (c : Whole) (before now peer : ℕ) (disks left : List Standing) (since
   ]
 
   -- the core stands still while it acts
-  call_moments : (es : Events) → ((m : ℕ) → m ≤ now → until m es ≡ []) → ListsAtMoments whole_machine IsFrontOf last_of c es before now left
+  call_moments : (es : Events) → ((m : ℕ) → m ≤ now → until m es ≡ []) → ListsAtMoments whole_machine c es (record { before = before; now = now; disks = left })
   call_moments es none = record {
     fine = λ m k low high fits counted image is_left.
         let same : state_at whole_machine c es m ≡ c = ap (λ xs. runs whole_machine c xs) (none m high) in
-        subst (λ s. GivesFine whole_machine IsFrontOf last_of s k image) (sym same) (at m k low fits (subst (λ s. counts s k ≡ true) same counted) image is_left);
+        subst (λ s. GivesFine whole_machine s k image) (sym same) (at m k low fits (subst (λ s. counts s k ≡ true) same counted) image is_left);
   }
     where
-      at : (m k : ℕ) → before < m → m < 2 ^ 64 - 1 → counts c k ≡ true → (image : Side → List ℕ) → IsLeft (disk_at left k) m image → GivesFine whole_machine IsFrontOf last_of c k image
+      at : (m k : ℕ) → before < m → m < 2 ^ 64 - 1 → counts c k ≡ true → (image : Side → List ℕ) → IsLeft (disk_at left k) m image → GivesFine whole_machine c k image
       at m k low fits counted image is_left = elim (cases_eq k peer) [
-        | inl same ↦ subst (λ p. GivesFine whole_machine IsFrontOf last_of c p image) (sym same)
+        | inl same ↦ subst (λ p. GivesFine whole_machine c p image) (sym same)
             (call.each m low fits image (subst (λ p. IsLeft (disk_at left p) m image) same is_left) (subst (λ p. counts c p ≡ true) same counted))
         | inr differs ↦ keeps.fine k counted image (stands (subst (λ d. IsLeft d m image) (call.others k differs) is_left))
       ]
@@ -274,12 +274,12 @@ module _ (c : Whole) (before now peer : ℕ) (disks left : List Standing) (since
           stands : IsLeft (disk_at disks k) m image → IsStanding (disk_at disks k) image
           stands l = record { sides = λ side. subst (λ x. IsImage x (image side)) (since k side m (let last = keeps.called k in omega (arith, last, low))) (l.sides side) }
 
-  same_grows : (k : ℕ) → Grows whole_machine IsFrontOf last_of c c k
+  same_grows : (k : ℕ) → Grows whole_machine c c k
   same_grows k = record { counted = λ h. h; front = λ list h. h; long = omega arith }
 
   -- no event came of it
-  call_keeps : Keeps whole_machine IsFrontOf last_of c now left
-  call_keeps = call-keeps whole_machine IsFrontOf last_of c c before now peer disks left (λ image. counts c peer ≡ true → GivesFine whole_machine IsFrontOf last_of c peer image) (λ k differs. same_grows k) call
+  call_keeps : Keeps whole_machine c now left
+  call_keeps = call-keeps whole_machine c c before now peer disks left (λ image. counts c peer ≡ true → GivesFine whole_machine c peer image) (λ k differs. same_grows k) call
       (λ counted image stands. call.standing image stands counted) keeps
 
   call_lists : (span : Span) → span.before ≡ before → span.now ≡ now → stands_of span.disks ≡ disks → stands_of span.left ≡ left → LeavesLists c [] span
@@ -287,10 +287,10 @@ module _ (c : Whole) (before now peer : ℕ) (disks left : List Standing) (since
     earlier = λ k m side low fits.
         subst (λ ds. (disk_at (stands_of span.left) k).past m side ≡ (disk_at ds k).past m side) (sym is_disks)
         (subst (λ ds. (disk_at ds k).past m side ≡ (disk_at disks k).past m side) (sym is_left) (call_earlier k m side (subst (λ b. m ≤ b) is_before low) fits));
-    moments = subst (λ b. ListsAtMoments whole_machine IsFrontOf last_of c [] b span.now (stands_of span.left)) (sym is_before)
-        (subst (λ n. ListsAtMoments whole_machine IsFrontOf last_of c [] before n (stands_of span.left)) (sym is_now)
-        (subst (λ ds. ListsAtMoments whole_machine IsFrontOf last_of c [] before now ds) (sym is_left) (call_moments [] (λ m low. refl))));
-    keeps = subst (λ n. Keeps whole_machine IsFrontOf last_of c n (stands_of span.left)) (sym is_now) (subst (λ ds. Keeps whole_machine IsFrontOf last_of c now ds) (sym is_left) call_keeps);
+    moments = subst (λ b. ListsAtMoments whole_machine c [] (record { before = b; now = span.now; disks = (stands_of span.left) })) (sym is_before)
+        (subst (λ n. ListsAtMoments whole_machine c [] (record { before = before; now = n; disks = (stands_of span.left) })) (sym is_now)
+        (subst (λ ds. ListsAtMoments whole_machine c [] (record { before = before; now = now; disks = ds })) (sym is_left) (call_moments [] (λ m low. refl))));
+    keeps = subst (λ n. Keeps whole_machine c n (stands_of span.left)) (sym is_now) (subst (λ ds. Keeps whole_machine c now ds) (sym is_left) call_keeps);
     told = tt;
   }
 
@@ -342,7 +342,7 @@ job_shows tells before now peer old new after disks left E done r is up was answ
       record {
         earlier = call_earlier c before now peer (stands_of disks) (stands_of left) (since told) can.keeps call;
         moments = call_moments c before now peer (stands_of disks) (stands_of left) (since told) can.keeps call (happened c.core (done_of r (e, now))) (none_yet c e now r);
-        keeps = behind c e now (λ s. Keeps whole_machine IsFrontOf last_of s now (stands_of left)) r
+        keeps = behind c e now (λ s. Keeps whole_machine s now (stands_of left)) r
             (call_keeps c before now peer (stands_of disks) (stands_of left) (since told) can.keeps call)
             (λ there. keeps_then told c core can there);
         told = told_by c e now r (report_told c w can.sane low can.listed can.keeps done now E done_then answers, bytes);
@@ -404,12 +404,12 @@ job_shows tells before now peer old new after disks left E done r is up was answ
         (all told (own_in c core can.sane) (sealed_front c peer) (appended_of peer c.core) (λ keeping at. can.listed.each peer keeping (low_in c core) at)
         (subst (λ x. HasStored (first_job peer x) (catalogue_of (home peer x) x).blocks (sealed_front c peer)) core (stored.0 (ap (λ (x : Core). x.ended) core ∙ was) peer)))
 
-    keeps_then : tells → (c : Whole) → c.core ≡ old.core → CanGoOn c old.logs disks before → is_refused (step e now c.core).ended ≡ false → Keeps whole_machine IsFrontOf last_of (step_whole e now c) now (stands_of left)
+    keeps_then : tells → (c : Whole) → c.core ≡ old.core → CanGoOn c old.logs disks before → is_refused (step e now c.core).ended ≡ false → Keeps whole_machine (step_whole e now c) now (stands_of left)
     keeps_then told c core can there =
         let low : IsPeer c.core.members.shape peer = subst (λ (x : Core). IsPeer x.members.shape peer) (sym core) is in
         let done_then = did told c core can in
         let answers : is_answer c.core peer done ≡ true = subst (λ x. is_answer x peer done ≡ true) (sym core) answer in
-        call-keeps whole_machine IsFrontOf last_of c (step_whole e now c) before now peer (stands_of disks) (stands_of left) (λ image. counts c peer ≡ true → GivesFine whole_machine IsFrontOf last_of c peer image)
+        call-keeps whole_machine c (step_whole e now c) before now peer (stands_of disks) (stands_of left) (λ image. counts c peer ≡ true → GivesFine whole_machine c peer image)
         (λ k differs. growing_beside c done now peer k can.sane answers differs there)
         (call_fine c w can.sane low can.listed can.keeps (Ok done) done_then)
         (λ counted image stands. report_fine c w can.sane low can.listed can.keeps done now E done_then answers there image stands)
@@ -445,8 +445,8 @@ stored_back c (e ∷ es) fs h = stored_back (step_whole e.0 e.1 c) es fs h.1
 
 pub moments_then : (c : Whole) (es fs : Events) (before mid now : ℕ) (between left : List Standing) → MomentsRise before es mid → MomentsRise mid fs now
     → ((k m : ℕ) (side : Side) → m ≤ mid → m < 2 ^ 64 - 1 → (disk_at left k).past m side ≡ (disk_at between k).past m side)
-    → ListsAtMoments whole_machine IsFrontOf last_of c es before mid between → ListsAtMoments whole_machine IsFrontOf last_of (runs whole_machine c es) fs mid now left
-    → ListsAtMoments whole_machine IsFrontOf last_of c (es ++ fs) before now left
+    → ListsAtMoments whole_machine c es (record { before = before; now = mid; disks = between }) → ListsAtMoments whole_machine (runs whole_machine c es) fs (record { before = mid; now = now; disks = left })
+    → ListsAtMoments whole_machine c (es ++ fs) (record { before = before; now = now; disks = left })
 moments_then c es fs before mid now between left rise on earlier one two = record {
   fine = λ m k low high fits counted image is_left. elim (cases_lt mid m) [
     | inl above ↦ late m k above high fits counted image is_left
@@ -455,16 +455,16 @@ moments_then c es fs before mid now between left rise on earlier one two = recor
 }
   where
     late : (m k : ℕ) → mid < m → m ≤ now → m < 2 ^ 64 - 1 → counts (state_at whole_machine c (es ++ fs) m) k ≡ true → (image : Side → List ℕ) → IsLeft (disk_at left k) m image
-        → GivesFine whole_machine IsFrontOf last_of (state_at whole_machine c (es ++ fs) m) k image
+        → GivesFine whole_machine (state_at whole_machine c (es ++ fs) m) k image
     late m k above high fits counted image is_left =
         let same : state_at whole_machine c (es ++ fs) m ≡ state_at whole_machine (runs whole_machine c es) fs m = ap (λ xs. runs whole_machine c xs) (until_high m before mid es fs above rise) ∙ runs_append c es (until m fs) in
-        subst (λ s. GivesFine whole_machine IsFrontOf last_of s k image) (sym same) (two.fine m k above high fits (subst (λ s. counts s k ≡ true) same counted) image is_left)
+        subst (λ s. GivesFine whole_machine s k image) (sym same) (two.fine m k above high fits (subst (λ s. counts s k ≡ true) same counted) image is_left)
 
     early : (m k : ℕ) → before < m → m ≤ mid → m < 2 ^ 64 - 1 → counts (state_at whole_machine c (es ++ fs) m) k ≡ true → (image : Side → List ℕ) → IsLeft (disk_at left k) m image
-        → GivesFine whole_machine IsFrontOf last_of (state_at whole_machine c (es ++ fs) m) k image
+        → GivesFine whole_machine (state_at whole_machine c (es ++ fs) m) k image
     early m k low le fits counted image is_left =
         let same : state_at whole_machine c (es ++ fs) m ≡ state_at whole_machine c es m = ap (λ xs. runs whole_machine c xs) (until_low m mid now es fs le on) in
-        subst (λ s. GivesFine whole_machine IsFrontOf last_of s k image) (sym same)
+        subst (λ s. GivesFine whole_machine s k image) (sym same)
         (one.fine m k low le fits (subst (λ s. counts s k ≡ true) same counted) image (record { sides = λ side. subst (λ x. IsImage x (image side)) (earlier k m side le fits) (is_left.sides side) }))
 
 pub shows_then : (tells : Type 0) (before mid now : ℕ) (old here new : Running) (disks between left : List DiskSeen) (r : Result ⊤ ClusterFault) (es fs : Events) → Does es old here (Ok tt) → MomentsRise before es mid → MomentsRise mid fs now
@@ -484,10 +484,10 @@ shows_then tells before mid now old here new disks between left r es fs does ris
       let all : happened c.core (es ++ fs) ≡ es ++ happened (runs whole_machine c es).core fs = happened_then c.core es fs (going c core) ∙ ap (λ x. es ++ happened x fs) (sym (runs_core c es)) in
       record {
         earlier = λ k m side low fits. two.earlier k m side (let ticks = rises_to before mid es rise in omega (arith, low, ticks)) fits ∙ one.earlier k m side low fits;
-        moments = subst (λ xs. ListsAtMoments whole_machine IsFrontOf last_of c xs before now (stands_of left)) (sym all)
+        moments = subst (λ xs. ListsAtMoments whole_machine c xs (record { before = before; now = now; disks = (stands_of left) })) (sym all)
             (moments_then c es (happened (runs whole_machine c es).core fs) before mid now (stands_of between) (stands_of left) rise (happened_rise (runs whole_machine c es).core mid now fs on) two.earlier
-            (subst (λ xs. ListsAtMoments whole_machine IsFrontOf last_of c xs before mid (stands_of between)) mine one.moments) two.moments);
-        keeps = subst (λ s. Keeps whole_machine IsFrontOf last_of s now (stands_of left)) (sym (ap (λ xs. runs whole_machine c xs) all ∙ runs_append c es (happened (runs whole_machine c es).core fs))) two.keeps;
+            (subst (λ xs. ListsAtMoments whole_machine c xs (record { before = before; now = mid; disks = (stands_of between) })) mine one.moments) two.moments);
+        keeps = subst (λ s. Keeps whole_machine s now (stands_of left)) (sym (ap (λ xs. runs whole_machine c xs) all ∙ runs_append c es (happened (runs whole_machine c es).core fs))) two.keeps;
         told = told_then c es fs one.told two.told;
       };
   goes_on = λ told c core can.

@@ -19,7 +19,7 @@ use Rattle.hs_fold.specs.Shards.Setting.{Numbered}
 use Rattle.hs_members.specs.Members.{IsPeer}
 use Rattle.hs_moments.specs.Machine.{runs}
 use Rattle.hs_moments.specs.Moments.{Keeps, ListsAtMoments}
-use Rattle.hs_moments.specs.WholeMachine.{IsFrontOf, last_of, whole_machine}
+use Rattle.hs_moments.specs.WholeMachine.{whole_machine}
 use Rattle.hs_peerlog.specs.Lists.{HasLog, IsKept, Keeping}
 use Rattle.hs_ports.specs.declared.disk.Side.{Side}
 use Rattle.hs_ports.specs.Moments.{disk_at}
@@ -39,7 +39,7 @@ pub record KeepsLogs (c : Whole) (logs : List (Option Keeping)) (disks : List Di
 pub record CanGoOn (c : Whole) (logs : List (Option Keeping)) (disks : List DiskSeen) (now : ℕ) : Type 0 where
   pub sane : IsSane c
   pub listed : KeepsLogs c logs disks
-  pub keeps : Keeps whole_machine IsFrontOf last_of c now (stands_of disks)
+  pub keeps : Keeps whole_machine c now (stands_of disks)
 
 -- the log of each disk in use reads so, whatever a crash leaves
 pub record ReadsLogs (c : Whole) (logs : List (Option Keeping)) (disks : List DiskSeen) : Type 0 where
@@ -76,8 +76,8 @@ AreTold c (e ∷ es) = IsTold c (report_in e.0) × AreTold (step_whole e.0 e.1 c
 pub record LeavesLists (c : Whole) (events : Events) (span : Span) : Type 0 where
   pub earlier : (peer m : ℕ) (side : Side) → m ≤ span.before → m < 2 ^ 64 - 1
       → (disk_at (stands_of span.left) peer).past m side ≡ (disk_at (stands_of span.disks) peer).past m side
-  pub moments : ListsAtMoments whole_machine IsFrontOf last_of c (happened c.core events) span.before span.now (stands_of span.left)
-  pub keeps : Keeps whole_machine IsFrontOf last_of (runs whole_machine c (happened c.core events)) span.now (stands_of span.left)
+  pub moments : ListsAtMoments whole_machine c (happened c.core events) (record { before = span.before; now = span.now; disks = (stands_of span.left) })
+  pub keeps : Keeps whole_machine (runs whole_machine c (happened c.core events)) span.now (stands_of span.left)
   pub told : AreTold c events
 
 -- what a peer is to read is in what is sealed of its list, where its shard still has it

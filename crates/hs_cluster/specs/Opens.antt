@@ -37,7 +37,8 @@ log_in found peer = slice_index_or found.logs peer None
 
 -- of one peer, from entry to the opening of the core, with the logs that are in use then
 -- read: its log is what its disk reads as at entry, or its disk failed and counts as having none
--- good, kept, calm, aside: it is good where its log is in use, which is one that was read; any other had none, or it was lost since
+-- good, kept, aside: it is good where its log is in use, which is one that was read; any other had none, or it was lost since
+-- calm: no call on a good peer's disk failed
 -- disk, log: the calls on its disk leave its list as it is, at each moment; and the log has it, right before the first turn
 -- reads: reads of the disk give it, whatever a stop leaves
 pub record IsFound (tells : Type 0) (set : Setting) (span : Span) (found : Found) (logs : List (Option Keeping)) (peer : ℕ) : Type 0 where

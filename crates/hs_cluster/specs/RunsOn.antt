@@ -26,8 +26,7 @@ use Rattle.hs_taking.specs.Past.{PastStays}
 -- own: a disk of another store failed
 -- still: where the core had ended nothing came behind the reading
 -- past: what is past of each disk stays, where no call of it was ahead
--- told: however the disks were at entry: what was told of blocks
--- read: and that reads too cost what they tell of failed calls, where the lists have what the catalogues say
+-- told, read: however the disks were at entry: what was told of blocks; and that reads too cost what they tell of failed calls, where the lists have what the catalogues say
 pub record RunsOn (tells : Type 0) (set : Setting) (span : Span) (found : Found) (events : Events) : Type 0 where
   pub slots : List (Option Keeping)
   pub disks : List DiskSeen

@@ -27,7 +27,7 @@ pub fn lists_stand_at_what_is_behind()
         → ((shard : ℕ) → shard < length lists → IsNumbered (list_at (whole_lists lists) shard)
         × (front shard ≡ length (list_at (done_lists lists) shard))) →
         happenings (pending set front 0 (whole_lists lists)) ≡ behind_happenings set 0 lists }
-    // so far no inner event is among it
+    // without runs no inner event is among it
     ensures legal { (set : Setting) (lists : List Parted) (s : Store) →
         AreLegal s (behind_happenings set 0 lists) }
     // and it leaves the sessions: a stop behind it leaves what it makes of what a stop before it leaves

@@ -10,7 +10,6 @@ use Rattle.hs_model.specs.declared.course.CourseItem.TheVariants as item
 use Rattle.hs_ports.specs.declared.disk.Side.{Side}
 use Rattle.hs_ports.specs.Disk.{Standing}
 use Rattle.hs_ports.specs.Moments.{disk_at}
-use Rattle.hs_entry.specs.declared.entry.Entry.{Entry}
 use Rattle.hs_journal.specs.declared.entry.JournalEntry.{JournalEntry}
 use Rattle.hs_fold.specs.Good.{good_from, taken_from}
 use Rattle.hs_events.specs.Course.{change_item}
@@ -47,7 +46,7 @@ tooks-at : (was is : ℕ → ℕ) (k n : ℕ) → All (λ i. k ≤ moment_of i) 
 tooks-at was is k zero = All-nil (λ i. k ≤ moment_of i)
 tooks-at was is k (suc n) = All-append (λ i. k ≤ moment_of i) (front_items was is k n) (cond (nat_lt (was n) (is n)) (item.Took n (is n) k ∷ []) []) (tooks-at was is k n) (took-at (nat_lt (was n) (is n)) n (is n) k)
 
-module _ {State Event : Type 0} (M : Machine State Event) (Sane : State → Type 0) (adds : State → Event → ℕ → List JournalEntry) (IsFront : ℕ → List (ℕ × Entry) → List (ℕ × Entry) → Type 0) (last : List (ℕ × Entry) → ℕ) (shape : Shape) (obeys : Obeys M Sane adds) where
+module _ {State Event : Type 0} (M : Machine State Event) (Sane : State → Type 0) (adds : State → Event → ℕ → List JournalEntry) (shape : Shape) (obeys : Obeys M Sane adds) where
   items-at : (c c' : State) (e : Event) (k : ℕ) → All (λ i. k ≤ moment_of i) (items_of M shape c c' e k)
   items-at c c' e k = All-append (λ i. k ≤ moment_of i) (begun_items (M.begins e) k) (good_items (M.good c) (M.good c') k (shape.shards * shape.copies) ++ front_items (M.front c) (M.front c') k shape.shards) (begun-at (M.begins e) k)
       (All-append (λ i. k ≤ moment_of i) (good_items (M.good c) (M.good c') k (shape.shards * shape.copies)) (front_items (M.front c) (M.front c') k shape.shards) (goods-at (M.good c) (M.good c') k (shape.shards * shape.copies)) (tooks-at (M.front c) (M.front c') k shape.shards))
@@ -110,8 +109,8 @@ module _ {State Event : Type 0} (M : Machine State Event) (Sane : State → Type
   steps-sane c [] h = h
   steps-sane c (e ∷ es) h = steps-sane (M.step c e.0 e.1) es (obeys.sane c e.0 e.1 h)
 
-  tells-at : (course : List CourseItem) (journal : List JournalEntry) (c : State) (es : List (Event × ℕ)) (now to m : ℕ) → Rises M now es to → Tells M Sane IsFront last shape course journal m c
-      → Tells M Sane IsFront last shape (course ++ course_of M shape c es) (journal ++ entries_of M Sane adds c es) m (state_at M c es m)
+  tells-at : (course : List CourseItem) (journal : List JournalEntry) (c : State) (es : List (Event × ℕ)) (now to m : ℕ) → Rises M now es to → Tells M Sane shape course journal m c
+      → Tells M Sane shape (course ++ course_of M shape c es) (journal ++ entries_of M Sane adds c es) m (state_at M c es m)
   tells-at course journal c es now to m r t = record {
     sane = steps-sane c (until m es) t.sane;
     answered = journal-tells c es now to m t.sane r ∙ ap (λ js. js ++ below m (entries_of M Sane adds c es)) t.answered ∙ sym (filter-append (λ entry. nat_lt entry.moment m) journal (entries_of M Sane adds c es));
@@ -122,8 +121,8 @@ module _ {State Event : Type 0} (M : Machine State Event) (Sane : State → Type
   -- what a run of events leaves at each moment, with its course and its entries, is a line of the top call
   pub run-advances : (course : List CourseItem) (journal : List JournalEntry) (now to : ℕ) (disks disks' : List Standing) (c : State) (es : List (Event × ℕ)) → now ≤ to → Rises M now es to
       → ((peer m : ℕ) (side : Side) → m ≤ now → m < 2 ^ 64 - 1 → (disk_at disks' peer).past m side ≡ (disk_at disks peer).past m side)
-      → Rests M Sane IsFront last shape course journal now disks c → ListsAtMoments M IsFront last c es now to disks' → Keeps M IsFront last (runs M c es) to disks'
-      → Advances M Sane IsFront last shape now to course (course ++ course_of M shape c es) journal (journal ++ entries_of M Sane adds c es) disks disks' (runs M c es)
+      → Rests M Sane shape course journal now disks c → ListsAtMoments M c es (record { before = now; now = to; disks = disks' }) → Keeps M (runs M c es) to disks'
+      → Advances M Sane shape now to course (course ++ course_of M shape c es) journal (journal ++ entries_of M Sane adds c es) disks disks' (runs M c es)
   run-advances course journal now to disks disks' c es le r earlier rests lists keeps = record {
     later = le;
     more = entries_of M Sane adds c es;
@@ -140,6 +139,6 @@ module _ {State Event : Type 0} (M : Machine State Event) (Sane : State → Type
     };
     rests = record {
       keeps = keeps;
-      tells = λ m above. subst (λ d. Tells M Sane IsFront last shape (course ++ course_of M shape c es) (journal ++ entries_of M Sane adds c es) m d) (ap (λ fs. runs M c fs) (until-all M m now to es r above)) (tells-at course journal c es now to m r (rests.tells m (omega (arith, le, above))));
+      tells = λ m above. subst (λ d. Tells M Sane shape (course ++ course_of M shape c es) (journal ++ entries_of M Sane adds c es) m d) (ap (λ fs. runs M c fs) (until-all M m now to es r above)) (tells-at course journal c es now to m r (rests.tells m (omega (arith, le, above))));
     };
   }

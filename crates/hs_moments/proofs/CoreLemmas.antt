@@ -4,7 +4,7 @@ use Rattle.std.proofs.lemmas.List.{append-nil, append_assoc}
 use Rattle.std.proofs.lemmas.List.Elements.{filter-append}
 use Rattle.std.specs.List.{range_with_len}
 use Rattle.std.specs.Option.{option_map_or}
-use Rattle.std.specs.Prelude.{flat_map, if◌then◌else◌, ⊤}
+use Rattle.std.specs.Prelude.{flat_map, if◌then◌else◌}
 use Rattle.hs_events.proofs.GoingLemmas.{step_goes}
 use Rattle.hs_events.proofs.RangeLemmas.{flat_map_range_more}
 use Rattle.hs_events.specs.Due.{MomentsRise}
@@ -150,7 +150,7 @@ pub journal_at : (core : Core) (es : Events) (from to m : ℕ) → core.entries 
     → (core_at core es m).journal ≡ below m (steps core es).journal
 journal_at core es from to m between rises old =
     ap (λ (c : Core). c.journal) (sym (state_is core es m))
-    ∙ journal-tells core_machine IsBetween (λ c e at. added e at c) (λ peer list all. ⊤) (λ list. 0) core.members.shape obeys core (happened core es) from to m between (rises_are from to (happened core es) (happened_rise core from to es rises))
+    ∙ journal-tells core_machine IsBetween (λ c e at. added e at c) core.members.shape obeys core (happened core es) from to m between (rises_are from to (happened core es) (happened_rise core from to es rises))
     ∙ ap (λ j. j ++ below m (entries_so_far core (happened core es))) (sym old)
     ∙ sym (filter-append (λ (entry : JournalEntry). nat_lt entry.moment m) core.journal (entries_so_far core (happened core es)))
     ∙ ap (below m) (sym (journal_all core (happened core es) between) ∙ journal_happened core es)

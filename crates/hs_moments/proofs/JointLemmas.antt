@@ -7,7 +7,6 @@ use Rattle.hs_limits.specs.declared.shape.Shape.{Shape}
 use Rattle.hs_model.specs.declared.course.CourseItem.{CourseItem}
 use Rattle.hs_model.specs.declared.course.CourseItem.TheVariants as item
 use Rattle.hs_ports.specs.Disk.{IsImage, Standing}
-use Rattle.hs_entry.specs.declared.entry.Entry.{Entry}
 use Rattle.hs_journal.specs.declared.entry.JournalEntry.{JournalEntry}
 use Rattle.hs_fold.specs.Good.{good_after, good_from, taken_after, taken_from}
 use Rattle.hs_moments.specs.Machine.{Machine}
@@ -56,9 +55,9 @@ below-late m [] [] h = refl
 below-late m [] (e ∷ more) h = rw (le-is e.moment m (All-head (λ e. m ≤ e.moment) e more h)) (below-late m [] more (All-tail (λ e. m ≤ e.moment) e more h))
 below-late m (e ∷ journal) more h = ap (λ rest. cond (nat_lt e.moment m) (e ∷ rest) rest) (below-late m journal more h)
 
-module _ {State Event : Type 0} (M : Machine State Event) (Sane : State → Type 0) (IsFront : ℕ → List (ℕ × Entry) → List (ℕ × Entry) → Type 0) (last : List (ℕ × Entry) → ℕ) (shape : Shape) where
+module _ {State Event : Type 0} (M : Machine State Event) (Sane : State → Type 0) (shape : Shape) where
   tells-later : (course noted : List CourseItem) (journal more : List JournalEntry) (m : ℕ) (c : State) → All (λ i. m ≤ moment_of i) noted → All (λ e. m ≤ e.moment) more
-      → Tells M Sane IsFront last shape course journal m c → Tells M Sane IsFront last shape (course ++ noted) (journal ++ more) m c
+      → Tells M Sane shape course journal m c → Tells M Sane shape (course ++ noted) (journal ++ more) m c
   tells-later course noted journal more m c late later t = record {
     sane = t.sane;
     answered = t.answered ∙ sym (below-late m journal more later);
@@ -67,8 +66,8 @@ module _ {State Event : Type 0} (M : Machine State Event) (Sane : State → Type
   }
 
   -- a line was done
-  pub holds-more : (before now now' : ℕ) (course course' : List CourseItem) (journal journal' : List JournalEntry) (disks disks' : List Standing) (c' : State) → Advances M Sane IsFront last shape now now' course course' journal journal' disks disks' c'
-      → Holds M Sane IsFront last shape before now course journal disks → Holds M Sane IsFront last shape before now' course' journal' disks'
+  pub holds-more : (before now now' : ℕ) (course course' : List CourseItem) (journal journal' : List JournalEntry) (disks disks' : List Standing) (c' : State) → Advances M Sane shape now now' course course' journal journal' disks disks' c'
+      → Holds M Sane shape before now course journal disks → Holds M Sane shape before now' course' journal' disks'
   holds-more before now now' course course' journal journal' disks disks' c' a h = record {
     moments = λ m low high fits. elim (cases_lt now m) [
       | inl above ↦ a.moments m above high fits
@@ -76,20 +75,20 @@ module _ {State Event : Type 0} (M : Machine State Event) (Sane : State → Type
     ];
   }
     where
-      old : (m : ℕ) → before < m → m ≤ now → m < 2 ^ 64 - 1 → AtMoment M Sane IsFront last shape course' journal' m disks'
+      old : (m : ℕ) → before < m → m ≤ now → m < 2 ^ 64 - 1 → AtMoment M Sane shape course' journal' m disks'
       old m low le fits =
           let at = h.moments m low le fits in
           let late = All-weaker (λ i. now ≤ moment_of i) (λ i. m ≤ moment_of i) (λ i k. omega (arith, k, le)) a.noted a.items in
           let later = All-weaker (λ e. now ≤ e.moment) (λ e. m ≤ e.moment) (λ e k. omega (arith, k, le)) a.more a.entered in
           record {
             core = at.core;
-            tells = subst (λ cs. Tells M Sane IsFront last shape cs journal' m at.core) (sym a.gone_on) (subst (λ js. Tells M Sane IsFront last shape (course ++ a.noted) js m at.core) (sym a.added) (tells-later course a.noted journal a.more m at.core late later at.tells));
+            tells = subst (λ cs. Tells M Sane shape cs journal' m at.core) (sym a.gone_on) (subst (λ js. Tells M Sane shape (course ++ a.noted) js m at.core) (sym a.added) (tells-later course a.noted journal a.more m at.core late later at.tells));
             lists = λ peer counted image left. at.lists peer counted image (record { sides = λ side. subst (λ l. IsImage l (image side)) (a.earlier peer m side le fits) (left.sides side) });
           }
 
   -- its entries are printed: the watch goes on, and the disks stay
-  pub holds-printed : (before now now' : ℕ) (course : List CourseItem) (journal : List JournalEntry) (disks : List Standing) (c : State) → Since disks → Rests M Sane IsFront last shape course journal now disks c
-      → Holds M Sane IsFront last shape before now course journal disks → Holds M Sane IsFront last shape before now' course journal disks
+  pub holds-printed : (before now now' : ℕ) (course : List CourseItem) (journal : List JournalEntry) (disks : List Standing) (c : State) → Since disks → Rests M Sane shape course journal now disks c
+      → Holds M Sane shape before now course journal disks → Holds M Sane shape before now' course journal disks
   holds-printed before now now' course journal disks c since r h = record {
     moments = λ m low high fits. elim (cases_lt now m) [
       | inl above ↦ record {
@@ -101,5 +100,5 @@ module _ {State Event : Type 0} (M : Machine State Event) (Sane : State → Type
     ];
   }
 
-  pub rests-printed : (now now' : ℕ) (course : List CourseItem) (journal : List JournalEntry) (disks : List Standing) (c : State) → now ≤ now' → Rests M Sane IsFront last shape course journal now disks c → Rests M Sane IsFront last shape course journal now' disks c
-  rests-printed now now' course journal disks c le r = record { keeps = later-keeps M IsFront last c now now' disks le r.keeps; tells = λ m lt. r.tells m (omega (arith, le, lt)) }
+  pub rests-printed : (now now' : ℕ) (course : List CourseItem) (journal : List JournalEntry) (disks : List Standing) (c : State) → now ≤ now' → Rests M Sane shape course journal now disks c → Rests M Sane shape course journal now' disks c
+  rests-printed now now' course journal disks c le r = record { keeps = later-keeps M c now now' disks le r.keeps; tells = λ m lt. r.tells m (omega (arith, le, lt)) }

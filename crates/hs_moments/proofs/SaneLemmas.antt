@@ -32,7 +32,7 @@ use Rattle.hs_events.specs.Due.{is_answer}
 use Rattle.hs_moments.specs.Moments.{Grows}
 use Rattle.hs_events.specs.Sane.{IsSane, appended_of}
 use Rattle.hs_events.specs.Whole.{Whole, copied_entry, counts, floor, grown, lists_after, reach, reported, step_whole, taken_report, told_list}
-use Rattle.hs_moments.specs.WholeMachine.{IsFrontOf, last_of, whole_machine}
+use Rattle.hs_moments.specs.WholeMachine.{IsFrontOf, whole_machine}
 use Rattle.hs_moments.specs.Working.{HasReported, IsBehind}
 use Rattle.hs_moments.proofs.AloneEventLemmas.{Falls, alone_begun, begun, ends, home_here, one_lost, quiet, status_past, step_is}
 use Rattle.hs_moments.proofs.AloneLemmas.{copy_alone}
@@ -388,10 +388,10 @@ module _ (c : Whole) (e : Event) (at : ℕ) (h : IsSane c) where
     | inr high ↦ floor_none w p high ∙ sym (floor_past c p h.alone high)
   ]
 
-  grows_well : (w : GoesWell x (face after)) (p : ℕ) → (p < c.core.members.shape.shards → (own (group_in p w.from)).sealed ≡ (own (group_of p c.core)).sealed) → Grows whole_machine IsFrontOf last_of c new p
+  grows_well : (w : GoesWell x (face after)) (p : ℕ) → (p < c.core.members.shape.shards → (own (group_in p w.from)).sealed ≡ (own (group_of p c.core)).sealed) → Grows whole_machine c new p
   grows_well w p same = record { counted = counted_well w p; front = front_well w p; long = let n = long_well w p same in omega (arith, n) }
 
-  grows_fallen : (q : ℕ) → Falls q x b → (p : ℕ) → Grows whole_machine IsFrontOf last_of c new p
+  grows_fallen : (q : ℕ) → Falls q x b → (p : ℕ) → Grows whole_machine c new p
   grows_fallen q f p = record {
     counted = counted_fallen q f p;
     front = front_fallen q f p;
@@ -413,7 +413,7 @@ module _ (c : Whole) (e : Event) (at : ℕ) (h : IsSane c) where
 
 -- ---- events without a report
 
-pub growing_without_call : (c : Whole) (e : Event) (at peer : ℕ) → IsSane c → report_in e ≡ None → is_refused (step e at c.core).ended ≡ false → Grows whole_machine IsFrontOf last_of c (step_whole e at c) peer
+pub growing_without_call : (c : Whole) (e : Event) (at peer : ℕ) → IsSane c → report_in e ≡ None → is_refused (step e at c.core).ended ≡ false → Grows whole_machine c (step_whole e at c) peer
 unfolding quiet_well
 growing_without_call c e at p h q r = elim (quiet_goes c e at h q) [
   | inl m ↦ grows_well c e at h (quiet_well (begun e at c.core) (face (step e at c.core)) (alone_x c e at h) h.settled m) p (λ low. refl)
@@ -444,7 +444,7 @@ module _ (c : Whole) (p : ℕ) (d : Done) (at : ℕ) (h : IsSane c) where
   abbrev y : Core
   y = begun (event.Report p d) at c.core
 
-  beside_grows : (a : Answered y p d (on_report p d y)) (q : ℕ) → q ≢ p → Grows whole_machine IsFrontOf last_of c (step_whole told at c) q
+  beside_grows : (a : Answered y p d (on_report p d y)) (q : ℕ) → q ≢ p → Grows whole_machine c (step_whole told at c) q
   unfolding answered_well
   beside_grows a q ne =
       let w : GoesWell y (face (step told at c.core)) = answered_well y p d (on_report p d y) (face (step told at c.core)) (face_is c told at h) h.settled a in
@@ -512,10 +512,10 @@ pub after_reports : (c : Whole) (d : Done) (at peer : ℕ) → IsSane c → is_a
 after_reports c d at p h e r = behind_report c p at h (answered_within p d c.core h.alone e) d (reports p d (y c p d at h) (alone_x c (event.Report p d) at h) h.settled e)
 
 -- and the others
-pub growing_beside : (c : Whole) (d : Done) (at peer other : ℕ) → IsSane c → is_answer c.core peer d ≡ true → other ≢ peer → is_refused (step (event.Report peer d) at c.core).ended ≡ false → Grows whole_machine IsFrontOf last_of c (step_whole (event.Report peer d) at c) other
+pub growing_beside : (c : Whole) (d : Done) (at peer other : ℕ) → IsSane c → is_answer c.core peer d ≡ true → other ≢ peer → is_refused (step (event.Report peer d) at c.core).ended ≡ false → Grows whole_machine c (step_whole (event.Report peer d) at c) other
 growing_beside c d at p q h e ne r = by_report d (reports p d (y c p d at h) (alone_x c (event.Report p d) at h) h.settled e)
   where
-    by_report : (d : Done) → Reports (y c p d at h) p d (on_report p d (y c p d at h)) → Grows whole_machine IsFrontOf last_of c (step_whole (event.Report p d) at c) q
+    by_report : (d : Done) → Reports (y c p d at h) p d (on_report p d (y c p d at h)) → Grows whole_machine c (step_whole (event.Report p d) at c) q
     by_report (done.Stored n) a = beside_grows c p (done.Stored n) at h a q ne
     by_report (done.Sealed n) a = beside_grows c p (done.Sealed n) at h a q ne
     by_report (done.Bytes n bytes) a = beside_grows c p (done.Bytes n bytes) at h a q ne

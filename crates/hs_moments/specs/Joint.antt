@@ -6,7 +6,6 @@ use Rattle.hs_model.specs.declared.course.CourseItem.TheVariants as item
 use Rattle.hs_ports.specs.declared.disk.Side.{Side}
 use Rattle.hs_ports.specs.Disk.{Standing}
 use Rattle.hs_ports.specs.Moments.{disk_at}
-use Rattle.hs_entry.specs.declared.entry.Entry.{Entry}
 use Rattle.hs_journal.specs.Moments.{below}
 use Rattle.hs_journal.specs.declared.entry.JournalEntry.{JournalEntry}
 use Rattle.hs_fold.specs.Good.{is_good, taken_below}
@@ -21,7 +20,7 @@ moment_of (item.Good peer moment) = moment
 moment_of (item.Bad peer moment) = moment
 moment_of (item.Took shard number moment) = moment
 
-module _ {State Event : Type 0} (M : Machine State Event) (Sane : State → Type 0) (IsFront : ℕ → List (ℕ × Entry) → List (ℕ × Entry) → Type 0) (last : List (ℕ × Entry) → ℕ) (shape : Shape) where
+module _ {State Event : Type 0} (M : Machine State Event) (Sane : State → Type 0) (shape : Shape) where
   -- the course and the journal say of a moment what this core is; Sane: what a law of the core's machine asks of a state
   pub record Tells (course : List CourseItem) (journal : List JournalEntry) (moment : ℕ) (c : State) : Type 0 where
     pub sane : Sane c
@@ -33,11 +32,11 @@ module _ {State Event : Type 0} (M : Machine State Event) (Sane : State → Type
   pub record AtMoment (course : List CourseItem) (journal : List JournalEntry) (moment : ℕ) (disks : List Standing) : Type 0 where
     pub core : State
     pub tells : Tells course journal moment core
-    pub lists : (peer : ℕ) → M.counts core peer ≡ true → (image : Side → List ℕ) → IsLeft (disk_at disks peer) moment image → GivesFine M IsFront last core peer image
+    pub lists : (peer : ℕ) → M.counts core peer ≡ true → (image : Side → List ℕ) → IsLeft (disk_at disks peer) moment image → GivesFine M core peer image
 
   -- between two lines: at each later moment the core is as it stands, and so are the disks
   pub record Rests (course : List CourseItem) (journal : List JournalEntry) (now : ℕ) (disks : List Standing) (c : State) : Type 0 where
-    pub keeps : Keeps M IsFront last c now disks
+    pub keeps : Keeps M c now disks
     pub tells : (m : ℕ) → now < m → Tells course journal m c
 
   -- one line, or opening: what came to the journal and the course, each moment of it, and how it rests then
@@ -63,10 +62,10 @@ entry_course moment shard [] = []
 entry_course moment shard (None ∷ takens) = entry_course moment (shard + 1) takens
 entry_course moment shard (Some (peer, number) ∷ takens) = item.Good peer moment ∷ item.Took shard number moment ∷ entry_course moment (shard + 1) takens
 
-module _ {State Event : Type 0} (M : Machine State Event) (Sane : State → Type 0) (IsFront : ℕ → List (ℕ × Entry) → List (ℕ × Entry) → Type 0) (last : List (ℕ × Entry) → ℕ) (shape : Shape) where
+module _ {State Event : Type 0} (M : Machine State Event) (Sane : State → Type 0) (shape : Shape) where
   -- opening: which logs were taken, and then as a line
   pub record Opens (before now : ℕ) (takens : List (Option (ℕ × ℕ))) (course : List CourseItem) (journal : List JournalEntry) (disks' : List Standing) (c : State) : Type 0 where
     pub rest : List CourseItem
     pub begins : course ≡ entry_course before 0 takens ++ rest
-    pub moments : (m : ℕ) → before < m → m ≤ now → m < 2 ^ 64 - 1 → AtMoment M Sane IsFront last shape course journal m disks'
-    pub rests : Rests M Sane IsFront last shape course journal now disks' c
+    pub moments : (m : ℕ) → before < m → m ≤ now → m < 2 ^ 64 - 1 → AtMoment M Sane shape course journal m disks'
+    pub rests : Rests M Sane shape course journal now disks' c

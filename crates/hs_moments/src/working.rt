@@ -10,7 +10,7 @@ ghost use Rattle.hs_events.specs.Due.{is_answer};
 ghost use Rattle.hs_events.specs.Sane.{IsSane, appended_of};
 ghost use Rattle.hs_events.specs.Whole.{Whole, floor, step_whole};
 ghost use Rattle.hs_moments.specs.Moments.{Grows};
-ghost use Rattle.hs_moments.specs.WholeMachine.{IsFrontOf, last_of, whole_machine};
+ghost use Rattle.hs_moments.specs.WholeMachine.{whole_machine};
 ghost use Rattle.hs_moments.specs.Working.{IsBehind};
 
 /// An event that is no report lets each peer's list only grow, and so does a report of another peer:
@@ -18,11 +18,11 @@ ghost use Rattle.hs_moments.specs.Working.{IsBehind};
 pub fn lists_only_grow()
     ensures without_call { (c : Whole) (event : Event) (moment peer : ℕ) → IsSane c
         → report_in event ≡ None → is_refused (step event moment c.core).ended ≡ false
-        → Grows whole_machine IsFrontOf last_of c (step_whole event moment c) peer }
+        → Grows whole_machine c (step_whole event moment c) peer }
     ensures beside { (c : Whole) (done : Done) (moment peer other : ℕ) → IsSane c
         → is_answer c.core peer done ≡ true → other ≢ peer
         → is_refused (step (event.Report peer done) moment c.core).ended ≡ false
-        → Grows whole_machine IsFrontOf last_of c (step_whole (event.Report peer done) moment c) other }
+        → Grows whole_machine c (step_whole (event.Report peer done) moment c) other }
 {}
 
 /// What stands unsealed on a peer's disk, and how much is sealed, changes by reports of that peer alone.

@@ -110,6 +110,46 @@ line_next lines n k is = go (n == 0) refl
 zero_below : (k : ℕ) → nat_le 0 k ≡ true
 zero_below k = grind (arith, tests)
 
+module _ (S : Script) {X : Type 0} (lines : List X) (entries : List JournalEntry)
+    (within : (i n : ℕ) → IsOfLine entries i n → (1 ≤ n) × (n < 1 + length lines)) (once : (i j n : ℕ) → IsOfLine entries i n → IsOfLine entries j n → i ≡ j) where
+  -- entries of lines that pass a test are no more than the lines that pass it
+  pub lines_most : (test : Option Op → Bool) (passes : X → Bool)
+      → ((i : ℕ) (line : X) → slice_get lines i ≡ Some line → test (client_op (S.commands (1 + i))) ≡ true → passes line ≡ true)
+      → many (is_of_line test S) entries ≤ count_by passes lines
+  lines_most test passes marks =
+      let all : many (is_of_line test S) entries ≤ many (from_key (key_of test S) 1) entries = many_le (is_of_line test S) (from_key (key_of test S) 1) entries first in
+      let most : many (from_key (key_of test S) 1) entries ≤ many passes lines = keyed (key_of test S) passes entries lines 1 caps (many_none (from_key (key_of test S) (1 + length lines)) entries none) in
+      let counted : many passes lines ≡ count_by passes lines = many-counted passes lines in
+      omega (arith, all, most, counted)
+    where
+      first : (i : ℕ) (e : JournalEntry) → slice_get entries i ≡ Some e → is_of_line test S e ≡ true → from_key (key_of test S) 1 e ≡ true
+      first i e at is =
+          let n = of_line_keyed test S e is in
+          keyed_from test S 1 n.0 e n.1 (within i n.0 (record { entry = e; at = at; line = n.1.line })).0
+
+      none : (i : ℕ) (e : JournalEntry) → slice_get entries i ≡ Some e → from_key (key_of test S) (1 + length lines) e ≡ true → ⊥
+      none i e at is =
+          let n = key_line test S (λ k. nat_le (1 + length lines) k) e is in
+          let low = (within i n.0 (record { entry = e; at = at; line = n.1.line })).1 in
+          let above : 1 + length lines ≤ n.0 = grind (arith, tests, n.2) in
+          omega (arith, low, above)
+
+      same_number : (k n : ℕ) → (k == n) ≡ true → k ≡ n
+      same_number k n is = grind (arith, tests, is)
+
+      keyed_at : (n : ℕ) (e : JournalEntry) → at_key (key_of test S) n e ≡ true → IsKeyed test S n e
+      keyed_at n e is = let k = key_line test S (λ k. k == n) e is in subst (λ j. IsKeyed test S j e) (same_number k.0 n k.2) k.1
+
+      caps : (i : ℕ) (line : X) → slice_get lines i ≡ Some line → many (at_key (key_of test S) (1 + i)) entries ≤ cond (passes line) 1 0
+      caps i line there = go (passes line) refl
+        where
+          go : (b : Bool) → passes line ≡ b → many (at_key (key_of test S) (1 + i)) entries ≤ cond b 1 0
+          go true p = many_once (at_key (key_of test S) (1 + i)) entries (λ j k x y first second is too.
+              once j k (1 + i) (record { entry = x; at = first; line = (keyed_at (1 + i) x is).line }) (record { entry = y; at = second; line = (keyed_at (1 + i) y too).line }))
+          go false p =
+              let nobody = many_none (at_key (key_of test S) (1 + i)) entries (λ j x first is. cc (marks i line there (keyed_at (1 + i) x is).passes, p)) in
+              omega (arith, nobody)
+
 module _ (S : Script) (lines : List (List ℕ)) (says : (n : ℕ) → S.commands n ≡ commands_of lines n) (entries : List JournalEntry)
     (named : (i n : ℕ) → IsOfLine entries i n → IsSome (S.commands n)) (once : (i j n : ℕ) → IsOfLine entries i n → IsOfLine entries j n → i ≡ j) where
   -- a line that has a command is one of the script
@@ -124,46 +164,12 @@ module _ (S : Script) (lines : List (List ℕ)) (says : (n : ℕ) → S.commands
       go zero f = absurd (cc f)
       go (suc k) f = (omega arith, omega (arith, at k (slice_get lines k) refl (subst (λ (o : Option (List ℕ)). IsSome (command_at o)) (line_next lines (suc k) k refl) f)))
 
-  lines_most : (test : Option Op → Bool) (passes : List ℕ → Bool)
-      → ((i : ℕ) (line : List ℕ) → slice_get lines i ≡ Some line → test (client_op (S.commands (1 + i))) ≡ true → passes line ≡ true)
-      → many (is_of_line test S) entries ≤ count_by passes lines
-  lines_most test passes marks =
-      let all : many (is_of_line test S) entries ≤ many (from_key (key_of test S) 1) entries = many_le (is_of_line test S) (from_key (key_of test S) 1) entries first in
-      let most : many (from_key (key_of test S) 1) entries ≤ many passes lines = keyed (key_of test S) passes entries lines 1 caps (many_none (from_key (key_of test S) (1 + length lines)) entries none) in
-      let counted : many passes lines ≡ count_by passes lines = many-counted passes lines in
-      omega (arith, all, most, counted)
-    where
-      first : (i : ℕ) (e : JournalEntry) → slice_get entries i ≡ Some e → is_of_line test S e ≡ true → from_key (key_of test S) 1 e ≡ true
-      first i e at is =
-          let n = of_line_keyed test S e is in
-          keyed_from test S 1 n.0 e n.1 (within n.0 (named i n.0 (record { entry = e; at = at; line = n.1.line }))).0
-
-      none : (i : ℕ) (e : JournalEntry) → slice_get entries i ≡ Some e → from_key (key_of test S) (1 + length lines) e ≡ true → ⊥
-      none i e at is =
-          let n = key_line test S (λ k. nat_le (1 + length lines) k) e is in
-          let low = (within n.0 (named i n.0 (record { entry = e; at = at; line = n.1.line }))).1 in
-          let above : 1 + length lines ≤ n.0 = grind (arith, tests, n.2) in
-          omega (arith, low, above)
-
-      same_number : (k n : ℕ) → (k == n) ≡ true → k ≡ n
-      same_number k n is = grind (arith, tests, is)
-
-      keyed_at : (n : ℕ) (e : JournalEntry) → at_key (key_of test S) n e ≡ true → IsKeyed test S n e
-      keyed_at n e is = let k = key_line test S (λ k. k == n) e is in subst (λ j. IsKeyed test S j e) (same_number k.0 n k.2) k.1
-
-      caps : (i : ℕ) (line : List ℕ) → slice_get lines i ≡ Some line → many (at_key (key_of test S) (1 + i)) entries ≤ cond (passes line) 1 0
-      caps i line there = go (passes line) refl
-        where
-          go : (b : Bool) → passes line ≡ b → many (at_key (key_of test S) (1 + i)) entries ≤ cond b 1 0
-          go true p = many_once (at_key (key_of test S) (1 + i)) entries (λ j k x y first second is too.
-              once j k (1 + i) (record { entry = x; at = first; line = (keyed_at (1 + i) x is).line }) (record { entry = y; at = second; line = (keyed_at (1 + i) y too).line }))
-          go false p =
-              let nobody = many_none (at_key (key_of test S) (1 + i)) entries (λ j x first is. cc (marks i line there (keyed_at (1 + i) x is).passes, p)) in
-              omega (arith, nobody)
+  each_within : (i n : ℕ) → IsOfLine entries i n → (1 ≤ n) × (n < 1 + length lines)
+  each_within i n of = within n (named i n of)
 
   pub all_lines : many (is_of_line (λ o. true) S) entries ≤ length lines
   all_lines =
-      let most : many (is_of_line (λ o. true) S) entries ≤ count_by (λ (line : List ℕ). true) lines = lines_most (λ o. true) (λ line. true) (λ i line at is. refl) in
+      let most : many (is_of_line (λ o. true) S) entries ≤ count_by (λ (line : List ℕ). true) lines = lines_most S lines entries each_within once (λ o. true) (λ line. true) (λ i line at is. refl) in
       let counted : many (λ (line : List ℕ). true) lines ≡ count_by (λ (line : List ℕ). true) lines = many-counted (λ line. true) lines in
       let whole : many (λ (line : List ℕ). true) lines ≡ length lines = many-all lines in
       omega (arith, most, counted, whole)
@@ -174,7 +180,7 @@ module _ (S : Script) (lines : List (List ℕ)) (says : (n : ℕ) → S.commands
   deletion_deletes other e = cc e
 
   pub all_deletes : many (is_delete S) entries ≤ delete_count lines
-  all_deletes = lines_most is_deletion (λ line. bytes_eq line (codes "delete")) (λ i line at is.
+  all_deletes = lines_most S lines entries each_within once is_deletion (λ line. bytes_eq line (codes "delete")) (λ i line at is.
       line_says_delete line (sym (ap (λ (o : Option (List ℕ)). deletes (command_at o)) (line_next lines (1 + i) i (omega arith) ∙ at)) ∙ sym (ap (λ (c : Option Command). deletes c) (says (1 + i))) ∙ deletion_deletes (S.commands (1 + i)) is))
 
 -- ---- notes

@@ -27,7 +27,7 @@ use Rattle.hs_moments.proofs.AloneReportLemmas.{reports_not}
 use Rattle.hs_moments.proofs.SaneLemmas.{after_reports, appended_beside, appended_stays, growing_beside, growing_without_call}
 use Rattle.hs_moments.proofs.WorkLemmas.{floor_alone, floor_within, next_job, reach_sane}
 use Rattle.hs_moments.specs.Moments.{Grows}
-use Rattle.hs_moments.specs.WholeMachine.{IsFrontOf, last_of, whole_machine}
+use Rattle.hs_moments.specs.WholeMachine.{IsFrontOf, whole_machine}
 use Rattle.hs_moments.specs.Working.{HasReported, IsBehind, IsNextEntry, NextJob}
 use Rattle.hs_replica.specs.Group.{Group, entries_above, length_of, new_group}
 use Rattle.hs_standing.proofs.SaneLemmas.{front_within}
@@ -57,7 +57,7 @@ module _ (c : Whole) (e : Event) (at : ℕ) (h : IsSane c) (behind : IsSane (ste
 
   grew_quiet : (g : ℕ) → g < c.core.members.shape.shards → g < (step e at c.core).members.shape.shards → report_in e ≡ None → Grew c (step_whole e at c) g
   grew_quiet g old low none =
-      let a : Grows whole_machine IsFrontOf last_of c (step_whole e at c) g = growing_without_call c e at g h none not_refused in
+      let a : Grows whole_machine c (step_whole e at c) g = growing_without_call c e at g h none not_refused in
       let same : floor (step_whole e at c) g ≡ floor c g = (appended_stays c e at g h none going).1 in
       let within = floor_within c g h old in
       grew_by g low a.front (omega (arith, same, within))
@@ -110,7 +110,7 @@ module _ (c : Whole) (p : ℕ) (at : ℕ) (h : IsSane c) where
     grew_answered g old low is = elim (cases_eq g p) [
       | inl same ↦ subst (λ k. Grew c (step_whole (event.Report p d) at c) k) (sym same) (here (subst (λ k. k < c.core.members.shape.shards) same old) (subst (λ k. k < (step (event.Report p d) at c.core).members.shape.shards) same low))
       | inr differs ↦
-          let a : Grows whole_machine IsFrontOf last_of c (step_whole (event.Report p d) at c) g = growing_beside c d at p g h is differs refused_not in
+          let a : Grows whole_machine c (step_whole (event.Report p d) at c) g = growing_beside c d at p g h is differs refused_not in
           let still : floor (step_whole (event.Report p d) at c) g ≡ floor c g = (appended_beside c d at p g h is differs going).1 in
           let within = floor_within c g h old in
           grew_by c (event.Report p d) at h behind going g low a.front (omega (arith, still, within))

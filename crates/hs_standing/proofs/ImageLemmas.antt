@@ -21,7 +21,7 @@ use Rattle.hs_journal.specs.Moments.{below}
 use Rattle.hs_moments.specs.Joint.{AtMoment}
 use Rattle.hs_moments.specs.Machine.{Machine}
 use Rattle.hs_moments.specs.Moments.{GivesFine}
-use Rattle.hs_moments.specs.WholeMachine.{IsFrontOf, last_of}
+use Rattle.hs_moments.specs.WholeMachine.{last_of}
 use Rattle.hs_side.specs.Current.{list_in}
 use Rattle.hs_sound.specs.Stay.{AreSoundAlong}
 use Rattle.hs_standing.specs.Left.{AreFronts, MayBeLeft}
@@ -80,9 +80,9 @@ same_pending set f h g end (list ∷ some) e same =
 -- ---- at a moment
 
 module _ {State Event : Type 0} (M : Machine State Event) (Sane : State → Type 0) (start : Start) (stop : Stop) (journal : List JournalEntry)
-    (at : AtMoment M Sane IsFrontOf last_of start.set.shape stop.course journal stop.moment stop.disks) where
+    (at : AtMoment M Sane start.set.shape stop.course journal stop.moment stop.disks) where
   -- a good peer's image gives a list that is fine
-  good_gives : (images : List Image) (peer : ℕ) → peer < start.set.shape.shards * start.set.shape.copies → GoodPeersCount M at.core → IsGoodImage stop images peer → GivesFine M IsFrontOf last_of at.core peer (image_at images peer)
+  good_gives : (images : List Image) (peer : ℕ) → peer < start.set.shape.shards * start.set.shape.copies → GoodPeersCount M at.core → IsGoodImage stop images peer → GivesFine M at.core peer (image_at images peer)
   good_gives images peer low counted good = at.lists peer (counted peer (sym (at.tells.good peer low) ∙ good.good)) (image_at images peer) good.left
 
   pub good_image_is_log : (images : List Image) (peer : ℕ) → peer < start.set.shape.shards * start.set.shape.copies → GoodPeersCount M at.core → IsGoodImage stop images peer → IsSome (list_in (image_at images peer))
@@ -90,7 +90,7 @@ module _ {State Event : Type 0} (M : Machine State Event) (Sane : State → Type
 
 module _ {State Event : Type 0} (M : Machine State Event) (Sane : State → Type 0) (start : Start) (stop : Stop) (journal : List JournalEntry)
     (shape : IsShape start.set.shape) (one : start.set.shape.copies ≡ 1) (peers : length stop.disks ≡ start.set.shape.shards)
-    (at : AtMoment M Sane IsFrontOf last_of start.set.shape stop.course journal stop.moment stop.disks) (owed : StandsWhereGood M start stop at.core) (images : List Image) (good : AreGoodImages start.set.shape stop images) where
+    (at : AtMoment M Sane start.set.shape stop.course journal stop.moment stop.disks) (owed : StandsWhereGood M start stop at.core) (images : List Image) (good : AreGoodImages start.set.shape stop images) where
   abbrev set : Setting
   set = start.set
 
@@ -133,7 +133,7 @@ module _ {State Event : Type 0} (M : Machine State Event) (Sane : State → Type
   stands : Stands M start stop c
   stands = owed (λ shard low. sym (at.tells.good shard (within shard low)) ∙ (image_good shard low).good)
 
-  fine_image : (shard : ℕ) → shard < n → (image : Image) → GivesFine M IsFrontOf last_of c shard image → M.front c shard ≤ M.floor c shard → IsFine lists shard (list_of image)
+  fine_image : (shard : ℕ) → shard < n → (image : Image) → GivesFine M c shard image → M.front c shard ≤ M.floor c shard → IsFine lists shard (list_of image)
   fine_image shard low image f sealed =
       let m : MayBeLeft set (IsAwaited start stop (M.journal c)) lists shard = stands.left shard low in
       let last : last_of f.list ≡ length f.list = last-length f.list (goes_front 0 f.list f.front.0 (subst (λ es. IsNumbered es) f.front.1 m.numbered)) in

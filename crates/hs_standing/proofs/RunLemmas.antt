@@ -29,7 +29,7 @@ use Rattle.hs_model.specs.declared.op.Op.{Op}
 use Rattle.hs_model.specs.Store.{Store}
 use Rattle.hs_moments.specs.Joint.{AtMoment}
 use Rattle.hs_moments.specs.Machine.{runs, state_at}
-use Rattle.hs_moments.specs.WholeMachine.{IsFrontOf, last_of, whole_machine}
+use Rattle.hs_moments.specs.WholeMachine.{whole_machine}
 use Rattle.hs_standing.proofs.FirstLemmas.{first_held}
 use Rattle.hs_standing.proofs.KeepLemmas.{Keeps}
 use Rattle.hs_standing.proofs.MomentLemmas.{StaysInTurn, all_stand, moments_stand}
@@ -139,7 +139,7 @@ module _ (below : LawsBelow) (start : Start) (c : Whole) (r : IsRunning start c)
 
   pub run_reopens : (stop : Stop) (es : Events) (journal : List JournalEntry) (images : List Image) → IsShape start.set.shape → start.set.shape.copies ≡ 1 → length stop.disks ≡ start.set.shape.shards
       → AreBegun start stop c.core → AllMayKeep start (MayRun start) c.core es → ((i : CourseItem) → Contains (items_of c.core es) i → Contains stop.course i)
-      → AtMoment whole_machine (IsStateAt (state_at whole_machine c (happened c.core es) stop.moment)) IsFrontOf last_of start.set.shape stop.course journal stop.moment stop.disks
+      → AtMoment whole_machine (IsStateAt (state_at whole_machine c (happened c.core es) stop.moment)) start.set.shape stop.course journal stop.moment stop.disks
       → AreGoodImages start.set.shape stop images → Reopens start stop (below_moment stop.moment journal) images
   run_reopens stop es journal images shape one peers begun may inside at good =
       reopens_where start stop journal images (state_at whole_machine c (happened c.core es) stop.moment) shape one peers at (run_stands stop es begun may inside) good

@@ -10,7 +10,6 @@ ghost use Rattle.hs_limits.specs.Shape.{IsShape};
 ghost use Rattle.hs_journal.specs.Moments.{below};
 ghost use Rattle.hs_moments.specs.Joint.{AtMoment};
 ghost use Rattle.hs_moments.specs.Machine.{Machine};
-ghost use Rattle.hs_moments.specs.WholeMachine.{IsFrontOf, last_of};
 ghost use Rattle.hs_side.specs.Current.{list_in};
 ghost use Rattle.hs_sound.specs.Stay.{AreSoundAlong};
 ghost use Rattle.hs_standing.specs.Reopens.{Reopens, image_logs};
@@ -26,7 +25,7 @@ pub fn images_that_count_reopen()
         (journal : List JournalEntry) (images : List Image)
         → IsShape start.set.shape → start.set.shape.copies ≡ 1
         → length stop.disks ≡ start.set.shape.shards
-        → AtMoment machine (StandsWhereGood machine start stop) IsFrontOf last_of start.set.shape
+        → AtMoment machine (StandsWhereGood machine start stop) start.set.shape
         stop.course journal stop.moment stop.disks
         → AreGoodImages start.set.shape stop images →
         Reopens start stop (below stop.moment journal) images }
@@ -35,7 +34,7 @@ pub fn images_that_count_reopen()
         (journal : List JournalEntry) (images : List Image)
         → IsShape start.set.shape → start.set.shape.copies ≡ 1
         → length stop.disks ≡ start.set.shape.shards
-        → AtMoment machine (StandsWhereGood machine start stop) IsFrontOf last_of start.set.shape
+        → AtMoment machine (StandsWhereGood machine start stop) start.set.shape
         stop.course journal stop.moment stop.disks
         → AreGoodImages start.set.shape stop images →
         AreSoundAlong start.set (taken_lists start.set.shape (image_logs images)) }
@@ -46,7 +45,7 @@ pub fn good_images_are_logs()
     ensures logs { (machine : Machine Whole Event) (start : Start) (stop : Stop)
         (journal : List JournalEntry) (images : List Image) (peer : ℕ)
         → peer < start.set.shape.shards * start.set.shape.copies
-        → AtMoment machine (GoodPeersCount machine) IsFrontOf last_of start.set.shape
+        → AtMoment machine (GoodPeersCount machine) start.set.shape
         stop.course journal stop.moment stop.disks
         → IsGoodImage stop images peer → IsSome (list_in (image_at images peer)) }
 {}

@@ -6,7 +6,7 @@ ghost use Rattle.hs_journal.specs.declared.entry.JournalEntry.{JournalEntry};
 ghost use Rattle.hs_journal.specs.Moments.{below};
 ghost use Rattle.hs_limits.specs.Shape.{IsShape};
 ghost use Rattle.hs_moments.specs.Joint.{AtMoment};
-ghost use Rattle.hs_moments.specs.WholeMachine.{IsFrontOf, last_of, whole_machine};
+ghost use Rattle.hs_moments.specs.WholeMachine.{whole_machine};
 ghost use Rattle.hs_standing.specs.Standing.{AreBegun, IsStateAt, WholeStands};
 ghost use Rattle.hs_standing.specs.Reopens.{Reopens};
 ghost use Rattle.hs_standing.specs.Start.{Start};
@@ -20,7 +20,7 @@ pub fn what_stands_reopens()
         (c : Whole)
         → IsShape start.set.shape → start.set.shape.copies ≡ 1
         → length stop.disks ≡ start.set.shape.shards
-        → AtMoment whole_machine (IsStateAt c) IsFrontOf last_of start.set.shape
+        → AtMoment whole_machine (IsStateAt c) start.set.shape
         stop.course journal stop.moment stop.disks
         → WholeStands start c → AreBegun start stop c.core
         → AreGoodImages start.set.shape stop images →

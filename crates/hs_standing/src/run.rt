@@ -11,7 +11,7 @@ ghost use Rattle.hs_limits.specs.Shape.{IsShape};
 ghost use Rattle.hs_model.specs.declared.course.CourseItem.{CourseItem};
 ghost use Rattle.hs_moments.specs.Joint.{AtMoment};
 ghost use Rattle.hs_moments.specs.Machine.{runs, state_at};
-ghost use Rattle.hs_moments.specs.WholeMachine.{IsFrontOf, last_of, whole_machine};
+ghost use Rattle.hs_moments.specs.WholeMachine.{whole_machine};
 ghost use Rattle.hs_standing.specs.Run.{IsRunning, MayRun, RunOpens};
 ghost use Rattle.hs_standing.specs.Standing.{AllMayKeep, AreBegun, IsStateAt};
 ghost use Rattle.hs_standing.specs.Reopens.{Reopens};
@@ -79,7 +79,7 @@ pub fn each_moment_of_a_run_stands()
         → ((i : CourseItem) → Contains (items_of c.core events) i → Contains stop.course i)
         → AtMoment whole_machine
         (IsStateAt (state_at whole_machine c (happened c.core events) stop.moment))
-        IsFrontOf last_of start.set.shape stop.course journal stop.moment stop.disks
+        start.set.shape stop.course journal stop.moment stop.disks
         → AreGoodImages start.set.shape stop images →
         Reopens start stop (below stop.moment journal) images }
 {

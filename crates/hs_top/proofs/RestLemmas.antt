@@ -5,7 +5,7 @@ use Rattle.hs_entry.specs.Entries.{rank_of}
 use Rattle.hs_events.specs.Taken.{or_blank, taken_lists}
 use Rattle.hs_fold.specs.Images.{image_at}
 use Rattle.hs_fold.specs.Opened.{chosen, chosen_each, outranks}
-use Rattle.hs_fold.specs.Shards.Images.{Image}
+use Rattle.hs_fold.specs.Shards.Images.{Image, IsBlank}
 use Rattle.hs_fold.specs.Shards.Setting.{Numbered}
 use Rattle.hs_peerlog.proofs.ImageLemmas.{image-is, list-same}
 use Rattle.hs_ports.specs.declared.disk.Side.{Side}
@@ -15,7 +15,7 @@ use Rattle.hs_promise.specs.Entry.{MayStop, entry_logs, is_aside, logs_from}
 use Rattle.hs_promise.specs.Run.{Ran, Script}
 use Rattle.hs_promise.specs.Stops.{image_logs}
 use Rattle.hs_side.proofs.BlankLemmas.{blank_log}
-use Rattle.hs_side.specs.Current.{list_in}
+use Rattle.hs_side.specs.Current.{current, list_in}
 use Rattle.hs_side.specs.Reading.{listed}
 use Rattle.hs_sound.specs.Stay.{AreSoundAlong}
 use Rattle.hs_top.specs.Rest.{AreAtRest}
@@ -62,22 +62,23 @@ each_empty (suc shards) copies lists h =
     ap (λ (list : Numbered). list ∷ chosen_each shards copies (drop copies lists)) (chosen_empty (take copies lists) (empty_take copies lists h))
     ∙ ap (λ (rest : List Numbered). [] ∷ rest) (each_empty shards copies (drop copies lists) (empty_drop copies lists h))
 
-blank_list : (disk : Standing) → ((side : Side) → disk.seen side ≡ []) → list_in disk.seen ≡ Some []
-blank_list disk h = list-same (λ side. []) disk.seen h ∙ ap (λ log. listed log) (blank_log [] refl)
+blank_list : (image : Image) → IsBlank image → list_in image ≡ Some []
+blank_list image blank = ap (λ log. listed log) (blank_log (image (current image)) (blank (current image)))
 
-logs_empty : (S : Script) (r : Ran) (peer : ℕ) (disks : List Standing) → ((k : ℕ) (side : Side) → (disk_at disks k).seen side ≡ []) → AreEmpty (or_blank (logs_from S r peer disks))
+logs_empty : (S : Script) (r : Ran) (peer : ℕ) (disks : List Standing) → ((k : ℕ) → list_in (disk_at disks k).seen ≡ Some []) → AreEmpty (or_blank (logs_from S r peer disks))
 logs_empty S r peer [] h = tt
-logs_empty S r peer (disk ∷ disks) h = (go (is_aside S r peer), logs_empty S r (peer + 1) disks (λ k side. h (suc k) side))
+logs_empty S r peer (disk ∷ disks) h = (go (is_aside S r peer), logs_empty S r (peer + 1) disks (λ k. h (suc k)))
   where
     go : (b : Bool) → unwrap_or (if b then None else list_in disk.seen) [] ≡ []
     go true = refl
-    go false = ap (λ (log : Option Numbered). unwrap_or log []) (blank_list disk (λ side. h 0 side))
+    go false = ap (λ (log : Option Numbered). unwrap_or log []) (h 0)
 
-pub blank_may : (S : Script) (r : Ran) → AreSoundAlong S.set (replicate S.set.shape.shards []) → AreAtRest (λ peer side. []) r.old → MayStop S r
-blank_may S r sound rest =
-    rest_may S r (λ peer side. []) rest
+pub blank_may : (S : Script) (r : Ran) (image : ℕ → Image) → AreSoundAlong S.set (replicate S.set.shape.shards []) → ((peer : ℕ) → IsBlank (image peer)) → AreAtRest image r.old → MayStop S r
+blank_may S r image sound blank rest =
+    rest_may S r image rest
     (subst (λ (lists : List Numbered). AreSoundAlong S.set lists)
-    (sym (each_empty S.set.shape.shards S.set.shape.copies (or_blank (entry_logs S r)) (logs_empty S r 0 r.old.disks (λ k side. (rest.each k).seen side)))) sound)
+    (sym (each_empty S.set.shape.shards S.set.shape.copies (or_blank (entry_logs S r)) (logs_empty S r 0 r.old.disks (λ k.
+    list-same (image k) (disk_at r.old.disks k).seen (rest.each k).seen ∙ blank_list (image k) (blank k))))) sound)
 
 -- ---- what a stop left
 

@@ -1,7 +1,7 @@
 //! On which disks a run may begin.
-ghost use Rattle.std.specs.Prelude.{◌≡◌, ◌<◌, false, length, ℕ, [], List, Option};
+ghost use Rattle.std.specs.Prelude.{◌≡◌, ◌<◌, false, length, ℕ, List, Option};
 ghost use Rattle.hs_fold.specs.Images.{image_at};
-ghost use Rattle.hs_fold.specs.Shards.Images.{AreGoodImages, Image};
+ghost use Rattle.hs_fold.specs.Shards.Images.{AreGoodImages, Image, IsBlank};
 ghost use Rattle.hs_limits.specs.declared.limits.Limits.{Limits};
 ghost use Rattle.hs_model.specs.Store.{Store};
 ghost use Rattle.hs_model.specs.declared.command.Command.{Command};
@@ -19,8 +19,9 @@ use hs_sound::waiting_lists_are_sound_with_runs;
 /// opening sets no peer aside has all of them (`stopped`). A store of one shard of one copy needs no such
 /// premise: where its only peer is set aside the run begins with a blank list (`alone`).
 pub fn a_run_may_begin()
-    ensures blank { (S : Script) (r : Ran) → 0 < S.set.shape.shards
-        → AreAtRest (λ peer side. []) r.old → MayStop S r }
+    ensures blank { (S : Script) (images : ℕ → Image) (r : Ran) → 0 < S.set.shape.shards
+        → ((peer : ℕ) → IsBlank (images peer))
+        → AreAtRest images r.old → MayStop S r }
     ensures stopped { (S : Script) (entry : Store) (r : Ran) (m : ℕ) (images : List Image)
         → Stops S entry r → IsDuring r.old r.new m
         → AreGoodImages S.set.shape (stop_at S r m) images

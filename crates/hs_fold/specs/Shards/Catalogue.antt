@@ -1,5 +1,5 @@
 -- What a shard's list of entries amounts to: its catalogue, with the shard's roots.
--- So far lists have the kinds View, Block, Mark, Root and Drop; the others change nothing yet.
+-- Lists have the kinds View, Block, Mark, Root and Drop here; what an Enter and a Got change is in Runs/.
 use Rattle.std.specs.Prelude.{ℕ, ◌+◌, Bool, true, false, not, ◌==◌, ◌&&◌, if◌then◌else◌, List, [], ◌∷◌, length, Option, Some, None, is_none, Result, Ok, Err, nat_le, nat_lt, find, count_by}
 use Rattle.std.specs.BTreeMap.{insert_entry, is_at}
 use Rattle.std.specs.Map.{lookup, set_value}

@@ -61,7 +61,7 @@ mark_happens (Some kept) least number a = if kept.number == number then Some (ch
 abbrev pub key_happens : Shard → List ℕ → Change → Option Happening
 key_happens at key one = if shard_of_key at.shards key == at.shard then Some (changes one) else None
 
--- what happens by an entry, where its shard's catalogue is this; an Enter and a Got do nothing yet
+-- what happens by an entry, where its shard's catalogue is this; what an Enter and a Got do is in Runs/
 abbrev pub happening_of : Shard → Catalogue → Entry → Option Happening
 happening_of at c (kind.View view) = None
 happening_of at c (kind.Block op least bytes) = block_happens at c least (at.name bytes) (read_block bytes)

@@ -1,12 +1,8 @@
-use Rattle.std.specs.Prelude.{take}
-use Rattle.hs_any_events.proofs.AlongLemmas.{LawsBelow, Steady, front_steady, opening_code, opening_gives, opens_coded, room_at}
+use Rattle.hs_any_events.proofs.AlongLemmas.{LawsBelow, front_right, opening_code, opening_gives, opens_coded}
 use Rattle.hs_any_events.proofs.CodedLemmas.{Code, coded_name}
-use Rattle.hs_any_events.proofs.CodedRightLemmas.{stays_right}
 use Rattle.hs_any_events.proofs.counting.counts_are_right_behind_any_events.Goals as goal
 use Rattle.hs_any_events.proofs.OpeningLemmas.{IsOfHistory, opens_of_history}
 use Rattle.hs_any_events.proofs.RightLemmas.{counted_right}
-use Rattle.hs_core.specs.State.{Core}
-use Rattle.hs_events.specs.Course.{steps}
 use Rattle.hs_events.specs.Found.{first_core}
 use Rattle.hs_events.specs.Whole.{open_whole}
 use Rattle.hs_settled.proofs.DeletesCountLemmas.{CountLaws}
@@ -58,7 +54,4 @@ returns-clause-events c = λ start found events opens may n.
     let r : IsRunning start (open_whole start.set found) = c.a_run_goes_on.ensures.opens start found opens in
     let code : Code = opening_code start found r events in
     let names : GivesAddresses (coded_name code) = opening_gives start found r opens.names events in
-    let its : Steady code start.set.limits (steps (first_core start.set found) (take n events)) =
-    front_steady below code names start.set.limits events (open_whole start.set found) (opens_coded start found r events) may (λ a m. m) n in
-    let core : Core = steps (first_core start.set found) (take n events) in
-    stays_right code start.set.limits core.progress.last_line core its laws c.zero_blocks_are_right.ensures.behind (room_at start found r events may n) names
+    front_right below code names start.set.limits laws c.zero_blocks_are_right.ensures.behind events (open_whole start.set found) (opens_coded start found r events) may (λ a m. m) n

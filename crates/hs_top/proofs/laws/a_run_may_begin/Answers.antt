@@ -6,7 +6,7 @@ use Rattle.hs_top.proofs.RestLemmas.{alone_may, blank_may, one_low, stopped_may}
 use Rattle.hs_top.proofs.laws.a_run_may_begin.Goals as goal
 
 pub returns-clause-blank : goal.returns-clause-blank
-returns-clause-blank c = λ S r low rest. blank_may S r (c.waiting_lists_are_sound_with_runs.ensures.blank S.set low) rest
+returns-clause-blank c = λ S images r low blank rest. blank_may S r images (c.waiting_lists_are_sound_with_runs.ensures.blank S.set low) blank rest
 
 pub returns-clause-stopped : goal.returns-clause-stopped
 returns-clause-stopped c = λ S entry r m images stops during good limits commands next rest same none.
