@@ -23,15 +23,15 @@ pub record EachImageOfOne (before now i : ℕ) (old new : List Standing) (P : (S
   pub standing : (image : Side → List ℕ) → IsStanding (disk_at new i) image → P image
   pub others : (k : ℕ) → k ≢ i → disk_at new k ≡ disk_at old k
 
--- at a moment behind its last call a disk has what it may leave now
-abbrev pub Since : List Standing → Type 0
-Since disks = (k : ℕ) (side : Side) (m : ℕ) → (disk_at disks k).last < m → (disk_at disks k).past m side ≡ (disk_at disks k).loose side
-
 -- a stretch of a run: the moments behind `before` and up to `now`, and the disks then
 pub record Stretch : Type 0 where
   pub before : ℕ
   pub now : ℕ
   pub disks : List Standing
+
+-- at a moment behind its last call a disk has what it may leave now
+abbrev pub Since : List Standing → Type 0
+Since disks = (k : ℕ) (side : Side) (m : ℕ) → (disk_at disks k).last < m → (disk_at disks k).past m side ≡ (disk_at disks k).loose side
 
 module _ {State Event : Type 0} (M : Machine State Event) where
   -- the image's list is a prefix of the peer's, and not too short
