@@ -216,8 +216,7 @@ module _ (below : LawsBelow) (code : Code) (names : GivesAddresses (coded_name c
   next_since : (c : Whole) (e : Event) (at : ℕ) → StaysSteady code limits c → MayStep c.core e at → IsWithin code (brought_by e) → (shard : ℕ)
       → IsCodedSteady code limits (last_line_after e c.core) (step e at c.core) × Since shard c.core (step e at c.core)
   next_since c e at s may within shard =
-      walks_step (walks_since (walks_coded below.views below.steps below.reads below.laws code names limits (last_line_after e c.core)) shard c.core) c e at s.sane s.few s.clean (may_event code limits c.core s.steady e at may within)
-      (
+      walks_step (walks_since (walks_coded below.views below.steps below.reads below.laws code names limits (last_line_after e c.core)) shard c.core) c e at s.sane s.few s.clean (may_event code limits c.core s.steady e at may within) (
         record {
           coded = s.steady.coded;
           beside = s.steady.beside;

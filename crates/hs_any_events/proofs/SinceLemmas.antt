@@ -185,8 +185,8 @@ module _ (shard : ℕ) (a : Core) where
         sweeps u (inl done) = inr (
           named entry b,
           subst (λ k. (catalogue_of k t).swept ≡ (apply (front_of k b + 1) entry (named entry b) (catalogue_of k b)).catalogue.swept) (sym is) (ap (λ (k : Catalogue). k.swept) done)
-          ∙ ap (λ n. (apply (n + 1) entry (named entry b) (catalogue_of shard b)).catalogue.swept) u.front
-          ∙ ap (λ (k : Catalogue). (apply (front_of shard a + 1) entry (named entry b) k).catalogue.swept) u.catalogue,
+              ∙ ap (λ n. (apply (n + 1) entry (named entry b) (catalogue_of shard b)).catalogue.swept) u.front
+              ∙ ap (λ (k : Catalogue). (apply (front_of shard a + 1) entry (named entry b) k).catalogue.swept) u.catalogue,
         )
         sweeps u (inr old) = inl (subst (λ k. (catalogue_of k t).swept ≡ (catalogue_of k b).swept) (sym is) (ap (λ (k : Catalogue). k.swept) old) ∙ ap (λ (k : Catalogue). k.swept) u.catalogue)
 
