@@ -1,0 +1,9 @@
+pub mod CallLemmas
+pub mod CalmLemmas
+pub mod LineLemmas
+pub mod LostLemmas
+pub mod NotedLemmas
+pub mod NotesLemmas
+pub mod OpenedLemmas
+pub mod RiseLemmas
+pub mod SoFarLemmas

@@ -1,0 +1,133 @@
+-- A line of a cluster whose core is that of a run so far.
+use Rattle.std.proofs.Common.{◌≡◌, inl, inr, ◌∙◌, ap, sym, subst, ℕ, ◌<◌, ◌≤◌, true, List, [], ◌∷◌, Option, Some, None, arith, append-nil}
+use Rattle.std.specs.Prelude.{⊤, Result, is_ok}
+use Rattle.hs_clauses.specs.Numbered.{AreNumbered}
+use Rattle.hs_cluster.specs.Calls.{RunsLine}
+use Rattle.hs_cluster.specs.Counts.{AreAllCounted}
+use Rattle.hs_cluster.specs.declared.fault.ClusterFault.{ClusterFault}
+use Rattle.hs_cluster.specs.Disks.{DiskSeen, seen_at}
+use Rattle.hs_cluster.specs.Kept.{AreStored, Shows}
+use Rattle.hs_cluster.specs.Rooms.{HaveRecordRoom}
+use Rattle.hs_cluster.specs.Running.{Running}
+use Rattle.hs_core.specs.State.{Core}
+use Rattle.hs_desk.specs.declared.fault.CoreFault.TheVariants as fault
+use Rattle.hs_effects.specs.Logged.{MayBeginAll}
+use Rattle.hs_events.specs.Commands.{AreOfLine, LineAt}
+use Rattle.hs_events.specs.Course.{steps}
+use Rattle.hs_events.specs.Due.{Events, MomentsRise}
+use Rattle.hs_events.specs.Reports.{failures}
+use Rattle.hs_measure.proofs.AlongLemmas.{Comes, LineLaws}
+use Rattle.hs_measure.proofs.LineLemmas.{rises_from}
+use Rattle.hs_measure.specs.Between.{IsInRun}
+use Rattle.hs_model.specs.declared.command.Command.{Command}
+use Rattle.hs_model.specs.declared.command.Command.TheVariants as command
+use Rattle.hs_room.proofs.CallLemmas.{CallLaws, call_ends, call_moments, call_so_far, lost_line, may_keep, not_full, rose_or}
+use Rattle.hs_room.proofs.SoFarLemmas.{numbered}
+use Rattle.hs_room.specs.Room.{EndsWell, IsSoFar, KeepsRoom, LossCause, entries_most}
+use Rattle.hs_settled.proofs.AskLemmas.{AllIts, line_its}
+use Rattle.hs_settled.proofs.CausesRunLemmas.{mute, mute_is}
+use Rattle.hs_standing.proofs.AddressedLemmas.{AllAddressed, lines_addressed}
+use Rattle.hs_standing.specs.Run.{MayRun}
+use Rattle.hs_standing.specs.Script.{AreLines, IsNext, Script, all_events}
+use Rattle.hs_standing.specs.Standing.{AllMayKeep, judging_of}
+use Rattle.hs_standing.specs.Start.{Start}
+use Rattle.hs_told.specs.InTurn.{AllMayCome, IsInTurn}
+
+module _ (laws : CallLaws) (lines : LineLaws) (tells : Type 0) (told : tells) (start : Start) (line : ℕ) (asked : Command) (before now : ℕ) (old new : Running) (disks left : List DiskSeen) (result : Result ⊤ ClusterFault)
+    (its : IsInRun start old disks) (so : IsSoFar start old.core) (next : IsNext start.commands old.core line) (asks : start.commands line ≡ Some asked) (later : old.core.moment ≤ before)
+    (r : RunsLine start.set.name line asked before now old new result (Shows tells (record { before = before; now = now; old = old; new = new; disks = disks; left = left }) result)) where
+  -- the script of this line alone
+  abbrev script : Script
+  script = record { name = start.set.name; commands = start.commands; past = is_ok result }
+
+  abbrev at : LineAt
+  at = record { line = line; core = old.core; events = r.events; whole = is_ok result }
+
+  are : AreOfLine start.set.name at (start.commands line)
+  are = subst (λ (o : Option Command). AreOfLine start.set.name at o) (sym asks) r.due
+
+  -- what is so of the core of the whole is so of the cluster's
+  there : (P : Core → Type 0) → P its.whole.core → P old.core
+  there P h = subst P its.same h
+
+  here : (P : Core → Type 0) → P old.core → P its.whole.core
+  here P h = subst P (sym its.same) h
+
+  turn : IsInTurn start.commands old.core
+  turn = there (λ (x : Core). IsInTurn start.commands x) its.along.reading.stands.whole.turn
+
+  old_going : old.core.ended ≡ None
+  old_going = there (λ (x : Core). x.ended ≡ None) its.along.reading.stands.whole.sane.going
+
+  -- ---- its events come
+
+  one_line : AreLines script line old.core (r.events ∷ [])
+  one_line = record { going = old_going; events = are }
+
+  rises : MomentsRise old.core.moment (all_events (r.events ∷ [])) now
+  rises = subst (λ (es : Events). MomentsRise old.core.moment es now) (sym (append-nil r.events)) (rises_from old.core.moment before now r.events later r.rises)
+
+  come : AllMayCome start.commands old.core r.events
+  come = subst (λ (es : Events). AllMayCome start.commands old.core es) (append-nil r.events) (lines.come script line old.core (r.events ∷ []) now next rises one_line)
+
+  fresh_all : MayBeginAll start.set.name (all_events (r.events ∷ [])) old.core
+  fresh_all = lines.fresh script line old.core (r.events ∷ []) now turn next rises one_line
+
+  addressed : AllAddressed (judging_of start) r.events old.core
+  addressed =
+      subst (λ (es : Events). AllAddressed (judging_of start) es old.core) (append-nil r.events)
+      (lines_addressed script start.set.limits (lines.asks (judging_of start)) line old.core (r.events ∷ []) next fresh_all one_line)
+
+  comes : Comes start its.whole r.events
+  comes = record {
+    come = here (λ (x : Core). AllMayCome start.commands x r.events) come;
+    fresh = here (λ (x : Core). MayBeginAll start.set.name r.events x) (subst (λ (es : Events). MayBeginAll start.set.name es old.core) (append-nil r.events) fresh_all);
+    addressed = here (λ (x : Core). AllAddressed (judging_of start) r.events x) addressed;
+    rooms = here (λ (x : Core). HaveRecordRoom x r.events) r.does.rooms;
+    told = r.kept.told told its.whole its.same its.logs;
+  }
+
+  may : AllMayKeep start (MayRun start) old.core r.events
+  may = there (λ (x : Core). AllMayKeep start (MayRun start) x r.events) (may_keep laws start its.whole r.events its.along.reading comes)
+
+  -- ---- and are its own
+
+  some_line : 1 ≤ line
+  some_line = let above : old.core.progress.event_line < line = next.above in omega (arith, above)
+
+  mute_asks : mute start.commands line ≡ Some asked
+  mute_asks = mute_is start.commands line some_line ∙ asks
+
+  low : old.core.progress.event_line ≤ line
+  low = let above : old.core.progress.event_line < line = next.above in omega (arith, above)
+
+  its_all : AllIts start.commands line old.core r.events
+  its_all = line_its start.commands start.set.name at old_going are
+
+  mute_its : AllIts (mute start.commands) line old.core r.events
+  mute_its = line_its (mute start.commands) start.set.name at old_going (subst (λ (o : Option Command). AreOfLine start.set.name at o) (sym mute_asks) r.due)
+
+  pub line_room : KeepsRoom start old.core r.events result new
+  line_room = record {
+    moments = call_moments laws start line old.core r.events so old_going low may come its_all mute_its;
+    so_far = λ fine. subst (λ (x : Core). IsSoFar start x) (sym (r.does.core fine)) (call_so_far laws start line old.core r.events so old_going low may come its_all mute_its);
+  }
+
+  -- ---- how it ends
+
+  stored : AreStored its.whole r.events
+  stored = laws.stored its.whole r.events its.along.reading.stands.whole.sane (here (λ (x : Core). AreNumbered x) (numbered start old.core so laws.numbered laws.stays))
+
+  counted : AreAllCounted old.core r.events disks left
+  counted = r.kept.read told its.whole its.same its.logs stored
+
+  lost : (g : ℕ) → (steps old.core r.events).ended ≡ Some (fault.ShardLost g) → LossCause (Some asked) disks left g
+  lost g over = elim (rose_or (seen_at disks g).faults (seen_at left g).faults (failures true g old.core r.events) (counted g)) [
+    | inl none ↦ inl (sym mute_asks ∙ lost_line laws start line old.core r.events so old_going low may come its_all mute_its g none over)
+    | inr rose ↦ inr rose
+  ]
+
+  pub line_ends : entries_most start.commands start.set.shape line ≤ start.set.limits.ops → EndsWell (Some asked) disks left result
+  line_ends fits = call_ends (Some asked) disks left result new.core r.does.outcome
+      (λ fine full. not_full laws start line old.core r.events so old_going low may come its_all mute_its fits (ap (λ (x : Core). x.ended) (sym (r.does.core fine)) ∙ full))
+      (λ fine g over. lost g (ap (λ (x : Core). x.ended) (sym (r.does.core fine)) ∙ over))

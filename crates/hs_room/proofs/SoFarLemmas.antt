@@ -1,0 +1,83 @@
+-- A core of a run so far, and events behind it.
+use Rattle.std.proofs.Common.{◌≡◌, ◌∙◌, ap, sym, subst, ℕ, ◌+◌, ◌<◌, ◌++◌, [], ◌∷◌, Option, refl, take, length}
+use Rattle.hs_clauses.specs.Numbered.{AreNumbered}
+use Rattle.hs_core.specs.declared.event.Event.{Event}
+use Rattle.hs_core.specs.State.{Core}
+use Rattle.hs_core.specs.Step.{step}
+use Rattle.hs_events.proofs.RunLemmas.{steps_append}
+use Rattle.hs_events.specs.Course.{steps}
+use Rattle.hs_events.specs.Due.{Events}
+use Rattle.hs_events.specs.Found.{Found, first_core, opened_list, opens_with}
+use Rattle.hs_events.specs.Sane.{IsFromOne}
+use Rattle.hs_fold.specs.Shards.Setting.{Setting}
+use Rattle.hs_measure.proofs.EventLemmas.{all_come}
+use Rattle.hs_model.specs.declared.command.Command.{Command}
+use Rattle.hs_room.proofs.NotedLemmas.{Noting, mute_all, noting_all, noting_first, own_append, own_front}
+use Rattle.hs_room.specs.Room.{HasRoom, IsSoFar}
+use Rattle.hs_settled.proofs.CausesRunLemmas.{mute}
+use Rattle.hs_settled.proofs.DeletesRunLemmas.{may_front}
+use Rattle.hs_settled.proofs.ListLemmas.{take_all}
+use Rattle.hs_settled.specs.Noted.{AllAreOwn}
+use Rattle.hs_standing.specs.Run.{MayRun, RunOpens}
+use Rattle.hs_standing.specs.Standing.{AllMayKeep}
+use Rattle.hs_standing.specs.Start.{Start}
+
+may_append : (start : Start) (core : Core) (es fs : Events) → AllMayKeep start (MayRun start) core es → AllMayKeep start (MayRun start) (steps core es) fs → AllMayKeep start (MayRun start) core (es ++ fs)
+may_append start core [] fs may more = more
+may_append start core (e ∷ es) fs may more = (may.0, may_append start (step e.0 e.1 core) es fs may.1 more)
+
+-- what the law of a core says of a run
+abbrev pub RunHasRoom : Type 0
+RunHasRoom = (start : Start) (found : Found) (events : Events) → RunOpens start found → AllMayKeep start (MayRun start) (first_core start.set found) events → AllAreOwn start.commands (first_core start.set found) events
+    → (n : ℕ) → HasRoom start (steps (first_core start.set found) (take n events))
+
+-- as it opens
+pub first_so_far : (start : Start) (found : Found) → RunOpens start found → IsSoFar start (first_core start.set found)
+first_so_far start found opens = record { found = found; events = []; opens = opens; may = tt; own = tt; gives = refl }
+
+module _ (start : Start) (core : Core) (so : IsSoFar start core) where
+  pub one_copy : start.set.shape.copies ≡ 1
+  one_copy = so.opens.well.one
+
+  -- events behind it
+  pub more : (es : Events) → AllMayKeep start (MayRun start) core es → AllAreOwn start.commands core es → IsSoFar start (steps core es)
+  more es may own = record {
+    found = so.found;
+    events = so.events ++ es;
+    opens = so.opens;
+    may = may_append start (first_core start.set so.found) so.events es so.may (subst (λ (x : Core). AllMayKeep start (MayRun start) x es) (sym so.gives) may);
+    own = own_append start.commands (first_core start.set so.found) so.events es so.own (subst (λ (x : Core). AllAreOwn start.commands x es) (sym so.gives) own);
+    gives = steps_append (first_core start.set so.found) so.events es ∙ ap (λ (x : Core). steps x es) so.gives;
+  }
+
+  pub so_has_room : RunHasRoom → HasRoom start core
+  so_has_room law =
+      subst (λ (x : Core). HasRoom start x) so.gives
+      (subst (λ (es : Events). HasRoom start (steps (first_core start.set so.found) es)) (take_all so.events) (law start so.found so.events so.opens so.may so.own (length so.events)))
+
+  noting_by : (commands : ℕ → Option Command) → AllAreOwn commands (first_core start.set so.found) so.events → Noting commands start.set.shape start.set.limits core
+  noting_by commands own =
+      subst (λ (x : Core). Noting commands start.set.shape start.set.limits x) so.gives
+      (noting_all commands start.set.shape start.set.limits so.events (first_core start.set so.found)
+      (noting_first commands start.set.shape start.set.limits (opens_with start.set so.found) so.found.opened so.opens.well.many) own)
+
+  pub noting : Noting start.commands start.set.shape start.set.limits core
+  noting = noting_by start.commands so.own
+
+  pub mute_noting : Noting (mute start.commands) start.set.shape start.set.limits core
+  mute_noting = noting_by (mute start.commands) (mute_all start.commands so.events (first_core start.set so.found) (all_come start so.events (first_core start.set so.found) so.may) so.own)
+
+  -- each block that it has is of an entry
+  module _ (opens : (set : Setting) (found : Found) → ((shard : ℕ) → shard < set.shape.shards → IsFromOne (opened_list set found shard)) → AreNumbered (first_core set found))
+      (stays : (core : Core) (e : Event) (moment : ℕ) → AreNumbered core → AreNumbered (step e moment core)) where
+    numbered_on : (es : Events) (c : Core) → AreNumbered c → AreNumbered (steps c es)
+    numbered_on [] c its = its
+    numbered_on (e ∷ es) c its = numbered_on es (step e.0 e.1 c) (stays c e.0 e.1 its)
+
+    pub numbered : AreNumbered core
+    numbered = subst (λ (x : Core). AreNumbered x) so.gives (numbered_on so.events (first_core start.set so.found) (opens start.set so.found so.opens.well.lists))
+
+-- the events of a call behind a core of the run
+module _ (law : RunHasRoom) (start : Start) (core : Core) (so : IsSoFar start core) (es : Events) (may : AllMayKeep start (MayRun start) core es) (own : AllAreOwn start.commands core es) where
+  pub front_room : (n : ℕ) → HasRoom start (steps core (take n es))
+  front_room n = so_has_room start (steps core (take n es)) (more start core so (take n es) (may_front start es core may n) (own_front start.commands es core own n)) law
