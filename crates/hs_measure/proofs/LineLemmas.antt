@@ -57,30 +57,30 @@ rises_from low from to (e ∷ es) below h = let first = h.0 in (omega (arith, be
 
 -- ---- a line
 
-module _ (laws : AlongLaws) (lines : LineLaws) (tells : Type 0) (told : tells) (start : Start) (line : ℕ) (asked : Command) (before now : ℕ) (old new : Running) (disks left : List DiskSeen) (result : Result ⊤ ClusterFault)
+module _ (lines : LineLaws) (tells : Type 0) (told : tells) (start : Start) (line : ℕ) (asked : Command) (before now : ℕ) (old new : Running) (disks left : List DiskSeen) (result : Result ⊤ ClusterFault)
     (its : IsInRun start old disks) (next : IsNext start.commands old.core line) (asks : start.commands line ≡ Some asked) (later : old.core.moment ≤ before)
     (r : RunsLine start.set.name line asked before now old new result (Shows tells (record { before = before; now = now; old = old; new = new; disks = disks; left = left }) result)) where
   -- the script of this line alone
   abbrev script : Script
   script = record { name = start.set.name; commands = start.commands; past = is_ok result }
 
-  abbrev at : LineAt
+  abbrev pub at : LineAt
   at = record { line = line; core = old.core; events = r.events; whole = is_ok result }
 
-  are : AreOfLine start.set.name at (start.commands line)
+  pub are : AreOfLine start.set.name at (start.commands line)
   are = subst (λ (o : Option Command). AreOfLine start.set.name at o) (sym asks) r.due
 
   -- what is so of the core of the whole is so of the cluster's
-  there : (P : Core → Type 0) → P its.whole.core → P old.core
+  pub there : (P : Core → Type 0) → P its.whole.core → P old.core
   there P h = subst P its.same h
 
-  here : (P : Core → Type 0) → P old.core → P its.whole.core
+  pub here : (P : Core → Type 0) → P old.core → P its.whole.core
   here P h = subst P (sym its.same) h
 
   turn : IsInTurn start.commands old.core
   turn = there (λ (x : Core). IsInTurn start.commands x) its.along.reading.stands.whole.turn
 
-  old_going : old.core.ended ≡ None
+  pub old_going : old.core.ended ≡ None
   old_going = there (λ (x : Core). x.ended ≡ None) its.along.reading.stands.whole.sane.going
 
   one_line : AreLines script line old.core (r.events ∷ [])
@@ -89,7 +89,7 @@ module _ (laws : AlongLaws) (lines : LineLaws) (tells : Type 0) (told : tells) (
   rises : MomentsRise old.core.moment (all_events (r.events ∷ [])) now
   rises = subst (λ (es : Events). MomentsRise old.core.moment es now) (sym (append-nil r.events)) (rises_from old.core.moment before now r.events later r.rises)
 
-  come : AllMayCome start.commands old.core r.events
+  pub come : AllMayCome start.commands old.core r.events
   come = subst (λ (es : Events). AllMayCome start.commands old.core es) (append-nil r.events) (lines.come script line old.core (r.events ∷ []) now next rises one_line)
 
   fresh_all : MayBeginAll start.set.name (all_events (r.events ∷ [])) old.core
@@ -100,7 +100,7 @@ module _ (laws : AlongLaws) (lines : LineLaws) (tells : Type 0) (told : tells) (
       subst (λ (es : Events). AllAddressed (judging_of start) es old.core) (append-nil r.events)
       (lines_addressed script start.set.limits (lines.asks (judging_of start)) line old.core (r.events ∷ []) next fresh_all one_line)
 
-  comes : Comes start its.whole r.events
+  pub comes : Comes start its.whole r.events
   comes = record {
     come = here (λ (x : Core). AllMayCome start.commands x r.events) come;
     fresh = here (λ (x : Core). MayBeginAll start.set.name r.events x) (subst (λ (es : Events). MayBeginAll start.set.name es old.core) (append-nil r.events) fresh_all);
@@ -111,53 +111,54 @@ module _ (laws : AlongLaws) (lines : LineLaws) (tells : Type 0) (told : tells) (
 
   -- ---- behind it
 
-  behind : steps its.whole.core r.events ≡ steps old.core r.events
-  behind = ap (λ (x : Core). steps x r.events) its.same
+  module _ (laws : AlongLaws) where
+    behind : steps its.whole.core r.events ≡ steps old.core r.events
+    behind = ap (λ (x : Core). steps x r.events) its.same
 
-  new_is : ran_out result ≡ false → new.core ≡ steps its.whole.core r.events
-  new_is fine = r.does.core fine ∙ sym behind
+    new_is : ran_out result ≡ false → new.core ≡ steps its.whole.core r.events
+    new_is fine = r.does.core fine ∙ sym behind
 
-  module _ (ok : result ≡ Ok tt) where
-    fine : ran_out result ≡ false
-    fine = ap (λ (x : Result ⊤ ClusterFault). ran_out x) ok
+    module _ (ok : result ≡ Ok tt) where
+      fine : ran_out result ≡ false
+      fine = ap (λ (x : Result ⊤ ClusterFault). ran_out x) ok
 
-    going : (steps its.whole.core r.events).ended ≡ None
-    going = ap (λ (x : Core). x.ended) (sym (new_is fine)) ∙ going_of result new.core r.does.outcome ok
+      going : (steps its.whole.core r.events).ended ≡ None
+      going = ap (λ (x : Core). x.ended) (sym (new_is fine)) ∙ going_of result new.core r.does.outcome ok
 
-    in_run : IsInRun start new left
-    in_run = record {
-      whole = runs whole_machine its.whole r.events;
-      same = runs_core its.whole r.events ∙ sym (new_is fine);
-      along = goes_on laws start its.whole its.along r.events comes going;
-      logs = from_ok result ok (r.kept.reads_on told its.whole its.same its.logs);
+      in_run : IsInRun start new left
+      in_run = record {
+        whole = runs whole_machine its.whole r.events;
+        same = runs_core its.whole r.events ∙ sym (new_is fine);
+        along = goes_on laws start its.whole its.along r.events comes going;
+        logs = from_ok result ok (r.kept.reads_on told its.whole its.same its.logs);
+      }
+
+      passes : Passes start.commands at
+      passes = line_passes start.commands start.set.name at next are
+
+      next_line : IsNext start.commands new.core (line + 1)
+      next_line = subst (λ (x : Core). IsNext start.commands x (line + 1)) (sym (r.does.core fine)) (passes.next (ap (λ (x : Result ⊤ ClusterFault). is_ok x) ok) old_going)
+
+    pub keeps : KeepsOn start line old.core r.events result new left
+    keeps = record {
+      moments = λ n. there (λ (x : Core). KeepsPromise start (steps x (take n r.events))) (moments laws start its.whole its.along r.events comes n);
+      left = λ fine. subst (λ (x : Core). KeepsPromise start x) (sym (new_is fine)) (kept laws start its.whole its.along r.events comes);
+      goes_on = on_ok result in_run;
+      next = on_ok result next_line;
     }
 
-    passes : Passes start.commands at
-    passes = line_passes start.commands start.set.name at next are
+    -- ---- a settle
 
-    next_line : IsNext start.commands new.core (line + 1)
-    next_line = subst (λ (x : Core). IsNext start.commands x (line + 1)) (sym (r.does.core fine)) (passes.next (ap (λ (x : Result ⊤ ClusterFault). is_ok x) ok) old_going)
-
-  pub keeps : KeepsOn start line old.core r.events result new left
-  keeps = record {
-    moments = λ n. there (λ (x : Core). KeepsPromise start (steps x (take n r.events))) (moments laws start its.whole its.along r.events comes n);
-    left = λ fine. subst (λ (x : Core). KeepsPromise start x) (sym (new_is fine)) (kept laws start its.whole its.along r.events comes);
-    goes_on = on_ok result in_run;
-    next = on_ok result next_line;
-  }
-
-  -- ---- a settle
-
-  -- what hs_measure says of the events of a settle
-  module _ (settles : (start : Start) (c : Whole) (line : ℕ) (events : Events) → IsRunning start c → IsMoving start.set.name c → c.core.pool.limit ≡ start.set.limits.pool → 2 * start.set.shape.shards < start.set.limits.pool
-      → AllMayKeep start (MayRun start) c.core events → (steps c.core events).ended ≡ None → is_walk next_due true line c.core events ≡ true → IsAtRest start (steps c.core events)) where
-    pub rests : Rests start asked result new.core
-    rests is room = on_ok result (λ ok.
-        subst (λ (x : Core). IsAtRest start x) (sym (new_is (fine ok)))
-        (settles start its.whole line r.events (running_of start its.whole its.along.reading) its.along.moving its.along.pool room (may laws start its.whole its.along r.events comes) (going ok) (walks ok)))
-      where
-        walks : result ≡ Ok tt → is_walk next_due true line its.whole.core r.events ≡ true
-        walks ok =
-            here (λ (x : Core). is_walk next_due true line x r.events ≡ true)
-            (subst (λ (b : Bool). is_walk next_due b line old.core r.events ≡ true) (ap (λ (x : Result ⊤ ClusterFault). is_ok x) ok)
-            (subst (λ (x : Command). AreOfCommand start.set.name at x) is r.due))
+    -- what hs_measure says of the events of a settle
+    module _ (settles : (start : Start) (c : Whole) (line : ℕ) (events : Events) → IsRunning start c → IsMoving start.set.name c → c.core.pool.limit ≡ start.set.limits.pool → 2 * start.set.shape.shards < start.set.limits.pool
+        → AllMayKeep start (MayRun start) c.core events → (steps c.core events).ended ≡ None → is_walk next_due true line c.core events ≡ true → IsAtRest start (steps c.core events)) where
+      pub rests : Rests start asked result new.core
+      rests is room = on_ok result (λ ok.
+          subst (λ (x : Core). IsAtRest start x) (sym (new_is (fine ok)))
+          (settles start its.whole line r.events (running_of start its.whole its.along.reading) its.along.moving its.along.pool room (may laws start its.whole its.along r.events comes) (going ok) (walks ok)))
+        where
+          walks : result ≡ Ok tt → is_walk next_due true line its.whole.core r.events ≡ true
+          walks ok =
+              here (λ (x : Core). is_walk next_due true line x r.events ≡ true)
+              (subst (λ (b : Bool). is_walk next_due b line old.core r.events ≡ true) (ap (λ (x : Result ⊤ ClusterFault). is_ok x) ok)
+              (subst (λ (x : Command). AreOfCommand start.set.name at x) is r.due))

@@ -68,16 +68,19 @@ moves_on events name c es moving fresh going = events name c es moving fresh (ap
 
 -- ---- the laws below, in one place
 
-pub record OpenLaws : Type 0 where
+pub record OpeningLaws : Type 0 where
   pub memory : FoldsInMemory
   pub reads : (start : Start) (found : Found) → RunOpens start found → IsReading start (open_whole start.set found)
+  pub come : (commands : ℕ → Option Command) (whole : Bool) (core : Core) (es : Events) (to : ℕ) → client_op (commands 0) ≡ None → core.progress.event_line ≡ 0 → MomentsRise core.moment es to → is_walk next_due whole 0 core es ≡ true → AllMayCome commands core es
+  pub fresh : (name : List ℕ → Address) (whole : Bool) (core : Core) (es : Events) → is_walk next_due whole 0 core es ≡ true → MayBeginAll name es core
+
+-- and of what goes on behind it
+pub record OpenLaws : Type 0 where
   pub moves : (name : List ℕ → Address) (set : Setting) (found : Found) → IsShape set.shape → set.shape.copies ≡ 1 → (first_core set found).ended ≡ None → ((shard : ℕ) → shard < set.shape.shards → IsFromOne (opened_list set found shard))
       → length found.good ≡ peer_count set.shape → IsMoving name (open_whole set found)
   pub deletes : (by : Judging) (start : Store) (shape : Shape) (limits : Limits) (taken : Taken) (moment : ℕ) → TellsDeletion by start (open_core shape limits taken moment)
   pub noted : (commands : ℕ → Option Command) (shape : Shape) (limits : Limits) (taken : Taken) (moment : ℕ) → length taken.good ≡ shape.shards * shape.copies → IsNoted commands (open_core shape limits taken moment)
-  pub come : (commands : ℕ → Option Command) (whole : Bool) (core : Core) (es : Events) (to : ℕ) → client_op (commands 0) ≡ None → core.progress.event_line ≡ 0 → MomentsRise core.moment es to → is_walk next_due whole 0 core es ≡ true → AllMayCome commands core es
   pub next : (commands : ℕ → Option Command) (whole : Bool) (core : Core) (es : Events) → client_op (commands 0) ≡ None → core.progress.event_line ≡ 0 → is_walk next_due whole 0 core es ≡ true → IsNext commands (steps core es) 1
-  pub fresh : (name : List ℕ → Address) (whole : Bool) (core : Core) (es : Events) → is_walk next_due whole 0 core es ≡ true → MayBeginAll name es core
 
 -- ---- what was read
 
@@ -92,7 +95,7 @@ each_of : (P : Catalogue → Type 0) (f : ℕ → Catalogue) (k n : ℕ) → ((j
 each_of P f k zero h = tt
 each_of P f k (suc n) h = (h k (omega arith) (omega arith), each_of P f (k + 1) n (λ j low high. h j (omega (arith, low)) (omega (arith, high))))
 
-module _ (laws : OpenLaws) (along : AlongLaws) (tells : Type 0) (told : tells) (set : Setting) (commands : ℕ → Option Command) (span : Span) (cluster : Running) (done : Result ⊤ ClusterFault)
+module _ (opening : OpeningLaws) (tells : Type 0) (told : tells) (set : Setting) (commands : ℕ → Option Command) (span : Span) (cluster : Running) (done : Result ⊤ ClusterFault)
     (shape : IsShape set.shape) (one : set.shape.copies ≡ 1) (names : GivesAddresses set.name) (nobody : client_op (commands 0) ≡ None) (o : Opens tells set span cluster done) (first_going : (first_core set o.found).ended ≡ None)
     (sound : AreSoundAlong set (whole_from (opened_lists set o.found) 0 set.shape.shards)) where
   abbrev found : Found
@@ -124,7 +127,7 @@ module _ (laws : OpenLaws) (along : AlongLaws) (tells : Type 0) (told : tells) (
       go (inl same) = subst (λ (x : Option Numbered). P (unwrap_or x [])) (sym same) read
       go (inr failed) = subst (λ (x : Option Numbered). P (unwrap_or x [])) (sym failed.0) blank
 
-  lists : (shard : ℕ) → shard < set.shape.shards → IsFromOne (opened_list set o.found shard)
+  pub lists : (shard : ℕ) → shard < set.shape.shards → IsFromOne (opened_list set o.found shard)
   lists p low = by_read (λ (list : Numbered). IsFromOne list) p low (from_one (seen_at span.old p).stands.seen) from_empty
 
   brings : (p : ℕ) → p < set.shape.shards → BringsAll set.name names (opened_list set o.found p)
@@ -139,7 +142,7 @@ module _ (laws : OpenLaws) (along : AlongLaws) (tells : Type 0) (told : tells) (
       each_of KeepsAddresses (opened_catalogue set found) 0 set.shape.shards
       (λ g low high. applied_all set.name names (opened_list set found g) (empty_catalogue set.shape g) (brings g (omega (arith, high))) (record { blocks = tt; roots = tt }))
 
-  opens : RunOpens (start_of set commands o.found) o.found
+  pub opens : RunOpens (start_of set commands o.found) o.found
   opens = record {
     well = record {
       one = one;
@@ -148,7 +151,7 @@ module _ (laws : OpenLaws) (along : AlongLaws) (tells : Type 0) (told : tells) (
       lists = lists;
       sound = sound;
       nobody = nobody;
-      few = first_room set found laws.memory sound;
+      few = first_room set found opening.memory sound;
     };
     shape = shape;
     entry = refl;
@@ -161,19 +164,8 @@ module _ (laws : OpenLaws) (along : AlongLaws) (tells : Type 0) (told : tells) (
   moment_is : (first_core set o.found).moment ≡ o.found.opened
   moment_is = (opens_first set.shape set.limits (opens_with set found) found.opened).moment
 
-  no_line : (first_core set o.found).progress.event_line ≡ 0
+  pub no_line : (first_core set o.found).progress.event_line ≡ 0
   no_line = (opens_first set.shape set.limits (opens_with set found) found.opened).event_line
-
-  limits_is : (first_core set o.found).limits ≡ set.limits
-  limits_is = (opens_first set.shape set.limits (opens_with set found) found.opened).limits
-
-  first_along : IsAlong (start_of set commands o.found) (open_whole set o.found)
-  first_along = record {
-    reading = laws.reads start found opens;
-    moving = laws.moves set.name set found shape one first_going lists o.finds.goods;
-    deletes = laws.deletes (judging_of start) start.entry set.shape set.limits (opens_with set found) found.opened;
-    pool = (laws.noted commands set.shape set.limits (opens_with set found) found.opened o.finds.goods).pool ∙ ap (λ (l : Limits). l.pool) limits_is;
-  }
 
   -- ---- the events of opening
 
@@ -183,37 +175,54 @@ module _ (laws : OpenLaws) (along : AlongLaws) (tells : Type 0) (told : tells) (
   rises : MomentsRise (first_core set o.found).moment o.events span.now
   rises = subst (λ (m : ℕ). MomentsRise m o.events span.now) (sym moment_is) o.rises
 
-  comes : Comes (start_of set commands o.found) (open_whole set o.found) o.events
+  pub come : AllMayCome commands (first_core set o.found) o.events
+  come = opening.come commands false first o.events span.now nobody no_line rises walks
+
+  pub comes : Comes (start_of set commands o.found) (open_whole set o.found) o.events
   comes = record {
-    come = laws.come commands false first o.events span.now nobody no_line rises walks;
-    fresh = laws.fresh set.name false first o.events walks;
+    come = come;
+    fresh = opening.fresh set.name false first o.events walks;
     addressed = settle_addressed (judging_of start) false 0 first o.events walks;
     rooms = o.rooms;
     told = o.told told first_going;
   }
 
-  module _ (ok : done ≡ Ok tt) where
-    fine : ran_out done ≡ false
-    fine = ap (λ (x : Result ⊤ ClusterFault). ran_out x) ok
+  -- ---- how it goes on behind them
 
-    going : (steps (first_core set o.found) o.events).ended ≡ None
-    going = ap (λ (x : Core). x.ended) (sym (o.core fine)) ∙ going_of done cluster.core o.outcome ok
+  module _ (laws : OpenLaws) (along : AlongLaws) where
+    limits_is : (first_core set o.found).limits ≡ set.limits
+    limits_is = (opens_first set.shape set.limits (opens_with set found) found.opened).limits
 
-    in_run : IsInRun (start_of set commands o.found) cluster span.new
-    in_run = record {
-      whole = runs whole_machine (open_whole set found) o.events;
-      same = runs_core (open_whole set found) o.events ∙ sym (o.core fine);
-      along = goes_on along start (open_whole set found) first_along o.events comes going;
-      logs = from_ok done ok (o.reads_on told);
+    first_along : IsAlong (start_of set commands o.found) (open_whole set o.found)
+    first_along = record {
+      reading = opening.reads start found opens;
+      moving = laws.moves set.name set found shape one first_going lists o.finds.goods;
+      deletes = laws.deletes (judging_of start) start.entry set.shape set.limits (opens_with set found) found.opened;
+      pool = (laws.noted commands set.shape set.limits (opens_with set found) found.opened o.finds.goods).pool ∙ ap (λ (l : Limits). l.pool) limits_is;
     }
 
-    first_next : IsNext commands cluster.core 1
-    first_next = subst (λ (x : Core). IsNext commands x 1) (sym (o.core fine)) (laws.next commands false first o.events nobody no_line walks)
+    module _ (ok : done ≡ Ok tt) where
+      fine : ran_out done ≡ false
+      fine = ap (λ (x : Result ⊤ ClusterFault). ran_out x) ok
 
-  pub opens_keeps : KeepsOn (start_of set commands o.found) 0 (first_core set o.found) o.events done cluster span.new
-  opens_keeps = record {
-    moments = λ n. moments along start (open_whole set found) first_along o.events comes n;
-    left = λ fine. subst (λ (x : Core). KeepsPromise start x) (sym (o.core fine)) (kept along start (open_whole set found) first_along o.events comes);
-    goes_on = on_ok done in_run;
-    next = on_ok done first_next;
-  }
+      going : (steps (first_core set o.found) o.events).ended ≡ None
+      going = ap (λ (x : Core). x.ended) (sym (o.core fine)) ∙ going_of done cluster.core o.outcome ok
+
+      in_run : IsInRun (start_of set commands o.found) cluster span.new
+      in_run = record {
+        whole = runs whole_machine (open_whole set found) o.events;
+        same = runs_core (open_whole set found) o.events ∙ sym (o.core fine);
+        along = goes_on along start (open_whole set found) first_along o.events comes going;
+        logs = from_ok done ok (o.reads_on told);
+      }
+
+      first_next : IsNext commands cluster.core 1
+      first_next = subst (λ (x : Core). IsNext commands x 1) (sym (o.core fine)) (laws.next commands false first o.events nobody no_line walks)
+
+    pub opens_keeps : KeepsOn (start_of set commands o.found) 0 (first_core set o.found) o.events done cluster span.new
+    opens_keeps = record {
+      moments = λ n. moments along start (open_whole set found) first_along o.events comes n;
+      left = λ fine. subst (λ (x : Core). KeepsPromise start x) (sym (o.core fine)) (kept along start (open_whole set found) first_along o.events comes);
+      goes_on = on_ok done in_run;
+      next = on_ok done first_next;
+    }

@@ -1,23 +1,20 @@
 -- A line of a cluster whose core is that of a run so far.
-use Rattle.std.proofs.Common.{◌≡◌, inl, inr, ◌∙◌, ap, sym, subst, ℕ, ◌<◌, ◌≤◌, true, List, [], ◌∷◌, Option, Some, None, arith, append-nil}
-use Rattle.std.specs.Prelude.{⊤, Result, is_ok}
+use Rattle.std.proofs.Common.{◌≡◌, inl, inr, ◌∙◌, ap, sym, subst, ℕ, ◌<◌, ◌≤◌, true, List, Option, Some, None, arith}
+use Rattle.std.specs.Prelude.{⊤, Result}
 use Rattle.hs_clauses.specs.Numbered.{AreNumbered}
 use Rattle.hs_cluster.specs.Calls.{RunsLine}
 use Rattle.hs_cluster.specs.Counts.{AreAllCounted}
 use Rattle.hs_cluster.specs.declared.fault.ClusterFault.{ClusterFault}
 use Rattle.hs_cluster.specs.Disks.{DiskSeen, seen_at}
 use Rattle.hs_cluster.specs.Kept.{AreStored, Shows}
-use Rattle.hs_cluster.specs.Rooms.{HaveRecordRoom}
 use Rattle.hs_cluster.specs.Running.{Running}
 use Rattle.hs_core.specs.State.{Core}
 use Rattle.hs_desk.specs.declared.fault.CoreFault.TheVariants as fault
-use Rattle.hs_effects.specs.Logged.{MayBeginAll}
 use Rattle.hs_events.specs.Commands.{AreOfLine, LineAt}
 use Rattle.hs_events.specs.Course.{steps}
-use Rattle.hs_events.specs.Due.{Events, MomentsRise}
 use Rattle.hs_events.specs.Reports.{failures}
 use Rattle.hs_measure.proofs.AlongLemmas.{Comes, LineLaws}
-use Rattle.hs_measure.proofs.LineLemmas.{rises_from}
+use Rattle.hs_measure.proofs.LineLemmas.{are as line_are, at as line_at, come as line_come, comes as line_comes}
 use Rattle.hs_measure.specs.Between.{IsInRun}
 use Rattle.hs_model.specs.declared.command.Command.{Command}
 use Rattle.hs_model.specs.declared.command.Command.TheVariants as command
@@ -26,69 +23,34 @@ use Rattle.hs_room.proofs.SoFarLemmas.{numbered}
 use Rattle.hs_room.specs.Room.{EndsWell, IsSoFar, KeepsRoom, LossCause, entries_most}
 use Rattle.hs_settled.proofs.AskLemmas.{AllIts, line_its}
 use Rattle.hs_settled.proofs.CausesRunLemmas.{mute, mute_is}
-use Rattle.hs_standing.proofs.AddressedLemmas.{AllAddressed, lines_addressed}
 use Rattle.hs_standing.specs.Run.{MayRun}
-use Rattle.hs_standing.specs.Script.{AreLines, IsNext, Script, all_events}
-use Rattle.hs_standing.specs.Standing.{AllMayKeep, judging_of}
+use Rattle.hs_standing.specs.Script.{IsNext}
+use Rattle.hs_standing.specs.Standing.{AllMayKeep}
 use Rattle.hs_standing.specs.Start.{Start}
-use Rattle.hs_told.specs.InTurn.{AllMayCome, IsInTurn}
+use Rattle.hs_told.specs.InTurn.{AllMayCome}
 
 module _ (laws : CallLaws) (lines : LineLaws) (tells : Type 0) (told : tells) (start : Start) (line : ℕ) (asked : Command) (before now : ℕ) (old new : Running) (disks left : List DiskSeen) (result : Result ⊤ ClusterFault)
     (its : IsInRun start old disks) (so : IsSoFar start old.core) (next : IsNext start.commands old.core line) (asks : start.commands line ≡ Some asked) (later : old.core.moment ≤ before)
     (r : RunsLine start.set.name line asked before now old new result (Shows tells (record { before = before; now = now; old = old; new = new; disks = disks; left = left }) result)) where
-  -- the script of this line alone
-  abbrev script : Script
-  script = record { name = start.set.name; commands = start.commands; past = is_ok result }
-
   abbrev at : LineAt
-  at = record { line = line; core = old.core; events = r.events; whole = is_ok result }
+  at = line_at lines tells told start line asked before now old new disks left result its next asks later r
 
   are : AreOfLine start.set.name at (start.commands line)
-  are = subst (λ (o : Option Command). AreOfLine start.set.name at o) (sym asks) r.due
-
-  -- what is so of the core of the whole is so of the cluster's
-  there : (P : Core → Type 0) → P its.whole.core → P old.core
-  there P h = subst P its.same h
-
-  here : (P : Core → Type 0) → P old.core → P its.whole.core
-  here P h = subst P (sym its.same) h
-
-  turn : IsInTurn start.commands old.core
-  turn = there (λ (x : Core). IsInTurn start.commands x) its.along.reading.stands.whole.turn
+  are = line_are lines tells told start line asked before now old new disks left result its next asks later r
 
   old_going : old.core.ended ≡ None
-  old_going = there (λ (x : Core). x.ended ≡ None) its.along.reading.stands.whole.sane.going
+  old_going = subst (λ (x : Core). x.ended ≡ None) its.same its.along.reading.stands.whole.sane.going
 
   -- ---- its events come
 
-  one_line : AreLines script line old.core (r.events ∷ [])
-  one_line = record { going = old_going; events = are }
-
-  rises : MomentsRise old.core.moment (all_events (r.events ∷ [])) now
-  rises = subst (λ (es : Events). MomentsRise old.core.moment es now) (sym (append-nil r.events)) (rises_from old.core.moment before now r.events later r.rises)
-
   come : AllMayCome start.commands old.core r.events
-  come = subst (λ (es : Events). AllMayCome start.commands old.core es) (append-nil r.events) (lines.come script line old.core (r.events ∷ []) now next rises one_line)
-
-  fresh_all : MayBeginAll start.set.name (all_events (r.events ∷ [])) old.core
-  fresh_all = lines.fresh script line old.core (r.events ∷ []) now turn next rises one_line
-
-  addressed : AllAddressed (judging_of start) r.events old.core
-  addressed =
-      subst (λ (es : Events). AllAddressed (judging_of start) es old.core) (append-nil r.events)
-      (lines_addressed script start.set.limits (lines.asks (judging_of start)) line old.core (r.events ∷ []) next fresh_all one_line)
+  come = line_come lines tells told start line asked before now old new disks left result its next asks later r
 
   comes : Comes start its.whole r.events
-  comes = record {
-    come = here (λ (x : Core). AllMayCome start.commands x r.events) come;
-    fresh = here (λ (x : Core). MayBeginAll start.set.name r.events x) (subst (λ (es : Events). MayBeginAll start.set.name es old.core) (append-nil r.events) fresh_all);
-    addressed = here (λ (x : Core). AllAddressed (judging_of start) r.events x) addressed;
-    rooms = here (λ (x : Core). HaveRecordRoom x r.events) r.does.rooms;
-    told = r.kept.told told its.whole its.same its.logs;
-  }
+  comes = line_comes lines tells told start line asked before now old new disks left result its next asks later r
 
   may : AllMayKeep start (MayRun start) old.core r.events
-  may = there (λ (x : Core). AllMayKeep start (MayRun start) x r.events) (may_keep laws start its.whole r.events its.along.reading comes)
+  may = subst (λ (x : Core). AllMayKeep start (MayRun start) x r.events) its.same (may_keep laws start its.whole r.events its.along.reading comes)
 
   -- ---- and are its own
 
@@ -116,7 +78,7 @@ module _ (laws : CallLaws) (lines : LineLaws) (tells : Type 0) (told : tells) (s
   -- ---- how it ends
 
   stored : AreStored its.whole r.events
-  stored = laws.stored its.whole r.events its.along.reading.stands.whole.sane (here (λ (x : Core). AreNumbered x) (numbered start old.core so laws.numbered laws.stays))
+  stored = laws.stored its.whole r.events its.along.reading.stands.whole.sane (subst (λ (x : Core). AreNumbered x) (sym its.same) (numbered start old.core so laws.numbered laws.stays))
 
   counted : AreAllCounted old.core r.events disks left
   counted = r.kept.read told its.whole its.same its.logs stored

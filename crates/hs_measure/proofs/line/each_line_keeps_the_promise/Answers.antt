@@ -16,7 +16,7 @@ returns-clause-keeps g c = λ start line asked before now old new disks left res
       fresh = c.a_scripts_lines_are_new.ensures.lines;
       asks = c.a_line_asks_as_its_command.ensures;
     } in
-    keeps laws lines g.D.Disk.tells told start line asked before now old new disks left result its next asks later runs
+    keeps lines g.D.Disk.tells told start line asked before now old new disks left result its next asks later runs laws
 
 pub returns-clause-rests : goal.returns-clause-rests
 returns-clause-rests g c = λ start line asked before now old new disks left result told its next asks later runs.
@@ -31,4 +31,4 @@ returns-clause-rests g c = λ start line asked before now old new disks left res
       fresh = c.a_scripts_lines_are_new.ensures.lines;
       asks = c.a_line_asks_as_its_command.ensures;
     } in
-    rests laws lines g.D.Disk.tells told start line asked before now old new disks left result its next asks later runs c.a_settle_leaves_nothing_open.ensures
+    rests lines g.D.Disk.tells told start line asked before now old new disks left result its next asks later runs laws c.a_settle_leaves_nothing_open.ensures

@@ -1,6 +1,6 @@
 use Rattle.hs_measure.proofs.AlongLemmas.{AlongLaws}
 use Rattle.hs_measure.proofs.opened.a_cluster_opens_in_a_run.Goals as goal
-use Rattle.hs_measure.proofs.OpenedLemmas.{OpenLaws, moves_on, opens_keeps}
+use Rattle.hs_measure.proofs.OpenedLemmas.{OpeningLaws, OpenLaws, moves_on, opens_keeps}
 
 pub returns : goal.returns
 returns g c = λ set commands span cluster done told shape one names nobody opens going sound.
@@ -10,14 +10,16 @@ returns g c = λ set commands span cluster done told shape one names nobody open
       reads = c.a_run_reads_on.ensures.goes_on;
       moves = moves_on c.each_operation_goes_on.ensures.events;
     } in
-    let laws : OpenLaws = record {
+    let opening : OpeningLaws = record {
       memory = c.catalogues_in_memory_are_folds.ensures.list;
       reads = c.a_run_reads_on.ensures.opens;
+      come = c.a_scripts_events_may_come.ensures.opening;
+      fresh = c.a_scripts_lines_are_new.ensures.opening;
+    } in
+    let laws : OpenLaws = record {
       moves = c.each_operation_goes_on.ensures.opened;
       deletes = c.each_event_keeps_the_rule_of_done.ensures.opens;
       noted = c.each_entry_has_its_cause.ensures.opened;
-      come = c.a_scripts_events_may_come.ensures.opening;
       next = c.a_scripts_events_may_come.ensures.first;
-      fresh = c.a_scripts_lines_are_new.ensures.opening;
     } in
-    opens_keeps laws along g.D.Disk.tells told set commands span cluster done shape one names nobody opens going sound
+    opens_keeps opening g.D.Disk.tells told set commands span cluster done shape one names nobody opens going sound laws along

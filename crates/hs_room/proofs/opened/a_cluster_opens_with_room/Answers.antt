@@ -1,10 +1,11 @@
+use Rattle.hs_measure.proofs.OpenedLemmas.{OpeningLaws}
 use Rattle.hs_room.proofs.CallLemmas.{CallLaws}
 use Rattle.hs_room.proofs.opened.a_cluster_opens_with_room.Goals as goal
-use Rattle.hs_room.proofs.OpenedLemmas.{OpenLaws, opened_ends, opened_room}
+use Rattle.hs_room.proofs.OpenedLemmas.{opened_ends, opened_room}
 
 pub returns-clause-keeps : goal.returns-clause-keeps
 returns-clause-keeps g c = λ set commands span cluster done told shape one names nobody opens going sound.
-    let opening : OpenLaws = record {
+    let opening : OpeningLaws = record {
       memory = c.catalogues_in_memory_are_folds.ensures.list;
       reads = c.a_run_reads_on.ensures.opens;
       come = c.a_scripts_events_may_come.ensures.opening;
@@ -21,7 +22,7 @@ returns-clause-keeps g c = λ set commands span cluster done told shape one name
 
 pub returns-clause-ends : goal.returns-clause-ends
 returns-clause-ends g c = λ set commands span cluster done told shape one names nobody opens going sound fits.
-    let opening : OpenLaws = record {
+    let opening : OpeningLaws = record {
       memory = c.catalogues_in_memory_are_folds.ensures.list;
       reads = c.a_run_reads_on.ensures.opens;
       come = c.a_scripts_events_may_come.ensures.opening;
