@@ -1,8 +1,5 @@
--- Each event leaves the pool within its limit, and the limit as it was.
-use Rattle.std.proofs.Common.{◌≡◌, ◌∙◌, sym, ap, subst, refl, ℕ, ◌+◌, ◌≤◌, ◌==◌, ◌&&◌, Bool, true, false, cond, not, List, [], ◌∷◌, drop, filter, Option, Some, None, arith, length, nat_lt}
-use Rattle.std.specs.BTreeMap.{is_at}
-use Rattle.std.specs.Map.{remove_entry}
-use Rattle.std.specs.Ordering.{nat_cmp}
+-- Each event leaves the limit of the pool as it was.
+use Rattle.std.proofs.Common.{◌≡◌, ◌∙◌, sym, ap, subst, refl, ℕ, ◌+◌, ◌==◌, ◌&&◌, Bool, true, false, cond, not, List, [], ◌∷◌, drop, Option, Some, None, length, nat_lt}
 use Rattle.hs_core.specs.Asking.{deliver, lose, no_peer, not_down, not_up, nudge, nudge_good, send_again, send_rounds}
 use Rattle.hs_core.specs.Changing.{add_entry_tasks, change_group, change_pool, change_rejoin, note, post, refuse, set_catalogue, set_rejoin, set_status, set_tasks, set_viewed}
 use Rattle.hs_core.specs.declared.event.Event.{Event}
@@ -13,8 +10,7 @@ use Rattle.hs_core.specs.Effects.{commit, round_messages}
 use Rattle.hs_core.specs.Entering.{propose_due}
 use Rattle.hs_core.specs.Failing.{commit_rest, fail_disk, go_down, leave}
 use Rattle.hs_core.specs.Joining.{begin_joining, follow_lead, is_level_with_lead, join, join_if_level, joining_peers, start}
-use Rattle.hs_core.specs.Looking.{first_task, group_of, home, lead_of, shape_of, shards_of, status_of, tasks_of}
-use Rattle.hs_core.specs.Opening.{Taken, begin_views, new_core, note_down, note_if_down, open_core}
+use Rattle.hs_core.specs.Looking.{first_task, group_of, home, lead_of, status_of, tasks_of}
 use Rattle.hs_core.specs.Operating.{add_read, propose_entry}
 use Rattle.hs_core.specs.Reporting.{on_report, take_report}
 use Rattle.hs_core.specs.State.{Core}
@@ -29,14 +25,9 @@ use Rattle.hs_entry.specs.declared.entry.Entry.{Entry}
 use Rattle.hs_entry.specs.declared.entry.Entry.TheVariants as kind
 use Rattle.hs_events.specs.Course.{steps}
 use Rattle.hs_events.specs.Due.{Events}
-use Rattle.hs_events.specs.Found.{Found, first_core, opens_with}
-use Rattle.hs_fold.specs.Shards.Setting.{Setting}
-use Rattle.hs_limits.specs.declared.limits.Limits.{Limits}
 use Rattle.hs_limits.specs.declared.limits.PeerStatus.TheVariants.{Good}
-use Rattle.hs_limits.specs.declared.shape.Shape.{Shape}
 use Rattle.hs_standing.proofs.LinesStepLemmas.{step_ended}
-use Rattle.hs_measure.proofs.RoomLemmas.{HasRoom, send_all_room}
-use Rattle.hs_members.specs.Members.{all_peers, has_good, is_good_status, view_of}
+use Rattle.hs_members.specs.Members.{has_good, is_good_status, view_of}
 use Rattle.hs_journal.specs.declared.entry.Who.TheVariants as who
 use Rattle.hs_model.specs.declared.deed.Deed.TheVariants as deed
 use Rattle.hs_model.specs.declared.reply.Reply.{Reply}
@@ -46,7 +37,7 @@ use Rattle.hs_moments.proofs.StepsKeepLemmas.{StepLeaves, keeps_begin_line, keep
 use Rattle.hs_settled.proofs.AsideLemmas.{all_limit}
 use Rattle.hs_post.specs.declared.message.Message.{Message}
 use Rattle.hs_post.specs.declared.message.Message.TheVariants as message
-use Rattle.hs_post.specs.Pool.{Pool, is_empty, is_for_peer, is_full, restart_numbers, without}
+use Rattle.hs_post.specs.Pool.{Pool, is_empty, is_full, restart_numbers, without}
 use Rattle.hs_rejoin.specs.Rejoin.{copied, emptied, follow}
 use Rattle.hs_replica.specs.Group.{have, is_peer, last_number, on_copied, on_emptied, on_have, on_sealed, proposal, propose, renew, renewal, resend, take_entry, takes}
 
@@ -54,16 +45,15 @@ use Rattle.hs_replica.specs.Group.{have, is_peer, last_number, on_copied, on_emp
 
 pub record Roomy (a b : Core) : Type 0 where
   pub limit : b.pool.limit ≡ a.pool.limit
-  pub room : HasRoom a.pool → HasRoom b.pool
 
 roomy_still : (a b : Core) → b.pool ≡ a.pool → Roomy a b
-roomy_still a b same = record { limit = ap (λ (p : Pool). p.limit) same; room = λ r. subst (λ (p : Pool). HasRoom p) (sym same) r }
+roomy_still a b same = record { limit = ap (λ (p : Pool). p.limit) same }
 
 roomy_same : (c : Core) → Roomy c c
 roomy_same c = roomy_still c c refl
 
 roomy_both : (a b c : Core) → Roomy a b → Roomy b c → Roomy a c
-roomy_both a b c p q = record { limit = q.limit ∙ p.limit; room = λ r. q.room (p.room r) }
+roomy_both a b c p q = record { limit = q.limit ∙ p.limit }
 
 roomy_if : (b : Bool) (f : Core → Core) (c : Core) → ((x : Core) → Roomy x (f x)) → Roomy c (change_if b f c)
 roomy_if true f c h = h c
@@ -80,29 +70,13 @@ roomy_each (y ∷ ys) f c h = roomy_both c (f y c) (each ys f (f y c)) (h y c) (
 -- ---- messages
 
 roomy_post : (ms : List Message) (c : Core) → Roomy c (post ms c)
-roomy_post ms c = record { limit = all_limit ms c.pool; room = λ r. (send_all_room ms c.pool r).0 }
-
-removed_few : (test : ℕ → Bool) (es : List (ℕ × Message)) → length (remove_entry test es) ≤ length es
-removed_few test [] = omega arith
-removed_few test (e ∷ es) = go (test e.0) (removed_few test es)
-  where
-    go : (b : Bool) → length (remove_entry test es) ≤ length es → length (cond b es (e ∷ remove_entry test es)) ≤ length (e ∷ es)
-    go true r = omega arith
-    go false r = omega (arith, r)
+roomy_post ms c = record { limit = all_limit ms c.pool }
 
 roomy_without : (number : ℕ) (c : Core) → Roomy c (change_pool (without number) c)
-roomy_without number c = record { limit = refl; room = λ r. (let few = removed_few (is_at (nat_cmp number)) c.pool.messages in omega (arith, few, r)) }
-
-kept_few : (test : ℕ × Message → Bool) (es : List (ℕ × Message)) → length (filter test es) ≤ length es
-kept_few test [] = omega arith
-kept_few test (e ∷ es) = go (test e) (kept_few test es)
-  where
-    go : (b : Bool) → length (filter test es) ≤ length es → length (cond b (e ∷ filter test es) (filter test es)) ≤ length (e ∷ es)
-    go true r = omega (arith, r)
-    go false r = omega (arith, r)
+roomy_without number c = record { limit = refl }
 
 roomy_leave : (peer : ℕ) (c : Core) → Roomy c (leave peer c)
-roomy_leave peer c = record { limit = refl; room = λ r. (let few = kept_few (λ e. not (is_for_peer peer e.1)) c.pool.messages in omega (arith, few, r)) }
+roomy_leave peer c = record { limit = refl }
 
 -- ---- steps
 
@@ -262,8 +236,8 @@ roomy_begun : (e : Event) (at : ℕ) (c : Core) → Roomy c (begun e at c)
 roomy_begun e at c = go ((c.progress.event_line == 0 && not (line_of e == 0)) && is_empty c.pool)
   where
     go : (b : Bool) → Roomy c (record (begun e at c) { pool = change_if b restart_numbers c.pool })
-    go true = record { limit = refl; room = λ r. r }
-    go false = record { limit = refl; room = λ r. r }
+    go true = record { limit = refl }
+    go false = record { limit = refl }
 
 roomy_ended : (c : Core) → Roomy c (end_event c)
 roomy_ended c = go (nat_lt c.limits.ops (length c.journal + length c.entries))
@@ -285,24 +259,3 @@ step_roomy e at c = by_end c.ended refl
 pub steps_roomy : (es : Events) (c : Core) → Roomy c (steps c es)
 steps_roomy [] c = roomy_same c
 steps_roomy (e ∷ es) c = roomy_both c (step e.0 e.1 c) (steps c (e ∷ es)) (step_roomy e.0 e.1 c) (steps_roomy es (step e.0 e.1 c))
-
--- ---- opening
-
-open_roomy : (shape : Shape) (limits : Limits) (taken : Taken) (moment : ℕ) → Roomy (new_core shape limits taken moment) (open_core shape limits taken moment)
-open_roomy shape limits taken moment =
-    let new : Core = new_core shape limits taken moment in
-    let viewed : Core = begin_views new in
-    let noted : Core = note_down viewed in
-    let one : Roomy new viewed = roomy_each (shards_of new) change_view new (λ shard x. roomy_view shard x) in
-    let two : Roomy viewed noted = roomy_each (all_peers (shape_of viewed)) note_if_down viewed (λ peer x. roomy_if (not (is_good_status (status_of peer x))) _ x (λ y. roomy_still y _ refl)) in
-    roomy_both new noted (end_event noted) (roomy_both new viewed noted one two) (roomy_ended noted)
-
-first_is : (set : Setting) (found : Found) → Roomy (new_core set.shape set.limits (opens_with set found) found.opened) (first_core set found)
-first_is set found = open_roomy set.shape set.limits (opens_with set found) found.opened
-
-pub first_roomy : (set : Setting) (found : Found) → HasRoom (first_core set found).pool
-first_roomy set found = (first_is set found).room (let none : 0 ≤ set.limits.pool = omega arith in none)
-
--- the pool takes as many messages as the limits say
-pub first_limit : (set : Setting) (found : Found) → (first_core set found).pool.limit ≡ set.limits.pool
-first_limit set found = (first_is set found).limit

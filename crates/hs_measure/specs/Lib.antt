@@ -1,13 +1,5 @@
 pub mod Between
 pub mod Counted
-pub mod Ending
-pub mod Finite
-pub mod Left
-pub mod Measure
-pub mod Opens
 pub mod Promised
-pub mod Rounds
 pub mod Served
-pub mod Unsound
-pub mod Walks
 pub mod Zeros
