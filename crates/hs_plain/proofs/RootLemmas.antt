@@ -22,7 +22,8 @@ use Rattle.hs_model.specs.declared.reply.Reply.{Reply}
 use Rattle.hs_model.specs.Judge.{kept_address, drop_root, roots_with, nothing}
 use Rattle.hs_model.specs.Reach.{is_among, counts_in}
 use Rattle.hs_model.specs.Refusals.{keeps_other, refused_when}
-use Rattle.hs_plain.specs.RootWords.{retained_address, keeping, dropping, stays_in, kept_root, gone_root, in_place, roots_of}
+use Rattle.hs_model.specs.Inner.{stays_in}
+use Rattle.hs_plain.specs.RootWords.{retained_address, keeping, dropping, kept_root, gone_root, in_place, roots_of}
 use Rattle.hs_model.specs.Store.{Root, text_cmp, is_retained, place_root, without_first}
 use Rattle.hs_model.proofs.CountLemmas.{count-cons}
 use Rattle.hs_model.proofs.MapLemmas.{lookup-below}

@@ -4,7 +4,8 @@ ghost use Rattle.std.specs.List.{list_all};
 ghost use Rattle.hs_limits.specs.Shape.{IsShape, shard_of_key};
 ghost use Rattle.hs_limits.specs.declared.address.Address.{Address};
 ghost use Rattle.hs_model.specs.Reach.{counts_in, is_among};
-ghost use Rattle.hs_plain.specs.RootWords.{retained_address, keeping, dropping, stays_in, gone_root};
+ghost use Rattle.hs_model.specs.Inner.{stays_in};
+ghost use Rattle.hs_plain.specs.RootWords.{retained_address, keeping, dropping, gone_root};
 
 use hs_limits::{Address, Key, Shape, shard_of_key};
 use hs_model::{ModelFault, is_since};
