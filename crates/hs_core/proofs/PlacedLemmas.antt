@@ -7,17 +7,17 @@ use Rattle.std.specs.List.{All}
 use Rattle.std.specs.Map.{remove_entry, set_value, values_of}
 use Rattle.std.specs.Ordering.{nat_cmp}
 use Rattle.std.specs.Prelude.{◌==◌, ◌&&◌, not, Err, IfSome, Ok, OnErr, OnOk, Result, if◌then◌else◌}
+use Rattle.hs_awaiting.specs.declared.next.Next.{Next}
+use Rattle.hs_awaiting.specs.declared.wait.Wait.{Wait}
+use Rattle.hs_awaiting.specs.declared.wait.Wait.TheVariants as wait
+use Rattle.hs_awaiting.specs.declared.waiting.Waiting.{Waiting}
+use Rattle.hs_awaiting.specs.Going.{judge_in, judged_by, next_step}
+use Rattle.hs_awaiting.specs.Indexing.{found_in, wait_in}
+use Rattle.hs_awaiting.specs.Views.{is_within, restarted}
 use Rattle.hs_core.proofs.StepLemmas.{kept_step_at, of_home}
-use Rattle.hs_core.specs.declared.next.Next.{Next}
-use Rattle.hs_core.specs.declared.wait.Wait.{Wait}
-use Rattle.hs_core.specs.declared.wait.Wait.TheVariants as wait
-use Rattle.hs_core.specs.declared.waiting.Waiting.{Waiting}
-use Rattle.hs_core.specs.Going.{judge_in, judged_by, next_step}
-use Rattle.hs_core.specs.Indexing.{found_in, wait_in}
 use Rattle.hs_core.specs.Keeping.{AreFronts, AreSteps, IsCore}
 use Rattle.hs_core.specs.Placed.{AreWithin}
 use Rattle.hs_core.specs.State.{Core}
-use Rattle.hs_core.specs.Views.{is_within, restarted}
 use Rattle.hs_desk.specs.declared.job.Job.{Job}
 use Rattle.hs_limits.specs.declared.address.Address.{Address}
 use Rattle.hs_members.specs.Members.{Members}

@@ -9,11 +9,11 @@ use Rattle.hs_standing.proofs.BesideLemmas.{beside_catalogue}
 use Rattle.hs_standing.proofs.AlongWalkLemmas.{walks_step}
 use Rattle.hs_standing.specs.Changes.{IsBeside, told_at_once}
 use Rattle.hs_standing.specs.Walks.{MayEvent, Walks}
+use Rattle.hs_awaiting.specs.declared.waiting.Waiting.{Waiting}
 use Rattle.hs_core.specs.Asking.{send_round}
 use Rattle.hs_core.specs.Changing.{change_pool, note, refuse}
 use Rattle.hs_core.specs.declared.event.Event.{Event}
 use Rattle.hs_core.specs.declared.event.Event.TheVariants as event
-use Rattle.hs_core.specs.declared.waiting.Waiting.{Waiting}
 use Rattle.hs_core.specs.Entering.{is_enter_due}
 use Rattle.hs_core.specs.Looking.{catalogue_of, front_of, group_of, shape_of}
 use Rattle.hs_core.specs.Opening.{Taken, new_core, open_core}

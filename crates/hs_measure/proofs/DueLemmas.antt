@@ -6,6 +6,7 @@ use Rattle.std.specs.Option.{option_map_or}
 use Rattle.std.specs.Ordering.{nat_cmp}
 use Rattle.std.specs.Prelude.{if◌then◌else◌}
 use Rattle.hs_standing.proofs.AloneLemmas.{within}
+use Rattle.hs_awaiting.specs.Words.{change_if, change_with, ◌▸◌}
 use Rattle.hs_core.specs.Asking.{deliver, no_peer, not_up, nudge, nudge_good, send_round, send_rounds, unless_refused, with_message}
 use Rattle.hs_core.specs.Changing.{change_pool, post}
 use Rattle.hs_core.specs.declared.event.Event.{Event}
@@ -16,7 +17,6 @@ use Rattle.hs_core.specs.Looking.{catalogue_of, group_of, home, lead_of, shape_o
 use Rattle.hs_core.specs.Operating.{propose_entry}
 use Rattle.hs_core.specs.State.{Core}
 use Rattle.hs_core.specs.Step.{end_event, keep_entries, line_of, refuse_entries, step}
-use Rattle.hs_core.specs.Words.{change_if, change_with, ◌▸◌}
 use Rattle.hs_entry.specs.declared.entry.Entry.TheVariants as kind
 use Rattle.hs_events.specs.Alone.{AreAlone, face}
 use Rattle.hs_events.specs.declared.due.Due.{Due}

@@ -1,7 +1,7 @@
 -- Bytes that a report tells: a write whose block is there compares them, and all else costs no more than it did.
 use Rattle.std.proofs.Common.{◌≡◌, ℕ, ◌≤◌, List, Option, Some}
-use Rattle.hs_core.specs.declared.wait.Wait.TheVariants as wait
-use Rattle.hs_core.specs.declared.waiting.Waiting.{Waiting}
+use Rattle.hs_awaiting.specs.declared.wait.Wait.TheVariants as wait
+use Rattle.hs_awaiting.specs.declared.waiting.Waiting.{Waiting}
 use Rattle.hs_core.specs.Looking.{operation_of}
 use Rattle.hs_core.specs.Operating.{go_on_with}
 use Rattle.hs_core.specs.Seeing.{pointers_for, view_for}

@@ -3,6 +3,7 @@ use Rattle.std.proofs.Common.{◌≡◌, sym, subst, refl, ℕ, ◌<◌, ◌≤�
 use Rattle.std.proofs.lemmas.Bool.{and_parts}
 use Rattle.std.specs.List.{list_any}
 use Rattle.hs_standing.proofs.AloneLemmas.{is_a_round, taken_out}
+use Rattle.hs_awaiting.specs.Words.{change_if}
 use Rattle.hs_core.specs.Asking.{deliver, no_peer, not_up, nudge_good}
 use Rattle.hs_core.specs.Changing.{change_pool}
 use Rattle.hs_core.specs.declared.event.Event.{Event}
@@ -12,7 +13,6 @@ use Rattle.hs_core.specs.Looking.{catalogue_of, group_of, shape_of}
 use Rattle.hs_core.specs.Operating.{propose_entry}
 use Rattle.hs_core.specs.State.{Core}
 use Rattle.hs_core.specs.Step.{end_event, step}
-use Rattle.hs_core.specs.Words.{change_if}
 use Rattle.hs_entry.specs.declared.entry.Entry.TheVariants as kind
 use Rattle.hs_events.specs.Alone.{AreAlone, face}
 use Rattle.hs_events.specs.declared.due.Due.TheVariants.{Handling, Nudging}

@@ -5,11 +5,12 @@ use Rattle.std.specs.Option.{option_map, option_map_or}
 use Rattle.hs_standing.proofs.BesideLemmas.{beside_both, beside_group}
 use Rattle.hs_standing.specs.Changes.{IsBeside}
 use Rattle.hs_standing.specs.Walks.{IsReadFor, MayReport}
+use Rattle.hs_awaiting.specs.declared.wait.Wait.{Wait}
+use Rattle.hs_awaiting.specs.declared.waiting.Waiting.{Waiting}
+use Rattle.hs_awaiting.specs.Words.{change_if, change_with}
 use Rattle.hs_core.specs.Changing.{change_group, set_tasks}
 use Rattle.hs_core.specs.declared.event.Event.TheVariants as event
 use Rattle.hs_core.specs.declared.task.Task.{Task}
-use Rattle.hs_core.specs.declared.wait.Wait.{Wait}
-use Rattle.hs_core.specs.declared.waiting.Waiting.{Waiting}
 use Rattle.hs_core.specs.Effects.{take_effect}
 use Rattle.hs_core.specs.Looking.{first_task, group_of, lost_shard, operation_of, shape_of, tasks_of}
 use Rattle.hs_core.specs.Operating.{go_on_with}
@@ -17,7 +18,6 @@ use Rattle.hs_core.specs.Reporting.{is_reading, on_report, take_sealed, tell_byt
 use Rattle.hs_core.specs.Seeing.{pointers_for}
 use Rattle.hs_core.specs.State.{Core}
 use Rattle.hs_core.specs.Step.{end_event, step}
-use Rattle.hs_core.specs.Words.{change_if, change_with}
 use Rattle.hs_desk.specs.Answers.{answers, is_read_of}
 use Rattle.hs_desk.specs.declared.done.Done.{Done}
 use Rattle.hs_desk.specs.declared.done.Done.TheVariants as done

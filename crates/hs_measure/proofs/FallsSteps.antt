@@ -1,6 +1,6 @@
 -- What a step of an operation makes of the reports that are left at most: its way, and what the step asks for.
 use Rattle.std.proofs.Common.{◌≡◌, sym, ap, subst, refl, ℕ, ◌+◌, ◌*◌, ◌<◌, ◌≤◌, true, List, Some, length, sum_by}
-use Rattle.hs_core.specs.declared.waiting.Waiting.{Waiting}
+use Rattle.hs_awaiting.specs.declared.waiting.Waiting.{Waiting}
 use Rattle.hs_core.specs.Delivering.{is_got}
 use Rattle.hs_core.specs.Looking.{catalogue_of, group_of, operation_of, shape_of}
 use Rattle.hs_core.specs.Operating.{answer, take_step}

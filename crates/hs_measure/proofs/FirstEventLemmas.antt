@@ -1,12 +1,13 @@
 -- An event that seals nothing leaves no shard fewer root records. The first event of all is such a one: where there is room behind it, there was room as the core opened.
 use Rattle.std.proofs.Common.{◌≡◌, ◌∙◌, sym, ap, subst, refl, ℕ, ◌+◌, ◌≤◌, Bool, true, false, cond, List, [], ◌∷◌, Option, Some, None, arith, count_by, drop, length, nat_lt}
 use Rattle.std.proofs.lemmas.List.Sums.{sum_by-append}
+use Rattle.hs_awaiting.specs.declared.waiting.Waiting.{Waiting}
+use Rattle.hs_awaiting.specs.Words.{change_if, change_with}
 use Rattle.hs_core.specs.Asking.{deliver, lose, no_peer, not_down, not_up, nudge, nudge_good, send_again, send_round, send_rounds}
 use Rattle.hs_core.specs.Changing.{change_pool, note, post, refuse, set_tasks}
 use Rattle.hs_core.specs.declared.event.Event.{Event}
 use Rattle.hs_core.specs.declared.event.Event.TheVariants as event
 use Rattle.hs_core.specs.declared.task.Task.{Task}
-use Rattle.hs_core.specs.declared.waiting.Waiting.{Waiting}
 use Rattle.hs_core.specs.Delivering.{is_new_round}
 use Rattle.hs_core.specs.Effects.{round_messages}
 use Rattle.hs_core.specs.Entering.{is_enter_due, propose_due}
@@ -19,7 +20,6 @@ use Rattle.hs_core.specs.Reporting.{is_reading, on_report, take_report, tell_byt
 use Rattle.hs_core.specs.Seeing.{pointers_for}
 use Rattle.hs_core.specs.State.{Core}
 use Rattle.hs_core.specs.Step.{do_event, end_event, keep_entries, refuse_entries, step}
-use Rattle.hs_core.specs.Words.{change_if, change_with}
 use Rattle.hs_desk.specs.Answers.{answers}
 use Rattle.hs_desk.specs.declared.done.Done.{Done}
 use Rattle.hs_desk.specs.declared.done.Done.TheVariants as done

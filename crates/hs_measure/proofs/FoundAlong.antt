@@ -10,9 +10,10 @@ use Rattle.std.specs.List.{AllByRecursion, list_any, range_with_len}
 use Rattle.std.specs.Map.{values_of}
 use Rattle.std.specs.Ordering.{nat_cmp}
 use Rattle.hs_standing.specs.Changes.{IsBeside, told_at_once}
+use Rattle.hs_awaiting.specs.declared.waiting.Waiting.{Waiting}
+use Rattle.hs_awaiting.specs.Words.{change_with}
 use Rattle.hs_core.specs.Asking.{send_round}
 use Rattle.hs_core.specs.Changing.{change_group, change_pool, note, post, refuse, set_viewed}
-use Rattle.hs_core.specs.declared.waiting.Waiting.{Waiting}
 use Rattle.hs_core.specs.Effects.{round_messages}
 use Rattle.hs_core.specs.Entering.{enters, has_begun, is_enter_due}
 use Rattle.hs_core.specs.Looking.{catalogue_of, group_of, operation_of, shape_of}
@@ -21,7 +22,6 @@ use Rattle.hs_core.specs.Operating.{begin_line, busy_line, go_on_with, propose_e
 use Rattle.hs_core.specs.Seeing.{view_for}
 use Rattle.hs_core.specs.State.{Core}
 use Rattle.hs_core.specs.Views.{begin_view, restart}
-use Rattle.hs_core.specs.Words.{change_with}
 use Rattle.hs_desk.specs.declared.what.What.TheVariants as what
 use Rattle.hs_effects.proofs.EventLemmas.{none_wait}
 use Rattle.hs_effects.proofs.QuietLemmas.{Quiet, both, going_quiet, proposed_quiet}

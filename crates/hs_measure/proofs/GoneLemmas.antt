@@ -1,6 +1,7 @@
 -- A message that is handled is gone, and none is sent.
 use Rattle.std.proofs.Common.{◌≡◌, ◌∙◌, ap, refl, ℕ, ◌+◌, ◌<◌, Bool, true, false, cond, List, [], Option, Some, None, length, nat_lt}
 use Rattle.hs_standing.proofs.AloneLemmas.{is_a_round}
+use Rattle.hs_awaiting.specs.Words.{change_if, change_with}
 use Rattle.hs_core.specs.Asking.{deliver}
 use Rattle.hs_core.specs.Changing.{add_entry_tasks, change_group, change_pool, post}
 use Rattle.hs_core.specs.Delivering.{is_new_round}
@@ -10,7 +11,6 @@ use Rattle.hs_core.specs.State.{Core}
 use Rattle.hs_core.specs.declared.event.Event.{Event}
 use Rattle.hs_core.specs.declared.event.Event.TheVariants as event
 use Rattle.hs_core.specs.Step.{end_event, keep_entries, refuse_entries, step}
-use Rattle.hs_core.specs.Words.{change_if, change_with}
 use Rattle.hs_entry.specs.declared.entry.Entry.{Entry}
 use Rattle.hs_entry.specs.declared.entry.Entry.TheVariants as kind
 use Rattle.hs_events.specs.Alone.{AreAlone, face}

@@ -3,6 +3,7 @@ use Rattle.std.proofs.Common.{◌≡◌, ◌∙◌, ◌⊎◌, inl, inr, sym, ap
 use Rattle.std.specs.List.{list_any}
 use Rattle.std.specs.Prelude.{slice_index_or, slice_set}
 use Rattle.hs_standing.proofs.AloneLemmas.{is_a_round}
+use Rattle.hs_awaiting.specs.Words.{change_if, change_with}
 use Rattle.hs_core.specs.Asking.{deliver, no_peer, not_up, nudge_good}
 use Rattle.hs_core.specs.Changing.{add_entry_tasks, change_group, change_pool, post}
 use Rattle.hs_core.specs.declared.event.Event.{Event}
@@ -12,7 +13,6 @@ use Rattle.hs_core.specs.Looking.{catalogue_of, group_of, known_of, lead_of, sha
 use Rattle.hs_core.specs.Operating.{propose_entry}
 use Rattle.hs_core.specs.State.{Core}
 use Rattle.hs_core.specs.Step.{end_event, step}
-use Rattle.hs_core.specs.Words.{change_if, change_with}
 use Rattle.hs_effects.proofs.GroupLemmas.{group_changed}
 use Rattle.hs_entry.specs.declared.entry.Entry.{Entry}
 use Rattle.hs_entry.specs.declared.entry.Entry.TheVariants as kind

@@ -7,6 +7,7 @@ use Rattle.std.specs.Map.{values_of}
 use Rattle.std.specs.Option.{option_map_or}
 use Rattle.hs_standing.proofs.AloneLemmas.{is_a_round, taken_out}
 use Rattle.hs_standing.proofs.BesideLemmas.{under_way}
+use Rattle.hs_awaiting.specs.Words.{change_if}
 use Rattle.hs_core.specs.Asking.{deliver, no_peer, not_up, nudge_good}
 use Rattle.hs_core.specs.Changing.{change_pool}
 use Rattle.hs_core.specs.declared.event.Event.{Event}
@@ -16,7 +17,6 @@ use Rattle.hs_core.specs.Looking.{catalogue_of, group_of, shape_of}
 use Rattle.hs_core.specs.Operating.{propose_entry}
 use Rattle.hs_core.specs.State.{Core}
 use Rattle.hs_core.specs.Step.{end_event, step}
-use Rattle.hs_core.specs.Words.{change_if}
 use Rattle.hs_effects.specs.Taking.{setting_of}
 use Rattle.hs_entry.specs.declared.entry.Entry.TheVariants as kind
 use Rattle.hs_events.specs.Alone.{AreAlone, face}

@@ -1,7 +1,7 @@
 -- A client's entry takes effect: what its operation sees and is answered, whatever is counted.
 use Rattle.std.proofs.Common.{◌≡◌, ◌∙◌, sym, ap, refl, ℕ, ◌+◌, ◌≤◌, true, false, List, Option, Some, None, arith, length, nat_le, ◌<◌}
 use Rattle.std.proofs.lemmas.List.{length-set}
-use Rattle.hs_core.specs.declared.waiting.Waiting.{Waiting}
+use Rattle.hs_awaiting.specs.declared.waiting.Waiting.{Waiting}
 use Rattle.hs_core.specs.Looking.{catalogue_of, front_of, group_of, shape_of}
 use Rattle.hs_core.specs.Seeing.{view_for}
 use Rattle.hs_core.specs.State.{Core}

@@ -6,7 +6,7 @@ use Rattle.std.specs.Ordering.{nat_cmp}
 use Rattle.hs_standing.proofs.BesideLemmas.{beside_catalogue}
 use Rattle.hs_standing.specs.Changes.{IsBeside}
 use Rattle.hs_answered.specs.Standing.{store_with}
-use Rattle.hs_core.specs.declared.waiting.Waiting.{Waiting}
+use Rattle.hs_awaiting.specs.declared.waiting.Waiting.{Waiting}
 use Rattle.hs_core.specs.Looking.{catalogue_of, group_of, shape_of, shards_of}
 use Rattle.hs_core.specs.State.{Core}
 use Rattle.hs_effects.specs.Answered.{HoldAddresses}

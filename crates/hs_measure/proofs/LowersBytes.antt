@@ -6,14 +6,14 @@ use Rattle.std.specs.Option.{option_map}
 use Rattle.std.specs.Prelude.{if◌then◌else◌}
 use Rattle.hs_answered.specs.Asked.{HasBytes}
 use Rattle.hs_answered.specs.Standing.{store_with}
-use Rattle.hs_core.specs.declared.wait.Wait.{Wait}
-use Rattle.hs_core.specs.declared.wait.Wait.TheVariants as wait
-use Rattle.hs_core.specs.declared.waiting.Waiting.{Waiting}
+use Rattle.hs_awaiting.specs.declared.wait.Wait.{Wait}
+use Rattle.hs_awaiting.specs.declared.wait.Wait.TheVariants as wait
+use Rattle.hs_awaiting.specs.declared.waiting.Waiting.{Waiting}
+use Rattle.hs_awaiting.specs.Words.{change_with}
 use Rattle.hs_core.specs.Looking.{catalogue_of, group_of, operation_of, shape_of}
 use Rattle.hs_core.specs.Operating.{go_on_with, take_step}
 use Rattle.hs_core.specs.Seeing.{pointers_for, view_for}
 use Rattle.hs_core.specs.State.{Core}
-use Rattle.hs_core.specs.Words.{change_with}
 use Rattle.hs_effects.specs.Lawful.{IsLawful}
 use Rattle.hs_effects.specs.Logged.{IsOrderly}
 use Rattle.hs_fold.specs.Runs.Facts.{Catalogue as Folded}

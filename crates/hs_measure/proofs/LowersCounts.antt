@@ -5,7 +5,7 @@ use Rattle.std.proofs.Math.Nat.{mul-le-mul_left, mul-le-mul_right, mul-suc}
 use Rattle.std.specs.List.{range_with_len}
 use Rattle.std.specs.Option.{option_map_or}
 use Rattle.std.specs.Prelude.{if◌then◌else◌}
-use Rattle.hs_core.specs.declared.waiting.Waiting.{Waiting}
+use Rattle.hs_awaiting.specs.declared.waiting.Waiting.{Waiting}
 use Rattle.hs_core.specs.Looking.{catalogue_of, group_of, operation_of, shape_of, shards_of}
 use Rattle.hs_core.specs.State.{Core}
 use Rattle.hs_effects.specs.Logged.{IsOrderly, asked_by}

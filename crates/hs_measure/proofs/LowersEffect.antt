@@ -1,7 +1,7 @@
 -- An entry that an operation asked for: its operation is answered, or goes on for no more than its way.
 use Rattle.std.proofs.Common.{◌≡◌, sym, ap, subst, refl, ℕ, ◌+◌, ◌*◌, ◌<◌, ◌≤◌, List, Some, arith, length, sum_by}
 use Rattle.hs_standing.specs.Changes.{told_at_once}
-use Rattle.hs_core.specs.declared.waiting.Waiting.{Waiting}
+use Rattle.hs_awaiting.specs.declared.waiting.Waiting.{Waiting}
 use Rattle.hs_core.specs.Looking.{catalogue_of, group_of, operation_of, shape_of}
 use Rattle.hs_core.specs.Operating.{take_step}
 use Rattle.hs_core.specs.State.{Core}

@@ -8,16 +8,16 @@ use Rattle.std.specs.Map.{lookup}
 use Rattle.std.specs.Option.{option_map, option_or}
 use Rattle.std.specs.Ordering.{nat_cmp}
 use Rattle.std.specs.Prelude.{unwrap_or}
+use Rattle.hs_awaiting.specs.declared.wait.Wait.{Wait}
+use Rattle.hs_awaiting.specs.declared.wait.Wait.TheVariants as wait
+use Rattle.hs_awaiting.specs.declared.waiting.Waiting.{Waiting}
+use Rattle.hs_awaiting.specs.Words.{change_with, each}
 use Rattle.hs_core.specs.Changing.{add_entry_tasks, change_group, post, put_operation, set_viewed}
-use Rattle.hs_core.specs.declared.wait.Wait.{Wait}
-use Rattle.hs_core.specs.declared.wait.Wait.TheVariants as wait
-use Rattle.hs_core.specs.declared.waiting.Waiting.{Waiting}
 use Rattle.hs_core.specs.Entering.{is_enter_due}
 use Rattle.hs_core.specs.Looking.{catalogue_of, group_of, lead_of, operation_of, shape_of}
 use Rattle.hs_core.specs.Operating.{add_read, carry_out, lines_where, propose_entry, resume, resume_where, take_step, wait_for, what_holds}
 use Rattle.hs_core.specs.Seeing.{view_for}
 use Rattle.hs_core.specs.State.{Core}
-use Rattle.hs_core.specs.Words.{change_with, each}
 use Rattle.hs_effects.proofs.GoingLemmas.{IsIdle, going_orderly, idle_free}
 use Rattle.hs_effects.proofs.LookLemmas.{each_found, number_exact, remove_other, same_number, set_other}
 use Rattle.hs_effects.proofs.OrderlyLemmas.{some_is}

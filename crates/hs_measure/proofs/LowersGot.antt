@@ -5,12 +5,12 @@ use Rattle.std.specs.BTreeMap.{insert_entry, is_at}
 use Rattle.std.specs.List.{list_all, list_any}
 use Rattle.std.specs.Ordering.{match_ordering}
 use Rattle.hs_standing.specs.Changes.{told_at_once}
+use Rattle.hs_awaiting.specs.Words.{change_if, change_with}
 use Rattle.hs_core.specs.Changing.{note}
 use Rattle.hs_core.specs.Delivering.{is_got}
 use Rattle.hs_core.specs.Effects.{note_sweep}
 use Rattle.hs_core.specs.Looking.{catalogue_of, group_of, shape_of}
 use Rattle.hs_core.specs.State.{Core}
-use Rattle.hs_core.specs.Words.{change_if, change_with}
 use Rattle.hs_effects.proofs.LookLemmas.{one_or_other}
 use Rattle.hs_effects.specs.Taking.{done_by, folds_behind, taken}
 use Rattle.hs_entry.specs.declared.entry.Entry.{Entry}

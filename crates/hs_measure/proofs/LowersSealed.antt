@@ -8,6 +8,7 @@ use Rattle.hs_standing.proofs.BesideLemmas.{beside_catalogue}
 use Rattle.hs_standing.proofs.AlongRecordLemmas.{applied_adds}
 use Rattle.hs_standing.specs.Changes.{IsBeside}
 use Rattle.hs_standing.specs.Walks.{HasRecordRoom}
+use Rattle.hs_awaiting.specs.Words.{times, ◌▸◌}
 use Rattle.hs_core.specs.Changing.{change_group, post, set_tasks}
 use Rattle.hs_core.specs.declared.task.Task.{Task}
 use Rattle.hs_core.specs.Effects.{commit, commit_next}
@@ -15,7 +16,6 @@ use Rattle.hs_core.specs.Looking.{catalogue_of, front_of, group_of, shape_of, ta
 use Rattle.hs_core.specs.Pending.{named}
 use Rattle.hs_core.specs.Reporting.{take_sealed}
 use Rattle.hs_core.specs.State.{Core}
-use Rattle.hs_core.specs.Words.{times, ◌▸◌}
 use Rattle.hs_desk.specs.Answers.{answers}
 use Rattle.hs_desk.specs.declared.done.Done.TheVariants as done
 use Rattle.hs_desk.specs.declared.job.Job.TheVariants as job

@@ -6,16 +6,16 @@ use Rattle.std.specs.List.{list_any}
 use Rattle.std.specs.Map.{remove_entry, set_value}
 use Rattle.std.specs.Ordering.{nat_cmp}
 use Rattle.std.specs.Prelude.{slice_index_or, slice_set, if◌then◌else◌}
+use Rattle.hs_awaiting.specs.declared.wait.Wait.TheVariants as wait
+use Rattle.hs_awaiting.specs.declared.waiting.Waiting.{Waiting}
+use Rattle.hs_awaiting.specs.Words.{change_with}
 use Rattle.hs_core.specs.Changing.{add_entry_tasks, add_task, change_group, post, put_operation}
 use Rattle.hs_core.specs.declared.task.Task.{Task}
-use Rattle.hs_core.specs.declared.wait.Wait.TheVariants as wait
-use Rattle.hs_core.specs.declared.waiting.Waiting.{Waiting}
 use Rattle.hs_core.specs.Delivering.{is_got}
 use Rattle.hs_core.specs.Entering.{enters, is_enter_due}
 use Rattle.hs_core.specs.Looking.{catalogue_of, group_of, lead_of, operation_of, shape_of}
 use Rattle.hs_core.specs.Operating.{add_read, answer, propose_entry, take_step, what_holds}
 use Rattle.hs_core.specs.State.{Core}
-use Rattle.hs_core.specs.Words.{change_with}
 use Rattle.hs_desk.specs.declared.job.Job.TheVariants as job
 use Rattle.hs_effects.proofs.GroupLemmas.{group_changed, propose_front}
 use Rattle.hs_effects.specs.Logged.{IsOrderly}

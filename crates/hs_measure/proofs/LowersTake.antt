@@ -4,18 +4,19 @@ use Rattle.std.proofs.lemmas.List.{length-set}
 use Rattle.std.specs.List.{list_all}
 use Rattle.hs_standing.proofs.BesideLemmas.{beside_viewed}
 use Rattle.hs_standing.specs.Changes.{told_at_once, tells_at_once}
+use Rattle.hs_awaiting.specs.declared.wait.Wait.{Wait}
+use Rattle.hs_awaiting.specs.declared.wait.Wait.TheVariants as wait
+use Rattle.hs_awaiting.specs.declared.waiting.Waiting.{Waiting}
+use Rattle.hs_awaiting.specs.Kinds.{puts_root, writes_block}
+use Rattle.hs_awaiting.specs.Words.{change_if, change_with}
 use Rattle.hs_core.specs.Changing.{add_entry_tasks, change_group, note, post, set_viewed}
-use Rattle.hs_core.specs.declared.wait.Wait.{Wait}
-use Rattle.hs_core.specs.declared.wait.Wait.TheVariants as wait
-use Rattle.hs_core.specs.declared.waiting.Waiting.{Waiting}
 use Rattle.hs_core.specs.Effects.{after_entry, is_for_address, is_for_room, is_for_view, note_enter, note_sweep, take_effect, tell_enter, tell_operation, wakes}
 use Rattle.hs_core.specs.Entering.{is_enter_due, propose_due}
 use Rattle.hs_core.specs.Looking.{catalogue_of, group_of, lead_of, operation_of, shape_of}
 use Rattle.hs_core.specs.Operating.{propose_entry, resume_where, take_step}
-use Rattle.hs_core.specs.Pending.{named, puts_root, writes_block}
+use Rattle.hs_core.specs.Pending.{named}
 use Rattle.hs_core.specs.Seeing.{view_for}
 use Rattle.hs_core.specs.State.{Core}
-use Rattle.hs_core.specs.Words.{change_if, change_with}
 use Rattle.hs_desk.specs.declared.what.What.{What}
 use Rattle.hs_desk.specs.declared.what.What.TheVariants as what
 use Rattle.hs_effects.specs.Logged.{IsOrderly}

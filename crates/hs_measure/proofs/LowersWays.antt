@@ -2,8 +2,8 @@
 use Rattle.std.proofs.Common.{◌≡◌, ◌∙◌, sym, ap, refl, ℕ, suc, ◌+◌, ◌-◌, ◌≤◌, ◌==◌, Bool, true, false, List, [], ◌∷◌, ◌++◌, Option, Some, None, arith, length, drop, is_none, slice_get}
 use Rattle.std.specs.Option.{option_map, option_map_or}
 use Rattle.std.specs.Prelude.{if◌then◌else◌}
-use Rattle.hs_core.specs.declared.wait.Wait.{Wait}
-use Rattle.hs_core.specs.declared.wait.Wait.TheVariants as wait
+use Rattle.hs_awaiting.specs.declared.wait.Wait.{Wait}
+use Rattle.hs_awaiting.specs.declared.wait.Wait.TheVariants as wait
 use Rattle.hs_effects.proofs.GroupLemmas.{at_front}
 use Rattle.hs_entry.specs.declared.entry.Entry.{Entry}
 use Rattle.hs_entry.specs.declared.entry.Entry.TheVariants as kind

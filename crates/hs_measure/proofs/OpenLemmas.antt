@@ -7,10 +7,10 @@ use Rattle.hs_clauses.proofs.ListLemmas.{opened_is}
 use Rattle.hs_clauses.proofs.ReadLemmas.{BringsAll, applied_all, from_empty, read_brings, read_from_one}
 use Rattle.hs_clauses.specs.Shown.{IsShown, OnDisks}
 use Rattle.hs_cluster.proofs.OpeningMoves.{all_good}
+use Rattle.hs_awaiting.specs.declared.waiting.Waiting.{Waiting}
 use Rattle.hs_core.specs.declared.task.Task.{Task}
 use Rattle.hs_core.specs.Opening.{Taken, good_copies, new_core, taken_group}
 use Rattle.hs_core.specs.Records.{HasRecordRoom}
-use Rattle.hs_core.specs.declared.waiting.Waiting.{Waiting}
 use Rattle.hs_events.specs.Found.{Found, first_core, opened_catalogue, opened_list, opens_with, starts_good}
 use Rattle.hs_events.specs.Sane.{IsFromOne}
 use Rattle.hs_measure.specs.Opens.{OpensReadable}

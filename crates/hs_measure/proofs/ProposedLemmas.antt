@@ -5,15 +5,15 @@ use Rattle.std.proofs.lemmas.List.{get_or-set_same, set-set}
 use Rattle.std.specs.List.{list_any, range_with_len}
 use Rattle.std.specs.Option.{option_map_or}
 use Rattle.std.specs.Prelude.{if◌then◌else◌, slice_index_or, slice_set}
+use Rattle.hs_awaiting.specs.declared.waiting.Waiting.{Waiting}
+use Rattle.hs_awaiting.specs.Words.{change_with}
 use Rattle.hs_core.specs.Changing.{add_entry_tasks, change_group, post}
 use Rattle.hs_core.specs.declared.task.Task.{Task}
-use Rattle.hs_core.specs.declared.waiting.Waiting.{Waiting}
 use Rattle.hs_core.specs.Delivering.{is_got, is_new_round}
 use Rattle.hs_core.specs.Entering.{enters, has_begun, is_enter_due}
 use Rattle.hs_core.specs.Looking.{catalogue_of, group_of, operation_of, shape_of, shards_of, tasks_of}
 use Rattle.hs_core.specs.Operating.{propose_entry}
 use Rattle.hs_core.specs.State.{Core}
-use Rattle.hs_core.specs.Words.{change_with}
 use Rattle.hs_desk.specs.declared.job.Job.TheVariants as job
 use Rattle.hs_effects.proofs.GroupLemmas.{propose_front}
 use Rattle.hs_entry.specs.declared.entry.Entry.{Entry}

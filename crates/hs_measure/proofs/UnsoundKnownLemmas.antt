@@ -6,13 +6,13 @@ use Rattle.std.specs.Ordering.{nat_cmp}
 use Rattle.hs_standing.proofs.AlongWalkLemmas.{walks_step}
 use Rattle.hs_standing.specs.Changes.{IsBeside}
 use Rattle.hs_standing.specs.Walks.{MayEvent, Walks}
+use Rattle.hs_awaiting.specs.declared.waiting.Waiting.{Waiting}
 use Rattle.hs_core.specs.declared.event.Event.{Event}
 use Rattle.hs_core.specs.Looking.{catalogue_of}
 use Rattle.hs_core.specs.Opening.{new_core}
 use Rattle.hs_core.specs.Seeing.{pointers_for}
 use Rattle.hs_core.specs.State.{Core}
 use Rattle.hs_core.specs.Step.{step}
-use Rattle.hs_core.specs.declared.waiting.Waiting.{Waiting}
 use Rattle.hs_effects.specs.Logged.{IsCalled, IsNewLine, IsOrderly}
 use Rattle.hs_entry.specs.declared.entry.Entry.TheVariants as kind
 use Rattle.hs_events.specs.Found.{Found, first_core, opened_list, opens_with}

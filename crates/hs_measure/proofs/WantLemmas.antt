@@ -5,18 +5,19 @@ use Rattle.std.specs.Map.{lookup}
 use Rattle.std.specs.Ordering.{nat_cmp}
 use Rattle.std.specs.Prelude.{if◌then◌else◌, slice_index_or}
 use Rattle.hs_standing.specs.Changes.{tells_at_once, told_at_once}
+use Rattle.hs_awaiting.specs.declared.wait.Wait.TheVariants as wait
+use Rattle.hs_awaiting.specs.declared.waiting.Waiting.{Waiting}
+use Rattle.hs_awaiting.specs.Views.{restarted}
+use Rattle.hs_awaiting.specs.Words.{change_with}
 use Rattle.hs_core.specs.Asking.{send_round}
 use Rattle.hs_core.specs.Changing.{add_operation, change_group, change_pool, post, put_operation, set_viewed}
-use Rattle.hs_core.specs.declared.wait.Wait.TheVariants as wait
-use Rattle.hs_core.specs.declared.waiting.Waiting.{Waiting}
 use Rattle.hs_core.specs.Effects.{note_enter, tell_enter, tell_operation}
 use Rattle.hs_core.specs.Looking.{group_of, lead_of, operation_of, shape_of}
 use Rattle.hs_core.specs.Operating.{add_read, answer, begin_line, busy_line, go_on_with, propose_entry, take_step, what_holds}
 use Rattle.hs_core.specs.Pending.{is_coming}
 use Rattle.hs_core.specs.Seeing.{view_for}
 use Rattle.hs_core.specs.State.{Core}
-use Rattle.hs_core.specs.Views.{begin_view, restart, restarted}
-use Rattle.hs_core.specs.Words.{change_with}
+use Rattle.hs_core.specs.Views.{begin_view, restart}
 use Rattle.hs_desk.specs.declared.what.What.{What}
 use Rattle.hs_effects.proofs.LookLemmas.{found_insert, found_set, gone, insert_other, number_exact, once_insert, one_or_other, remove_other, set_other}
 use Rattle.hs_effects.specs.Logged.{AreOnce, IsNewLine, IsOrderly}

@@ -1,9 +1,9 @@
 -- How many events are left to a settle, with one copy of each shard.
 use Rattle.std.specs.Option.{option_map_or}
 use Rattle.std.specs.Prelude.{ℕ, ◌+◌, ◌-◌, ◌*◌, ◌==◌, ◌&&◌, Bool, true, false, is_none, not, List, Option, Some, None, count_by, is_some, length, nat_lt, slice_get, sum_by, if◌then◌else◌}
-use Rattle.hs_core.specs.declared.wait.Wait.{Wait}
-use Rattle.hs_core.specs.declared.wait.Wait.TheVariants as wait
-use Rattle.hs_core.specs.declared.waiting.Waiting.{Waiting}
+use Rattle.hs_awaiting.specs.declared.wait.Wait.{Wait}
+use Rattle.hs_awaiting.specs.declared.wait.Wait.TheVariants as wait
+use Rattle.hs_awaiting.specs.declared.waiting.Waiting.{Waiting}
 use Rattle.hs_core.specs.Delivering.{is_new_round}
 use Rattle.hs_core.specs.Entering.{is_enter_due}
 use Rattle.hs_core.specs.Looking.{catalogue_of, group_of, operation_of, shape_of, shards_of}

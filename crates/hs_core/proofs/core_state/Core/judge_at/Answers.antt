@@ -4,9 +4,10 @@ use Rattle.std.proofs.lemmas.Result.{IfOk-weaker}
 use Rattle.std.specs.BTreeMap.{is_at}
 use Rattle.std.specs.Map.{lookup}
 use Rattle.std.specs.Ordering.{nat_cmp}
+use Rattle.hs_awaiting.specs.declared.judging.Judged.{Judged}
+use Rattle.hs_awaiting.specs.Going.{given_by, next_step}
 use Rattle.hs_core.specs.declared.core_state.Core.TheView.{view}
-use Rattle.hs_core.specs.declared.going.Judged.{Judged}
-use Rattle.hs_core.specs.Going.{gains_by, given_by, next_step, sight_of, step_by, view_by}
+use Rattle.hs_core.specs.Going.{gains_by, sight_of, step_by, view_by}
 use Rattle.hs_core.specs.Looking.{shape_of}
 use Rattle.hs_core.specs.State.{Core}
 use Rattle.hs_ops.specs.Answers.{gained}
