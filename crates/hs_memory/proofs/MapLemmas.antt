@@ -12,7 +12,7 @@ use Rattle.hs_limits.specs.declared.delta.Delta.{Delta}
 use Rattle.hs_model.specs.Reach.{is_same}
 use Rattle.hs_model.specs.Store.{address_cmp}
 use Rattle.hs_model.proofs.Members.{at_is_same}
-use Rattle.hs_model.proofs.RootLemmas.{map_of_filter}
+use Rattle.hs_model.proofs.SetLemmas.{map_of_filter}
 use Rattle.hs_roots.specs.declared.root.RootRecord.{RootRecord}
 use Rattle.hs_roots.specs.Roots.{counting, count_new, is_released, kept_by, release}
 use Rattle.hs_fold.specs.Runs.Facts.{Facts as FoldedFacts, RootFacts}

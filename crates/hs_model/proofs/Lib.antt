@@ -6,13 +6,8 @@ pub mod SetLemmas
 pub mod SweptLemmas
 pub mod PeelLemmas
 pub mod AcyclicLemmas
-pub mod FirstLemmas
-pub mod HoldLemmas
 pub mod JudgeLemmas
 pub mod PlaceLemmas
 pub mod CountLemmas
-pub mod RootLemmas
 pub mod RefusalLemmas
-pub mod FilledLemmas
-pub mod HollowLemmas
 pub mod MapLemmas

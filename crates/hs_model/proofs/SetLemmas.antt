@@ -99,6 +99,14 @@ pointing_more blocks i b m n d l e f g =
 
 -- ---- filters of mapped lists
 
+pub map_of_filter : {X Y : Type 0} (p : Y → Bool) (h : X → Y) (xs : List X) → map h (filter (λ x. p (h x)) xs) ≡ filter p (map h xs)
+map_of_filter p h [] = refl
+map_of_filter p h (x ∷ xs) = go (map_of_filter p h xs) (p (h x))
+  where
+    go : map h (filter (λ x. p (h x)) xs) ≡ filter p (map h xs) → (b : Bool) → map h (cond b (x ∷ filter (λ x. p (h x)) xs) (filter (λ x. p (h x)) xs)) ≡ cond b (h x ∷ filter p (map h xs)) (filter p (map h xs))
+    go ih true = ap (λ z. h x ∷ z) ih
+    go ih false = ih
+
 pub filter_of_map : {X Y Z : Type 0} (g : Y → Z) (p : Y → Bool) (h : X → Y) (xs : List X) → map g (filter p (map h xs)) ≡ map (λ x. g (h x)) (filter (λ x. p (h x)) xs)
 filter_of_map g p h [] = refl
 filter_of_map g p h (x ∷ xs) = go (filter_of_map g p h xs) (p (h x))

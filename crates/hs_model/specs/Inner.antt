@@ -21,6 +21,10 @@ may_enter s shard =
 abbrev pub stays : Store → Root → Bool
 stays s root = option_map_or (λ dropped. not (none_below s (dropped + 2))) root.dropped true
 
+-- the same by the epochs alone
+abbrev pub stays_in : List ℕ → Root → Bool
+stays_in epochs root = option_map_or (λ dropped. not (list_all (λ e. nat_le (dropped + 2) e) epochs)) root.dropped true
+
 -- the shard's epoch is one higher, and the roots that count in no epoch any more are gone
 abbrev pub enter : Store → ℕ → Store
 enter s shard =

@@ -5,12 +5,8 @@ pub mod Plain
 pub mod Peel
 pub mod Pointing
 pub mod Swept
-pub mod RootWords
-pub mod Counted
 pub mod Hollow
 pub mod Inner
 pub mod Refusals
 pub mod Judge
 pub mod Run
-pub mod Built
-pub mod Checked

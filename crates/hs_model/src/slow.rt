@@ -5,7 +5,7 @@ mod reaching;
 mod unreached;
 
 pub use peeling::peel;
-pub(crate) use pointing::{Pointing, has, reach};
+pub(crate) use pointing::has;
+pub use pointing::{Pointing, reach};
 pub use reaching::reached;
-pub use unreached::unreachable;
-pub(crate) use unreached::{Run, is_since, removes};
+pub use unreached::{Run, is_since, removes, unreachable};

@@ -8,9 +8,8 @@ use Rattle.std.specs.Map.{lookup, keys_of}
 use Rattle.hs_limits.specs.declared.address.Address.{Address}
 use Rattle.hs_limits.specs.Shape.{shard_of}
 use Rattle.hs_model.specs.declared.store.StoredBlock.{StoredBlock}
-use Rattle.hs_model.specs.Inner.{sweep, stays}
+use Rattle.hs_model.specs.Inner.{sweep, stays, stays_in}
 use Rattle.hs_model.specs.Reach.{is_among, is_swept}
-use Rattle.hs_model.specs.RootWords.{stays_in}
 use Rattle.hs_model.specs.Store.{Store, address_cmp}
 use Rattle.hs_model.proofs.Members.{Member, among_from_member, member_from_among, member-map, member_of_map, member-filter, member_of_filter}
 use Rattle.hs_fold.specs.Catalogue.{Present}

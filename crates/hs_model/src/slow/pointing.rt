@@ -14,7 +14,7 @@ use std::alloc::Global;
 use std::collections::{BTreeMap, BTreeSet};
 
 /// What each present block points to, by address.
-pub(crate) type Pointing = BTreeMap<Address, ListOf<Address>>;
+pub type Pointing = BTreeMap<Address, ListOf<Address>>;
 
 /// What the blocks of a list point to. Their addresses ascend.
 pub(super) fn pointing(alloc: Global, blocks: &[PlainBlock]) -> Result<Pointing, ModelFault>
@@ -31,7 +31,7 @@ pub(super) fn pointing(alloc: Global, blocks: &[PlainBlock]) -> Result<Pointing,
 
 /// The addresses that some addresses reach. Each block is followed once: `left` has those that are
 /// yet to come, `work` the addresses that are yet to be looked at.
-pub(crate) fn reach(
+pub fn reach(
     alloc: Global,
     mut left: Pointing,
     from: &[Address],

@@ -36,10 +36,10 @@ pub fn unreachable(
 
 /// The sweep of an epoch's run at a shard.
 #[derive(Clone, Copy)]
-pub(crate) struct Run {
-    pub(crate) shape: Shape,
-    pub(crate) epoch: u64,
-    pub(crate) shard: u8,
+pub struct Run {
+    pub shape: Shape,
+    pub epoch: u64,
+    pub shard: u8,
 }
 
 /// The addresses of the blocks that a sweep removes, where these were seen from the anchors.
@@ -63,7 +63,7 @@ fn swept(
 }
 
 /// Whether a sweep removes the block of an address, where these were seen from the anchors.
-pub(crate) fn removes(run: Run, seen: &BTreeSet<Address>, address: &Address, born: u64) -> bool
+pub fn removes(run: Run, seen: &BTreeSet<Address>, address: &Address, born: u64) -> bool
     requires { IsShape run.shape }
     ensures { result ≡ removes run seen.now.keys address.now born }
 {
@@ -119,7 +119,7 @@ fn counts_in(epoch: u64, root: &PlainRoot) -> bool
 }
 
 /// Whether something of an epoch counts in a run: it is of the epoch before the run or later.
-pub(crate) fn is_since(run: u64, epoch: u64) -> bool
+pub fn is_since(run: u64, epoch: u64) -> bool
     ensures { result ≡ nat_le run (epoch + 1) }
 {
     run.saturating_sub(1) <= epoch

@@ -1,0 +1,5 @@
+mod FirstLemmas
+mod HoldLemmas
+mod CountLemmas
+mod PlaceLemmas
+mod RootLemmas

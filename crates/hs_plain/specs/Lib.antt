@@ -1,0 +1,3 @@
+pub mod RootWords
+pub mod Counted
+pub mod Checked
