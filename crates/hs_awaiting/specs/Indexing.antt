@@ -1,4 +1,4 @@
--- The lines of operations by their sessions and by what they wait for: for private clauses.
+-- Operations by line, by session, by what they wait for, by what their Blocks store and by shard.
 use Rattle.std.specs.BTreeMap.{is_at}
 use Rattle.std.specs.Map.{lookup, set_value}
 use Rattle.std.specs.Option.{option_and_then, option_map, option_map_or}
