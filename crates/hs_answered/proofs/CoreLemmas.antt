@@ -9,8 +9,8 @@ use Rattle.hs_answered.proofs.StepLemmas.{Judges, Sees, data_judged, early_judge
 use Rattle.hs_answered.specs.Asked.{HasBytes, IsAsked, busy_with, first_step}
 use Rattle.hs_answered.specs.Judged.{IsBusy, IsJudged, IsTold, entry_of, judged_at, telling, with_data}
 use Rattle.hs_answered.specs.Standing.{IsAddressed, IsFolded, store_with}
-use Rattle.hs_core.specs.declared.wait.Wait.TheVariants as wait
-use Rattle.hs_core.specs.declared.waiting.Waiting.{Waiting}
+use Rattle.hs_awaiting.specs.declared.wait.Wait.TheVariants as wait
+use Rattle.hs_awaiting.specs.declared.waiting.Waiting.{Waiting}
 use Rattle.hs_core.specs.Changing.{add_operation}
 use Rattle.hs_core.specs.Looking.{shape_of}
 use Rattle.hs_core.specs.Operating.{answer, begin_line, busy_line, take_step}

@@ -2,7 +2,7 @@
 ghost use Rattle.std.specs.Prelude.{◌≡◌, ℕ, List, Some, None};
 ghost use Rattle.hs_answered.specs.Judged.{IsJudged};
 ghost use Rattle.hs_answered.specs.Standing.{IsAddressed, IsFolded};
-ghost use Rattle.hs_core.specs.declared.waiting.Waiting.{Waiting};
+ghost use Rattle.hs_awaiting.specs.declared.waiting.Waiting.{Waiting};
 ghost use Rattle.hs_core.specs.Looking.{shape_of};
 ghost use Rattle.hs_core.specs.Operating.{answer, begin_line, busy_line};
 ghost use Rattle.hs_core.specs.Seeing.{view_for};

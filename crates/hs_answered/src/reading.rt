@@ -3,7 +3,7 @@ ghost use Rattle.std.specs.Prelude.{◌≡◌, ℕ, List, Option};
 ghost use Rattle.hs_answered.specs.Asked.{HasBytes};
 ghost use Rattle.hs_answered.specs.Judged.{IsJudged, IsTold, judged_at, telling};
 ghost use Rattle.hs_answered.specs.Standing.{IsAddressed, IsFolded, store_with};
-ghost use Rattle.hs_core.specs.declared.waiting.Waiting.{Waiting};
+ghost use Rattle.hs_awaiting.specs.declared.waiting.Waiting.{Waiting};
 ghost use Rattle.hs_core.specs.Looking.{shape_of};
 ghost use Rattle.hs_core.specs.Operating.{take_step};
 ghost use Rattle.hs_core.specs.Seeing.{pointers_for, view_for};

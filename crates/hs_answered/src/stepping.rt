@@ -3,7 +3,7 @@ ghost use Rattle.std.specs.Prelude.{◌≡◌, ℕ, List, None};
 ghost use Rattle.hs_answered.specs.Asked.{IsAsked, busy_with, first_step};
 ghost use Rattle.hs_answered.specs.Judged.{IsJudged};
 ghost use Rattle.hs_answered.specs.Standing.{IsAddressed, IsFolded, store_with};
-ghost use Rattle.hs_core.specs.declared.waiting.Waiting.{Waiting};
+ghost use Rattle.hs_awaiting.specs.declared.waiting.Waiting.{Waiting};
 ghost use Rattle.hs_core.specs.Looking.{shape_of};
 ghost use Rattle.hs_core.specs.Operating.{begin_line, take_step};
 ghost use Rattle.hs_core.specs.Seeing.{view_for};

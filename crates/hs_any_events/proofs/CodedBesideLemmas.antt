@@ -9,7 +9,7 @@ use Rattle.hs_any_events.proofs.CodedGroupLemmas.{group_outline}
 use Rattle.hs_any_events.proofs.CodedLemmas.{Code}
 use Rattle.hs_any_events.proofs.CodedListLemmas.{nil_from-map}
 use Rattle.hs_any_events.proofs.CodedPoolLemmas.{round_there}
-use Rattle.hs_core.specs.declared.waiting.Waiting.{Waiting}
+use Rattle.hs_awaiting.specs.declared.waiting.Waiting.{Waiting}
 use Rattle.hs_core.specs.Looking.{group_of, shape_of}
 use Rattle.hs_core.specs.State.{Core}
 use Rattle.hs_entry.specs.declared.entry.Entry.{Entry}

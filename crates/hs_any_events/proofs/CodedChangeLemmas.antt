@@ -10,10 +10,11 @@ use Rattle.hs_any_events.proofs.CodedLemmas.{Code, coded_op}
 use Rattle.hs_any_events.proofs.CodedOpLemmas.{bytes_kept, coded_bytes, coded_operation, effect_kept, step_kept, step_outline}
 use Rattle.hs_any_events.proofs.CodedPoolLemmas.{without_alike}
 use Rattle.hs_any_events.proofs.CodedStepLemmas.{add_coded, going_coded, group_coded, post_coded, propose_coded, step_coded, told_coded}
+use Rattle.hs_awaiting.specs.declared.wait.Wait.TheVariants as wait
+use Rattle.hs_awaiting.specs.declared.waiting.Waiting.{Waiting}
+use Rattle.hs_awaiting.specs.Words.{change_if, change_with}
 use Rattle.hs_core.specs.Asking.{send_round}
 use Rattle.hs_core.specs.Changing.{add_operation, change_group, change_pool, note, post, set_catalogue}
-use Rattle.hs_core.specs.declared.wait.Wait.TheVariants as wait
-use Rattle.hs_core.specs.declared.waiting.Waiting.{Waiting}
 use Rattle.hs_core.specs.Delivering.{is_new_round}
 use Rattle.hs_core.specs.Effects.{note_enter, note_sweep, round_messages, tell_enter, tell_operation}
 use Rattle.hs_core.specs.Entering.{has_begun, is_enter_due}
@@ -22,7 +23,6 @@ use Rattle.hs_core.specs.Operating.{begin_line, busy_line, go_on_with, propose_e
 use Rattle.hs_core.specs.Pending.{named}
 use Rattle.hs_core.specs.Seeing.{pointers_for, view_for}
 use Rattle.hs_core.specs.State.{Core}
-use Rattle.hs_core.specs.Words.{change_if, change_with}
 use Rattle.hs_desk.specs.declared.what.What.{What}
 use Rattle.hs_desk.specs.declared.what.What.TheVariants as what
 use Rattle.hs_effects.specs.Answered.{HoldAddresses}

@@ -8,7 +8,7 @@ use Rattle.hs_any_events.proofs.CodedCoreLemmas.{IsCoded, coded_operations}
 use Rattle.hs_any_events.proofs.CodedHistoryLemmas.{AreBelow, fits_same, gives_same, records_same}
 use Rattle.hs_any_events.proofs.CodedLemmas.{Code, coded_name}
 use Rattle.hs_any_events.proofs.SteadyLemmas.{IsSteady}
-use Rattle.hs_core.specs.declared.waiting.Waiting.{Waiting}
+use Rattle.hs_awaiting.specs.declared.waiting.Waiting.{Waiting}
 use Rattle.hs_core.specs.Looking.{operation_of, shape_of}
 use Rattle.hs_core.specs.State.{Core}
 use Rattle.hs_effects.proofs.LookLemmas.{same_number}

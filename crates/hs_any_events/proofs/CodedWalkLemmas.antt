@@ -15,10 +15,10 @@ use Rattle.hs_any_events.proofs.CodedOpLemmas.{coded_bytes}
 use Rattle.hs_any_events.proofs.CodedPoolLemmas.{round_at}
 use Rattle.hs_any_events.proofs.CodedStepLemmas.{told_coded}
 use Rattle.hs_any_events.proofs.SteadyLemmas.{IsFreshLine, IsSteady, walks_steady}
+use Rattle.hs_awaiting.specs.declared.wait.Wait.TheVariants as wait
+use Rattle.hs_awaiting.specs.declared.waiting.Waiting.{Waiting}
 use Rattle.hs_core.specs.Asking.{send_round}
 use Rattle.hs_core.specs.Changing.{change_pool, note, refuse}
-use Rattle.hs_core.specs.declared.wait.Wait.TheVariants as wait
-use Rattle.hs_core.specs.declared.waiting.Waiting.{Waiting}
 use Rattle.hs_core.specs.Delivering.{is_new_round}
 use Rattle.hs_core.specs.Looking.{catalogue_of, group_of, operation_of, shape_of}
 use Rattle.hs_core.specs.Operating.{begin_line, go_on_with, propose_entry, resume}

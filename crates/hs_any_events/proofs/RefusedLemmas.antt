@@ -5,9 +5,9 @@ use Rattle.std.specs.Ordering.{nat_cmp}
 use Rattle.hs_answered.proofs.AnswerLemmas.{view_refusal_stops}
 use Rattle.hs_answered.specs.Telling.{Judging}
 use Rattle.hs_any_events.proofs.BytesLemmas.{undone}
+use Rattle.hs_awaiting.specs.declared.wait.Wait.TheVariants as wait
+use Rattle.hs_awaiting.specs.declared.waiting.Waiting.{Waiting}
 use Rattle.hs_core.specs.Changing.{add_operation}
-use Rattle.hs_core.specs.declared.wait.Wait.TheVariants as wait
-use Rattle.hs_core.specs.declared.waiting.Waiting.{Waiting}
 use Rattle.hs_core.specs.Looking.{operation_of, shape_of}
 use Rattle.hs_core.specs.Operating.{begin_line, busy_line, take_step}
 use Rattle.hs_core.specs.Seeing.{view_for}

@@ -4,13 +4,13 @@ use Rattle.std.proofs.lemmas.Bool.{cases_eq, cases_lt}
 use Rattle.std.proofs.lemmas.List.{get_or-set_other, get_or-set_same, get_or_past}
 use Rattle.std.specs.Prelude.{slice_get, slice_index_or}
 use Rattle.hs_any_events.proofs.SteadyLemmas.{again_like}
+use Rattle.hs_awaiting.specs.declared.waiting.Waiting.{Waiting}
 use Rattle.hs_core.specs.Asking.{send_round}
 use Rattle.hs_core.specs.Changing.{change_pool, note, refuse}
 use Rattle.hs_core.specs.Looking.{catalogue_of, front_of, group_of, shape_of}
 use Rattle.hs_core.specs.Operating.{begin_line, go_on_with, propose_entry, resume}
 use Rattle.hs_core.specs.Seeing.{pointers_for}
 use Rattle.hs_core.specs.State.{Core}
-use Rattle.hs_core.specs.declared.waiting.Waiting.{Waiting}
 use Rattle.hs_effects.proofs.GroupLemmas.{set_at}
 use Rattle.hs_effects.proofs.QuietLemmas.{going_quiet, proposed_quiet}
 use Rattle.hs_effects.specs.Taking.{done_by, taken}

@@ -1,12 +1,13 @@
 -- Every event leaves each block within what took effect in its shard, whatever the lists say and however many copies there are.
 use Rattle.std.proofs.Common.{◌≡◌, ℕ, zero, suc, ◌+◌, ◌-◌, ◌==◌, Bool, true, false, cond, drop, length, List, [], ◌∷◌, Option, Some, None, refl, is_some, is_none, max, nat_lt}
 use Rattle.std.specs.Prelude.{if◌then◌else◌}
+use Rattle.hs_awaiting.specs.declared.wait.Wait.TheVariants as wait
+use Rattle.hs_awaiting.specs.declared.waiting.Waiting.{Waiting}
+use Rattle.hs_awaiting.specs.Words.{change_if, change_with, each, times}
 use Rattle.hs_core.specs.Asking.{deliver, lose, no_peer, not_down, not_up, nudge, nudge_good, send_again, send_round}
 use Rattle.hs_core.specs.Changing.{add_entry_tasks, add_operation, change_group, change_pool, change_rejoin, note, post, put_operation, refuse, set_rejoin, set_status, set_tasks, set_viewed}
 use Rattle.hs_core.specs.declared.event.Event.{Event}
 use Rattle.hs_core.specs.declared.event.Event.TheVariants as event
-use Rattle.hs_core.specs.declared.wait.Wait.TheVariants as wait
-use Rattle.hs_core.specs.declared.waiting.Waiting.{Waiting}
 use Rattle.hs_core.specs.Delivering.{handle, is_new_round, take_copy}
 use Rattle.hs_core.specs.Effects.{after_entry, commit, commit_next, is_for_view, note_enter, note_sweep, reach_view, round_messages, take_effect, tell_enter, tell_operation, wakes}
 use Rattle.hs_core.specs.Entering.{is_enter_due, propose_due}
@@ -20,7 +21,6 @@ use Rattle.hs_core.specs.Seeing.{pointers_for, view_for}
 use Rattle.hs_core.specs.State.{Core}
 use Rattle.hs_core.specs.Step.{begin_event, do_event, end_event, keep_entries, line_of, refuse_entries, run_event, step}
 use Rattle.hs_core.specs.Views.{begin_view, change_view, restart}
-use Rattle.hs_core.specs.Words.{change_if, change_with, each, times}
 use Rattle.hs_desk.specs.Answers.{answers}
 use Rattle.hs_desk.specs.declared.done.Done.{Done}
 use Rattle.hs_desk.specs.declared.done.Done.TheVariants as done

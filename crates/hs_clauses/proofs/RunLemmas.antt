@@ -9,9 +9,9 @@ use Rattle.hs_answered.specs.Standing.{store_with}
 use Rattle.hs_answered.specs.Telling.{Judging}
 use Rattle.hs_standing.specs.Answered.{KeepsRecordRoom, TellTheirBlocks}
 use Rattle.hs_cluster.specs.Kept.{AreStored, AreTold}
+use Rattle.hs_awaiting.specs.declared.waiting.Waiting.{Waiting}
 use Rattle.hs_core.specs.declared.event.Event.{Event}
 use Rattle.hs_core.specs.declared.task.Task.{Task}
-use Rattle.hs_core.specs.declared.waiting.Waiting.{Waiting}
 use Rattle.hs_core.specs.Looking.{catalogue_of, group_of}
 use Rattle.hs_core.specs.Opening.{Taken, good_copies, new_core, taken_group}
 use Rattle.hs_core.specs.Seeing.{pointers_for}

@@ -1,7 +1,7 @@
 -- Operations that wait for the bytes of an entry: a read's block is there as long as its handle may be used.
 use Rattle.std.specs.Prelude.{◌≡◌, ℕ, List, Some}
-use Rattle.hs_core.specs.declared.wait.Wait.TheVariants as wait
-use Rattle.hs_core.specs.declared.waiting.Waiting.{Waiting}
+use Rattle.hs_awaiting.specs.declared.wait.Wait.TheVariants as wait
+use Rattle.hs_awaiting.specs.declared.waiting.Waiting.{Waiting}
 use Rattle.hs_core.specs.Looking.{operation_of}
 use Rattle.hs_core.specs.State.{Core}
 use Rattle.hs_fold.specs.Runs.Facts.{Catalogue as Folded, Facts, facts_at}

@@ -1,16 +1,16 @@
 -- The first step of an operation: one that is answered at once is put nowhere, and one that waits for bytes is put with that wait.
 use Rattle.std.proofs.Common.{◌≡◌, ◌∙◌, sym, ap, ℕ, List, Option, Some, None, refl}
-use Rattle.hs_core.proofs.EntryLemmas.{find_insert, insert_set, remove_insert}
+use Rattle.hs_awaiting.proofs.EntryLemmas.{find_insert, insert_set, remove_insert}
+use Rattle.hs_awaiting.specs.declared.wait.Wait.TheVariants as wait
+use Rattle.hs_awaiting.specs.declared.waiting.Waiting.{Waiting}
+use Rattle.hs_awaiting.specs.Kinds.{puts_root, writes_block}
+use Rattle.hs_awaiting.specs.Words.{change_with}
 use Rattle.hs_core.specs.Changing.{add_operation, put_operation}
 use Rattle.hs_core.specs.declared.aim.Aim.{Aim}
-use Rattle.hs_core.specs.declared.wait.Wait.TheVariants as wait
-use Rattle.hs_core.specs.declared.waiting.Waiting.{Waiting}
 use Rattle.hs_core.specs.Going.{aim_of, answer_new, answer_with, compare_new, set_wait, told_with}
 use Rattle.hs_core.specs.Looking.{lead_of, operation_of}
 use Rattle.hs_core.specs.Operating.{add_read}
-use Rattle.hs_core.specs.Pending.{puts_root, writes_block}
 use Rattle.hs_core.specs.State.{Core}
-use Rattle.hs_core.specs.Words.{change_with}
 use Rattle.hs_limits.specs.declared.address.Address.{Address}
 use Rattle.hs_limits.specs.declared.address.Held.{Held}
 use Rattle.hs_model.specs.declared.op.Op.{Op}

@@ -4,23 +4,24 @@ use Rattle.std.specs.BTreeMap.{is_at}
 use Rattle.std.specs.Map.{remove_entry, set_value}
 use Rattle.std.specs.Ordering.{nat_cmp}
 use Rattle.std.specs.Prelude.{false, slice_index_or}
-use Rattle.hs_core.proofs.EntryLemmas.{find_insert, find_set, insert_set, remove_set, set_twice}
+use Rattle.hs_awaiting.proofs.EntryLemmas.{find_insert, find_set, insert_set, remove_set, set_twice}
+use Rattle.hs_awaiting.specs.declared.next.Next.{Next}
+use Rattle.hs_awaiting.specs.declared.next.Next.TheVariants as next
+use Rattle.hs_awaiting.specs.declared.wait.Wait.{Wait}
+use Rattle.hs_awaiting.specs.declared.wait.Wait.TheVariants as wait
+use Rattle.hs_awaiting.specs.declared.waiting.Waiting.{Waiting}
+use Rattle.hs_awaiting.specs.Going.{given_by, judge_in, judged_by, next_step}
+use Rattle.hs_awaiting.specs.Indexing.{wait_in}
+use Rattle.hs_awaiting.specs.Words.{change_with}
 use Rattle.hs_core.proofs.SeatLemmas.{seats_told}
 use Rattle.hs_core.proofs.SightLemmas.{coming_put, gained_alike, seen}
 use Rattle.hs_core.specs.Changing.{add_operation, note, put_operation}
 use Rattle.hs_core.specs.declared.aim.Aim.{Aim}
-use Rattle.hs_core.specs.declared.next.Next.{Next}
-use Rattle.hs_core.specs.declared.next.Next.TheVariants as next
-use Rattle.hs_core.specs.declared.wait.Wait.{Wait}
-use Rattle.hs_core.specs.declared.wait.Wait.TheVariants as wait
-use Rattle.hs_core.specs.declared.waiting.Waiting.{Waiting}
-use Rattle.hs_core.specs.Going.{aim_of, answer_with, carry_by, given_by, go_by, gains_by, holds_by, judge_in, judged_by, next_step, seats_by, set_wait, sight_of, step_by, view_by}
-use Rattle.hs_core.specs.Indexing.{wait_in}
+use Rattle.hs_core.specs.Going.{aim_of, answer_with, carry_by, go_by, gains_by, holds_by, seats_by, set_wait, sight_of, step_by, view_by}
 use Rattle.hs_core.specs.Looking.{group_of, lead_of, operation_of, shape_of}
 use Rattle.hs_core.specs.Operating.{add_read, begin_line, busy_line, propose_entry, take_step, wait_for, what_holds}
 use Rattle.hs_core.specs.Seeing.{pointers_for, view_for}
 use Rattle.hs_core.specs.State.{Core}
-use Rattle.hs_core.specs.Words.{change_with}
 use Rattle.hs_journal.specs.declared.entry.Who.TheVariants as who
 use Rattle.hs_limits.specs.declared.address.Held.{Held}
 use Rattle.hs_model.specs.declared.op.Op.{Op}

@@ -1,7 +1,7 @@
 -- Changes by each of those that pass a test.
 use Rattle.std.proofs.Common.{◌≡◌, refl, arith, ℕ, ◌+◌, ◌-◌, Bool, true, false, List, [], ◌∷◌, filter}
 use Rattle.std.specs.List.{range_with_len}
-use Rattle.hs_core.specs.Words.{change_if, each}
+use Rattle.hs_awaiting.specs.Words.{change_if, each}
 
 pub each_filter : {A B : Type 0} (p : B → Bool) (f : B → A → A) (ys : List B) (x : A) → each (filter p ys) f x ≡ each ys (λ y. change_if (p y) (f y)) x
 each_filter p f [] x = refl

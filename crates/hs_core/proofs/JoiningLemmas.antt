@@ -2,9 +2,9 @@
 use Rattle.std.proofs.Common.{◌≡◌, ℕ, ◌+◌, ◌-◌, ◌<◌, ◌≤◌, suc, Bool, true, false, ◌∷◌, refl, arith}
 use Rattle.std.specs.List.{range_with_len}
 use Rattle.std.specs.Prelude.{filter}
+use Rattle.hs_awaiting.specs.Words.{change_if, each}
 use Rattle.hs_core.specs.Joining.{begin_joining}
 use Rattle.hs_core.specs.State.{Core}
-use Rattle.hs_core.specs.Words.{change_if, each}
 
 -- those from a number on
 abbrev pub each_from : {A : Type 0} → (ℕ → Bool) → (ℕ → A → A) → ℕ → ℕ → A → A

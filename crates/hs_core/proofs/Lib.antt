@@ -1,11 +1,9 @@
 mod CommitLemmas
 mod DeletionExamples
 mod Driving
-mod EntryLemmas
 mod Examples
 mod FirstLemmas
 mod GoingLemmas
-mod IndexLemmas
 mod JoinLemmas
 mod JoiningLemmas
 mod JudgingLemmas
@@ -19,7 +17,6 @@ mod PlacedLemmas
 mod RangeLemmas
 mod RecordLemmas
 mod ReportLemmas
-mod RestartLemmas
 mod SeatLemmas
 mod SightLemmas
 mod StatusLemmas
@@ -27,4 +24,3 @@ mod StepLemmas
 mod StoredLemmas
 mod ViewLemmas
 mod WakeLemmas
-mod WalkLemmas

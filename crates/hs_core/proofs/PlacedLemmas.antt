@@ -6,18 +6,18 @@ use Rattle.std.specs.BTreeMap.{insert_entry, is_at}
 use Rattle.std.specs.List.{All}
 use Rattle.std.specs.Map.{remove_entry, set_value, values_of}
 use Rattle.std.specs.Ordering.{nat_cmp}
-use Rattle.std.specs.Prelude.{◌==◌, ◌&&◌, not, Err, IfSome, Ok, OnErr, OnOk, Result, if◌then◌else◌}
+use Rattle.std.specs.Prelude.{◌==◌, ◌&&◌, not, IfSome, if◌then◌else◌}
+use Rattle.hs_awaiting.specs.declared.next.Next.{Next}
+use Rattle.hs_awaiting.specs.declared.wait.Wait.{Wait}
+use Rattle.hs_awaiting.specs.declared.wait.Wait.TheVariants as wait
+use Rattle.hs_awaiting.specs.declared.waiting.Waiting.{Waiting}
+use Rattle.hs_awaiting.specs.Going.{judge_in, judged_by, next_step}
+use Rattle.hs_awaiting.specs.Indexing.{found_in, wait_in}
+use Rattle.hs_awaiting.specs.Views.{is_within, restarted}
 use Rattle.hs_core.proofs.StepLemmas.{kept_step_at, of_home}
-use Rattle.hs_core.specs.declared.next.Next.{Next}
-use Rattle.hs_core.specs.declared.wait.Wait.{Wait}
-use Rattle.hs_core.specs.declared.wait.Wait.TheVariants as wait
-use Rattle.hs_core.specs.declared.waiting.Waiting.{Waiting}
-use Rattle.hs_core.specs.Going.{judge_in, judged_by, next_step}
-use Rattle.hs_core.specs.Indexing.{found_in, wait_in}
 use Rattle.hs_core.specs.Keeping.{AreFronts, AreSteps, IsCore}
 use Rattle.hs_core.specs.Placed.{AreWithin}
 use Rattle.hs_core.specs.State.{Core}
-use Rattle.hs_core.specs.Views.{is_within, restarted}
 use Rattle.hs_desk.specs.declared.job.Job.{Job}
 use Rattle.hs_limits.specs.declared.address.Address.{Address}
 use Rattle.hs_members.specs.Members.{Members}
@@ -97,25 +97,6 @@ within_again n shard last es next made are =
         All-cons (is_placed n) (restarted shard last x.1) (values_of (map (λ e. (e.0, restarted shard last e.1)) xs))
         (one x.1 (All-head (is_placed n) x.1 (values_of xs) a))
         (go xs (All-tail (is_placed n) x.1 (values_of xs) a))
-
--- ---- on every path: without memory none is left
-
-module _ {T E : Type 0} (n : ℕ) (es next : List (ℕ × Waiting)) (are : AreWithin n es) where
-  pub placed_put : (r : Result T E) (line : ℕ) (w : Waiting) → OnOk r (next ≡ insert_entry nat_cmp es line w) → OnErr r (next ≡ []) → w.shard < n → AreWithin n next
-  placed_put (Ok x) line w made none within = within_put n line w es next made within are
-  placed_put (Err e) line w made none within = within_none n next none
-
-  pub placed_ended : (r : Result T E) (line : ℕ) → OnOk r (next ≡ remove_entry (is_at (nat_cmp line)) es) → OnErr r (next ≡ []) → AreWithin n next
-  placed_ended (Ok x) line made none = within_ended n line es next made are
-  placed_ended (Err e) line made none = within_none n next none
-
-  pub placed_waits : (r : Result T E) (line : ℕ) (what : Wait) → OnOk r (next ≡ wait_in line what es) → OnErr r (next ≡ []) → AreWithin n next
-  placed_waits (Ok x) line what made none = within_waits n line what es next made are
-  placed_waits (Err e) line what made none = within_none n next none
-
-  pub placed_judged : (r : Result T E) (how : Next) (pointers : List Address) (v : OpView) (line : ℕ) → OnOk r (next ≡ judge_in how pointers v line es) → OnErr r (next ≡ []) → AreWithin n next
-  placed_judged (Ok x) how pointers v line made none = within_judged n how pointers v line es next made are
-  placed_judged (Err e) how pointers v line made none = within_none n next none
 
 -- ---- of a core
 

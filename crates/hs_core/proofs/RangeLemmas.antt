@@ -3,8 +3,8 @@ use Rattle.std.proofs.Common.{◌≡◌, ◌∙◌, ap, ℕ, ◌+◌, ◌-◌, �
 use Rattle.std.proofs.lemmas.List.FromFn.{map-range_with_len_more}
 use Rattle.std.specs.List.{range_with_len}
 use Rattle.std.specs.Prelude.{find}
+use Rattle.hs_awaiting.specs.Words.{each}
 use Rattle.hs_core.specs.Opening.{first_view}
-use Rattle.hs_core.specs.Words.{each}
 use Rattle.hs_members.specs.Members.{Members}
 
 pub replicate_more : {A : Type 0} (n : ℕ) (x : A) → replicate (n + 1) x ≡ replicate n x ++ x ∷ []

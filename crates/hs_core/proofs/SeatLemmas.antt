@@ -3,7 +3,7 @@ use Rattle.std.proofs.Common.{◌≡◌, ◌∙◌, sym, ap, ℕ, Bool, true, fa
 use Rattle.std.proofs.lemmas.Map.Steps.{set_value_same}
 use Rattle.std.specs.BTreeMap.{is_at}
 use Rattle.std.specs.Map.{set_value}
-use Rattle.hs_core.proofs.EntryLemmas.{find_set, set_twice}
+use Rattle.hs_awaiting.proofs.EntryLemmas.{find_set, set_twice}
 use Rattle.hs_core.specs.Going.{hold_each, seats_by}
 use Rattle.hs_limits.specs.declared.address.Held.{Held}
 use Rattle.hs_model.specs.declared.deed.Deed.TheVariants as deed

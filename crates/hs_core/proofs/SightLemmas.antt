@@ -3,12 +3,13 @@ use Rattle.std.proofs.Common.{◌≡◌, ◌∙◌, sym, ap, ℕ, ◌||◌, Bool
 use Rattle.std.specs.BTreeMap.{is_at}
 use Rattle.std.specs.List.{list_any}
 use Rattle.std.specs.Ordering.{nat_cmp}
-use Rattle.hs_core.proofs.EntryLemmas.{part_set}
+use Rattle.hs_awaiting.proofs.EntryLemmas.{part_set}
+use Rattle.hs_awaiting.specs.declared.waiting.Waiting.{Waiting}
+use Rattle.hs_awaiting.specs.Kinds.{own_address}
 use Rattle.hs_core.specs.Changing.{put_operation}
-use Rattle.hs_core.specs.declared.waiting.Waiting.{Waiting}
 use Rattle.hs_core.specs.Going.{aim_of, sight_of, view_by}
 use Rattle.hs_core.specs.Looking.{group_of, operation_of}
-use Rattle.hs_core.specs.Pending.{is_address, is_coming, own_address, stored}
+use Rattle.hs_core.specs.Pending.{is_address, is_coming, stored}
 use Rattle.hs_core.specs.Seeing.{view_for}
 use Rattle.hs_core.specs.State.{Core}
 use Rattle.hs_entry.specs.declared.entry.Entry.{Entry}

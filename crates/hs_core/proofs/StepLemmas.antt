@@ -8,9 +8,9 @@ use Rattle.std.proofs.lemmas.Nat.{div-add-mod', div-mul-add, div_below, mod_belo
 use Rattle.std.specs.List.{enumerate_from}
 use Rattle.std.specs.Option.{IfSome, option_map}
 use Rattle.std.specs.Prelude.{if◌then◌else◌, nat_le, slice_index_or, slice_set}
+use Rattle.hs_awaiting.specs.Words.{change_if}
 use Rattle.hs_core.proofs.LeadLemmas.{peer_within}
 use Rattle.hs_core.specs.Changing.{change_group}
-use Rattle.hs_core.specs.Words.{change_if}
 use Rattle.hs_core.specs.Keeping.{AreFronts, AreSteps, IsCore, IsOf, kept_step}
 use Rattle.hs_core.specs.Looking.{group_of, home, lead_of, rejoin_of, shape_of, status_of}
 use Rattle.hs_core.specs.Renewing.{Renews, lead_in, lead_sealed, step_at}

@@ -3,6 +3,8 @@ use Rattle.std.proofs.Common.{◌≡◌, ◌∙◌, sym, ap, ℕ, ◌+◌, ◌<�
 use Rattle.std.proofs.Math.Decide.{ℕ_discrete}
 use Rattle.std.proofs.lemmas.List.{get_or-set_other, get_or-set_same, length-set}
 use Rattle.std.specs.Prelude.{slice_index, slice_index_or, slice_set}
+use Rattle.hs_awaiting.specs.Views.{restarted}
+use Rattle.hs_awaiting.specs.Words.{change_with, ◌▸◌}
 use Rattle.hs_core.specs.Anew.{group_anew, told_anew, view_tasks, viewed_anew}
 use Rattle.hs_core.specs.Changing.{add_entry_tasks, post}
 use Rattle.hs_core.specs.declared.task.Task.{Task}
@@ -10,8 +12,7 @@ use Rattle.hs_core.specs.Keeping.{AreLists, IsCore, IsOf}
 use Rattle.hs_core.specs.Looking.{group_of, lead_of, shape_of}
 use Rattle.hs_core.specs.Operating.{propose_entry}
 use Rattle.hs_core.specs.State.{Core}
-use Rattle.hs_core.specs.Views.{begin_view, restart_at, restarted}
-use Rattle.hs_core.specs.Words.{change_with, ◌▸◌}
+use Rattle.hs_core.specs.Views.{begin_view, restart_at}
 use Rattle.hs_desk.specs.declared.job.Job.TheVariants as job
 use Rattle.hs_entry.specs.declared.entry.Entry.{Entry}
 use Rattle.hs_entry.specs.declared.entry.Entry.TheVariants as kind

@@ -3,13 +3,15 @@ use Rattle.std.proofs.Common.{◌≡◌, ◌∙◌, sym, ap, ℕ, Bool, true, fa
 use Rattle.std.specs.Option.{option_map_or}
 use Rattle.std.proofs.lemmas.Slice.Eq.{bytes_eq-Decides}
 use Rattle.std.specs.Prelude.{◌==◌}
-use Rattle.hs_core.specs.declared.wait.Wait.{Wait}
-use Rattle.hs_core.specs.declared.wait.Wait.TheVariants as wait
-use Rattle.hs_core.specs.declared.waiting.Waiting.{Waiting}
+use Rattle.hs_awaiting.specs.declared.wait.Wait.{Wait}
+use Rattle.hs_awaiting.specs.declared.wait.Wait.TheVariants as wait
+use Rattle.hs_awaiting.specs.declared.waiting.Waiting.{Waiting}
+use Rattle.hs_awaiting.specs.Indexing.{block_cause, found_in, passes, waits_for}
+use Rattle.hs_awaiting.specs.Kinds.{own_address, puts_root, writes_block}
 use Rattle.hs_core.specs.Effects.{is_for_view, wakes}
-use Rattle.hs_core.specs.Indexing.{block_cause, found_in, may_wake, may_wake_by_block, own_address, passes, waits_for, waits_for_block}
-use Rattle.hs_core.specs.Pending.{is_address, puts_root, writes_block}
+use Rattle.hs_core.specs.Pending.{is_address}
 use Rattle.hs_core.specs.State.{Core}
+use Rattle.hs_core.specs.Waking.{may_wake, may_wake_by_block, waits_for_block}
 use Rattle.hs_entry.specs.declared.entry.Entry.{Entry}
 use Rattle.hs_entry.specs.declared.entry.Entry.TheVariants as kind
 use Rattle.hs_limits.specs.declared.address.Address.{Address}

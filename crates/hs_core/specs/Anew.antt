@@ -1,12 +1,12 @@
 -- What a new view makes of a core at once, where no operation is without an answer: for private clauses.
 use Rattle.std.specs.Prelude.{ℕ, false, List, [], ◌∷◌, ◌++◌, slice_set}
+use Rattle.hs_awaiting.specs.Words.{change_with, ◌▸◌}
 use Rattle.hs_core.specs.declared.lists.Lists.{Lists}
 use Rattle.hs_core.specs.declared.task.Task.{Task}
 use Rattle.hs_core.specs.Changing.{add_entry_tasks}
 use Rattle.hs_core.specs.Keeping.{AreLists}
 use Rattle.hs_core.specs.Looking.{group_of, lead_of}
 use Rattle.hs_core.specs.State.{Core}
-use Rattle.hs_core.specs.Words.{change_with, ◌▸◌}
 use Rattle.hs_desk.specs.declared.job.Job.TheVariants as job
 use Rattle.hs_entry.specs.declared.entry.Entry.TheVariants as kind
 use Rattle.hs_members.specs.Members.{view_of}

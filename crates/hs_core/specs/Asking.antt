@@ -1,5 +1,6 @@
 -- Lines of a script that are no client's: turns, messages, failures and starts.
 use Rattle.std.specs.Prelude.{ℕ, ◌&&◌, Bool, true, false, not, List, [], ◌∷◌, Option, Some, None, length, nat_le, if◌then◌else◌}
+use Rattle.hs_awaiting.specs.Words.{change_if, change_with, ◌▸◌}
 use Rattle.hs_core.specs.Changing.{change_pool, post, refuse}
 use Rattle.hs_core.specs.Delivering.{handle}
 use Rattle.hs_core.specs.Effects.{round_messages}
@@ -8,7 +9,6 @@ use Rattle.hs_core.specs.Failing.{go_down}
 use Rattle.hs_core.specs.Joining.{start}
 use Rattle.hs_core.specs.Looking.{catalogue_of, group_of, home, lead_of, status_of}
 use Rattle.hs_core.specs.State.{Core}
-use Rattle.hs_core.specs.Words.{change_if, change_with, ◌▸◌}
 use Rattle.hs_members.specs.Members.{is_down, is_good_status}
 use Rattle.hs_model.specs.declared.reply.Reply.{Reply}
 use Rattle.hs_model.specs.declared.reply.Reply.TheVariants as reply

@@ -1,13 +1,13 @@
 -- How a message is handled.
 use Rattle.std.specs.List.{list_any}
 use Rattle.std.specs.Prelude.{ℕ, ◌&&◌, Bool, not, is_none}
+use Rattle.hs_awaiting.specs.Words.{change_if, ◌▸◌}
 use Rattle.hs_core.specs.Changing.{add_entry_tasks, change_group}
 use Rattle.hs_core.specs.Effects.{commit}
 use Rattle.hs_core.specs.Joining.{follow_lead}
 use Rattle.hs_core.specs.Looking.{catalogue_of, group_of, status_of}
 use Rattle.hs_core.specs.Operating.{propose_entry}
 use Rattle.hs_core.specs.State.{Core}
-use Rattle.hs_core.specs.Words.{change_if, ◌▸◌}
 use Rattle.hs_entry.specs.declared.entry.Entry.{Entry}
 use Rattle.hs_entry.specs.declared.entry.Entry.TheVariants as kind
 use Rattle.hs_members.specs.Members.{is_good_status}

@@ -2,16 +2,17 @@
 use Rattle.std.specs.List.{list_all}
 use Rattle.std.specs.Option.{option_map_or}
 use Rattle.std.specs.Prelude.{ℕ, ◌+◌, ◌-◌, ◌==◌, ◌&&◌, ◌||◌, Bool, true, false, List, Option, is_some, map, nat_le, if◌then◌else◌}
-use Rattle.hs_core.specs.declared.wait.Wait.{Wait}
-use Rattle.hs_core.specs.declared.wait.Wait.TheVariants as wait
+use Rattle.hs_awaiting.specs.declared.wait.Wait.{Wait}
+use Rattle.hs_awaiting.specs.declared.wait.Wait.TheVariants as wait
+use Rattle.hs_awaiting.specs.Kinds.{puts_root, writes_block}
+use Rattle.hs_awaiting.specs.declared.waiting.Waiting.{Waiting}
+use Rattle.hs_awaiting.specs.Words.{change_if, change_with, times, ◌▸◌}
 use Rattle.hs_core.specs.Changing.{change_group, note, post, set_catalogue, set_viewed}
 use Rattle.hs_core.specs.Entering.{propose_due}
 use Rattle.hs_core.specs.Looking.{catalogue_of, front_of, group_of, operation_of}
 use Rattle.hs_core.specs.Operating.{go_on_with, resume_where}
-use Rattle.hs_core.specs.Pending.{is_address, named, puts_root, writes_block}
-use Rattle.hs_core.specs.declared.waiting.Waiting.{Waiting}
+use Rattle.hs_core.specs.Pending.{is_address, named}
 use Rattle.hs_core.specs.State.{Core}
-use Rattle.hs_core.specs.Words.{change_if, change_with, times, ◌▸◌}
 use Rattle.hs_desk.specs.declared.what.What.{What}
 use Rattle.hs_desk.specs.declared.what.What.TheVariants as what
 use Rattle.hs_entry.specs.declared.entry.Entry.{Entry}

@@ -1,10 +1,10 @@
 -- When a shard's lead proposes an Enter that nobody asked it for.
 use Rattle.std.specs.List.{list_any}
 use Rattle.std.specs.Prelude.{ℕ, ◌+◌, ◌==◌, ◌&&◌, Bool, not}
+use Rattle.hs_awaiting.specs.Words.{change_if, ◌▸◌}
 use Rattle.hs_core.specs.Looking.{catalogue_of, group_of}
 use Rattle.hs_core.specs.Operating.{propose_entry}
 use Rattle.hs_core.specs.State.{Core}
-use Rattle.hs_core.specs.Words.{change_if, ◌▸◌}
 use Rattle.hs_entry.specs.declared.entry.Entry.TheVariants as kind
 pub use Rattle.hs_replica.specs.Kinds.{enters}
 use Rattle.hs_rounds.specs.Rounds.{Run}

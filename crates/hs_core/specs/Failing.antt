@@ -1,12 +1,12 @@
 -- How a peer goes down.
 use Rattle.std.specs.Prelude.{ℕ, Bool, [], None}
+use Rattle.hs_awaiting.specs.Words.{change_if, each, ◌▸◌}
 use Rattle.hs_core.specs.Changing.{change_pool, note, set_rejoin, set_status, set_tasks}
 use Rattle.hs_core.specs.Effects.{commit}
 use Rattle.hs_core.specs.Joining.{begin_joining, joining_peers}
 use Rattle.hs_core.specs.Looking.{home, lead_of, status_of}
 use Rattle.hs_core.specs.State.{Core}
 use Rattle.hs_core.specs.Views.{change_view}
-use Rattle.hs_core.specs.Words.{change_if, each, ◌▸◌}
 use Rattle.hs_journal.specs.declared.entry.Who.TheVariants as who
 use Rattle.hs_limits.specs.declared.limits.PeerStatus.TheVariants.{Down}
 use Rattle.hs_members.specs.Members.{has_good, is_good_status}

@@ -1,25 +1,22 @@
 -- How an operation goes on, in the parts in which a body does it: for private clauses.
-use Rattle.std.specs.BTreeMap.{is_at}
-use Rattle.std.specs.Map.{lookup, set_value}
 use Rattle.std.specs.Option.{option_and_then, option_map, option_map_or}
-use Rattle.std.specs.Ordering.{nat_cmp}
 use Rattle.std.specs.Prelude.{ℕ, ◌+◌, ◌||◌, Bool, false, not, List, [], ◌∷◌, Option, count_by, length, map, slice_index_or, sum_by, if◌then◌else◌}
+use Rattle.hs_awaiting.specs.declared.next.Next.{Next}
+use Rattle.hs_awaiting.specs.declared.wait.Wait.{Wait}
+use Rattle.hs_awaiting.specs.declared.wait.Wait.TheVariants as wait
+use Rattle.hs_awaiting.specs.declared.waiting.Waiting.{Waiting}
+use Rattle.hs_awaiting.specs.Going.{next_step}
+use Rattle.hs_awaiting.specs.Kinds.{puts_root, writes_block}
+use Rattle.hs_awaiting.specs.Words.{change_with, ◌▸◌}
 use Rattle.hs_core.specs.declared.aim.Aim.{Aim}
-use Rattle.hs_core.specs.declared.next.Next.{Next}
-use Rattle.hs_core.specs.declared.next.Next.TheVariants as next
 use Rattle.hs_core.specs.declared.sight.Sight.{Sight}
-use Rattle.hs_core.specs.declared.wait.Wait.{Wait}
-use Rattle.hs_core.specs.declared.wait.Wait.TheVariants as wait
-use Rattle.hs_core.specs.declared.waiting.Waiting.{Waiting}
 use Rattle.hs_core.specs.Changing.{add_operation, end_operation, note}
 use Rattle.hs_core.specs.Looking.{catalogue_of, group_of, lead_of, operation_of}
 use Rattle.hs_core.specs.Operating.{add_read, propose_entry, take_step, wait_for}
-use Rattle.hs_core.specs.Pending.{has_block_room, has_root_room, is_block, is_coming, is_root, puts_root, writes_block}
+use Rattle.hs_core.specs.Pending.{has_block_room, has_root_room, is_block, is_coming, is_root}
 use Rattle.hs_core.specs.Seeing.{empty_view, pointers_for, view_for}
 use Rattle.hs_core.specs.State.{Core}
-use Rattle.hs_core.specs.Words.{change_with, ◌▸◌}
 use Rattle.hs_journal.specs.declared.entry.Who.TheVariants as who
-use Rattle.hs_limits.specs.declared.address.Address.{Address}
 use Rattle.hs_limits.specs.declared.address.Held.{Held}
 use Rattle.hs_limits.specs.declared.limits.Limits.{Limits}
 use Rattle.hs_model.specs.declared.deed.Deed.{Deed}
@@ -29,7 +26,7 @@ use Rattle.hs_model.specs.declared.reply.Reply.{Reply}
 use Rattle.hs_ops.specs.declared.step.OpStep.{OpStep}
 use Rattle.hs_ops.specs.declared.step.OpStep.TheVariants as step
 use Rattle.hs_ops.specs.Answers.{deed_of, gained}
-use Rattle.hs_ops.specs.Operations.{Operation, after_step, bytes_step, effect_step, go_step}
+use Rattle.hs_ops.specs.Operations.{Operation}
 use Rattle.hs_ops.specs.Speaking.{wanted_address}
 use Rattle.hs_ops.specs.Views.{OpView}
 use Rattle.hs_replica.specs.Group.{last_number}
@@ -103,12 +100,6 @@ view_by sight aim busy core = view_of sight aim busy core.limits core.sessions (
 
 -- ---- its step
 
--- its next step, that at reported bytes, or that at the effect of its entry
-abbrev pub next_step : Next → List Address → OpView → Operation → OpStep
-next_step next.Go pointers v operation = go_step v operation
-next_step (next.Bytes bytes) pointers v operation = bytes_step v bytes pointers operation
-next_step (next.Effect did) pointers v operation = effect_step v did operation
-
 -- by what is seen of what it is about
 abbrev pub step_by : Next → Aim → Option ℕ → Core → Operation → OpStep
 step_by how aim busy core operation = next_step how (sight_of aim core).pointers (view_by (sight_of aim core) aim busy core) operation
@@ -122,22 +113,6 @@ abbrev pub go_by : Next → ℕ → Core → Core
 go_by how line core =
     core ▸ change_with (operation_of line core)
     (λ w. take_step line w (next_step how (pointers_for w.shard w.operation.op core) (view_for w.shard w.operation.op core) w.operation))
-
--- the operation where a step leaves it
-abbrev pub judged_by : OpStep → Waiting → Waiting
-judged_by s w = record w { operation = after_step s w.operation }
-
--- what a reply gives to hold; other steps give nothing
-abbrev pub given_by : OpStep → List Held → List Held
-given_by (step.Answer reply) helds = helds
-given_by (step.Propose entry) helds = []
-given_by (step.Compare number) helds = []
-given_by step.Wait helds = []
-
--- the operation of a line stands after its step, by what it sees
-abbrev pub judge_in : Next → List Address → OpView → ℕ → List (ℕ × Waiting) → List (ℕ × Waiting)
-judge_in how pointers v line operations =
-    operations ▸ change_with (lookup (is_at (nat_cmp line)) operations) (λ w es. set_value (is_at (nat_cmp line)) es (judged_by (next_step how pointers v w.operation) w))
 
 -- ---- what the step asks for
 

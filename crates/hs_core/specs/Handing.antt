@@ -1,12 +1,12 @@
 -- An entry takes effect once it was handed out, and a report is taken by the line of the job that it answers: for private clauses.
 use Rattle.std.specs.Prelude.{ℕ, Option, Some, None, if◌then◌else◌, option_and_then}
+use Rattle.hs_awaiting.specs.Words.{◌▸◌}
 use Rattle.hs_core.specs.Changing.{post, set_catalogue}
 use Rattle.hs_core.specs.Effects.{after_entry, round_messages, wakes}
 use Rattle.hs_core.specs.Looking.{catalogue_of, first_task}
 use Rattle.hs_core.specs.Operating.{resume_where}
 use Rattle.hs_core.specs.Pending.{named}
 use Rattle.hs_core.specs.State.{Core}
-use Rattle.hs_core.specs.Words.{◌▸◌}
 use Rattle.hs_desk.specs.Answers.{answers}
 use Rattle.hs_desk.specs.declared.done.Done.{Done}
 use Rattle.hs_entry.specs.declared.entry.Entry.{Entry}

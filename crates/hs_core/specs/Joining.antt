@@ -1,12 +1,12 @@
 -- How a peer joins: it copies the lead's list, and is good once it has all of it.
 use Rattle.std.specs.Option.{option_map, option_map_or}
 use Rattle.std.specs.Prelude.{ℕ, Bool, false, List, None, filter}
+use Rattle.hs_awaiting.specs.Words.{change_if, change_with, each, ◌▸◌}
 use Rattle.hs_core.specs.Changing.{change_rejoin, set_rejoin, set_status}
 use Rattle.hs_core.specs.Effects.{commit}
 use Rattle.hs_core.specs.Looking.{group_of, home, lead_of, rejoin_of, shape_of, status_of}
 use Rattle.hs_core.specs.State.{Core}
 use Rattle.hs_core.specs.Views.{change_view}
-use Rattle.hs_core.specs.Words.{change_if, change_with, each, ◌▸◌}
 use Rattle.hs_limits.specs.declared.limits.PeerStatus.TheVariants.{Good, Joining}
 use Rattle.hs_members.specs.Members.{is_joining, peers_of}
 use Rattle.hs_rejoin.specs.Rejoin.{follow, is_level, new_rejoin}

@@ -8,7 +8,6 @@ pub mod Entering
 pub mod Failing
 pub mod Going
 pub mod Handing
-pub mod Indexing
 pub mod Joining
 pub mod Keeping
 pub mod Looking
@@ -16,7 +15,6 @@ pub mod Opening
 pub mod Operating
 pub mod Pending
 pub mod Placed
-pub mod Putting
 pub mod Records
 pub mod Renewing
 pub mod Reporting
@@ -24,4 +22,4 @@ pub mod Seeing
 pub mod State
 pub mod Step
 pub mod Views
-pub mod Words
+pub mod Waking

@@ -1,12 +1,12 @@
 -- The core as it opens.
 use Rattle.std.specs.List.{range_with_len}
 use Rattle.std.specs.Prelude.{ℕ, ◌+◌, ◌*◌, Bool, false, not, List, [], None, drop, map, replicate, slice_index, take, if◌then◌else◌}
+use Rattle.hs_awaiting.specs.Words.{change_if, each, ◌▸◌}
 use Rattle.hs_core.specs.Changing.{note}
 use Rattle.hs_core.specs.Looking.{shape_of, shards_of, status_of}
 use Rattle.hs_core.specs.State.{Core, Progress}
 use Rattle.hs_core.specs.Step.{end_event}
 use Rattle.hs_core.specs.Views.{change_view}
-use Rattle.hs_core.specs.Words.{change_if, each, ◌▸◌}
 use Rattle.hs_journal.specs.declared.entry.Who.TheVariants as who
 use Rattle.hs_limits.specs.declared.limits.Limits.{Limits}
 use Rattle.hs_limits.specs.declared.shape.Shape.{Shape}

@@ -1,16 +1,17 @@
 -- Operations: each step of one, and the order in which they go on.
 use Rattle.std.specs.List.{find, filter}
-use Rattle.std.specs.Option.{option_and_then, option_map, option_map_or}
-use Rattle.std.specs.Prelude.{ℕ, ◌+◌, ◌==◌, ◌&&◌, Bool, false, not, List, Option, Some, bytes_eq, map, slice_index_or, if◌then◌else◌}
-use Rattle.hs_core.specs.declared.wait.Wait.{Wait}
-use Rattle.hs_core.specs.declared.wait.Wait.TheVariants as wait
+use Rattle.std.specs.Option.{option_and_then, option_map}
+use Rattle.std.specs.Prelude.{ℕ, ◌+◌, ◌==◌, ◌&&◌, Bool, false, not, List, Option, Some, map, slice_index_or, if◌then◌else◌}
+use Rattle.hs_awaiting.specs.declared.wait.Wait.{Wait}
+use Rattle.hs_awaiting.specs.declared.wait.Wait.TheVariants as wait
+use Rattle.hs_awaiting.specs.declared.waiting.Waiting.{Waiting}
+use Rattle.hs_awaiting.specs.Kinds.{is_of}
+use Rattle.hs_awaiting.specs.Words.{change_with, each, ◌▸◌}
 use Rattle.hs_core.specs.Changing.{add_entry_tasks, add_operation, add_task, change_group, end_operation, note, post, put_operation}
 use Rattle.hs_core.specs.Looking.{group_of, lead_of, operation_of, shape_of}
 use Rattle.hs_core.specs.Pending.{is_coming}
 use Rattle.hs_core.specs.Seeing.{pointers_for, view_for}
-use Rattle.hs_core.specs.declared.waiting.Waiting.{Waiting}
 use Rattle.hs_core.specs.State.{Core}
-use Rattle.hs_core.specs.Words.{change_with, each, ◌▸◌}
 use Rattle.hs_desk.specs.declared.job.Job.TheVariants as job
 use Rattle.hs_entry.specs.declared.entry.Entry.{Entry}
 use Rattle.hs_journal.specs.declared.entry.Who.TheVariants as who
@@ -90,10 +91,6 @@ abbrev pub resume_where : ℕ → (Waiting → Bool) → Core → Core
 resume_where shard test core = core ▸ each (lines_where shard test core) resume
 
 -- ---- a client's line
-
--- whether an operation is of a session
-abbrev pub is_of : List ℕ → Waiting → Bool
-is_of name w = option_map_or (bytes_eq name) (session_of (Some w.operation.op)) false
 
 -- the line of a session's operation that has no answer
 abbrev pub busy_line : Op → Core → Option ℕ

@@ -1,7 +1,8 @@
 -- What stands in a lead's list and has not taken effect, as far as operations wait for it.
 use Rattle.std.specs.List.{list_any}
 use Rattle.std.specs.Option.{option_and_then, option_map_or}
-use Rattle.std.specs.Prelude.{ℕ, ◌+◌, ◌||◌, Bool, true, false, not, Option, None, bytes_eq, count_by, length, nat_lt, if◌then◌else◌}
+use Rattle.std.specs.Prelude.{ℕ, ◌+◌, ◌||◌, Bool, false, not, Option, None, bytes_eq, count_by, length, nat_lt, if◌then◌else◌}
+use Rattle.hs_awaiting.specs.Kinds.{own_address, puts_root}
 use Rattle.hs_core.specs.Looking.{catalogue_of, group_of, operation_of}
 use Rattle.hs_core.specs.State.{Core}
 use Rattle.hs_entry.specs.declared.entry.Entry.{Entry}
@@ -12,20 +13,6 @@ use Rattle.hs_model.specs.declared.op.Op.TheVariants as op
 use Rattle.hs_ops.specs.Speaking.{wanted_address}
 pub use Rattle.hs_replica.specs.Kinds.{is_block, is_root}
 use Rattle.hs_roots.specs.Roots.{retained_count}
-
--- whether an operation writes a block, or puts a root
-abbrev pub writes_block : Op → Bool
-writes_block (op.Write name payload handles a) = true
-writes_block other = false
-
-abbrev pub puts_root : Op → Bool
-puts_root (op.Root name key handle) = true
-puts_root other = false
-
--- the address that a write names itself
-abbrev pub own_address : Op → Option Address
-own_address (op.Write name payload handles a) = a
-own_address other = None
 
 -- the address that the operation which asked for a Block is about
 abbrev pub named : Entry → Core → Option Address

@@ -2,7 +2,7 @@
 use Rattle.std.specs.List.{All}
 use Rattle.std.specs.Map.{values_of}
 use Rattle.std.specs.Prelude.{ℕ, ◌<◌, List}
-use Rattle.hs_core.specs.declared.waiting.Waiting.{Waiting}
+use Rattle.hs_awaiting.specs.declared.waiting.Waiting.{Waiting}
 
 -- the shard of each operation is one of so many
 pub record AreWithin (shards : ℕ) (es : List (ℕ × Waiting)) : Type 0 where

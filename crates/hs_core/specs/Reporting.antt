@@ -1,8 +1,10 @@
 -- What the report of a job brings.
 use Rattle.std.specs.Prelude.{ℕ, ◌==◌, Bool, false, List, Option, Some, None, drop}
+use Rattle.hs_awaiting.specs.declared.wait.Wait.{Wait}
+use Rattle.hs_awaiting.specs.declared.wait.Wait.TheVariants as wait
+use Rattle.hs_awaiting.specs.declared.waiting.Waiting.{Waiting}
+use Rattle.hs_awaiting.specs.Words.{change_if, change_with, ◌▸◌}
 use Rattle.hs_core.specs.declared.task.Task.{Task}
-use Rattle.hs_core.specs.declared.wait.Wait.{Wait}
-use Rattle.hs_core.specs.declared.wait.Wait.TheVariants as wait
 use Rattle.hs_core.specs.Changing.{change_group, change_rejoin, post, set_tasks}
 use Rattle.hs_core.specs.Effects.{commit}
 use Rattle.hs_core.specs.Failing.{fail_disk}
@@ -10,9 +12,7 @@ use Rattle.hs_core.specs.Joining.{join_if_level}
 use Rattle.hs_core.specs.Looking.{first_task, group_of, home, operation_of, tasks_of}
 use Rattle.hs_core.specs.Operating.{go_on_with}
 use Rattle.hs_core.specs.Seeing.{pointers_for}
-use Rattle.hs_core.specs.declared.waiting.Waiting.{Waiting}
 use Rattle.hs_core.specs.State.{Core}
-use Rattle.hs_core.specs.Words.{change_if, change_with, ◌▸◌}
 use Rattle.hs_desk.specs.declared.done.Done.{Done}
 use Rattle.hs_desk.specs.declared.done.Done.TheVariants as done
 use Rattle.hs_desk.specs.Answers.{answers}

@@ -1,7 +1,7 @@
 -- The state of the core: all shards, peers, sessions, operations, messages and jobs, and what was answered.
 use Rattle.std.specs.Prelude.{ℕ, Bool, List, Option}
+use Rattle.hs_awaiting.specs.declared.waiting.Waiting.{Waiting}
 use Rattle.hs_core.specs.declared.task.Task.{Task}
-use Rattle.hs_core.specs.declared.waiting.Waiting.{Waiting}
 use Rattle.hs_desk.specs.declared.fault.CoreFault.{CoreFault}
 use Rattle.hs_journal.specs.declared.entry.JournalEntry.{JournalEntry}
 use Rattle.hs_limits.specs.declared.limits.Limits.{Limits}

@@ -1,6 +1,7 @@
 -- One event of the core.
 use Rattle.std.specs.Option.{option_map}
 use Rattle.std.specs.Prelude.{ℕ, ◌+◌, ◌++◌, ◌==◌, ◌&&◌, not, [], length, Some, is_none, nat_lt, if◌then◌else◌}
+use Rattle.hs_awaiting.specs.Words.{change_if, ◌▸◌}
 use Rattle.hs_core.specs.declared.event.Event.{Event}
 use Rattle.hs_core.specs.declared.event.Event.TheVariants as event
 use Rattle.hs_core.specs.Asking.{deliver, lose, nudge_good, send_again, with_down, with_message, with_up}
@@ -11,7 +12,6 @@ use Rattle.hs_core.specs.Looking.{lost_shard}
 use Rattle.hs_core.specs.Operating.{begin_line}
 use Rattle.hs_core.specs.Reporting.{on_report}
 use Rattle.hs_core.specs.State.{Core}
-use Rattle.hs_core.specs.Words.{change_if, ◌▸◌}
 use Rattle.hs_desk.specs.declared.fault.CoreFault.TheVariants as fault
 use Rattle.hs_post.specs.Pool.{is_empty, restart_numbers}
 

@@ -1,25 +1,14 @@
 -- A new view of a shard.
-use Rattle.std.specs.Prelude.{ℕ, ◌==◌, ◌&&◌, Bool, false, not, map, nat_le, if◌then◌else◌}
-use Rattle.hs_core.specs.declared.wait.Wait.{Wait}
-use Rattle.hs_core.specs.declared.wait.Wait.TheVariants as wait
+use Rattle.std.specs.Prelude.{ℕ, false, map}
+use Rattle.hs_awaiting.specs.Views.{restarted}
+use Rattle.hs_awaiting.specs.Words.{change_if, ◌▸◌}
 use Rattle.hs_core.specs.Changing.{change_group, post, set_viewed}
 use Rattle.hs_core.specs.Looking.{group_of}
 use Rattle.hs_core.specs.Operating.{propose_entry}
-use Rattle.hs_core.specs.declared.waiting.Waiting.{Waiting}
 use Rattle.hs_core.specs.State.{Core}
-use Rattle.hs_core.specs.Words.{change_if, ◌▸◌}
 use Rattle.hs_entry.specs.declared.entry.Entry.TheVariants as kind
 use Rattle.hs_members.specs.Members.{has_good, view_of}
 use Rattle.hs_replica.specs.Group.{last_number, renew, renewal}
-
--- whether what is waited for is an entry up to this number
-abbrev pub is_within : ℕ → Wait → Bool
-is_within last (wait.Entry number) = nat_le number last
-is_within last other = false
-
--- an operation of the shard starts again, but for one whose entry still stands in the lead's list
-abbrev pub restarted : ℕ → ℕ → Waiting → Waiting
-restarted shard last w = if w.shard == shard && not (is_within last w.wait) then record w { wait = wait.View } else w
 
 -- where this is the last number of the lead's list
 abbrev pub restart_at : ℕ → ℕ → Core → Core

@@ -1,13 +1,14 @@
 //! What an operation is about.
 ghost use Rattle.std.specs.Prelude.{◌≡◌, IfSome};
 ghost use Rattle.std.specs.Option.{option_map};
+ghost use Rattle.hs_awaiting.specs.Kinds.{puts_root, writes_block};
 ghost use Rattle.hs_core.specs.Going.{aim_of};
 ghost use Rattle.hs_core.specs.Looking.{operation_of};
-ghost use Rattle.hs_core.specs.Pending.{puts_root, writes_block};
 ghost use Rattle.hs_members.specs.Members.{IsShard};
 ghost use Rattle.hs_ops.specs.Speaking.{judging_shard};
 
 use crate::Core;
+use hs_awaiting::{puts_root, writes_block};
 use hs_limits::Address;
 use hs_model::Op;
 use hs_ops::Operation;
@@ -69,43 +70,5 @@ fn aim_by(shard: u8, address: Option<Address>, op: &Op) -> Aim
         address,
         writes: writes_block(op),
         roots: puts_root(op),
-    }
-}
-
-/// Whether an operation writes a block.
-pub(crate) fn writes_block(op: &Op) -> bool
-    ensures { result ≡ writes_block op.now }
-{
-    match op {
-        Op::Write { .. } => true,
-        Op::Open { .. }
-        | Op::Close { .. }
-        | Op::Read { .. }
-        | Op::Look { .. }
-        | Op::Root { .. }
-        | Op::Drop { .. }
-        | Op::Forget { .. }
-        | Op::Name { .. }
-        | Op::Delete
-        | Op::Stat => false,
-    }
-}
-
-/// Whether an operation puts a root.
-pub(crate) fn puts_root(op: &Op) -> bool
-    ensures { result ≡ puts_root op.now }
-{
-    match op {
-        Op::Root { .. } => true,
-        Op::Open { .. }
-        | Op::Close { .. }
-        | Op::Write { .. }
-        | Op::Read { .. }
-        | Op::Look { .. }
-        | Op::Drop { .. }
-        | Op::Forget { .. }
-        | Op::Name { .. }
-        | Op::Delete
-        | Op::Stat => false,
     }
 }

@@ -1,12 +1,12 @@
 //! Lines of a script that are no client's: turns, nudges, failures and starts.
 ghost use Rattle.std.specs.Prelude.{◌≡◌, ◌∷◌, [], IfNone, OnOk, true};
+ghost use Rattle.hs_awaiting.specs.Words.{change_if};
 ghost use Rattle.hs_core.specs.Asking.{no_peer, not_down, not_up, nudge, nudge_good, send_round, send_rounds, with_down, with_up};
 ghost use Rattle.hs_core.specs.Entering.{propose_due};
 ghost use Rattle.hs_core.specs.Failing.{go_down};
 ghost use Rattle.hs_core.specs.Joining.{start};
 ghost use Rattle.hs_core.specs.Keeping.{Kept};
 ghost use Rattle.hs_core.specs.Looking.{lead_of, status_of};
-ghost use Rattle.hs_core.specs.Words.{change_if};
 ghost use Rattle.hs_members.specs.Members.{IsPeer, IsShard, is_down};
 ghost use Rattle.hs_model.specs.Refusals.{first};
 ghost use Rattle.hs_replica.specs.Group.{is_peer};

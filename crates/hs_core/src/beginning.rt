@@ -1,18 +1,18 @@
 //! A client's line.
 ghost use Rattle.std.specs.Prelude.{◌≡◌, OnOk, IfOk};
-ghost use Rattle.hs_core.specs.declared.next.Next.TheVariants as next;
+ghost use Rattle.hs_awaiting.specs.declared.next.Next.TheVariants as next;
+ghost use Rattle.hs_awaiting.specs.Going.{given_by};
 ghost use Rattle.hs_core.specs.Changing.{add_operation};
-ghost use Rattle.hs_core.specs.Going.{answer_new, carry_by, compare_new, gains_by, given_by, step_by};
+ghost use Rattle.hs_core.specs.Going.{answer_new, carry_by, compare_new, gains_by, step_by};
 ghost use Rattle.hs_core.specs.Keeping.{Kept};
 ghost use Rattle.hs_core.specs.Operating.{begin_line};
 ghost use Rattle.hs_members.specs.Members.{IsShard};
 ghost use Rattle.hs_ops.specs.Operations.{after_step};
 
+use crate::Core;
 use crate::aim::Aim;
-use crate::going::{Judged, judge};
-use crate::next::Next;
 use crate::no_memory::NoMemory;
-use crate::{Core, Wait, Waiting};
+use hs_awaiting::{Judged, Next, Wait, Waiting, judge};
 use hs_limits::{Held, ListOf};
 use hs_model::{Op, Reply};
 use hs_ops::{OpStep, Operation};
@@ -69,13 +69,13 @@ impl Core {
         let roots = self.catalogue(aim.shard).roots();
         let sessions = SessionsView::new(&self.sessions, operation.session());
         let view = sight.view(aim, busy, self.limits, sessions, roots);
-        judge(
+        Ok(judge(
             self.alloc,
             operation,
             &view,
             sight.pointers.as_slice(),
             &Next::Go,
-        )
+        )?)
     }
 
     /// A new operation is judged by its first step: it is answered at once, and then it is not kept, or
@@ -159,6 +159,7 @@ impl Core {
         ensures ok { OnOk result (self.new ≡ add_operation line waiting self.old) }
         ensures kept { Kept self.old self.new }
     {
-        self.operations.put(line, waiting)
+        self.operations.put(line, waiting)?;
+        Ok(())
     }
 }

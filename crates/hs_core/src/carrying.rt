@@ -1,20 +1,20 @@
 //! What the step of an operation asks for is done.
 ghost use Rattle.std.specs.Prelude.{◌≡◌, ◌+◌, IfNone, IfOk, IfSome, OnOk};
-ghost use Rattle.hs_core.specs.declared.wait.Wait.TheVariants as wait;
+ghost use Rattle.hs_awaiting.specs.declared.wait.Wait.TheVariants as wait;
+ghost use Rattle.hs_awaiting.specs.Words.{change_with, ◌▸◌};
 ghost use Rattle.hs_core.specs.Changing.{end_operation};
 ghost use Rattle.hs_core.specs.Going.{answer_with, carry_by, set_wait, told_with};
 ghost use Rattle.hs_core.specs.Keeping.{Kept};
 ghost use Rattle.hs_core.specs.Looking.{group_of, lead_of, operation_of};
 ghost use Rattle.hs_core.specs.Operating.{add_read, propose_entry};
-ghost use Rattle.hs_core.specs.Words.{change_with, ◌▸◌};
 ghost use Rattle.hs_members.specs.Members.{IsShard};
 ghost use Rattle.hs_replica.specs.Group.{last_number};
 
 use crate::aim::Aim;
-use crate::going::Judged;
 use crate::no_memory::NoMemory;
 use crate::seating::seat;
-use crate::{Core, Task, Wait, Waiting};
+use crate::{Core, Task};
+use hs_awaiting::{Judged, Wait, Waiting};
 use hs_desk::Job;
 use hs_entry::Entry;
 use hs_journal::Who;
@@ -84,7 +84,7 @@ impl Core {
         ensures same { IfOk result (λ waiting. IfNone waiting (self.new ≡ self.old)) }
         ensures kept { Kept self.old self.new }
     {
-        self.operations.end(line)
+        Ok(self.operations.end(line)?)
     }
 
     /// An operation proposes its entry, and waits for it.
@@ -137,7 +137,8 @@ impl Core {
         ensures ok { OnOk result (self.new ≡ set_wait line what self.old) }
         ensures kept { Kept self.old self.new }
     {
-        self.operations.set_wait(line, what)
+        self.operations.set_wait(line, what)?;
+        Ok(())
     }
 
     /// The number of the next entry of a shard's list. None where there is no such number. It takes

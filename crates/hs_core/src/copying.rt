@@ -1,11 +1,11 @@
 //! What the copies of a shard's list take and tell.
 ghost use Rattle.std.specs.Prelude.{◌≡◌, ◌+◌, IfOk, OnOk};
+ghost use Rattle.hs_awaiting.specs.Words.{◌▸◌};
 ghost use Rattle.hs_core.specs.Changing.{change_group, post};
 ghost use Rattle.hs_core.specs.Delivering.{on_copy};
 ghost use Rattle.hs_core.specs.Keeping.{Kept};
 ghost use Rattle.hs_core.specs.Looking.{group_of, home};
 ghost use Rattle.hs_core.specs.Operating.{propose_entry};
-ghost use Rattle.hs_core.specs.Words.{◌▸◌};
 ghost use Rattle.hs_members.specs.Members.{IsPeer, IsShard};
 ghost use Rattle.hs_replica.specs.Group.{committed, have, last_number, on_append, on_have, on_sealed, proposal, propose, resend, take_committed, takes};
 

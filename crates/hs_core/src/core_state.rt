@@ -8,8 +8,8 @@ ghost use Rattle.hs_replica.specs.Group.{IsHome};
 ghost use Rattle.hs_tokens.specs.Seats.{held_at, seat_of};
 
 use crate::Task;
-use crate::operations::Operations;
 use crate::queue::Queue;
+use hs_awaiting::Operations;
 use hs_desk::{CoreFault, Job};
 use hs_journal::{Journal, JournalEntry};
 use hs_limits::{Held, Limits, ListOf, Name, PeerStatus, Shape};

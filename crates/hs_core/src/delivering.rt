@@ -1,11 +1,11 @@
 //! How a message is handled.
 ghost use Rattle.std.specs.Prelude.{◌≡◌, OnOk};
+ghost use Rattle.hs_awaiting.specs.Words.{change_if};
 ghost use Rattle.hs_core.specs.Asking.{deliver, with_message};
 ghost use Rattle.hs_core.specs.Delivering.{handle, is_new_round, take_have};
 ghost use Rattle.hs_core.specs.Keeping.{Kept};
 ghost use Rattle.hs_core.specs.Looking.{status_of};
 ghost use Rattle.hs_core.specs.Operating.{propose_entry};
-ghost use Rattle.hs_core.specs.Words.{change_if};
 ghost use Rattle.hs_members.specs.Members.{IsShard, is_good_status};
 
 use crate::Core;

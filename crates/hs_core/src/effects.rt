@@ -1,12 +1,12 @@
 //! Entries take effect.
 ghost use Rattle.std.specs.Prelude.{◌≡◌, [], IfOk, OnOk, is_some};
+ghost use Rattle.hs_awaiting.specs.Words.{change_with};
 ghost use Rattle.hs_core.specs.Changing.{set_catalogue};
 ghost use Rattle.hs_core.specs.Effects.{after_entry, commit, commit_next, note_sweep, reach_view};
 ghost use Rattle.hs_core.specs.Entering.{propose_due};
 ghost use Rattle.hs_core.specs.Handing.{take_handed};
 ghost use Rattle.hs_core.specs.Keeping.{Kept};
 ghost use Rattle.hs_core.specs.Looking.{catalogue_of, group_of};
-ghost use Rattle.hs_core.specs.Words.{change_with};
 ghost use Rattle.hs_members.specs.Members.{IsShard};
 ghost use Rattle.hs_replica.specs.Group.{committed};
 ghost use Rattle.hs_shard.specs.Apply.{apply};

@@ -1,11 +1,11 @@
 //! How a peer goes down.
 ghost use Rattle.std.specs.Prelude.{◌≡◌, OnOk};
+ghost use Rattle.hs_awaiting.specs.Words.{change_if, each};
 ghost use Rattle.hs_core.specs.Failing.{commit_rest, fail_disk, go_down};
 ghost use Rattle.hs_core.specs.Joining.{begin_joining, joining_peers};
 ghost use Rattle.hs_core.specs.Keeping.{Kept};
 ghost use Rattle.hs_core.specs.Looking.{status_of};
 ghost use Rattle.hs_core.specs.Views.{change_view};
-ghost use Rattle.hs_core.specs.Words.{change_if, each};
 ghost use Rattle.hs_members.specs.Members.{IsPeer, IsShard, is_joining};
 
 use crate::Core;

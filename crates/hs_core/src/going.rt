@@ -1,42 +1,20 @@
 //! How an operation goes on.
 ghost use Rattle.std.specs.Prelude.{◌≡◌, Some, None, IfOk, OnOk};
-ghost use Rattle.std.specs.BTreeMap.{is_at};
-ghost use Rattle.std.specs.Map.{lookup};
-ghost use Rattle.std.specs.Ordering.{nat_cmp};
-ghost use Rattle.hs_core.specs.declared.waiting.Waiting.{Waiting};
+ghost use Rattle.hs_awaiting.specs.declared.waiting.Waiting.{Waiting};
+ghost use Rattle.hs_awaiting.specs.Going.{given_by, judge_in};
 ghost use Rattle.hs_core.specs.Effects.{tell_operation};
-ghost use Rattle.hs_core.specs.Going.{gains_by, given_by, go_by, judge_in, next_step, sight_of, step_by, view_by};
+ghost use Rattle.hs_core.specs.Going.{gains_by, go_by, sight_of, step_by, view_by};
 ghost use Rattle.hs_core.specs.Keeping.{Kept};
 ghost use Rattle.hs_core.specs.Looking.{operation_of};
 ghost use Rattle.hs_core.specs.Operating.{resume};
 ghost use Rattle.hs_members.specs.Members.{IsShard};
-ghost use Rattle.hs_ops.specs.Answers.{gained};
-ghost use Rattle.hs_ops.specs.Operations.{after_step};
 
+use crate::Core;
 use crate::aim::Aim;
-use crate::next::Next;
 use crate::no_memory::NoMemory;
-use crate::operations::Operations;
-use crate::{Core, Waiting};
+use hs_awaiting::{Judged, Next, Operations};
 use hs_desk::What;
-use hs_limits::{Address, Held, ListOf};
-use hs_ops::{OpFault, OpStep, OpView, Operation};
 use hs_tokens::{Sessions, SessionsView};
-use std::alloc::Global;
-use std::collections::BTreeMap;
-
-/// The step of an operation, and what its reply gives to hold, where it is one.
-#[derive(Drop)]
-pub(crate) struct Judged {
-    pub(crate) step: OpStep,
-    pub(crate) helds: ListOf<Held>,
-}
-
-impl From<OpFault> for NoMemory {
-    fn from(_fault: OpFault) -> NoMemory {
-        NoMemory
-    }
-}
 
 impl Core {
     /// The operation of a line goes on, where it has no answer.
@@ -87,7 +65,7 @@ impl Core {
         let sessions = sessions_for(&self.sessions, &self.operations, line);
         let view = sight.view(aim, None, self.limits, sessions, roots);
         let pointers = sight.pointers.as_slice();
-        self.operations.judge(line, &view, pointers, how)
+        Ok(self.operations.judge(line, &view, pointers, how)?)
     }
 }
 
@@ -98,78 +76,5 @@ fn sessions_for<'a>(sessions: &'a Sessions, operations: &Operations, line: u64) 
     match operations.get(line) {
         Some(waiting) => SessionsView::new(sessions, waiting.operation.session()),
         None => SessionsView::new(sessions, None),
-    }
-}
-
-/// The operation of a line takes its next step by what it sees, with the pointers that the catalogue
-/// has.
-pub(crate) fn judge_in(
-    alloc: Global,
-    operations: &mut BTreeMap<u64, Waiting>,
-    line: u64,
-    view: &OpView,
-    pointers: &[Address],
-    how: &Next,
-) -> Result<Judged, NoMemory>
-    ensures ok { OnOk result (operations.new.entries
-        ≡ judge_in how.now pointers.now view.now line operations.old.entries) }
-    ensures step { (w : Waiting) → lookup (is_at (nat_cmp line)) operations.old.entries ≡ Some w
-        → IfOk result (λ judged. judged.step
-        ≡ next_step how.now pointers.now view.now w.operation) }
-    ensures helds { (w : Waiting) → lookup (is_at (nat_cmp line)) operations.old.entries ≡ Some w
-        → IfOk result (λ judged. judged.helds
-        ≡ given_by judged.step (gained view.now pointers.now w.operation.op)) }
-{
-    match operations.get_mut(&line) {
-        Some(waiting) => judge(alloc, &mut waiting.operation, view, pointers, how),
-        None => Ok(Judged {
-            step: OpStep::Wait,
-            helds: ListOf::new(alloc),
-        }),
-    }
-}
-
-/// An operation takes its next step by what it sees, with the pointers that the catalogue has.
-pub(crate) fn judge(
-    alloc: Global,
-    operation: &mut Operation,
-    view: &OpView,
-    pointers: &[Address],
-    how: &Next,
-) -> Result<Judged, NoMemory>
-    ensures step { IfOk result (λ judged. judged.step
-        ≡ next_step how.now pointers.now view.now operation.old) }
-    ensures helds { IfOk result (λ judged. judged.helds
-        ≡ given_by judged.step (gained view.now pointers.now operation.old.op)) }
-    ensures after { OnOk result (operation.new
-        ≡ after_step (next_step how.now pointers.now view.now operation.old) operation.old) }
-{
-    let step = next_step(operation, view, pointers, how)?;
-    let helds = match &step {
-        OpStep::Answer(_) => operation.gained(view, pointers)?,
-        OpStep::Propose(_) => ListOf::new(alloc),
-        OpStep::Compare { .. } => ListOf::new(alloc),
-        OpStep::Wait => ListOf::new(alloc),
-    };
-    Ok(Judged { step, helds })
-}
-
-/// The next step of an operation.
-fn next_step(
-    operation: &mut Operation,
-    view: &OpView,
-    pointers: &[Address],
-    how: &Next,
-) -> Result<OpStep, OpFault>
-    ensures step { IfOk result (λ step. step
-        ≡ next_step how.now pointers.now view.now operation.old) }
-    ensures after { OnOk result (operation.new
-        ≡ after_step (next_step how.now pointers.now view.now operation.old) operation.old) }
-{
-    match how {
-        Next::Go => operation.go(view),
-        Next::Bytes { bytes: Some(bytes) } => operation.bytes(view, Some(bytes), pointers),
-        Next::Bytes { bytes: None } => operation.bytes(view, None, pointers),
-        Next::Effect { did } => operation.effect(view, did),
     }
 }

@@ -1,12 +1,12 @@
 //! How a peer joins: it copies the lead's list, and is good once it has all of it.
 ghost use Rattle.std.specs.Option.{option_map};
 ghost use Rattle.std.specs.Prelude.{◌≡◌, OnOk, true};
+ghost use Rattle.hs_awaiting.specs.Words.{◌▸◌, change_if, each};
 ghost use Rattle.hs_core.specs.Changing.{change_group, change_rejoin, set_rejoin};
 ghost use Rattle.hs_core.specs.Joining.{begin_joining, follow_lead, is_level_with_lead, join, join_if_level, joining_peers, start};
 ghost use Rattle.hs_core.specs.Keeping.{Kept};
 ghost use Rattle.hs_core.specs.Looking.{home, status_of};
 ghost use Rattle.hs_core.specs.Reporting.{take_copied, take_emptied};
-ghost use Rattle.hs_core.specs.Words.{◌▸◌, change_if, each};
 ghost use Rattle.hs_members.specs.Members.{IsPeer, IsShard, is_down, is_joining};
 ghost use Rattle.hs_rejoin.specs.Rejoin.{copied, emptied, follow};
 ghost use Rattle.hs_replica.specs.Group.{on_copied, on_emptied};

@@ -1,23 +1,23 @@
 //! The lines of operations without an answer, by what they are or wait for.
-ghost use Rattle.std.specs.Prelude.{◌≡◌, ◌+◌, ◌<◌, ◌^◌, ◌==◌, ◌&&◌, false, is_some, IfOk};
+ghost use Rattle.std.specs.Prelude.{◌≡◌, ◌==◌, ◌&&◌, false, is_some, IfOk};
 ghost use Rattle.std.specs.List.Sorted.{IsStrictlySortedBy};
 ghost use Rattle.std.specs.Map.{keys_of};
 ghost use Rattle.std.specs.Option.{option_map_or};
 ghost use Rattle.std.specs.Ordering.{nat_cmp};
+ghost use Rattle.hs_awaiting.specs.Indexing.{passes, waits_for};
 ghost use Rattle.hs_core.specs.Effects.{is_for_address, is_for_room, is_for_view, wakes};
-ghost use Rattle.hs_core.specs.Indexing.{may_wake, may_wake_by_block, passes, waits_for, waits_for_block};
 ghost use Rattle.hs_core.specs.Looking.{operation_of};
 ghost use Rattle.hs_core.specs.Operating.{busy_line, lines_where};
 ghost use Rattle.hs_core.specs.Pending.{is_address};
 ghost use Rattle.hs_core.specs.Reporting.{is_reading};
+ghost use Rattle.hs_core.specs.Waking.{may_wake, may_wake_by_block, waits_for_block};
 ghost use Rattle.hs_ops.specs.Speaking.{wanted_address};
 ghost use Rattle.hs_waits.specs.Lines.{IsFirstFrom};
 ghost use Rattle.hs_waits.specs.declared.cause.Cause.TheVariants as cause;
 
-use crate::aim::{puts_root, writes_block};
-use crate::causes::session_of;
+use crate::Core;
 use crate::no_memory::NoMemory;
-use crate::{Core, Wait, Waiting};
+use hs_awaiting::{Wait, Waiting, next_line, puts_root, session_of, writes_block};
 use hs_entry::Entry;
 use hs_limits::Address;
 use hs_model::Op;
@@ -37,7 +37,7 @@ impl Core {
         ensures { IfOk result (λ busy. busy ≡ busy_line op.now self.now) }
     {
         match session_of(op) {
-            Some(name) => self.operations.line_of(name),
+            Some(name) => Ok(self.operations.line_of(name)?),
             None => Ok(None),
         }
     }
@@ -221,15 +221,4 @@ fn is_for_room(waiting: &Waiting) -> bool
     ensures { result ≡ is_for_room waiting.now }
 {
     matches!(waiting.wait, Wait::Room)
-}
-
-/// The line after one; where there is none it counts as want of memory.
-pub(crate) fn next_line(line: u64) -> Result<u64, NoMemory>
-    ensures value { IfOk result (λ next. next ≡ line + 1) }
-    ensures fits { line < 2 ^ 64 }
-{
-    match line.checked_add(1) {
-        Some(next) => Ok(next),
-        None => Err(NoMemory),
-    }
 }

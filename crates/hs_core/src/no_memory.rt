@@ -1,5 +1,7 @@
 //! There is no memory: the only way in which a part of an event fails.
+use hs_awaiting::AwaitingFault;
 use hs_members::MemberFault;
+use hs_ops::OpFault;
 use hs_replica::GroupFault;
 use std::alloc::{AllocError, AllocFailed};
 
@@ -27,6 +29,18 @@ impl From<GroupFault> for NoMemory {
 
 impl From<MemberFault> for NoMemory {
     fn from(_fault: MemberFault) -> NoMemory {
+        NoMemory
+    }
+}
+
+impl From<AwaitingFault> for NoMemory {
+    fn from(_fault: AwaitingFault) -> NoMemory {
+        NoMemory
+    }
+}
+
+impl From<OpFault> for NoMemory {
+    fn from(_fault: OpFault) -> NoMemory {
         NoMemory
     }
 }

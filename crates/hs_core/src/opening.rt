@@ -12,7 +12,7 @@ use crate::lists::Lists;
 use crate::new_core::{no_rejoins, no_steps};
 use crate::new_lists::new_lists;
 use crate::no_memory::NoMemory;
-use crate::operations::Operations;
+use hs_awaiting::Operations;
 use hs_desk::{CoreFault, Job};
 use hs_journal::Journal;
 use hs_limits::{Limits, Shape};

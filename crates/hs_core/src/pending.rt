@@ -1,16 +1,18 @@
 //! What stands in a lead's list and has not taken effect, as far as operations wait for it.
 ghost use Rattle.std.specs.Prelude.{◌≡◌, ◌<◌, ◌^◌, count_by};
 ghost use Rattle.std.specs.Option.{option_and_then};
+ghost use Rattle.hs_awaiting.specs.Indexing.{passes, stores};
 ghost use Rattle.hs_core.specs.Going.{has_room_by, holds_by, is_pending_by};
-ghost use Rattle.hs_core.specs.Indexing.{AreMet, passes, stands, stores};
 ghost use Rattle.hs_core.specs.Looking.{group_of, operation_of};
 ghost use Rattle.hs_core.specs.Pending.{has_block_room, has_root_room, is_block, is_coming, is_root, named};
+ghost use Rattle.hs_core.specs.Waking.{AreMet, stands};
 ghost use Rattle.hs_members.specs.Members.{IsShard};
 ghost use Rattle.hs_ops.specs.Speaking.{wanted_address};
 ghost use Rattle.hs_waits.specs.Lines.{IsFirstFrom};
 
+use crate::Core;
 use crate::aim::Aim;
-use crate::{Core, Wait};
+use hs_awaiting::Wait;
 use hs_entry::Entry;
 use hs_limits::Address;
 use hs_waits::Cause;

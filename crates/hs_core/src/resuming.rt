@@ -1,14 +1,14 @@
 //! Operations that waited go on.
 ghost use Rattle.std.specs.Prelude.{◌≡◌, OnOk};
+ghost use Rattle.hs_awaiting.specs.Words.{each};
 ghost use Rattle.hs_core.specs.Effects.{is_for_view, wakes};
 ghost use Rattle.hs_core.specs.Keeping.{Kept};
 ghost use Rattle.hs_core.specs.Operating.{resume, resume_where};
 ghost use Rattle.hs_core.specs.Reporting.{tell_bytes};
-ghost use Rattle.hs_core.specs.Words.{each};
 
 use crate::Core;
-use crate::next::Next;
 use crate::no_memory::NoMemory;
+use hs_awaiting::Next;
 use hs_entry::Entry;
 use hs_limits::Address;
 use hs_shared::SharedBytes;

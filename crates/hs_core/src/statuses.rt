@@ -1,10 +1,10 @@
 //! What a peer is from now on.
 ghost use Rattle.std.specs.Prelude.{◌≡◌, [], None, OnErr, OnOk, true};
+ghost use Rattle.hs_awaiting.specs.Words.{◌▸◌};
 ghost use Rattle.hs_core.specs.Changing.{set_rejoin, set_status, set_tasks};
 ghost use Rattle.hs_core.specs.Failing.{leave};
 ghost use Rattle.hs_core.specs.Keeping.{Kept};
 ghost use Rattle.hs_core.specs.Looking.{status_of};
-ghost use Rattle.hs_core.specs.Words.{◌▸◌};
 ghost use Rattle.hs_limits.specs.declared.limits.PeerStatus.TheVariants as is;
 ghost use Rattle.hs_members.specs.Members.{IsPeer, become, is_down};
 

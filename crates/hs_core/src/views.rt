@@ -3,13 +3,13 @@ ghost use Rattle.std.specs.Prelude.{◌≡◌, IfOk, OnOk};
 ghost use Rattle.hs_core.specs.Anew.{group_anew, told_anew};
 ghost use Rattle.hs_core.specs.Keeping.{Kept};
 ghost use Rattle.hs_core.specs.Looking.{group_of};
-ghost use Rattle.hs_core.specs.Views.{begin_view, change_view, is_within, restart_at};
+ghost use Rattle.hs_core.specs.Views.{begin_view, change_view, restart_at};
 ghost use Rattle.hs_members.specs.Members.{IsShard};
 ghost use Rattle.hs_replica.specs.Group.{last_number, renew};
 
+use crate::Core;
 use crate::no_memory::NoMemory;
 use crate::steps::renew_steps;
-use crate::{Core, Wait};
 use hs_entry::Entry;
 
 impl Core {
@@ -68,15 +68,5 @@ impl Core {
         };
         self.operations.restart(shard, number.saturating_sub(1))?;
         Ok(number)
-    }
-}
-
-/// Whether what is waited for is an entry up to this number.
-pub(crate) fn is_within(last: u64, wait: Wait) -> bool
-    ensures { result ≡ is_within last wait }
-{
-    match wait {
-        Wait::Entry { number } => number <= last,
-        Wait::View | Wait::Address | Wait::Room | Wait::Bytes { .. } => false,
     }
 }

@@ -5,11 +5,12 @@ use Rattle.std.specs.BTreeMap.{is_at}
 use Rattle.std.specs.Map.{lookup}
 use Rattle.std.specs.Option.{option_map, option_map_or, option_or}
 use Rattle.std.specs.Ordering.{nat_cmp}
+use Rattle.hs_awaiting.specs.declared.wait.Wait.TheVariants as wait
+use Rattle.hs_awaiting.specs.declared.waiting.Waiting.{Waiting}
+use Rattle.hs_awaiting.specs.Kinds.{is_of}
 use Rattle.hs_core.specs.Changing.{add_operation}
-use Rattle.hs_core.specs.declared.wait.Wait.TheVariants as wait
-use Rattle.hs_core.specs.declared.waiting.Waiting.{Waiting}
 use Rattle.hs_core.specs.Looking.{operation_of, shape_of}
-use Rattle.hs_core.specs.Operating.{answer, begin_line, busy_line, is_of, take_step}
+use Rattle.hs_core.specs.Operating.{answer, begin_line, busy_line, take_step}
 use Rattle.hs_core.specs.Seeing.{pointers_for, view_for}
 use Rattle.hs_core.specs.State.{Core}
 use Rattle.hs_effects.specs.Logged.{AreOnce, IsCalled, IsEntryOf, IsOrderly, IsOwn, IsPending}

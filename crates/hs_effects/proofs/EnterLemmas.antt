@@ -2,7 +2,7 @@
 use Rattle.std.proofs.Common.{◌≡◌, ◌∙◌, sym, ap, subst, ℕ, ◌+◌, Bool, true, false, cond, ◌==◌, List, [], Option, Some, None, IsTrue, is_some, refl, slice_index}
 use Rattle.std.proofs.lemmas.Bool.{eqb-true}
 use Rattle.hs_answered.specs.Standing.{store_with}
-use Rattle.hs_core.specs.declared.waiting.Waiting.{Waiting}
+use Rattle.hs_awaiting.specs.declared.waiting.Waiting.{Waiting}
 use Rattle.hs_core.specs.Effects.{note_enter, take_effect, tell_operation}
 use Rattle.hs_core.specs.Looking.{catalogue_of, operation_of}
 use Rattle.hs_core.specs.State.{Core}

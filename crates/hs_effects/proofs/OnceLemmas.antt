@@ -1,8 +1,8 @@
 -- Entries that wait and are of one line.
 use Rattle.std.proofs.Common.{◌≡◌, ◌∙◌, ap, sym, ℕ, ◌+◌, List, Some, arith}
 use Rattle.std.specs.Prelude.{slice_get}
-use Rattle.hs_core.specs.declared.wait.Wait.TheVariants as wait
-use Rattle.hs_core.specs.declared.waiting.Waiting.{Waiting}
+use Rattle.hs_awaiting.specs.declared.wait.Wait.TheVariants as wait
+use Rattle.hs_awaiting.specs.declared.waiting.Waiting.{Waiting}
 use Rattle.hs_core.specs.Looking.{front_of, group_of}
 use Rattle.hs_core.specs.State.{Core}
 use Rattle.hs_effects.specs.Logged.{IsOrderly, asked_by}

@@ -2,7 +2,7 @@
 use Rattle.std.specs.Prelude.{◌≡◌, ℕ, List, [], ◌∷◌, ◌++◌, Some, true, length}
 use Rattle.hs_answered.specs.Judged.{entry_of, judged_at}
 use Rattle.hs_answered.specs.Standing.{IsFolded, store_with}
-use Rattle.hs_core.specs.declared.waiting.Waiting.{Waiting}
+use Rattle.hs_awaiting.specs.declared.waiting.Waiting.{Waiting}
 use Rattle.hs_core.specs.Effects.{after_entry}
 use Rattle.hs_core.specs.Looking.{operation_of}
 use Rattle.hs_core.specs.State.{Core}

@@ -2,7 +2,7 @@
 ghost use Rattle.std.specs.Prelude.{◌≡◌, ℕ, ◌<◌, List, Some};
 ghost use Rattle.hs_answered.specs.Judged.{IsJudged};
 ghost use Rattle.hs_answered.specs.Standing.{IsAddressed, IsFolded};
-ghost use Rattle.hs_core.specs.declared.waiting.Waiting.{Waiting};
+ghost use Rattle.hs_awaiting.specs.declared.waiting.Waiting.{Waiting};
 ghost use Rattle.hs_core.specs.Looking.{group_of, operation_of, shape_of};
 ghost use Rattle.hs_core.specs.Seeing.{view_for};
 ghost use Rattle.hs_core.specs.State.{Core};

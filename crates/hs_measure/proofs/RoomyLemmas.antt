@@ -1,5 +1,6 @@
 -- Each event leaves the limit of the pool as it was.
 use Rattle.std.proofs.Common.{◌≡◌, ◌∙◌, sym, ap, subst, refl, ℕ, ◌+◌, ◌==◌, ◌&&◌, Bool, true, false, cond, not, List, [], ◌∷◌, drop, Option, Some, None, length, nat_lt}
+use Rattle.hs_awaiting.specs.Words.{change_if, change_with, each, ◌▸◌}
 use Rattle.hs_core.specs.Asking.{deliver, lose, no_peer, not_down, not_up, nudge, nudge_good, send_again, send_rounds}
 use Rattle.hs_core.specs.Changing.{add_entry_tasks, change_group, change_pool, change_rejoin, note, post, refuse, set_catalogue, set_rejoin, set_status, set_tasks, set_viewed}
 use Rattle.hs_core.specs.declared.event.Event.{Event}
@@ -16,7 +17,6 @@ use Rattle.hs_core.specs.Reporting.{on_report, take_report}
 use Rattle.hs_core.specs.State.{Core}
 use Rattle.hs_core.specs.Step.{do_event, end_event, keep_entries, line_of, refuse_entries, step}
 use Rattle.hs_core.specs.Views.{begin_view, change_view, restart}
-use Rattle.hs_core.specs.Words.{change_if, change_with, each, ◌▸◌}
 use Rattle.hs_desk.specs.Answers.{answers}
 use Rattle.hs_desk.specs.declared.done.Done.{Done}
 use Rattle.hs_desk.specs.declared.done.Done.TheVariants as done

@@ -10,6 +10,7 @@ use Rattle.std.specs.Map.{values_of}
 use Rattle.std.specs.Option.{option_map}
 use Rattle.std.specs.Ordering.{nat_cmp}
 use Rattle.std.specs.Prelude.{IfSome, find, if◌then◌else◌}
+use Rattle.hs_awaiting.specs.Words.{change_if, each, ◌▸◌}
 use Rattle.hs_core.specs.Asking.{deliver, lose, no_peer, not_down, not_up, nudge, nudge_good, send_again, send_rounds}
 use Rattle.hs_core.specs.Changing.{change_pool, post, refuse}
 use Rattle.hs_core.specs.declared.event.Event.{Event}
@@ -24,7 +25,6 @@ use Rattle.hs_core.specs.Operating.{propose_entry}
 use Rattle.hs_core.specs.State.{Core}
 use Rattle.hs_core.specs.Step.{begin_event, do_event, end_event, keep_entries, line_of, refuse_entries, run_event, step}
 use Rattle.hs_core.specs.Views.{begin_view, change_view}
-use Rattle.hs_core.specs.Words.{change_if, each, ◌▸◌}
 use Rattle.hs_desk.specs.declared.done.Done.{Done}
 use Rattle.hs_desk.specs.declared.fault.CoreFault.TheVariants as fault
 use Rattle.hs_entry.specs.declared.entry.Entry.TheVariants as kind

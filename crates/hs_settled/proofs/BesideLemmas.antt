@@ -1,7 +1,7 @@
 -- Changes beside operations, lists and jobs.
 use Rattle.std.proofs.Common.{◌≡◌, ◌∙◌, ap, ℕ, List, [], refl}
 use Rattle.std.specs.Prelude.{slice_index_or}
-use Rattle.hs_core.specs.declared.waiting.Waiting.{Waiting}
+use Rattle.hs_awaiting.specs.declared.waiting.Waiting.{Waiting}
 use Rattle.hs_core.specs.Changing.{post, refuse}
 use Rattle.hs_core.specs.Looking.{group_of, shape_of}
 use Rattle.hs_core.specs.State.{Core}

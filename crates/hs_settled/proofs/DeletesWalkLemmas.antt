@@ -3,10 +3,10 @@ use Rattle.std.proofs.Common.{◌≡◌, sym, subst, inr, ℕ, ◌+◌, ◌<◌,
 use Rattle.hs_standing.specs.Changes.{IsBeside, IsIdle, told_at_once}
 use Rattle.hs_standing.specs.Walks.{Walks}
 use Rattle.hs_answered.specs.Telling.{Judging}
+use Rattle.hs_awaiting.specs.declared.wait.Wait.TheVariants as wait
+use Rattle.hs_awaiting.specs.declared.waiting.Waiting.{Waiting}
 use Rattle.hs_core.specs.Asking.{send_round}
 use Rattle.hs_core.specs.Changing.{change_pool, note, refuse}
-use Rattle.hs_core.specs.declared.wait.Wait.TheVariants as wait
-use Rattle.hs_core.specs.declared.waiting.Waiting.{Waiting}
 use Rattle.hs_core.specs.Delivering.{is_new_round}
 use Rattle.hs_core.specs.Entering.{is_enter_due}
 use Rattle.hs_core.specs.Looking.{catalogue_of, group_of, operation_of, shape_of}

@@ -5,6 +5,7 @@ use Rattle.std.proofs.lemmas.Map.Views.{IfSome-lookup_from_All}
 use Rattle.std.specs.BTreeMap.{is_at}
 use Rattle.std.specs.Ordering.{nat_cmp}
 use Rattle.std.specs.Prelude.{IfSome}
+use Rattle.hs_awaiting.specs.Words.{change_if, change_with}
 use Rattle.hs_core.specs.Asking.{deliver, lose, no_peer, not_down, not_up, nudge, nudge_good, send_again, send_round, send_rounds}
 use Rattle.hs_core.specs.Changing.{change_pool, post, refuse}
 use Rattle.hs_core.specs.declared.event.Event.{Event}
@@ -18,7 +19,6 @@ use Rattle.hs_core.specs.Looking.{catalogue_of, group_of, home, lead_of, status_
 use Rattle.hs_core.specs.Operating.{propose_entry}
 use Rattle.hs_core.specs.State.{Core}
 use Rattle.hs_core.specs.Step.{do_event, end_event, keep_entries, refuse_entries, run_event, step}
-use Rattle.hs_core.specs.Words.{change_if, change_with}
 use Rattle.hs_desk.specs.declared.fault.CoreFault.{CoreFault}
 use Rattle.hs_effects.specs.Logged.{MayBegin, MayBeginAll, steps}
 use Rattle.hs_effects.proofs.EffectLemmas.{due_orderly}

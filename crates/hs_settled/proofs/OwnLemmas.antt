@@ -2,17 +2,17 @@
 use Rattle.std.proofs.Common.{◌≡◌, ◌∙◌, sym, ap, subst, ◌⊎◌, inl, inr, ℕ, suc, ◌+◌, ◌≤◌, Bool, true, false, cond, not, List, [], length, Option, Some, None, refl, arith, slice_get, slice_index}
 use Rattle.std.specs.Option.{option_map_or}
 use Rattle.hs_standing.specs.Changes.{tells_at_once, told_at_once}
+use Rattle.hs_awaiting.specs.declared.wait.Wait.TheVariants as wait
+use Rattle.hs_awaiting.specs.declared.waiting.Waiting.{Waiting}
+use Rattle.hs_awaiting.specs.Words.{change_if, change_with}
 use Rattle.hs_core.specs.Changing.{add_entry_tasks, add_operation, change_group, note, post, put_operation}
 use Rattle.hs_journal.specs.declared.entry.Who.TheVariants as who
 use Rattle.hs_model.specs.declared.deed.Deed.TheVariants as deed
-use Rattle.hs_core.specs.declared.wait.Wait.TheVariants as wait
-use Rattle.hs_core.specs.declared.waiting.Waiting.{Waiting}
 use Rattle.hs_core.specs.Effects.{note_enter, note_sweep}
 use Rattle.hs_core.specs.Looking.{group_of, lead_of, operation_of, shape_of}
 use Rattle.hs_core.specs.Operating.{add_read, begin_line, busy_line, go_on_with, propose_entry, take_step, wait_for}
 use Rattle.hs_core.specs.Seeing.{view_for}
 use Rattle.hs_core.specs.State.{Core}
-use Rattle.hs_core.specs.Words.{change_if, change_with}
 use Rattle.hs_desk.specs.declared.what.What.{What}
 use Rattle.hs_desk.specs.declared.what.What.TheVariants as what
 use Rattle.hs_effects.proofs.GroupLemmas.{IsTaken, at_end, at_front, group_changed, taken_or_same}

@@ -6,13 +6,14 @@ use Rattle.std.specs.List.{AllByRecursion, enumerate_from}
 use Rattle.std.specs.Option.{option_map, option_map_or}
 use Rattle.std.specs.Prelude.{filter, if◌then◌else◌, slice_get, slice_index_or}
 use Rattle.hs_settled.proofs.CausesListLemmas.{set_keeps, some_is}
+use Rattle.hs_awaiting.specs.declared.wait.Wait.TheVariants as wait
+use Rattle.hs_awaiting.specs.declared.waiting.Waiting.{Waiting}
+use Rattle.hs_awaiting.specs.Words.{change_if, change_with, each, times}
 use Rattle.hs_core.specs.Asking.{deliver, lose, no_peer, not_down, not_up, nudge, nudge_good, send_again, send_round, send_rounds, unless_refused}
 use Rattle.hs_core.specs.Changing.{add_entry_tasks, add_operation, add_task, change_group, change_pool, change_rejoin, note, post, put_operation, refuse, set_rejoin, set_status, set_tasks, set_viewed}
 use Rattle.hs_core.specs.declared.event.Event.{Event}
 use Rattle.hs_core.specs.declared.event.Event.TheVariants as event
 use Rattle.hs_core.specs.declared.task.Task.{Task}
-use Rattle.hs_core.specs.declared.wait.Wait.TheVariants as wait
-use Rattle.hs_core.specs.declared.waiting.Waiting.{Waiting}
 use Rattle.hs_core.specs.Delivering.{handle, is_new_round, take_copy}
 use Rattle.hs_core.specs.Effects.{after_entry, commit, commit_next, is_for_view, note_enter, note_sweep, reach_view, round_messages, take_effect, tell_enter, tell_operation, wakes}
 use Rattle.hs_core.specs.Entering.{is_enter_due, propose_due}
@@ -26,7 +27,6 @@ use Rattle.hs_core.specs.Seeing.{pointers_for, view_for}
 use Rattle.hs_core.specs.State.{Core}
 use Rattle.hs_core.specs.Step.{begin_event, do_event, end_event, keep_entries, line_of, refuse_entries, run_event, step}
 use Rattle.hs_core.specs.Views.{begin_view, change_view, restart}
-use Rattle.hs_core.specs.Words.{change_if, change_with, each, times}
 use Rattle.hs_desk.specs.Answers.{answers, is_copy_from}
 use Rattle.hs_desk.specs.declared.done.Done.{Done}
 use Rattle.hs_desk.specs.declared.done.Done.TheVariants as done

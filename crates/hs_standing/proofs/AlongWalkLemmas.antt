@@ -7,11 +7,12 @@ use Rattle.hs_standing.proofs.BesideLemmas.{beside_again, beside_begun, beside_d
 use Rattle.hs_standing.proofs.CommitLemmas.{due_goes}
 use Rattle.hs_standing.proofs.GrownLemmas.{grown_same}
 use Rattle.hs_standing.proofs.ReportLemmas.{report_goes}
+use Rattle.hs_awaiting.specs.declared.waiting.Waiting.{Waiting}
+use Rattle.hs_awaiting.specs.Words.{change_if, ◌▸◌}
 use Rattle.hs_core.specs.Asking.{deliver, lose, no_peer, not_down, not_up, nudge, nudge_good, send_again, send_round, send_rounds}
 use Rattle.hs_core.specs.Changing.{change_pool, post, refuse}
 use Rattle.hs_core.specs.declared.event.Event.{Event}
 use Rattle.hs_core.specs.declared.event.Event.TheVariants as event
-use Rattle.hs_core.specs.declared.waiting.Waiting.{Waiting}
 use Rattle.hs_core.specs.Delivering.{is_new_round}
 use Rattle.hs_core.specs.Entering.{propose_due}
 use Rattle.hs_core.specs.Failing.{go_down}
@@ -20,7 +21,6 @@ use Rattle.hs_core.specs.Looking.{group_of, home, lead_of, shape_of, status_of}
 use Rattle.hs_core.specs.Operating.{propose_entry}
 use Rattle.hs_core.specs.State.{Core}
 use Rattle.hs_core.specs.Step.{do_event, end_event, step}
-use Rattle.hs_core.specs.Words.{change_if, ◌▸◌}
 use Rattle.hs_desk.specs.declared.done.Done.{Done}
 use Rattle.hs_desk.specs.declared.done.Done.TheVariants as done
 use Rattle.hs_entry.specs.declared.entry.Entry.TheVariants as kind

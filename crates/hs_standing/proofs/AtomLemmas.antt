@@ -10,10 +10,11 @@ use Rattle.std.specs.Ordering.{nat_cmp}
 use Rattle.std.specs.Prelude.{nat_le}
 use Rattle.hs_answered.specs.Standing.{IsFolded}
 use Rattle.hs_standing.specs.Changes.{IsBeside, tells_at_once, told_at_once}
+use Rattle.hs_awaiting.specs.declared.wait.Wait.TheVariants as wait
+use Rattle.hs_awaiting.specs.declared.waiting.Waiting.{Waiting}
+use Rattle.hs_awaiting.specs.Words.{change_if, change_with}
 use Rattle.hs_core.specs.Asking.{send_round}
 use Rattle.hs_core.specs.Changing.{add_operation, change_group, change_pool, note, post, refuse, set_viewed}
-use Rattle.hs_core.specs.declared.wait.Wait.TheVariants as wait
-use Rattle.hs_core.specs.declared.waiting.Waiting.{Waiting}
 use Rattle.hs_core.specs.Delivering.{is_new_round}
 use Rattle.hs_core.specs.Effects.{note_enter, note_sweep, round_messages, tell_enter, tell_operation}
 use Rattle.hs_core.specs.Looking.{catalogue_of, group_of, operation_of, shape_of}
@@ -22,7 +23,6 @@ use Rattle.hs_core.specs.Operating.{begin_line, busy_line, go_on_with, propose_e
 use Rattle.hs_core.specs.Seeing.{view_for}
 use Rattle.hs_core.specs.State.{Core}
 use Rattle.hs_core.specs.Views.{begin_view, restart}
-use Rattle.hs_core.specs.Words.{change_if, change_with}
 use Rattle.hs_desk.specs.declared.what.What.{What}
 use Rattle.hs_desk.specs.declared.what.What.TheVariants as what
 use Rattle.hs_effects.specs.Lawful.{IsLawful}

@@ -9,10 +9,11 @@ use Rattle.std.specs.Ordering.{nat_cmp}
 use Rattle.std.specs.Prelude.{slice_index_or}
 use Rattle.hs_standing.specs.Changes.{IsBeside}
 use Rattle.hs_standing.proofs.AloneLemmas.{within}
+use Rattle.hs_awaiting.specs.declared.waiting.Waiting.{Waiting}
+use Rattle.hs_awaiting.specs.Words.{change_if, change_with, each}
 use Rattle.hs_core.specs.Changing.{add_entry_tasks, change_group, change_pool, post, set_tasks, set_viewed}
 use Rattle.hs_core.specs.declared.event.Event.{Event}
 use Rattle.hs_core.specs.declared.task.Task.{Task}
-use Rattle.hs_core.specs.declared.waiting.Waiting.{Waiting}
 use Rattle.hs_core.specs.Effects.{commit}
 use Rattle.hs_core.specs.Failing.{commit_rest, go_down, leave}
 use Rattle.hs_core.specs.Joining.{begin_joining, joining_peers, start}
@@ -21,7 +22,6 @@ use Rattle.hs_core.specs.Operating.{propose_entry}
 use Rattle.hs_core.specs.State.{Core}
 use Rattle.hs_core.specs.Step.{end_event, keep_entries, line_of, refuse_entries}
 use Rattle.hs_core.specs.Views.{begin_view, change_view}
-use Rattle.hs_core.specs.Words.{change_if, change_with, each}
 use Rattle.hs_effects.proofs.OrderlyLemmas.{Alike, group_alike}
 use Rattle.hs_entry.specs.declared.entry.Entry.{Entry}
 use Rattle.hs_events.specs.Alone.{AreAlone, face, is_round}

@@ -1,7 +1,7 @@
 -- What waits for no entry.
 use Rattle.hs_standing.specs.Changes.{IsIdle}
-use Rattle.hs_core.specs.declared.wait.Wait.{Wait}
-use Rattle.hs_core.specs.declared.wait.Wait.TheVariants as wait
+use Rattle.hs_awaiting.specs.declared.wait.Wait.{Wait}
+use Rattle.hs_awaiting.specs.declared.wait.Wait.TheVariants as wait
 use Rattle.hs_effects.proofs.GoingLemmas.{IsIdle as IsFreeToGo}
 
 pub idle_is : (x : Wait) → IsIdle x → IsFreeToGo x

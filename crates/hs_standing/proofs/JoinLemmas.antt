@@ -2,9 +2,9 @@
 use Rattle.std.proofs.Common.{subst, ℕ, ◌+◌, ◌<◌, List, Option, refl}
 use Rattle.hs_standing.specs.Changes.{told_at_once}
 use Rattle.hs_standing.specs.Walks.{Walks}
+use Rattle.hs_awaiting.specs.declared.waiting.Waiting.{Waiting}
 use Rattle.hs_core.specs.Changing.{change_pool, note, refuse}
 use Rattle.hs_core.specs.Asking.{send_round}
-use Rattle.hs_core.specs.declared.waiting.Waiting.{Waiting}
 use Rattle.hs_core.specs.Looking.{catalogue_of}
 use Rattle.hs_core.specs.Operating.{begin_line, go_on_with, propose_entry, resume}
 use Rattle.hs_core.specs.Seeing.{pointers_for}

@@ -3,7 +3,7 @@ use Rattle.std.proofs.Common.{◌≡◌, ℕ, ◌<◌, ◌≤◌, IsSome, List, 
 use Rattle.hs_answered.specs.Asked.{HasBytes, IsAsked, busy_with, first_step}
 use Rattle.hs_answered.specs.Judged.{IsJudged}
 use Rattle.hs_answered.specs.Standing.{IsAddressed, IsFolded, store_with}
-use Rattle.hs_core.specs.declared.waiting.Waiting.{Waiting}
+use Rattle.hs_awaiting.specs.declared.waiting.Waiting.{Waiting}
 use Rattle.hs_core.specs.Effects.{take_effect}
 use Rattle.hs_core.specs.Looking.{catalogue_of, group_of, operation_of, shape_of}
 use Rattle.hs_core.specs.Operating.{answer, begin_line, take_step}

@@ -10,9 +10,9 @@ use Rattle.hs_answered.specs.Asked.{IsAsked, busy_with, first_step}
 use Rattle.hs_answered.specs.Judged.{IsBusy}
 use Rattle.hs_answered.specs.Standing.{IsAddressed, IsFolded, store_with}
 use Rattle.hs_answered.specs.Telling.{Judging, Tells}
+use Rattle.hs_awaiting.specs.declared.wait.Wait.TheVariants as wait
+use Rattle.hs_awaiting.specs.declared.waiting.Waiting.{Waiting}
 use Rattle.hs_core.specs.Changing.{add_operation}
-use Rattle.hs_core.specs.declared.wait.Wait.TheVariants as wait
-use Rattle.hs_core.specs.declared.waiting.Waiting.{Waiting}
 use Rattle.hs_core.specs.Looking.{operation_of, shape_of}
 use Rattle.hs_core.specs.Operating.{begin_line, busy_line, take_step}
 use Rattle.hs_core.specs.Seeing.{pointers_for, view_for}

@@ -2,16 +2,16 @@
 use Rattle.std.proofs.Common.{◌≡◌, ◌∙◌, sym, ap, subst, ℕ, ◌+◌, cond, List, Option, Some, None, refl, slice_index_or}
 use Rattle.hs_standing.proofs.IdleLemmas.{idle_is}
 use Rattle.hs_standing.specs.Changes.{IsBeside, IsIdle, tells_at_once, told_at_once}
+use Rattle.hs_awaiting.specs.declared.wait.Wait.TheVariants as wait
+use Rattle.hs_awaiting.specs.declared.waiting.Waiting.{Waiting}
+use Rattle.hs_awaiting.specs.Words.{change_with}
 use Rattle.hs_core.specs.Asking.{send_round}
 use Rattle.hs_core.specs.Changing.{change_group, change_pool, note, post, refuse}
-use Rattle.hs_core.specs.declared.wait.Wait.TheVariants as wait
-use Rattle.hs_core.specs.declared.waiting.Waiting.{Waiting}
 use Rattle.hs_core.specs.Effects.{note_sweep, round_messages}
 use Rattle.hs_core.specs.Looking.{catalogue_of, front_of, group_of, operation_of, shape_of}
 use Rattle.hs_core.specs.Operating.{begin_line, go_on_with, propose_entry, resume}
 use Rattle.hs_core.specs.Seeing.{pointers_for}
 use Rattle.hs_core.specs.State.{Core}
-use Rattle.hs_core.specs.Words.{change_with}
 use Rattle.hs_effects.proofs.BeginLemmas.{begun_orderly}
 use Rattle.hs_effects.proofs.EffectLemmas.{enter_orderly, sweep_alike, taken_free, taken_room, told_orderly}
 use Rattle.hs_effects.proofs.GoingLemmas.{going_orderly, idle_free}

@@ -8,7 +8,7 @@ use Rattle.std.specs.Option.{option_map}
 use Rattle.std.specs.Prelude.{IsSome, if◌then◌else◌, slice_get, slice_index_or}
 use Rattle.hs_answered.specs.Standing.{store_with}
 use Rattle.hs_answered.specs.Telling.{Tells}
-use Rattle.hs_core.specs.declared.waiting.Waiting.{Waiting}
+use Rattle.hs_awaiting.specs.declared.waiting.Waiting.{Waiting}
 use Rattle.hs_core.specs.Looking.{front_of, group_of, shape_of}
 use Rattle.hs_core.specs.State.{Core}
 use Rattle.hs_effects.specs.Logged.{HasAsked, IsOrderly, asked_by}

@@ -9,10 +9,11 @@ use Rattle.hs_standing.specs.Walks.{Walks}
 use Rattle.hs_answered.specs.Asked.{HasBytes}
 use Rattle.hs_answered.specs.Standing.{store_with}
 use Rattle.hs_answered.specs.Telling.{Judging, Tells, events_in}
+use Rattle.hs_awaiting.specs.declared.wait.Wait.TheVariants as wait
+use Rattle.hs_awaiting.specs.declared.waiting.Waiting.{Waiting}
+use Rattle.hs_awaiting.specs.Words.{change_with}
 use Rattle.hs_core.specs.Asking.{send_round}
 use Rattle.hs_core.specs.Changing.{change_pool, note, post, refuse}
-use Rattle.hs_core.specs.declared.wait.Wait.TheVariants as wait
-use Rattle.hs_core.specs.declared.waiting.Waiting.{Waiting}
 use Rattle.hs_core.specs.Delivering.{is_new_round}
 use Rattle.hs_core.specs.Effects.{round_messages}
 use Rattle.hs_core.specs.Entering.{is_enter_due}
@@ -20,7 +21,6 @@ use Rattle.hs_core.specs.Looking.{catalogue_of, group_of, operation_of, shape_of
 use Rattle.hs_core.specs.Operating.{begin_line, go_on_with, propose_entry, resume}
 use Rattle.hs_core.specs.Seeing.{pointers_for, view_for}
 use Rattle.hs_core.specs.State.{Core}
-use Rattle.hs_core.specs.Words.{change_with}
 use Rattle.hs_effects.proofs.EffectLemmas.{committed_named}
 use Rattle.hs_effects.proofs.QuietLemmas.{going_quiet, proposed_quiet}
 use Rattle.hs_effects.proofs.SweepLemmas.{ByViews}

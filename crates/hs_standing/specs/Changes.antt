@@ -1,12 +1,12 @@
 -- The changes of which every event is made where each shard has one copy: what is told at once of an entry, and changes beside a run.
 use Rattle.std.specs.Map.{values_of}
 use Rattle.std.specs.Prelude.{◌≡◌, ℕ, ◌++◌, true, All, Contains}
-use Rattle.hs_core.specs.declared.wait.Wait.{Wait}
-use Rattle.hs_core.specs.declared.wait.Wait.TheVariants as wait
+use Rattle.hs_awaiting.specs.declared.wait.Wait.{Wait}
+use Rattle.hs_awaiting.specs.declared.wait.Wait.TheVariants as wait
+use Rattle.hs_awaiting.specs.Words.{change_with}
 use Rattle.hs_core.specs.Effects.{note_sweep, tell_enter, tell_operation}
 use Rattle.hs_core.specs.Looking.{front_of, group_of, shape_of}
 use Rattle.hs_core.specs.State.{Core}
-use Rattle.hs_core.specs.Words.{change_with}
 use Rattle.hs_effects.specs.Taking.{done_by, taken}
 use Rattle.hs_entry.specs.declared.entry.Entry.{Entry}
 use Rattle.hs_entry.specs.declared.entry.Entry.TheVariants as kind

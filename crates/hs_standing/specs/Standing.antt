@@ -3,8 +3,8 @@ use Rattle.std.specs.Prelude.{◌≡◌, ℕ, ◌++◌, ◌<◌, ◌≤◌, List
 use Rattle.hs_standing.specs.Walks.{HasRecordRoom}
 use Rattle.hs_answered.specs.Standing.{IsFolded, store_with}
 use Rattle.hs_answered.specs.Telling.{Judging, Tells}
+use Rattle.hs_awaiting.specs.declared.waiting.Waiting.{Waiting}
 use Rattle.hs_core.specs.declared.event.Event.{Event}
-use Rattle.hs_core.specs.declared.waiting.Waiting.{Waiting}
 use Rattle.hs_core.specs.Looking.{front_of, group_of, operation_of, shape_of}
 use Rattle.hs_core.specs.State.{Core}
 use Rattle.hs_core.specs.Step.{step}

@@ -1,8 +1,8 @@
 -- What is kept, and what is asked of events, as tests: for clauses, which range over tests.
 use Rattle.std.specs.Prelude.{◌≡◌, ℕ, true, Bool, List, Option}
 use Rattle.hs_standing.specs.Walks.{MayEvent, Walks, WalksOpen}
+use Rattle.hs_awaiting.specs.declared.waiting.Waiting.{Waiting}
 use Rattle.hs_core.specs.declared.event.Event.{Event}
-use Rattle.hs_core.specs.declared.waiting.Waiting.{Waiting}
 use Rattle.hs_core.specs.State.{Core}
 use Rattle.hs_model.specs.declared.op.Op.{Op}
 

@@ -1,10 +1,10 @@
 -- What every single change keeps, each event keeps: what is asked of the changes, of the core, and of the event.
 use Rattle.std.specs.Prelude.{◌≡◌, ℕ, ◌+◌, ◌<◌, ◌≤◌, true, List, [], Option, Some, None, length}
 use Rattle.hs_standing.specs.Changes.{IsBeside, IsIdle, told_at_once}
+use Rattle.hs_awaiting.specs.declared.wait.Wait.TheVariants as wait
+use Rattle.hs_awaiting.specs.declared.waiting.Waiting.{Waiting}
 use Rattle.hs_core.specs.declared.event.Event.{Event}
 use Rattle.hs_core.specs.declared.event.Event.TheVariants as event
-use Rattle.hs_core.specs.declared.wait.Wait.TheVariants as wait
-use Rattle.hs_core.specs.declared.waiting.Waiting.{Waiting}
 use Rattle.hs_core.specs.Asking.{send_round}
 use Rattle.hs_core.specs.Changing.{change_pool, note, refuse}
 use Rattle.hs_core.specs.Delivering.{is_new_round}

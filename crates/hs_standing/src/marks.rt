@@ -2,14 +2,14 @@
 ghost use Rattle.std.specs.Prelude.{◌≡◌, ◌<◌, ℕ, List, [], Option, Some, slice_get};
 ghost use Rattle.hs_standing.specs.Changes.{IsBeside, IsIdle, told_at_once};
 ghost use Rattle.hs_answered.specs.Standing.{IsFolded};
+ghost use Rattle.hs_awaiting.specs.declared.wait.Wait.TheVariants as wait;
+ghost use Rattle.hs_awaiting.specs.declared.waiting.Waiting.{Waiting};
 ghost use Rattle.hs_core.specs.Looking.{front_of, group_of, operation_of, shape_of};
 ghost use Rattle.hs_core.specs.Opening.{Taken, new_core};
 ghost use Rattle.hs_core.specs.Operating.{begin_line, go_on_with, propose_entry, resume};
 ghost use Rattle.hs_core.specs.Seeing.{pointers_for};
 ghost use Rattle.hs_core.specs.State.{Core};
 ghost use Rattle.hs_core.specs.Views.{begin_view};
-ghost use Rattle.hs_core.specs.declared.wait.Wait.TheVariants as wait;
-ghost use Rattle.hs_core.specs.declared.waiting.Waiting.{Waiting};
 ghost use Rattle.hs_desk.specs.declared.what.What.TheVariants as what;
 ghost use Rattle.hs_effects.specs.Answered.{IsWritten};
 ghost use Rattle.hs_effects.specs.Logged.{IsNewLine, IsOrderly};

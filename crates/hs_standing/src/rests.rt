@@ -1,6 +1,7 @@
 //! What waits rests on what is there, behind every change.
 ghost use Rattle.std.specs.Prelude.{◌≡◌, ◌+◌, ◌<◌, ◌≤◌, ℕ, List, Option, Some, length, true};
 ghost use Rattle.hs_standing.specs.Changes.{IsBeside, told_at_once};
+ghost use Rattle.hs_awaiting.specs.declared.waiting.Waiting.{Waiting};
 ghost use Rattle.hs_core.specs.Changing.{change_pool};
 ghost use Rattle.hs_core.specs.Entering.{is_enter_due};
 ghost use Rattle.hs_core.specs.Looking.{catalogue_of, group_of, operation_of, shape_of};
@@ -9,7 +10,6 @@ ghost use Rattle.hs_core.specs.Operating.{begin_line, go_on_with, propose_entry,
 ghost use Rattle.hs_core.specs.Seeing.{pointers_for};
 ghost use Rattle.hs_core.specs.State.{Core};
 ghost use Rattle.hs_core.specs.Views.{begin_view};
-ghost use Rattle.hs_core.specs.declared.waiting.Waiting.{Waiting};
 ghost use Rattle.hs_effects.specs.Taking.{folds_behind, taken};
 ghost use Rattle.hs_entry.specs.declared.entry.Entry.{Entry};
 ghost use Rattle.hs_entry.specs.declared.entry.Entry.TheVariants.{Enter, Got};

@@ -11,8 +11,8 @@ use Rattle.hs_answered.proofs.CoreLemmas.{free_sees}
 use Rattle.hs_answered.proofs.RefusalLemmas.{IsNotBusy}
 use Rattle.hs_answered.proofs.StepLemmas.{step_sees}
 use Rattle.hs_answered.specs.Asked.{busy_with, first_step}
-use Rattle.hs_core.specs.declared.wait.Wait.TheVariants as wait
-use Rattle.hs_core.specs.declared.waiting.Waiting.{Waiting}
+use Rattle.hs_awaiting.specs.declared.wait.Wait.TheVariants as wait
+use Rattle.hs_awaiting.specs.declared.waiting.Waiting.{Waiting}
 use Rattle.hs_core.specs.Changing.{add_operation, put_operation}
 use Rattle.hs_core.specs.Looking.{group_of, lead_of, shape_of}
 use Rattle.hs_core.specs.Operating.{add_read, answer, begin_line, busy_line, take_step, what_holds}

@@ -1,5 +1,6 @@
 -- Changes beside what answers are made of.
 use Rattle.std.proofs.Common.{◌≡◌, ℕ, ◌+◌, Bool, true, false, List, [], ◌∷◌, Option, Some, None, refl, ◌∙◌}
+use Rattle.hs_awaiting.specs.Words.{change_if, change_with, each}
 use Rattle.hs_core.specs.Asking.{send_round, send_rounds}
 use Rattle.hs_core.specs.Changing.{add_entry_tasks, change_group, change_rejoin, post}
 use Rattle.hs_core.specs.Delivering.{take_copy}
@@ -9,7 +10,6 @@ use Rattle.hs_core.specs.Joining.{begin_joining, follow_lead, joining_peers}
 use Rattle.hs_core.specs.Looking.{catalogue_of, group_of, lead_of}
 use Rattle.hs_core.specs.Operating.{propose_entry}
 use Rattle.hs_core.specs.State.{Core}
-use Rattle.hs_core.specs.Words.{change_if, change_with, each}
 use Rattle.hs_entry.specs.declared.entry.Entry.{Entry}
 use Rattle.hs_entry.specs.declared.entry.Entry.TheVariants as kind
 use Rattle.hs_rejoin.specs.Rejoin.{follow}

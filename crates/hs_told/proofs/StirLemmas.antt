@@ -2,10 +2,11 @@
 use Rattle.std.proofs.Common.{◌≡◌, ◌∙◌, ℕ, zero, suc, ◌+◌, ◌-◌, Bool, true, false, List, [], ◌∷◌, Option, Some, None, refl}
 use Rattle.std.specs.Prelude.{drop, is_some}
 use Rattle.hs_answered.proofs.RefusalLemmas.{IsNotBusy}
+use Rattle.hs_awaiting.specs.declared.wait.Wait.TheVariants as wait
+use Rattle.hs_awaiting.specs.declared.waiting.Waiting.{Waiting}
+use Rattle.hs_awaiting.specs.Words.{change_if, change_with, each, times}
 use Rattle.hs_core.specs.Asking.{deliver, lose, nudge, nudge_good, send_rounds}
 use Rattle.hs_core.specs.Changing.{change_group, change_rejoin, note, post, put_operation, set_rejoin, set_status, set_tasks, set_viewed}
-use Rattle.hs_core.specs.declared.wait.Wait.TheVariants as wait
-use Rattle.hs_core.specs.declared.waiting.Waiting.{Waiting}
 use Rattle.hs_core.specs.Delivering.{handle, take_copy}
 use Rattle.hs_core.specs.Effects.{after_entry, commit, commit_next, is_for_view, note_enter, note_sweep, reach_view, take_effect, tell_enter, tell_operation}
 use Rattle.hs_core.specs.Entering.{propose_due}
@@ -17,7 +18,6 @@ use Rattle.hs_core.specs.Reporting.{is_reading, on_report, take_report, tell_byt
 use Rattle.hs_core.specs.Seeing.{pointers_for, view_for}
 use Rattle.hs_core.specs.State.{Core}
 use Rattle.hs_core.specs.Views.{begin_view, change_view, restart, restart_at}
-use Rattle.hs_core.specs.Words.{change_if, change_with, each, times}
 use Rattle.hs_desk.specs.Answers.{answers}
 use Rattle.hs_desk.specs.declared.done.Done.{Done}
 use Rattle.hs_desk.specs.declared.done.Done.TheVariants as done

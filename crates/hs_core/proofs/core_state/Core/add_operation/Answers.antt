@@ -2,7 +2,7 @@ use Rattle.hs_core.specs.declared.core_state.Core.TheView.{view}
 use Rattle.hs_core.specs.Looking.{shape_of}
 use Rattle.hs_core.specs.State.{Core}
 use Rattle.hs_members.specs.Members.{IsShard}
-use Rattle.hs_core.proofs.PlacedLemmas.{fronts_beside, kept_beside, placed_put, steps_beside}
+use Rattle.hs_core.proofs.PlacedLemmas.{fronts_beside, kept_beside, steps_beside, within_none, within_put}
 use Rattle.hs_core.proofs.core_state.Core.add_operation.Goals as goal
 
 pub invariant_of-self : goal.invariant_of-self
@@ -16,5 +16,18 @@ invariant_of-self c =
       steps = steps_beside old c.put.new.self c.self.inside.steps.items is.kept is.steps;
       sessions = is.sessions;
       journal = is.journal;
-      placed = placed_put (shape_of old).shards old.operations c.put.new.self is.placed c.put.result c.args.line c.args.waiting c.put.ensures.ok c.put.ensures.none within;
+      placed = within_put (shape_of old).shards c.args.line c.args.waiting old.operations c.put.new.self c.in_ok-put.ensures.ok within is.placed;
+    }
+
+pub invariant_of-self-in_err-put : goal.invariant_of-self-in_err-put
+invariant_of-self-in_err-put c =
+    let old : Core = view c.self.inside in
+    let is = c.self.invariant in
+    record {
+      kept = kept_beside old c.put.new.self is.kept;
+      fronts = fronts_beside old c.put.new.self c.self.inside.fronts.items is.fronts;
+      steps = steps_beside old c.put.new.self c.self.inside.steps.items is.kept is.steps;
+      sessions = is.sessions;
+      journal = is.journal;
+      placed = within_none (shape_of old).shards c.put.new.self c.in_err-put.ensures.none;
     }

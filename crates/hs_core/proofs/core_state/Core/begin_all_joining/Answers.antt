@@ -1,8 +1,8 @@
 use Rattle.std.proofs.Common.{◌≡◌, ◌∙◌, sym, ap, ℕ, ◌+◌, ◌-◌, ◌<◌, Bool, arith}
+use Rattle.hs_awaiting.specs.Words.{change_if}
 use Rattle.hs_core.specs.Joining.{begin_joining}
 use Rattle.hs_core.specs.Looking.{status_of}
 use Rattle.hs_core.specs.State.{Core}
-use Rattle.hs_core.specs.Words.{change_if}
 use Rattle.hs_core.proofs.JoiningLemmas.{each_from, each_from_next, members_if}
 use Rattle.hs_core.proofs.KeptLemmas.{kept_then}
 use Rattle.hs_limits.specs.declared.shape.Shape.{Shape}

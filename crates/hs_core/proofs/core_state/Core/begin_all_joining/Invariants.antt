@@ -1,8 +1,8 @@
 use Rattle.std.proofs.Common.{◌≡◌, ◌+◌, ◌-◌}
+use Rattle.hs_awaiting.specs.Words.{each}
 use Rattle.hs_core.specs.Joining.{begin_joining, joining_peers}
 use Rattle.hs_core.specs.Keeping.{Kept}
 use Rattle.hs_core.specs.Looking.{status_of}
-use Rattle.hs_core.specs.Words.{each}
 use Rattle.hs_limits.specs.Shape.{peer_of}
 use Rattle.hs_members.specs.Members.{is_joining}
 use Rattle.hs_core.proofs.JoiningLemmas.{each_from}

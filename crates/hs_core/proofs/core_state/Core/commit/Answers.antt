@@ -1,8 +1,8 @@
 use Rattle.std.proofs.Common.{◌≡◌, ◌∙◌, ap, ap₂, sym, ◌-◌, ℕ}
+use Rattle.hs_awaiting.specs.Words.{times}
 use Rattle.hs_core.specs.Effects.{commit_next}
 use Rattle.hs_core.specs.Looking.{front_of, group_of}
 use Rattle.hs_core.specs.State.{Core}
-use Rattle.hs_core.specs.Words.{times}
 use Rattle.hs_core.proofs.CommitLemmas.{commit_still, times_still}
 use Rattle.hs_core.proofs.core_state.Core.commit.Goals as goal
 use Rattle.hs_replica.specs.Group.{commit_front}

@@ -1,7 +1,7 @@
 use Rattle.std.proofs.Common.{◌≡◌, ◌-◌}
+use Rattle.hs_awaiting.specs.Words.{times}
 use Rattle.hs_core.specs.Effects.{commit_next}
 use Rattle.hs_core.specs.Keeping.{Kept}
-use Rattle.hs_core.specs.Words.{times}
 use Rattle.hs_core.proofs.core_state.Core.commit.Given as goal
 
 abbrev pub invariant-loop-turn : goal.invariant-loop-turn

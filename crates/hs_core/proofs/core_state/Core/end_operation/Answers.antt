@@ -1,7 +1,7 @@
 use Rattle.hs_core.specs.declared.core_state.Core.TheView.{view}
 use Rattle.hs_core.specs.Looking.{shape_of}
 use Rattle.hs_core.specs.State.{Core}
-use Rattle.hs_core.proofs.PlacedLemmas.{fronts_beside, kept_beside, placed_ended, steps_beside}
+use Rattle.hs_core.proofs.PlacedLemmas.{fronts_beside, kept_beside, steps_beside, within_ended, within_none}
 use Rattle.hs_core.proofs.core_state.Core.end_operation.Goals as goal
 
 pub invariant_of-self : goal.invariant_of-self
@@ -14,5 +14,18 @@ invariant_of-self c =
       steps = steps_beside old c.end.new.self c.self.inside.steps.items is.kept is.steps;
       sessions = is.sessions;
       journal = is.journal;
-      placed = placed_ended (shape_of old).shards old.operations c.end.new.self is.placed c.end.result c.args.line c.end.ensures.rest c.end.ensures.none;
+      placed = within_ended (shape_of old).shards c.args.line old.operations c.end.new.self c.in_ok-end.ensures.rest is.placed;
+    }
+
+pub invariant_of-self-in_err-end : goal.invariant_of-self-in_err-end
+invariant_of-self-in_err-end c =
+    let old : Core = view c.self.inside in
+    let is = c.self.invariant in
+    record {
+      kept = kept_beside old c.end.new.self is.kept;
+      fronts = fronts_beside old c.end.new.self c.self.inside.fronts.items is.fronts;
+      steps = steps_beside old c.end.new.self c.self.inside.steps.items is.kept is.steps;
+      sessions = is.sessions;
+      journal = is.journal;
+      placed = within_none (shape_of old).shards c.end.new.self c.in_err-end.ensures.none;
     }

@@ -1,10 +1,10 @@
 use Rattle.std.proofs.Common.{◌≡◌, ◌∙◌, sym, ap, refl, arith, ◌+◌, ◌-◌, ◌<◌, ◌≤◌}
 use Rattle.std.proofs.lemmas.Grind.{common_steps}
 use Rattle.std.specs.List.{range_with_len}
+use Rattle.hs_awaiting.specs.Words.{change_if, each}
 use Rattle.hs_core.specs.Changing.{change_rejoin}
 use Rattle.hs_core.specs.Looking.{status_of}
 use Rattle.hs_core.specs.State.{Core}
-use Rattle.hs_core.specs.Words.{change_if, each}
 use Rattle.hs_limits.specs.Shape.{peer_of}
 use Rattle.hs_members.specs.Members.{is_joining, peers_of, status}
 use Rattle.hs_rejoin.specs.Rejoin.{follow}

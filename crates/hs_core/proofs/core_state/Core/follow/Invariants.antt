@@ -1,9 +1,9 @@
 use Rattle.std.proofs.Common.{◌≡◌, ◌-◌}
 use Rattle.std.specs.List.{range_with_len}
+use Rattle.hs_awaiting.specs.Words.{change_if, each}
 use Rattle.hs_core.specs.Changing.{change_rejoin}
 use Rattle.hs_core.specs.Keeping.{Kept}
 use Rattle.hs_core.specs.Looking.{status_of}
-use Rattle.hs_core.specs.Words.{change_if, each}
 use Rattle.hs_members.specs.Members.{is_joining}
 use Rattle.hs_rejoin.specs.Rejoin.{follow}
 use Rattle.hs_core.proofs.core_state.Core.follow.Given as goal

@@ -4,13 +4,14 @@ use Rattle.std.proofs.lemmas.Result.{IfOk-weaker}
 use Rattle.std.specs.BTreeMap.{is_at}
 use Rattle.std.specs.Map.{lookup}
 use Rattle.std.specs.Ordering.{nat_cmp}
+use Rattle.hs_awaiting.specs.declared.judging.Judged.{Judged}
+use Rattle.hs_awaiting.specs.Going.{given_by, next_step}
 use Rattle.hs_core.specs.declared.core_state.Core.TheView.{view}
-use Rattle.hs_core.specs.declared.going.Judged.{Judged}
-use Rattle.hs_core.specs.Going.{gains_by, given_by, next_step, sight_of, step_by, view_by}
+use Rattle.hs_core.specs.Going.{gains_by, sight_of, step_by, view_by}
 use Rattle.hs_core.specs.Looking.{shape_of}
 use Rattle.hs_core.specs.State.{Core}
 use Rattle.hs_ops.specs.Answers.{gained}
-use Rattle.hs_core.proofs.PlacedLemmas.{fronts_beside, kept_beside, placed_judged, steps_beside}
+use Rattle.hs_core.proofs.PlacedLemmas.{fronts_beside, kept_beside, steps_beside, within_judged, within_none}
 use Rattle.hs_core.proofs.core_state.Core.judge_at.Goals as goal
 
 pub invariant_of-self : goal.invariant_of-self
@@ -23,7 +24,20 @@ invariant_of-self c =
       steps = steps_beside old c.judge.new.self c.self.inside.steps.items is.kept is.steps;
       sessions = is.sessions;
       journal = is.journal;
-      placed = placed_judged (shape_of old).shards old.operations c.judge.new.self is.placed c.judge.result c.args.how.now c.as_slice-pointers.result.now c.view-view.result c.args.line c.judge.ensures.ok c.judge.ensures.none;
+      placed = within_judged (shape_of old).shards c.args.how.now c.as_slice-pointers.result.now c.view-view.result c.args.line old.operations c.judge.new.self c.in_ok-judge.ensures.ok is.placed;
+    }
+
+pub invariant_of-self-in_err-judge : goal.invariant_of-self-in_err-judge
+invariant_of-self-in_err-judge c =
+    let old : Core = view c.self.inside in
+    let is = c.self.invariant in
+    record {
+      kept = kept_beside old c.judge.new.self is.kept;
+      fronts = fronts_beside old c.judge.new.self c.self.inside.fronts.items is.fronts;
+      steps = steps_beside old c.judge.new.self c.self.inside.steps.items is.kept is.steps;
+      sessions = is.sessions;
+      journal = is.journal;
+      placed = within_none (shape_of old).shards c.judge.new.self c.in_err-judge.ensures.none;
     }
 
 pub returns-clause-step : goal.returns-clause-step

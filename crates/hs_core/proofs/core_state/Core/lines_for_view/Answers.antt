@@ -1,12 +1,12 @@
 use Rattle.std.proofs.Common.{◌≡◌, ◌∙◌, ap, ◌+◌, ◌++◌, List, [], ◌∷◌, arith}
 use Rattle.std.proofs.lemmas.Grind.{common_steps}
 use Rattle.std.specs.Prelude.{◌==◌, ◌&&◌, Bool}
-use Rattle.hs_core.specs.declared.waiting.Waiting.{Waiting}
+use Rattle.hs_awaiting.specs.declared.waiting.Waiting.{Waiting}
+use Rattle.hs_awaiting.specs.Indexing.{lines_from, waits_for}
+use Rattle.hs_awaiting.proofs.WalkLemmas.{found_all, found_more, from_first, walk_all, walk_none}
 use Rattle.hs_core.specs.Effects.{is_for_view}
-use Rattle.hs_core.specs.Indexing.{lines_from, waits_for}
 use Rattle.hs_core.specs.Operating.{lines_where}
 use Rattle.hs_core.proofs.WakeLemmas.{viewed_alone, viewing}
-use Rattle.hs_core.proofs.WalkLemmas.{found_all, found_more, from_first, walk_all, walk_none}
 use Rattle.hs_core.proofs.core_state.Core.lines_for_view.Goals as goal
 use Rattle.hs_waits.specs.declared.cause.Cause.TheVariants as cause
 

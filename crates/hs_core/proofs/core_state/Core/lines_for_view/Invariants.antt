@@ -1,7 +1,7 @@
 use Rattle.std.proofs.Common.{◌≡◌, ◌++◌, ◌-◌, ◌^◌}
 use Rattle.std.specs.Prelude.{◌==◌, ◌&&◌}
+use Rattle.hs_awaiting.specs.Indexing.{lines_from}
 use Rattle.hs_core.specs.Effects.{is_for_view}
-use Rattle.hs_core.specs.Indexing.{lines_from}
 use Rattle.hs_core.specs.Operating.{lines_where}
 use Rattle.hs_core.proofs.core_state.Core.lines_for_view.Given as goal
 

@@ -1,12 +1,13 @@
 use Rattle.std.proofs.Common.{◌≡◌, ◌∙◌, sym, ap, true, false, cond, refl, ◌+◌, ◌++◌, List, [], ◌∷◌, arith}
 use Rattle.std.proofs.lemmas.Grind.{common_steps}
 use Rattle.std.specs.Prelude.{◌==◌, ◌&&◌, Bool}
-use Rattle.hs_core.specs.declared.waiting.Waiting.{Waiting}
+use Rattle.hs_awaiting.specs.declared.waiting.Waiting.{Waiting}
+use Rattle.hs_awaiting.specs.Indexing.{lines_from, passes}
+use Rattle.hs_awaiting.proofs.WalkLemmas.{found_all, from_first, walk_none, walk_some, woken_more}
 use Rattle.hs_core.specs.Effects.{wakes}
-use Rattle.hs_core.specs.Indexing.{lines_from, may_wake, passes}
 use Rattle.hs_core.specs.Operating.{lines_where}
+use Rattle.hs_core.specs.Waking.{may_wake}
 use Rattle.hs_core.proofs.WakeLemmas.{among_woken}
-use Rattle.hs_core.proofs.WalkLemmas.{found_all, from_first, walk_none, walk_some, woken_more}
 use Rattle.hs_core.proofs.core_state.Core.lines_woken.Goals as goal
 use Rattle.hs_core.proofs.core_state.Core.lines_woken.Goals.{then-is_woken+in_ok-push, else-is_woken}
 

@@ -1,6 +1,7 @@
 use Rattle.std.proofs.Common.{ℕ, Bool, arith}
-use Rattle.hs_core.specs.Indexing.{passes, stands, stores}
+use Rattle.hs_awaiting.specs.Indexing.{passes, stores}
 use Rattle.hs_core.specs.Looking.{group_of}
+use Rattle.hs_core.specs.Waking.{stands}
 use Rattle.hs_core.proofs.StoredLemmas.{both_there, none_below, none_further, none_left}
 use Rattle.hs_core.proofs.core_state.Core.met.Goals as goal
 

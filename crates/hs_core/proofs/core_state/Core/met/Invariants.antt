@@ -1,6 +1,7 @@
 use Rattle.std.proofs.Common.{◌≡◌, ◌-◌, ◌^◌, ◌<◌, ℕ, true, false}
-use Rattle.hs_core.specs.Indexing.{passes, stands, stores}
+use Rattle.hs_awaiting.specs.Indexing.{passes, stores}
 use Rattle.hs_core.specs.Looking.{group_of}
+use Rattle.hs_core.specs.Waking.{stands}
 use Rattle.hs_core.proofs.core_state.Core.met.Given as goal
 
 abbrev pub invariant-loop-block : goal.invariant-loop-block

@@ -1,5 +1,6 @@
 use Rattle.std.proofs.Common.{◌∙◌, ap, ◌||◌}
-use Rattle.hs_core.specs.Indexing.{passes, waits_for, waits_for_block}
+use Rattle.hs_awaiting.specs.Indexing.{passes, waits_for}
+use Rattle.hs_core.specs.Waking.{waits_for_block}
 use Rattle.hs_core.proofs.WakeLemmas.{first_alike, passes_either}
 use Rattle.hs_core.proofs.core_state.Core.next_for_block.Goals as goal
 use Rattle.hs_waits.specs.Lines.{IsFirstFrom}

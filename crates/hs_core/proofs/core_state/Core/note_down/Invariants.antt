@@ -1,7 +1,7 @@
 use Rattle.std.proofs.Common.{◌≡◌, ◌*◌, ◌-◌}
 use Rattle.std.specs.List.{range_with_len}
+use Rattle.hs_awaiting.specs.Words.{each}
 use Rattle.hs_core.specs.Opening.{note_if_down}
-use Rattle.hs_core.specs.Words.{each}
 use Rattle.hs_core.proofs.core_state.Core.note_down.Given as goal
 
 abbrev pub invariant-loop-peer : goal.invariant-loop-peer

@@ -1,10 +1,10 @@
 use Rattle.std.proofs.Common.{◌≡◌, ◌∙◌, ap, subst, ℕ, OnOk}
+use Rattle.hs_awaiting.specs.Words.{change_if}
 use Rattle.hs_core.specs.Asking.{nudge, send_rounds}
 use Rattle.hs_core.specs.Changing.{post}
 use Rattle.hs_core.specs.Entering.{propose_due}
 use Rattle.hs_core.specs.Looking.{group_of, home, lead_of}
 use Rattle.hs_core.specs.State.{Core}
-use Rattle.hs_core.specs.Words.{change_if}
 use Rattle.hs_limits.specs.declared.shape.Shape.{Shape}
 use Rattle.hs_members.specs.Members.{home_of}
 use Rattle.hs_replica.specs.Group.{is_peer, resend}

@@ -1,8 +1,8 @@
 use Rattle.std.proofs.Common.{◌∙◌, sym, ap, ◌+◌, ◌<◌, length, drop, arith}
 use Rattle.std.proofs.lemmas.Grind.{common_steps}
 use Rattle.std.proofs.lemmas.List.{at_drop_more}
+use Rattle.hs_awaiting.specs.Words.{each}
 use Rattle.hs_core.specs.Operating.{resume}
-use Rattle.hs_core.specs.Words.{each}
 use Rattle.hs_core.proofs.KeptLemmas.{kept_then}
 use Rattle.hs_core.proofs.core_state.Core.resume_each.Goals as goal
 

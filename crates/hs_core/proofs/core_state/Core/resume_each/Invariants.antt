@@ -1,7 +1,7 @@
 use Rattle.std.proofs.Common.{◌≡◌, drop}
+use Rattle.hs_awaiting.specs.Words.{each}
 use Rattle.hs_core.specs.Keeping.{Kept}
 use Rattle.hs_core.specs.Operating.{resume}
-use Rattle.hs_core.specs.Words.{each}
 use Rattle.hs_core.proofs.core_state.Core.resume_each.Given as goal
 
 abbrev pub invariant-loop-line : goal.invariant-loop-line

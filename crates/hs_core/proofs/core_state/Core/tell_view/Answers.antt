@@ -1,6 +1,7 @@
 use Rattle.std.proofs.Common.{◌≡◌, ◌∙◌, sym, ap, refl, arith, false}
 use Rattle.std.proofs.lemmas.Grind.{common_steps}
 use Rattle.std.proofs.lemmas.List.{length-set}
+use Rattle.hs_awaiting.specs.Views.{restarted}
 use Rattle.hs_core.specs.declared.core_state.Core.TheView.{view}
 use Rattle.hs_core.specs.Looking.{group_of, shape_of}
 use Rattle.hs_core.specs.Renewing.{Renews}
@@ -11,7 +12,6 @@ use Rattle.hs_replica.specs.Keeping.{KeepsFront}
 use Rattle.hs_core.proofs.PlacedLemmas.{within_again, within_none}
 use Rattle.hs_core.proofs.StepLemmas.{core_after, fronts_after, of_kept, steps_after}
 use Rattle.std.proofs.Common.{◌+◌, ◌-◌, map}
-use Rattle.hs_core.specs.Views.{restarted}
 use Rattle.hs_entry.specs.declared.entry.Entry.TheVariants as kind
 use Rattle.hs_members.specs.Members.{view_of}
 use Rattle.hs_replica.specs.Group.{last_number, on_view, renew, send_all, view_messages}

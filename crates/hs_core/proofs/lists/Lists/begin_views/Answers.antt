@@ -1,9 +1,9 @@
 use Rattle.std.proofs.Common.{◌≡◌, ◌∙◌, sym, ap, arith, ◌+◌, ◌-◌, ◌<◌, rules}
 use Rattle.std.proofs.lemmas.Grind.{common_steps}
 use Rattle.std.specs.List.{range_with_len}
+use Rattle.hs_awaiting.specs.Words.{each}
 use Rattle.hs_core.specs.Anew.{with_lists}
 use Rattle.hs_core.specs.Views.{change_view}
-use Rattle.hs_core.specs.Words.{each}
 use Rattle.hs_core.proofs.RangeLemmas.{each_range_next}
 use Rattle.hs_core.proofs.lists.Lists.begin_views.Goals as goal
 

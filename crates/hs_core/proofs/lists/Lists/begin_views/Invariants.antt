@@ -1,9 +1,9 @@
 use Rattle.std.proofs.Common.{◌≡◌, ◌-◌, []}
 use Rattle.std.specs.List.{range_with_len}
+use Rattle.hs_awaiting.specs.Words.{each}
 use Rattle.hs_core.specs.Anew.{AreOfAll, with_lists}
 use Rattle.hs_core.specs.State.{Core}
 use Rattle.hs_core.specs.Views.{change_view}
-use Rattle.hs_core.specs.Words.{each}
 use Rattle.hs_core.proofs.lists.Lists.begin_views.Given as goal
 
 abbrev pub invariant-loop-shard : goal.invariant-loop-shard

@@ -1,0 +1,5 @@
+pub mod EntryLemmas
+mod IndexLemmas
+mod RestartLemmas
+mod StoredLemmas
+pub mod WalkLemmas
