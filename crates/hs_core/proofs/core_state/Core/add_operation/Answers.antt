@@ -8,6 +8,19 @@ use Rattle.hs_core.proofs.core_state.Core.add_operation.Goals as goal
 pub invariant_of-self : goal.invariant_of-self
 invariant_of-self c =
     let old : Core = view c.self.inside in
+    let is = c.self.invariant in
+    record {
+      kept = kept_beside old c.put.new.self is.kept;
+      fronts = fronts_beside old c.put.new.self c.self.inside.fronts.items is.fronts;
+      steps = steps_beside old c.put.new.self c.self.inside.steps.items is.kept is.steps;
+      sessions = is.sessions;
+      journal = is.journal;
+      placed = within_none (shape_of old).shards c.put.new.self c.in_err-put.ensures.none;
+    }
+
+pub invariant_of-self-2 : goal.invariant_of-self-2
+invariant_of-self-2 c =
+    let old : Core = view c.self.inside in
     let within : IsShard (shape_of old) c.args.waiting.shard = rw (← c.self.view_is) at c.requires in
     let is = c.self.invariant in
     record {
@@ -17,17 +30,4 @@ invariant_of-self c =
       sessions = is.sessions;
       journal = is.journal;
       placed = within_put (shape_of old).shards c.args.line c.args.waiting old.operations c.put.new.self c.in_ok-put.ensures.ok within is.placed;
-    }
-
-pub invariant_of-self-in_err-put : goal.invariant_of-self-in_err-put
-invariant_of-self-in_err-put c =
-    let old : Core = view c.self.inside in
-    let is = c.self.invariant in
-    record {
-      kept = kept_beside old c.put.new.self is.kept;
-      fronts = fronts_beside old c.put.new.self c.self.inside.fronts.items is.fronts;
-      steps = steps_beside old c.put.new.self c.self.inside.steps.items is.kept is.steps;
-      sessions = is.sessions;
-      journal = is.journal;
-      placed = within_none (shape_of old).shards c.put.new.self c.in_err-put.ensures.none;
     }

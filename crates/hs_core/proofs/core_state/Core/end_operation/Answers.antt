@@ -14,11 +14,11 @@ invariant_of-self c =
       steps = steps_beside old c.end.new.self c.self.inside.steps.items is.kept is.steps;
       sessions = is.sessions;
       journal = is.journal;
-      placed = within_ended (shape_of old).shards c.args.line old.operations c.end.new.self c.in_ok-end.ensures.rest is.placed;
+      placed = within_none (shape_of old).shards c.end.new.self c.in_err-end.ensures.none;
     }
 
-pub invariant_of-self-in_err-end : goal.invariant_of-self-in_err-end
-invariant_of-self-in_err-end c =
+pub invariant_of-self-2 : goal.invariant_of-self-2
+invariant_of-self-2 c =
     let old : Core = view c.self.inside in
     let is = c.self.invariant in
     record {
@@ -27,5 +27,5 @@ invariant_of-self-in_err-end c =
       steps = steps_beside old c.end.new.self c.self.inside.steps.items is.kept is.steps;
       sessions = is.sessions;
       journal = is.journal;
-      placed = within_none (shape_of old).shards c.end.new.self c.in_err-end.ensures.none;
+      placed = within_ended (shape_of old).shards c.args.line old.operations c.end.new.self c.in_ok-end.ensures.rest is.placed;
     }

@@ -24,11 +24,11 @@ invariant_of-self c =
       steps = steps_beside old c.judge.new.self c.self.inside.steps.items is.kept is.steps;
       sessions = is.sessions;
       journal = is.journal;
-      placed = within_judged (shape_of old).shards c.args.how.now c.as_slice-pointers.result.now c.view-view.result c.args.line old.operations c.judge.new.self c.in_ok-judge.ensures.ok is.placed;
+      placed = within_none (shape_of old).shards c.judge.new.self c.in_err-judge.ensures.none;
     }
 
-pub invariant_of-self-in_err-judge : goal.invariant_of-self-in_err-judge
-invariant_of-self-in_err-judge c =
+pub invariant_of-self-2 : goal.invariant_of-self-2
+invariant_of-self-2 c =
     let old : Core = view c.self.inside in
     let is = c.self.invariant in
     record {
@@ -37,7 +37,7 @@ invariant_of-self-in_err-judge c =
       steps = steps_beside old c.judge.new.self c.self.inside.steps.items is.kept is.steps;
       sessions = is.sessions;
       journal = is.journal;
-      placed = within_none (shape_of old).shards c.judge.new.self c.in_err-judge.ensures.none;
+      placed = within_judged (shape_of old).shards c.args.how.now c.as_slice-pointers.result.now c.view-view.result c.args.line old.operations c.judge.new.self c.in_ok-judge.ensures.ok is.placed;
     }
 
 pub returns-clause-step : goal.returns-clause-step

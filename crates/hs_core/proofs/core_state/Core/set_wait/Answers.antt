@@ -15,11 +15,11 @@ invariant_of-self c =
       steps = steps_beside old c.set_wait.new.self c.self.inside.steps.items is.kept is.steps;
       sessions = is.sessions;
       journal = is.journal;
-      placed = within_waits (shape_of old).shards c.args.line c.args.what old.operations c.set_wait.new.self c.in_ok-set_wait.ensures.ok is.placed;
+      placed = within_none (shape_of old).shards c.set_wait.new.self c.in_err-set_wait.ensures.none;
     }
 
-pub invariant_of-self-in_err-set_wait : goal.invariant_of-self-in_err-set_wait
-invariant_of-self-in_err-set_wait c =
+pub invariant_of-self-2 : goal.invariant_of-self-2
+invariant_of-self-2 c =
     let old : Core = view c.self.inside in
     let is = c.self.invariant in
     record {
@@ -28,7 +28,7 @@ invariant_of-self-in_err-set_wait c =
       steps = steps_beside old c.set_wait.new.self c.self.inside.steps.items is.kept is.steps;
       sessions = is.sessions;
       journal = is.journal;
-      placed = within_none (shape_of old).shards c.set_wait.new.self c.in_err-set_wait.ensures.none;
+      placed = within_waits (shape_of old).shards c.args.line c.args.what old.operations c.set_wait.new.self c.in_ok-set_wait.ensures.ok is.placed;
     }
 
 pub returns-clause-ok : goal.returns-clause-ok
