@@ -1,13 +1,12 @@
 use Rattle.std.proofs.Common.{◌≡◌, ◌∙◌, ap, Some, None, arith}
 use Rattle.std.proofs.lemmas.Grind.{common_steps}
-use Rattle.std.proofs.lemmas.Result.{IfOk-weaker}
 use Rattle.std.specs.BTreeMap.{is_at}
 use Rattle.std.specs.Map.{lookup}
 use Rattle.std.specs.Ordering.{nat_cmp}
 use Rattle.hs_awaiting.specs.declared.judging.Judged.{Judged}
 use Rattle.hs_awaiting.specs.Going.{given_by, next_step}
 use Rattle.hs_core.specs.declared.core_state.Core.TheView.{view}
-use Rattle.hs_core.specs.Going.{gains_by, sight_of, step_by, view_by}
+use Rattle.hs_core.specs.Going.{sight_of, view_by}
 use Rattle.hs_core.specs.Looking.{shape_of}
 use Rattle.hs_core.specs.State.{Core}
 use Rattle.hs_ops.specs.Answers.{gained}
@@ -48,9 +47,9 @@ returns-clause-step c w e =
     let found : lookup (is_at (nat_cmp c.args.line)) c.self.inside.operations ≡ Some w = grind (arith, common_steps, e) in
     let pointers : c.as_slice-pointers.result.now ≡ (sight_of aim core).pointers = grind (arith, common_steps) in
     let view : c.view-view.result ≡ view_by (sight_of aim core) aim None core = grind (arith, common_steps) in
-    IfOk-weaker c.judge.result (λ (j : Judged). j.step ≡ next_step how c.as_slice-pointers.result.now c.view-view.result w.operation) (λ (j : Judged). j.step ≡ step_by how aim None core w.operation)
-    (λ j h. h ∙ ap (λ ps. next_step how ps c.view-view.result w.operation) pointers ∙ ap (λ v. next_step how (sight_of aim core).pointers v w.operation) view)
-    (c.judge.ensures.step w found)
+    c.in_ok-judge.ensures.step w found
+    ∙ ap (λ ps. next_step how ps c.view-view.result w.operation) pointers
+    ∙ ap (λ v. next_step how (sight_of aim core).pointers v w.operation) view
 
 pub returns-clause-helds : goal.returns-clause-helds
 returns-clause-helds c w e =
@@ -59,6 +58,7 @@ returns-clause-helds c w e =
     let found : lookup (is_at (nat_cmp c.args.line)) c.self.inside.operations ≡ Some w = grind (arith, common_steps, e) in
     let pointers : c.as_slice-pointers.result.now ≡ (sight_of aim core).pointers = grind (arith, common_steps) in
     let view : c.view-view.result ≡ view_by (sight_of aim core) aim None core = grind (arith, common_steps) in
-    IfOk-weaker c.judge.result (λ (j : Judged). j.helds ≡ given_by j.step (gained c.view-view.result c.as_slice-pointers.result.now w.operation.op)) (λ (j : Judged). j.helds ≡ given_by j.step (gains_by aim None core w.operation.op))
-    (λ j h. h ∙ ap (λ ps. given_by j.step (gained c.view-view.result ps w.operation.op)) pointers ∙ ap (λ v. given_by j.step (gained v (sight_of aim core).pointers w.operation.op)) view)
-    (c.judge.ensures.helds w found)
+    let j : Judged = c.in_ok-judge.field-0 in
+    c.in_ok-judge.ensures.helds w found
+    ∙ ap (λ ps. given_by j.step (gained c.view-view.result ps w.operation.op)) pointers
+    ∙ ap (λ v. given_by j.step (gained v (sight_of aim core).pointers w.operation.op)) view
