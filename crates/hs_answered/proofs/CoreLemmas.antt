@@ -11,12 +11,12 @@ use Rattle.hs_answered.specs.Judged.{IsBusy, IsJudged, IsTold, entry_of, judged_
 use Rattle.hs_answered.specs.Standing.{IsAddressed, IsFolded, store_with}
 use Rattle.hs_awaiting.specs.declared.wait.Wait.TheVariants as wait
 use Rattle.hs_awaiting.specs.declared.waiting.Waiting.{Waiting}
-use Rattle.hs_core.specs.Changing.{add_operation}
-use Rattle.hs_core.specs.Looking.{shape_of}
-use Rattle.hs_core.specs.Operating.{answer, begin_line, busy_line, take_step}
-use Rattle.hs_core.specs.Pending.{is_pending}
-use Rattle.hs_core.specs.Seeing.{pointers_for, view_for}
-use Rattle.hs_core.specs.State.{Core}
+use Rattle.hs_core_words.specs.Changing.{add_operation}
+use Rattle.hs_core_words.specs.Looking.{shape_of}
+use Rattle.hs_core_words.specs.Operating.{answer, begin_line, busy_line, take_step}
+use Rattle.hs_core_words.specs.Pending.{is_pending}
+use Rattle.hs_core_words.specs.Seeing.{pointers_for, view_for}
+use Rattle.hs_core_words.specs.State.{Core}
 use Rattle.hs_fold.specs.Runs.Facts.{Catalogue as Folded}
 use Rattle.hs_journal.specs.declared.entry.Who.TheVariants as who
 use Rattle.hs_journal.specs.Order.{IsOpen, session_of}

@@ -9,10 +9,10 @@ use Rattle.std.specs.Prelude.{slice_index, slice_index_or}
 use Rattle.hs_answered.specs.Standing.{IsAddressed, IsFolded, store_with}
 use Rattle.hs_answered.proofs.MemoryLemmas.{IsBeside, beside, blocks_total, epochs_same, length_map, retained_record, retained_root, roots_total, shards_same, swept_same}
 use Rattle.hs_awaiting.specs.Kinds.{puts_root}
-use Rattle.hs_core.specs.Looking.{catalogue_of, shape_of}
-use Rattle.hs_core.specs.Pending.{has_block_room, has_root_room}
-use Rattle.hs_core.specs.Seeing.{facts_for, pointers_for, view_for}
-use Rattle.hs_core.specs.State.{Core}
+use Rattle.hs_core_words.specs.Looking.{catalogue_of, shape_of}
+use Rattle.hs_core_words.specs.Pending.{has_block_room, has_root_room}
+use Rattle.hs_core_words.specs.Seeing.{facts_for, pointers_for, view_for}
+use Rattle.hs_core_words.specs.State.{Core}
 use Rattle.hs_fold.specs.Runs.Facts.{Catalogue as Folded, Facts as FoldedFacts, RootFacts, facts_at as fold_facts}
 use Rattle.hs_limits.specs.declared.address.Address.{Address}
 use Rattle.hs_limits.specs.declared.address.Held.{Held}

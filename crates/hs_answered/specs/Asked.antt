@@ -1,9 +1,9 @@
 -- How an operation comes to its line, and its first step there.
 use Rattle.std.specs.Prelude.{◌≡◌, ℕ, false, List, Option, Some, None, Ok}
-use Rattle.hs_core.specs.Looking.{shape_of}
-use Rattle.hs_core.specs.Operating.{busy_line}
-use Rattle.hs_core.specs.Seeing.{view_for}
-use Rattle.hs_core.specs.State.{Core}
+use Rattle.hs_core_words.specs.Looking.{shape_of}
+use Rattle.hs_core_words.specs.Operating.{busy_line}
+use Rattle.hs_core_words.specs.Seeing.{view_for}
+use Rattle.hs_core_words.specs.State.{Core}
 use Rattle.hs_journal.specs.Events.{has_block}
 use Rattle.hs_limits.specs.Block.{spell}
 use Rattle.hs_limits.specs.Reading.{read_block}

@@ -1,8 +1,8 @@
 //! What an operation is answered whose session has another.
 ghost use Rattle.std.specs.Prelude.{◌≡◌, ℕ, IsSome, List, Some};
 ghost use Rattle.hs_answered.specs.Judged.{IsBusy};
-ghost use Rattle.hs_core.specs.Operating.{begin_line, busy_line};
-ghost use Rattle.hs_core.specs.State.{Core};
+ghost use Rattle.hs_core_words.specs.Operating.{begin_line, busy_line};
+ghost use Rattle.hs_core_words.specs.State.{Core};
 ghost use Rattle.hs_journal.specs.Order.{IsOpen, session_of};
 ghost use Rattle.hs_model.specs.declared.op.Op.{Op};
 ghost use Rattle.hs_tokens.specs.Seats.{seat_of};

@@ -1,9 +1,9 @@
 //! What operations see of the core is its plain store.
 ghost use Rattle.std.specs.Prelude.{◌≡◌, List, Some};
 ghost use Rattle.hs_answered.specs.Standing.{IsAddressed, IsFolded, store_with};
-ghost use Rattle.hs_core.specs.Looking.{shape_of};
-ghost use Rattle.hs_core.specs.Seeing.{pointers_for, view_for};
-ghost use Rattle.hs_core.specs.State.{Core};
+ghost use Rattle.hs_core_words.specs.Looking.{shape_of};
+ghost use Rattle.hs_core_words.specs.Seeing.{pointers_for, view_for};
+ghost use Rattle.hs_core_words.specs.State.{Core};
 ghost use Rattle.hs_fold.specs.Runs.Facts.{Catalogue as Folded};
 ghost use Rattle.hs_limits.specs.declared.address.Address.{Address};
 ghost use Rattle.hs_model.specs.declared.op.Op.{Op};

@@ -15,12 +15,12 @@ use Rattle.hs_any_events.proofs.SinceLemmas.{Since, since_same, walks_since}
 use Rattle.hs_any_events.proofs.SteadyLemmas.{IsSteady}
 use Rattle.hs_any_events.specs.Events.{MayStepAll, MayStep, StaysCountedRight}
 use Rattle.hs_awaiting.specs.declared.waiting.Waiting.{Waiting}
-use Rattle.hs_core.specs.Calls.{last_line_after}
-use Rattle.hs_core.specs.declared.event.Event.{Event}
-use Rattle.hs_core.specs.declared.event.Event.TheVariants as event
-use Rattle.hs_core.specs.Looking.{operation_of}
-use Rattle.hs_core.specs.State.{Core}
-use Rattle.hs_core.specs.Step.{do_event, keep_entries, refuse_entries, step}
+use Rattle.hs_core_words.specs.Calls.{last_line_after}
+use Rattle.hs_core_words.specs.declared.event.Event.{Event}
+use Rattle.hs_core_words.specs.declared.event.Event.TheVariants as event
+use Rattle.hs_core_words.specs.Looking.{operation_of}
+use Rattle.hs_core_words.specs.State.{Core}
+use Rattle.hs_core_words.specs.Step.{do_event, keep_entries, refuse_entries, step}
 use Rattle.hs_desk.specs.declared.done.Done.{Done}
 use Rattle.hs_desk.specs.declared.done.Done.TheVariants as done
 use Rattle.hs_desk.specs.declared.fault.CoreFault.{CoreFault}

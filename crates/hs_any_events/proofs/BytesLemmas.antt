@@ -6,10 +6,10 @@ use Rattle.hs_answered.specs.Judged.{IsTold, judged_at, telling}
 use Rattle.hs_answered.specs.Standing.{IsAddressed, IsFolded, store_with}
 use Rattle.hs_awaiting.specs.declared.waiting.Waiting.{Waiting}
 use Rattle.hs_awaiting.specs.Words.{change_with}
-use Rattle.hs_core.specs.Looking.{operation_of, shape_of}
-use Rattle.hs_core.specs.Operating.{go_on_with, take_step}
-use Rattle.hs_core.specs.Seeing.{pointers_for, view_for}
-use Rattle.hs_core.specs.State.{Core}
+use Rattle.hs_core_words.specs.Looking.{operation_of, shape_of}
+use Rattle.hs_core_words.specs.Operating.{go_on_with, take_step}
+use Rattle.hs_core_words.specs.Seeing.{pointers_for, view_for}
+use Rattle.hs_core_words.specs.State.{Core}
 use Rattle.hs_fold.specs.Runs.Facts.{Catalogue as Folded}
 use Rattle.hs_laws.proofs.JudgeKeeps.{judge_valid}
 use Rattle.hs_laws.proofs.ValidLemmas.{is_from_valid, valid_from_is}

@@ -10,8 +10,8 @@ use Rattle.hs_any_events.proofs.CodedLemmas.{Code}
 use Rattle.hs_any_events.proofs.CodedListLemmas.{nil_from-map}
 use Rattle.hs_any_events.proofs.CodedPoolLemmas.{round_there}
 use Rattle.hs_awaiting.specs.declared.waiting.Waiting.{Waiting}
-use Rattle.hs_core.specs.Looking.{group_of, shape_of}
-use Rattle.hs_core.specs.State.{Core}
+use Rattle.hs_core_words.specs.Looking.{group_of, shape_of}
+use Rattle.hs_core_words.specs.State.{Core}
 use Rattle.hs_entry.specs.declared.entry.Entry.{Entry}
 use Rattle.hs_events.specs.Alone.{is_round}
 use Rattle.hs_replica.specs.Group.{Group, new_group}

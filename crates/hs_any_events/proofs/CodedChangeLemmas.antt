@@ -13,16 +13,16 @@ use Rattle.hs_any_events.proofs.CodedStepLemmas.{add_coded, going_coded, group_c
 use Rattle.hs_awaiting.specs.declared.wait.Wait.TheVariants as wait
 use Rattle.hs_awaiting.specs.declared.waiting.Waiting.{Waiting}
 use Rattle.hs_awaiting.specs.Words.{change_if, change_with}
-use Rattle.hs_core.specs.Asking.{send_round}
-use Rattle.hs_core.specs.Changing.{add_operation, change_group, change_pool, note, post, set_catalogue}
-use Rattle.hs_core.specs.Delivering.{is_new_round}
-use Rattle.hs_core.specs.Effects.{note_enter, note_sweep, round_messages, tell_enter, tell_operation}
-use Rattle.hs_core.specs.Entering.{has_begun, is_enter_due}
-use Rattle.hs_core.specs.Looking.{catalogue_of, front_of, group_of, operation_of, shape_of}
-use Rattle.hs_core.specs.Operating.{begin_line, busy_line, go_on_with, propose_entry, resume, take_step}
-use Rattle.hs_core.specs.Pending.{named}
-use Rattle.hs_core.specs.Seeing.{pointers_for, view_for}
-use Rattle.hs_core.specs.State.{Core}
+use Rattle.hs_core_words.specs.Asking.{send_round}
+use Rattle.hs_core_words.specs.Changing.{add_operation, change_group, change_pool, note, post, set_catalogue}
+use Rattle.hs_core_words.specs.Delivering.{is_new_round}
+use Rattle.hs_core_words.specs.Effects.{note_enter, note_sweep, round_messages, tell_enter, tell_operation}
+use Rattle.hs_core_words.specs.Entering.{has_begun, is_enter_due}
+use Rattle.hs_core_words.specs.Looking.{catalogue_of, front_of, group_of, operation_of, shape_of}
+use Rattle.hs_core_words.specs.Operating.{begin_line, busy_line, go_on_with, propose_entry, resume, take_step}
+use Rattle.hs_core_words.specs.Pending.{named}
+use Rattle.hs_core_words.specs.Seeing.{pointers_for, view_for}
+use Rattle.hs_core_words.specs.State.{Core}
 use Rattle.hs_desk.specs.declared.what.What.{What}
 use Rattle.hs_desk.specs.declared.what.What.TheVariants as what
 use Rattle.hs_effects.specs.Answered.{HoldAddresses}

@@ -15,11 +15,11 @@ use Rattle.hs_any_events.proofs.CodedPoolLemmas.{bare_pool}
 use Rattle.hs_awaiting.specs.declared.wait.Wait.TheVariants as wait
 use Rattle.hs_awaiting.specs.declared.waiting.Waiting.{Waiting}
 use Rattle.hs_awaiting.specs.Kinds.{is_of, own_address}
-use Rattle.hs_core.specs.Looking.{catalogue_of, front_of, group_of, operation_of, shape_of}
-use Rattle.hs_core.specs.Operating.{busy_line, what_holds}
-use Rattle.hs_core.specs.Pending.{has_room, is_address, is_coming, is_crowded, is_pending, named, stored}
-use Rattle.hs_core.specs.Seeing.{pointers_for, view_for}
-use Rattle.hs_core.specs.State.{Core}
+use Rattle.hs_core_words.specs.Looking.{catalogue_of, front_of, group_of, operation_of, shape_of}
+use Rattle.hs_core_words.specs.Operating.{busy_line, what_holds}
+use Rattle.hs_core_words.specs.Pending.{has_room, is_address, is_coming, is_crowded, is_pending, named, stored}
+use Rattle.hs_core_words.specs.Seeing.{pointers_for, view_for}
+use Rattle.hs_core_words.specs.State.{Core}
 use Rattle.hs_effects.proofs.LookLemmas.{found_map}
 use Rattle.hs_entry.specs.declared.entry.Entry.{Entry}
 use Rattle.hs_entry.specs.declared.entry.Entry.TheVariants as kind

@@ -1,8 +1,8 @@
 -- A lawful history in which no payload tells an address gives the same folds by the naming that finds addresses in payloads.
 use Rattle.std.proofs.Common.{◌≡◌, ◌∙◌, sym, ap, subst, refl, ℕ, ◌+◌, ◌≤◌, List, [], ◌∷◌, slice_set, Result, Ok, Err, arith}
 use Rattle.hs_any_events.proofs.CodedLemmas.{Code, BeginsBelow, ReadsBelow, coded_name, coded_other}
-use Rattle.hs_core.specs.Looking.{shape_of}
-use Rattle.hs_core.specs.State.{Core}
+use Rattle.hs_core_words.specs.Looking.{shape_of}
+use Rattle.hs_core_words.specs.State.{Core}
 use Rattle.hs_effects.specs.Lawful.{AreOfHistory, IsLawful}
 use Rattle.hs_entry.specs.declared.entry.Entry.{Entry}
 use Rattle.hs_entry.specs.declared.entry.Entry.TheVariants as kind

@@ -14,10 +14,10 @@ use Rattle.hs_any_events.proofs.OneEntryLemmas.{AtMostOne}
 use Rattle.hs_any_events.proofs.SinceLemmas.{HasSweptBy, Since, TookOne, WaitedFirst}
 use Rattle.hs_any_events.proofs.SweptLemmas.{IsRound, round_called, round_named, round_no_block, round_or_same, round_sweeps, sweeps_up_to}
 use Rattle.hs_any_events.specs.Events.{StaysCountedRight, Sweeps}
-use Rattle.hs_core.specs.Looking.{catalogue_of, front_of, group_of, shape_of}
-use Rattle.hs_core.specs.Pending.{named}
-use Rattle.hs_core.specs.Records.{HasRecordRoom}
-use Rattle.hs_core.specs.State.{Core}
+use Rattle.hs_core_words.specs.Looking.{catalogue_of, front_of, group_of, shape_of}
+use Rattle.hs_core_words.specs.Pending.{named}
+use Rattle.hs_core_words.specs.Records.{HasRecordRoom}
+use Rattle.hs_core_words.specs.State.{Core}
 use Rattle.hs_effects.specs.Lawful.{IsLawful, MayFollow}
 use Rattle.hs_effects.specs.Taking.{done_by, next_deed, setting_of}
 use Rattle.hs_entry.specs.declared.entry.Entry.{Entry}

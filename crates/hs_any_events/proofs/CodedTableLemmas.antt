@@ -6,8 +6,8 @@ use Rattle.std.specs.Prelude.{if◌then◌else◌}
 use Rattle.hs_any_events.proofs.CodedLemmas.{Code}
 use Rattle.hs_any_events.proofs.CodedWalkLemmas.{IsTabled}
 use Rattle.hs_any_events.specs.Events.{BringsAddress}
-use Rattle.hs_core.specs.declared.event.Event.{Event}
-use Rattle.hs_core.specs.declared.event.Event.TheVariants as event
+use Rattle.hs_core_words.specs.declared.event.Event.{Event}
+use Rattle.hs_core_words.specs.declared.event.Event.TheVariants as event
 use Rattle.hs_events.specs.Due.{Events}
 use Rattle.hs_limits.specs.declared.address.Address.{Address}
 use Rattle.hs_model.proofs.Members.{Member}

@@ -17,13 +17,13 @@ use Rattle.hs_any_events.proofs.CodedStepLemmas.{told_coded}
 use Rattle.hs_any_events.proofs.SteadyLemmas.{IsFreshLine, IsSteady, walks_steady}
 use Rattle.hs_awaiting.specs.declared.wait.Wait.TheVariants as wait
 use Rattle.hs_awaiting.specs.declared.waiting.Waiting.{Waiting}
-use Rattle.hs_core.specs.Asking.{send_round}
-use Rattle.hs_core.specs.Changing.{change_pool, note, refuse}
-use Rattle.hs_core.specs.Delivering.{is_new_round}
-use Rattle.hs_core.specs.Looking.{catalogue_of, group_of, operation_of, shape_of}
-use Rattle.hs_core.specs.Operating.{begin_line, go_on_with, propose_entry, resume}
-use Rattle.hs_core.specs.Seeing.{pointers_for}
-use Rattle.hs_core.specs.State.{Core}
+use Rattle.hs_core_words.specs.Asking.{send_round}
+use Rattle.hs_core_words.specs.Changing.{change_pool, note, refuse}
+use Rattle.hs_core_words.specs.Delivering.{is_new_round}
+use Rattle.hs_core_words.specs.Looking.{catalogue_of, group_of, operation_of, shape_of}
+use Rattle.hs_core_words.specs.Operating.{begin_line, go_on_with, propose_entry, resume}
+use Rattle.hs_core_words.specs.Seeing.{pointers_for}
+use Rattle.hs_core_words.specs.State.{Core}
 use Rattle.hs_effects.proofs.FreeLemmas.{are_addressed, is_bounded}
 use Rattle.hs_effects.proofs.LookLemmas.{found_map}
 use Rattle.hs_effects.proofs.SweepLemmas.{ByViews}

@@ -1,10 +1,10 @@
 -- By an Enter or a Got no shard has more root records than before.
 use Rattle.std.proofs.Common.{◌≡◌, sym, subst, ◌⊎◌, inl, inr, ℕ, ◌+◌, ◌≤◌, length, slice_set, slice_index_or, arith}
 use Rattle.hs_any_events.proofs.SweptLemmas.{IsRound}
-use Rattle.hs_core.specs.Looking.{catalogue_of, front_of, shape_of}
-use Rattle.hs_core.specs.Pending.{named}
-use Rattle.hs_core.specs.Records.{HasRecordRoom, most_records}
-use Rattle.hs_core.specs.State.{Core}
+use Rattle.hs_core_words.specs.Looking.{catalogue_of, front_of, shape_of}
+use Rattle.hs_core_words.specs.Pending.{named}
+use Rattle.hs_core_words.specs.Records.{HasRecordRoom, most_records}
+use Rattle.hs_core_words.specs.State.{Core}
 use Rattle.hs_effects.proofs.GroupLemmas.{set_at}
 use Rattle.hs_effects.proofs.LookLemmas.{one_or_other}
 use Rattle.hs_effects.specs.Taking.{done_by, taken}

@@ -8,11 +8,11 @@ use Rattle.hs_answered.proofs.AnswerLemmas.{hold_is}
 use Rattle.hs_answered.specs.Standing.{store_with}
 use Rattle.hs_awaiting.specs.declared.waiting.Waiting.{Waiting}
 use Rattle.hs_awaiting.specs.Words.{change_with}
-use Rattle.hs_core.specs.Effects.{tell_operation}
-use Rattle.hs_core.specs.Looking.{catalogue_of, front_of, group_of, shape_of}
-use Rattle.hs_core.specs.Operating.{take_step}
-use Rattle.hs_core.specs.Seeing.{view_for}
-use Rattle.hs_core.specs.State.{Core}
+use Rattle.hs_core_words.specs.Effects.{tell_operation}
+use Rattle.hs_core_words.specs.Looking.{catalogue_of, front_of, group_of, shape_of}
+use Rattle.hs_core_words.specs.Operating.{take_step}
+use Rattle.hs_core_words.specs.Seeing.{view_for}
+use Rattle.hs_core_words.specs.State.{Core}
 use Rattle.hs_desk.specs.declared.what.What.{What}
 use Rattle.hs_desk.specs.declared.what.What.TheVariants as what
 use Rattle.hs_effects.proofs.AnsweredLemmas.{seats_behind}

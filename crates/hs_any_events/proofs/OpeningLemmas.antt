@@ -2,11 +2,11 @@
 use Rattle.std.proofs.Common.{◌≡◌, ap, subst, ℕ, zero, suc, ◌+◌, List, ◌∷◌, map, length, refl, false}
 use Rattle.std.specs.List.{range_with_len}
 use Rattle.hs_answered.specs.Standing.{forget_all}
-use Rattle.hs_core.specs.Changing.{change_group, note, post, set_viewed}
-use Rattle.hs_core.specs.Looking.{group_of}
-use Rattle.hs_core.specs.Opening.{new_core}
-use Rattle.hs_core.specs.State.{Core}
-use Rattle.hs_core.specs.Views.{begin_view, restart}
+use Rattle.hs_core_words.specs.Changing.{change_group, note, post, set_viewed}
+use Rattle.hs_core_words.specs.Looking.{group_of}
+use Rattle.hs_core_words.specs.Opening.{new_core}
+use Rattle.hs_core_words.specs.State.{Core}
+use Rattle.hs_core_words.specs.Views.{begin_view, restart}
 use Rattle.hs_effects.proofs.QuietLemmas.{Quiet, proposed_quiet}
 use Rattle.hs_effects.specs.Lawful.{IsLawful}
 use Rattle.hs_effects.specs.Taking.{setting_of}

@@ -4,8 +4,8 @@ use Rattle.std.proofs.lemmas.List.Elements.{All-weaker}
 use Rattle.std.specs.Map.{values_of}
 use Rattle.std.specs.Prelude.{All}
 use Rattle.hs_any_events.specs.Events.{IsCountedRight}
-use Rattle.hs_core.specs.Looking.{shape_of}
-use Rattle.hs_core.specs.State.{Core}
+use Rattle.hs_core_words.specs.Looking.{shape_of}
+use Rattle.hs_core_words.specs.State.{Core}
 use Rattle.hs_deletion.specs.Following.{IsSent}
 use Rattle.hs_deletion.specs.Machine.{Layout, empty_machine}
 use Rattle.hs_effects.specs.Lawful.{AreOfHistory, IsLawful}

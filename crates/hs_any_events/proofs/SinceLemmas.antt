@@ -5,12 +5,12 @@ use Rattle.std.proofs.lemmas.List.{get_or-set_other, get_or-set_same, get_or_pas
 use Rattle.std.specs.Prelude.{slice_get, slice_index_or}
 use Rattle.hs_any_events.proofs.SteadyLemmas.{again_like}
 use Rattle.hs_awaiting.specs.declared.waiting.Waiting.{Waiting}
-use Rattle.hs_core.specs.Asking.{send_round}
-use Rattle.hs_core.specs.Changing.{change_pool, note, refuse}
-use Rattle.hs_core.specs.Looking.{catalogue_of, front_of, group_of, shape_of}
-use Rattle.hs_core.specs.Operating.{begin_line, go_on_with, propose_entry, resume}
-use Rattle.hs_core.specs.Seeing.{pointers_for}
-use Rattle.hs_core.specs.State.{Core}
+use Rattle.hs_core_words.specs.Asking.{send_round}
+use Rattle.hs_core_words.specs.Changing.{change_pool, note, refuse}
+use Rattle.hs_core_words.specs.Looking.{catalogue_of, front_of, group_of, shape_of}
+use Rattle.hs_core_words.specs.Operating.{begin_line, go_on_with, propose_entry, resume}
+use Rattle.hs_core_words.specs.Seeing.{pointers_for}
+use Rattle.hs_core_words.specs.State.{Core}
 use Rattle.hs_effects.proofs.GroupLemmas.{set_at}
 use Rattle.hs_effects.proofs.QuietLemmas.{going_quiet, proposed_quiet}
 use Rattle.hs_effects.specs.Taking.{done_by, taken}
@@ -35,7 +35,7 @@ use Rattle.hs_standing.proofs.ProposeLemmas.{Proposes, proposes_as, proposes_bes
 use Rattle.hs_standing.proofs.QuietLemmas.{quiet_bytes, quiet_step}
 use Rattle.hs_standing.specs.Changes.{told_at_once}
 use Rattle.hs_standing.specs.Walks.{Walks}
-use Rattle.hs_core.specs.Pending.{named}
+use Rattle.hs_core_words.specs.Pending.{named}
 
 -- ---- what came of a shard
 

@@ -12,15 +12,15 @@ use Rattle.hs_any_events.proofs.RefusedLemmas.{called_is, refused_commands, refu
 use Rattle.hs_awaiting.specs.declared.wait.Wait.TheVariants as wait
 use Rattle.hs_awaiting.specs.declared.waiting.Waiting.{Waiting}
 use Rattle.hs_awaiting.specs.Words.{change_with}
-use Rattle.hs_core.specs.Asking.{send_round}
-use Rattle.hs_core.specs.Changing.{change_pool, note, post, refuse}
-use Rattle.hs_core.specs.Delivering.{is_new_round}
-use Rattle.hs_core.specs.Effects.{round_messages}
-use Rattle.hs_core.specs.Entering.{is_enter_due}
-use Rattle.hs_core.specs.Looking.{catalogue_of, group_of, operation_of, shape_of}
-use Rattle.hs_core.specs.Operating.{begin_line, go_on_with, propose_entry, resume}
-use Rattle.hs_core.specs.Seeing.{pointers_for}
-use Rattle.hs_core.specs.State.{Core}
+use Rattle.hs_core_words.specs.Asking.{send_round}
+use Rattle.hs_core_words.specs.Changing.{change_pool, note, post, refuse}
+use Rattle.hs_core_words.specs.Delivering.{is_new_round}
+use Rattle.hs_core_words.specs.Effects.{round_messages}
+use Rattle.hs_core_words.specs.Entering.{is_enter_due}
+use Rattle.hs_core_words.specs.Looking.{catalogue_of, group_of, operation_of, shape_of}
+use Rattle.hs_core_words.specs.Operating.{begin_line, go_on_with, propose_entry, resume}
+use Rattle.hs_core_words.specs.Seeing.{pointers_for}
+use Rattle.hs_core_words.specs.State.{Core}
 use Rattle.hs_desk.specs.declared.what.What.{What}
 use Rattle.hs_desk.specs.declared.what.What.TheVariants as what
 use Rattle.hs_effects.proofs.EffectLemmas.{committed_named}

@@ -1,13 +1,13 @@
 -- Events that may come to a core, whatever their reports tell and whatever addresses their writes bring, and what holds of the core behind them.
 use Rattle.std.specs.Option.{IsSomeAnd}
 use Rattle.std.specs.Prelude.{◌≡◌, ◌≢◌, ◌<◌, ℕ, List, [], ◌∷◌, None}
-use Rattle.hs_core.specs.Calls.{IsNextLine}
-use Rattle.hs_core.specs.declared.event.Event.{Event}
-use Rattle.hs_core.specs.declared.event.Event.TheVariants as event
-use Rattle.hs_core.specs.Looking.{catalogue_of, shape_of}
-use Rattle.hs_core.specs.Records.{HasRecordRoom}
-use Rattle.hs_core.specs.State.{Core}
-use Rattle.hs_core.specs.Step.{step}
+use Rattle.hs_core_words.specs.Calls.{IsNextLine}
+use Rattle.hs_core_words.specs.declared.event.Event.{Event}
+use Rattle.hs_core_words.specs.declared.event.Event.TheVariants as event
+use Rattle.hs_core_words.specs.Looking.{catalogue_of, shape_of}
+use Rattle.hs_core_words.specs.Records.{HasRecordRoom}
+use Rattle.hs_core_words.specs.State.{Core}
+use Rattle.hs_core_words.specs.Step.{step}
 use Rattle.hs_effects.specs.Logged.{HasBlock}
 use Rattle.hs_events.specs.Due.{Events}
 use Rattle.hs_limits.specs.declared.address.Address.{Address}

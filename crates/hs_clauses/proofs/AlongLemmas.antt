@@ -4,9 +4,9 @@ use Rattle.hs_standing.specs.Walks.{HasRecordRoom}
 use Rattle.hs_answered.specs.Telling.{Judging}
 use Rattle.hs_standing.proofs.AddressedLemmas.{AllAddressed}
 use Rattle.hs_standing.specs.Answered.{IsAskedAlong, KeepsRecordRoom, TellTheirBlocks}
-use Rattle.hs_core.specs.declared.event.Event.{Event}
-use Rattle.hs_core.specs.State.{Core}
-use Rattle.hs_core.specs.Step.{step}
+use Rattle.hs_core_words.specs.declared.event.Event.{Event}
+use Rattle.hs_core_words.specs.State.{Core}
+use Rattle.hs_core_words.specs.Step.{step}
 use Rattle.hs_desk.specs.declared.fault.CoreFault.{CoreFault}
 use Rattle.hs_effects.specs.Logged.{MayBeginAll}
 use Rattle.hs_events.proofs.GoingLemmas.{step_goes}

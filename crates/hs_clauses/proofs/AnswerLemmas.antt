@@ -6,7 +6,7 @@ use Rattle.hs_clauses.proofs.FrontLemmas.{answered_front, legal_front}
 use Rattle.hs_clauses.proofs.ReadyLemmas.{LawsHere, last_answers, last_turn}
 use Rattle.hs_clauses.proofs.AskedLemmas.{IsAskedOf}
 use Rattle.hs_clauses.specs.Asked.{lined}
-use Rattle.hs_core.specs.State.{Core}
+use Rattle.hs_core_words.specs.State.{Core}
 use Rattle.hs_journal.specs.declared.entry.JournalEntry.{JournalEntry}
 use Rattle.hs_promise.specs.Answers.{Answers}
 use Rattle.hs_promise.specs.Causes.{FullCause}

@@ -4,14 +4,14 @@ use Rattle.hs_standing.specs.Changes.{IsBeside, told_at_once, tells_at_once}
 use Rattle.hs_answered.specs.Standing.{IsFolded, store_with}
 use Rattle.hs_awaiting.specs.declared.waiting.Waiting.{Waiting}
 use Rattle.hs_awaiting.specs.Views.{restarted}
-use Rattle.hs_core.specs.Asking.{send_round}
-use Rattle.hs_core.specs.Changing.{change_group, change_pool, post, set_viewed}
-use Rattle.hs_core.specs.Effects.{note_enter, tell_enter, tell_operation}
-use Rattle.hs_core.specs.Looking.{group_of, operation_of, shape_of}
-use Rattle.hs_core.specs.Operating.{go_on_with, propose_entry, resume}
-use Rattle.hs_core.specs.Seeing.{view_for}
-use Rattle.hs_core.specs.State.{Core}
-use Rattle.hs_core.specs.Views.{begin_view, restart}
+use Rattle.hs_core_words.specs.Asking.{send_round}
+use Rattle.hs_core_words.specs.Changing.{change_group, change_pool, post, set_viewed}
+use Rattle.hs_core_words.specs.Effects.{note_enter, tell_enter, tell_operation}
+use Rattle.hs_core_words.specs.Looking.{group_of, operation_of, shape_of}
+use Rattle.hs_core_words.specs.Operating.{go_on_with, propose_entry, resume}
+use Rattle.hs_core_words.specs.Seeing.{view_for}
+use Rattle.hs_core_words.specs.State.{Core}
+use Rattle.hs_core_words.specs.Views.{begin_view, restart}
 use Rattle.hs_desk.specs.declared.what.What.{What}
 use Rattle.hs_effects.specs.Lawful.{IsLawful, MayFollow}
 use Rattle.hs_effects.specs.Logged.{IsOrderly}

@@ -12,12 +12,12 @@ use Rattle.hs_answered.specs.Standing.{IsFolded}
 use Rattle.hs_awaiting.specs.declared.wait.Wait.TheVariants as wait
 use Rattle.hs_awaiting.specs.declared.waiting.Waiting.{Waiting}
 use Rattle.hs_awaiting.specs.Words.{change_with}
-use Rattle.hs_core.specs.Changing.{add_operation, put_operation}
-use Rattle.hs_core.specs.Looking.{catalogue_of, group_of, lead_of, operation_of, shape_of}
-use Rattle.hs_core.specs.Operating.{add_read, answer, begin_line, busy_line, go_on_with, propose_entry, take_step, what_holds}
-use Rattle.hs_core.specs.Pending.{is_coming}
-use Rattle.hs_core.specs.Seeing.{pointers_for, view_for}
-use Rattle.hs_core.specs.State.{Core}
+use Rattle.hs_core_words.specs.Changing.{add_operation, put_operation}
+use Rattle.hs_core_words.specs.Looking.{catalogue_of, group_of, lead_of, operation_of, shape_of}
+use Rattle.hs_core_words.specs.Operating.{add_read, answer, begin_line, busy_line, go_on_with, propose_entry, take_step, what_holds}
+use Rattle.hs_core_words.specs.Pending.{is_coming}
+use Rattle.hs_core_words.specs.Seeing.{pointers_for, view_for}
+use Rattle.hs_core_words.specs.State.{Core}
 use Rattle.hs_effects.proofs.BeginLemmas.{added, busy_by, busy_refused}
 use Rattle.hs_effects.proofs.LookLemmas.{found_insert, found_set, gone, insert_other, number_exact, once_insert, one_or_other, remove_other, set_other}
 use Rattle.hs_effects.proofs.OrderlyLemmas.{session_in}

@@ -8,9 +8,9 @@ use Rattle.hs_clauses.proofs.AlongLemmas.{rises_front, rises_rest}
 use Rattle.hs_clauses.proofs.FirstLemmas.{opens_first}
 use Rattle.hs_clauses.proofs.LineLemmas.{flat_same, joined, opening_due}
 use Rattle.hs_clauses.specs.Asked.{lined}
-use Rattle.hs_core.specs.Opening.{Taken, open_core}
-use Rattle.hs_core.specs.State.{Core}
-use Rattle.hs_core.specs.Step.{step}
+use Rattle.hs_core_words.specs.Opening.{Taken, open_core}
+use Rattle.hs_core_words.specs.State.{Core}
+use Rattle.hs_core_words.specs.Step.{step}
 use Rattle.hs_effects.specs.Logged.{MayBeginAll}
 use Rattle.hs_events.specs.Course.{steps}
 use Rattle.hs_events.specs.Due.{Events, MomentsRise, is_walk, next_due}

@@ -12,8 +12,8 @@ use Rattle.hs_clauses.proofs.RestLemmas.{IsRested, rest_logs, rest_reopens}
 use Rattle.hs_clauses.proofs.TakenLemmas.{has_log, list_is}
 use Rattle.hs_clauses.specs.Shown.{IsShown, KeepsList, OnDisks}
 use Rattle.hs_answered.specs.Telling.{Judging}
-use Rattle.hs_core.specs.State.{Core}
-use Rattle.hs_core.specs.Step.{step}
+use Rattle.hs_core_words.specs.State.{Core}
+use Rattle.hs_core_words.specs.Step.{step}
 use Rattle.hs_desk.specs.declared.fault.CoreFault.{CoreFault}
 use Rattle.hs_entry.specs.Entries.{rank_of}
 use Rattle.hs_events.specs.Beginning.{first_items}

@@ -13,12 +13,12 @@ use Rattle.hs_awaiting.specs.declared.wait.Wait.TheVariants as wait
 use Rattle.hs_awaiting.specs.declared.waiting.Waiting.{Waiting}
 use Rattle.hs_awaiting.specs.Views.{is_within, restarted}
 use Rattle.hs_awaiting.specs.Words.{change_with}
-use Rattle.hs_core.specs.Changing.{add_entry_tasks, add_task, change_group, end_operation, post, put_operation, set_tasks}
-use Rattle.hs_core.specs.declared.task.Task.{Task}
-use Rattle.hs_core.specs.Looking.{group_of, lead_of, operation_of, shape_of, tasks_of}
-use Rattle.hs_core.specs.Operating.{add_read, propose_entry}
-use Rattle.hs_core.specs.State.{Core}
-use Rattle.hs_core.specs.Views.{restart_at}
+use Rattle.hs_core_words.specs.Changing.{add_entry_tasks, add_task, change_group, end_operation, post, put_operation, set_tasks}
+use Rattle.hs_core_words.specs.declared.task.Task.{Task}
+use Rattle.hs_core_words.specs.Looking.{group_of, lead_of, operation_of, shape_of, tasks_of}
+use Rattle.hs_core_words.specs.Operating.{add_read, propose_entry}
+use Rattle.hs_core_words.specs.State.{Core}
+use Rattle.hs_core_words.specs.Views.{restart_at}
 use Rattle.hs_desk.specs.declared.job.Job.TheVariants as job
 use Rattle.hs_effects.proofs.GroupLemmas.{group_changed}
 use Rattle.hs_effects.proofs.LookLemmas.{found_map, found_set, gone, insert_other, number_exact, once_insert, once_map, once_remove, once_set, one_or_other, remove_other, set_other}

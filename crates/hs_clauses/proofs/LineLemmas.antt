@@ -3,8 +3,8 @@ use Rattle.std.proofs.Common.{◌≡◌, ap, sym, subst, ℕ, ◌+◌, ◌++◌,
 use Rattle.std.specs.Option.{option_and_then, option_map_or, option_or}
 use Rattle.std.specs.Prelude.{flat_map, if◌then◌else◌}
 use Rattle.hs_clauses.specs.Asked.{lined}
-use Rattle.hs_core.specs.State.{Core}
-use Rattle.hs_core.specs.Step.{step}
+use Rattle.hs_core_words.specs.State.{Core}
+use Rattle.hs_core_words.specs.Step.{step}
 use Rattle.hs_events.specs.Course.{steps}
 use Rattle.hs_events.specs.declared.due.Due.{Due}
 use Rattle.hs_events.specs.Due.{Events, Walked, first_place, is_it, is_walk, next_due, next_nudge, next_turn, place_after, raises_known, walk}

@@ -11,8 +11,8 @@ use Rattle.hs_clauses.proofs.RoomLemmas.{front_first, opens}
 use Rattle.hs_clauses.proofs.TakenLemmas.{peers_are}
 use Rattle.hs_clauses.specs.Shown.{HaveOneList, IsShown}
 use Rattle.hs_cluster.proofs.OpeningMoves.{all_good}
-use Rattle.hs_core.specs.Looking.{front_of, status_of}
-use Rattle.hs_core.specs.State.{Core}
+use Rattle.hs_core_words.specs.Looking.{front_of, status_of}
+use Rattle.hs_core_words.specs.State.{Core}
 use Rattle.hs_entry.specs.Entries.{rank_of}
 use Rattle.hs_events.specs.Beginning.{first_items}
 use Rattle.hs_events.specs.Course.{happened, items_of, steps}

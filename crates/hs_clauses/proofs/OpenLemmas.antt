@@ -4,11 +4,11 @@ use Rattle.std.proofs.lemmas.Bool.{cases_lt}
 use Rattle.std.proofs.lemmas.List.{get_or_past}
 use Rattle.std.proofs.lemmas.List.FromFn.{get_or-map-range_with_len, length-map-range_with_len}
 use Rattle.std.specs.List.{enumerate_from}
-use Rattle.hs_core.specs.Changing.{note}
-use Rattle.hs_core.specs.Looking.{catalogue_of, front_of, shape_of, shards_of, status_of}
-use Rattle.hs_core.specs.Opening.{Taken, begin_views, new_core, note_down, note_if_down, open_core, taken_group}
-use Rattle.hs_core.specs.State.{Core}
-use Rattle.hs_core.specs.Views.{change_view}
+use Rattle.hs_core_words.specs.Changing.{note}
+use Rattle.hs_core_words.specs.Looking.{catalogue_of, front_of, shape_of, shards_of, status_of}
+use Rattle.hs_core_words.specs.Opening.{Taken, begin_views, new_core, note_down, note_if_down, open_core, taken_group}
+use Rattle.hs_core_words.specs.State.{Core}
+use Rattle.hs_core_words.specs.Views.{change_view}
 use Rattle.hs_entry.specs.declared.entry.Entry.{Entry}
 use Rattle.hs_entry.specs.Entries.{rank_of}
 use Rattle.hs_events.specs.Found.{Found, first_core, opened_catalogue, opened_list, opens_with}

@@ -1,12 +1,12 @@
 -- As a core opens: its moment, and that it has no line.
 use Rattle.std.proofs.Common.{◌≡◌, ◌∙◌, ℕ, ◌+◌, Bool, true, false, List, [], ◌∷◌, refl, length, nat_lt, not}
 use Rattle.hs_awaiting.specs.Words.{change_if, each}
-use Rattle.hs_core.specs.Changing.{note}
-use Rattle.hs_core.specs.Looking.{shape_of, shards_of, status_of}
-use Rattle.hs_core.specs.Opening.{Taken, begin_views, new_core, note_down, note_if_down, open_core}
-use Rattle.hs_core.specs.State.{Core}
-use Rattle.hs_core.specs.Step.{end_event}
-use Rattle.hs_core.specs.Views.{change_view}
+use Rattle.hs_core_words.specs.Changing.{note}
+use Rattle.hs_core_words.specs.Looking.{shape_of, shards_of, status_of}
+use Rattle.hs_core_words.specs.Opening.{Taken, begin_views, new_core, note_down, note_if_down, open_core}
+use Rattle.hs_core_words.specs.State.{Core}
+use Rattle.hs_core_words.specs.Step.{end_event}
+use Rattle.hs_core_words.specs.Views.{change_view}
 use Rattle.hs_events.proofs.KeepLemmas.{Leaves, keeps_change_view}
 use Rattle.hs_journal.specs.declared.entry.Who.TheVariants as who
 use Rattle.hs_limits.specs.declared.limits.Limits.{Limits}

@@ -11,10 +11,10 @@ use Rattle.hs_standing.specs.Walks.{HasRecordRoom}
 use Rattle.hs_standing.specs.Answered.{KeepsRecordRoom}
 use Rattle.hs_clauses.proofs.NoteLemmas.{opens_noted}
 use Rattle.hs_cluster.specs.Rooms.{HaveRecordRoom}
-use Rattle.hs_core.specs.Looking.{catalogue_of, front_of, group_of, shape_of}
-use Rattle.hs_core.specs.Opening.{new_core, taken_group}
-use Rattle.hs_core.specs.State.{Core}
-use Rattle.hs_core.specs.Step.{step}
+use Rattle.hs_core_words.specs.Looking.{catalogue_of, front_of, group_of, shape_of}
+use Rattle.hs_core_words.specs.Opening.{new_core, taken_group}
+use Rattle.hs_core_words.specs.State.{Core}
+use Rattle.hs_core_words.specs.Step.{step}
 use Rattle.hs_entry.specs.declared.entry.Entry.{Entry}
 use Rattle.hs_entry.specs.Entries.{rank_of}
 use Rattle.hs_events.specs.Course.{steps}

@@ -10,13 +10,13 @@ use Rattle.hs_answered.specs.Telling.{Judging}
 use Rattle.hs_standing.specs.Answered.{KeepsRecordRoom, TellTheirBlocks}
 use Rattle.hs_cluster.specs.Kept.{AreStored, AreTold}
 use Rattle.hs_awaiting.specs.declared.waiting.Waiting.{Waiting}
-use Rattle.hs_core.specs.declared.event.Event.{Event}
-use Rattle.hs_core.specs.declared.task.Task.{Task}
-use Rattle.hs_core.specs.Looking.{catalogue_of, group_of}
-use Rattle.hs_core.specs.Opening.{Taken, good_copies, new_core, taken_group}
-use Rattle.hs_core.specs.Seeing.{pointers_for}
-use Rattle.hs_core.specs.State.{Core}
-use Rattle.hs_core.specs.Step.{step}
+use Rattle.hs_core_words.specs.declared.event.Event.{Event}
+use Rattle.hs_core_words.specs.declared.task.Task.{Task}
+use Rattle.hs_core_words.specs.Looking.{catalogue_of, group_of}
+use Rattle.hs_core_words.specs.Opening.{Taken, good_copies, new_core, taken_group}
+use Rattle.hs_core_words.specs.Seeing.{pointers_for}
+use Rattle.hs_core_words.specs.State.{Core}
+use Rattle.hs_core_words.specs.Step.{step}
 use Rattle.hs_desk.specs.declared.fault.CoreFault.{CoreFault}
 use Rattle.hs_effects.proofs.EffectLemmas.{committed_named}
 use Rattle.hs_entry.specs.declared.entry.Entry.TheVariants as kind

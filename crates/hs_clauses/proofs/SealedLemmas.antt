@@ -7,8 +7,8 @@ use Rattle.std.specs.Option.{option_map}
 use Rattle.std.specs.Prelude.{Contains}
 use Rattle.hs_cluster.specs.Kept.{AreStored, IsStored, sealed_front}
 use Rattle.hs_awaiting.specs.Words.{change_if}
-use Rattle.hs_core.specs.Looking.{catalogue_of, front_of, group_of, home, shape_of}
-use Rattle.hs_core.specs.Step.{run_event, step}
+use Rattle.hs_core_words.specs.Looking.{catalogue_of, front_of, group_of, home, shape_of}
+use Rattle.hs_core_words.specs.Step.{run_event, step}
 use Rattle.hs_desk.specs.declared.fault.CoreFault.{CoreFault}
 use Rattle.hs_desk.specs.declared.job.Job.TheVariants as job
 use Rattle.hs_entry.specs.declared.entry.Entry.{Entry}

@@ -6,8 +6,8 @@ use Rattle.std.specs.BTreeMap.{insert_entry, is_at}
 use Rattle.std.specs.Map.{lookup}
 use Rattle.std.specs.Option.{option_map}
 use Rattle.hs_answered.specs.Standing.{IsFolded, store_with}
-use Rattle.hs_core.specs.Looking.{front_of, shape_of}
-use Rattle.hs_core.specs.State.{Core}
+use Rattle.hs_core_words.specs.Looking.{front_of, shape_of}
+use Rattle.hs_core_words.specs.State.{Core}
 use Rattle.hs_effects.proofs.FoldLemmas.{low_here, own_here, taken_folds}
 use Rattle.hs_effects.specs.Lawful.{IsLawful, MayFollow}
 use Rattle.hs_effects.specs.Taking.{IsNamed, folds_behind, next_deed, setting_of, taken}

@@ -12,7 +12,7 @@ use Rattle.hs_clauses.proofs.ListLemmas.{none_aside}
 use Rattle.hs_clauses.proofs.MomentLemmas.{at_moment, good, one_list, state_then}
 use Rattle.hs_clauses.specs.Asked.{start_of}
 use Rattle.hs_clauses.specs.Shown.{HaveOneList, IsShown}
-use Rattle.hs_core.specs.State.{Core}
+use Rattle.hs_core_words.specs.State.{Core}
 use Rattle.hs_events.specs.Beginning.{first_items}
 use Rattle.hs_events.specs.Course.{happened, items_of}
 use Rattle.hs_events.specs.Due.{Events}

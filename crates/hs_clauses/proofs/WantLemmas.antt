@@ -2,8 +2,8 @@
 use Rattle.std.proofs.Common.{◌≡◌, ◌∙◌, sym, ap, subst, inl, inr, ℕ, ◌<◌, ◌==◌, Bool, true, false, cond, find, map, List, [], ◌∷◌, Option, Some, None, is_some, refl, eqb-true, take}
 use Rattle.std.specs.Option.{option_map}
 use Rattle.hs_cluster.specs.Kept.{IsStored, sealed_front}
-use Rattle.hs_core.specs.declared.task.Task.{Task}
-use Rattle.hs_core.specs.Looking.{catalogue_of, first_task, front_of, home, shape_of}
+use Rattle.hs_core_words.specs.declared.task.Task.{Task}
+use Rattle.hs_core_words.specs.Looking.{catalogue_of, first_task, front_of, home, shape_of}
 use Rattle.hs_desk.specs.declared.job.Job.{Job}
 use Rattle.hs_desk.specs.declared.job.Job.TheVariants as job
 use Rattle.hs_effects.proofs.FoldLemmas.{own_here}

@@ -1,9 +1,9 @@
 -- Events that come one after another.
 use Rattle.std.specs.Prelude.{◌≡◌, ℕ, [], ◌∷◌, None}
 use Rattle.hs_answered.specs.Telling.{Judging}
-use Rattle.hs_core.specs.declared.event.Event.{Event}
-use Rattle.hs_core.specs.State.{Core}
-use Rattle.hs_core.specs.Step.{step}
+use Rattle.hs_core_words.specs.declared.event.Event.{Event}
+use Rattle.hs_core_words.specs.State.{Core}
+use Rattle.hs_core_words.specs.Step.{step}
 use Rattle.hs_effects.specs.Logged.{MayBegin}
 use Rattle.hs_events.specs.Due.{Events}
 use Rattle.hs_standing.specs.Coming.{ComesAddressed}

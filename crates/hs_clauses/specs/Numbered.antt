@@ -1,8 +1,8 @@
 -- The blocks of a shard are of entries that took effect: they carry the numbers of such.
 use Rattle.std.specs.List.{AllByRecursion}
 use Rattle.std.specs.Prelude.{ℕ, ◌≤◌}
-use Rattle.hs_core.specs.Looking.{catalogue_of, front_of}
-use Rattle.hs_core.specs.State.{Core}
+use Rattle.hs_core_words.specs.Looking.{catalogue_of, front_of}
+use Rattle.hs_core_words.specs.State.{Core}
 use Rattle.hs_limits.specs.declared.address.Address.{Address}
 use Rattle.hs_shard.specs.declared.facts.Facts.{Facts}
 use Rattle.hs_shard.specs.Facts.{BlockList}

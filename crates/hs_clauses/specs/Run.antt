@@ -1,6 +1,6 @@
 -- A run whose operations wait for blocks that are there.
 use Rattle.std.specs.Prelude.{Bool, List}
-use Rattle.hs_core.specs.State.{Core}
+use Rattle.hs_core_words.specs.State.{Core}
 use Rattle.hs_events.specs.Whole.{Whole}
 use Rattle.hs_fold.specs.Runs.Facts.{Catalogue as Folded}
 use Rattle.hs_standing.specs.Held.{GivesAddresses}

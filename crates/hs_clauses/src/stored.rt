@@ -1,9 +1,9 @@
 //! The blocks of a shard are of its list, and so is what is read.
 ghost use Rattle.std.specs.Prelude.{◌≡◌, ◌<◌, ℕ, None, length};
 ghost use Rattle.hs_cluster.specs.Kept.{AreStored};
-ghost use Rattle.hs_core.specs.State.{Core};
-ghost use Rattle.hs_core.specs.Step.{step};
-ghost use Rattle.hs_core.specs.declared.event.Event.{Event};
+ghost use Rattle.hs_core_words.specs.State.{Core};
+ghost use Rattle.hs_core_words.specs.Step.{step};
+ghost use Rattle.hs_core_words.specs.declared.event.Event.{Event};
 ghost use Rattle.hs_events.specs.Due.{Events};
 ghost use Rattle.hs_events.specs.Found.{Found, first_core, opened_list};
 ghost use Rattle.hs_events.specs.Sane.{IsFromOne, IsSane};

@@ -6,7 +6,7 @@ use Rattle.hs_cluster.specs.declared.fault.ClusterFault.TheVariants as cluster
 use Rattle.hs_cluster.specs.Begins.{Begins, IsClosed, begun_course, of_taking, opened_with}
 use Rattle.hs_cluster.specs.Counts.{NoneFalls}
 use Rattle.hs_cluster.specs.Running.{Running}
-use Rattle.hs_core.specs.Opening.{open_core}
+use Rattle.hs_core_words.specs.Opening.{open_core}
 use Rattle.hs_fold.specs.Shards.Setting.{Setting}
 use Rattle.hs_limits.specs.declared.shape.Shape.{Shape}
 use Rattle.hs_peerlog.specs.declared.fault.LogFault.TheVariants as log

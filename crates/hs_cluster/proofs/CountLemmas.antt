@@ -7,11 +7,11 @@ use Rattle.hs_cluster.specs.Calls.{done_of, ran_out}
 use Rattle.hs_cluster.specs.Counts.{AllStandUntold, AreAllCounted, AreCounted, HasAllPaid, HasPaid, IsCopyPaid, IsPaid, NoneFalls, NoneRises, StandsUntold}
 use Rattle.hs_cluster.specs.declared.fault.ClusterFault.{ClusterFault}
 use Rattle.hs_cluster.specs.Disks.{DiskSeen, seen_at}
-use Rattle.hs_core.specs.declared.event.Event.{Event}
-use Rattle.hs_core.specs.declared.event.Event.TheVariants as event
-use Rattle.hs_core.specs.Looking.{first_job}
-use Rattle.hs_core.specs.State.{Core}
-use Rattle.hs_core.specs.Step.{step}
+use Rattle.hs_core_words.specs.declared.event.Event.{Event}
+use Rattle.hs_core_words.specs.declared.event.Event.TheVariants as event
+use Rattle.hs_core_words.specs.Looking.{first_job}
+use Rattle.hs_core_words.specs.State.{Core}
+use Rattle.hs_core_words.specs.Step.{step}
 use Rattle.hs_desk.specs.declared.done.Done.{Done}
 use Rattle.hs_desk.specs.declared.done.Done.TheVariants as done
 use Rattle.hs_desk.specs.declared.job.Job.{Job}

@@ -20,10 +20,10 @@ use Rattle.hs_cluster.specs.Opens.{Finds, IsFound, LeaveOneList, Opens}
 use Rattle.hs_cluster.specs.Past.{HoldsLog, LeavesPast}
 use Rattle.hs_cluster.specs.Rooms.{HaveRecordRoom}
 use Rattle.hs_cluster.specs.Running.{Running}
-use Rattle.hs_core.specs.Looking.{group_of, home}
-use Rattle.hs_core.specs.Opening.{Taken as Opened, open_core}
-use Rattle.hs_core.specs.State.{Core}
-use Rattle.hs_core.specs.Step.{step}
+use Rattle.hs_core_words.specs.Looking.{group_of, home}
+use Rattle.hs_core_words.specs.Opening.{Taken as Opened, open_core}
+use Rattle.hs_core_words.specs.State.{Core}
+use Rattle.hs_core_words.specs.Step.{step}
 use Rattle.hs_desk.specs.declared.fault.CoreFault.{CoreFault}
 use Rattle.hs_entry.specs.declared.entry.Entry.{Entry}
 use Rattle.hs_entry.specs.Entries.{is_of_base}

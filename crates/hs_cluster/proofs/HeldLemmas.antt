@@ -9,10 +9,10 @@ use Rattle.hs_cluster.specs.Jobs.{is_own, list_after, sealed_list, waiting_after
 use Rattle.hs_cluster.specs.Kept.{sealed_front}
 use Rattle.hs_events.specs.Sane.{IsSane, appended_of}
 use Rattle.hs_moments.specs.Working.{HasReported, NextJob, SealsNext}
-use Rattle.hs_core.specs.declared.event.Event.{Event}
-use Rattle.hs_core.specs.declared.event.Event.TheVariants as event
-use Rattle.hs_core.specs.Looking.{first_job}
-use Rattle.hs_core.specs.Step.{step}
+use Rattle.hs_core_words.specs.declared.event.Event.{Event}
+use Rattle.hs_core_words.specs.declared.event.Event.TheVariants as event
+use Rattle.hs_core_words.specs.Looking.{first_job}
+use Rattle.hs_core_words.specs.Step.{step}
 use Rattle.hs_desk.specs.Answers.{answers, is_append_of, is_read_of, is_seal_of}
 use Rattle.hs_desk.specs.declared.done.Done.{Done}
 use Rattle.hs_desk.specs.declared.done.Done.TheVariants as done

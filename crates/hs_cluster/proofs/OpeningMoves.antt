@@ -8,12 +8,12 @@ use Rattle.std.specs.List.{All, enumerate_from}
 use Rattle.std.specs.Option.{option_map}
 use Rattle.std.specs.Prelude.{drop, if◌then◌else◌, slice_index, slice_set, take}
 use Rattle.hs_awaiting.specs.Words.{change_if, change_with, each, ◌▸◌}
-use Rattle.hs_core.specs.Changing.{add_entry_tasks, change_group, note, post, set_viewed}
-use Rattle.hs_core.specs.declared.task.Task.{Task}
-use Rattle.hs_core.specs.Looking.{group_of, lost_shard, shape_of, shards_of, status_of, tasks_of}
-use Rattle.hs_core.specs.Opening.{Taken, begin_views, good_copies, new_core, note_down, note_if_down, taken_group}
-use Rattle.hs_core.specs.State.{Core}
-use Rattle.hs_core.specs.Views.{begin_view, change_view, restart}
+use Rattle.hs_core_words.specs.Changing.{add_entry_tasks, change_group, note, post, set_viewed}
+use Rattle.hs_core_words.specs.declared.task.Task.{Task}
+use Rattle.hs_core_words.specs.Looking.{group_of, lost_shard, shape_of, shards_of, status_of, tasks_of}
+use Rattle.hs_core_words.specs.Opening.{Taken, begin_views, good_copies, new_core, note_down, note_if_down, taken_group}
+use Rattle.hs_core_words.specs.State.{Core}
+use Rattle.hs_core_words.specs.Views.{begin_view, change_view, restart}
 use Rattle.hs_desk.specs.declared.fault.CoreFault.TheVariants as fault
 use Rattle.hs_entry.specs.declared.entry.Entry.{Entry}
 use Rattle.hs_entry.specs.declared.entry.Entry.TheVariants as kind

@@ -8,8 +8,8 @@ use Rattle.hs_cluster.specs.declared.fault.ClusterFault.{ClusterFault}
 use Rattle.hs_cluster.specs.Disks.{DiskSeen, log_at, stands_of}
 use Rattle.hs_cluster.specs.Jobs.{Leaves, LeavesLog, Tries, Working, Works, is_own, list_after, try_of, waiting_after}
 use Rattle.hs_cluster.specs.Past.{HasSomeLog, HoldsLog, LeavesPast}
-use Rattle.hs_core.specs.Looking.{first_job}
-use Rattle.hs_core.specs.State.{Core}
+use Rattle.hs_core_words.specs.Looking.{first_job}
+use Rattle.hs_core_words.specs.State.{Core}
 use Rattle.hs_desk.specs.declared.done.Done.{Done}
 use Rattle.hs_desk.specs.declared.job.Job.{Job}
 use Rattle.hs_entry.specs.declared.entry.Entry.{Entry}

@@ -7,7 +7,7 @@ use Rattle.hs_cluster.specs.declared.fault.ClusterFault.TheVariants as cluster
 use Rattle.hs_events.specs.Due.{Events, MomentsRise}
 use Rattle.hs_cluster.specs.Rooms.{HaveRecordRoom}
 use Rattle.hs_cluster.specs.Running.{Running}
-use Rattle.hs_core.specs.declared.event.Event.{Event}
+use Rattle.hs_core_words.specs.declared.event.Event.{Event}
 use Rattle.hs_desk.specs.declared.fault.CoreFault.{CoreFault}
 use Rattle.hs_desk.specs.declared.fault.CoreFault.TheVariants as core
 use Rattle.hs_limits.specs.declared.address.Address.{Address}

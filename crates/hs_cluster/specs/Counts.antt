@@ -1,8 +1,8 @@
 -- How often the disks of a cluster failed, by what was told of them.
 use Rattle.std.specs.Prelude.{◌≡◌, ◌≢◌, ◌≤◌, ◌⊎◌, ℕ, true, false, IfSome, List, Some}
 use Rattle.hs_cluster.specs.Disks.{DiskSeen, seen_at}
-use Rattle.hs_core.specs.declared.event.Event.TheVariants.{Report}
-use Rattle.hs_core.specs.State.{Core}
+use Rattle.hs_core_words.specs.declared.event.Event.TheVariants.{Report}
+use Rattle.hs_core_words.specs.State.{Core}
 use Rattle.hs_desk.specs.declared.done.Done.{Done}
 use Rattle.hs_events.specs.Asked.{failed_disk}
 use Rattle.hs_events.specs.Due.{Events}

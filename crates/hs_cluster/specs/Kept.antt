@@ -7,7 +7,7 @@ use Rattle.hs_cluster.specs.Jobs.{HasStored, TellsBytes}
 use Rattle.hs_cluster.specs.Past.{HoldsLog, LeavesPast}
 use Rattle.hs_cluster.specs.Running.{Running}
 use Rattle.hs_cluster.specs.declared.fault.ClusterFault.{ClusterFault}
-use Rattle.hs_core.specs.Looking.{catalogue_of, first_job, home}
+use Rattle.hs_core_words.specs.Looking.{catalogue_of, first_job, home}
 use Rattle.hs_desk.specs.declared.done.Done.{Done}
 use Rattle.hs_events.specs.Asked.{report_in}
 use Rattle.hs_events.specs.Course.{happened}

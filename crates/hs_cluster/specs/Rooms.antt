@@ -1,8 +1,8 @@
 -- That a core which goes on has no more root records than it takes.
 use Rattle.std.specs.Prelude.{None, [], ⊤, ◌≡◌, ◌∷◌}
-use Rattle.hs_core.specs.Records.{HasRecordRoom}
-use Rattle.hs_core.specs.State.{Core}
-use Rattle.hs_core.specs.Step.{step}
+use Rattle.hs_core_words.specs.Records.{HasRecordRoom}
+use Rattle.hs_core_words.specs.State.{Core}
+use Rattle.hs_core_words.specs.Step.{step}
 use Rattle.hs_events.specs.Due.{Events}
 
 -- each core that goes on behind one of some events

@@ -1,6 +1,6 @@
 -- What a cluster keeps.
 use Rattle.std.specs.Prelude.{List, Option}
-use Rattle.hs_core.specs.State.{Core}
+use Rattle.hs_core_words.specs.State.{Core}
 use Rattle.hs_model.specs.declared.course.CourseItem.{CourseItem}
 use Rattle.hs_peerlog.specs.Lists.{Keeping}
 

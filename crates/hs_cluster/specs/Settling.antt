@@ -6,8 +6,8 @@ use Rattle.hs_events.specs.declared.due.Place.{Place}
 use Rattle.hs_cluster.specs.declared.fault.ClusterFault.{ClusterFault}
 use Rattle.hs_events.specs.Due.{Events, MomentsRise, first_place, is_it, is_walk, next_due, next_turn, walk}
 use Rattle.hs_cluster.specs.Running.{Running}
-use Rattle.hs_core.specs.declared.event.Event.{Event}
-use Rattle.hs_core.specs.State.{Core}
+use Rattle.hs_core_words.specs.declared.event.Event.{Event}
+use Rattle.hs_core_words.specs.State.{Core}
 
 -- what is due of turns and nudges, or of turns alone
 abbrev pub due_with : Bool → Place → Core → Option Due

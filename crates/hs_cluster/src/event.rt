@@ -1,10 +1,10 @@
 //! One event, with its items of the course.
 ghost use Rattle.std.specs.Prelude.{◌≡◌, ◌≤◌, None, OnOk};
 ghost use Rattle.hs_cluster.specs.Calls.{Does, done_of};
-ghost use Rattle.hs_core.specs.Calls.{IsNextLine, last_line_after};
+ghost use Rattle.hs_core_words.specs.Calls.{IsNextLine, last_line_after};
 
 use crate::{Cluster, ClusterFault};
-use hs_core::Event;
+use hs_core_words::Event;
 use hs_desk::CoreFault;
 use hs_events::{begun_line, fronts_of, goods_of, note_event};
 

@@ -4,7 +4,7 @@ ghost use Rattle.hs_cluster.specs.declared.fault.ClusterFault.TheVariants.{NoMem
 ghost use Rattle.hs_cluster.specs.Counts.{AllStandUntold, HasAllPaid, HasPaid, IsCopyPaid, IsPaid, NoneFalls, StandsUntold};
 ghost use Rattle.hs_cluster.specs.Disks.{AreReady, IsSlotReady, log_at, seen_as, seen_at, stands_of};
 ghost use Rattle.hs_cluster.specs.Jobs.{HasStored, ReadsOn, TellsBytes, Tries, Works, is_own};
-ghost use Rattle.hs_core.specs.Looking.{catalogue_of, first_job, home};
+ghost use Rattle.hs_core_words.specs.Looking.{catalogue_of, first_job, home};
 ghost use Rattle.hs_entry.specs.declared.entry.Entry.{Entry};
 ghost use Rattle.hs_events.specs.Due.{is_answer};
 ghost use Rattle.hs_events.specs.Reports.{only_reads};

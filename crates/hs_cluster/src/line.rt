@@ -11,7 +11,7 @@ ghost use Rattle.hs_peerlog.specs.Lists.{Keeping};
 
 use crate::{Cluster, ClusterFault};
 use hs_block::Addresser;
-use hs_core::Event;
+use hs_core_words::Event;
 use hs_events::{addressed, turn_behind};
 use hs_model::{Command, Op};
 use hs_ports::{Disk, Watch};

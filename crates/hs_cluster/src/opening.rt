@@ -5,7 +5,7 @@ ghost use Rattle.hs_cluster.specs.Counts.{NoneFalls};
 ghost use Rattle.hs_cluster.specs.Disks.{AreReady, seen_as, seen_at};
 ghost use Rattle.hs_cluster.specs.Opens.{Opens};
 ghost use Rattle.hs_cluster.specs.Unopened.{LeavesAsTaken};
-ghost use Rattle.hs_core.specs.Opening.{open_core};
+ghost use Rattle.hs_core_words.specs.Opening.{open_core};
 ghost use Rattle.hs_limits.specs.Shape.{IsShape};
 ghost use Rattle.hs_side.specs.declared.header.Header.{Header};
 ghost use Rattle.hs_taking.specs.Spared.{SparesDisks};

@@ -7,12 +7,13 @@ ghost use Rattle.hs_cluster.specs.Kept.{Shows};
 ghost use Rattle.hs_events.specs.Due.{place_after, raises_known};
 ghost use Rattle.hs_cluster.specs.Settling.{DoesDue, RunsWalk, due_with};
 ghost use Rattle.hs_events.specs.Due.{IsDueOf, peer_due};
-ghost use Rattle.hs_core.specs.Looking.{known_of};
+ghost use Rattle.hs_core_words.specs.Looking.{known_of};
 ghost use Rattle.hs_members.specs.Members.{IsPeer, all_peers};
 
 use crate::job::do_job;
 use crate::{Cluster, ClusterFault};
-use hs_core::{Core, Event};
+use hs_core::Core;
+use hs_core_words::Event;
 use hs_events::{Due, Place, knowns_of, next_due, next_turn, peers_of, place_after, raises_known};
 use hs_ports::{Disk, Watch};
 

@@ -3,10 +3,10 @@ use Rattle.std.proofs.Common.{◌≡◌, ◌∙◌, sym, ap, ℕ, ◌+◌, ◌-�
 use Rattle.std.proofs.lemmas.List.{set-get_or}
 use Rattle.std.specs.Prelude.{slice_set}
 use Rattle.hs_awaiting.specs.Words.{change_with, times}
-use Rattle.hs_core.specs.Changing.{change_group}
-use Rattle.hs_core.specs.Effects.{after_entry, commit_next, take_effect}
-use Rattle.hs_core.specs.Looking.{group_of, shape_of}
-use Rattle.hs_core.specs.State.{Core}
+use Rattle.hs_core_words.specs.Changing.{change_group}
+use Rattle.hs_core_words.specs.Effects.{after_entry, commit_next, take_effect}
+use Rattle.hs_core_words.specs.Looking.{group_of, shape_of}
+use Rattle.hs_core_words.specs.State.{Core}
 use Rattle.hs_entry.specs.declared.entry.Entry.{Entry}
 use Rattle.hs_entry.specs.declared.entry.Entry.TheVariants as kind
 use Rattle.hs_replica.specs.Group.{committed, new_group, take_committed}

@@ -1,21 +1,16 @@
 -- The first step of an operation: one that is answered at once is put nowhere, and one that waits for bytes is put with that wait.
-use Rattle.std.proofs.Common.{◌≡◌, ◌∙◌, sym, ap, ℕ, List, Option, Some, None, refl}
+use Rattle.std.proofs.Common.{◌≡◌, ◌∙◌, sym, ap, ℕ, List, Some, None, refl}
 use Rattle.hs_awaiting.proofs.EntryLemmas.{find_insert, insert_set, remove_insert}
 use Rattle.hs_awaiting.specs.declared.wait.Wait.TheVariants as wait
 use Rattle.hs_awaiting.specs.declared.waiting.Waiting.{Waiting}
-use Rattle.hs_awaiting.specs.Kinds.{puts_root, writes_block}
 use Rattle.hs_awaiting.specs.Words.{change_with}
-use Rattle.hs_core.specs.Changing.{add_operation, put_operation}
-use Rattle.hs_core.specs.declared.aim.Aim.{Aim}
-use Rattle.hs_core.specs.Going.{aim_of, answer_new, answer_with, compare_new, set_wait, told_with}
-use Rattle.hs_core.specs.Looking.{lead_of, operation_of}
-use Rattle.hs_core.specs.Operating.{add_read}
-use Rattle.hs_core.specs.State.{Core}
-use Rattle.hs_limits.specs.declared.address.Address.{Address}
+use Rattle.hs_core_words.specs.Changing.{add_operation, put_operation}
+use Rattle.hs_core_state.specs.Going.{answer_new, answer_with, compare_new, set_wait, told_with}
+use Rattle.hs_core_words.specs.Looking.{lead_of, operation_of}
+use Rattle.hs_core_words.specs.Operating.{add_read}
+use Rattle.hs_core_words.specs.State.{Core}
 use Rattle.hs_limits.specs.declared.address.Held.{Held}
-use Rattle.hs_model.specs.declared.op.Op.{Op}
 use Rattle.hs_model.specs.declared.reply.Reply.{Reply}
-use Rattle.hs_ops.specs.Speaking.{wanted_address}
 
 module _ (line : ℕ) (w : Waiting) (core : Core) where
   abbrev added : Core
@@ -46,12 +41,3 @@ module _ (line : ℕ) (w : Waiting) (core : Core) where
   compared_first shard number last between put reads =
       reads ∙ ap (λ c. change_with (lead_of shard c) (add_read number line) c) put
       ∙ ap (change_with (lead_of shard core) (add_read number line)) (sym (put_waits number))
-
--- what an operation is about, by the shard and the address that it was found to have
-pub aimed : (o : Op) (core : Core) (shard judged : ℕ) (address : Option Address) (same : Op) → same ≡ o → shard ≡ judged → address ≡ wanted_address core.sessions o
-    → record { shard = shard; address = address; writes = writes_block same; roots = puts_root same } ≡ aim_of judged o core
-aimed o core shard judged address same is places wants =
-    ap (λ (x : Op). aim shard address x) is ∙ ap (λ k. aim k address o) places ∙ ap (λ a. aim judged a o) wants
-  where
-    aim : ℕ → Option Address → Op → Aim
-    aim k a x = record { shard = k; address = a; writes = writes_block x; roots = puts_root x }

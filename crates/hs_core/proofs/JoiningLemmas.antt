@@ -3,8 +3,8 @@ use Rattle.std.proofs.Common.{◌≡◌, ℕ, ◌+◌, ◌-◌, ◌<◌, ◌≤�
 use Rattle.std.specs.List.{range_with_len}
 use Rattle.std.specs.Prelude.{filter}
 use Rattle.hs_awaiting.specs.Words.{change_if, each}
-use Rattle.hs_core.specs.Joining.{begin_joining}
-use Rattle.hs_core.specs.State.{Core}
+use Rattle.hs_core_words.specs.Joining.{begin_joining}
+use Rattle.hs_core_words.specs.State.{Core}
 
 -- those from a number on
 abbrev pub each_from : {A : Type 0} → (ℕ → Bool) → (ℕ → A → A) → ℕ → ℕ → A → A

@@ -1,7 +1,7 @@
 -- What stays of a core, step by step.
 use Rattle.std.proofs.Common.{◌∙◌}
-use Rattle.hs_core.specs.Keeping.{Kept}
-use Rattle.hs_core.specs.State.{Core}
+use Rattle.hs_core_state.specs.Keeping.{Kept}
+use Rattle.hs_core_words.specs.State.{Core}
 
 pub kept_then : (a b c : Core) → Kept a b → Kept b c → Kept a c
 kept_then a b c x y = record {

@@ -3,12 +3,12 @@ use Rattle.std.proofs.Common.{◌≡◌, sym, ap, ℕ, ◌≤◌, ◌*◌, ◌-�
 use Rattle.std.proofs.lemmas.List.{get_or_past, set_past}
 use Rattle.std.proofs.lemmas.Nat.{le-div}
 use Rattle.hs_awaiting.specs.Words.{times}
-use Rattle.hs_core.specs.Effects.{commit, commit_next}
-use Rattle.hs_core.specs.Failing.{go_down, leave}
-use Rattle.hs_core.specs.Keeping.{IsCore}
-use Rattle.hs_core.specs.Looking.{front_of, group_of, home, lead_of, shape_of, status_of}
-use Rattle.hs_core.specs.Operating.{propose_entry}
-use Rattle.hs_core.specs.State.{Core}
+use Rattle.hs_core_words.specs.Effects.{commit, commit_next}
+use Rattle.hs_core_words.specs.Failing.{go_down, leave}
+use Rattle.hs_core_state.specs.Keeping.{IsCore}
+use Rattle.hs_core_words.specs.Looking.{front_of, group_of, home, lead_of, shape_of, status_of}
+use Rattle.hs_core_words.specs.Operating.{propose_entry}
+use Rattle.hs_core_words.specs.State.{Core}
 use Rattle.hs_entry.specs.declared.entry.Entry.{Entry}
 use Rattle.hs_limits.specs.declared.limits.PeerStatus.TheVariants.{Down}
 use Rattle.hs_replica.specs.Group.{Group, commit_front, new_group, propose}

@@ -2,12 +2,12 @@
 use Rattle.std.proofs.Common.{◌≡◌, ℕ, Bool, true, false, Option, Some, None, drop, refl}
 use Rattle.std.specs.Prelude.{option_and_then, if◌then◌else◌}
 use Rattle.hs_awaiting.specs.Words.{change_with, ◌▸◌}
-use Rattle.hs_core.specs.declared.task.Task.{Task}
-use Rattle.hs_core.specs.Changing.{set_tasks}
-use Rattle.hs_core.specs.Handing.{answered_line}
-use Rattle.hs_core.specs.Looking.{first_task, tasks_of}
-use Rattle.hs_core.specs.Reporting.{on_report, take_report}
-use Rattle.hs_core.specs.State.{Core}
+use Rattle.hs_core_words.specs.declared.task.Task.{Task}
+use Rattle.hs_core_words.specs.Changing.{set_tasks}
+use Rattle.hs_core_state.specs.Handing.{answered_line}
+use Rattle.hs_core_words.specs.Looking.{first_task, tasks_of}
+use Rattle.hs_core_words.specs.Reporting.{on_report, take_report}
+use Rattle.hs_core_words.specs.State.{Core}
 use Rattle.hs_desk.specs.Answers.{answers}
 use Rattle.hs_desk.specs.declared.done.Done.{Done}
 

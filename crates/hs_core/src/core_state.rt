@@ -1,121 +1,124 @@
 //! The core.
-ghost use Rattle.std.specs.Prelude.{◌≡◌};
 ghost use Rattle.std.specs.Option.{option_copied};
-ghost use Rattle.hs_core.specs.Keeping.{IsCore};
-ghost use Rattle.hs_core.specs.Looking.{catalogue_of, first_job, front_of, group_of, home, known_of, sealed_of, status_of};
+ghost use Rattle.std.specs.Prelude.{◌≡◌, length, ◌*◌, IfOk, IsOkUnless, ◌≤◌, OnOk, true};
+ghost use Rattle.hs_core_words.specs.Calls.{GivesUp, GoesOn, IsNextLine, Steps, ran_out};
+ghost use Rattle.hs_core_state.specs.Keeping.{IsCore};
+ghost use Rattle.hs_core_words.specs.Looking.{catalogue_of, first_job, front_of, known_of, sealed_of, status_of, oldest_message, open_work};
+ghost use Rattle.hs_core_words.specs.Opening.{open_core};
+ghost use Rattle.hs_core_words.specs.Records.{HasRecordRoom};
+ghost use Rattle.hs_desk.specs.declared.fault.CoreFault.TheVariants as fault;
+ghost use Rattle.hs_limits.specs.Shape.{IsShape};
 ghost use Rattle.hs_members.specs.Members.{IsPeer, IsShard};
-ghost use Rattle.hs_replica.specs.Group.{IsHome};
 ghost use Rattle.hs_tokens.specs.Seats.{held_at, seat_of};
 
-use crate::Task;
-use crate::queue::Queue;
-use hs_awaiting::Operations;
+use crate::step::step;
+use hs_core_state::State;
+use hs_core_words::Event;
 use hs_desk::{CoreFault, Job};
 use hs_journal::{Journal, JournalEntry};
 use hs_limits::{Held, Limits, ListOf, Name, PeerStatus, Shape};
-use hs_members::{Members, home_of};
-use hs_post::Pool;
-use hs_rejoin::Rejoin;
-use hs_replica::Group;
 use hs_shard::Catalogue;
-use hs_tokens::Sessions;
 use std::alloc::Global;
 use std::marker::Model;
 
 /// All shards, peers, sessions, operations, messages and jobs of a store, and what was answered.
 #[derive(Drop)]
 pub struct Core {
-    pub(crate) limits: Limits,
-    pub(crate) members: Members,
-    pub(crate) catalogues: Vec<Catalogue>,
-    pub(crate) groups: Vec<Group>,
-    /// The number of each shard's last entry that has taken effect.
-    pub(crate) fronts: Vec<u64>,
-    pub(crate) viewed: Vec<bool>,
-    pub(crate) tasks: Vec<Queue>,
-    pub(crate) rejoins: Vec<Option<Rejoin>>,
-    /// The next copying step of each peer, so that it can be lent.
-    pub(crate) steps: Vec<Option<Job>>,
-    pub(crate) pool: Pool,
-    pub(crate) sessions: Sessions,
-    pub(crate) operations: Operations,
-    pub(crate) journal: Journal,
-    pub(crate) entries: Vec<JournalEntry>,
-    pub(crate) refused: Vec<JournalEntry>,
-    pub(crate) ended: Option<CoreFault>,
-    pub(crate) moment: u64,
-    pub(crate) last_line: u64,
-    pub(crate) event_line: u64,
-    pub(crate) alloc: Global,
+    state: State,
 }
 
 impl Model for Core {
-    ghost use Rattle.std.specs.Prelude.{◌≡◌};
-    ghost use Rattle.hs_core.specs.Keeping.{AreFronts, AreSteps, IsCore};
-    ghost use Rattle.hs_core.specs.Placed.{AreWithin};
-    ghost use Rattle.hs_core.specs.State.{Core};
+    ghost use Rattle.hs_core_words.specs.State.{Core};
 
     ghost Value = { Core };
 
-    ghost view = { λ a. record {
-      limits = a.limits;
-      members = a.members;
-      catalogues = a.catalogues.items;
-      groups = a.groups.items;
-      tasks = a.tasks.items;
-      progress = record {
-        viewed = a.viewed.items;
-        rejoins = a.rejoins.items;
-        last_line = a.last_line;
-        event_line = a.event_line;
-      };
-      pool = a.pool;
-      sessions = a.sessions.seats;
-      operations = a.operations;
-      journal = a.journal.entries;
-      entries = a.entries.items;
-      refused = a.refused.items;
-      ended = a.ended;
-      moment = a.moment;
-    } };
-
-    ghost invariant = { λ a. record {
-      kept : IsCore (view a);
-      fronts : AreFronts (view a) a.fronts.items;
-      steps : AreSteps (view a) a.steps.items;
-      sessions : a.sessions.limits ≡ a.limits;
-      journal : a.journal.limit ≡ a.limits.ops;
-      placed : AreWithin a.members.shape.shards a.operations;
-    } };
+    ghost view = { λ a. a.state };
 }
 
 impl Core {
+    /// Opens a core. By shard it takes the catalogue of the taken log, that log's view and the number
+    /// of its last entry; by peer whether it is good: all good peers of a shard have its log. Each
+    /// shard with a good peer begins the view above that of its log, and its View is proposed; each
+    /// peer that is not good is told of, at this moment. For a shard without a good peer the view and
+    /// the number are 0, and the catalogue is the empty one. Where the journal has no room for what is
+    /// told, or a shard has no good peer, the core that it gives has ended. The only fault is NoMemory,
+    /// also where a view has no next one.
+    pub fn open(
+        alloc: Global,
+        shape: Shape,
+        limits: Limits,
+        logs: Vec<Catalogue>,
+        views: Vec<u64>,
+        lengths: Vec<u64>,
+        good: Vec<bool>,
+        moment: u64,
+    ) -> Result<Core, CoreFault>
+        requires shape { IsShape shape }
+        requires logs { length logs.items ≡ shape.shards }
+        requires views { length views.items ≡ shape.shards }
+        requires lengths { length lengths.items ≡ shape.shards }
+        requires good { length good.items ≡ shape.shards * shape.copies }
+        ensures ok { IfOk result (λ core. core ≡ open_core shape limits (record {
+          catalogues = logs.items;
+          views = views.items;
+          lengths = lengths.items;
+          good = good.items;
+        }) moment) }
+        ensures only { IsOkUnless result fault.NoMemory }
+    {
+        match State::open(alloc, shape, limits, logs, views, lengths, good, moment) {
+            Ok(state) => Ok(Core { state }),
+            Err(fault) => Err(fault),
+        }
+    }
+
+    /// Does one event at a moment. What it answers is appended to the journal at its end, all or none.
+    /// Where the journal has no room for it (OpsFull), where a shard has no good peer (ShardLost) and
+    /// where there is no memory (NoMemory) the core has ended, and every later call answers the same
+    /// fault and changes nothing. After ShardLost the event has happened, and its entries stand in the
+    /// journal; after the others the journal is as it was. A number that has no next one counts as
+    /// want of memory, and so do an entry that its catalogue can't take, and more root records of a
+    /// shard, with the Roots that wait, than it takes.
+    pub fn step(&mut self, event: Event, moment: u64) -> Result<(), CoreFault>
+        requires moment { self.old.moment ≤ moment }
+        requires line { IsNextLine self.old event }
+
+        ensures steps { Steps event moment self.old self.new result }
+        ensures gave_up { ran_out self.old result ≡ true
+            → GivesUp event moment self.old self.new }
+        ensures goes { GoesOn event moment self.old self.new }
+        // Where the core goes on, no shard has more root records than it takes.
+        ensures room { OnOk result (HasRecordRoom self.new) }
+    {
+        step(&mut self.state, event, moment)
+    }
+
     /// The line of the last client's operation, 0 before the first. It takes no memory.
     pub fn last_line(&self) -> u64
         ensures { result ≡ self.now.progress.last_line }
     {
-        self.last_line
+        self.state.last_line()
     }
 
     /// The moment of the last event, that of the opening before the first. It takes no memory.
     pub fn last_moment(&self) -> u64
         ensures { result ≡ self.now.moment }
     {
-        self.moment
+        self.state.last_moment()
     }
 
     /// Why the core has ended. None exactly until a fault has ended it. It takes no memory.
     pub fn ended(&self) -> Option<CoreFault>
         ensures { result ≡ self.now.ended }
     {
-        self.ended
+        self.state.ended()
     }
 
     /// What was answered. It takes no memory.
     pub fn journal(&self) -> &Journal
         ensures { result.now.entries ≡ self.now.journal }
     {
-        &self.journal
+        self.state.journal()
     }
 
     /// The entries that the event refused as OpsFull would have made, none where none was refused
@@ -123,7 +126,7 @@ impl Core {
     pub fn refused(&self) -> &[JournalEntry]
         ensures { result.now ≡ self.now.refused }
     {
-        self.refused.as_slice()
+        self.state.refused()
     }
 
     /// What was answered, and the entries that the event refused as OpsFull would have made: all that
@@ -132,12 +135,7 @@ impl Core {
         ensures journal { result.0.entries ≡ self.journal }
         ensures refused { result.1 ≡ self.refused }
     {
-        let Core {
-            journal,
-            refused,
-            ..
-        } = self;
-        (journal, ListOf::from_vec(refused))
+        self.state.into_told()
     }
 
     /// What a peer is. It takes no memory.
@@ -145,7 +143,7 @@ impl Core {
         requires { IsPeer self.now.members.shape peer }
         ensures { result ≡ status_of peer self.now }
     {
-        self.members.status(peer)
+        self.state.status(peer)
     }
 
     /// What has taken effect in a shard. It takes no memory.
@@ -153,7 +151,7 @@ impl Core {
         requires { IsShard self.now.members.shape shard }
         ensures { result.now ≡ catalogue_of shard self.now }
     {
-        &self.catalogues[usize::from(shard)]
+        self.state.catalogue(shard)
     }
 
     /// What a handle of a session stands for. None exactly where the session does not hold it. It
@@ -161,7 +159,7 @@ impl Core {
     pub fn held(&self, session: &Name, handle: u32) -> Option<Held>
         ensures { result ≡ held_at (seat_of session.now self.now.sessions) handle }
     {
-        self.sessions.find(session, handle).ok()
+        self.state.held(session, handle)
     }
 
     /// How many entries a peer has sealed. It takes no memory.
@@ -169,7 +167,7 @@ impl Core {
         requires { IsPeer self.now.members.shape peer }
         ensures { result ≡ sealed_of peer self.now }
     {
-        self.groups[usize::from(self.home(peer))].sealed(peer)
+        self.state.sealed(peer)
     }
 
     /// How many entries the lead of a peer's shard knows the peer to have sealed. It takes no memory.
@@ -177,7 +175,7 @@ impl Core {
         requires { IsPeer self.now.members.shape peer }
         ensures { result ≡ known_of peer self.now }
     {
-        self.groups[usize::from(self.home(peer))].known(peer)
+        self.state.known(peer)
     }
 
     /// The number of a shard's last entry that has taken effect, those of the taken log included. It
@@ -186,7 +184,7 @@ impl Core {
         requires { IsShard self.now.members.shape shard }
         ensures { result ≡ front_of shard self.now }
     {
-        self.fronts[usize::from(shard)]
+        self.state.front(shard)
     }
 
     /// The first job of a peer: a joining one has its copying steps alone. None exactly where it has
@@ -195,21 +193,7 @@ impl Core {
         requires { IsPeer self.now.members.shape peer }
         ensures { option_copied result ≡ first_job peer self.now }
     {
-        if self.members.status(peer) == PeerStatus::Joining {
-            return self.steps[usize::from(peer)].as_ref();
-        }
-        match self.tasks[usize::from(peer)].first() {
-            Some(task) => Some(&task.job),
-            None => None,
-        }
-    }
-
-    /// The copies of a shard's list.
-    pub(crate) fn group(&self, shard: u8) -> &Group
-        requires { IsShard self.now.members.shape shard }
-        ensures { result.now ≡ group_of shard self.now }
-    {
-        &self.groups[usize::from(shard)]
+        self.state.first_job(peer)
     }
 
     /// The shape of the store. It takes no memory.
@@ -217,16 +201,23 @@ impl Core {
         ensures value { result ≡ self.now.members.shape }
         ensures kept { IsCore self.now }
     {
-        self.members.shape()
+        self.state.shape()
     }
 
-    /// The shard that a peer keeps a copy of.
-    pub(crate) fn home(&self, peer: u8) -> u8
+    /// The number of the oldest message for a peer. None exactly where there is none. It takes no
+    /// memory.
+    pub fn oldest_for(&self, peer: u8) -> Option<u64>
         requires { IsPeer self.now.members.shape peer }
-        ensures home { result ≡ home peer self.now }
-        ensures shard { IsShard self.now.members.shape result }
-        ensures group { IsHome (group_of result self.now) peer }
+        ensures { result ≡ oldest_message peer self.now }
     {
-        home_of(peer, self.members.shape())
+        self.state.oldest_for(peer)
+    }
+
+    /// Whether something is open: an operation without an answer, an entry that has not taken effect,
+    /// a shard that has not swept the greatest epoch, or a peer that is joining. It takes no memory.
+    pub fn open_work(&self) -> bool
+        ensures { result ≡ open_work self.now }
+    {
+        self.state.open_work()
     }
 }

@@ -1,80 +1,39 @@
 //! How an operation goes on.
-ghost use Rattle.std.specs.Prelude.{◌≡◌, Some, None, IfOk, OnOk};
-ghost use Rattle.hs_awaiting.specs.declared.waiting.Waiting.{Waiting};
-ghost use Rattle.hs_awaiting.specs.Going.{given_by, judge_in};
-ghost use Rattle.hs_core.specs.Effects.{tell_operation};
-ghost use Rattle.hs_core.specs.Going.{gains_by, go_by, sight_of, step_by, view_by};
-ghost use Rattle.hs_core.specs.Keeping.{Kept};
-ghost use Rattle.hs_core.specs.Looking.{operation_of};
-ghost use Rattle.hs_core.specs.Operating.{resume};
-ghost use Rattle.hs_members.specs.Members.{IsShard};
+ghost use Rattle.std.specs.Prelude.{◌≡◌, OnOk};
+ghost use Rattle.hs_core_words.specs.Effects.{tell_operation};
+ghost use Rattle.hs_core_state.specs.Going.{go_by};
+ghost use Rattle.hs_core_state.specs.Keeping.{Kept};
+ghost use Rattle.hs_core_words.specs.Operating.{resume};
 
-use crate::Core;
-use crate::aim::Aim;
-use crate::no_memory::NoMemory;
-use hs_awaiting::{Judged, Next, Operations};
+use crate::carrying::carry_out;
+use hs_awaiting::Next;
+use hs_core_state::{NoMemory, State};
 use hs_desk::What;
-use hs_tokens::{Sessions, SessionsView};
 
-impl Core {
-    /// The operation of a line goes on, where it has no answer.
-    pub(crate) fn resume(&mut self, line: u64) -> Result<(), NoMemory>
-        ensures ok { OnOk result (self.new ≡ resume line self.old) }
-        ensures kept { Kept self.old self.new }
-    {
-        self.go_by(line, &Next::Go)
-    }
-
-    /// The operation of a line hears what its entry did.
-    pub(crate) fn tell_operation(&mut self, line: u64, did: What) -> Result<(), NoMemory>
-        ensures ok { OnOk result (self.new ≡ tell_operation line did self.old) }
-        ensures kept { Kept self.old self.new }
-    {
-        self.go_by(line, &Next::Effect { did })
-    }
-
-    /// The operation of a line goes on, where it has no answer.
-    pub(crate) fn go_by(&mut self, line: u64, how: &Next) -> Result<(), NoMemory>
-        ensures ok { OnOk result (self.new ≡ go_by how.now line self.old) }
-        ensures kept { Kept self.old self.new }
-    {
-        let Some(aim) = self.aim_at(line) else {
-            return Ok(());
-        };
-        let judged = self.judge_at(line, aim, how)?;
-        self.carry_out(line, aim, judged)
-    }
-
-    /// The operation of a line takes its next step, by what it sees.
-    fn judge_at(&mut self, line: u64, aim: Aim, how: &Next) -> Result<Judged, NoMemory>
-        requires shard { IsShard self.old.members.shape aim.shard }
-        ensures ok { OnOk result (self.new ≡ record self.old {
-          operations = judge_in how.now
-              (sight_of aim self.old).pointers (view_by (sight_of aim self.old) aim None self.old)
-              line self.old.operations;
-        }) }
-        ensures step { (w : Waiting) → operation_of line self.old ≡ Some w
-            → IfOk result (λ judged. judged.step ≡ step_by how.now aim None self.old w.operation) }
-        ensures helds { (w : Waiting) → operation_of line self.old ≡ Some w
-            → IfOk result (λ judged. judged.helds
-            ≡ given_by judged.step (gains_by aim None self.old w.operation.op)) }
-        ensures kept { Kept self.old self.new }
-    {
-        let sight = self.sight(aim)?;
-        let roots = self.catalogues[usize::from(aim.shard)].roots();
-        let sessions = sessions_for(&self.sessions, &self.operations, line);
-        let view = sight.view(aim, None, self.limits, sessions, roots);
-        let pointers = sight.pointers.as_slice();
-        Ok(self.operations.judge(line, &view, pointers, how)?)
-    }
+/// The operation of a line goes on, where it has no answer.
+pub(crate) fn resume(core: &mut State, line: u64) -> Result<(), NoMemory>
+    ensures ok { OnOk result (core.new ≡ resume line core.old) }
+    ensures kept { Kept core.old core.new }
+{
+    go_by(core, line, &Next::Go)
 }
 
-/// The open sessions, with that of a line's operation at hand. It takes no memory.
-fn sessions_for<'a>(sessions: &'a Sessions, operations: &Operations, line: u64) -> SessionsView<'a>
-    ensures { result ≡ sessions.now.seats }
+/// The operation of a line hears what its entry did.
+pub(crate) fn tell_operation(core: &mut State, line: u64, did: What) -> Result<(), NoMemory>
+    ensures ok { OnOk result (core.new ≡ tell_operation line did core.old) }
+    ensures kept { Kept core.old core.new }
 {
-    match operations.get(line) {
-        Some(waiting) => SessionsView::new(sessions, waiting.operation.session()),
-        None => SessionsView::new(sessions, None),
-    }
+    go_by(core, line, &Next::Effect { did })
+}
+
+/// The operation of a line goes on, where it has no answer.
+pub(crate) fn go_by(core: &mut State, line: u64, how: &Next) -> Result<(), NoMemory>
+    ensures ok { OnOk result (core.new ≡ go_by how.now line core.old) }
+    ensures kept { Kept core.old core.new }
+{
+    let Some(aim) = core.aim_at(line) else {
+        return Ok(());
+    };
+    let judged = core.judge_at(line, aim, how)?;
+    carry_out(core, line, aim, judged)
 }

@@ -1,145 +1,108 @@
 //! One event of the core.
-ghost use Rattle.std.specs.Prelude.{◌≡◌, ◌≤◌, OnErr, OnOk, Some, true};
-ghost use Rattle.hs_core.specs.Calls.{GivesUp, GoesOn, IsNextLine, Steps, last_line_after, outcome_of, ran_out};
-ghost use Rattle.hs_core.specs.Keeping.{Kept, Moves, Stays};
-ghost use Rattle.hs_core.specs.Records.{HasRecordRoom};
-ghost use Rattle.hs_core.specs.Step.{begin_event, do_event, is_first_line, line_of, run_event};
-ghost use Rattle.hs_desk.specs.declared.fault.CoreFault.TheVariants as fault;
+ghost use Rattle.std.specs.Prelude.{◌≡◌, ◌≤◌, OnErr, OnOk, true};
+ghost use Rattle.hs_core_words.specs.Calls.{GivesUp, GoesOn, IsNextLine, Steps, last_line_after, outcome_of, ran_out};
+ghost use Rattle.hs_core_state.specs.Keeping.{Kept, Moves, Stays};
+ghost use Rattle.hs_core_words.specs.Records.{HasRecordRoom};
+ghost use Rattle.hs_core_words.specs.Step.{do_event, line_of, run_event};
 
-use crate::no_memory::NoMemory;
-use crate::{Core, Event};
+use crate::asking::{fail_line, nudge_line, start_line, turn};
+use crate::beginning::begin_line;
+use crate::delivering::deliver;
+use crate::reporting::on_report;
+use hs_core_state::{NoMemory, State};
+use hs_core_words::Event;
 use hs_desk::CoreFault;
 
-impl Core {
-    /// Does one event at a moment. What it answers is appended to the journal at its end, all or none.
-    /// Where the journal has no room for it (OpsFull), where a shard has no good peer (ShardLost) and
-    /// where there is no memory (NoMemory) the core has ended, and every later call answers the same
-    /// fault and changes nothing. After ShardLost the event has happened, and its entries stand in the
-    /// journal; after the others the journal is as it was. A number that has no next one counts as
-    /// want of memory, and so do an entry that its catalogue can't take, and more root records of a
-    /// shard, with the Roots that wait, than it takes.
-    pub fn step(&mut self, event: Event, moment: u64) -> Result<(), CoreFault>
-        requires moment { self.old.moment ≤ moment }
-        requires line { IsNextLine self.old event }
+/// Does one event at a moment. What it answers is appended to the journal at its end, all or none.
+/// Where the journal has no room for it (OpsFull), where a shard has no good peer (ShardLost) and
+/// where there is no memory (NoMemory) the core has ended, and every later call answers the same
+/// fault and changes nothing. After ShardLost the event has happened, and its entries stand in the
+/// journal; after the others the journal is as it was. A number that has no next one counts as
+/// want of memory, and so do an entry that its catalogue can't take, and more root records of a
+/// shard, with the Roots that wait, than it takes.
+pub(crate) fn step(core: &mut State, event: Event, moment: u64) -> Result<(), CoreFault>
+    requires moment { core.old.moment ≤ moment }
+    requires line { IsNextLine core.old event }
 
-        ensures steps { Steps event moment self.old self.new result }
-        ensures gave_up { ran_out self.old result ≡ true
-            → GivesUp event moment self.old self.new }
-        ensures goes { GoesOn event moment self.old self.new }
-        // Where the core goes on, no shard has more root records than it takes.
-        ensures room { OnOk result (HasRecordRoom self.new) }
-    {
-        if let Some(fault) = self.ended {
-            return Err(fault);
-        }
-        let line = self.last_line_after(&event);
-        match self.run_event(event, moment) {
-            Ok(()) => self.outcome(),
-            Err(_) => {
-                self.give_up(line, moment);
-                Err(CoreFault::NoMemory)
-            }
+    ensures steps { Steps event moment core.old core.new result }
+    ensures gave_up { ran_out core.old result ≡ true
+        → GivesUp event moment core.old core.new }
+    ensures goes { GoesOn event moment core.old core.new }
+    // Where the core goes on, no shard has more root records than it takes.
+    ensures room { OnOk result (HasRecordRoom core.new) }
+{
+    if let Some(fault) = core.ended() {
+        return Err(fault);
+    }
+    let line = last_line_after(core, &event);
+    match run_event(core, event, moment) {
+        Ok(()) => outcome(core),
+        Err(_) => {
+            core.give_up(line, moment);
+            Err(CoreFault::NoMemory)
         }
     }
+}
 
-    /// Ok where the core goes on, and else why it has ended.
-    fn outcome(&self) -> Result<(), CoreFault>
-        ensures { result ≡ outcome_of self.now }
-    {
-        match self.ended {
-            Some(fault) => Err(fault),
-            None => Ok(()),
-        }
+/// Ok where the core goes on, and else why it has ended.
+fn outcome(core: &State) -> Result<(), CoreFault>
+    ensures { result ≡ outcome_of core.now }
+{
+    match core.ended() {
+        Some(fault) => Err(fault),
+        None => Ok(()),
     }
+}
 
-    /// The last line of a client once an event has begun.
-    fn last_line_after(&self, event: &Event) -> u64
-        ensures { result ≡ last_line_after event.now self.now }
-    {
-        match event {
-            Event::Line { line, .. } => *line,
-            Event::Report { .. }
-            | Event::Turn { .. }
-            | Event::Deliver { .. }
-            | Event::Lose { .. }
-            | Event::Repeat { .. }
-            | Event::Nudge { .. }
-            | Event::Fail { .. }
-            | Event::Start { .. } => self.last_line,
-        }
+/// The last line of a client once an event has begun.
+fn last_line_after(core: &State, event: &Event) -> u64
+    ensures { result ≡ last_line_after event.now core.now }
+{
+    match event {
+        Event::Line { line, .. } => *line,
+        Event::Report { .. }
+        | Event::Turn { .. }
+        | Event::Deliver { .. }
+        | Event::Lose { .. }
+        | Event::Repeat { .. }
+        | Event::Nudge { .. }
+        | Event::Fail { .. }
+        | Event::Start { .. } => core.last_line(),
     }
+}
 
-    /// There was no memory for an event, so that the core has ended.
-    fn give_up(&mut self, line: u64, moment: u64)
-        ensures { self.new ≡ record self.old {
-          ended = Some fault.NoMemory;
-          progress = record self.old.progress { last_line = line };
-          moment = moment;
-        } }
-    {
-        self.ended = Some(CoreFault::NoMemory);
-        self.last_line = line;
-        self.moment = moment;
-    }
+/// One event of a core that goes on.
+fn run_event(core: &mut State, event: Event, moment: u64) -> Result<(), NoMemory>
+    requires { IsNextLine core.old event }
+    ensures ok { OnOk result (core.new ≡ run_event event moment core.old) }
+    ensures kept { OnErr result (Stays core.old core.new) }
+    ensures moves { Moves event moment core.old core.new }
+    ensures room { OnOk result (HasRecordRoom core.new) }
+{
+    core.begin_event(line_of(&event), moment);
+    do_event(core, event)?;
+    core.record_room()?;
+    core.end_event()
+}
 
-    /// One event of a core that goes on.
-    fn run_event(&mut self, event: Event, moment: u64) -> Result<(), NoMemory>
-        requires { IsNextLine self.old event }
-        ensures ok { OnOk result (self.new ≡ run_event event moment self.old) }
-        ensures kept { OnErr result (Stays self.old self.new) }
-        ensures moves { Moves event moment self.old self.new }
-        ensures room { OnOk result (HasRecordRoom self.new) }
-    {
-        self.begin_event(line_of(&event), moment);
-        self.do_event(event)?;
-        self.record_room()?;
-        self.end_event()
-    }
-
-    /// The event's moment, and its line, where it has one.
-    fn begin_event(&mut self, line: u64, moment: u64)
-        ensures ok { self.new ≡ begin_event line moment self.old }
-        ensures kept { Kept (record self.old {
-          moment = moment;
-          progress = record self.old.progress { event_line = self.new.progress.event_line };
-        }) self.new }
-    {
-        self.first_line(line);
-        self.moment = moment;
-        if line != 0 {
-            self.event_line = line;
-        }
-    }
-
-    /// With the first line the numbers of messages start at 1 again, if none is under way.
-    fn first_line(&mut self, line: u64)
-        ensures ok { self.new ≡ is_first_line line self.old }
-        ensures kept { Kept self.old self.new }
-    {
-        if self.event_line == 0 && line != 0 && self.pool.is_empty() {
-            self.pool.restart_numbers();
-        }
-    }
-
-    /// What an event does, by its kind.
-    fn do_event(&mut self, event: Event) -> Result<(), NoMemory>
-        requires { IsNextLine self.old event }
-        ensures ok { OnOk result (self.new ≡ do_event event self.old) }
-        ensures kept { Kept (record self.old {
-          progress = record self.old.progress { last_line = last_line_after event self.old };
-        }) self.new }
-    {
-        match event {
-            Event::Line { line, op } => self.begin_line(line, op),
-            Event::Report { peer, done } => self.on_report(peer, done),
-            Event::Turn { line, peer } => self.turn(line, peer),
-            Event::Deliver { line, message } => self.deliver(line, message),
-            Event::Lose { line, message } => self.lose(line, message),
-            Event::Repeat { line, message } => self.send_again(line, message),
-            Event::Nudge { line, peer } => self.nudge_line(line, peer),
-            Event::Fail { line, peer } => self.fail_line(line, peer),
-            Event::Start { line, peer } => self.start_line(line, peer),
-        }
+/// What an event does, by its kind.
+fn do_event(core: &mut State, event: Event) -> Result<(), NoMemory>
+    requires { IsNextLine core.old event }
+    ensures ok { OnOk result (core.new ≡ do_event event core.old) }
+    ensures kept { Kept (record core.old {
+      progress = record core.old.progress { last_line = last_line_after event core.old };
+    }) core.new }
+{
+    match event {
+        Event::Line { line, op } => begin_line(core, line, op),
+        Event::Report { peer, done } => on_report(core, peer, done),
+        Event::Turn { line, peer } => turn(core, line, peer),
+        Event::Deliver { line, message } => deliver(core, line, message),
+        Event::Lose { line, message } => core.lose(line, message),
+        Event::Repeat { line, message } => core.send_again(line, message),
+        Event::Nudge { line, peer } => nudge_line(core, line, peer),
+        Event::Fail { line, peer } => fail_line(core, line, peer),
+        Event::Start { line, peer } => start_line(core, line, peer),
     }
 }
 

@@ -1,6 +1,7 @@
 //! Lines of clients.
 use crate::blocks::{address_of, data, key, session};
-use hs_core::{Core, Event};
+use hs_core::Core;
+use hs_core_words::Event;
 use hs_desk::CoreFault;
 use hs_limits::{Key, ListOf, Name};
 use hs_model::Op;

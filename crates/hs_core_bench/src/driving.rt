@@ -1,6 +1,7 @@
 //! Turns of peers.
 use crate::blocks::spelling;
-use hs_core::{Core, Event};
+use hs_core::Core;
+use hs_core_words::Event;
 use hs_desk::{CoreFault, Done, Job};
 use std::alloc::{AllocError, Global};
 

@@ -2,7 +2,8 @@
 use crate::asking::{address, ask, forget, read, write};
 use crate::driving::{deliver, report};
 use crate::filling::WORKING;
-use hs_core::{Core, Event};
+use hs_core::Core;
+use hs_core_words::Event;
 use hs_desk::CoreFault;
 use hs_model::Op;
 use std::alloc::Global;

@@ -1,7 +1,8 @@
 //! A core that opens over a blank store, and what it lends.
 ghost use Rattle.std.specs.Prelude.{◌≡◌, ◌∷◌, [], IfOk};
 
-use hs_core::{Core, Event};
+use hs_core::Core;
+use hs_core_words::Event;
 use hs_desk::{Done, Job};
 use hs_entry::Entry;
 use hs_limits::{Limits, ListOf, Name, PeerStatus, Shape};

@@ -7,11 +7,11 @@ use Rattle.hs_answered.specs.Standing.{IsFolded, store_with}
 use Rattle.hs_answered.proofs.AnswerLemmas.{judge_granted, judge_refused, store_refusal_stops}
 use Rattle.hs_awaiting.specs.declared.waiting.Waiting.{Waiting}
 use Rattle.hs_awaiting.specs.Words.{change_with}
-use Rattle.hs_core.specs.Effects.{tell_operation}
-use Rattle.hs_core.specs.Looking.{operation_of}
-use Rattle.hs_core.specs.Operating.{answer, take_step}
-use Rattle.hs_core.specs.Seeing.{pointers_for, view_for}
-use Rattle.hs_core.specs.State.{Core}
+use Rattle.hs_core_words.specs.Effects.{tell_operation}
+use Rattle.hs_core_words.specs.Looking.{operation_of}
+use Rattle.hs_core_words.specs.Operating.{answer, take_step}
+use Rattle.hs_core_words.specs.Seeing.{pointers_for, view_for}
+use Rattle.hs_core_words.specs.State.{Core}
 use Rattle.hs_desk.specs.declared.what.What.{What}
 use Rattle.hs_effects.specs.Answered.{HasAnswer, IsAnsweredBy, heard}
 use Rattle.hs_effects.specs.Logged.{asked_by}

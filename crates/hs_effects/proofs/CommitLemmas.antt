@@ -2,9 +2,9 @@
 use Rattle.std.proofs.Common.{◌≡◌, ℕ, zero, suc, List, Option, Some, None, refl}
 use Rattle.std.specs.Option.{option_map_or}
 use Rattle.hs_awaiting.specs.Words.{change_with, times}
-use Rattle.hs_core.specs.Effects.{commit, commit_next, take_effect}
-use Rattle.hs_core.specs.Looking.{group_of}
-use Rattle.hs_core.specs.State.{Core}
+use Rattle.hs_core_words.specs.Effects.{commit, commit_next, take_effect}
+use Rattle.hs_core_words.specs.Looking.{group_of}
+use Rattle.hs_core_words.specs.State.{Core}
 use Rattle.hs_effects.specs.Lawful.{IsLawful, MayComeAll, MayComeNext, committed_count, folds_after, folds_next}
 use Rattle.hs_effects.specs.Logged.{IsOrderly}
 use Rattle.hs_effects.specs.Taking.{folds_behind}

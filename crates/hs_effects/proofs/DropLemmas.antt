@@ -6,11 +6,11 @@ use Rattle.hs_answered.specs.Judged.{entry_of, judged_at}
 use Rattle.hs_answered.specs.Standing.{store_with}
 use Rattle.hs_awaiting.specs.declared.waiting.Waiting.{Waiting}
 use Rattle.hs_awaiting.specs.Words.{change_with}
-use Rattle.hs_core.specs.Effects.{tell_operation}
-use Rattle.hs_core.specs.Looking.{catalogue_of, front_of, group_of, shape_of}
-use Rattle.hs_core.specs.Operating.{answer, take_step}
-use Rattle.hs_core.specs.Seeing.{view_for}
-use Rattle.hs_core.specs.State.{Core}
+use Rattle.hs_core_words.specs.Effects.{tell_operation}
+use Rattle.hs_core_words.specs.Looking.{catalogue_of, front_of, group_of, shape_of}
+use Rattle.hs_core_words.specs.Operating.{answer, take_step}
+use Rattle.hs_core_words.specs.Seeing.{view_for}
+use Rattle.hs_core_words.specs.State.{Core}
 use Rattle.hs_desk.specs.declared.what.What.TheVariants as what
 use Rattle.hs_effects.specs.Answered.{IsAnsweredBy, heard}
 use Rattle.hs_effects.specs.Lawful.{IsLawful, MayFollow}
@@ -37,7 +37,7 @@ use Rattle.hs_model.specs.Refusals.{first, refused_when}
 use Rattle.hs_model.specs.Store.{Root, Store, retained_at, with_sessions}
 use Rattle.hs_ops.specs.declared.step.OpStep.TheVariants as step
 use Rattle.hs_journal.specs.declared.entry.Who.TheVariants as who
-use Rattle.hs_core.specs.Seeing.{pointers_for}
+use Rattle.hs_core_words.specs.Seeing.{pointers_for}
 use Rattle.hs_ops.specs.Speaking.{judging_shard}
 use Rattle.hs_replica.specs.Group.{committed}
 use Rattle.hs_ops.specs.Answers.{deed_of, gained, seats_after}

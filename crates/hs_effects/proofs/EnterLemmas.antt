@@ -3,9 +3,9 @@ use Rattle.std.proofs.Common.{◌≡◌, ◌∙◌, sym, ap, subst, ℕ, ◌+◌
 use Rattle.std.proofs.lemmas.Bool.{eqb-true}
 use Rattle.hs_answered.specs.Standing.{store_with}
 use Rattle.hs_awaiting.specs.declared.waiting.Waiting.{Waiting}
-use Rattle.hs_core.specs.Effects.{note_enter, take_effect, tell_operation}
-use Rattle.hs_core.specs.Looking.{catalogue_of, operation_of}
-use Rattle.hs_core.specs.State.{Core}
+use Rattle.hs_core_words.specs.Effects.{note_enter, take_effect, tell_operation}
+use Rattle.hs_core_words.specs.Looking.{catalogue_of, operation_of}
+use Rattle.hs_core_words.specs.State.{Core}
 use Rattle.hs_desk.specs.declared.what.What.{What}
 use Rattle.hs_desk.specs.declared.what.What.TheVariants as what
 use Rattle.hs_effects.specs.Lawful.{IsLawful, MayFollow}

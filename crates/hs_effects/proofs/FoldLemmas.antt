@@ -3,10 +3,10 @@ use Rattle.std.proofs.Common.{◌≡◌, ◌∙◌, sym, ap, subst, ℕ, zero, s
 use Rattle.std.proofs.lemmas.Grind.{common_steps}
 use Rattle.std.specs.Prelude.{slice_index_or, slice_set}
 use Rattle.hs_answered.specs.Standing.{IsFolded, forget_all}
-use Rattle.hs_core.specs.Effects.{after_entry, take_effect, wakes}
-use Rattle.hs_core.specs.Looking.{catalogue_of, front_of, shape_of}
-use Rattle.hs_core.specs.Pending.{named}
-use Rattle.hs_core.specs.State.{Core}
+use Rattle.hs_core_words.specs.Effects.{after_entry, take_effect, wakes}
+use Rattle.hs_core_words.specs.Looking.{catalogue_of, front_of, shape_of}
+use Rattle.hs_core_words.specs.Pending.{named}
+use Rattle.hs_core_words.specs.State.{Core}
 use Rattle.hs_effects.specs.Taking.{IsNamed, done_by, folds_behind, next_deed, setting_of, taken}
 use Rattle.hs_effects.proofs.QuietLemmas.{Quiet, behind_quiet, both, resumed_quiet}
 use Rattle.hs_entry.specs.declared.entry.Entry.{Entry}

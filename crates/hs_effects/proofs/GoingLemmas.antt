@@ -8,11 +8,11 @@ use Rattle.hs_awaiting.specs.declared.wait.Wait.{Wait}
 use Rattle.hs_awaiting.specs.declared.wait.Wait.TheVariants as wait
 use Rattle.hs_awaiting.specs.declared.waiting.Waiting.{Waiting}
 use Rattle.hs_awaiting.specs.Words.{change_with, each}
-use Rattle.hs_core.specs.Changing.{add_entry_tasks, change_group, post, put_operation}
-use Rattle.hs_core.specs.Looking.{group_of, lead_of, operation_of}
-use Rattle.hs_core.specs.Operating.{add_read, carry_out, go_on_with, lines_where, propose_entry, resume, resume_where, take_step, wait_for, what_holds}
-use Rattle.hs_core.specs.Seeing.{view_for}
-use Rattle.hs_core.specs.State.{Core}
+use Rattle.hs_core_words.specs.Changing.{add_entry_tasks, change_group, post, put_operation}
+use Rattle.hs_core_words.specs.Looking.{group_of, lead_of, operation_of}
+use Rattle.hs_core_words.specs.Operating.{add_read, carry_out, go_on_with, lines_where, propose_entry, resume, resume_where, take_step, wait_for, what_holds}
+use Rattle.hs_core_words.specs.Seeing.{view_for}
+use Rattle.hs_core_words.specs.State.{Core}
 use Rattle.hs_effects.specs.Logged.{AreOnce, HasAsked, IsEntryOf, IsOrderly, IsOwn, asked_by}
 use Rattle.hs_effects.specs.Taking.{taken}
 use Rattle.hs_effects.proofs.LookLemmas.{each_found, found_set, number_exact, remove_other, same_number, set_other}

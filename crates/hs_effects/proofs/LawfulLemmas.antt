@@ -1,7 +1,7 @@
 -- A lawful history with one entry more.
 use Rattle.std.proofs.Common.{◌≡◌, ◌∙◌, sym, ap, subst, ℕ, List, [], ◌∷◌, ◌++◌}
-use Rattle.hs_core.specs.Effects.{take_effect}
-use Rattle.hs_core.specs.State.{Core}
+use Rattle.hs_core_words.specs.Effects.{take_effect}
+use Rattle.hs_core_words.specs.State.{Core}
 use Rattle.hs_effects.specs.Lawful.{AreOfHistory, IsLawful, MayFollow}
 use Rattle.hs_effects.specs.Taking.{IsNamed, folds_behind, next_deed, setting_of, taken}
 use Rattle.hs_effects.proofs.FoldLemmas.{effect_quiet, entry_folds}

@@ -6,11 +6,11 @@ use Rattle.std.specs.Ordering.{nat_cmp}
 use Rattle.hs_awaiting.specs.declared.wait.Wait.TheVariants as wait
 use Rattle.hs_awaiting.specs.declared.waiting.Waiting.{Waiting}
 use Rattle.hs_awaiting.specs.Words.{change_with}
-use Rattle.hs_core.specs.Changing.{add_entry_tasks, change_group, end_operation, post, put_operation}
-use Rattle.hs_core.specs.Looking.{catalogue_of, front_of, group_of, lead_of, operation_of, shape_of}
-use Rattle.hs_core.specs.Operating.{answer, propose_entry}
-use Rattle.hs_core.specs.Seeing.{pointers_for, view_for}
-use Rattle.hs_core.specs.State.{Core}
+use Rattle.hs_core_words.specs.Changing.{add_entry_tasks, change_group, end_operation, post, put_operation}
+use Rattle.hs_core_words.specs.Looking.{catalogue_of, front_of, group_of, lead_of, operation_of, shape_of}
+use Rattle.hs_core_words.specs.Operating.{answer, propose_entry}
+use Rattle.hs_core_words.specs.Seeing.{pointers_for, view_for}
+use Rattle.hs_core_words.specs.State.{Core}
 use Rattle.hs_effects.specs.Room.{HasRoom}
 use Rattle.hs_effects.specs.Logged.{AreOnce, HasAsked, IsCalled, IsEntryOf, IsOrderly, IsOwn, IsPending, asked_by}
 use Rattle.hs_effects.proofs.GroupLemmas.{IsTaken, at_end, at_front, group_changed, propose_front, taken_or_same}

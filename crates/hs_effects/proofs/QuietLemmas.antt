@@ -3,13 +3,13 @@ use Rattle.std.proofs.Common.{◌≡◌, ◌∙◌, ap, ℕ, ◌+◌, ◌==◌, 
 use Rattle.hs_awaiting.specs.declared.waiting.Waiting.{Waiting}
 use Rattle.hs_awaiting.specs.Words.{change_if, change_with, each}
 use Rattle.hs_awaiting.specs.declared.wait.Wait.TheVariants as wait
-use Rattle.hs_core.specs.Changing.{add_entry_tasks, change_group, post, set_viewed}
-use Rattle.hs_core.specs.Effects.{after_entry, is_for_view, note_enter, note_sweep, reach_view, tell_enter, tell_operation}
-use Rattle.hs_core.specs.Entering.{is_enter_due, propose_due}
-use Rattle.hs_core.specs.Looking.{catalogue_of, group_of, lead_of, operation_of}
-use Rattle.hs_core.specs.Operating.{add_read, carry_out, go_on_with, lines_where, propose_entry, resume, resume_where, take_step, wait_for}
-use Rattle.hs_core.specs.Seeing.{view_for}
-use Rattle.hs_core.specs.State.{Core}
+use Rattle.hs_core_words.specs.Changing.{add_entry_tasks, change_group, post, set_viewed}
+use Rattle.hs_core_words.specs.Effects.{after_entry, is_for_view, note_enter, note_sweep, reach_view, tell_enter, tell_operation}
+use Rattle.hs_core_words.specs.Entering.{is_enter_due, propose_due}
+use Rattle.hs_core_words.specs.Looking.{catalogue_of, group_of, lead_of, operation_of}
+use Rattle.hs_core_words.specs.Operating.{add_read, carry_out, go_on_with, lines_where, propose_entry, resume, resume_where, take_step, wait_for}
+use Rattle.hs_core_words.specs.Seeing.{view_for}
+use Rattle.hs_core_words.specs.State.{Core}
 use Rattle.hs_desk.specs.declared.what.What.{What}
 use Rattle.hs_desk.specs.declared.what.What.TheVariants as what
 use Rattle.hs_entry.specs.declared.entry.Entry.{Entry}

@@ -5,11 +5,11 @@ use Rattle.hs_answered.specs.Judged.{IsJudged}
 use Rattle.hs_answered.specs.Standing.{IsAddressed, IsFolded}
 use Rattle.hs_awaiting.specs.declared.waiting.Waiting.{Waiting}
 use Rattle.hs_awaiting.specs.Words.{change_with}
-use Rattle.hs_core.specs.Effects.{after_entry, note_enter, tell_operation}
-use Rattle.hs_core.specs.Looking.{group_of, operation_of, shape_of}
-use Rattle.hs_core.specs.Operating.{answer, take_step}
-use Rattle.hs_core.specs.Seeing.{view_for}
-use Rattle.hs_core.specs.State.{Core}
+use Rattle.hs_core_words.specs.Effects.{after_entry, note_enter, tell_operation}
+use Rattle.hs_core_words.specs.Looking.{group_of, operation_of, shape_of}
+use Rattle.hs_core_words.specs.Operating.{answer, take_step}
+use Rattle.hs_core_words.specs.Seeing.{view_for}
+use Rattle.hs_core_words.specs.State.{Core}
 use Rattle.hs_desk.specs.declared.what.What.TheVariants as what
 use Rattle.hs_effects.specs.Answered.{heard}
 use Rattle.hs_effects.specs.Logged.{IsOrderly, asked_by}

@@ -2,10 +2,10 @@
 use Rattle.std.proofs.Common.{◌≡◌, ◌∙◌, sym, ap, subst, ◌⊎◌, inl, inr, ℕ, ◌+◌, ◌<◌, ◌≤◌, Bool, true, false, cond, not, ◌||◌, List, [], ◌∷◌, length, drop, take, count_by, Some, None, refl, arith, nat_lt, slice_get}
 use Rattle.std.proofs.lemmas.Bool.{ltb-true}
 use Rattle.std.proofs.lemmas.List.Sums.{sum_by-cons, sum_by-take-drop, sum_by-take-le, sum_by_push}
-use Rattle.hs_core.specs.Changing.{change_group}
-use Rattle.hs_core.specs.Looking.{catalogue_of, group_of}
-use Rattle.hs_core.specs.Pending.{is_coming, is_crowded, is_pending}
-use Rattle.hs_core.specs.State.{Core}
+use Rattle.hs_core_words.specs.Changing.{change_group}
+use Rattle.hs_core_words.specs.Looking.{catalogue_of, group_of}
+use Rattle.hs_core_words.specs.Pending.{is_coming, is_crowded, is_pending}
+use Rattle.hs_core_words.specs.State.{Core}
 use Rattle.hs_effects.specs.Logged.{IsEntryOf, asked_by}
 use Rattle.hs_effects.specs.Room.{Fit, HasRoom}
 use Rattle.hs_effects.proofs.GroupLemmas.{IsTaken, group_changed, taken_or_same}

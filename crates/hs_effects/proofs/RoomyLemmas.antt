@@ -2,10 +2,10 @@
 use Rattle.std.proofs.Common.{◌≡◌, ◌∙◌, ap, subst, ◌⊎◌, inl, inr, ℕ, ◌+◌, Bool, true, false, cond, not, ◌&&◌, ◌||◌, ◌==◌, List, drop, length, count_by, Option, Some, None, is_none, is_some, Ok, Err, Result, refl, arith, nat_lt}
 use Rattle.std.proofs.lemmas.Bool.{lt-ltb}
 use Rattle.std.specs.Prelude.{slice_index_or, slice_set}
-use Rattle.hs_core.specs.Looking.{catalogue_of, front_of, group_of, shape_of}
-use Rattle.hs_core.specs.Pending.{named}
-use Rattle.hs_core.specs.Seeing.{view_for}
-use Rattle.hs_core.specs.State.{Core}
+use Rattle.hs_core_words.specs.Looking.{catalogue_of, front_of, group_of, shape_of}
+use Rattle.hs_core_words.specs.Pending.{named}
+use Rattle.hs_core_words.specs.Seeing.{view_for}
+use Rattle.hs_core_words.specs.State.{Core}
 use Rattle.hs_desk.specs.declared.what.What.TheVariants as what
 use Rattle.hs_effects.specs.Logged.{IsOrderly}
 use Rattle.hs_effects.specs.Room.{Fit}

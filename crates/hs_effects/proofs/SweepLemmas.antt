@@ -9,12 +9,12 @@ use Rattle.std.specs.List.{list_all}
 use Rattle.std.specs.Prelude.{slice_index_or, slice_set}
 use Rattle.hs_answered.specs.Standing.{IsAddressed, IsFolded, forget_all, store_with}
 use Rattle.hs_awaiting.specs.Words.{change_if, change_with}
-use Rattle.hs_core.specs.Changing.{note}
-use Rattle.hs_core.specs.Effects.{note_sweep, take_effect}
-use Rattle.hs_core.specs.Entering.{propose_due}
-use Rattle.hs_core.specs.Looking.{catalogue_of, shape_of}
-use Rattle.hs_core.specs.Seeing.{view_for}
-use Rattle.hs_core.specs.State.{Core}
+use Rattle.hs_core_words.specs.Changing.{note}
+use Rattle.hs_core_words.specs.Effects.{note_sweep, take_effect}
+use Rattle.hs_core_words.specs.Entering.{propose_due}
+use Rattle.hs_core_words.specs.Looking.{catalogue_of, shape_of}
+use Rattle.hs_core_words.specs.Seeing.{view_for}
+use Rattle.hs_core_words.specs.State.{Core}
 use Rattle.hs_effects.specs.Lawful.{IsLawful, MayFollow}
 use Rattle.hs_effects.specs.Taking.{IsNamed, done_by, folds_behind, next_deed, setting_of, taken}
 use Rattle.hs_effects.specs.Telling.{HasSwept, IsSilent}

@@ -11,10 +11,10 @@ use Rattle.hs_awaiting.specs.declared.wait.Wait.TheVariants as wait
 use Rattle.hs_awaiting.specs.declared.waiting.Waiting.{Waiting}
 use Rattle.hs_awaiting.specs.Views.{is_within, restarted}
 use Rattle.hs_awaiting.specs.Words.{change_if}
-use Rattle.hs_core.specs.Changing.{change_group, post, set_viewed}
-use Rattle.hs_core.specs.Looking.{front_of, group_of, operation_of}
-use Rattle.hs_core.specs.State.{Core}
-use Rattle.hs_core.specs.Views.{begin_view, change_view, restart}
+use Rattle.hs_core_words.specs.Changing.{change_group, post, set_viewed}
+use Rattle.hs_core_words.specs.Looking.{front_of, group_of, operation_of}
+use Rattle.hs_core_words.specs.State.{Core}
+use Rattle.hs_core_words.specs.Views.{begin_view, change_view, restart}
 use Rattle.hs_effects.specs.Logged.{HasAsked, IsOrderly, IsPending, asked_by}
 use Rattle.hs_effects.proofs.GroupLemmas.{group_changed}
 use Rattle.hs_effects.proofs.LookLemmas.{found_map, once_map}

@@ -2,9 +2,9 @@
 use Rattle.std.specs.Option.{option_map_or}
 use Rattle.std.specs.Prelude.{◌≡◌, ℕ, zero, suc, ◌-◌, ◌<◌, List, Some}
 use Rattle.hs_answered.specs.Standing.{IsFolded}
-use Rattle.hs_core.specs.Effects.{commit_next}
-use Rattle.hs_core.specs.Looking.{front_of, group_of}
-use Rattle.hs_core.specs.State.{Core}
+use Rattle.hs_core_words.specs.Effects.{commit_next}
+use Rattle.hs_core_words.specs.Looking.{front_of, group_of}
+use Rattle.hs_core_words.specs.State.{Core}
 use Rattle.hs_effects.specs.Taking.{folds_behind, next_deed, setting_of}
 use Rattle.hs_entry.specs.declared.entry.Entry.{Entry}
 use Rattle.hs_fold.specs.Lawful.{Deed}

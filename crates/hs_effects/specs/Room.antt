@@ -1,7 +1,7 @@
 -- Room for the Blocks and the Roots that have not taken effect.
 use Rattle.std.specs.Prelude.{◌≡◌, ◌⊎◌, ℕ, ◌+◌, ◌≤◌, count_by, length}
-use Rattle.hs_core.specs.Looking.{catalogue_of, group_of}
-use Rattle.hs_core.specs.State.{Core}
+use Rattle.hs_core_words.specs.Looking.{catalogue_of, group_of}
+use Rattle.hs_core_words.specs.State.{Core}
 use Rattle.hs_replica.specs.Kinds.{is_block, is_root}
 use Rattle.hs_roots.specs.Roots.{retained_count}
 

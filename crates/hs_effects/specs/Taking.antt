@@ -1,11 +1,11 @@
 -- An entry that takes effect, beside the folds which the catalogues of a core are.
 use Rattle.std.specs.Prelude.{◌≡◌, ℕ, ◌+◌, List}
 use Rattle.hs_awaiting.specs.Words.{◌▸◌}
-use Rattle.hs_core.specs.Changing.{change_group, post, set_catalogue}
-use Rattle.hs_core.specs.Effects.{round_messages}
-use Rattle.hs_core.specs.Looking.{catalogue_of, front_of, shape_of}
-use Rattle.hs_core.specs.Pending.{named}
-use Rattle.hs_core.specs.State.{Core}
+use Rattle.hs_core_words.specs.Changing.{change_group, post, set_catalogue}
+use Rattle.hs_core_words.specs.Effects.{round_messages}
+use Rattle.hs_core_words.specs.Looking.{catalogue_of, front_of, shape_of}
+use Rattle.hs_core_words.specs.Pending.{named}
+use Rattle.hs_core_words.specs.State.{Core}
 use Rattle.hs_entry.specs.declared.entry.Entry.{Entry}
 use Rattle.hs_fold.specs.Lawful.{Deed}
 use Rattle.hs_fold.specs.Runs.Facts.{Catalogue as Folded}

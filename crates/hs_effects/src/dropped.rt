@@ -1,7 +1,7 @@
 //! A Drop that takes effect answers its operation as the plain store does.
 ghost use Rattle.std.specs.Prelude.{◌≡◌, ℕ, IsSome, List, Some};
-ghost use Rattle.hs_core.specs.Looking.{catalogue_of, group_of};
-ghost use Rattle.hs_core.specs.State.{Core};
+ghost use Rattle.hs_core_words.specs.Looking.{catalogue_of, group_of};
+ghost use Rattle.hs_core_words.specs.State.{Core};
 ghost use Rattle.hs_effects.specs.Answered.{IsAnsweredBy, heard};
 ghost use Rattle.hs_effects.specs.Lawful.{IsLawful, MayFollow};
 ghost use Rattle.hs_effects.specs.Logged.{IsOrderly};

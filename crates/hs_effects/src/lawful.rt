@@ -1,9 +1,9 @@
 //! The catalogues stay folds of a lawful history.
 ghost use Rattle.std.specs.Prelude.{ℕ, ◌<◌, List};
 ghost use Rattle.hs_answered.specs.Standing.{IsFolded};
-ghost use Rattle.hs_core.specs.Effects.{commit, take_effect};
-ghost use Rattle.hs_core.specs.Looking.{shape_of};
-ghost use Rattle.hs_core.specs.State.{Core};
+ghost use Rattle.hs_core_words.specs.Effects.{commit, take_effect};
+ghost use Rattle.hs_core_words.specs.Looking.{shape_of};
+ghost use Rattle.hs_core_words.specs.State.{Core};
 ghost use Rattle.hs_effects.specs.Lawful.{IsLawful, MayComeAll, MayFollow};
 ghost use Rattle.hs_effects.specs.Lawful.{committed_count, folds_after};
 ghost use Rattle.hs_effects.specs.Logged.{IsOrderly};

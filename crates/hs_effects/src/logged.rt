@@ -1,10 +1,10 @@
 //! Operations and the entries that they asked for stay in order.
 ghost use Rattle.std.specs.Prelude.{◌≡◌, ℕ, List, Some, slice_get};
-ghost use Rattle.hs_core.specs.declared.event.Event.{Event};
-ghost use Rattle.hs_core.specs.Looking.{group_of};
-ghost use Rattle.hs_core.specs.Opening.{Taken, open_core};
-ghost use Rattle.hs_core.specs.State.{Core};
-ghost use Rattle.hs_core.specs.Step.{step};
+ghost use Rattle.hs_core_words.specs.declared.event.Event.{Event};
+ghost use Rattle.hs_core_words.specs.Looking.{group_of};
+ghost use Rattle.hs_core_words.specs.Opening.{Taken, open_core};
+ghost use Rattle.hs_core_words.specs.State.{Core};
+ghost use Rattle.hs_core_words.specs.Step.{step};
 ghost use Rattle.hs_effects.specs.Logged.{IsOrderly, MayBegin, MayBeginAll, steps};
 ghost use Rattle.hs_effects.specs.Taking.{IsNamed};
 ghost use Rattle.hs_entry.specs.declared.entry.Entry.{Entry};

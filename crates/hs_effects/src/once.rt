@@ -1,7 +1,7 @@
 //! Lines of entries that wait.
 ghost use Rattle.std.specs.Prelude.{◌≡◌, ℕ, List, Some, slice_get};
-ghost use Rattle.hs_core.specs.Looking.{group_of};
-ghost use Rattle.hs_core.specs.State.{Core};
+ghost use Rattle.hs_core_words.specs.Looking.{group_of};
+ghost use Rattle.hs_core_words.specs.State.{Core};
 ghost use Rattle.hs_effects.specs.Logged.{IsOrderly, asked_by};
 ghost use Rattle.hs_entry.specs.declared.entry.Entry.{Entry};
 ghost use Rattle.hs_limits.specs.declared.address.Address.{Address};

@@ -1,8 +1,8 @@
 //! Room for the entries that take effect.
 ghost use Rattle.std.specs.Prelude.{◌≡◌, ℕ, List, Option, Some, None};
-ghost use Rattle.hs_core.specs.Looking.{group_of};
-ghost use Rattle.hs_core.specs.Seeing.{view_for};
-ghost use Rattle.hs_core.specs.State.{Core};
+ghost use Rattle.hs_core_words.specs.Looking.{group_of};
+ghost use Rattle.hs_core_words.specs.Seeing.{view_for};
+ghost use Rattle.hs_core_words.specs.State.{Core};
 ghost use Rattle.hs_desk.specs.declared.what.What.TheVariants as what;
 ghost use Rattle.hs_effects.specs.Logged.{IsOrderly};
 ghost use Rattle.hs_effects.specs.Taking.{done_by, taken};

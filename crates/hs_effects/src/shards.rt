@@ -1,8 +1,8 @@
 //! What a shard does by itself is told as the plain store does it.
 ghost use Rattle.std.specs.Prelude.{◌≡◌, ℕ, List, [], Some, None};
-ghost use Rattle.hs_core.specs.Effects.{take_effect};
-ghost use Rattle.hs_core.specs.Looking.{operation_of};
-ghost use Rattle.hs_core.specs.State.{Core};
+ghost use Rattle.hs_core_words.specs.Effects.{take_effect};
+ghost use Rattle.hs_core_words.specs.Looking.{operation_of};
+ghost use Rattle.hs_core_words.specs.State.{Core};
 ghost use Rattle.hs_effects.specs.Lawful.{IsLawful, MayFollow};
 ghost use Rattle.hs_effects.specs.Taking.{folds_behind, next_deed, setting_of};
 ghost use Rattle.hs_effects.specs.Telling.{HasHappened, HasSwept, IsSilent};

@@ -1,7 +1,7 @@
 //! A Block that stores its block answers its operation as the plain store does.
 ghost use Rattle.std.specs.Prelude.{◌≡◌, ℕ, List, Some};
-ghost use Rattle.hs_core.specs.Looking.{group_of};
-ghost use Rattle.hs_core.specs.State.{Core};
+ghost use Rattle.hs_core_words.specs.Looking.{group_of};
+ghost use Rattle.hs_core_words.specs.State.{Core};
 ghost use Rattle.hs_desk.specs.declared.what.What.TheVariants as what;
 ghost use Rattle.hs_effects.specs.Answered.{HasAnswer, HoldAddresses, heard};
 ghost use Rattle.hs_effects.specs.Lawful.{IsLawful, MayFollow};

@@ -7,9 +7,9 @@ use Rattle.hs_events.specs.Due.{Events, is_walk, next_due, next_turn}
 use Rattle.hs_events.specs.Reports.{failures, only_reads}
 use Rattle.hs_events.specs.Taken.{taken_peer}
 use Rattle.hs_events.specs.Whole.{Whole, counts, floor, open_whole, reach, step_whole}
-use Rattle.hs_core.specs.declared.event.Event.TheVariants as event
-use Rattle.hs_core.specs.Opening.{Taken, open_core}
-use Rattle.hs_core.specs.State.{Core}
+use Rattle.hs_core_words.specs.declared.event.Event.TheVariants as event
+use Rattle.hs_core_words.specs.Opening.{Taken, open_core}
+use Rattle.hs_core_words.specs.State.{Core}
 use Rattle.hs_desk.specs.declared.done.Done.TheVariants as done
 use Rattle.hs_desk.specs.declared.job.Job.TheVariants as job
 use Rattle.hs_entry.specs.Entries.{rank_of}

@@ -3,12 +3,12 @@ use Rattle.std.proofs.Common.{◌≡◌, ◌∙◌, ap, ℕ, ◌+◌, ◌==◌, 
 use Rattle.std.specs.Prelude.{unwrap_or}
 use Rattle.hs_events.proofs.KeepLemmas.{Leaves, ReportLeaves, keeps_do, with_line}
 use Rattle.hs_awaiting.specs.Words.{change_if}
-use Rattle.hs_core.specs.Calls.{begun_line, last_line_after}
-use Rattle.hs_core.specs.Changing.{change_pool}
-use Rattle.hs_core.specs.declared.event.Event.{Event}
-use Rattle.hs_core.specs.declared.event.Event.TheVariants as event
-use Rattle.hs_core.specs.State.{Core}
-use Rattle.hs_core.specs.Step.{begin_event, do_event, end_event, line_of, run_event, step}
+use Rattle.hs_core_words.specs.Calls.{begun_line, last_line_after}
+use Rattle.hs_core_words.specs.Changing.{change_pool}
+use Rattle.hs_core_words.specs.declared.event.Event.{Event}
+use Rattle.hs_core_words.specs.declared.event.Event.TheVariants as event
+use Rattle.hs_core_words.specs.State.{Core}
+use Rattle.hs_core_words.specs.Step.{begin_event, do_event, end_event, line_of, run_event, step}
 use Rattle.hs_post.specs.Pool.{is_empty, restart_numbers}
 
 -- shape, limits, moment and last line

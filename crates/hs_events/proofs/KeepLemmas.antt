@@ -8,23 +8,23 @@ use Rattle.hs_awaiting.specs.declared.wait.Wait.{Wait}
 use Rattle.hs_awaiting.specs.declared.wait.Wait.TheVariants as wait
 use Rattle.hs_awaiting.specs.declared.waiting.Waiting.{Waiting}
 use Rattle.hs_awaiting.specs.Words.{change_if, change_with, each, times}
-use Rattle.hs_core.specs.Asking.{deliver, lose, nudge, nudge_good, send_again, send_round, send_rounds, unless_refused, with_down, with_message, with_up, no_peer, not_up, not_down}
-use Rattle.hs_core.specs.Changing.{add_entry_tasks, add_operation, add_task, change_group, change_rejoin, end_operation, note, post, set_catalogue, set_rejoin, set_status, set_tasks, set_viewed}
-use Rattle.hs_core.specs.declared.event.Event.{Event}
-use Rattle.hs_core.specs.declared.event.Event.TheVariants as event
-use Rattle.hs_core.specs.declared.task.Task.{Task}
-use Rattle.hs_core.specs.Delivering.{handle, take_copy}
-use Rattle.hs_core.specs.Effects.{after_entry, commit, commit_next, is_for_view, note_enter, note_sweep, reach_view, round_messages, take_effect, tell_enter, tell_operation}
-use Rattle.hs_core.specs.Entering.{is_enter_due, propose_due}
-use Rattle.hs_core.specs.Failing.{commit_rest, fail_disk, go_down, leave}
-use Rattle.hs_core.specs.Joining.{begin_joining, follow_lead, join, join_if_level, joining_peers, start}
-use Rattle.hs_core.specs.Looking.{catalogue_of, first_task, front_of, group_of, home, lead_of, operation_of, shape_of, tasks_of}
-use Rattle.hs_core.specs.Operating.{add_read, answer, begin_line, busy_line, carry_out, go_on_with, lines_where, propose_entry, resume, resume_where, take_step, wait_for, what_holds}
-use Rattle.hs_core.specs.Reporting.{on_report, take_report, tell_bytes}
-use Rattle.hs_core.specs.Seeing.{pointers_for, view_for}
-use Rattle.hs_core.specs.State.{Core}
-use Rattle.hs_core.specs.Step.{do_event}
-use Rattle.hs_core.specs.Views.{begin_view, change_view}
+use Rattle.hs_core_words.specs.Asking.{deliver, lose, nudge, nudge_good, send_again, send_round, send_rounds, unless_refused, with_down, with_message, with_up, no_peer, not_up, not_down}
+use Rattle.hs_core_words.specs.Changing.{add_entry_tasks, add_operation, add_task, change_group, change_rejoin, end_operation, note, post, set_catalogue, set_rejoin, set_status, set_tasks, set_viewed}
+use Rattle.hs_core_words.specs.declared.event.Event.{Event}
+use Rattle.hs_core_words.specs.declared.event.Event.TheVariants as event
+use Rattle.hs_core_words.specs.declared.task.Task.{Task}
+use Rattle.hs_core_words.specs.Delivering.{handle, take_copy}
+use Rattle.hs_core_words.specs.Effects.{after_entry, commit, commit_next, is_for_view, note_enter, note_sweep, reach_view, round_messages, take_effect, tell_enter, tell_operation}
+use Rattle.hs_core_words.specs.Entering.{is_enter_due, propose_due}
+use Rattle.hs_core_words.specs.Failing.{commit_rest, fail_disk, go_down, leave}
+use Rattle.hs_core_words.specs.Joining.{begin_joining, follow_lead, join, join_if_level, joining_peers, start}
+use Rattle.hs_core_words.specs.Looking.{catalogue_of, first_task, front_of, group_of, home, lead_of, operation_of, shape_of, tasks_of}
+use Rattle.hs_core_words.specs.Operating.{add_read, answer, begin_line, busy_line, carry_out, go_on_with, lines_where, propose_entry, resume, resume_where, take_step, wait_for, what_holds}
+use Rattle.hs_core_words.specs.Reporting.{on_report, take_report, tell_bytes}
+use Rattle.hs_core_words.specs.Seeing.{pointers_for, view_for}
+use Rattle.hs_core_words.specs.State.{Core}
+use Rattle.hs_core_words.specs.Step.{do_event}
+use Rattle.hs_core_words.specs.Views.{begin_view, change_view}
 use Rattle.hs_desk.specs.Answers.{answers}
 use Rattle.hs_desk.specs.declared.done.Done.{Done}
 use Rattle.hs_desk.specs.declared.done.Done.TheVariants as done

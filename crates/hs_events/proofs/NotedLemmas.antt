@@ -5,8 +5,8 @@ use Rattle.std.specs.List.{range_with_len}
 use Rattle.std.specs.Option.{option_map_or}
 use Rattle.std.specs.Prelude.{flat_map, slice_index_or}
 use Rattle.hs_events.specs.Course.{change_item, items_between, took_items}
-use Rattle.hs_core.specs.Looking.{front_of, status_of}
-use Rattle.hs_core.specs.State.{Core}
+use Rattle.hs_core_words.specs.Looking.{front_of, status_of}
+use Rattle.hs_core_words.specs.State.{Core}
 use Rattle.hs_members.specs.Members.{is_good_status}
 use Rattle.hs_model.specs.declared.course.CourseItem.{CourseItem}
 use Rattle.hs_model.specs.declared.course.CourseItem.TheVariants as item

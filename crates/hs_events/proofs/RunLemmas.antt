@@ -3,8 +3,8 @@ use Rattle.std.proofs.Common.{◌≡◌, ◌∙◌, ap, sym, [], ◌∷◌, ◌+
 use Rattle.std.proofs.lemmas.List.{append_assoc}
 use Rattle.hs_events.specs.Course.{event_items, items_of, steps}
 use Rattle.hs_events.specs.Due.{Events}
-use Rattle.hs_core.specs.State.{Core}
-use Rattle.hs_core.specs.Step.{step}
+use Rattle.hs_core_words.specs.State.{Core}
+use Rattle.hs_core_words.specs.Step.{step}
 
 pub steps_append : (core : Core) (es fs : Events) → steps core (es ++ fs) ≡ steps (steps core es) fs
 steps_append core [] fs = refl

@@ -2,9 +2,9 @@
 use Rattle.std.proofs.Common.{◌≡◌, ap, ℕ, ◌<◌, ◌≤◌, Bool, true, false, [], ◌∷◌, None, length, refl, arith, is_some, nat_le}
 use Rattle.std.proofs.lemmas.Bool.Decides.{nat_tests}
 use Rattle.hs_events.specs.Due.{turn_behind, turn_of}
-use Rattle.hs_core.specs.Asking.{no_peer, not_up}
-use Rattle.hs_core.specs.Looking.{status_of}
-use Rattle.hs_core.specs.State.{Core}
+use Rattle.hs_core_words.specs.Asking.{no_peer, not_up}
+use Rattle.hs_core_words.specs.Looking.{status_of}
+use Rattle.hs_core_words.specs.State.{Core}
 use Rattle.hs_limits.specs.declared.limits.PeerStatus.{PeerStatus}
 use Rattle.hs_limits.specs.declared.limits.PeerStatus.TheVariants.{Good, Joining, Down}
 use Rattle.hs_members.specs.Members.{is_down}

@@ -1,9 +1,9 @@
 -- The events of a line of a script, by its command.
 use Rattle.std.specs.Prelude.{Bool, List, None, Option, Some, [], false, true, ℕ, ◌∷◌, ◌≡◌}
-use Rattle.hs_core.specs.State.{Core}
-use Rattle.hs_core.specs.Step.{step}
-use Rattle.hs_core.specs.declared.event.Event.{Event}
-use Rattle.hs_core.specs.declared.event.Event.TheVariants as event
+use Rattle.hs_core_words.specs.State.{Core}
+use Rattle.hs_core_words.specs.Step.{step}
+use Rattle.hs_core_words.specs.declared.event.Event.{Event}
+use Rattle.hs_core_words.specs.declared.event.Event.TheVariants as event
 use Rattle.hs_limits.specs.declared.address.Address.{Address}
 use Rattle.hs_model.specs.declared.command.Command.{Command}
 use Rattle.hs_model.specs.declared.command.Command.TheVariants as command

@@ -1,16 +1,16 @@
 -- What the events of the core give for a course.
 use Rattle.std.specs.Option.{option_map_or}
 use Rattle.std.specs.Prelude.{Bool, List, None, Option, Some, [], false, flat_map, if◌then◌else◌, nat_lt, true, ℕ, ◌++◌, ◌∷◌}
-use Rattle.hs_core.specs.Looking.{front_of, shape_of, shards_of, status_of}
-use Rattle.hs_core.specs.State.{Core}
-use Rattle.hs_core.specs.Step.{step}
-use Rattle.hs_core.specs.declared.event.Event.{Event}
+use Rattle.hs_core_words.specs.Looking.{front_of, shape_of, shards_of, status_of}
+use Rattle.hs_core_words.specs.State.{Core}
+use Rattle.hs_core_words.specs.Step.{step}
+use Rattle.hs_core_words.specs.declared.event.Event.{Event}
 use Rattle.hs_desk.specs.declared.fault.CoreFault.{CoreFault}
 use Rattle.hs_desk.specs.declared.fault.CoreFault.TheVariants as fault
 use Rattle.hs_members.specs.Members.{all_peers, is_good_status}
 use Rattle.hs_model.specs.declared.course.CourseItem.{CourseItem}
 use Rattle.hs_model.specs.declared.course.CourseItem.TheVariants as item
-use Rattle.hs_core.specs.Calls.{begun_line}
+use Rattle.hs_core_words.specs.Calls.{begun_line}
 use Rattle.hs_events.specs.Due.{Events}
 
 -- the item of a peer that was good, or not, and is good then, or not

@@ -3,12 +3,12 @@
 use Rattle.std.specs.List.{list_any}
 use Rattle.std.specs.Option.{option_and_then, option_map, option_map_or, option_or}
 use Rattle.std.specs.Prelude.{Bool, List, None, Option, Some, [], drop, false, filter_map, find, if◌then◌else◌, is_none, is_some, length, nat_le, nat_lt, not, slice_get, take, true, ℕ, ◌&&◌, ◌++◌, ◌+◌, ◌==◌, ◌||◌, ◌∷◌, ◌≤◌}
-use Rattle.hs_core.specs.Asking.{no_peer, not_up}
-use Rattle.hs_core.specs.Looking.{first_job, known_of, oldest_message, open_work, shape_of, status_of}
-use Rattle.hs_core.specs.State.{Core}
-use Rattle.hs_core.specs.Step.{step}
-use Rattle.hs_core.specs.declared.event.Event.{Event}
-use Rattle.hs_core.specs.declared.event.Event.TheVariants as event
+use Rattle.hs_core_words.specs.Asking.{no_peer, not_up}
+use Rattle.hs_core_words.specs.Looking.{first_job, known_of, oldest_message, open_work, shape_of, status_of}
+use Rattle.hs_core_words.specs.State.{Core}
+use Rattle.hs_core_words.specs.Step.{step}
+use Rattle.hs_core_words.specs.declared.event.Event.{Event}
+use Rattle.hs_core_words.specs.declared.event.Event.TheVariants as event
 use Rattle.hs_events.specs.declared.due.Due.{Due}
 use Rattle.hs_events.specs.declared.due.Due.TheVariants.{Reporting, Handling, Nudging}
 use Rattle.hs_events.specs.declared.due.Place.{Place}

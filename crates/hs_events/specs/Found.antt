@@ -1,8 +1,8 @@
 -- What opening found, and the core that it opens.
 use Rattle.std.specs.List.{list_any, range_with_len}
 use Rattle.std.specs.Prelude.{Bool, List, Option, [], false, if◌then◌else◌, map, slice_index_or, ℕ}
-use Rattle.hs_core.specs.Opening.{Taken, open_core}
-use Rattle.hs_core.specs.State.{Core}
+use Rattle.hs_core_words.specs.Opening.{Taken, open_core}
+use Rattle.hs_core_words.specs.State.{Core}
 use Rattle.hs_entry.specs.Entries.{rank_of}
 use Rattle.hs_events.specs.Taken.{taken_list}
 use Rattle.hs_fold.specs.Shards.Setting.{Numbered, Setting}

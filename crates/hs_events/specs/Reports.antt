@@ -1,10 +1,10 @@
 -- What reports tell: failures of disks, and what was read.
 use Rattle.std.specs.Option.{option_map_or}
 use Rattle.std.specs.Prelude.{Bool, Contains, IfSome, List, Option, Some, [], false, if◌then◌else◌, not, true, ℕ, ⊤, ◌&&◌, ◌+◌, ◌==◌, ◌||◌, ◌∷◌, ◌≡◌}
-use Rattle.hs_core.specs.Looking.{first_job}
-use Rattle.hs_core.specs.State.{Core}
-use Rattle.hs_core.specs.Step.{step}
-use Rattle.hs_core.specs.declared.event.Event.{Event}
+use Rattle.hs_core_words.specs.Looking.{first_job}
+use Rattle.hs_core_words.specs.State.{Core}
+use Rattle.hs_core_words.specs.Step.{step}
+use Rattle.hs_core_words.specs.declared.event.Event.{Event}
 use Rattle.hs_desk.specs.declared.done.Done.{Done}
 use Rattle.hs_desk.specs.declared.done.Done.TheVariants as done
 use Rattle.hs_desk.specs.declared.job.Job.{Job}

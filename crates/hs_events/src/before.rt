@@ -3,13 +3,14 @@ ghost use Rattle.std.specs.Prelude.{◌≡◌, ◌∷◌, ◌++◌, ◌*◌, ◌
 ghost use Rattle.std.specs.Option.{option_map_or};
 ghost use Rattle.std.specs.List.{range_with_len};
 ghost use Rattle.hs_events.specs.Course.{change_item, items_between, took_items};
-ghost use Rattle.hs_core.specs.Calls.{begun_line};
-ghost use Rattle.hs_core.specs.Looking.{front_of, known_of, status_of};
-ghost use Rattle.hs_core.specs.State.{Core};
+ghost use Rattle.hs_core_words.specs.Calls.{begun_line};
+ghost use Rattle.hs_core_words.specs.Looking.{front_of, known_of, status_of};
+ghost use Rattle.hs_core_words.specs.State.{Core};
 ghost use Rattle.hs_members.specs.Members.{is_good_status};
 ghost use Rattle.hs_model.specs.declared.course.CourseItem.TheVariants as item;
 
-use hs_core::{Core, Event};
+use hs_core::Core;
+use hs_core_words::Event;
 use hs_limits::PeerStatus;
 use hs_model::CourseItem;
 use std::alloc::{AllocError, Global};

@@ -1,7 +1,7 @@
 //! Where passes and nudges stand behind what was due.
 ghost use Rattle.std.specs.List.{list_any};
 ghost use Rattle.std.specs.Prelude.{◌≡◌, ◌<◌, nat_lt, slice_index_or};
-ghost use Rattle.hs_core.specs.Looking.{known_of};
+ghost use Rattle.hs_core_words.specs.Looking.{known_of};
 ghost use Rattle.hs_events.specs.Due.{peer_due, place_after};
 ghost use Rattle.hs_members.specs.Members.{all_peers};
 

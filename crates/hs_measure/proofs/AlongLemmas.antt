@@ -8,8 +8,8 @@ use Rattle.hs_clauses.proofs.AlongLemmas.{all_keep}
 use Rattle.hs_clauses.proofs.RoomLemmas.{keeps_room, last_room}
 use Rattle.hs_cluster.specs.Kept.{AreTold}
 use Rattle.hs_cluster.specs.Rooms.{HaveRecordRoom}
-use Rattle.hs_core.specs.State.{Core}
-use Rattle.hs_core.specs.Step.{step}
+use Rattle.hs_core_words.specs.State.{Core}
+use Rattle.hs_core_words.specs.Step.{step}
 use Rattle.hs_settled.specs.Deletion.{TellsDeletion}
 use Rattle.hs_effects.specs.Logged.{MayBeginAll}
 use Rattle.hs_events.specs.Course.{steps}

@@ -4,8 +4,8 @@ use Rattle.hs_answered.specs.Standing.{store_with}
 use Rattle.hs_answered.specs.Telling.{Judging, Tells}
 use Rattle.hs_settled.proofs.DatedLemmas.{prompt_told}
 use Rattle.hs_clauses.proofs.FrontLemmas.{answered_front, legal_front}
-use Rattle.hs_core.specs.State.{Core}
-use Rattle.hs_core.specs.Step.{step}
+use Rattle.hs_core_words.specs.State.{Core}
+use Rattle.hs_core_words.specs.Step.{step}
 use Rattle.hs_settled.proofs.DeletesEventLemmas.{whole_told}
 use Rattle.hs_settled.proofs.FrontLemmas.{EventStands, Stands, front_stands}
 use Rattle.hs_settled.proofs.DeletesRunLemmas.{Running, may_front}

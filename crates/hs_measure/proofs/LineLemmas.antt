@@ -8,7 +8,7 @@ use Rattle.hs_cluster.specs.Disks.{DiskSeen}
 use Rattle.hs_cluster.specs.Kept.{Shows}
 use Rattle.hs_cluster.specs.Rooms.{HaveRecordRoom}
 use Rattle.hs_cluster.specs.Running.{Running}
-use Rattle.hs_core.specs.State.{Core}
+use Rattle.hs_core_words.specs.State.{Core}
 use Rattle.hs_desk.specs.declared.fault.CoreFault.{CoreFault}
 use Rattle.hs_effects.specs.Logged.{MayBeginAll}
 use Rattle.hs_events.specs.Commands.{AreOfCommand, AreOfLine, LineAt}

@@ -14,8 +14,8 @@ use Rattle.hs_cluster.specs.Calls.{ran_out}
 use Rattle.hs_cluster.specs.declared.fault.ClusterFault.{ClusterFault}
 use Rattle.hs_cluster.specs.Opens.{Opens, log_in}
 use Rattle.hs_cluster.specs.Running.{Running}
-use Rattle.hs_core.specs.Opening.{Taken, open_core}
-use Rattle.hs_core.specs.State.{Core}
+use Rattle.hs_core_words.specs.Opening.{Taken, open_core}
+use Rattle.hs_core_words.specs.State.{Core}
 use Rattle.hs_settled.specs.Deletion.{TellsDeletion}
 use Rattle.hs_effects.specs.Logged.{MayBeginAll}
 use Rattle.hs_effects.specs.Logged.{steps as steps_so}

@@ -1,22 +1,22 @@
 -- Each event leaves the limit of the pool as it was.
 use Rattle.std.proofs.Common.{◌≡◌, ◌∙◌, sym, ap, subst, refl, ℕ, ◌+◌, ◌==◌, ◌&&◌, Bool, true, false, cond, not, List, [], ◌∷◌, drop, Option, Some, None, length, nat_lt}
 use Rattle.hs_awaiting.specs.Words.{change_if, change_with, each, ◌▸◌}
-use Rattle.hs_core.specs.Asking.{deliver, lose, no_peer, not_down, not_up, nudge, nudge_good, send_again, send_rounds}
-use Rattle.hs_core.specs.Changing.{add_entry_tasks, change_group, change_pool, change_rejoin, note, post, refuse, set_catalogue, set_rejoin, set_status, set_tasks, set_viewed}
-use Rattle.hs_core.specs.declared.event.Event.{Event}
-use Rattle.hs_core.specs.declared.event.Event.TheVariants as event
-use Rattle.hs_core.specs.declared.task.Task.{Task}
-use Rattle.hs_core.specs.Delivering.{handle, is_new_round, take_copy}
-use Rattle.hs_core.specs.Effects.{commit, round_messages}
-use Rattle.hs_core.specs.Entering.{propose_due}
-use Rattle.hs_core.specs.Failing.{commit_rest, fail_disk, go_down, leave}
-use Rattle.hs_core.specs.Joining.{begin_joining, follow_lead, is_level_with_lead, join, join_if_level, joining_peers, start}
-use Rattle.hs_core.specs.Looking.{first_task, group_of, home, lead_of, status_of, tasks_of}
-use Rattle.hs_core.specs.Operating.{add_read, propose_entry}
-use Rattle.hs_core.specs.Reporting.{on_report, take_report}
-use Rattle.hs_core.specs.State.{Core}
-use Rattle.hs_core.specs.Step.{do_event, end_event, keep_entries, line_of, refuse_entries, step}
-use Rattle.hs_core.specs.Views.{begin_view, change_view, restart}
+use Rattle.hs_core_words.specs.Asking.{deliver, lose, no_peer, not_down, not_up, nudge, nudge_good, send_again, send_rounds}
+use Rattle.hs_core_words.specs.Changing.{add_entry_tasks, change_group, change_pool, change_rejoin, note, post, refuse, set_catalogue, set_rejoin, set_status, set_tasks, set_viewed}
+use Rattle.hs_core_words.specs.declared.event.Event.{Event}
+use Rattle.hs_core_words.specs.declared.event.Event.TheVariants as event
+use Rattle.hs_core_words.specs.declared.task.Task.{Task}
+use Rattle.hs_core_words.specs.Delivering.{handle, is_new_round, take_copy}
+use Rattle.hs_core_words.specs.Effects.{commit, round_messages}
+use Rattle.hs_core_words.specs.Entering.{propose_due}
+use Rattle.hs_core_words.specs.Failing.{commit_rest, fail_disk, go_down, leave}
+use Rattle.hs_core_words.specs.Joining.{begin_joining, follow_lead, is_level_with_lead, join, join_if_level, joining_peers, start}
+use Rattle.hs_core_words.specs.Looking.{first_task, group_of, home, lead_of, status_of, tasks_of}
+use Rattle.hs_core_words.specs.Operating.{add_read, propose_entry}
+use Rattle.hs_core_words.specs.Reporting.{on_report, take_report}
+use Rattle.hs_core_words.specs.State.{Core}
+use Rattle.hs_core_words.specs.Step.{do_event, end_event, keep_entries, line_of, refuse_entries, step}
+use Rattle.hs_core_words.specs.Views.{begin_view, change_view, restart}
 use Rattle.hs_desk.specs.Answers.{answers}
 use Rattle.hs_desk.specs.declared.done.Done.{Done}
 use Rattle.hs_desk.specs.declared.done.Done.TheVariants as done

@@ -5,7 +5,7 @@ use Rattle.hs_cluster.specs.Disks.{DiskSeen}
 use Rattle.hs_cluster.specs.Kept.{CanRead}
 use Rattle.hs_cluster.specs.Running.{Running}
 use Rattle.hs_cluster.specs.declared.fault.ClusterFault.{ClusterFault}
-use Rattle.hs_core.specs.State.{Core}
+use Rattle.hs_core_words.specs.State.{Core}
 use Rattle.hs_settled.specs.Deletion.{TellsDeletion}
 use Rattle.hs_events.specs.Course.{steps}
 use Rattle.hs_events.specs.Due.{Events}

@@ -2,7 +2,7 @@
 use Rattle.std.specs.Prelude.{◌≤◌, ℕ, IsSome}
 use Rattle.hs_answered.specs.Telling.{events_in}
 use Rattle.hs_standing.specs.Answered.{AreAnswers}
-use Rattle.hs_core.specs.State.{Core}
+use Rattle.hs_core_words.specs.State.{Core}
 use Rattle.hs_settled.specs.Counts.{CountsRight}
 use Rattle.hs_settled.specs.Deletion.{TellsDeletion}
 use Rattle.hs_journal.specs.Events.{client_op}

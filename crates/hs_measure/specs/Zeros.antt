@@ -1,6 +1,6 @@
 -- Which blocks of a core are zero blocks, in the words of the plain store: of the store that its catalogues are, and what the anchors of a run reach there.
 use Rattle.std.specs.Prelude.{◌≡◌, ◌⊎◌, ◌<◌, ℕ, true, false, Contains, List, Some}
-use Rattle.hs_core.specs.State.{Core}
+use Rattle.hs_core_words.specs.State.{Core}
 use Rattle.hs_effects.specs.Lawful.{IsLawful, MayFollow}
 use Rattle.hs_effects.specs.Taking.{setting_of}
 use Rattle.hs_fold.specs.Lawful.{Deed}

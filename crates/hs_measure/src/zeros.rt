@@ -1,6 +1,6 @@
 //! Which blocks of a core are zero blocks, in the words of the plain store.
 ghost use Rattle.std.specs.Prelude.{ℕ, List};
-ghost use Rattle.hs_core.specs.State.{Core};
+ghost use Rattle.hs_core_words.specs.State.{Core};
 ghost use Rattle.hs_effects.specs.Lawful.{IsLawful};
 ghost use Rattle.hs_fold.specs.Lawful.{Deed};
 ghost use Rattle.hs_fold.specs.Runs.Facts.{Catalogue as Folded};

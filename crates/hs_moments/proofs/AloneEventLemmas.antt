@@ -11,20 +11,20 @@ use Rattle.std.specs.Option.{option_map}
 use Rattle.std.specs.Ordering.{nat_cmp}
 use Rattle.std.specs.Prelude.{IfSome, find, if◌then◌else◌}
 use Rattle.hs_awaiting.specs.Words.{change_if, each, ◌▸◌}
-use Rattle.hs_core.specs.Asking.{deliver, lose, no_peer, not_down, not_up, nudge, nudge_good, send_again, send_rounds}
-use Rattle.hs_core.specs.Changing.{change_pool, post, refuse}
-use Rattle.hs_core.specs.declared.event.Event.{Event}
-use Rattle.hs_core.specs.declared.event.Event.TheVariants as event
-use Rattle.hs_core.specs.Delivering.{handle, is_new_round}
-use Rattle.hs_core.specs.Effects.{commit}
-use Rattle.hs_core.specs.Entering.{propose_due}
-use Rattle.hs_core.specs.Failing.{commit_rest, go_down, leave}
-use Rattle.hs_core.specs.Joining.{begin_joining, joining_peers, start}
-use Rattle.hs_core.specs.Looking.{group_of, home, lead_of, lost_shard, shape_of, status_of}
-use Rattle.hs_core.specs.Operating.{propose_entry}
-use Rattle.hs_core.specs.State.{Core}
-use Rattle.hs_core.specs.Step.{begin_event, do_event, end_event, keep_entries, line_of, refuse_entries, run_event, step}
-use Rattle.hs_core.specs.Views.{begin_view, change_view}
+use Rattle.hs_core_words.specs.Asking.{deliver, lose, no_peer, not_down, not_up, nudge, nudge_good, send_again, send_rounds}
+use Rattle.hs_core_words.specs.Changing.{change_pool, post, refuse}
+use Rattle.hs_core_words.specs.declared.event.Event.{Event}
+use Rattle.hs_core_words.specs.declared.event.Event.TheVariants as event
+use Rattle.hs_core_words.specs.Delivering.{handle, is_new_round}
+use Rattle.hs_core_words.specs.Effects.{commit}
+use Rattle.hs_core_words.specs.Entering.{propose_due}
+use Rattle.hs_core_words.specs.Failing.{commit_rest, go_down, leave}
+use Rattle.hs_core_words.specs.Joining.{begin_joining, joining_peers, start}
+use Rattle.hs_core_words.specs.Looking.{group_of, home, lead_of, lost_shard, shape_of, status_of}
+use Rattle.hs_core_words.specs.Operating.{propose_entry}
+use Rattle.hs_core_words.specs.State.{Core}
+use Rattle.hs_core_words.specs.Step.{begin_event, do_event, end_event, keep_entries, line_of, refuse_entries, run_event, step}
+use Rattle.hs_core_words.specs.Views.{begin_view, change_view}
 use Rattle.hs_desk.specs.declared.done.Done.{Done}
 use Rattle.hs_desk.specs.declared.fault.CoreFault.TheVariants as fault
 use Rattle.hs_entry.specs.declared.entry.Entry.TheVariants as kind

@@ -6,13 +6,13 @@ use Rattle.std.specs.List.{enumerate_from}
 use Rattle.std.specs.Option.{option_map, option_map_or}
 use Rattle.std.specs.Prelude.{drop, if◌then◌else◌, slice_get}
 use Rattle.hs_awaiting.specs.Words.{change_if, change_with, times, ◌▸◌}
-use Rattle.hs_core.specs.Changing.{change_group, note, post, set_tasks}
-use Rattle.hs_core.specs.declared.task.Task.{Task}
-use Rattle.hs_core.specs.Effects.{commit, commit_next, take_effect}
-use Rattle.hs_core.specs.Failing.{fail_disk, go_down}
-use Rattle.hs_core.specs.Looking.{copying_step, first_job, first_task, front_of, group_of, tasks_of}
-use Rattle.hs_core.specs.Reporting.{on_report, take_report, take_sealed, tell_bytes}
-use Rattle.hs_core.specs.State.{Core}
+use Rattle.hs_core_words.specs.Changing.{change_group, note, post, set_tasks}
+use Rattle.hs_core_words.specs.declared.task.Task.{Task}
+use Rattle.hs_core_words.specs.Effects.{commit, commit_next, take_effect}
+use Rattle.hs_core_words.specs.Failing.{fail_disk, go_down}
+use Rattle.hs_core_words.specs.Looking.{copying_step, first_job, first_task, front_of, group_of, tasks_of}
+use Rattle.hs_core_words.specs.Reporting.{on_report, take_report, take_sealed, tell_bytes}
+use Rattle.hs_core_words.specs.State.{Core}
 use Rattle.hs_desk.specs.Answers.{answers, is_copy_from}
 use Rattle.hs_desk.specs.declared.done.Done.{Done}
 use Rattle.hs_desk.specs.declared.done.Done.TheVariants as done

@@ -9,12 +9,12 @@ use Rattle.std.specs.Map.{values_of}
 use Rattle.std.specs.Ordering.{nat_cmp}
 use Rattle.std.specs.Prelude.{slice_index_or, slice_set}
 use Rattle.hs_awaiting.specs.Words.{change_with}
-use Rattle.hs_core.specs.declared.task.Task.{Task}
-use Rattle.hs_core.specs.Changing.{add_entry_tasks, change_group, post}
-use Rattle.hs_core.specs.Effects.{round_messages}
-use Rattle.hs_core.specs.Looking.{group_of, lead_of, tasks_of}
-use Rattle.hs_core.specs.Operating.{add_read, propose_entry}
-use Rattle.hs_core.specs.State.{Core}
+use Rattle.hs_core_words.specs.declared.task.Task.{Task}
+use Rattle.hs_core_words.specs.Changing.{add_entry_tasks, change_group, post}
+use Rattle.hs_core_words.specs.Effects.{round_messages}
+use Rattle.hs_core_words.specs.Looking.{group_of, lead_of, tasks_of}
+use Rattle.hs_core_words.specs.Operating.{add_read, propose_entry}
+use Rattle.hs_core_words.specs.State.{Core}
 use Rattle.hs_desk.specs.declared.job.Job.TheVariants as job
 use Rattle.hs_entry.specs.declared.entry.Entry.{Entry}
 use Rattle.hs_entry.specs.Entries.{is_of_base}

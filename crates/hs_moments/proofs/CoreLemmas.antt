@@ -10,11 +10,11 @@ use Rattle.hs_events.proofs.RangeLemmas.{flat_map_range_more}
 use Rattle.hs_events.specs.Due.{MomentsRise}
 use Rattle.hs_events.specs.Course.{change_item, event_items, happened, is_refused, items_between, items_of, steps, took_items}
 use Rattle.hs_events.specs.Due.{Events}
-use Rattle.hs_core.specs.Calls.{begun_line, last_line_after}
-use Rattle.hs_core.specs.declared.event.Event.{Event}
-use Rattle.hs_core.specs.Looking.{front_of, status_of}
-use Rattle.hs_core.specs.State.{Core}
-use Rattle.hs_core.specs.Step.{step}
+use Rattle.hs_core_words.specs.Calls.{begun_line, last_line_after}
+use Rattle.hs_core_words.specs.declared.event.Event.{Event}
+use Rattle.hs_core_words.specs.Looking.{front_of, status_of}
+use Rattle.hs_core_words.specs.State.{Core}
+use Rattle.hs_core_words.specs.Step.{step}
 use Rattle.hs_desk.specs.declared.fault.CoreFault.{CoreFault}
 use Rattle.hs_fold.specs.Good.{good_from, taken_from}
 use Rattle.hs_journal.specs.declared.entry.JournalEntry.{JournalEntry}

@@ -5,11 +5,11 @@ use Rattle.std.proofs.lemmas.List.Elements.{All-append, All-cons, All-nil}
 use Rattle.std.specs.Prelude.{All}
 use Rattle.hs_events.proofs.KeepLemmas.{Leaves, ReportLeaves, keeps_do, with_line}
 use Rattle.hs_awaiting.specs.Words.{change_if}
-use Rattle.hs_core.specs.Changing.{change_pool}
-use Rattle.hs_core.specs.declared.event.Event.{Event}
-use Rattle.hs_core.specs.declared.event.Event.TheVariants as event
-use Rattle.hs_core.specs.State.{Core}
-use Rattle.hs_core.specs.Step.{begin_event, do_event, end_event, line_of, step}
+use Rattle.hs_core_words.specs.Changing.{change_pool}
+use Rattle.hs_core_words.specs.declared.event.Event.{Event}
+use Rattle.hs_core_words.specs.declared.event.Event.TheVariants as event
+use Rattle.hs_core_words.specs.State.{Core}
+use Rattle.hs_core_words.specs.Step.{begin_event, do_event, end_event, line_of, step}
 use Rattle.hs_journal.specs.declared.entry.JournalEntry.{JournalEntry}
 use Rattle.hs_moments.specs.Answers.{added, before_end, kept_entries}
 use Rattle.hs_post.specs.Pool.{is_empty, restart_numbers}

@@ -7,7 +7,7 @@ use Rattle.std.proofs.lemmas.List.Elements.{All-append, All-nil}
 use Rattle.std.specs.List.{All, enumerate_from, flat_map}
 use Rattle.std.specs.Map.{values_of}
 use Rattle.std.specs.Prelude.{slice_index_or, slice_set}
-use Rattle.hs_core.specs.declared.task.Task.{Task}
+use Rattle.hs_core_words.specs.declared.task.Task.{Task}
 use Rattle.hs_entry.specs.declared.entry.Entry.{Entry}
 use Rattle.hs_entry.specs.Entries.{is_of_base}
 use Rattle.hs_members.specs.Members.{Members}

@@ -1,7 +1,7 @@
 -- A store of one shard with one copy is sane as it opens and while its View stands unsealed, and not where its peer has failed.
 use Rattle.std.proofs.Common.{◌≡◌, ℕ, zero, suc, ◌<◌, false, true, [], ◌∷◌, Some, refl, arith}
 use Rattle.std.proofs.lemmas.List.Elements.{All-nil}
-use Rattle.hs_core.specs.declared.event.Event.TheVariants as event
+use Rattle.hs_core_words.specs.declared.event.Event.TheVariants as event
 use Rattle.hs_desk.specs.declared.done.Done.TheVariants as done
 use Rattle.hs_entry.specs.declared.entry.Entry.TheVariants as kind
 use Rattle.hs_entry.specs.Entries.{is_of_base, rank_of}

@@ -5,13 +5,13 @@ use Rattle.std.proofs.lemmas.List.{append-nil, append_assoc}
 use Rattle.std.specs.List.{All, enumerate_from}
 use Rattle.std.specs.Option.{option_and_then, option_map}
 use Rattle.std.specs.Prelude.{if◌then◌else◌, slice_index_or, take}
-use Rattle.hs_core.specs.declared.event.Event.{Event}
-use Rattle.hs_core.specs.declared.event.Event.TheVariants as event
-use Rattle.hs_core.specs.declared.task.Task.{Task}
-use Rattle.hs_core.specs.Looking.{first_job, group_of, home, lost_shard, sealed_of, shape_of, status_of, tasks_of}
-use Rattle.hs_core.specs.Reporting.{on_report}
-use Rattle.hs_core.specs.State.{Core}
-use Rattle.hs_core.specs.Step.{do_event, end_event, step}
+use Rattle.hs_core_words.specs.declared.event.Event.{Event}
+use Rattle.hs_core_words.specs.declared.event.Event.TheVariants as event
+use Rattle.hs_core_words.specs.declared.task.Task.{Task}
+use Rattle.hs_core_words.specs.Looking.{first_job, group_of, home, lost_shard, sealed_of, shape_of, status_of, tasks_of}
+use Rattle.hs_core_words.specs.Reporting.{on_report}
+use Rattle.hs_core_words.specs.State.{Core}
+use Rattle.hs_core_words.specs.Step.{do_event, end_event, step}
 use Rattle.hs_desk.specs.declared.done.Done.{Done}
 use Rattle.hs_desk.specs.declared.done.Done.TheVariants as done
 use Rattle.hs_desk.specs.declared.fault.CoreFault.TheVariants as fault

@@ -4,12 +4,12 @@ use Rattle.std.specs.Prelude.{slice_get, slice_index_or, slice_set}
 use Rattle.hs_events.proofs.KeepLemmas.{Leaves, keeps_begin, keeps_delivered, keeps_failed, keeps_lost, keeps_nudged, keeps_repeated, keeps_started, keeps_turn}
 use Rattle.hs_events.specs.Asked.{report_in}
 use Rattle.hs_awaiting.specs.Words.{change_if}
-use Rattle.hs_core.specs.Changing.{change_group, change_pool}
-use Rattle.hs_core.specs.declared.event.Event.{Event}
-use Rattle.hs_core.specs.declared.event.Event.TheVariants as event
-use Rattle.hs_core.specs.Looking.{group_of, home, sealed_of, shape_of}
-use Rattle.hs_core.specs.State.{Core}
-use Rattle.hs_core.specs.Step.{begin_event, do_event, end_event, line_of, run_event, step}
+use Rattle.hs_core_words.specs.Changing.{change_group, change_pool}
+use Rattle.hs_core_words.specs.declared.event.Event.{Event}
+use Rattle.hs_core_words.specs.declared.event.Event.TheVariants as event
+use Rattle.hs_core_words.specs.Looking.{group_of, home, sealed_of, shape_of}
+use Rattle.hs_core_words.specs.State.{Core}
+use Rattle.hs_core_words.specs.Step.{begin_event, do_event, end_event, line_of, run_event, step}
 use Rattle.hs_desk.specs.declared.done.Done.{Done}
 use Rattle.hs_entry.specs.declared.entry.Entry.{Entry}
 use Rattle.hs_members.specs.Members.{Members}

@@ -9,16 +9,16 @@ use Rattle.hs_awaiting.specs.declared.wait.Wait.{Wait}
 use Rattle.hs_awaiting.specs.declared.wait.Wait.TheVariants as wait
 use Rattle.hs_awaiting.specs.declared.waiting.Waiting.{Waiting}
 use Rattle.hs_awaiting.specs.Words.{change_if, change_with, each, times}
-use Rattle.hs_core.specs.Asking.{send_round, send_rounds, unless_refused, with_message}
-use Rattle.hs_core.specs.Changing.{add_operation, change_group, end_operation, note, post, refuse, set_catalogue, set_viewed}
-use Rattle.hs_core.specs.Effects.{after_entry, commit, commit_next, is_for_view, note_enter, note_sweep, reach_view, round_messages, take_effect, tell_enter, tell_operation, wakes}
-use Rattle.hs_core.specs.Entering.{is_enter_due, propose_due}
-use Rattle.hs_core.specs.Looking.{catalogue_of, front_of, group_of, lead_of, operation_of, shape_of}
-use Rattle.hs_core.specs.Operating.{add_read, answer, begin_line, busy_line, carry_out, go_on_with, lines_where, propose_entry, resume, resume_where, take_step, wait_for, what_holds}
-use Rattle.hs_core.specs.Pending.{named}
-use Rattle.hs_core.specs.Reporting.{tell_bytes}
-use Rattle.hs_core.specs.Seeing.{pointers_for, view_for}
-use Rattle.hs_core.specs.State.{Core}
+use Rattle.hs_core_words.specs.Asking.{send_round, send_rounds, unless_refused, with_message}
+use Rattle.hs_core_words.specs.Changing.{add_operation, change_group, end_operation, note, post, refuse, set_catalogue, set_viewed}
+use Rattle.hs_core_words.specs.Effects.{after_entry, commit, commit_next, is_for_view, note_enter, note_sweep, reach_view, round_messages, take_effect, tell_enter, tell_operation, wakes}
+use Rattle.hs_core_words.specs.Entering.{is_enter_due, propose_due}
+use Rattle.hs_core_words.specs.Looking.{catalogue_of, front_of, group_of, lead_of, operation_of, shape_of}
+use Rattle.hs_core_words.specs.Operating.{add_read, answer, begin_line, busy_line, carry_out, go_on_with, lines_where, propose_entry, resume, resume_where, take_step, wait_for, what_holds}
+use Rattle.hs_core_words.specs.Pending.{named}
+use Rattle.hs_core_words.specs.Reporting.{tell_bytes}
+use Rattle.hs_core_words.specs.Seeing.{pointers_for, view_for}
+use Rattle.hs_core_words.specs.State.{Core}
 use Rattle.hs_desk.specs.declared.what.What.{What}
 use Rattle.hs_desk.specs.declared.what.What.TheVariants as what
 use Rattle.hs_entry.specs.declared.entry.Entry.{Entry}

@@ -1,8 +1,8 @@
 -- What an event adds to the journal.
 use Rattle.std.specs.Prelude.{ℕ, ◌+◌, List, [], length, is_none, nat_lt, if◌then◌else◌}
-use Rattle.hs_core.specs.declared.event.Event.{Event}
-use Rattle.hs_core.specs.State.{Core}
-use Rattle.hs_core.specs.Step.{begin_event, do_event, line_of}
+use Rattle.hs_core_words.specs.declared.event.Event.{Event}
+use Rattle.hs_core_words.specs.State.{Core}
+use Rattle.hs_core_words.specs.Step.{begin_event, do_event, line_of}
 use Rattle.hs_journal.specs.declared.entry.JournalEntry.{JournalEntry}
 
 -- the core before the end of the event

@@ -1,8 +1,8 @@
 -- The core beside the whole lists as a machine over events.
 use Rattle.std.specs.Prelude.{◌≡◌, ℕ, ◌++◌}
-use Rattle.hs_core.specs.Calls.{begun_line}
-use Rattle.hs_core.specs.declared.event.Event.{Event}
-use Rattle.hs_core.specs.Looking.{front_of, status_of}
+use Rattle.hs_core_words.specs.Calls.{begun_line}
+use Rattle.hs_core_words.specs.declared.event.Event.{Event}
+use Rattle.hs_core_words.specs.Looking.{front_of, status_of}
 use Rattle.hs_entry.specs.Entries.{rank_of}
 use Rattle.hs_events.specs.Whole.{Whole, counts, floor, reach, step_whole}
 use Rattle.hs_fold.specs.Shards.Setting.{Numbered}

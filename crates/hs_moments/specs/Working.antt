@@ -1,6 +1,6 @@
 -- What a store of one copy a shard owes to those who do its jobs and keep its disks.
 use Rattle.std.specs.Prelude.{◌≡◌, ℕ, ◌+◌, true, ◌∷◌, ◌++◌, [], Some, None, take}
-use Rattle.hs_core.specs.Looking.{first_job}
+use Rattle.hs_core_words.specs.Looking.{first_job}
 use Rattle.hs_desk.specs.declared.done.Done.{Done}
 use Rattle.hs_desk.specs.declared.done.Done.TheVariants as done
 use Rattle.hs_desk.specs.declared.job.Job.{Job}

@@ -2,8 +2,8 @@
 ghost use Rattle.std.specs.Prelude.{◌≡◌, ℕ};
 ghost use Rattle.hs_events.specs.Course.{happened, items_of};
 ghost use Rattle.hs_events.specs.Due.{Events, MomentsRise};
-ghost use Rattle.hs_core.specs.Looking.{front_of, status_of};
-ghost use Rattle.hs_core.specs.State.{Core};
+ghost use Rattle.hs_core_words.specs.Looking.{front_of, status_of};
+ghost use Rattle.hs_core_words.specs.State.{Core};
 ghost use Rattle.hs_fold.specs.Good.{good_from, taken_from};
 ghost use Rattle.hs_members.specs.Members.{IsPeer, IsShard, is_good_status};
 ghost use Rattle.hs_moments.specs.CoreMachine.{core_at};

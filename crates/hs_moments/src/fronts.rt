@@ -1,10 +1,10 @@
 //! What took effect.
 ghost use Rattle.std.specs.Prelude.{◌≡◌, ◌≤◌, ℕ, None};
-ghost use Rattle.hs_core.specs.Calls.{last_line_after};
-ghost use Rattle.hs_core.specs.declared.event.Event.{Event};
-ghost use Rattle.hs_core.specs.Looking.{front_of};
-ghost use Rattle.hs_core.specs.State.{Core};
-ghost use Rattle.hs_core.specs.Step.{step};
+ghost use Rattle.hs_core_words.specs.Calls.{last_line_after};
+ghost use Rattle.hs_core_words.specs.declared.event.Event.{Event};
+ghost use Rattle.hs_core_words.specs.Looking.{front_of};
+ghost use Rattle.hs_core_words.specs.State.{Core};
+ghost use Rattle.hs_core_words.specs.Step.{step};
 
 /// Whatever happens, how many entries of a shard have taken effect never falls, the store keeps its
 /// shape and its limits, and the core has the moment and the last line of the event.

@@ -2,9 +2,9 @@
 ghost use Rattle.std.specs.Prelude.{◌≡◌, ℕ, [], ◌++◌, All};
 ghost use Rattle.hs_events.specs.Course.{happened, steps};
 ghost use Rattle.hs_events.specs.Due.{Events, MomentsRise};
-ghost use Rattle.hs_core.specs.declared.event.Event.{Event};
-ghost use Rattle.hs_core.specs.State.{Core};
-ghost use Rattle.hs_core.specs.Step.{step};
+ghost use Rattle.hs_core_words.specs.declared.event.Event.{Event};
+ghost use Rattle.hs_core_words.specs.State.{Core};
+ghost use Rattle.hs_core_words.specs.Step.{step};
 ghost use Rattle.hs_moments.specs.Answers.{added};
 ghost use Rattle.hs_moments.specs.CoreMachine.{core_at};
 ghost use Rattle.hs_journal.specs.Moments.{below};

@@ -1,8 +1,8 @@
 //! How a store of one copy a shard stands between two events.
 ghost use Rattle.std.specs.Prelude.{◌≡◌, ◌<◌, ◌≤◌, ℕ, None, Some, length, take};
-ghost use Rattle.hs_core.specs.declared.event.Event.{Event};
-ghost use Rattle.hs_core.specs.Looking.{first_job, shape_of};
-ghost use Rattle.hs_core.specs.Step.{step};
+ghost use Rattle.hs_core_words.specs.declared.event.Event.{Event};
+ghost use Rattle.hs_core_words.specs.Looking.{first_job, shape_of};
+ghost use Rattle.hs_core_words.specs.Step.{step};
 ghost use Rattle.hs_desk.specs.declared.job.Job.{Job};
 ghost use Rattle.hs_events.specs.Found.{Found, first_core, opened_list};
 ghost use Rattle.hs_events.specs.Sane.{IsFromOne, IsSane};

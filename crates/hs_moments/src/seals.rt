@@ -1,10 +1,10 @@
 //! What is known to be sealed.
 ghost use Rattle.std.specs.Prelude.{◌≡◌, ℕ, None};
 ghost use Rattle.hs_events.specs.Asked.{report_in};
-ghost use Rattle.hs_core.specs.declared.event.Event.{Event};
-ghost use Rattle.hs_core.specs.Looking.{sealed_of};
-ghost use Rattle.hs_core.specs.State.{Core};
-ghost use Rattle.hs_core.specs.Step.{step};
+ghost use Rattle.hs_core_words.specs.declared.event.Event.{Event};
+ghost use Rattle.hs_core_words.specs.Looking.{sealed_of};
+ghost use Rattle.hs_core_words.specs.State.{Core};
+ghost use Rattle.hs_core_words.specs.Step.{step};
 
 /// An event that is no report leaves how many entries each peer has sealed: so it raises no floor of a
 /// disk.

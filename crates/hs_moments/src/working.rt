@@ -1,8 +1,8 @@
 //! What an event of a store of one copy a shard makes of its disks.
 ghost use Rattle.std.specs.Prelude.{◌≡◌, ◌≢◌, ℕ, None, false, true};
-ghost use Rattle.hs_core.specs.declared.event.Event.{Event};
-ghost use Rattle.hs_core.specs.declared.event.Event.TheVariants as event;
-ghost use Rattle.hs_core.specs.Step.{step};
+ghost use Rattle.hs_core_words.specs.declared.event.Event.{Event};
+ghost use Rattle.hs_core_words.specs.declared.event.Event.TheVariants as event;
+ghost use Rattle.hs_core_words.specs.Step.{step};
 ghost use Rattle.hs_desk.specs.declared.done.Done.{Done};
 ghost use Rattle.hs_events.specs.Asked.{report_in};
 ghost use Rattle.hs_events.specs.Course.{is_refused};

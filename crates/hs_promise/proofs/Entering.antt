@@ -3,7 +3,7 @@ use Rattle.std.specs.Fmt.{digits}
 use Rattle.std.proofs.lemmas.Bool.{false≢true}
 use Rattle.std.proofs.Common.{ap}
 use Rattle.std.specs.Prelude.{◌≡◌, refl, ℕ, Bool, false, true, List, [], ◌∷◌, ◌++◌, map, take, Option, Some, None}
-use Rattle.hs_core.specs.declared.event.Event.TheVariants as event
+use Rattle.hs_core_words.specs.declared.event.Event.TheVariants as event
 use Rattle.hs_entry.specs.declared.entry.Entry.TheVariants as kind
 use Rattle.hs_entry.specs.Entries.{rank_of}
 use Rattle.hs_fold.specs.Shards.Setting.{Numbered}

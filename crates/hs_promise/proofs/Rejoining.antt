@@ -1,9 +1,9 @@
 -- A run in which a peer fails, joins again, and the other one fails: its events, its course, and that these are the ones due.
 use Rattle.std.specs.Option.{option_map}
 use Rattle.std.specs.Prelude.{◌≡◌, refl, ℕ, ◌==◌, ◌++◌, false, true, List, [], ◌∷◌, find, flat_map, map, take, Option, Some, None}
-use Rattle.hs_core.specs.declared.event.Event.{Event}
-use Rattle.hs_core.specs.declared.event.Event.TheVariants as event
-use Rattle.hs_core.specs.State.{Core}
+use Rattle.hs_core_words.specs.declared.event.Event.{Event}
+use Rattle.hs_core_words.specs.declared.event.Event.TheVariants as event
+use Rattle.hs_core_words.specs.State.{Core}
 use Rattle.hs_desk.specs.declared.done.Done.TheVariants as done
 use Rattle.hs_entry.specs.Entries.{rank_of}
 use Rattle.hs_limits.specs.declared.address.Address.{Address}

@@ -1,6 +1,6 @@
 -- Which events a line of a script has, and that it comes behind all text so far.
 use Rattle.std.specs.Prelude.{List, None, [], true, ℕ, ⊤, ◌++◌, ◌+◌, ◌-◌, ◌<◌, ◌^◌, ◌∷◌, ◌≡◌}
-use Rattle.hs_core.specs.State.{Core}
+use Rattle.hs_core_words.specs.State.{Core}
 use Rattle.hs_ports.specs.Sink.{bytes_of, followed}
 use Rattle.hs_script.specs.Text.{text}
 use Rattle.hs_promise.specs.Ending.{ending_of}

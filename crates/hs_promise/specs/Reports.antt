@@ -1,6 +1,6 @@
 -- That each report tells what its peer's disk has.
 use Rattle.std.specs.Prelude.{IfSome, Some, [], take, ⊤, ◌∷◌}
-use Rattle.hs_core.specs.declared.event.Event.{Event}
+use Rattle.hs_core_words.specs.declared.event.Event.{Event}
 use Rattle.hs_events.specs.Asked.{report_in}
 use Rattle.hs_events.specs.Due.{Events}
 use Rattle.hs_events.specs.Reports.{TellsOf}

@@ -1,6 +1,6 @@
 -- How a run went within, where a core was opened: what opening found, and the events.
 use Rattle.std.specs.Prelude.{List, flat_map, ◌++◌}
-use Rattle.hs_core.specs.State.{Core}
+use Rattle.hs_core_words.specs.State.{Core}
 use Rattle.hs_events.specs.Course.{steps}
 use Rattle.hs_events.specs.Due.{Events}
 use Rattle.hs_events.specs.Found.{Found, first_core}

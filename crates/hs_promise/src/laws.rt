@@ -1,7 +1,7 @@
 //! What follows from the words of the promise.
 ghost use Rattle.std.specs.Prelude.{◌≡◌, ◌+◌, ◌-◌, ◌^◌, ◌<◌, ℕ, true, List, [], ◌∷◌, length, Option, Some, None, All};
-ghost use Rattle.hs_core.specs.declared.event.Event.{Event};
-ghost use Rattle.hs_core.specs.State.{Core};
+ghost use Rattle.hs_core_words.specs.declared.event.Event.{Event};
+ghost use Rattle.hs_core_words.specs.State.{Core};
 ghost use Rattle.hs_desk.specs.declared.fault.CoreFault.{CoreFault};
 ghost use Rattle.hs_desk.specs.declared.fault.CoreFault.TheVariants as fault;
 ghost use Rattle.hs_ports.specs.Fault.{HasRisen};

@@ -3,15 +3,15 @@ use Rattle.std.proofs.Common.{◌≡◌, ◌⊎◌, inl, inr, ◌∙◌, ap, sym
 use Rattle.std.proofs.lemmas.Bool.{cases_lt}
 use Rattle.std.specs.Option.{option_map, option_map_or}
 use Rattle.hs_awaiting.specs.Words.{change_if, change_with}
-use Rattle.hs_core.specs.Changing.{change_pool, set_tasks}
-use Rattle.hs_core.specs.declared.event.Event.{Event}
-use Rattle.hs_core.specs.declared.event.Event.TheVariants as event
-use Rattle.hs_core.specs.declared.task.Task.{Task}
-use Rattle.hs_core.specs.Looking.{first_task, shape_of, status_of, tasks_of}
-use Rattle.hs_core.specs.Opening.{Taken, open_core}
-use Rattle.hs_core.specs.Reporting.{on_report, take_report}
-use Rattle.hs_core.specs.State.{Core}
-use Rattle.hs_core.specs.Step.{begin_event, do_event, end_event, keep_entries, refuse_entries, step}
+use Rattle.hs_core_words.specs.Changing.{change_pool, set_tasks}
+use Rattle.hs_core_words.specs.declared.event.Event.{Event}
+use Rattle.hs_core_words.specs.declared.event.Event.TheVariants as event
+use Rattle.hs_core_words.specs.declared.task.Task.{Task}
+use Rattle.hs_core_words.specs.Looking.{first_task, shape_of, status_of, tasks_of}
+use Rattle.hs_core_words.specs.Opening.{Taken, open_core}
+use Rattle.hs_core_words.specs.Reporting.{on_report, take_report}
+use Rattle.hs_core_words.specs.State.{Core}
+use Rattle.hs_core_words.specs.Step.{begin_event, do_event, end_event, keep_entries, refuse_entries, step}
 use Rattle.hs_desk.specs.Answers.{answers}
 use Rattle.hs_desk.specs.declared.done.Done.{Done}
 use Rattle.hs_desk.specs.declared.done.Done.TheVariants as done

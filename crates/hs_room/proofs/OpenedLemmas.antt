@@ -7,7 +7,7 @@ use Rattle.hs_cluster.specs.declared.fault.ClusterFault.{ClusterFault}
 use Rattle.hs_cluster.specs.Kept.{AreStored}
 use Rattle.hs_cluster.specs.Opens.{Opens}
 use Rattle.hs_cluster.specs.Running.{Running}
-use Rattle.hs_core.specs.State.{Core}
+use Rattle.hs_core_words.specs.State.{Core}
 use Rattle.hs_desk.specs.declared.fault.CoreFault.TheVariants as fault
 use Rattle.hs_events.specs.Course.{steps}
 use Rattle.hs_events.specs.Found.{Found, first_core}

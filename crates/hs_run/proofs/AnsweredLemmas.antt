@@ -5,13 +5,13 @@ use Rattle.std.proofs.lemmas.List.Elements.{All-append, All-cons, All-nil, All-s
 use Rattle.std.specs.Prelude.{All}
 use Rattle.hs_cluster.proofs.OpenedLemmas.{opens_so}
 use Rattle.hs_awaiting.specs.Words.{change_if, each}
-use Rattle.hs_core.specs.Changing.{note}
-use Rattle.hs_core.specs.declared.event.Event.{Event}
-use Rattle.hs_core.specs.Looking.{shape_of, shards_of, status_of}
-use Rattle.hs_core.specs.Opening.{Taken, begin_views, new_core, note_down, note_if_down, open_core}
-use Rattle.hs_core.specs.State.{Core}
-use Rattle.hs_core.specs.Step.{end_event, step}
-use Rattle.hs_core.specs.Views.{change_view}
+use Rattle.hs_core_words.specs.Changing.{note}
+use Rattle.hs_core_words.specs.declared.event.Event.{Event}
+use Rattle.hs_core_words.specs.Looking.{shape_of, shards_of, status_of}
+use Rattle.hs_core_words.specs.Opening.{Taken, begin_views, new_core, note_down, note_if_down, open_core}
+use Rattle.hs_core_words.specs.State.{Core}
+use Rattle.hs_core_words.specs.Step.{end_event, step}
+use Rattle.hs_core_words.specs.Views.{change_view}
 use Rattle.hs_events.proofs.KeepLemmas.{Leaves, keeps_change_view}
 use Rattle.hs_events.specs.Course.{steps}
 use Rattle.hs_events.specs.Due.{Events, MomentsRise}

@@ -13,7 +13,7 @@ use Rattle.hs_cluster.specs.Disks.{AreReady, DiskSeen, stands_of}
 use Rattle.hs_cluster.specs.Opens.{Finds, IsLostLog, Opens}
 use Rattle.hs_cluster.specs.Running.{Running}
 use Rattle.hs_cluster.specs.RunsOn.{CanRunOn, RunsOn}
-use Rattle.hs_core.specs.State.{Core}
+use Rattle.hs_core_words.specs.State.{Core}
 use Rattle.hs_entry.specs.Entries.{rank_of}
 use Rattle.hs_events.specs.Beginning.{first_items}
 use Rattle.hs_events.specs.Course.{items_of, steps}

@@ -7,7 +7,7 @@ use Rattle.std.specs.Prelude.{is_ok, ⊤}
 use Rattle.hs_cluster.proofs.WalkLemmas.{rise_then}
 use Rattle.hs_cluster.specs.Calls.{outcome_by, ran_out}
 use Rattle.hs_cluster.specs.declared.fault.ClusterFault.{ClusterFault}
-use Rattle.hs_core.specs.State.{Core}
+use Rattle.hs_core_words.specs.State.{Core}
 use Rattle.hs_desk.specs.declared.fault.CoreFault.{CoreFault}
 use Rattle.hs_events.proofs.RunLemmas.{items_append, steps_append}
 use Rattle.hs_events.specs.Beginning.{first_items}

@@ -4,13 +4,13 @@ use Rattle.std.specs.Prelude.{OnOk, is_ok, ⊤}
 use Rattle.hs_cluster.specs.Calls.{outcome_by, ran_out}
 use Rattle.hs_cluster.specs.declared.fault.ClusterFault.{ClusterFault}
 use Rattle.hs_cluster.specs.Disks.{AreReady}
-use Rattle.hs_core.specs.State.{Core}
+use Rattle.hs_core_words.specs.State.{Core}
 use Rattle.hs_events.specs.Course.{steps}
 use Rattle.hs_events.specs.Due.{Events}
 use Rattle.hs_limits.specs.declared.address.Address.{Address}
 use Rattle.hs_limits.specs.declared.shape.Shape.{Shape}
 use Rattle.hs_model.specs.declared.command.Command.{Command}
-use Rattle.hs_core.specs.Step.{step}
+use Rattle.hs_core_words.specs.Step.{step}
 use Rattle.hs_moments.proofs.JournalLemmas.{journal_after}
 use Rattle.hs_moments.specs.Answers.{added}
 use Rattle.hs_run.specs.declared.stop.Stop.{Stop}

@@ -9,7 +9,7 @@ use Rattle.hs_cluster.specs.Disks.{DiskSeen, stands_of}
 use Rattle.hs_cluster.specs.Kept.{Span}
 use Rattle.hs_cluster.specs.Running.{Running}
 use Rattle.hs_cluster.specs.RunsOn.{RunsOn}
-use Rattle.hs_core.specs.State.{Core}
+use Rattle.hs_core_words.specs.State.{Core}
 use Rattle.hs_events.specs.Due.{Events}
 use Rattle.hs_events.specs.Found.{first_core}
 use Rattle.hs_journal.specs.declared.entry.JournalEntry.{JournalEntry}

@@ -6,7 +6,7 @@ use Rattle.std.specs.Prelude.{IfErr, IfSome, if◌then◌else◌, is_ok, ⊤}
 use Rattle.hs_cluster.specs.Calls.{outcome_by, ran_out}
 use Rattle.hs_cluster.specs.declared.fault.ClusterFault.{ClusterFault}
 use Rattle.hs_cluster.specs.declared.fault.ClusterFault.TheVariants as cluster
-use Rattle.hs_core.specs.State.{Core}
+use Rattle.hs_core_words.specs.State.{Core}
 use Rattle.hs_desk.specs.declared.fault.CoreFault.{CoreFault}
 use Rattle.hs_desk.specs.declared.fault.CoreFault.TheVariants as core
 use Rattle.hs_events.specs.Beginning.{first_items}

@@ -6,7 +6,7 @@ use Rattle.hs_cluster.specs.Disks.{DiskSeen, stands_of}
 use Rattle.hs_cluster.specs.Kept.{Span}
 use Rattle.hs_cluster.specs.Running.{Running}
 use Rattle.hs_cluster.specs.RunsOn.{CanRunOn, RunsOn}
-use Rattle.hs_core.specs.State.{Core}
+use Rattle.hs_core_words.specs.State.{Core}
 use Rattle.hs_events.specs.Beginning.{first_items}
 use Rattle.hs_events.specs.Commands.{LineAt}
 use Rattle.hs_events.specs.Course.{items_of, steps}

@@ -6,15 +6,15 @@ use Rattle.std.specs.List.{AllByRecursion}
 use Rattle.std.specs.Option.{option_map}
 use Rattle.hs_answered.proofs.RefusalLemmas.{IsOfKind, first_is}
 use Rattle.hs_awaiting.specs.Words.{change_if}
-use Rattle.hs_core.specs.Asking.{deliver, lose, no_peer, not_down, not_up, nudge_good, send_again, unless_refused}
-use Rattle.hs_core.specs.Changing.{change_pool, post, refuse}
-use Rattle.hs_core.specs.declared.event.Event.{Event}
-use Rattle.hs_core.specs.declared.event.Event.TheVariants as event
-use Rattle.hs_core.specs.Failing.{go_down}
-use Rattle.hs_core.specs.Joining.{start}
-use Rattle.hs_core.specs.Looking.{lost_shard, shape_of}
-use Rattle.hs_core.specs.State.{Core}
-use Rattle.hs_core.specs.Step.{begin_event, do_event, end_event, keep_entries, line_of, refuse_entries, run_event, step}
+use Rattle.hs_core_words.specs.Asking.{deliver, lose, no_peer, not_down, not_up, nudge_good, send_again, unless_refused}
+use Rattle.hs_core_words.specs.Changing.{change_pool, post, refuse}
+use Rattle.hs_core_words.specs.declared.event.Event.{Event}
+use Rattle.hs_core_words.specs.declared.event.Event.TheVariants as event
+use Rattle.hs_core_words.specs.Failing.{go_down}
+use Rattle.hs_core_words.specs.Joining.{start}
+use Rattle.hs_core_words.specs.Looking.{lost_shard, shape_of}
+use Rattle.hs_core_words.specs.State.{Core}
+use Rattle.hs_core_words.specs.Step.{begin_event, do_event, end_event, keep_entries, line_of, refuse_entries, run_event, step}
 use Rattle.hs_desk.specs.declared.done.Done.{Done}
 use Rattle.hs_desk.specs.declared.done.Done.TheVariants as done
 use Rattle.hs_desk.specs.declared.fault.CoreFault.TheVariants as fault

@@ -9,8 +9,8 @@ use Rattle.hs_answered.specs.Telling.{Judging, events_in}
 use Rattle.hs_settled.proofs.AskLemmas.{opening_due}
 use Rattle.hs_settled.proofs.CausesFirstLemmas.{line_first}
 use Rattle.hs_settled.proofs.CausesRunLemmas.{all_ask_so, all_come_so, flat_is, mute, opened_kept}
-use Rattle.hs_core.specs.State.{Core}
-use Rattle.hs_core.specs.Step.{step}
+use Rattle.hs_core_words.specs.State.{Core}
+use Rattle.hs_core_words.specs.Step.{step}
 use Rattle.hs_settled.proofs.RuleLemmas.{all_front}
 use Rattle.hs_settled.proofs.DeletesRunLemmas.{Running}
 use Rattle.hs_events.proofs.RunLemmas.{steps_append}

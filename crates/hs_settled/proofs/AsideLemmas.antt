@@ -3,16 +3,16 @@ use Rattle.std.proofs.Common.{◌≡◌, ◌∙◌, ℕ, ◌+◌, Bool, true, fa
 use Rattle.std.specs.BTreeMap.{insert_entry}
 use Rattle.std.specs.Ordering.{nat_cmp}
 use Rattle.hs_awaiting.specs.Words.{change_if, change_with, each}
-use Rattle.hs_core.specs.Asking.{send_round, send_rounds}
-use Rattle.hs_core.specs.Changing.{add_entry_tasks, change_group, change_pool, change_rejoin, post, set_catalogue, set_status, set_viewed}
-use Rattle.hs_core.specs.Delivering.{take_copy}
-use Rattle.hs_core.specs.Effects.{round_messages}
-use Rattle.hs_core.specs.Entering.{is_enter_due, propose_due}
-use Rattle.hs_core.specs.Failing.{leave}
-use Rattle.hs_core.specs.Joining.{begin_joining, follow_lead, joining_peers, start}
-use Rattle.hs_core.specs.Looking.{catalogue_of, group_of, lead_of, shape_of}
-use Rattle.hs_core.specs.Operating.{add_read, propose_entry}
-use Rattle.hs_core.specs.State.{Core}
+use Rattle.hs_core_words.specs.Asking.{send_round, send_rounds}
+use Rattle.hs_core_words.specs.Changing.{add_entry_tasks, change_group, change_pool, change_rejoin, post, set_catalogue, set_status, set_viewed}
+use Rattle.hs_core_words.specs.Delivering.{take_copy}
+use Rattle.hs_core_words.specs.Effects.{round_messages}
+use Rattle.hs_core_words.specs.Entering.{is_enter_due, propose_due}
+use Rattle.hs_core_words.specs.Failing.{leave}
+use Rattle.hs_core_words.specs.Joining.{begin_joining, follow_lead, joining_peers, start}
+use Rattle.hs_core_words.specs.Looking.{catalogue_of, group_of, lead_of, shape_of}
+use Rattle.hs_core_words.specs.Operating.{add_read, propose_entry}
+use Rattle.hs_core_words.specs.State.{Core}
 use Rattle.hs_entry.specs.declared.entry.Entry.{Entry}
 use Rattle.hs_entry.specs.declared.entry.Entry.TheVariants as kind
 use Rattle.hs_fold.proofs.Shards.PlaceLemmas.{length-set}

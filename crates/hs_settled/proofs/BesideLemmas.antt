@@ -2,9 +2,9 @@
 use Rattle.std.proofs.Common.{◌≡◌, ◌∙◌, ap, ℕ, List, [], refl}
 use Rattle.std.specs.Prelude.{slice_index_or}
 use Rattle.hs_awaiting.specs.declared.waiting.Waiting.{Waiting}
-use Rattle.hs_core.specs.Changing.{post, refuse}
-use Rattle.hs_core.specs.Looking.{group_of, shape_of}
-use Rattle.hs_core.specs.State.{Core}
+use Rattle.hs_core_words.specs.Changing.{post, refuse}
+use Rattle.hs_core_words.specs.Looking.{group_of, shape_of}
+use Rattle.hs_core_words.specs.State.{Core}
 use Rattle.hs_effects.proofs.OrderlyLemmas.{Alike, alike_orderly}
 use Rattle.hs_settled.proofs.GoingGoodLemmas.{IsGood, good_stays}
 use Rattle.hs_settled.proofs.StayLemmas.{stays_by}

@@ -16,9 +16,9 @@ use Rattle.hs_settled.proofs.CausesListLemmas.{all_left, count_none, count_parts
 use Rattle.hs_settled.proofs.LostLemmas.{all_good}
 use Rattle.hs_settled.proofs.NoteLemmas.{not_noted}
 use Rattle.hs_settled.proofs.CausesRunLemmas.{all_ask_so, all_come_so, flat_is, last_is, mute, opened_kept}
-use Rattle.hs_core.specs.Looking.{shape_of, status_of}
-use Rattle.hs_core.specs.State.{Core}
-use Rattle.hs_core.specs.Step.{step}
+use Rattle.hs_core_words.specs.Looking.{shape_of, status_of}
+use Rattle.hs_core_words.specs.State.{Core}
+use Rattle.hs_core_words.specs.Step.{step}
 use Rattle.hs_desk.specs.declared.fault.CoreFault.{CoreFault}
 use Rattle.hs_events.specs.Beginning.{first_items}
 use Rattle.hs_events.specs.Course.{items_of, steps}

@@ -8,12 +8,12 @@ use Rattle.hs_settled.proofs.AddingLemmas.{Ends, ends_so}
 use Rattle.hs_settled.proofs.CausesListLemmas.{range_all}
 use Rattle.hs_settled.proofs.SeatLemmas.{AreOwn, CopiesFrom, Seated, peers_in, seats_change_view, seats_each, seats_end}
 use Rattle.hs_awaiting.specs.Words.{change_if, change_with, each}
-use Rattle.hs_core.specs.Changing.{add_entry_tasks, change_group, note, post, set_viewed}
-use Rattle.hs_core.specs.Looking.{group_of, lead_of, shape_of, shards_of, status_of}
-use Rattle.hs_core.specs.Opening.{Taken, begin_views, new_core, note_down, note_if_down, open_core}
-use Rattle.hs_core.specs.State.{Core}
-use Rattle.hs_core.specs.Step.{keep_entries, refuse_entries}
-use Rattle.hs_core.specs.Views.{begin_view, change_view, restart}
+use Rattle.hs_core_words.specs.Changing.{add_entry_tasks, change_group, note, post, set_viewed}
+use Rattle.hs_core_words.specs.Looking.{group_of, lead_of, shape_of, shards_of, status_of}
+use Rattle.hs_core_words.specs.Opening.{Taken, begin_views, new_core, note_down, note_if_down, open_core}
+use Rattle.hs_core_words.specs.State.{Core}
+use Rattle.hs_core_words.specs.Step.{keep_entries, refuse_entries}
+use Rattle.hs_core_words.specs.Views.{begin_view, change_view, restart}
 use Rattle.hs_entry.specs.declared.entry.Entry.TheVariants as kind
 use Rattle.hs_journal.specs.declared.entry.JournalEntry.{JournalEntry}
 use Rattle.hs_journal.specs.declared.entry.Who.TheVariants as who

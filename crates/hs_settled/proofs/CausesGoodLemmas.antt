@@ -5,8 +5,8 @@ use Rattle.std.specs.Prelude.{if◌then◌else◌, slice_index_or}
 use Rattle.hs_settled.proofs.AskLemmas.{next_going, opening_none}
 use Rattle.hs_settled.proofs.CausesFirstLemmas.{members_first}
 use Rattle.hs_settled.proofs.CausesRunLemmas.{are_lines, last_is, lined}
-use Rattle.hs_core.specs.Looking.{status_of}
-use Rattle.hs_core.specs.State.{Core}
+use Rattle.hs_core_words.specs.Looking.{status_of}
+use Rattle.hs_core_words.specs.State.{Core}
 use Rattle.hs_desk.specs.declared.fault.CoreFault.{CoreFault}
 use Rattle.hs_events.specs.Course.{steps}
 use Rattle.hs_events.specs.Due.{Events}

@@ -5,9 +5,9 @@ use Rattle.std.specs.Prelude.{flat_map, if◌then◌else◌}
 use Rattle.hs_settled.proofs.AskLemmas.{AllAsk, AllIts, Lasts, Stays, ask_append, its_ask, its_stay, lines_ask, lines_last, opening_due, opening_its}
 use Rattle.hs_settled.proofs.CausesFirstLemmas.{line_first, moment_first}
 use Rattle.hs_settled.proofs.KeptLemmas.{Kept, all_kept, ask_first, ask_rest, come_first, come_rest, first_kept}
-use Rattle.hs_core.specs.Looking.{shape_of}
-use Rattle.hs_core.specs.State.{Core}
-use Rattle.hs_core.specs.Step.{step}
+use Rattle.hs_core_words.specs.Looking.{shape_of}
+use Rattle.hs_core_words.specs.State.{Core}
+use Rattle.hs_core_words.specs.Step.{step}
 use Rattle.hs_events.proofs.RunLemmas.{steps_append}
 use Rattle.hs_events.specs.Commands.{AreOfLine, LineAt}
 use Rattle.hs_events.specs.Course.{steps}

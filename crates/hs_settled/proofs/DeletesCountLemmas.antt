@@ -4,8 +4,8 @@ use Rattle.std.proofs.lemmas.List.Elements.{All-weaker}
 use Rattle.std.specs.Map.{values_of}
 use Rattle.std.specs.Prelude.{All}
 use Rattle.hs_answered.specs.Telling.{Judging}
-use Rattle.hs_core.specs.Looking.{shape_of}
-use Rattle.hs_core.specs.State.{Core}
+use Rattle.hs_core_words.specs.Looking.{shape_of}
+use Rattle.hs_core_words.specs.State.{Core}
 use Rattle.hs_settled.proofs.SentLemmas.{Sends, sends_all}
 use Rattle.hs_settled.specs.Counts.{AreRoundsSent, CountsRight, IsSentRound}
 use Rattle.hs_deletion.specs.Catalogue.{ShardCatalogue}

@@ -1,9 +1,9 @@
 -- How an event ends: its entries come behind the journal, all of them or none.
 use Rattle.std.proofs.Common.{◌≡◌, ◌∙◌, sym, ap, ◌⊎◌, inl, inr, ◌+◌, ◌++◌, Bool, true, false, cond, List, [], length, refl, append-nil, nat_lt}
-use Rattle.hs_core.specs.declared.event.Event.{Event}
-use Rattle.hs_core.specs.declared.event.Event.TheVariants as event
-use Rattle.hs_core.specs.State.{Core}
-use Rattle.hs_core.specs.Step.{do_event, end_event, keep_entries, refuse_entries}
+use Rattle.hs_core_words.specs.declared.event.Event.{Event}
+use Rattle.hs_core_words.specs.declared.event.Event.TheVariants as event
+use Rattle.hs_core_words.specs.State.{Core}
+use Rattle.hs_core_words.specs.Step.{do_event, end_event, keep_entries, refuse_entries}
 use Rattle.hs_events.proofs.KeepLemmas.{Leaves, ReportLeaves, keeps_do, with_line}
 use Rattle.hs_journal.specs.declared.entry.JournalEntry.{JournalEntry}
 use Rattle.hs_told.specs.InTurn.{told_of}

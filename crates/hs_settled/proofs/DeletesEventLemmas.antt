@@ -10,10 +10,10 @@ use Rattle.hs_standing.specs.Changes.{IsBeside}
 use Rattle.hs_standing.specs.Walks.{HasRecordRoom}
 use Rattle.hs_answered.specs.Telling.{Judging}
 use Rattle.hs_awaiting.specs.declared.waiting.Waiting.{Waiting}
-use Rattle.hs_core.specs.declared.event.Event.{Event}
-use Rattle.hs_core.specs.declared.event.Event.TheVariants as event
-use Rattle.hs_core.specs.State.{Core}
-use Rattle.hs_core.specs.Step.{do_event, end_event, step}
+use Rattle.hs_core_words.specs.declared.event.Event.{Event}
+use Rattle.hs_core_words.specs.declared.event.Event.TheVariants as event
+use Rattle.hs_core_words.specs.State.{Core}
+use Rattle.hs_core_words.specs.Step.{do_event, end_event, step}
 use Rattle.hs_settled.proofs.DeletesEndLemmas.{Ends, Keeps, does_keep, ends}
 use Rattle.hs_settled.proofs.MereLemmas.{HasClient, OfClients, does_mere}
 use Rattle.hs_settled.proofs.DeletesWalkLemmas.{IsSweeping, line_of_client, waits_of_client, walks_sweeping}

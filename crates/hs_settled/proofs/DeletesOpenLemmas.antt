@@ -2,9 +2,9 @@
 use Rattle.std.proofs.Common.{sym, subst, ℕ, List, [], ◌∷◌}
 use Rattle.std.specs.List.{AllByRecursion}
 use Rattle.hs_answered.specs.Telling.{Judging}
-use Rattle.hs_core.specs.Changing.{note}
-use Rattle.hs_core.specs.Opening.{Taken, begin_views, new_core, note_down, open_core}
-use Rattle.hs_core.specs.State.{Core}
+use Rattle.hs_core_words.specs.Changing.{note}
+use Rattle.hs_core_words.specs.Opening.{Taken, begin_views, new_core, note_down, open_core}
+use Rattle.hs_core_words.specs.State.{Core}
 use Rattle.hs_settled.proofs.DeletesEndLemmas.{ended_quiet}
 use Rattle.hs_settled.proofs.DeletesEventLemmas.{whole_told}
 use Rattle.hs_settled.proofs.RuleLemmas.{all_front, others_swept}

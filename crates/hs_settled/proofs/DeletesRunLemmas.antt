@@ -1,7 +1,7 @@
 -- So it is along a run.
 use Rattle.std.proofs.Common.{◌≡◌, ◌∙◌, sym, ap, subst, ℕ, zero, suc, [], ◌∷◌, Option, Some, None, refl, take}
-use Rattle.hs_core.specs.State.{Core}
-use Rattle.hs_core.specs.Step.{step}
+use Rattle.hs_core_words.specs.State.{Core}
+use Rattle.hs_core_words.specs.Step.{step}
 use Rattle.hs_settled.proofs.DeletesEventLemmas.{LawsBelow, event_deletes}
 use Rattle.hs_settled.proofs.DeletesOpenLemmas.{opens_deletes}
 use Rattle.hs_settled.specs.Deletion.{TellsDeletion}

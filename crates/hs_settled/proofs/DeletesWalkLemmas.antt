@@ -5,14 +5,14 @@ use Rattle.hs_standing.specs.Walks.{Walks}
 use Rattle.hs_answered.specs.Telling.{Judging}
 use Rattle.hs_awaiting.specs.declared.wait.Wait.TheVariants as wait
 use Rattle.hs_awaiting.specs.declared.waiting.Waiting.{Waiting}
-use Rattle.hs_core.specs.Asking.{send_round}
-use Rattle.hs_core.specs.Changing.{change_pool, note, refuse}
-use Rattle.hs_core.specs.Delivering.{is_new_round}
-use Rattle.hs_core.specs.Entering.{is_enter_due}
-use Rattle.hs_core.specs.Looking.{catalogue_of, group_of, operation_of, shape_of}
-use Rattle.hs_core.specs.Operating.{begin_line, go_on_with, propose_entry, resume}
-use Rattle.hs_core.specs.Seeing.{pointers_for}
-use Rattle.hs_core.specs.State.{Core}
+use Rattle.hs_core_words.specs.Asking.{send_round}
+use Rattle.hs_core_words.specs.Changing.{change_pool, note, refuse}
+use Rattle.hs_core_words.specs.Delivering.{is_new_round}
+use Rattle.hs_core_words.specs.Entering.{is_enter_due}
+use Rattle.hs_core_words.specs.Looking.{catalogue_of, group_of, operation_of, shape_of}
+use Rattle.hs_core_words.specs.Operating.{begin_line, go_on_with, propose_entry, resume}
+use Rattle.hs_core_words.specs.Seeing.{pointers_for}
+use Rattle.hs_core_words.specs.State.{Core}
 use Rattle.hs_settled.proofs.GotLemmas.{got_rule}
 use Rattle.hs_settled.proofs.RuleLemmas.{Rule, rule_on, rule_refused, rule_same}
 use Rattle.hs_settled.proofs.SaidLemmas.{IsNoGot, IsPlain, again_told, effect_says, go_on_says, line_says, proposed_told, says_note}

@@ -5,8 +5,8 @@ use Rattle.std.proofs.lemmas.List.FromFn.{get_or-map-range_with_len}
 use Rattle.std.specs.List.{AllByRecursion, range_with_len}
 use Rattle.std.specs.Option.{option_map, option_map_or, option_or}
 use Rattle.std.specs.Prelude.{find, if◌then◌else◌}
-use Rattle.hs_core.specs.Looking.{first_job, group_of, lead_of, leads_of, oldest_message, open_work, shape_of, status_of}
-use Rattle.hs_core.specs.State.{Core}
+use Rattle.hs_core_words.specs.Looking.{first_job, group_of, lead_of, leads_of, oldest_message, open_work, shape_of, status_of}
+use Rattle.hs_core_words.specs.State.{Core}
 use Rattle.hs_settled.proofs.RuleLemmas.{all_back, all_front}
 use Rattle.hs_desk.specs.declared.job.Job.{Job}
 use Rattle.hs_events.specs.Alone.{AreAlone, face, own}

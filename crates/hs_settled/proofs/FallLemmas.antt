@@ -3,15 +3,15 @@ use Rattle.std.proofs.Common.{◌≡◌, ◌∙◌, ap, sym, subst, ℕ, ◌<◌
 use Rattle.std.proofs.lemmas.List.{get_or-set_same}
 use Rattle.std.specs.Option.{option_map, option_map_or}
 use Rattle.hs_awaiting.specs.Words.{change_if, change_with, each, ◌▸◌}
-use Rattle.hs_core.specs.Changing.{note, set_tasks}
-use Rattle.hs_core.specs.declared.task.Task.{Task}
-use Rattle.hs_core.specs.Effects.{commit}
-use Rattle.hs_core.specs.Failing.{commit_rest, go_down, leave}
-use Rattle.hs_core.specs.Joining.{begin_joining, joining_peers}
-use Rattle.hs_core.specs.Looking.{first_task, home, lead_of, shape_of, status_of, tasks_of}
-use Rattle.hs_core.specs.Reporting.{on_report, take_report}
-use Rattle.hs_core.specs.State.{Core}
-use Rattle.hs_core.specs.Views.{begin_view, change_view}
+use Rattle.hs_core_words.specs.Changing.{note, set_tasks}
+use Rattle.hs_core_words.specs.declared.task.Task.{Task}
+use Rattle.hs_core_words.specs.Effects.{commit}
+use Rattle.hs_core_words.specs.Failing.{commit_rest, go_down, leave}
+use Rattle.hs_core_words.specs.Joining.{begin_joining, joining_peers}
+use Rattle.hs_core_words.specs.Looking.{first_task, home, lead_of, shape_of, status_of, tasks_of}
+use Rattle.hs_core_words.specs.Reporting.{on_report, take_report}
+use Rattle.hs_core_words.specs.State.{Core}
+use Rattle.hs_core_words.specs.Views.{begin_view, change_view}
 use Rattle.hs_desk.specs.Answers.{answers}
 use Rattle.hs_desk.specs.declared.done.Done.TheVariants as done
 use Rattle.hs_events.specs.Due.{is_answer}

@@ -12,19 +12,19 @@ use Rattle.hs_standing.specs.Walks.{MayEvent, Walks}
 use Rattle.hs_awaiting.specs.declared.wait.Wait.TheVariants as wait
 use Rattle.hs_awaiting.specs.declared.waiting.Waiting.{Waiting}
 use Rattle.hs_awaiting.specs.Words.{change_if, change_with}
-use Rattle.hs_core.specs.Asking.{send_round}
-use Rattle.hs_core.specs.Changing.{add_operation, change_pool, note, refuse}
-use Rattle.hs_core.specs.declared.event.Event.{Event}
-use Rattle.hs_core.specs.declared.event.Event.TheVariants as event
-use Rattle.hs_core.specs.Effects.{note_enter, note_sweep, tell_enter, tell_operation}
-use Rattle.hs_core.specs.Entering.{is_enter_due}
-use Rattle.hs_core.specs.Looking.{catalogue_of, front_of, group_of, operation_of, shape_of}
-use Rattle.hs_core.specs.Opening.{Taken, new_core, open_core}
-use Rattle.hs_core.specs.Operating.{begin_line, busy_line, go_on_with, resume, take_step}
-use Rattle.hs_core.specs.Seeing.{pointers_for, view_for}
-use Rattle.hs_core.specs.State.{Core}
-use Rattle.hs_core.specs.Step.{step}
-use Rattle.hs_core.specs.Views.{begin_view}
+use Rattle.hs_core_words.specs.Asking.{send_round}
+use Rattle.hs_core_words.specs.Changing.{add_operation, change_pool, note, refuse}
+use Rattle.hs_core_words.specs.declared.event.Event.{Event}
+use Rattle.hs_core_words.specs.declared.event.Event.TheVariants as event
+use Rattle.hs_core_words.specs.Effects.{note_enter, note_sweep, tell_enter, tell_operation}
+use Rattle.hs_core_words.specs.Entering.{is_enter_due}
+use Rattle.hs_core_words.specs.Looking.{catalogue_of, front_of, group_of, operation_of, shape_of}
+use Rattle.hs_core_words.specs.Opening.{Taken, new_core, open_core}
+use Rattle.hs_core_words.specs.Operating.{begin_line, busy_line, go_on_with, resume, take_step}
+use Rattle.hs_core_words.specs.Seeing.{pointers_for, view_for}
+use Rattle.hs_core_words.specs.State.{Core}
+use Rattle.hs_core_words.specs.Step.{step}
+use Rattle.hs_core_words.specs.Views.{begin_view}
 use Rattle.hs_settled.proofs.RuleLemmas.{all_front}
 use Rattle.hs_settled.proofs.DeletesRunLemmas.{Running, steps_ended}
 use Rattle.hs_settled.proofs.SaidLemmas.{Says, again_told, more_told, proposed_told, same_told, says_nothing, says_note, view_told}

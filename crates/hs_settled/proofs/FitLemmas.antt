@@ -5,8 +5,8 @@ use Rattle.std.specs.BTreeMap.{is_at}
 use Rattle.std.specs.List.{AllByRecursion}
 use Rattle.std.specs.Map.{lookup, values_of}
 use Rattle.std.specs.Ordering.{nat_cmp}
-use Rattle.hs_core.specs.Looking.{catalogue_of, shape_of}
-use Rattle.hs_core.specs.State.{Core}
+use Rattle.hs_core_words.specs.Looking.{catalogue_of, shape_of}
+use Rattle.hs_core_words.specs.State.{Core}
 use Rattle.hs_effects.specs.Taking.{setting_of}
 use Rattle.hs_events.specs.Alone.{is_round}
 use Rattle.hs_events.specs.declared.due.Place.{Place}

@@ -6,19 +6,19 @@ use Rattle.std.specs.BTreeMap.{is_at}
 use Rattle.std.specs.Ordering.{nat_cmp}
 use Rattle.std.specs.Prelude.{IfSome}
 use Rattle.hs_awaiting.specs.Words.{change_if, change_with}
-use Rattle.hs_core.specs.Asking.{deliver, lose, no_peer, not_down, not_up, nudge, nudge_good, send_again, send_round, send_rounds}
-use Rattle.hs_core.specs.Changing.{change_pool, post, refuse}
-use Rattle.hs_core.specs.declared.event.Event.{Event}
-use Rattle.hs_core.specs.declared.event.Event.TheVariants as event
-use Rattle.hs_core.specs.Delivering.{handle, is_new_round}
-use Rattle.hs_core.specs.Effects.{round_messages}
-use Rattle.hs_core.specs.Entering.{propose_due}
-use Rattle.hs_core.specs.Failing.{go_down}
-use Rattle.hs_core.specs.Joining.{start}
-use Rattle.hs_core.specs.Looking.{catalogue_of, group_of, home, lead_of, status_of}
-use Rattle.hs_core.specs.Operating.{propose_entry}
-use Rattle.hs_core.specs.State.{Core}
-use Rattle.hs_core.specs.Step.{do_event, end_event, keep_entries, refuse_entries, run_event, step}
+use Rattle.hs_core_words.specs.Asking.{deliver, lose, no_peer, not_down, not_up, nudge, nudge_good, send_again, send_round, send_rounds}
+use Rattle.hs_core_words.specs.Changing.{change_pool, post, refuse}
+use Rattle.hs_core_words.specs.declared.event.Event.{Event}
+use Rattle.hs_core_words.specs.declared.event.Event.TheVariants as event
+use Rattle.hs_core_words.specs.Delivering.{handle, is_new_round}
+use Rattle.hs_core_words.specs.Effects.{round_messages}
+use Rattle.hs_core_words.specs.Entering.{propose_due}
+use Rattle.hs_core_words.specs.Failing.{go_down}
+use Rattle.hs_core_words.specs.Joining.{start}
+use Rattle.hs_core_words.specs.Looking.{catalogue_of, group_of, home, lead_of, status_of}
+use Rattle.hs_core_words.specs.Operating.{propose_entry}
+use Rattle.hs_core_words.specs.State.{Core}
+use Rattle.hs_core_words.specs.Step.{do_event, end_event, keep_entries, refuse_entries, run_event, step}
 use Rattle.hs_desk.specs.declared.fault.CoreFault.{CoreFault}
 use Rattle.hs_effects.specs.Logged.{MayBegin, MayBeginAll, steps}
 use Rattle.hs_effects.proofs.EffectLemmas.{due_orderly}

@@ -9,11 +9,11 @@ use Rattle.std.specs.Prelude.{slice_index_or}
 use Rattle.hs_awaiting.specs.declared.wait.Wait.TheVariants as wait
 use Rattle.hs_awaiting.specs.declared.waiting.Waiting.{Waiting}
 use Rattle.hs_awaiting.specs.Words.{change_with}
-use Rattle.hs_core.specs.Changing.{add_task}
-use Rattle.hs_core.specs.Looking.{front_of, group_of, lead_of, operation_of}
-use Rattle.hs_core.specs.Operating.{add_read, carry_out, go_on_with, propose_entry, take_step, wait_for, what_holds}
-use Rattle.hs_core.specs.Seeing.{view_for}
-use Rattle.hs_core.specs.State.{Core}
+use Rattle.hs_core_words.specs.Changing.{add_task}
+use Rattle.hs_core_words.specs.Looking.{front_of, group_of, lead_of, operation_of}
+use Rattle.hs_core_words.specs.Operating.{add_read, carry_out, go_on_with, propose_entry, take_step, wait_for, what_holds}
+use Rattle.hs_core_words.specs.Seeing.{view_for}
+use Rattle.hs_core_words.specs.State.{Core}
 use Rattle.hs_effects.specs.Logged.{AreOnce, IsEntryOf, IsOrderly, asked_by}
 use Rattle.hs_effects.proofs.GoingLemmas.{going_orderly}
 use Rattle.hs_effects.proofs.LookLemmas.{found_set, gone, number_exact, one_or_other, remove_other, set_other}

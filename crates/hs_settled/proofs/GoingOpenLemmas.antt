@@ -11,13 +11,13 @@ use Rattle.std.specs.Prelude.{if◌then◌else◌, slice_index_or}
 use Rattle.hs_awaiting.specs.declared.waiting.Waiting.{Waiting}
 use Rattle.hs_awaiting.specs.Views.{restarted}
 use Rattle.hs_awaiting.specs.Words.{change_if, each}
-use Rattle.hs_core.specs.Changing.{change_group, note, post, set_viewed}
-use Rattle.hs_core.specs.Looking.{group_of, operation_of, shape_of, shards_of, status_of}
-use Rattle.hs_core.specs.Opening.{Taken, begin_views, new_core, note_down, note_if_down, open_core, taken_group}
-use Rattle.hs_core.specs.Operating.{propose_entry}
-use Rattle.hs_core.specs.State.{Core}
-use Rattle.hs_core.specs.Step.{end_event, keep_entries, refuse_entries}
-use Rattle.hs_core.specs.Views.{begin_view, change_view, restart}
+use Rattle.hs_core_words.specs.Changing.{change_group, note, post, set_viewed}
+use Rattle.hs_core_words.specs.Looking.{group_of, operation_of, shape_of, shards_of, status_of}
+use Rattle.hs_core_words.specs.Opening.{Taken, begin_views, new_core, note_down, note_if_down, open_core, taken_group}
+use Rattle.hs_core_words.specs.Operating.{propose_entry}
+use Rattle.hs_core_words.specs.State.{Core}
+use Rattle.hs_core_words.specs.Step.{end_event, keep_entries, refuse_entries}
+use Rattle.hs_core_words.specs.Views.{begin_view, change_view, restart}
 use Rattle.hs_effects.proofs.EventLemmas.{open_orderly}
 use Rattle.hs_effects.proofs.GroupLemmas.{group_changed}
 use Rattle.hs_effects.proofs.LookLemmas.{one_or_other}

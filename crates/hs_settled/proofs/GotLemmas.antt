@@ -4,10 +4,10 @@ use Rattle.std.specs.List.{AllByRecursion}
 use Rattle.hs_standing.specs.Changes.{told_at_once}
 use Rattle.hs_answered.specs.Standing.{store_with}
 use Rattle.hs_answered.specs.Telling.{Judging}
-use Rattle.hs_core.specs.Effects.{take_effect}
-use Rattle.hs_core.specs.Entering.{propose_due}
-use Rattle.hs_core.specs.Looking.{catalogue_of, group_of, shape_of}
-use Rattle.hs_core.specs.State.{Core}
+use Rattle.hs_core_words.specs.Effects.{take_effect}
+use Rattle.hs_core_words.specs.Entering.{propose_due}
+use Rattle.hs_core_words.specs.Looking.{catalogue_of, group_of, shape_of}
+use Rattle.hs_core_words.specs.State.{Core}
 use Rattle.hs_settled.proofs.RuleLemmas.{Rule, all_front, rule_same}
 use Rattle.hs_settled.proofs.SaidLemmas.{more_told, same_told}
 use Rattle.hs_settled.specs.Deletion.{IsMereRefusal}

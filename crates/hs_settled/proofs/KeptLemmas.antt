@@ -7,12 +7,12 @@ use Rattle.hs_settled.proofs.AskLemmas.{AllAsk, Asks}
 use Rattle.hs_settled.proofs.DatedLemmas.{dated_first, dated_on}
 use Rattle.hs_settled.proofs.CausesFirstLemmas.{ends_first, limits_first, line_first, members_first, seats_first}
 use Rattle.hs_settled.proofs.SeatLemmas.{Seated, failed_low, peers_in, seats_run}
-use Rattle.hs_core.specs.declared.event.Event.{Event}
-use Rattle.hs_core.specs.declared.event.Event.TheVariants as event
-use Rattle.hs_core.specs.Looking.{shape_of}
-use Rattle.hs_core.specs.Opening.{Taken, open_core}
-use Rattle.hs_core.specs.State.{Core}
-use Rattle.hs_core.specs.Step.{line_of, step}
+use Rattle.hs_core_words.specs.declared.event.Event.{Event}
+use Rattle.hs_core_words.specs.declared.event.Event.TheVariants as event
+use Rattle.hs_core_words.specs.Looking.{shape_of}
+use Rattle.hs_core_words.specs.Opening.{Taken, open_core}
+use Rattle.hs_core_words.specs.State.{Core}
+use Rattle.hs_core_words.specs.Step.{line_of, step}
 use Rattle.hs_desk.specs.declared.done.Done.{Done}
 use Rattle.hs_desk.specs.declared.done.Done.TheVariants as done
 use Rattle.hs_events.specs.Course.{steps}

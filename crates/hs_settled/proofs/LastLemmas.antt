@@ -4,10 +4,10 @@ use Rattle.std.specs.Option.{option_and_then, option_map, option_or}
 use Rattle.std.specs.Prelude.{if◌then◌else◌}
 use Rattle.hs_settled.proofs.AskLemmas.{AllAsk}
 use Rattle.hs_settled.proofs.KeptLemmas.{Kept, all_kept}
-use Rattle.hs_core.specs.Delivering.{is_new_round}
-use Rattle.hs_core.specs.Looking.{open_work, shape_of}
-use Rattle.hs_core.specs.State.{Core}
-use Rattle.hs_core.specs.Step.{step}
+use Rattle.hs_core_words.specs.Delivering.{is_new_round}
+use Rattle.hs_core_words.specs.Looking.{open_work, shape_of}
+use Rattle.hs_core_words.specs.State.{Core}
+use Rattle.hs_core_words.specs.Step.{step}
 use Rattle.hs_settled.proofs.DeletesRunLemmas.{Running}
 use Rattle.hs_events.specs.Course.{steps}
 use Rattle.hs_events.specs.declared.due.Due.{Due}

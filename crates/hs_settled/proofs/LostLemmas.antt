@@ -11,12 +11,12 @@ use Rattle.hs_settled.proofs.NoteLemmas.{Notes, note_is}
 use Rattle.hs_settled.proofs.PromptLemmas.{ended_spoke}
 use Rattle.hs_settled.proofs.CausesRunLemmas.{all_ask_so, all_come_so, are_lines, begun_line, last_behind, last_is, last_kept, last_line, lined, mute, mute_is, mute_some, opened_kept}
 use Rattle.hs_settled.proofs.SeatLemmas.{FallsBy, Seated, peers_in, seats_run}
-use Rattle.hs_core.specs.declared.event.Event.{Event}
-use Rattle.hs_core.specs.declared.event.Event.TheVariants as event
-use Rattle.hs_core.specs.Looking.{lost_shard, shape_of, shards_of, status_of}
-use Rattle.hs_core.specs.Opening.{new_core}
-use Rattle.hs_core.specs.State.{Core}
-use Rattle.hs_core.specs.Step.{line_of, step}
+use Rattle.hs_core_words.specs.declared.event.Event.{Event}
+use Rattle.hs_core_words.specs.declared.event.Event.TheVariants as event
+use Rattle.hs_core_words.specs.Looking.{lost_shard, shape_of, shards_of, status_of}
+use Rattle.hs_core_words.specs.Opening.{new_core}
+use Rattle.hs_core_words.specs.State.{Core}
+use Rattle.hs_core_words.specs.Step.{line_of, step}
 use Rattle.hs_desk.specs.declared.done.Done.{Done}
 use Rattle.hs_desk.specs.declared.done.Done.TheVariants as done
 use Rattle.hs_desk.specs.declared.fault.CoreFault.{CoreFault}

@@ -1,8 +1,8 @@
 -- The folds of a core that stands follow a machine of deletion.
 use Rattle.std.proofs.Common.{subst, ℕ, ◌<◌, List}
 use Rattle.hs_answered.specs.Telling.{Judging}
-use Rattle.hs_core.specs.Looking.{shape_of}
-use Rattle.hs_core.specs.State.{Core}
+use Rattle.hs_core_words.specs.Looking.{shape_of}
+use Rattle.hs_core_words.specs.State.{Core}
 use Rattle.hs_settled.specs.Machine.{FollowsMachine}
 use Rattle.hs_deletion.specs.Catalogue.{ShardCatalogue}
 use Rattle.hs_deletion.specs.Following.{AreCountsFollowed, IsFollowed}

@@ -4,14 +4,14 @@ use Rattle.std.specs.List.{AllByRecursion}
 use Rattle.hs_answered.proofs.RefusalLemmas.{IsNotBusy}
 use Rattle.hs_awaiting.specs.declared.waiting.Waiting.{Waiting}
 use Rattle.hs_awaiting.specs.Views.{restarted}
-use Rattle.hs_core.specs.Changing.{note, put_operation}
-use Rattle.hs_core.specs.declared.event.Event.{Event}
-use Rattle.hs_core.specs.declared.event.Event.TheVariants as event
-use Rattle.hs_core.specs.Looking.{operation_of}
-use Rattle.hs_core.specs.Operating.{answer}
-use Rattle.hs_core.specs.State.{Core}
-use Rattle.hs_core.specs.Step.{do_event, line_of}
-use Rattle.hs_core.specs.Views.{restart_at}
+use Rattle.hs_core_words.specs.Changing.{note, put_operation}
+use Rattle.hs_core_words.specs.declared.event.Event.{Event}
+use Rattle.hs_core_words.specs.declared.event.Event.TheVariants as event
+use Rattle.hs_core_words.specs.Looking.{operation_of}
+use Rattle.hs_core_words.specs.Operating.{answer}
+use Rattle.hs_core_words.specs.State.{Core}
+use Rattle.hs_core_words.specs.Step.{do_event, line_of}
+use Rattle.hs_core_words.specs.Views.{restart_at}
 use Rattle.hs_settled.proofs.ReplyLemmas.{IsNotDone, refusal_undone}
 use Rattle.hs_settled.proofs.SaidLemmas.{IsPlain, Says, line_says, noted_told}
 use Rattle.hs_settled.specs.Deletion.{IsMereRefusal}

@@ -4,17 +4,17 @@ use Rattle.std.proofs.lemmas.List.Sums.{sum_by-append, sum_by_push}
 use Rattle.std.specs.Option.{option_map, option_map_or}
 use Rattle.hs_answered.proofs.RefusalLemmas.{IsOfKind, first_is}
 use Rattle.hs_awaiting.specs.Words.{change_if, change_with}
-use Rattle.hs_core.specs.Asking.{deliver, lose, no_peer, not_down, not_up, nudge_good, send_again, unless_refused}
-use Rattle.hs_core.specs.Changing.{change_pool, note, post, refuse, set_tasks}
-use Rattle.hs_core.specs.declared.event.Event.{Event}
-use Rattle.hs_core.specs.declared.event.Event.TheVariants as event
-use Rattle.hs_core.specs.declared.task.Task.{Task}
-use Rattle.hs_core.specs.Failing.{go_down}
-use Rattle.hs_core.specs.Joining.{start}
-use Rattle.hs_core.specs.Looking.{first_task, shape_of, tasks_of}
-use Rattle.hs_core.specs.Reporting.{on_report, take_report}
-use Rattle.hs_core.specs.State.{Core}
-use Rattle.hs_core.specs.Step.{begin_event, do_event, line_of, step}
+use Rattle.hs_core_words.specs.Asking.{deliver, lose, no_peer, not_down, not_up, nudge_good, send_again, unless_refused}
+use Rattle.hs_core_words.specs.Changing.{change_pool, note, post, refuse, set_tasks}
+use Rattle.hs_core_words.specs.declared.event.Event.{Event}
+use Rattle.hs_core_words.specs.declared.event.Event.TheVariants as event
+use Rattle.hs_core_words.specs.declared.task.Task.{Task}
+use Rattle.hs_core_words.specs.Failing.{go_down}
+use Rattle.hs_core_words.specs.Joining.{start}
+use Rattle.hs_core_words.specs.Looking.{first_task, shape_of, tasks_of}
+use Rattle.hs_core_words.specs.Reporting.{on_report, take_report}
+use Rattle.hs_core_words.specs.State.{Core}
+use Rattle.hs_core_words.specs.Step.{begin_event, do_event, line_of, step}
 use Rattle.hs_desk.specs.Answers.{answers}
 use Rattle.hs_desk.specs.declared.done.Done.{Done}
 use Rattle.hs_desk.specs.declared.done.Done.TheVariants as done

@@ -17,12 +17,12 @@ use Rattle.hs_settled.proofs.LostLemmas.{all_good, steps_over}
 use Rattle.hs_settled.proofs.CausesRunLemmas.{all_ask_so, all_come_so, last_is, mute, opened_kept}
 use Rattle.hs_settled.proofs.SeatLemmas.{failed_low}
 use Rattle.hs_awaiting.specs.Words.{change_if}
-use Rattle.hs_core.specs.Changing.{change_pool}
-use Rattle.hs_core.specs.declared.event.Event.{Event}
-use Rattle.hs_core.specs.declared.event.Event.TheVariants as event
-use Rattle.hs_core.specs.Looking.{shape_of, status_of}
-use Rattle.hs_core.specs.State.{Core}
-use Rattle.hs_core.specs.Step.{begin_event, do_event, end_event, keep_entries, refuse_entries, step}
+use Rattle.hs_core_words.specs.Changing.{change_pool}
+use Rattle.hs_core_words.specs.declared.event.Event.{Event}
+use Rattle.hs_core_words.specs.declared.event.Event.TheVariants as event
+use Rattle.hs_core_words.specs.Looking.{shape_of, status_of}
+use Rattle.hs_core_words.specs.State.{Core}
+use Rattle.hs_core_words.specs.Step.{begin_event, do_event, end_event, keep_entries, refuse_entries, step}
 use Rattle.hs_desk.specs.declared.done.Done.TheVariants as done
 use Rattle.hs_desk.specs.declared.fault.CoreFault.{CoreFault}
 use Rattle.hs_events.specs.Course.{steps}

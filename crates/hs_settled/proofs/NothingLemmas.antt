@@ -12,8 +12,8 @@ use Rattle.hs_settled.proofs.CausesListLemmas.{all_left, any_none, both_nil, fin
 use Rattle.hs_settled.proofs.NoteLemmas.{not_noted}
 use Rattle.hs_settled.proofs.CausesRunLemmas.{last_kept, mute, opened_kept}
 use Rattle.hs_settled.specs.Printing.{FailsInOpening, LeavesUnread}
-use Rattle.hs_core.specs.Looking.{shape_of, shards_of, status_of}
-use Rattle.hs_core.specs.State.{Core}
+use Rattle.hs_core_words.specs.Looking.{shape_of, shards_of, status_of}
+use Rattle.hs_core_words.specs.State.{Core}
 use Rattle.hs_desk.specs.declared.fault.CoreFault.{CoreFault}
 use Rattle.hs_desk.specs.declared.fault.CoreFault.TheVariants as core_fault
 use Rattle.hs_events.specs.Beginning.{first_items}

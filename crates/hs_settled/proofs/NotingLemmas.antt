@@ -7,11 +7,11 @@ use Rattle.std.specs.Option.{option_map}
 use Rattle.std.specs.Ordering.{nat_cmp}
 use Rattle.hs_awaiting.specs.declared.waiting.Waiting.{Waiting}
 use Rattle.hs_awaiting.specs.Views.{restarted}
-use Rattle.hs_core.specs.Changing.{add_operation, note, put_operation}
-use Rattle.hs_core.specs.Looking.{operation_of, shape_of}
-use Rattle.hs_core.specs.Operating.{answer}
-use Rattle.hs_core.specs.State.{Core}
-use Rattle.hs_core.specs.Views.{restart_at}
+use Rattle.hs_core_words.specs.Changing.{add_operation, note, put_operation}
+use Rattle.hs_core_words.specs.Looking.{operation_of, shape_of}
+use Rattle.hs_core_words.specs.Operating.{answer}
+use Rattle.hs_core_words.specs.State.{Core}
+use Rattle.hs_core_words.specs.Views.{restart_at}
 use Rattle.hs_effects.proofs.LookLemmas.{found_map, insert_other, number_exact, one_or_other, remove_other, set_other}
 use Rattle.hs_journal.specs.declared.entry.JournalEntry.{JournalEntry}
 use Rattle.hs_journal.specs.declared.entry.Who.{Who}

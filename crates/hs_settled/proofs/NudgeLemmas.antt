@@ -8,14 +8,14 @@ use Rattle.hs_standing.proofs.BesideLemmas.{beside_catalogue, beside_without}
 use Rattle.hs_standing.proofs.AloneLemmas.{is_a_round}
 use Rattle.hs_standing.specs.Changes.{IsBeside}
 use Rattle.hs_awaiting.specs.Words.{change_if, change_with, ◌▸◌}
-use Rattle.hs_core.specs.Asking.{deliver, nudge, nudge_good, send_round, send_rounds}
-use Rattle.hs_core.specs.Changing.{add_entry_tasks, change_group, change_pool, post}
-use Rattle.hs_core.specs.Delivering.{is_got, is_new_round}
-use Rattle.hs_core.specs.Effects.{round_messages}
-use Rattle.hs_core.specs.Entering.{enters, has_begun, is_enter_due, propose_due}
-use Rattle.hs_core.specs.Looking.{catalogue_of, group_of, lead_of, shape_of}
-use Rattle.hs_core.specs.Operating.{propose_entry}
-use Rattle.hs_core.specs.State.{Core}
+use Rattle.hs_core_words.specs.Asking.{deliver, nudge, nudge_good, send_round, send_rounds}
+use Rattle.hs_core_words.specs.Changing.{add_entry_tasks, change_group, change_pool, post}
+use Rattle.hs_core_words.specs.Delivering.{is_got, is_new_round}
+use Rattle.hs_core_words.specs.Effects.{round_messages}
+use Rattle.hs_core_words.specs.Entering.{enters, has_begun, is_enter_due, propose_due}
+use Rattle.hs_core_words.specs.Looking.{catalogue_of, group_of, lead_of, shape_of}
+use Rattle.hs_core_words.specs.Operating.{propose_entry}
+use Rattle.hs_core_words.specs.State.{Core}
 use Rattle.hs_entry.specs.declared.entry.Entry.{Entry}
 use Rattle.hs_entry.specs.declared.entry.Entry.TheVariants as kind
 use Rattle.hs_events.specs.Alone.{AreAlone, face, own}

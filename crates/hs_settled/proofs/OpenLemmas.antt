@@ -6,8 +6,8 @@ use Rattle.std.proofs.lemmas.List.Elements.{All-from_get_or}
 use Rattle.std.specs.List.{list_any}
 use Rattle.std.specs.Prelude.{fold, max}
 use Rattle.hs_answered.specs.Standing.{IsFolded, forget_all, store_with}
-use Rattle.hs_core.specs.Looking.{shape_of, status_of, top_epoch}
-use Rattle.hs_core.specs.State.{Core}
+use Rattle.hs_core_words.specs.Looking.{shape_of, status_of, top_epoch}
+use Rattle.hs_core_words.specs.State.{Core}
 use Rattle.hs_fold.specs.Runs.Facts.{Catalogue as Folded}
 use Rattle.hs_fold.specs.Runs.Opened.{store_of}
 use Rattle.hs_laws.specs.Valid.{IsValid}

@@ -5,14 +5,14 @@ use Rattle.hs_standing.specs.Changes.{tells_at_once, told_at_once}
 use Rattle.hs_awaiting.specs.declared.wait.Wait.TheVariants as wait
 use Rattle.hs_awaiting.specs.declared.waiting.Waiting.{Waiting}
 use Rattle.hs_awaiting.specs.Words.{change_if, change_with}
-use Rattle.hs_core.specs.Changing.{add_entry_tasks, add_operation, change_group, note, post, put_operation}
+use Rattle.hs_core_words.specs.Changing.{add_entry_tasks, add_operation, change_group, note, post, put_operation}
 use Rattle.hs_journal.specs.declared.entry.Who.TheVariants as who
 use Rattle.hs_model.specs.declared.deed.Deed.TheVariants as deed
-use Rattle.hs_core.specs.Effects.{note_enter, note_sweep}
-use Rattle.hs_core.specs.Looking.{group_of, lead_of, operation_of, shape_of}
-use Rattle.hs_core.specs.Operating.{add_read, begin_line, busy_line, go_on_with, propose_entry, take_step, wait_for}
-use Rattle.hs_core.specs.Seeing.{view_for}
-use Rattle.hs_core.specs.State.{Core}
+use Rattle.hs_core_words.specs.Effects.{note_enter, note_sweep}
+use Rattle.hs_core_words.specs.Looking.{group_of, lead_of, operation_of, shape_of}
+use Rattle.hs_core_words.specs.Operating.{add_read, begin_line, busy_line, go_on_with, propose_entry, take_step, wait_for}
+use Rattle.hs_core_words.specs.Seeing.{view_for}
+use Rattle.hs_core_words.specs.State.{Core}
 use Rattle.hs_desk.specs.declared.what.What.{What}
 use Rattle.hs_desk.specs.declared.what.What.TheVariants as what
 use Rattle.hs_effects.proofs.GroupLemmas.{IsTaken, at_end, at_front, group_changed, taken_or_same}
@@ -37,7 +37,7 @@ use Rattle.hs_replica.specs.Group.{Group, last_number, proposal, propose, take_c
 use Rattle.hs_shard.specs.declared.effect.Effect.{Effect}
 use Rattle.std.specs.List.{list_all}
 use Rattle.std.specs.Prelude.{is_some, nat_le}
-use Rattle.hs_core.specs.Looking.{catalogue_of}
+use Rattle.hs_core_words.specs.Looking.{catalogue_of}
 use Rattle.hs_shard.specs.Facts.{Catalogue}
 
 -- an entry is no Enter that a shard proposes by itself

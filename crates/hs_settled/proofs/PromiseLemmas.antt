@@ -1,8 +1,8 @@
 -- In the words of the promise.
 use Rattle.std.proofs.Common.{◌≡◌, ◌∙◌, sym, ap, subst, ℕ, ◌+◌, List, Some}
 use Rattle.hs_answered.specs.Telling.{Judging}
-use Rattle.hs_core.specs.State.{Core}
-use Rattle.hs_core.specs.Opening.{Taken, open_core}
+use Rattle.hs_core_words.specs.State.{Core}
+use Rattle.hs_core_words.specs.Opening.{Taken, open_core}
 use Rattle.hs_settled.proofs.DeletesRunLemmas.{steps_ended}
 use Rattle.hs_settled.specs.Deletion.{TellsDeletion}
 use Rattle.hs_desk.specs.declared.fault.CoreFault.{CoreFault}

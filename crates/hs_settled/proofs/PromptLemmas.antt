@@ -10,8 +10,8 @@ use Rattle.hs_settled.proofs.KeptLemmas.{Kept, all_go_on, all_kept, ask_first, a
 use Rattle.hs_settled.proofs.CausesListLemmas.{both_nil, not_both}
 use Rattle.hs_settled.proofs.CausesRunLemmas.{are_lines, begun_kept, flat_is, last_behind, last_kept, lined, lines_asked, lines_come, mute_is}
 use Rattle.hs_settled.specs.Printing.{FailsInText}
-use Rattle.hs_core.specs.declared.event.Event.{Event}
-use Rattle.hs_core.specs.State.{Core}
+use Rattle.hs_core_words.specs.declared.event.Event.{Event}
+use Rattle.hs_core_words.specs.State.{Core}
 use Rattle.hs_desk.specs.declared.fault.CoreFault.{CoreFault}
 use Rattle.hs_desk.specs.declared.fault.CoreFault.TheVariants as fault
 use Rattle.hs_events.proofs.RunLemmas.{steps_append}

@@ -5,10 +5,10 @@ use Rattle.std.specs.BTreeMap.{is_at}
 use Rattle.std.specs.List.{list_any}
 use Rattle.std.specs.Option.{option_map_or}
 use Rattle.hs_answered.specs.Standing.{store_with}
-use Rattle.hs_core.specs.Delivering.{is_got, is_new_round}
-use Rattle.hs_core.specs.Entering.{enters, has_begun, is_enter_due}
-use Rattle.hs_core.specs.Looking.{catalogue_of, group_of, shape_of}
-use Rattle.hs_core.specs.State.{Core}
+use Rattle.hs_core_words.specs.Delivering.{is_got, is_new_round}
+use Rattle.hs_core_words.specs.Entering.{enters, has_begun, is_enter_due}
+use Rattle.hs_core_words.specs.Looking.{catalogue_of, group_of, shape_of}
+use Rattle.hs_core_words.specs.State.{Core}
 use Rattle.hs_deletion.specs.History.{IsMade}
 use Rattle.hs_deletion.specs.Machine.{Layout, Machine}
 use Rattle.hs_deletion.specs.Promises.{AreInStep, GoesOn}

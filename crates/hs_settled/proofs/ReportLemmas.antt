@@ -7,13 +7,13 @@ use Rattle.hs_awaiting.specs.declared.wait.Wait.{Wait}
 use Rattle.hs_awaiting.specs.declared.wait.Wait.TheVariants as wait
 use Rattle.hs_awaiting.specs.declared.waiting.Waiting.{Waiting}
 use Rattle.hs_awaiting.specs.Words.{change_if, change_with}
-use Rattle.hs_core.specs.declared.task.Task.{Task}
-use Rattle.hs_core.specs.Changing.{change_group, post, set_tasks}
-use Rattle.hs_core.specs.Looking.{first_task, group_of, home, operation_of, tasks_of}
-use Rattle.hs_core.specs.Operating.{go_on_with}
-use Rattle.hs_core.specs.Reporting.{is_reading, on_report, take_report, take_sealed, tell_bytes}
-use Rattle.hs_core.specs.Seeing.{pointers_for, view_for}
-use Rattle.hs_core.specs.State.{Core}
+use Rattle.hs_core_words.specs.declared.task.Task.{Task}
+use Rattle.hs_core_words.specs.Changing.{change_group, post, set_tasks}
+use Rattle.hs_core_words.specs.Looking.{first_task, group_of, home, operation_of, tasks_of}
+use Rattle.hs_core_words.specs.Operating.{go_on_with}
+use Rattle.hs_core_words.specs.Reporting.{is_reading, on_report, take_report, take_sealed, tell_bytes}
+use Rattle.hs_core_words.specs.Seeing.{pointers_for, view_for}
+use Rattle.hs_core_words.specs.State.{Core}
 use Rattle.hs_desk.specs.Answers.{answers, is_append_of, is_read_of, is_seal_of}
 use Rattle.hs_desk.specs.declared.done.Done.{Done}
 use Rattle.hs_desk.specs.declared.done.Done.TheVariants as done

@@ -5,8 +5,8 @@ use Rattle.std.specs.Prelude.{fold, max}
 use Rattle.std.proofs.Math.Nat.{max-le}
 use Rattle.hs_answered.specs.Standing.{IsFolded, store_with}
 use Rattle.hs_awaiting.specs.declared.waiting.Waiting.{Waiting}
-use Rattle.hs_core.specs.Looking.{group_of, shape_of, status_of, top_epoch}
-use Rattle.hs_core.specs.State.{Core}
+use Rattle.hs_core_words.specs.Looking.{group_of, shape_of, status_of, top_epoch}
+use Rattle.hs_core_words.specs.State.{Core}
 use Rattle.hs_entry.specs.declared.entry.Entry.{Entry}
 use Rattle.hs_events.specs.Alone.{AreAlone, face}
 use Rattle.hs_fold.specs.Runs.Facts.{Catalogue as Folded}

@@ -2,8 +2,8 @@
 use Rattle.std.proofs.Common.{◌≡◌, ◌∙◌, inl, inr, sym, ap, subst, ℕ, List, [], ◌∷◌, ◌++◌, Option, Some, None, IsSome, refl}
 use Rattle.std.specs.List.{AllByRecursion}
 use Rattle.hs_answered.specs.Telling.{Judging, events_in}
-use Rattle.hs_core.specs.Changing.{refuse}
-use Rattle.hs_core.specs.State.{Core}
+use Rattle.hs_core_words.specs.Changing.{refuse}
+use Rattle.hs_core_words.specs.State.{Core}
 use Rattle.hs_settled.proofs.ReplyLemmas.{IsNoSweep, IsNotDone, judge_undone}
 use Rattle.hs_settled.proofs.SaidLemmas.{IsPlain, IsSpoken, Says, noted_told}
 use Rattle.hs_settled.specs.Deletion.{IsMereRefusal}

@@ -5,14 +5,14 @@ use Rattle.hs_standing.specs.Changes.{tells_at_once, told_at_once}
 use Rattle.hs_awaiting.specs.declared.wait.Wait.TheVariants as wait
 use Rattle.hs_awaiting.specs.declared.waiting.Waiting.{Waiting}
 use Rattle.hs_awaiting.specs.Words.{change_with}
-use Rattle.hs_core.specs.Asking.{send_round}
-use Rattle.hs_core.specs.Changing.{add_operation, change_group, note, post, set_viewed}
-use Rattle.hs_core.specs.Effects.{note_enter, round_messages, tell_enter, tell_operation}
-use Rattle.hs_core.specs.Looking.{catalogue_of, group_of, operation_of, shape_of}
-use Rattle.hs_core.specs.Operating.{begin_line, busy_line, go_on_with, propose_entry, take_step}
-use Rattle.hs_core.specs.Seeing.{view_for}
-use Rattle.hs_core.specs.State.{Core}
-use Rattle.hs_core.specs.Views.{begin_view, restart}
+use Rattle.hs_core_words.specs.Asking.{send_round}
+use Rattle.hs_core_words.specs.Changing.{add_operation, change_group, note, post, set_viewed}
+use Rattle.hs_core_words.specs.Effects.{note_enter, round_messages, tell_enter, tell_operation}
+use Rattle.hs_core_words.specs.Looking.{catalogue_of, group_of, operation_of, shape_of}
+use Rattle.hs_core_words.specs.Operating.{begin_line, busy_line, go_on_with, propose_entry, take_step}
+use Rattle.hs_core_words.specs.Seeing.{view_for}
+use Rattle.hs_core_words.specs.State.{Core}
+use Rattle.hs_core_words.specs.Views.{begin_view, restart}
 use Rattle.hs_settled.proofs.ReplyLemmas.{IsNoSweep, answer_no_sweep}
 use Rattle.hs_desk.specs.declared.what.What.{What}
 use Rattle.hs_desk.specs.declared.what.What.TheVariants as what

@@ -1,8 +1,8 @@
 -- Each entry that waits is to be sealed: its Seal stands among the jobs of its peer.
 use Rattle.std.proofs.Common.{◌≡◌, ◌∙◌, sym, ap, inl, inr, ℕ, zero, suc, ◌+◌, ◌<◌, List, [], ◌∷◌, ◌++◌, length, Option, Some, None, refl, arith, slice_get}
 use Rattle.std.specs.List.{enumerate_from, flat_map}
-use Rattle.hs_core.specs.declared.task.Task.{Task}
-use Rattle.hs_core.specs.Looking.{front_of, group_of, shape_of, tasks_of}
+use Rattle.hs_core_words.specs.declared.task.Task.{Task}
+use Rattle.hs_core_words.specs.Looking.{front_of, group_of, shape_of, tasks_of}
 use Rattle.hs_desk.specs.declared.job.Job.TheVariants as job
 use Rattle.hs_effects.proofs.OrderlyLemmas.{some_is}
 use Rattle.hs_entry.specs.declared.entry.Entry.{Entry}

@@ -9,24 +9,24 @@ use Rattle.hs_settled.proofs.CausesListLemmas.{set_keeps, some_is}
 use Rattle.hs_awaiting.specs.declared.wait.Wait.TheVariants as wait
 use Rattle.hs_awaiting.specs.declared.waiting.Waiting.{Waiting}
 use Rattle.hs_awaiting.specs.Words.{change_if, change_with, each, times}
-use Rattle.hs_core.specs.Asking.{deliver, lose, no_peer, not_down, not_up, nudge, nudge_good, send_again, send_round, send_rounds, unless_refused}
-use Rattle.hs_core.specs.Changing.{add_entry_tasks, add_operation, add_task, change_group, change_pool, change_rejoin, note, post, put_operation, refuse, set_rejoin, set_status, set_tasks, set_viewed}
-use Rattle.hs_core.specs.declared.event.Event.{Event}
-use Rattle.hs_core.specs.declared.event.Event.TheVariants as event
-use Rattle.hs_core.specs.declared.task.Task.{Task}
-use Rattle.hs_core.specs.Delivering.{handle, is_new_round, take_copy}
-use Rattle.hs_core.specs.Effects.{after_entry, commit, commit_next, is_for_view, note_enter, note_sweep, reach_view, round_messages, take_effect, tell_enter, tell_operation, wakes}
-use Rattle.hs_core.specs.Entering.{is_enter_due, propose_due}
-use Rattle.hs_core.specs.Failing.{commit_rest, go_down, leave}
-use Rattle.hs_core.specs.Joining.{begin_joining, follow_lead, is_level_with_lead, join, join_if_level, joining_peers, start}
-use Rattle.hs_core.specs.Looking.{catalogue_of, copying_step, first_task, front_of, group_of, home, lead_of, operation_of, rejoin_of, sealed_of, shape_of, status_of, tasks_of}
-use Rattle.hs_core.specs.Operating.{add_read, begin_line, busy_line, go_on_with, lines_where, propose_entry, resume, resume_where, take_step}
-use Rattle.hs_core.specs.Pending.{named}
-use Rattle.hs_core.specs.Reporting.{is_reading, on_report, take_report, tell_bytes}
-use Rattle.hs_core.specs.Seeing.{pointers_for, view_for}
-use Rattle.hs_core.specs.State.{Core}
-use Rattle.hs_core.specs.Step.{begin_event, do_event, end_event, keep_entries, line_of, refuse_entries, run_event, step}
-use Rattle.hs_core.specs.Views.{begin_view, change_view, restart}
+use Rattle.hs_core_words.specs.Asking.{deliver, lose, no_peer, not_down, not_up, nudge, nudge_good, send_again, send_round, send_rounds, unless_refused}
+use Rattle.hs_core_words.specs.Changing.{add_entry_tasks, add_operation, add_task, change_group, change_pool, change_rejoin, note, post, put_operation, refuse, set_rejoin, set_status, set_tasks, set_viewed}
+use Rattle.hs_core_words.specs.declared.event.Event.{Event}
+use Rattle.hs_core_words.specs.declared.event.Event.TheVariants as event
+use Rattle.hs_core_words.specs.declared.task.Task.{Task}
+use Rattle.hs_core_words.specs.Delivering.{handle, is_new_round, take_copy}
+use Rattle.hs_core_words.specs.Effects.{after_entry, commit, commit_next, is_for_view, note_enter, note_sweep, reach_view, round_messages, take_effect, tell_enter, tell_operation, wakes}
+use Rattle.hs_core_words.specs.Entering.{is_enter_due, propose_due}
+use Rattle.hs_core_words.specs.Failing.{commit_rest, go_down, leave}
+use Rattle.hs_core_words.specs.Joining.{begin_joining, follow_lead, is_level_with_lead, join, join_if_level, joining_peers, start}
+use Rattle.hs_core_words.specs.Looking.{catalogue_of, copying_step, first_task, front_of, group_of, home, lead_of, operation_of, rejoin_of, sealed_of, shape_of, status_of, tasks_of}
+use Rattle.hs_core_words.specs.Operating.{add_read, begin_line, busy_line, go_on_with, lines_where, propose_entry, resume, resume_where, take_step}
+use Rattle.hs_core_words.specs.Pending.{named}
+use Rattle.hs_core_words.specs.Reporting.{is_reading, on_report, take_report, tell_bytes}
+use Rattle.hs_core_words.specs.Seeing.{pointers_for, view_for}
+use Rattle.hs_core_words.specs.State.{Core}
+use Rattle.hs_core_words.specs.Step.{begin_event, do_event, end_event, keep_entries, line_of, refuse_entries, run_event, step}
+use Rattle.hs_core_words.specs.Views.{begin_view, change_view, restart}
 use Rattle.hs_desk.specs.Answers.{answers, is_copy_from}
 use Rattle.hs_desk.specs.declared.done.Done.{Done}
 use Rattle.hs_desk.specs.declared.done.Done.TheVariants as done

@@ -6,11 +6,11 @@ use Rattle.hs_awaiting.specs.declared.wait.Wait.{Wait}
 use Rattle.hs_awaiting.specs.declared.wait.Wait.TheVariants as wait
 use Rattle.hs_awaiting.specs.declared.waiting.Waiting.{Waiting}
 use Rattle.hs_awaiting.specs.Words.{change_with}
-use Rattle.hs_core.specs.declared.task.Task.{Task}
-use Rattle.hs_core.specs.Changing.{add_entry_tasks, add_task, change_group, post, set_tasks}
-use Rattle.hs_core.specs.Looking.{front_of, group_of, lead_of, shape_of, tasks_of}
-use Rattle.hs_core.specs.Operating.{add_read, answer, carry_out, propose_entry, wait_for, what_holds}
-use Rattle.hs_core.specs.State.{Core}
+use Rattle.hs_core_words.specs.declared.task.Task.{Task}
+use Rattle.hs_core_words.specs.Changing.{add_entry_tasks, add_task, change_group, post, set_tasks}
+use Rattle.hs_core_words.specs.Looking.{front_of, group_of, lead_of, shape_of, tasks_of}
+use Rattle.hs_core_words.specs.Operating.{add_read, answer, carry_out, propose_entry, wait_for, what_holds}
+use Rattle.hs_core_words.specs.State.{Core}
 use Rattle.hs_desk.specs.declared.job.Job.TheVariants as job
 use Rattle.hs_effects.proofs.GroupLemmas.{group_changed, propose_front, set_at}
 use Rattle.hs_effects.proofs.LookLemmas.{one_or_other}

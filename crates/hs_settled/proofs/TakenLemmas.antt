@@ -6,11 +6,11 @@ use Rattle.std.specs.Option.{option_map_or}
 use Rattle.hs_awaiting.specs.declared.wait.Wait.{Wait}
 use Rattle.hs_awaiting.specs.declared.wait.Wait.TheVariants as wait
 use Rattle.hs_awaiting.specs.declared.waiting.Waiting.{Waiting}
-use Rattle.hs_core.specs.Changing.{change_group}
-use Rattle.hs_core.specs.Effects.{wakes}
-use Rattle.hs_core.specs.Looking.{front_of, group_of, shape_of}
-use Rattle.hs_core.specs.Pending.{is_address}
-use Rattle.hs_core.specs.State.{Core}
+use Rattle.hs_core_words.specs.Changing.{change_group}
+use Rattle.hs_core_words.specs.Effects.{wakes}
+use Rattle.hs_core_words.specs.Looking.{front_of, group_of, shape_of}
+use Rattle.hs_core_words.specs.Pending.{is_address}
+use Rattle.hs_core_words.specs.State.{Core}
 use Rattle.hs_effects.specs.Logged.{IsOrderly, asked_by}
 use Rattle.hs_effects.specs.Taking.{taken}
 use Rattle.hs_effects.proofs.EffectLemmas.{taken_here, taken_room}

@@ -15,11 +15,11 @@ use Rattle.hs_settled.proofs.NotesEndLemmas.{Untold, bad_ended, first_untold, no
 use Rattle.hs_settled.proofs.CausesRunLemmas.{all_ask_so, all_come_so, flat_is, last_is, last_line, mute, mute_some, opened_kept}
 use Rattle.hs_settled.proofs.SeatLemmas.{FallsBy, Seated, peers_in, seats_run}
 use Rattle.hs_awaiting.specs.Words.{change_if}
-use Rattle.hs_core.specs.declared.event.Event.{Event}
-use Rattle.hs_core.specs.declared.event.Event.TheVariants as event
-use Rattle.hs_core.specs.Looking.{lost_shard, shape_of, status_of}
-use Rattle.hs_core.specs.State.{Core}
-use Rattle.hs_core.specs.Step.{begin_event, do_event, end_event, keep_entries, line_of, refuse_entries, run_event, step}
+use Rattle.hs_core_words.specs.declared.event.Event.{Event}
+use Rattle.hs_core_words.specs.declared.event.Event.TheVariants as event
+use Rattle.hs_core_words.specs.Looking.{lost_shard, shape_of, status_of}
+use Rattle.hs_core_words.specs.State.{Core}
+use Rattle.hs_core_words.specs.Step.{begin_event, do_event, end_event, keep_entries, line_of, refuse_entries, run_event, step}
 use Rattle.hs_desk.specs.declared.done.Done.{Done}
 use Rattle.hs_desk.specs.declared.done.Done.TheVariants as done
 use Rattle.hs_desk.specs.declared.fault.CoreFault.{CoreFault}

@@ -8,10 +8,10 @@ use Rattle.std.specs.Option.{option_map, option_map_or, option_or}
 use Rattle.std.specs.Prelude.{slice_index_or}
 use Rattle.hs_awaiting.specs.declared.wait.Wait.TheVariants as wait
 use Rattle.hs_awaiting.specs.declared.waiting.Waiting.{Waiting}
-use Rattle.hs_core.specs.Looking.{catalogue_of, group_of}
-use Rattle.hs_core.specs.Operating.{what_holds}
-use Rattle.hs_core.specs.Pending.{has_room, is_address, is_coming, is_crowded, is_pending, stored}
-use Rattle.hs_core.specs.State.{Core}
+use Rattle.hs_core_words.specs.Looking.{catalogue_of, group_of}
+use Rattle.hs_core_words.specs.Operating.{what_holds}
+use Rattle.hs_core_words.specs.Pending.{has_room, is_address, is_coming, is_crowded, is_pending, stored}
+use Rattle.hs_core_words.specs.State.{Core}
 use Rattle.hs_desk.specs.declared.what.What.{What}
 use Rattle.hs_effects.specs.Logged.{IsEntryOf, IsOrderly, asked_by}
 use Rattle.hs_effects.proofs.EffectLemmas.{listed_stored}

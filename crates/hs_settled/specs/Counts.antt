@@ -2,8 +2,8 @@
 use Rattle.std.specs.Map.{values_of}
 use Rattle.std.specs.Prelude.{◌<◌, ℕ, List, All}
 use Rattle.hs_answered.specs.Standing.{IsFolded}
-use Rattle.hs_core.specs.Looking.{shape_of}
-use Rattle.hs_core.specs.State.{Core}
+use Rattle.hs_core_words.specs.Looking.{shape_of}
+use Rattle.hs_core_words.specs.State.{Core}
 use Rattle.hs_settled.specs.Machine.{FollowsMachine}
 use Rattle.hs_deletion.specs.Following.{IsSent}
 use Rattle.hs_deletion.specs.Machine.{Layout, Machine}

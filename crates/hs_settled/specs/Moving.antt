@@ -1,6 +1,6 @@
 -- A store of one copy a shard in which whatever is open goes on.
 use Rattle.std.specs.Prelude.{ℕ, List}
-use Rattle.hs_core.specs.Looking.{shape_of}
+use Rattle.hs_core_words.specs.Looking.{shape_of}
 use Rattle.hs_effects.specs.Logged.{IsOrderly}
 use Rattle.hs_events.specs.Sane.{IsSane}
 use Rattle.hs_events.specs.Whole.{Whole}

@@ -1,7 +1,7 @@
 -- What a settle leaves: the core behind its line, and what is open there.
 use Rattle.std.specs.Prelude.{◌≡◌, ℕ, ◌++◌, false, flat_map, take}
-use Rattle.hs_core.specs.Looking.{open_work}
-use Rattle.hs_core.specs.State.{Core}
+use Rattle.hs_core_words.specs.Looking.{open_work}
+use Rattle.hs_core_words.specs.State.{Core}
 use Rattle.hs_events.specs.Course.{steps}
 use Rattle.hs_events.specs.Due.{Events}
 use Rattle.hs_events.specs.Found.{first_core}

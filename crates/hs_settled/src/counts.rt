@@ -1,7 +1,7 @@
 //! What the counts of a core are worth, behind each event.
 ghost use Rattle.std.specs.Prelude.{ℕ, List, take};
 ghost use Rattle.hs_answered.specs.Telling.{Judging};
-ghost use Rattle.hs_core.specs.State.{Core};
+ghost use Rattle.hs_core_words.specs.State.{Core};
 ghost use Rattle.hs_settled.specs.Counts.{CountsRight};
 ghost use Rattle.hs_events.specs.Course.{steps};
 ghost use Rattle.hs_events.specs.Due.{Events};

@@ -1,9 +1,9 @@
 //! A disk that fails is told once.
 ghost use Rattle.std.specs.Prelude.{◌≡◌, ◌+◌, ◌*◌, ◌<◌, ℕ, List, Option, None, true, if◌then◌else◌};
-ghost use Rattle.hs_core.specs.Opening.{Taken, new_core, open_core};
-ghost use Rattle.hs_core.specs.State.{Core};
-ghost use Rattle.hs_core.specs.Step.{step};
-ghost use Rattle.hs_core.specs.declared.event.Event.{Event};
+ghost use Rattle.hs_core_words.specs.Opening.{Taken, new_core, open_core};
+ghost use Rattle.hs_core_words.specs.State.{Core};
+ghost use Rattle.hs_core_words.specs.Step.{step};
+ghost use Rattle.hs_core_words.specs.declared.event.Event.{Event};
 ghost use Rattle.hs_events.specs.Reports.{costs, failures};
 ghost use Rattle.hs_journal.specs.Notes.{note_count};
 ghost use Rattle.hs_limits.specs.declared.limits.Limits.{Limits};

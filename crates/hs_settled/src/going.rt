@@ -1,9 +1,9 @@
 //! Each operation without an answer waits for something that is there.
 ghost use Rattle.std.specs.Prelude.{◌≡◌, ◌<◌, ℕ, List, None, Some, length};
 ghost use Rattle.hs_awaiting.specs.declared.waiting.Waiting.{Waiting};
-ghost use Rattle.hs_core.specs.declared.event.Event.{Event};
-ghost use Rattle.hs_core.specs.Looking.{operation_of, shape_of};
-ghost use Rattle.hs_core.specs.Step.{step};
+ghost use Rattle.hs_core_words.specs.declared.event.Event.{Event};
+ghost use Rattle.hs_core_words.specs.Looking.{operation_of, shape_of};
+ghost use Rattle.hs_core_words.specs.Step.{step};
 ghost use Rattle.hs_effects.specs.Logged.{MayBegin, MayBeginAll, steps};
 ghost use Rattle.hs_events.specs.Found.{Found, first_core, opened_list};
 ghost use Rattle.hs_events.specs.Sane.{IsFromOne};

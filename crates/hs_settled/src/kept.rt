@@ -2,9 +2,9 @@
 ghost use Rattle.std.specs.Prelude.{◌≡◌, ℕ, List, [], take};
 ghost use Rattle.hs_standing.specs.Walks.{HasRecordRoom};
 ghost use Rattle.hs_answered.specs.Telling.{Judging};
-ghost use Rattle.hs_core.specs.declared.event.Event.{Event};
-ghost use Rattle.hs_core.specs.Opening.{Taken, open_core};
-ghost use Rattle.hs_core.specs.Step.{step};
+ghost use Rattle.hs_core_words.specs.declared.event.Event.{Event};
+ghost use Rattle.hs_core_words.specs.Opening.{Taken, open_core};
+ghost use Rattle.hs_core_words.specs.Step.{step};
 ghost use Rattle.hs_settled.specs.Deletion.{TellsDeletion};
 ghost use Rattle.hs_events.specs.Course.{steps};
 ghost use Rattle.hs_events.specs.Due.{Events};

@@ -1,8 +1,8 @@
 //! What the counts of a core are worth.
 ghost use Rattle.std.specs.Prelude.{◌<◌, List};
 ghost use Rattle.hs_answered.specs.Telling.{Judging};
-ghost use Rattle.hs_core.specs.Looking.{shape_of};
-ghost use Rattle.hs_core.specs.State.{Core};
+ghost use Rattle.hs_core_words.specs.Looking.{shape_of};
+ghost use Rattle.hs_core_words.specs.State.{Core};
 ghost use Rattle.hs_settled.specs.Machine.{FollowsMachine};
 ghost use Rattle.hs_effects.specs.Taking.{setting_of};
 ghost use Rattle.hs_fold.specs.Runs.Facts.{Catalogue as Folded};

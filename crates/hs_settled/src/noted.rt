@@ -1,10 +1,10 @@
 //! What each entry stands for.
 ghost use Rattle.std.specs.Prelude.{◌≡◌, ◌*◌, ℕ, List, Option, None, All, length};
-ghost use Rattle.hs_core.specs.Opening.{Taken, open_core};
-ghost use Rattle.hs_core.specs.Looking.{shape_of};
-ghost use Rattle.hs_core.specs.State.{Core};
-ghost use Rattle.hs_core.specs.Step.{step};
-ghost use Rattle.hs_core.specs.declared.event.Event.{Event};
+ghost use Rattle.hs_core_words.specs.Opening.{Taken, open_core};
+ghost use Rattle.hs_core_words.specs.Looking.{shape_of};
+ghost use Rattle.hs_core_words.specs.State.{Core};
+ghost use Rattle.hs_core_words.specs.Step.{step};
+ghost use Rattle.hs_core_words.specs.declared.event.Event.{Event};
 ghost use Rattle.hs_limits.specs.declared.limits.Limits.{Limits};
 ghost use Rattle.hs_limits.specs.declared.shape.Shape.{Shape};
 ghost use Rattle.hs_model.specs.declared.command.Command.{Command};

@@ -1,8 +1,8 @@
 //! Why a line that is no client's is refused.
 ghost use Rattle.std.specs.Prelude.{◌≡◌, ◌++◌, ℕ, [], ◌∷◌, Option, Some, None};
-ghost use Rattle.hs_core.specs.State.{Core};
-ghost use Rattle.hs_core.specs.Step.{line_of, step};
-ghost use Rattle.hs_core.specs.declared.event.Event.{Event};
+ghost use Rattle.hs_core_words.specs.State.{Core};
+ghost use Rattle.hs_core_words.specs.Step.{line_of, step};
+ghost use Rattle.hs_core_words.specs.declared.event.Event.{Event};
 ghost use Rattle.hs_model.specs.declared.command.Command.{Command};
 ghost use Rattle.hs_model.specs.declared.reply.Reply.{Reply};
 ghost use Rattle.hs_settled.specs.Noted.{Adds, IsNoClients, IsNoted, IsOfClient, refusal_entry};

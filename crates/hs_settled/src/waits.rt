@@ -1,6 +1,6 @@
 //! What is due where something is open.
 ghost use Rattle.std.specs.Prelude.{◌≡◌, ◌+◌, ◌<◌, ℕ, List, None, Some, slice_get};
-ghost use Rattle.hs_core.specs.Looking.{first_job, front_of, group_of, shape_of};
+ghost use Rattle.hs_core_words.specs.Looking.{first_job, front_of, group_of, shape_of};
 ghost use Rattle.hs_entry.specs.declared.entry.Entry.{Entry};
 ghost use Rattle.hs_events.specs.Alone.{seal_of};
 ghost use Rattle.hs_events.specs.declared.due.Place.{Place};

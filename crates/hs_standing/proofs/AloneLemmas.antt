@@ -4,9 +4,9 @@ use Rattle.std.proofs.lemmas.Bool.{cases_lt}
 use Rattle.std.proofs.lemmas.Map.Views.{All-map-remove_entry, IfSome-lookup_from_All}
 use Rattle.std.specs.BTreeMap.{is_at}
 use Rattle.std.specs.Ordering.{nat_cmp}
-use Rattle.hs_core.specs.Changing.{change_pool}
-use Rattle.hs_core.specs.Looking.{status_of}
-use Rattle.hs_core.specs.State.{Core}
+use Rattle.hs_core_words.specs.Changing.{change_pool}
+use Rattle.hs_core_words.specs.Looking.{status_of}
+use Rattle.hs_core_words.specs.State.{Core}
 use Rattle.hs_events.specs.Alone.{AreAlone, face, is_round}
 use Rattle.hs_members.specs.Members.{is_good_status}
 use Rattle.hs_moments.proofs.AloneEventLemmas.{status_past}

@@ -6,12 +6,12 @@ use Rattle.hs_standing.specs.Walks.{WalksOpen}
 use Rattle.hs_standing.proofs.BesideLemmas.{beside_ended}
 use Rattle.hs_awaiting.specs.declared.waiting.Waiting.{Waiting}
 use Rattle.hs_awaiting.specs.Words.{change_if, change_with, each}
-use Rattle.hs_core.specs.Changing.{add_entry_tasks, change_group, note, post, set_viewed}
-use Rattle.hs_core.specs.Looking.{group_of, lead_of, shape_of, status_of}
-use Rattle.hs_core.specs.Opening.{Taken, begin_views, new_core, note_down, note_if_down, open_core, taken_group}
-use Rattle.hs_core.specs.State.{Core}
-use Rattle.hs_core.specs.Step.{end_event}
-use Rattle.hs_core.specs.Views.{begin_view, change_view, restart}
+use Rattle.hs_core_words.specs.Changing.{add_entry_tasks, change_group, note, post, set_viewed}
+use Rattle.hs_core_words.specs.Looking.{group_of, lead_of, shape_of, status_of}
+use Rattle.hs_core_words.specs.Opening.{Taken, begin_views, new_core, note_down, note_if_down, open_core, taken_group}
+use Rattle.hs_core_words.specs.State.{Core}
+use Rattle.hs_core_words.specs.Step.{end_event}
+use Rattle.hs_core_words.specs.Views.{begin_view, change_view, restart}
 use Rattle.hs_effects.proofs.GroupLemmas.{group_changed}
 use Rattle.hs_entry.specs.declared.entry.Entry.{Entry}
 use Rattle.hs_entry.specs.declared.entry.Entry.TheVariants as kind

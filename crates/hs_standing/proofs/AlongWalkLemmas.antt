@@ -9,18 +9,18 @@ use Rattle.hs_standing.proofs.GrownLemmas.{grown_same}
 use Rattle.hs_standing.proofs.ReportLemmas.{report_goes}
 use Rattle.hs_awaiting.specs.declared.waiting.Waiting.{Waiting}
 use Rattle.hs_awaiting.specs.Words.{change_if, ◌▸◌}
-use Rattle.hs_core.specs.Asking.{deliver, lose, no_peer, not_down, not_up, nudge, nudge_good, send_again, send_round, send_rounds}
-use Rattle.hs_core.specs.Changing.{change_pool, post, refuse}
-use Rattle.hs_core.specs.declared.event.Event.{Event}
-use Rattle.hs_core.specs.declared.event.Event.TheVariants as event
-use Rattle.hs_core.specs.Delivering.{is_new_round}
-use Rattle.hs_core.specs.Entering.{propose_due}
-use Rattle.hs_core.specs.Failing.{go_down}
-use Rattle.hs_core.specs.Joining.{start}
-use Rattle.hs_core.specs.Looking.{group_of, home, lead_of, shape_of, status_of}
-use Rattle.hs_core.specs.Operating.{propose_entry}
-use Rattle.hs_core.specs.State.{Core}
-use Rattle.hs_core.specs.Step.{do_event, end_event, step}
+use Rattle.hs_core_words.specs.Asking.{deliver, lose, no_peer, not_down, not_up, nudge, nudge_good, send_again, send_round, send_rounds}
+use Rattle.hs_core_words.specs.Changing.{change_pool, post, refuse}
+use Rattle.hs_core_words.specs.declared.event.Event.{Event}
+use Rattle.hs_core_words.specs.declared.event.Event.TheVariants as event
+use Rattle.hs_core_words.specs.Delivering.{is_new_round}
+use Rattle.hs_core_words.specs.Entering.{propose_due}
+use Rattle.hs_core_words.specs.Failing.{go_down}
+use Rattle.hs_core_words.specs.Joining.{start}
+use Rattle.hs_core_words.specs.Looking.{group_of, home, lead_of, shape_of, status_of}
+use Rattle.hs_core_words.specs.Operating.{propose_entry}
+use Rattle.hs_core_words.specs.State.{Core}
+use Rattle.hs_core_words.specs.Step.{do_event, end_event, step}
 use Rattle.hs_desk.specs.declared.done.Done.{Done}
 use Rattle.hs_desk.specs.declared.done.Done.TheVariants as done
 use Rattle.hs_entry.specs.declared.entry.Entry.TheVariants as kind

@@ -6,8 +6,8 @@ use Rattle.std.specs.Prelude.{if◌then◌else◌, unwrap_or}
 use Rattle.hs_answered.proofs.AnswerLemmas.{session_is}
 use Rattle.hs_answered.specs.Standing.{store_with}
 use Rattle.hs_answered.specs.Telling.{Judging}
-use Rattle.hs_core.specs.Looking.{operation_of}
-use Rattle.hs_core.specs.State.{Core}
+use Rattle.hs_core_words.specs.Looking.{operation_of}
+use Rattle.hs_core_words.specs.State.{Core}
 use Rattle.hs_effects.proofs.StepLemmas.{held_same}
 use Rattle.hs_effects.specs.Logged.{IsCalled}
 use Rattle.hs_events.proofs.AddressLemmas.{address_found}

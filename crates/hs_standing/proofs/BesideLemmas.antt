@@ -11,17 +11,17 @@ use Rattle.hs_standing.specs.Changes.{IsBeside}
 use Rattle.hs_standing.proofs.AloneLemmas.{within}
 use Rattle.hs_awaiting.specs.declared.waiting.Waiting.{Waiting}
 use Rattle.hs_awaiting.specs.Words.{change_if, change_with, each}
-use Rattle.hs_core.specs.Changing.{add_entry_tasks, change_group, change_pool, post, set_tasks, set_viewed}
-use Rattle.hs_core.specs.declared.event.Event.{Event}
-use Rattle.hs_core.specs.declared.task.Task.{Task}
-use Rattle.hs_core.specs.Effects.{commit}
-use Rattle.hs_core.specs.Failing.{commit_rest, go_down, leave}
-use Rattle.hs_core.specs.Joining.{begin_joining, joining_peers, start}
-use Rattle.hs_core.specs.Looking.{catalogue_of, group_of, home, lead_of, shape_of, status_of}
-use Rattle.hs_core.specs.Operating.{propose_entry}
-use Rattle.hs_core.specs.State.{Core}
-use Rattle.hs_core.specs.Step.{end_event, keep_entries, line_of, refuse_entries}
-use Rattle.hs_core.specs.Views.{begin_view, change_view}
+use Rattle.hs_core_words.specs.Changing.{add_entry_tasks, change_group, change_pool, post, set_tasks, set_viewed}
+use Rattle.hs_core_words.specs.declared.event.Event.{Event}
+use Rattle.hs_core_words.specs.declared.task.Task.{Task}
+use Rattle.hs_core_words.specs.Effects.{commit}
+use Rattle.hs_core_words.specs.Failing.{commit_rest, go_down, leave}
+use Rattle.hs_core_words.specs.Joining.{begin_joining, joining_peers, start}
+use Rattle.hs_core_words.specs.Looking.{catalogue_of, group_of, home, lead_of, shape_of, status_of}
+use Rattle.hs_core_words.specs.Operating.{propose_entry}
+use Rattle.hs_core_words.specs.State.{Core}
+use Rattle.hs_core_words.specs.Step.{end_event, keep_entries, line_of, refuse_entries}
+use Rattle.hs_core_words.specs.Views.{begin_view, change_view}
 use Rattle.hs_effects.proofs.OrderlyLemmas.{Alike, group_alike}
 use Rattle.hs_entry.specs.declared.entry.Entry.{Entry}
 use Rattle.hs_events.specs.Alone.{AreAlone, face, is_round}

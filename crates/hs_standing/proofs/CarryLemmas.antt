@@ -4,11 +4,11 @@ use Rattle.std.specs.Map.{values_of}
 use Rattle.hs_awaiting.specs.declared.wait.Wait.TheVariants as wait
 use Rattle.hs_awaiting.specs.declared.waiting.Waiting.{Waiting}
 use Rattle.hs_awaiting.specs.Words.{change_with}
-use Rattle.hs_core.specs.Changing.{add_entry_tasks, change_group, post}
-use Rattle.hs_core.specs.Looking.{group_of, lead_of, operation_of}
-use Rattle.hs_core.specs.Operating.{add_read, carry_out, go_on_with, propose_entry, take_step, wait_for}
-use Rattle.hs_core.specs.Seeing.{view_for}
-use Rattle.hs_core.specs.State.{Core}
+use Rattle.hs_core_words.specs.Changing.{add_entry_tasks, change_group, post}
+use Rattle.hs_core_words.specs.Looking.{group_of, lead_of, operation_of}
+use Rattle.hs_core_words.specs.Operating.{add_read, carry_out, go_on_with, propose_entry, take_step, wait_for}
+use Rattle.hs_core_words.specs.Seeing.{view_for}
+use Rattle.hs_core_words.specs.State.{Core}
 use Rattle.hs_effects.specs.Logged.{IsCalled, IsEntryOf, IsOrderly}
 use Rattle.hs_effects.proofs.GroupLemmas.{at_end, group_changed}
 use Rattle.hs_effects.proofs.StepLemmas.{AsksWith}

@@ -6,10 +6,10 @@ use Rattle.std.specs.Ordering.{nat_cmp}
 use Rattle.hs_answered.specs.Telling.{Judging}
 use Rattle.hs_awaiting.specs.declared.waiting.Waiting.{Waiting}
 use Rattle.hs_awaiting.specs.Words.{change_with}
-use Rattle.hs_core.specs.Looking.{operation_of}
-use Rattle.hs_core.specs.Operating.{go_on_with, take_step}
-use Rattle.hs_core.specs.Seeing.{pointers_for, view_for}
-use Rattle.hs_core.specs.State.{Core}
+use Rattle.hs_core_words.specs.Looking.{operation_of}
+use Rattle.hs_core_words.specs.Operating.{go_on_with, take_step}
+use Rattle.hs_core_words.specs.Seeing.{pointers_for, view_for}
+use Rattle.hs_core_words.specs.State.{Core}
 use Rattle.hs_effects.proofs.LookLemmas.{found_set, gone, number_exact, one_or_other, remove_other, set_other}
 use Rattle.hs_effects.proofs.OrderlyLemmas.{session_in}
 use Rattle.hs_effects.proofs.SeatLemmas.{seats_other}

@@ -11,13 +11,13 @@ use Rattle.hs_standing.proofs.IdleLemmas.{is_idle}
 use Rattle.hs_standing.proofs.AlongRecordLemmas.{AddsRecords, applied_adds}
 use Rattle.hs_awaiting.specs.declared.waiting.Waiting.{Waiting}
 use Rattle.hs_awaiting.specs.Words.{change_if, change_with, each, times}
-use Rattle.hs_core.specs.Changing.{set_viewed}
-use Rattle.hs_core.specs.Effects.{after_entry, commit, commit_next, is_for_view, take_effect, wakes}
-use Rattle.hs_core.specs.Entering.{is_enter_due, propose_due}
-use Rattle.hs_core.specs.Looking.{catalogue_of, front_of, group_of, shape_of}
-use Rattle.hs_core.specs.Operating.{lines_where, propose_entry, resume, resume_where}
-use Rattle.hs_core.specs.Pending.{named}
-use Rattle.hs_core.specs.State.{Core}
+use Rattle.hs_core_words.specs.Changing.{set_viewed}
+use Rattle.hs_core_words.specs.Effects.{after_entry, commit, commit_next, is_for_view, take_effect, wakes}
+use Rattle.hs_core_words.specs.Entering.{is_enter_due, propose_due}
+use Rattle.hs_core_words.specs.Looking.{catalogue_of, front_of, group_of, shape_of}
+use Rattle.hs_core_words.specs.Operating.{lines_where, propose_entry, resume, resume_where}
+use Rattle.hs_core_words.specs.Pending.{named}
+use Rattle.hs_core_words.specs.State.{Core}
 use Rattle.hs_effects.specs.Logged.{AreOnce}
 use Rattle.hs_effects.specs.Taking.{done_by, taken}
 use Rattle.hs_effects.proofs.EffectLemmas.{taken_here, view_idle, wakes_idle}

@@ -4,9 +4,9 @@ use Rattle.std.proofs.lemmas.Bool.{and_from, and_parts, cases_lt, eq-eqb, eqb-tr
 use Rattle.std.proofs.lemmas.Grind.{common_steps}
 use Rattle.std.specs.List.{list_any}
 use Rattle.std.specs.Prelude.{Contains}
-use Rattle.hs_core.specs.Entering.{has_begun, is_enter_due}
-use Rattle.hs_core.specs.Looking.{catalogue_of, group_of, shape_of}
-use Rattle.hs_core.specs.State.{Core}
+use Rattle.hs_core_words.specs.Entering.{has_begun, is_enter_due}
+use Rattle.hs_core_words.specs.Looking.{catalogue_of, group_of, shape_of}
+use Rattle.hs_core_words.specs.State.{Core}
 use Rattle.hs_deletion.specs.Following.{IsSent}
 use Rattle.hs_deletion.specs.Machine.{Layout}
 use Rattle.hs_deletion.proofs.ClockLemmas.{epoch_of_sent}

@@ -5,11 +5,11 @@ use Rattle.std.specs.Option.{option_map_or}
 use Rattle.hs_awaiting.specs.declared.wait.Wait.TheVariants as wait
 use Rattle.hs_awaiting.specs.declared.waiting.Waiting.{Waiting}
 use Rattle.hs_awaiting.specs.Words.{change_with}
-use Rattle.hs_core.specs.Changing.{add_entry_tasks, add_operation, change_group, post, put_operation}
-use Rattle.hs_core.specs.Looking.{group_of, lead_of, operation_of, shape_of}
-use Rattle.hs_core.specs.Operating.{add_read, begin_line, busy_line, go_on_with, propose_entry, take_step, wait_for}
-use Rattle.hs_core.specs.Seeing.{view_for}
-use Rattle.hs_core.specs.State.{Core}
+use Rattle.hs_core_words.specs.Changing.{add_entry_tasks, add_operation, change_group, post, put_operation}
+use Rattle.hs_core_words.specs.Looking.{group_of, lead_of, operation_of, shape_of}
+use Rattle.hs_core_words.specs.Operating.{add_read, begin_line, busy_line, go_on_with, propose_entry, take_step, wait_for}
+use Rattle.hs_core_words.specs.Seeing.{view_for}
+use Rattle.hs_core_words.specs.State.{Core}
 use Rattle.hs_desk.specs.declared.what.What.{What}
 use Rattle.hs_effects.proofs.GroupLemmas.{IsTaken, at_end, at_front, group_changed, taken_or_same}
 use Rattle.hs_effects.proofs.StepLemmas.{head_none, not_when, rest_none}

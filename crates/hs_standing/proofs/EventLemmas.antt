@@ -4,10 +4,10 @@ use Rattle.std.proofs.lemmas.List.{take-append-le}
 use Rattle.std.proofs.lemmas.List.Elements.{All-from_recursion, recursion_from_All}
 use Rattle.std.specs.Prelude.{AllPairs}
 use Rattle.hs_standing.specs.Walks.{HasRecordRoom}
-use Rattle.hs_core.specs.declared.event.Event.{Event}
-use Rattle.hs_core.specs.Looking.{front_of, shape_of}
-use Rattle.hs_core.specs.State.{Core}
-use Rattle.hs_core.specs.Step.{step}
+use Rattle.hs_core_words.specs.declared.event.Event.{Event}
+use Rattle.hs_core_words.specs.Looking.{front_of, shape_of}
+use Rattle.hs_core_words.specs.State.{Core}
+use Rattle.hs_core_words.specs.Step.{step}
 use Rattle.hs_events.specs.Sane.{IsSane}
 use Rattle.hs_events.specs.Whole.{Whole, reach, step_whole}
 use Rattle.hs_fold.specs.Lawful.{Deed}

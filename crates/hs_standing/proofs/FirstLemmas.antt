@@ -6,12 +6,12 @@ use Rattle.hs_standing.specs.Changes.{IsBeside}
 use Rattle.hs_awaiting.specs.declared.waiting.Waiting.{Waiting}
 use Rattle.hs_awaiting.specs.Views.{restarted}
 use Rattle.hs_awaiting.specs.Words.{change_if, change_with, each}
-use Rattle.hs_core.specs.Changing.{add_entry_tasks, change_group, note, post, set_viewed}
-use Rattle.hs_core.specs.Looking.{group_of, lead_of, shape_of, status_of}
-use Rattle.hs_core.specs.Opening.{Taken, begin_views, new_core, note_down, note_if_down, open_core}
-use Rattle.hs_core.specs.Operating.{propose_entry}
-use Rattle.hs_core.specs.State.{Core}
-use Rattle.hs_core.specs.Views.{begin_view, change_view, restart}
+use Rattle.hs_core_words.specs.Changing.{add_entry_tasks, change_group, note, post, set_viewed}
+use Rattle.hs_core_words.specs.Looking.{group_of, lead_of, shape_of, status_of}
+use Rattle.hs_core_words.specs.Opening.{Taken, begin_views, new_core, note_down, note_if_down, open_core}
+use Rattle.hs_core_words.specs.Operating.{propose_entry}
+use Rattle.hs_core_words.specs.State.{Core}
+use Rattle.hs_core_words.specs.Views.{begin_view, change_view, restart}
 use Rattle.hs_entry.specs.declared.entry.Entry.{Entry}
 use Rattle.hs_entry.specs.declared.entry.Entry.TheVariants as kind
 use Rattle.hs_journal.specs.declared.entry.Who.TheVariants as who

@@ -7,8 +7,8 @@ use Rattle.std.proofs.lemmas.List.FromFn.{length-enumerate_from}
 use Rattle.std.specs.List.{AllByRecursion, enumerate_from}
 use Rattle.std.specs.Option.{option_map, option_map_or}
 use Rattle.std.specs.Prelude.{nat_lt, slice_get}
-use Rattle.hs_core.specs.Looking.{front_of, group_of, shape_of}
-use Rattle.hs_core.specs.State.{Core}
+use Rattle.hs_core_words.specs.Looking.{front_of, group_of, shape_of}
+use Rattle.hs_core_words.specs.State.{Core}
 use Rattle.hs_effects.specs.Lawful.{MayFollow}
 use Rattle.hs_effects.specs.Taking.{next_deed, setting_of, taken}
 use Rattle.hs_entry.specs.declared.entry.Entry.{Entry}

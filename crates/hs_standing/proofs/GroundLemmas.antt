@@ -8,9 +8,9 @@ use Rattle.std.specs.Option.{option_map, option_map_or, option_or}
 use Rattle.std.specs.Prelude.{Contains, bytes_eq, is_some}
 use Rattle.hs_answered.specs.Standing.{IsFolded, store_with}
 use Rattle.hs_answered.proofs.ShownLemmas.{shown}
-use Rattle.hs_core.specs.Looking.{catalogue_of, front_of, shape_of}
-use Rattle.hs_core.specs.Seeing.{pointers_for, view_for}
-use Rattle.hs_core.specs.State.{Core}
+use Rattle.hs_core_words.specs.Looking.{catalogue_of, front_of, shape_of}
+use Rattle.hs_core_words.specs.Seeing.{pointers_for, view_for}
+use Rattle.hs_core_words.specs.State.{Core}
 use Rattle.hs_effects.specs.Answered.{HoldAddresses}
 use Rattle.hs_effects.specs.Logged.{HasBlock}
 use Rattle.hs_effects.proofs.FoldLemmas.{memory_at}

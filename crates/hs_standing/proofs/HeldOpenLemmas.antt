@@ -6,11 +6,11 @@ use Rattle.std.specs.Map.{lookup}
 use Rattle.std.specs.Ordering.{nat_cmp}
 use Rattle.hs_awaiting.specs.declared.waiting.Waiting.{Waiting}
 use Rattle.hs_awaiting.specs.Views.{restarted}
-use Rattle.hs_core.specs.Changing.{change_group, post, set_viewed}
-use Rattle.hs_core.specs.Looking.{group_of}
-use Rattle.hs_core.specs.Opening.{Taken, new_core}
-use Rattle.hs_core.specs.State.{Core}
-use Rattle.hs_core.specs.Views.{begin_view, restart}
+use Rattle.hs_core_words.specs.Changing.{change_group, post, set_viewed}
+use Rattle.hs_core_words.specs.Looking.{group_of}
+use Rattle.hs_core_words.specs.Opening.{Taken, new_core}
+use Rattle.hs_core_words.specs.State.{Core}
+use Rattle.hs_core_words.specs.Views.{begin_view, restart}
 use Rattle.hs_entry.specs.declared.entry.Entry.TheVariants as kind
 use Rattle.hs_fold.specs.Runs.Facts.{Catalogue as Folded}
 use Rattle.hs_standing.specs.Held.{AreAddressed, AreWritten, KeepsAddresses}

@@ -2,8 +2,8 @@
 use Rattle.std.proofs.Common.{◌≡◌, ◌∙◌, sym, ap, subst, ℕ, List, [], ◌∷◌, ◌++◌}
 use Rattle.hs_standing.specs.Changes.{told_at_once}
 use Rattle.hs_answered.specs.Standing.{IsFolded, forget_all}
-use Rattle.hs_core.specs.Looking.{shape_of}
-use Rattle.hs_core.specs.State.{Core}
+use Rattle.hs_core_words.specs.Looking.{shape_of}
+use Rattle.hs_core_words.specs.State.{Core}
 use Rattle.hs_effects.proofs.FoldLemmas.{quiet_folds, taken_folds}
 use Rattle.hs_effects.proofs.QuietLemmas.{Quiet}
 use Rattle.hs_effects.specs.Lawful.{AreOfHistory, IsLawful, MayFollow}

@@ -3,12 +3,12 @@ use Rattle.std.proofs.Common.{subst, ℕ, ◌+◌, ◌<◌, List, Option, refl}
 use Rattle.hs_standing.specs.Changes.{told_at_once}
 use Rattle.hs_standing.specs.Walks.{Walks}
 use Rattle.hs_awaiting.specs.declared.waiting.Waiting.{Waiting}
-use Rattle.hs_core.specs.Changing.{change_pool, note, refuse}
-use Rattle.hs_core.specs.Asking.{send_round}
-use Rattle.hs_core.specs.Looking.{catalogue_of}
-use Rattle.hs_core.specs.Operating.{begin_line, go_on_with, propose_entry, resume}
-use Rattle.hs_core.specs.Seeing.{pointers_for}
-use Rattle.hs_core.specs.State.{Core}
+use Rattle.hs_core_words.specs.Changing.{change_pool, note, refuse}
+use Rattle.hs_core_words.specs.Asking.{send_round}
+use Rattle.hs_core_words.specs.Looking.{catalogue_of}
+use Rattle.hs_core_words.specs.Operating.{begin_line, go_on_with, propose_entry, resume}
+use Rattle.hs_core_words.specs.Seeing.{pointers_for}
+use Rattle.hs_core_words.specs.State.{Core}
 use Rattle.hs_effects.specs.Lawful.{MayFollow}
 use Rattle.hs_effects.specs.Taking.{done_by, folds_behind, next_deed, taken}
 use Rattle.hs_entry.specs.declared.entry.Entry.{Entry}

@@ -4,11 +4,11 @@ use Rattle.hs_answered.specs.Asked.{HasBytes, IsAsked, busy_with, first_step}
 use Rattle.hs_answered.specs.Judged.{IsJudged}
 use Rattle.hs_answered.specs.Standing.{IsAddressed, IsFolded, store_with}
 use Rattle.hs_awaiting.specs.declared.waiting.Waiting.{Waiting}
-use Rattle.hs_core.specs.Effects.{take_effect}
-use Rattle.hs_core.specs.Looking.{catalogue_of, group_of, operation_of, shape_of}
-use Rattle.hs_core.specs.Operating.{answer, begin_line, take_step}
-use Rattle.hs_core.specs.Seeing.{pointers_for, view_for}
-use Rattle.hs_core.specs.State.{Core}
+use Rattle.hs_core_words.specs.Effects.{take_effect}
+use Rattle.hs_core_words.specs.Looking.{catalogue_of, group_of, operation_of, shape_of}
+use Rattle.hs_core_words.specs.Operating.{answer, begin_line, take_step}
+use Rattle.hs_core_words.specs.Seeing.{pointers_for, view_for}
+use Rattle.hs_core_words.specs.State.{Core}
 use Rattle.hs_desk.specs.declared.what.What.TheVariants as what
 use Rattle.hs_effects.specs.Answered.{HasAnswer, HoldAddresses, IsAnsweredBy, IsWritten, heard}
 use Rattle.hs_effects.specs.Lawful.{IsLawful, MayFollow}

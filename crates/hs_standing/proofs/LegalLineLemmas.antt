@@ -12,11 +12,11 @@ use Rattle.hs_answered.specs.Standing.{IsAddressed, IsFolded, store_with}
 use Rattle.hs_answered.specs.Telling.{Judging, Tells}
 use Rattle.hs_awaiting.specs.declared.wait.Wait.TheVariants as wait
 use Rattle.hs_awaiting.specs.declared.waiting.Waiting.{Waiting}
-use Rattle.hs_core.specs.Changing.{add_operation}
-use Rattle.hs_core.specs.Looking.{operation_of, shape_of}
-use Rattle.hs_core.specs.Operating.{begin_line, busy_line, take_step}
-use Rattle.hs_core.specs.Seeing.{pointers_for, view_for}
-use Rattle.hs_core.specs.State.{Core}
+use Rattle.hs_core_words.specs.Changing.{add_operation}
+use Rattle.hs_core_words.specs.Looking.{operation_of, shape_of}
+use Rattle.hs_core_words.specs.Operating.{begin_line, busy_line, take_step}
+use Rattle.hs_core_words.specs.Seeing.{pointers_for, view_for}
+use Rattle.hs_core_words.specs.State.{Core}
 use Rattle.hs_effects.proofs.BeginLemmas.{added, busy_by, busy_refused, unanswered_alone}
 use Rattle.hs_effects.proofs.LookLemmas.{found_insert, gone, insert_other, number_exact, once_insert, one_or_other, remove_other}
 use Rattle.hs_effects.proofs.OrderlyLemmas.{session_in}

@@ -10,11 +10,11 @@ use Rattle.hs_answered.specs.Standing.{store_with}
 use Rattle.hs_answered.specs.Telling.{Judging}
 use Rattle.hs_awaiting.specs.declared.waiting.Waiting.{Waiting}
 use Rattle.hs_awaiting.specs.Views.{restarted}
-use Rattle.hs_core.specs.Changing.{change_group, post, set_viewed}
-use Rattle.hs_core.specs.Looking.{group_of, operation_of, shape_of}
-use Rattle.hs_core.specs.Opening.{Taken, new_core, open_core}
-use Rattle.hs_core.specs.State.{Core}
-use Rattle.hs_core.specs.Views.{begin_view, restart}
+use Rattle.hs_core_words.specs.Changing.{change_group, post, set_viewed}
+use Rattle.hs_core_words.specs.Looking.{group_of, operation_of, shape_of}
+use Rattle.hs_core_words.specs.Opening.{Taken, new_core, open_core}
+use Rattle.hs_core_words.specs.State.{Core}
+use Rattle.hs_core_words.specs.Views.{begin_view, restart}
 use Rattle.hs_effects.proofs.EventLemmas.{new_orderly, none_wait}
 use Rattle.hs_effects.proofs.QuietLemmas.{Quiet, proposed_quiet}
 use Rattle.hs_effects.proofs.SweepLemmas.{ByViews}

@@ -4,8 +4,8 @@ use Rattle.std.proofs.lemmas.Bool.{cases_lt}
 use Rattle.std.proofs.lemmas.Grind.{common_steps}
 use Rattle.std.specs.Prelude.{slice_index_or}
 use Rattle.hs_answered.specs.Standing.{IsFolded, forget_all}
-use Rattle.hs_core.specs.Looking.{catalogue_of, shape_of}
-use Rattle.hs_core.specs.State.{Core}
+use Rattle.hs_core_words.specs.Looking.{catalogue_of, shape_of}
+use Rattle.hs_core_words.specs.State.{Core}
 use Rattle.hs_effects.proofs.FoldLemmas.{memory_at}
 use Rattle.hs_entry.specs.declared.entry.Entry.TheVariants as kind
 use Rattle.hs_fold.specs.Runs.Facts.{Catalogue as Folded, empty_catalogue as empty_fold}

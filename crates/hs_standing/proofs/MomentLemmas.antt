@@ -6,10 +6,10 @@ use Rattle.std.specs.Prelude.{Contains}
 use Rattle.hs_standing.proofs.AlongWalkLemmas.{walks_step}
 use Rattle.hs_standing.specs.Walks.{MayEvent}
 use Rattle.hs_awaiting.specs.declared.waiting.Waiting.{Waiting}
-use Rattle.hs_core.specs.declared.event.Event.{Event}
-use Rattle.hs_core.specs.Looking.{status_of}
-use Rattle.hs_core.specs.State.{Core}
-use Rattle.hs_core.specs.Step.{step}
+use Rattle.hs_core_words.specs.declared.event.Event.{Event}
+use Rattle.hs_core_words.specs.Looking.{status_of}
+use Rattle.hs_core_words.specs.State.{Core}
+use Rattle.hs_core_words.specs.Step.{step}
 use Rattle.hs_desk.specs.declared.fault.CoreFault.{CoreFault}
 use Rattle.hs_events.specs.Course.{event_items, happened, is_refused, items_of, steps}
 use Rattle.hs_events.specs.Due.{Events}

@@ -8,12 +8,12 @@ use Rattle.hs_standing.specs.Changes.{tells_at_once}
 use Rattle.hs_awaiting.specs.declared.wait.Wait.TheVariants as wait
 use Rattle.hs_awaiting.specs.declared.waiting.Waiting.{Waiting}
 use Rattle.hs_awaiting.specs.Words.{change_if, change_with}
-use Rattle.hs_core.specs.Changing.{add_entry_tasks, change_group, note, post, put_operation}
-use Rattle.hs_core.specs.Effects.{note_enter, note_sweep, tell_enter, tell_operation}
-use Rattle.hs_core.specs.Looking.{catalogue_of, group_of, lead_of, operation_of}
-use Rattle.hs_core.specs.Operating.{add_read, go_on_with, propose_entry, take_step, what_holds}
-use Rattle.hs_core.specs.Seeing.{view_for}
-use Rattle.hs_core.specs.State.{Core}
+use Rattle.hs_core_words.specs.Changing.{add_entry_tasks, change_group, note, post, put_operation}
+use Rattle.hs_core_words.specs.Effects.{note_enter, note_sweep, tell_enter, tell_operation}
+use Rattle.hs_core_words.specs.Looking.{catalogue_of, group_of, lead_of, operation_of}
+use Rattle.hs_core_words.specs.Operating.{add_read, go_on_with, propose_entry, take_step, what_holds}
+use Rattle.hs_core_words.specs.Seeing.{view_for}
+use Rattle.hs_core_words.specs.State.{Core}
 use Rattle.hs_desk.specs.declared.what.What.{What}
 use Rattle.hs_desk.specs.declared.what.What.TheVariants as what
 use Rattle.hs_effects.proofs.QuietLemmas.{Quiet, going_quiet}

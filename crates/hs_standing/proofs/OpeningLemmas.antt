@@ -5,9 +5,9 @@ use Rattle.std.proofs.lemmas.List.Elements.{All-from_recursion, recursion_from_A
 use Rattle.std.proofs.lemmas.List.FromFn.{get_or-map-range_with_len, length-enumerate_from}
 use Rattle.std.specs.List.{AllByRecursion, enumerate_from, range_with_len}
 use Rattle.std.specs.Prelude.{AllPairs, fold, if◌then◌else◌, slice_index, slice_index_or}
-use Rattle.hs_core.specs.Looking.{front_of, group_of, home, shape_of}
-use Rattle.hs_core.specs.Opening.{Taken, first_view, new_core, open_core, taken_group}
-use Rattle.hs_core.specs.State.{Core}
+use Rattle.hs_core_words.specs.Looking.{front_of, group_of, home, shape_of}
+use Rattle.hs_core_words.specs.Opening.{Taken, first_view, new_core, open_core, taken_group}
+use Rattle.hs_core_words.specs.State.{Core}
 use Rattle.hs_entry.specs.declared.entry.Entry.{Entry}
 use Rattle.hs_entry.specs.declared.entry.Entry.TheVariants as kind
 use Rattle.hs_entry.specs.declared.rank.Rank.{Rank}

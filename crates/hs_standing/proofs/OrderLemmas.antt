@@ -5,13 +5,13 @@ use Rattle.hs_standing.specs.Changes.{IsBeside, IsIdle, tells_at_once, told_at_o
 use Rattle.hs_awaiting.specs.declared.wait.Wait.TheVariants as wait
 use Rattle.hs_awaiting.specs.declared.waiting.Waiting.{Waiting}
 use Rattle.hs_awaiting.specs.Words.{change_with}
-use Rattle.hs_core.specs.Asking.{send_round}
-use Rattle.hs_core.specs.Changing.{change_group, change_pool, note, post, refuse}
-use Rattle.hs_core.specs.Effects.{note_sweep, round_messages}
-use Rattle.hs_core.specs.Looking.{catalogue_of, front_of, group_of, operation_of, shape_of}
-use Rattle.hs_core.specs.Operating.{begin_line, go_on_with, propose_entry, resume}
-use Rattle.hs_core.specs.Seeing.{pointers_for}
-use Rattle.hs_core.specs.State.{Core}
+use Rattle.hs_core_words.specs.Asking.{send_round}
+use Rattle.hs_core_words.specs.Changing.{change_group, change_pool, note, post, refuse}
+use Rattle.hs_core_words.specs.Effects.{note_sweep, round_messages}
+use Rattle.hs_core_words.specs.Looking.{catalogue_of, front_of, group_of, operation_of, shape_of}
+use Rattle.hs_core_words.specs.Operating.{begin_line, go_on_with, propose_entry, resume}
+use Rattle.hs_core_words.specs.Seeing.{pointers_for}
+use Rattle.hs_core_words.specs.State.{Core}
 use Rattle.hs_effects.proofs.BeginLemmas.{begun_orderly}
 use Rattle.hs_effects.proofs.EffectLemmas.{enter_orderly, sweep_alike, taken_free, taken_room, told_orderly}
 use Rattle.hs_effects.proofs.GoingLemmas.{going_orderly, idle_free}

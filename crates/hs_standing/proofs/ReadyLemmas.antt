@@ -5,9 +5,9 @@ use Rattle.hs_answered.specs.Standing.{store_with}
 use Rattle.hs_answered.specs.Telling.{Judging, Tells}
 use Rattle.hs_standing.proofs.AddressedLemmas.{AllAddressed}
 use Rattle.hs_standing.specs.Answered.{AreAnswers, IsAskedAlong, IsReady, steps_whole}
-use Rattle.hs_core.specs.declared.event.Event.{Event}
-use Rattle.hs_core.specs.State.{Core}
-use Rattle.hs_core.specs.Step.{step}
+use Rattle.hs_core_words.specs.declared.event.Event.{Event}
+use Rattle.hs_core_words.specs.State.{Core}
+use Rattle.hs_core_words.specs.Step.{step}
 use Rattle.hs_desk.specs.declared.fault.CoreFault.{CoreFault}
 use Rattle.hs_effects.specs.Logged.{MayBegin, MayBeginAll}
 use Rattle.hs_events.specs.Course.{steps}

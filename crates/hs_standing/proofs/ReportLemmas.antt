@@ -9,15 +9,15 @@ use Rattle.hs_awaiting.specs.declared.wait.Wait.{Wait}
 use Rattle.hs_awaiting.specs.declared.wait.Wait.TheVariants as wait
 use Rattle.hs_awaiting.specs.declared.waiting.Waiting.{Waiting}
 use Rattle.hs_awaiting.specs.Words.{change_if, change_with, ◌▸◌}
-use Rattle.hs_core.specs.Changing.{change_group, note, post, set_tasks}
-use Rattle.hs_core.specs.declared.task.Task.{Task}
-use Rattle.hs_core.specs.Effects.{commit}
-use Rattle.hs_core.specs.Failing.{fail_disk, go_down}
-use Rattle.hs_core.specs.Looking.{catalogue_of, first_task, front_of, group_of, operation_of, tasks_of}
-use Rattle.hs_core.specs.Operating.{go_on_with}
-use Rattle.hs_core.specs.Reporting.{is_reading, on_report, take_report, take_sealed, tell_bytes}
-use Rattle.hs_core.specs.Seeing.{pointers_for}
-use Rattle.hs_core.specs.State.{Core}
+use Rattle.hs_core_words.specs.Changing.{change_group, note, post, set_tasks}
+use Rattle.hs_core_words.specs.declared.task.Task.{Task}
+use Rattle.hs_core_words.specs.Effects.{commit}
+use Rattle.hs_core_words.specs.Failing.{fail_disk, go_down}
+use Rattle.hs_core_words.specs.Looking.{catalogue_of, first_task, front_of, group_of, operation_of, tasks_of}
+use Rattle.hs_core_words.specs.Operating.{go_on_with}
+use Rattle.hs_core_words.specs.Reporting.{is_reading, on_report, take_report, take_sealed, tell_bytes}
+use Rattle.hs_core_words.specs.Seeing.{pointers_for}
+use Rattle.hs_core_words.specs.State.{Core}
 use Rattle.hs_desk.specs.Answers.{answers, is_read_of}
 use Rattle.hs_desk.specs.declared.done.Done.{Done}
 use Rattle.hs_desk.specs.declared.done.Done.TheVariants as done

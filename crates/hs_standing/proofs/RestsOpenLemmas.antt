@@ -2,8 +2,8 @@
 use Rattle.std.proofs.Common.{◌≡◌, ◌≢◌, ◌⊎◌, ◌∙◌, ap, inl, inr, ℕ, ◌+◌, ◌<◌, ◌≤◌, List, [], ◌∷◌, length, Some, sym, arith, slice_index}
 use Rattle.std.proofs.lemmas.Bool.{cases_eq, cases_lt}
 use Rattle.std.proofs.lemmas.List.FromFn.{get_or-map-range_with_len}
-use Rattle.hs_core.specs.Looking.{front_of}
-use Rattle.hs_core.specs.Opening.{Taken, new_core, taken_group}
+use Rattle.hs_core_words.specs.Looking.{front_of}
+use Rattle.hs_core_words.specs.Opening.{Taken, new_core, taken_group}
 use Rattle.hs_fold.specs.Catalogue.{Shard}
 use Rattle.hs_fold.specs.Prefix.{GoOn, IsNumbered}
 use Rattle.hs_fold.specs.Runs.Catalogue.{apply, apply_all, catalogue_of}

@@ -2,8 +2,8 @@
 use Rattle.std.proofs.Common.{◌≡◌, ◌∙◌, sym, subst, List, [], length, Option, Some, None, refl}
 use Rattle.std.specs.Prelude.{Contains, IsSome}
 use Rattle.hs_answered.specs.Standing.{store_with}
-use Rattle.hs_core.specs.Opening.{new_core}
-use Rattle.hs_core.specs.State.{Core}
+use Rattle.hs_core_words.specs.Opening.{new_core}
+use Rattle.hs_core_words.specs.State.{Core}
 use Rattle.hs_effects.proofs.SweepLemmas.{ByViews}
 use Rattle.hs_events.specs.Course.{happened, items_of, steps}
 use Rattle.hs_events.specs.Due.{Events}

@@ -4,11 +4,11 @@ use Rattle.std.proofs.lemmas.Bool.{and_parts}
 use Rattle.std.proofs.lemmas.List.Elements.{All-weaker}
 use Rattle.std.specs.Map.{values_of}
 use Rattle.hs_answered.specs.Standing.{IsFolded}
-use Rattle.hs_core.specs.Changing.{change_group}
-use Rattle.hs_core.specs.Effects.{round_messages}
-use Rattle.hs_core.specs.Looking.{front_of, group_of, shape_of}
-use Rattle.hs_core.specs.Pending.{named}
-use Rattle.hs_core.specs.State.{Core}
+use Rattle.hs_core_words.specs.Changing.{change_group}
+use Rattle.hs_core_words.specs.Effects.{round_messages}
+use Rattle.hs_core_words.specs.Looking.{front_of, group_of, shape_of}
+use Rattle.hs_core_words.specs.Pending.{named}
+use Rattle.hs_core_words.specs.State.{Core}
 use Rattle.hs_effects.specs.Lawful.{IsLawful}
 use Rattle.hs_effects.specs.Taking.{done_by, next_deed, setting_of, taken}
 use Rattle.hs_effects.proofs.EffectLemmas.{taken_here}

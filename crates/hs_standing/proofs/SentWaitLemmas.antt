@@ -1,7 +1,7 @@
 -- Each Got that waits may come.
 use Rattle.std.proofs.Common.{◌≡◌, sym, subst, ℕ, ◌<◌, List, true, Some, slice_get, refl}
-use Rattle.hs_core.specs.Looking.{group_of}
-use Rattle.hs_core.specs.State.{Core}
+use Rattle.hs_core_words.specs.Looking.{group_of}
+use Rattle.hs_core_words.specs.State.{Core}
 use Rattle.hs_effects.specs.Lawful.{IsLawful}
 use Rattle.hs_effects.specs.Taking.{setting_of}
 use Rattle.hs_entry.specs.declared.entry.Entry.TheVariants as kind

@@ -2,12 +2,12 @@
 use Rattle.std.proofs.Common.{◌≡◌, ◌≢◌, ◌⊎◌, ◌∙◌, sym, ap, subst, inl, inr, ℕ, ◌+◌, ◌<◌, ◌≤◌, List, length, Some, arith}
 use Rattle.std.proofs.lemmas.Bool.{cases_eq}
 use Rattle.hs_standing.specs.Changes.{IsBeside, told_at_once}
-use Rattle.hs_core.specs.Asking.{send_round}
-use Rattle.hs_core.specs.Changing.{change_group, change_pool, note, refuse}
-use Rattle.hs_core.specs.Looking.{catalogue_of, front_of, group_of, shape_of}
-use Rattle.hs_core.specs.Operating.{begin_line, go_on_with, propose_entry}
-use Rattle.hs_core.specs.State.{Core}
-use Rattle.hs_core.specs.Views.{begin_view}
+use Rattle.hs_core_words.specs.Asking.{send_round}
+use Rattle.hs_core_words.specs.Changing.{change_group, change_pool, note, refuse}
+use Rattle.hs_core_words.specs.Looking.{catalogue_of, front_of, group_of, shape_of}
+use Rattle.hs_core_words.specs.Operating.{begin_line, go_on_with, propose_entry}
+use Rattle.hs_core_words.specs.State.{Core}
+use Rattle.hs_core_words.specs.Views.{begin_view}
 use Rattle.hs_effects.specs.Lawful.{IsLawful}
 use Rattle.hs_effects.specs.Taking.{done_by, folds_behind, next_deed, setting_of, taken}
 use Rattle.hs_effects.proofs.EffectLemmas.{taken_here}

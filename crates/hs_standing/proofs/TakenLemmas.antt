@@ -5,8 +5,8 @@ use Rattle.std.proofs.lemmas.List.FromFn.{get_or-map-range_with_len, length-enum
 use Rattle.std.specs.List.{AllByRecursion, enumerate_from, range_with_len}
 use Rattle.std.specs.Prelude.{All, slice_index}
 use Rattle.hs_answered.specs.Standing.{IsFolded, forget_all}
-use Rattle.hs_core.specs.Opening.{new_core}
-use Rattle.hs_core.specs.State.{Core}
+use Rattle.hs_core_words.specs.Opening.{new_core}
+use Rattle.hs_core_words.specs.State.{Core}
 use Rattle.hs_effects.specs.Lawful.{AreOfHistory}
 use Rattle.hs_entry.specs.declared.entry.Entry.{Entry}
 use Rattle.hs_entry.specs.Entries.{is_of_base, rank_of}

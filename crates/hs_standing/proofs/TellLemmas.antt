@@ -5,7 +5,7 @@ use Rattle.hs_answered.proofs.TellingLemmas.{tells_event, tells_join, tells_judg
 use Rattle.hs_answered.specs.Judged.{IsJudged, entry_of, judged_at}
 use Rattle.hs_answered.specs.Standing.{store_with}
 use Rattle.hs_answered.specs.Telling.{Judging, Tells}
-use Rattle.hs_core.specs.State.{Core}
+use Rattle.hs_core_words.specs.State.{Core}
 use Rattle.hs_effects.specs.Answered.{HasAnswer, IsAnsweredBy}
 use Rattle.hs_effects.specs.Telling.{HasHappened, done_entries, shard_entry}
 use Rattle.hs_effects.specs.Telling.{event_at as done_at}

@@ -3,7 +3,7 @@ use Rattle.std.proofs.Common.{◌≡◌, ◌∙◌, ap, subst, inl, inr, ℕ, �
 use Rattle.std.proofs.lemmas.Bool.{cases_eq}
 use Rattle.hs_answered.specs.Standing.{store_with}
 use Rattle.hs_answered.specs.Telling.{Judging, Tells, events_in}
-use Rattle.hs_core.specs.State.{Core}
+use Rattle.hs_core_words.specs.State.{Core}
 use Rattle.hs_effects.specs.Lawful.{IsLawful, MayFollow}
 use Rattle.hs_effects.specs.Taking.{folds_behind, next_deed, setting_of}
 use Rattle.hs_entry.specs.declared.entry.Entry.{Entry}

@@ -11,13 +11,13 @@ use Rattle.hs_awaiting.specs.declared.wait.Wait.{Wait}
 use Rattle.hs_awaiting.specs.declared.wait.Wait.TheVariants as wait
 use Rattle.hs_awaiting.specs.declared.waiting.Waiting.{Waiting}
 use Rattle.hs_awaiting.specs.Words.{change_if, change_with}
-use Rattle.hs_core.specs.Asking.{send_round}
-use Rattle.hs_core.specs.Changing.{add_entry_tasks, change_group, change_pool, note, post, put_operation, refuse}
-use Rattle.hs_core.specs.Effects.{note_enter, note_sweep, round_messages, tell_enter, tell_operation}
-use Rattle.hs_core.specs.Looking.{catalogue_of, front_of, group_of, lead_of, operation_of, shape_of}
-use Rattle.hs_core.specs.Operating.{add_read, answer, carry_out, go_on_with, propose_entry, resume, take_step, wait_for, what_holds}
-use Rattle.hs_core.specs.Seeing.{pointers_for, view_for}
-use Rattle.hs_core.specs.State.{Core}
+use Rattle.hs_core_words.specs.Asking.{send_round}
+use Rattle.hs_core_words.specs.Changing.{add_entry_tasks, change_group, change_pool, note, post, put_operation, refuse}
+use Rattle.hs_core_words.specs.Effects.{note_enter, note_sweep, round_messages, tell_enter, tell_operation}
+use Rattle.hs_core_words.specs.Looking.{catalogue_of, front_of, group_of, lead_of, operation_of, shape_of}
+use Rattle.hs_core_words.specs.Operating.{add_read, answer, carry_out, go_on_with, propose_entry, resume, take_step, wait_for, what_holds}
+use Rattle.hs_core_words.specs.Seeing.{pointers_for, view_for}
+use Rattle.hs_core_words.specs.State.{Core}
 use Rattle.hs_desk.specs.declared.what.What.{What}
 use Rattle.hs_desk.specs.declared.what.What.TheVariants as what
 use Rattle.hs_effects.specs.Logged.{IsOrderly, asked_by}

@@ -4,9 +4,9 @@ use Rattle.std.specs.Prelude.{◌≡◌, ℕ, ◌++◌, true, All, Contains}
 use Rattle.hs_awaiting.specs.declared.wait.Wait.{Wait}
 use Rattle.hs_awaiting.specs.declared.wait.Wait.TheVariants as wait
 use Rattle.hs_awaiting.specs.Words.{change_with}
-use Rattle.hs_core.specs.Effects.{note_sweep, tell_enter, tell_operation}
-use Rattle.hs_core.specs.Looking.{front_of, group_of, shape_of}
-use Rattle.hs_core.specs.State.{Core}
+use Rattle.hs_core_words.specs.Effects.{note_sweep, tell_enter, tell_operation}
+use Rattle.hs_core_words.specs.Looking.{front_of, group_of, shape_of}
+use Rattle.hs_core_words.specs.State.{Core}
 use Rattle.hs_effects.specs.Taking.{done_by, taken}
 use Rattle.hs_entry.specs.declared.entry.Entry.{Entry}
 use Rattle.hs_entry.specs.declared.entry.Entry.TheVariants as kind

@@ -3,8 +3,8 @@ use Rattle.std.specs.Prelude.{◌≡◌, ℕ, List, Some, None}
 use Rattle.hs_answered.specs.Standing.{IsAddressed, store_with}
 use Rattle.hs_answered.specs.Telling.{Judging}
 use Rattle.hs_awaiting.specs.declared.waiting.Waiting.{Waiting}
-use Rattle.hs_core.specs.Looking.{operation_of}
-use Rattle.hs_core.specs.State.{Core}
+use Rattle.hs_core_words.specs.Looking.{operation_of}
+use Rattle.hs_core_words.specs.State.{Core}
 use Rattle.hs_effects.specs.Logged.{IsNewLine}
 use Rattle.hs_fold.specs.Runs.Facts.{Catalogue as Folded}
 use Rattle.hs_journal.specs.Events.{addressed, client_op}

@@ -4,9 +4,9 @@ use Rattle.std.specs.Prelude.{◌≡◌, ℕ, List, Option, Some, length, slice_
 use Rattle.hs_answered.specs.Asked.{HasBytes}
 use Rattle.hs_answered.specs.Standing.{store_with}
 use Rattle.hs_awaiting.specs.declared.waiting.Waiting.{Waiting}
-use Rattle.hs_core.specs.Looking.{group_of, operation_of}
-use Rattle.hs_core.specs.Seeing.{view_for}
-use Rattle.hs_core.specs.State.{Core}
+use Rattle.hs_core_words.specs.Looking.{group_of, operation_of}
+use Rattle.hs_core_words.specs.Seeing.{view_for}
+use Rattle.hs_core_words.specs.State.{Core}
 use Rattle.hs_entry.specs.declared.entry.Entry.TheVariants as kind
 use Rattle.hs_fold.specs.Runs.Facts.{Catalogue as Folded, Facts as FoldedFacts}
 use Rattle.hs_fold.specs.Runs.Facts.{facts_at}

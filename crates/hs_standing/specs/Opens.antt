@@ -2,7 +2,7 @@
 use Rattle.std.specs.List.{AllByRecursion}
 use Rattle.std.specs.Prelude.{ℕ, List}
 use Rattle.hs_answered.specs.Telling.{Judging}
-use Rattle.hs_core.specs.Opening.{Taken, new_core}
+use Rattle.hs_core_words.specs.Opening.{Taken, new_core}
 use Rattle.hs_effects.specs.Lawful.{IsLawful}
 use Rattle.hs_fold.specs.Runs.Facts.{Catalogue as Folded}
 use Rattle.hs_standing.specs.Held.{KeepsAddresses}

@@ -1,8 +1,8 @@
 -- What waits in the lists of a core rests on what is there.
 use Rattle.std.specs.Prelude.{◌≡◌, ◌<◌, ◌≤◌, ℕ, List, Some, false, length, slice_get}
 use Rattle.hs_answered.specs.Standing.{store_with}
-use Rattle.hs_core.specs.Looking.{front_of, group_of}
-use Rattle.hs_core.specs.State.{Core}
+use Rattle.hs_core_words.specs.Looking.{front_of, group_of}
+use Rattle.hs_core_words.specs.State.{Core}
 use Rattle.hs_effects.specs.Answered.{HoldAddresses}
 use Rattle.hs_effects.specs.Lawful.{IsLawful}
 use Rattle.hs_effects.specs.Logged.{IsOrderly}

@@ -1,8 +1,8 @@
 -- A run over sound lists, from opening on.
 use Rattle.std.specs.List.{AllByRecursion}
 use Rattle.std.specs.Prelude.{◌≡◌, List}
-use Rattle.hs_core.specs.declared.event.Event.{Event}
-use Rattle.hs_core.specs.State.{Core}
+use Rattle.hs_core_words.specs.declared.event.Event.{Event}
+use Rattle.hs_core_words.specs.State.{Core}
 use Rattle.hs_events.specs.Found.{Found, opens_with}
 use Rattle.hs_events.specs.Whole.{Whole}
 use Rattle.hs_fold.specs.Runs.Facts.{Catalogue as Folded}

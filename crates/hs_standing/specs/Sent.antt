@@ -1,8 +1,8 @@
 -- Rounds that are under way, and Gots that wait: each was sent, and each of these would be taken.
 use Rattle.std.specs.Map.{values_of}
 use Rattle.std.specs.Prelude.{◌≡◌, ℕ, ◌<◌, ◌++◌, true, List, All, Some, slice_get}
-use Rattle.hs_core.specs.Looking.{group_of}
-use Rattle.hs_core.specs.State.{Core}
+use Rattle.hs_core_words.specs.Looking.{group_of}
+use Rattle.hs_core_words.specs.State.{Core}
 use Rattle.hs_entry.specs.declared.entry.Entry.{Entry}
 use Rattle.hs_entry.specs.declared.entry.Entry.TheVariants as kind
 use Rattle.hs_fold.specs.Lawful.{Deed}

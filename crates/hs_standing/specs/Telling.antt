@@ -2,7 +2,7 @@
 use Rattle.std.specs.Prelude.{◌++◌, List}
 use Rattle.hs_answered.specs.Standing.{store_with}
 use Rattle.hs_answered.specs.Telling.{Judging, Tells, events_in}
-use Rattle.hs_core.specs.State.{Core}
+use Rattle.hs_core_words.specs.State.{Core}
 use Rattle.hs_fold.specs.Runs.Facts.{Catalogue as Folded}
 use Rattle.hs_journal.specs.declared.entry.JournalEntry.{JournalEntry}
 use Rattle.hs_model.specs.Run.{run}

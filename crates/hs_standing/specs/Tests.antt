@@ -2,8 +2,8 @@
 use Rattle.std.specs.Prelude.{◌≡◌, ℕ, true, Bool, List, Option}
 use Rattle.hs_standing.specs.Walks.{MayEvent, Walks, WalksOpen}
 use Rattle.hs_awaiting.specs.declared.waiting.Waiting.{Waiting}
-use Rattle.hs_core.specs.declared.event.Event.{Event}
-use Rattle.hs_core.specs.State.{Core}
+use Rattle.hs_core_words.specs.declared.event.Event.{Event}
+use Rattle.hs_core_words.specs.State.{Core}
 use Rattle.hs_model.specs.declared.op.Op.{Op}
 
 -- of a core, of a client's line, of bytes that a report tells, of a line that is no client's

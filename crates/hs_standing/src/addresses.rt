@@ -3,12 +3,12 @@ ghost use Rattle.std.specs.Prelude.{◌≡◌, ℕ, List, Option, Some, slice_ge
 ghost use Rattle.std.specs.List.{AllByRecursion};
 ghost use Rattle.hs_standing.specs.Changes.{IsBeside, told_at_once};
 ghost use Rattle.hs_awaiting.specs.declared.waiting.Waiting.{Waiting};
-ghost use Rattle.hs_core.specs.Looking.{group_of};
-ghost use Rattle.hs_core.specs.Opening.{Taken, new_core};
-ghost use Rattle.hs_core.specs.Operating.{begin_line, go_on_with, propose_entry, resume};
-ghost use Rattle.hs_core.specs.Seeing.{pointers_for};
-ghost use Rattle.hs_core.specs.State.{Core};
-ghost use Rattle.hs_core.specs.Views.{begin_view};
+ghost use Rattle.hs_core_words.specs.Looking.{group_of};
+ghost use Rattle.hs_core_words.specs.Opening.{Taken, new_core};
+ghost use Rattle.hs_core_words.specs.Operating.{begin_line, go_on_with, propose_entry, resume};
+ghost use Rattle.hs_core_words.specs.Seeing.{pointers_for};
+ghost use Rattle.hs_core_words.specs.State.{Core};
+ghost use Rattle.hs_core_words.specs.Views.{begin_view};
 ghost use Rattle.hs_effects.specs.Answered.{HoldAddresses};
 ghost use Rattle.hs_effects.specs.Logged.{IsNewLine, IsOrderly};
 ghost use Rattle.hs_entry.specs.declared.entry.Entry.{Entry};

@@ -1,9 +1,9 @@
 //! Lines that were begun.
 ghost use Rattle.std.specs.List.{AllByRecursion};
 ghost use Rattle.std.specs.Prelude.{◌≡◌, ◌<◌, ℕ, Contains, None, false};
-ghost use Rattle.hs_core.specs.declared.event.Event.{Event};
-ghost use Rattle.hs_core.specs.State.{Core};
-ghost use Rattle.hs_core.specs.Step.{step};
+ghost use Rattle.hs_core_words.specs.declared.event.Event.{Event};
+ghost use Rattle.hs_core_words.specs.State.{Core};
+ghost use Rattle.hs_core_words.specs.Step.{step};
 ghost use Rattle.hs_events.specs.Course.{event_items, is_refused, items_of, steps};
 ghost use Rattle.hs_events.specs.Due.{Events};
 ghost use Rattle.hs_fold.specs.Shards.Images.{Stop};

@@ -1,6 +1,6 @@
 //! The events of lines may come.
 ghost use Rattle.std.specs.Prelude.{◌≡◌, ℕ, Bool, true, List, Option, None};
-ghost use Rattle.hs_core.specs.State.{Core};
+ghost use Rattle.hs_core_words.specs.State.{Core};
 ghost use Rattle.hs_events.specs.Commands.{AreOfLine, LineAt};
 ghost use Rattle.hs_events.specs.Course.{steps};
 ghost use Rattle.hs_events.specs.Due.{Events, MomentsRise, is_walk, next_due};

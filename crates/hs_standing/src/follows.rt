@@ -1,7 +1,7 @@
 //! What waits may come.
 ghost use Rattle.std.specs.Prelude.{◌≡◌, ◌<◌, ◌≤◌, ℕ, List, Some, length};
-ghost use Rattle.hs_core.specs.Looking.{catalogue_of, group_of, shape_of};
-ghost use Rattle.hs_core.specs.State.{Core};
+ghost use Rattle.hs_core_words.specs.Looking.{catalogue_of, group_of, shape_of};
+ghost use Rattle.hs_core_words.specs.State.{Core};
 ghost use Rattle.hs_effects.specs.Lawful.{MayFollow};
 ghost use Rattle.hs_effects.specs.Taking.{next_deed, setting_of, taken};
 ghost use Rattle.hs_entry.specs.declared.entry.Entry.{Entry};

@@ -1,6 +1,6 @@
 //! The lines of clients are new.
 ghost use Rattle.std.specs.Prelude.{◌≡◌, ℕ, ◌<◌, Bool, true, List, Option};
-ghost use Rattle.hs_core.specs.State.{Core};
+ghost use Rattle.hs_core_words.specs.State.{Core};
 ghost use Rattle.hs_effects.specs.Logged.{MayBeginAll};
 ghost use Rattle.hs_events.specs.Commands.{AreOfLine, LineAt};
 ghost use Rattle.hs_events.specs.Due.{Events, MomentsRise, is_walk, next_due};

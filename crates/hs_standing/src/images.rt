@@ -1,6 +1,6 @@
 //! Images that count.
 ghost use Rattle.std.specs.Prelude.{◌≡◌, ◌*◌, ◌<◌, IsSome, ℕ, List, length};
-ghost use Rattle.hs_core.specs.declared.event.Event.{Event};
+ghost use Rattle.hs_core_words.specs.declared.event.Event.{Event};
 ghost use Rattle.hs_events.specs.Taken.{taken_lists};
 ghost use Rattle.hs_events.specs.Whole.{Whole};
 ghost use Rattle.hs_fold.specs.Images.{image_at};

@@ -1,14 +1,14 @@
 //! What was sent stays so.
 ghost use Rattle.std.specs.Prelude.{◌≡◌, ◌<◌, ◌++◌, ℕ, List, [], ◌∷◌, Option, Some, true};
 ghost use Rattle.hs_standing.specs.Changes.{IsBeside, told_at_once};
-ghost use Rattle.hs_core.specs.Asking.{send_round};
-ghost use Rattle.hs_core.specs.Changing.{change_pool, note, refuse};
-ghost use Rattle.hs_core.specs.Delivering.{is_new_round};
-ghost use Rattle.hs_core.specs.Looking.{group_of, shape_of};
-ghost use Rattle.hs_core.specs.Opening.{Taken, new_core};
-ghost use Rattle.hs_core.specs.Operating.{begin_line, go_on_with, propose_entry, resume};
-ghost use Rattle.hs_core.specs.State.{Core};
-ghost use Rattle.hs_core.specs.Views.{begin_view};
+ghost use Rattle.hs_core_words.specs.Asking.{send_round};
+ghost use Rattle.hs_core_words.specs.Changing.{change_pool, note, refuse};
+ghost use Rattle.hs_core_words.specs.Delivering.{is_new_round};
+ghost use Rattle.hs_core_words.specs.Looking.{group_of, shape_of};
+ghost use Rattle.hs_core_words.specs.Opening.{Taken, new_core};
+ghost use Rattle.hs_core_words.specs.Operating.{begin_line, go_on_with, propose_entry, resume};
+ghost use Rattle.hs_core_words.specs.State.{Core};
+ghost use Rattle.hs_core_words.specs.Views.{begin_view};
 ghost use Rattle.hs_effects.specs.Lawful.{IsLawful};
 ghost use Rattle.hs_effects.specs.Logged.{IsCalled, IsOrderly};
 ghost use Rattle.hs_effects.specs.Taking.{next_deed, setting_of};

@@ -1,10 +1,10 @@
 //! What is present was stored by an entry that took effect.
 ghost use Rattle.std.specs.Prelude.{◌≡◌, ◌<◌, ◌≤◌, ℕ, List, Some, length, slice_index};
 ghost use Rattle.hs_standing.specs.Changes.{IsBeside, told_at_once};
-ghost use Rattle.hs_core.specs.Looking.{group_of, shape_of};
-ghost use Rattle.hs_core.specs.Opening.{Taken, new_core};
-ghost use Rattle.hs_core.specs.Operating.{begin_line, go_on_with, propose_entry};
-ghost use Rattle.hs_core.specs.State.{Core};
+ghost use Rattle.hs_core_words.specs.Looking.{group_of, shape_of};
+ghost use Rattle.hs_core_words.specs.Opening.{Taken, new_core};
+ghost use Rattle.hs_core_words.specs.Operating.{begin_line, go_on_with, propose_entry};
+ghost use Rattle.hs_core_words.specs.State.{Core};
 ghost use Rattle.hs_effects.specs.Lawful.{IsLawful};
 ghost use Rattle.hs_effects.specs.Taking.{folds_behind};
 ghost use Rattle.hs_entry.specs.declared.entry.Entry.{Entry};

@@ -3,11 +3,11 @@ ghost use Rattle.std.specs.Prelude.{◌≡◌, ◌≤◌, ℕ, List, [], Some, N
 ghost use Rattle.hs_standing.specs.Walks.{HasRecordRoom};
 ghost use Rattle.hs_answered.specs.Standing.{store_with};
 ghost use Rattle.hs_answered.specs.Telling.{Judging, Tells};
-ghost use Rattle.hs_core.specs.declared.event.Event.{Event};
-ghost use Rattle.hs_core.specs.Looking.{operation_of};
-ghost use Rattle.hs_core.specs.Opening.{Taken, open_core};
-ghost use Rattle.hs_core.specs.State.{Core};
-ghost use Rattle.hs_core.specs.Step.{step};
+ghost use Rattle.hs_core_words.specs.declared.event.Event.{Event};
+ghost use Rattle.hs_core_words.specs.Looking.{operation_of};
+ghost use Rattle.hs_core_words.specs.Opening.{Taken, open_core};
+ghost use Rattle.hs_core_words.specs.State.{Core};
+ghost use Rattle.hs_core_words.specs.Step.{step};
 ghost use Rattle.hs_effects.specs.Logged.{MayBegin};
 ghost use Rattle.hs_events.specs.Asked.{addressed};
 ghost use Rattle.hs_events.specs.Sane.{IsSane};

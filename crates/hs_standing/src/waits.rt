@@ -1,7 +1,7 @@
 //! What waits of rounds may come.
 ghost use Rattle.std.specs.Prelude.{◌≡◌, ℕ, List, Some, slice_get, true};
-ghost use Rattle.hs_core.specs.Looking.{group_of, shape_of};
-ghost use Rattle.hs_core.specs.State.{Core};
+ghost use Rattle.hs_core_words.specs.Looking.{group_of, shape_of};
+ghost use Rattle.hs_core_words.specs.State.{Core};
 ghost use Rattle.hs_effects.specs.Lawful.{IsLawful};
 ghost use Rattle.hs_effects.specs.Taking.{setting_of};
 ghost use Rattle.hs_entry.specs.declared.entry.Entry.TheVariants as kind;

@@ -2,9 +2,9 @@
 ghost use Rattle.std.specs.Prelude.{◌≡◌, ℕ, List, [], true};
 ghost use Rattle.hs_standing.specs.Tests.{AreKept, AreKeptOpen, IsGranted, Tests};
 ghost use Rattle.hs_standing.specs.Walks.{HasRecordRoom};
-ghost use Rattle.hs_core.specs.declared.event.Event.{Event};
-ghost use Rattle.hs_core.specs.Opening.{Taken, new_core, open_core};
-ghost use Rattle.hs_core.specs.Step.{step};
+ghost use Rattle.hs_core_words.specs.declared.event.Event.{Event};
+ghost use Rattle.hs_core_words.specs.Opening.{Taken, new_core, open_core};
+ghost use Rattle.hs_core_words.specs.Step.{step};
 ghost use Rattle.hs_events.specs.Sane.{IsSane};
 ghost use Rattle.hs_events.specs.Whole.{Whole};
 ghost use Rattle.hs_limits.specs.declared.limits.Limits.{Limits};

@@ -13,11 +13,11 @@ use Rattle.hs_answered.proofs.StepLemmas.{step_sees}
 use Rattle.hs_answered.specs.Asked.{busy_with, first_step}
 use Rattle.hs_awaiting.specs.declared.wait.Wait.TheVariants as wait
 use Rattle.hs_awaiting.specs.declared.waiting.Waiting.{Waiting}
-use Rattle.hs_core.specs.Changing.{add_operation, put_operation}
-use Rattle.hs_core.specs.Looking.{group_of, lead_of, shape_of}
-use Rattle.hs_core.specs.Operating.{add_read, answer, begin_line, busy_line, take_step, what_holds}
-use Rattle.hs_core.specs.Seeing.{view_for}
-use Rattle.hs_core.specs.State.{Core}
+use Rattle.hs_core_words.specs.Changing.{add_operation, put_operation}
+use Rattle.hs_core_words.specs.Looking.{group_of, lead_of, shape_of}
+use Rattle.hs_core_words.specs.Operating.{add_read, answer, begin_line, busy_line, take_step, what_holds}
+use Rattle.hs_core_words.specs.Seeing.{view_for}
+use Rattle.hs_core_words.specs.State.{Core}
 use Rattle.hs_journal.specs.declared.entry.JournalEntry.{JournalEntry}
 use Rattle.hs_journal.specs.declared.entry.Who.TheVariants as who
 use Rattle.hs_journal.specs.Events.{client_op}

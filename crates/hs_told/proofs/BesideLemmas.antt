@@ -1,15 +1,15 @@
 -- Changes beside what answers are made of.
 use Rattle.std.proofs.Common.{◌≡◌, ℕ, ◌+◌, Bool, true, false, List, [], ◌∷◌, Option, Some, None, refl, ◌∙◌}
 use Rattle.hs_awaiting.specs.Words.{change_if, change_with, each}
-use Rattle.hs_core.specs.Asking.{send_round, send_rounds}
-use Rattle.hs_core.specs.Changing.{add_entry_tasks, change_group, change_rejoin, post}
-use Rattle.hs_core.specs.Delivering.{take_copy}
-use Rattle.hs_core.specs.Effects.{round_messages}
-use Rattle.hs_core.specs.Entering.{is_enter_due, propose_due}
-use Rattle.hs_core.specs.Joining.{begin_joining, follow_lead, joining_peers}
-use Rattle.hs_core.specs.Looking.{catalogue_of, group_of, lead_of}
-use Rattle.hs_core.specs.Operating.{propose_entry}
-use Rattle.hs_core.specs.State.{Core}
+use Rattle.hs_core_words.specs.Asking.{send_round, send_rounds}
+use Rattle.hs_core_words.specs.Changing.{add_entry_tasks, change_group, change_rejoin, post}
+use Rattle.hs_core_words.specs.Delivering.{take_copy}
+use Rattle.hs_core_words.specs.Effects.{round_messages}
+use Rattle.hs_core_words.specs.Entering.{is_enter_due, propose_due}
+use Rattle.hs_core_words.specs.Joining.{begin_joining, follow_lead, joining_peers}
+use Rattle.hs_core_words.specs.Looking.{catalogue_of, group_of, lead_of}
+use Rattle.hs_core_words.specs.Operating.{propose_entry}
+use Rattle.hs_core_words.specs.State.{Core}
 use Rattle.hs_entry.specs.declared.entry.Entry.{Entry}
 use Rattle.hs_entry.specs.declared.entry.Entry.TheVariants as kind
 use Rattle.hs_rejoin.specs.Rejoin.{follow}

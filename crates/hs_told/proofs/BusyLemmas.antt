@@ -8,8 +8,8 @@ use Rattle.std.specs.Prelude.{bytes_eq, find}
 use Rattle.hs_answered.specs.Asked.{busy_with}
 use Rattle.hs_awaiting.specs.declared.waiting.Waiting.{Waiting}
 use Rattle.hs_awaiting.specs.Kinds.{is_of}
-use Rattle.hs_core.specs.Operating.{busy_line}
-use Rattle.hs_core.specs.State.{Core}
+use Rattle.hs_core_words.specs.Operating.{busy_line}
+use Rattle.hs_core_words.specs.State.{Core}
 use Rattle.hs_journal.specs.Order.{IsOpen, IsPrompt, session_of}
 use Rattle.hs_model.specs.declared.op.Op.{Op}
 use Rattle.hs_model.specs.declared.op.Op.TheVariants as op

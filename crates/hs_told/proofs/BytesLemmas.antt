@@ -5,15 +5,15 @@ use Rattle.std.specs.Prelude.{drop, if◌then◌else◌}
 use Rattle.hs_awaiting.specs.declared.wait.Wait.TheVariants as wait
 use Rattle.hs_awaiting.specs.declared.waiting.Waiting.{Waiting}
 use Rattle.hs_awaiting.specs.Words.{change_if, change_with}
-use Rattle.hs_core.specs.declared.event.Event.TheVariants as event
-use Rattle.hs_core.specs.declared.task.Task.{Task}
-use Rattle.hs_core.specs.Changing.{add_entry_tasks, change_group, post, put_operation, set_tasks}
-use Rattle.hs_core.specs.Looking.{first_task, group_of, lead_of, operation_of, tasks_of}
-use Rattle.hs_core.specs.Operating.{add_read, go_on_with, take_step}
-use Rattle.hs_core.specs.Reporting.{is_reading, on_report, take_report, tell_bytes}
-use Rattle.hs_core.specs.Seeing.{pointers_for, view_for}
-use Rattle.hs_core.specs.State.{Core}
-use Rattle.hs_core.specs.Step.{begin_event, end_event, keep_entries, refuse_entries, run_event, step}
+use Rattle.hs_core_words.specs.declared.event.Event.TheVariants as event
+use Rattle.hs_core_words.specs.declared.task.Task.{Task}
+use Rattle.hs_core_words.specs.Changing.{add_entry_tasks, change_group, post, put_operation, set_tasks}
+use Rattle.hs_core_words.specs.Looking.{first_task, group_of, lead_of, operation_of, tasks_of}
+use Rattle.hs_core_words.specs.Operating.{add_read, go_on_with, take_step}
+use Rattle.hs_core_words.specs.Reporting.{is_reading, on_report, take_report, tell_bytes}
+use Rattle.hs_core_words.specs.Seeing.{pointers_for, view_for}
+use Rattle.hs_core_words.specs.State.{Core}
+use Rattle.hs_core_words.specs.Step.{begin_event, end_event, keep_entries, refuse_entries, run_event, step}
 use Rattle.hs_desk.specs.Answers.{is_read_of}
 use Rattle.hs_desk.specs.declared.done.Done.TheVariants as done
 use Rattle.hs_limits.specs.declared.address.Address.{Address}

@@ -11,12 +11,12 @@ use Rattle.hs_answered.proofs.RefusalLemmas.{IsNotBusy}
 use Rattle.hs_awaiting.specs.declared.wait.Wait.TheVariants as wait
 use Rattle.hs_awaiting.specs.declared.waiting.Waiting.{Waiting}
 use Rattle.hs_awaiting.specs.Views.{restarted}
-use Rattle.hs_core.specs.Changing.{note, put_operation}
-use Rattle.hs_core.specs.Looking.{operation_of}
-use Rattle.hs_core.specs.Operating.{answer}
-use Rattle.hs_core.specs.Seeing.{pointers_for, view_for}
-use Rattle.hs_core.specs.State.{Core}
-use Rattle.hs_core.specs.Views.{restart_at}
+use Rattle.hs_core_words.specs.Changing.{note, put_operation}
+use Rattle.hs_core_words.specs.Looking.{operation_of}
+use Rattle.hs_core_words.specs.Operating.{answer}
+use Rattle.hs_core_words.specs.Seeing.{pointers_for, view_for}
+use Rattle.hs_core_words.specs.State.{Core}
+use Rattle.hs_core_words.specs.Views.{restart_at}
 use Rattle.hs_journal.specs.declared.entry.JournalEntry.{JournalEntry}
 use Rattle.hs_journal.specs.declared.entry.Who.{Who}
 use Rattle.hs_journal.specs.declared.entry.Who.TheVariants as who

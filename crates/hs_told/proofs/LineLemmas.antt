@@ -13,14 +13,14 @@ use Rattle.hs_answered.specs.Telling.{Judging, Tells}
 use Rattle.hs_awaiting.specs.declared.wait.Wait.TheVariants as wait
 use Rattle.hs_awaiting.specs.declared.waiting.Waiting.{Waiting}
 use Rattle.hs_awaiting.specs.Words.{change_if, change_with}
-use Rattle.hs_core.specs.declared.event.Event.TheVariants as event
-use Rattle.hs_core.specs.Changing.{add_entry_tasks, add_operation, change_group, change_pool, post, put_operation}
-use Rattle.hs_core.specs.Looking.{group_of, lead_of, shape_of}
-use Rattle.hs_core.specs.Operating.{add_read, begin_line, busy_line, take_step}
-use Rattle.hs_core.specs.Pending.{is_address, is_coming, is_crowded, stored}
-use Rattle.hs_core.specs.Seeing.{view_for}
-use Rattle.hs_core.specs.State.{Core}
-use Rattle.hs_core.specs.Step.{begin_event, end_event, keep_entries, refuse_entries, run_event, step}
+use Rattle.hs_core_words.specs.declared.event.Event.TheVariants as event
+use Rattle.hs_core_words.specs.Changing.{add_entry_tasks, add_operation, change_group, change_pool, post, put_operation}
+use Rattle.hs_core_words.specs.Looking.{group_of, lead_of, shape_of}
+use Rattle.hs_core_words.specs.Operating.{add_read, begin_line, busy_line, take_step}
+use Rattle.hs_core_words.specs.Pending.{is_address, is_coming, is_crowded, stored}
+use Rattle.hs_core_words.specs.Seeing.{view_for}
+use Rattle.hs_core_words.specs.State.{Core}
+use Rattle.hs_core_words.specs.Step.{begin_event, end_event, keep_entries, refuse_entries, run_event, step}
 use Rattle.hs_desk.specs.declared.fault.CoreFault.{CoreFault}
 use Rattle.hs_entry.specs.declared.entry.Entry.{Entry}
 use Rattle.hs_entry.specs.declared.entry.Entry.TheVariants as kind

@@ -6,15 +6,15 @@ use Rattle.std.proofs.lemmas.List.{append-nil, append_assoc}
 use Rattle.std.specs.Prelude.{if◌then◌else◌}
 use Rattle.hs_answered.proofs.RefusalLemmas.{IsNotBusy, IsOfKind}
 use Rattle.hs_awaiting.specs.Words.{change_if}
-use Rattle.hs_core.specs.declared.event.Event.{Event}
-use Rattle.hs_core.specs.declared.event.Event.TheVariants as event
-use Rattle.hs_core.specs.Asking.{deliver, lose, no_peer, not_down, not_up, nudge_good, send_again, unless_refused, with_message}
-use Rattle.hs_core.specs.Changing.{change_pool, refuse}
-use Rattle.hs_core.specs.Failing.{go_down}
-use Rattle.hs_core.specs.Joining.{start}
-use Rattle.hs_core.specs.Operating.{begin_line}
-use Rattle.hs_core.specs.State.{Core}
-use Rattle.hs_core.specs.Step.{begin_event, do_event, end_event, keep_entries, line_of, refuse_entries, run_event, step}
+use Rattle.hs_core_words.specs.declared.event.Event.{Event}
+use Rattle.hs_core_words.specs.declared.event.Event.TheVariants as event
+use Rattle.hs_core_words.specs.Asking.{deliver, lose, no_peer, not_down, not_up, nudge_good, send_again, unless_refused, with_message}
+use Rattle.hs_core_words.specs.Changing.{change_pool, refuse}
+use Rattle.hs_core_words.specs.Failing.{go_down}
+use Rattle.hs_core_words.specs.Joining.{start}
+use Rattle.hs_core_words.specs.Operating.{begin_line}
+use Rattle.hs_core_words.specs.State.{Core}
+use Rattle.hs_core_words.specs.Step.{begin_event, do_event, end_event, keep_entries, line_of, refuse_entries, run_event, step}
 use Rattle.hs_desk.specs.declared.fault.CoreFault.{CoreFault}
 use Rattle.hs_desk.specs.declared.fault.CoreFault.TheVariants as fault
 use Rattle.hs_journal.specs.declared.entry.JournalEntry.{JournalEntry}

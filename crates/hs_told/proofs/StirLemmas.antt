@@ -5,19 +5,19 @@ use Rattle.hs_answered.proofs.RefusalLemmas.{IsNotBusy}
 use Rattle.hs_awaiting.specs.declared.wait.Wait.TheVariants as wait
 use Rattle.hs_awaiting.specs.declared.waiting.Waiting.{Waiting}
 use Rattle.hs_awaiting.specs.Words.{change_if, change_with, each, times}
-use Rattle.hs_core.specs.Asking.{deliver, lose, nudge, nudge_good, send_rounds}
-use Rattle.hs_core.specs.Changing.{change_group, change_rejoin, note, post, put_operation, set_rejoin, set_status, set_tasks, set_viewed}
-use Rattle.hs_core.specs.Delivering.{handle, take_copy}
-use Rattle.hs_core.specs.Effects.{after_entry, commit, commit_next, is_for_view, note_enter, note_sweep, reach_view, take_effect, tell_enter, tell_operation}
-use Rattle.hs_core.specs.Entering.{propose_due}
-use Rattle.hs_core.specs.Failing.{commit_rest, fail_disk, go_down, leave}
-use Rattle.hs_core.specs.Joining.{begin_joining, follow_lead, join, join_if_level, joining_peers, start}
-use Rattle.hs_core.specs.Looking.{catalogue_of, first_task, front_of, group_of, home, lead_of, operation_of, status_of, tasks_of}
-use Rattle.hs_core.specs.Operating.{add_read, answer, go_on_with, lines_where, propose_entry, resume, resume_where, take_step, what_holds}
-use Rattle.hs_core.specs.Reporting.{is_reading, on_report, take_report, tell_bytes}
-use Rattle.hs_core.specs.Seeing.{pointers_for, view_for}
-use Rattle.hs_core.specs.State.{Core}
-use Rattle.hs_core.specs.Views.{begin_view, change_view, restart, restart_at}
+use Rattle.hs_core_words.specs.Asking.{deliver, lose, nudge, nudge_good, send_rounds}
+use Rattle.hs_core_words.specs.Changing.{change_group, change_rejoin, note, post, put_operation, set_rejoin, set_status, set_tasks, set_viewed}
+use Rattle.hs_core_words.specs.Delivering.{handle, take_copy}
+use Rattle.hs_core_words.specs.Effects.{after_entry, commit, commit_next, is_for_view, note_enter, note_sweep, reach_view, take_effect, tell_enter, tell_operation}
+use Rattle.hs_core_words.specs.Entering.{propose_due}
+use Rattle.hs_core_words.specs.Failing.{commit_rest, fail_disk, go_down, leave}
+use Rattle.hs_core_words.specs.Joining.{begin_joining, follow_lead, join, join_if_level, joining_peers, start}
+use Rattle.hs_core_words.specs.Looking.{catalogue_of, first_task, front_of, group_of, home, lead_of, operation_of, status_of, tasks_of}
+use Rattle.hs_core_words.specs.Operating.{add_read, answer, go_on_with, lines_where, propose_entry, resume, resume_where, take_step, what_holds}
+use Rattle.hs_core_words.specs.Reporting.{is_reading, on_report, take_report, tell_bytes}
+use Rattle.hs_core_words.specs.Seeing.{pointers_for, view_for}
+use Rattle.hs_core_words.specs.State.{Core}
+use Rattle.hs_core_words.specs.Views.{begin_view, change_view, restart, restart_at}
 use Rattle.hs_desk.specs.Answers.{answers}
 use Rattle.hs_desk.specs.declared.done.Done.{Done}
 use Rattle.hs_desk.specs.declared.done.Done.TheVariants as done

@@ -1,8 +1,8 @@
 //! What does not rest on the bytes that a report tells.
 ghost use Rattle.std.specs.Prelude.{◌≡◌, ℕ, List};
-ghost use Rattle.hs_core.specs.declared.event.Event.TheVariants as event;
-ghost use Rattle.hs_core.specs.State.{Core};
-ghost use Rattle.hs_core.specs.Step.{step};
+ghost use Rattle.hs_core_words.specs.declared.event.Event.TheVariants as event;
+ghost use Rattle.hs_core_words.specs.State.{Core};
+ghost use Rattle.hs_core_words.specs.Step.{step};
 ghost use Rattle.hs_desk.specs.declared.done.Done.TheVariants as done;
 
 /// Whatever bytes a report tells of an entry, sessions and catalogues are the same after it: of

@@ -1,9 +1,9 @@
 //! In which order the core answers.
 ghost use Rattle.std.specs.Prelude.{◌≡◌, ◌++◌, ℕ, List, [], Option, None};
-ghost use Rattle.hs_core.specs.declared.event.Event.{Event};
-ghost use Rattle.hs_core.specs.Opening.{Taken, open_core};
-ghost use Rattle.hs_core.specs.State.{Core};
-ghost use Rattle.hs_core.specs.Step.{step};
+ghost use Rattle.hs_core_words.specs.declared.event.Event.{Event};
+ghost use Rattle.hs_core_words.specs.Opening.{Taken, open_core};
+ghost use Rattle.hs_core_words.specs.State.{Core};
+ghost use Rattle.hs_core_words.specs.Step.{step};
 ghost use Rattle.hs_journal.specs.Events.{client_op};
 ghost use Rattle.hs_journal.specs.Order.{IsOrdered};
 ghost use Rattle.hs_limits.specs.declared.limits.Limits.{Limits};

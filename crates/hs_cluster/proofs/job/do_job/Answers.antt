@@ -6,7 +6,7 @@ use Rattle.hs_cluster.proofs.DiskLemmas.{log_read, not_own, reads_at, since_of, 
 use Rattle.hs_cluster.specs.Disks.{DiskSeen, log_at, seen_as}
 use Rattle.hs_cluster.specs.declared.fault.ClusterFault.TheVariants.{NoMemory}
 use Rattle.hs_cluster.specs.Jobs.{Works, is_own}
-use Rattle.hs_core.specs.Looking.{catalogue_of, first_job, home}
+use Rattle.hs_core_words.specs.Looking.{catalogue_of, first_job, home}
 use Rattle.hs_desk.specs.declared.job.Job.{Job}
 use Rattle.hs_desk.specs.declared.job.Job.TheVariants as job
 use Rattle.hs_limits.specs.declared.shape.Shape.{Shape}

@@ -1,7 +1,7 @@
 use Rattle.std.proofs.Common.{◌∙◌, ◌*◌, ap, is_some, map, sym}
 use Rattle.hs_cluster.proofs.OpenedLemmas.{core_opens, moment_opens, shape_opens}
 use Rattle.hs_cluster.specs.Begins.{opened_with}
-use Rattle.hs_core.specs.Opening.{Taken as Opened}
+use Rattle.hs_core_words.specs.Opening.{Taken as Opened}
 use Rattle.hs_limits.specs.declared.shape.Shape.{Shape}
 use Rattle.hs_peerlog.specs.Lists.{Keeping}
 use Rattle.std.specs.Prelude.{Option}

@@ -1,6 +1,6 @@
 use Rattle.std.proofs.Common.{◌≡◌, map}
 use Rattle.std.specs.List.{range_with_len}
-use Rattle.hs_core.specs.Looking.{front_of}
+use Rattle.hs_core_words.specs.Looking.{front_of}
 use Rattle.hs_events.proofs.before.fronts_of.Given as goal
 
 abbrev pub invariant-loop-shard : goal.invariant-loop-shard

@@ -1,6 +1,6 @@
 use Rattle.std.proofs.Common.{◌≡◌, map}
 use Rattle.std.specs.List.{range_with_len}
-use Rattle.hs_core.specs.Looking.{status_of}
+use Rattle.hs_core_words.specs.Looking.{status_of}
 use Rattle.hs_members.specs.Members.{is_good_status}
 use Rattle.hs_events.proofs.before.goods_of.Given as goal
 

@@ -3,7 +3,7 @@ use Rattle.std.specs.List.{range_with_len}
 use Rattle.std.specs.Prelude.{flat_map, slice_index_or}
 use Rattle.hs_events.proofs.NotedLemmas.{noted}
 use Rattle.hs_events.specs.Course.{change_item, took_items}
-use Rattle.hs_core.specs.Looking.{front_of, status_of}
+use Rattle.hs_core_words.specs.Looking.{front_of, status_of}
 use Rattle.hs_limits.specs.declared.shape.Shape.{Shape}
 use Rattle.hs_members.specs.Members.{is_good_status}
 use Rattle.hs_events.proofs.before.note_event.Goals as goal

@@ -4,7 +4,7 @@ use Rattle.std.specs.List.{range_with_len}
 use Rattle.std.specs.Prelude.{flat_map, slice_index_or}
 use Rattle.hs_events.proofs.RangeLemmas.{flat_map_range_more}
 use Rattle.hs_events.specs.Course.{took_items}
-use Rattle.hs_core.specs.Looking.{front_of}
+use Rattle.hs_core_words.specs.Looking.{front_of}
 use Rattle.hs_events.proofs.before.note_fronts.Goals as goal
 
 pub loop-shard-preserved : goal.loop-shard-preserved

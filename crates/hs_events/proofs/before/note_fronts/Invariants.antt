@@ -2,7 +2,7 @@ use Rattle.std.proofs.Common.{◌≡◌, ◌++◌, ◌+◌, ◌≤◌}
 use Rattle.std.specs.List.{range_with_len}
 use Rattle.std.specs.Prelude.{flat_map, slice_index_or, vec_capacity, vec_len}
 use Rattle.hs_events.specs.Course.{took_items}
-use Rattle.hs_core.specs.Looking.{front_of}
+use Rattle.hs_core_words.specs.Looking.{front_of}
 use Rattle.hs_events.proofs.before.note_fronts.Given as goal
 
 abbrev pub invariant-loop-shard : goal.invariant-loop-shard

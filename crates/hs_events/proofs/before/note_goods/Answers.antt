@@ -4,7 +4,7 @@ use Rattle.std.specs.List.{range_with_len}
 use Rattle.std.specs.Prelude.{flat_map, slice_index_or}
 use Rattle.hs_events.proofs.RangeLemmas.{flat_map_range_more}
 use Rattle.hs_events.specs.Course.{change_item}
-use Rattle.hs_core.specs.Looking.{status_of}
+use Rattle.hs_core_words.specs.Looking.{status_of}
 use Rattle.hs_members.specs.Members.{is_good_status}
 use Rattle.hs_events.proofs.before.note_goods.Goals as goal
 

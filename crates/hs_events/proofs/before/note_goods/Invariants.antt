@@ -2,7 +2,7 @@ use Rattle.std.proofs.Common.{◌≡◌, ◌++◌, ◌+◌, ◌≤◌, false}
 use Rattle.std.specs.List.{range_with_len}
 use Rattle.std.specs.Prelude.{flat_map, slice_index_or, vec_capacity, vec_len}
 use Rattle.hs_events.specs.Course.{change_item}
-use Rattle.hs_core.specs.Looking.{status_of}
+use Rattle.hs_core_words.specs.Looking.{status_of}
 use Rattle.hs_members.specs.Members.{is_good_status}
 use Rattle.hs_events.proofs.before.note_goods.Given as goal
 

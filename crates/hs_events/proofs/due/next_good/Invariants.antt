@@ -1,7 +1,7 @@
 use Rattle.std.proofs.Common.{◌≡◌, ◌-◌}
 use Rattle.std.specs.List.{range_with_len}
 use Rattle.std.specs.Prelude.{find}
-use Rattle.hs_core.specs.Looking.{status_of}
+use Rattle.hs_core_words.specs.Looking.{status_of}
 use Rattle.hs_members.specs.Members.{is_good_status}
 use Rattle.hs_events.proofs.due.next_good.Given as goal
 

@@ -1,5 +1,5 @@
 use Rattle.std.proofs.lemmas.List.Elements.{All-from_recursion}
-use Rattle.hs_core.specs.Looking.{shape_of}
+use Rattle.hs_core_words.specs.Looking.{shape_of}
 use Rattle.hs_settled.proofs.NotedEventLemmas.{all_noted, step_noted}
 use Rattle.hs_settled.proofs.NotedOpenLemmas.{opened_noted}
 use Rattle.hs_settled.specs.Noted.{StandsFor}

@@ -5,7 +5,7 @@ use Rattle.hs_standing.proofs.AddressedLemmas.{lines_addressed, settle_addressed
 use Rattle.hs_standing.proofs.answered.a_script_is_answered.Goals as goal
 use Rattle.hs_standing.proofs.ReadyLemmas.{Keeping, all_ready, are_answers, core_behind}
 use Rattle.hs_standing.specs.Answered.{AreAnswers, IsReady, judging_of, steps_whole}
-use Rattle.hs_core.specs.State.{Core}
+use Rattle.hs_core_words.specs.State.{Core}
 use Rattle.hs_events.specs.Found.{first_core, opens_with}
 use Rattle.hs_fold.specs.Runs.Facts.{Catalogue as Folded}
 use Rattle.hs_standing.specs.Legal.{IsStanding}

@@ -9,8 +9,8 @@ use Rattle.hs_cluster.specs.Kept.{Shows}
 use Rattle.std.proofs.Common.{◌≡◌, ◌∙◌, None, ap, arith, refl, subst, sym, Some}
 use Rattle.hs_cluster.proofs.LineLemmas.{runs_none, runs_quiet}
 use Rattle.hs_cluster.specs.Disks.{log_at}
-use Rattle.hs_core.specs.declared.event.Event.{Event}
-use Rattle.hs_core.specs.declared.event.Event.TheVariants as event
+use Rattle.hs_core_words.specs.declared.event.Event.{Event}
+use Rattle.hs_core_words.specs.declared.event.Event.TheVariants as event
 use Rattle.hs_events.specs.Asked.{addressed}
 use Rattle.hs_events.specs.Commands.{BeginsWith, LineAt}
 use Rattle.hs_model.specs.declared.command.Command.TheVariants as command

@@ -3,8 +3,8 @@ use Rattle.hs_cluster.proofs.ShowLemmas.{any_shows, quiet_shows}
 use Rattle.hs_cluster.proofs.WalkLemmas.{deliver_of, event_due, nudge_of}
 use Rattle.hs_cluster.specs.Calls.{Does, done_of}
 use Rattle.hs_cluster.specs.Disks.{DiskSeen, log_at, seen_as}
-use Rattle.hs_core.specs.declared.event.Event.{Event}
-use Rattle.hs_core.specs.declared.event.Event.TheVariants as event
+use Rattle.hs_core_words.specs.declared.event.Event.{Event}
+use Rattle.hs_core_words.specs.declared.event.Event.TheVariants as event
 use Rattle.hs_cluster.specs.Kept.{Shows}
 use Rattle.hs_cluster.specs.Settling.{DoesDue}
 use Rattle.hs_cluster.proofs.cluster.Cluster.do_due.Goals as goal

@@ -7,8 +7,8 @@ use Rattle.hs_cluster.specs.Calls.{Does, RunsLine, done_of}
 use Rattle.hs_cluster.specs.declared.fault.ClusterFault.{ClusterFault}
 use Rattle.hs_cluster.specs.Disks.{log_at}
 use Rattle.hs_cluster.specs.Kept.{Shows}
-use Rattle.hs_core.specs.declared.event.Event.{Event}
-use Rattle.hs_core.specs.declared.event.Event.TheVariants as event
+use Rattle.hs_core_words.specs.declared.event.Event.{Event}
+use Rattle.hs_core_words.specs.declared.event.Event.TheVariants as event
 use Rattle.hs_model.specs.declared.command.Command.TheVariants as command
 use Rattle.hs_cluster.proofs.cluster.Cluster.fail.Goals as goal
 

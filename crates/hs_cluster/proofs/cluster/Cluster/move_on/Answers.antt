@@ -7,7 +7,7 @@ use Rattle.hs_cluster.specs.Disks.{DiskSeen, seen_as}
 use Rattle.std.specs.Prelude.{Err}
 use Rattle.hs_events.specs.Due.{place_after, raises_known}
 use Rattle.hs_cluster.specs.Running.{Running}
-use Rattle.hs_core.specs.Looking.{known_of}
+use Rattle.hs_core_words.specs.Looking.{known_of}
 use Rattle.hs_cluster.proofs.cluster.Cluster.move_on.Goals as goal
 
 pub returns-clause-place : goal.returns-clause-place

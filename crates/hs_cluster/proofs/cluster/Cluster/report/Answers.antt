@@ -9,9 +9,9 @@ use Rattle.hs_cluster.specs.Counts.{HasAllPaid, HasPaid}
 use Rattle.hs_cluster.specs.Disks.{DiskSeen, log_at, seen_as, stands_of}
 use Rattle.hs_cluster.specs.Jobs.{HasStored, ReadsOn, Works, is_own}
 use Rattle.hs_cluster.specs.Running.{Running}
-use Rattle.hs_core.specs.declared.event.Event.{Event}
-use Rattle.hs_core.specs.declared.event.Event.TheVariants as event
-use Rattle.hs_core.specs.Looking.{catalogue_of, first_job, home}
+use Rattle.hs_core_words.specs.declared.event.Event.{Event}
+use Rattle.hs_core_words.specs.declared.event.Event.TheVariants as event
+use Rattle.hs_core_words.specs.Looking.{catalogue_of, first_job, home}
 use Rattle.hs_desk.specs.declared.job.Job.{Job}
 use Rattle.hs_entry.specs.declared.entry.Entry.{Entry}
 use Rattle.hs_events.specs.declared.due.Due.TheVariants.{Reporting}

@@ -1,6 +1,0 @@
-use Rattle.std.proofs.Common.{◌∙◌, sym}
-use Rattle.hs_core.proofs.RecordLemmas.{each_has_room}
-use Rattle.hs_core.proofs.core_state.Core.record_room.Goals as goal
-
-pub returns-in-None : goal.returns-in-None
-returns-in-None c = each_has_room c.args.self.now c.shape-shape.ensures.kept (sym c.overfull_shard.ensures ∙ c.in-None.is)

@@ -1,6 +1,0 @@
-use Rattle.std.proofs.lemmas.Result.{on_ok_weaker}
-use Rattle.hs_core.proofs.RecordLemmas.{room_at_end}
-use Rattle.hs_core.proofs.core_state.Core.run_event.Goals as goal
-
-pub returns-clause-room : goal.returns-clause-room
-returns-clause-room c = on_ok_weaker c.end_event.result (room_at_end c.do_event.new.self c.end_event.new.self c.in_ok-record_room.ensures) c.end_event.ensures.ok

@@ -1,7 +1,0 @@
-use Rattle.std.proofs.Common.{◌≡◌, map}
-use Rattle.std.specs.List.{range_with_len}
-use Rattle.hs_core.specs.Opening.{first_view}
-use Rattle.hs_core.proofs.new_core.first_views.Given as goal
-
-abbrev pub invariant-loop-shard : goal.invariant-loop-shard
-invariant-loop-shard l = l.first.items ≡ map (first_view l.members l.views) (range_with_len 0 l.shard)

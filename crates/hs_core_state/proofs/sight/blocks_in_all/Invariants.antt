@@ -1,0 +1,9 @@
+use Rattle.std.proofs.Common.{◌≡◌, ◌≤◌, ◌*◌, length, take}
+use Rattle.std.specs.Prelude.{sum_by}
+use Rattle.hs_core_state.proofs.sight.blocks_in_all.Given as goal
+
+abbrev pub invariant-loop-catalogue : goal.invariant-loop-catalogue
+invariant-loop-catalogue l = record {
+  sum : l.sum ≡ sum_by (λ c. length c.blocks) (take l.catalogue-index l.catalogues);
+  fits : l.sum ≤ l.catalogue-index * 4294967296;
+}

@@ -1,0 +1,35 @@
+use Rattle.std.proofs.Common.{◌≡◌, sym, ap, refl, arith, None}
+use Rattle.std.proofs.lemmas.Grind.{common_steps}
+use Rattle.std.proofs.lemmas.List.{length-set}
+use Rattle.std.specs.Prelude.{slice_set}
+use Rattle.hs_core_state.specs.declared.state.State.TheView.{view}
+use Rattle.hs_core_words.specs.Looking.{group_of, shape_of}
+use Rattle.hs_core_state.specs.Renewing.{Renews}
+use Rattle.hs_core_words.specs.State.{Core}
+use Rattle.hs_limits.specs.declared.limits.PeerStatus.TheVariants.{Good}
+use Rattle.hs_members.specs.Members.{IsShard, Members, become, home_of}
+use Rattle.hs_core_state.proofs.PlacedLemmas.{within_told}
+use Rattle.hs_core_state.proofs.StatusLemmas.{core_told, fronts_same, steps_told}
+use Rattle.hs_core_state.proofs.StepLemmas.{rejoin_beside}
+use Rattle.hs_core_state.proofs.state.State.make_good.Goals as goal
+
+pub invariant_of-self-2 : goal.invariant_of-self-2
+invariant_of-self-2 c =
+    let old : Core = view c.self.inside in
+    let shard = c.home-shard.result in
+    let within : IsShard (shape_of old) shard = rw (← c.self.view_is) at c.home-shard.ensures.shard in
+    let is = c.self.invariant in
+    let told : c.become_good.new.members ≡ become c.args.peer Good old.members = c.in_ok-become_good.ensures.ok in
+    let same : c.become_good.new.members.shape ≡ old.members.shape = ap (λ (x : Members). x.shape) told in
+    let item : c.index.result.now ≡ group_of shard old = grind (arith, common_steps) in
+    let at : home_of (shape_of old) c.args.peer ≡ shard = sym (rw (← c.self.view_is) at c.home-shard.ensures.home) in
+    let from : home_of (shape_of old) c.from.result ≡ shard = rw c.from.ensures at in
+    let renews : Renews c.become_good.new.members (group_of shard old) (slice_set c.self.inside.rejoins.items c.from.result None) shard c.self.inside.steps.items c.renew_steps.new.steps.items = rw (← item, ← c.as_slice.ensures.value) c.renew_steps.ensures.renewed in
+    record {
+      kept = core_told old _ is.kept c.renew_steps.ensures.members same refl refl refl refl (length-set c.self.inside.rejoins.items c.from.result None);
+      fronts = fronts_same old _ c.self.inside.fronts.items is.fronts same refl;
+      steps = steps_told old _ c.args.peer shard Good c.self.inside.steps.items _ is.kept (core_told old _ is.kept c.renew_steps.ensures.members same refl refl refl refl (length-set c.self.inside.rejoins.items c.from.result None)) is.steps at told refl renews (λ k d. rejoin_beside c.self.inside.rejoins.items (shape_of old) c.from.result shard k None from d);
+      sessions = is.sessions;
+      journal = is.journal;
+      placed = within_told old.members c.become_good.new.members old.operations same is.placed;
+    }
