@@ -4,12 +4,12 @@ ghost use Rattle.std.specs.Io.KnownBytes.{Appends};
 ghost use Rattle.hydra.specs.BadLine.{cause_text};
 
 use hs_limits::{is_key, is_name};
-use hs_script::LONGEST_LINE;
+use hs_script::{LONGEST_LINE, number_up_to};
 use std::io;
 use std::io::Write;
 
 /// What is wrong with a line.
-#[derive(Clone, Copy, Debug, PartialEq, Eq)]
+#[derive(Clone, Copy, PartialEq, Eq)]
 pub enum BadCause {
     /// More bytes than the longest line has.
     Long,
@@ -41,6 +41,28 @@ enum Part {
     Peer,
     Message,
 }
+
+/// The verbs behind which there are always as many words.
+const VERBS: &[(&[u8], &[Part])] = &[
+    (b"open", &[Part::Session]),
+    (b"close", &[Part::Session]),
+    (b"read", &[Part::Session, Part::Handle]),
+    (b"forget", &[Part::Session, Part::Handle]),
+    (b"name", &[Part::Session, Part::Handle]),
+    (b"look", &[Part::Session, Part::Key]),
+    (b"root", &[Part::Session, Part::Key, Part::Handle]),
+    (b"drop", &[Part::Key]),
+    (b"delete", &[]),
+    (b"stat", &[]),
+    (b"settle", &[]),
+    (b"turn", &[Part::Peer]),
+    (b"nudge", &[Part::Peer]),
+    (b"fail", &[Part::Peer]),
+    (b"start", &[Part::Peer]),
+    (b"deliver", &[Part::Message]),
+    (b"lose", &[Part::Message]),
+    (b"repeat", &[Part::Message]),
+];
 
 /// Writes the line of a cause, where there is one.
 pub fn tell_cause<E: Write>(errors: &mut E, cause: Option<BadCause>) -> io::Result<()>
@@ -115,29 +137,32 @@ fn split_word(line: &[u8]) -> (&[u8], Option<&[u8]>) {
 
 // The words behind a verb.
 fn check_verb(verb: &[u8], rest: Option<&[u8]>) -> Result<(), BadCause> {
-    match verb {
-        b"open" | b"close" => check_end(behind(Part::Session, rest)?),
-        b"write" => check_write(rest),
-        b"read" | b"forget" | b"name" => {
-            let rest = behind(Part::Session, rest)?;
-            check_end(behind(Part::Handle, rest)?)
-        }
-        b"look" => {
-            let rest = behind(Part::Session, rest)?;
-            check_end(behind(Part::Key, rest)?)
-        }
-        b"root" => {
-            let rest = behind(Part::Session, rest)?;
-            let rest = behind(Part::Key, rest)?;
-            check_end(behind(Part::Handle, rest)?)
-        }
-        b"drop" => check_end(behind(Part::Key, rest)?),
-        b"delete" | b"stat" | b"settle" => check_end(rest),
-        b"turn" | b"nudge" | b"fail" | b"start" => check_end(behind(Part::Peer, rest)?),
-        b"deliver" | b"lose" | b"repeat" => check_end(behind(Part::Message, rest)?),
-        b"reclaim" => Err(BadCause::LaterVerb),
-        _ => Err(BadCause::Verb),
+    if verb == b"write".as_slice() {
+        return check_write(rest);
     }
+    match parts_of(verb) {
+        Some(parts) => check_parts(parts, rest),
+        None if verb == b"reclaim".as_slice() => Err(BadCause::LaterVerb),
+        None => Err(BadCause::Verb),
+    }
+}
+
+// What the words behind a verb have to be, where it has always as many.
+fn parts_of(verb: &[u8]) -> Option<&'static [Part]> {
+    for (name, parts) in VERBS {
+        if *name == verb {
+            return Some(*parts);
+        }
+    }
+    None
+}
+
+fn check_parts(parts: &[Part], rest: Option<&[u8]>) -> Result<(), BadCause> {
+    let mut rest = rest;
+    for part in parts {
+        rest = behind(*part, rest)?;
+    }
+    check_end(rest)
 }
 
 fn check_end(rest: Option<&[u8]>) -> Result<(), BadCause> {
@@ -211,30 +236,5 @@ fn is_handle(word: &[u8]) -> bool {
 
 // Whether a word is a number up to `most`, without a leading zero.
 fn is_number(word: &[u8], most: u64) -> bool {
-    match word {
-        [] => false,
-        [b'0'] => true,
-        [b'0', ..] => false,
-        _ => is_up_to(word, most),
-    }
-}
-
-fn is_up_to(digits: &[u8], most: u64) -> bool {
-    let mut value = 0u64;
-    for digit in digits {
-        match more_value(value, *digit) {
-            Some(more) => value = more,
-            None => return false,
-        }
-    }
-    value <= most
-}
-
-// A number with one more digit behind it, where that is one below 2^64.
-fn more_value(value: u64, digit: u8) -> Option<u64> {
-    if !digit.is_ascii_digit() {
-        return None;
-    }
-    let digit = u64::from(digit.saturating_sub(b'0'));
-    value.checked_mul(10)?.checked_add(digit)
+    number_up_to(most, word).is_some()
 }

@@ -6,7 +6,7 @@ use std::rt::Env;
 use std::{env, io};
 
 /// What the words ask for.
-#[derive(Clone, Copy, Debug, PartialEq, Eq)]
+#[derive(Clone, Copy)]
 pub enum Request {
     Help,
     Version,

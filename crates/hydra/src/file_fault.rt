@@ -6,7 +6,7 @@ use hs_ports::Side;
 use std::io;
 
 /// What was to be done with a file, or with its folder.
-#[derive(Clone, Copy, Debug, PartialEq, Eq)]
+#[derive(Clone, Copy)]
 pub enum Deed {
     /// Making the folder.
     Make,

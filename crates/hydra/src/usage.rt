@@ -9,7 +9,7 @@ use std::io;
 use std::io::Write;
 
 /// A part of the command language that a later step serves.
-#[derive(Clone, Copy, Debug, PartialEq, Eq)]
+#[derive(Clone, Copy)]
 pub enum Later {
     Load,
     Audit,
