@@ -13,8 +13,8 @@ pub fn data(alloc: Global, block: u32) -> Result<ListOf<u8>, AllocError> {
 /// The spelling of a block without pointers and with that data.
 pub fn spelling(alloc: Global, block: u32) -> Result<SharedBytes, AllocError> {
     let mut bytes = Vec::with_capacity(alloc, 11)?;
-    bytes.extend_from_slice(&[1, 0, 0, 0, 0, 0, 4])?;
-    bytes.extend_from_slice(&block.to_be_bytes())?;
+    let [a, b, c, d] = block.to_be_bytes();
+    bytes.extend_from_slice(&[1, 0, 0, 0, 0, 0, 4, a, b, c, d])?;
     SharedBytes::from_vec(alloc, bytes)
 }
 
@@ -34,12 +34,26 @@ pub fn address_of(block: u32) -> Address {
 /// The session of a number: `s` and six digits.
 pub fn session(alloc: Global, number: u32) -> Result<Option<Name>, AllocError> {
     let mut bytes = Vec::with_capacity(alloc, 7)?;
-    bytes.push(b's')?;
-    for power in [100_000, 10_000, 1_000, 100, 10, 1] {
-        let digit = number / power % 10;
-        bytes.push(b'0' + digit as u8)?;
-    }
+    bytes.extend_from_slice(&spelled(number))?;
     Ok(Name::from_list(ListOf::from_vec(bytes)))
+}
+
+/// `s` and the last six digits of a number.
+fn spelled(number: u32) -> [u8; 7] {
+    [
+        b's',
+        digit(number / 100_000),
+        digit(number / 10_000),
+        digit(number / 1_000),
+        digit(number / 100),
+        digit(number / 10),
+        digit(number),
+    ]
+}
+
+/// The last digit of a number.
+fn digit(number: u32) -> u8 {
+    b'0' + (number % 10) as u8
 }
 
 /// A key of the shard in which operations rest, by its last byte.

@@ -16,23 +16,30 @@ const SHAPE: Shape = Shape {
 /// The core, which has proposed its first views.
 pub fn opened(alloc: Global) -> Result<Core, CoreFault> {
     let limits = Limits::greatest();
-    let first = Catalogue::new(alloc, SHAPE, 0, limits);
-    let second = Catalogue::new(alloc, SHAPE, 1, limits);
-    let logs = two(alloc, first, second)?;
-    let views = two(alloc, 0, 0)?;
-    let lengths = two(alloc, 0, 0)?;
+    let logs = empty_logs(alloc, limits)?;
+    let views = two_zeros(alloc)?;
+    let lengths = two_zeros(alloc)?;
     let good = all_good(alloc)?;
     Core::open(alloc, SHAPE, limits, logs, views, lengths, good, 0)
 }
 
-/// A vector of two items.
-fn two<T: Drop>(alloc: Global, first: T, second: T) -> Result<Vec<T>, AllocError>
-    ensures { IfOk result (λ items. length items.items ≡ 2) }
+/// The catalogues of both shards before their first entries.
+fn empty_logs(alloc: Global, limits: Limits) -> Result<Vec<Catalogue>, AllocError>
+    ensures { IfOk result (λ logs. length logs.items ≡ 2) }
 {
-    let mut items = Vec::new(alloc);
-    items.push(first)?;
-    items.push(second)?;
-    Ok(items)
+    let mut logs = Vec::new(alloc);
+    logs.push(Catalogue::new(alloc, SHAPE, 0, limits))?;
+    logs.push(Catalogue::new(alloc, SHAPE, 1, limits))?;
+    Ok(logs)
+}
+
+/// Zero for each shard.
+fn two_zeros(alloc: Global) -> Result<Vec<u64>, AllocError>
+    ensures { IfOk result (λ zeros. length zeros.items ≡ 2) }
+{
+    let mut zeros = Vec::new(alloc);
+    zeros.extend_from_slice(&[0, 0])?;
+    Ok(zeros)
 }
 
 /// All four peers are good.
@@ -40,9 +47,6 @@ fn all_good(alloc: Global) -> Result<Vec<bool>, AllocError>
     ensures { IfOk result (λ good. length good.items ≡ 4) }
 {
     let mut good = Vec::new(alloc);
-    good.push(true)?;
-    good.push(true)?;
-    good.push(true)?;
-    good.push(true)?;
+    good.extend_from_slice(&[true, true, true, true])?;
     Ok(good)
 }

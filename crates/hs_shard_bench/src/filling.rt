@@ -1,6 +1,7 @@
 //! Blocks that are stored, and roots that are put and dropped.
 use crate::entries::{key_of, spelling};
 use crate::plan::{Plan, address_of};
+use crate::taking::take;
 use hs_entry::Entry;
 use hs_limits::{LAST_EPOCH, Limits, Shape};
 use hs_shard::{Catalogue, ShardFault};
@@ -18,21 +19,28 @@ pub fn make(alloc: Global, plan: Plan) -> Result<u32, AllocError> {
     Ok(made)
 }
 
-/// The catalogue of the only shard with all blocks, and with a root on each that no other points to.
-pub fn fill(alloc: Global, plan: Plan) -> Result<Catalogue, ShardFault> {
+/// Stores all blocks, and puts a root on each that no other points to.
+pub fn fill(alloc: Global, catalogue: &mut Catalogue, plan: Plan) -> Result<(), ShardFault> {
+    store_all(alloc, catalogue, plan)?;
+    put_root(alloc, catalogue, plan.groups(), plan.last_kept())?;
+    put_roots(alloc, catalogue, plan)
+}
+
+/// The catalogue of the only shard before its first entry.
+pub fn empty(alloc: Global) -> Catalogue {
     let shape = Shape {
         shards: 1,
         copies: 1,
     };
-    let mut catalogue = Catalogue::new(alloc, shape, 0, Limits::greatest());
+    Catalogue::new(alloc, shape, 0, Limits::greatest())
+}
+
+/// Stores all blocks.
+fn store_all(alloc: Global, catalogue: &mut Catalogue, plan: Plan) -> Result<(), ShardFault> {
     for block in 0..plan.blocks() {
-        store(alloc, &mut catalogue, plan, block)?;
+        store(alloc, catalogue, plan, block)?;
     }
-    put_root(alloc, &mut catalogue, plan.groups(), plan.last_kept())?;
-    for group in 0..plan.groups() {
-        put_root(alloc, &mut catalogue, group, plan.head(group))?;
-    }
-    Ok(catalogue)
+    Ok(())
 }
 
 /// Stores a block, unless its number is taken.
@@ -43,13 +51,23 @@ fn store(
     block: u32,
 ) -> Result<(), ShardFault> {
     let number = u64::from(block) + 1;
+    if catalogue.pointers(number).is_some() {
+        return Ok(());
+    }
+    let bytes = spelling(alloc, plan, block)?;
     let entry = Entry::Block {
         op: 1,
         least: LAST_EPOCH,
-        bytes: spelling(alloc, plan, block)?,
+        bytes,
     };
-    if catalogue.pointers(number).is_none() {
-        catalogue.apply(number, &entry, Some(address_of(block)))?;
+    take(catalogue, number, entry, Some(address_of(block)))?;
+    Ok(())
+}
+
+/// Keeps the last block of each group.
+fn put_roots(alloc: Global, catalogue: &mut Catalogue, plan: Plan) -> Result<(), ShardFault> {
+    for group in 0..plan.groups() {
+        put_root(alloc, catalogue, group, plan.head(group))?;
     }
     Ok(())
 }
@@ -68,7 +86,7 @@ fn put_root(
             address: address_of(block),
             key,
         };
-        catalogue.apply(0, &entry, None)?;
+        take(catalogue, 0, entry, None)?;
     }
     Ok(())
 }
@@ -84,7 +102,7 @@ pub fn drop_roots(alloc: Global, catalogue: &mut Catalogue, groups: u32) -> Resu
 /// Drops the root under the key of a number.
 fn drop_root(alloc: Global, catalogue: &mut Catalogue, number: u32) -> Result<(), ShardFault> {
     if let Some(key) = key_of(alloc, number)? {
-        catalogue.apply(0, &Entry::Drop { op: 1, key }, None)?;
+        take(catalogue, 0, Entry::Drop { op: 1, key }, None)?;
     }
     Ok(())
 }

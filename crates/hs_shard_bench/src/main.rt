@@ -5,6 +5,8 @@ mod entries;
 mod filling;
 mod plan;
 mod running;
+mod steps;
+mod taking;
 mod words;
 
 use std::process::ExitCode;

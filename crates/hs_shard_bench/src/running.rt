@@ -1,4 +1,5 @@
 //! Deletion runs of the only shard, which tells itself its rounds.
+use crate::taking::take;
 use hs_entry::Entry;
 use hs_rounds::RoundBody;
 use hs_shard::{Catalogue, ShardFault};
@@ -6,20 +7,31 @@ use std::alloc::Global;
 
 /// The run of an epoch, from its Enter to its sweep. How many blocks went.
 pub fn run(alloc: Global, catalogue: &mut Catalogue, epoch: u64) -> Result<u32, ShardFault> {
-    let mut removed = 0;
-    catalogue.apply(0, &Entry::Enter { op: 1, epoch }, None)?;
+    take(catalogue, 0, Entry::Enter { op: 1, epoch }, None)?;
+    get_all(alloc, catalogue)
+}
+
+/// The rounds of the run come, one after another. How many blocks went.
+fn get_all(alloc: Global, catalogue: &mut Catalogue) -> Result<u32, ShardFault> {
+    let mut removed = 0u32;
     for _ in 0..u32::MAX {
-        let Some((epoch, round)) = catalogue.run().open_round() else {
-            break;
-        };
-        if let Some(gone) = get(alloc, catalogue, epoch, round)? {
-            removed = gone;
+        match get_next(alloc, catalogue)? {
+            Some(gone) => removed = removed.saturating_add(gone),
+            None => break,
         }
     }
     Ok(removed)
 }
 
-/// A round that the shard sent comes. How many blocks went where it was the last.
+/// The open round comes. How many blocks went; None where no round is open.
+fn get_next(alloc: Global, catalogue: &mut Catalogue) -> Result<Option<u32>, ShardFault> {
+    match catalogue.run().open_round() {
+        Some((epoch, round)) => get(alloc, catalogue, epoch, round),
+        None => Ok(None),
+    }
+}
+
+/// A round that the shard sent comes. How many blocks went; None where it sent no such round.
 fn get(
     alloc: Global,
     catalogue: &mut Catalogue,
@@ -37,6 +49,6 @@ fn get(
         total,
         deltas,
     };
-    let effect = catalogue.apply(0, &entry, None)?;
-    Ok(effect.removed)
+    let removed = take(catalogue, 0, entry, None)?;
+    Ok(Some(removed.unwrap_or(0)))
 }
