@@ -1,125 +1,97 @@
 //! Bytes as words: hex digits, names of bytes, cuts and changes.
-use crate::line::split_word;
-use crate::number::number_of;
-use crate::text::{add, text_of};
-use crate::{Budget, CaseFault};
-use std::alloc::Global;
-use std::collections::BTreeMap;
+use crate::line::{is, split_word};
+use crate::text::MOST_IN_LINE;
+use crate::{CaseFault, Reader};
 
-/// The bytes to which a file gives names.
-#[derive(Drop)]
-pub struct Names {
-    bytes: BTreeMap<Vec<u8>, Vec<u8>>,
-}
-
-impl Names {
-    /// No names.
-    pub fn new(alloc: Global) -> Names {
-        Names {
-            bytes: BTreeMap::new(alloc),
-        }
-    }
-
+impl Reader {
     /// Gives bytes a name, as `NAME BYTES` says.
-    pub fn read(
-        &mut self,
-        alloc: Global,
-        budget: &mut Budget,
-        written: &[u8],
-    ) -> Result<(), CaseFault> {
+    pub fn take_name(&mut self, written: &[u8]) {
         let (name, rest) = split_word(written);
-        let bytes = bytes_of(alloc, budget, self, rest)?;
-        let name = Vec::from_slice(alloc, name)?;
-        match self.bytes.insert(name, bytes)? {
-            None => Ok(()),
-            Some(_) => Err(CaseFault::SaidTwice),
+        let bytes = self.bytes_of(rest);
+        if self.has_failed() {
+            return;
         }
+        let name = self.copy(name);
+        let before = self.names.insert(name, bytes);
+        self.stored_once(before);
     }
-}
 
-/// The bytes that words say, in order: hex digits, `@NAME` for those of a name, `cut N` for the
-/// first N of those so far, `set AT HEX` for these in the place of those from AT on, `-` for none.
-pub fn bytes_of(
-    alloc: Global,
-    budget: &mut Budget,
-    names: &Names,
-    written: &[u8],
-) -> Result<Vec<u8>, CaseFault> {
-    let text = text_of(alloc, budget, written)?;
-    let mut bytes = Vec::new(alloc);
-    let mut rest = text.as_slice();
-    for _ in 0..text.len() {
-        if rest.is_empty() {
-            break;
-        }
-        let (word, behind) = split_word(rest);
-        rest = match word {
-            b"cut" => cut(&mut bytes, behind)?,
-            b"set" => set(alloc, &mut bytes, behind)?,
-            _ => {
-                add_plain(alloc, budget, names, &mut bytes, word)?;
-                behind
+    /// The bytes that words say, in order: hex digits, `@NAME` for those of a name, `cut N` for the
+    /// first N of those so far, `set AT HEX` for these in the place of those from AT on, `-` for none.
+    pub fn bytes_of(&mut self, written: &[u8]) -> Vec<u8> {
+        let text = self.text_of(written);
+        let mut bytes = Vec::new(self.alloc);
+        let mut rest = text.as_slice();
+        for _ in 0..text.len() {
+            if rest.is_empty() {
+                break;
             }
-        };
-    }
-    Ok(bytes)
-}
-
-/// Keeps the first so many bytes, and gives what stands behind the number.
-fn cut<'a>(bytes: &mut Vec<u8>, written: &'a [u8]) -> Result<&'a [u8], CaseFault> {
-    let (word, rest) = split_word(written);
-    let most = number_of(word)?;
-    if most < bytes.len() as u64 {
-        bytes.truncate(most as usize);
-    }
-    Ok(rest)
-}
-
-/// Writes bytes over those from a place on, which have to be there, and gives what stands behind.
-fn set<'a>(alloc: Global, bytes: &mut Vec<u8>, written: &'a [u8]) -> Result<&'a [u8], CaseFault> {
-    let (word, behind) = split_word(written);
-    let (digits, rest) = split_word(behind);
-    let at = number_of(word)?;
-    let new = decoded(alloc, digits)?;
-    for (i, byte) in new.iter().enumerate() {
-        set_byte(bytes, at.saturating_add(i as u64), *byte)?;
-    }
-    Ok(rest)
-}
-
-/// Writes a byte over the one at a place, which has to be there.
-fn set_byte(bytes: &mut Vec<u8>, at: u64, byte: u8) -> Result<(), CaseFault> {
-    match bytes.get_mut(at as usize) {
-        Some(old) => {
-            *old = byte;
-            Ok(())
+            let (word, behind) = split_word(rest);
+            rest = self.take_word(&mut bytes, word, behind);
         }
-        None => Err(CaseFault::NoBytes),
+        bytes
     }
-}
 
-/// Adds the bytes of hex digits, of a name, or none.
-fn add_plain(
-    alloc: Global,
-    budget: &mut Budget,
-    names: &Names,
-    bytes: &mut Vec<u8>,
-    word: &[u8],
-) -> Result<(), CaseFault> {
-    match word {
-        b"-" => Ok(()),
-        [b'@', name @ ..] => match names.bytes.get(name) {
-            Some(known) => add(budget, bytes, known),
-            None => Err(CaseFault::NoName),
-        },
-        digits => add(budget, bytes, &decoded(alloc, digits)?),
+    /// Does what a word says, and gives what stands behind what it says.
+    fn take_word<'a>(&mut self, bytes: &mut Vec<u8>, word: &[u8], behind: &'a [u8]) -> &'a [u8] {
+        if is(word, "cut") {
+            return self.cut(bytes, behind);
+        }
+        if is(word, "set") {
+            return self.set(bytes, behind);
+        }
+        self.add_plain(bytes, word);
+        behind
     }
-}
 
-/// The bytes of hex digits.
-fn decoded(alloc: Global, digits: &[u8]) -> Result<Vec<u8>, CaseFault> {
-    match hex::decode(alloc, digits) {
-        Ok(bytes) => Ok(bytes),
-        Err(_) => Err(CaseFault::NoBytes),
+    /// Keeps the first so many bytes, and gives what stands behind the number.
+    fn cut<'a>(&mut self, bytes: &mut Vec<u8>, written: &'a [u8]) -> &'a [u8] {
+        let (word, rest) = split_word(written);
+        let most = self.number(word);
+        if most < bytes.len() as u64 {
+            bytes.truncate(most as usize);
+        }
+        rest
+    }
+
+    /// Writes bytes over those from a place on, which have to be there, and gives what stands behind.
+    fn set<'a>(&mut self, bytes: &mut Vec<u8>, written: &'a [u8]) -> &'a [u8] {
+        let (word, behind) = split_word(written);
+        let (digits, rest) = split_word(behind);
+        let mut at = self.number(word);
+        for byte in &self.decoded(digits, CaseFault::NoBytes) {
+            self.set_byte(bytes, at, *byte);
+            at = at.saturating_add(1);
+        }
+        rest
+    }
+
+    /// Writes a byte over the one at a place, which has to be there.
+    fn set_byte(&mut self, bytes: &mut Vec<u8>, at: u64, byte: u8) {
+        match bytes.get_mut(at as usize) {
+            Some(old) => *old = byte,
+            None => self.fail(CaseFault::NoBytes),
+        }
+    }
+
+    /// Adds the bytes of hex digits, of a name, or none.
+    fn add_plain(&mut self, bytes: &mut Vec<u8>, word: &[u8]) {
+        let new = match word {
+            [b'-'] => return,
+            [b'@', name @ ..] => self.named(name),
+            digits => self.decoded(digits, CaseFault::NoBytes),
+        };
+        self.add(bytes, &new, 1, MOST_IN_LINE);
+    }
+
+    /// The bytes of a name.
+    fn named(&mut self, name: &[u8]) -> Vec<u8> {
+        let mut fault = CaseFault::NoName;
+        let mut bytes = None;
+        if let Some(known) = self.names.get(name) {
+            fault = CaseFault::NoMemory;
+            bytes = Vec::from_slice(self.alloc, known).ok();
+        }
+        self.or(bytes, Vec::new(self.alloc), fault)
     }
 }

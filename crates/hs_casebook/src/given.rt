@@ -1,8 +1,6 @@
 //! What a run is given beside its script.
-use crate::bytes::bytes_of;
-use crate::line::split_word;
-use crate::number::{numbers_of, range_of, small_of};
-use crate::{Budget, CaseFault, CaseLine, Names};
+use crate::line::{found, is, split_word};
+use crate::{CaseFault, CaseLine, Reader};
 use std::alloc::Global;
 use std::collections::BTreeMap;
 
@@ -10,14 +8,14 @@ use std::collections::BTreeMap;
 const MOST_TRIED: u64 = 1000;
 
 /// The naming of blocks.
-#[derive(Clone, Copy, Debug, PartialEq, Eq)]
+#[derive(Clone, Copy)]
 pub enum Naming {
     Sha,
     Tail,
 }
 
 /// The numbers of calls of a peer's disk of which each is to fail in a run of its own.
-#[derive(Clone, Copy, Debug, PartialEq, Eq)]
+#[derive(Clone, Copy)]
 pub struct Each {
     pub peer: u8,
     pub first: u64,
@@ -39,6 +37,27 @@ pub struct Given {
     pub moments: Option<(u64, u64)>,
 }
 
+/// What a line on what is given is on.
+#[derive(Clone, Copy)]
+enum Word {
+    Disks,
+    Zero,
+    One,
+    Fails,
+    Each,
+    Moments,
+}
+
+/// The words of these lines.
+const WORDS: [(&str, Word); 6] = [
+    ("disks", Word::Disks),
+    ("zero", Word::Zero),
+    ("one", Word::One),
+    ("fails", Word::Fails),
+    ("each", Word::Each),
+    ("moments", Word::Moments),
+];
+
 impl Given {
     /// Blank disks, and no call that fails.
     pub fn new(alloc: Global) -> Given {
@@ -55,71 +74,53 @@ impl Given {
     }
 
     /// Takes a line on what is given. It answers false where the line is on something else.
-    pub fn take(
-        &mut self,
-        alloc: Global,
-        budget: &mut Budget,
-        names: &Names,
-        line: &CaseLine,
-    ) -> Result<bool, CaseFault> {
-        match line.word.as_slice() {
-            b"disks" => self.disks = Some(small_of(&line.rest)?),
-            b"zero" => add_side(alloc, budget, names, &mut self.zero, &line.rest)?,
-            b"one" => add_side(alloc, budget, names, &mut self.one, &line.rest)?,
-            b"fails" => self.add_fails(alloc, budget, &line.rest)?,
-            b"each" => self.each = Some(each_of(&line.rest)?),
-            b"moments" => self.moments = Some(range_of(&line.rest)?),
-            _ => return Ok(false),
+    pub fn take(&mut self, reader: &mut Reader, line: &CaseLine<'_>) -> bool {
+        let Some(word) = found(&WORDS, line.word) else {
+            return false;
+        };
+        match word {
+            Word::Disks => self.disks = Some(reader.small(line.rest)),
+            Word::Zero => add_side(reader, &mut self.zero, line.rest),
+            Word::One => add_side(reader, &mut self.one, line.rest),
+            Word::Fails => self.add_fails(reader, line.rest),
+            Word::Each => self.each = Some(each_of(reader, line.rest)),
+            Word::Moments => self.moments = Some(reader.range(line.rest)),
         }
-        Ok(true)
+        true
     }
 
     /// Takes the numbers of calls that fail, as `source N..`, `sink N..` or `P N..` say.
-    fn add_fails(
-        &mut self,
-        alloc: Global,
-        budget: &mut Budget,
-        written: &[u8],
-    ) -> Result<(), CaseFault> {
-        budget.spend(written.len() as u64)?;
+    fn add_fails(&mut self, reader: &mut Reader, written: &[u8]) {
+        reader.spend(written.len() as u64);
         let (port, rest) = split_word(written);
-        let numbers = numbers_of(alloc, rest)?;
-        budget.spend(numbers.len() as u64)?;
-        match port {
-            b"source" => self.source_fails = numbers,
-            b"sink" => self.sink_fails = numbers,
-            peer => {
-                self.disk_fails.insert(small_of(peer)?, numbers)?;
-            }
+        let numbers = reader.numbers(rest);
+        reader.spend(numbers.len() as u64);
+        if is(port, "source") {
+            self.source_fails = numbers;
+        } else if is(port, "sink") {
+            self.sink_fails = numbers;
+        } else {
+            let peer = reader.small(port);
+            reader.stored(self.disk_fails.insert(peer, numbers));
         }
-        Ok(())
     }
 }
 
 /// Takes the bytes of a side, as `P BYTES` says.
-fn add_side(
-    alloc: Global,
-    budget: &mut Budget,
-    names: &Names,
-    sides: &mut BTreeMap<u8, Vec<u8>>,
-    written: &[u8],
-) -> Result<(), CaseFault> {
+fn add_side(reader: &mut Reader, sides: &mut BTreeMap<u8, Vec<u8>>, written: &[u8]) {
     let (peer, rest) = split_word(written);
-    let peer = small_of(peer)?;
-    let bytes = bytes_of(alloc, budget, names, rest)?;
-    match sides.insert(peer, bytes)? {
-        None => Ok(()),
-        Some(_) => Err(CaseFault::SaidTwice),
-    }
+    let peer = reader.small(peer);
+    let bytes = reader.bytes_of(rest);
+    reader.stored_once(sides.insert(peer, bytes));
 }
 
 /// The calls that are tried in turn, as `P A..B` says.
-fn each_of(written: &[u8]) -> Result<Each, CaseFault> {
+fn each_of(reader: &mut Reader, written: &[u8]) -> Each {
     let (peer, rest) = split_word(written);
-    let peer = small_of(peer)?;
-    let (first, last) = range_of(rest)?;
+    let peer = reader.small(peer);
+    let (first, last) = reader.range(rest);
     if last.saturating_sub(first) >= MOST_TRIED {
-        return Err(CaseFault::TooMuch);
+        reader.fail(CaseFault::TooMuch);
     }
-    Ok(Each { peer, first, last })
+    Each { peer, first, last }
 }

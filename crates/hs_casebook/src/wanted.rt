@@ -1,11 +1,9 @@
 //! What has to come of a run.
-use crate::bytes::bytes_of;
-use crate::line::split_word;
-use crate::number::{number_of, small_of};
-use crate::script::add_lines;
-use crate::{Budget, CaseFault, CaseLine, Names};
+use crate::line::{found, is, split_word};
+use crate::{CaseLine, Reader};
 use hs_ports::Side;
 use std::alloc::Global;
+use std::collections::BTreeMap;
 
 /// What a side has to have behind a run.
 #[derive(Drop)]
@@ -29,28 +27,49 @@ pub struct WantedSide {
     pub left: Left,
 }
 
-/// What has to come, as text; of what is None, or an empty list of sides, nothing has to.
+/// What has to come, as text; of what the case says nothing of, nothing has to.
 #[derive(Drop)]
 pub struct Wanted {
     pub text: Vec<u8>,
     /// Statuses, one a line, of which one has to come; empty stands for `done`.
     pub statuses: Vec<u8>,
-    /// None stands for the number of the script's lines.
-    pub line: Option<Vec<u8>>,
-    /// The number of the journal's entries.
-    pub journal: Option<Vec<u8>>,
-    /// The number of the entries that were refused.
-    pub refused: Option<Vec<u8>>,
+    /// Whether the case tells the course.
+    pub has_course: bool,
     /// The items of the course, one a line.
-    pub course: Option<Vec<u8>>,
-    /// The last moment.
-    pub moment: Option<Vec<u8>>,
-    /// The exit status.
-    pub exit: Option<Vec<u8>>,
-    /// The line on standard error.
-    pub error: Option<Vec<u8>>,
+    pub course: Vec<u8>,
+    /// What is wanted behind the words `line`, `journal`, `refused`, `moment`, `exit` and `error`. No
+    /// `line` stands for the number of the script's lines.
+    pub texts: BTreeMap<Vec<u8>, Vec<u8>>,
     pub sides: Vec<WantedSide>,
 }
+
+/// What a line on what has to come is on.
+#[derive(Clone, Copy)]
+enum Word {
+    Status,
+    Course,
+    Text,
+    Holds,
+    Begins,
+    Length,
+    Log,
+}
+
+/// The words of these lines.
+const WORDS: [(&str, Word); 12] = [
+    ("status", Word::Status),
+    ("course", Word::Course),
+    ("line", Word::Text),
+    ("journal", Word::Text),
+    ("refused", Word::Text),
+    ("moment", Word::Text),
+    ("exit", Word::Text),
+    ("error", Word::Text),
+    ("holds", Word::Holds),
+    ("begins", Word::Begins),
+    ("length", Word::Length),
+    ("log", Word::Log),
+];
 
 impl Wanted {
     /// No text, the status `done`, and all lines.
@@ -58,93 +77,68 @@ impl Wanted {
         Wanted {
             text: Vec::new(alloc),
             statuses: Vec::new(alloc),
-            line: None,
-            journal: None,
-            refused: None,
-            course: None,
-            moment: None,
-            exit: None,
-            error: None,
+            has_course: false,
+            course: Vec::new(alloc),
+            texts: BTreeMap::new(alloc),
             sides: Vec::new(alloc),
         }
     }
 
     /// Takes a line on what has to come beside the text. It answers false where the line is on
     /// something else.
-    pub fn take(
-        &mut self,
-        alloc: Global,
-        budget: &mut Budget,
-        names: &Names,
-        line: &CaseLine,
-    ) -> Result<bool, CaseFault> {
-        match line.word.as_slice() {
-            b"status" => add_lines(alloc, budget, &mut self.statuses, &[], &line.rest)?,
-            b"course" => self.add_course(alloc, budget, &line.rest)?,
-            b"holds" | b"begins" | b"length" | b"log" => {
-                let side = side_of(alloc, budget, names, line)?;
-                self.sides.push(side)?;
-            }
-            _ => return self.take_word(alloc, line),
+    pub(crate) fn take(&mut self, reader: &mut Reader, line: &CaseLine<'_>) -> bool {
+        let Some(word) = found(&WORDS, line.word) else {
+            return false;
+        };
+        match word {
+            Word::Status => reader.add_lines(&mut self.statuses, &[], line.rest),
+            Word::Course => self.add_course(reader, line.rest),
+            Word::Text => self.add_text(reader, line),
+            _ => self.add_side(reader, word, line),
         }
-        Ok(true)
+        true
     }
 
     /// Takes a line on a number, or on the line on standard error.
-    fn take_word(&mut self, alloc: Global, line: &CaseLine) -> Result<bool, CaseFault> {
-        let text = Vec::from_slice(alloc, &line.rest)?;
-        match line.word.as_slice() {
-            b"line" => self.line = Some(text),
-            b"journal" => self.journal = Some(text),
-            b"refused" => self.refused = Some(text),
-            b"moment" => self.moment = Some(text),
-            b"exit" => self.exit = Some(text),
-            b"error" => self.error = Some(text),
-            _ => return Ok(false),
-        }
-        Ok(true)
+    fn add_text(&mut self, reader: &mut Reader, line: &CaseLine<'_>) {
+        let word = reader.copy(line.word);
+        let text = reader.copy(line.rest);
+        reader.stored(self.texts.insert(word, text));
     }
 
     /// Takes an item of the course, or `none` for a course without one.
-    fn add_course(
-        &mut self,
-        alloc: Global,
-        budget: &mut Budget,
-        written: &[u8],
-    ) -> Result<(), CaseFault> {
-        let mut course = self.course.take().unwrap_or(Vec::new(alloc));
-        if written != b"none".as_slice() {
-            add_lines(alloc, budget, &mut course, &[], written)?;
+    fn add_course(&mut self, reader: &mut Reader, written: &[u8]) {
+        self.has_course = true;
+        if !is(written, "none") {
+            reader.add_lines(&mut self.course, &[], written);
         }
-        self.course = Some(course);
-        Ok(())
+    }
+
+    /// Takes what a side has to have, as `holds P SIDE BYTES` and its like say.
+    fn add_side(&mut self, reader: &mut Reader, word: Word, line: &CaseLine<'_>) {
+        let (peer, rest) = split_word(line.rest);
+        let (side, rest) = split_word(rest);
+        let side = reader.side(side);
+        let left = left_of(reader, word, rest);
+        let peer = reader.small(peer);
+        let at = line.at;
+        reader.stored(
+            self.sides.push(WantedSide {
+                at,
+                peer,
+                side,
+                left,
+            }),
+        );
     }
 }
 
-/// What a side has to have, as `holds P SIDE BYTES` and its like say.
-fn side_of(
-    alloc: Global,
-    budget: &mut Budget,
-    names: &Names,
-    line: &CaseLine,
-) -> Result<WantedSide, CaseFault> {
-    let (peer, rest) = split_word(&line.rest);
-    let (word, rest) = split_word(rest);
-    let side = match word {
-        b"zero" => Side::Zero,
-        b"one" => Side::One,
-        _ => return Err(CaseFault::UnknownWord),
-    };
-    let left = match line.word.as_slice() {
-        b"holds" => Left::Whole(bytes_of(alloc, budget, names, rest)?),
-        b"begins" => Left::Front(bytes_of(alloc, budget, names, rest)?),
-        b"length" => Left::Length(number_of(rest)?),
-        _ => Left::Log(Vec::from_slice(alloc, rest)?),
-    };
-    Ok(WantedSide {
-        at: line.at,
-        peer: small_of(peer)?,
-        side,
-        left,
-    })
+/// What a side has to have.
+fn left_of(reader: &mut Reader, word: Word, written: &[u8]) -> Left {
+    match word {
+        Word::Holds => Left::Whole(reader.bytes_of(written)),
+        Word::Begins => Left::Front(reader.bytes_of(written)),
+        Word::Length => Left::Length(reader.number(written)),
+        _ => Left::Log(reader.copy(written)),
+    }
 }

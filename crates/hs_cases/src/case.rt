@@ -1,36 +1,48 @@
 //! A case of any kind.
 use crate::runs::judge_runs;
-use hs_casebook::{Budget, CaseFault, CaseLine, Malformed, Names, passes_of, plain_of};
-use hs_compare::{Report, judge_calls, judge_pairs, judge_plain};
-use std::alloc::Global;
-use std::io;
+use hs_casebook::{CaseFault, CaseLine, found, passes_of, plain_of};
+use hs_compare::{Judge, judge_calls, judge_pairs, judge_plain};
+
+/// The kinds of cases that a word of their own begins.
+#[derive(Clone, Copy)]
+enum Kind {
+    Run,
+    Plain,
+    Disk,
+}
+
+/// The words of these kinds.
+const KINDS: [(&str, Kind); 3] = [
+    ("run", Kind::Run),
+    ("plain", Kind::Plain),
+    ("disk", Kind::Disk),
+];
 
 /// Judges a case by its lines. The word of the one behind its name says of which kind it is.
-pub fn judge_case(
-    alloc: Global,
-    budget: &mut Budget,
-    names: &Names,
-    head: &CaseLine,
-    lines: &[CaseLine],
-    report: &mut Report,
-) -> io::Result<()> {
-    let [first, ..] = lines else {
-        return report.malformed(Malformed {
-            at: head.at,
-            fault: CaseFault::Empty,
-        });
+pub fn judge_case(judge: &mut Judge, head: &CaseLine<'_>, lines: &[CaseLine<'_>]) {
+    let [first, rest @ ..] = lines else {
+        return judge.refuse(head.at, CaseFault::Empty);
     };
-    match first.word.as_slice() {
-        b"run" => match passes_of(alloc, budget, names, lines) {
-            Ok(passes) => judge_runs(alloc, budget, &passes, report),
-            Err(malformed) => report.malformed(malformed),
-        },
-        b"plain" => match plain_of(alloc, budget, lines) {
-            Ok(Some(pass)) => judge_plain(alloc, budget, &pass, report),
-            Ok(None) => Ok(()),
-            Err(malformed) => report.malformed(malformed),
-        },
-        b"disk" => judge_calls(alloc, budget, names, lines, report),
-        _ => judge_pairs(alloc, budget, names, lines, report),
+    match found(&KINDS, first.word) {
+        Some(Kind::Run) => judge_script(judge, first, rest),
+        Some(Kind::Plain) => judge_plainly(judge, first, rest),
+        Some(Kind::Disk) => judge_calls(judge, rest),
+        None => judge_pairs(judge, lines),
+    }
+}
+
+/// Judges the runs of a case.
+fn judge_script(judge: &mut Judge, first: &CaseLine<'_>, rest: &[CaseLine<'_>]) {
+    let passes = passes_of(&mut judge.reader, first, rest);
+    if !judge.has_fault() {
+        judge_runs(judge, &passes);
+    }
+}
+
+/// Judges a script by the plain store.
+fn judge_plainly(judge: &mut Judge, first: &CaseLine<'_>, rest: &[CaseLine<'_>]) {
+    let pass = plain_of(&mut judge.reader, first, rest);
+    if !judge.has_fault() {
+        judge_plain(judge, &pass);
     }
 }

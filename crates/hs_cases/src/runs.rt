@@ -1,107 +1,93 @@
 //! The runs of a case, one behind the other.
 use crate::cost::{bytes_of, cost_of};
 use crate::judge::judge_run;
-use crate::run::{Seen, Stop, disks_of, end_of, run_over};
+use crate::run::{Failing, Seen, Stop, disks_of, end_of, run_over};
 use crate::stops::judge_stops;
-use hs_casebook::{Begins, Budget, CaseFault, Each, Malformed, Pass};
-use hs_compare::Report;
-use std::alloc::Global;
-use std::io;
-use std::io::Write;
+use hs_casebook::{CaseFault, Each, Pass};
+use hs_compare::Judge;
 
 /// Judges the runs of a case: once, or once for each call that is to fail.
-pub fn judge_runs(
-    alloc: Global,
-    budget: &mut Budget,
-    passes: &[Pass],
-    report: &mut Report,
-) -> io::Result<()> {
+pub fn judge_runs(judge: &mut Judge, passes: &[Pass]) {
     let [first, ..] = passes else {
-        return Ok(());
+        return;
     };
-    let Some(each) = first.given.each else {
-        return judge_once(alloc, budget, passes, None, report);
-    };
-    for call in each.first..each.last.saturating_add(1) {
-        report.note.clear();
-        write!(report.note, ", where call {call} of {} fails", each.peer)?;
-        report.known.call = call;
-        judge_once(alloc, budget, passes, Some((each, call)), report)?;
-        if !report.is_empty() {
-            return Ok(());
-        }
+    match first.given.each {
+        None => judge_once(judge, passes, None),
+        Some(each) => judge_each(judge, passes, each),
     }
-    Ok(())
+}
+
+/// Judges the runs of a case for each call that is to fail, up to the first that differs.
+fn judge_each(judge: &mut Judge, passes: &[Pass], each: Each) {
+    let peer = each.peer;
+    for call in each.first..each.last.saturating_add(1) {
+        if judge.has_differences() {
+            break;
+        }
+        judge.note.clear();
+        judge
+            .note
+            .put_form(", where call # of # fails", &[call, u64::from(peer)]);
+        judge.known.call = call;
+        judge_once(judge, passes, Some(Failing { peer, call }));
+    }
 }
 
 /// Judges the runs of a case, of which the first one may have a call that fails.
-fn judge_once(
-    alloc: Global,
-    budget: &mut Budget,
-    passes: &[Pass],
-    fails: Option<(Each, u64)>,
-    report: &mut Report,
-) -> io::Result<()> {
-    let stops = passes
-        .iter()
-        .position(|pass| pass.begins == Begins::Stops)
-        .unwrap_or(passes.len());
-    let (runs, behind) = passes.split_at(stops);
-    let Some(seen) = judge_chain(alloc, budget, runs, None, fails, report)? else {
-        return Ok(());
-    };
-    let bytes = bytes_of(runs);
-    judge_stops(alloc, budget, behind, &seen, bytes, report)
+fn judge_once(judge: &mut Judge, passes: &[Pass], failing: Option<Failing>) {
+    let (runs, behind) = split_stops(passes);
+    if let Some(seen) = judge_chain(judge, runs, None, failing) {
+        judge_stops(judge, behind, &seen, bytes_of(runs));
+    }
+}
+
+/// The runs before the first that is behind stops, and those from it on.
+fn split_stops(passes: &[Pass]) -> (&[Pass], &[Pass]) {
+    for end in 0..passes.len() {
+        if passes[end].is_behind_stops() {
+            return passes.split_at(end);
+        }
+    }
+    (passes, &[])
 }
 
 /// Judges runs of which each is begun on what the one before left, and gives the last one. It ends
 /// at a run that can't be made.
 pub fn judge_chain(
-    alloc: Global,
-    budget: &mut Budget,
+    judge: &mut Judge,
     passes: &[Pass],
     before: Option<(&Seen, Stop)>,
-    fails: Option<(Each, u64)>,
-    report: &mut Report,
-) -> io::Result<Option<Seen>> {
-    let mut last = None;
-    for pass in passes {
-        let seen = match &last {
-            None => judge_pass(alloc, budget, pass, before, fails, report)?,
-            Some(seen) => {
-                let left = Some((seen, end_of(seen)));
-                judge_pass(alloc, budget, pass, left, None, report)?
-            }
-        };
-        if seen.is_none() {
-            return Ok(None);
-        }
-        last = seen;
+    failing: Option<Failing>,
+) -> Option<Seen> {
+    let [first, others @ ..] = passes else {
+        return None;
+    };
+    let mut seen = judge_pass(judge, first, before, failing)?;
+    for pass in others {
+        let stop = end_of(&seen);
+        seen = judge_pass(judge, pass, Some((&seen, stop)), None)?;
     }
-    Ok(last)
+    Some(seen)
 }
 
 /// Judges a run. None where it can't be made.
 fn judge_pass(
-    alloc: Global,
-    budget: &mut Budget,
+    judge: &mut Judge,
     pass: &Pass,
     before: Option<(&Seen, Stop)>,
-    fails: Option<(Each, u64)>,
-    report: &mut Report,
-) -> io::Result<Option<Seen>> {
-    if let Err(fault) = budget.spend(cost_of(pass)) {
-        report.malformed(Malformed { at: pass.at, fault })?;
-        return Ok(None);
+    failing: Option<Failing>,
+) -> Option<Seen> {
+    judge.reader.at = pass.at;
+    judge.reader.spend(cost_of(pass));
+    if judge.has_fault() {
+        return None;
     }
-    let disks = disks_of(alloc, pass, before, fails)?;
-    let Some(seen) = run_over(alloc, pass, disks)? else {
-        report.malformed(Malformed {
-            at: pass.at,
-            fault: CaseFault::UnknownWord,
-        })?;
-        return Ok(None);
-    };
-    judge_run(alloc, pass, &seen, report)?;
-    Ok(Some(seen))
+    let disks = disks_of(&mut judge.reader, pass, before, failing);
+    let seen = run_over(&mut judge.reader, pass, disks);
+    match &seen {
+        Some(seen) => judge_run(judge, pass, seen),
+        None => judge.reader.fail(CaseFault::UnknownWord),
+    }
+    judge.has_fault();
+    seen
 }

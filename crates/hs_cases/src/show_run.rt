@@ -1,45 +1,59 @@
 //! What a run hands back, as text.
+use hs_compare::Text;
 use hs_model::CourseItem;
 use hs_top::Status;
-use std::io;
-use std::io::Write;
+use std::alloc::Global;
 
-/// Puts a status with its fields, as a line.
-pub fn put_status(status: &Status, out: &mut Vec<u8>) -> io::Result<()> {
-    match status {
-        Status::Done => write!(out, "done\n"),
-        Status::Usage => write!(out, "usage\n"),
-        Status::BadLine { line } => write!(out, "badline {line}\n"),
-        Status::ShardLost { shard } => write!(out, "shardlost {shard}\n"),
-        Status::ReadFault => write!(out, "readfault\n"),
-        Status::WriteFault => write!(out, "writefault\n"),
-        Status::NoMemory => write!(out, "nomemory\n"),
-        Status::WrongShape { peer, found } => {
-            write!(
-                out,
-                "wrongshape {peer} found {} {}",
-                found.shards, found.copies
-            )?;
-            write!(out, " {}\n", found.peer)
-        }
-        Status::OpsFull => write!(out, "opsfull\n"),
-        Status::InputFull => write!(out, "inputfull\n"),
-    }
+/// A status with its fields, as a line.
+pub fn status_text(alloc: Global, status: &Status) -> Text {
+    let mut text = Text::new(alloc);
+    put_status(status, &mut text);
+    text
 }
 
-/// Puts the items of a course, one a line.
-pub fn put_course(course: &[CourseItem], out: &mut Vec<u8>) -> io::Result<()> {
-    for item in course {
-        match *item {
-            CourseItem::Begun { line, moment } => write!(out, "begun {line} {moment}\n")?,
-            CourseItem::Good { peer, moment } => write!(out, "good {peer} {moment}\n")?,
-            CourseItem::Bad { peer, moment } => write!(out, "bad {peer} {moment}\n")?,
-            CourseItem::Took {
-                shard,
-                number,
-                moment,
-            } => write!(out, "took {shard} {number} {moment}\n")?,
+/// Puts a status with its fields, as a line.
+fn put_status(status: &Status, out: &mut Text) {
+    let (form, number) = match status {
+        Status::Done => ("done\n", 0),
+        Status::Usage => ("usage\n", 0),
+        Status::BadLine { line } => ("badline #\n", *line),
+        Status::ShardLost { shard } => ("shardlost #\n", u64::from(*shard)),
+        Status::ReadFault => ("readfault\n", 0),
+        Status::WriteFault => ("writefault\n", 0),
+        Status::NoMemory => ("nomemory\n", 0),
+        Status::WrongShape { peer, found } => {
+            out.put_form("wrongshape #", &[u64::from(*peer)]);
+            let shape = [u64::from(found.shards), u64::from(found.copies)];
+            out.put_form(" found # #", &shape);
+            (" #\n", u64::from(found.peer))
         }
+        Status::OpsFull => ("opsfull\n", 0),
+        Status::InputFull => ("inputfull\n", 0),
+    };
+    out.put_form(form, &[number]);
+}
+
+/// The items of a course, one a line.
+pub fn course_text(alloc: Global, course: &[CourseItem]) -> Text {
+    let mut text = Text::new(alloc);
+    for item in course {
+        put_item(*item, &mut text);
     }
-    Ok(())
+    text
+}
+
+/// Puts an item of a course, as a line.
+fn put_item(item: CourseItem, out: &mut Text) {
+    match item {
+        CourseItem::Begun { line, moment } => out.put_form("begun # #\n", &[line, moment]),
+        CourseItem::Good { peer, moment } => {
+            out.put_form("good # #\n", &[u64::from(peer), moment]);
+        }
+        CourseItem::Bad { peer, moment } => out.put_form("bad # #\n", &[u64::from(peer), moment]),
+        CourseItem::Took {
+            shard,
+            number,
+            moment,
+        } => out.put_form("took # # #\n", &[u64::from(shard), number, moment]),
+    }
 }

@@ -1,6 +1,5 @@
 //! The words of the command line: files of cases.
-use crate::tally::{Tally, judge_file};
-use hs_casebook::Budget;
+use crate::tally::Tally;
 use std::io::{ErrorKind, Read, Write};
 use std::rt::{Env, Files};
 use std::{env, fs, io};
@@ -8,64 +7,67 @@ use std::{env, fs, io};
 /// How many bytes of a file are read.
 const MOST_BYTES: usize = 4_194_304;
 
-/// How many units of work all files together may take.
-const UNITS: u64 = 500_000_000;
-
 /// Judges the cases of the files that the words name. Each case of a file behind the word `--wrong`
 /// is wrong on purpose, and has to differ. It answers whether all is so.
 pub fn judge_words<R: Env + Files + AllocGlobal, W: Write>(
     rt: &R,
     out: &mut W,
 ) -> io::Result<bool> {
-    let mut budget = Budget::new(UNITS);
-    let mut is_wrong = false;
-    let mut right = Tally {
-        cases: 0,
-        differ: 0,
-    };
-    let mut wrong = Tally {
-        cases: 0,
-        differ: 0,
-    };
+    let mut tally = Tally::new(rt.alloc());
     for word in env::args(rt)?.skip(1) {
-        if word.as_str() == "--wrong" {
-            is_wrong = true;
-            out.write_all(b"Each of these is wrong in one place, and has to differ:\n")?;
-            continue;
-        }
-        let tally = match text_of(rt, word.as_str()) {
-            Ok(text) => judge_file(rt.alloc(), &mut budget, word.as_str(), &text, is_wrong, out)?,
-            Err(error) => {
-                write!(out, "{word}: {error}\n")?;
-                Tally {
-                    cases: 1,
-                    differ: 1,
-                }
-            }
-        };
-        if is_wrong {
-            wrong = sum(wrong, tally);
-        } else {
-            right = sum(right, tally);
-        }
+        judge_word(rt, &mut tally, word.as_str());
+        write_told(&mut tally, out)?;
     }
-    if is_wrong {
-        write!(
-            out,
-            "{} wrong cases, {} do not differ\n",
-            wrong.cases, wrong.differ
-        )?;
-    }
-    write!(out, "{} cases, {} differ\n", right.cases, right.differ)?;
-    Ok(right.differ == 0 && wrong.differ == 0)
+    tell_counts(&mut tally);
+    write_told(&mut tally, out)?;
+    Ok(tally.right.differ == 0 && tally.wrong.differ == 0)
 }
 
-/// The sums of two tallies.
-fn sum(first: Tally, second: Tally) -> Tally {
-    Tally {
-        cases: first.cases.saturating_add(second.cases),
-        differ: first.differ.saturating_add(second.differ),
+/// Judges the cases of the file that a word names.
+fn judge_word<R: Files + AllocGlobal>(rt: &R, tally: &mut Tally, word: &str) {
+    if word == "--wrong" {
+        tally.is_wrong = true;
+        tally.told.put("Each of these is wrong in one place, and has to differ:\n");
+        return;
     }
+    match text_of(rt, word) {
+        Ok(text) => tally.judge_file(word, &text),
+        Err(error) => tell_error(tally, word, &error),
+    }
+}
+
+/// Tells why a file can't be read.
+fn tell_error(tally: &mut Tally, word: &str, error: &io::Error) {
+    let mut line = Vec::new(tally.judge.reader.alloc);
+    if write!(line, "{word}: {error}\n").is_err() {
+        tally.told.cut();
+    }
+    tally.told.put_bytes(&line);
+    tally.count(true);
+}
+
+/// Writes what is told.
+fn write_told<W: Write>(tally: &mut Tally, out: &mut W) -> io::Result<()> {
+    if tally.told.is_cut() {
+        return Err(ErrorKind::OutOfMemory.into());
+    }
+    out.write_all(tally.told.as_slice())?;
+    tally.told.clear();
+    Ok(())
+}
+
+/// Tells how many cases there were, and how many differ.
+fn tell_counts(tally: &mut Tally) {
+    if tally.is_wrong {
+        tally.told.put_form(
+            "# wrong cases, # do not differ\n",
+            &[tally.wrong.cases, tally.wrong.differ],
+        );
+    }
+    tally.told.put_form(
+        "# cases, # differ\n",
+        &[tally.right.cases, tally.right.differ],
+    );
 }
 
 /// The text of a file. One of more bytes than are read is refused.

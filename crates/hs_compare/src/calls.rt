@@ -1,197 +1,220 @@
 //! Cases of calls of a disk in memory: what each answers, and what a stop may leave.
-use crate::pairs::{Answers, judge_answers};
-use crate::report::Report;
-use crate::show::put_hex;
-use hs_casebook::{
-    Budget, CaseFault, CaseLine, Given, Malformed, Names, bytes_of, number_of, small_of, split_word,
-};
+use crate::judge::Judge;
+use crate::pairs::judge_answers;
+use crate::text::Text;
+use hs_casebook::{CaseFault, CaseLine, Given, Reader, found, is, split_word};
 use hs_ports::{Disk, MemoryDisk, PortFault, Side, Tear, Watch};
 use std::alloc::Global;
-use std::io;
-use std::io::Write;
 
 /// The peer whose disk a case of calls is on.
 const PEER: u8 = 0;
 
 /// A disk, and the watch that its calls raise.
 #[derive(Drop)]
-struct Calls {
+pub(crate) struct Calls {
     disk: MemoryDisk,
     watch: Watch,
 }
 
-/// Judges a case whose first line is `disk`: what the disk is given, and then calls in pairs with
-/// what has to come of each.
-pub fn judge_calls(
-    alloc: Global,
-    budget: &mut Budget,
-    names: &Names,
-    lines: &[CaseLine],
-    report: &mut Report,
-) -> io::Result<()> {
-    let [_, behind @ ..] = lines else {
-        return Ok(());
-    };
-    let end = behind
-        .iter()
-        .position(|line| !is_given(line))
-        .unwrap_or(behind.len());
-    let (first, calls) = behind.split_at(end);
-    match disk_of(alloc, budget, names, first) {
-        Ok(disk) => {
-            let watch = Watch::new();
-            let mut answers = Calls { disk, watch };
-            judge_answers(alloc, budget, names, &mut answers, calls, report)
-        }
-        Err(malformed) => report.malformed(malformed),
+/// A call of a disk, or what a stop leaves.
+#[derive(Clone, Copy)]
+enum Verb {
+    Len,
+    Read,
+    Write,
+    Cut,
+    Sync,
+    Image,
+}
+
+/// The words for calls.
+const VERBS: [(&str, Verb); 6] = [
+    ("len", Verb::Len),
+    ("read", Verb::Read),
+    ("write", Verb::Write),
+    ("cut", Verb::Cut),
+    ("sync", Verb::Sync),
+    ("image", Verb::Image),
+];
+
+/// The words for how what is being written at a stop is torn, but for `fill`.
+const TEARS: [(&str, Tear); 3] = [("old", Tear::Old), ("new", Tear::New), ("half", Tear::Half)];
+
+/// Judges the lines behind the first one, `disk`: what the disk is given, and then calls in pairs
+/// with what has to come of each.
+pub fn judge_calls(judge: &mut Judge, lines: &[CaseLine<'_>]) {
+    let mut given = Given::new(judge.reader.alloc);
+    let calls = take_given(&mut judge.reader, &mut given, lines);
+    if !judge.has_fault() {
+        let mut disk = Some(calls_of(judge.reader.alloc, &mut given));
+        judge_answers(judge, &mut disk, calls);
     }
+}
+
+/// Takes the lines at the front that say what the disk is given, and gives those behind them.
+fn take_given<'a, 'b>(
+    reader: &mut Reader,
+    given: &mut Given,
+    lines: &'b [CaseLine<'a>],
+) -> &'b [CaseLine<'a>] {
+    for end in 0..lines.len() {
+        let line = &lines[end];
+        if !is_given(line) {
+            return &lines[end..];
+        }
+        reader.at = line.at;
+        given.take(reader, line);
+    }
+    &lines[lines.len()..]
 }
 
 /// Whether a line says what the disk is given.
-fn is_given(line: &CaseLine) -> bool {
-    match line.word.as_slice() {
-        b"zero" | b"one" | b"fails" => true,
-        _ => false,
-    }
+fn is_given(line: &CaseLine<'_>) -> bool {
+    line.is("zero") || line.is("one") || line.is("fails")
 }
 
-/// The disk that lines say.
-fn disk_of(
-    alloc: Global,
-    budget: &mut Budget,
-    names: &Names,
-    lines: &[CaseLine],
-) -> Result<MemoryDisk, Malformed> {
-    let mut given = Given::new(alloc);
-    for line in lines {
-        if let Err(fault) = given.take(alloc, budget, names, line) {
-            return Err(Malformed { at: line.at, fault });
-        }
-    }
+/// The disk that is given.
+fn calls_of(alloc: Global, given: &mut Given) -> Calls {
     let zero = given.zero.remove(&PEER).unwrap_or(Vec::new(alloc));
     let one = given.one.remove(&PEER).unwrap_or(Vec::new(alloc));
     let fails = given.disk_fails.remove(&PEER).unwrap_or(Vec::new(alloc));
-    Ok(MemoryDisk::new(alloc, zero, one, fails))
-}
-
-/// A call of a disk on one side.
-#[derive(Drop)]
-enum Call {
-    Length,
-    Read { at: u64, most: usize },
-    Write { at: u64, bytes: Vec<u8> },
-    Cut { length: u64 },
-    Sync,
-    /// What a stop at a moment leaves: no call, but its outcome.
-    Image { moment: u64, tear: Tear },
-}
-
-impl Answers for Calls {
-    fn put_answer(
-        &mut self,
-        alloc: Global,
-        budget: &mut Budget,
-        names: &Names,
-        asked: &CaseLine,
-        out: &mut Vec<u8>,
-    ) -> io::Result<Result<(), CaseFault>> {
-        let (side, rest) = split_word(&asked.rest);
-        let side = match side {
-            b"zero" => Side::Zero,
-            b"one" => Side::One,
-            _ => return Ok(Err(CaseFault::UnknownWord)),
-        };
-        match call_of(alloc, budget, names, &asked.word, rest) {
-            Ok(call) => {
-                self.put_call(alloc, side, &call, out)?;
-                Ok(Ok(()))
-            }
-            Err(fault) => Ok(Err(fault)),
-        }
-    }
-}
-
-/// The call that a line says.
-fn call_of(
-    alloc: Global,
-    budget: &mut Budget,
-    names: &Names,
-    word: &[u8],
-    rest: &[u8],
-) -> Result<Call, CaseFault> {
-    budget.spend(1000)?;
-    let (first, behind) = split_word(rest);
-    match word {
-        b"len" => Ok(Call::Length),
-        b"sync" => Ok(Call::Sync),
-        b"read" => Ok(Call::Read {
-            at: number_of(first)?,
-            most: usize::from(small_of(behind)?),
-        }),
-        b"write" => Ok(Call::Write {
-            at: number_of(first)?,
-            bytes: bytes_of(alloc, budget, names, behind)?,
-        }),
-        b"cut" => Ok(Call::Cut {
-            length: number_of(rest)?,
-        }),
-        b"image" => Ok(Call::Image {
-            moment: number_of(first)?,
-            tear: tear_of(behind)?,
-        }),
-        _ => Err(CaseFault::UnknownWord),
-    }
-}
-
-/// How what is being written at a stop is torn.
-fn tear_of(word: &[u8]) -> Result<Tear, CaseFault> {
-    match word {
-        b"old" => Ok(Tear::Old),
-        b"new" => Ok(Tear::New),
-        b"half" => Ok(Tear::Half),
-        _ => {
-            let (fill, byte) = split_word(word);
-            if fill != b"fill".as_slice() {
-                return Err(CaseFault::UnknownWord);
-            }
-            Ok(Tear::Fill(small_of(byte)?))
-        }
+    Calls {
+        disk: MemoryDisk::new(alloc, zero, one, fails),
+        watch: Watch::new(),
     }
 }
 
 impl Calls {
-    /// Makes a call, and puts its answer.
-    fn put_call(
-        &mut self,
-        alloc: Global,
-        side: Side,
-        call: &Call,
-        out: &mut Vec<u8>,
-    ) -> io::Result<()> {
-        match call {
-            Call::Length => match self.disk.len(side) {
-                Ok(length) => write!(out, "{length}"),
-                Err(fault) => put_fault(fault, out),
-            },
-            Call::Read { at, most } => {
-                let mut into = Vec::new(alloc);
-                let read = read(&mut self.disk, side, *at, *most, &mut into);
-                put_bytes(alloc, read, &into, out)
-            }
-            Call::Write { at, bytes } => {
-                let written = write(&mut self.disk, &mut self.watch, side, *at, bytes);
-                put_done(written, out)
-            }
-            Call::Cut { length } => {
-                put_done(cut(&mut self.disk, &mut self.watch, side, *length), out)
-            }
-            Call::Sync => put_done(self.disk.sync(&mut self.watch, side), out),
-            Call::Image { moment, tear } => match self.disk.image_at(side, *moment, *tear) {
-                Ok(image) => put_hex(alloc, &image, out),
-                Err(fault) => put_fault(fault, out),
-            },
+    /// Makes the call that a line says, and puts its answer.
+    pub(crate) fn put_answer(&mut self, reader: &mut Reader, asked: &CaseLine<'_>, out: &mut Text) {
+        let (side, rest) = split_word(asked.rest);
+        let side = reader.side(side);
+        reader.spend(1000);
+        match found(&VERBS, asked.word) {
+            Some(verb) => self.put_call(reader, verb, side, rest, out),
+            None => reader.fail(CaseFault::UnknownWord),
         }
     }
+
+    /// Makes a call on a side, and puts its answer.
+    fn put_call(
+        &mut self,
+        reader: &mut Reader,
+        verb: Verb,
+        side: Side,
+        rest: &[u8],
+        out: &mut Text,
+    ) {
+        let (first, behind) = split_word(rest);
+        match verb {
+            Verb::Len => self.put_length(reader, side, out),
+            Verb::Read => self.put_read(reader, side, first, behind, out),
+            Verb::Write => self.put_written(reader, side, first, behind, out),
+            Verb::Cut => self.put_cut(reader, side, rest, out),
+            Verb::Sync => self.put_synced(reader, side, out),
+            Verb::Image => self.put_image(reader, side, first, behind, out),
+        }
+    }
+
+    /// Puts the length of a side.
+    fn put_length(&mut self, reader: &Reader, side: Side, out: &mut Text) {
+        if reader.has_failed() {
+            return;
+        }
+        match self.disk.len(side) {
+            Ok(length) => out.put_number(length),
+            Err(fault) => put_fault(fault, out),
+        }
+    }
+
+    /// Reads, and puts what a read gives.
+    fn put_read(
+        &mut self,
+        reader: &mut Reader,
+        side: Side,
+        at: &[u8],
+        most: &[u8],
+        out: &mut Text,
+    ) {
+        let at = reader.number(at);
+        let most = usize::from(reader.small(most));
+        if reader.has_failed() {
+            return;
+        }
+        let mut into = Vec::new(reader.alloc);
+        match read(&mut self.disk, side, at, most, &mut into) {
+            Ok(count) if count == into.len() => out.put_hex("", &into),
+            Ok(count) => out.put_form("# of #", &[count as u64, into.len() as u64]),
+            Err(fault) => put_fault(fault, out),
+        }
+    }
+
+    /// Writes, and puts whether that was done.
+    fn put_written(
+        &mut self,
+        reader: &mut Reader,
+        side: Side,
+        at: &[u8],
+        bytes: &[u8],
+        out: &mut Text,
+    ) {
+        let at = reader.number(at);
+        let bytes = reader.bytes_of(bytes);
+        if reader.has_failed() {
+            return;
+        }
+        let written = write(&mut self.disk, &mut self.watch, side, at, &bytes);
+        put_done(written, out);
+    }
+
+    /// Cuts to a length, and puts whether that was done.
+    fn put_cut(&mut self, reader: &mut Reader, side: Side, length: &[u8], out: &mut Text) {
+        let length = reader.number(length);
+        if reader.has_failed() {
+            return;
+        }
+        put_done(cut(&mut self.disk, &mut self.watch, side, length), out);
+    }
+
+    /// Syncs, and puts whether that was done.
+    fn put_synced(&mut self, reader: &Reader, side: Side, out: &mut Text) {
+        if reader.has_failed() {
+            return;
+        }
+        put_done(self.disk.sync(&mut self.watch, side), out);
+    }
+
+    /// Puts what a stop at a moment leaves: no call, but its outcome.
+    fn put_image(
+        &mut self,
+        reader: &mut Reader,
+        side: Side,
+        moment: &[u8],
+        tear: &[u8],
+        out: &mut Text,
+    ) {
+        let moment = reader.number(moment);
+        let tear = tear_of(reader, tear);
+        if reader.has_failed() {
+            return;
+        }
+        match self.disk.image_at(side, moment, tear) {
+            Ok(image) => out.put_hex("", &image),
+            Err(fault) => put_fault(fault, out),
+        }
+    }
+}
+
+/// How what is being written at a stop is torn.
+fn tear_of(reader: &mut Reader, word: &[u8]) -> Tear {
+    if let Some(tear) = found(&TEARS, word) {
+        return tear;
+    }
+    let (fill, byte) = split_word(word);
+    if !is(fill, "fill") {
+        reader.fail(CaseFault::UnknownWord);
+    }
+    Tear::Fill(reader.small(byte))
 }
 
 /// Reads, where at least one byte is asked for.
@@ -217,43 +240,33 @@ fn write<D: Disk>(
     at: u64,
     bytes: &[u8],
 ) -> Result<(), PortFault> {
-    let length = disk.len(side)?;
-    disk.write_at(watch, side, at.min(length), bytes)
+    match disk.len(side) {
+        Ok(length) => disk.write_at(watch, side, at.min(length), bytes),
+        Err(fault) => Err(fault),
+    }
 }
 
 /// Cuts to a length, where it is not behind the end. It asks for the length first, which is a call
 /// too.
 fn cut<D: Disk>(disk: &mut D, watch: &mut Watch, side: Side, length: u64) -> Result<(), PortFault> {
-    let most = disk.len(side)?;
-    disk.cut(watch, side, length.min(most))
-}
-
-/// Puts what a read gave.
-fn put_bytes(
-    alloc: Global,
-    read: Result<usize, PortFault>,
-    into: &[u8],
-    out: &mut Vec<u8>,
-) -> io::Result<()> {
-    match read {
-        Ok(count) if count == into.len() => put_hex(alloc, into, out),
-        Ok(count) => write!(out, "{count} of {}", into.len()),
-        Err(fault) => put_fault(fault, out),
+    match disk.len(side) {
+        Ok(most) => disk.cut(watch, side, length.min(most)),
+        Err(fault) => Err(fault),
     }
 }
 
 /// Puts whether a call was done.
-fn put_done(answer: Result<(), PortFault>, out: &mut Vec<u8>) -> io::Result<()> {
+fn put_done(answer: Result<(), PortFault>, out: &mut Text) {
     match answer {
-        Ok(()) => write!(out, "ok"),
+        Ok(()) => out.put("ok"),
         Err(fault) => put_fault(fault, out),
     }
 }
 
 /// Puts why a call was not done.
-fn put_fault(fault: PortFault, out: &mut Vec<u8>) -> io::Result<()> {
+fn put_fault(fault: PortFault, out: &mut Text) {
     match fault {
-        PortFault::Failed => write!(out, "failed"),
-        PortFault::NoMemory => write!(out, "nomemory"),
+        PortFault::Failed => out.put("failed"),
+        PortFault::NoMemory => out.put("nomemory"),
     }
 }

@@ -4,20 +4,20 @@
 mod calls;
 mod difference;
 mod fits;
+mod judge;
 mod options;
 mod pairs;
 mod plain;
-mod report;
-mod show;
 mod show_block;
 mod show_entry;
 mod show_line;
 mod show_side;
+mod text;
 
 pub use calls::judge_calls;
+pub use judge::{Judge, Known};
 pub use options::{Options, options_of};
 pub use pairs::judge_pairs;
 pub use plain::judge_plain;
-pub use report::{Known, Report};
-pub use show::put_rows;
-pub use show_side::put_kinds;
+pub use show_side::kinds_of;
+pub use text::Text;

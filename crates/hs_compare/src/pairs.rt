@@ -1,152 +1,117 @@
 //! Cases of bytes, and of lines: what reading each gives.
-use crate::report::Report;
-use crate::show::put_hex;
+use crate::calls::Calls;
+use crate::judge::Judge;
 use crate::show_block::put_block;
 use crate::show_entry::put_entry;
 use crate::show_line::put_said;
 use crate::show_side::put_opened;
+use crate::text::Text;
 use hs_block::{Addresser, ShaNames, TailNames};
-use hs_casebook::{
-    Budget, CaseFault, CaseLine, Malformed, Names, Naming, bytes_of, naming_of, split_word, text_of,
-};
-use std::alloc::Global;
-use std::io;
+use hs_casebook::{CaseFault, CaseLine, Naming, Reader, found, split_word};
+use hs_limits::Address;
 
-/// What answers the first line of a pair.
-pub trait Answers {
-    /// Puts what comes of a line, or answers why the line can't be read.
-    fn put_answer(
-        &mut self,
-        alloc: Global,
-        budget: &mut Budget,
-        names: &Names,
-        asked: &CaseLine,
-        out: &mut Vec<u8>,
-    ) -> io::Result<Result<(), CaseFault>>;
+/// What is read.
+#[derive(Clone, Copy)]
+enum Word {
+    Block,
+    Entry,
+    Side,
+    Line,
+    Address,
 }
 
-/// What reading gives: no line knows of another.
-#[derive(Clone, Copy)]
-struct Reading;
+/// The words for what is read.
+const WORDS: [(&str, Word); 5] = [
+    ("block", Word::Block),
+    ("entry", Word::Entry),
+    ("side", Word::Side),
+    ("line", Word::Line),
+    ("address", Word::Address),
+];
 
 /// Judges lines that stand in pairs: what is read, and `gives` with what has to come of it.
-pub fn judge_pairs(
-    alloc: Global,
-    budget: &mut Budget,
-    names: &Names,
-    lines: &[CaseLine],
-    report: &mut Report,
-) -> io::Result<()> {
-    judge_answers(alloc, budget, names, &mut Reading, lines, report)
+pub fn judge_pairs(judge: &mut Judge, lines: &[CaseLine<'_>]) {
+    judge_answers(judge, &mut None, lines);
 }
 
-/// Judges lines that stand in pairs: one that is answered, and `gives` with what has to come of it.
-pub fn judge_answers<A: Answers>(
-    alloc: Global,
-    budget: &mut Budget,
-    names: &Names,
-    answers: &mut A,
-    lines: &[CaseLine],
-    report: &mut Report,
-) -> io::Result<()> {
+/// Judges lines that stand in pairs: a call where there is a disk, or else what is read, and `gives`
+/// with what has to come of it.
+pub(crate) fn judge_answers(judge: &mut Judge, calls: &mut Option<Calls>, lines: &[CaseLine<'_>]) {
     for pair in lines.chunks(2) {
         match pair {
-            [asked, wanted] if wanted.word.as_slice() == b"gives".as_slice() => {
-                judge_pair(alloc, budget, names, answers, asked, wanted, report)?;
-            }
-            [first, ..] => report.malformed(unknown(first))?,
+            [asked, wanted] if wanted.is("gives") => judge_pair(judge, calls, asked, wanted),
+            [first, ..] => judge.refuse(first.at, CaseFault::UnknownWord),
             [] => {}
         }
-    }
-    Ok(())
-}
-
-/// A line that stands where it says nothing.
-fn unknown(line: &CaseLine) -> Malformed {
-    Malformed {
-        at: line.at,
-        fault: CaseFault::UnknownWord,
     }
 }
 
 /// Judges one pair.
-fn judge_pair<A: Answers>(
-    alloc: Global,
-    budget: &mut Budget,
-    names: &Names,
-    answers: &mut A,
-    asked: &CaseLine,
-    wanted: &CaseLine,
-    report: &mut Report,
-) -> io::Result<()> {
-    let mut came = Vec::new(alloc);
-    if let Err(fault) = answers.put_answer(alloc, budget, names, asked, &mut came)? {
-        return report.malformed(Malformed {
-            at: asked.at,
-            fault,
-        });
+fn judge_pair(
+    judge: &mut Judge,
+    calls: &mut Option<Calls>,
+    asked: &CaseLine<'_>,
+    wanted: &CaseLine<'_>,
+) {
+    let mut came = Text::new(judge.reader.alloc);
+    judge.reader.at = asked.at;
+    match calls {
+        Some(calls) => calls.put_answer(&mut judge.reader, asked, &mut came),
+        None => put_reading(&mut judge.reader, asked, &mut came),
     }
-    match text_of(alloc, budget, &wanted.rest) {
-        Ok(text) => report.compare(wanted.at, "line", &text, &came),
-        Err(fault) => report.malformed(Malformed {
-            at: wanted.at,
-            fault,
-        }),
+    if judge.has_fault() {
+        return;
+    }
+    judge.reader.at = wanted.at;
+    let text = judge.reader.text_of(wanted.rest);
+    if !judge.has_fault() {
+        judge.compare_text(wanted.at, "line", &text, &came);
     }
 }
 
-impl Answers for Reading {
-    fn put_answer(
-        &mut self,
-        alloc: Global,
-        budget: &mut Budget,
-        names: &Names,
-        asked: &CaseLine,
-        out: &mut Vec<u8>,
-    ) -> io::Result<Result<(), CaseFault>> {
-        let bytes = match bytes_read(alloc, budget, names, asked) {
-            Ok(bytes) => bytes,
-            Err(fault) => return Ok(Err(fault)),
-        };
-        match asked.word.as_slice() {
-            b"block" => put_block(alloc, &bytes, out)?,
-            b"entry" => put_entry(alloc, &bytes, out)?,
-            b"side" => put_opened(alloc, &bytes, out)?,
-            b"line" => put_said(alloc, &bytes, out)?,
-            b"address" => return put_address(alloc, asked, &bytes, out),
-            _ => return Ok(Err(CaseFault::UnknownWord)),
-        }
-        Ok(Ok(()))
+/// Puts what reading gives: no line knows of another.
+fn put_reading(reader: &mut Reader, asked: &CaseLine<'_>, out: &mut Text) {
+    reader.spend(1000);
+    let word = found(&WORDS, asked.word);
+    let bytes = bytes_read(reader, word, asked.rest);
+    if word.is_none() {
+        reader.fail(CaseFault::UnknownWord);
+    }
+    if let Some(word) = word {
+        put_read(reader, word, asked.rest, &bytes, out);
     }
 }
 
 /// The bytes that are read: a line as its text, others as their words say.
-fn bytes_read(
-    alloc: Global,
-    budget: &mut Budget,
-    names: &Names,
-    asked: &CaseLine,
-) -> Result<Vec<u8>, CaseFault> {
-    budget.spend(1000)?;
-    match asked.word.as_slice() {
-        b"line" => text_of(alloc, budget, &asked.rest),
-        b"address" => bytes_of(alloc, budget, names, split_word(&asked.rest).1),
-        _ => bytes_of(alloc, budget, names, &asked.rest),
+fn bytes_read(reader: &mut Reader, word: Option<Word>, written: &[u8]) -> Vec<u8> {
+    match word {
+        Some(Word::Line) => reader.text_of(written),
+        Some(Word::Address) => reader.bytes_of(split_word(written).1),
+        _ => reader.bytes_of(written),
+    }
+}
+
+/// Puts what reading bytes gives.
+fn put_read(reader: &mut Reader, word: Word, written: &[u8], bytes: &[u8], out: &mut Text) {
+    match word {
+        Word::Block => put_block(reader.alloc, bytes, out),
+        Word::Entry => put_entry(reader.alloc, bytes, out),
+        Word::Side => put_opened(reader.alloc, bytes, out),
+        Word::Line => put_said(reader.alloc, bytes, out),
+        Word::Address => put_address(reader, written, bytes, out),
     }
 }
 
 /// Puts the address of bytes in the naming that the line says.
-fn put_address(
-    alloc: Global,
-    asked: &CaseLine,
-    bytes: &[u8],
-    out: &mut Vec<u8>,
-) -> io::Result<Result<(), CaseFault>> {
-    let address = match naming_of(split_word(&asked.rest).0) {
-        Ok(Naming::Sha) => ShaNames.address(bytes),
-        Ok(Naming::Tail) => TailNames.address(bytes),
-        Err(fault) => return Ok(Err(fault)),
-    };
-    put_hex(alloc, &address.0, out)?;
-    Ok(Ok(()))
+fn put_address(reader: &mut Reader, written: &[u8], bytes: &[u8], out: &mut Text) {
+    let naming = reader.naming(split_word(written).0);
+    out.put_hex("", &address_in(naming, bytes).0);
+}
+
+/// The address of bytes in a naming.
+pub(crate) fn address_in(naming: Naming, bytes: &[u8]) -> Address {
+    match naming {
+        Naming::Sha => ShaNames.address(bytes),
+        Naming::Tail => TailNames.address(bytes),
+    }
 }

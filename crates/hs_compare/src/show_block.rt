@@ -1,48 +1,40 @@
 //! Blocks and addresses as text.
-use crate::show::put_hex;
+use crate::text::Text;
 use hs_block::{Block, BlockFault};
 use hs_limits::Address;
 use std::alloc::Global;
-use std::io;
-use std::io::Write;
 
 /// Puts the block that the bytes spell, or why they spell none.
-pub fn put_block(alloc: Global, bytes: &[u8], out: &mut Vec<u8>) -> io::Result<()> {
+pub(crate) fn put_block(alloc: Global, bytes: &[u8], out: &mut Text) {
     match Block::read(alloc, bytes) {
         Ok(block) => {
-            write!(out, "pointers ")?;
-            put_addresses(alloc, block.pointers(), out)?;
-            write!(out, " data ")?;
-            put_hex(alloc, block.data(), out)
+            put_addresses(block.pointers(), out);
+            out.put_hex(" data ", block.data());
         }
         Err(fault) => put_fault(fault, out),
     }
 }
 
 /// Puts addresses, parted by spaces, or `-` where there are none.
-fn put_addresses(alloc: Global, addresses: &[Address], out: &mut Vec<u8>) -> io::Result<()> {
-    if addresses.is_empty() {
-        return write!(out, "-");
-    }
-    let mut is_first = true;
+fn put_addresses(addresses: &[Address], out: &mut Text) {
+    out.put("pointers");
     for address in addresses {
-        if !is_first {
-            write!(out, " ")?;
-        }
-        is_first = false;
-        put_hex(alloc, &address.0, out)?;
+        out.put_hex(" ", &address.0);
     }
-    Ok(())
+    if addresses.is_empty() {
+        out.put(" -");
+    }
 }
 
 /// Puts why bytes spell no block.
-fn put_fault(fault: BlockFault, out: &mut Vec<u8>) -> io::Result<()> {
-    match fault {
-        BlockFault::Short { at } => write!(out, "short {at}"),
-        BlockFault::BadVersion { found } => write!(out, "badversion {found}"),
-        BlockFault::TooMany { found } => write!(out, "toomany {found}"),
-        BlockFault::TooLong { found } => write!(out, "toolong {found}"),
-        BlockFault::Trailing { at } => write!(out, "trailing {at}"),
-        BlockFault::NoMemory => write!(out, "nomemory"),
-    }
+fn put_fault(fault: BlockFault, out: &mut Text) {
+    let (form, number) = match fault {
+        BlockFault::Short { at } => ("short #", at),
+        BlockFault::BadVersion { found } => ("badversion #", u64::from(found)),
+        BlockFault::TooMany { found } => ("toomany #", found),
+        BlockFault::TooLong { found } => ("toolong #", found),
+        BlockFault::Trailing { at } => ("trailing #", at),
+        BlockFault::NoMemory => ("nomemory", 0),
+    };
+    out.put_form(form, &[number]);
 }

@@ -1,48 +1,34 @@
 //! Entries of a log as text.
-use crate::show::put_hex;
+use crate::text::Text;
 use hs_entry::{Entry, EntryFault, read_entry};
 use hs_limits::{Address, Delta, Key};
 use hs_shared::SharedBytes;
 use std::alloc::Global;
-use std::io;
-use std::io::Write;
 
 /// Puts the number and the entry that the bytes spell, or why they spell none.
-pub fn put_entry(alloc: Global, bytes: &[u8], out: &mut Vec<u8>) -> io::Result<()> {
-    let bytes = SharedBytes::from_vec(alloc, Vec::from_slice(alloc, bytes)?)?;
-    match read_entry(alloc, bytes) {
+pub(crate) fn put_entry(alloc: Global, bytes: &[u8], out: &mut Text) {
+    match entry_of(alloc, bytes) {
         Ok((number, entry)) => {
-            write!(out, "{number} ")?;
-            put_fields(alloc, &entry, out)
+            out.put_form("# ", &[number]);
+            put_fields(&entry, out);
         }
         Err(fault) => put_fault(fault, out),
     }
 }
 
-/// The kind of an entry.
-pub fn kind_of(entry: &Entry) -> &'static str {
-    match entry {
-        Entry::View { .. } => "view",
-        Entry::Block { .. } => "block",
-        Entry::Mark { .. } => "mark",
-        Entry::Root { .. } => "root",
-        Entry::Drop { .. } => "drop",
-        Entry::Enter { .. } => "enter",
-        Entry::Got { .. } => "got",
-        Entry::Base { .. } => "base",
-        Entry::KeptBlock { .. } => "keptblock",
-        Entry::KeptRoot { .. } => "keptroot",
-        Entry::KeptRound { .. } => "keptround",
-    }
+/// The number and the entry that the bytes spell.
+pub(crate) fn entry_of(alloc: Global, bytes: &[u8]) -> Result<(u64, Entry), EntryFault> {
+    let bytes = Vec::from_slice(alloc, bytes)?;
+    read_entry(alloc, SharedBytes::from_vec(alloc, bytes)?)
 }
 
-/// Puts an entry of an operation, a view or an epoch: its kind and its fields.
-fn put_fields(alloc: Global, entry: &Entry, out: &mut Vec<u8>) -> io::Result<()> {
+/// Puts an entry: its kind and its fields.
+pub(crate) fn put_fields(entry: &Entry, out: &mut Text) {
     match entry {
-        Entry::View { view } => write!(out, "view {view}"),
+        Entry::View { view } => out.put_form("view #", &[*view]),
         Entry::Block { op, least, bytes } => {
-            write!(out, "block op {op} least {least} bytes ")?;
-            put_hex(alloc, bytes.as_slice(), out)
+            out.put_form("block op # least #", &[*op, *least]);
+            out.put_hex(" bytes ", bytes.as_slice());
         }
         Entry::Mark {
             op,
@@ -50,30 +36,27 @@ fn put_fields(alloc: Global, entry: &Entry, out: &mut Vec<u8>) -> io::Result<()>
             block,
             address,
         } => {
-            write!(out, "mark op {op} least {least} block {block} address ")?;
-            put_hex(alloc, &address.0, out)
+            out.put_form("mark op # least # block #", &[*op, *least, *block]);
+            out.put_hex(" address ", &address.0);
         }
         Entry::Root {
             op,
             held,
             address,
             key,
-        } => {
-            write!(out, "root op {op} held {held}")?;
-            put_place(alloc, address, key, out)
-        }
-        Entry::Drop { op, key } => {
-            write!(out, "drop op {op} key ")?;
-            Ok(out.extend_from_slice(key.as_slice())?)
-        }
-        Entry::Enter { op, epoch } => write!(out, "enter op {op} epoch {epoch}"),
-        _ => put_kept(alloc, entry, out),
+        } => put_root(*op, *held, address, key, out),
+        _ => put_more(entry, out),
     }
 }
 
-/// Puts an entry of a round, or of what was kept.
-fn put_kept(alloc: Global, entry: &Entry, out: &mut Vec<u8>) -> io::Result<()> {
+/// Puts an entry of a kind that is not of blocks and roots that are kept.
+fn put_more(entry: &Entry, out: &mut Text) {
     match entry {
+        Entry::Drop { op, key } => {
+            out.put_form("drop op #", &[*op]);
+            out.put_named(" key ", key.as_slice());
+        }
+        Entry::Enter { op, epoch } => out.put_form("enter op # epoch #", &[*op, *epoch]),
         Entry::Got {
             sender,
             epoch,
@@ -81,95 +64,39 @@ fn put_kept(alloc: Global, entry: &Entry, out: &mut Vec<u8>) -> io::Result<()> {
             total,
             deltas,
         } => {
-            write!(
-                out,
-                "got sender {sender} epoch {epoch} round {round} total {total}"
-            )?;
-            put_deltas(alloc, deltas.as_slice(), out)
+            out.put_form("got sender # epoch #", &[u64::from(*sender), *epoch]);
+            out.put_form(" round # total #", &[u64::from(*round), u64::from(*total)]);
+            put_deltas(deltas.as_slice(), out);
         }
-        Entry::Base {
-            view,
-            epoch,
-            swept,
-            round,
-            frames,
-        } => {
-            write!(out, "base view {view} epoch {epoch} swept {swept}")?;
-            write!(out, " round {round} frames {frames}")
-        }
-        Entry::KeptBlock {
-            born,
-            mark,
-            flags,
-            count,
-            bytes,
-        } => {
-            write!(out, "keptblock born {born} mark {mark} flags {flags}")?;
-            write!(out, " count {count} bytes ")?;
-            put_hex(alloc, bytes.as_slice(), out)
-        }
-        _ => put_kept_more(alloc, entry, out),
+        // Reading gives no entry of these kinds yet.
+        _ => out.put("kept"),
     }
 }
 
-/// Puts a root or a round that was kept.
-fn put_kept_more(alloc: Global, entry: &Entry, out: &mut Vec<u8>) -> io::Result<()> {
-    match entry {
-        Entry::KeptRoot {
-            created,
-            dropped,
-            counted,
-            address,
-            key,
-        } => {
-            write!(
-                out,
-                "keptroot created {created} dropped {dropped} counted {counted}"
-            )?;
-            put_place(alloc, address, key, out)
-        }
-        Entry::KeptRound {
-            way,
-            other,
-            epoch,
-            round,
-            total,
-            deltas,
-        } => {
-            write!(out, "keptround way {way} other {other} epoch {epoch}")?;
-            write!(out, " round {round} total {total}")?;
-            put_deltas(alloc, deltas.as_slice(), out)
-        }
-        _ => write!(out, "{}", kind_of(entry)),
-    }
-}
-
-/// Puts the address and the key of a root.
-fn put_place(alloc: Global, address: &Address, key: &Key, out: &mut Vec<u8>) -> io::Result<()> {
-    write!(out, " address ")?;
-    put_hex(alloc, &address.0, out)?;
-    write!(out, " key ")?;
-    Ok(out.extend_from_slice(key.as_slice())?)
+/// Puts a root that was retained.
+fn put_root(op: u64, held: u64, address: &Address, key: &Key, out: &mut Text) {
+    out.put_form("root op # held #", &[op, held]);
+    out.put_hex(" address ", &address.0);
+    out.put_named(" key ", key.as_slice());
 }
 
 /// Puts the amount of each address.
-fn put_deltas(alloc: Global, deltas: &[Delta], out: &mut Vec<u8>) -> io::Result<()> {
-    write!(out, " deltas {}", deltas.len())?;
+fn put_deltas(deltas: &[Delta], out: &mut Text) {
+    out.put_form(" deltas #", &[deltas.len() as u64]);
     for delta in deltas {
-        write!(out, " ")?;
-        put_hex(alloc, &delta.address.0, out)?;
-        write!(out, " {}", delta.amount)?;
+        out.put_hex(" ", &delta.address.0);
+        out.put_form(" #", &[u64::from(delta.amount)]);
     }
-    Ok(())
 }
 
 /// Puts why bytes spell no entry.
-fn put_fault(fault: EntryFault, out: &mut Vec<u8>) -> io::Result<()> {
-    match fault {
-        EntryFault::Short { at } => write!(out, "short {at}"),
-        EntryFault::BadKind { found } => write!(out, "badkind {found}"),
-        EntryFault::BadField { at } => write!(out, "badfield {at}"),
-        EntryFault::Trailing { at } => write!(out, "trailing {at}"),
-        EntryFault::NoMemory => write!(out, "nomemory"),
-    }
+fn put_fault(fault: EntryFault, out: &mut Text) {
+    let (form, number) = match fault {
+        EntryFault::Short { at } => ("short #", at),
+        EntryFault::BadKind { found } => ("badkind #", u64::from(found)),
+        EntryFault::BadField { at } => ("badfield #", at),
+        EntryFault::Trailing { at } => ("trailing #", at),
+        EntryFault::NoMemory => ("nomemory", 0),
+    };
+    out.put_form(form, &[number]);
 }

@@ -1,126 +1,111 @@
 //! Lines of a script, as what they say.
-use crate::show::{put_hex, put_numbers};
-use hs_limits::Address;
+use crate::text::Text;
+use hs_limits::{Address, Key, Name};
 use hs_model::{Command, Op};
 use hs_script::{ScriptFault, read_line};
 use std::alloc::Global;
-use std::io;
-use std::io::Write;
 
 /// Puts what a line of a script says.
-pub fn put_said(alloc: Global, line: &[u8], out: &mut Vec<u8>) -> io::Result<()> {
+pub(crate) fn put_said(alloc: Global, line: &[u8], out: &mut Text) {
     match read_line(alloc, line) {
-        Ok(None) => write!(out, "blank"),
-        Ok(Some(Command::Client(op))) => put_op(alloc, &op, out),
-        Ok(Some(command)) => put_command(&command, out),
-        Err(ScriptFault::BadLine) => write!(out, "bad"),
-        Err(ScriptFault::NoMemory) => write!(out, "nomemory"),
+        Ok(said) => put_line(said, out),
+        Err(ScriptFault::BadLine) => out.put("bad"),
+        Err(ScriptFault::NoMemory) => out.put("nomemory"),
     }
 }
 
-/// Puts a command that drives the store.
-fn put_command(command: &Command, out: &mut Vec<u8>) -> io::Result<()> {
-    match command {
-        Command::Client(_) => write!(out, "client"),
-        Command::Settle => write!(out, "settle"),
-        Command::Turn { peer } => write!(out, "turn peer {peer}"),
-        Command::Nudge { peer } => write!(out, "nudge peer {peer}"),
-        Command::Deliver { message } => write!(out, "deliver message {message}"),
-        Command::Lose { message } => write!(out, "lose message {message}"),
-        Command::Repeat { message } => write!(out, "repeat message {message}"),
-        Command::Fail { peer } => write!(out, "fail peer {peer}"),
-        Command::Start { peer } => write!(out, "start peer {peer}"),
-        Command::Reclaim { peer } => write!(out, "reclaim peer {peer}"),
+/// Puts a command, or that there is none.
+fn put_line(said: Option<Command>, out: &mut Text) {
+    match said {
+        Some(command) => put_command(&command, out),
+        None => out.put("blank"),
     }
+}
+
+/// Puts a command: a client's operation, or one that drives the store.
+fn put_command(command: &Command, out: &mut Text) {
+    let (form, number) = match command {
+        Command::Client(op) => return put_op(op, out),
+        Command::Settle => ("settle", 0),
+        Command::Turn { peer } => ("turn peer #", u64::from(*peer)),
+        Command::Nudge { peer } => ("nudge peer #", u64::from(*peer)),
+        Command::Deliver { message } => ("deliver message #", *message),
+        Command::Lose { message } => ("lose message #", *message),
+        Command::Repeat { message } => ("repeat message #", *message),
+        Command::Fail { peer } => ("fail peer #", u64::from(*peer)),
+        Command::Start { peer } => ("start peer #", u64::from(*peer)),
+        Command::Reclaim { peer } => ("reclaim peer #", u64::from(*peer)),
+    };
+    out.put_form(form, &[number]);
 }
 
 /// Puts a client's operation: its word, and its fields.
-fn put_op(alloc: Global, op: &Op, out: &mut Vec<u8>) -> io::Result<()> {
+fn put_op(op: &Op, out: &mut Text) {
     match op {
-        Op::Open { session } => put_named("open session", session.as_slice(), out),
-        Op::Close { session } => put_named("close session", session.as_slice(), out),
+        Op::Open { session } => out.put_named("open session ", session.as_slice()),
+        Op::Close { session } => out.put_named("close session ", session.as_slice()),
         Op::Write {
             session,
             payload,
             handles,
             address,
         } => {
-            put_named("write session", session.as_slice(), out)?;
-            write!(out, " data ")?;
-            put_hex(alloc, payload.as_slice(), out)?;
-            write!(out, " handles ")?;
-            put_handles(alloc, handles.as_slice(), out)?;
-            put_address(alloc, address.as_ref(), out)
+            out.put_named("write session ", session.as_slice());
+            out.put_hex(" data ", payload.as_slice());
+            put_handles(handles.as_slice(), out);
+            put_address(address.as_ref(), out);
         }
-        Op::Read { session, handle } => put_handle(
-            "read session",
-            session.as_slice(),
-            *handle,
-            out,
-        ),
+        Op::Read { session, handle } => put_handle("read session ", session, *handle, out),
         _ => put_root_op(op, out),
     }
 }
 
 /// Puts an operation on roots, handles or the whole store.
-fn put_root_op(op: &Op, out: &mut Vec<u8>) -> io::Result<()> {
+fn put_root_op(op: &Op, out: &mut Text) {
     match op {
-        Op::Look { session, key } => {
-            put_named("look session", session.as_slice(), out)?;
-            put_named(" key", key.as_slice(), out)
-        }
+        Op::Look { session, key } => put_key("look session ", session, key, out),
         Op::Root {
             session,
             key,
             handle,
         } => {
-            put_named("root session", session.as_slice(), out)?;
-            put_named(" key", key.as_slice(), out)?;
-            write!(out, " handle {handle}")
+            put_key("root session ", session, key, out);
+            out.put_form(" handle #", &[u64::from(*handle)]);
         }
-        Op::Drop { key } => put_named("drop key", key.as_slice(), out),
-        Op::Forget { session, handle } => {
-            put_handle("forget session", session.as_slice(), *handle, out)
-        }
-        Op::Name { session, handle } => put_handle(
-            "name session",
-            session.as_slice(),
-            *handle,
-            out,
-        ),
-        Op::Delete => write!(out, "delete"),
-        _ => write!(out, "stat"),
+        Op::Drop { key } => out.put_named("drop key ", key.as_slice()),
+        Op::Forget { session, handle } => put_handle("forget session ", session, *handle, out),
+        Op::Name { session, handle } => put_handle("name session ", session, *handle, out),
+        Op::Delete => out.put("delete"),
+        _ => out.put("stat"),
     }
 }
 
-/// Puts a word and the bytes of a name or a key.
-fn put_named(word: &str, bytes: &[u8], out: &mut Vec<u8>) -> io::Result<()> {
-    write!(out, "{word} ")?;
-    Ok(out.extend_from_slice(bytes)?)
+/// Puts a word, a session and a key.
+fn put_key(word: &str, session: &Name, key: &Key, out: &mut Text) {
+    out.put_named(word, session.as_slice());
+    out.put_named(" key ", key.as_slice());
 }
 
-/// Puts a word, a name and a handle.
-fn put_handle(word: &str, session: &[u8], handle: u32, out: &mut Vec<u8>) -> io::Result<()> {
-    put_named(word, session, out)?;
-    write!(out, " handle {handle}")
+/// Puts a word, a session and a handle.
+fn put_handle(word: &str, session: &Name, handle: u32, out: &mut Text) {
+    out.put_named(word, session.as_slice());
+    out.put_form(" handle #", &[u64::from(handle)]);
 }
 
 /// Puts the numbers of handles.
-fn put_handles(alloc: Global, handles: &[u32], out: &mut Vec<u8>) -> io::Result<()> {
-    let mut numbers = Vec::new(alloc);
+fn put_handles(handles: &[u32], out: &mut Text) {
+    out.put(" handles");
     for handle in handles {
-        numbers.push(u64::from(*handle))?;
+        out.put_form(" #", &[u64::from(*handle)]);
     }
-    put_numbers(&numbers, out)
+    if handles.is_empty() {
+        out.put(" -");
+    }
 }
 
 /// Puts the address that a write was given. A line gives it none.
-fn put_address(alloc: Global, address: Option<&Address>, out: &mut Vec<u8>) -> io::Result<()> {
-    match address {
-        None => Ok(()),
-        Some(address) => {
-            write!(out, " address ")?;
-            put_hex(alloc, &address.0, out)
-        }
+fn put_address(address: Option<&Address>, out: &mut Text) {
+    if let Some(address) = address {
+        out.put_hex(" address ", &address.0);
     }
 }
