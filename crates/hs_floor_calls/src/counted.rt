@@ -1,42 +1,23 @@
-//! A disk that counts what it is asked to change.
+//! A disk that counts its syncs.
 use hs_ports::{Disk, PortFault, Side, Watch};
 
-/// What a disk was asked: how often to write or cut, how many bytes to write, and how often to sync.
-pub(crate) type Asked = (u64, u64, u64);
-
-/// A disk, and what it was asked so far.
+/// A disk, and how often it was asked to sync.
 #[derive(Drop)]
 pub(crate) struct Counted<D> {
     disk: D,
-    changes: u64,
-    bytes: u64,
     syncs: u64,
 }
 
 impl<D: Disk> Counted<D> {
     /// The count begins.
     pub(crate) fn new(disk: D) -> Counted<D> {
-        Counted {
-            disk,
-            changes: 0,
-            bytes: 0,
-            syncs: 0,
-        }
+        Counted { disk, syncs: 0 }
     }
 
-    /// What was asked so far.
-    pub(crate) fn asked(&self) -> Asked {
-        (self.changes, self.bytes, self.syncs)
+    /// How often it was asked to sync.
+    pub(crate) fn syncs(&self) -> u64 {
+        self.syncs
     }
-}
-
-/// What was asked since then.
-pub(crate) fn since(then: Asked, now: Asked) -> Asked {
-    (
-        now.0.saturating_sub(then.0),
-        now.1.saturating_sub(then.1),
-        now.2.saturating_sub(then.2),
-    )
 }
 
 impl<D: Disk> Disk for Counted<D> {
@@ -77,13 +58,10 @@ impl<D: Disk> Disk for Counted<D> {
         at: u64,
         bytes: &[u8],
     ) -> Result<(), PortFault> {
-        self.changes = self.changes.saturating_add(1);
-        self.bytes = self.bytes.saturating_add(bytes.len() as u64);
         self.disk.write_at(watch, side, at, bytes)
     }
 
     fn cut(&mut self, watch: &mut Watch, side: Side, len: u64) -> Result<(), PortFault> {
-        self.changes = self.changes.saturating_add(1);
         self.disk.cut(watch, side, len)
     }
 

@@ -6,7 +6,7 @@ use Rattle.hs_model.specs.declared.plain.PlainRoot.{PlainRoot}
 use Rattle.hs_model.specs.Plain.{root_of}
 use Rattle.hs_model.specs.Store.{root_cmp}
 use Rattle.hs_model.proofs.SetLemmas.{one_pushed_sorted, none_sorted}
-use Rattle.hs_calls.proofs.reach.one_block.Goals as goal
+use Rattle.hs_floor_calls.proofs.reach.one_block.Goals as goal
 
 pub returns : goal.returns
 returns c =

@@ -1,4 +1,4 @@
-//! What is reached, swept and peeled in a store of one block.
+//! What is reached, unreachable and peeled in a store of one block.
 ghost use Rattle.std.specs.Prelude.{IfOk};
 ghost use Rattle.hs_model.specs.Plain.{IsPlain};
 
@@ -36,23 +36,25 @@ fn one_block(alloc: Global) -> Result<PlainStore, Fail>
 }
 
 #[test]
-fn a_block_is_reached_swept_or_peeled(rt: HostRuntime) -> Result<(), Fail> {
-    let alloc = rt.alloc();
-    let store = one_block(alloc)?;
-    let both: [Address; 2] = [FIRST, SECOND];
-    let first: [Address; 1] = [FIRST];
-    let none: [Address; 0] = [];
-    assert_eq!(rt; reached(alloc, &store, &first)?.as_slice(), both.as_slice());
-    assert_eq!(rt; reached(alloc, &store, &none)?.as_slice(), none.as_slice());
-    assert_eq!(rt;
-        unreachable(alloc, &store, 2, 0)?.as_slice(),
-        first.as_slice()
-    );
-    assert_eq!(rt;
-        unreachable(alloc, &store, 1, 0)?.as_slice(),
-        none.as_slice()
-    );
-    assert_eq!(rt; peel(alloc, &store, &none)?.as_slice(), first.as_slice());
-    assert_eq!(rt; peel(alloc, &store, &first)?.as_slice(), none.as_slice());
+fn a_block_reaches_what_it_points_to(rt: HostRuntime) -> Result<(), Fail> {
+    let store = one_block(rt.alloc())?;
+    let list = reached(rt.alloc(), &store, &[FIRST])?;
+    assert_eq!(rt; list.as_slice(), [FIRST, SECOND].as_slice());
+    Ok(())
+}
+
+#[test]
+fn a_block_that_nothing_keeps_is_unreachable(rt: HostRuntime) -> Result<(), Fail> {
+    let store = one_block(rt.alloc())?;
+    let list = unreachable(rt.alloc(), &store, 2, 0)?;
+    assert_eq!(rt; list.as_slice(), [FIRST].as_slice());
+    Ok(())
+}
+
+#[test]
+fn a_block_that_nothing_holds_is_peeled(rt: HostRuntime) -> Result<(), Fail> {
+    let store = one_block(rt.alloc())?;
+    let list = peel(rt.alloc(), &store, &[SECOND])?;
+    assert_eq!(rt; list.as_slice(), [FIRST].as_slice());
     Ok(())
 }

@@ -1,0 +1,12 @@
+//! Public calls of low crates that no case and no program of the gate makes.
+#![tactic(auto)]
+
+#[cfg(test)]
+mod addresses;
+mod counted;
+#[cfg(test)]
+mod lists;
+#[cfg(test)]
+mod peer_log;
+#[cfg(test)]
+mod reach;

@@ -1,7 +1,0 @@
-//! Public calls of one client operation.
-#![tactic(auto)]
-
-#[cfg(test)]
-mod operation;
-#[cfg(test)]
-mod seen;

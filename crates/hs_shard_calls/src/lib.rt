@@ -1,5 +1,0 @@
-//! Public calls of a shard's catalogue.
-#![tactic(auto)]
-
-#[cfg(test)]
-mod catalogue;
