@@ -49,7 +49,7 @@ impl Cluster {
 
     /// The core, and what happened beside the answers: all that is asked of a cluster at its end. The
     /// logs are dropped. It takes no memory.
-    pub fn into_parts(self) -> (Core, ListOf<CourseItem>)
+    pub fn into_told(self) -> (Core, ListOf<CourseItem>)
         ensures core { result.0 ≡ self.core }
         ensures course { result.1 ≡ self.course }
     {

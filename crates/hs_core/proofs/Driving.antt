@@ -38,23 +38,23 @@ use Rattle.hs_tokens.specs.Seats.{Seats, held_at, seat_of}
 -- ---- disks
 
 -- the blocks that were appended: shard, number of the entry, spelling
-abbrev pub Kept : Type 0
-Kept = List (ℕ × ℕ × List ℕ)
+abbrev pub Appended : Type 0
+Appended = List (ℕ × ℕ × List ℕ)
 
 pub record World : Type 0 where
   pub core : Core
-  pub kept : Kept
+  pub kept : Appended
 
-abbrev pub kept_with : ℕ → Job → Kept → Kept
+abbrev pub kept_with : ℕ → Job → Appended → Appended
 kept_with shard (job.Append number (kind.Block line least bytes)) kept = (shard, number, bytes) ∷ kept
 kept_with shard other kept = kept
 
-abbrev pub read_block_of : ℕ → ℕ → Kept → Done
+abbrev pub read_block_of : ℕ → ℕ → Appended → Done
 read_block_of shard number kept =
     option_map_or (λ e. done.Bytes number e.2) (find (λ e. e.0 == shard && e.1 == number) kept) (done.Gone number)
 
 -- a job succeeds
-abbrev pub report_of : ℕ → Kept → Job → Done
+abbrev pub report_of : ℕ → Appended → Job → Done
 report_of shard kept (job.Append number entry) = done.Stored number
 report_of shard kept (job.Seal number) = done.Sealed number
 report_of shard kept (job.Read number) = read_block_of shard number kept

@@ -1,9 +1,9 @@
 -- What stays of a core, step by step.
 use Rattle.std.proofs.Common.{◌∙◌}
-use Rattle.hs_core_state.specs.Keeping.{Kept}
+use Rattle.hs_core_state.specs.Keeping.{KeepsCore}
 use Rattle.hs_core_words.specs.State.{Core}
 
-pub kept_then : (a b c : Core) → Kept a b → Kept b c → Kept a c
+pub kept_then : (a b c : Core) → KeepsCore a b → KeepsCore b c → KeepsCore a c
 kept_then a b c x y = record {
   journal = y.journal ∙ x.journal;
   limits = y.limits ∙ x.limits;

@@ -5,7 +5,7 @@ ghost use Rattle.hs_core_words.specs.Asking.{no_peer, not_down, not_up, nudge, n
 ghost use Rattle.hs_core_words.specs.Entering.{propose_due};
 ghost use Rattle.hs_core_words.specs.Failing.{go_down};
 ghost use Rattle.hs_core_words.specs.Joining.{start};
-ghost use Rattle.hs_core_state.specs.Keeping.{Kept};
+ghost use Rattle.hs_core_state.specs.Keeping.{KeepsCore};
 ghost use Rattle.hs_core_words.specs.Looking.{lead_of, status_of};
 ghost use Rattle.hs_members.specs.Members.{IsPeer, IsShard, is_down};
 ghost use Rattle.hs_model.specs.Refusals.{first};
@@ -22,7 +22,7 @@ use hs_model::Reply;
 /// A turn of a peer is asked for.
 pub(crate) fn turn(core: &mut State, line: u64, peer: u8) -> Result<(), NoMemory>
     ensures ok { OnOk result (core.new ≡ with_up line peer (λ core. core) core.old) }
-    ensures kept { Kept core.old core.new }
+    ensures kept { KeepsCore core.old core.new }
 {
     if let Some(refusal) = not_up(core, peer) {
         return refuse_event(core, line, refusal);
@@ -33,7 +33,7 @@ pub(crate) fn turn(core: &mut State, line: u64, peer: u8) -> Result<(), NoMemory
 /// A peer sends again what may have been lost.
 pub(crate) fn nudge_line(core: &mut State, line: u64, peer: u8) -> Result<(), NoMemory>
     ensures ok { OnOk result (core.new ≡ with_up line peer (nudge_good peer) core.old) }
-    ensures kept { Kept core.old core.new }
+    ensures kept { KeepsCore core.old core.new }
 {
     if let Some(refusal) = not_up(core, peer) {
         return refuse_event(core, line, refusal);
@@ -44,7 +44,7 @@ pub(crate) fn nudge_line(core: &mut State, line: u64, peer: u8) -> Result<(), No
 /// A peer fails.
 pub(crate) fn fail_line(core: &mut State, line: u64, peer: u8) -> Result<(), NoMemory>
     ensures ok { OnOk result (core.new ≡ with_up line peer (go_down peer) core.old) }
-    ensures kept { Kept core.old core.new }
+    ensures kept { KeepsCore core.old core.new }
 {
     if let Some(refusal) = not_up(core, peer) {
         return refuse_event(core, line, refusal);
@@ -55,7 +55,7 @@ pub(crate) fn fail_line(core: &mut State, line: u64, peer: u8) -> Result<(), NoM
 /// A peer that is down begins to join.
 pub(crate) fn start_line(core: &mut State, line: u64, peer: u8) -> Result<(), NoMemory>
     ensures ok { OnOk result (core.new ≡ with_down line peer (start peer) core.old) }
-    ensures kept { Kept core.old core.new }
+    ensures kept { KeepsCore core.old core.new }
 {
     if let Some(refusal) = not_down(core, peer) {
         return refuse_event(core, line, refusal);
@@ -98,7 +98,7 @@ fn not_down(core: &State, peer: u8) -> Option<Reply>
 fn nudge_good(core: &mut State, peer: u8) -> Result<(), NoMemory>
     requires { IsPeer core.old.members.shape peer }
     ensures ok { OnOk result (core.new ≡ nudge_good peer core.old) }
-    ensures kept { Kept core.old core.new }
+    ensures kept { KeepsCore core.old core.new }
 {
     if core.status(peer) != PeerStatus::Good {
         return Ok(());
@@ -111,7 +111,7 @@ fn nudge_good(core: &mut State, peer: u8) -> Result<(), NoMemory>
 fn nudge(core: &mut State, peer: u8) -> Result<(), NoMemory>
     requires { IsPeer core.old.members.shape peer }
     ensures ok { OnOk result (core.new ≡ nudge peer core.old) }
-    ensures kept { Kept core.old core.new }
+    ensures kept { KeepsCore core.old core.new }
 {
     let shard = core.home(peer);
     nudge_lead(core, peer, shard)?;
@@ -123,7 +123,7 @@ fn nudge_lead(core: &mut State, peer: u8, shard: u8) -> Result<(), NoMemory>
     requires { IsShard core.old.members.shape shard }
     ensures ok { OnOk result (core.new ≡ change_if (is_peer peer (lead_of shard core.old))
         (λ core. send_rounds shard (propose_due shard core)) core.old) }
-    ensures kept { Kept core.old core.new }
+    ensures kept { KeepsCore core.old core.new }
 {
     if is_peer(peer, core.lead(shard)) {
         propose_due(core, shard)?;
@@ -136,7 +136,7 @@ fn nudge_lead(core: &mut State, peer: u8, shard: u8) -> Result<(), NoMemory>
 fn send_rounds(core: &mut State, shard: u8) -> Result<(), NoMemory>
     requires { IsShard core.old.members.shape shard }
     ensures ok { OnOk result (core.new ≡ send_rounds shard core.old) }
-    ensures kept { Kept core.old core.new }
+    ensures kept { KeepsCore core.old core.new }
 {
     core.send_round(1, shard)?;
     core.send_round(0, shard)

@@ -2,7 +2,7 @@
 ghost use Rattle.std.specs.Prelude.{◌≡◌, OnOk};
 ghost use Rattle.hs_core_words.specs.Changing.{add_operation};
 ghost use Rattle.hs_core_state.specs.Going.{answer_new, carry_by, compare_new};
-ghost use Rattle.hs_core_state.specs.Keeping.{Kept};
+ghost use Rattle.hs_core_state.specs.Keeping.{KeepsCore};
 ghost use Rattle.hs_core_words.specs.Operating.{begin_line};
 ghost use Rattle.hs_members.specs.Members.{IsShard};
 
@@ -17,7 +17,7 @@ use hs_ops::{OpStep, Operation};
 /// view.
 pub(crate) fn begin_line(core: &mut State, line: u64, op: Op) -> Result<(), NoMemory>
     ensures ok { OnOk result (core.new ≡ begin_line line op core.old) }
-    ensures kept { Kept (record core.old {
+    ensures kept { KeepsCore (record core.old {
       progress = record core.old.progress { last_line = line };
     }) core.new }
 {
@@ -47,7 +47,7 @@ fn take_first(
     requires waiting { IsShard core.old.members.shape waiting.shard }
     ensures ok { OnOk result (core.new
         ≡ carry_by aim line judged.step judged.helds (add_operation line waiting core.old)) }
-    ensures kept { Kept core.old core.new }
+    ensures kept { KeepsCore core.old core.new }
 {
     let Judged { step, helds } = judged;
     match step {
@@ -71,7 +71,7 @@ fn answer_first(
 ) -> Result<(), NoMemory>
     requires { IsShard core.old.members.shape waiting.shard }
     ensures ok { OnOk result (core.new ≡ answer_new line reply helds waiting core.old) }
-    ensures kept { Kept core.old core.new }
+    ensures kept { KeepsCore core.old core.new }
 {
     if core.is_awaited(line) {
         core.add_operation(line, waiting)?;
@@ -92,7 +92,7 @@ fn compare_first(
     requires shard { IsShard core.old.members.shape shard }
     requires waiting { IsShard core.old.members.shape waiting.shard }
     ensures ok { OnOk result (core.new ≡ compare_new shard line number waiting core.old) }
-    ensures kept { Kept core.old core.new }
+    ensures kept { KeepsCore core.old core.new }
 {
     let wait = Wait::Bytes { number };
     let Waiting {

@@ -3,7 +3,7 @@ ghost use Rattle.std.specs.Prelude.{◌≡◌, ◌+◌, IfSome, OnOk};
 ghost use Rattle.hs_awaiting.specs.declared.wait.Wait.TheVariants as wait;
 ghost use Rattle.hs_awaiting.specs.Words.{change_with, ◌▸◌};
 ghost use Rattle.hs_core_state.specs.Going.{answer_with, carry_by, set_wait};
-ghost use Rattle.hs_core_state.specs.Keeping.{Kept};
+ghost use Rattle.hs_core_state.specs.Keeping.{KeepsCore};
 ghost use Rattle.hs_core_words.specs.Looking.{group_of, lead_of, operation_of};
 ghost use Rattle.hs_core_words.specs.Operating.{add_read, propose_entry};
 ghost use Rattle.hs_members.specs.Members.{IsShard};
@@ -28,7 +28,7 @@ pub(crate) fn carry_out(
     requires { IsShard core.old.members.shape aim.shard }
     ensures ok { OnOk result
         (core.new ≡ carry_by aim line judged.step judged.helds core.old) }
-    ensures kept { Kept core.old core.new }
+    ensures kept { KeepsCore core.old core.new }
 {
     let Judged { step, helds } = judged;
     match step {
@@ -52,7 +52,7 @@ pub(crate) fn answer(
 ) -> Result<(), NoMemory>
     ensures ok { OnOk result (core.new
         ≡ (core.old ▸ change_with (operation_of line core.old) (answer_with line reply helds))) }
-    ensures kept { Kept core.old core.new }
+    ensures kept { KeepsCore core.old core.new }
 {
     let Some(waiting) = core.end_operation(line)? else {
         return Ok(());
@@ -66,7 +66,7 @@ fn propose_for(core: &mut State, line: u64, shard: u8, entry: Entry) -> Result<(
     ensures ok { OnOk result (core.new ≡ (core.old
         ▸ set_wait line (wait.Entry (last_number (group_of shard core.old) + 1))
         ▸ propose_entry shard entry)) }
-    ensures kept { Kept core.old core.new }
+    ensures kept { KeepsCore core.old core.new }
 {
     let Some(number) = next_number(core, shard) else {
         return Err(NoMemory);
@@ -80,7 +80,7 @@ fn compare(core: &mut State, line: u64, shard: u8, number: u64) -> Result<(), No
     requires { IsShard core.old.members.shape shard }
     ensures ok { OnOk result (core.new ≡ (core.old ▸ set_wait line (wait.Bytes number)
         ▸ change_with (lead_of shard core.old) (add_read number line))) }
-    ensures kept { Kept core.old core.new }
+    ensures kept { KeepsCore core.old core.new }
 {
     let lead = core.lead(shard);
     core.set_wait(line, Wait::Bytes { number })?;
@@ -96,7 +96,7 @@ pub(crate) fn read_for(core: &mut State, line: u64, shard: u8, number: u64) -> R
     requires { IsShard core.old.members.shape shard }
     ensures ok { OnOk result (core.new
         ≡ change_with (lead_of shard core.old) (add_read number line) core.old) }
-    ensures kept { Kept core.old core.new }
+    ensures kept { KeepsCore core.old core.new }
 {
     if let Some(peer) = core.lead(shard) {
         let job = Job::Read { number };

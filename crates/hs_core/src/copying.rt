@@ -1,7 +1,7 @@
 //! A Copy comes to a peer.
 ghost use Rattle.std.specs.Prelude.{◌≡◌, OnOk};
 ghost use Rattle.hs_core_words.specs.Delivering.{on_copy};
-ghost use Rattle.hs_core_state.specs.Keeping.{Kept};
+ghost use Rattle.hs_core_state.specs.Keeping.{KeepsCore};
 ghost use Rattle.hs_core_words.specs.Looking.{group_of};
 ghost use Rattle.hs_members.specs.Members.{IsShard};
 ghost use Rattle.hs_replica.specs.Group.{last_number};
@@ -22,7 +22,7 @@ pub(crate) fn on_copy(
     entry: Entry,
 ) -> Result<(), NoMemory>
     ensures ok { OnOk result (core.new ≡ on_copy shard peer view number entry core.old) }
-    ensures kept { Kept core.old core.new }
+    ensures kept { KeepsCore core.old core.new }
 {
     if shard >= core.shape().shards {
         return Ok(());

@@ -3,7 +3,7 @@ ghost use Rattle.std.specs.Prelude.{◌≡◌, OnOk};
 ghost use Rattle.hs_awaiting.specs.Words.{change_if};
 ghost use Rattle.hs_core_words.specs.Asking.{deliver, with_message};
 ghost use Rattle.hs_core_words.specs.Delivering.{handle, is_new_round, take_have};
-ghost use Rattle.hs_core_state.specs.Keeping.{Kept};
+ghost use Rattle.hs_core_state.specs.Keeping.{KeepsCore};
 ghost use Rattle.hs_core_words.specs.Looking.{status_of};
 ghost use Rattle.hs_core_words.specs.Operating.{propose_entry};
 ghost use Rattle.hs_members.specs.Members.{IsShard, is_good_status};
@@ -21,7 +21,7 @@ use hs_rounds::Place;
 /// The message of a number comes; where there is none, that is told.
 pub(crate) fn deliver(core: &mut State, line: u64, number: u64) -> Result<(), NoMemory>
     ensures ok { OnOk result (core.new ≡ with_message line number (deliver number) core.old) }
-    ensures kept { Kept core.old core.new }
+    ensures kept { KeepsCore core.old core.new }
 {
     if core.message(number).is_none() {
         return refuse_event(core, line, Reply::NoMessage { message: number });
@@ -35,7 +35,7 @@ pub(crate) fn deliver(core: &mut State, line: u64, number: u64) -> Result<(), No
 /// A message comes.
 fn handle(core: &mut State, message: Message) -> Result<(), NoMemory>
     ensures ok { OnOk result (core.new ≡ handle message core.old) }
-    ensures kept { Kept core.old core.new }
+    ensures kept { KeepsCore core.old core.new }
 {
     match message {
         Message::Copy {
@@ -84,7 +84,7 @@ fn hear_have(
     sealed: u64,
 ) -> Result<(), NoMemory>
     ensures ok { OnOk result (core.new ≡ take_have shard from to view sealed core.old) }
-    ensures kept { Kept core.old core.new }
+    ensures kept { KeepsCore core.old core.new }
 {
     if !is_good(core, to) {
         return Ok(());
@@ -102,7 +102,7 @@ fn hear_round(core: &mut State, shard: u8, place: Place, got: Entry) -> Result<(
     ensures ok { OnOk result (core.new
         ≡ change_if (is_new_round shard place.from place.epoch place.round core.old)
         (propose_entry shard got) core.old) }
-    ensures kept { Kept core.old core.new }
+    ensures kept { KeepsCore core.old core.new }
 {
     if shard >= core.shape().shards {
         return Ok(());

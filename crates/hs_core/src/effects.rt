@@ -4,7 +4,7 @@ ghost use Rattle.hs_awaiting.specs.Words.{change_with};
 ghost use Rattle.hs_core_words.specs.Effects.{after_entry, commit, commit_next, note_sweep, reach_view};
 ghost use Rattle.hs_core_words.specs.Entering.{propose_due};
 ghost use Rattle.hs_core_state.specs.Handing.{take_handed};
-ghost use Rattle.hs_core_state.specs.Keeping.{Kept};
+ghost use Rattle.hs_core_state.specs.Keeping.{KeepsCore};
 ghost use Rattle.hs_core_words.specs.Looking.{group_of};
 ghost use Rattle.hs_members.specs.Members.{IsShard};
 ghost use Rattle.hs_replica.specs.Group.{committed};
@@ -24,7 +24,7 @@ use hs_shard::Effect;
 pub(crate) fn commit(core: &mut State, shard: u8) -> Result<(), NoMemory>
     requires { IsShard core.old.members.shape shard }
     ensures ok { OnOk result (core.new ≡ commit shard core.old) }
-    ensures kept { Kept core.old core.new }
+    ensures kept { KeepsCore core.old core.new }
 {
     let front = core.front(shard);
     let due = core.group(shard).commit_front().saturating_sub(front);
@@ -42,7 +42,7 @@ fn commit_next(core: &mut State, shard: u8) -> Result<bool, NoMemory>
     requires { IsShard core.old.members.shape shard }
     ensures ok { OnOk result (core.new ≡ commit_next shard core.old) }
     ensures more { IfOk result (λ more. more ≡ is_some (committed (group_of shard core.old))) }
-    ensures kept { Kept core.old core.new }
+    ensures kept { KeepsCore core.old core.new }
 {
     let Some((number, entry)) = core.take_committed(shard) else {
         return Ok(false);
@@ -56,7 +56,7 @@ fn commit_next(core: &mut State, shard: u8) -> Result<bool, NoMemory>
 fn take_handed(core: &mut State, shard: u8, number: u64, entry: Entry) -> Result<(), NoMemory>
     requires { IsShard core.old.members.shape shard }
     ensures ok { OnOk result (core.new ≡ take_handed shard number entry core.old) }
-    ensures kept { Kept core.old core.new }
+    ensures kept { KeepsCore core.old core.new }
 {
     let named = core.named(&entry);
     let Effect {
@@ -80,7 +80,7 @@ fn after_entry(
     requires { IsShard core.old.members.shape shard }
     ensures ok { OnOk result (core.new ≡ after_entry shard entry.now
         (record { what = what; sends = []; removed = removed }) core.old) }
-    ensures kept { Kept core.old core.new }
+    ensures kept { KeepsCore core.old core.new }
 {
     match entry {
         Entry::View { view } => reach_view(core, shard, *view),
@@ -102,7 +102,7 @@ fn after_got(core: &mut State, shard: u8, removed: Option<u32>) -> Result<(), No
     requires { IsShard core.old.members.shape shard }
     ensures ok { OnOk result (core.new
         ≡ propose_due shard (change_with removed (note_sweep shard) core.old)) }
-    ensures kept { Kept core.old core.new }
+    ensures kept { KeepsCore core.old core.new }
 {
     if let Some(removed) = removed {
         core.note_sweep(shard, removed)?;
@@ -114,7 +114,7 @@ fn after_got(core: &mut State, shard: u8, removed: Option<u32>) -> Result<(), No
 fn reach_view(core: &mut State, shard: u8, view: u64) -> Result<(), NoMemory>
     requires { IsShard core.old.members.shape shard }
     ensures ok { OnOk result (core.new ≡ reach_view shard view core.old) }
-    ensures kept { Kept core.old core.new }
+    ensures kept { KeepsCore core.old core.new }
 {
     if view != core.group(shard).view() {
         return Ok(());

@@ -1,7 +1,7 @@
 //! When a shard's lead proposes an Enter that nobody asked it for.
 ghost use Rattle.std.specs.Prelude.{◌≡◌, ◌+◌, OnOk};
 ghost use Rattle.hs_core_words.specs.Entering.{is_enter_due, propose_due};
-ghost use Rattle.hs_core_state.specs.Keeping.{Kept};
+ghost use Rattle.hs_core_state.specs.Keeping.{KeepsCore};
 ghost use Rattle.hs_core_words.specs.Looking.{catalogue_of};
 ghost use Rattle.hs_members.specs.Members.{IsShard};
 
@@ -13,7 +13,7 @@ use hs_entry::Entry;
 pub(crate) fn propose_due(core: &mut State, shard: u8) -> Result<(), NoMemory>
     requires { IsShard core.old.members.shape shard }
     ensures ok { OnOk result (core.new ≡ propose_due shard core.old) }
-    ensures kept { Kept core.old core.new }
+    ensures kept { KeepsCore core.old core.new }
 {
     let Some(next) = core.catalogue(shard).epoch().checked_add(1) else {
         return Err(NoMemory);

@@ -3,7 +3,7 @@ ghost use Rattle.std.specs.Prelude.{◌≡◌, OnOk};
 ghost use Rattle.hs_awaiting.specs.Words.{change_if, each};
 ghost use Rattle.hs_core_words.specs.Failing.{commit_rest, fail_disk, go_down};
 ghost use Rattle.hs_core_words.specs.Joining.{begin_joining, joining_peers};
-ghost use Rattle.hs_core_state.specs.Keeping.{Kept};
+ghost use Rattle.hs_core_state.specs.Keeping.{KeepsCore};
 ghost use Rattle.hs_core_words.specs.Looking.{status_of};
 ghost use Rattle.hs_core_words.specs.Views.{change_view};
 ghost use Rattle.hs_members.specs.Members.{IsPeer, IsShard, is_joining};
@@ -20,7 +20,7 @@ use hs_model::{Deed, Reply};
 #[tactic(auto, using(crate::proofs::NowhereLemmas::go_down_nowhere))]
 pub(crate) fn fail_disk(core: &mut State, disk: u8) -> Result<(), NoMemory>
     ensures ok { OnOk result (core.new ≡ fail_disk disk core.old) }
-    ensures kept { Kept core.old core.new }
+    ensures kept { KeepsCore core.old core.new }
 {
     let line = core.event_line();
     core.note(Who::Store, Deed::Nothing, Reply::Down { peer: disk, line })?;
@@ -36,7 +36,7 @@ pub(crate) fn fail_disk(core: &mut State, disk: u8) -> Result<(), NoMemory>
 pub(crate) fn go_down(core: &mut State, peer: u8) -> Result<(), NoMemory>
     requires { IsPeer core.old.members.shape peer }
     ensures ok { OnOk result (core.new ≡ go_down peer core.old) }
-    ensures kept { Kept core.old core.new }
+    ensures kept { KeepsCore core.old core.new }
 {
     let shard = core.home(peer);
     let was_good = core.status(peer) == PeerStatus::Good;
@@ -51,7 +51,7 @@ pub(crate) fn go_down(core: &mut State, peer: u8) -> Result<(), NoMemory>
 fn change_view_if(core: &mut State, was_good: bool, shard: u8) -> Result<(), NoMemory>
     requires { IsShard core.old.members.shape shard }
     ensures ok { OnOk result (core.new ≡ change_if was_good (change_view shard) core.old) }
-    ensures kept { Kept core.old core.new }
+    ensures kept { KeepsCore core.old core.new }
 {
     if was_good {
         core.change_view(shard)?;
@@ -64,7 +64,7 @@ fn begin_joining_if(core: &mut State, was_lead: bool, shard: u8)
     requires { IsShard core.old.members.shape shard }
     ensures ok { core.new ≡ change_if was_lead
         (λ core. each (joining_peers shard core) begin_joining core) core.old }
-    ensures kept { Kept core.old core.new }
+    ensures kept { KeepsCore core.old core.new }
 {
     if was_lead {
         begin_all_joining(core, shard);
@@ -76,7 +76,7 @@ fn begin_joining_if(core: &mut State, was_lead: bool, shard: u8)
 fn begin_all_joining(core: &mut State, shard: u8)
     requires { IsShard core.old.members.shape shard }
     ensures ok { core.new ≡ each (joining_peers shard core.old) begin_joining core.old }
-    ensures kept { Kept core.old core.new }
+    ensures kept { KeepsCore core.old core.new }
 {
     let shape = core.shape();
     for copy in 0..shape.copies {
@@ -89,7 +89,7 @@ fn begin_if_joining(core: &mut State, peer: u8)
     requires { IsPeer core.old.members.shape peer }
     ensures ok { core.new
         ≡ change_if (is_joining (status_of peer core.old)) (begin_joining peer) core.old }
-    ensures kept { Kept core.old core.new }
+    ensures kept { KeepsCore core.old core.new }
 {
     if core.status(peer) == PeerStatus::Joining {
         begin_joining(core, peer);
@@ -100,7 +100,7 @@ fn begin_if_joining(core: &mut State, peer: u8)
 fn commit_rest_if(core: &mut State, was_good: bool, shard: u8) -> Result<(), NoMemory>
     requires { IsShard core.old.members.shape shard }
     ensures ok { OnOk result (core.new ≡ change_if was_good (commit_rest shard) core.old) }
-    ensures kept { Kept core.old core.new }
+    ensures kept { KeepsCore core.old core.new }
 {
     if was_good && core.has_good(shard) {
         commit(core, shard)?;

@@ -3,7 +3,7 @@ ghost use Rattle.std.specs.Prelude.{◌≡◌, OnOk, true};
 ghost use Rattle.hs_awaiting.specs.Words.{each};
 ghost use Rattle.hs_core_words.specs.Changing.{change_rejoin};
 ghost use Rattle.hs_core_words.specs.Joining.{begin_joining, follow_lead, join, join_if_level, joining_peers, start};
-ghost use Rattle.hs_core_state.specs.Keeping.{Kept};
+ghost use Rattle.hs_core_state.specs.Keeping.{KeepsCore};
 ghost use Rattle.hs_core_words.specs.Looking.{status_of};
 ghost use Rattle.hs_core_words.specs.Reporting.{take_copied, take_emptied};
 ghost use Rattle.hs_members.specs.Members.{IsPeer, IsShard, is_down};
@@ -19,7 +19,7 @@ pub(crate) fn start(core: &mut State, peer: u8) -> Result<(), NoMemory>
     requires peer { IsPeer core.old.members.shape peer }
     requires down { is_down (status_of peer core.old) ≡ true }
     ensures ok { OnOk result (core.new ≡ start peer core.old) }
-    ensures kept { Kept core.old core.new }
+    ensures kept { KeepsCore core.old core.new }
 {
     core.make_joining(peer)?;
     begin_joining(core, peer);
@@ -30,7 +30,7 @@ pub(crate) fn start(core: &mut State, peer: u8) -> Result<(), NoMemory>
 pub(crate) fn begin_joining(core: &mut State, peer: u8)
     requires { IsPeer core.old.members.shape peer }
     ensures ok { core.new ≡ begin_joining peer core.old }
-    ensures kept { Kept core.old core.new }
+    ensures kept { KeepsCore core.old core.new }
 {
     let rejoin = match core.lead(core.home(peer)) {
         Some(lead) => Some(Rejoin::new(lead)),
@@ -43,7 +43,7 @@ pub(crate) fn begin_joining(core: &mut State, peer: u8)
 pub(crate) fn follow_lead(core: &mut State, shard: u8)
     requires { IsShard core.old.members.shape shard }
     ensures ok { core.new ≡ follow_lead shard core.old }
-    ensures kept { Kept core.old core.new }
+    ensures kept { KeepsCore core.old core.new }
 {
     if let Some(lead) = core.lead(shard) {
         follow(core, shard, lead);
@@ -55,7 +55,7 @@ fn follow(core: &mut State, shard: u8, lead: u8)
     requires { IsShard core.old.members.shape shard }
     ensures ok { core.new
         ≡ each (joining_peers shard core.old) (λ peer. change_rejoin peer (follow lead)) core.old }
-    ensures kept { Kept core.old core.new }
+    ensures kept { KeepsCore core.old core.new }
 {
     let shape = core.shape();
     let first = peer_of(shard, 0, shape);
@@ -69,7 +69,7 @@ fn follow(core: &mut State, shard: u8, lead: u8)
 pub(crate) fn take_emptied(core: &mut State, peer: u8) -> Result<(), NoMemory>
     requires { IsPeer core.old.members.shape peer }
     ensures ok { OnOk result (core.new ≡ take_emptied peer core.old) }
-    ensures kept { Kept core.old core.new }
+    ensures kept { KeepsCore core.old core.new }
 {
     core.empty_copy(peer);
     join_if_level(core, peer)
@@ -79,7 +79,7 @@ pub(crate) fn take_emptied(core: &mut State, peer: u8) -> Result<(), NoMemory>
 pub(crate) fn take_copied(core: &mut State, peer: u8, number: u64) -> Result<(), NoMemory>
     requires { IsPeer core.old.members.shape peer }
     ensures ok { OnOk result (core.new ≡ take_copied peer number core.old) }
-    ensures kept { Kept core.old core.new }
+    ensures kept { KeepsCore core.old core.new }
 {
     core.add_copied(peer, number)?;
     join_if_level(core, peer)
@@ -89,7 +89,7 @@ pub(crate) fn take_copied(core: &mut State, peer: u8, number: u64) -> Result<(),
 pub(crate) fn join_if_level(core: &mut State, peer: u8) -> Result<(), NoMemory>
     requires { IsPeer core.old.members.shape peer }
     ensures ok { OnOk result (core.new ≡ join_if_level peer core.old) }
-    ensures kept { Kept core.old core.new }
+    ensures kept { KeepsCore core.old core.new }
 {
     if core.is_level(peer) {
         join(core, peer)?;
@@ -102,7 +102,7 @@ pub(crate) fn join_if_level(core: &mut State, peer: u8) -> Result<(), NoMemory>
 fn join(core: &mut State, peer: u8) -> Result<(), NoMemory>
     requires { IsPeer core.old.members.shape peer }
     ensures ok { OnOk result (core.new ≡ join peer core.old) }
-    ensures kept { Kept core.old core.new }
+    ensures kept { KeepsCore core.old core.new }
 {
     let shard = core.home(peer);
     core.make_good(peer)?;

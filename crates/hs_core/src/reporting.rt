@@ -1,6 +1,6 @@
 //! What the report of a job brings.
 ghost use Rattle.std.specs.Prelude.{◌≡◌, OnOk};
-ghost use Rattle.hs_core_state.specs.Keeping.{Kept};
+ghost use Rattle.hs_core_state.specs.Keeping.{KeepsCore};
 ghost use Rattle.hs_core_words.specs.Reporting.{on_report, take_report, take_sealed};
 ghost use Rattle.hs_members.specs.Members.{IsPeer};
 
@@ -16,7 +16,7 @@ use hs_desk::Done;
 #[tactic(auto, using(crate::proofs::ReportLemmas::report_some, crate::proofs::ReportLemmas::report_none))]
 pub(crate) fn on_report(core: &mut State, peer: u8, done: Done) -> Result<(), NoMemory>
     ensures ok { OnOk result (core.new ≡ on_report peer done core.old) }
-    ensures kept { Kept core.old core.new }
+    ensures kept { KeepsCore core.old core.new }
 {
     let shape = core.shape();
     if peer >= shape.shards * shape.copies {
@@ -33,7 +33,7 @@ pub(crate) fn on_report(core: &mut State, peer: u8, done: Done) -> Result<(), No
 fn take_report(core: &mut State, peer: u8, line: u64, done: Done) -> Result<(), NoMemory>
     requires { IsPeer core.old.members.shape peer }
     ensures ok { OnOk result (core.new ≡ take_report peer line done core.old) }
-    ensures kept { Kept core.old core.new }
+    ensures kept { KeepsCore core.old core.new }
 {
     match done {
         Done::Stored { .. } | Done::Stepped { .. } => Ok(()),
@@ -51,7 +51,7 @@ fn take_report(core: &mut State, peer: u8, line: u64, done: Done) -> Result<(), 
 fn take_sealed(core: &mut State, peer: u8, number: u64) -> Result<(), NoMemory>
     requires { IsPeer core.old.members.shape peer }
     ensures ok { OnOk result (core.new ≡ take_sealed peer number core.old) }
-    ensures kept { Kept core.old core.new }
+    ensures kept { KeepsCore core.old core.new }
 {
     let shard = core.home(peer);
     core.seal_known(peer, number)?;

@@ -2,7 +2,7 @@
 ghost use Rattle.std.specs.Prelude.{◌≡◌, OnOk};
 ghost use Rattle.hs_awaiting.specs.Words.{each};
 ghost use Rattle.hs_core_words.specs.Effects.{is_for_view, wakes};
-ghost use Rattle.hs_core_state.specs.Keeping.{Kept};
+ghost use Rattle.hs_core_state.specs.Keeping.{KeepsCore};
 ghost use Rattle.hs_core_words.specs.Operating.{resume, resume_where};
 ghost use Rattle.hs_core_words.specs.Reporting.{tell_bytes};
 
@@ -16,7 +16,7 @@ use hs_shared::SharedBytes;
 /// What waited for the View of a shard's view goes on, by line.
 pub(crate) fn resume_viewed(core: &mut State, shard: u8) -> Result<(), NoMemory>
     ensures ok { OnOk result (core.new ≡ resume_where shard is_for_view core.old) }
-    ensures kept { Kept core.old core.new }
+    ensures kept { KeepsCore core.old core.new }
 {
     let lines = core.lines_for_view(shard)?;
     resume_each(core, lines.as_slice())
@@ -31,7 +31,7 @@ pub(crate) fn resume_woken(
 ) -> Result<(), NoMemory>
     ensures ok { OnOk result
         (core.new ≡ resume_where shard (wakes entry.now address core.old) core.old) }
-    ensures kept { Kept core.old core.new }
+    ensures kept { KeepsCore core.old core.new }
 {
     let lines = core.lines_woken(shard, entry, address)?;
     resume_each(core, lines.as_slice())
@@ -41,7 +41,7 @@ pub(crate) fn resume_woken(
 #[tactic(auto, using(crate::proofs::KeptLemmas::kept_then))]
 fn resume_each(core: &mut State, lines: &[u64]) -> Result<(), NoMemory>
     ensures ok { OnOk result (core.new ≡ each lines.now resume core.old) }
-    ensures kept { Kept core.old core.new }
+    ensures kept { KeepsCore core.old core.new }
 {
     for line in lines {
         resume(core, *line)?;
@@ -59,7 +59,7 @@ pub(crate) fn tell_bytes(
 ) -> Result<(), NoMemory>
     ensures ok { OnOk result (core.new
         ≡ tell_bytes line number bytes core.old) }
-    ensures kept { Kept core.old core.new }
+    ensures kept { KeepsCore core.old core.new }
 {
     if !core.is_reading(line, number) {
         return Ok(());

@@ -1,7 +1,7 @@
 //! One event of the core.
 ghost use Rattle.std.specs.Prelude.{◌≡◌, ◌≤◌, OnErr, OnOk, true};
 ghost use Rattle.hs_core_words.specs.Calls.{GivesUp, GoesOn, IsNextLine, Steps, last_line_after, outcome_of, ran_out};
-ghost use Rattle.hs_core_state.specs.Keeping.{Kept, Moves, Stays};
+ghost use Rattle.hs_core_state.specs.Keeping.{KeepsCore, Moves, Stays};
 ghost use Rattle.hs_core_words.specs.Records.{HasRecordRoom};
 ghost use Rattle.hs_core_words.specs.Step.{do_event, line_of, run_event};
 
@@ -89,7 +89,7 @@ fn run_event(core: &mut State, event: Event, moment: u64) -> Result<(), NoMemory
 fn do_event(core: &mut State, event: Event) -> Result<(), NoMemory>
     requires { IsNextLine core.old event }
     ensures ok { OnOk result (core.new ≡ do_event event core.old) }
-    ensures kept { Kept (record core.old {
+    ensures kept { KeepsCore (record core.old {
       progress = record core.old.progress { last_line = last_line_after event core.old };
     }) core.new }
 {

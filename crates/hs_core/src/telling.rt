@@ -2,7 +2,7 @@
 ghost use Rattle.std.specs.Prelude.{◌≡◌, OnOk};
 ghost use Rattle.hs_core_words.specs.Changing.{refuse};
 ghost use Rattle.hs_core_words.specs.Effects.{note_enter, tell_enter};
-ghost use Rattle.hs_core_state.specs.Keeping.{Kept};
+ghost use Rattle.hs_core_state.specs.Keeping.{KeepsCore};
 
 use crate::going::tell_operation;
 use hs_core_state::{NoMemory, State};
@@ -13,7 +13,7 @@ use hs_model::{Deed, Reply};
 /// The refusal of a line that is not a client's.
 pub(crate) fn refuse_event(core: &mut State, line: u64, reply: Reply) -> Result<(), NoMemory>
     ensures ok { OnOk result (core.new ≡ refuse line reply core.old) }
-    ensures kept { Kept core.old core.new }
+    ensures kept { KeepsCore core.old core.new }
 {
     core.note(Who::Line(line), Deed::Nothing, reply)
 }
@@ -22,7 +22,7 @@ pub(crate) fn refuse_event(core: &mut State, line: u64, reply: Reply) -> Result<
 /// its shard.
 pub(crate) fn tell_enter(core: &mut State, shard: u8, line: u64, did: What) -> Result<(), NoMemory>
     ensures ok { OnOk result (core.new ≡ tell_enter shard line did core.old) }
-    ensures kept { Kept core.old core.new }
+    ensures kept { KeepsCore core.old core.new }
 {
     if core.is_awaited(line) {
         tell_operation(core, line, did)
@@ -34,7 +34,7 @@ pub(crate) fn tell_enter(core: &mut State, shard: u8, line: u64, did: What) -> R
 /// An Enter that no line asked for is told by its shard.
 fn note_enter(core: &mut State, shard: u8, did: What) -> Result<(), NoMemory>
     ensures ok { OnOk result (core.new ≡ note_enter shard did core.old) }
-    ensures kept { Kept core.old core.new }
+    ensures kept { KeepsCore core.old core.new }
 {
     match did {
         What::Entered { epoch } => core.note(

@@ -44,7 +44,7 @@ pub record AreFronts (core : Core) (fronts : List ℕ) : Type 0 where
   pub each : (shard : ℕ) → IsShard (shape_of core) shard → slice_index fronts shard ≡ front_of shard core
 
 -- what a fault leaves of a core
-pub record Kept (old new : Core) : Type 0 where
+pub record KeepsCore (old new : Core) : Type 0 where
   pub journal : new.journal ≡ old.journal
   pub limits : new.limits ≡ old.limits
   pub moment : new.moment ≡ old.moment

@@ -4,7 +4,7 @@ ghost use Rattle.hs_awaiting.specs.declared.next.Next.TheVariants as next;
 ghost use Rattle.hs_awaiting.specs.Going.{given_by};
 ghost use Rattle.hs_core_words.specs.Changing.{add_operation};
 ghost use Rattle.hs_core_state.specs.Going.{gains_by, step_by};
-ghost use Rattle.hs_core_state.specs.Keeping.{Kept};
+ghost use Rattle.hs_core_state.specs.Keeping.{KeepsCore};
 ghost use Rattle.hs_members.specs.Members.{IsShard};
 ghost use Rattle.hs_ops.specs.Operations.{after_step};
 
@@ -58,7 +58,7 @@ impl State {
     pub fn add_operation(&mut self, line: u64, waiting: Waiting) -> Result<(), NoMemory>
         requires { IsShard self.old.members.shape waiting.shard }
         ensures ok { OnOk result (self.new ≡ add_operation line waiting self.old) }
-        ensures kept { Kept self.old self.new }
+        ensures kept { KeepsCore self.old self.new }
     {
         self.operations.put(line, waiting)?;
         Ok(())

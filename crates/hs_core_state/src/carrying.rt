@@ -2,7 +2,7 @@
 ghost use Rattle.std.specs.Prelude.{◌≡◌, IfNone, IfOk, OnOk};
 ghost use Rattle.hs_core_words.specs.Changing.{end_operation};
 ghost use Rattle.hs_core_state.specs.Going.{set_wait, told_with};
-ghost use Rattle.hs_core_state.specs.Keeping.{Kept};
+ghost use Rattle.hs_core_state.specs.Keeping.{KeepsCore};
 ghost use Rattle.hs_core_words.specs.Looking.{operation_of};
 
 use crate::State;
@@ -24,7 +24,7 @@ impl State {
         helds: ListOf<Held>,
     ) -> Result<(), NoMemory>
         ensures ok { OnOk result (self.new ≡ told_with line reply helds waiting self.old) }
-        ensures kept { Kept self.old self.new }
+        ensures kept { KeepsCore self.old self.new }
     {
         let deed = waiting.operation.into_deed(&self.sessions, &reply)?;
         seat(&mut self.sessions, &deed, helds.as_slice())?;
@@ -36,7 +36,7 @@ impl State {
         ensures value { IfOk result (λ waiting. waiting ≡ operation_of line self.old) }
         ensures ok { OnOk result (self.new ≡ end_operation line self.old) }
         ensures same { IfOk result (λ waiting. IfNone waiting (self.new ≡ self.old)) }
-        ensures kept { Kept self.old self.new }
+        ensures kept { KeepsCore self.old self.new }
     {
         Ok(self.operations.end(line)?)
     }
@@ -44,7 +44,7 @@ impl State {
     /// The operation of a line waits.
     pub fn set_wait(&mut self, line: u64, what: Wait) -> Result<(), NoMemory>
         ensures ok { OnOk result (self.new ≡ set_wait line what self.old) }
-        ensures kept { Kept self.old self.new }
+        ensures kept { KeepsCore self.old self.new }
     {
         self.operations.set_wait(line, what)?;
         Ok(())

@@ -2,7 +2,7 @@
 ghost use Rattle.std.specs.Prelude.{◌≡◌, ◌+◌, IfOk, OnOk};
 ghost use Rattle.hs_awaiting.specs.Words.{◌▸◌};
 ghost use Rattle.hs_core_words.specs.Changing.{change_group, post};
-ghost use Rattle.hs_core_state.specs.Keeping.{Kept};
+ghost use Rattle.hs_core_state.specs.Keeping.{KeepsCore};
 ghost use Rattle.hs_core_words.specs.Looking.{group_of, home};
 ghost use Rattle.hs_core_words.specs.Operating.{propose_entry};
 ghost use Rattle.hs_members.specs.Members.{IsPeer, IsShard};
@@ -19,7 +19,7 @@ impl State {
     pub fn propose_entry(&mut self, shard: u8, entry: Entry) -> Result<(), NoMemory>
         requires { IsShard self.old.members.shape shard }
         ensures ok { OnOk result (self.new ≡ propose_entry shard entry self.old) }
-        ensures kept { Kept self.old self.new }
+        ensures kept { KeepsCore self.old self.new }
     {
         let copy = entry.copy(self.alloc)?;
         let lead = self.lead(shard);
@@ -37,7 +37,7 @@ impl State {
         ensures ok { OnOk result (self.new ≡ (self.old ▸ change_group shard (propose entry)
             ▸ post (proposal entry (group_of shard self.old)))) }
         ensures number { IfOk result (λ number. number ≡ last_number (group_of shard self.old) + 1) }
-        ensures kept { Kept self.old self.new }
+        ensures kept { KeepsCore self.old self.new }
     {
         let group = &mut self.groups[usize::from(shard)];
         let proposed = group.propose(&mut self.pool, entry);
@@ -67,7 +67,7 @@ impl State {
         ensures ok { OnOk result (self.new
             ≡ change_group shard (on_append peer view number entry.now) self.old) }
         ensures taken { IfOk result (λ taken. taken ≡ takes peer view number (group_of shard self.old)) }
-        ensures kept { Kept self.old self.new }
+        ensures kept { KeepsCore self.old self.new }
     {
         let group = &mut self.groups[usize::from(shard)];
         let taken = group.on_append(peer, view, number, entry);
@@ -88,7 +88,7 @@ impl State {
     /// that the lead knows, and any other changes nothing. It takes no memory.
     pub fn take_have_in(&mut self, shard: u8, from: u8, view: u64, sealed: u64)
         ensures ok { self.new ≡ change_group shard (on_have from view sealed) self.old }
-        ensures kept { Kept self.old self.new }
+        ensures kept { KeepsCore self.old self.new }
     {
         if shard >= self.shape().shards {
             return;
@@ -111,7 +111,7 @@ impl State {
         ensures ok { OnOk result (self.new
             ≡ (self.old ▸ post (have peer number (group_of (home peer self.old) self.old))
             ▸ change_group (home peer self.old) (on_sealed peer number))) }
-        ensures kept { Kept self.old self.new }
+        ensures kept { KeepsCore self.old self.new }
     {
         let shard = self.home(peer);
         let group = &mut self.groups[usize::from(shard)];
@@ -135,7 +135,7 @@ impl State {
         requires { IsShard self.old.members.shape shard }
         ensures entry { result ≡ committed (group_of shard self.old) }
         ensures rest { self.new ≡ change_group shard take_committed self.old }
-        ensures kept { Kept self.old self.new }
+        ensures kept { KeepsCore self.old self.new }
     {
         let place = usize::from(shard);
         let (number, entry) = self.groups[place].take_committed()?;
@@ -149,7 +149,7 @@ impl State {
         requires { IsPeer self.old.members.shape peer }
         ensures ok { OnOk result (self.new
             ≡ post (resend peer (group_of (home peer self.old) self.old)) self.old) }
-        ensures kept { Kept self.old self.new }
+        ensures kept { KeepsCore self.old self.new }
     {
         let shard = self.home(peer);
         self.groups[usize::from(shard)].resend(&mut self.pool, peer)?;

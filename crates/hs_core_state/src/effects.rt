@@ -1,7 +1,7 @@
 //! What an entry does to its shard.
 ghost use Rattle.std.specs.Prelude.{◌≡◌, IfOk, OnOk, true};
 ghost use Rattle.hs_core_words.specs.Changing.{set_catalogue, set_viewed};
-ghost use Rattle.hs_core_state.specs.Keeping.{Kept};
+ghost use Rattle.hs_core_state.specs.Keeping.{KeepsCore};
 ghost use Rattle.hs_core_words.specs.Looking.{catalogue_of};
 ghost use Rattle.hs_members.specs.Members.{IsShard};
 ghost use Rattle.hs_shard.specs.Apply.{apply};
@@ -27,7 +27,7 @@ impl State {
             (apply number entry.now named (catalogue_of shard self.old)).catalogue self.old) }
         ensures effect { IfOk result (λ effect. effect
             ≡ (apply number entry.now named (catalogue_of shard self.old)).effect) }
-        ensures kept { Kept self.old self.new }
+        ensures kept { KeepsCore self.old self.new }
     {
         let _shape = self.shape();
         let catalogue = &mut self.catalogues[usize::from(shard)];
@@ -44,7 +44,7 @@ impl State {
     pub fn reach(&mut self, shard: u8)
         requires { IsShard self.old.members.shape shard }
         ensures ok { self.new ≡ set_viewed shard true self.old }
-        ensures kept { Kept self.old self.new }
+        ensures kept { KeepsCore self.old self.new }
     {
         let _shape = self.shape();
         self.viewed[usize::from(shard)] = true;

@@ -1,6 +1,6 @@
 //! The end of an event.
 ghost use Rattle.std.specs.Prelude.{◌≡◌, OnErr, OnOk};
-ghost use Rattle.hs_core_state.specs.Keeping.{Kept};
+ghost use Rattle.hs_core_state.specs.Keeping.{KeepsCore};
 ghost use Rattle.hs_core_words.specs.Looking.{lost_shard};
 ghost use Rattle.hs_core_words.specs.Step.{end_event};
 
@@ -27,8 +27,8 @@ impl State {
     /// no good peer, the core has ended.
     pub fn end_event(&mut self) -> Result<(), NoMemory>
         ensures ok { OnOk result (self.new ≡ end_event self.old) }
-        ensures kept { OnErr result (Kept self.old self.new) }
-        ensures moves { Kept (record self.old {
+        ensures kept { OnErr result (KeepsCore self.old self.new) }
+        ensures moves { KeepsCore (record self.old {
           journal = self.new.journal;
           refused = self.new.refused;
         }) self.new }

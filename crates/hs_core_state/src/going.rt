@@ -3,7 +3,7 @@ ghost use Rattle.std.specs.Prelude.{◌≡◌, Some, None, IfOk, OnOk};
 ghost use Rattle.hs_awaiting.specs.declared.waiting.Waiting.{Waiting};
 ghost use Rattle.hs_awaiting.specs.Going.{given_by, judge_in};
 ghost use Rattle.hs_core_state.specs.Going.{gains_by, sight_of, step_by, view_by};
-ghost use Rattle.hs_core_state.specs.Keeping.{Kept};
+ghost use Rattle.hs_core_state.specs.Keeping.{KeepsCore};
 ghost use Rattle.hs_core_words.specs.Looking.{operation_of};
 ghost use Rattle.hs_members.specs.Members.{IsShard};
 
@@ -27,7 +27,7 @@ impl State {
         ensures helds { (w : Waiting) → operation_of line self.old ≡ Some w
             → IfOk result (λ judged. judged.helds
             ≡ given_by judged.step (gains_by aim None self.old w.operation.op)) }
-        ensures kept { Kept self.old self.new }
+        ensures kept { KeepsCore self.old self.new }
     {
         let sight = self.sight(aim)?;
         let roots = self.catalogues[usize::from(aim.shard)].roots();

@@ -4,7 +4,7 @@ ghost use Rattle.std.specs.Prelude.{◌≡◌, OnOk};
 ghost use Rattle.hs_awaiting.specs.Words.{◌▸◌, change_if};
 ghost use Rattle.hs_core_words.specs.Changing.{change_group, change_rejoin, set_rejoin};
 ghost use Rattle.hs_core_words.specs.Joining.{is_level_with_lead};
-ghost use Rattle.hs_core_state.specs.Keeping.{Kept};
+ghost use Rattle.hs_core_state.specs.Keeping.{KeepsCore};
 ghost use Rattle.hs_core_words.specs.Looking.{home, status_of};
 ghost use Rattle.hs_members.specs.Members.{IsPeer, is_joining};
 ghost use Rattle.hs_rejoin.specs.Rejoin.{copied, emptied, follow};
@@ -21,7 +21,7 @@ impl State {
     pub fn set_rejoin(&mut self, peer: u8, rejoin: Option<Rejoin>)
         requires { IsPeer self.old.members.shape peer }
         ensures ok { self.new ≡ set_rejoin peer rejoin self.old }
-        ensures kept { Kept self.old self.new }
+        ensures kept { KeepsCore self.old self.new }
     {
         let shard = self.home(peer);
         self.rejoins[usize::from(peer)] = rejoin;
@@ -40,7 +40,7 @@ impl State {
         ensures ok { self.new
             ≡ (self.old ▸ change_if (is_joining (status_of peer self.old)) (change_rejoin peer (follow lead))) }
         ensures members { self.new.members ≡ self.old.members }
-        ensures kept { Kept self.old self.new }
+        ensures kept { KeepsCore self.old self.new }
     {
         if self.status(peer) == PeerStatus::Joining {
             let shard = self.home(peer);
@@ -60,7 +60,7 @@ impl State {
         requires { IsPeer self.old.members.shape peer }
         ensures ok { self.new ≡ (self.old ▸ change_rejoin peer emptied
             ▸ change_group (home peer self.old) (on_emptied peer)) }
-        ensures kept { Kept self.old self.new }
+        ensures kept { KeepsCore self.old self.new }
     {
         let shard = self.home(peer);
         empty_rejoin(&mut self.rejoins[usize::from(peer)]);
@@ -80,7 +80,7 @@ impl State {
         requires { IsPeer self.old.members.shape peer }
         ensures ok { OnOk result (self.new ≡ (self.old ▸ change_rejoin peer (copied number)
             ▸ change_group (home peer self.old) (on_copied peer number))) }
-        ensures kept { Kept self.old self.new }
+        ensures kept { KeepsCore self.old self.new }
     {
         let shard = self.home(peer);
         count_copied(&mut self.rejoins[usize::from(peer)], number);

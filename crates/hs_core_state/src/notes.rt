@@ -1,7 +1,7 @@
 //! What an event tells.
 ghost use Rattle.std.specs.Prelude.{◌≡◌, OnOk};
 ghost use Rattle.hs_core_words.specs.Changing.{note};
-ghost use Rattle.hs_core_state.specs.Keeping.{Kept};
+ghost use Rattle.hs_core_state.specs.Keeping.{KeepsCore};
 ghost use Rattle.hs_core_words.specs.Opening.{note_down, note_if_down};
 ghost use Rattle.hs_members.specs.Members.{IsPeer};
 
@@ -15,7 +15,7 @@ impl State {
     /// Tells an entry, at the event's moment.
     pub fn note(&mut self, who: Who, deed: Deed, reply: Reply) -> Result<(), NoMemory>
         ensures ok { OnOk result (self.new ≡ note who deed reply self.old) }
-        ensures kept { Kept self.old self.new }
+        ensures kept { KeepsCore self.old self.new }
     {
         let entry = JournalEntry {
             who,

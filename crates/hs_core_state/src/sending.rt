@@ -4,7 +4,7 @@ ghost use Rattle.std.specs.Prelude.{◌≡◌, ◌∷◌, [], OnOk};
 ghost use Rattle.hs_core_words.specs.Asking.{lose, send_again, with_message, send_round};
 ghost use Rattle.hs_core_words.specs.Changing.{change_pool, post, refuse};
 ghost use Rattle.hs_core_words.specs.Effects.{round_messages};
-ghost use Rattle.hs_core_state.specs.Keeping.{Kept};
+ghost use Rattle.hs_core_state.specs.Keeping.{KeepsCore};
 ghost use Rattle.hs_members.specs.Members.{IsShard};
 ghost use Rattle.hs_model.specs.declared.reply.Reply.TheVariants as reply;
 ghost use Rattle.hs_post.specs.Pool.{message_at, without};
@@ -24,7 +24,7 @@ impl State {
     /// The rounds of a shard go out, in order.
     pub fn round_out(&mut self, shard: u8, sends: ListOf<Sent>) -> Result<(), NoMemory>
         ensures ok { OnOk result (self.new ≡ post (round_messages shard sends) self.old) }
-        ensures kept { Kept self.old self.new }
+        ensures kept { KeepsCore self.old self.new }
     {
         let mut rest = VecDeque::from(sends.into_vec());
         while let Some(sent) = rest.pop_front() {
@@ -37,7 +37,7 @@ impl State {
     pub fn send_round(&mut self, back: u8, shard: u8) -> Result<(), NoMemory>
         requires { IsShard self.old.members.shape shard }
         ensures ok { OnOk result (self.new ≡ send_round back shard self.old) }
-        ensures kept { Kept self.old self.new }
+        ensures kept { KeepsCore self.old self.new }
     {
         let catalogue = self.catalogue(shard);
         let Some((epoch, round)) = catalogue.run().sent(back) else {
@@ -53,7 +53,7 @@ impl State {
     /// A message is sent; a full pool loses it.
     fn post_one(&mut self, message: Message) -> Result<(), NoMemory>
         ensures ok { OnOk result (self.new ≡ post (message ∷ []) self.old) }
-        ensures kept { Kept self.old self.new }
+        ensures kept { KeepsCore self.old self.new }
     {
         match self.pool.send(message) {
             Ok(_) => Ok(()),
@@ -66,7 +66,7 @@ impl State {
     pub fn take_message(&mut self, number: u64) -> Option<Message>
         ensures message { result ≡ message_at number self.old.pool }
         ensures rest { self.new ≡ change_pool (without number) self.old }
-        ensures kept { Kept self.old self.new }
+        ensures kept { KeepsCore self.old self.new }
     {
         self.pool.take(number).ok()
     }
@@ -74,7 +74,7 @@ impl State {
     /// A line loses a message, or hears that there is none of this number.
     pub fn lose(&mut self, line: u64, number: u64) -> Result<(), NoMemory>
         ensures ok { OnOk result (self.new ≡ with_message line number (lose number) self.old) }
-        ensures kept { Kept self.old self.new }
+        ensures kept { KeepsCore self.old self.new }
     {
         if self.pool.message(number).is_none() {
             return self.refuse_number(line, number);
@@ -87,7 +87,7 @@ impl State {
     /// is full.
     pub fn send_again(&mut self, line: u64, number: u64) -> Result<(), NoMemory>
         ensures ok { OnOk result (self.new ≡ with_message line number (send_again line) self.old) }
-        ensures kept { Kept self.old self.new }
+        ensures kept { KeepsCore self.old self.new }
     {
         match self.pool.repeat(number) {
             Ok(_number) => Ok(()),
@@ -102,7 +102,7 @@ impl State {
     /// A line hears that there is no message of this number.
     fn refuse_number(&mut self, line: u64, number: u64) -> Result<(), NoMemory>
         ensures ok { OnOk result (self.new ≡ refuse line (reply.NoMessage number) self.old) }
-        ensures kept { Kept self.old self.new }
+        ensures kept { KeepsCore self.old self.new }
     {
         let reply = Reply::NoMessage { message: number };
         self.note(Who::Line(line), Deed::Nothing, reply)

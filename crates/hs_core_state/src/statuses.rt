@@ -3,7 +3,7 @@ ghost use Rattle.std.specs.Prelude.{◌≡◌, [], None, OnErr, OnOk, true};
 ghost use Rattle.hs_awaiting.specs.Words.{◌▸◌};
 ghost use Rattle.hs_core_words.specs.Changing.{set_rejoin, set_status, set_tasks};
 ghost use Rattle.hs_core_words.specs.Failing.{leave};
-ghost use Rattle.hs_core_state.specs.Keeping.{Kept};
+ghost use Rattle.hs_core_state.specs.Keeping.{KeepsCore};
 ghost use Rattle.hs_core_words.specs.Looking.{status_of};
 ghost use Rattle.hs_limits.specs.declared.limits.PeerStatus.TheVariants as is;
 ghost use Rattle.hs_members.specs.Members.{IsPeer, become, is_down};
@@ -21,7 +21,7 @@ impl State {
         requires peer { IsPeer self.old.members.shape peer }
         requires down { is_down (status_of peer self.old) ≡ true }
         ensures ok { OnOk result (self.new ≡ set_status peer is.Joining self.old) }
-        ensures kept { Kept self.old self.new }
+        ensures kept { KeepsCore self.old self.new }
     {
         let shard = self.home(peer);
         self.members.start(peer)?;
@@ -39,7 +39,7 @@ impl State {
     pub fn make_good(&mut self, peer: u8) -> Result<(), NoMemory>
         requires { IsPeer self.old.members.shape peer }
         ensures ok { OnOk result (self.new ≡ (self.old ▸ set_status peer is.Good ▸ set_rejoin peer None)) }
-        ensures kept { Kept self.old self.new }
+        ensures kept { KeepsCore self.old self.new }
     {
         let shard = self.home(peer);
         become_good(&mut self.members, peer)?;
@@ -58,7 +58,7 @@ impl State {
     /// of the pool. Where there is no such peer only these are.
     pub fn leave(&mut self, peer: u8) -> Result<(), NoMemory>
         ensures ok { OnOk result (self.new ≡ leave peer self.old) }
-        ensures kept { Kept self.old self.new }
+        ensures kept { KeepsCore self.old self.new }
     {
         let shape = self.shape();
         if peer < shape.shards * shape.copies {
@@ -73,7 +73,7 @@ impl State {
         requires { IsPeer self.old.members.shape peer }
         ensures ok { OnOk result (self.new ≡ (self.old ▸ set_status peer is.Down ▸ set_tasks peer []
             ▸ set_rejoin peer None)) }
-        ensures kept { Kept self.old self.new }
+        ensures kept { KeepsCore self.old self.new }
     {
         let shard = self.home(peer);
         become_down(&mut self.members, peer)?;

@@ -1,6 +1,6 @@
 //! The beginning of an event, and the end of a core without memory.
 ghost use Rattle.std.specs.Prelude.{◌≡◌, Some};
-ghost use Rattle.hs_core_state.specs.Keeping.{Kept};
+ghost use Rattle.hs_core_state.specs.Keeping.{KeepsCore};
 ghost use Rattle.hs_core_words.specs.Step.{begin_event, is_first_line};
 ghost use Rattle.hs_desk.specs.declared.fault.CoreFault.TheVariants as fault;
 
@@ -25,7 +25,7 @@ impl State {
     /// The event's moment, and its line, where it has one.
     pub fn begin_event(&mut self, line: u64, moment: u64)
         ensures ok { self.new ≡ begin_event line moment self.old }
-        ensures kept { Kept (record self.old {
+        ensures kept { KeepsCore (record self.old {
           moment = moment;
           progress = record self.old.progress { event_line = self.new.progress.event_line };
         }) self.new }
@@ -40,7 +40,7 @@ impl State {
     /// With the first line the numbers of messages start at 1 again, if none is under way.
     fn first_line(&mut self, line: u64)
         ensures ok { self.new ≡ is_first_line line self.old }
-        ensures kept { Kept self.old self.new }
+        ensures kept { KeepsCore self.old self.new }
     {
         if self.event_line == 0 && line != 0 && self.pool.is_empty() {
             self.pool.restart_numbers();

@@ -1,7 +1,7 @@
 //! The jobs of peers.
 ghost use Rattle.std.specs.Prelude.{◌≡◌, OnOk};
 ghost use Rattle.hs_core_words.specs.Changing.{add_entry_tasks, add_task};
-ghost use Rattle.hs_core_state.specs.Keeping.{Kept};
+ghost use Rattle.hs_core_state.specs.Keeping.{KeepsCore};
 ghost use Rattle.hs_members.specs.Members.{IsPeer};
 
 use crate::State;
@@ -15,7 +15,7 @@ impl State {
     pub fn add_entry_tasks(&mut self, peer: u8, number: u64, entry: Entry) -> Result<(), NoMemory>
         requires { IsPeer self.old.members.shape peer }
         ensures ok { OnOk result (self.new ≡ add_entry_tasks peer number entry self.old) }
-        ensures kept { Kept self.old self.new }
+        ensures kept { KeepsCore self.old self.new }
     {
         let append = Job::Append { number, entry };
         self.add_task(
@@ -33,7 +33,7 @@ impl State {
     pub fn add_task(&mut self, peer: u8, task: Task) -> Result<(), NoMemory>
         requires { IsPeer self.old.members.shape peer }
         ensures ok { OnOk result (self.new ≡ add_task peer task self.old) }
-        ensures kept { Kept self.old self.new }
+        ensures kept { KeepsCore self.old self.new }
     {
         self.tasks[usize::from(peer)].push(task)?;
         Ok(())

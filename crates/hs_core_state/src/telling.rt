@@ -2,7 +2,7 @@
 ghost use Rattle.std.specs.Prelude.{◌≡◌, OnOk, nat_le};
 ghost use Rattle.std.specs.List.{list_all};
 ghost use Rattle.hs_core_words.specs.Effects.{note_sweep};
-ghost use Rattle.hs_core_state.specs.Keeping.{Kept};
+ghost use Rattle.hs_core_state.specs.Keeping.{KeepsCore};
 ghost use Rattle.hs_members.specs.Members.{IsShard};
 
 use crate::State;
@@ -16,7 +16,7 @@ impl State {
     pub fn note_sweep(&mut self, shard: u8, removed: u32) -> Result<(), NoMemory>
         requires { IsShard self.old.members.shape shard }
         ensures ok { OnOk result (self.new ≡ note_sweep shard removed self.old) }
-        ensures kept { Kept self.old self.new }
+        ensures kept { KeepsCore self.old self.new }
     {
         let _shape = self.shape();
         let epoch = self.catalogues[usize::from(shard)].swept();

@@ -1,7 +1,7 @@
 //! A new view of a shard.
 ghost use Rattle.std.specs.Prelude.{◌≡◌, IfOk, OnOk};
 ghost use Rattle.hs_core_state.specs.Anew.{group_anew, told_anew};
-ghost use Rattle.hs_core_state.specs.Keeping.{Kept};
+ghost use Rattle.hs_core_state.specs.Keeping.{KeepsCore};
 ghost use Rattle.hs_core_words.specs.Looking.{group_of};
 ghost use Rattle.hs_core_words.specs.Views.{begin_view, change_view, restart_at};
 ghost use Rattle.hs_members.specs.Members.{IsShard};
@@ -17,7 +17,7 @@ impl State {
     pub fn change_view(&mut self, shard: u8) -> Result<(), NoMemory>
         requires { IsShard self.old.members.shape shard }
         ensures ok { OnOk result (self.new ≡ change_view shard self.old) }
-        ensures kept { Kept self.old self.new }
+        ensures kept { KeepsCore self.old self.new }
     {
         if self.members.has_good(shard) {
             self.begin_view(shard)?;
@@ -30,7 +30,7 @@ impl State {
     pub(crate) fn begin_view(&mut self, shard: u8) -> Result<(), NoMemory>
         requires { IsShard self.old.members.shape shard }
         ensures ok { OnOk result (self.new ≡ begin_view shard self.old) }
-        ensures kept { Kept self.old self.new }
+        ensures kept { KeepsCore self.old self.new }
     {
         let lead = self.lead(shard);
         let view = self.members.view(shard);
@@ -49,7 +49,7 @@ impl State {
             ≡ restart_at shard (last_number (renew self.old.members (group_of shard self.old)))
             (told_anew shard self.old)) }
         ensures number { IfOk result (λ number. number ≡ last_number (group_anew shard self.old)) }
-        ensures kept { Kept self.old self.new }
+        ensures kept { KeepsCore self.old self.new }
     {
         let place = usize::from(shard);
         self.viewed[place] = false;

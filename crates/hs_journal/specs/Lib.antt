@@ -1,4 +1,4 @@
-pub mod Told
+pub mod JournalState
 pub mod Events
 pub mod Order
 pub mod Moments

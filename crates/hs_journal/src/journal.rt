@@ -14,9 +14,9 @@ pub struct Journal {
 }
 
 impl Model for Journal {
-    ghost use Rattle.hs_journal.specs.Told.{Told};
+    ghost use Rattle.hs_journal.specs.JournalState.{JournalState};
 
-    ghost Value = { Told };
+    ghost Value = { JournalState };
 
     ghost view = { λ a. record { entries = a.entries.items; limit = a.limit } };
 }

@@ -11,7 +11,7 @@ use Rattle.hs_entry.specs.Entries.{is_of_base, rank_after, rank_of}
 use Rattle.hs_entry.proofs.RankLemmas.{rank_more}
 use Rattle.hs_side.specs.Giving.{GivesSame, GivesEither}
 use Rattle.hs_side.specs.Reading.{Frame, log_of, entry_of, listed, list_of, with_frame}
-use Rattle.hs_side.specs.Standing.{Kept, opened}
+use Rattle.hs_side.specs.Standing.{SideState, opened}
 use Rattle.hs_peerlog.specs.Images.{Is, IsOne, IsSole, LeavesEach, LeavesOnly}
 use Rattle.hs_peerlog.specs.Lists.{HasList, IsNumbered, IsKept, KeepsSome, Keeping, last_of, with_waiting}
 use Rattle.hs_peerlog.proofs.EntryLemmas.{more-numbered, last-length}
@@ -108,22 +108,22 @@ pub appended : (old new : Keeping) (seen later : Side → List ℕ) (next number
     → GivesSame (seen old.log.side) (later old.log.side)
     → log_of (opened old.log.end (later old.log.side)) ≡ with_frame (record { place = old.log.end; number = number; entry = entry }) (log_of (seen old.log.side)) → IsKept new (later new.log.side) list (Some entry)
 appended old new seen later next number list entry kept plain named value rank waits same opens =
-    subst (λ s. IsKept new (later s) list (Some entry)) (sym (ap (λ (k : Kept). k.side) value))
-    (append-kept old new (seen old.log.side) (later old.log.side) list number entry kept plain named (ap (λ (k : Kept). k.places) value) (ap (λ (k : Kept). k.end) value) rank waits same.same opens)
+    subst (λ s. IsKept new (later s) list (Some entry)) (sym (ap (λ (k : SideState). k.side) value))
+    (append-kept old new (seen old.log.side) (later old.log.side) list number entry kept plain named (ap (λ (k : SideState). k.places) value) (ap (λ (k : SideState). k.end) value) rank waits same.same opens)
 
 -- the value of a side's log whose frame was sealed
-pub record IsSealed (old new : Kept) : Type 0 where
+pub record IsSealed (old new : SideState) : Type 0 where
   pub side : new.side ≡ old.side
   pub head : new.head ≡ old.head
   pub places : new.places ≡ old.places ++ old.end ∷ []
   pub rests : new.waiting ≡ None
 
-pub sealed-is : (old new : Kept) → is_some old.waiting ≡ true → IfSome old.waiting (λ next. new ≡ record old { places = old.places ++ old.end ∷ []; end = next; waiting = None }) → IsSealed old new
+pub sealed-is : (old new : SideState) → is_some old.waiting ≡ true → IfSome old.waiting (λ next. new ≡ record old { places = old.places ++ old.end ∷ []; end = next; waiting = None }) → IsSealed old new
 sealed-is old new some value = go old.waiting some value
   where
     go : (waiting : Option ℕ) → is_some waiting ≡ true → IfSome waiting (λ next. new ≡ record old { places = old.places ++ old.end ∷ []; end = next; waiting = None }) → IsSealed old new
     go None some value = absurd cc
-    go (Some next) some value = record { side = ap (λ (k : Kept). k.side) value; head = ap (λ (k : Kept). k.head) value; places = ap (λ (k : Kept). k.places) value; rests = ap (λ (k : Kept). k.waiting) value }
+    go (Some next) some value = record { side = ap (λ (k : SideState). k.side) value; head = ap (λ (k : SideState). k.head) value; places = ap (λ (k : SideState). k.places) value; rests = ap (λ (k : SideState). k.waiting) value }
 
 -- the entry that waited was sealed on the disk
 pub sealed : (old new : Keeping) (seen later : Side → List ℕ) (list : List (ℕ × Entry)) (entry : Entry) → IsKept old (seen old.log.side) list (Some entry) → IsSealed old.log new.log → later old.log.side ≡ opened old.log.end (seen old.log.side)

@@ -10,7 +10,7 @@ use Rattle.hs_side.specs.Current.{current}
 use Rattle.hs_side.specs.Giving.{GivesEmpty}
 use Rattle.hs_side.specs.Reading.{is_blank, log_of, listed, list_of}
 use Rattle.hs_side.specs.Spelling.{spelled}
-use Rattle.hs_side.specs.Standing.{Kept, Stands, HasLog, HasNone}
+use Rattle.hs_side.specs.Standing.{SideState, Stands, HasLog, HasNone}
 use Rattle.hs_side.proofs.BlankLemmas.{empty_log, blank_log}
 use Rattle.hs_peerlog.specs.Images.{Is, IsAlone, GivesList, LeavesEach}
 use Rattle.hs_peerlog.specs.Lists.{HasFrames, HasList}
@@ -27,13 +27,13 @@ some-if None generation none some = absurd (cc (sym some ∙ ap (λ g. is_some g
 some-if (Some x) generation none some = refl
 
 -- a side without a head is blank
-pub blank-side : (tells : Type 0) (log : Kept) (size : ℕ) (disk : Standing) → Stands tells log size disk → tells → log.head ≡ None → is_blank (disk.seen log.side) ≡ true
+pub blank-side : (tells : Type 0) (log : SideState) (size : ℕ) (disk : Standing) → Stands tells log size disk → tells → log.head ≡ None → is_blank (disk.seen log.side) ≡ true
 blank-side tells log size disk s told e =
     let has : HasNone log (disk.seen log.side) (disk.loose log.side) = subst (λ h. MatchOption h (HasNone log (disk.seen log.side) (disk.loose log.side)) (λ head. HasLog 165 head.0 head.1 log (disk.seen log.side) (disk.loose log.side))) e (s.told told) in
     has.blank
 
 -- an empty log has the empty list
-pub formatted : (log : Kept) (seen : List ℕ) (header : Header) (generation : ℕ) → generation < 2 ^ 64 → log.places ≡ [] → seen ≡ spelled 165 header generation [] 0 [] → HasList log.places seen []
+pub formatted : (log : SideState) (seen : List ℕ) (header : Header) (generation : ℕ) → generation < 2 ^ 64 → log.places ≡ [] → seen ≡ spelled 165 header generation [] 0 [] → HasList log.places seen []
 formatted log seen header generation fits places written = record {
   log = record { header = header; generation = generation; frames = [] };
   read = ap (λ bytes. log_of bytes) written ∙ empty_log header generation fits;
@@ -42,7 +42,7 @@ formatted log seen header generation fits places written = record {
 }
 
 -- a side that was opened gives its list
-pub opened-list : (tells : Type 0) (log : Kept) (size : ℕ) (disk : Standing) (entries : List (ℕ × Entry)) → Stands tells log size disk → tells → HasOpened log (disk.seen log.side) entries → list_of (disk.seen log.side) ≡ Some entries
+pub opened-list : (tells : Type 0) (log : SideState) (size : ℕ) (disk : Standing) (entries : List (ℕ × Entry)) → Stands tells log size disk → tells → HasOpened log (disk.seen log.side) entries → list_of (disk.seen log.side) ≡ Some entries
 opened-list tells log size disk entries s told opened = go log.head refl
   where
     seen : List ℕ
@@ -85,7 +85,7 @@ first-alone {before} {now} {side} {old} {new} {P} written run alone blank loose 
 }
 
 -- and has its frames
-pub opened-frames : (tells : Type 0) (log : Kept) (size : ℕ) (disk : Standing) (list : List (ℕ × Entry)) → Stands tells log size disk → tells → HasOpened log (disk.seen log.side) list → HasFrames log.places (disk.seen log.side) list
+pub opened-frames : (tells : Type 0) (log : SideState) (size : ℕ) (disk : Standing) (list : List (ℕ × Entry)) → Stands tells log size disk → tells → HasOpened log (disk.seen log.side) list → HasFrames log.places (disk.seen log.side) list
 opened-frames tells log size disk list s told opened = go log.head refl
   where
     go : (head : Option (Header × ℕ)) → log.head ≡ head → HasFrames log.places (disk.seen log.side) list

@@ -11,7 +11,7 @@ use Rattle.hs_entry.specs.Entries.{rank_of}
 use Rattle.hs_side.specs.Current.{current, generation_in, header_in, later_side, list_in}
 use Rattle.hs_side.specs.Opening.{Shows}
 use Rattle.hs_side.specs.Reading.{Log, is_blank, log_of, entry_of, entries_of, listed}
-use Rattle.hs_side.specs.Standing.{Kept}
+use Rattle.hs_side.specs.Standing.{SideState}
 use Rattle.hs_peerlog.specs.Images.{IsAlone, LeavesAll}
 use Rattle.hs_peerlog.specs.Opening.{HasOpened, IsOpened, refused_head, refused_log, refusal_in}
 use Rattle.hs_peerlog.proofs.ImageLemmas.{Since, two-sides, current-same}
@@ -115,7 +115,7 @@ refusal-is shape peer seen content head read = ap (λ h. refused_log h (log_of (
 
 -- ---- what is open
 
-pub open-value : (seen : Side → List ℕ) (log : Kept) (rank : Rank) (content : Option Log) → log_of (seen (current seen)) ≡ Ok content → Shows log content → rank ≡ rank_of (entries_of content) → log.side ≡ current seen → IsOpened log rank seen
+pub open-value : (seen : Side → List ℕ) (log : SideState) (rank : Rank) (content : Option Log) → log_of (seen (current seen)) ≡ Ok content → Shows log content → rank ≡ rank_of (entries_of content) → log.side ≡ current seen → IsOpened log rank seen
 open-value seen log rank None read shows ranked side = record {
   list = [];
   listed = ap (λ r. listed r) read;
@@ -139,10 +139,10 @@ open-value seen log rank (Some found) read shows ranked side = record {
 }
 
 -- what was opened, in the words of the disk afterwards
-pub opened-here : (log : Kept) (rank : Rank) (a e : Standing) (value : IsOpened log rank a.seen) → ((s : Side) → e.seen s ≡ a.seen s) → HasOpened log (e.seen log.side) value.list
+pub opened-here : (log : SideState) (rank : Rank) (a e : Standing) (value : IsOpened log rank a.seen) → ((s : Side) → e.seen s ≡ a.seen s) → HasOpened log (e.seen log.side) value.list
 opened-here log rank a e value same = subst (λ b. HasOpened log b value.list) (sym (same log.side ∙ ap (λ s. a.seen s) value.side)) value.opened
 
-pub one-list : (log : Kept) (rank : Rank) (seen : Side → List ℕ) (value : IsOpened log rank seen) (list : List (ℕ × Entry)) → list_in seen ≡ Some list → value.list ≡ list
+pub one-list : (log : SideState) (rank : Rank) (seen : Side → List ℕ) (value : IsOpened log rank seen) (list : List (ℕ × Entry)) → list_in seen ≡ Some list → value.list ≡ list
 one-list log rank seen value list listed = some_is (sym value.listed ∙ listed)
   where
     some_is : {x y : List (ℕ × Entry)} → Some x ≡ Some y → x ≡ y

@@ -7,7 +7,7 @@ use Rattle.hs_entry.specs.declared.rank.Rank.{Rank}
 use Rattle.hs_entry.specs.Entries.{is_of_base, rank_after, rank_of}
 use Rattle.hs_side.specs.Giving.{IsBlankEverywhere}
 use Rattle.hs_side.specs.Reading.{Log, is_blank, log_of, entry_of, with_frame}
-use Rattle.hs_side.specs.Standing.{Kept, Stands, opened}
+use Rattle.hs_side.specs.Standing.{SideState, Stands, opened}
 use Rattle.hs_peerlog.specs.Images.{IsSole, LeavesOnly}
 
 -- the side is not blank, and its log has this list of entries, in frames at these places
@@ -46,7 +46,7 @@ with_waiting list entry = list ++ (last_of list + 1, entry) ∷ []
 -- what a value of a peer's log keeps: its current side's log, the rank of its sealed entries, and
 -- the rank that it will have with the entry that waits
 pub record Keeping : Type 0 where
-  pub log : Kept
+  pub log : SideState
   pub rank : Rank
   pub waits : Option Rank
 

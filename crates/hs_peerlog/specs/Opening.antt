@@ -9,7 +9,7 @@ use Rattle.hs_entry.specs.Entries.{rank_of}
 use Rattle.hs_side.specs.declared.header.Header.{Header}
 use Rattle.hs_side.specs.Current.{current, header_in, list_in}
 use Rattle.hs_side.specs.Reading.{Log, log_of}
-use Rattle.hs_side.specs.Standing.{Kept}
+use Rattle.hs_side.specs.Standing.{SideState}
 use Rattle.hs_peerlog.specs.declared.fault.LogFault.{LogFault}
 use Rattle.hs_peerlog.specs.declared.fault.LogFault.TheVariants.{NotALog, WrongShape, Disk, NoMemory}
 use Rattle.hs_peerlog.specs.Lists.{HasList, IsNumbered}
@@ -45,12 +45,12 @@ IsRefusal Disk refusal = ⊤
 IsRefusal NoMemory refusal = ⊤
 
 -- the list of a side: where it is blank, the empty one
-pub record HasOpened (log : Kept) (seen : List ℕ) (list : List (ℕ × Entry)) : Type 0 where
+pub record HasOpened (log : SideState) (seen : List ℕ) (list : List (ℕ × Entry)) : Type 0 where
   pub begun : IsSome log.head → HasList log.places seen list
   pub blank : log.head ≡ None → list ≡ []
 
 -- the log of the current side of a disk, and the rank of its list
-pub record IsOpened (log : Kept) (rank : Rank) (seen : Side → List ℕ) : Type 0 where
+pub record IsOpened (log : SideState) (rank : Rank) (seen : Side → List ℕ) : Type 0 where
   pub list : List (ℕ × Entry)
   pub listed : list_in seen ≡ Some list
   pub numbered : IsNumbered list

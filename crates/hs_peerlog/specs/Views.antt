@@ -5,12 +5,12 @@ use Rattle.hs_entry.specs.declared.entry.Entry.{Entry}
 use Rattle.hs_entry.specs.declared.rank.Rank.{Rank}
 use Rattle.hs_entry.specs.Entries.{rank_of}
 use Rattle.hs_side.specs.Current.{list_in}
-use Rattle.hs_side.specs.Standing.{Kept}
+use Rattle.hs_side.specs.Standing.{SideState}
 use Rattle.hs_peerlog.specs.Lists.{HasFrames, IsNumbered}
 
 -- what a value of a view keeps: its current side's log, and the rank of its list
 pub record Viewing : Type 0 where
-  pub log : Kept
+  pub log : SideState
   pub rank : Rank
 
 -- the view has the list that the disk gives, of two blank sides the empty one

@@ -12,7 +12,7 @@ use Rattle.hs_ports.specs.Image.{told_onto, told_all, is_sync, shown_with, shown
 use Rattle.hs_ports.specs.Platter.{IsFailed, AreLostFailed, IsReplayed, kept_of, seen_of, last_of, past_of}
 use Rattle.hs_ports.specs.Replay.{seen_after, loose_after, loose_during, seen_by, loose_by, last_by, is_earlier, past_by}
 use Rattle.hs_ports.specs.ReplayLaws.{since_by, earlier_below, past_earlier, past_here, past_above}
-use Rattle.hs_ports.specs.Told.{Told}
+use Rattle.hs_ports.specs.Called.{Called}
 use Rattle.hs_ports.proofs.PlatterLemmas.{seen_failed}
 use Rattle.hs_ports.proofs.ReplayLemmas.{told_snoc, shown_snoc, shown_bound}
 
@@ -99,14 +99,14 @@ during_sync (deed.CutFailed len) l is = cc
 during_sync deed.SyncFailed l is = cc
 
 -- the change of a call
-abbrev change_of : Told → Change
+abbrev change_of : Called → Change
 change_of call = record { moment = call.moment; deed = call.deed }
 
-kept_on : (call : Told) (older : List Told) → call.kept ≡ true → kept_of (call ∷ older) ≡ kept_of older ++ change_of call ∷ []
+kept_on : (call : Called) (older : List Called) → call.kept ≡ true → kept_of (call ∷ older) ≡ kept_of older ++ change_of call ∷ []
 unfolding kept_of
 kept_on call older on = rw on refl
 
-kept_off : (call : Told) (older : List Told) → call.kept ≡ false → kept_of (call ∷ older) ≡ kept_of older
+kept_off : (call : Called) (older : List Called) → call.kept ≡ false → kept_of (call ∷ older) ≡ kept_of older
 unfolding kept_of
 kept_off call older off = rw off refl
 
@@ -115,7 +115,7 @@ on_or_off true = inl refl
 on_or_off false = inr refl
 
 -- what a read gives is what the record's calls make of it
-pub kept_seen : (first : List ℕ) (calls : List Told) → AreLostFailed calls
+pub kept_seen : (first : List ℕ) (calls : List Called) → AreLostFailed calls
     → seen_by first (told_all (kept_of calls)) ≡ seen_by first calls
 unfolding seen_by kept_of AreLostFailed told_onto
 kept_seen first [] lost = refl
@@ -128,7 +128,7 @@ kept_seen first (call ∷ older) lost = elim (on_or_off call.kept) [
 ]
 
 -- and what they may leave may be left
-kept_widens : (first : List ℕ) (calls : List Told) → AreLostFailed calls
+kept_widens : (first : List ℕ) (calls : List Called) → AreLostFailed calls
     → Widens (loose_by first (told_all (kept_of calls))) (loose_by first calls)
 unfolding loose_by kept_of AreLostFailed told_onto
 kept_widens first [] lost = same_widens (settled first)
@@ -162,10 +162,10 @@ shown_acting m i n change is on =
     rw (le-ltb change.moment m (omega arith), same_numbers change.moment m is, on) refl
 
 -- whether a call leaves what could be left at a moment as it was
-later_kept : (call : Told) (older : List Told) (m : ℕ) → call.kept ≡ true → call.moment ≤ m → is_earlier call older m ≡ false
+later_kept : (call : Called) (older : List Called) (m : ℕ) → call.kept ≡ true → call.moment ≤ m → is_earlier call older m ≡ false
 later_kept call older m on high = rw (le-ltb m call.moment high, on) refl
 
-later_lost : (call : Told) (older : List Told) (m : ℕ) → call.kept ≡ false → is_earlier call older m ≡ false
+later_lost : (call : Called) (older : List Called) (m : ℕ) → call.kept ≡ false → is_earlier call older m ≡ false
     → (call.moment ≤ m) × (last_by older < m)
 later_lost call older m off is = both (nat_lt m call.moment) (nat_lt m (last_by older + 1)) call.kept refl refl off is
   where
@@ -184,7 +184,7 @@ abbrev pub shown_calls : ℕ → List Change → List Change
 shown_calls m changes = take (shown_from m 0 0 changes) changes
 
 -- the newest call shows, and with it all
-shown_whole : (m : ℕ) (call : Told) (older : List Told) → call.kept ≡ true
+shown_whole : (m : ℕ) (call : Called) (older : List Called) → call.kept ≡ true
     → ((n : ℕ) → shown_with m (length (kept_of older)) n (change_of call) ≡ length (kept_of older) + 1)
     → shown_calls m (kept_of (call ∷ older)) ≡ kept_of (call ∷ older)
 shown_whole m call older on is =
@@ -197,7 +197,7 @@ shown_whole m call older on is =
     rw (more, count, ← size) (take-length (changes ++ change_of call ∷ []))
 
 -- the newest call does not show
-shown_without : (m : ℕ) (call : Told) (older : List Told) → call.kept ≡ true → m < call.moment
+shown_without : (m : ℕ) (call : Called) (older : List Called) → call.kept ≡ true → m < call.moment
     → shown_calls m (kept_of (call ∷ older)) ≡ shown_calls m (kept_of older)
 shown_without m call older on low =
     let changes = kept_of older in
@@ -207,7 +207,7 @@ shown_without m call older on low =
     rw (kept_on call older on, count) (take-append-le (shown_from m 0 0 changes) changes (change_of call ∷ []) (omega (arith, bound)))
 
 -- the newest call is a sync that acts still
-shown_but_sync : (m : ℕ) (call : Told) (older : List Told) → call.kept ≡ true → call.moment ≡ m → is_sync call.deed ≡ true
+shown_but_sync : (m : ℕ) (call : Called) (older : List Called) → call.kept ≡ true → call.moment ≡ m → is_sync call.deed ≡ true
     → shown_calls m (kept_of (call ∷ older)) ≡ kept_of older
 shown_but_sync m call older on is sync =
     let changes = kept_of older in
@@ -220,7 +220,7 @@ shown_but_sync m call older on is sync =
 abbrev HasImage : List ℕ → List Change → List ℕ → Type 0
 HasImage first changes content = IsImage (loose_by first (told_all changes)) content
 
-past_kept : (first : List ℕ) (call : Told) (older : List Told) (m : ℕ) (content : List ℕ)
+past_kept : (first : List ℕ) (call : Called) (older : List Called) (m : ℕ) (content : List ℕ)
     → AreLostFailed (call ∷ older) → call.kept ≡ true
     → (HasImage first (shown_calls m (kept_of older)) content → IsImage (past_by first older m) content)
     → HasImage first (shown_calls m (kept_of (call ∷ older))) content
@@ -248,7 +248,7 @@ past_kept first call older m content lost on before image = elim (ordered m call
   ]
 ]
 
-past_lost : (first : List ℕ) (call : Told) (older : List Told) (m : ℕ) (content : List ℕ)
+past_lost : (first : List ℕ) (call : Called) (older : List Called) (m : ℕ) (content : List ℕ)
     → IsFailed call.deed → call.kept ≡ false
     → IsImage (past_by first older m) content
     → IsImage (past_by first (call ∷ older) m) content
@@ -269,7 +269,7 @@ past_lost first call older m content failed off image = elim (on_or_off (is_earl
 ]
 
 -- what the shown calls of the record may leave may have been left at the moment
-pub past_image : (first : List ℕ) (calls : List Told) (m : ℕ) (content : List ℕ)
+pub past_image : (first : List ℕ) (calls : List Called) (m : ℕ) (content : List ℕ)
     → AreLostFailed calls
     → IsImage (loose_by first (told_all (shown_calls m (kept_of calls)))) content
     → IsImage (past_by first calls m) content
@@ -282,7 +282,7 @@ past_image first (call ∷ older) m content lost image = elim (on_or_off call.ke
 ]
 
 -- at a moment after the last call all calls of the record show
-all_shown : (calls : List Told) (m : ℕ) → last_by calls < m → shown_calls m (kept_of calls) ≡ kept_of calls
+all_shown : (calls : List Called) (m : ℕ) → last_by calls < m → shown_calls m (kept_of calls) ≡ kept_of calls
 unfolding last_by kept_of shown_from
 all_shown [] m later = refl
 all_shown (call ∷ older) m later = elim (on_or_off call.kept) [
@@ -291,12 +291,12 @@ all_shown (call ∷ older) m later = elim (on_or_off call.kept) [
 ]
 
 -- then they give what a read gives
-pub seen_shown : (first : List ℕ) (calls : List Told) (m : ℕ) → AreLostFailed calls → last_by calls < m
+pub seen_shown : (first : List ℕ) (calls : List Called) (m : ℕ) → AreLostFailed calls → last_by calls < m
     → seen_by first (told_all (shown_calls m (kept_of calls))) ≡ seen_by first calls
 seen_shown first calls m lost later = rw (all_shown calls m later) (kept_seen first calls lost)
 
 -- the same of what one side keeps
-pub image_of_track : (first now : List ℕ) (changes : List Change) (calls : List Told) (m count : ℕ) (content : List ℕ)
+pub image_of_track : (first now : List ℕ) (changes : List Change) (calls : List Called) (m count : ℕ) (content : List ℕ)
     → IsReplayed first now changes calls
     → count ≡ shown_from m 0 0 changes
     → IsImage (loose_by first (told_all (take count changes))) content
@@ -305,7 +305,7 @@ unfolding past_of
 image_of_track first now changes calls m count content is counted image =
     past_image first calls m content is.lost (rw is.record_part at (rw counted at image))
 
-pub seen_of_track : (first now : List ℕ) (changes : List Change) (calls : List Told) (m count : ℕ) (content : List ℕ)
+pub seen_of_track : (first now : List ℕ) (changes : List Change) (calls : List Called) (m count : ℕ) (content : List ℕ)
     → IsReplayed first now changes calls
     → count ≡ shown_from m 0 0 changes
     → last_of (record { first = first; calls = calls }) < m

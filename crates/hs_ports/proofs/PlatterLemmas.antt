@@ -6,10 +6,10 @@ use Rattle.hs_ports.specs.declared.change.Deed.{Deed}
 use Rattle.hs_ports.specs.declared.change.Deed.TheVariants as deed
 use Rattle.hs_ports.specs.Platter.{IsReplayed, IsFailed, AreLostFailed, kept_of}
 use Rattle.hs_ports.specs.Replay.{seen_after, seen_by}
-use Rattle.hs_ports.specs.Told.{Told, told}
+use Rattle.hs_ports.specs.Called.{Called, told}
 
 -- before the first call
-pub replayed_first : (bytes : List ℕ) (changes : List Change) (calls : List Told) → changes ≡ [] → calls ≡ []
+pub replayed_first : (bytes : List ℕ) (changes : List Change) (calls : List Called) → changes ≡ [] → calls ≡ []
     → IsReplayed bytes bytes changes calls
 unfolding seen_by kept_of AreLostFailed
 replayed_first bytes changes calls no_changes no_calls = rw (no_changes, no_calls) (record { bytes = refl; record_part = refl; lost = tt })
@@ -18,8 +18,8 @@ true_isnt_false : true ≡ false → ⊥
 true_isnt_false is = cc
 
 -- a call that the record has
-pub replayed_kept : (first now : List ℕ) (changes : List Change) (calls : List Told)
-    (first' now' : List ℕ) (changes' : List Change) (calls' : List Told) (change : Change)
+pub replayed_kept : (first now : List ℕ) (changes : List Change) (calls : List Called)
+    (first' now' : List ℕ) (changes' : List Change) (calls' : List Called) (change : Change)
     → IsReplayed first now changes calls
     → first' ≡ first
     → now' ≡ seen_after change.deed now
@@ -44,8 +44,8 @@ seen_failed (deed.CutFailed len) seen is = refl
 seen_failed deed.SyncFailed seen is = refl
 
 -- a call that failed, whether the record has it or not
-pub replayed_failed : (first now : List ℕ) (changes : List Change) (calls : List Told)
-    (changes' : List Change) (calls' : List Told) (change : Change) (kept : Bool)
+pub replayed_failed : (first now : List ℕ) (changes : List Change) (calls : List Called)
+    (changes' : List Change) (calls' : List Called) (change : Change) (kept : Bool)
     → IsReplayed first now changes calls
     → IsFailed change.deed
     → changes' ≡ (if kept then changes ++ change ∷ [] else changes)

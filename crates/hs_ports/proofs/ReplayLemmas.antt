@@ -5,10 +5,10 @@ use Rattle.hs_ports.specs.declared.change.Change.{Change}
 use Rattle.hs_ports.specs.Disk.{settled}
 use Rattle.hs_ports.specs.Image.{is_sync, told_onto, told_all, shown_with, shown_from}
 use Rattle.hs_ports.specs.Replay.{seen_by, loose_by, seen_after, loose_after}
-use Rattle.hs_ports.specs.Told.{Told, told}
+use Rattle.hs_ports.specs.Called.{Called, told}
 
 -- one call more at the end is the newest
-pub told_snoc : (older : List Told) (changes : List Change) (change : Change)
+pub told_snoc : (older : List Called) (changes : List Change) (change : Change)
     → told_onto older (changes ++ change ∷ []) ≡ told change true ∷ told_onto older changes
 unfolding told_onto
 told_snoc older [] change = refl

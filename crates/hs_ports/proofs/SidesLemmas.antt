@@ -9,7 +9,7 @@ use Rattle.hs_ports.specs.Platter.{seen_of, loose_of, last_of, past_of, after}
 use Rattle.hs_ports.specs.Replay.{Track, seen_after, loose_after, loose_during, seen_by, loose_by, last_by, past_by}
 use Rattle.hs_ports.specs.ReplayLaws.{earlier_below, earlier_above, past_earlier, past_here}
 use Rattle.hs_ports.specs.Sides.{standing_of, track_at, Acts}
-use Rattle.hs_ports.specs.Told.{Told}
+use Rattle.hs_ports.specs.Called.{Called}
 
 pub seen_of_after : (moment : ℕ) (deed : Deed) (kept : Bool) (track : Track)
     → seen_of (after moment deed kept track) ≡ seen_after deed (seen_of track)
@@ -30,14 +30,14 @@ pub past_of_before : (moment : ℕ) (deed : Deed) (kept : Bool) (track : Track) 
     → past_of (after moment deed kept track) m ≡ past_of track m
 unfolding past_of
 past_of_before moment deed kept track m low =
-    let call : Told = record { moment = moment; deed = deed; kept = kept } in
+    let call : Called = record { moment = moment; deed = deed; kept = kept } in
     past_earlier track.first call track.calls m (earlier_below call track.calls m low)
 
 pub past_of_here : (moment : ℕ) (deed : Deed) (kept : Bool) (track : Track) → last_of track < moment
     → past_of (after moment deed kept track) moment ≡ loose_during deed (loose_of track)
 unfolding past_of loose_of last_of
 past_of_here moment deed kept track later =
-    let call : Told = record { moment = moment; deed = deed; kept = kept } in
+    let call : Called = record { moment = moment; deed = deed; kept = kept } in
     past_here track.first call track.calls (earlier_above call track.calls moment (omega arith) later)
 
 -- a deed on one track, and the other as it was

@@ -4,14 +4,14 @@ use Rattle.hs_ports.specs.declared.change.Change.{Change}
 use Rattle.hs_ports.specs.declared.change.Deed.{Deed}
 use Rattle.hs_ports.specs.declared.change.Deed.TheVariants as deed
 use Rattle.hs_ports.specs.Disk.{byte_at}
-use Rattle.hs_ports.specs.Told.{Told, told}
+use Rattle.hs_ports.specs.Called.{Called, told}
 
 -- the calls of a record, the newest first
-unfoldable pub told_onto : List Told → List Change → List Told
+unfoldable pub told_onto : List Called → List Change → List Called
 told_onto older [] = older
 told_onto older (change ∷ changes) = told_onto (told change true ∷ older) changes
 
-abbrev pub told_all : List Change → List Told
+abbrev pub told_all : List Change → List Called
 told_all changes = told_onto [] changes
 
 -- a sync that was done

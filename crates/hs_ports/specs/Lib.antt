@@ -14,7 +14,7 @@ pub mod Sides
 pub mod SidesLaws
 pub mod Sink
 pub mod Source
-pub mod Told
+pub mod Called
 pub mod Watch
 pub mod Objects
 pub mod Putting

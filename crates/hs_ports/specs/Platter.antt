@@ -5,7 +5,7 @@ use Rattle.hs_ports.specs.declared.change.Deed.{Deed}
 use Rattle.hs_ports.specs.declared.change.Deed.TheVariants as deed
 use Rattle.hs_ports.specs.Disk.{Loose}
 use Rattle.hs_ports.specs.Replay.{Track, seen_by, loose_by, last_by, past_by}
-use Rattle.hs_ports.specs.Told.{Told}
+use Rattle.hs_ports.specs.Called.{Called}
 
 -- what a read gives
 unfoldable pub seen_of : Track → List ℕ
@@ -43,20 +43,20 @@ first_of None now = now
 first_of (Some first) now = first
 
 -- the calls that the record has, in order
-unfoldable pub kept_of : List Told → List Change
+unfoldable pub kept_of : List Called → List Change
 kept_of [] = []
 kept_of (call ∷ older) =
     if call.kept then kept_of older ++ record { moment = call.moment; deed = call.deed } ∷ []
     else kept_of older
 
 -- each call that the record hasn't has failed
-unfoldable pub AreLostFailed : List Told → Type 0
+unfoldable pub AreLostFailed : List Called → Type 0
 AreLostFailed [] = Unit {0}
 AreLostFailed (call ∷ older) = (call.kept ≡ false → IsFailed call.deed) × AreLostFailed older
 
 -- the bytes are those of the calls, and the record has its part of them
 pub record IsReplayed (first now : List ℕ) (changes : List Change)
-    (calls : List Told) : Type 0 where
+    (calls : List Called) : Type 0 where
   pub bytes : now ≡ seen_by first calls
   pub record_part : changes ≡ kept_of calls
   pub lost : AreLostFailed calls

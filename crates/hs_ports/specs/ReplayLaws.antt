@@ -8,7 +8,7 @@ use Rattle.hs_ports.specs.declared.change.Deed.{Deed}
 use Rattle.hs_ports.specs.declared.change.Deed.TheVariants as deed
 use Rattle.hs_ports.specs.Disk.{Loose, IsImage, settled, written, shortened, overwritten}
 use Rattle.hs_ports.specs.Replay.{seen_after, loose_after, loose_during, seen_by, loose_by, last_by, is_earlier, past_by}
-use Rattle.hs_ports.specs.Told.{Told}
+use Rattle.hs_ports.specs.Called.{Called}
 
 -- a write that was done leaves one of the contents that it may leave
 pub overwritten_image : (l : Loose) (c bytes : List ℕ) (at : ℕ) → IsImage l c
@@ -75,17 +75,17 @@ deed_image (deed.WriteFailed at len) l c image = written_image l c at len image
 deed_image (deed.CutFailed len) l c image = shortened_image l c len image
 deed_image deed.SyncFailed l c image = image
 
-pub stays_by : (first : List ℕ) (calls : List Told) → IsImage (loose_by first calls) (seen_by first calls)
+pub stays_by : (first : List ℕ) (calls : List Called) → IsImage (loose_by first calls) (seen_by first calls)
 unfolding seen_by loose_by
 stays_by first [] = settled_image first
 stays_by first (call ∷ older) = deed_image call.deed (loose_by first older) (seen_by first older) (stays_by first older)
 
 -- at a moment below a call's nothing changed
-pub earlier_below : (call : Told) (older : List Told) (m : ℕ) → m < call.moment → is_earlier call older m ≡ true
+pub earlier_below : (call : Called) (older : List Called) (m : ℕ) → m < call.moment → is_earlier call older m ≡ true
 earlier_below call older m low = rw (lt-ltb m call.moment low) refl
 
 -- at a moment after all calls the last one counts
-pub earlier_above : (call : Told) (older : List Told) (m : ℕ) → call.moment ≤ m → last_by older < m → is_earlier call older m ≡ false
+pub earlier_above : (call : Called) (older : List Called) (m : ℕ) → call.moment ≤ m → last_by older < m → is_earlier call older m ≡ false
 earlier_above call older m high later =
     rw (le-ltb m call.moment high, le-ltb m (last_by older + 1) (omega arith)) (off call.kept)
   where
@@ -93,7 +93,7 @@ earlier_above call older m high later =
     off true = refl
     off false = refl
 
-pub past_earlier : (first : List ℕ) (call : Told) (older : List Told) (m : ℕ)
+pub past_earlier : (first : List ℕ) (call : Called) (older : List Called) (m : ℕ)
     → is_earlier call older m ≡ true → past_by first (call ∷ older) m ≡ past_by first older m
 unfolding past_by
 past_earlier first call older m is = rw is refl
@@ -104,20 +104,20 @@ same_number m = grind (arith, nat_tests)
 differs : (m n : ℕ) → n < m → nat_eq m n ≡ false
 differs m n h = grind (arith, nat_tests)
 
-pub past_here : (first : List ℕ) (call : Told) (older : List Told)
+pub past_here : (first : List ℕ) (call : Called) (older : List Called)
     → is_earlier call older call.moment ≡ false
     → past_by first (call ∷ older) call.moment ≡ loose_during call.deed (loose_by first older)
 unfolding past_by
 past_here first call older is = rw (is, same_number call.moment) refl
 
-pub past_above : (first : List ℕ) (call : Told) (older : List Told) (m : ℕ)
+pub past_above : (first : List ℕ) (call : Called) (older : List Called) (m : ℕ)
     → is_earlier call older m ≡ false → call.moment < m
     → past_by first (call ∷ older) m ≡ loose_by first (call ∷ older)
 unfolding past_by loose_by
 past_above first call older m is above = rw (is, differs m call.moment above) refl
 
 -- at a moment after the last call a crash leaves what it may leave now
-pub since_by : (first : List ℕ) (calls : List Told) (m : ℕ) → last_by calls < m → past_by first calls m ≡ loose_by first calls
+pub since_by : (first : List ℕ) (calls : List Called) (m : ℕ) → last_by calls < m → past_by first calls m ≡ loose_by first calls
 unfolding last_by past_by loose_by
 since_by first [] m later = refl
 since_by first (call ∷ older) m later = past_above first call older m (earlier_above call older m (omega arith) (omega arith)) (omega arith)

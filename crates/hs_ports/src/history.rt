@@ -22,9 +22,9 @@ enum Newest {
 
 impl Model for History {
     ghost use Rattle.std.specs.Prelude.{List, length};
-    ghost use Rattle.hs_ports.specs.Told.{Told};
+    ghost use Rattle.hs_ports.specs.Called.{Called};
 
-    ghost Value = { List Told };
+    ghost Value = { List Called };
 
     ghost use Rattle.hs_ports.specs.History.{calls};
     ghost use Rattle.std.proofs.Common.{arith};
@@ -37,7 +37,7 @@ impl Model for History {
 }
 
 impl History {
-    ghost use Rattle.hs_ports.specs.Told.{told};
+    ghost use Rattle.hs_ports.specs.Called.{told};
 
     /// Before the first call.
     pub fn new() -> History

@@ -2,7 +2,7 @@
 ghost use Rattle.std.specs.Prelude.{◌≡◌, ◌<◌, ◌+◌, ◌∷◌, ◌++◌, [], true, false, length, if◌then◌else◌, IfOk, OnOk, OnErr};
 ghost use Rattle.std.specs.Prelude.{Some, take, vec_capacity, vec_len};
 ghost use Rattle.hs_ports.specs.Disk.{overwritten};
-ghost use Rattle.hs_ports.specs.Told.{told};
+ghost use Rattle.hs_ports.specs.Called.{told};
 
 use crate::change::{Change, Deed};
 use crate::history::History;

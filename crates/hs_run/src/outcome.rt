@@ -35,7 +35,7 @@ pub(crate) fn outcome_of(alloc: Global, status: Status, line: u64, cluster: Clus
     ensures refused { result.refused ≡ refused_in status (Some cluster) }
     ensures course { result.course ≡ cluster.course }
 {
-    let (core, course) = cluster.into_parts();
+    let (core, course) = cluster.into_told();
     let (journal, refused) = core.into_told();
     Outcome {
         status,

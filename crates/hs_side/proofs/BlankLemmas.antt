@@ -11,7 +11,7 @@ use Rattle.hs_side.specs.Follow.{start, followed}
 use Rattle.hs_side.specs.Giving.{GivesEmpty, IsBlankEverywhere}
 use Rattle.hs_side.specs.Reading.{is_open, is_blank, log_of}
 use Rattle.hs_side.specs.Spelling.{empty_back}
-use Rattle.hs_side.specs.Standing.{Kept, HasLog, Stands}
+use Rattle.hs_side.specs.Standing.{SideState, HasLog, Stands}
 use Rattle.hs_side.proofs.AppendLemmas.{has_bytes}
 use Rattle.hs_side.proofs.ReadLemmas.{Front_none, log_closed}
 use Rattle.hs_side.proofs.CrashLemmas.{gate_image, settled_firm}
@@ -119,7 +119,7 @@ gate_empty header generation n byte content one fits image =
 
 -- a value of an empty log, and the side that has it
 pub empty_has :
-    (log : Kept) (header : Header) (generation : ℕ) → log.head ≡ Some (header, generation) → log.places ≡ [] → log.end ≡ 17 → log.waiting ≡ None → generation < 2 ^ 64
+    (log : SideState) (header : Header) (generation : ℕ) → log.head ≡ Some (header, generation) → log.places ≡ [] → log.end ≡ 17 → log.waiting ≡ None → generation < 2 ^ 64
     → HasLog 165 header generation log (165 ∷ empty_back header generation) (settled (165 ∷ empty_back header generation))
 unfolding followed
 empty_has log header generation head_is none end_is rests fits = record {
@@ -180,7 +180,7 @@ empty_gate header generation before now byte side old new fits is still run =
 
 -- how an empty log stands
 pub empty_stands :
-    (T : Type 0) (log : Kept) (header : Header) (generation size : ℕ) (disk : Standing) → log.head ≡ Some (header, generation) → log.places ≡ [] → log.end ≡ 17 → log.waiting ≡ None → generation < 2 ^ 64
+    (T : Type 0) (log : SideState) (header : Header) (generation size : ℕ) (disk : Standing) → log.head ≡ Some (header, generation) → log.places ≡ [] → log.end ≡ 17 → log.waiting ≡ None → generation < 2 ^ 64
     → size ≡ 18 → (T → disk.seen log.side ≡ 165 ∷ empty_back header generation) → (T → disk.loose log.side ≡ settled (165 ∷ empty_back header generation)) → Stands T log size disk
 empty_stands T log header generation size disk head_is none end_is rests fits size_is seen loose =
     let there : HasLog 165 header generation log (165 ∷ empty_back header generation) (settled (165 ∷ empty_back header generation)) = empty_has log header generation head_is none end_is rests fits in

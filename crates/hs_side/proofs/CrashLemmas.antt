@@ -9,7 +9,7 @@ use Rattle.hs_side.specs.declared.header.Header.{Header}
 use Rattle.hs_side.specs.Follow.{Follow, start, after, followed}
 use Rattle.hs_side.specs.Reading.{is_open, Frame, entry_of, log_of, with_frame, listed, list_of}
 use Rattle.hs_side.specs.Spelling.{head, body, frame}
-use Rattle.hs_side.specs.Standing.{Kept, Waits, MayCome, IsFirm, HasLog, opened}
+use Rattle.hs_side.specs.Standing.{SideState, Waits, MayCome, IsFirm, HasLog, opened}
 use Rattle.hs_side.proofs.FrameLemmas.{read_ends}
 use Rattle.hs_side.proofs.ReadLemmas.{Front_more, log_closed, length-body, found_read, found_again, some_is}
 
@@ -50,7 +50,7 @@ gate_image end n seen content inside one image =
     ∙ ap (λ (l : List ℕ). l ++ get_or content end 0 ∷ drop (end + 1) content) front
     ∙ ap (λ (l : List ℕ). take end seen ++ get_or content end 0 ∷ l) back
 
-module _ (header : Header) (generation : ℕ) (log : Kept) (seen : List ℕ) (loose : Loose) (has : HasLog 165 header generation log seen loose) where
+module _ (header : Header) (generation : ℕ) (log : SideState) (seen : List ℕ) (loose : Loose) (has : HasLog 165 header generation log seen loose) where
   -- what stands before the last gate
   abbrev pub front : List ℕ
   front = head 165 header generation ++ has.bytes
@@ -116,7 +116,7 @@ regroup_body h b c z p r = simp append_assoc
 regroup : (h b p r : List ℕ) → h ++ b ++ 165 ∷ [] ++ (p ++ r) ≡ h ++ (b ++ 165 ∷ p) ++ r
 regroup h b p r = simp append_assoc
 
-module _ (header : Header) (generation : ℕ) (log : Kept) (seen : List ℕ) (loose : Loose) (has : HasLog 165 header generation log seen loose) where
+module _ (header : Header) (generation : ℕ) (log : SideState) (seen : List ℕ) (loose : Loose) (has : HasLog 165 header generation log seen loose) where
   -- a frame is written behind the last gate of a side at rest
   unfoldable pub appended :
       (payload : List ℕ) → loose ≡ settled seen → MayCome seen payload → length payload ≤ 600000

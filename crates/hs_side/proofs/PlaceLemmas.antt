@@ -11,7 +11,7 @@ use Rattle.hs_side.specs.Caused.{IsOutside}
 use Rattle.hs_side.specs.Opening.{ReadsAt}
 use Rattle.hs_side.specs.Reading.{payload_at, Frame, Log, log_of}
 use Rattle.hs_side.specs.Spelling.{head, body}
-use Rattle.hs_side.specs.Standing.{Kept, Framed, HasLog, HasNone, HasBytes}
+use Rattle.hs_side.specs.Standing.{SideState, Framed, HasLog, HasNone, HasBytes}
 use Rattle.hs_side.specs.Steps.{IsPayload}
 use Rattle.hs_side.proofs.ReadLemmas.{payload_again, some_is}
 use Rattle.hs_side.proofs.CrashLemmas.{log_is, ok_is}
@@ -41,7 +41,7 @@ framed_payload header generation bytes seen back placed f is =
     ∙ payload_again f.payload (f.after ++ back) f.short
 
 -- a side with a frame is not blank
-pub some_head : (log : Kept) (place : ℕ) (seen : List ℕ) (loose : Loose) → Contains log.places place → HasBytes 165 log seen loose → IsSome log.head
+pub some_head : (log : SideState) (place : ℕ) (seen : List ℕ) (loose : Loose) → Contains log.places place → HasBytes 165 log seen loose → IsSome log.head
 some_head log place seen loose held has = go log.head refl has
   where
     go : (o : Option (Header × ℕ)) → log.head ≡ o → MatchOption o (HasNone log seen loose) (λ head. HasLog 165 head.0 head.1 log seen loose) → IsSome log.head
@@ -49,12 +49,12 @@ some_head log place seen loose held has = go log.head refl has
     go (Some head) is some = rw is refl
 
 -- what is read at a place of the log
-pub record PlaceIs (log : Kept) (place : ℕ) (seen : List ℕ) : Type 0 where
+pub record PlaceIs (log : SideState) (place : ℕ) (seen : List ℕ) : Type 0 where
   pub payload : List ℕ
   pub read : payload_at (drop (place + 1) seen) ≡ Some payload
   pub entry : (l : Log) (placed : Frame) → log_of seen ≡ Ok (Some l) → Contains l.frames placed → placed.place ≡ place → entry_at payload ≡ Ok (placed.number, placed.entry)
 
-pub place_is : (log : Kept) (place : ℕ) (seen : List ℕ) (loose : Loose) → Contains log.places place → HasBytes 165 log seen loose → PlaceIs log place seen
+pub place_is : (log : SideState) (place : ℕ) (seen : List ℕ) (loose : Loose) → Contains log.places place → HasBytes 165 log seen loose → PlaceIs log place seen
 place_is log place seen loose held told =
     let some = some_head log place seen loose held told in
     let found = has_log 165 log seen loose some told in
@@ -83,7 +83,7 @@ place_is log place seen loose held told =
 
 -- what is read of it is appended
 read_more :
-    (log : Kept) (place : ℕ) (seen payload old new : List ℕ) → PlaceIs log place seen → length payload ≤ 600000 → IsPayload (Ok tt) place seen payload → new ≡ old ++ payload → ReadsAt seen place old new
+    (log : SideState) (place : ℕ) (seen payload old new : List ℕ) → PlaceIs log place seen → length payload ≤ 600000 → IsPayload (Ok tt) place seen payload → new ≡ old ++ payload → ReadsAt seen place old new
 read_more log place seen payload old new p short spelled more =
     let read : payload_at (drop (place + 1) seen) ≡ Some payload = ap payload_at spelled ∙ payload_again payload (drop (place + 5 + length payload) seen) short in
     let same : p.payload ≡ payload = some_is _ _ (sym p.read ∙ read) in
@@ -95,7 +95,7 @@ read_more log place seen payload old new p short spelled more =
     }
 
 -- it is there
-read_there : (log : Kept) (place : ℕ) (seen held : List ℕ) (fault : SideFault) → PlaceIs log place seen → IsPayload (Err fault) place seen held → IsOutside fault
+read_there : (log : SideState) (place : ℕ) (seen held : List ℕ) (fault : SideFault) → PlaceIs log place seen → IsPayload (Err fault) place seen held → IsOutside fault
 read_there log place seen held (NotALog at) p e = absurd (none_some p.payload (sym e.1 ∙ p.read))
   where
     none_some : (x : List ℕ) → let n : Option (List ℕ) = None in n ≡ Some x → ⊥
@@ -105,18 +105,18 @@ read_there log place seen held NoMemory p e = tt
 
 -- whatever came of reading it
 pub read_found :
-    (log : Kept) (place : ℕ) (seen old new : List ℕ) (r : Result (Unit {0}) SideFault) → PlaceIs log place seen → IsPayload r place seen (drop (length old) new)
+    (log : SideState) (place : ℕ) (seen old new : List ℕ) (r : Result (Unit {0}) SideFault) → PlaceIs log place seen → IsPayload r place seen (drop (length old) new)
     → OnOk r (length new ≤ length old + 600000) → OnOk r (new ≡ old ++ drop (length old) new) → OnOk r (ReadsAt seen place old new)
 read_found log place seen old new (Ok done) p e short more =
     read_more log place seen (drop (length old) new) old new p (omega (arith, short, length-drop (length old) new)) e more
 read_found log place seen old new (Err fault) p e short more = tt
 
-pub read_refused : (log : Kept) (place : ℕ) (seen held : List ℕ) (r : Result (Unit {0}) SideFault) → PlaceIs log place seen → IsPayload r place seen held → IfErr r IsOutside
+pub read_refused : (log : SideState) (place : ℕ) (seen held : List ℕ) (r : Result (Unit {0}) SideFault) → PlaceIs log place seen → IsPayload r place seen held → IfErr r IsOutside
 read_refused log place seen held (Ok done) p e = tt
 read_refused log place seen held (Err fault) p e = read_there log place seen held fault p e
 
 -- it is not past the end
-pub place_low : (log : Kept) (place : ℕ) (seen : List ℕ) → PlaceIs log place seen → length seen ≤ place → ⊥
+pub place_low : (log : SideState) (place : ℕ) (seen : List ℕ) → PlaceIs log place seen → length seen ≤ place → ⊥
 place_low log place seen p past =
     let none : payload_at (drop (place + 1) seen) ≡ None = payload_short (drop (place + 1) seen) (omega (arith, length-drop (place + 1) seen)) in
     clash p.payload (sym none ∙ p.read)

@@ -15,7 +15,7 @@ use Rattle.hs_side.specs.Follow.{Follow, start, followed}
 use Rattle.hs_side.specs.Reading.{is_open, is_blank, head_of, Frame, entry_of, frames, with_frames, Log, log_of}
 use Rattle.hs_side.specs.Spelling.{head, body, frame}
 use Rattle.hs_side.specs.Opening.{OpensRanked}
-use Rattle.hs_side.specs.Standing.{Kept, HasLog, HasBytes}
+use Rattle.hs_side.specs.Standing.{SideState, HasLog, HasBytes}
 use Rattle.hs_side.proofs.BlankLemmas.{blank_log}
 use Rattle.hs_side.specs.Steps.{IsHeadOf, IsGate, Comes, IsFrame, Scanned, Ended, Scan, IsScan}
 use Rattle.hs_side.proofs.ReadLemmas.{Front_none, Front_more, logged, length-body, found_read}
@@ -115,7 +115,7 @@ scan_frame view NoMemory seen at last places held x h s inside opens e = tt
 
 -- a log to its end
 pub ended_has :
-    (seen : List ℕ) (log : Kept) (rank : Rank) (x : Header × ℕ) → IsHeaded seen x → log.waiting ≡ None → Ended seen log.end rank log.places → HasLog 165 x.0 x.1 log seen (settled seen)
+    (seen : List ℕ) (log : SideState) (rank : Rank) (x : Header × ℕ) → IsHeaded seen x → log.waiting ≡ None → Ended seen log.end rank log.places → HasLog 165 x.0 x.1 log seen (settled seen)
 ended_has seen log rank x h rests e =
     let s = e.scanned in
     record {
@@ -154,15 +154,15 @@ opens_scan view Disk seen e = tt
 opens_scan view NoMemory seen e = tt
 
 -- a blank side
-pub opens_blank : (seen : List ℕ) (log : Kept) → is_blank seen ≡ true → log.head ≡ None → log.places ≡ [] → log.waiting ≡ None → OpensRanked (Ok (log, record { view = 0; number = 0 })) (log_of seen)
+pub opens_blank : (seen : List ℕ) (log : SideState) → is_blank seen ≡ true → log.head ≡ None → log.places ≡ [] → log.waiting ≡ None → OpensRanked (Ok (log, record { view = 0; number = 0 })) (log_of seen)
 unfolding rank_of
 opens_blank seen log blank none empty rests = (None, blank_log seen blank, record { head = none; places = empty; rests = rests }, refl)
 
-pub blank_has : (seen : List ℕ) (log : Kept) → is_blank seen ≡ true → log.head ≡ None → log.places ≡ [] → HasBytes 165 log seen (settled seen)
+pub blank_has : (seen : List ℕ) (log : SideState) → is_blank seen ≡ true → log.head ≡ None → log.places ≡ [] → HasBytes 165 log seen (settled seen)
 blank_has seen log blank none empty = rw none (record { empty = empty; blank = blank; still = refl })
 
 -- a log
-pub opens_log : (seen : List ℕ) (log : Kept) (rank : Rank) (x : Header × ℕ) → log.head ≡ Some x → log.waiting ≡ None → (e : Ended seen log.end rank log.places) → IsHeaded seen x → OpensRanked (Ok (log, rank)) (log_of seen)
+pub opens_log : (seen : List ℕ) (log : SideState) (rank : Rank) (x : Header × ℕ) → log.head ≡ Some x → log.waiting ≡ None → (e : Ended seen log.end rank log.places) → IsHeaded seen x → OpensRanked (Ok (log, rank)) (log_of seen)
 unfolding ended_has
 opens_log seen log rank x is rests e h =
     let has = ended_has seen log rank x h rests e in

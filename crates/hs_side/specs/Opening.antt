@@ -8,7 +8,7 @@ use Rattle.hs_side.specs.declared.header.Header.{Header}
 use Rattle.hs_side.specs.declared.fault.SideFault.{SideFault}
 use Rattle.hs_side.specs.declared.fault.SideFault.TheVariants.{NotALog, Disk, NoMemory}
 use Rattle.hs_side.specs.Reading.{Frame, payload_at, Log, log_of, entries_of}
-use Rattle.hs_side.specs.Standing.{Kept}
+use Rattle.hs_side.specs.Standing.{SideState}
 
 -- the header and the generation of a log
 abbrev pub head_in : Option Log → Option (Header × ℕ)
@@ -21,20 +21,20 @@ places_in None = []
 places_in (Some log) = map (λ placed. placed.place) log.frames
 
 -- a value shows what its side holds, and no frame waits
-pub record Shows (log : Kept) (content : Option Log) : Type 0 where
+pub record Shows (log : SideState) (content : Option Log) : Type 0 where
   pub head : log.head ≡ head_in content
   pub places : log.places ≡ places_in content
   pub rests : log.waiting ≡ None
 
 -- what opening answers is what reading gives, unless the disk failed or memory ran out
-abbrev pub Opens : Result Kept SideFault → Result (Option Log) ℕ → Type 0
+abbrev pub Opens : Result SideState SideFault → Result (Option Log) ℕ → Type 0
 Opens (Ok log) read = (content : Option Log) × (read ≡ Ok content) × Shows log content
 Opens (Err (NotALog at)) read = read ≡ Err at
 Opens (Err Disk) read = ⊤
 Opens (Err NoMemory) read = ⊤
 
 -- the same with the rank of the entries that were read
-abbrev pub OpensRanked : Result (Kept × Rank) SideFault → Result (Option Log) ℕ → Type 0
+abbrev pub OpensRanked : Result (SideState × Rank) SideFault → Result (Option Log) ℕ → Type 0
 OpensRanked (Ok x) read =
     (content : Option Log) × (read ≡ Ok content) × Shows x.0 content
     × (x.1 ≡ rank_of (entries_of content))

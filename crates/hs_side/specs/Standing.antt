@@ -12,7 +12,7 @@ use Rattle.hs_side.specs.Reading.{is_open, is_blank, found_in, Found, Frame, fra
 use Rattle.hs_side.specs.Spelling.{head, body, frame}
 
 -- what a value of a side's log keeps
-pub record Kept : Type 0 where
+pub record SideState : Type 0 where
   pub side : Side
   -- the header and the generation, None where the side is blank
   pub head : Option (Header × ℕ)
@@ -73,7 +73,7 @@ IsFirm end seen loose =
 
 -- the side has this log, and byte 0 is this gate: at rest all of it is on the medium; while a frame
 -- waits, all up to the last gate; where byte 0 is open, the log may end there
-pub record HasLog (gate : ℕ) (header : Header) (generation : ℕ) (log : Kept) (seen : List ℕ)
+pub record HasLog (gate : ℕ) (header : Header) (generation : ℕ) (log : SideState) (seen : List ℕ)
     (loose : Loose) : Type 0 where
   pub bytes : List ℕ
   pub found : List Frame
@@ -93,22 +93,22 @@ pub record HasLog (gate : ℕ) (header : Header) (generation : ℕ) (log : Kept)
       (λ next. Waits gate follow log.end next rest)
 
 -- the side is blank, all of it on the medium
-pub record HasNone (log : Kept) (seen : List ℕ) (loose : Loose) : Type 0 where
+pub record HasNone (log : SideState) (seen : List ℕ) (loose : Loose) : Type 0 where
   pub empty : log.places ≡ []
   pub blank : is_blank seen ≡ true
   pub still : loose ≡ settled seen
 
 -- the contents of the side, by byte 0
-abbrev pub HasBytes : ℕ → Kept → List ℕ → Loose → Type 0
+abbrev pub HasBytes : ℕ → SideState → List ℕ → Loose → Type 0
 HasBytes gate log seen loose =
     MatchOption log.head (HasNone log seen loose) (λ head. HasLog gate head.0 head.1 log seen loose)
 
 -- the side is long enough for the last gate that was written
-abbrev pub HasRoom : Kept → ℕ → Type 0
+abbrev pub HasRoom : SideState → ℕ → Type 0
 HasRoom log size = MatchOption log.head ⊤ (λ head.
     MatchOption log.waiting (log.end < size) (λ next. (log.end < next) × (next < size)))
 
 -- the side stands as the last call on this log left it; byte 0 is open
-pub record Stands (tells : Type 0) (log : Kept) (size : ℕ) (disk : Standing) : Type 0 where
+pub record Stands (tells : Type 0) (log : SideState) (size : ℕ) (disk : Standing) : Type 0 where
   pub room : HasRoom log size
   pub told : tells → HasBytes 0xa5 log (disk.seen log.side) (disk.loose log.side)

@@ -29,9 +29,9 @@ pub struct SideLog {
 
 impl Model for SideLog {
     ghost use Rattle.std.specs.Prelude.{◌≤◌, ◌+◌, IfSome, IsSome, vec_len, vec_capacity};
-    ghost use Rattle.hs_side.specs.Standing.{Kept};
+    ghost use Rattle.hs_side.specs.Standing.{SideState};
 
-    ghost Value = { Kept };
+    ghost Value = { SideState };
 
     ghost view = { λ a. record {
       side = a.side;

@@ -1,5 +1,5 @@
 use Rattle.std.proofs.Common.{◌≡◌, ◌∙◌, arith, refl, ap, sym, subst, None}
-use Rattle.hs_side.specs.Standing.{Kept}
+use Rattle.hs_side.specs.Standing.{SideState}
 use Rattle.hs_peerlog.specs.Images.{Is}
 use Rattle.hs_peerlog.specs.Lists.{HasList}
 use Rattle.hs_peerlog.proofs.MakeLemmas.{none-if, blank-side, first-each, formatted, opened-list}
@@ -17,7 +17,7 @@ returns-clause-list g c = λ told list opened.
     let made = c.in_ok-made.made in
     let none : c.args.log.head ≡ None = none-if c.args.log.head c.generation.result c.generation.ensures.some (sym c.is_some.ensures ∙ c.if-is_some.false) in
     subst (λ es. HasList made.places ((g.D.Disk.stands c.format.new.disk).seen c.args.log.side) es) (sym (opened.blank none))
-    (formatted made ((g.D.Disk.stands c.format.new.disk).seen c.args.log.side) c.args.header 1 (omega arith) (ap (λ (k : Kept). k.places) c.in_ok-made.ensures.value)
+    (formatted made ((g.D.Disk.stands c.format.new.disk).seen c.args.log.side) c.args.header 1 (omega arith) (ap (λ (k : SideState). k.places) c.in_ok-made.ensures.value)
     (ap (λ s. (g.D.Disk.stands c.format.new.disk).seen s) (sym c.side.ensures) ∙ c.in_ok-made.ensures.written told))
 
 pub returns-in_err-made-clause-any_moment : goal.returns-in_err-made-clause-any_moment

@@ -2,7 +2,7 @@ use Rattle.std.proofs.Common.{◌≡◌, ◌∙◌, ◌+◌, length, ap, sym, su
 use Rattle.hs_entry.specs.declared.rank.Rank.{Rank}
 use Rattle.hs_entry.specs.Entries.{rank_after}
 use Rattle.hs_entry.specs.Payload.{payload}
-use Rattle.hs_side.specs.Standing.{Kept, MayCome}
+use Rattle.hs_side.specs.Standing.{SideState, MayCome}
 use Rattle.hs_peerlog.specs.Images.{IsSole}
 use Rattle.hs_peerlog.specs.Lists.{IsBlankBeside, Keeping}
 use Rattle.hs_peerlog.proofs.EntryLemmas.{last-length, may-come, readable-ordinary}
@@ -17,7 +17,7 @@ append_entry-requires-clause-comes g c = λ told.
     let kept = none-waits c.args.self.now _ some c.requires.none in
     let number : c.args.number ≡ length some.list + 1 = c.requires.next ∙ ap (λ (r : Rank). r.number + 1) kept.rank ∙ ap (λ n. n + 1) (last-length some.list kept.numbered) in
     let comes = may-come c.args.self.now.log.places _ some.list c.args.number c.args.entry.now kept.listed kept.numbered number c.ranges.number.fits c.requires.readable in
-    subst (λ (k : Kept). MayCome ((g.D.Disk.stands c.args.disk.now).seen k.side) (payload c.args.number c.args.entry.now)) (sym view) comes
+    subst (λ (k : SideState). MayCome ((g.D.Disk.stands c.args.disk.now).seen k.side) (payload c.args.number c.args.entry.now)) (sym view) comes
 
 pub returns-in_err-append_entry-clause-any_moment : goal.returns-in_err-append_entry-clause-any_moment
 returns-in_err-append_entry-clause-any_moment g c = λ told last list has.
@@ -37,8 +37,8 @@ returns-clause-ready g c =
     let waits = ap (λ r. Some r) (c.after.ensures ∙ ap (λ r. rank_after r c.args.number c.args.entry.now) rank) in
     record {
       stands = c.in_ok-append_entry.ensures.stands;
-      begun = subst (λ (k : Kept). IsSome k.head) (sym value) c.requires.ready.begun;
-      waits = sym (ap (λ (k : Kept). is_some k.waiting) value);
+      begun = subst (λ (k : SideState). IsSome k.head) (sym value) c.requires.ready.begun;
+      waits = sym (ap (λ (k : SideState). is_some k.waiting) value);
       told = λ told.
           let some = c.requires.ready.told told in
           record {
@@ -61,9 +61,9 @@ returns-clause-list g c = λ told last list has.
     record {
       kept = appended c.args.self.now _ (g.D.Disk.stands c.args.disk.now).seen (g.D.Disk.stands c.append_entry.new.disk).seen _ c.args.number list c.args.entry.now has.kept
           (readable-ordinary c.args.entry.now c.requires.readable) c.requires.next value rank waits (rw view at (c.in_ok-append_entry.ensures.same told)) (rw view at (c.in_ok-append_entry.ensures.later told));
-      sole = subst (λ s. IsSole s (g.D.Disk.stands c.append_entry.new.disk)) (sym (ap (λ (k : Kept). k.side) value)) (append-sole c.args.self.now.log.places list has.kept.listed last since has.sole stays run);
+      sole = subst (λ s. IsSole s (g.D.Disk.stands c.append_entry.new.disk)) (sym (ap (λ (k : SideState). k.side) value)) (append-sole c.args.self.now.log.places list has.kept.listed last since has.sole stays run);
       leaves = append-only c.args.self.now.log.places list has.kept.listed last since has.sole stays run;
-      beside = subst (λ s. IsBlankBeside s (g.D.Disk.stands c.append_entry.new.disk)) (sym (ap (λ (k : Kept). k.side) value)) (beside-stays c.args.self.now.log.side (g.D.Disk.stands c.args.disk.now) (g.D.Disk.stands c.append_entry.new.disk) run.other has.beside);
+      beside = subst (λ s. IsBlankBeside s (g.D.Disk.stands c.append_entry.new.disk)) (sym (ap (λ (k : SideState). k.side) value)) (beside-stays c.args.self.now.log.side (g.D.Disk.stands c.args.disk.now) (g.D.Disk.stands c.append_entry.new.disk) run.other has.beside);
     }
 
 pub returns-clause-reads : goal.returns-clause-reads

@@ -1,5 +1,5 @@
 use Rattle.std.proofs.Common.{◌∙◌, List, ℕ, ap}
-use Rattle.hs_side.specs.Standing.{Kept}
+use Rattle.hs_side.specs.Standing.{SideState}
 use Rattle.hs_side.proofs.AppendLemmas.{append_stays, append_moments, append_stands, append_same, append_later, new_log}
 use Rattle.hs_side.proofs.log.SideLog.append.Goals as goal
 
@@ -44,7 +44,7 @@ returns-clause-stands g c =
     (record { stands = r.stands; holds = r.holds; sealed = r.sealed; short = r.short; comes = r.comes }) c.self.view_is (c.deref.ensures.value ∙ c.in_ok-lay_payload.ensures)
     (record { grown = c.in_ok-put.ensures.size; seen = c.in_ok-put.ensures.seen; loose = c.put.ensures.loose })
     (ap (λ (places : List ℕ). new_log (record { side = here; head = c.self.inside.head; places = places; end = c.self.inside.end; waiting = c.self.inside.waiting }) c.args.payload.now) c.reserve.ensures.items
-    ∙ ap (λ (log : Kept). new_log log c.args.payload.now) c.self.view_is)
+    ∙ ap (λ (log : SideState). new_log log c.args.payload.now) c.self.view_is)
 
 pub returns-clause-same : goal.returns-clause-same
 returns-clause-same g c told =

@@ -1,7 +1,7 @@
 use Rattle.std.proofs.Common.{◌∙◌, List, ℕ, ap}
 use Rattle.hs_entry.specs.Payload.{payload}
 use Rattle.hs_entry.proofs.EntryLemmas.{entry_again}
-use Rattle.hs_side.specs.Standing.{Kept}
+use Rattle.hs_side.specs.Standing.{SideState}
 use Rattle.hs_side.proofs.AppendLemmas.{append_stays, append_moments, append_stands, append_same, append_later, entry_may, log_with, new_log}
 use Rattle.hs_side.proofs.log.SideLog.append_entry.Goals as goal
 
@@ -47,7 +47,7 @@ returns-clause-stands g c =
     (record { grown = c.in_ok-put.ensures.size; seen = c.in_ok-put.ensures.seen; loose = c.put.ensures.loose })
     (ap (λ (n : ℕ). log_with (record { side = here; head = c.self.inside.head; places = c.reserve.new.self.items; end = c.self.inside.end; waiting = c.self.inside.waiting }) n) c.in-Ok.ensures.len
     ∙ ap (λ (places : List ℕ). new_log (record { side = here; head = c.self.inside.head; places = places; end = c.self.inside.end; waiting = c.self.inside.waiting }) (payload c.args.number c.args.entry.now)) c.reserve.ensures.items
-    ∙ ap (λ (log : Kept). new_log log (payload c.args.number c.args.entry.now)) c.self.view_is)
+    ∙ ap (λ (log : SideState). new_log log (payload c.args.number c.args.entry.now)) c.self.view_is)
 
 pub returns-clause-same : goal.returns-clause-same
 returns-clause-same g c told =

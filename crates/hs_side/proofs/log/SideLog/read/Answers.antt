@@ -1,6 +1,6 @@
 use Rattle.std.proofs.Common.{◌≡◌, ◌∙◌, ℕ, drop, length, ap, subst, arith}
 use Rattle.hs_ports.specs.Disk.{Standing}
-use Rattle.hs_side.specs.Standing.{Kept}
+use Rattle.hs_side.specs.Standing.{SideState}
 use Rattle.hs_side.specs.Steps.{IsPayload}
 use Rattle.hs_side.proofs.PlaceLemmas.{place_is, place_low, read_found, read_refused}
 use Rattle.hs_side.proofs.log.SideLog.read.Goals as goal
@@ -10,7 +10,7 @@ returns-then-place-size-clause-refused g c told =
     let disk = c.args.disk.now in
     let log = c.args.self.now in
     let seen = (g.D.Disk.stands disk).seen log.side in
-    let here : c.self.inside.side ≡ log.side = ap (λ (k : Kept). k.side) c.self.view_is in
+    let here : c.self.inside.side ≡ log.side = ap (λ (k : SideState). k.side) c.self.view_is in
     let size : c.in_ok-size.size ≡ length seen = c.in_ok-size.ensures.value ∙ ap (λ s. g.D.Disk.size disk s) here ∙ g.met.D.Disk.sized told disk log.side in
     place_low log c.args.place seen (place_is log c.args.place seen _ c.requires.sealed (c.requires.stands.told told)) (omega (arith, size, c.if-place-size.true))
 
@@ -20,7 +20,7 @@ returns-clause-refused g c told =
     let log = c.args.self.now in
     let place = c.args.place in
     let seen = (g.D.Disk.stands disk).seen log.side in
-    let here : c.self.inside.side ≡ log.side = ap (λ (k : Kept). k.side) c.self.view_is in
+    let here : c.self.inside.side ≡ log.side = ap (λ (k : SideState). k.side) c.self.view_is in
     let there = place_is log place seen _ c.requires.sealed (c.requires.stands.told told) in
     let r = c.read_payload.result in
     let old = c.args.out.now.items in
@@ -35,7 +35,7 @@ returns-clause-found g c told =
     let log = c.args.self.now in
     let place = c.args.place in
     let seen = (g.D.Disk.stands disk).seen log.side in
-    let here : c.self.inside.side ≡ log.side = ap (λ (k : Kept). k.side) c.self.view_is in
+    let here : c.self.inside.side ≡ log.side = ap (λ (k : SideState). k.side) c.self.view_is in
     let there = place_is log place seen _ c.requires.sealed (c.requires.stands.told told) in
     let r = c.read_payload.result in
     let old = c.args.out.now.items in

@@ -1,6 +1,6 @@
 use Rattle.std.proofs.Common.{◌∙◌, ◌+◌, max, List, ℕ, None, ap}
 use Rattle.hs_ports.specs.Disk.{settled}
-use Rattle.hs_side.specs.Standing.{Kept, opened}
+use Rattle.hs_side.specs.Standing.{SideState, opened}
 use Rattle.hs_side.proofs.SealLemmas.{may_seal, if_some, seal_first, seal_second, seal_stands, sealed_log, seal_grown}
 use Rattle.hs_side.proofs.log.SideLog.seal.Goals as goal
 
@@ -51,8 +51,8 @@ returns-clause-stands g c =
     (put.size ∙ ap (λ (n : ℕ). max n (c.self.inside.end + 1)) (c.settle.ensures.same_size c.self.inside.side))
     (λ told. put.seen told ∙ ap (λ (l : List ℕ). opened c.self.inside.end l) (c.settle.ensures.seen told))
     (λ told. put.settled told ∙ ap (λ (l : List ℕ). settled (opened c.self.inside.end l)) (c.settle.ensures.seen told))
-    (ap (λ (places : List ℕ). let k : Kept = record { side = side; head = c.self.inside.head; places = places; end = next; waiting = None } in k) (rw c.unwrap.ensures at c.extend_from_slice.ensures.items)
-    ∙ ap (λ (log : Kept). sealed_log log next) c.self.view_is)
+    (ap (λ (places : List ℕ). let k : SideState = record { side = side; head = c.self.inside.head; places = places; end = next; waiting = None } in k) (rw c.unwrap.ensures at c.extend_from_slice.ensures.items)
+    ∙ ap (λ (log : SideState). sealed_log log next) c.self.view_is)
 
 pub returns-clause-grown : goal.returns-clause-grown
 returns-clause-grown g c told =

@@ -5,10 +5,10 @@ use Rattle.hs_ports.specs.declared.change.Deed.{Deed}
 
 -- a call, and whether the record has it: a call that failed has no place there if memory is
 -- wanting
-pub record Told : Type 0 where
+pub record Called : Type 0 where
   pub moment : ℕ
   pub deed : Deed
   pub kept : Bool
 
-abbrev pub told : Change → Bool → Told
+abbrev pub told : Change → Bool → Called
 told change kept = record { moment = change.moment; deed = change.deed; kept = kept }
