@@ -1,6 +1,6 @@
 -- A journal judged by its deeds alone, over a store without data.
-use Rattle.std.specs.Prelude.{◌≡◌, ◌⊎◌, ℕ, ◌<◌, Bool, true, false, ◌==◌, IsTrue, List, [], ◌∷◌, ◌++◌, length, map, slice_index, Option, Some, None, IsSome, is_some, AllByRecursion, nat_le, nat_lt}
-use Rattle.std.specs.List.{list_all, list_any, range_with_len}
+use Rattle.std.specs.Prelude.{◌≡◌, ℕ, ◌<◌, Bool, false, ◌==◌, IsTrue, List, [], ◌∷◌, ◌++◌, length, map, Option, Some, None, IsSome, is_some, nat_le, nat_lt}
+use Rattle.std.specs.List.{AllByRecursion, list_all, list_any, range_with_len}
 use Rattle.std.specs.Option.{option_map_or}
 use Rattle.hs_limits.specs.declared.address.Address.{Address}
 use Rattle.hs_limits.specs.declared.limits.Limits.{Limits}
@@ -125,7 +125,7 @@ pub record MayWrite (limits : Limits) (s : Store) (name : List ℕ) (a : Address
 
 -- a block that was absent was written
 pub record IsWrote (limits : Limits) (s : Store) (name : List ℕ) (a : Address) (pointers : List Address) (handle : ℕ) (told : Reply) : Type 0 where
-  pub open_there : IsSome (session_at s name)
+  pub is_open : IsSome (session_at s name)
   pub absent : block_at s a ≡ None
   pub held : AllByRecursion (HoldsFresh s name (epoch_at s a)) pointers
   pub granted : MayWrite limits s name a pointers
@@ -134,7 +134,7 @@ pub record IsWrote (limits : Limits) (s : Store) (name : List ℕ) (a : Address)
 
 -- a write found its block present
 pub record IsMarked (s : Store) (name : List ℕ) (a : Address) (handle : ℕ) (told : Reply) : Type 0 where
-  pub open_there : IsSome (session_at s name)
+  pub is_open : IsSome (session_at s name)
   pub present : IsSome (block_at s a)
   pub held : AllByRecursion (HoldsFresh s name (epoch_at s a)) (pointers_at s a)
   pub next : handle ≡ next_of (session_at s name)

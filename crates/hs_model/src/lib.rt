@@ -6,6 +6,7 @@ mod copy;
 mod course;
 mod deed;
 mod fault;
+mod naming;
 mod op;
 mod plain;
 mod reply;
