@@ -9,7 +9,7 @@ use Rattle.hs_model.specs.declared.deed.Deed.{Deed}
 use Rattle.hs_model.specs.declared.deed.Deed.TheVariants as deed
 use Rattle.hs_model.specs.declared.reply.Reply.{Reply}
 use Rattle.hs_model.specs.declared.reply.Reply.TheVariants as reply
-use Rattle.hs_model.specs.Deeds.{AreDeeds, Busy, DeedEntry, IsRefusal, Refused, deed_store, is_answered, refusals_told}
+use Rattle.hs_model.specs.Deeds.{AreDeeds, Busy, DeedEntry, MayBeRefused, Refused, deed_store, is_answered, refusals_told}
 use Rattle.hs_model.specs.Refusals.{no_handle_in, stale_in}
 use Rattle.hs_model.specs.Store.{Store, empty_store, helds_of}
 
@@ -162,7 +162,7 @@ wrong_refusal : AreDeeds limits (after blank holding) holding (told 3 (deed.Refu
 unfolding refusals_told no_handle_in stale_in helds_of
 wrong_refusal h = no h.0.done
   where
-    no : IsRefusal limits (after blank holding) holding (asked.Read ann 0) (reply.NoHandle 0) → ⊥
+    no : MayBeRefused limits (after blank holding) holding (asked.Read ann 0) (reply.NoHandle 0) → ⊥
     no (Busy line e f) = cc e
     no (Refused r) = none-some (reply.NoHandle 0) r.first_of
 
@@ -186,6 +186,6 @@ wrong_busy h = no h.0.done
     busy_is : {line : ℕ} → reply.Busy 2 ≡ reply.Busy line → 2 ≡ line
     busy_is e = ap line_in e
 
-    no : IsRefusal limits (after blank holding) holding (asked.Read ann 0) (reply.Busy 2) → ⊥
+    no : MayBeRefused limits (after blank holding) holding (asked.Read ann 0) (reply.Busy 2) → ⊥
     no (Busy line e f) = let has : is_answered holding line ≡ true = ap (λ n. is_answered holding n) (sym (busy_is e)) in cc (has, f)
     no (Refused r) = none-some (reply.Busy 2) r.first_of
