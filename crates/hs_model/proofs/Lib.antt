@@ -11,3 +11,4 @@ pub mod PlaceLemmas
 pub mod CountLemmas
 pub mod RefusalLemmas
 pub mod MapLemmas
+mod DeedsExamples

@@ -9,4 +9,7 @@ pub mod Hollow
 pub mod Inner
 pub mod Refusals
 pub mod Judge
+pub mod Replies
+pub mod Deed
 pub mod Run
+pub mod Deeds
