@@ -1,5 +1,5 @@
 -- What hand-outs and reports make of a slip, each job and report once.
-use Rattle.std.proofs.Common.{◌≡◌, ℕ, ⊤, tt, Bool, true, false, List, [], ◌∷◌, map, Option, Some, None, Result, Ok, Err, refl}
+use Rattle.std.proofs.Common.{◌≡◌, Bool, true, false, List, [], ◌∷◌, map, Option, Some, None, Ok, Err, refl}
 use Rattle.hs_entry.specs.declared.entry.Entry.TheVariants as kind
 use Rattle.hs_desk.specs.Slips.{answers_work, handed, is_own_next, reported, shown_by, stored_by, work_of}
 use Rattle.hs_desk.specs.declared.done.Done.{Done}
@@ -8,7 +8,6 @@ use Rattle.hs_desk.specs.declared.fault.CoreFault.{CoreFault}
 use Rattle.hs_desk.specs.declared.fault.CoreFault.TheVariants as fault
 use Rattle.hs_desk.specs.declared.job.Job.{Job}
 use Rattle.hs_desk.specs.declared.job.Job.TheVariants as job
-use Rattle.hs_desk.specs.declared.job.Next.{Next}
 use Rattle.hs_desk.specs.declared.job.Next.TheVariants as next
 use Rattle.hs_desk.specs.declared.job.Work.{Work}
 use Rattle.hs_desk.specs.declared.job.Work.TheVariants as work

@@ -1,5 +1,5 @@
 -- What answers a job that is a work.
-use Rattle.std.proofs.Common.{◌≡◌, ℕ, ◌==◌, Option, Some, None, IsSome, refl, absurd, cc}
+use Rattle.std.proofs.Common.{◌≡◌, ℕ, ◌==◌, IsSome, refl}
 use Rattle.std.proofs.Math.Bool.{or-false}
 use Rattle.hs_desk.specs.Answers.{answers}
 use Rattle.hs_desk.specs.Slips.{answers_work, work_of}

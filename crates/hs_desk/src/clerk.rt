@@ -39,8 +39,7 @@ pub trait Clerk {
         requires own { IsOfSession (Self.Pass.noted pass.old).session op }
         requires address { HasAddress op }
 
-        ensures noted {
-            Self.Pass.noted pass.new ≡ begun (asked_of op) result (Self.Pass.noted pass.old) }
+        ensures noted { Self.Pass.noted pass.new ≡ begun (asked_of op) result (Self.Pass.noted pass.old) }
 
         ensures ends { EndsOnce (ended self.old) (ended self.new) result };
 

@@ -4,6 +4,7 @@ use crate::Job;
 /// Called before and after each job that is done on a disk, while nothing is locked.
 pub trait Gate {
     fn before(&self, peer: u8, job: &Job);
+
     fn after(&self, peer: u8, job: &Job);
 }
 

@@ -2,11 +2,11 @@
 #![tactic(auto)]
 
 mod clerk;
-mod deeds;
 mod desk;
 mod done;
 mod fault;
 mod gate;
+mod holding;
 mod job;
 mod roomy;
 mod slip;

@@ -48,23 +48,19 @@ impl Slip {
     }
 
     /// Notes what was handed out. It takes no memory.
-    pub fn hand(&mut self, result: &Result<Next, CoreFault>)
-        ensures { self.new ≡ handed result.now self.old }
+    pub fn hand(&mut self, given: &Result<Next, CoreFault>)
+        ensures { self.new ≡ handed given.now self.old }
     {
-        self.work = work_in(result);
-        self.idle = matches!(result, Ok(Next::Idle));
-        if let Err(fault) = result {
+        self.work = work_in(given);
+        self.idle = matches!(given, Ok(Next::Idle));
+        if let Err(fault) = given {
             self.fault = Some(*fault);
         }
     }
 
     /// Notes a report, and whether it was taken. One that was taken but finds no room is a fault.
     /// It takes no memory.
-    pub fn take_report(
-        &mut self,
-        done: Done,
-        taken: Result<(), CoreFault>,
-    ) -> Result<(), CoreFault>
+    pub fn take_report(&mut self, done: Done, taken: Result<(), CoreFault>) -> Result<(), CoreFault>
         ensures noted { self.new ≡ reported done result self.old }
         ensures refused { IfErr taken (λ fault. result ≡ Err fault) }
         ensures cause { OnOk taken (IfErr result (λ fault. fault ≡ NoMemory)) }
@@ -83,7 +79,9 @@ impl Slip {
     /// Adds what a report that was taken adds, where there is room for it.
     fn add(&mut self, done: Done) -> bool
         ensures added { result ≡ true → self.new ≡ record self.old {
-            stored = self.old.stored ++ stored_by done; shown = self.old.shown ++ shown_by done } }
+          stored = self.old.stored ++ stored_by done;
+          shown = self.old.shown ++ shown_by done;
+        } }
         ensures same { result ≡ false → self.new ≡ self.old }
     {
         match done {
@@ -100,10 +98,10 @@ impl Slip {
 }
 
 /// The work that was handed out, where one was.
-fn work_in(result: &Result<Next, CoreFault>) -> Option<Work>
-    ensures { result ≡ work_in result.entry.now }
+fn work_in(given: &Result<Next, CoreFault>) -> Option<Work>
+    ensures { result ≡ work_in given.now }
 {
-    match result {
+    match given {
         Ok(Next::Do(job)) => Work::of(job),
         Ok(Next::Handled | Next::Idle) | Err(_) => None,
     }

@@ -5,11 +5,11 @@ ghost use Rattle.hs_model.specs.Deed.{deed_of};
 ghost use Rattle.hs_desk.specs.Tokens.{answered, begun, newly_held};
 ghost use Rattle.hs_desk.specs.declared.fault.CoreFault.TheVariants.{NoMemory};
 
-use crate::deeds::{deed_of, newly_held};
+use crate::holding::newly_held;
 use crate::roomy::push_both;
 use crate::{CoreFault, RoomyList};
 use hs_limits::{Held, Name};
-use hs_model::{Asked, Deed, ModelFault, Reply};
+use hs_model::{Asked, Deed, ModelFault, Reply, deed_of};
 use std::alloc::Global;
 
 /// What is noted of the operations of one session.
@@ -32,7 +32,9 @@ pub struct Token {
 impl Token {
     /// The token of a session that has begun nothing yet. It takes no memory.
     pub fn new(alloc: Global, session: Name) -> Token
-        ensures { result ≡ record { session = session; number = 0; asked = None; held = []; kept = []; fault = None } }
+        ensures { result ≡ record {
+          session = session; number = 0; asked = None; held = []; kept = []; fault = None;
+        } }
     {
         Token {
             session,
@@ -52,10 +54,10 @@ impl Token {
     }
 
     /// Notes an operation that was begun, with its number, or why it was not. It takes no memory.
-    pub fn begin(&mut self, asked: Asked, result: Result<u64, CoreFault>)
-        ensures { self.new ≡ begun asked result self.old }
+    pub fn begin(&mut self, asked: Asked, given: Result<u64, CoreFault>)
+        ensures { self.new ≡ begun asked given self.old }
     {
-        match result {
+        match given {
             Ok(number) => {
                 self.asked = Some(asked);
                 self.number = number;
@@ -70,7 +72,7 @@ impl Token {
         requires { IsSome self.old.asked }
         ensures value { IfOk result (λ r. r ≡ reply.now) }
         ensures noted { IfOk result (λ r. (asked : Asked) → self.old.asked ≡ Some asked
-            → self.new ≡ answered place asked reply.now self.old) }
+            → self.new ≡ answered place asked r self.old) }
         ensures err { IfErr result (λ fault. (fault ≡ NoMemory)
             × (self.new ≡ record self.old { fault = Some fault })) }
     {
@@ -92,8 +94,9 @@ impl Token {
         ensures value { IfOk result (λ r. r ≡ reply.now) }
         ensures kept { IfOk result (λ r. (asked : Asked) → self.old.asked ≡ Some asked
             → self.new ≡ record self.old {
-                held = self.old.held ++ newly_held asked reply.now;
-                kept = self.old.kept ++ (place, deed_of self.old.held asked reply.now, reply.now) ∷ [] }) }
+              held = self.old.held ++ newly_held asked reply.now;
+              kept = self.old.kept ++ (place, deed_of self.old.held asked reply.now, reply.now) ∷ [];
+            }) }
         ensures same { OnErr result (self.new ≡ self.old) }
     {
         let Some(asked) = &self.asked else {
