@@ -1,6 +1,7 @@
 -- A small journal of deeds, and changed ones that are none.
-use Rattle.std.specs.Prelude.{◌≡◌, refl, ℕ, Bool, true, false, List, [], ◌∷◌, ◌++◌, Option, Some, None, replicate, take, drop, slice_index_or}
-use Rattle.std.proofs.Common.{arith}
+use Rattle.std.specs.Prelude.{◌≡◌, refl, ℕ, true, false, List, [], ◌∷◌, ◌++◌, Some, None, replicate}
+use Rattle.std.proofs.Common.{ap, arith, sym}
+use Rattle.std.proofs.lemmas.Option.{none-some}
 use Rattle.hs_limits.specs.declared.address.Address.{Address}
 use Rattle.hs_limits.specs.declared.limits.Limits.{Limits}
 use Rattle.hs_model.specs.declared.op.Asked.TheVariants as asked
@@ -8,7 +9,7 @@ use Rattle.hs_model.specs.declared.deed.Deed.{Deed}
 use Rattle.hs_model.specs.declared.deed.Deed.TheVariants as deed
 use Rattle.hs_model.specs.declared.reply.Reply.{Reply}
 use Rattle.hs_model.specs.declared.reply.Reply.TheVariants as reply
-use Rattle.hs_model.specs.Deeds.{AreDeeds, DeedEntry, IsDeed, IsRefusal, Refused, deed_store, refusals_told}
+use Rattle.hs_model.specs.Deeds.{AreDeeds, Busy, DeedEntry, MayBeRefused, Refused, deed_store, is_answered, refusals_told}
 use Rattle.hs_model.specs.Refusals.{no_handle_in, stale_in}
 use Rattle.hs_model.specs.Store.{Store, empty_store, helds_of}
 
@@ -72,11 +73,11 @@ unfolding refusals_told no_handle_in stale_in helds_of
 written_are_deeds = (
   record { printed = refl; done = (refl, refl) },
   (
-    record { printed = refl; done = record { open_there = refl; absent = refl; held = tt; granted = record { bytes = 1; handles = []; stand_for = refl; granted = refl }; next = refl; reply = refl } },
+    record { printed = refl; done = record { is_open = refl; absent = refl; held = tt; granted = record { bytes = 1; handles = []; stand_for = refl; granted = refl }; next = refl; reply = refl } },
     (
-      record { printed = refl; done = record { open_there = refl; absent = refl; held = (record { handle = 0; epoch = 1; held = refl; fresh = omega arith }, tt); granted = record { bytes = 0; handles = 0 ∷ []; stand_for = refl; granted = refl }; next = refl; reply = refl } },
+      record { printed = refl; done = record { is_open = refl; absent = refl; held = (record { handle = 0; epoch = 1; held = refl; fresh = omega arith }, tt); granted = record { bytes = 0; handles = 0 ∷ []; stand_for = refl; granted = refl }; next = refl; reply = refl } },
       (
-        record { printed = refl; done = record { open_there = refl; present = refl; held = tt; next = refl; reply = refl } },
+        record { printed = refl; done = record { is_open = refl; present = refl; held = tt; next = refl; reply = refl } },
         (
           record { printed = refl; done = record { held = record { name = ann; held = record { handle = 1; epoch = 1; held = refl; fresh = omega arith } }; granted = refl; reply = refl } },
           (
@@ -151,4 +152,40 @@ entered = told 11 (deed.Entered 0) (reply.Run 2) ∷ []
 
 wrong_shard : AreDeeds limits (after written entered) (writing ++ entered) (noted (deed.Swept 1) (reply.Sweep 2 0) ∷ []) → ⊥
 unfolding helds_of
-wrong_shard h = elim h.0.done.1 [ ]
+wrong_shard h = let never : false ≡ true = h.0.done.1 in cc never
+
+-- a handle is refused that the session holds
+abbrev holding : List DeedEntry
+holding = told 1 (deed.Opened ann) reply.Ok ∷ told 2 (deed.Wrote ann leaf [] 0) (reply.New 0 1) ∷ []
+
+wrong_refusal : AreDeeds limits (after blank holding) holding (told 3 (deed.Refused (asked.Read ann 0)) (reply.NoHandle 0) ∷ []) → ⊥
+unfolding refusals_told no_handle_in stale_in helds_of
+wrong_refusal h = no h.0.done
+  where
+    no : MayBeRefused limits (after blank holding) holding (asked.Read ann 0) (reply.NoHandle 0) → ⊥
+    no (Busy line e f) = cc e
+    no (Refused r) = none-some (reply.NoHandle 0) r.first_of
+
+-- a done that comes before the last sweep
+abbrev half_swept : List DeedEntry
+half_swept = told 11 (deed.Entered 0) (reply.Run 2) ∷ noted (deed.Entered 1) (reply.Enter 2) ∷ noted (deed.Swept 0) (reply.Sweep 2 0) ∷ []
+
+early_done : AreDeeds limits (after written half_swept) half_swept (noted deed.Nothing (reply.Done 2) ∷ []) → ⊥
+unfolding helds_of
+early_done h = let never : false ≡ true = h.0.done.1 in cc never
+
+-- a session is told to be busy with a line that has its answer
+wrong_busy : AreDeeds limits (after blank holding) holding (told 3 (deed.Refused (asked.Read ann 0)) (reply.Busy 2) ∷ []) → ⊥
+unfolding refusals_told no_handle_in stale_in helds_of
+wrong_busy h = no h.0.done
+  where
+    line_in : Reply → ℕ
+    line_in (reply.Busy line) = line
+    line_in other = 0
+
+    busy_is : {line : ℕ} → reply.Busy 2 ≡ reply.Busy line → 2 ≡ line
+    busy_is e = ap line_in e
+
+    no : MayBeRefused limits (after blank holding) holding (asked.Read ann 0) (reply.Busy 2) → ⊥
+    no (Busy line e f) = let has : is_answered holding line ≡ true = ap (λ n. is_answered holding n) (sym (busy_is e)) in cc (has, f)
+    no (Refused r) = none-some (reply.Busy 2) r.first_of

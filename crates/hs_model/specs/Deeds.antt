@@ -1,6 +1,6 @@
 -- A journal judged by its deeds alone, over a store without data.
-use Rattle.std.specs.Prelude.{◌≡◌, ◌⊎◌, ℕ, ◌<◌, Bool, true, false, ◌==◌, IsTrue, List, [], ◌∷◌, ◌++◌, length, map, slice_index, Option, Some, None, IsSome, is_some, AllByRecursion, nat_le, nat_lt}
-use Rattle.std.specs.List.{list_all, list_any, range_with_len}
+use Rattle.std.specs.Prelude.{◌≡◌, ℕ, ◌<◌, Bool, false, ◌==◌, IsTrue, List, [], ◌∷◌, ◌++◌, length, map, Option, Some, None, IsSome, is_some, nat_le, nat_lt}
+use Rattle.std.specs.List.{AllByRecursion, list_all, list_any, range_with_len}
 use Rattle.std.specs.Option.{option_map_or}
 use Rattle.hs_limits.specs.declared.address.Address.{Address}
 use Rattle.hs_limits.specs.declared.limits.Limits.{Limits}
@@ -66,8 +66,8 @@ refusals_told limits s asked.Delete collides = running s ∷ epoch_end limits s 
 refusals_told limits s asked.Stat collides = []
 
 -- no refusal of an operation holds
-abbrev pub IsGranted : Limits → Store → Asked → Type 0
-IsGranted limits s o = first (refusals_told limits s o false) ≡ None
+abbrev pub NothingRefuses : Limits → Store → Asked → Type 0
+NothingRefuses limits s o = first (refusals_told limits s o false) ≡ None
 
 -- the address that a write was given
 abbrev pub asked_address : Asked → Option Address
@@ -89,9 +89,9 @@ abbrev pub is_answered : List DeedEntry → ℕ → Bool
 is_answered entries line = list_any (λ e. option_map_or (λ n. n == line) e.line false) entries
 
 -- an operation is refused: another line of its session has no answer before, or a refusal holds
-pub data IsRefusal (limits : Limits) (s : Store) (before : List DeedEntry) (o : Asked) (told : Reply) : Type 0 where
-  Busy : (line : ℕ) → told ≡ reply.Busy line → is_answered before line ≡ false → IsRefusal limits s before o told
-  Refused : IsRefused limits s o told → IsRefusal limits s before o told
+pub data MayBeRefused (limits : Limits) (s : Store) (before : List DeedEntry) (o : Asked) (told : Reply) : Type 0 where
+  Busy : (line : ℕ) → told ≡ reply.Busy line → is_answered before line ≡ false → MayBeRefused limits s before o told
+  Refused : IsRefused limits s o told → MayBeRefused limits s before o told
 
 -- ---- what a session holds
 
@@ -108,7 +108,7 @@ pub record IsHeldFresh (s : Store) (now : ℕ) (a : Address) : Type 0 where
   pub held : HoldsFresh s name now a
 
 -- some open session holds it
-pub record IsHeld (s : Store) (a : Address) : Type 0 where
+pub record IsHeldSomewhere (s : Store) (a : Address) : Type 0 where
   pub name : List ℕ
   pub handle : ℕ
   pub epoch : ℕ
@@ -121,11 +121,11 @@ pub record MayWrite (limits : Limits) (s : Store) (name : List ℕ) (a : Address
   pub bytes : ℕ
   pub handles : List ℕ
   pub stand_for : map (λ handle. address_of s name handle) handles ≡ pointers
-  pub granted : IsGranted limits s (asked.Write name bytes handles (Some a))
+  pub granted : NothingRefuses limits s (asked.Write name bytes handles (Some a))
 
 -- a block that was absent was written
 pub record IsWrote (limits : Limits) (s : Store) (name : List ℕ) (a : Address) (pointers : List Address) (handle : ℕ) (told : Reply) : Type 0 where
-  pub open_there : IsSome (session_at s name)
+  pub is_open : IsSome (session_at s name)
   pub absent : block_at s a ≡ None
   pub held : AllByRecursion (HoldsFresh s name (epoch_at s a)) pointers
   pub granted : MayWrite limits s name a pointers
@@ -134,7 +134,7 @@ pub record IsWrote (limits : Limits) (s : Store) (name : List ℕ) (a : Address)
 
 -- a write found its block present
 pub record IsMarked (s : Store) (name : List ℕ) (a : Address) (handle : ℕ) (told : Reply) : Type 0 where
-  pub open_there : IsSome (session_at s name)
+  pub is_open : IsSome (session_at s name)
   pub present : IsSome (block_at s a)
   pub held : AllByRecursion (HoldsFresh s name (epoch_at s a)) (pointers_at s a)
   pub next : handle ≡ next_of (session_at s name)
@@ -161,7 +161,7 @@ pub record IsRooted (limits : Limits) (s : Store) (key : List ℕ) (a : Address)
 
 -- a deletion was asked for, or a shard entered its next epoch by itself
 abbrev pub IsEntered : Limits → Store → ℕ → Reply → Type 0
-IsEntered limits s shard (reply.Run epoch) = (shard ≡ 0) × IsGranted limits s asked.Delete × (reply.Run epoch ≡ (deleted s).reply)
+IsEntered limits s shard (reply.Run epoch) = (shard ≡ 0) × NothingRefuses limits s asked.Delete × (reply.Run epoch ≡ (deleted s).reply)
 IsEntered limits s shard (reply.Enter epoch) = (shard < length s.epochs) × IsTrue (may_enter s shard) × (reply.Enter epoch ≡ (step limits s (enters shard)).reply)
 IsEntered limits s shard other = ⊥
 
@@ -190,7 +190,7 @@ is_done_of epoch other = false
 -- what is told where nothing is done: an address that some session holds, the counts of the store, that all shards have swept
 -- directly behind the last of these sweeps, how many pointers were looked at directly behind that, and notes
 abbrev pub IsNote : Store → List DeedEntry → Reply → Type 0
-IsNote s before (reply.Name a) = IsHeld s a
+IsNote s before (reply.Name a) = IsHeldSomewhere s a
 IsNote s before (reply.Stat blocks roots sessions epochs swept) = reply.Stat blocks roots sessions epochs swept ≡ (counted s).reply
 IsNote s before (reply.Done epoch) = IsTrue (option_map_or (is_sweep_of epoch) (last_reply before) false) × IsTrue (list_all (λ swept. nat_le epoch swept) s.swept)
 IsNote s before (reply.Visits epoch count) = IsTrue (option_map_or (is_done_of epoch) (last_reply before) false)
@@ -205,26 +205,26 @@ IsNote s before other = ⊥
 -- ---- entries
 
 -- what an entry says by its deed and its reply, behind these entries
-abbrev pub IsDoneAt : Limits → Store → List DeedEntry → Deed → Reply → Type 0
-IsDoneAt limits s before (deed.Opened name) told = IsGranted limits s (asked.Open name) × (told ≡ (opened s name).reply)
-IsDoneAt limits s before (deed.Closed name) told = IsGranted limits s (asked.Close name) × (told ≡ (closed s name).reply)
-IsDoneAt limits s before (deed.Wrote name a pointers handle) told = IsWrote limits s name a pointers handle told
-IsDoneAt limits s before (deed.Marked name a handle) told = IsMarked s name a handle told
-IsDoneAt limits s before (deed.ReadBlock name a epoch handles) told = IsRead s name a epoch handles told
-IsDoneAt limits s before (deed.Looked name key handle) told =
-    IsGranted limits s (asked.Look name key) × (deed.Looked name key handle ≡ (looked s name key).deed) × (told ≡ (looked s name key).reply)
-IsDoneAt limits s before (deed.Rooted key a) told = IsRooted limits s key a told
-IsDoneAt limits s before (deed.Dropped key) told = IsGranted limits s (asked.Drop key) × (told ≡ (dropped s key).reply)
-IsDoneAt limits s before (deed.Forgot name handle) told = IsGranted limits s (asked.Forget name handle) × (told ≡ (forgot s name handle).reply)
-IsDoneAt limits s before (deed.Entered shard) told = IsEntered limits s shard told
-IsDoneAt limits s before (deed.Swept shard) told = IsSwept limits s shard told
-IsDoneAt limits s before (deed.Refused o) told = IsRefusal limits s before o told
-IsDoneAt limits s before deed.Nothing told = IsNote s before told
+abbrev pub IsDeedOf : Limits → Store → List DeedEntry → Deed → Reply → Type 0
+IsDeedOf limits s before (deed.Opened name) told = NothingRefuses limits s (asked.Open name) × (told ≡ (opened s name).reply)
+IsDeedOf limits s before (deed.Closed name) told = NothingRefuses limits s (asked.Close name) × (told ≡ (closed s name).reply)
+IsDeedOf limits s before (deed.Wrote name a pointers handle) told = IsWrote limits s name a pointers handle told
+IsDeedOf limits s before (deed.Marked name a handle) told = IsMarked s name a handle told
+IsDeedOf limits s before (deed.ReadBlock name a epoch handles) told = IsRead s name a epoch handles told
+IsDeedOf limits s before (deed.Looked name key handle) told =
+    NothingRefuses limits s (asked.Look name key) × (deed.Looked name key handle ≡ (looked s name key).deed) × (told ≡ (looked s name key).reply)
+IsDeedOf limits s before (deed.Rooted key a) told = IsRooted limits s key a told
+IsDeedOf limits s before (deed.Dropped key) told = NothingRefuses limits s (asked.Drop key) × (told ≡ (dropped s key).reply)
+IsDeedOf limits s before (deed.Forgot name handle) told = NothingRefuses limits s (asked.Forget name handle) × (told ≡ (forgot s name handle).reply)
+IsDeedOf limits s before (deed.Entered shard) told = IsEntered limits s shard told
+IsDeedOf limits s before (deed.Swept shard) told = IsSwept limits s shard told
+IsDeedOf limits s before (deed.Refused o) told = MayBeRefused limits s before o told
+IsDeedOf limits s before deed.Nothing told = IsNote s before told
 
 -- an entry is a deed at a store, behind these entries
 pub record IsDeed (limits : Limits) (s : Store) (before : List DeedEntry) (e : DeedEntry) : Type 0 where
   pub printed : is_some e.line ≡ is_of_line e.reply
-  pub done : IsDoneAt limits s before e.deed e.reply
+  pub done : IsDeedOf limits s before e.deed e.reply
 
 -- each entry is a deed at the store that the deeds before it leave
 abbrev pub AreDeeds : Limits → Store → List DeedEntry → List DeedEntry → Type 0

@@ -1,3 +1,4 @@
+pub mod Op
 pub mod Store
 pub mod Reach
 pub mod Listed
