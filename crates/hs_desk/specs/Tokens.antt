@@ -1,8 +1,9 @@
 -- What the calls of a clerk make of a token.
-use Rattle.std.specs.Prelude.{◌≡◌, ℕ, List, [], ◌∷◌, ◌++◌, Option, Some, None, Result, Ok, Err, IsSome}
+use Rattle.std.specs.Prelude.{◌≡◌, ℕ, List, [], ◌∷◌, ◌++◌, Option, Some, None, Result, Ok, Err, IsSome, IfSome}
 use Rattle.hs_limits.specs.declared.address.Held.{Held}
 use Rattle.hs_model.specs.Deed.{deed_of}
 use Rattle.hs_model.specs.Judge.{given_address}
+use Rattle.hs_model.specs.Op.{session_of}
 use Rattle.hs_model.specs.declared.op.Asked.{Asked}
 use Rattle.hs_model.specs.declared.op.Asked.TheVariants as asked
 use Rattle.hs_model.specs.declared.op.Op.{Op}
@@ -14,17 +15,7 @@ use Rattle.hs_desk.specs.declared.token.Token.{Token}
 
 -- the operation's session, where it has one, is this one
 abbrev pub IsOfSession : List ℕ → Op → Type 0
-IsOfSession session (op.Open name) = name ≡ session
-IsOfSession session (op.Close name) = name ≡ session
-IsOfSession session (op.Write name payload handles address) = name ≡ session
-IsOfSession session (op.Read name handle) = name ≡ session
-IsOfSession session (op.Look name key) = name ≡ session
-IsOfSession session (op.Root name key handle) = name ≡ session
-IsOfSession session (op.Drop key) = Unit {0}
-IsOfSession session (op.Forget name handle) = name ≡ session
-IsOfSession session (op.Name name handle) = name ≡ session
-IsOfSession session op.Delete = Unit {0}
-IsOfSession session op.Stat = Unit {0}
+IsOfSession session o = IfSome (session_of o) (λ name. name ≡ session)
 
 -- a write has an address
 abbrev pub HasAddress : Op → Type 0

@@ -1,8 +1,8 @@
 //! What is noted of a client's operations.
-ghost use Rattle.std.specs.Prelude.{◌≡◌, ◌∷◌, ◌++◌, [], None, Some, IsSome, IfErr, IfOk, OnErr};
+ghost use Rattle.std.specs.Prelude.{◌≡◌, ◌∷◌, ◌++◌, [], None, Some, Ok, IsSome, IfErr, IfOk, OnErr};
 ghost use Rattle.hs_model.specs.declared.op.Asked.{Asked};
 ghost use Rattle.hs_model.specs.Deed.{deed_of};
-ghost use Rattle.hs_desk.specs.Tokens.{answered, begun, newly_held};
+ghost use Rattle.hs_desk.specs.Tokens.{HasAnswered, answered, begun, newly_held};
 ghost use Rattle.hs_desk.specs.declared.fault.CoreFault.TheVariants.{NoMemory};
 
 use crate::holding::newly_held;
@@ -33,7 +33,12 @@ impl Token {
     /// The token of a session that has begun nothing yet. It takes no memory.
     pub fn new(alloc: Global, session: Name) -> Token
         ensures { result ≡ record {
-          session = session; number = 0; asked = None; held = []; kept = []; fault = None;
+          session = session;
+          number = 0;
+          asked = None;
+          held = [];
+          kept = [];
+          fault = None;
         } }
     {
         Token {
@@ -73,6 +78,8 @@ impl Token {
         ensures value { IfOk result (λ r. r ≡ reply.now) }
         ensures noted { IfOk result (λ r. (asked : Asked) → self.old.asked ≡ Some asked
             → self.new ≡ answered place asked r self.old) }
+        ensures answer { IfOk result (λ r. (asked : Asked) → self.old.asked ≡ Some asked
+            → HasAnswered asked self.old self.new (Ok (Some r))) }
         ensures err { IfErr result (λ fault. (fault ≡ NoMemory)
             × (self.new ≡ record self.old { fault = Some fault })) }
     {
