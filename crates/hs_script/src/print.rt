@@ -2,7 +2,8 @@
 ghost use Rattle.std.specs.Prelude.{◌≡◌, ◌++◌, IsTrue, OnOk, OnErr, IsOkUnless};
 ghost use Rattle.std.specs.Fmt.{decimal};
 ghost use Rattle.hs_journal.specs.declared.entry.Who.{Who};
-ghost use Rattle.hs_script.specs.Replies.{is_refusal, is_short};
+ghost use Rattle.hs_model.specs.Replies.{is_refusal};
+ghost use Rattle.hs_script.specs.Replies.{is_short};
 ghost use Rattle.hs_script.specs.Text.{entry_text, reply_text, shard_text};
 
 use crate::ScriptFault;
