@@ -1,7 +1,8 @@
 //! One option: what its value makes of the options before it.
-ghost use Rattle.std.specs.Prelude.{◌≡◌};
+ghost use Rattle.std.specs.Prelude.{◌≡◌, IfSome};
+ghost use Rattle.hs_limits.specs.Limits.{IsLimits};
 ghost use Rattle.hs_script.specs.CommandLine.{answer_of, with_option};
-ghost use Rattle.hs_wanted.specs.Asked.{lowered};
+ghost use Rattle.hs_wanted.specs.Asked.{IsOptions, lowered};
 ghost use Rattle.hs_script.specs.declared.invocation.CommandName.TheVariants as command;
 
 use crate::number::{long_between, number_between, small_between};
@@ -15,7 +16,8 @@ pub(crate) fn with_option(
     value: &[u8],
     options: Options,
 ) -> Option<Options>
-    ensures { result ≡ with_option which name.now value.now options }
+    ensures exact { result ≡ with_option which name.now value.now options }
+    ensures bounds { IsOptions options → IfSome result IsOptions }
 {
     match which {
         CommandName::Script => with_script_option(name, value, options),
@@ -28,7 +30,8 @@ pub(crate) fn with_option(
 
 /// The same of a script.
 fn with_script_option(name: &[u8], value: &[u8], options: Options) -> Option<Options>
-    ensures { result ≡ with_option command.Script name.now value.now options }
+    ensures exact { result ≡ with_option command.Script name.now value.now options }
+    ensures bounds { IsOptions options → IfSome result IsOptions }
 {
     if name == b"--visits".as_slice() {
         let visits = Some(answer_of(value)?);
@@ -44,7 +47,8 @@ fn with_script_option(name: &[u8], value: &[u8], options: Options) -> Option<Opt
 
 /// The limits with the number of an option that lowers one.
 fn lowered(name: &[u8], value: &[u8], limits: Limits) -> Option<Limits>
-    ensures { result ≡ lowered name.now value.now limits }
+    ensures exact { result ≡ lowered name.now value.now limits }
+    ensures bounds { IsLimits limits → IfSome result IsLimits }
 {
     let most = Limits::greatest();
     if name == b"--ops".as_slice() {
@@ -75,7 +79,8 @@ fn lowered(name: &[u8], value: &[u8], limits: Limits) -> Option<Limits>
 
 /// The same of a load.
 fn with_load_option(name: &[u8], value: &[u8], options: Options) -> Option<Options>
-    ensures { result ≡ with_option command.Load name.now value.now options }
+    ensures exact { result ≡ with_option command.Load name.now value.now options }
+    ensures bounds { IsOptions options → IfSome result IsOptions }
 {
     if name == b"--seed".as_slice() {
         let seed = Some(long_between(0, u64::MAX, value)?);
@@ -93,7 +98,8 @@ fn with_load_option(name: &[u8], value: &[u8], options: Options) -> Option<Optio
 
 /// The same of a scrub.
 fn with_scrub_option(name: &[u8], value: &[u8], options: Options) -> Option<Options>
-    ensures { result ≡ with_option command.Scrub name.now value.now options }
+    ensures exact { result ≡ with_option command.Scrub name.now value.now options }
+    ensures bounds { IsOptions options → IfSome result IsOptions }
 {
     if name == b"--from".as_slice() {
         let from = Some(small_between(0, 255, value)?);
@@ -105,7 +111,8 @@ fn with_scrub_option(name: &[u8], value: &[u8], options: Options) -> Option<Opti
 
 /// The same of a copy.
 fn with_copy_option(name: &[u8], value: &[u8], options: Options) -> Option<Options>
-    ensures { result ≡ with_option command.Copy name.now value.now options }
+    ensures exact { result ≡ with_option command.Copy name.now value.now options }
+    ensures bounds { IsOptions options → IfSome result IsOptions }
 {
     if name == b"--delete".as_slice() {
         let delete = Some(number_between(1, 1000, value)?);

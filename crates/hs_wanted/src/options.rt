@@ -1,7 +1,7 @@
 //! The options of a command line: two words each, a name and a value.
-ghost use Rattle.std.specs.Prelude.{◌≡◌, map, string_bytes};
+ghost use Rattle.std.specs.Prelude.{◌≡◌, IfSome, map, string_bytes};
 ghost use Rattle.hs_script.specs.CommandLine.{options_of};
-ghost use Rattle.hs_wanted.specs.Asked.{is_named};
+ghost use Rattle.hs_wanted.specs.Asked.{IsOptions, is_named};
 
 use crate::given::with_option;
 use hs_script::{CommandName, Options};
@@ -9,7 +9,8 @@ use hs_script::{CommandName, Options};
 /// What the options among some words give: each is one that the command takes, and no name is there
 /// twice.
 pub(crate) fn options_of(which: CommandName, words: &[String]) -> Option<Options>
-    ensures { result ≡ options_of which (map (λ word. string_bytes word) words.now) }
+    ensures exact { result ≡ options_of which (map (λ word. string_bytes word) words.now) }
+    ensures bounds { IfSome result IsOptions }
 {
     let mut options = Options::new();
     let mut rest = words;
