@@ -2,8 +2,7 @@
 use Rattle.std.proofs.Common.{◌≡◌, ℕ, List, [], ◌∷◌, Option, Some, None, true, false, refl}
 use Rattle.std.specs.Prelude.{codes}
 use Rattle.hs_limits.specs.Limits.{greatest_limits}
-use Rattle.hs_limits.specs.declared.shape.Shape.{Shape}
-use Rattle.hs_script.specs.CommandLine.{Wanted, disks_of, invocation_of, invocation_on, task_of, wanted, wanted_of}
+use Rattle.hs_script.specs.CommandLine.{Wanted, invocation_of, invocation_on, task_of, wanted, wanted_of}
 use Rattle.hs_script.specs.Parts.{number_below}
 use Rattle.hs_script.specs.declared.invocation.Invocation.{Invocation}
 use Rattle.hs_script.specs.declared.invocation.Task.{Task}

@@ -70,7 +70,11 @@ impl<'a> Folder<'a> {
     pub fn new(name: &'a str) -> Option<Folder<'a>>
         ensures { result ≡ folder_of name.now }
     {
-        if name.is_empty() { None } else { Some(Folder { name }) }
+        if name.is_empty() {
+            None
+        } else {
+            Some(Folder { name })
+        }
     }
 
     /// The word.
@@ -103,7 +107,11 @@ impl<'a> KeyWord<'a> {
     pub fn new(bytes: &'a [u8]) -> Option<KeyWord<'a>>
         ensures { result ≡ key_of bytes.now }
     {
-        if is_key(bytes) { Some(KeyWord { bytes }) } else { None }
+        if is_key(bytes) {
+            Some(KeyWord { bytes })
+        } else {
+            None
+        }
     }
 
     /// The bytes of the key.
@@ -126,15 +134,25 @@ pub enum Task<'a> {
         cache: Option<u32>,
     },
     /// Run a load that is made from the seed.
-    Load { seed: u64, writers: u8, files: u8 },
+    Load {
+        seed: u64,
+        writers: u8,
+        files: u8,
+    },
     /// Tell what the store keeps and misses.
     Audit,
     /// Store the input as a file under a key.
-    Store { key: KeyWord<'a> },
+    Store {
+        key: KeyWord<'a>,
+    },
     /// Print the file of a key.
-    Fetch { key: KeyWord<'a> },
+    Fetch {
+        key: KeyWord<'a>,
+    },
     /// Compare the copies of each shard, and make those of a peer's shard as that peer's is.
-    Scrub { from: Option<u8> },
+    Scrub {
+        from: Option<u8>,
+    },
     /// Copy the root of a key into a second store, with a deletion after so many writes.
     Copy {
         key: KeyWord<'a>,

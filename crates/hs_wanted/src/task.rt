@@ -11,11 +11,7 @@ use hs_script::{CommandName, Folder, KeyWord, Task};
 
 /// What they ask for.
 #[tactic(auto, unfolding(hs_script::specs::CommandLine::task_of))]
-pub(crate) fn task_of<'a>(
-    which: CommandName,
-    shape: Shape,
-    words: &'a [String],
-) -> Option<Task<'a>>
+pub(crate) fn task_of<'a>(which: CommandName, shape: Shape, words: &'a [String]) -> Option<Task<'a>>
     requires { IsShape shape }
     ensures exact { result ≡ task_of which shape (map (λ word. string_bytes word) words.now) }
     ensures task { IfSome result (IsTask shape) }
@@ -52,7 +48,11 @@ fn load_task<'a>(words: &'a [String]) -> Option<Task<'a>>
     let seed = options.seed?;
     let writers = options.writers?;
     let files = options.files;
-    Some(Task::Load { seed, writers, files })
+    Some(Task::Load {
+        seed,
+        writers,
+        files,
+    })
 }
 
 fn audit_task<'a>(words: &'a [String]) -> Option<Task<'a>>

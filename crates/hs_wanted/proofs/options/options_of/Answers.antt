@@ -17,12 +17,11 @@ options-preserved c =
     let read = two_words (λ word. string_bytes word) c.options.rest.now c.name-item.result c.value-item.result (omega (arith, c.in-len2-up.len_at_least)) c.name-item.is c.value-item.is in
     let apart = rw c.as_bytes.ensures.value at (sym c.is_named.ensures ∙ c.if-is_named.false) in
     let lowered = rw (c.as_bytes-in-len2-up.ensures.value, c.as_bytes-in-len2-up-2.ensures.value) at (sym c.with_option.ensures.exact ∙ c.in-Some.is) in
-    let kept = rw c.in-Some.is at (c.with_option.ensures.bounds c.options.invariant.0) in
-    (
+    let kept = rw c.in-Some.is at (c.with_option.ensures.bounds c.options.invariant.0) in (
       kept,
       c.options.invariant.1 ∙ ap (λ (words : List (List ℕ)). with_options c.args.which [] words (Some c.options.options)) read
-      ∙ once c.args.which (string_bytes c.name-item.result) (string_bytes c.value-item.result) (behind (λ word. string_bytes word) c.options.rest.now) (Some c.options.options) apart
-      ∙ ap (λ (options : Option Options). with_options c.args.which [] (behind (λ word. string_bytes word) c.options.rest.now) options) lowered,
+          ∙ once c.args.which (string_bytes c.name-item.result) (string_bytes c.value-item.result) (behind (λ word. string_bytes word) c.options.rest.now) (Some c.options.options) apart
+          ∙ ap (λ (options : Option Options). with_options c.args.which [] (behind (λ word. string_bytes word) c.options.rest.now) options) lowered,
     )
 
 pub returns-in-None-clause-exact : goal.returns-in-None-clause-exact

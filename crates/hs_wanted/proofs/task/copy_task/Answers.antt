@@ -1,4 +1,4 @@
-use Rattle.std.proofs.Common.{◌≡◌, ◌∙◌, ap, sym, arith, List, ℕ}
+use Rattle.std.proofs.Common.{◌∙◌, ap, sym, arith, List, ℕ}
 use Rattle.std.specs.Prelude.{string_bytes}
 use Rattle.hs_script.specs.CommandLine.{copy_task}
 use Rattle.hs_wanted.proofs.WordsLemmas.{four_words}
