@@ -7,3 +7,4 @@ mod HandleLemmas
 mod TextLemmas
 mod ReadingExamples
 mod TextExamples
+mod CommandLineExamples

@@ -5,6 +5,7 @@ mod data;
 mod digits;
 mod fault;
 mod handles;
+mod invocation;
 mod longer;
 mod name;
 mod number;
@@ -17,6 +18,7 @@ mod words;
 mod written;
 
 pub use fault::ScriptFault;
+pub use invocation::{CommandName, Folder, Invocation, KeyWord, Options, Task};
 pub use number::number_up_to;
 pub use print::print_entry;
 pub use read::{LONGEST_LINE, read_line};
