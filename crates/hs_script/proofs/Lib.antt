@@ -7,3 +7,8 @@ mod HandleLemmas
 mod TextLemmas
 mod ReadingExamples
 mod TextExamples
+mod DrawnLemmas
+mod SummaryLemmas
+mod PlanExamples
+mod SummaryExamples
+mod LoadExamples
