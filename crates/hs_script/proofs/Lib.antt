@@ -8,3 +8,8 @@ mod TextLemmas
 mod ReadingExamples
 mod TextExamples
 mod CommandLineExamples
+mod DrawnLemmas
+mod SummaryLemmas
+mod PlanExamples
+mod SummaryExamples
+mod LoadExamples
