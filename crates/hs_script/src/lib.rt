@@ -18,5 +18,5 @@ mod written;
 
 pub use fault::ScriptFault;
 pub use number::number_up_to;
-pub use print::print_entry;
+pub use print::{print_entry, print_refusal};
 pub use read::{LONGEST_LINE, read_line};
