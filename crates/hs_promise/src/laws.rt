@@ -59,13 +59,7 @@ pub fn the_end_of_the_core_is_told()
 
 /// A run of a script never ends as only a command ends that runs none: such an end has no cause there,
 /// comes behind no line, and is not the machine's.
-#[tactic(
-    auto,
-    using(
-        crate::proofs::UnscriptedLemmas::no_cause,
-        crate::proofs::UnscriptedLemmas::no_end
-    )
-)]
+#[tactic(auto, using(crate::proofs::UnscriptedLemmas::no_cause, crate::proofs::UnscriptedLemmas::no_end))]
 pub fn a_script_ends_as_no_other_command()
     ensures cause { (S : Script) (r : Ran) (st : Status) → (ending_of st).unscripted ≡ true → Cause S r st → ⊥ }
     ensures ended { (st : Status) (lines : List (List ℕ)) (line : ℕ) (taken left : List ℕ) → (ending_of st).unscripted ≡ true → HasEnded st lines line taken left → ⊥ }
