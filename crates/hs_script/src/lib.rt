@@ -23,6 +23,6 @@ pub use fault::ScriptFault;
 pub use invocation::{CommandName, Folder, Invocation, KeyWord, Options, Task};
 pub use number::number_up_to;
 pub use plan::{FilePlan, generate};
-pub use print::print_entry;
+pub use print::{print_entry, print_refusal};
 pub use read::{LONGEST_LINE, read_line};
 pub use sums::{WriterSum, summary};
