@@ -1,3 +1,5 @@
+mod ByKeyLemmas
 mod Examples
+mod InsertLemmas
 mod PlaceLemmas
 mod RootLemmas
