@@ -4,6 +4,7 @@ pub mod EndDeedLemmas
 pub mod EndLemmas
 pub mod Examples
 pub mod FilterLemmas
+pub mod InsertLemmas
 pub mod KeyLemmas
 pub mod MemoryLemmas
 pub mod OwnLemmas

@@ -1,5 +1,5 @@
-mod ByKeyLemmas
+pub mod ByKeyLemmas
 mod Examples
-mod InsertLemmas
-mod PlaceLemmas
-mod RootLemmas
+pub mod InsertLemmas
+pub mod PlaceLemmas
+pub mod RootLemmas

@@ -1,5 +1,5 @@
 -- The records by key, and how many are retained, as the roots change.
-use Rattle.std.proofs.Common.{◌≡◌, ℕ, ◌+◌, ◌≤◌, Bool, true, false, cond, not, ◌&&◌, List, [], ◌∷◌, Option, Some, None, is_none, refl, ap, sym, subst, ◌∙◌, arith, add-zero, zero-add, nat_le, get_or, set}
+use Rattle.std.proofs.Common.{◌≡◌, ℕ, ◌+◌, ◌≤◌, Bool, true, false, cond, not, ◌&&◌, List, [], ◌∷◌, Option, Some, None, is_none, refl, ap, sym, subst, ◌∙◌, arith, add-zero, zero-add, nat_le, get_or, set, length}
 use Rattle.std.proofs.lemmas.List.Kept.{AllPairs-filter}
 use Rattle.std.proofs.lemmas.Slice.Eq.{bytes_eq-Decides}
 use Rattle.std.specs.List.{AllByRecursion, count_by, position_from}
@@ -12,7 +12,7 @@ use Rattle.hs_roots.specs.ByKey.{count_upto, is_upto, key_cmp, may_precede}
 use Rattle.hs_roots.specs.Places.{AreByKey, AreKept, place_of}
 use Rattle.hs_roots.specs.Roots.{retains, retained_count, new_root, insert_root, dropping, drop_root, counting, count_new, is_released, release}
 use Rattle.hs_roots.proofs.ByKeyLemmas.{ended_once, found_last, found_none, insert_stands, lt_from, map_stands, stand_from, standing_from}
-use Rattle.hs_roots.proofs.InsertLemmas.{count_cons, count_insert}
+use Rattle.hs_roots.proofs.InsertLemmas.{count_cons, count_insert, longer}
 use Rattle.hs_roots.proofs.PlaceLemmas.{count_same, count_kept, count_somewhere, map_once}
 
 abbrev key_of : RootRecord → List ℕ
@@ -111,6 +111,10 @@ place_last roots key i root h e is =
     ∙ ap (λ m. cond (retains key root) (Some m) None) (zero-add i)
 
 -- ---- a root is put
+
+pub length_insert_root : (roots : List RootRecord) (new : RootRecord) → length (insert_root new roots) ≡ length roots + 1
+length_insert_root roots new = longer (λ (root : RootRecord). is_upto root.key new.key) roots new
+
 
 pub map_none : {A B : Type 0} (f : A → B) (o : Option A) → option_map f o ≡ None → o ≡ None
 map_none f None e = refl
