@@ -11,3 +11,5 @@ pub mod PlaceLemmas
 pub mod CountLemmas
 pub mod RefusalLemmas
 pub mod MapLemmas
+pub mod DeedLemmas
+mod DeedsExamples

@@ -1,3 +1,4 @@
+pub mod Op
 pub mod Store
 pub mod Reach
 pub mod Listed
@@ -9,4 +10,7 @@ pub mod Hollow
 pub mod Inner
 pub mod Refusals
 pub mod Judge
+pub mod Replies
+pub mod Deed
 pub mod Run
+pub mod Deeds

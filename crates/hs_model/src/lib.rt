@@ -2,14 +2,18 @@
 #![tactic(auto)]
 
 mod command;
+mod copy;
 mod course;
 mod deed;
 mod fault;
+mod naming;
 mod op;
 mod plain;
 mod reply;
+mod same;
 mod slow;
 mod store;
+mod telling;
 
 pub use command::Command;
 pub use course::CourseItem;
@@ -20,3 +24,4 @@ pub use plain::{PlainBlock, PlainRoot, PlainStore};
 pub use reply::Reply;
 pub use slow::{Pointing, Run, is_since, peel, reach, reached, removes, unreachable};
 pub use store::StoredBlock;
+pub use telling::deed_of;
