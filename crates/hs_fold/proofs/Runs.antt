@@ -6,6 +6,7 @@ pub mod Examples
 pub mod FilterLemmas
 pub mod InsertLemmas
 pub mod KeyLemmas
+pub mod KeyedLemmas
 pub mod MemoryLemmas
 pub mod OwnLemmas
 pub mod PlainLemmas

@@ -70,7 +70,7 @@ ended-once key epoch (k ∷ ks) h = (go (is_retained key k.root), ended-once key
     go true u = cc u
     go false u = ended-stays key k.root.key epoch ks (h.0 u)
 
-none-found : (test : Root → Bool) (rs : List Root) → find test rs ≡ None → AllByRecursion (λ q. test q ≡ false) rs
+pub none-found : (test : Root → Bool) (rs : List Root) → find test rs ≡ None → AllByRecursion (λ q. test q ≡ false) rs
 none-found test [] e = tt
 none-found test (r ∷ rs) e = go (test r) refl e (none-found test rs)
   where
@@ -86,7 +86,7 @@ unplace P q (r ∷ rs) h = go (is_gt (root_cmp q r)) (unplace P q rs) h
     go true ih h = let k = ih h.1 in (k.0, (h.0, k.1))
     go false ih h = (h.0, h.1)
 
-unboth : (P : Root → Type 0) (rs : List Root) → AllByRecursion P (both_roots rs []) → AllByRecursion P rs
+pub unboth : (P : Root → Type 0) (rs : List Root) → AllByRecursion P (both_roots rs []) → AllByRecursion P rs
 unboth P [] h = tt
 unboth P (r ∷ rs) h = let k = unplace P r (both_roots rs []) h in (k.0, unboth P rs k.1)
 
