@@ -1,5 +1,5 @@
 -- The root records of a catalogue stand by key.
-use Rattle.std.proofs.Common.{◌≡◌, ℕ, ◌+◌, ◌==◌, ◌&&◌, zero, suc, List, [], ◌∷◌, length, map, Bool, true, false, cond, not, Option, Some, None, is_none, refl, find, Result, Ok, Err, bytes_eq}
+use Rattle.std.proofs.Common.{◌≡◌, ℕ, ◌+◌, ◌==◌, ◌&&◌, zero, suc, List, [], ◌∷◌, length, map, Bool, true, false, cond, not, Option, Some, None, is_none, refl, Result, Ok, Err, bytes_eq}
 use Rattle.std.proofs.lemmas.List.Kept.{AllPairs-filter}
 use Rattle.std.specs.BTreeMap.{insert_entry}
 use Rattle.std.specs.List.{AllByRecursion}
@@ -13,14 +13,14 @@ use Rattle.hs_model.specs.Store.{Root, address_cmp, is_retained}
 use Rattle.hs_entry.specs.declared.entry.Entry.{Entry}
 use Rattle.hs_entry.specs.declared.entry.Entry.TheVariants as kind
 use Rattle.hs_roots.specs.ByKey.{is_upto, may_precede}
-use Rattle.hs_roots.proofs.ByKeyLemmas.{Standing, insert_stands, lt_from, map_stands, stand_from, standing_from}
+use Rattle.hs_roots.proofs.ByKeyLemmas.{insert_stands, lt_from, map_stands, stand_from, standing_from}
 use Rattle.hs_rounds.specs.declared.body.RoundBody.{RoundBody}
 use Rattle.hs_rounds.specs.declared.place.Place.{Place}
 use Rattle.hs_fold.proofs.Runs.OwnLemmas.{none-found, unboth}
 use Rattle.hs_fold.specs.Catalogue.{Shard, fresh_present}
 use Rattle.hs_fold.specs.Runs.Catalogue.{apply, apply_all, catalogue_of}
 use Rattle.hs_fold.specs.Runs.Clients.{drop_key, end_retention, give_block, insert_root, keep_root, marked, new_facts, new_root, store_block}
-use Rattle.hs_fold.specs.Runs.Facts.{Catalogue, Facts, RootFacts, empty_catalogue, facts_at, plain, roots_of}
+use Rattle.hs_fold.specs.Runs.Facts.{Catalogue, RootFacts, empty_catalogue, facts_at, plain, roots_of}
 use Rattle.hs_fold.specs.Runs.Own.{AreKeyed}
 use Rattle.hs_fold.specs.Runs.Rounds.{advance, advanced, count_root, end_round, enter, enter_epoch, get_round, is_accepted, is_complete, is_last, is_new_root, is_released, log_got, may_enter, search, settled, sweep}
 use Rattle.hs_fold.specs.Shards.Catalogue.{is_marked, is_rooted, is_stored, retained_in}

@@ -1,5 +1,5 @@
 -- A catalogue keeps only what is of its shard, in order, and retains no key twice.
-use Rattle.std.proofs.Common.{◌≡◌, ℕ, ◌+◌, ◌==◌, ◌&&◌, List, [], ◌∷◌, ◌++◌, length, map, filter, Bool, true, false, cond, not, Option, Some, None, is_none, refl, sym, ap, ◌∙◌, subst, find, is_gt, bytes_eq, zero, suc, Result, Ok, Err}
+use Rattle.std.proofs.Common.{◌≡◌, ℕ, ◌+◌, ◌==◌, ◌&&◌, List, [], ◌∷◌, length, map, filter, Bool, true, false, cond, not, Option, Some, None, is_none, refl, sym, ap, ◌∙◌, subst, find, is_gt, bytes_eq, zero, suc, Result, Ok, Err}
 use Rattle.std.proofs.lemmas.Slice.Eq.{bytes_eq-Decides}
 use Rattle.std.specs.List.{AllByRecursion, insert}
 use Rattle.std.specs.List.Sorted.{IsStrictlySortedBy}
