@@ -27,7 +27,8 @@ use Rattle.hs_model.specs.Judge.{nothing, pointers_at}
 use Rattle.hs_model.specs.Reach.{pointers_of}
 use Rattle.hs_model.specs.Store.{Root, Session, Store, address_cmp, block_at, blocks_in, held_in, is_retained, retained_at, roots_in, session_at, shard_at, text_cmp}
 use Rattle.hs_model.specs.Store.{held_at as store_held}
-use Rattle.hs_ops.specs.Speaking.{judging_shard, named_key, wanted_address}
+use Rattle.hs_model.specs.Op.{named_key}
+use Rattle.hs_ops.specs.Speaking.{judging_shard, wanted_address}
 use Rattle.hs_ops.specs.Views.{OpView, as_session, kept_in}
 use Rattle.hs_roots.specs.declared.root.RootRecord.{RootRecord}
 use Rattle.hs_roots.specs.Roots.{retained_count, retained_of}

@@ -14,7 +14,8 @@ use Rattle.hs_any_events.proofs.CodedOpLemmas.{coded_operation, op_kept}
 use Rattle.hs_any_events.proofs.CodedPoolLemmas.{bare_pool}
 use Rattle.hs_awaiting.specs.declared.wait.Wait.TheVariants as wait
 use Rattle.hs_awaiting.specs.declared.waiting.Waiting.{Waiting}
-use Rattle.hs_awaiting.specs.Kinds.{is_of, own_address}
+use Rattle.hs_awaiting.specs.Kinds.{is_of}
+use Rattle.hs_model.specs.Op.{written_address}
 use Rattle.hs_core_words.specs.Looking.{catalogue_of, front_of, group_of, operation_of, shape_of}
 use Rattle.hs_core_words.specs.Operating.{busy_line, what_holds}
 use Rattle.hs_core_words.specs.Pending.{has_room, is_address, is_coming, is_crowded, is_pending, named, stored}
@@ -97,11 +98,11 @@ module _ (code : Code) (c d : Core) (r : IsCoded code c d) where
   -- ---- the addresses of the Blocks that wait
 
   stored_alike : (e : Entry) → stored e d ≡ stored e c
-  stored_alike (kind.Block line least bytes) = ap (λ (x : Option Waiting). option_and_then (λ (w : Waiting). own_address w.operation.op) x) (operation_is line) ∙ by (operation_of line c)
+  stored_alike (kind.Block line least bytes) = ap (λ (x : Option Waiting). option_and_then (λ (w : Waiting). written_address w.operation.op) x) (operation_is line) ∙ by (operation_of line c)
     where
-      by : (x : Option Waiting) → option_and_then (λ (w : Waiting). own_address w.operation.op) (option_map (coded_waiting code) x) ≡ option_and_then (λ (w : Waiting). own_address w.operation.op) x
+      by : (x : Option Waiting) → option_and_then (λ (w : Waiting). written_address w.operation.op) (option_map (coded_waiting code) x) ≡ option_and_then (λ (w : Waiting). written_address w.operation.op) x
       by None = refl
-      by (Some w) = op_kept code (λ p. own_address p) (λ session payload other handles address. refl) w.operation.op
+      by (Some w) = op_kept code (λ p. written_address p) (λ session payload other handles address. refl) w.operation.op
   stored_alike other = refl
 
   pub named_alike : (e : Entry) → named e d ≡ named e c

@@ -8,7 +8,8 @@ use Rattle.hs_awaiting.specs.declared.table.Table.{Table}
 use Rattle.hs_awaiting.specs.declared.wait.Wait.{Wait}
 use Rattle.hs_awaiting.specs.declared.wait.Wait.TheVariants as wait
 use Rattle.hs_awaiting.specs.declared.waiting.Waiting.{Waiting}
-use Rattle.hs_awaiting.specs.Kinds.{own_address, puts_root, writes_block}
+use Rattle.hs_awaiting.specs.Kinds.{puts_root, writes_block}
+use Rattle.hs_model.specs.Op.{written_address}
 use Rattle.hs_awaiting.specs.Views.{is_within, restarted}
 use Rattle.hs_awaiting.specs.Words.{change_with, ◌▸◌}
 use Rattle.hs_journal.specs.Order.{session_of}
@@ -32,7 +33,7 @@ session_in w = session_of (Some w.operation.op)
 
 -- what an operation waits for, where an entry of its shard may wake it
 abbrev pub block_cause : ℕ → Op → Cause
-block_cause shard o = unwrap_or (option_map (λ a. cause.Block shard a) (own_address o)) (cause.Other shard)
+block_cause shard o = unwrap_or (option_map (λ a. cause.Block shard a) (written_address o)) (cause.Other shard)
 
 abbrev pub room_cause : ℕ → Op → Option Cause
 room_cause shard o =

@@ -16,11 +16,6 @@ abbrev pub puts_root : Op → Bool
 puts_root (op.Root name key handle) = true
 puts_root other = false
 
--- the address that a write names itself
-abbrev pub own_address : Op → Option Address
-own_address (op.Write name payload handles a) = a
-own_address other = None
-
 -- whether an operation is of a session
 abbrev pub is_of : List ℕ → Waiting → Bool
 is_of name w = option_map_or (bytes_eq name) (session_of (Some w.operation.op)) false

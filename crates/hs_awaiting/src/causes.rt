@@ -1,12 +1,9 @@
 //! By what an operation is found beside its line: its session, and what may wake it.
 ghost use Rattle.std.specs.Prelude.{◌≡◌, IfOk, Some};
-ghost use Rattle.std.specs.Option.{option_copied};
 ghost use Rattle.hs_awaiting.specs.Indexing.{block_cause, cause_of, room_cause, session_in, store_cause, storing, wait_cause};
-ghost use Rattle.hs_awaiting.specs.Kinds.{own_address};
-ghost use Rattle.hs_journal.specs.Order.{session_of};
 
 use crate::{AwaitingFault, Wait, Waiting, puts_root, writes_block};
-use hs_limits::{Address, Name};
+use hs_limits::Name;
 use hs_model::Op;
 use hs_waits::Cause;
 use std::alloc::Global;
@@ -15,29 +12,9 @@ use std::alloc::Global;
 pub(crate) fn session_in(alloc: Global, waiting: &Waiting) -> Result<Option<Name>, AwaitingFault>
     ensures { IfOk result (λ name. name ≡ session_in waiting.now) }
 {
-    match session_of(waiting.operation.op()) {
+    match waiting.operation.session() {
         Some(name) => Ok(Some(name.copy(alloc)?)),
         None => Ok(None),
-    }
-}
-
-/// The session that asks for an operation. None exactly where none does: of a `drop`, a `delete` and a
-/// `stat`. It takes no memory.
-pub fn session_of(op: &Op) -> Option<&Name>
-    ensures { option_copied result ≡ session_of (Some op.now) }
-{
-    match op {
-        Op::Open { session } => Some(session),
-        Op::Close { session } => Some(session),
-        Op::Write { session, .. } => Some(session),
-        Op::Read { session, .. } => Some(session),
-        Op::Look { session, .. } => Some(session),
-        Op::Root { session, .. } => Some(session),
-        Op::Drop { .. } => None,
-        Op::Forget { session, .. } => Some(session),
-        Op::Name { session, .. } => Some(session),
-        Op::Delete => None,
-        Op::Stat => None,
     }
 }
 
@@ -97,7 +74,7 @@ fn store_cause(op: &Op) -> Option<Cause>
 fn block_cause(shard: u8, op: &Op) -> Cause
     ensures { result ≡ block_cause shard op.now }
 {
-    match own_address(op) {
+    match op.written_address() {
         Some(address) => Cause::Block { shard, address },
         None => Cause::Other { shard },
     }
@@ -114,23 +91,4 @@ fn room_cause(shard: u8, op: &Op) -> Option<Cause>
         return Some(Cause::RootRoom { shard });
     }
     None
-}
-
-/// The address that a write names itself.
-fn own_address(op: &Op) -> Option<Address>
-    ensures { result ≡ own_address op.now }
-{
-    match op {
-        Op::Write { address, .. } => *address,
-        Op::Open { .. }
-        | Op::Close { .. }
-        | Op::Read { .. }
-        | Op::Look { .. }
-        | Op::Root { .. }
-        | Op::Drop { .. }
-        | Op::Forget { .. }
-        | Op::Name { .. }
-        | Op::Delete
-        | Op::Stat => None,
-    }
 }

@@ -14,7 +14,6 @@ mod views;
 mod wait;
 mod waiting;
 
-pub use causes::session_of;
 pub use fault::AwaitingFault;
 pub use judging::{Judged, judge};
 pub use kinds::{puts_root, writes_block};

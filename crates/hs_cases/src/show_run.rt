@@ -27,8 +27,27 @@ fn put_status(status: &Status, out: &mut Text) {
             out.put_form(" found # #", &shape);
             (" #\n", u64::from(found.peer))
         }
+        Status::Mismatch { session, place, .. } => {
+            out.put_named("mismatch ", session.as_slice());
+            (" #\n", *place)
+        }
         Status::OpsFull => ("opsfull\n", 0),
+        Status::Torn { peer, place, .. } => {
+            out.put_form("torn #", &[u64::from(*peer)]);
+            (" #\n", *place)
+        }
+        Status::NotEmpty { blocks, roots } => {
+            out.put_form("notempty #", &[*blocks]);
+            (" #\n", *roots)
+        }
         Status::InputFull => ("inputfull\n", 0),
+        Status::Refused { .. } => ("refused\n", 0),
+        Status::NotATree { address } => {
+            out.put_hex("notatree ", &address.0);
+            ("\n", 0)
+        }
+        Status::NoSource { peer } => ("nosource #\n", u64::from(*peer)),
+        Status::CopyFull { blocks } => ("copyfull #\n", *blocks),
     };
     out.put_form(form, &[number]);
 }

@@ -7,7 +7,8 @@ use Rattle.hs_limits.specs.declared.address.Address.{Address}
 use Rattle.hs_limits.specs.declared.shape.Shape.{Shape}
 use Rattle.hs_limits.specs.Shape.{IsShape, shard_of, shard_of_key}
 use Rattle.hs_model.specs.declared.op.Op.{Op}
-use Rattle.hs_ops.specs.Speaking.{judging_shard, named_key, wanted_address}
+use Rattle.hs_model.specs.Op.{named_key}
+use Rattle.hs_ops.specs.Speaking.{judging_shard, wanted_address}
 use Rattle.hs_tokens.specs.Seats.{Seats}
 
 judging_low : (shards : ℕ) → 0 < shards → (key : Option (List ℕ)) (a : Option Address) → unwrap_or (option_or (option_map (shard_of_key shards) key) (option_map (shard_of shards) a)) 0 < shards

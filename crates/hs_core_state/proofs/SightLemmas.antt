@@ -5,7 +5,7 @@ use Rattle.std.specs.List.{list_any}
 use Rattle.std.specs.Ordering.{nat_cmp}
 use Rattle.hs_awaiting.proofs.EntryLemmas.{part_set}
 use Rattle.hs_awaiting.specs.declared.waiting.Waiting.{Waiting}
-use Rattle.hs_awaiting.specs.Kinds.{own_address}
+use Rattle.hs_model.specs.Op.{written_address}
 use Rattle.hs_core_words.specs.Changing.{put_operation}
 use Rattle.hs_core_state.specs.Going.{aim_of, sight_of, view_by}
 use Rattle.hs_core_words.specs.Looking.{group_of, operation_of}
@@ -65,12 +65,12 @@ module _ (line : ℕ) (core : Core) (w new : Waiting) (found : operation_of line
   abbrev op_of : Waiting → Op
   op_of x = x.operation.op
 
-  asked_put : (other : ℕ) → option_and_then (λ x. own_address (op_of x)) (operation_of other (put_operation line new core))
-      ≡ option_and_then (λ x. own_address (op_of x)) (operation_of other core)
+  asked_put : (other : ℕ) → option_and_then (λ x. written_address (op_of x)) (operation_of other (put_operation line new core))
+      ≡ option_and_then (λ x. written_address (op_of x)) (operation_of other core)
   asked_put other =
-      by_part op_of own_address (operation_of other (put_operation line new core))
-      ∙ ap (option_and_then own_address) (part_set (is_at (nat_cmp line)) op_of (is_at (nat_cmp other)) core.operations w new found same)
-      ∙ sym (by_part op_of own_address (operation_of other core))
+      by_part op_of written_address (operation_of other (put_operation line new core))
+      ∙ ap (option_and_then written_address) (part_set (is_at (nat_cmp line)) op_of (is_at (nat_cmp other)) core.operations w new found same)
+      ∙ sym (by_part op_of written_address (operation_of other core))
 
   stored_put : (entry : Entry) → stored entry (put_operation line new core) ≡ stored entry core
   stored_put (kind.View v) = refl

@@ -6,7 +6,7 @@ use Rattle.std.specs.List.{list_any}
 use Rattle.std.specs.Option.{is_some, option_map_or}
 use Rattle.hs_awaiting.specs.declared.waiting.Waiting.{Waiting}
 use Rattle.hs_awaiting.specs.Indexing.{passes, store_cause, stores}
-use Rattle.hs_awaiting.specs.Kinds.{own_address}
+use Rattle.hs_model.specs.Op.{written_address}
 use Rattle.hs_core_words.specs.Looking.{operation_of}
 use Rattle.hs_core_words.specs.Pending.{is_address, stored}
 use Rattle.hs_core_words.specs.State.{Core}
@@ -70,7 +70,7 @@ alike : (xs ys : List ℕ) → bytes_eq xs ys ≡ bytes_eq ys xs
 alike xs ys = same_bool (bytes_eq xs ys) (bytes_eq ys xs) (turned xs ys) (turned ys xs)
 
 -- by the operation
-stored_so : (a : Address) (o : Op) → option_map_or (λ d. is_same d (cause.Block 0 a)) (store_cause o) false ≡ is_address a (own_address o)
+stored_so : (a : Address) (o : Op) → option_map_or (λ d. is_same d (cause.Block 0 a)) (store_cause o) false ≡ is_address a (written_address o)
 stored_so a (op.Write name payload handles (Some b)) = alike b.0 a.0
 stored_so a (op.Write name payload handles None) = refl
 stored_so a (op.Read name handle) = refl
@@ -87,7 +87,7 @@ stored_so a op.Stat = refl
 module _ (core : Core) (a : Address) where
   -- whether the Block of a line is of this address
   abbrev names : ℕ → Bool
-  names n = is_address a (option_and_then (λ w. own_address w.operation.op) (operation_of n core))
+  names n = is_address a (option_and_then (λ w. written_address w.operation.op) (operation_of n core))
 
   abbrev test : Entry → Bool
   test e = is_address a (stored e core)
@@ -95,7 +95,7 @@ module _ (core : Core) (a : Address) where
   by_write : (n : ℕ) → passes (stores (cause.Block 0 a)) core.operations n ≡ names n
   by_write n = go (operation_of n core)
     where
-      go : (o : Option Waiting) → option_map_or (stores (cause.Block 0 a)) o false ≡ is_address a (option_and_then (λ w. own_address w.operation.op) o)
+      go : (o : Option Waiting) → option_map_or (stores (cause.Block 0 a)) o false ≡ is_address a (option_and_then (λ w. written_address w.operation.op) o)
       go None = refl
       go (Some w) = stored_so a w.operation.op
 

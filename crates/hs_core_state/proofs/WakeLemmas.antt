@@ -7,7 +7,8 @@ use Rattle.hs_awaiting.specs.declared.wait.Wait.{Wait}
 use Rattle.hs_awaiting.specs.declared.wait.Wait.TheVariants as wait
 use Rattle.hs_awaiting.specs.declared.waiting.Waiting.{Waiting}
 use Rattle.hs_awaiting.specs.Indexing.{block_cause, found_in, passes, waits_for}
-use Rattle.hs_awaiting.specs.Kinds.{own_address, puts_root, writes_block}
+use Rattle.hs_awaiting.specs.Kinds.{puts_root, writes_block}
+use Rattle.hs_model.specs.Op.{written_address}
 use Rattle.hs_core_words.specs.Effects.{is_for_view, wakes}
 use Rattle.hs_core_words.specs.Pending.{is_address}
 use Rattle.hs_core_words.specs.State.{Core}
@@ -61,7 +62,7 @@ turned xs ys h = (bytes_eq-Decides ys xs).1 (sym ((bytes_eq-Decides xs ys).0 h))
 
 -- ---- what a Block wakes
 
-own_wanted : (seats : Seats) (o : Op) (a : Address) → own_address o ≡ Some a → wanted_address seats o ≡ Some a
+own_wanted : (seats : Seats) (o : Op) (a : Address) → written_address o ≡ Some a → wanted_address seats o ≡ Some a
 own_wanted seats (op.Open name) a h = cc h
 own_wanted seats (op.Close name) a h = cc h
 own_wanted seats (op.Write name payload handles address) a h = h
@@ -80,9 +81,9 @@ module _ (shard : ℕ) (core : Core) (o : Operation) (s : ℕ) where
 
   -- one that waits for a Block
   for_block : (a : Option Address) → (s == shard && option_map_or (λ a. is_address a (wanted_address core.sessions o.op)) a false) ≡ true → may_wake_by_block shard a (made wait.Address) ≡ true
-  for_block a h = go (own_address o.op) refl
+  for_block a h = go (written_address o.op) refl
     where
-      named : (a : Option Address) (b : Address) → own_address o.op ≡ Some b → option_map_or (λ a. is_address a (wanted_address core.sessions o.op)) a false ≡ true
+      named : (a : Option Address) (b : Address) → written_address o.op ≡ Some b → option_map_or (λ a. is_address a (wanted_address core.sessions o.op)) a false ≡ true
           → waits_for_block shard a (made wait.Address) ≡ true
       named None b e h = cc h
       named (Some a) b e test =
@@ -90,7 +91,7 @@ module _ (shard : ℕ) (core : Core) (o : Operation) (s : ℕ) where
           let same : bytes_eq a.0 b.0 ≡ true = rw want at test in
           rw e (both (s == shard) (bytes_eq b.0 a.0) (first_holds (s == shard) _ h) (turned a.0 b.0 same))
 
-      go : (own : Option Address) → own_address o.op ≡ own → may_wake_by_block shard a (made wait.Address) ≡ true
+      go : (own : Option Address) → written_address o.op ≡ own → may_wake_by_block shard a (made wait.Address) ≡ true
       go None e = or_last (waits_for (cause.BlockRoom shard) (made wait.Address)) (waits_for_block shard a (made wait.Address)) (waits_for (cause.Other shard) (made wait.Address)) (rw e (first_holds (s == shard) _ h))
       go (Some b) e = or_middle (waits_for (cause.BlockRoom shard) (made wait.Address)) (waits_for_block shard a (made wait.Address)) (waits_for (cause.Other shard) (made wait.Address)) (named a b e (second_holds (s == shard) _ h))
 
@@ -152,7 +153,7 @@ viewing_at shard o s wait.View = alone (s == shard)
     alone : (x : Bool) → (x && true) ≡ x
     alone true = refl
     alone false = refl
-viewing_at shard o s wait.Address = none (s == shard) (own_address o.op)
+viewing_at shard o s wait.Address = none (s == shard) (written_address o.op)
   where
     none : (x : Bool) (a : Option Address) → (x && false) ≡ is_same (unwrap_or (option_map (λ a. cause.Block s a) a) (cause.Other s)) (cause.View shard)
     none true None = refl

@@ -17,7 +17,7 @@ ghost use Rattle.hs_waits.specs.declared.cause.Cause.TheVariants as cause;
 
 use crate::State;
 use crate::no_memory::NoMemory;
-use hs_awaiting::{Wait, Waiting, next_line, puts_root, session_of, writes_block};
+use hs_awaiting::{Wait, Waiting, next_line, puts_root, writes_block};
 use hs_entry::Entry;
 use hs_limits::Address;
 use hs_model::Op;
@@ -36,7 +36,7 @@ impl State {
     pub fn busy_line(&self, op: &Op) -> Result<Option<u64>, NoMemory>
         ensures { IfOk result (λ busy. busy ≡ busy_line op.now self.now) }
     {
-        match session_of(op) {
+        match op.session() {
             Some(name) => Ok(self.operations.line_of(name)?),
             None => Ok(None),
         }

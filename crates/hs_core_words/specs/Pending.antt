@@ -2,7 +2,8 @@
 use Rattle.std.specs.List.{list_any}
 use Rattle.std.specs.Option.{option_and_then, option_map_or}
 use Rattle.std.specs.Prelude.{ℕ, ◌+◌, ◌||◌, Bool, false, not, Option, None, bytes_eq, count_by, length, nat_lt, if◌then◌else◌}
-use Rattle.hs_awaiting.specs.Kinds.{own_address, puts_root}
+use Rattle.hs_awaiting.specs.Kinds.{puts_root}
+use Rattle.hs_model.specs.Op.{written_address}
 use Rattle.hs_core_words.specs.Looking.{catalogue_of, group_of, operation_of}
 use Rattle.hs_core_words.specs.State.{Core}
 use Rattle.hs_entry.specs.declared.entry.Entry.{Entry}
@@ -21,7 +22,7 @@ named other core = None
 
 -- the address of the block that an entry stores: that of the write which asked for it
 abbrev pub stored : Entry → Core → Option Address
-stored (kind.Block line least bytes) core = option_and_then (λ w. own_address w.operation.op) (operation_of line core)
+stored (kind.Block line least bytes) core = option_and_then (λ w. written_address w.operation.op) (operation_of line core)
 stored other core = None
 
 -- whether some address is this one

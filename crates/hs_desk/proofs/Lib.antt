@@ -1,1 +1,4 @@
 mod Examples
+mod SlipExamples
+mod TokenExamples
+pub mod WorkLemmas

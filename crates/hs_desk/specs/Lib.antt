@@ -1,1 +1,5 @@
 pub mod Answers
+pub mod Faults
+pub mod Roomy
+pub mod Slips
+pub mod Tokens

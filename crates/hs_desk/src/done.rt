@@ -1,9 +1,10 @@
 //! What a job came to.
-ghost use Rattle.std.specs.Prelude.{◌≡◌};
+ghost use Rattle.std.specs.Prelude.{◌≡◌, IfOk};
 ghost use Rattle.hs_desk.specs.Answers.{answers};
 
 use crate::Job;
 use hs_shared::SharedBytes;
+use std::alloc::AllocError;
 
 /// The report of a job.
 #[derive(Debug, Drop)]
@@ -42,6 +43,26 @@ impl Done {
             (Done::Failed { disk }, Job::Copy { from, .. }) => *disk == peer || disk == from,
             (Done::Failed { disk }, _) => *disk == peer,
             _ => false,
+        }
+    }
+
+    /// The same report again. The two share the bytes of a block. It fails only where no more owners
+    /// of the bytes can be counted.
+    pub fn copy(&self) -> Result<Done, AllocError>
+        ensures { IfOk result (λ done. done ≡ self.now) }
+    {
+        match *self {
+            Done::Stored { number } => Ok(Done::Stored { number }),
+            Done::Sealed { number } => Ok(Done::Sealed { number }),
+            Done::Bytes { number, ref bytes } => Ok(Done::Bytes {
+                number,
+                bytes: bytes.copy()?,
+            }),
+            Done::Gone { number } => Ok(Done::Gone { number }),
+            Done::Emptied => Ok(Done::Emptied),
+            Done::Copied { number } => Ok(Done::Copied { number }),
+            Done::Stepped { switched } => Ok(Done::Stepped { switched }),
+            Done::Failed { disk } => Ok(Done::Failed { disk }),
         }
     }
 }

@@ -1,4 +1,7 @@
 //! What a peer is given to do on its disk.
+ghost use Rattle.std.specs.Prelude.{◌≡◌};
+ghost use Rattle.hs_desk.specs.Slips.{work_of};
+
 use hs_entry::Entry;
 
 /// A job of one peer.
@@ -32,4 +35,18 @@ pub enum Work {
     Append { number: u64 },
     Seal { number: u64 },
     Read { number: u64 },
+}
+
+impl Work {
+    /// The work that a job is. None for a Reset, a Copy and a Reclaim, of which no slip keeps a note.
+    pub fn of(job: &Job) -> Option<Work>
+        ensures { result ≡ work_of job.now }
+    {
+        match job {
+            Job::Append { number, .. } => Some(Work::Append { number: *number }),
+            Job::Seal { number } => Some(Work::Seal { number: *number }),
+            Job::Read { number } => Some(Work::Read { number: *number }),
+            Job::Reset | Job::Copy { .. } | Job::Reclaim => None,
+        }
+    }
 }

@@ -7,7 +7,7 @@ use Rattle.std.specs.Prelude.{slice_index_or, slice_set}
 use Rattle.hs_awaiting.specs.declared.wait.Wait.{Wait}
 use Rattle.hs_awaiting.specs.declared.wait.Wait.TheVariants as wait
 use Rattle.hs_awaiting.specs.declared.waiting.Waiting.{Waiting}
-use Rattle.hs_awaiting.specs.Kinds.{own_address}
+use Rattle.hs_model.specs.Op.{written_address}
 use Rattle.hs_awaiting.specs.Words.{change_if, change_with, times}
 use Rattle.hs_core_words.specs.Changing.{change_group, note, set_viewed}
 use Rattle.hs_core_words.specs.Effects.{after_entry, commit, commit_next, is_for_view, note_enter, note_sweep, reach_view, take_effect, tell_enter, tell_operation, wakes}
@@ -50,7 +50,7 @@ use Rattle.hs_tokens.specs.Seats.{Seats}
 -- ---- the name of an entry's block
 
 block_of : (name : List ℕ → Address) (seats : Seats) (line k least : ℕ) (bytes : List ℕ) (o : Op) → IsEntryOf name seats k o (kind.Block line least bytes)
-    → (own_address o ≡ Some (name bytes)) × (wanted_address seats o ≡ Some (name bytes))
+    → (written_address o ≡ Some (name bytes)) × (wanted_address seats o ≡ Some (name bytes))
 block_of name seats line k least bytes (op.Write session payload handles address) asks = (go asks, go asks)
   where
     go : IsEntryOf name seats k (op.Write session payload handles address) (kind.Block line least bytes) → address ≡ Some (name bytes)
@@ -75,9 +75,9 @@ listed : (name : List ℕ → Address) (c : Core) (shard place : ℕ) (entry : E
     → (stored entry c ≡ named_by name entry) × IsNamed name entry c
 listed name c shard place (kind.Block line least bytes) its at =
     let h = its.asked shard place line (kind.Block line least bytes) at refl in
-    let both : (own_address h.waiting.operation.op ≡ Some (name bytes)) × (wanted_address c.sessions h.waiting.operation.op ≡ Some (name bytes))
+    let both : (written_address h.waiting.operation.op ≡ Some (name bytes)) × (wanted_address c.sessions h.waiting.operation.op ≡ Some (name bytes))
     = block_of name c.sessions line line least bytes h.waiting.operation.op h.asks in (
-      ap (λ (o : Option Waiting). option_and_then (λ (w : Waiting). own_address w.operation.op) o) h.at ∙ both.0,
+      ap (λ (o : Option Waiting). option_and_then (λ (w : Waiting). written_address w.operation.op) o) h.at ∙ both.0,
       ap (λ (o : Option Waiting). option_and_then (λ (w : Waiting). wanted_address c.sessions w.operation.op) o) h.at ∙ both.1,
     )
 listed name c shard place (kind.View view) its at = (refl, refl)

@@ -1,7 +1,9 @@
 //! The calls of the top at concrete types, where no case makes them.
 use hs_block::ShaNames;
+use hs_limits::{Address, Key, ListOf, Name};
+use hs_model::{Deed, Reply};
 use hs_ports::{ListSink, ListSource, MemoryDisk, Watch};
-use hs_promise::Status;
+use hs_promise::{Status, Told};
 use hs_top::{exit_code, fault_line, hydra, shape_of};
 use std::alloc::{AllocError, Global};
 use std::test::Fail;
@@ -18,9 +20,9 @@ fn words_of(alloc: Global, text: &str) -> Result<Vec<String>, AllocError> {
 #[test]
 fn the_whole_program_runs_a_script_and_no_load(rt: HostRuntime) -> Result<(), Fail> {
     let alloc = rt.alloc();
-    for (text, fits, status, put) in [
-        ("script d 1 1", true, Status::Done, b"1 ok\n".as_slice()),
-        ("load d 1 1", false, Status::Usage, b"".as_slice()),
+    for (text, fits, code, put) in [
+        ("script d 1 1", true, 0, b"1 ok\n".as_slice()),
+        ("load d 1 1", false, 2, b"".as_slice()),
     ] {
         let words = words_of(alloc, text)?;
         assert_eq!(rt; shape_of(&words).is_some(), fits, "{text}");
@@ -39,7 +41,7 @@ fn the_whole_program_runs_a_script_and_no_load(rt: HostRuntime) -> Result<(), Fa
             &mut disks,
             &mut Watch::new(),
         );
-        assert_eq!(rt; outcome.status, status, "{text}");
+        assert_eq!(rt; exit_code(&outcome.status), code, "{text}");
         assert_eq!(rt; sink.bytes(), put, "{text}");
     }
     Ok(())
@@ -49,9 +51,62 @@ fn the_whole_program_runs_a_script_and_no_load(rt: HostRuntime) -> Result<(), Fa
 fn statuses_that_no_case_reaches_have_their_code_and_their_line(
     rt: HostRuntime,
 ) -> Result<(), Fail> {
+    let key = Key::from_list(ListOf::from_vec(Vec::from_slice(rt.alloc(), b"z")?)).unwrap();
+    let session = Name::from_list(ListOf::from_vec(Vec::from_slice(rt.alloc(), b"w0")?)).unwrap();
+    let address = Address([0; 32]);
     for (status, code, text) in [
         (Status::NoMemory, 7, "hydra: out of memory\n"),
+        (
+            Status::Mismatch {
+                session,
+                place: 0,
+                told: Told::Absent,
+                kept: Told::Item(0, Deed::Nothing, Reply::Ok),
+            },
+            9,
+            "hydra: a writer's answer differs from the journal\n",
+        ),
+        (
+            Status::Torn {
+                peer: 0,
+                place: 0,
+                told: None,
+                kept: Some(1),
+            },
+            11,
+            "hydra: a worker's entries differ from the book\n",
+        ),
+        (
+            Status::NotEmpty {
+                blocks: 1,
+                roots: 0,
+            },
+            12,
+            "hydra: the store is not empty\n",
+        ),
         (Status::InputFull, 13, "hydra: the input is too long\n"),
+        (
+            Status::Refused {
+                reply: Reply::NoKey { key },
+            },
+            14,
+            "hydra: refused: no key z\n",
+        ),
+        (
+            Status::NotATree { address },
+            15,
+            "hydra: the root is not a stored file\n",
+        ),
+        (
+            Status::NoSource { peer: 3 },
+            16,
+            "hydra: peer 3 has no log to copy from\n",
+        ),
+        (
+            Status::CopyFull { blocks: 4000 },
+            17,
+            "hydra: the root reaches more than 4000 blocks\n",
+        ),
     ] {
         let mut out = Vec::new(rt.alloc());
         fault_line(&status, &mut out)?;

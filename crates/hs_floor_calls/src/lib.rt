@@ -9,4 +9,6 @@ mod lists;
 #[cfg(test)]
 mod peer_log;
 #[cfg(test)]
+mod plans;
+#[cfg(test)]
 mod reach;

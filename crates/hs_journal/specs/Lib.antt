@@ -1,4 +1,5 @@
 pub mod JournalState
+pub mod Deeds
 pub mod Events
 pub mod Order
 pub mod Moments

@@ -1,6 +1,7 @@
 -- In which order a journal's entries stand.
 use Rattle.std.specs.Prelude.{◌≡◌, ℕ, ◌<◌, ◌≤◌, List, Option, Some, None, IsSome, slice_get}
 use Rattle.hs_model.specs.declared.command.Command.{Command}
+use Rattle.hs_model.specs.Op as naming
 use Rattle.hs_model.specs.declared.op.Op.{Op}
 use Rattle.hs_model.specs.declared.op.Op.TheVariants as op
 use Rattle.hs_model.specs.declared.reply.Reply.TheVariants as reply
@@ -21,17 +22,7 @@ pub record IsOfLine (entries : List JournalEntry) (i n : ℕ) : Type 0 where
 -- the session of a client's operation, where it has one
 abbrev pub session_of : Option Op → Option (List ℕ)
 session_of None = None
-session_of (Some (op.Open name)) = Some name
-session_of (Some (op.Close name)) = Some name
-session_of (Some (op.Write name payload handles address)) = Some name
-session_of (Some (op.Read name handle)) = Some name
-session_of (Some (op.Look name key)) = Some name
-session_of (Some (op.Root name key handle)) = Some name
-session_of (Some (op.Drop key)) = None
-session_of (Some (op.Forget name handle)) = Some name
-session_of (Some (op.Name name handle)) = Some name
-session_of (Some op.Delete) = None
-session_of (Some op.Stat) = None
+session_of (Some o) = naming.session_of o
 
 -- the operation opens a session
 abbrev pub IsOpen : Option Op → Type 0

@@ -24,4 +24,4 @@ pub use plain::{PlainBlock, PlainRoot, PlainStore};
 pub use reply::Reply;
 pub use slow::{Pointing, Run, is_since, peel, reach, reached, removes, unreachable};
 pub use store::StoredBlock;
-pub use telling::deed_of;
+pub use telling::{deed_of, given_address};

@@ -128,7 +128,7 @@ fn addresses_in(
 }
 
 /// The address that a write was given, the zero address where it was given none.
-fn given_address(address: Option<Address>) -> Address
+pub fn given_address(address: Option<Address>) -> Address
     ensures { result ≡ given_address address }
 {
     address.unwrap_or(Address([0; 32]))

@@ -1,4 +1,4 @@
--- What an operation speaks of: a session, a key, a block, and the shard that judges it.
+-- What an operation speaks of: a block, and the shard that judges it.
 use Rattle.std.specs.Prelude.{ℕ, List, Option, Some, None, fold, map, min, unwrap_or}
 use Rattle.std.specs.Option.{option_map, option_or}
 use Rattle.hs_limits.specs.Block.{Block}
@@ -6,37 +6,10 @@ use Rattle.hs_limits.specs.Shape.{shard_of, shard_of_key}
 use Rattle.hs_limits.specs.declared.address.Address.{Address}
 use Rattle.hs_limits.specs.declared.address.Held.{Held}
 use Rattle.hs_limits.specs.declared.limits.TheConstants.{LAST_EPOCH}
+use Rattle.hs_model.specs.Op.{named_key}
 use Rattle.hs_model.specs.declared.op.Op.{Op}
 use Rattle.hs_model.specs.declared.op.Op.TheVariants as op
 use Rattle.hs_tokens.specs.Seats.{Seats, found, held_at, seat_of}
-
--- the session that asks
-abbrev pub asking_session : Op → Option (List ℕ)
-asking_session (op.Open name) = Some name
-asking_session (op.Close name) = Some name
-asking_session (op.Write name payload handles address) = Some name
-asking_session (op.Read name handle) = Some name
-asking_session (op.Look name key) = Some name
-asking_session (op.Root name key handle) = Some name
-asking_session (op.Drop key) = None
-asking_session (op.Forget name handle) = Some name
-asking_session (op.Name name handle) = Some name
-asking_session op.Delete = None
-asking_session op.Stat = None
-
--- the key that it names
-abbrev pub named_key : Op → Option (List ℕ)
-named_key (op.Open name) = None
-named_key (op.Close name) = None
-named_key (op.Write name payload handles address) = None
-named_key (op.Read name handle) = None
-named_key (op.Look name key) = Some key
-named_key (op.Root name key handle) = Some key
-named_key (op.Drop key) = Some key
-named_key (op.Forget name handle) = None
-named_key (op.Name name handle) = None
-named_key op.Delete = None
-named_key op.Stat = None
 
 -- the address of the block that it writes or reads
 abbrev pub wanted_address : Seats → Op → Option Address

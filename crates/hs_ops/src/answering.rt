@@ -7,11 +7,11 @@ ghost use Rattle.hs_ops.specs.Answers.{deed_of, done_deed, gained, handle_in, ha
 ghost use Rattle.hs_ops.specs.Speaking.{asked_pointers};
 ghost use Rattle.hs_tokens.specs.Seats.{found};
 
-use crate::entries::{addresses_of, given_address};
+use crate::entries::addresses_of;
 use crate::view::nothing;
 use crate::{OpFault, OpView};
 use hs_limits::{Address, Held, ListOf, Name};
-use hs_model::{Asked, Deed, Op, Reply};
+use hs_model::{Asked, Deed, Op, Reply, given_address};
 use hs_tokens::{Sessions, SessionsView};
 use std::alloc::Global;
 

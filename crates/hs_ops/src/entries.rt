@@ -2,7 +2,6 @@
 ghost use Rattle.std.specs.Prelude.{◌≡◌, ℕ, ◌≤◌, List, ◌++◌, length, IfOk};
 ghost use Rattle.hs_limits.specs.Block.{IsBlock, spell};
 ghost use Rattle.hs_limits.specs.declared.spelling.TheConstants.{MOST_BYTES, MOST_POINTERS};
-ghost use Rattle.hs_model.specs.Judge.{given_address};
 ghost use Rattle.hs_ops.specs.Going.{block_entry, mark_entry, root_entry};
 ghost use Rattle.hs_ops.specs.Speaking.{asked_block, asked_pointers, helds, least_epoch};
 
@@ -11,6 +10,7 @@ use crate::{OpFault, OpView};
 use hs_block::{write_head, write_spelling};
 use hs_entry::Entry;
 use hs_limits::{Address, Key, LAST_EPOCH, ListOf, Name};
+use hs_model::given_address;
 use hs_shared::SharedBytes;
 use hs_tokens::SessionsView;
 use std::alloc::Global;
@@ -136,11 +136,4 @@ pub(crate) fn head_of(alloc: Global, pointers: &[Address], len: usize) -> Result
         Ok(()) => Ok(head),
         Err(_) => Err(OpFault::NoMemory),
     }
-}
-
-/// The address that a write was given.
-pub(crate) fn given_address(address: Option<Address>) -> Address
-    ensures { result ≡ given_address address }
-{
-    address.unwrap_or(Address([0; 32]))
 }

@@ -2,7 +2,8 @@
 ghost use Rattle.std.specs.Prelude.{◌≡◌};
 ghost use Rattle.std.specs.Option.{option_copied, option_map};
 ghost use Rattle.hs_limits.specs.Shape.{IsShape};
-ghost use Rattle.hs_ops.specs.Speaking.{asking_session, judging_shard, named_key, wanted_address};
+ghost use Rattle.hs_model.specs.Op.{named_key, session_of};
+ghost use Rattle.hs_ops.specs.Speaking.{judging_shard, wanted_address};
 ghost use Rattle.hs_tokens.specs.Seats.{Seats, held_at, seat_of};
 
 use crate::Operation;
@@ -13,40 +14,16 @@ use hs_tokens::Sessions;
 impl Operation {
     /// The session that asks. None where it is of no session.
     pub fn session(&self) -> Option<&Name>
-        ensures { option_copied result ≡ asking_session self.now.op }
+        ensures { option_copied result ≡ session_of self.now.op }
     {
-        match self.op() {
-            Op::Open { session } => Some(session),
-            Op::Close { session } => Some(session),
-            Op::Write { session, .. } => Some(session),
-            Op::Read { session, .. } => Some(session),
-            Op::Look { session, .. } => Some(session),
-            Op::Root { session, .. } => Some(session),
-            Op::Drop { .. } => None,
-            Op::Forget { session, .. } => Some(session),
-            Op::Name { session, .. } => Some(session),
-            Op::Delete => None,
-            Op::Stat => None,
-        }
+        self.op().session()
     }
 
     /// The key that it names. None where it names none.
     pub fn key(&self) -> Option<&Key>
         ensures { option_copied result ≡ named_key self.now.op }
     {
-        match self.op() {
-            Op::Open { .. } => None,
-            Op::Close { .. } => None,
-            Op::Write { .. } => None,
-            Op::Read { .. } => None,
-            Op::Look { key, .. } => Some(key),
-            Op::Root { key, .. } => Some(key),
-            Op::Drop { key } => Some(key),
-            Op::Forget { .. } => None,
-            Op::Name { .. } => None,
-            Op::Delete => None,
-            Op::Stat => None,
-        }
+        self.op().key()
     }
 
     /// The address of the block that it writes or reads. None where it does neither, or where a

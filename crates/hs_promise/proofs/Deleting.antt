@@ -36,7 +36,7 @@ told = record { who = who.Line 1; moment = 3; deed = deed.Entered 0; reply = rep
     ∷ record { who = who.Store; moment = 9; deed = deed.Nothing; reply = reply.Done 2 } ∷ []
 
 abbrev deleted : Ran
-deleted = record { ending = status.Done; line = 1; journal = told; refused = []; course = []; old = nothing; new = nothing }
+deleted = record { ending = status.Done; line = 1; journal = told; kept = []; stored = []; refused = []; course = []; old = nothing; new = nothing }
 
 -- ---- which of its entries is a sweep, and which tells that a run is done
 

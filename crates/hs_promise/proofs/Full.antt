@@ -68,6 +68,8 @@ ran = record {
   ending = status.OpsFull;
   line = 2;
   journal = (last_core script story).journal;
+  kept = [];
+  stored = [];
   refused = (last_core script story).refused;
   course = course_of script story 0;
   old = record nothing { got = Some []; left = Some bytes };
@@ -188,6 +190,7 @@ the_promise_is_kept = record {
   prompt = prompt;
   time = record { later = omega arith; puts = record { more = stamped 6 first_text; put = refl; stamped = all_within } };
   counts = record { disks = λ peer. same _; sink = same 0; source = same 0 };
+  no_load = record { kept = refl; stored = refl };
   cause = (too_many _ refl, refused_entries);
   calm = record { past = λ one past peer. refl; other = λ peer found is. refl };
   ends = ends;
@@ -238,7 +241,7 @@ went = record {
   journal = refl;
   refused = refl;
   course = refl;
-  ends = record { opened = refl; past = λ past. absurd (false≢true past); full = λ full. refl; lost = tt };
+  ends = record { scripted = refl; opened = refl; past = λ past. absurd (false≢true past); full = λ full. refl; lost = tt };
   failed = λ disk. no_rise _;
 }
 

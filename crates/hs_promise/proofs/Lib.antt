@@ -5,5 +5,6 @@ mod Meeting
 mod Rejoining
 mod Stopping
 mod Told
+mod UnscriptedLemmas
 mod Whole
 mod Wording

@@ -68,7 +68,7 @@ went = record {
   journal = refl;
   refused = refl;
   course = refl;
-  ends = record { opened = refl; past = λ past. the_end; full = λ full. absurd (false≢true full); lost = tt };
+  ends = record { scripted = refl; opened = refl; past = λ past. the_end; full = λ full. absurd (false≢true full); lost = tt };
   failed = λ disk. no_rise _;
 }
 

@@ -91,7 +91,7 @@ nothing = record { moment = 0; disks = []; got = None; left = None; disk_faults 
 
 -- the run that goes so
 abbrev pub ran : Ran
-ran = record { ending = status.Done; line = 14; journal = (last_core script story).journal; refused = []; course = course_of script story 0; old = nothing; new = nothing }
+ran = record { ending = status.Done; line = 14; journal = (last_core script story).journal; kept = []; stored = []; refused = []; course = course_of script story 0; old = nothing; new = nothing }
 
 -- ---- what is computed of it
 

@@ -70,6 +70,8 @@ ran = record {
   ending = status.Done;
   line = 2;
   journal = (last_core script story).journal;
+  kept = [];
+  stored = [];
   refused = [];
   course = course_of script story 0;
   old = record nothing { got = Some []; left = Some bytes };
@@ -179,6 +181,7 @@ the_promise_is_kept = record {
   prompt = prompt;
   time = record { later = omega arith; puts = record { more = stamped 6 first_text ++ stamped 7 second_text; put = refl; stamped = all_within } };
   counts = record { disks = λ peer. same _; sink = same 0; source = same 0 };
+  no_load = record { kept = refl; stored = refl };
   cause = refl;
   calm = record { past = λ one past peer. refl; other = λ peer found is. refl };
   ends = ends;
@@ -229,7 +232,7 @@ went = record {
   journal = refl;
   refused = refl;
   course = refl;
-  ends = record { opened = refl; past = λ past. refl; full = λ full. absurd (false≢true full); lost = tt };
+  ends = record { scripted = refl; opened = refl; past = λ past. refl; full = λ full. absurd (false≢true full); lost = tt };
   failed = λ disk. no_rise _;
 }
 

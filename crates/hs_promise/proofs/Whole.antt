@@ -112,6 +112,7 @@ the_promise_is_kept = record {
   prompt = prompt;
   time = record { later = same 0; puts = record { more = []; put = refl; stamped = All-nil _ } };
   counts = record { disks = λ peer. same _; sink = same 0; source = same 0 };
+  no_load = record { kept = refl; stored = refl };
   cause = refl;
   calm = record { past = λ one past peer. refl; other = λ peer found is. refl };
   ends = tt;

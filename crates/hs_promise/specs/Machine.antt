@@ -21,8 +21,9 @@ use Rattle.hs_events.specs.Whole.{open_whole}
 
 -- ---- the end
 
--- the core ended with the fault that the status tells, and did not where the last line was gone past. A failed sink and want of memory come before either, while the same line is printed
+-- a run of a script ends so; the core ended with the fault that the status tells, and did not where the last line was gone past. A failed sink and want of memory come before either, while the same line is printed
 pub record EndsAs (ending : Ending) (ended : Option CoreFault) : Type 0 where
+  pub scripted : ending.unscripted ≡ false
   pub opened : ending.closed ≡ false
   pub past : ending.past ≡ true → ended ≡ None
   pub full : ending.full ≡ true → ended ≡ Some fault.OpsFull
@@ -61,6 +62,7 @@ pub record IsOfDisks (S : Script) (r : Ran) (story : Story) : Type 0 where
 
 -- no core was opened, since a disk is of another store or memory was wanting: nothing was answered, read or put
 pub record NeverOpened (r : Ran) : Type 0 where
+  pub scripted : (ending_of r.ending).unscripted ≡ false
   pub cause : ((ending_of r.ending).closed ≡ true) ⊎ ((ending_of r.ending).wanting ≡ true)
   pub journal : r.journal ≡ []
   pub refused : r.refused ≡ []

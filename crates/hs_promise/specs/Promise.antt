@@ -10,7 +10,7 @@ use Rattle.hs_promise.specs.Ends.{Ends}
 use Rattle.hs_promise.specs.Entry.{IsSoundAtEntry, MayStop, entry_store}
 use Rattle.hs_promise.specs.Kept.{KeepsAlong}
 use Rattle.hs_promise.specs.Lost.{NotesCause}
-use Rattle.hs_promise.specs.Run.{Ran, Script}
+use Rattle.hs_promise.specs.Run.{IsNoLoad, Ran, Script}
 use Rattle.hs_promise.specs.Shapes.{ShapeCause}
 use Rattle.hs_promise.specs.Stops.{Stops}
 use Rattle.hs_promise.specs.declared.status.Status.TheVariants as status
@@ -45,6 +45,7 @@ pub record Promise (tells : Type 0) (S : Script) (r : Ran) : Type 0 where
   pub prompt : (line : ℕ) → HasPrompt S r line
   pub time : KeepsTime r.old r.new
   pub counts : CountsStand r.old r.new
+  pub no_load : IsNoLoad r
   pub cause : Cause S r r.ending
   pub calm : EndsCalm S r
   pub ends : IfSome r.old.left (λ script. IfSome r.new.left (Ends r script))
@@ -55,6 +56,7 @@ pub record IsUsage (r : Ran) : Type 0 where
   pub ending : r.ending ≡ status.Usage
   pub same : r.new ≡ r.old
   pub journal : r.journal ≡ []
+  pub no_load : IsNoLoad r
   pub refused : r.refused ≡ []
   pub course : r.course ≡ []
   pub line : r.line ≡ 0

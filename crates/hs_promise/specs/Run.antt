@@ -1,5 +1,5 @@
 -- A run of a script as it is seen from outside, and what it is set up with.
-use Rattle.std.specs.Prelude.{List, Option, ℕ}
+use Rattle.std.specs.Prelude.{List, Option, [], ℕ, ◌≡◌}
 use Rattle.hs_fold.specs.Shards.Setting.{Setting}
 use Rattle.hs_journal.specs.declared.entry.JournalEntry.{JournalEntry}
 use Rattle.hs_limits.specs.declared.address.Address.{Address}
@@ -8,6 +8,8 @@ use Rattle.hs_model.specs.declared.course.CourseItem.{CourseItem}
 use Rattle.hs_script.specs.Reading.{commands}
 use Rattle.hs_ports.specs.Objects.{Objects, RoseBy, faults_at}
 use Rattle.hs_script.specs.CommandLine.{Wanted}
+use Rattle.hs_promise.specs.declared.load.Kept.{Kept}
+use Rattle.hs_promise.specs.declared.load.Stored.{Stored}
 use Rattle.hs_promise.specs.declared.outcome.Outcome.{Outcome}
 use Rattle.hs_promise.specs.declared.status.Status.{Status}
 
@@ -21,6 +23,8 @@ pub record Ran : Type 0 where
   pub ending : Status
   pub line : ℕ
   pub journal : List JournalEntry
+  pub kept : List Kept
+  pub stored : List Stored
   pub refused : List JournalEntry
   pub course : List CourseItem
   pub old : Objects
@@ -28,7 +32,12 @@ pub record Ran : Type 0 where
 
 -- the run of an outcome, between these objects at entry and at the end
 abbrev pub ran_of : Outcome → Objects → Objects → Ran
-ran_of o old new = record { ending = o.status; line = o.line; journal = o.journal.entries; refused = o.refused; course = o.course; old = old; new = new }
+ran_of o old new = record { ending = o.status; line = o.line; journal = o.journal.entries; kept = o.kept; stored = o.stored; refused = o.refused; course = o.course; old = old; new = new }
+
+-- what a load alone hands back: no answers of its sessions, and no work of its peers
+pub record IsNoLoad (r : Ran) : Type 0 where
+  pub kept : r.kept ≡ []
+  pub stored : r.stored ≡ []
 
 -- the count of a peer's disk rose in a run by at least so much
 abbrev pub DiskRose : Ran → ℕ → ℕ → Type 0

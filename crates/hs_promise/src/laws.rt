@@ -6,6 +6,7 @@ ghost use Rattle.hs_desk.specs.declared.fault.CoreFault.{CoreFault};
 ghost use Rattle.hs_desk.specs.declared.fault.CoreFault.TheVariants as fault;
 ghost use Rattle.hs_ports.specs.Fault.{HasRisen};
 ghost use Rattle.hs_side.specs.declared.header.Header.{Header};
+ghost use Rattle.hs_promise.specs.declared.status.Status.{Status};
 ghost use Rattle.hs_promise.specs.declared.status.Status.TheVariants as status;
 ghost use Rattle.hs_promise.specs.Causes.{Cause};
 ghost use Rattle.hs_promise.specs.Ending.{ending_of};
@@ -16,7 +17,7 @@ ghost use Rattle.hs_events.specs.declared.due.Due.{Due};
 ghost use Rattle.hs_events.specs.Due.{Events};
 ghost use Rattle.hs_ports.specs.Objects.{Objects, KeepsTime};
 ghost use Rattle.hs_script.specs.Scripts.{input_limit};
-ghost use Rattle.hs_promise.specs.Machine.{EndsAs};
+ghost use Rattle.hs_promise.specs.Machine.{EndsAs, NeverOpened};
 ghost use Rattle.hs_promise.specs.Run.{Ran, Script};
 
 /// Where a run is done all lines were begun, and nothing is left of the script.
@@ -54,4 +55,14 @@ pub fn the_end_of_the_core_is_told()
     ensures full { (ended : Option CoreFault) → EndsAs (ending_of status.OpsFull) ended → ended ≡ Some fault.OpsFull }
     ensures lost { (shard : ℕ) (ended : Option CoreFault) → EndsAs (ending_of (status.ShardLost shard)) ended → ended ≡ Some (fault.ShardLost shard) }
     ensures closed { (peer : ℕ) (found : Header) (ended : Option CoreFault) → EndsAs (ending_of (status.WrongShape peer found)) ended → ⊥ }
+{}
+
+/// A run of a script never ends as only a command ends that runs none: such an end has no cause there,
+/// comes behind no line, and is not the machine's.
+#[tactic(auto, using(crate::proofs::UnscriptedLemmas::no_cause, crate::proofs::UnscriptedLemmas::no_end))]
+pub fn a_script_ends_as_no_other_command()
+    ensures cause { (S : Script) (r : Ran) (st : Status) → (ending_of st).unscripted ≡ true → Cause S r st → ⊥ }
+    ensures ended { (st : Status) (lines : List (List ℕ)) (line : ℕ) (taken left : List ℕ) → (ending_of st).unscripted ≡ true → HasEnded st lines line taken left → ⊥ }
+    ensures machine { (st : Status) (ended : Option CoreFault) → (ending_of st).unscripted ≡ true → EndsAs (ending_of st) ended → ⊥ }
+    ensures never { (r : Ran) → (ending_of r.ending).unscripted ≡ true → NeverOpened r → ⊥ }
 {}

@@ -1,5 +1,5 @@
 //! What a run hands back.
-use crate::Status;
+use crate::{Kept, Status, Stored};
 use hs_journal::{Journal, JournalEntry};
 use hs_limits::ListOf;
 use hs_model::CourseItem;
@@ -10,6 +10,10 @@ pub struct Outcome {
     pub status: Status,
     /// What was answered, in order. Empty where the words are a faulty command line.
     pub journal: Journal,
+    /// What each session of a load was answered. Empty but in a load.
+    pub kept: ListOf<Kept>,
+    /// What each peer of a load did. Empty but in a load.
+    pub stored: ListOf<Stored>,
     /// The entries of the event that `OpsFull` refused, else none.
     pub refused: ListOf<JournalEntry>,
     /// Which lines were begun, when peers became good or were lost, and how far each shard's list took

@@ -105,7 +105,7 @@ module _ (start : Start) (core : Core) where
 
   -- the run that has told just this
   abbrev ran : Ran
-  ran = record { ending = status.Done; line = 0; journal = told_of core; refused = []; course = []; old = no_objects; new = no_objects }
+  ran = record { ending = status.Done; line = 0; journal = told_of core; kept = []; stored = []; refused = []; course = []; old = no_objects; new = no_objects }
 
   abbrev Stands : JournalEntry → Type 0
   Stands e = StandsFor (mute start.commands) start.set.shape start.set.limits last e

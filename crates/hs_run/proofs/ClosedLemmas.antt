@@ -60,6 +60,12 @@ closed_ends tells set old new (cluster.ShardLost shard) h = absurd h
 closed_ends tells set old new cluster.OpsFull h = absurd h
 closed_ends tells set old new cluster.NoMemory h = inr refl
 
+closed_scripted : (tells : Type 0) (set : Setting) (old new : List DiskSeen) (fault : ClusterFault) → IsClosed tells set.shape old new fault → (ending_of (status_of (Err (of_cluster fault)) 0)).unscripted ≡ false
+closed_scripted tells set old new (cluster.WrongShape peer found) h = refl
+closed_scripted tells set old new (cluster.ShardLost shard) h = absurd h
+closed_scripted tells set old new cluster.OpsFull h = absurd h
+closed_scripted tells set old new cluster.NoMemory h = refl
+
 closed_past : (tells : Type 0) (set : Setting) (old new : List DiskSeen) (fault : ClusterFault) → IsClosed tells set.shape old new fault → (ending_of (status_of (Err (of_cluster fault)) 0)).past ≡ true → ⊥
 closed_past tells set old new (cluster.WrongShape peer found) h past = false≢true past
 closed_past tells set old new (cluster.ShardLost shard) h past = h
@@ -215,7 +221,7 @@ module _ (tells : Type 0) (set : Setting) (span : Taking) (fault : ClusterFault)
   S = record { set = set; commands = asked }
 
   never_opened : NeverOpened r
-  never_opened = record { cause = closed_ends tells set span.old span.new fault closed; journal = refl; refused = refl; course = refl; line = refl; unread = unread; unput = unput }
+  never_opened = record { scripted = closed_scripted tells set span.old span.new fault closed; cause = closed_ends tells set span.old span.new fault closed; journal = refl; refused = refl; course = refl; line = refl; unread = unread; unput = unput }
 
   closed_prints : PrintsText S r
   closed_prints = record {
@@ -292,6 +298,7 @@ module _ (tells : Type 0) (set : Setting) (span : Taking) (fault : ClusterFault)
     prints = closed_prints;
     time = closed_time;
     counts = record { disks = falls_is old new span.old span.new was is falls; sink = sink; source = source };
+    no_load = record { kept = refl; stored = refl };
     causes = closed_causes tells set span.old span.new fault old new closed;
     within = closed_within tells set span.old span.new fault closed;
     calm = record {

@@ -75,15 +75,15 @@ chosen_read (Some told) read said = said
 -- ---- by how it stopped
 
 plain_between : (result : Result ⊤ Stop) (line : ℕ) → IsBetween result → IsPlain (ending_of (status_of result line))
-plain_between (Ok x) line h = record { opened = refl; empty = refl; none = refl }
+plain_between (Ok x) line h = record { scripted = refl; opened = refl; empty = refl; none = refl }
 plain_between (Err (stop.WrongShape peer found)) line h = absurd h
 plain_between (Err (stop.ShardLost shard)) line h = absurd h
-plain_between (Err stop.BadLine) line h = record { opened = refl; empty = refl; none = refl }
-plain_between (Err stop.ReadFault) line h = record { opened = refl; empty = refl; none = refl }
+plain_between (Err stop.BadLine) line h = record { scripted = refl; opened = refl; empty = refl; none = refl }
+plain_between (Err stop.ReadFault) line h = record { scripted = refl; opened = refl; empty = refl; none = refl }
 plain_between (Err stop.WriteFault) line h = absurd h
-plain_between (Err stop.NoMemory) line h = record { opened = refl; empty = refl; none = refl }
+plain_between (Err stop.NoMemory) line h = record { scripted = refl; opened = refl; empty = refl; none = refl }
 plain_between (Err stop.OpsFull) line h = absurd h
-plain_between (Err stop.InputFull) line h = record { opened = refl; empty = refl; none = refl }
+plain_between (Err stop.InputFull) line h = record { scripted = refl; opened = refl; empty = refl; none = refl }
 
 between_write : (result : Result ⊤ Stop) (line : ℕ) → IsBetween result → status_of result line ≡ status.WriteFault → ⊥
 between_write (Ok x) line h is = cc

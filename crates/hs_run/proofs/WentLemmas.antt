@@ -47,12 +47,14 @@ ArePaid b lines new = (disk : ℕ) → RoseBy (failures false disk (first_core b
 
 -- of a run that is gone past, whether or not its last line is
 pub record IsPlain (ending : Ending) : Type 0 where
+  pub scripted : ending.unscripted ≡ false
   pub opened : ending.closed ≡ false
   pub empty : ending.full ≡ false
   pub none : ending.lost ≡ None
 
 plain_ends : (ending : Ending) (ended : Option CoreFault) → IsPlain ending → (ending.past ≡ true → ended ≡ None) → EndsAs ending ended
 plain_ends ending ended plain past = record {
+  scripted = plain.scripted;
   opened = plain.opened;
   past = past;
   full = λ full. absurd (false≢true (sym plain.empty ∙ full));
@@ -77,8 +79,8 @@ put_ends (stop.WrongShape peer found) ended line only = absurd only
 put_ends (stop.ShardLost shard) ended line only = absurd only
 put_ends stop.BadLine ended line only = absurd only
 put_ends stop.ReadFault ended line only = absurd only
-put_ends stop.WriteFault ended line only = plain_ends (ending_of (status_of (Err stop.WriteFault) line)) ended (record { opened = refl; empty = refl; none = refl }) (λ past. absurd (false≢true past))
-put_ends stop.NoMemory ended line only = plain_ends (ending_of (status_of (Err stop.NoMemory) line)) ended (record { opened = refl; empty = refl; none = refl }) (λ past. absurd (false≢true past))
+put_ends stop.WriteFault ended line only = plain_ends (ending_of (status_of (Err stop.WriteFault) line)) ended (record { scripted = refl; opened = refl; empty = refl; none = refl }) (λ past. absurd (false≢true past))
+put_ends stop.NoMemory ended line only = plain_ends (ending_of (status_of (Err stop.NoMemory) line)) ended (record { scripted = refl; opened = refl; empty = refl; none = refl }) (λ past. absurd (false≢true past))
 put_ends stop.OpsFull ended line only = absurd only
 put_ends stop.InputFull ended line only = absurd only
 
@@ -86,12 +88,14 @@ did_ends : (did : Result ⊤ ClusterFault) (y : ⊤) (ended : Option CoreFault) 
 did_ends (Ok x) y ended line told cut = absurd (true≢false cut)
 did_ends (Err (cluster.WrongShape peer found)) y ended line told cut = absurd (no_shape ended peer found (told refl))
 did_ends (Err (cluster.ShardLost shard)) y ended line told cut = record {
+  scripted = refl;
   opened = refl;
   past = λ past. absurd (false≢true past);
   full = λ full. absurd (false≢true full);
   lost = shard_ended ended shard (told refl);
 }
 did_ends (Err cluster.OpsFull) y ended line told cut = record {
+  scripted = refl;
   opened = refl;
   past = λ past. absurd (false≢true past);
   full = λ full. full_ended ended (told refl);

@@ -1,5 +1,5 @@
 -- A run over what a cluster opened with.
-use Rattle.std.proofs.Common.{◌≡◌, ◌∙◌, ap, sym, subst, ℕ, ◌*◌, ◌<◌, ◌≤◌, true, List, Option, Some, None, Result, refl, arith, length, map}
+use Rattle.std.proofs.Common.{◌≡◌, ◌∙◌, ap, sym, subst, ℕ, ◌*◌, ◌<◌, ◌≤◌, true, List, [], Option, Some, None, Result, refl, arith, length, map}
 use Rattle.std.proofs.lemmas.List.{length-map}
 use Rattle.std.specs.Prelude.{IfSome, IsSome, is_ok, ⊤}
 use Rattle.hs_cluster.specs.declared.fault.ClusterFault.{ClusterFault}
@@ -57,10 +57,10 @@ seen_count {A} {B} {C} {D} f g disks = length-map (map f disks) (λ (d : B × C)
 -- ---- what is handed back
 
 -- the run of an outcome is the one that ended so
-pub ran_same : (o : Outcome) (ending : Status) (line : ℕ) (cluster : Option Running) (old new : Objects) → o.status ≡ ending → o.line ≡ line → o.journal.entries ≡ journal_in cluster → o.refused ≡ refused_in ending cluster → o.course ≡ course_in cluster
-    → ran_of o old new ≡ ran_at ending line cluster old new
-ran_same o ending line cluster old new is number journal refused course =
-    λ i. record { ending = is i; line = number i; journal = journal i; refused = refused i; course = course i; old = old; new = new }
+pub ran_same : (o : Outcome) (ending : Status) (line : ℕ) (cluster : Option Running) (old new : Objects) → o.status ≡ ending → o.line ≡ line → o.journal.entries ≡ journal_in cluster → o.kept ≡ [] → o.stored ≡ []
+    → o.refused ≡ refused_in ending cluster → o.course ≡ course_in cluster → ran_of o old new ≡ ran_at ending line cluster old new
+ran_same o ending line cluster old new is number journal kept stored refused course =
+    λ i. record { ending = is i; line = number i; journal = journal i; kept = kept i; stored = stored i; refused = refused i; course = course i; old = old; new = new }
 
 -- a source that is told is told at the end
 left_told : (script left : Option (List ℕ)) (result : Result ⊤ Stop) (line : ℕ) → IfSome script (λ told. EndsBy told left result line) → IsSome script → IsSome left
@@ -145,6 +145,7 @@ module _ (tells : Type 0) (set : Setting) (span : Span) (running : Running) (did
             sink = cause.sink_later;
             source = cause.source_later;
           };
+          no_load = record { kept = refl; stored = refl };
           causes = causes_run part.result part.new.line part.new.cluster old new cause no_shape;
           within = λ peer found is. absurd (no_shape peer found is);
           calm = record { past = m.calm; other = λ peer found is. absurd (no_shape peer found is) };

@@ -73,7 +73,7 @@ pub record Sight : Type 0 where
   pub got : Option (List (ℕ × ℕ))
 
 abbrev pub ran_by : Objects → Option (List (ℕ × ℕ)) → Ran
-ran_by old got = record { ending = status.Done; line = 0; journal = []; refused = []; course = []; old = old; new = record old { got = got } }
+ran_by old got = record { ending = status.Done; line = 0; journal = []; kept = []; stored = []; refused = []; course = []; old = old; new = record old { got = got } }
 
 -- the first of some events is no later than a moment
 abbrev pub IsFirstBy : ℕ → Events → Type 0

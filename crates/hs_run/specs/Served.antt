@@ -11,7 +11,7 @@ use Rattle.hs_promise.specs.declared.status.Status.TheVariants as status
 use Rattle.hs_promise.specs.Ending.{ending_of}
 use Rattle.hs_promise.specs.Ends.{Ends}
 use Rattle.hs_promise.specs.Promise.{AreOfScript}
-use Rattle.hs_promise.specs.Run.{Ran, Script}
+use Rattle.hs_promise.specs.Run.{IsNoLoad, Ran, Script}
 use Rattle.hs_promise.specs.Shapes.{ShapeCause}
 use Rattle.hs_script.specs.Text.{text}
 use Rattle.hs_side.specs.declared.header.Header.{Header}
@@ -40,6 +40,7 @@ pub record Served (tells : Type 0) (S : Script) (r : Ran) : Type 0 where
   pub prints : PrintsText S r
   pub time : KeepsTime r.old r.new
   pub counts : CountsStand r.old r.new
+  pub no_load : IsNoLoad r
   pub causes : HasCauses r
   -- a disk of another store is that of a peer
   pub within : (peer : ℕ) (found : Header) → r.ending ≡ status.WrongShape peer found → peer < peer_count S.set.shape

@@ -14,12 +14,16 @@ pub(crate) fn closed(alloc: Global, status: Status, limit: u32) -> Outcome
     ensures status { result.status ≡ status }
     ensures line { result.line ≡ 0 }
     ensures journal { result.journal.entries ≡ [] }
+    ensures kept { result.kept ≡ [] }
+    ensures stored { result.stored ≡ [] }
     ensures refused { result.refused ≡ [] }
     ensures course { result.course ≡ [] }
 {
     Outcome {
         status,
         journal: Journal::new(alloc, limit),
+        kept: ListOf::new(alloc),
+        stored: ListOf::new(alloc),
         refused: ListOf::new(alloc),
         course: ListOf::new(alloc),
         line: 0,
@@ -32,23 +36,28 @@ pub(crate) fn outcome_of(alloc: Global, status: Status, line: u64, cluster: Clus
     ensures status { result.status ≡ status }
     ensures line { result.line ≡ line }
     ensures journal { result.journal.entries ≡ cluster.core.journal }
+    ensures kept { result.kept ≡ [] }
+    ensures stored { result.stored ≡ [] }
     ensures refused { result.refused ≡ refused_in status (Some cluster) }
     ensures course { result.course ≡ cluster.course }
 {
     let (core, course) = cluster.into_told();
     let (journal, refused) = core.into_told();
+    let refused = refused_by(alloc, &status, refused);
     Outcome {
         status,
         journal,
-        refused: refused_by(alloc, status, refused),
+        kept: ListOf::new(alloc),
+        stored: ListOf::new(alloc),
+        refused,
         course,
         line,
     }
 }
 
 /// The entries that an event would have made, where the journal had no room for them.
-fn refused_by(alloc: Global, status: Status, refused: ListOf<JournalEntry>) -> ListOf<JournalEntry>
-    ensures { result ≡ (if (ending_of status).full then refused else []) }
+fn refused_by(alloc: Global, status: &Status, refused: ListOf<JournalEntry>) -> ListOf<JournalEntry>
+    ensures { result ≡ (if (ending_of status.now).full then refused else []) }
 {
     match status {
         Status::OpsFull => refused,
@@ -60,6 +69,13 @@ fn refused_by(alloc: Global, status: Status, refused: ListOf<JournalEntry>) -> L
         | Status::WriteFault
         | Status::NoMemory
         | Status::WrongShape { .. }
-        | Status::InputFull => ListOf::new(alloc),
+        | Status::Mismatch { .. }
+        | Status::Torn { .. }
+        | Status::NotEmpty { .. }
+        | Status::InputFull
+        | Status::Refused { .. }
+        | Status::NotATree { .. }
+        | Status::NoSource { .. }
+        | Status::CopyFull { .. } => ListOf::new(alloc),
     }
 }

@@ -7,3 +7,9 @@ mod HandleLemmas
 mod TextLemmas
 mod ReadingExamples
 mod TextExamples
+mod CommandLineExamples
+mod DrawnLemmas
+mod SummaryLemmas
+mod PlanExamples
+mod SummaryExamples
+mod LoadExamples

@@ -8,3 +8,6 @@ pub mod Answer
 pub use Rattle.hex.specs.Hex
 pub mod CommandLine
 pub mod Scripts
+pub mod Plans
+pub mod Summary
+pub mod Loads

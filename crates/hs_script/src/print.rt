@@ -2,8 +2,9 @@
 ghost use Rattle.std.specs.Prelude.{◌≡◌, ◌++◌, IsTrue, OnOk, OnErr, IsOkUnless};
 ghost use Rattle.std.specs.Fmt.{decimal};
 ghost use Rattle.hs_journal.specs.declared.entry.Who.{Who};
-ghost use Rattle.hs_script.specs.Replies.{is_refusal, is_short};
-ghost use Rattle.hs_script.specs.Text.{entry_text, reply_text, shard_text};
+ghost use Rattle.hs_model.specs.Replies.{is_refusal};
+ghost use Rattle.hs_script.specs.Replies.{is_short};
+ghost use Rattle.hs_script.specs.Text.{entry_text, refusal_text, reply_text, shard_text};
 
 use crate::ScriptFault;
 use crate::data::print_read;
@@ -100,15 +101,13 @@ fn put_reply(who: Who, reply: &Reply, out: &mut Vec<u8>) -> io::Result<()>
         Reply::Done { epoch } => write!(out, "done e{epoch}"),
         Reply::Down { peer, .. } => write!(out, "down {peer}"),
         Reply::Visits { epoch, count } => write!(out, "visits e{epoch} {count}"),
-        _ => put_refusal(reply, out),
+        _ => print_refusal(reply, out),
     }
 }
 
-/// Puts a refusal at the end of `out`.
-fn put_refusal(reply: &Reply, out: &mut Vec<u8>) -> io::Result<()>
-    requires { IsTrue (is_refusal reply.now) }
-    ensures { OnOk result ((who : Who) →
-        out.new.items ≡ out.old.items ++ reply_text who reply.now) }
+/// Puts why a command was refused at the end of `out`, and nothing where the reply is no refusal.
+pub fn print_refusal(reply: &Reply, out: &mut Vec<u8>) -> io::Result<()>
+    ensures { OnOk result (out.new.items ≡ out.old.items ++ refusal_text reply.now) }
 {
     match reply {
         Reply::NoSession { session } => put_named("no session ", session.as_slice(), out),
@@ -132,7 +131,7 @@ fn put_refusal(reply: &Reply, out: &mut Vec<u8>) -> io::Result<()>
         Reply::NotDown { peer } => write!(out, "no notdown {peer}"),
         Reply::NoMessage { message } => write!(out, "no message {message}"),
         Reply::PoolFull { limit } => write!(out, "no poolfull {limit}"),
-        _ => unreachable!(),
+        _ => Ok(()),
     }
 }
 

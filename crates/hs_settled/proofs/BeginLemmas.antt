@@ -27,7 +27,8 @@ use Rattle.hs_ops.specs.declared.step.OpStep.{OpStep}
 use Rattle.hs_ops.specs.declared.step.OpStep.TheVariants as step
 use Rattle.hs_ops.specs.Going.{begin, go, judged_in}
 use Rattle.hs_ops.specs.Operations.{after_step, go_step, new_operation}
-use Rattle.hs_ops.specs.Speaking.{judging_shard, named_key, wanted_address}
+use Rattle.hs_model.specs.Op.{named_key}
+use Rattle.hs_ops.specs.Speaking.{judging_shard, wanted_address}
 use Rattle.hs_ops.specs.Views.{OpView}
 
 module _ (name : List ℕ → Address) (line : ℕ) (o : Op) (c : Core) (g : IsGood name NoLine NoShard c) (new : operation_of line c ≡ None) (counted : 1 ≤ line) (called : IsCalled name c.sessions o) where

@@ -36,6 +36,9 @@ module _ (S : Script) (r : Ran) (blamed : AreBlamed S r) where
       | inr h ↦ not_both (sym h ∙ ap (λ st. (ending_of st).wanting) e ∙ wanting)
     ]
 
+    never_scripted : (st : Status) → r.ending ≡ st → (ending_of st).unscripted ≡ true → ⊥
+    never_scripted st e other = not_both (sym (ap (λ st. (ending_of st).unscripted) e ∙ other) ∙ never.scripted)
+
     pub never_cause : (st : Status) → r.ending ≡ st → Cause S r st
     never_cause status.Done e = never.refused
     never_cause status.Usage e = never.refused
@@ -47,6 +50,13 @@ module _ (S : Script) (r : Ran) (blamed : AreBlamed S r) where
     never_cause (status.WrongShape peer found) e = (never.refused, never.journal, never.course, blamed.shape peer found e)
     never_cause status.OpsFull e = absurd (opens status.OpsFull e refl refl)
     never_cause status.InputFull e = never.refused
+    never_cause (status.Mismatch session place told kept) e = absurd (never_scripted (status.Mismatch session place told kept) e refl)
+    never_cause (status.Torn peer place told kept) e = absurd (never_scripted (status.Torn peer place told kept) e refl)
+    never_cause (status.NotEmpty blocks roots) e = absurd (never_scripted (status.NotEmpty blocks roots) e refl)
+    never_cause (status.Refused reply) e = absurd (never_scripted (status.Refused reply) e refl)
+    never_cause (status.NotATree address) e = absurd (never_scripted (status.NotATree address) e refl)
+    never_cause (status.NoSource peer) e = absurd (never_scripted (status.NoSource peer) e refl)
+    never_cause (status.CopyFull blocks) e = absurd (never_scripted (status.CopyFull blocks) e refl)
 
   -- ---- it went as a story says
 
@@ -57,6 +67,9 @@ module _ (S : Script) (r : Ran) (blamed : AreBlamed S r) where
 
     opened : (st : Status) → r.ending ≡ st → (ending_of st).closed ≡ true → ⊥
     opened st e closed = not_both (sym (ap (λ st. (ending_of st).closed) e ∙ closed) ∙ went.ends.opened)
+
+    went_scripted : (st : Status) → r.ending ≡ st → (ending_of st).unscripted ≡ true → ⊥
+    went_scripted st e other = not_both (sym (ap (λ st. (ending_of st).unscripted) e ∙ other) ∙ went.ends.scripted)
 
     too_long : r.ending ≡ status.OpsFull → S.set.limits.ops < length (r.journal ++ r.refused)
     too_long e =
@@ -80,6 +93,13 @@ module _ (S : Script) (r : Ran) (blamed : AreBlamed S r) where
     went_cause (status.WrongShape peer found) e = absurd (opened (status.WrongShape peer found) e refl)
     went_cause status.OpsFull e = (too_long e, All-from_recursion (IsEntry S r.line) r.refused (refused_stands S r story went))
     went_cause status.InputFull e = clean status.InputFull e refl
+    went_cause (status.Mismatch session place told kept) e = absurd (went_scripted (status.Mismatch session place told kept) e refl)
+    went_cause (status.Torn peer place told kept) e = absurd (went_scripted (status.Torn peer place told kept) e refl)
+    went_cause (status.NotEmpty blocks roots) e = absurd (went_scripted (status.NotEmpty blocks roots) e refl)
+    went_cause (status.Refused reply) e = absurd (went_scripted (status.Refused reply) e refl)
+    went_cause (status.NotATree address) e = absurd (went_scripted (status.NotATree address) e refl)
+    went_cause (status.NoSource peer) e = absurd (went_scripted (status.NoSource peer) e refl)
+    went_cause (status.CopyFull blocks) e = absurd (went_scripted (status.CopyFull blocks) e refl)
 
 pub cause_is : (S : Script) (r : Ran) (how : Option Story) → S.set.shape.copies ≡ 1 → WentAs S r how → AreBlamed S r → Cause S r r.ending
 cause_is S r None one never blamed = never_cause S r blamed never r.ending refl

@@ -111,6 +111,13 @@ module _ (short : Short) (S : Script) (r : Ran) (script left : List ℕ) (says :
       let all = ended.1 in
       let short = may.short in
       absurd (omega (arith, long, all, short))
+  by_status (status.Mismatch session place told kept) is cause ended = absurd cause
+  by_status (status.Torn peer place told kept) is cause ended = absurd cause
+  by_status (status.NotEmpty blocks roots) is cause ended = absurd cause
+  by_status (status.Refused reply) is cause ended = absurd cause
+  by_status (status.NotATree address) is cause ended = absurd cause
+  by_status (status.NoSource peer) is cause ended = absurd cause
+  by_status (status.CopyFull blocks) is cause ended = absurd cause
 
   pub ends_well : EndsWell S r
   ends_well = by_status r.ending refl its.cause ends.cause

@@ -32,7 +32,8 @@ use Rattle.hs_model.specs.declared.reply.Reply.{Reply}
 use Rattle.hs_ops.specs.declared.step.OpStep.{OpStep}
 use Rattle.hs_ops.specs.declared.step.OpStep.TheVariants as step
 use Rattle.hs_ops.specs.Operations.{Operation, after_step}
-use Rattle.hs_ops.specs.Speaking.{named_key, wanted_address}
+use Rattle.hs_model.specs.Op.{named_key}
+use Rattle.hs_ops.specs.Speaking.{wanted_address}
 use Rattle.hs_ops.specs.Views.{OpView}
 use Rattle.hs_replica.specs.Group.{last_number}
 

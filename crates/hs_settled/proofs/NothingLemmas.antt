@@ -134,6 +134,9 @@ module _ (S : Script) (r : Ran) (story : Story) (went : Went S r story) (shape :
   goes_on : (ending_of r.ending).past ≡ true → ⊥
   goes_on past = over (ap (λ (c : Core). c.ended) (sym opened_is_last) ∙ went.ends.past past)
 
+  scripted : (ending_of r.ending).unscripted ≡ true → ⊥
+  scripted other = not_both (sym other ∙ went.ends.scripted)
+
   refused_if : (st : Status) (b : Bool) → r.ending ≡ st → (ending_of st).full ≡ b → r.refused ≡ (if b then (last_core S story).refused else [])
   refused_if st b e full = went.refused ∙ ap (λ t. if t then (last_core S story).refused else []) (ap (λ st. (ending_of st).full) e ∙ full)
 
@@ -160,6 +163,13 @@ module _ (S : Script) (r : Ran) (story : Story) (went : Went S r story) (shape :
   by_status wrote (status.WrongShape peer found) e = inl (inl (ap (λ st. (ending_of st).closed) e))
   by_status wrote status.OpsFull e = each_noted (refused_if status.OpsFull true e refl)
   by_status wrote status.InputFull e = absurd (goes_on (ap (λ st. (ending_of st).past) e))
+  by_status wrote (status.Mismatch session place told kept) e = absurd (scripted (ap (λ st. (ending_of st).unscripted) e))
+  by_status wrote (status.Torn peer place told kept) e = absurd (scripted (ap (λ st. (ending_of st).unscripted) e))
+  by_status wrote (status.NotEmpty blocks roots) e = absurd (scripted (ap (λ st. (ending_of st).unscripted) e))
+  by_status wrote (status.Refused reply) e = absurd (scripted (ap (λ st. (ending_of st).unscripted) e))
+  by_status wrote (status.NotATree address) e = absurd (scripted (ap (λ st. (ending_of st).unscripted) e))
+  by_status wrote (status.NoSource peer) e = absurd (scripted (ap (λ st. (ending_of st).unscripted) e))
+  by_status wrote (status.CopyFull blocks) e = absurd (scripted (ap (λ st. (ending_of st).unscripted) e))
 
   pub none_good_cause : FailsInOpening r story → NoneGoodCause S r
   none_good_cause wrote = by_status wrote r.ending refl

@@ -219,6 +219,9 @@ module _ (S : Script) (r : Ran) (story : Story) (went : Went S r story) (wrote :
       inr (subst (λ (js : List JournalEntry). length (steps behind (flat front)).journal < length js) (went.journal ∙ ap (λ (c : Core). c.journal) (same_last front es e))
       (subst (λ (c : Core). length c.journal < length r.journal) (steps_append (first_core S.set story.found) story.opening (flat front)) more))
 
+  scripted : (ending_of r.ending).unscripted ≡ true → ⊥
+  scripted other = not_both (sym other ∙ went.ends.scripted)
+
   shut_of : (line : ℕ) → line ≡ r.line → (MayLack r line → ⊥) → (st : Status) → r.ending ≡ st → Shut (ending_of r.ending).past behind story.lines
   shut_of line here lacks status.Done e = past_shut (ap (λ st. (ending_of st).past) e)
   shut_of line here lacks status.Usage e = absurd (not_both (sym (ap (λ st. (ending_of st).closed) e) ∙ went.ends.opened))
@@ -230,6 +233,13 @@ module _ (S : Script) (r : Ran) (story : Story) (went : Went S r story) (wrote :
   shut_of line here lacks (status.WrongShape peer found) e = absurd (not_both (sym (ap (λ st. (ending_of st).closed) e) ∙ went.ends.opened))
   shut_of line here lacks status.OpsFull e = absurd (lacks (here, inr (ap (λ st. (ending_of st).full) e)))
   shut_of line here lacks status.InputFull e = past_shut (ap (λ st. (ending_of st).past) e)
+  shut_of line here lacks (status.Mismatch session place told kept) e = absurd (scripted (ap (λ st. (ending_of st).unscripted) e))
+  shut_of line here lacks (status.Torn peer place told kept) e = absurd (scripted (ap (λ st. (ending_of st).unscripted) e))
+  shut_of line here lacks (status.NotEmpty blocks roots) e = absurd (scripted (ap (λ st. (ending_of st).unscripted) e))
+  shut_of line here lacks (status.Refused reply) e = absurd (scripted (ap (λ st. (ending_of st).unscripted) e))
+  shut_of line here lacks (status.NotATree address) e = absurd (scripted (ap (λ st. (ending_of st).unscripted) e))
+  shut_of line here lacks (status.NoSource peer) e = absurd (scripted (ap (λ st. (ending_of st).unscripted) e))
+  shut_of line here lacks (status.CopyFull blocks) e = absurd (scripted (ap (λ st. (ending_of st).unscripted) e))
 
   prompt_at : (line : ℕ) → 1 ≤ line → HasPrompt S r line
   prompt_at line one low prompt lacks =

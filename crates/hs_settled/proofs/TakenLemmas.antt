@@ -19,7 +19,8 @@ use Rattle.hs_effects.proofs.LookLemmas.{one_or_other}
 use Rattle.hs_effects.proofs.OrderlyLemmas.{asked_alike, committed_orderly, some_is, with_lists}
 use Rattle.hs_entry.specs.declared.entry.Entry.{Entry}
 use Rattle.hs_entry.specs.declared.entry.Entry.TheVariants as kind
-use Rattle.hs_settled.specs.Causes.{HasCause, OwnWaits, SomeWaits, StoresFor, TakesRoomFor, asker_of, written_address}
+use Rattle.hs_settled.specs.Causes.{HasCause, OwnWaits, SomeWaits, StoresFor, TakesRoomFor, asker_of}
+use Rattle.hs_model.specs.Op.{written_address}
 use Rattle.hs_settled.proofs.GoingGoodLemmas.{IsGood, Most, NoLine, NoShard, ViewWaits}
 use Rattle.hs_settled.proofs.StayLemmas.{IsLed, led_by}
 use Rattle.hs_limits.specs.declared.address.Address.{Address}

@@ -17,7 +17,8 @@ use Rattle.hs_effects.specs.Logged.{IsEntryOf, IsOrderly, asked_by}
 use Rattle.hs_effects.proofs.EffectLemmas.{listed_stored}
 use Rattle.hs_effects.proofs.StepLemmas.{head_none, rest_none}
 use Rattle.hs_entry.specs.declared.entry.Entry.{Entry}
-use Rattle.hs_settled.specs.Causes.{HasCause, SomeWaits, StoresFor, TakesRoomFor, asker_of, reads_bytes, written_address}
+use Rattle.hs_settled.specs.Causes.{HasCause, SomeWaits, StoresFor, TakesRoomFor, asker_of, reads_bytes}
+use Rattle.hs_model.specs.Op.{written_address}
 use Rattle.hs_settled.proofs.GoingListLemmas.{IsAt, any_agree, any_at, count_at}
 use Rattle.hs_limits.specs.declared.address.Address.{Address}
 use Rattle.hs_memory.specs.Forget.{named as named_by}

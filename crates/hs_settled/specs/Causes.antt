@@ -13,25 +13,12 @@ use Rattle.hs_entry.specs.declared.entry.Entry.{Entry}
 use Rattle.hs_entry.specs.declared.entry.Entry.TheVariants as kind
 use Rattle.hs_limits.specs.declared.address.Address.{Address}
 use Rattle.hs_memory.specs.Forget.{named}
+use Rattle.hs_model.specs.Op.{written_address}
 use Rattle.hs_model.specs.declared.op.Op.{Op}
 use Rattle.hs_model.specs.declared.op.Op.TheVariants as op
 use Rattle.hs_replica.specs.Kinds.{is_block, is_root}
 
 -- ---- what operations speak of
-
--- the address of the block that an operation writes
-abbrev pub written_address : Op → Option Address
-written_address (op.Open name) = None
-written_address (op.Close name) = None
-written_address (op.Write name payload handles address) = address
-written_address (op.Read name handle) = None
-written_address (op.Look name key) = None
-written_address (op.Root name key handle) = None
-written_address (op.Drop key) = None
-written_address (op.Forget name handle) = None
-written_address (op.Name name handle) = None
-written_address op.Delete = None
-written_address op.Stat = None
 
 -- whether it may have to read a block's bytes: a write compares them with its own
 abbrev pub reads_bytes : Op → Bool

@@ -15,7 +15,7 @@ use Rattle.hs_model.specs.declared.reply.Reply.{Reply}
 use Rattle.hs_model.specs.declared.reply.Reply.TheVariants as reply
 use Rattle.hs_model.specs.declared.store.StoredBlock.{StoredBlock}
 use Rattle.hs_ops.specs.Refusals.{all_open, epochs_end, is_busy, is_running, kept_otherwise, no_more_handles, no_room_for_block, no_room_for_root, not_held, not_kept, not_open, open_already, outdated, refusal_of, refusals_of}
-use Rattle.hs_ops.specs.Speaking.{named_key}
+use Rattle.hs_model.specs.Op.{named_key}
 use Rattle.hs_ops.specs.Views.{OpView, kept_in, now_in, open_in}
 use Rattle.hs_shown.proofs.ShownLemmas.{address_is, kept_differs, kept_none, none_is, not_room, read_now, root_now, session_is, sessions_count, write_now}
 use Rattle.hs_shown.specs.Showing.{Shows}

@@ -17,7 +17,7 @@ use Rattle.hs_model.specs.Store.{Root, Session, Store, epoch_at, held_in, retain
 use Rattle.hs_model.specs.declared.op.Op.{Op}
 use Rattle.hs_model.specs.declared.op.Op.TheVariants as op
 use Rattle.hs_ops.specs.Refusals.{differs}
-use Rattle.hs_ops.specs.Speaking.{named_key}
+use Rattle.hs_model.specs.Op.{named_key}
 use Rattle.hs_ops.specs.Views.{OpView, as_session, kept_in, now_in, open_in}
 use Rattle.hs_roots.specs.declared.root.RootRecord.{RootRecord}
 use Rattle.hs_shown.specs.Showing.{Shows}

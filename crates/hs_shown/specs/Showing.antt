@@ -9,7 +9,8 @@ use Rattle.hs_model.specs.Judge.{pointers_at}
 use Rattle.hs_model.specs.Store.{Session, Store, block_at, blocks_in, retained_at, roots_in, shard_at}
 use Rattle.hs_model.specs.declared.op.Op.{Op}
 use Rattle.hs_model.specs.declared.op.Op.TheVariants as op
-use Rattle.hs_ops.specs.Speaking.{judging_shard, named_key}
+use Rattle.hs_model.specs.Op.{named_key}
+use Rattle.hs_ops.specs.Speaking.{judging_shard}
 use Rattle.hs_ops.specs.Views.{OpView, as_session, kept_in}
 use Rattle.hs_tokens.specs.Seats.{Seats}
 

@@ -39,7 +39,8 @@ use Rattle.hs_model.specs.declared.op.Op.{Op}
 use Rattle.hs_model.specs.declared.op.Op.TheVariants as op
 use Rattle.hs_model.specs.Store.{Store, address_cmp}
 use Rattle.hs_model.proofs.Members.{same_from}
-use Rattle.hs_ops.specs.Speaking.{asked_block, helds, judging_shard, least_epoch, named_key, wanted_address}
+use Rattle.hs_model.specs.Op.{named_key}
+use Rattle.hs_ops.specs.Speaking.{asked_block, helds, judging_shard, least_epoch, wanted_address}
 use Rattle.hs_standing.specs.Rests.{AreStored, IsResting}
 use Rattle.hs_standing.proofs.AskLemmas.{IsSought, IsSoughtByWrite, are_same}
 use Rattle.hs_standing.proofs.EnterLemmas.{delete_waits, lowest_here}

@@ -18,6 +18,13 @@ closed_past status.WriteFault e p = cc e
 closed_past status.NoMemory e p = cc e
 closed_past status.OpsFull e p = cc e
 closed_past status.InputFull e p = cc e
+closed_past (status.Mismatch session place told kept) e p = cc e
+closed_past (status.Torn peer place told kept) e p = cc e
+closed_past (status.NotEmpty blocks roots) e p = cc e
+closed_past (status.Refused reply) e p = cc e
+closed_past (status.NotATree address) e p = cc e
+closed_past (status.NoSource peer) e p = cc p
+closed_past (status.CopyFull blocks) e p = cc e
 
 wanting_past : (st : Status) → (ending_of st).wanting ≡ true → (ending_of st).past ≡ true → ⊥
 wanting_past status.NoMemory e p = cc p
@@ -30,6 +37,13 @@ wanting_past status.ReadFault e p = cc e
 wanting_past status.WriteFault e p = cc e
 wanting_past status.OpsFull e p = cc e
 wanting_past status.InputFull e p = cc e
+wanting_past (status.Mismatch session place told kept) e p = cc e
+wanting_past (status.Torn peer place told kept) e p = cc e
+wanting_past (status.NotEmpty blocks roots) e p = cc e
+wanting_past (status.Refused reply) e p = cc e
+wanting_past (status.NotATree address) e p = cc e
+wanting_past (status.NoSource peer) e p = cc e
+wanting_past (status.CopyFull blocks) e p = cc e
 
 pub never_past : (r : Ran) → NeverOpened r → IsPast r 0 → ⊥
 never_past r never past = elim past [

@@ -191,6 +191,7 @@ module _ (laws : Laws) (tells : Type 0) (S : Script) (r : Ran) (names : GivesAdd
     prompt = laws.prompt S r cluster.how nobody cluster.went in_text;
     time = cluster.served.time;
     counts = cluster.served.counts;
+    no_load = cluster.served.no_load;
     cause = cause;
     calm = cluster.served.calm;
     good = good_by cluster.how cluster.went;

@@ -13,7 +13,7 @@ use Rattle.hs_promise.specs.Ends.{Ends}
 use Rattle.hs_promise.specs.Entry.{IsSoundAtEntry, MayStop, entry_store, is_aside}
 use Rattle.hs_promise.specs.Lost.{NoneGoodCause, NotesCause, NotesEnd}
 use Rattle.hs_promise.specs.Promise.{AreOfScript, Clauses, IsUsage}
-use Rattle.hs_promise.specs.Run.{DiskRose, Ran, Script, script_of}
+use Rattle.hs_promise.specs.Run.{DiskRose, IsNoLoad, Ran, Script, script_of}
 use Rattle.hs_promise.specs.Shapes.{ShapeCause}
 use Rattle.hs_promise.specs.Stops.{Stops}
 use Rattle.hs_promise.specs.Untold.{IsGoodUntold}
@@ -41,6 +41,7 @@ pub record Promised (tells : Type 0) (S : Script) (r : Ran) : Type 0 where
   pub prompt : (line : ℕ) → HasPrompt S r line
   pub time : KeepsTime r.old r.new
   pub counts : CountsStand r.old r.new
+  pub no_load : IsNoLoad r
   pub cause : Cause S r r.ending
   pub calm : EndsCalm S r
   pub good : IsGoodUntold S r

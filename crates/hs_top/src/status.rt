@@ -1,8 +1,11 @@
 //! What the program says of how a run ended: its exit status, and the line on standard error.
-ghost use Rattle.std.specs.Prelude.{◌≡◌, ◌++◌, OnOk, IsOkUnless};
+ghost use Rattle.std.specs.Prelude.{◌≡◌, ◌++◌, OnOk, IsOkUnless, codes};
+ghost use Rattle.hs_script.specs.Text.{refusal_text};
 ghost use Rattle.hs_top.specs.Status.{status_code, fault_text};
 
+use hs_model::Reply;
 use hs_promise::Status;
+use hs_script::print_refusal;
 use std::io;
 use std::io::Write;
 use thiserror::Error;
@@ -27,8 +30,15 @@ pub fn exit_code(status: &Status) -> u8
         Status::WriteFault => 6,
         Status::NoMemory => 7,
         Status::WrongShape { .. } => 8,
+        Status::Mismatch { .. } => 9,
         Status::OpsFull => 10,
+        Status::Torn { .. } => 11,
+        Status::NotEmpty { .. } => 12,
         Status::InputFull => 13,
+        Status::Refused { .. } => 14,
+        Status::NotATree { .. } => 15,
+        Status::NoSource { .. } => 16,
+        Status::CopyFull { .. } => 17,
     }
 }
 
@@ -60,7 +70,28 @@ fn put_line(status: &Status, out: &mut Vec<u8>) -> io::Result<()>
         Status::WrongShape { peer, .. } => {
             write!(out, "hydra: the disk of peer {peer} is of another store\n")
         }
+        Status::Mismatch { .. } => {
+            write!(out, "hydra: a writer's answer differs from the journal\n")
+        }
         Status::OpsFull => write!(out, "hydra: the journal is full\n"),
+        Status::Torn { .. } => write!(out, "hydra: a worker's entries differ from the book\n"),
+        Status::NotEmpty { .. } => write!(out, "hydra: the store is not empty\n"),
         Status::InputFull => write!(out, "hydra: the input is too long\n"),
+        Status::Refused { reply } => put_refused(reply, out),
+        Status::NotATree { .. } => write!(out, "hydra: the root is not a stored file\n"),
+        Status::NoSource { peer } => write!(out, "hydra: peer {peer} has no log to copy from\n"),
+        Status::CopyFull { blocks } => {
+            write!(out, "hydra: the root reaches more than {blocks} blocks\n")
+        }
     }
+}
+
+/// Puts the line of a refusal at the end of `out`.
+fn put_refused(reply: &Reply, out: &mut Vec<u8>) -> io::Result<()>
+    ensures { OnOk result (out.new.items ≡ out.old.items ++
+        (codes "hydra: refused: " ++ (refusal_text reply.now ++ codes "\n"))) }
+{
+    write!(out, "hydra: refused: ")?;
+    print_refusal(reply, out)?;
+    write!(out, "\n")
 }

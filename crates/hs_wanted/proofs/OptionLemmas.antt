@@ -5,8 +5,9 @@ use Rattle.std.specs.Option.{option_and_then}
 use Rattle.std.specs.Prelude.{◌||◌}
 use Rattle.std.proofs.lemmas.Bool.{false≢true}
 use Rattle.std.proofs.lemmas.Slice.Eq.{bytes_eq-Decides}
-use Rattle.hs_limits.specs.declared.limits.Limits.{Limits}
 use Rattle.hs_script.specs.CommandLine.{with_option, with_options}
+use Rattle.hs_script.specs.declared.invocation.CommandName.{CommandName}
+use Rattle.hs_script.specs.declared.invocation.Options.{Options}
 use Rattle.hs_wanted.specs.Asked.{is_named}
 
 -- ---- what is given
@@ -30,40 +31,40 @@ same_bytes word = (bytes_eq-Decides word word).1 refl
 
 -- ---- options
 
--- no limits stay none
-pub none_stays : (given words : List (List ℕ)) → with_options given words None ≡ None
-none_stays given [] = refl
-none_stays given (name ∷ []) = refl
-none_stays given (name ∷ value ∷ words) = go (list_any (bytes_eq name) given) (none_stays (name ∷ given) words)
+-- no options stay none
+pub none_stays : (which : CommandName) (given words : List (List ℕ)) → with_options which given words None ≡ None
+none_stays which given [] = refl
+none_stays which given (name ∷ []) = refl
+none_stays which given (name ∷ value ∷ words) = go (list_any (bytes_eq name) given) (none_stays which (name ∷ given) words)
   where
-    go : (b : Bool) → with_options (name ∷ given) words None ≡ None → (if b then None else with_options (name ∷ given) words None) ≡ None
+    go : (b : Bool) → with_options which (name ∷ given) words None ≡ None → (if b then None else with_options which (name ∷ given) words None) ≡ None
     go true ih = refl
     go false ih = ih
 
 -- an option of a name that was given makes none
-given_twice : (name : List ℕ) (given words : List (List ℕ)) (limits : Option Limits) → IsGiven name given → is_named name words ≡ true → with_options given words limits ≡ None
-given_twice name given [] limits h named = absurd (false≢true named)
-given_twice name given (word ∷ []) limits h named = absurd (false≢true named)
-given_twice name given (word ∷ value ∷ words) limits h named =
-    go (λ is. given_twice name (word ∷ given) words (option_and_then (with_option word value) limits) (given_behind name word given h) is) (bytes_eq word name) refl named
+given_twice : (which : CommandName) (name : List ℕ) (given words : List (List ℕ)) (options : Option Options) → IsGiven name given → is_named name words ≡ true → with_options which given words options ≡ None
+given_twice which name given [] options h named = absurd (false≢true named)
+given_twice which name given (word ∷ []) options h named = absurd (false≢true named)
+given_twice which name given (word ∷ value ∷ words) options h named =
+    go (λ is. given_twice which name (word ∷ given) words (option_and_then (with_option which word value) options) (given_behind name word given h) is) (bytes_eq word name) refl named
   where
-    none : (b : Bool) → with_options (word ∷ given) words (option_and_then (with_option word value) limits) ≡ None → (if b then None else with_options (word ∷ given) words (option_and_then (with_option word value) limits)) ≡ None
+    none : (b : Bool) → with_options which (word ∷ given) words (option_and_then (with_option which word value) options) ≡ None → (if b then None else with_options which (word ∷ given) words (option_and_then (with_option which word value) options)) ≡ None
     none true is = refl
     none false is = is
 
-    go : (is_named name words ≡ true → with_options (word ∷ given) words (option_and_then (with_option word value) limits) ≡ None) → (b : Bool) → bytes_eq word name ≡ b → (b || is_named name words) ≡ true
-        → (if list_any (bytes_eq word) given then None else with_options (word ∷ given) words (option_and_then (with_option word value) limits)) ≡ None
+    go : (is_named name words ≡ true → with_options which (word ∷ given) words (option_and_then (with_option which word value) options) ≡ None) → (b : Bool) → bytes_eq word name ≡ b → (b || is_named name words) ≡ true
+        → (if list_any (bytes_eq word) given then None else with_options which (word ∷ given) words (option_and_then (with_option which word value) options)) ≡ None
     go ih true is k = rw (h word is) refl
     go ih false is k = none (list_any (bytes_eq word) given) (ih k)
 
 -- names that were given and are not among the words make no difference
-given_apart : (given given' words : List (List ℕ)) (limits : Option Limits) → ((word : List ℕ) → is_named word words ≡ true → list_any (bytes_eq word) given ≡ list_any (bytes_eq word) given') → with_options given words limits ≡ with_options given' words limits
-given_apart given given' [] limits h = refl
-given_apart given given' (name ∷ []) limits h = refl
-given_apart given given' (name ∷ value ∷ words) limits h =
+given_apart : (which : CommandName) (given given' words : List (List ℕ)) (options : Option Options) → ((word : List ℕ) → is_named word words ≡ true → list_any (bytes_eq word) given ≡ list_any (bytes_eq word) given') → with_options which given words options ≡ with_options which given' words options
+given_apart which given given' [] options h = refl
+given_apart which given given' (name ∷ []) options h = refl
+given_apart which given given' (name ∷ value ∷ words) options h =
     let first : list_any (bytes_eq name) given ≡ list_any (bytes_eq name) given' = h name (ap (λ (b : Bool). b || is_named name words) (same_bytes name)) in
-    ap (λ (b : Bool). if b then None else with_options (name ∷ given) words (option_and_then (with_option name value) limits)) first
-    ∙ ap (λ (rest : Option Limits). if list_any (bytes_eq name) given' then None else rest) (given_apart (name ∷ given) (name ∷ given') words (option_and_then (with_option name value) limits) others)
+    ap (λ (b : Bool). if b then None else with_options which (name ∷ given) words (option_and_then (with_option which name value) options)) first
+    ∙ ap (λ (rest : Option Options). if list_any (bytes_eq name) given' then None else rest) (given_apart which (name ∷ given) (name ∷ given') words (option_and_then (with_option which name value) options) others)
   where
     others : (word : List ℕ) → is_named word words ≡ true → list_any (bytes_eq word) (name ∷ given) ≡ list_any (bytes_eq word) (name ∷ given')
     others word is = ap (λ (b : Bool). bytes_eq word name || b) (h word (ap (λ (b : Bool). bytes_eq name word || b) is ∙ or_true (bytes_eq name word)))
@@ -71,12 +72,12 @@ given_apart given given' (name ∷ value ∷ words) limits h =
 -- ---- the next option
 
 -- its name is there again
-pub twice : (name value : List ℕ) (words : List (List ℕ)) (limits : Option Limits) → is_named name words ≡ true → with_options [] (name ∷ value ∷ words) limits ≡ None
-twice name value words limits named = given_twice name (name ∷ []) words (option_and_then (with_option name value) limits) (given_first name []) named
+pub twice : (which : CommandName) (name value : List ℕ) (words : List (List ℕ)) (options : Option Options) → is_named name words ≡ true → with_options which [] (name ∷ value ∷ words) options ≡ None
+twice which name value words options named = given_twice which name (name ∷ []) words (option_and_then (with_option which name value) options) (given_first name []) named
 
 -- it is not
-pub once : (name value : List ℕ) (words : List (List ℕ)) (limits : Option Limits) → is_named name words ≡ false → with_options [] (name ∷ value ∷ words) limits ≡ with_options [] words (option_and_then (with_option name value) limits)
-once name value words limits apart = given_apart (name ∷ []) [] words (option_and_then (with_option name value) limits) (λ word is. other word is (bytes_eq word name) refl)
+pub once : (which : CommandName) (name value : List ℕ) (words : List (List ℕ)) (options : Option Options) → is_named name words ≡ false → with_options which [] (name ∷ value ∷ words) options ≡ with_options which [] words (option_and_then (with_option which name value) options)
+once which name value words options apart = given_apart which (name ∷ []) [] words (option_and_then (with_option which name value) options) (λ word is. other word is (bytes_eq word name) refl)
   where
     other : (word : List ℕ) → is_named word words ≡ true → (b : Bool) → bytes_eq word name ≡ b → (bytes_eq word name || false) ≡ false
     other word is true same = absurd (false≢true (sym apart ∙ subst (λ (w : List ℕ). is_named w words ≡ true) ((bytes_eq-Decides word name).0 same) is))
@@ -108,7 +109,7 @@ module _ {X : Type 0} (f : X → List ℕ) where
   few_named name (x ∷ []) h = refl
   few_named name (x ∷ y ∷ xs) h = absurd (omega (arith, h))
 
-  pub few_options : (xs : List X) (limits : Option Limits) → length xs < 2 → with_options [] (map f xs) limits ≡ (if length xs == 0 then limits else None)
-  few_options [] limits h = refl
-  few_options (x ∷ []) limits h = refl
-  few_options (x ∷ y ∷ xs) limits h = absurd (omega (arith, h))
+  pub few_options : (which : CommandName) (xs : List X) (options : Option Options) → length xs < 2 → with_options which [] (map f xs) options ≡ (if length xs == 0 then options else None)
+  few_options which [] options h = refl
+  few_options which (x ∷ []) options h = refl
+  few_options which (x ∷ y ∷ xs) options h = absurd (omega (arith, h))

@@ -1,7 +1,5 @@
--- The four words before the options.
-use Rattle.std.proofs.Common.{◌≡◌, ◌∙◌, ap, ℕ, ◌-◌, ◌≤◌, false, true, ◌==◌, List, [], ◌∷◌, length, take, drop, map, get_or, bytes_eq, codes, refl, arith, take_all}
-use Rattle.hs_script.specs.CommandLine.{wanted}
-use Rattle.hs_wanted.specs.Asked.{asked_by}
+-- The first words of some, by what they say.
+use Rattle.std.proofs.Common.{◌≡◌, ◌∙◌, ap, ℕ, ◌-◌, ◌≤◌, List, [], ◌∷◌, length, take, drop, map, get_or, refl, arith, take_all}
 
 module _ {X : Type 0} (f : X → List ℕ) where
   four_behind : (w x y z : X) (xs : List X) → map f (take (length (w ∷ x ∷ y ∷ z ∷ xs) - 4) (drop 4 (w ∷ x ∷ y ∷ z ∷ xs))) ≡ map f xs
@@ -13,8 +11,3 @@ module _ {X : Type 0} (f : X → List ℕ) where
   four_words (w ∷ x ∷ []) a b c d low p q r s = absurd (omega (arith, low))
   four_words (w ∷ x ∷ y ∷ []) a b c d low p q r s = absurd (omega (arith, low))
   four_words (w ∷ x ∷ y ∷ z ∷ xs) a b c d low p q r s = rw (p, q, r, s, four_behind w x y z xs) refl
-
--- what they ask for
-pub asked_so : (command dir shards copies : List ℕ) (options : List (List ℕ)) → bytes_eq command (codes "script") ≡ true → (length dir == 0) ≡ false → wanted (command ∷ dir ∷ shards ∷ copies ∷ options) ≡ asked_by shards copies options
-unfolding wanted
-asked_so command dir shards copies options is some = rw (is, some) refl

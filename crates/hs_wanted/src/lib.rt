@@ -1,8 +1,11 @@
-//! What the words of the command line of a script ask for.
+//! What the words of a command line ask for.
 #![tactic(auto)]
 
+mod given;
 mod number;
 mod options;
+mod store;
+mod task;
 mod words;
 
-pub use words::{wanted, wanted_of};
+pub use words::{invocation_of, invocation_on, wanted, wanted_of};

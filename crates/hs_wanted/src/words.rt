@@ -1,16 +1,110 @@
-//! The words before the options, and what all of them ask for.
-ghost use Rattle.std.specs.Prelude.{◌≡◌, ◌*◌, ◌==◌, ◌≤◌, ◌∷◌, [], IfSome, map, string_bytes};
-ghost use Rattle.std.specs.List.{list_any};
+//! All words of a command line.
+ghost use Rattle.std.specs.Prelude.{◌≡◌, ◌*◌, IfSome, map, string_bytes};
 ghost use Rattle.hs_limits.specs.Shape.{IsShape};
-ghost use Rattle.hs_script.specs.CommandLine.{copies_word, shape_word, shards_word, wanted, wanted_of};
-ghost use Rattle.hs_wanted.specs.Asked.{IsShards, as_wanted, asked_by};
+ghost use Rattle.hs_script.specs.CommandLine.{command_of, disks_of, invocation_by, invocation_of, invocation_on, script_on, wanted, wanted_of};
+ghost use Rattle.hs_wanted.specs.Asked.{IsInvocation, as_wanted};
 
-use crate::options::with_options;
+use crate::store::shape_word;
+use crate::task::task_of;
 use hs_limits::{Limits, Shape};
-use hs_script::number_up_to;
+use hs_script::{CommandName, Folder, Invocation, Task};
 
-/// The shape and the limits that the words ask for. None exactly where they are outside the command
-/// language, or where there is not a disk for each peer.
+/// What the words ask for. None exactly where they are outside the command language, or where there
+/// are not as many disks as they are run on.
+pub fn invocation_on<'a>(words: &'a [String], disks: usize) -> Option<Invocation<'a>>
+    ensures exact { result ≡ invocation_on (map (λ word. string_bytes word) words.now) disks }
+    ensures bounds { IfSome result IsInvocation }
+    ensures count { IfSome result (λ asked. disks ≡ disks_of asked) }
+{
+    let asked = invocation_of(words)?;
+    if disks == disks_of(&asked) {
+        Some(asked)
+    } else {
+        None
+    }
+}
+
+/// On how many disks it is run: one for each peer of the store, and of the second one of a copy.
+fn disks_of(asked: &Invocation<'_>) -> usize
+    requires { IsInvocation asked.now }
+    ensures { result ≡ disks_of asked.now }
+{
+    let first = usize::from(asked.shape.shards * asked.shape.copies);
+    match &asked.task {
+        Task::Copy { shape, .. } => first + usize::from(shape.shards * shape.copies),
+        Task::Script { .. }
+        | Task::Load { .. }
+        | Task::Audit
+        | Task::Store { .. }
+        | Task::Fetch { .. }
+        | Task::Scrub { .. } => first,
+    }
+}
+
+/// What `COMMAND DIR G R` and the words behind them ask for, whatever disks there are. None exactly
+/// where they are outside the command language.
+#[tactic(auto, unfolding(hs_script::specs::CommandLine::invocation_of))]
+pub fn invocation_of<'a>(words: &'a [String]) -> Option<Invocation<'a>>
+    ensures exact { result ≡ invocation_of (map (λ word. string_bytes word) words.now) }
+    ensures bounds { IfSome result IsInvocation }
+{
+    match words {
+        [command, dir, shards, copies, rest @ ..] => invocation_by(
+            command.as_bytes(),
+            dir.as_str(),
+            shards.as_bytes(),
+            copies.as_bytes(),
+            rest,
+        ),
+        _ => None,
+    }
+}
+
+// The same of the words by their place.
+fn invocation_by<'a>(
+    command: &[u8],
+    dir: &'a str,
+    shards: &[u8],
+    copies: &[u8],
+    words: &'a [String],
+) -> Option<Invocation<'a>>
+    ensures exact { result ≡ invocation_by command.now dir.now shards.now copies.now
+        (map (λ word. string_bytes word) words.now) }
+    ensures bounds { IfSome result IsInvocation }
+{
+    let which = command_of(command)?;
+    let dir = Folder::new(dir)?;
+    let shape = shape_word(shards, copies)?;
+    let task = task_of(which, shape, words)?;
+    Some(Invocation { dir, shape, task })
+}
+
+// The command that a word names.
+fn command_of(word: &[u8]) -> Option<CommandName>
+    ensures { result ≡ command_of word.now }
+{
+    if word == b"script".as_slice() {
+        Some(CommandName::Script)
+    } else if word == b"load".as_slice() {
+        Some(CommandName::Load)
+    } else if word == b"audit".as_slice() {
+        Some(CommandName::Audit)
+    } else if word == b"store".as_slice() {
+        Some(CommandName::Store)
+    } else if word == b"fetch".as_slice() {
+        Some(CommandName::Fetch)
+    } else if word == b"scrub".as_slice() {
+        Some(CommandName::Scrub)
+    } else if word == b"copy".as_slice() {
+        Some(CommandName::Copy)
+    } else {
+        None
+    }
+}
+
+/// The shape and the limits that the words of a script ask for. None exactly where they are not
+/// those of a script, or give an option that is not served, or where there is not a disk for each
+/// peer.
 pub fn wanted_of(words: &[String], disks: usize) -> Option<(Shape, Limits)>
     ensures exact { as_wanted result
         ≡ wanted_of (map (λ word. string_bytes word) words.now) disks }
@@ -29,75 +123,19 @@ pub fn wanted_of(words: &[String], disks: usize) -> Option<(Shape, Limits)>
     }
 }
 
-/// What `script DIR G R` and its options ask for, with any DIR that is not empty.
+/// The same, whatever disks there are.
 #[tactic(auto, unfolding(hs_script::specs::CommandLine::wanted))]
 pub fn wanted(words: &[String]) -> Option<(Shape, Limits)>
     ensures exact { as_wanted result ≡ wanted (map (λ word. string_bytes word) words.now) }
     ensures shape { IfSome result (λ asked. IsShape asked.0) }
 {
-    match words {
-        [command, dir, shards, copies, options @ ..] => {
-            if command.as_bytes() == b"script".as_slice() && !dir.is_empty() {
-                asked_by(shards.as_bytes(), copies.as_bytes(), options)
-            } else {
-                None
-            }
-        }
+    let asked = invocation_of(words)?;
+    match asked.task {
+        Task::Script {
+            limits,
+            visits: None,
+            cache: None,
+        } => Some((asked.shape, limits)),
         _ => None,
-    }
-}
-
-/// The shape that two words ask for, and the limits that options do.
-fn asked_by(shards: &[u8], copies: &[u8], options: &[String]) -> Option<(Shape, Limits)>
-    ensures exact { as_wanted result
-        ≡ asked_by shards.now copies.now (map (λ word. string_bytes word) options.now) }
-    ensures shape { IfSome result (λ asked. IsShape asked.0) }
-{
-    let shape = shape_word(shards, copies)?;
-    let limits = with_options(options)?;
-    Some((shape, limits))
-}
-
-/// The shape that two words ask for.
-fn shape_word(shards: &[u8], copies: &[u8]) -> Option<Shape>
-    ensures exact { result ≡ shape_word shards.now copies.now }
-    ensures shape { IfSome result IsShape }
-{
-    let shards = shards_word(shards)?;
-    let copies = copies_word(copies)?;
-    Some(Shape { shards, copies })
-}
-
-/// How many shards a word asks for.
-fn shards_word(word: &[u8]) -> Option<u8>
-    ensures exact { result ≡ shards_word word.now }
-    ensures shards { IfSome result IsShards }
-{
-    let number = number_up_to(8, word)?;
-    if is_shards(number) {
-        Some(number as u8)
-    } else {
-        None
-    }
-}
-
-/// Whether a store may have so many shards.
-fn is_shards(number: u64) -> bool
-    ensures { result ≡ list_any (λ k. number == k) (1 ∷ 2 ∷ 4 ∷ 8 ∷ []) }
-{
-    number == 1 || number == 2 || number == 4 || number == 8
-}
-
-/// How many copies of a shard a word asks for.
-fn copies_word(word: &[u8]) -> Option<u8>
-    ensures exact { result ≡ copies_word word.now }
-    ensures some { IfSome result (λ copies. 1 ≤ copies) }
-    ensures few { IfSome result (λ copies. copies ≤ 4) }
-{
-    let number = number_up_to(4, word)?;
-    if number == 0 {
-        None
-    } else {
-        Some(number as u8)
     }
 }

@@ -13,14 +13,25 @@ is_later_copies word = bytes_eq word (codes "2") || (bytes_eq word (codes "3") |
 -- an option that a later step serves
 unfoldable pub later_option : List (List ℕ) → Option Later
 later_option words =
-    if list_any (λ word. bytes_eq word (codes "--visits")) words then Some later.Visits else None
+    if list_any (λ word. bytes_eq word (codes "--visits")) words then Some later.Visits
+    else if list_any (λ word. bytes_eq word (codes "--cache")) words then Some later.Cache
+    else None
+
+-- a command that a later step serves
+unfoldable pub later_command : List ℕ → Option Later
+later_command command =
+    if bytes_eq command (codes "load") then Some later.Load
+    else if bytes_eq command (codes "audit") then Some later.Audit
+    else if bytes_eq command (codes "store") then Some later.Store
+    else if bytes_eq command (codes "fetch") then Some later.Fetch
+    else if bytes_eq command (codes "scrub") then Some later.Scrub
+    else if bytes_eq command (codes "copy") then Some later.Copy
+    else None
 
 -- the first of these that a later step serves: the command, or more copies or an option of a script
 unfoldable pub later_part : List ℕ → List ℕ → List (List ℕ) → Option Later
 later_part command copies options =
-    if bytes_eq command (codes "load") then Some later.Load
-    else if bytes_eq command (codes "audit") then Some later.Audit
-    else if not (bytes_eq command (codes "script")) then None
+    if not (bytes_eq command (codes "script")) then later_command command
     else if is_later_copies copies then Some later.Copies
     else later_option options
 
@@ -34,8 +45,13 @@ abbrev pub later_text : Option Later → List ℕ
 later_text None = codes "hydra: see hydra --help\n"
 later_text (Some later.Load) = codes "hydra: load is not served yet: see hydra --help\n"
 later_text (Some later.Audit) = codes "hydra: audit is not served yet: see hydra --help\n"
+later_text (Some later.Store) = codes "hydra: store is not served yet: see hydra --help\n"
+later_text (Some later.Fetch) = codes "hydra: fetch is not served yet: see hydra --help\n"
+later_text (Some later.Scrub) = codes "hydra: scrub is not served yet: see hydra --help\n"
+later_text (Some later.Copy) = codes "hydra: copy is not served yet: see hydra --help\n"
 later_text (Some later.Copies) = codes "hydra: R above 1 is not served yet: see hydra --help\n"
 later_text (Some later.Visits) = codes "hydra: --visits is not served yet: see hydra --help\n"
+later_text (Some later.Cache) = codes "hydra: --cache is not served yet: see hydra --help\n"
 
 -- the line where the words name no shape, and nothing where they name one
 abbrev pub unshaped_text : Option Shape → List (List ℕ) → List ℕ

@@ -15,9 +15,11 @@ reads. A root keeps a block under a key, and with it all that the block points
 to, block by block. A deletion gives back the space of what no root keeps and no
 session has been given lately.
 
-One command is built so far, with R 1:
+One command is served so far, with R 1:
 
   hydra script DIR G 1 [options]
+
+Not served yet: load, audit, store, fetch, scrub and copy.
 
 It reads a script from standard input and prints the answers to standard output.
 G is the number of shards among which the blocks are parted: 1, 2, 4 or 8, the

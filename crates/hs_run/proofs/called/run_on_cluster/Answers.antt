@@ -34,6 +34,7 @@ returns-in-None-clause-usage g c = λ none. record {
   ending = c.closed.ensures.status;
   same = refl;
   journal = c.closed.ensures.journal;
+  no_load = record { kept = c.closed.ensures.kept; stored = c.closed.ensures.stored };
   refused = c.closed.ensures.refused;
   course = c.closed.ensures.course;
   line = c.closed.ensures.line;

@@ -37,7 +37,7 @@ returns-in-Err-clause-ran g c =
     let new : Objects = handed c.open.new.watch (map h c.open.new.disks) (g.K.Sink.got c.args.sink.now, g.K.Sink.faults c.args.sink.now) (g.S.Source.left c.args.source.now, g.S.Source.faults c.args.source.now) in
     let ending : Status = status_of (Err (of_cluster c.in-Err.fault)) 0 in
     let is : c.closed.result.status ≡ ending = c.closed.ensures.status ∙ c.status_of.ensures ∙ ap (λ (s : Stop). status_of (Err s) 0) c.of_cluster.ensures in
-    let same : ran_of c.closed.result old new ≡ ran_at ending 0 None old new = ran_same c.closed.result ending 0 None old new is c.closed.ensures.line c.closed.ensures.journal c.closed.ensures.refused c.closed.ensures.course in
+    let same : ran_of c.closed.result old new ≡ ran_at ending 0 None old new = ran_same c.closed.result ending 0 None old new is c.closed.ensures.line c.closed.ensures.journal c.closed.ensures.kept c.closed.ensures.stored c.closed.ensures.refused c.closed.ensures.course in
     subst (λ (r : Ran). (commands : ℕ → Option Command) × IsOfCluster g.D.Disk.tells (record { set = set; commands = commands }) r) (sym same)
     (closed_hub g.D.Disk.tells set span c.in-Err.fault old new c.in-Err.ensures.closed refl refl refl refl c.open.ensures.ticks
     (record { stands = handed_stands f h (λ disk. refl) c.args.disks.now; counts = handed_counts f h (λ disk. refl) c.args.disks.now })
@@ -75,7 +75,7 @@ returns-clause-ran g c =
     let old : Objects = handed c.args.watch.now (map h c.args.disks.now) (g.K.Sink.got c.args.sink.now, g.K.Sink.faults c.args.sink.now) (g.S.Source.left c.args.source.now, g.S.Source.faults c.args.source.now) in
     let new : Objects = handed c.go-ended.new.watch (map h c.go-ended.new.disks) (g.K.Sink.got c.go-ended.new.sink, g.K.Sink.faults c.go-ended.new.sink) (g.S.Source.left c.go-ended.new.source, g.S.Source.faults c.go-ended.new.source) in
     let same : ran_of c.outcome_of.result old new ≡ ran_at c.status_of-2.result c.go-ended.new.run.line (Some c.go-ended.new.run.cluster) old new =
-    ran_same c.outcome_of.result c.status_of-2.result c.go-ended.new.run.line (Some c.go-ended.new.run.cluster) old new c.outcome_of.ensures.status c.outcome_of.ensures.line c.outcome_of.ensures.journal c.outcome_of.ensures.refused c.outcome_of.ensures.course in
+    ran_same c.outcome_of.result c.status_of-2.result c.go-ended.new.run.line (Some c.go-ended.new.run.cluster) old new c.outcome_of.ensures.status c.outcome_of.ensures.line c.outcome_of.ensures.journal c.outcome_of.ensures.kept c.outcome_of.ensures.stored c.outcome_of.ensures.refused c.outcome_of.ensures.course in
     subst (λ (r : Ran). (commands : ℕ → Option Command) × IsOfCluster g.D.Disk.tells (record { set = set; commands = commands }) r) (sym same)
     (whole_hub g.D.Disk.tells set span c.in-Ok.opened.cluster c.in-Ok.opened.done (c.in-Ok.ensures.opens c.requires.copies) old new _ c.new-run.ensures.cluster refl refl (λ told. since_of f c.open.new.disks (g.met.D.Disk.since told)) refl refl refl refl
     (record { stands = handed_stands f h (λ disk. refl) c.args.disks.now; counts = handed_counts f h (λ disk. refl) c.args.disks.now })
