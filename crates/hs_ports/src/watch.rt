@@ -1,5 +1,5 @@
 //! The watch: the moment of each call that changes something outside.
-ghost use Rattle.std.specs.Prelude.{◌≡◌};
+ghost use Rattle.std.specs.Prelude.{◌≡◌, max};
 ghost use Rattle.hs_ports.specs.Watch.{Ticks};
 
 use std::marker::Model;
@@ -33,6 +33,24 @@ impl Watch {
         ensures value { result ≡ self.now }
     {
         self.moment
+    }
+
+    /// A second watch, at the same moment.
+    pub fn twin(&self) -> Watch
+        ensures value { result ≡ self.now }
+    {
+        Watch {
+            moment: self.moment,
+        }
+    }
+
+    /// Goes on to the moment of another watch, where that is later.
+    pub fn reach(&mut self, other: &Watch)
+        ensures later { self.new ≡ max self.old other.now }
+    {
+        if self.moment < other.moment {
+            self.moment = other.moment;
+        }
     }
 
     /// Goes on by one moment; at `u64::MAX` it stands still. A device that changes something

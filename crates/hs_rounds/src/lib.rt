@@ -12,6 +12,6 @@ mod sending;
 pub use body::RoundBody;
 pub use changes::are_changes;
 pub use fault::RunFault;
-pub use place::Place;
+pub use place::{LAST_ROUND, Place};
 pub use run::Run;
 pub use sending::SentRound;

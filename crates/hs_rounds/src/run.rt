@@ -4,13 +4,14 @@ ghost use Rattle.std.specs.Option.{option_copied};
 ghost use Rattle.std.specs.Vec.{vec_len};
 ghost use Rattle.hs_limits.specs.Shape.{IsShape};
 ghost use Rattle.hs_rounds.specs.declared.fault.RunFault.TheVariants.{NoMemory};
+ghost use Rattle.hs_rounds.specs.declared.place.TheConstants.{LAST_ROUND};
 ghost use Rattle.hs_rounds.specs.Changes.{AreChanges};
 ghost use Rattle.hs_rounds.specs.Rounds.{IsGot, IsSent, IsTold, body, complete, empty_run, enter, finish, go_on, got, has_come, is_kept, is_last, is_past, is_round, open_at, outgoing, received, sent_back, was_sent};
 ghost use Rattle.hs_rounds.specs.Steps.{is_open, moved};
 
 use crate::gots::{Gots, is_before};
 use crate::sending::bodies_for;
-use crate::{Place, RoundBody, RunFault, SentRound};
+use crate::{LAST_ROUND, Place, RoundBody, RunFault, SentRound};
 use hs_limits::{Delta, ListOf, Shape};
 use std::alloc::Global;
 use std::marker::Model;
@@ -156,22 +157,23 @@ impl Run {
     }
 
     /// Opens the round after the open one, and sends these decrements for it, with this total. The
-    /// only fault is NoMemory, and it changes nothing; a round beyond 2^32-1 counts as want of it.
+    /// only fault is NoMemory, and it changes nothing; a round beyond `LAST_ROUND` counts as want of it.
     pub fn go_on(&mut self, total: u32, decrements: Vec<Delta>) -> Result<(), RunFault>
         requires complete { IsTrue (complete self.old) }
         requires more { is_last self.old ≡ false }
         requires changes { AreChanges decrements.items }
         ensures ok { OnOk result (self.new ≡ go_on total decrements.items self.old) }
+        ensures numbered { OnOk result (IfSome self.old.opened (λ at. at.1 < LAST_ROUND)) }
         ensures only { IsOkUnless result NoMemory }
         ensures same { OnErr result (self.new ≡ self.old) }
     {
         let Some((epoch, round)) = self.opened else {
             return Ok(());
         };
-        let Some(next) = round.checked_add(1) else {
+        if round >= LAST_ROUND {
             return Err(RunFault::NoMemory);
-        };
-        self.open_at(epoch, next, total, decrements.as_slice())
+        }
+        self.open_at(epoch, round + 1, total, decrements.as_slice())
     }
 
     /// Ends the run. It takes no memory.
