@@ -18,29 +18,36 @@ use Rattle.hs_peerlog.proofs.ImageLemmas.{Since, frame-generation, same-generati
 use Rattle.hs_peerlog.proofs.ShownLemmas.{one-shown, shown-header}
 use Rattle.hs_peerlog.proofs.SoleLemmas.{sole-stays}
 
-module _ {before now : ℕ} {side : Side} {old new : Standing} (places : List ℕ) (list : List (ℕ × Entry)) (has : HasList places (old.seen side) list) (last : old.last ≤ before) (since : Since old) (sole : IsSole side old)
-    (stays : (s : Side) → IsImage (old.loose s) (old.seen s)) (header : Header) (headed : LeavesHeader old header) where
+module _ {side : Side} {old : Standing} (places : List ℕ) (list : List (ℕ × Entry)) (has : HasList places (old.seen side) list) (sole : IsSole side old) (stays : (s : Side) → IsImage (old.loose s) (old.seen s)) (header : Header)
+    (headed : LeavesHeader old header) where
   -- what the side reads as has the header
   log-own : has.log.header ≡ header
   log-own = headed-log header (old.seen side) has.log (subst (λ (s : Side). IsHeaded header (old.seen s)) (sole old.seen (record { sides = stays })) (headed old.seen (record { sides = stays }))) has.read
 
-  -- contents of the side's generation with the header
-  side-header : {P : List ℕ → Type 0} → EachMoment before now side old new P → ((content : List ℕ) → P content → (generation_in content ≡ generation_in (old.seen side)) × IsHeaded header content) → KeepsHeader before new header
-  side-header {P} run gives = shown-header (one-shown run last since given)
-    where
-      given : (image : Side → List ℕ) → P (image side) → IsImage (old.loose (other_side side)) (image (other_side side)) → IsHeaded header (shown image)
-      given image p left = let what = gives (image side) p in subst (λ (s : Side). IsHeaded header (image s)) (sym (sole-stays side old sole (stays side) image what.0 left)) what.1
+  -- a content with the generation of the side, and the header
+  pub record Keeps (content : List ℕ) : Type 0 where
+    pub same : generation_in content ≡ generation_in (old.seen side)
+    pub own : IsHeaded header content
 
-  same-kept : (content : List ℕ) → log_of content ≡ log_of (old.seen side) → (generation_in content ≡ generation_in (old.seen side)) × IsHeaded header content
-  same-kept content same = (same-generation (old.seen side) content has.log has.read same, same-headed header (old.seen side) content has.log has.read log-own same)
+  same-kept : (content : List ℕ) → log_of content ≡ log_of (old.seen side) → Keeps content
+  same-kept content same = record { same = same-generation (old.seen side) content has.log has.read same; own = same-headed header (old.seen side) content has.log has.read log-own same }
 
-  more-kept : (content : List ℕ) (frame : Frame) → log_of content ≡ with_frame frame (log_of (old.seen side)) → (generation_in content ≡ generation_in (old.seen side)) × IsHeaded header content
-  more-kept content frame more =
-      (frame-generation (old.seen side) content has.log frame has.read more,
-      subst (λ (h : Header). IsHeaded h content) log-own (log-headed content (record has.log { frames = has.log.frames ++ frame ∷ [] }) (more ∙ ap (λ r. with_frame frame r) has.read)))
+  more-kept : (content : List ℕ) (frame : Frame) → log_of content ≡ with_frame frame (log_of (old.seen side)) → Keeps content
+  more-kept content frame more = record {
+    same = frame-generation (old.seen side) content has.log frame has.read more;
+    own = subst (λ (h : Header). IsHeaded h content) log-own (log-headed content (record has.log { frames = has.log.frames ++ frame ∷ [] }) (more ∙ ap (λ r. with_frame frame r) has.read));
+  }
 
-  pub append-header : EachMoment before now side old new (GivesSame (old.seen side)) → KeepsHeader before new header
-  append-header run = side-header run (λ content g. same-kept content g.same)
+  module _ {before now : ℕ} {new : Standing} (last : old.last ≤ before) (since : Since old) where
+    -- calls on the side that leave such contents
+    side-header : {P : List ℕ → Type 0} → EachMoment before now side old new P → ((content : List ℕ) → P content → Keeps content) → KeepsHeader before new header
+    side-header {P} run gives = shown-header (one-shown run last since given)
+      where
+        given : (image : Side → List ℕ) → P (image side) → IsImage (old.loose (other_side side)) (image (other_side side)) → IsHeaded header (shown image)
+        given image p left = let what = gives (image side) p in subst (λ (s : Side). IsHeaded header (image s)) (sym (sole-stays side old sole (stays side) image what.same left)) what.own
 
-  pub seal-header : (end : ℕ) (frame : Frame) → log_of (opened end (old.seen side)) ≡ with_frame frame (log_of (old.seen side)) → EachMoment before now side old new (GivesEither (old.seen side) (opened end (old.seen side))) → KeepsHeader before new header
-  seal-header end frame opens run = side-header run (λ content g. elim g.one [ inl e ↦ same-kept content e | inr e ↦ more-kept content frame (e ∙ opens) ])
+    pub append-header : EachMoment before now side old new (GivesSame (old.seen side)) → KeepsHeader before new header
+    append-header run = side-header run (λ content g. same-kept content g.same)
+
+    pub seal-header : (end : ℕ) (frame : Frame) → log_of (opened end (old.seen side)) ≡ with_frame frame (log_of (old.seen side)) → EachMoment before now side old new (GivesEither (old.seen side) (opened end (old.seen side))) → KeepsHeader before new header
+    seal-header end frame opens run = side-header run (λ content g. elim g.one [ inl e ↦ same-kept content e | inr e ↦ more-kept content frame (e ∙ opens) ])

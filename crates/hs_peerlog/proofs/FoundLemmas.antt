@@ -12,7 +12,8 @@ use Rattle.hs_peerlog.specs.Heads.{IsHeaded, KeepsHeader, LeavesHeader}
 use Rattle.hs_peerlog.specs.Images.{GivesList, Is, IsAlone, IsAny, IsStanding, LeavesAll, LeavesAny, LeavesEach, LeavesOnly}
 use Rattle.hs_peerlog.specs.Steps.{IsKeptOrMade, IsShown, ShowsEach, shown}
 use Rattle.hs_peerlog.proofs.HeaderLemmas.{empty-headed}
-use Rattle.hs_peerlog.proofs.ShownLemmas.{Lists, all-shown, image-header, image-lists, only-gives, shown-header, shown-lists, then-shown, weaker-shown}
+use Rattle.hs_peerlog.proofs.ImageLemmas.{Since}
+use Rattle.hs_peerlog.proofs.ShownLemmas.{Lists, all-shown, image-header, image-lists, only-gives, shown-header, shown-lists, still-shown, then-shown, weaker-shown}
 
 -- what a crash leaves of the disk then
 pub record IsFound (disk : Standing) (header : Header) (bytes : List ℕ) : Type 0 where
@@ -59,7 +60,10 @@ module _ (disk : Standing) (header : Header) (stays : (side : Side) → IsImage 
     pub found-header : LeavesHeader disk header → KeepsHeader before new header
     found-header leaves = shown-header (weaker-shown run (λ bytes f. elim f.one [ inl s ↦ image-header disk leaves bytes s | inr made ↦ empty-headed header 1 bytes made.1 ]))
 
-  -- the calls of opening, and those that make the log
+  -- no call, the calls of opening, and those that make the log
+  pub still-found : {now : ℕ} → disk.last ≤ now → Since disk → ShowsEach now now disk disk (IsFound disk header)
+  still-found last since = still-shown last since (λ image left. record { one = inl (record { image = image; stands = left; same = refl }) })
+
   pub all-found : {before now : ℕ} {new : Standing} → LeavesAll before now disk new → ShowsEach before now disk new (IsFound disk header)
   all-found run = weaker-shown (all-shown run) shown-found
 

@@ -80,10 +80,13 @@ pub same-headed : (header : Header) (seen bytes : List ℕ) (log : Log) → log_
 same-headed header seen bytes log read is same = subst (λ (h : Header). IsHeaded h bytes) is (log-headed bytes log (same ∙ read))
 
 -- a log whose side has its header has it
-ok_some : (a b : Header) → Ok {E = ℕ} (Some a) ≡ Ok (Some b) → a ≡ b
+abbrev told : Option Header → Result (Option Header) ℕ
+told header = Ok header
+
+ok_some : (a b : Header) → told (Some a) ≡ told (Some b) → a ≡ b
 ok_some a b e = cc e
 
-ok_none : (a : Header) → Ok {E = ℕ} (Some a) ≡ Ok None → ⊥
+ok_none : (a : Header) → told (Some a) ≡ told None → ⊥
 ok_none a e = cc e
 
 pub headed-log : (header : Header) (bytes : List ℕ) (log : Log) → IsHeaded header bytes → log_of bytes ≡ Ok (Some log) → log.header ≡ header
@@ -145,12 +148,18 @@ open-head shape peer seen log (Some found) accepted read shows =
     ∙ sym (ap (λ g. option_map (λ generation. (own_header shape peer, generation)) g) (log-generation (seen (current seen)) found read))
 
 -- and that which its log has
+abbrev made : Header → Option (Header × ℕ) → Header × ℕ
+made header head = unwrap_or head (header, 1)
+
 pub found-head : (shape : Shape) (peer : ℕ) (seen : Side → List ℕ) (head : Option (Header × ℕ)) → head ≡ head_found shape peer seen → Some (unwrap_or head (own_header shape peer, 1)) ≡ Some (own_head shape peer seen)
-found-head shape peer seen head is = ap (λ h. Some (unwrap_or h (own_header shape peer, 1))) is ∙ go (generation_in (seen (current seen)))
+found-head shape peer seen head is = ap (λ h. Some (made (own_header shape peer) h)) is ∙ ap (λ (h : Header × ℕ). Some h) (go (own_header shape peer) (generation_in (seen (current seen))))
   where
-    go : (g : Option ℕ) → Some (unwrap_or (option_map (λ generation. (own_header shape peer, generation)) g) (own_header shape peer, 1)) ≡ Some (own_header shape peer, unwrap_or g 1)
-    go None = refl
-    go (Some n) = refl
+    with_one : Header → Option ℕ → Header × ℕ
+    with_one header g = (header, unwrap_or g 1)
+
+    go : (header : Header) (g : Option ℕ) → made header (option_map (λ generation. (header, generation)) g) ≡ with_one header g
+    go header None = refl
+    go header (Some n) = refl
 
 -- ---- the head of a value
 

@@ -107,8 +107,8 @@ closed-beside side a b beside left closed = go (is_blank (a.seen (other_side sid
 -- ---- the side in use is closed, beside a blank one
 
 -- what an image shows beside a blank side is its own, or blank
-shows-one : {P : List ℕ → Type 0} (side : Side) (image : Side → List ℕ) → P (image side) → P (image (other_side side)) → P (shown image)
-shows-one {P} side image here there = elim (two-sides side (current image)) [
+shows-one : (P : List ℕ → Type 0) (side : Side) (image : Side → List ℕ) → P (image side) → P (image (other_side side)) → P (shown image)
+shows-one P side image here there = elim (two-sides side (current image)) [
   | inl e ↦ subst (λ (s : Side). P (image s)) e here
   | inr e ↦ subst (λ (s : Side). P (image s)) e there
 ]
@@ -118,7 +118,7 @@ side-closed {before} {now} side {b} {c} gone run last since = one-shown run last
   where
     given : (image : Side → List ℕ) → GivesClosed (b.loose side) (image side) → IsImage (b.loose (other_side side)) (image (other_side side)) → IsShownOrBlank b (shown image)
     given image g there = elim g.one [
-      | inl blank ↦ shows-one {P = λ bytes. IsShownOrBlank b bytes} side image (record { one = inr blank }) (record { one = inr (gone (image (other_side side)) there) })
+      | inl blank ↦ shows-one (λ bytes. IsShownOrBlank b bytes) side image (record { one = inr blank }) (record { one = inr (gone (image (other_side side)) there) })
       | inr left ↦ record {
         one = inl (record { image = image; stands = record { sides = λ s. elim (two-sides side s) [ inl e ↦ subst (λ x. IsImage (b.loose x) (image x)) e left | inr e ↦ subst (λ x. IsImage (b.loose x) (image x)) e there ] }; same = refl });
       }
@@ -132,7 +132,7 @@ blank-empty header generation content blank = record { one = inl (blank_log cont
 pub side-empty : {before now : ℕ} (side : Side) {c d : Standing} (header : Header) (generation : ℕ) → IsBlankEverywhere (c.loose (other_side side)) → EachMoment before now side c d (GivesEmpty header generation) → c.last ≤ before → Since c
     → ShowsEach before now c d (GivesEmpty header generation)
 side-empty side {c} {d} header generation gone run last since =
-    one-shown run last since (λ image g there. shows-one {P = λ bytes. GivesEmpty header generation bytes} side image g (blank-empty header generation (image (other_side side)) (gone (image (other_side side)) there)))
+    one-shown run last since (λ image g there. shows-one (λ bytes. GivesEmpty header generation bytes) side image g (blank-empty header generation (image (other_side side)) (gone (image (other_side side)) there)))
 
 module _ (side : Side) (d : Standing) (header : Header) (generation : ℕ) (fits : generation < 2 ^ 64) (gone : IsBlankEverywhere (d.loose (other_side side))) (loose : d.loose side ≡ settled (spelled 165 header generation [] 0 [])) where
   here-is : (image : Side → List ℕ) → IsStanding d image → image side ≡ spelled 165 header generation [] 0 []
@@ -198,7 +198,7 @@ module _ (disk : Standing) (header : Header) (generation : ℕ) where
 -- calls on one side, which leave it blank or as it was, on a disk no side of which has another header
 module _ (header : Header) {before now : ℕ} {side : Side} {old new : Standing} (had : SidesHave old header) where
   pub sides-shown : EachMoment before now side old new (IsHeaded header) → old.last ≤ before → Since old → ShowsEach before now old new (IsHeaded header)
-  sides-shown run last since = one-shown run last since (λ image g left. shows-one {P = λ bytes. IsHeaded header bytes} side image g (had (other_side side) (image (other_side side)) left))
+  sides-shown run last since = one-shown run last since (λ image g left. shows-one (λ bytes. IsHeaded header bytes) side image g (had (other_side side) (image (other_side side)) left))
 
   pub sides-have : EachMoment before now side old new (IsHeaded header) → SidesHave new header
   sides-have run s content left = elim (two-sides side s) [

@@ -67,7 +67,7 @@ returns-clause-list g c = λ told last list has.
       leaves = append-only c.args.self.now.log.places list has.kept.listed last since has.sole stays run;
       beside = subst (λ s. IsBlankBeside s (g.D.Disk.stands c.append_entry.new.disk)) (sym (ap (λ (k : SideState). k.side) value)) (beside-stays c.args.self.now.log.side (g.D.Disk.stands c.args.disk.now) (g.D.Disk.stands c.append_entry.new.disk) run.other has.beside);
       headed = λ head is.
-          (append-header c.args.self.now.log.places list has.kept.listed last since has.sole (λ s. g.met.D.Disk.stays told c.args.disk.now s) head.0 (has.headed head (sym (ap (λ (k : SideState). k.head) value) ∙ is)) run).standing;
+          (append-header c.args.self.now.log.places list has.kept.listed has.sole (λ s. g.met.D.Disk.stays told c.args.disk.now s) head.0 (has.headed head (sym (ap (λ (k : SideState). k.head) value) ∙ is)) last since run).standing;
     }
 
 pub returns-clause-reads : goal.returns-clause-reads
@@ -82,7 +82,7 @@ returns-clause-reads g c = λ told list kept.
 pub returns-in_err-append_entry-clause-headed : goal.returns-in_err-append_entry-clause-headed
 returns-in_err-append_entry-clause-headed g c = λ told last list has head is.
     let view : c.self.inside.log ≡ c.args.self.now.log = ap (λ (k : Keeping). k.log) c.self.view_is in
-    append-header c.args.self.now.log.places list has.kept.listed last (g.met.D.Disk.since told c.args.disk.now) has.sole (λ s. g.met.D.Disk.stays told c.args.disk.now s) head.0 (has.headed head is) (rw view at (c.append_entry.ensures.any_moment told last))
+    append-header c.args.self.now.log.places list has.kept.listed has.sole (λ s. g.met.D.Disk.stays told c.args.disk.now s) head.0 (has.headed head is) last (g.met.D.Disk.since told c.args.disk.now) (rw view at (c.append_entry.ensures.any_moment told last))
 
 pub returns-in_err-append_entry-clause-past : goal.returns-in_err-append_entry-clause-past
 returns-in_err-append_entry-clause-past g c = λ told last. side-past (c.append_entry.ensures.any_moment told last)
@@ -90,7 +90,7 @@ returns-in_err-append_entry-clause-past g c = λ told last. side-past (c.append_
 pub returns-clause-headed : goal.returns-clause-headed
 returns-clause-headed g c = λ told last list has head is.
     let view : c.self.inside.log ≡ c.args.self.now.log = ap (λ (k : Keeping). k.log) c.self.view_is in
-    append-header c.args.self.now.log.places list has.kept.listed last (g.met.D.Disk.since told c.args.disk.now) has.sole (λ s. g.met.D.Disk.stays told c.args.disk.now s) head.0 (has.headed head is) (rw view at (c.append_entry.ensures.any_moment told last))
+    append-header c.args.self.now.log.places list has.kept.listed has.sole (λ s. g.met.D.Disk.stays told c.args.disk.now s) head.0 (has.headed head is) last (g.met.D.Disk.since told c.args.disk.now) (rw view at (c.append_entry.ensures.any_moment told last))
 
 pub returns-clause-past : goal.returns-clause-past
 returns-clause-past g c = λ told last. side-past (c.append_entry.ensures.any_moment told last)

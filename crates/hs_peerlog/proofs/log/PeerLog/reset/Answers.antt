@@ -3,7 +3,7 @@ use Rattle.hs_ports.specs.declared.disk.Side.{Side}
 use Rattle.hs_side.specs.Reading.{is_blank}
 use Rattle.hs_side.specs.Standing.{SideState}
 use Rattle.hs_side.specs.declared.header.Header.{Header}
-use Rattle.hs_peerlog.specs.Heads.{KeepsHeader, LeavesHeader}
+use Rattle.hs_peerlog.specs.Heads.{LeavesHeader}
 use Rattle.hs_peerlog.specs.Images.{IsSole}
 use Rattle.hs_peerlog.specs.Lists.{IsBlankBeside, Keeping}
 use Rattle.hs_peerlog.proofs.ListLemmas.{empty-kept}
@@ -32,10 +32,9 @@ pub returns-in_err-close_other-clause-headed : goal.returns-in_err-close_other-c
 returns-in_err-close_other-clause-headed g c = λ told last list waiting has head is.
     let view : c.self.inside.log ≡ c.args.self.now.log = ap (λ (k : Keeping). k.log) c.self.view_is in
     let side : c.side-side.result ≡ c.args.self.now.log.side = c.side-side.ensures ∙ ap (λ (k : SideState). k.side) view in
-    let header : c.header-header.result ≡ head.0 = some-header c.args.self.now.log.head head c.header-header.result is (rw view at c.header-header.ensures) in
     let a = g.D.Disk.stands c.args.disk.now in
     let one = c.close_other.ensures.shown told last (subst (λ (s : Side). IsSole s a) (sym side) has.sole) in
-    subst (λ (h : Header). KeepsHeader c.args.watch.now _ h) header (emptied-header a c.header-header.result c.in-Some.generation (weaker-shown one (shown-emptied a c.header-header.result c.in-Some.generation)) (subst (λ (h : Header). LeavesHeader a h) (sym header) (has.headed head is)))
+    emptied-header a head.0 c.in-Some.generation (weaker-shown one (shown-emptied a head.0 c.in-Some.generation)) (has.headed head is)
 
 pub returns-in_err-close_other-clause-past : goal.returns-in_err-close_other-clause-past
 returns-in_err-close_other-clause-past g c = λ told last. c.close_other.ensures.past told last
@@ -54,12 +53,11 @@ pub returns-in_err-close_own-clause-headed : goal.returns-in_err-close_own-claus
 returns-in_err-close_own-clause-headed g c = λ told last list waiting has head is.
     let view : c.self.inside.log ≡ c.args.self.now.log = ap (λ (k : Keeping). k.log) c.self.view_is in
     let side : c.side-side.result ≡ c.args.self.now.log.side = c.side-side.ensures ∙ ap (λ (k : SideState). k.side) view in
-    let header : c.header-header.result ≡ head.0 = some-header c.args.self.now.log.head head c.header-header.result is (rw view at c.header-header.ensures) in
     let a = g.D.Disk.stands c.args.disk.now in
     let one = c.close_other.ensures.shown told last (subst (λ (s : Side). IsSole s a) (sym side) has.sole) in
     let gone = c.in_ok-close_other.ensures.gone told (subst (λ (s : Side). IsBlankBeside s a) (sym side) has.beside) in
     let two = c.close_own.ensures.shown told one.last gone in
-    subst (λ (h : Header). KeepsHeader c.args.watch.now _ h) header (emptied-header a c.header-header.result c.in-Some.generation (then-shown two one (shown-emptied a c.header-header.result c.in-Some.generation) (closed-emptied a c.header-header.result c.in-Some.generation one)) (subst (λ (h : Header). LeavesHeader a h) (sym header) (has.headed head is)))
+    emptied-header a head.0 c.in-Some.generation (then-shown two one (shown-emptied a head.0 c.in-Some.generation) (closed-emptied a head.0 c.in-Some.generation one)) (has.headed head is)
 
 pub returns-in_err-close_own-clause-past : goal.returns-in_err-close_own-clause-past
 returns-in_err-close_own-clause-past g c = λ told last. then-past (c.close_own.ensures.past told (c.close_other.ensures.past told last).last) (c.close_other.ensures.past told last)
@@ -86,8 +84,8 @@ returns-in-Err-clause-headed g c = λ told last list waiting has head is.
     let gone = c.in_ok-close_other.ensures.gone told (subst (λ (s : Side). IsBlankBeside s a) (sym side) has.beside) in
     let two = c.close_own.ensures.shown told one.last gone in
     let there = gone-stays c.side-side.result (g.D.Disk.stands c.close_other.new.disk) (g.D.Disk.stands c.close_own.new.disk) (c.close_own.ensures.other told) gone in
-    let both = then-shown two one (shown-emptied a c.header-header.result c.in-Some.generation) (closed-emptied a c.header-header.result c.in-Some.generation one) in
-    subst (λ (h : Header). KeepsHeader c.args.watch.now _ h) header (emptied-header a c.header-header.result c.in-Some.generation (then-shown (c.write_empty.ensures.shown told two.last there) both (λ bytes s. s) (empty-emptied a c.header-header.result c.in-Some.generation)) (subst (λ (h : Header). LeavesHeader a h) (sym header) (has.headed head is)))
+    let both = then-shown two one (shown-emptied a head.0 c.in-Some.generation) (closed-emptied a head.0 c.in-Some.generation one) in
+    emptied-header a head.0 c.in-Some.generation (then-shown (rw header at (c.write_empty.ensures.shown told two.last there)) both (λ bytes s. s) (empty-emptied a head.0 c.in-Some.generation)) (has.headed head is)
 
 pub returns-in-Err-clause-past : goal.returns-in-Err-clause-past
 returns-in-Err-clause-past g c = λ told last.
@@ -117,8 +115,8 @@ returns-clause-headed g c = λ told last list waiting has head is.
     let gone = c.in_ok-close_other.ensures.gone told (subst (λ (s : Side). IsBlankBeside s a) (sym side) has.beside) in
     let two = c.close_own.ensures.shown told one.last gone in
     let there = gone-stays c.side-side.result (g.D.Disk.stands c.close_other.new.disk) (g.D.Disk.stands c.close_own.new.disk) (c.close_own.ensures.other told) gone in
-    let both = then-shown two one (shown-emptied a c.header-header.result c.in-Some.generation) (closed-emptied a c.header-header.result c.in-Some.generation one) in
-    subst (λ (h : Header). KeepsHeader c.args.watch.now _ h) header (emptied-header a c.header-header.result c.in-Some.generation (then-shown (c.write_empty.ensures.shown told two.last there) both (λ bytes s. s) (empty-emptied a c.header-header.result c.in-Some.generation)) (subst (λ (h : Header). LeavesHeader a h) (sym header) (has.headed head is)))
+    let both = then-shown two one (shown-emptied a head.0 c.in-Some.generation) (closed-emptied a head.0 c.in-Some.generation one) in
+    emptied-header a head.0 c.in-Some.generation (then-shown (rw header at (c.write_empty.ensures.shown told two.last there)) both (λ bytes s. s) (empty-emptied a head.0 c.in-Some.generation)) (has.headed head is)
 
 pub returns-clause-past : goal.returns-clause-past
 returns-clause-past g c = λ told last.

@@ -54,7 +54,7 @@ returns-clause-list g c = λ told last list entry has.
           (rw view at (c.in_ok-seal.ensures.durable told));
       beside = subst (λ s. IsBlankBeside s (g.D.Disk.stands c.seal.new.disk)) (sym is.side) (beside-stays c.args.self.now.log.side (g.D.Disk.stands c.args.disk.now) (g.D.Disk.stands c.seal.new.disk) run.other has.beside);
       headed = λ head same.
-          (seal-header c.args.self.now.log.places list has.kept.listed last since has.sole (λ s. g.met.D.Disk.stays told c.args.disk.now s) head.0 (has.headed head (sym is.head ∙ same))
+          (seal-header c.args.self.now.log.places list has.kept.listed has.sole (λ s. g.met.D.Disk.stays told c.args.disk.now s) head.0 (has.headed head (sym is.head ∙ same)) last since
           c.args.self.now.log.end (record { place = c.args.self.now.log.end; number = last_of list + 1; entry = entry }) has.kept.waits.opens run).standing;
     }
 
@@ -68,7 +68,7 @@ returns-clause-reads g c = λ told list entry kept.
 pub returns-in_err-seal-clause-headed : goal.returns-in_err-seal-clause-headed
 returns-in_err-seal-clause-headed g c = λ told last list entry has head is.
     let view : c.self.inside.log ≡ c.args.self.now.log = ap (λ (k : Keeping). k.log) c.self.view_is in
-    seal-header c.args.self.now.log.places list has.kept.listed last (g.met.D.Disk.since told c.args.disk.now) has.sole (λ s. g.met.D.Disk.stays told c.args.disk.now s) head.0 (has.headed head is)
+    seal-header c.args.self.now.log.places list has.kept.listed has.sole (λ s. g.met.D.Disk.stays told c.args.disk.now s) head.0 (has.headed head is) last (g.met.D.Disk.since told c.args.disk.now)
     c.args.self.now.log.end (record { place = c.args.self.now.log.end; number = last_of list + 1; entry = entry }) has.kept.waits.opens (rw view at (c.seal.ensures.any_moment told last))
 
 pub returns-in_err-seal-clause-past : goal.returns-in_err-seal-clause-past
@@ -77,7 +77,7 @@ returns-in_err-seal-clause-past g c = λ told last. side-past (c.seal.ensures.an
 pub returns-clause-headed : goal.returns-clause-headed
 returns-clause-headed g c = λ told last list entry has head is.
     let view : c.self.inside.log ≡ c.args.self.now.log = ap (λ (k : Keeping). k.log) c.self.view_is in
-    seal-header c.args.self.now.log.places list has.kept.listed last (g.met.D.Disk.since told c.args.disk.now) has.sole (λ s. g.met.D.Disk.stays told c.args.disk.now s) head.0 (has.headed head is)
+    seal-header c.args.self.now.log.places list has.kept.listed has.sole (λ s. g.met.D.Disk.stays told c.args.disk.now s) head.0 (has.headed head is) last (g.met.D.Disk.since told c.args.disk.now)
     c.args.self.now.log.end (record { place = c.args.self.now.log.end; number = last_of list + 1; entry = entry }) has.kept.waits.opens (rw view at (c.seal.ensures.any_moment told last))
 
 pub returns-clause-past : goal.returns-clause-past
