@@ -1,23 +1,23 @@
 -- What a crash leaves while the log of a disk is taken: what it could leave before, or, of a blank disk, an empty log.
-use Rattle.std.proofs.Common.{◌≡◌, ◌∙◌, ◌⊎◌, inl, inr, ℕ, ◌≤◌, true, List, [], Option, Some, Ok, refl, ap, sym, subst}
+use Rattle.std.proofs.Common.{◌≡◌, ◌∙◌, ◌⊎◌, inl, inr, ℕ, ◌≤◌, List, [], Some, refl, ap, sym, subst}
 use Rattle.hs_ports.specs.declared.disk.Side.{Side}
 use Rattle.hs_ports.specs.Disk.{Standing, IsImage}
 use Rattle.hs_entry.specs.declared.entry.Entry.{Entry}
 use Rattle.hs_side.specs.declared.header.Header.{Header}
 use Rattle.hs_side.specs.Current.{current, list_in}
 use Rattle.hs_side.specs.Giving.{GivesEmpty}
-use Rattle.hs_side.specs.Reading.{is_blank, list_of, listed}
+use Rattle.hs_side.specs.Reading.{list_of, listed}
 use Rattle.hs_side.proofs.BlankLemmas.{blank_log}
-use Rattle.hs_peerlog.specs.Heads.{IsHeaded, KeepsHeader, LeavesHeader}
-use Rattle.hs_peerlog.specs.Images.{GivesList, Is, IsAlone, IsAny, IsStanding, LeavesAll, LeavesAny, LeavesEach, LeavesOnly}
-use Rattle.hs_peerlog.specs.Steps.{IsKeptOrMade, IsShown, ShowsEach, shown}
+use Rattle.hs_peerlog.specs.Heads.{KeepsHeader, LeavesHeader}
+use Rattle.hs_peerlog.specs.Images.{GivesList, Is, IsAny, IsStanding, LeavesAll, LeavesAny, LeavesEach, LeavesOnly}
+use Rattle.hs_peerlog.specs.Steps.{IsKeptOrMade, CouldShow, ShowsEach}
 use Rattle.hs_peerlog.proofs.HeaderLemmas.{empty-headed}
 use Rattle.hs_peerlog.proofs.ImageLemmas.{Since}
 use Rattle.hs_peerlog.proofs.ShownLemmas.{Lists, all-shown, image-header, image-lists, only-gives, shown-header, shown-lists, still-shown, then-shown, weaker-shown}
 
 -- what a crash leaves of the disk then
 pub record IsFound (disk : Standing) (header : Header) (bytes : List ℕ) : Type 0 where
-  pub one : IsShown disk bytes ⊎ ((list_in disk.seen ≡ Some []) × GivesEmpty header 1 bytes)
+  pub one : CouldShow disk bytes ⊎ ((list_in disk.seen ≡ Some []) × GivesEmpty header 1 bytes)
 
 module _ (disk : Standing) (header : Header) (stays : (side : Side) → IsImage (disk.loose side) (disk.seen side)) where
   seen-stands : IsStanding disk disk.seen
@@ -32,7 +32,7 @@ module _ (disk : Standing) (header : Header) (stays : (side : Side) → IsImage 
     }
   ]
 
-  pub shown-found : (bytes : List ℕ) → IsShown disk bytes → IsFound disk header bytes
+  pub shown-found : (bytes : List ℕ) → CouldShow disk bytes → IsFound disk header bytes
   shown-found bytes s = record { one = inl s }
 
   -- it has a list as each image had one before

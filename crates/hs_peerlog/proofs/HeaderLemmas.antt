@@ -1,5 +1,5 @@
 -- The header of a side, and of the disk of a peer.
-use Rattle.std.proofs.Common.{◌≡◌, ◌∙◌, ◌⊎◌, inl, inr, ℕ, ◌==◌, ◌&&◌, Bool, true, false, List, [], take, drop, Option, Some, None, IfSome, Result, Ok, Err, refl, ap, sym, subst, if◌then◌else◌}
+use Rattle.std.proofs.Common.{◌≡◌, ◌∙◌, inl, inr, ℕ, ◌==◌, ◌&&◌, Bool, true, false, List, [], take, drop, Option, Some, None, IfSome, Result, Ok, refl, ap, sym, subst, if◌then◌else◌}
 use Rattle.std.specs.Option.{option_map}
 use Rattle.std.specs.Prelude.{MatchOption, unwrap_or}
 use Rattle.std.proofs.lemmas.Bool.{eqb-true, false≢true}
@@ -18,7 +18,7 @@ use Rattle.hs_side.specs.Reading.{Log, frames, head_of, is_blank, log_of}
 use Rattle.hs_side.specs.Standing.{HasLog, HasNone, SideState, Stands}
 use Rattle.hs_side.proofs.CrashLemmas.{log_is}
 use Rattle.hs_peerlog.specs.declared.fault.LogFault.TheVariants.{WrongShape}
-use Rattle.hs_peerlog.specs.Heads.{IsHeaded, LeavesHeader, head_found, own_head}
+use Rattle.hs_peerlog.specs.Heads.{IsBlankOrOf, LeavesHeader, head_found, own_head}
 use Rattle.hs_peerlog.specs.Images.{IsAlone}
 use Rattle.hs_peerlog.specs.Opening.{is_own, refused_head}
 use Rattle.hs_peerlog.proofs.ImageLemmas.{current-same, image-is, log-generation}
@@ -62,22 +62,22 @@ log-header bytes log e = go (is_blank bytes) e
 pub blank-header : (bytes : List ℕ) → is_blank bytes ≡ true → header_in bytes ≡ Ok None
 blank-header bytes blank = rw blank refl
 
-pub blank-headed : (header : Header) (bytes : List ℕ) → is_blank bytes ≡ true → IsHeaded header bytes
+pub blank-headed : (header : Header) (bytes : List ℕ) → is_blank bytes ≡ true → IsBlankOrOf header bytes
 blank-headed header bytes blank = record { one = inl (blank-header bytes blank) }
 
-pub log-headed : (bytes : List ℕ) (log : Log) → log_of bytes ≡ Ok (Some log) → IsHeaded log.header bytes
+pub log-headed : (bytes : List ℕ) (log : Log) → log_of bytes ≡ Ok (Some log) → IsBlankOrOf log.header bytes
 log-headed bytes log read = record { one = inr (log-header bytes log read) }
 
 -- while an empty log is written
-pub empty-headed : (header : Header) (generation : ℕ) (bytes : List ℕ) → GivesEmpty header generation bytes → IsHeaded header bytes
+pub empty-headed : (header : Header) (generation : ℕ) (bytes : List ℕ) → GivesEmpty header generation bytes → IsBlankOrOf header bytes
 empty-headed header generation bytes g = elim g.one [
   | inl none ↦ blank-headed header bytes (log-blank bytes none)
   | inr read ↦ log-headed bytes (record { header = header; generation = generation; frames = [] }) read
 ]
 
 -- bytes of one log have its header
-pub same-headed : (header : Header) (seen bytes : List ℕ) (log : Log) → log_of seen ≡ Ok (Some log) → log.header ≡ header → log_of bytes ≡ log_of seen → IsHeaded header bytes
-same-headed header seen bytes log read is same = subst (λ (h : Header). IsHeaded h bytes) is (log-headed bytes log (same ∙ read))
+pub same-headed : (header : Header) (seen bytes : List ℕ) (log : Log) → log_of seen ≡ Ok (Some log) → log.header ≡ header → log_of bytes ≡ log_of seen → IsBlankOrOf header bytes
+same-headed header seen bytes log read is same = subst (λ (h : Header). IsBlankOrOf h bytes) is (log-headed bytes log (same ∙ read))
 
 -- a log whose side has its header has it
 abbrev told : Option Header → Result (Option Header) ℕ
@@ -89,7 +89,7 @@ ok_some a b e = cc e
 ok_none : (a : Header) → told (Some a) ≡ told None → ⊥
 ok_none a e = cc e
 
-pub headed-log : (header : Header) (bytes : List ℕ) (log : Log) → IsHeaded header bytes → log_of bytes ≡ Ok (Some log) → log.header ≡ header
+pub headed-log : (header : Header) (bytes : List ℕ) (log : Log) → IsBlankOrOf header bytes → log_of bytes ≡ Ok (Some log) → log.header ≡ header
 headed-log header bytes log h read = elim h.one [
   | inl none ↦ absurd (ok_none log.header (sym (log-header bytes log read) ∙ none))
   | inr is ↦ ok_some log.header header (sym (log-header bytes log read) ∙ is)

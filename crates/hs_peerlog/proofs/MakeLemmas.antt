@@ -1,5 +1,5 @@
 -- The log that a blank side gets.
-use Rattle.std.proofs.Common.{◌≡◌, ◌∙◌, inl, inr, ℕ, ◌^◌, ◌<◌, ◌≤◌, List, [], Option, Some, None, IfSome, IsSome, MatchOption, is_some, true, false, refl, ap, sym, subst, arith}
+use Rattle.std.proofs.Common.{◌≡◌, ◌∙◌, inl, inr, ℕ, ◌^◌, ◌<◌, ◌≤◌, List, [], Option, Some, None, IfSome, IsSome, MatchOption, is_some, true, false, refl, ap, sym, subst}
 use Rattle.hs_ports.specs.declared.disk.Side.{Side}
 use Rattle.hs_ports.specs.Disk.{Standing, IsImage, other_side, settled}
 use Rattle.hs_ports.specs.Moments.{EachMoment}
@@ -15,7 +15,7 @@ use Rattle.hs_side.proofs.BlankLemmas.{empty_log, blank_log}
 use Rattle.hs_peerlog.specs.Images.{IsAlone}
 use Rattle.hs_peerlog.specs.Lists.{HasFrames, HasList}
 use Rattle.hs_peerlog.specs.Opening.{HasOpened}
-use Rattle.hs_peerlog.specs.Steps.{IsKeptOrMade, ShowsEach, shown}
+use Rattle.hs_peerlog.specs.Steps.{IsKeptOrMade, ShowsEach, current_bytes}
 use Rattle.hs_peerlog.proofs.ImageLemmas.{Since, current-same, first-current, image-is, two-sides}
 use Rattle.hs_peerlog.proofs.ListLemmas.{has-list}
 use Rattle.hs_peerlog.proofs.ShownLemmas.{one-shown, still-shown}
@@ -59,7 +59,7 @@ pub first-shown : {before now : ℕ} {side : Side} {old new : Standing} (header 
     → ShowsEach before now old new (IsKeptOrMade (old.seen side) header)
 first-shown {before} {now} {side} {old} {new} header run last since alone blank = one-shown run last since given
   where
-    given : (image : Side → List ℕ) → GivesEmpty header 1 (image side) → IsImage (old.loose (other_side side)) (image (other_side side)) → IsKeptOrMade (old.seen side) header (shown image)
+    given : (image : Side → List ℕ) → GivesEmpty header 1 (image side) → IsImage (old.loose (other_side side)) (image (other_side side)) → IsKeptOrMade (old.seen side) header (current_bytes image)
     given image g left =
         let beside : image (other_side side) ≡ old.seen (other_side side) = settled_only (old.seen (other_side side)) (image (other_side side)) (subst (λ l. IsImage l (image (other_side side))) (alone.settled (other_side side)) left) in
         let is : current image ≡ side = first-current side old.seen (image side) alone.current blank image refl beside in

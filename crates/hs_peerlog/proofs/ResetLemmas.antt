@@ -1,5 +1,5 @@
 -- What a crash leaves while a log is emptied: one side is closed after the other, and an empty log is written.
-use Rattle.std.proofs.Common.{◌≡◌, ◌∙◌, ◌⊎◌, inl, inr, ℕ, ◌^◌, ◌<◌, ◌≤◌, Bool, true, false, List, [], Option, Some, None, Result, Ok, Err, OnOk, refl, ap, sym, subst, arith}
+use Rattle.std.proofs.Common.{◌≡◌, ◌∙◌, ◌⊎◌, inl, inr, ℕ, ◌^◌, ◌<◌, ◌≤◌, Bool, true, false, List, [], Option, Some, None, Result, Ok, Err, OnOk, refl, ap, sym, subst}
 use Rattle.hs_ports.specs.declared.disk.Side.{Side}
 use Rattle.hs_ports.specs.declared.disk.Side.TheVariants.{Zero, One}
 use Rattle.hs_ports.specs.Disk.{Standing, IsImage, Untouched, other_side, settled}
@@ -13,13 +13,13 @@ use Rattle.hs_side.specs.Giving.{GivesEmpty, IsBlankEverywhere}
 use Rattle.hs_side.specs.Reading.{is_blank, list_of, listed, log_of}
 use Rattle.hs_side.specs.Spelling.{spelled}
 use Rattle.hs_side.proofs.BlankLemmas.{blank_log, empty_log}
-use Rattle.hs_peerlog.specs.Heads.{IsHeaded, KeepsHeader, LeavesHeader, SidesHave}
+use Rattle.hs_peerlog.specs.Heads.{IsBlankOrOf, KeepsHeader, LeavesHeader, SidesHave}
 use Rattle.hs_peerlog.specs.Images.{GivesClosed, IsOne, IsSole, IsStanding, LeavesEach, LeavesOnly}
 use Rattle.hs_peerlog.specs.Lists.{HasList, IsBlankBeside}
-use Rattle.hs_peerlog.specs.Steps.{IsShown, IsShownOrBlank, ShowsEach, shown}
+use Rattle.hs_peerlog.specs.Steps.{CouldShow, CouldShowOrBlank, ShowsEach, current_bytes}
 use Rattle.hs_peerlog.proofs.HeaderLemmas.{blank-headed, empty-headed}
 use Rattle.hs_peerlog.proofs.ImageLemmas.{Since, log-generation, two-sides}
-use Rattle.hs_peerlog.proofs.ShownLemmas.{Lists, image-header, one-shown, shown-header, shown-lists, weaker-shown}
+use Rattle.hs_peerlog.proofs.ShownLemmas.{Lists, image-header, one-shown, shown-header, shown-lists, then-shown, weaker-shown}
 use Rattle.hs_peerlog.proofs.SoleLemmas.{beside, beside-here, beside-there}
 
 pub twice : (s : Side) → other_side (other_side s) ≡ s
@@ -75,7 +75,7 @@ module _ (side : Side) {a : Standing} (sole : IsSole side a) (stays : (s : Side)
   }
 
   -- each content of the side in use is shown by an image
-  side-shown : (content : List ℕ) → IsImage (a.loose side) content → IsShown a content
+  side-shown : (content : List ℕ) → IsImage (a.loose side) content → CouldShow a content
   side-shown content left =
       let mixed : Side → List ℕ = beside side content (a.seen (other_side side)) in
       let stands = mixed-left content left in
@@ -87,13 +87,13 @@ module _ (side : Side) {a : Standing} (sole : IsSole side a) (stays : (s : Side)
       let mixed : Side → List ℕ = beside side (image side) (a.seen (other_side side)) in
       beside-blank side mixed image (sole mixed (mixed-left (image side) left)) (ap (λ b. generation_in b) (sym (beside-here side (image side) (a.seen (other_side side))))) (blank-generation (image (other_side side)) blank)
 
-  closed-shows : (image : Side → List ℕ) → GivesClosed (a.loose (other_side side)) (image (other_side side)) → IsImage (a.loose side) (image side) → IsShown a (shown image)
+  closed-shows : (image : Side → List ℕ) → GivesClosed (a.loose (other_side side)) (image (other_side side)) → IsImage (a.loose side) (image side) → CouldShow a (current_bytes image)
   closed-shows image g left = elim g.one [
-    | inl blank ↦ subst (λ (s : Side). IsShown a (image s)) (sym (side-current image left blank)) (side-shown (image side) left)
+    | inl blank ↦ subst (λ (s : Side). CouldShow a (image s)) (sym (side-current image left blank)) (side-shown (image side) left)
     | inr there ↦ record { image = image; stands = record { sides = λ s. elim (two-sides side s) [ inl e ↦ subst (λ x. IsImage (a.loose x) (image x)) e left | inr e ↦ subst (λ x. IsImage (a.loose x) (image x)) e there ] }; same = refl }
   ]
 
-  pub other-closed : {before now : ℕ} {b : Standing} → EachMoment before now (other_side side) a b (GivesClosed (a.loose (other_side side))) → a.last ≤ before → Since a → ShowsEach before now a b (IsShown a)
+  pub other-closed : {before now : ℕ} {b : Standing} → EachMoment before now (other_side side) a b (GivesClosed (a.loose (other_side side))) → a.last ≤ before → Since a → ShowsEach before now a b (CouldShow a)
   other-closed {before} {now} {b} run last since = one-shown run last since (λ image g left. closed-shows image g (subst (λ s. IsImage (a.loose s) (image s)) (twice side) left))
 
 -- then it is blank, whatever a crash leaves
@@ -107,18 +107,18 @@ closed-beside side a b beside left closed = go (is_blank (a.seen (other_side sid
 -- ---- the side in use is closed, beside a blank one
 
 -- what an image shows beside a blank side is its own, or blank
-shows-one : (P : List ℕ → Type 0) (side : Side) (image : Side → List ℕ) → P (image side) → P (image (other_side side)) → P (shown image)
+shows-one : (P : List ℕ → Type 0) (side : Side) (image : Side → List ℕ) → P (image side) → P (image (other_side side)) → P (current_bytes image)
 shows-one P side image here there = elim (two-sides side (current image)) [
   | inl e ↦ subst (λ (s : Side). P (image s)) e here
   | inr e ↦ subst (λ (s : Side). P (image s)) e there
 ]
 
-pub side-closed : {before now : ℕ} (side : Side) {b c : Standing} → IsBlankEverywhere (b.loose (other_side side)) → EachMoment before now side b c (GivesClosed (b.loose side)) → b.last ≤ before → Since b → ShowsEach before now b c (IsShownOrBlank b)
+pub side-closed : {before now : ℕ} (side : Side) {b c : Standing} → IsBlankEverywhere (b.loose (other_side side)) → EachMoment before now side b c (GivesClosed (b.loose side)) → b.last ≤ before → Since b → ShowsEach before now b c (CouldShowOrBlank b)
 side-closed {before} {now} side {b} {c} gone run last since = one-shown run last since given
   where
-    given : (image : Side → List ℕ) → GivesClosed (b.loose side) (image side) → IsImage (b.loose (other_side side)) (image (other_side side)) → IsShownOrBlank b (shown image)
+    given : (image : Side → List ℕ) → GivesClosed (b.loose side) (image side) → IsImage (b.loose (other_side side)) (image (other_side side)) → CouldShowOrBlank b (current_bytes image)
     given image g there = elim g.one [
-      | inl blank ↦ shows-one (λ bytes. IsShownOrBlank b bytes) side image (record { one = inr blank }) (record { one = inr (gone (image (other_side side)) there) })
+      | inl blank ↦ shows-one (λ bytes. CouldShowOrBlank b bytes) side image (record { one = inr blank }) (record { one = inr (gone (image (other_side side)) there) })
       | inr left ↦ record {
         one = inl (record { image = image; stands = record { sides = λ s. elim (two-sides side s) [ inl e ↦ subst (λ x. IsImage (b.loose x) (image x)) e left | inr e ↦ subst (λ x. IsImage (b.loose x) (image x)) e there ] }; same = refl });
       }
@@ -162,21 +162,29 @@ gone-stays side a b other gone = subst (λ l. IsBlankEverywhere l) (sym other.lo
 
 -- what a crash leaves of the disk then
 pub record IsEmptied (disk : Standing) (header : Header) (generation : ℕ) (bytes : List ℕ) : Type 0 where
-  pub one : IsShown disk bytes ⊎ GivesEmpty header generation bytes
+  pub one : CouldShow disk bytes ⊎ GivesEmpty header generation bytes
 
 module _ (disk : Standing) (header : Header) (generation : ℕ) where
-  pub shown-emptied : (bytes : List ℕ) → IsShown disk bytes → IsEmptied disk header generation bytes
+  shown-emptied : (bytes : List ℕ) → CouldShow disk bytes → IsEmptied disk header generation bytes
   shown-emptied bytes s = record { one = inl s }
 
   -- of what the disk shows behind calls that left it so
-  pub closed-emptied : {before now : ℕ} {mid : Standing} → ShowsEach before now disk mid (IsShown disk) → (bytes : List ℕ) → IsShownOrBlank mid bytes → IsEmptied disk header generation bytes
+  closed-emptied : {before now : ℕ} {mid : Standing} → ShowsEach before now disk mid (CouldShow disk) → (bytes : List ℕ) → CouldShowOrBlank mid bytes → IsEmptied disk header generation bytes
   closed-emptied {before} {now} {mid} run bytes s = elim s.one [
-    | inl there ↦ record { one = inl (subst (λ b. IsShown disk b) there.same (run.standing there.image there.stands)) }
+    | inl there ↦ record { one = inl (subst (λ b. CouldShow disk b) there.same (run.standing there.image there.stands)) }
     | inr blank ↦ record { one = inr (blank-empty header generation bytes blank) }
   ]
 
-  pub empty-emptied : (bytes : List ℕ) → GivesEmpty header generation bytes → IsEmptied disk header generation bytes
-  empty-emptied bytes g = record { one = inr g }
+  -- the other side is closed, and then the side in use, and then an empty log is written
+  pub one-emptied : {first second : ℕ} {b : Standing} → ShowsEach first second disk b (CouldShow disk) → ShowsEach first second disk b (IsEmptied disk header generation)
+  one-emptied one = weaker-shown one shown-emptied
+
+  pub two-emptied : {first second third : ℕ} {b c : Standing} → ShowsEach first second disk b (CouldShow disk) → ShowsEach second third b c (CouldShowOrBlank b) → ShowsEach first third disk c (IsEmptied disk header generation)
+  two-emptied one two = then-shown two one shown-emptied (closed-emptied one)
+
+  pub all-emptied : {first second third last : ℕ} {b c d : Standing} → ShowsEach first second disk b (CouldShow disk) → ShowsEach second third b c (CouldShowOrBlank b) → ShowsEach third last c d (GivesEmpty header generation)
+      → ShowsEach first last disk d (IsEmptied disk header generation)
+  all-emptied one two three = then-shown three (two-emptied one two) (λ bytes s. s) (λ bytes g. record { one = inr g })
 
   module _ {before now : ℕ} {new : Standing} (run : ShowsEach before now disk new (IsEmptied disk header generation)) where
     -- it has the list that it had, or the empty one
@@ -197,18 +205,18 @@ module _ (disk : Standing) (header : Header) (generation : ℕ) where
 
 -- calls on one side, which leave it blank or as it was, on a disk no side of which has another header
 module _ (header : Header) {before now : ℕ} {side : Side} {old new : Standing} (had : SidesHave old header) where
-  pub sides-shown : EachMoment before now side old new (IsHeaded header) → old.last ≤ before → Since old → ShowsEach before now old new (IsHeaded header)
-  sides-shown run last since = one-shown run last since (λ image g left. shows-one (λ bytes. IsHeaded header bytes) side image g (had (other_side side) (image (other_side side)) left))
+  pub sides-shown : EachMoment before now side old new (IsBlankOrOf header) → old.last ≤ before → Since old → ShowsEach before now old new (IsBlankOrOf header)
+  sides-shown run last since = one-shown run last since (λ image g left. shows-one (λ bytes. IsBlankOrOf header bytes) side image g (had (other_side side) (image (other_side side)) left))
 
-  pub sides-have : EachMoment before now side old new (IsHeaded header) → SidesHave new header
+  pub sides-have : EachMoment before now side old new (IsBlankOrOf header) → SidesHave new header
   sides-have run s content left = elim (two-sides side s) [
     | inl e ↦ run.standing content (subst (λ x. IsImage (new.loose x) content) (sym e) left)
     | inr e ↦ had (other_side side) content (subst (λ l. IsImage l content) run.other.loose (subst (λ x. IsImage (new.loose x) content) (sym e) left))
   ]
 
   -- of a side that is closed, and of one that is put on the medium
-  pub closed-headed : EachMoment before now side old new (GivesClosed (old.loose side)) → EachMoment before now side old new (IsHeaded header)
+  pub closed-headed : EachMoment before now side old new (GivesClosed (old.loose side)) → EachMoment before now side old new (IsBlankOrOf header)
   closed-headed run = weaker run (λ content g. elim g.one [ inl blank ↦ blank-headed header content blank | inr left ↦ had side content left ])
 
-  pub settled-headed : EachMoment before now side old new (IsImage (old.loose side)) → EachMoment before now side old new (IsHeaded header)
+  pub settled-headed : EachMoment before now side old new (IsImage (old.loose side)) → EachMoment before now side old new (IsBlankOrOf header)
   settled-headed run = weaker run (λ content left. had side content left)

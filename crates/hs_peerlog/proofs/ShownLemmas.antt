@@ -1,22 +1,21 @@
 -- What the current side of each image has, along calls.
-use Rattle.std.proofs.Common.{◌≡◌, ◌∙◌, ◌⊎◌, inl, inr, ℕ, ◌<◌, ◌≤◌, true, List, [], Some, Ok, refl, ap, sym, subst, arith}
+use Rattle.std.proofs.Common.{◌≡◌, ◌∙◌, ◌⊎◌, inl, inr, ℕ, ◌<◌, ◌≤◌, List, Some, refl, ap, sym, subst, arith}
 use Rattle.hs_ports.specs.declared.disk.Side.{Side}
 use Rattle.hs_ports.specs.Disk.{Standing, IsImage, other_side}
 use Rattle.hs_ports.specs.Moments.{EachMoment}
 use Rattle.hs_entry.specs.declared.entry.Entry.{Entry}
 use Rattle.hs_side.specs.declared.header.Header.{Header}
-use Rattle.hs_side.specs.Current.{current, list_in}
 use Rattle.hs_side.specs.Reading.{list_of}
-use Rattle.hs_peerlog.specs.Heads.{IsHeaded, KeepsHeader, LeavesHeader}
-use Rattle.hs_peerlog.specs.Images.{GivesList, Is, IsAny, IsStanding, LeavesAll, LeavesAny, LeavesEach, LeavesOnly}
+use Rattle.hs_peerlog.specs.Heads.{IsBlankOrOf, KeepsHeader, LeavesHeader}
+use Rattle.hs_peerlog.specs.Images.{GivesList, Is, IsStanding, LeavesAll, LeavesEach, LeavesOnly}
 use Rattle.hs_peerlog.specs.Past.{PastStays}
-use Rattle.hs_peerlog.specs.Steps.{IsShown, IsShownOrBlank, ShowsEach, shown}
+use Rattle.hs_peerlog.specs.Steps.{CouldShow, ShowsEach, current_bytes}
 use Rattle.hs_peerlog.proofs.ImageLemmas.{Since, two-sides}
 
 -- ---- calls, one after another
 
 -- nothing was called
-pub still-shown : {now : ℕ} {disk : Standing} {P : List ℕ → Type 0} → disk.last ≤ now → Since disk → ((image : Side → List ℕ) → IsStanding disk image → P (shown image)) → ShowsEach now now disk disk P
+pub still-shown : {now : ℕ} {disk : Standing} {P : List ℕ → Type 0} → disk.last ≤ now → Since disk → ((image : Side → List ℕ) → IsStanding disk image → P (current_bytes image)) → ShowsEach now now disk disk P
 still-shown last since holds = record {
   later = omega arith;
   last = last;
@@ -27,7 +26,7 @@ still-shown last since holds = record {
 
 -- calls on one side
 pub one-shown : {before now : ℕ} {side : Side} {old new : Standing} {P Q : List ℕ → Type 0} → EachMoment before now side old new P → old.last ≤ before → Since old
-    → ((image : Side → List ℕ) → P (image side) → IsImage (old.loose (other_side side)) (image (other_side side)) → Q (shown image)) → ShowsEach before now old new Q
+    → ((image : Side → List ℕ) → P (image side) → IsImage (old.loose (other_side side)) (image (other_side side)) → Q (current_bytes image)) → ShowsEach before now old new Q
 one-shown {before} {now} {side} {old} {new} {P} {Q} run last since gives = record {
   later = run.later;
   last = run.last;
@@ -41,7 +40,7 @@ one-shown {before} {now} {side} {old} {new} {P} {Q} run last since gives = recor
 }
 
 -- calls that leave all as it is
-pub all-shown : {before now : ℕ} {old new : Standing} → LeavesAll before now old new → ShowsEach before now old new (IsShown old)
+pub all-shown : {before now : ℕ} {old new : Standing} → LeavesAll before now old new → ShowsEach before now old new (CouldShow old)
 all-shown {before} {now} {old} {new} run = record {
   later = run.later;
   last = run.last;
@@ -61,10 +60,10 @@ then-shown {first} {middle} {last} {a} {b} {c} two one p q = record {
   last = two.last;
   earlier = λ side m low fits. two.earlier side m (omega (arith, low, one.later)) fits ∙ one.earlier side m low fits;
   each = λ m high fits image left. elim (ordered m middle) [
-    | inl low ↦ p (shown image) (one.each m high fits image (λ s. subst (λ l. IsImage l (image s)) (two.earlier s m low fits) (left s)))
-    | inr up ↦ q (shown image) (two.each m up fits image left)
+    | inl low ↦ p (current_bytes image) (one.each m high fits image (λ s. subst (λ l. IsImage l (image s)) (two.earlier s m low fits) (left s)))
+    | inr up ↦ q (current_bytes image) (two.each m up fits image left)
   ];
-  standing = λ image left. q (shown image) (two.standing image left);
+  standing = λ image left. q (current_bytes image) (two.standing image left);
 }
 
 pub weaker-shown : {before now : ℕ} {a b : Standing} {P Q : List ℕ → Type 0} → ShowsEach before now a b P → ((bytes : List ℕ) → P bytes → Q bytes) → ShowsEach before now a b Q
@@ -72,8 +71,8 @@ weaker-shown run p = record {
   later = run.later;
   last = run.last;
   earlier = run.earlier;
-  each = λ m high fits image left. p (shown image) (run.each m high fits image left);
-  standing = λ image left. p (shown image) (run.standing image left);
+  each = λ m high fits image left. p (current_bytes image) (run.each m high fits image left);
+  standing = λ image left. p (current_bytes image) (run.standing image left);
 }
 
 -- ---- what that is of lists, of headers and of the past
@@ -93,7 +92,7 @@ shown-lists run = record {
   standing = λ image left. let g = run.standing image left in record { list = g.list; read = g.read; holds = g.holds };
 }
 
-pub shown-header : {before now : ℕ} {a b : Standing} {header : Header} → ShowsEach before now a b (IsHeaded header) → KeepsHeader before b header
+pub shown-header : {before now : ℕ} {a b : Standing} {header : Header} → ShowsEach before now a b (IsBlankOrOf header) → KeepsHeader before b header
 shown-header run = record { each = run.each; standing = run.standing }
 
 pub shown-past : {before now : ℕ} {a b : Standing} {P : List ℕ → Type 0} → ShowsEach before now a b P → PastStays before now a b
@@ -123,11 +122,11 @@ side-past {before} {now} {side} {old} {new} {P} run = record {
 -- ---- what an image shows that could be left before
 
 -- of a disk each image of which has a list of which this holds
-pub image-lists : {P : List (ℕ × Entry) → Type 0} (disk : Standing) → ((image : Side → List ℕ) → IsStanding disk image → GivesList P image) → (bytes : List ℕ) → IsShown disk bytes → Lists P bytes
+pub image-lists : {P : List (ℕ × Entry) → Type 0} (disk : Standing) → ((image : Side → List ℕ) → IsStanding disk image → GivesList P image) → (bytes : List ℕ) → CouldShow disk bytes → Lists P bytes
 image-lists disk leaves bytes s = let g = leaves s.image s.stands in record { list = g.list; read = ap (λ b. list_of b) (sym s.same) ∙ g.read; holds = g.holds }
 
 pub only-gives : (disk : Standing) (list : List (ℕ × Entry)) → LeavesOnly disk list → (image : Side → List ℕ) → IsStanding disk image → GivesList (Is list) image
 only-gives disk list leaves image left = record { list = list; read = leaves image left; holds = refl }
 
-pub image-header : {header : Header} (disk : Standing) → LeavesHeader disk header → (bytes : List ℕ) → IsShown disk bytes → IsHeaded header bytes
-image-header {header} disk leaves bytes s = subst (λ b. IsHeaded header b) s.same (leaves s.image s.stands)
+pub image-header : {header : Header} (disk : Standing) → LeavesHeader disk header → (bytes : List ℕ) → CouldShow disk bytes → IsBlankOrOf header bytes
+image-header {header} disk leaves bytes s = subst (λ b. IsBlankOrOf header b) s.same (leaves s.image s.stands)

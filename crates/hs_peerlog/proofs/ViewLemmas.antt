@@ -1,5 +1,5 @@
 -- The log of a disk that stands as a view found it.
-use Rattle.std.proofs.Common.{◌≡◌, ◌∙◌, ◌⊎◌, inl, inr, ℕ, true, false, List, [], map, Option, Some, None, Result, Ok, Err, IfSome, IsSome, MatchOption, refl, ap, sym, subst, if◌then◌else◌}
+use Rattle.std.proofs.Common.{◌≡◌, ◌∙◌, ℕ, true, false, List, [], map, Option, Some, None, Result, Ok, Err, IfSome, IsSome, MatchOption, refl, ap, sym, subst, if◌then◌else◌}
 use Rattle.std.specs.Option.{option_map}
 use Rattle.hs_limits.specs.declared.shape.Shape.{Shape}
 use Rattle.hs_ports.specs.declared.disk.Side.{Side}
@@ -8,7 +8,7 @@ use Rattle.hs_entry.specs.declared.entry.Entry.{Entry}
 use Rattle.hs_side.specs.declared.header.Header.{Header}
 use Rattle.hs_side.specs.Current.{current, generation_in, header_in, list_in}
 use Rattle.hs_side.specs.Headers.{own_header}
-use Rattle.hs_side.specs.Reading.{Log, entry_of, is_blank, list_of, listed, log_of}
+use Rattle.hs_side.specs.Reading.{Log, entry_of, list_of, listed, log_of}
 use Rattle.hs_side.specs.Standing.{HasLog, HasNone, SideState, Stands}
 use Rattle.hs_side.proofs.BlankLemmas.{blank_log}
 use Rattle.hs_side.proofs.CrashLemmas.{log_is}

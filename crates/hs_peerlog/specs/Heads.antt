@@ -10,25 +10,25 @@ use Rattle.hs_side.specs.Headers.{own_header}
 use Rattle.hs_peerlog.specs.Images.{IsStanding}
 
 -- these bytes of a side are blank, or have this header
-pub record IsHeaded (header : Header) (bytes : List ℕ) : Type 0 where
+pub record IsBlankOrOf (header : Header) (bytes : List ℕ) : Type 0 where
   pub one : (header_in bytes ≡ Ok None) ⊎ (header_in bytes ≡ Ok (Some header))
 
 -- so are those of the current side of every image; of the other side nothing is known
 abbrev pub LeavesHeader : Standing → Header → Type 0
 LeavesHeader disk header =
-    (image : Side → List ℕ) → IsStanding disk image → IsHeaded header (image (current image))
+    (image : Side → List ℕ) → IsStanding disk image → IsBlankOrOf header (image (current image))
 
 -- and so is all that a crash leaves of either side
 abbrev pub SidesHave : Standing → Header → Type 0
 SidesHave disk header =
-    (side : Side) (content : List ℕ) → IsImage (disk.loose side) content → IsHeaded header content
+    (side : Side) (content : List ℕ) → IsImage (disk.loose side) content → IsBlankOrOf header content
 
 -- calls on a disk from the moment before on: so is the current side of each image of a moment after
 -- before, and of each from now on; nothing is said of the last moment of a u64
 pub record KeepsHeader (before : ℕ) (disk : Standing) (header : Header) : Type 0 where
   pub each : (m : ℕ) → before < m → m < 2 ^ 64 - 1 → (image : Side → List ℕ)
       → ((side : Side) → IsImage (disk.past m side) (image side))
-      → IsHeaded header (image (current image))
+      → IsBlankOrOf header (image (current image))
   pub standing : LeavesHeader disk header
 
 -- the head that a disk of this peer has: its own header, with its generation, None where it is blank

@@ -28,7 +28,7 @@ pub record HasSomeView (viewing : Viewing) (seen : Side → List ℕ) : Type 0 w
   pub has : HasView viewing seen list
 
 -- the disk stands as it was read: the side of the view is current, and all of both is on the medium
-pub record IsFresh (tells : Type 0) (viewing : Viewing) (size : ℕ) (disk : Standing) : Type 0 where
+pub record IsAsViewed (tells : Type 0) (viewing : Viewing) (size : ℕ) (disk : Standing) : Type 0 where
   pub stands : Stands tells viewing.log size disk
   pub rests : viewing.log.waiting ≡ None
   pub alone : tells → IsAlone viewing.log.side disk

@@ -5,7 +5,7 @@ ghost use Rattle.hs_side.specs.declared.header.Header.{Header};
 ghost use Rattle.hs_side.specs.Giving.{IsBlankEverywhere};
 ghost use Rattle.hs_side.specs.Headers.{own_header};
 ghost use Rattle.hs_peerlog.specs.Caused.{IsCalm, IsCaused, IsOutside};
-ghost use Rattle.hs_peerlog.specs.Heads.{IsHeaded, KeepsHeader, SidesHave};
+ghost use Rattle.hs_peerlog.specs.Heads.{IsBlankOrOf, KeepsHeader, SidesHave};
 ghost use Rattle.hs_peerlog.specs.Lists.{HasLog, IsReady};
 ghost use Rattle.hs_peerlog.specs.Past.{PastStays};
 ghost use Rattle.hs_peerlog.specs.Steps.{ShowsEach};
@@ -73,7 +73,7 @@ fn close_both<D: Disk>(alloc: Global, disk: &mut D, watch: &mut Watch) -> Result
     ensures shown { (header : Header) → D.tells → (D.stands disk.old).last ≤ watch.old
         → SidesHave (D.stands disk.old) header
         → ShowsEach watch.old watch.new (D.stands disk.old) (D.stands disk.new)
-        (IsHeaded header) }
+        (IsBlankOrOf header) }
     ensures past { D.tells → (D.stands disk.old).last ≤ watch.old
         → PastStays watch.old watch.new (D.stands disk.old) (D.stands disk.new) }
     ensures ticks { watch.old ≤ watch.new }

@@ -8,7 +8,7 @@ ghost use Rattle.hs_peerlog.specs.Caused.{IsCalm, IsCaused, IsOutside};
 ghost use Rattle.hs_peerlog.specs.Images.{IsSole, LeavesOnly};
 ghost use Rattle.hs_peerlog.specs.Lists.{HasList, IsBlankBeside};
 ghost use Rattle.hs_peerlog.specs.Past.{PastStays};
-ghost use Rattle.hs_peerlog.specs.Steps.{IsShown, IsShownOrBlank, ShowsEach};
+ghost use Rattle.hs_peerlog.specs.Steps.{CouldShow, CouldShowOrBlank, ShowsEach};
 
 use crate::LogFault;
 use crate::close::close;
@@ -41,7 +41,7 @@ pub(crate) fn close_other<D: Disk>(
     ensures shown { D.tells → (D.stands disk.old).last ≤ watch.old
         → IsSole side (D.stands disk.old)
         → ShowsEach watch.old watch.new (D.stands disk.old) (D.stands disk.new)
-        (IsShown (D.stands disk.old)) }
+        (CouldShow (D.stands disk.old)) }
     ensures past { D.tells → (D.stands disk.old).last ≤ watch.old
         → PastStays watch.old watch.new (D.stands disk.old) (D.stands disk.new) }
     ensures ticks { watch.old ≤ watch.new }
@@ -67,7 +67,7 @@ pub(crate) fn close_own<D: Disk>(
     ensures shown { D.tells → (D.stands disk.old).last ≤ watch.old
         → IsBlankEverywhere ((D.stands disk.old).loose (other_side side))
         → ShowsEach watch.old watch.new (D.stands disk.old) (D.stands disk.new)
-        (IsShownOrBlank (D.stands disk.old)) }
+        (CouldShowOrBlank (D.stands disk.old)) }
     ensures past { D.tells → (D.stands disk.old).last ≤ watch.old
         → PastStays watch.old watch.new (D.stands disk.old) (D.stands disk.new) }
     ensures ticks { watch.old ≤ watch.new }

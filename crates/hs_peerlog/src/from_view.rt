@@ -10,7 +10,7 @@ ghost use Rattle.hs_peerlog.specs.Images.{Is, IsAny, LeavesAny, LeavesEach, Leav
 ghost use Rattle.hs_peerlog.specs.Lists.{HasLog, IsKept, IsReady};
 ghost use Rattle.hs_peerlog.specs.Opening.{is_own, refusal_in, IsRefusal};
 ghost use Rattle.hs_peerlog.specs.Past.{PastStays};
-ghost use Rattle.hs_peerlog.specs.Views.{IsFresh};
+ghost use Rattle.hs_peerlog.specs.Views.{IsAsViewed};
 
 use crate::header::{is_own, own_header};
 use crate::made::make_log;
@@ -30,7 +30,7 @@ impl PeerLog {
         shape: Shape,
         peer: u8,
     ) -> Result<PeerLog, LogFault>
-        requires { IsFresh D.tells view (D.size disk.old view.log.side) (D.stands disk.old) }
+        requires { IsAsViewed D.tells view (D.size disk.old view.log.side) (D.stands disk.old) }
 
         ensures ready { IfOk result (λ log. IsReady D.tells log
             (D.size disk.new log.log.side) (D.stands disk.new)) }

@@ -10,7 +10,7 @@ ghost use Rattle.hs_peerlog.specs.Heads.{head_found};
 ghost use Rattle.hs_peerlog.specs.Images.{LeavesAll};
 ghost use Rattle.hs_peerlog.specs.Lists.{has_place, numbered_entry};
 ghost use Rattle.hs_peerlog.specs.Opening.{refusal_in, IsRefusal};
-ghost use Rattle.hs_peerlog.specs.Views.{HasView, IsFresh};
+ghost use Rattle.hs_peerlog.specs.Views.{HasView, IsAsViewed};
 
 use crate::LogFault;
 use crate::opening::open_current;
@@ -51,7 +51,7 @@ impl PeerView {
     ) -> Result<PeerView, LogFault>
         ensures stands { IfOk result (λ view. Stands D.tells view.log
             (D.size disk.new view.log.side) (D.stands disk.new)) }
-        ensures fresh { IfOk result (λ view. IsFresh D.tells view
+        ensures as_viewed { IfOk result (λ view. IsAsViewed D.tells view
             (D.size disk.new view.log.side) (D.stands disk.new)) }
         // The head of the disk: the peer's header with its generation, None where it is blank.
         ensures head { D.tells → IfOk result (λ view.

@@ -1,5 +1,4 @@
-use Rattle.std.proofs.Common.{◌≡◌, ◌∙◌, arith, ap, sym, subst, Some, None}
-use Rattle.std.specs.Prelude.{unwrap_or}
+use Rattle.std.proofs.Common.{◌≡◌, ◌∙◌, arith, ap, sym, subst, None}
 use Rattle.hs_side.specs.Standing.{SideState}
 use Rattle.hs_peerlog.specs.Lists.{HasList}
 use Rattle.hs_peerlog.proofs.MakeLemmas.{none-if, blank-side, alone-shown, first-shown, formatted}

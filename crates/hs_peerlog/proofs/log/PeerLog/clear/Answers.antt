@@ -2,7 +2,7 @@ use Rattle.std.proofs.Common.{ap, sym, refl, subst, [], None, IsSome, is_some}
 use Rattle.hs_ports.specs.declared.disk.Side.TheVariants.{Zero, One}
 use Rattle.hs_side.specs.declared.header.Header.{Header}
 use Rattle.hs_side.specs.Standing.{SideState}
-use Rattle.hs_peerlog.specs.Heads.{IsHeaded, LeavesHeader}
+use Rattle.hs_peerlog.specs.Heads.{IsBlankOrOf, LeavesHeader}
 use Rattle.hs_peerlog.proofs.HeaderLemmas.{empty-headed, some-head}
 use Rattle.hs_peerlog.proofs.ListLemmas.{empty-kept}
 use Rattle.hs_peerlog.proofs.ShownLemmas.{shown-header, then-past, then-shown}
@@ -41,13 +41,13 @@ pub returns-in-Err-clause-headed : goal.returns-in-Err-clause-headed
 returns-in-Err-clause-headed g c = λ told last had.
     let one = c.close_both.ensures.shown _ told last had in
     let two = c.write_empty.ensures.shown told one.last (c.in_ok-close_both.ensures.gone told One) in
-    shown-header (then-shown two one (λ bytes h. h) (λ bytes e. subst (λ (h : Header). IsHeaded h bytes) c.own_header-header.ensures (empty-headed c.own_header-header.result 1 bytes e)))
+    shown-header (then-shown two one (λ bytes h. h) (λ bytes e. subst (λ (h : Header). IsBlankOrOf h bytes) c.own_header-header.ensures (empty-headed c.own_header-header.result 1 bytes e)))
 
 pub returns-clause-headed : goal.returns-clause-headed
 returns-clause-headed g c = λ told last had.
     let one = c.close_both.ensures.shown _ told last had in
     let two = c.write_empty.ensures.shown told one.last (c.in_ok-close_both.ensures.gone told One) in
-    shown-header (then-shown two one (λ bytes h. h) (λ bytes e. subst (λ (h : Header). IsHeaded h bytes) c.own_header-header.ensures (empty-headed c.own_header-header.result 1 bytes e)))
+    shown-header (then-shown two one (λ bytes h. h) (λ bytes e. subst (λ (h : Header). IsBlankOrOf h bytes) c.own_header-header.ensures (empty-headed c.own_header-header.result 1 bytes e)))
 
 pub returns-in-Err-clause-past : goal.returns-in-Err-clause-past
 returns-in-Err-clause-past g c = λ told last. let one = c.close_both.ensures.past told last in then-past (c.write_empty.ensures.past told one.last) one

@@ -1,10 +1,9 @@
 use Rattle.std.proofs.Common.{◌≡◌, ◌∙◌, ap, sym, refl, subst, Some, None, IsSome, is_some}
 use Rattle.std.specs.Prelude.{unwrap_or}
-use Rattle.hs_entry.specs.Entries.{rank_of}
 use Rattle.hs_side.specs.declared.header.Header.{Header}
 use Rattle.hs_side.specs.Headers.{own_header}
 use Rattle.hs_side.specs.Standing.{SideState, Stands}
-use Rattle.hs_peerlog.specs.Images.{Is, IsAlone, IsAny, IsSole, LeavesEach}
+use Rattle.hs_peerlog.specs.Images.{IsAlone, IsSole}
 use Rattle.hs_peerlog.specs.Lists.{HasList, IsBlankBeside}
 use Rattle.hs_peerlog.specs.Opening.{IsRefusal, refusal_in}
 use Rattle.hs_peerlog.specs.Views.{Viewing}

@@ -3,13 +3,14 @@ use Rattle.hs_ports.specs.declared.disk.Side.{Side}
 use Rattle.hs_side.specs.Reading.{is_blank}
 use Rattle.hs_side.specs.Standing.{SideState}
 use Rattle.hs_side.specs.declared.header.Header.{Header}
-use Rattle.hs_peerlog.specs.Heads.{LeavesHeader}
+use Rattle.hs_peerlog.specs.Heads.{IsBlankOrOf}
 use Rattle.hs_peerlog.specs.Images.{IsSole}
 use Rattle.hs_peerlog.specs.Lists.{IsBlankBeside, Keeping}
+use Rattle.hs_peerlog.specs.Steps.{current_bytes}
 use Rattle.hs_peerlog.proofs.ListLemmas.{empty-kept}
 use Rattle.hs_peerlog.proofs.HeaderLemmas.{empty-headed, some-head, some-header}
-use Rattle.hs_peerlog.proofs.ResetLemmas.{closed-emptied, emptied-header, emptied-lists, empty-emptied, gone-stays, has-full, shown-emptied}
-use Rattle.hs_peerlog.proofs.ShownLemmas.{then-past, then-shown, weaker-shown}
+use Rattle.hs_peerlog.proofs.ResetLemmas.{all-emptied, emptied-header, emptied-lists, gone-stays, has-full, one-emptied, two-emptied}
+use Rattle.hs_peerlog.proofs.ShownLemmas.{then-past}
 use Rattle.hs_peerlog.proofs.log.PeerLog.reset.Goals as goal
 
 pub write_empty-requires : goal.write_empty-requires
@@ -26,7 +27,7 @@ returns-in_err-close_other-clause-any_moment g c = λ told last list waiting has
     let side : c.side-side.result ≡ c.args.self.now.log.side = c.side-side.ensures ∙ ap (λ (k : SideState). k.side) view in
     let a = g.D.Disk.stands c.args.disk.now in
     let one = c.close_other.ensures.shown told last (subst (λ (s : Side). IsSole s a) (sym side) has.sole) in
-    emptied-lists a c.header-header.result c.in-Some.generation (weaker-shown one (shown-emptied a c.header-header.result c.in-Some.generation)) list has.leaves
+    emptied-lists a c.header-header.result c.in-Some.generation (one-emptied a c.header-header.result c.in-Some.generation one) list has.leaves
 
 pub returns-in_err-close_other-clause-headed : goal.returns-in_err-close_other-clause-headed
 returns-in_err-close_other-clause-headed g c = λ told last list waiting has head is.
@@ -34,7 +35,7 @@ returns-in_err-close_other-clause-headed g c = λ told last list waiting has hea
     let side : c.side-side.result ≡ c.args.self.now.log.side = c.side-side.ensures ∙ ap (λ (k : SideState). k.side) view in
     let a = g.D.Disk.stands c.args.disk.now in
     let one = c.close_other.ensures.shown told last (subst (λ (s : Side). IsSole s a) (sym side) has.sole) in
-    emptied-header a head.0 c.in-Some.generation (weaker-shown one (shown-emptied a head.0 c.in-Some.generation)) (has.headed head is)
+    emptied-header a head.0 c.in-Some.generation (one-emptied a head.0 c.in-Some.generation one) (has.headed head is)
 
 pub returns-in_err-close_other-clause-past : goal.returns-in_err-close_other-clause-past
 returns-in_err-close_other-clause-past g c = λ told last. c.close_other.ensures.past told last
@@ -47,7 +48,7 @@ returns-in_err-close_own-clause-any_moment g c = λ told last list waiting has.
     let one = c.close_other.ensures.shown told last (subst (λ (s : Side). IsSole s a) (sym side) has.sole) in
     let gone = c.in_ok-close_other.ensures.gone told (subst (λ (s : Side). IsBlankBeside s a) (sym side) has.beside) in
     let two = c.close_own.ensures.shown told one.last gone in
-    emptied-lists a c.header-header.result c.in-Some.generation (then-shown two one (shown-emptied a c.header-header.result c.in-Some.generation) (closed-emptied a c.header-header.result c.in-Some.generation one)) list has.leaves
+    emptied-lists a c.header-header.result c.in-Some.generation (two-emptied a c.header-header.result c.in-Some.generation one two) list has.leaves
 
 pub returns-in_err-close_own-clause-headed : goal.returns-in_err-close_own-clause-headed
 returns-in_err-close_own-clause-headed g c = λ told last list waiting has head is.
@@ -57,10 +58,12 @@ returns-in_err-close_own-clause-headed g c = λ told last list waiting has head 
     let one = c.close_other.ensures.shown told last (subst (λ (s : Side). IsSole s a) (sym side) has.sole) in
     let gone = c.in_ok-close_other.ensures.gone told (subst (λ (s : Side). IsBlankBeside s a) (sym side) has.beside) in
     let two = c.close_own.ensures.shown told one.last gone in
-    emptied-header a head.0 c.in-Some.generation (then-shown two one (shown-emptied a head.0 c.in-Some.generation) (closed-emptied a head.0 c.in-Some.generation one)) (has.headed head is)
+    emptied-header a head.0 c.in-Some.generation (two-emptied a head.0 c.in-Some.generation one two) (has.headed head is)
 
 pub returns-in_err-close_own-clause-past : goal.returns-in_err-close_own-clause-past
-returns-in_err-close_own-clause-past g c = λ told last. then-past (c.close_own.ensures.past told (c.close_other.ensures.past told last).last) (c.close_other.ensures.past told last)
+returns-in_err-close_own-clause-past g c = λ told last.
+    let one = c.close_other.ensures.past told last in
+    then-past (c.close_own.ensures.past told one.last) one
 
 pub returns-in-Err-clause-any_moment : goal.returns-in-Err-clause-any_moment
 returns-in-Err-clause-any_moment g c = λ told last list waiting has.
@@ -71,8 +74,8 @@ returns-in-Err-clause-any_moment g c = λ told last list waiting has.
     let gone = c.in_ok-close_other.ensures.gone told (subst (λ (s : Side). IsBlankBeside s a) (sym side) has.beside) in
     let two = c.close_own.ensures.shown told one.last gone in
     let there = gone-stays c.side-side.result (g.D.Disk.stands c.close_other.new.disk) (g.D.Disk.stands c.close_own.new.disk) (c.close_own.ensures.other told) gone in
-    let both = then-shown two one (shown-emptied a c.header-header.result c.in-Some.generation) (closed-emptied a c.header-header.result c.in-Some.generation one) in
-    emptied-lists a c.header-header.result c.in-Some.generation (then-shown (c.write_empty.ensures.shown told two.last there) both (λ bytes s. s) (empty-emptied a c.header-header.result c.in-Some.generation)) list has.leaves
+    let three = c.write_empty.ensures.shown told two.last there in
+    emptied-lists a c.header-header.result c.in-Some.generation (all-emptied a c.header-header.result c.in-Some.generation one two three) list has.leaves
 
 pub returns-in-Err-clause-headed : goal.returns-in-Err-clause-headed
 returns-in-Err-clause-headed g c = λ told last list waiting has head is.
@@ -84,8 +87,8 @@ returns-in-Err-clause-headed g c = λ told last list waiting has head is.
     let gone = c.in_ok-close_other.ensures.gone told (subst (λ (s : Side). IsBlankBeside s a) (sym side) has.beside) in
     let two = c.close_own.ensures.shown told one.last gone in
     let there = gone-stays c.side-side.result (g.D.Disk.stands c.close_other.new.disk) (g.D.Disk.stands c.close_own.new.disk) (c.close_own.ensures.other told) gone in
-    let both = then-shown two one (shown-emptied a head.0 c.in-Some.generation) (closed-emptied a head.0 c.in-Some.generation one) in
-    emptied-header a head.0 c.in-Some.generation (then-shown (rw header at (c.write_empty.ensures.shown told two.last there)) both (λ bytes s. s) (empty-emptied a head.0 c.in-Some.generation)) (has.headed head is)
+    let three = c.write_empty.ensures.shown told two.last there in
+    emptied-header a head.0 c.in-Some.generation (all-emptied a head.0 c.in-Some.generation one two (rw header at three)) (has.headed head is)
 
 pub returns-in-Err-clause-past : goal.returns-in-Err-clause-past
 returns-in-Err-clause-past g c = λ told last.
@@ -102,8 +105,8 @@ returns-clause-any_moment g c = λ told last list waiting has.
     let gone = c.in_ok-close_other.ensures.gone told (subst (λ (s : Side). IsBlankBeside s a) (sym side) has.beside) in
     let two = c.close_own.ensures.shown told one.last gone in
     let there = gone-stays c.side-side.result (g.D.Disk.stands c.close_other.new.disk) (g.D.Disk.stands c.close_own.new.disk) (c.close_own.ensures.other told) gone in
-    let both = then-shown two one (shown-emptied a c.header-header.result c.in-Some.generation) (closed-emptied a c.header-header.result c.in-Some.generation one) in
-    emptied-lists a c.header-header.result c.in-Some.generation (then-shown (c.write_empty.ensures.shown told two.last there) both (λ bytes s. s) (empty-emptied a c.header-header.result c.in-Some.generation)) list has.leaves
+    let three = c.write_empty.ensures.shown told two.last there in
+    emptied-lists a c.header-header.result c.in-Some.generation (all-emptied a c.header-header.result c.in-Some.generation one two three) list has.leaves
 
 pub returns-clause-headed : goal.returns-clause-headed
 returns-clause-headed g c = λ told last list waiting has head is.
@@ -115,8 +118,8 @@ returns-clause-headed g c = λ told last list waiting has head is.
     let gone = c.in_ok-close_other.ensures.gone told (subst (λ (s : Side). IsBlankBeside s a) (sym side) has.beside) in
     let two = c.close_own.ensures.shown told one.last gone in
     let there = gone-stays c.side-side.result (g.D.Disk.stands c.close_other.new.disk) (g.D.Disk.stands c.close_own.new.disk) (c.close_own.ensures.other told) gone in
-    let both = then-shown two one (shown-emptied a head.0 c.in-Some.generation) (closed-emptied a head.0 c.in-Some.generation one) in
-    emptied-header a head.0 c.in-Some.generation (then-shown (rw header at (c.write_empty.ensures.shown told two.last there)) both (λ bytes s. s) (empty-emptied a head.0 c.in-Some.generation)) (has.headed head is)
+    let three = c.write_empty.ensures.shown told two.last there in
+    emptied-header a head.0 c.in-Some.generation (all-emptied a head.0 c.in-Some.generation one two (rw header at three)) (has.headed head is)
 
 pub returns-clause-past : goal.returns-clause-past
 returns-clause-past g c = λ told last.
@@ -141,14 +144,13 @@ returns-clause-list g c = λ told last list waiting has.
     let gone = c.in_ok-close_other.ensures.gone told (subst (λ (s : Side). IsBlankBeside s a) (sym side) has.beside) in
     let two = c.close_own.ensures.shown told one.last gone in
     let there = gone-stays c.side-side.result (g.D.Disk.stands c.close_other.new.disk) (g.D.Disk.stands c.close_own.new.disk) (c.close_own.ensures.other told) gone in
-    let made = c.in-Ok.log in
+    let three = c.write_empty.ensures.shown told two.last there in
     record {
       kept = empty-kept _ _ (c.in-Ok.ensures.list told) refl refl;
       sole = c.in-Ok.ensures.sole told two.last there;
       leaves = c.in-Ok.ensures.leaves told two.last there;
       beside = c.in-Ok.ensures.beside told two.last there;
       headed = λ head is.
-          let same : c.header-header.result ≡ head.0 = some-head made.head c.header-header.result c.in-Some.generation head (ap (λ (k : SideState). k.head) c.in-Ok.ensures.value) is in
-          subst (λ (h : Header). LeavesHeader (g.D.Disk.stands c.write_empty.new.disk) h) same
-          (λ image left. empty-headed c.header-header.result c.in-Some.generation _ ((c.write_empty.ensures.shown told two.last there).standing image left));
+          let same : c.header-header.result ≡ head.0 = some-head c.in-Ok.log.head c.header-header.result c.in-Some.generation head (ap (λ (k : SideState). k.head) c.in-Ok.ensures.value) is in
+          λ image left. subst (λ (h : Header). IsBlankOrOf h (current_bytes image)) same (empty-headed c.header-header.result c.in-Some.generation (current_bytes image) (three.standing image left));
     }

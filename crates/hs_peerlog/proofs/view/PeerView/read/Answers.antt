@@ -23,8 +23,8 @@ returns-clause-list g c = λ told list listed.
       rank = value.rank_is ∙ ap (λ es. rank_of es) is;
     }
 
-pub returns-clause-fresh : goal.returns-clause-fresh
-returns-clause-fresh g c =
+pub returns-clause-as_viewed : goal.returns-clause-as_viewed
+returns-clause-as_viewed g c =
     let a = g.D.Disk.stands c.args.disk.now in
     let e = g.D.Disk.stands c.open_current.new.disk in
     let log = c.in-Ok.opened.0 in
