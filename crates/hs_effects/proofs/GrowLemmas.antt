@@ -1,6 +1,6 @@
 -- How many blocks and roots an entry adds to a catalogue: a Block one block, a Root one root, and any other none.
 use Rattle.std.proofs.Common.{◌≡◌, ◌∙◌, ℕ, zero, suc, ◌+◌, ◌≤◌, ◌==◌, Bool, true, false, cond, not, ◌&&◌, ◌||◌, List, [], ◌∷◌, ◌++◌, length, map, filter, count_by, is_none, is_some, Option, Some, None, Ok, Err, Ordering, Less, Equal, Greater, Result, arith}
-use Rattle.std.proofs.lemmas.List.Sums.{sum_by-cons, sum_by_push}
+use Rattle.std.proofs.lemmas.List.Sums.{sum_by-cons, sum_by_push, sum_by-insert}
 use Rattle.std.specs.BTreeMap.{insert_entry}
 use Rattle.std.specs.Option.{option_map, option_map_or}
 use Rattle.std.specs.Ordering.{match_ordering}
@@ -15,7 +15,8 @@ use Rattle.hs_limits.specs.declared.address.Address.{Address}
 use Rattle.hs_limits.specs.declared.spelling.SpellingFault.{SpellingFault}
 use Rattle.hs_model.specs.Store.{address_cmp}
 use Rattle.hs_replica.specs.Kinds.{is_block, is_root}
-use Rattle.hs_roots.specs.Roots.{counting, dropping, is_released, new_root, release, retained_count, retained_of, retains}
+use Rattle.hs_roots.specs.ByKey.{count_upto}
+use Rattle.hs_roots.specs.Roots.{counting, dropping, is_released, insert_root, new_root, release, retained_count, retained_of, retains}
 use Rattle.hs_roots.specs.Roots.{put_root as with_root}
 use Rattle.hs_roots.specs.declared.root.RootRecord.{RootRecord}
 use Rattle.hs_rounds.specs.Rounds.{complete, is_last, received}
@@ -93,9 +94,9 @@ keeps_count epoch root = le_same (cond (is_none root.dropped) 1 0)
 puts : (key : List ℕ) (a : Address) (epoch : ℕ) (roots : List RootRecord) → retained_count (with_root key a epoch roots) ≤ retained_count roots + 1
 puts key a epoch roots = go (is_some (retained_of key roots))
   where
-    go : (b : Bool) → retained_count (cond b roots (roots ++ new_root key a epoch ∷ [])) ≤ retained_count roots + 1
+    go : (b : Bool) → retained_count (cond b roots (insert_root (new_root key a epoch) roots)) ≤ retained_count roots + 1
     go true = le_more (retained_count roots) 1
-    go false = le_is (retained_count (roots ++ new_root key a epoch ∷ [])) (retained_count roots + 1) (sum_by_push (λ (r : RootRecord). cond (is_none r.dropped) 1 0) roots (new_root key a epoch))
+    go false = le_is (retained_count (insert_root (new_root key a epoch) roots)) (retained_count roots + 1) (sum_by-insert (λ (r : RootRecord). cond (is_none r.dropped) 1 0) roots (count_upto (λ (r : RootRecord). r.key) key roots) (new_root key a epoch))
 
 lets_go : (epoch round : ℕ) (roots : List RootRecord) → retained_count (still_kept epoch round roots) ≤ retained_count roots
 lets_go epoch round roots = go (round == 0)

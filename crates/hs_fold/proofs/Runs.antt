@@ -4,7 +4,9 @@ pub mod EndDeedLemmas
 pub mod EndLemmas
 pub mod Examples
 pub mod FilterLemmas
+pub mod InsertLemmas
 pub mod KeyLemmas
+pub mod KeyedLemmas
 pub mod MemoryLemmas
 pub mod OwnLemmas
 pub mod PlainLemmas

@@ -17,7 +17,7 @@ ghost use Rattle.hs_fold.specs.Runs.Fits.{catalogue_at};
 ghost use Rattle.hs_fold.specs.Runs.Happening.{IsClients, happening_of};
 ghost use Rattle.hs_fold.specs.Runs.History.{follow};
 ghost use Rattle.hs_fold.specs.Runs.Opened.{catalogues, store_of};
-ghost use Rattle.hs_fold.specs.Runs.Own.{AreOwn, IsOwn, OneRetained};
+ghost use Rattle.hs_fold.specs.Runs.Own.{AreKeyed, AreOwn, IsOwn, OneRetained};
 ghost use Rattle.hs_fold.specs.Runs.Rounds.{end_round, is_last, log_got, advanced, enter_epoch, is_complete};
 ghost use Rattle.hs_fold.specs.Shards.Catalogue.{apply as plain_apply};
 ghost use Rattle.hs_fold.specs.Shards.Happening.{happen_by};
@@ -30,6 +30,14 @@ pub fn runs_keep_catalogues_own()
         AreOwn set.shape.shards 0 (catalogues set 0 lists) }
     ensures kept { (at : Shard) (c : Catalogue) (number : ℕ) (entry : Entry) →
         IsOwn at.shards at.shard c → IsOwn at.shards at.shard (apply at c (number, entry)) }
+{}
+
+/// The root records of what lists of all kinds amount to stand by key, and a retained one is the last
+/// of its key; each entry keeps it so, also where it makes no sense.
+pub fn runs_keep_roots_by_key()
+    ensures lists { (at : Shard) (list : Numbered) → AreKeyed (catalogue_of at list).roots }
+    ensures kept { (at : Shard) (c : Catalogue) (number : ℕ) (entry : Entry) →
+        AreKeyed c.roots → AreKeyed (apply at c (number, entry)).roots }
 {}
 
 /// A client's entry does to a catalogue what it does without deletion.

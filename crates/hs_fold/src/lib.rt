@@ -12,7 +12,7 @@ mod waiting;
 
 pub use deletion::{
     clients_and_enters_change_the_store, clients_see_no_runs, ends_of_rounds_change_the_store,
-    rounds_stay_within_bounds, runs_keep_catalogues_own,
+    rounds_stay_within_bounds, runs_keep_catalogues_own, runs_keep_roots_by_key,
 };
 pub use fronts::fronts_are_prefixes;
 pub use histories::{

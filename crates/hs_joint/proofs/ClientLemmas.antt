@@ -2,7 +2,6 @@
 use Rattle.std.proofs.Common.{◌≡◌, ◌⊎◌, inl, inr, ℕ, ◌+◌, ◌<◌, ◌≤◌, ◌==◌, ◌&&◌, List, [], ◌∷◌, ◌++◌, length, map, Bool, true, false, cond, not, Option, Some, None, is_none, Result, Ok, Err, refl, sym, ap, ◌∙◌, subst, arith}
 use Rattle.std.proofs.lemmas.Bool.{and_parts, eqb-true, cases_eq}
 use Rattle.std.proofs.lemmas.Map.Made.{lookup-map_values}
-use Rattle.std.proofs.lemmas.List.{length-append}
 use Rattle.std.specs.BTreeMap.{insert_entry, is_at}
 use Rattle.std.specs.List.Sorted.{IsStrictlySortedBy}
 use Rattle.std.specs.Map.{lookup, keys_of, set_value}
@@ -40,12 +39,13 @@ use Rattle.hs_fold.specs.Shards.Catalogue.{is_stored, is_marked, is_rooted, is_f
 use Rattle.hs_fold.specs.Shards.Fits.{EachRests, MarkRests, RootRests}
 use Rattle.hs_fold.specs.Shards.Setting.{Setting}
 use Rattle.hs_fold.specs.Runs.Catalogue.{apply}
-use Rattle.hs_fold.specs.Runs.Clients.{new_facts, store_block, remark, marked, give_block, new_root, keep_root, end_retention, drop_key}
+use Rattle.hs_fold.specs.Runs.Clients.{new_facts, store_block, remark, marked, give_block, insert_root, new_root, keep_root, end_retention, drop_key}
 use Rattle.hs_fold.specs.Runs.Facts.{Facts, Catalogue, plain, facts_at}
 use Rattle.hs_fold.specs.Runs.Fits.{catalogue_at, MayCome}
 use Rattle.hs_fold.specs.Runs.Happening.{IsClients}
 use Rattle.hs_fold.specs.Runs.Opened.{store_of}
 use Rattle.hs_fold.specs.Runs.Own.{IsOwn}
+use Rattle.hs_fold.proofs.Runs.InsertLemmas.{length-insert_root}
 use Rattle.hs_fold.proofs.Runs.OwnLemmas.{apply-own}
 use Rattle.hs_fold.proofs.Runs.KeyLemmas.{one-entry}
 use Rattle.hs_fold.proofs.Runs.RoomLemmas.{apply-fits}
@@ -57,7 +57,7 @@ use Rattle.hs_joint.proofs.FewLemmas.{few_apply}
 use Rattle.hs_joint.proofs.KeyLemmas.{found-entry}
 use Rattle.hs_joint.proofs.LikeLemmas.{follow_like, seen_insert, seen_mark, seen_drop}
 use Rattle.hs_joint.proofs.ReachedLemmas.{here_at, rests_there}
-use Rattle.hs_joint.proofs.SameLists.{same_as, same_last}
+use Rattle.hs_joint.proofs.SameLists.{same_as, same_inserted}
 use Rattle.hs_joint.proofs.SendLemmas.{ordered_keys}
 use Rattle.hs_joint.proofs.StandLemmas.{IsStanding, GoesOn, right, own_here, join_on, room_on, few_on, nothing_done, same_rows}
 
@@ -151,16 +151,15 @@ comes_or_not at cs g number (kind.Mark op least block a) u fit = go (facts_at (c
 comes_or_not at cs g number (kind.Root op held a key) u fit = go (is_rooted at (plain (catalogue_at cs g)) held a key && is_none (retained_in (plain (catalogue_at cs g)) key)) fit
   where
     more : Catalogue
-    more = record (catalogue_at cs g) { roots = (catalogue_at cs g).roots ++ new_root (catalogue_at cs g).epoch a key ∷ [] }
+    more = record (catalogue_at cs g) { roots = insert_root (new_root (catalogue_at cs g).epoch a key) (catalogue_at cs g).roots }
 
-    go : (b : Bool) → ((cond b (record (catalogue_at cs g) { roots = (catalogue_at cs g).roots ++ new_root (catalogue_at cs g).epoch a key ∷ [] }) (catalogue_at cs g) ≡ catalogue_at cs g → ⊥) → MayCome cs g (kind.Root op held a key))
-        → (cond b (record (catalogue_at cs g) { roots = (catalogue_at cs g).roots ++ new_root (catalogue_at cs g).epoch a key ∷ [] }) (catalogue_at cs g) ≡ catalogue_at cs g) ⊎ MayCome cs g (kind.Root op held a key)
+    go : (b : Bool) → ((cond b (record (catalogue_at cs g) { roots = insert_root (new_root (catalogue_at cs g).epoch a key) (catalogue_at cs g).roots }) (catalogue_at cs g) ≡ catalogue_at cs g → ⊥) → MayCome cs g (kind.Root op held a key))
+        → (cond b (record (catalogue_at cs g) { roots = insert_root (new_root (catalogue_at cs g).epoch a key) (catalogue_at cs g).roots }) (catalogue_at cs g) ≡ catalogue_at cs g) ⊎ MayCome cs g (kind.Root op held a key)
     go false f = inl refl
     go true f = inr (f (λ same. (
-        let long = length-append (catalogue_at cs g).roots (new_root (catalogue_at cs g).epoch a key ∷ []) in
-        let short : length ((catalogue_at cs g).roots ++ new_root (catalogue_at cs g).epoch a key ∷ []) ≡ length (catalogue_at cs g).roots = ap (λ (x : Catalogue). length x.roots) same in
-        let one : length (new_root (catalogue_at cs g).epoch a key ∷ []) ≡ 1 = refl in
-        omega (arith, long, short, one)
+        let long = length-insert_root (catalogue_at cs g).roots (new_root (catalogue_at cs g).epoch a key) in
+        let short : length (insert_root (new_root (catalogue_at cs g).epoch a key) (catalogue_at cs g).roots) ≡ length (catalogue_at cs g).roots = ap (λ (x : Catalogue). length x.roots) same in
+        omega (arith, long, short)
         )))
 
 -- ---- the machine
@@ -325,14 +324,14 @@ module _ (set : Setting) (some : 0 < set.shape.shards) (cs : List Catalogue) (m 
   root_goes : (held : ℕ) (a : Address) (key : List ℕ) → RootRests (store_of cs) (plain c) held a → IsFollowed (keep_root at c held a key)
   root_goes held a key rests = go (is_rooted at (plain c) held a key) refl (is_none (retained_in (plain c) key))
     where
-      go : (b : Bool) → is_rooted at (plain c) held a key ≡ b → (u : Bool) → IsFollowed (cond (b && u) (record c { roots = c.roots ++ new_root c.epoch a key ∷ [] }) c)
+      go : (b : Bool) → is_rooted at (plain c) held a key ≡ b → (u : Bool) → IsFollowed (cond (b && u) (record c { roots = insert_root (new_root c.epoch a key) c.roots }) c)
       go false e u = nothing_new
       go true e false = nothing_new
       go true e true =
           let p = and_parts ((shard_of_key n key == g && is_fresh (plain c) held) && not (keeps_other (retained_in (plain c) key) a)) (takes_root (plain c).roots (retained_in (plain c) key)) e in
           let q = and_parts (shard_of_key n key == g && is_fresh (plain c) held) (not (keeps_other (retained_in (plain c) key) a)) p.0 in
           let fresh = (and_parts (shard_of_key n key == g) (is_fresh (plain c) held) q.0).1 in
-          let d : Catalogue = record c { roots = c.roots ++ new_root c.epoch a key ∷ [] } in
+          let d : Catalogue = record c { roots = insert_root (new_root c.epoch a key) c.roots } in
           let low : c.epoch ≤ held + 1 = nat_le_from c.epoch (held + 1) fresh in
           let there = rests_there n some cs st.joined.each st.joined.own m st.joined.followed.each c.epoch held low a (reached_from_is (store_of cs) (rests_on (store_of cs) held) a (rests fresh)) in
           let is_there : IsReachedIn m (m.states g).epoch a = subst (λ e. IsReachedIn m e a) follows.epoch there in
@@ -343,7 +342,7 @@ module _ (set : Setting) (some : 0 < set.shape.shards) (cs : List Catalogue) (m 
             follows = follow_like L (after_effect L (Puts g key (a ∷ [])) m) g (seen g d) (rooted_in g key (a ∷ []) C)
                 (record {
                   blocks = same_as C.blocks C.blocks refl;
-                  roots = same_last (seen_root g) c.roots (new_root c.epoch a key);
+                  roots = same_inserted (seen_root g) c.roots _ (new_root c.epoch a key);
                   epoch = refl;
                   swept = refl;
                   round = λ l. refl;

@@ -24,7 +24,7 @@ use Rattle.hs_rounds.specs.declared.place.Place.{Place}
 use Rattle.hs_fold.specs.Catalogue.{Present, Shard, fresh_present}
 use Rattle.hs_fold.specs.Shards.Catalogue.{is_stored, is_marked, is_rooted, retained_in}
 use Rattle.hs_fold.specs.Runs.Catalogue.{apply}
-use Rattle.hs_fold.specs.Runs.Clients.{store_block, new_facts, marked, remark, give_block, new_root, keep_root, drop_key, end_retention}
+use Rattle.hs_fold.specs.Runs.Clients.{store_block, new_facts, marked, remark, give_block, insert_root, new_root, keep_root, drop_key, end_retention}
 use Rattle.hs_fold.specs.Runs.Facts.{Facts, Catalogue, plain, facts_at}
 use Rattle.hs_fold.specs.Runs.Rounds.{count_block, enter_epoch, is_accepted, is_complete, is_last, moved_by, open_deltas, settled, find_zero, search, is_gone, spare, sweep, end_round, advance, advanced, log_got, get_round, may_enter}
 use Rattle.hs_fold.specs.Runs.Rounds.{enter as enter_here}
@@ -115,7 +115,7 @@ few_give c least number a h = go (facts_at c a) refl (is_marked (plain c) least 
 few_root : (at : Shard) (c : Catalogue) (held : ℕ) (a : Address) (key : List ℕ) → HaveFew c → HaveFew (keep_root at c held a key)
 few_root at c held a key h = go (is_rooted at (plain c) held a key && is_none (retained_in (plain c) key))
   where
-    go : (b : Bool) → HaveFew (cond b (record c { roots = c.roots ++ new_root c.epoch a key ∷ [] }) c)
+    go : (b : Bool) → HaveFew (cond b (record c { roots = insert_root (new_root c.epoch a key) c.roots }) c)
     go true = h
     go false = h
 

@@ -1,5 +1,6 @@
 -- Lists that have the same, in any order.
-use Rattle.std.proofs.Common.{◌≡◌, List, [], ◌∷◌, ◌++◌, map, inl, inr, refl, sym, ap, ◌∙◌, subst, arith}
+use Rattle.std.proofs.Common.{◌≡◌, ℕ, zero, suc, List, [], ◌∷◌, ◌++◌, map, inl, inr, refl, sym, ap, ◌∙◌, subst, arith}
+use Rattle.std.specs.List.{insert}
 use Rattle.std.specs.Prelude.{sum_by}
 use Rattle.std.proofs.lemmas.List.Sums.{sum_by-cons}
 use Rattle.hs_deletion.specs.Reached.{Member}
@@ -26,7 +27,9 @@ same_swap x y xs ys h = record {
   sums = λ w. omega (arith, sum_by-cons w x xs, sum_by-cons w y (x ∷ ys), sum_by-cons w x ys, sum_by-cons w y ys, h.sums w);
 }
 
--- what is put last may stand first
-pub same_last : {X Y : Type 0} (f : X → Y) (xs : List X) (x : X) → HasSame (map f (xs ++ x ∷ [])) (f x ∷ map f xs)
-same_last f [] x = same_as (f x ∷ []) (f x ∷ []) refl
-same_last f (y ∷ xs) x = same_swap (f y) (f x) (map f (xs ++ x ∷ [])) (map f xs) (same_last f xs x)
+-- what is put anywhere may stand first
+pub same_inserted : {X Y : Type 0} (f : X → Y) (xs : List X) (i : ℕ) (x : X) → HasSame (map f (insert xs i x)) (f x ∷ map f xs)
+same_inserted f [] zero x = same_as (f x ∷ []) (f x ∷ []) refl
+same_inserted f [] (suc i) x = same_as (f x ∷ []) (f x ∷ []) refl
+same_inserted f (y ∷ xs) zero x = same_as (f x ∷ f y ∷ map f xs) (f x ∷ f y ∷ map f xs) refl
+same_inserted f (y ∷ xs) (suc i) x = same_swap (f y) (f x) (map f (insert xs i x)) (map f xs) (same_inserted f xs i x)

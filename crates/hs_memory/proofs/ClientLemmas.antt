@@ -4,7 +4,7 @@ use Rattle.std.proofs.lemmas.Bool.{false≢true}
 use Rattle.std.proofs.lemmas.Bool.Decides.{Decides-eqb, nat_tests}
 use Rattle.std.proofs.lemmas.Map.Made.{lookup-map_values}
 use Rattle.std.specs.BTreeMap.{insert_entry, is_at}
-use Rattle.std.specs.List.{AllByRecursion}
+use Rattle.std.specs.List.{AllByRecursion, insert}
 use Rattle.std.specs.Option.{option_map, option_map_or}
 use Rattle.hs_limits.specs.declared.address.Address.{Address}
 use Rattle.hs_limits.specs.declared.shape.Shape.{Shape}
@@ -19,7 +19,9 @@ use Rattle.hs_model.proofs.MapLemmas.{map-insert_entry, map-set_value}
 use Rattle.hs_roots.specs.declared.root.RootRecord.{RootRecord}
 use Rattle.hs_roots.specs.declared.fault.RootFault.TheVariants.{KeyTaken, RootsFull}
 use Rattle.hs_roots.specs.Refusals.{put_refusal}
-use Rattle.hs_roots.specs.Roots.{Retention, dropping, new_root as new_record, retained_count, retained_of}
+use Rattle.hs_roots.specs.ByKey.{count_upto, is_upto}
+use Rattle.hs_roots.proofs.InsertLemmas.{count_of_map, map_insert}
+use Rattle.hs_roots.specs.Roots.{Retention, dropping, insert_root as insert_record, new_root as new_record, retained_count, retained_of}
 use Rattle.hs_fold.specs.Catalogue.{Shard, fresh_present}
 use Rattle.hs_fold.specs.Runs.Clients as fold
 use Rattle.hs_fold.specs.Runs.Facts.{Catalogue as Folded, Facts as FoldedFacts, RootFacts, plain, roots_of}
@@ -88,9 +90,10 @@ count_placed rs =
 full_or_room : (n k : ℕ) → nat_le k n ≡ not (nat_lt n k)
 full_or_room n k = grind (arith, nat_tests)
 
-appended : (rs : List RootFacts) (r : RootFacts) → map record_of (rs ++ r ∷ []) ≡ map record_of rs ++ record_of r ∷ []
-appended [] r = refl
-appended (x ∷ rs) r = ap (λ rest. record_of x ∷ rest) (appended rs r)
+inserted : (rs : List RootFacts) (r : RootFacts) → map record_of (fold.insert_root r rs) ≡ insert_record (record_of r) (map record_of rs)
+inserted rs r =
+    map_insert record_of rs (count_upto (λ (x : RootFacts). x.root.key) r.root.key rs) r
+    ∙ ap (λ n. insert (map record_of rs) n (record_of r)) (sym (count_of_map (λ (x : RootRecord). is_upto x.key r.root.key) record_of rs))
 
 -- ---- a retention that ends
 
@@ -218,7 +221,7 @@ module _ (name : List ℕ → Address) (shape : Shape) (shard : ℕ) (c : Folded
 
   pub rooted_alike : (held : ℕ) (a : Address) (key : List ℕ) → (put_root held a key (to c)).catalogue ≡ to (fold.keep_root at c held a key)
   rooted_alike held a key =
-      ap (λ o. (cond (not mine) (only Nothing (to c)) (cond (not fresh || is_some (put_refusal set a o)) (only Refused (to c)) (only Rooted (record (to c) { roots = cond (is_some o) records (records ++ new_record key a c.epoch ∷ []) })))).catalogue) (retained_record key c.roots)
+      ap (λ o. (cond (not mine) (only Nothing (to c)) (cond (not fresh || is_some (put_refusal set a o)) (only Refused (to c)) (only Rooted (record (to c) { roots = cond (is_some o) records (insert_record (new_record key a c.epoch) records) })))).catalogue) (retained_record key c.roots)
       ∙ go mine fresh (rooted_at key) (nat_lt count greatest_limits.roots) refl
       ∙ sym (ap (λ o. to (cond ((((mine && fresh) && not (keeps_other o a)) && takes_root (plain c).roots o) && is_none o) more c)) (fold_retained key))
     where
@@ -238,30 +241,30 @@ module _ (name : List ℕ → Address) (shape : Shape) (shard : ℕ) (c : Folded
       count = count_by (λ r. is_none r.root.dropped) c.roots
 
       more : Folded
-      more = record c { roots = c.roots ++ fold.new_root c.epoch a key ∷ [] }
+      more = record c { roots = fold.insert_root (fold.new_root c.epoch a key) c.roots }
 
       go : (m f : Bool) (o : Option RootFacts) (b : Bool) → nat_lt (count_by (λ r. is_none r.root.dropped) c.roots) greatest_limits.roots ≡ b
           → (cond (not m) (only Nothing (to c)) (cond (not f || is_some (put_refusal (record { roots = map record_of c.roots; limit = greatest_limits.roots }) a (option_map record_of o))) (only Refused (to c))
-          (only Rooted (record (to c) { roots = cond (is_some (option_map record_of o)) (map record_of c.roots) (map record_of c.roots ++ new_record key a c.epoch ∷ []) })))).catalogue
-          ≡ to (cond ((((m && f) && not (keeps_other (option_map (λ r. r.root) o) a)) && takes_root (plain c).roots (option_map (λ r. r.root) o)) && is_none (option_map (λ r. r.root) o)) (record c { roots = c.roots ++ fold.new_root c.epoch a key ∷ [] }) c)
+          (only Rooted (record (to c) { roots = cond (is_some (option_map record_of o)) (map record_of c.roots) (insert_record (new_record key a c.epoch) (map record_of c.roots)) })))).catalogue
+          ≡ to (cond ((((m && f) && not (keeps_other (option_map (λ r. r.root) o) a)) && takes_root (plain c).roots (option_map (λ r. r.root) o)) && is_none (option_map (λ r. r.root) o)) (record c { roots = fold.insert_root (fold.new_root c.epoch a key) c.roots }) c)
       go false f o b e = refl
       go true false o b e = refl
       go true true (Some x) b e = taken (bytes_eq x.root.address.0 a.0)
         where
           taken : (k : Bool)
               → (cond (is_some (cond (not k) (Some (KeyTaken)) None)) (only Refused (to c)) (only Rooted (to c))).catalogue
-              ≡ to (cond (((true && not (not k)) && true) && false) (record c { roots = c.roots ++ fold.new_root c.epoch a key ∷ [] }) c)
+              ≡ to (cond (((true && not (not k)) && true) && false) (record c { roots = fold.insert_root (fold.new_root c.epoch a key) c.roots }) c)
           taken true = refl
           taken false = refl
       go true true None b e =
-          ap (λ full. (cond (is_some (cond full (Some (RootsFull greatest_limits.roots)) None)) (only Refused (to c)) (only Rooted (record (to c) { roots = map record_of c.roots ++ new_record key a c.epoch ∷ [] }))).catalogue) (full ∙ ap not e)
+          ap (λ full. (cond (is_some (cond full (Some (RootsFull greatest_limits.roots)) None)) (only Refused (to c)) (only Rooted (record (to c) { roots = insert_record (new_record key a c.epoch) (map record_of c.roots) }))).catalogue) (full ∙ ap not e)
           ∙ room b
-          ∙ sym (ap (λ r. to (cond (r && true) (record c { roots = c.roots ++ fold.new_root c.epoch a key ∷ [] }) c)) (ap (λ n. nat_lt n greatest_limits.roots) (count_placed c.roots) ∙ e))
+          ∙ sym (ap (λ r. to (cond (r && true) (record c { roots = fold.insert_root (fold.new_root c.epoch a key) c.roots }) c)) (ap (λ n. nat_lt n greatest_limits.roots) (count_placed c.roots) ∙ e))
         where
           full : nat_le greatest_limits.roots (retained_count (map record_of c.roots)) ≡ not (nat_lt (count_by (λ r. is_none r.root.dropped) c.roots) greatest_limits.roots)
           full = ap (λ n. nat_le greatest_limits.roots n) (count_map (λ (r : RootRecord). is_none r.dropped) record_of c.roots) ∙ full_or_room (count_by (λ r. is_none r.root.dropped) c.roots) greatest_limits.roots
 
-          room : (b : Bool) → (cond (is_some (cond (not b) (Some (RootsFull greatest_limits.roots)) None)) (only Refused (to c)) (only Rooted (record (to c) { roots = map record_of c.roots ++ new_record key a c.epoch ∷ [] }))).catalogue
-              ≡ to (cond (b && true) (record c { roots = c.roots ++ fold.new_root c.epoch a key ∷ [] }) c)
-          room true = ap (λ rs. record (to c) { roots = rs }) (sym (appended c.roots (fold.new_root c.epoch a key)))
+          room : (b : Bool) → (cond (is_some (cond (not b) (Some (RootsFull greatest_limits.roots)) None)) (only Refused (to c)) (only Rooted (record (to c) { roots = insert_record (new_record key a c.epoch) (map record_of c.roots) }))).catalogue
+              ≡ to (cond (b && true) (record c { roots = fold.insert_root (fold.new_root c.epoch a key) c.roots }) c)
+          room true = ap (λ rs. record (to c) { roots = rs }) (sym (inserted c.roots (fold.new_root c.epoch a key)))
           room false = refl

@@ -14,7 +14,7 @@ use Rattle.hs_model.specs.Store.{address_cmp}
 use Rattle.hs_model.proofs.Members.{at_is_same}
 use Rattle.hs_model.proofs.SetLemmas.{map_of_filter}
 use Rattle.hs_roots.specs.declared.root.RootRecord.{RootRecord}
-use Rattle.hs_roots.specs.Roots.{counting, count_new, is_released, kept_by, release}
+use Rattle.hs_roots.specs.Roots.{counting, count_new, is_released, kept_by, release, released_count}
 use Rattle.hs_fold.specs.Runs.Facts.{Facts as FoldedFacts, RootFacts}
 use Rattle.hs_fold.specs.Runs.Facts.{each_block as fold_each}
 use Rattle.hs_fold.specs.Runs.Rounds.{count_block as fold_count, count_root, find_zero as fold_zero, is_gone as fold_gone, is_new as fold_new, is_new_zero as fold_new_zero, moved_by, spare as fold_spare}
@@ -211,7 +211,6 @@ pub still_kept_records : (b : Bool) (epoch : ℕ) (rs : List RootFacts) → cond
 still_kept_records true epoch rs = sym (map_of_filter (λ (r : RootRecord). not (is_released epoch r)) record_of rs)
 still_kept_records false epoch rs = ap (λ rs'. map record_of rs') (sym (all_stay rs))
 
-pub let_go_count : (b : Bool) (epoch : ℕ) (rs : List RootFacts) → length (cond b (kept_by (is_released epoch) (map record_of rs)) []) ≡ count_by (λ r. b && old epoch r) rs
-let_go_count true epoch rs =
-    length_map (λ (root : RootRecord). root.address) (filter (is_released epoch) (map record_of rs)) ∙ length-filter (is_released epoch) (map record_of rs) ∙ count_map (is_released epoch) record_of rs
+pub let_go_count : (b : Bool) (epoch : ℕ) (rs : List RootFacts) → cond b (released_count epoch (map record_of rs)) 0 ≡ count_by (λ r. b && old epoch r) rs
+let_go_count true epoch rs = count_map (is_released epoch) record_of rs
 let_go_count false epoch rs = none_count rs

@@ -25,6 +25,7 @@ use Rattle.hs_shard.specs.declared.effect.Effect.{Effect}
 use Rattle.hs_shard.specs.Clients.{Applied, applied, only}
 use Rattle.hs_shard.specs.Facts.{Catalogue}
 use Rattle.hs_shard.specs.Rounds.{advance, advanced, end_open, end_round, enter, enter_epoch, entered, first_deltas, get_round, is_accepted, is_due, is_new, is_new_zero, let_go, log_got, next_deltas, next_total, pointers_of, search, searched, settle, settled, still_kept, sweep, swept}
+use Rattle.hs_shard.specs.Rounds.{let_go_count as gone_count}
 use Rattle.hs_desk.specs.declared.what.What.TheVariants.{Nothing, Refused}
 use Rattle.std.proofs.lemmas.Map.Made.{keys_of-map_values}
 use Rattle.std.specs.List.Sorted.{IsStrictlySortedBy}
@@ -72,7 +73,7 @@ module _ (name : List ℕ → Address) (shape : Shape) (shard : ℕ) where
 
     total_alike : next_total c.epoch c.round (to c) ≡ fold.next_total c
     total_alike =
-        ap (λ n. n + length (let_go c.epoch c.round (to c).roots)) (zero_count_known c.epoch c.blocks)
+        ap (λ n. n + gone_count c.epoch c.round (to c).roots) (zero_count_known c.epoch c.blocks)
         ∙ ap (λ n. count_by (λ e. fold.is_new_zero c.epoch e.1) c.blocks + n) (let_go_count (c.round == 0) c.epoch c.roots)
 
     deltas_alike : next_deltas c.epoch c.round (to c) ≡ fold.next_deltas c

@@ -5,7 +5,7 @@ use Rattle.hs_limits.specs.declared.address.Address.{Address}
 use Rattle.hs_roots.specs.declared.fault.RootFault.TheVariants.{KeyTaken, NoKey, RootsFull}
 use Rattle.hs_roots.specs.declared.root.RootRecord.{RootRecord}
 use Rattle.hs_roots.specs.Refusals.{put_refusal, drop_refusal}
-use Rattle.hs_roots.specs.Roots.{retained_of, retained_count, put_root, drop_root, is_new, count_new, is_released, release, kept_by}
+use Rattle.hs_roots.specs.Roots.{retained_of, retained_count, put_root, drop_root, is_new, count_new, is_released, release, released_count, kept_by}
 
 -- keys j, k and z, and two addresses
 abbrev j : List ℕ
@@ -40,6 +40,19 @@ looks = refl
 drops : drop_refusal (retained_of z one) ∷ drop_refusal (retained_of k one) ∷ drop_refusal (retained_of k (drop_root k 1 one)) ∷ [] ≡ Some NoKey ∷ None ∷ Some NoKey ∷ []
 drops = refl
 
+-- root a k h0 / drop k / root a z h1 / root a j h1 / root a k h1: by key, and of one key as they were put
+abbrev put : List RootRecord
+put = put_root k (a 5) 2 (put_root j (a 5) 1 (put_root z (a 5) 1 (drop_root k 1 one)))
+
+by_key : map (λ root. root.key) put ≡ j ∷ k ∷ k ∷ z ∷ []
+by_key = refl
+
+as_put : map (λ root. root.dropped) put ≡ None ∷ Some 1 ∷ None ∷ None ∷ []
+as_put = refl
+
+last_of_key : option_map (λ root. root.address) (retained_of k put) ∷ option_map (λ root. root.address) (retained_of k (drop_root k 2 put)) ∷ [] ≡ Some (a 5) ∷ None ∷ []
+last_of_key = refl
+
 -- root a k h0 / drop k / delete / delete: run 2 counts the root, which still counts there; run 3 forgets it
 abbrev dropped : List RootRecord
 dropped = drop_root k 1 one
@@ -59,6 +72,10 @@ later = refl
 
 both : map (λ root. root.dropped) (put_root k (a 5) 2 dropped) ≡ Some 1 ∷ None ∷ []
 both = refl
+
+-- two roots that go are counted as two, whatever they keep
+gone : released_count 3 (count_new 2 (drop_root j 1 (put_root j (a 4) 1 dropped))) ≡ 2
+gone = refl
 
 counts : retained_count (put_root k (a 5) 2 dropped) ≡ 1
 counts = refl

@@ -1,3 +1,5 @@
+pub mod ByKeyLemmas
 mod Examples
-mod PlaceLemmas
-mod RootLemmas
+pub mod InsertLemmas
+pub mod PlaceLemmas
+pub mod RootLemmas

@@ -1,8 +1,7 @@
 -- The first place at which a test passes, and how often it passes, as a list changes.
-use Rattle.std.proofs.Common.{◌≡◌, ℕ, zero, suc, ◌+◌, ◌<◌, ◌≤◌, Bool, true, false, cond, List, [], ◌∷◌, ◌++◌, Some, None, length, map, get_or, set, find, filter, refl, ap, sym, subst, ◌∙◌, arith, add-zero, zero-add}
-use Rattle.std.proofs.lemmas.List.Sums.{sum_by-cons}
+use Rattle.std.proofs.Common.{◌≡◌, ℕ, zero, suc, ◌+◌, ◌<◌, ◌≤◌, Bool, true, false, cond, List, [], ◌∷◌, Some, None, length, map, get_or, set, find, filter, refl, ap, sym, subst, ◌∙◌, arith, zero-add}
 use Rattle.std.specs.List.{count_by, position_from}
-use Rattle.std.specs.Option.{option_or}
+use Rattle.hs_roots.proofs.InsertLemmas.{count_cons}
 
 -- a place at which a test passes first: where the list begins at n, the item there is what `find` gives
 pub record IsFirst {X : Type 0} (p : X → Bool) (xs : List X) (n i : ℕ) : Type 0 where
@@ -12,9 +11,6 @@ pub record IsFirst {X : Type 0} (p : X → Bool) (xs : List X) (n i : ℕ) : Typ
   pub item : (d : X) → find p xs ≡ Some (get_or xs place d)
 
 module _ {X : Type 0} where
-  pub count_cons : (p : X → Bool) (x : X) (xs : List X) → count_by p (x ∷ xs) ≡ cond (p x) 1 0 + count_by p xs
-  count_cons p x xs = sum_by-cons (λ x. cond (p x) 1 0) x xs
-
   pub first_at : (p : X → Bool) (xs : List X) (n i : ℕ) → position_from p n xs ≡ Some i → IsFirst p xs n i
   first_at p [] n i e = cc
   first_at p (x ∷ xs) n i e = go (λ f. first_at p xs (n + 1) i f) (p x) refl e
@@ -49,22 +45,6 @@ module _ {X : Type 0} where
 
   -- ---- how often it passes
 
-  pub count_nowhere : (p : X → Bool) (xs : List X) (n : ℕ) → position_from p n xs ≡ None → count_by p xs ≡ 0
-  count_nowhere p [] n e = refl
-  count_nowhere p (x ∷ xs) n e = count_cons p x xs ∙ go (count_nowhere p xs (n + 1)) (p x) e
-    where
-      go : (position_from p (n + 1) xs ≡ None → count_by p xs ≡ 0) → (b : Bool) → cond b (Some n) (position_from p (n + 1) xs) ≡ None → cond b 1 0 + count_by p xs ≡ 0
-      go ih true f = cc
-      go ih false f = omega (arith, ih f)
-
-  pub nowhere_count : (p : X → Bool) (xs : List X) (n : ℕ) → count_by p xs ≡ 0 → position_from p n xs ≡ None
-  nowhere_count p [] n e = refl
-  nowhere_count p (x ∷ xs) n e = go (nowhere_count p xs (n + 1)) (p x) (sym (count_cons p x xs) ∙ e)
-    where
-      go : (count_by p xs ≡ 0 → position_from p (n + 1) xs ≡ None) → (b : Bool) → cond b 1 0 + count_by p xs ≡ 0 → cond b (Some n) (position_from p (n + 1) xs) ≡ None
-      go ih true f = absurd (omega (arith, f))
-      go ih false f = ih (omega (arith, f))
-
   pub count_somewhere : (p : X → Bool) (xs : List X) (n i : ℕ) → position_from p n xs ≡ Some i → 1 ≤ count_by p xs
   count_somewhere p [] n i e = cc
   count_somewhere p (x ∷ xs) n i e = rw (count_cons p x xs) (go (count_somewhere p xs (n + 1) i) (p x) e)
@@ -73,37 +53,12 @@ module _ {X : Type 0} where
       go ih true f = omega arith
       go ih false f = omega (arith, ih f)
 
-  -- ---- one item more
-
-  pub position_push : (p : X → Bool) (xs : List X) (y : X) (n : ℕ) → position_from p n (xs ++ y ∷ []) ≡ option_or (position_from p n xs) (cond (p y) (Some (n + length xs)) None)
-  position_push p [] y n = ap (λ m. cond (p y) (Some m) None) (sym (add-zero n))
-  position_push p (x ∷ xs) y n = go (position_push p xs y (n + 1)) (p x)
-    where
-      go : position_from p (n + 1) (xs ++ y ∷ []) ≡ option_or (position_from p (n + 1) xs) (cond (p y) (Some (n + 1 + length xs)) None) → (b : Bool) → cond b (Some n) (position_from p (n + 1) (xs ++ y ∷ [])) ≡ option_or (cond b (Some n) (position_from p (n + 1) xs)) (cond (p y) (Some (n + suc (length xs))) None)
-      go ih true = refl
-      go ih false = ih ∙ ap (λ m. option_or (position_from p (n + 1) xs) (cond (p y) (Some m) None)) (omega arith)
-
   -- ---- each item changed
-
-  pub position_same : (p q : X → Bool) (f : X → X) → ((x : X) → p (f x) ≡ q x) → (xs : List X) (n : ℕ) → position_from p n (map f xs) ≡ position_from q n xs
-  position_same p q f same [] n = refl
-  position_same p q f same (x ∷ xs) n = rw (same x) (ap (λ rest. cond (q x) (Some n) rest) (position_same p q f same xs (n + 1)))
 
   pub count_same : (p q : X → Bool) (f : X → X) → ((x : X) → p (f x) ≡ q x) → (xs : List X) → count_by p (map f xs) ≡ count_by q xs
   count_same p q f same [] = refl
   count_same p q f same (x ∷ xs) =
       count_cons p (f x) (map f xs) ∙ rw (same x) (ap (λ n. cond (q x) 1 0 + n) (count_same p q f same xs)) ∙ sym (count_cons q x xs)
-
-  -- where the change makes the test fail, or leaves it
-  pub position_masked : (p : X → Bool) (f : X → X) (s : Bool) → ((x : X) → p (f x) ≡ cond s false (p x)) → (xs : List X) (n : ℕ) → position_from p n (map f xs) ≡ cond s None (position_from p n xs)
-  position_masked p f true fails [] n = refl
-  position_masked p f true fails (x ∷ xs) n = rw (fails x) (position_masked p f true fails xs (n + 1))
-  position_masked p f false leaves xs n = position_same p p f leaves xs n
-
-  pub count_masked : (p : X → Bool) (f : X → X) (s : Bool) → ((x : X) → p (f x) ≡ cond s false (p x)) → (xs : List X) → count_by p (map f xs) ≡ cond s 0 (count_by p xs)
-  count_masked p f true fails [] = refl
-  count_masked p f true fails (x ∷ xs) = count_cons p (f x) (map f xs) ∙ rw (fails x) (ap (λ n. 0 + n) (count_masked p f true fails xs))
-  count_masked p f false leaves xs = count_same p p f leaves xs
 
   -- ---- some items gone
 
@@ -115,9 +70,6 @@ module _ {X : Type 0} where
       go ih true e a f = count_cons p x (filter k xs) ∙ ap (λ n. cond (p x) 1 0 + n) ih
       go ih false e true f = let h = kept x f in cc (e, h)
       go ih false e false f = rw f (ih ∙ sym (zero-add (count_by p xs)))
-
-  pub found_alike : (p : X → Bool) (xs ys : List X) (n m : ℕ) → count_by p xs ≡ count_by p ys → position_from p n xs ≡ None → position_from p m ys ≡ None
-  found_alike p xs ys n m e h = nowhere_count p ys m (sym e ∙ count_nowhere p xs n h)
 
   -- ---- the one item at which it passes changed
 

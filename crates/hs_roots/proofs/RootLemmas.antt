@@ -1,23 +1,25 @@
--- The places of retained roots, as the roots change.
-use Rattle.std.proofs.Common.{◌≡◌, ℕ, ◌+◌, ◌<◌, ◌≤◌, ◌^◌, Bool, true, false, cond, not, ◌&&◌, List, [], ◌∷◌, ◌++◌, Option, Some, None, is_none, length, refl, ap, sym, subst, ◌∙◌, arith, add-zero, zero-add, nat_le, get_or, set}
-use Rattle.std.proofs.lemmas.Cmp.{eq_by_cmp_equiv}
-use Rattle.std.proofs.lemmas.List.Sums.{sum_by_push}
-use Rattle.std.proofs.lemmas.Map.{lookup-set_value, length-set_value}
-use Rattle.std.proofs.lemmas.Map.Text.{is_eq-slice_cmp}
+-- The records by key, and how many are retained, as the roots change.
+use Rattle.std.proofs.Common.{◌≡◌, ℕ, ◌+◌, ◌≤◌, Bool, true, false, cond, not, ◌&&◌, List, [], ◌∷◌, Option, Some, None, is_none, refl, ap, sym, subst, ◌∙◌, arith, add-zero, zero-add, nat_le, get_or, set, length}
+use Rattle.std.proofs.lemmas.List.Kept.{AllPairs-filter}
 use Rattle.std.proofs.lemmas.Slice.Eq.{bytes_eq-Decides}
-use Rattle.std.specs.BTreeMap.{is_at}
-use Rattle.std.specs.Cmp.{IsEquivalence}
-use Rattle.std.specs.Cmp.Lexicographic.{nat_list_cmp_total}
-use Rattle.std.specs.List.{count_by, position_from}
-use Rattle.std.specs.Map.{lookup, set_value}
-use Rattle.std.specs.Option.{option_map, option_map_or, option_or, IsSome}
-use Rattle.std.specs.Ordering.{eq_by_cmp}
+use Rattle.std.specs.List.{AllByRecursion, count_by, position_from}
+use Rattle.std.specs.Option.{option_map, option_map_or}
+use Rattle.std.specs.Ordering.{is_lt}
 use Rattle.std.specs.Str.{bytes_eq}
 use Rattle.hs_limits.specs.declared.address.Address.{Address}
 use Rattle.hs_roots.specs.declared.root.RootRecord.{RootRecord}
-use Rattle.hs_roots.specs.Places.{ArePlaces, key_cmp, place_of, place_one, place_all}
-use Rattle.hs_roots.specs.Roots.{retains, retained_count, new_root, dropping, drop_root, counting, count_new, is_released, release}
-use Rattle.hs_roots.proofs.PlaceLemmas.{count_cons, count_nowhere, nowhere_count, count_somewhere, position_push, position_same, count_same, count_kept, position_masked, count_masked, found_alike, map_once}
+use Rattle.hs_roots.specs.ByKey.{count_upto, is_upto, key_cmp, may_precede}
+use Rattle.hs_roots.specs.Places.{AreByKey, AreKept, place_of}
+use Rattle.hs_roots.specs.Roots.{retains, retained_count, new_root, insert_root, dropping, drop_root, counting, count_new, is_released, release}
+use Rattle.hs_roots.proofs.ByKeyLemmas.{ended_once, found_last, found_none, insert_stands, lt_from, map_stands, stand_from, standing_from}
+use Rattle.hs_roots.proofs.InsertLemmas.{count_cons, count_insert, longer}
+use Rattle.hs_roots.proofs.PlaceLemmas.{count_same, count_kept, count_somewhere, map_once}
+
+abbrev key_of : RootRecord → List ℕ
+key_of root = root.key
+
+abbrev ends : RootRecord → Bool
+ends root = is_none root.dropped
 
 -- ---- keys
 
@@ -59,149 +61,96 @@ retained_drop key epoch (root ∷ rest) =
     let c = count_cons (λ r. is_none r.dropped) root rest in
     omega (arith, one, ih, a, b, c)
 
-masked_once : (s : Bool) (n : ℕ) → n ≤ 1 → cond s 0 n ≤ 1
-masked_once true n h = omega arith
-masked_once false n h = h
-
 -- the record at the place of a key's root is that root
 pub dropped_is : (roots : List RootRecord) (key : List ℕ) (i epoch : ℕ) (root : RootRecord) → place_of key roots ≡ Some i → count_by (retains key) roots ≤ 1 → root ≡ get_or roots i root → set roots i (record root { dropped = Some epoch }) ≡ drop_root key epoch roots
 dropped_is roots key i epoch root at once is =
     ap (λ (r : RootRecord). set roots i (record r { dropped = Some epoch })) is
     ∙ map_once (retains key) (λ r. record r { dropped = Some epoch }) roots 0 i root (at ∙ ap (λ n. Some n) (sym (zero-add i))) once
 
-pub dropped_places : (roots rest : List RootRecord) (places after : List (List ℕ × ℕ)) (key : List ℕ) (i epoch : ℕ) → ArePlaces roots places → place_of key roots ≡ Some i
-    → rest ≡ drop_root key epoch roots → ((q : List ℕ) → lookup (is_at (key_cmp q)) after ≡ cond (is_at (key_cmp key) q) None (lookup (is_at (key_cmp q)) places)) → length after + 1 ≡ length places
-    → ArePlaces rest after
-dropped_places roots rest places after key i epoch was found dropped looked shorter =
+-- a key is retained once at most
+pub retained_once : (roots : List RootRecord) → AreByKey roots → (key : List ℕ) → count_by (retains key) roots ≤ 1
+retained_once roots h key = ended_once key_of ends key roots (standing_from key_of ends roots h)
+
+pub dropped_kept : (roots : List RootRecord) (retained : ℕ) (key : List ℕ) (i epoch : ℕ) → AreKept roots retained → place_of key roots ≡ Some i → (1 ≤ retained) × ((left : ℕ) → left + 1 ≡ retained → AreKept (drop_root key epoch roots) left)
+dropped_kept roots retained key i epoch was found =
     let more = count_somewhere (retains key) roots 0 i found in
-    let once = was.once key in
-    let fewer = retained_drop key epoch roots in
-    rw dropped (record {
-      placed = λ q.
-          looked q
-          ∙ ap (λ s. cond s None (lookup (is_at (key_cmp q)) places)) (is_eq-slice_cmp key q)
-          ∙ ap (λ o. cond (bytes_eq key q) None o) (was.placed q)
-          ∙ sym (position_masked (retains q) (dropping key epoch) (bytes_eq key q) (retains_dropping key q epoch) roots 0);
-      once = λ q.
-          subst (λ n. n ≤ 1) (sym (count_masked (retains q) (dropping key epoch) (bytes_eq key q) (retains_dropping key q epoch) roots)) (masked_once (bytes_eq key q) (count_by (retains q) roots) (was.once q));
-      counted = omega (arith, more, once, fewer, shorter, was.counted);
-      fits = omega (arith, shorter, was.fits);
-    })
+    let once = retained_once roots was.ordered key in
+    let fewer = retained_drop key epoch roots in (
+      omega (arith, more, once, fewer, was.counted),
+      λ left e. record {
+        ordered = stand_from key_of ends (drop_root key epoch roots) (map_stands key_of ends (dropping key epoch) keeps still roots (standing_from key_of ends roots was.ordered));
+        counted = omega (arith, more, once, fewer, was.counted, e);
+      },
+    )
+  where
+    keeps : (root : RootRecord) → (dropping key epoch root).key ≡ root.key
+    keeps root = go (retains key root)
+      where
+        go : (b : Bool) → (cond b (record root { dropped = Some epoch }) root).key ≡ root.key
+        go true = refl
+        go false = refl
+
+    still : (root : RootRecord) → is_none (dropping key epoch root).dropped ≡ true → is_none root.dropped ≡ true
+    still root = go (retains key root)
+      where
+        go : (b : Bool) → is_none (cond b (record root { dropped = Some epoch }) root).dropped ≡ true → is_none root.dropped ≡ true
+        go true e = cc e
+        go false e = e
+
+-- ---- a root is found
+
+-- with no key at most this one it is not retained
+pub place_none : (roots : List RootRecord) (key : List ℕ) → count_upto key_of key roots ≡ 0 → place_of key roots ≡ None
+place_none roots key e = found_none key_of ends key roots 0 e
+
+-- else the last record whose key is at most this one is that of the key, or none
+pub place_last : (roots : List RootRecord) (key : List ℕ) (i : ℕ) (root : RootRecord) → AreByKey roots → count_upto key_of key roots ≡ i + 1 → root ≡ get_or roots i root → place_of key roots ≡ cond (retains key root) (Some i) None
+place_last roots key i root h e is =
+    found_last key_of ends key roots 0 i root (standing_from key_of ends roots h) (e ∙ omega arith)
+    ∙ ap (λ r. cond (retains key r) (Some (0 + i)) None) (sym is)
+    ∙ ap (λ m. cond (retains key root) (Some m) None) (zero-add i)
 
 -- ---- a root is put
 
-or_none : {A : Type 0} (o : Option A) → option_or o None ≡ o
-or_none None = refl
-or_none (Some x) = refl
+pub length_insert_root : (roots : List RootRecord) (new : RootRecord) → length (insert_root new roots) ≡ length roots + 1
+length_insert_root roots new = longer (λ (root : RootRecord). is_upto root.key new.key) roots new
 
 pub map_none : {A B : Type 0} (f : A → B) (o : Option A) → option_map f o ≡ None → o ≡ None
 map_none f None e = refl
 map_none f (Some x) e = cc
 
-place_put : (roots : List RootRecord) (key q : List ℕ) (a : Address) (epoch : ℕ) → place_of key roots ≡ None → place_of q (roots ++ new_root key a epoch ∷ []) ≡ cond (bytes_eq key q) (Some (length roots)) (place_of q roots)
-place_put roots key q a epoch free = position_push (retains q) roots (new_root key a epoch) 0 ∙ go (bytes_eq key q) refl
+-- where a key is not retained, each record up to it may stand before its new one
+may_stand : (roots : List RootRecord) (key : List ℕ) (a : Address) (epoch n : ℕ) → position_from (retains key) n roots ≡ None
+    → AllByRecursion (λ root. is_upto root.key key ≡ true → may_precede key_of ends root (new_root key a epoch) ≡ true) roots
+may_stand [] key a epoch n free = tt
+may_stand (root ∷ rest) key a epoch n free = go (is_none root.dropped) (bytes_eq root.key key) refl free (may_stand rest key a epoch (n + 1))
   where
-    go : (s : Bool) → bytes_eq key q ≡ s → option_or (place_of q roots) (cond s (Some (0 + length roots)) None) ≡ cond s (Some (length roots)) (place_of q roots)
-    go true e =
-        let none : place_of q roots ≡ None = subst (λ k. place_of k roots ≡ None) (same_key key q e) free in
-        rw none (ap (λ n. Some n) (zero-add (length roots)))
-    go false e = or_none (place_of q roots)
+    Rest : Type 0
+    Rest = AllByRecursion (λ root. is_upto root.key key ≡ true → may_precede key_of ends root (new_root key a epoch) ≡ true) rest
 
-count_put : (roots : List RootRecord) (key q : List ℕ) (a : Address) (epoch : ℕ) → place_of key roots ≡ None → count_by (retains q) roots ≤ 1 → count_by (retains q) (roots ++ new_root key a epoch ∷ []) ≤ 1
-count_put roots key q a epoch free once = subst (λ n. n ≤ 1) (sym (sum_by_push (λ r. cond (retains q r) 1 0) roots (new_root key a epoch))) (go (bytes_eq key q) refl)
-  where
-    go : (s : Bool) → bytes_eq key q ≡ s → count_by (retains q) roots + cond s 1 0 ≤ 1
-    go true e =
-        let none = count_nowhere (retains q) roots 0 (subst (λ k. place_of k roots ≡ None) (same_key key q e) free) in
-        omega (arith, none)
-    go false e = omega (arith, once)
+    go : (b s : Bool) → bytes_eq root.key key ≡ s → cond (b && s) (Some n) (position_from (retains key) (n + 1) rest) ≡ None → (position_from (retains key) (n + 1) rest ≡ None → Rest)
+        → (is_upto root.key key ≡ true → cond b (is_lt (key_cmp root.key key)) (is_upto root.key key) ≡ true) × Rest
+    go true true e f ih = cc f
+    go true false e f ih = ((λ u. lt_from root.key key u e), ih f)
+    go false true e f ih = ((λ u. u), ih f)
+    go false false e f ih = ((λ u. u), ih f)
 
-pub put_places : (roots more : List RootRecord) (places after : List (List ℕ × ℕ)) (key : List ℕ) (a : Address) (epoch n : ℕ) → ArePlaces roots places → place_of key roots ≡ None
-    → more ≡ roots ++ new_root key a epoch ∷ [] → n ≡ length roots → ((q : List ℕ) → lookup (is_at (key_cmp q)) after ≡ cond (is_at (key_cmp key) q) (Some n) (lookup (is_at (key_cmp q)) places)) → length after ≡ length places + 1 → length after < 2 ^ 32
-    → ArePlaces more after
-put_places roots more places after key a epoch n was free put last looked longer fits =
-    let one = sum_by_push (λ r. cond (is_none r.dropped) 1 0) roots (new_root key a epoch) in
-    rw put (record {
-      placed = λ q.
-          looked q
-          ∙ ap (λ m. cond (is_at (key_cmp key) q) (Some m) (lookup (is_at (key_cmp q)) places)) last
-          ∙ ap (λ s. cond s (Some (length roots)) (lookup (is_at (key_cmp q)) places)) (is_eq-slice_cmp key q)
-          ∙ ap (λ o. cond (bytes_eq key q) (Some (length roots)) o) (was.placed q)
-          ∙ sym (place_put roots key q a epoch free);
-      once = λ q. count_put roots key q a epoch free (was.once q);
-      counted = omega (arith, one, longer, was.counted);
-      fits = fits;
-    })
+pub put_kept : (roots : List RootRecord) (retained : ℕ) (key : List ℕ) (a : Address) (epoch : ℕ) → AreKept roots retained → place_of key roots ≡ None → AreKept (insert_root (new_root key a epoch) roots) (retained + 1)
+put_kept roots retained key a epoch was free =
+    let one = count_insert ends roots (count_upto key_of key roots) (new_root key a epoch) in
+    record {
+      ordered = stand_from key_of ends (insert_root (new_root key a epoch) roots) (insert_stands key_of ends roots (new_root key a epoch) (may_stand roots key a epoch 0 free) (standing_from key_of ends roots was.ordered));
+      counted = omega (arith, one, was.counted);
+    }
 
 -- ---- roots are counted
 
-pub counted_places : (roots more : List RootRecord) (places : List (List ℕ × ℕ)) (epoch : ℕ) → ArePlaces roots places → more ≡ count_new epoch roots → ArePlaces more places
-counted_places roots more places epoch was counted = rw counted (record {
-  placed = λ q. was.placed q ∙ sym (position_same (retains q) (retains q) (counting epoch) (λ r. refl) roots 0);
-  once = λ q. subst (λ n. n ≤ 1) (sym (count_same (retains q) (retains q) (counting epoch) (λ r. refl) roots)) (was.once q);
-  counted = was.counted ∙ sym (count_same (λ r. is_none r.dropped) (λ r. is_none r.dropped) (counting epoch) (λ r. refl) roots);
-  fits = was.fits;
-})
-
--- ---- roots are placed anew
-
-pub set_absent : (test : List ℕ → Bool) (places : List (List ℕ × ℕ)) (n : ℕ) → lookup test places ≡ None → set_value test places n ≡ places
-set_absent test [] n e = refl
-set_absent test (first ∷ rest) n e = go (set_absent test rest n) (test first.0) e
-  where
-    go : (lookup test rest ≡ None → set_value test rest n ≡ rest) → (b : Bool) → cond b (Some first.1) (lookup test rest) ≡ None → cond b ((first.0, n) ∷ rest) (first ∷ set_value test rest n) ≡ first ∷ rest
-    go ih true h = cc
-    go ih false h = ap (λ r. first ∷ r) (ih h)
-
-key_laws : IsEquivalence (eq_by_cmp key_cmp)
-key_laws = eq_by_cmp_equiv nat_list_cmp_total
-
-one_looks : (root : RootRecord) (n : ℕ) (places : List (List ℕ × ℕ)) → (is_none root.dropped ≡ true → IsSome (lookup (is_at (key_cmp root.key)) places))
-    → (q : List ℕ) → lookup (is_at (key_cmp q)) (place_one root n places) ≡ cond (retains q root) (Some n) (lookup (is_at (key_cmp q)) places)
-one_looks root n places has q = go (is_none root.dropped) has
-  where
-    go : (b : Bool) → (b ≡ true → IsSome (lookup (is_at (key_cmp root.key)) places))
-        → lookup (is_at (key_cmp q)) (cond b (set_value (is_at (key_cmp root.key)) places n) places) ≡ cond (b && bytes_eq root.key q) (Some n) (lookup (is_at (key_cmp q)) places)
-    go true some =
-        lookup-set_value key_laws (is_at (key_cmp root.key)) (λ x y e. key_laws.congr root.key x y e) q n places (some refl)
-        ∙ ap (λ s. cond s (Some n) (lookup (is_at (key_cmp q)) places)) (is_eq-slice_cmp root.key q)
-    go false some = refl
-
-own_key : (root : RootRecord) → is_none root.dropped ≡ true → retains root.key root ≡ true
-own_key root e = rw (e, (bytes_eq-Decides root.key root.key).1 refl) refl
-
-all_look : (roots : List RootRecord) (n : ℕ) (places : List (List ℕ × ℕ)) → ((q : List ℕ) → count_by (retains q) roots ≤ 1) → ((q : List ℕ) → IsSome (position_from (retains q) n roots) → IsSome (lookup (is_at (key_cmp q)) places))
-    → (q : List ℕ) → lookup (is_at (key_cmp q)) (place_all roots n places) ≡ option_or (position_from (retains q) n roots) (lookup (is_at (key_cmp q)) places)
-all_look [] n places once has q = refl
-all_look (root ∷ rest) n places once has q =
-    let one = one_looks root n places (λ e. has root.key (rw (own_key root e) refl)) in
-    all_look rest (n + 1) (place_one root n places) (λ k. fewer k (once k)) (λ k. first_or_later k (retains k root) (one k) (has k)) q ∙ go (retains q root) refl (one q)
-  where
-    fewer : (k : List ℕ) → count_by (retains k) (root ∷ rest) ≤ 1 → count_by (retains k) rest ≤ 1
-    fewer k h = let both = count_cons (retains k) root rest in omega (arith, both, h)
-
-    first_or_later : (k : List ℕ) (b : Bool) → lookup (is_at (key_cmp k)) (place_one root n places) ≡ cond b (Some n) (lookup (is_at (key_cmp k)) places)
-        → (IsSome (cond b (Some n) (position_from (retains k) (n + 1) rest)) → IsSome (lookup (is_at (key_cmp k)) places))
-        → IsSome (position_from (retains k) (n + 1) rest) → IsSome (lookup (is_at (key_cmp k)) (place_one root n places))
-    first_or_later k true e h some = rw e refl
-    first_or_later k false e h some = rw e (h some)
-
-    go : (b : Bool) → retains q root ≡ b → lookup (is_at (key_cmp q)) (place_one root n places) ≡ cond b (Some n) (lookup (is_at (key_cmp q)) places)
-        → option_or (position_from (retains q) (n + 1) rest) (lookup (is_at (key_cmp q)) (place_one root n places)) ≡ option_or (cond b (Some n) (position_from (retains q) (n + 1) rest)) (lookup (is_at (key_cmp q)) places)
-    go true e h =
-        let both = count_cons (retains q) root rest ∙ ap (λ s. cond s 1 0 + count_by (retains q) rest) e in
-        let all = once q in
-        let none = nowhere_count (retains q) rest (n + 1) (omega (arith, both, all)) in
-        rw (none, h) refl
-    go false e h = ap (λ o. option_or (position_from (retains q) (n + 1) rest) o) h
-
-length-place_all : (roots : List RootRecord) (n : ℕ) (places : List (List ℕ × ℕ)) → length (place_all roots n places) ≡ length places
-length-place_all [] n places = refl
-length-place_all (root ∷ rest) n places = length-place_all rest (n + 1) (place_one root n places) ∙ go (is_none root.dropped)
-  where
-    go : (b : Bool) → length (cond b (set_value (is_at (key_cmp root.key)) places n) places) ≡ length places
-    go true = length-set_value (is_at (key_cmp root.key)) places n
-    go false = refl
+pub counted_kept : (roots : List RootRecord) (retained epoch : ℕ) → AreKept roots retained → AreKept (count_new epoch roots) retained
+counted_kept roots retained epoch was =
+    record {
+      ordered = stand_from key_of ends (count_new epoch roots) (map_stands key_of ends (counting epoch) (λ root. refl) (λ root e. e) roots (standing_from key_of ends roots was.ordered));
+      counted = was.counted ∙ sym (count_same ends ends (counting epoch) (λ root. refl) roots);
+    }
 
 -- ---- dropped roots go
 
@@ -213,28 +162,9 @@ standing_stays epoch root e = go root.dropped e root.counted
     go None h false = refl
     go (Some x) h b = cc
 
-retained_stays : (epoch : ℕ) (q : List ℕ) (root : RootRecord) → retains q root ≡ true → not (is_released epoch root) ≡ true
-retained_stays epoch q root e = standing_stays epoch root (rw (none_dropped root.dropped (bytes_eq root.key q) e).0 refl)
-
-pub released_places : (roots : List RootRecord) (places : List (List ℕ × ℕ)) (epoch : ℕ) → ArePlaces roots places → ArePlaces (release epoch roots) (place_all (release epoch roots) 0 places)
-released_places roots places epoch was =
+pub released_kept : (roots : List RootRecord) (retained epoch : ℕ) → AreKept roots retained → AreKept (release epoch roots) retained
+released_kept roots retained epoch was =
     record {
-      placed = λ q. all_look (release epoch roots) 0 places fewer (λ k some. has k (place_of k roots) refl some) q ∙ either q (place_of q (release epoch roots)) refl;
-      once = fewer;
-      counted = length-place_all (release epoch roots) 0 places ∙ was.counted ∙ sym (count_kept (λ r. is_none r.dropped) (λ r. not (is_released epoch r)) (standing_stays epoch) roots);
-      fits = rw (length-place_all (release epoch roots) 0 places) was.fits;
+      ordered = AllPairs-filter (λ root later. may_precede key_of ends root later ≡ true) (λ root. not (is_released epoch root)) roots was.ordered;
+      counted = was.counted ∙ sym (count_kept ends (λ root. not (is_released epoch root)) (standing_stays epoch) roots);
     }
-  where
-    alike : (q : List ℕ) → count_by (retains q) (release epoch roots) ≡ count_by (retains q) roots
-    alike q = count_kept (retains q) (λ r. not (is_released epoch r)) (retained_stays epoch q) roots
-
-    fewer : (q : List ℕ) → count_by (retains q) (release epoch roots) ≤ 1
-    fewer q = subst (λ n. n ≤ 1) (sym (alike q)) (was.once q)
-
-    has : (q : List ℕ) (o : Option ℕ) → place_of q roots ≡ o → IsSome (place_of q (release epoch roots)) → IsSome (lookup (is_at (key_cmp q)) places)
-    has q None e some = let none = found_alike (retains q) roots (release epoch roots) 0 0 (sym (alike q)) e in cc (none, some)
-    has q (Some i) e some = rw (was.placed q ∙ e) refl
-
-    either : (q : List ℕ) (o : Option ℕ) → place_of q (release epoch roots) ≡ o → option_or o (lookup (is_at (key_cmp q)) places) ≡ o
-    either q None e = was.placed q ∙ found_alike (retains q) (release epoch roots) roots 0 0 (alike q) e
-    either q (Some i) e = refl

@@ -1,3 +1,4 @@
+pub mod ByKey
 pub mod Places
 pub mod Refusals
 pub mod Roots

@@ -1,8 +1,9 @@
--- The retention roots of a shard, in the order in which they were put, and how they change.
-use Rattle.std.specs.Prelude.{ℕ, ◌+◌, Bool, false, not, ◌&&◌, ◌||◌, if◌then◌else◌, List, [], ◌∷◌, ◌++◌, Option, Some, None, is_some, is_none, map, filter, find, count_by, bytes_eq, nat_le, nat_lt}
+-- The retention roots of a shard by key, and of one key in the order in which they were put, and how they change.
+use Rattle.std.specs.Prelude.{ℕ, ◌+◌, Bool, false, not, ◌&&◌, ◌||◌, if◌then◌else◌, List, Option, Some, None, is_some, is_none, map, filter, find, count_by, bytes_eq, nat_le, nat_lt}
 use Rattle.std.specs.Option.{option_map_or}
 use Rattle.hs_limits.specs.declared.address.Address.{Address}
 use Rattle.hs_roots.specs.declared.root.RootRecord.{RootRecord}
+use Rattle.hs_roots.specs.ByKey.{insert_by_key}
 
 -- the roots, and how many may be retained
 pub record Retention : Type 0 where
@@ -29,9 +30,13 @@ retained_count roots = count_by (λ root. is_none root.dropped) roots
 abbrev pub new_root : List ℕ → Address → ℕ → RootRecord
 new_root key a epoch = record { key = key; address = a; created = epoch; counted = false; dropped = None }
 
+-- the roots with one more
+abbrev pub insert_root : RootRecord → List RootRecord → List RootRecord
+insert_root new roots = insert_by_key (λ (root : RootRecord). root.key) new roots
+
 -- the key retains the address from this epoch on; one that is retained already stays as it is
 abbrev pub put_root : List ℕ → Address → ℕ → List RootRecord → List RootRecord
-put_root key a epoch roots = if is_some (retained_of key roots) then roots else roots ++ new_root key a epoch ∷ []
+put_root key a epoch roots = if is_some (retained_of key roots) then roots else insert_root (new_root key a epoch) roots
 
 -- a root that is retained under the key becomes one that was dropped in this epoch
 abbrev pub dropping : List ℕ → ℕ → RootRecord → RootRecord
@@ -59,6 +64,10 @@ is_released epoch root = root.counted && option_map_or (λ dropped. nat_le (drop
 
 abbrev pub release : ℕ → List RootRecord → List RootRecord
 release epoch roots = filter (λ root. not (is_released epoch root)) roots
+
+-- how many it forgets
+abbrev pub released_count : ℕ → List RootRecord → ℕ
+released_count epoch roots = count_by (is_released epoch) roots
 
 -- the addresses that roots of a kind keep, in their order
 abbrev pub kept_by : (RootRecord → Bool) → List RootRecord → List Address

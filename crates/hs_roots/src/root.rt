@@ -1,7 +1,8 @@
 //! One root, from when it is put until a deletion run forgets it.
 ghost use Rattle.std.specs.Prelude.{◌≡◌, ◌+◌, ◌||◌, nat_le, nat_lt, IfOk, OnErr};
 ghost use Rattle.hs_roots.specs.declared.fault.RootFault.TheVariants.{NoMemory};
-ghost use Rattle.hs_roots.specs.Roots.{is_new, count_new, is_released, release, kept_by};
+ghost use Rattle.hs_roots.specs.ByKey.{is_upto};
+ghost use Rattle.hs_roots.specs.Roots.{is_new, count_new, is_released, release, released_count, kept_by, retains};
 
 use crate::RootFault;
 use hs_limits::{Address, Key};
@@ -16,6 +17,20 @@ pub struct RootRecord {
     pub created: u64,
     pub counted: bool,
     pub dropped: Option<u64>,
+}
+
+/// Whether the root is retained under a key.
+pub(crate) fn retains(root: &RootRecord, key: &Key) -> bool
+    ensures { result ≡ retains key.now root.now }
+{
+    root.dropped.is_none() && root.key == *key
+}
+
+/// Whether the root's key is at most this one.
+pub(crate) fn is_upto(root: &RootRecord, key: &Key) -> bool
+    ensures { result ≡ is_upto root.now.key key.now }
+{
+    root.key <= *key
 }
 
 /// Whether a run of this epoch counts the root.
@@ -91,6 +106,13 @@ pub(crate) fn count_all(epoch: u64, roots: &mut Vec<RootRecord>)
     for root in roots.iter_mut() {
         root.counted = is_counted(epoch, root);
     }
+}
+
+/// How many roots a run of this epoch forgets.
+pub(crate) fn count_released(epoch: u64, roots: &[RootRecord]) -> usize
+    ensures { result ≡ released_count epoch roots.now }
+{
+    roots.iter().filter(|root| is_released(epoch, root)).count()
 }
 
 /// Takes away the roots that a run of this epoch forgets.

@@ -1,39 +1,42 @@
-//! The roots in the order in which they were put, and where the retained ones stand.
+//! The roots by key, and how many of them are retained.
 ghost use Rattle.std.specs.Prelude.{◌≡◌, [], IfOk, IfSome, IfNone, OnOk, OnErr, IsOk, IsOkUnless};
 ghost use Rattle.std.specs.Option.{option_map};
 ghost use Rattle.std.specs.Result.{result_err};
 ghost use Rattle.hs_roots.specs.declared.fault.RootFault.TheVariants as fault;
-ghost use Rattle.hs_roots.specs.Places.{place_one, place_all};
+ghost use Rattle.hs_roots.specs.ByKey.{count_upto};
+ghost use Rattle.hs_roots.specs.Places.{AreByKey, place_of};
 ghost use Rattle.hs_roots.specs.Refusals.{put_refusal, drop_refusal};
-ghost use Rattle.hs_roots.specs.Roots.{retained_of, retained_count, put_root, drop_root, is_new, count_new, is_released, release, kept_by};
+ghost use Rattle.hs_roots.specs.Roots.{retained_of, retained_count, put_root, drop_root, is_new, count_new, is_released, release, released_count, kept_by};
 
-use crate::root::{count_all, forget_released, new_addresses, released_addresses};
+use crate::root::{
+    count_all, count_released, forget_released, is_upto, new_addresses, released_addresses, retains,
+};
 use crate::{RootFault, RootRecord};
 use hs_limits::{Address, Key};
 use std::alloc::Global;
-use std::collections::BTreeMap;
 use std::marker::Model;
 
 /// The roots of one shard: those that are retained, and those that were dropped and that no deletion
 /// run has forgotten yet.
 #[derive(Drop)]
 pub struct RootSet {
+    /// By key, and of one key in the order in which they were put: a retained one is the last.
     records: Vec<RootRecord>,
-    /// For each key that is retained the place of its record.
-    places: BTreeMap<Key, usize>,
+    /// How many are retained.
+    retained: u32,
     limit: u32,
     alloc: Global,
 }
 
 impl Model for RootSet {
-    ghost use Rattle.hs_roots.specs.Places.{ArePlaces};
+    ghost use Rattle.hs_roots.specs.Places.{AreKept};
     ghost use Rattle.hs_roots.specs.Roots.{Retention};
 
     ghost Value = { Retention };
 
     ghost view = { λ a. record { roots = a.records.items; limit = a.limit } };
 
-    ghost invariant = { λ a. ArePlaces a.records.items a.places.entries };
+    ghost invariant = { λ a. AreKept a.records.items a.retained };
 }
 
 impl RootSet {
@@ -44,7 +47,7 @@ impl RootSet {
     {
         RootSet {
             records: Vec::new(alloc),
-            places: BTreeMap::new(alloc),
+            retained: 0,
             limit,
             alloc,
         }
@@ -73,10 +76,9 @@ impl RootSet {
             }
             return Ok(());
         }
-        if self.places.len() >= self.limit as usize {
+        if self.retained >= self.limit {
             return Err(RootFault::RootsFull { limit: self.limit });
         }
-        self.records.reserve(1)?;
         let record = RootRecord {
             key: key.copy(self.alloc)?,
             address,
@@ -84,9 +86,9 @@ impl RootSet {
             counted: false,
             dropped: None,
         };
-        self.places
-            .insert(key.copy(self.alloc)?, self.records.len())?;
-        self.records.push_reserved(record);
+        let place = count_upto(self.records.as_slice(), key);
+        self.records.insert(place, record)?;
+        self.retained += 1;
         Ok(())
     }
 
@@ -98,10 +100,11 @@ impl RootSet {
         ensures same { OnErr result (self.new.roots ≡ self.old.roots) }
         ensures limit { self.new.limit ≡ self.old.limit }
     {
-        let Some(place) = self.places.remove(key) else {
+        let Some(place) = place_of(self.records.as_slice(), key) else {
             return Err(RootFault::NoKey);
         };
         self.records[place].dropped = Some(epoch);
+        self.retained -= 1;
         Ok(())
     }
 
@@ -109,7 +112,7 @@ impl RootSet {
     pub fn look(&self, key: &Key) -> Option<Address>
         ensures { result ≡ option_map (λ root. root.address) (retained_of key.now self.now.roots) }
     {
-        let place = *self.places.get(key)?;
+        let place = place_of(self.records.as_slice(), key)?;
         Some(self.records[place].address)
     }
 
@@ -117,12 +120,13 @@ impl RootSet {
     pub fn retained(&self) -> u32
         ensures { result ≡ retained_count self.now.roots }
     {
-        self.places.len() as u32
+        self.retained
     }
 
-    /// The roots in the order in which they were put. It takes no memory.
+    /// The roots by key, and of one key in the order in which they were put. It takes no memory.
     pub fn records(&self) -> &[RootRecord]
-        ensures { result.now ≡ self.now.roots }
+        ensures roots { result.now ≡ self.now.roots }
+        ensures by_key { AreByKey self.now.roots }
     {
         self.records.as_slice()
     }
@@ -142,6 +146,13 @@ impl RootSet {
         Ok(addresses)
     }
 
+    /// How many roots a run of this epoch forgets. It takes no memory.
+    pub fn released(&self, epoch: u64) -> usize
+        ensures { result ≡ released_count epoch self.now.roots }
+    {
+        count_released(epoch, self.records.as_slice())
+    }
+
     /// Forgets the counted roots that were dropped in the second epoch before a run's, or earlier,
     /// and answers their addresses in order. The only fault is NoMemory, and it changes nothing.
     pub fn release(&mut self, epoch: u64) -> Result<Vec<Address>, RootFault>
@@ -154,27 +165,27 @@ impl RootSet {
     {
         let addresses = released_addresses(self.alloc, epoch, self.records.as_slice())?;
         forget_released(epoch, &mut self.records);
-        place_all(self.records.as_slice(), &mut self.places);
         Ok(addresses)
     }
 }
 
-/// Gives each retained root's key the place of its root.
-fn place_all(roots: &[RootRecord], places: &mut BTreeMap<Key, usize>)
-    ensures { places.new.entries ≡ place_all roots.now 0 places.old.entries }
+/// The place of the root that is retained under a key, by a binary search.
+fn place_of(records: &[RootRecord], key: &Key) -> Option<usize>
+    requires { AreByKey records.now }
+    ensures { result ≡ place_of key.now records.now }
 {
-    for (place, root) in roots.iter().enumerate() {
-        place_one(root, place, places);
+    let place = count_upto(records, key).checked_sub(1)?;
+    if retains(&records[place], key) {
+        Some(place)
+    } else {
+        None
     }
 }
 
-/// Gives a root's key this place, if the root is retained.
-fn place_one(root: &RootRecord, place: usize, places: &mut BTreeMap<Key, usize>)
-    ensures { places.new.entries ≡ place_one root.now place places.old.entries }
+/// How many records have a key that is at most this one, by a binary search.
+fn count_upto(records: &[RootRecord], key: &Key) -> usize
+    requires { AreByKey records.now }
+    ensures { result ≡ count_upto (λ root. root.key) key.now records.now }
 {
-    if root.dropped.is_none() {
-        if let Some(old) = places.get_mut(&root.key) {
-            *old = place;
-        }
-    }
+    records.partition_point(|root| is_upto(root, key))
 }

@@ -17,7 +17,7 @@ use Rattle.hs_shard.specs.declared.facts.Facts.{Facts}
 abbrev pub BlockList : Type 0
 BlockList = List (Address × Facts)
 
--- shape, shard: of which store and shard it is; roots: in the order in which they were put; view: that of the last View
+-- shape, shard: of which store and shard it is; roots: by key, and of one key as they were put; view: that of the last View
 pub record Catalogue : Type 0 where
   pub shape : Shape
   pub shard : ℕ

@@ -7,7 +7,7 @@ use Rattle.hs_shard.specs.Tally.{tally}
 use Rattle.hs_limits.specs.declared.address.Address.{Address}
 use Rattle.hs_limits.specs.declared.delta.Delta.{Delta}
 use Rattle.hs_roots.specs.declared.root.RootRecord.{RootRecord}
-use Rattle.hs_roots.specs.Roots.{count_new, is_released, kept_by, release}
+use Rattle.hs_roots.specs.Roots.{count_new, is_released, kept_by, release, released_count}
 use Rattle.hs_roots.specs.Roots.{is_new as is_new_root}
 use Rattle.hs_rounds.specs.declared.body.RoundBody.{RoundBody}
 use Rattle.hs_rounds.specs.declared.place.Place.{Place}
@@ -92,9 +92,13 @@ let_go epoch round roots = if round == 0 then kept_by (is_released epoch) roots 
 abbrev pub still_kept : ℕ → ℕ → List RootRecord → List RootRecord
 still_kept epoch round roots = if round == 0 then release epoch roots else roots
 
+-- how many roots go
+abbrev pub let_go_count : ℕ → ℕ → List RootRecord → ℕ
+let_go_count epoch round roots = if round == 0 then released_count epoch roots else 0
+
 -- how many zero blocks are new, with how many roots go, and what they point to
 abbrev pub next_total : ℕ → ℕ → Catalogue → ℕ
-next_total epoch round c = count_by (λ e. is_new_zero epoch e.1) c.blocks + length (let_go epoch round c.roots)
+next_total epoch round c = count_by (λ e. is_new_zero epoch e.1) c.blocks + let_go_count epoch round c.roots
 
 abbrev pub next_deltas : ℕ → ℕ → Catalogue → List Delta
 next_deltas epoch round c = tally (pointers_of (is_new_zero epoch) c.blocks ++ let_go epoch round c.roots)

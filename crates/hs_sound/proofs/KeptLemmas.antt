@@ -22,7 +22,7 @@ use Rattle.hs_fold.specs.Lawful.{Deed}
 use Rattle.hs_fold.specs.Shards.Catalogue.{is_stored, is_marked, is_rooted, retained_in}
 use Rattle.hs_fold.specs.Shards.Setting.{Setting, shard_in}
 use Rattle.hs_fold.specs.Runs.Catalogue.{apply}
-use Rattle.hs_fold.specs.Runs.Clients.{new_facts, store_block, give_block, marked, new_root, keep_root, end_retention, drop_key}
+use Rattle.hs_fold.specs.Runs.Clients.{new_facts, store_block, give_block, marked, insert_root, new_root, keep_root, end_retention, drop_key}
 use Rattle.hs_fold.specs.Runs.Facts.{Catalogue, empty_catalogue, plain, facts_at}
 use Rattle.hs_fold.specs.Runs.Fits.{catalogue_at}
 use Rattle.hs_fold.specs.Runs.History.{applied, follow, follow_all, no_entries}
@@ -76,7 +76,7 @@ module _ (at : Shard) (c : Catalogue) (h : Tells at.shards c) where
   root_tells : (held : ℕ) (a : Address) (key : List ℕ) → Tells at.shards (keep_root at c held a key)
   root_tells held a key = go (is_rooted at (plain c) held a key && is_none (retained_in (plain c) key))
     where
-      go : (b : Bool) → Tells at.shards (cond b (record c { roots = c.roots ++ new_root c.epoch a key ∷ [] }) c)
+      go : (b : Bool) → Tells at.shards (cond b (record c { roots = insert_root (new_root c.epoch a key) c.roots }) c)
       go true = h
       go false = h
 

@@ -12,7 +12,8 @@ use Rattle.hs_limits.specs.Reading.{read_block}
 use Rattle.hs_limits.specs.Shape.{shard_of_key}
 use Rattle.hs_replica.specs.Kinds.{is_root}
 use Rattle.hs_roots.specs.declared.root.RootRecord.{RootRecord}
-use Rattle.hs_roots.specs.Roots.{counting, dropping, is_released, new_root, release, retained_of}
+use Rattle.hs_roots.proofs.RootLemmas.{length_insert_root}
+use Rattle.hs_roots.specs.Roots.{counting, dropping, is_released, insert_root, new_root, release, retained_of}
 use Rattle.hs_roots.specs.Roots.{put_root as with_root}
 use Rattle.hs_rounds.specs.declared.body.RoundBody.{RoundBody}
 use Rattle.hs_rounds.specs.declared.place.Place.{Place}
@@ -54,9 +55,9 @@ length_kept p (root ∷ roots) = go (p root) (length_kept p roots)
 length_put : (key : List ℕ) (a : Address) (epoch : ℕ) (roots : List RootRecord) → length (with_root key a epoch roots) ≤ length roots + 1
 length_put key a epoch roots = go (is_some (retained_of key roots))
   where
-    go : (b : Bool) → length (cond b roots (roots ++ new_root key a epoch ∷ [])) ≤ length roots + 1
+    go : (b : Bool) → length (cond b roots (insert_root (new_root key a epoch) roots)) ≤ length roots + 1
     go true = le_more (length roots) 1
-    go false = let one = length_push roots (new_root key a epoch) in omega (arith, one)
+    go false = let one = length_insert_root roots (new_root key a epoch) in omega (arith, one)
 
 lets_go : (epoch round : ℕ) (roots : List RootRecord) → length (still_kept epoch round roots) ≤ length roots
 lets_go epoch round roots = go (round == 0)

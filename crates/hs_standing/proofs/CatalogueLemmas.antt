@@ -15,7 +15,9 @@ use Rattle.hs_limits.specs.declared.address.Address.{Address}
 use Rattle.hs_limits.specs.declared.delta.Delta.{Delta}
 use Rattle.hs_limits.specs.declared.spelling.SpellingFault.{SpellingFault}
 use Rattle.hs_model.specs.Store.{address_cmp}
-use Rattle.hs_roots.specs.Roots.{counting, dropping, is_released, new_root, release, retained_of, retains}
+use Rattle.hs_roots.specs.ByKey.{count_upto}
+use Rattle.hs_roots.proofs.InsertLemmas.{all_insert}
+use Rattle.hs_roots.specs.Roots.{counting, dropping, is_released, insert_root, new_root, release, retained_of, retains}
 use Rattle.hs_roots.specs.Roots.{put_root as with_root}
 use Rattle.hs_roots.specs.declared.root.RootRecord.{RootRecord}
 use Rattle.hs_rounds.specs.Rounds.{complete, is_last, received}
@@ -79,9 +81,9 @@ RootsKeep roots = AllByRecursion (λ (root : RootRecord). Has32Bytes root.addres
 put_keeps : (key : List ℕ) (a : Address) (epoch : ℕ) (roots : List RootRecord) → Has32Bytes a → RootsKeep roots → RootsKeep (with_root key a epoch roots)
 put_keeps key a epoch roots w h = go (is_some (retained_of key roots))
   where
-    go : (b : Bool) → RootsKeep (cond b roots (roots ++ new_root key a epoch ∷ []))
+    go : (b : Bool) → RootsKeep (cond b roots (insert_root (new_root key a epoch) roots))
     go true = h
-    go false = all_append (λ (root : RootRecord). Has32Bytes root.address) roots (new_root key a epoch ∷ []) h (w, tt)
+    go false = all_insert (λ (root : RootRecord). Has32Bytes root.address) roots (count_upto (λ (root : RootRecord). root.key) key roots) (new_root key a epoch) w h
 
 drop_keeps : (key : List ℕ) (epoch : ℕ) (roots : List RootRecord) → RootsKeep roots → RootsKeep (map (dropping key epoch) roots)
 drop_keeps key epoch roots h = all_map (λ (root : RootRecord). Has32Bytes root.address) (λ (root : RootRecord). Has32Bytes root.address) (dropping key epoch) one roots h

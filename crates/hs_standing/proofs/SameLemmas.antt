@@ -7,6 +7,7 @@ use Rattle.std.specs.Map.{lookup}
 use Rattle.std.specs.Option.{option_map, option_map_or}
 use Rattle.hs_desk.specs.declared.what.What.{What}
 use Rattle.hs_desk.specs.declared.what.What.TheVariants as what
+use Rattle.hs_fold.proofs.Runs.InsertLemmas.{length-insert_root}
 use Rattle.hs_fold.specs.Catalogue.{fresh_present}
 use Rattle.hs_fold.specs.Runs.Clients as fold
 use Rattle.hs_fold.specs.Runs.Facts.{Catalogue as Folded, Facts as FoldedFacts, plain}
@@ -165,10 +166,10 @@ module _ (name : List ℕ → Address) (shape : Shape) (shard : ℕ) (c : Folded
   pub root_same : (held : ℕ) (a : Address) (key : List ℕ) → forget shape shard (fold.keep_root (reading name shape shard) c held a key) ≡ forget shape shard c → fold.keep_root (reading name shape shard) c held a key ≡ c
   root_same held a key e = go (is_rooted (reading name shape shard) (plain c) held a key && is_none (retained_in (plain c) key)) (ap (λ (k : Catalogue). length k.roots) e)
     where
-      go : (b : Bool) → length (map record_of (cond b (record c { roots = c.roots ++ fold.new_root c.epoch a key ∷ [] }) c).roots) ≡ length (map record_of c.roots) → cond b (record c { roots = c.roots ++ fold.new_root c.epoch a key ∷ [] }) c ≡ c
+      go : (b : Bool) → length (map record_of (cond b (record c { roots = fold.insert_root (fold.new_root c.epoch a key) c.roots }) c).roots) ≡ length (map record_of c.roots) → cond b (record c { roots = fold.insert_root (fold.new_root c.epoch a key) c.roots }) c ≡ c
       go false l = refl
       go true l =
-          let one = length-map (c.roots ++ fold.new_root c.epoch a key ∷ []) record_of in
+          let one = length-map (fold.insert_root (fold.new_root c.epoch a key) c.roots) record_of in
           let two = length-map c.roots record_of in
-          let sum = length-append c.roots (fold.new_root c.epoch a key ∷ []) in
+          let sum = length-insert_root c.roots (fold.new_root c.epoch a key) in
           absurd (omega (arith, l, one, two, sum))

@@ -13,6 +13,7 @@ use Rattle.hs_entry.specs.declared.entry.Entry.{Entry}
 use Rattle.hs_entry.specs.declared.entry.Entry.TheVariants as kind
 use Rattle.hs_rounds.specs.declared.body.RoundBody.{RoundBody}
 use Rattle.hs_rounds.specs.declared.place.Place.{Place}
+use Rattle.hs_fold.proofs.Runs.InsertLemmas.{length-insert_root}
 use Rattle.hs_fold.specs.Catalogue.{Shard, fresh_present}
 use Rattle.hs_fold.specs.Pending.{asked_by}
 use Rattle.hs_fold.specs.Prefix.{IsNumbered}
@@ -24,7 +25,7 @@ use Rattle.hs_fold.specs.Shards.Sound.{most_records}
 use Rattle.hs_fold.specs.Shards.Fits.{puts_root}
 use Rattle.hs_model.specs.Store.{address_cmp}
 use Rattle.hs_fold.specs.Runs.Catalogue.{apply, apply_all, catalogue_of}
-use Rattle.hs_fold.specs.Runs.Clients.{drop_key, end_retention, give_block, keep_root, marked, new_facts, new_root, store_block}
+use Rattle.hs_fold.specs.Runs.Clients.{drop_key, end_retention, give_block, keep_root, marked, new_facts, insert_root, new_root, store_block}
 use Rattle.hs_fold.specs.Runs.Facts.{Catalogue, empty_catalogue, facts_at, plain}
 use Rattle.hs_fold.specs.Runs.Happening.{happening_of, happens}
 use Rattle.hs_fold.specs.Runs.Rounds.{advance, advanced, count_root, end_round, enter, enter_epoch, get_round, is_accepted, is_complete, is_last, is_released, log_got, may_enter, search, settled, sweep}
@@ -65,8 +66,8 @@ give_roots c least number a = same_if (is_marked (plain c) least number (option_
 
 keep_roots : (at : Shard) (c : Catalogue) (held : ℕ) (a : Address) (key : List ℕ) → length (keep_root at c held a key).roots ≤ length c.roots + 1
 keep_roots at c held a key =
-    let more = length-append c.roots (new_root c.epoch a key ∷ []) in
-    one_if (is_rooted at (plain c) held a key && is_none (retained_in (plain c) key)) c (record c { roots = c.roots ++ new_root c.epoch a key ∷ [] }) (omega (arith, more))
+    let more = length-insert_root c.roots (new_root c.epoch a key) in
+    one_if (is_rooted at (plain c) held a key && is_none (retained_in (plain c) key)) c (record c { roots = insert_root (new_root c.epoch a key) c.roots }) (omega (arith, more))
 
 drop_roots : (at : Shard) (c : Catalogue) (key : List ℕ) → length (drop_key at c key).roots ≤ length c.roots
 drop_roots at c key =

@@ -16,7 +16,7 @@ use Rattle.hs_rounds.specs.Rounds.{have_told}
 use Rattle.hs_fold.specs.Catalogue.{Shard, fresh_present}
 use Rattle.hs_fold.specs.Shards.Catalogue.{is_stored, is_marked, is_rooted, retained_in}
 use Rattle.hs_fold.specs.Runs.Catalogue.{apply}
-use Rattle.hs_fold.specs.Runs.Clients.{new_facts, store_block, give_block, marked, new_root, keep_root, end_retention, drop_key}
+use Rattle.hs_fold.specs.Runs.Clients.{new_facts, store_block, give_block, marked, insert_root, new_root, keep_root, end_retention, drop_key}
 use Rattle.hs_fold.specs.Runs.Facts.{Catalogue, plain, facts_at}
 use Rattle.hs_fold.specs.Runs.Happening.{IsClients}
 use Rattle.hs_fold.specs.Runs.Rounds.{enter_epoch, is_accepted, is_complete, is_last, end_round, advanced, ends_last, log_got, get_round, may_enter}
@@ -45,7 +45,7 @@ module _ (at : Shard) (c : Catalogue) where
   root_still : (held : ℕ) (a : Address) (key : List ℕ) → IsStill (keep_root at c held a key)
   root_still held a key = go (is_rooted at (plain c) held a key && is_none (retained_in (plain c) key))
     where
-      go : (b : Bool) → IsStill (cond b (record c { roots = c.roots ++ new_root c.epoch a key ∷ [] }) c)
+      go : (b : Bool) → IsStill (cond b (record c { roots = insert_root (new_root c.epoch a key) c.roots }) c)
       go true = (refl, refl, refl, refl)
       go false = (refl, refl, refl, refl)
 

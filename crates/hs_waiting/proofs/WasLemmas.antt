@@ -21,7 +21,7 @@ use Rattle.hs_rounds.specs.declared.place.Place.{Place}
 use Rattle.hs_fold.specs.Catalogue.{Present, Shard, fresh_present}
 use Rattle.hs_fold.specs.Shards.Catalogue.{is_stored, is_marked, is_rooted, retained_in}
 use Rattle.hs_fold.specs.Runs.Catalogue.{apply}
-use Rattle.hs_fold.specs.Runs.Clients.{new_facts, remark, store_block, give_block, marked, new_root, keep_root, end_retention, drop_key}
+use Rattle.hs_fold.specs.Runs.Clients.{new_facts, remark, store_block, give_block, marked, insert_root, new_root, keep_root, end_retention, drop_key}
 use Rattle.hs_fold.specs.Runs.Facts.{Facts, Catalogue, plain, facts_at}
 use Rattle.hs_fold.specs.Runs.Own.{IsOwn}
 use Rattle.hs_fold.specs.Runs.Rounds.{count_block, enter_epoch, is_accepted, is_complete, is_last, moved_by, open_deltas, settled, find_zero, search, is_gone, spare, sweep, end_round, advance, advanced, log_got, get_round, may_enter}
@@ -111,7 +111,7 @@ module _ (at : Shard) (c : Catalogue) (own : IsOwn at.shards at.shard c) (a : Ad
   root-was : (held : ℕ) (b : Address) (key : List ℕ) → Was (keep_root at c held b key)
   root-was held b key = go (is_rooted at (plain c) held b key && is_none (retained_in (plain c) key))
     where
-      go : (t : Bool) → Was (cond t (record c { roots = c.roots ++ new_root c.epoch b key ∷ [] }) c)
+      go : (t : Bool) → Was (cond t (record c { roots = insert_root (new_root c.epoch b key) c.roots }) c)
       go true e = was-itself c.blocks a f e
       go false e = was-itself c.blocks a f e
 

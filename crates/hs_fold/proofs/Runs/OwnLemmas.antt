@@ -1,7 +1,7 @@
 -- A catalogue keeps only what is of its shard, in order, and retains no key twice.
-use Rattle.std.proofs.Common.{◌≡◌, ℕ, ◌+◌, ◌==◌, ◌&&◌, List, [], ◌∷◌, ◌++◌, length, map, filter, Bool, true, false, cond, not, Option, Some, None, is_none, refl, sym, ap, ◌∙◌, subst, find, is_gt, bytes_eq, zero, suc, Result, Ok, Err}
+use Rattle.std.proofs.Common.{◌≡◌, ℕ, ◌+◌, ◌==◌, ◌&&◌, List, [], ◌∷◌, length, map, filter, Bool, true, false, cond, not, Option, Some, None, is_none, refl, sym, ap, ◌∙◌, subst, find, is_gt, bytes_eq, zero, suc, Result, Ok, Err}
 use Rattle.std.proofs.lemmas.Slice.Eq.{bytes_eq-Decides}
-use Rattle.std.specs.List.{AllByRecursion}
+use Rattle.std.specs.List.{AllByRecursion, insert}
 use Rattle.std.specs.List.Sorted.{IsStrictlySortedBy}
 use Rattle.std.specs.Map.{keys_of}
 use Rattle.hs_limits.specs.declared.address.Address.{Address}
@@ -15,6 +15,8 @@ use Rattle.hs_laws.proofs.OrderLemmas.{filter-sorted}
 use Rattle.hs_entry.specs.declared.entry.Entry.{Entry}
 use Rattle.hs_entry.specs.declared.entry.Entry.TheVariants as kind
 use Rattle.hs_limits.specs.Reading.{read_block}
+use Rattle.hs_roots.specs.ByKey.{count_upto}
+use Rattle.hs_roots.proofs.InsertLemmas.{all_insert, map_insert}
 use Rattle.hs_fold.proofs.Shards.MineLemmas.{apply-mine, empty-mine, to-rising}
 use Rattle.hs_fold.proofs.Shards.RootLemmas.{both-rising, both-each}
 use Rattle.hs_fold.proofs.Runs.PlainLemmas.{apply-plain, same_key}
@@ -23,7 +25,7 @@ use Rattle.hs_fold.specs.Catalogue.{Present, Shard, fresh_present}
 use Rattle.hs_fold.specs.Runs.Catalogue.{apply, apply_all}
 use Rattle.hs_fold.specs.Runs.Opened.{catalogues}
 use Rattle.hs_fold.specs.Shards.Setting.{Numbered, Setting, shard_in}
-use Rattle.hs_fold.specs.Runs.Clients.{keep_root, drop_key, new_facts, marked, store_block, give_block, end_retention, new_root}
+use Rattle.hs_fold.specs.Runs.Clients.{keep_root, drop_key, new_facts, marked, store_block, give_block, end_retention, insert_root, new_root}
 use Rattle.hs_fold.specs.Runs.Facts.{roots_of, Facts, RootFacts, Catalogue, empty_catalogue, plain, facts_at}
 use Rattle.hs_fold.specs.Runs.Happening.{IsClients}
 use Rattle.hs_fold.specs.Runs.Own.{OneRetained, IsOwn, AreOwn}
@@ -68,7 +70,7 @@ ended-once key epoch (k ∷ ks) h = (go (is_retained key k.root), ended-once key
     go true u = cc u
     go false u = ended-stays key k.root.key epoch ks (h.0 u)
 
-none-found : (test : Root → Bool) (rs : List Root) → find test rs ≡ None → AllByRecursion (λ q. test q ≡ false) rs
+pub none-found : (test : Root → Bool) (rs : List Root) → find test rs ≡ None → AllByRecursion (λ q. test q ≡ false) rs
 none-found test [] e = tt
 none-found test (r ∷ rs) e = go (test r) refl e (none-found test rs)
   where
@@ -84,15 +86,14 @@ unplace P q (r ∷ rs) h = go (is_gt (root_cmp q r)) (unplace P q rs) h
     go true ih h = let k = ih h.1 in (k.0, (h.0, k.1))
     go false ih h = (h.0, h.1)
 
-unboth : (P : Root → Type 0) (rs : List Root) → AllByRecursion P (both_roots rs []) → AllByRecursion P rs
+pub unboth : (P : Root → Type 0) (rs : List Root) → AllByRecursion P (both_roots rs []) → AllByRecursion P rs
 unboth P [] h = tt
 unboth P (r ∷ rs) h = let k = unplace P r (both_roots rs []) h in (k.0, unboth P rs k.1)
 
--- ---- a root that is put last, where none is retained under its key
+-- ---- a root that is put anywhere, where none is retained under its key
 
-all-last : (P : Root → Type 0) (ks : List RootFacts) (r : RootFacts) → AllByRecursion P (roots_of ks) → P r.root → AllByRecursion P (roots_of (ks ++ r ∷ []))
-all-last P [] r h p = (p, tt)
-all-last P (k ∷ ks) r h p = (h.0, all-last P ks r h.1 p)
+all-inserted : (P : Root → Type 0) (ks : List RootFacts) (i : ℕ) (r : RootFacts) → AllByRecursion P (roots_of ks) → P r.root → AllByRecursion P (roots_of (insert ks i r))
+all-inserted P ks i r h p = subst (AllByRecursion P) (sym (map_insert (λ (k : RootFacts). k.root) ks i r)) (all_insert P (roots_of ks) i r.root p h)
 
 other-key : (k r : Root) (key : List ℕ) → r.key ≡ key → is_none k.dropped ≡ true → is_retained key k ≡ false → is_retained k.key r ≡ false
 other-key k r key same u none = go (is_retained k.key r) refl
@@ -105,10 +106,12 @@ other-key k r key same u none = go (is_retained k.key r) refl
         cc (yes, none)
     go false e = e
 
-put-once : (key : List ℕ) (ks : List RootFacts) (r : RootFacts) → r.root.key ≡ key → AllByRecursion (λ q. is_retained key q ≡ false) (roots_of ks) → OneRetained (roots_of ks) → OneRetained (roots_of (ks ++ r ∷ []))
-put-once key [] r same none h = ((λ u. tt), tt)
-put-once key (k ∷ ks) r same none h =
-    ((λ u. all-last (λ q. is_retained k.root.key q ≡ false) ks r (h.0 u) (other-key k.root r.root key same u none.0)), put-once key ks r same none.1 h.1)
+put-once : (key : List ℕ) (ks : List RootFacts) (i : ℕ) (r : RootFacts) → r.root.key ≡ key → AllByRecursion (λ q. is_retained key q ≡ false) (roots_of ks) → OneRetained (roots_of ks) → OneRetained (roots_of (insert ks i r))
+put-once key [] zero r same none h = ((λ u. tt), tt)
+put-once key [] (suc i) r same none h = ((λ u. tt), tt)
+put-once key (k ∷ ks) zero r same none h = ((λ u. subst (λ x. AllByRecursion (λ q. is_retained x q ≡ false) (roots_of (k ∷ ks))) (sym same) none), h)
+put-once key (k ∷ ks) (suc i) r same none h =
+    ((λ u. all-inserted (λ q. is_retained k.root.key q ≡ false) ks i r (h.0 u) (other-key k.root r.root key same u none.0)), put-once key ks i r same none.1 h.1)
 
 -- ---- each kind of entry
 
@@ -119,8 +122,8 @@ module _ (at : Shard) (c : Catalogue) (h : IsOwn at.shards at.shard c) where
   root-once : (held : ℕ) (a : Address) (key : List ℕ) → Once (keep_root at c held a key)
   root-once held a key = go (is_rooted at (plain c) held a key) (retained_in (plain c) key) refl
     where
-      go : (b : Bool) (found : Option Root) → retained_in (plain c) key ≡ found → Once (cond (b && is_none found) (record c { roots = c.roots ++ new_root c.epoch a key ∷ [] }) c)
-      go true None e = put-once key c.roots (new_root c.epoch a key) refl (unboth (λ q. is_retained key q ≡ false) (roots_of c.roots) (none-found (is_retained key) (plain c).roots e)) h.once
+      go : (b : Bool) (found : Option Root) → retained_in (plain c) key ≡ found → Once (cond (b && is_none found) (record c { roots = insert_root (new_root c.epoch a key) c.roots }) c)
+      go true None e = put-once key c.roots (count_upto (λ (r : RootFacts). r.root.key) key c.roots) (new_root c.epoch a key) refl (unboth (λ q. is_retained key q ≡ false) (roots_of c.roots) (none-found (is_retained key) (plain c).roots e)) h.once
       go true (Some r) e = h.once
       go false found e = h.once
 

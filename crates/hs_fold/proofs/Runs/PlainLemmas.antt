@@ -1,10 +1,10 @@
 -- What an entry does to a catalogue, as the plain store sees it.
-use Rattle.std.proofs.Common.{◌≡◌, ℕ, ◌==◌, ◌&&◌, List, [], ◌∷◌, ◌++◌, map, Bool, true, false, cond, Option, Some, None, is_none, Result, Ok, Err, refl, sym, ap, ◌∙◌, subst, find, bytes_eq}
+use Rattle.std.proofs.Common.{◌≡◌, ℕ, zero, suc, ◌==◌, ◌&&◌, List, [], ◌∷◌, map, Bool, true, false, cond, Option, Some, None, is_none, Result, Ok, Err, refl, sym, ap, ◌∙◌, subst, find, bytes_eq}
 use Rattle.std.proofs.lemmas.Bool.{and_parts}
 use Rattle.std.proofs.lemmas.Map.Made.{lookup-map_values}
 use Rattle.std.proofs.lemmas.Slice.Eq.{bytes_eq-Decides}
 use Rattle.std.specs.BTreeMap.{insert_entry, is_at}
-use Rattle.std.specs.List.{AllByRecursion}
+use Rattle.std.specs.List.{AllByRecursion, insert}
 use Rattle.std.specs.Option.{option_map}
 use Rattle.hs_limits.specs.declared.address.Address.{Address}
 use Rattle.hs_limits.specs.declared.spelling.SpellingFault.{SpellingFault}
@@ -16,10 +16,11 @@ use Rattle.hs_model.specs.Store.{Root, address_cmp, is_retained, place_root, wit
 use Rattle.hs_model.proofs.MapLemmas.{map-insert_entry, map-set_value}
 use Rattle.hs_entry.specs.declared.entry.Entry.{Entry}
 use Rattle.hs_entry.specs.declared.entry.Entry.TheVariants as kind
+use Rattle.hs_roots.specs.ByKey.{count_upto}
 use Rattle.hs_fold.proofs.Shards.RootLemmas.{gt, find-placed, find-place, without-placed, without-place, place-commute, both-rising, both-each}
 use Rattle.hs_fold.specs.Catalogue.{Present, Shard, fresh_present}
 use Rattle.hs_fold.specs.Runs.Catalogue.{apply}
-use Rattle.hs_fold.specs.Runs.Clients.{new_facts, store_block, remark, marked, give_block, keep_root, end_retention, drop_key, new_root}
+use Rattle.hs_fold.specs.Runs.Clients.{new_facts, store_block, remark, marked, give_block, keep_root, end_retention, drop_key, insert_root, new_root}
 use Rattle.hs_fold.specs.Runs.Facts.{roots_of, Facts, RootFacts, Catalogue, plain, facts_at}
 use Rattle.hs_fold.specs.Runs.Happening.{IsClients}
 use Rattle.hs_fold.specs.Runs.Own.{OneRetained}
@@ -53,10 +54,12 @@ mark-plain c least number a =
 abbrev placed : List Root → List Root
 placed rs = both_roots rs []
 
--- a root that is put last is placed as if it were the first
-put-last : (ks : List RootFacts) (r : RootFacts) → placed (roots_of (ks ++ r ∷ [])) ≡ place_root r.root (placed (roots_of ks))
-put-last [] r = refl
-put-last (k ∷ ks) r = ap (place_root k.root) (put-last ks r) ∙ place-commute (placed (roots_of ks)) k.root r.root
+-- a root that is put anywhere is placed as if it were the first
+put-anywhere : (ks : List RootFacts) (i : ℕ) (r : RootFacts) → placed (roots_of (insert ks i r)) ≡ place_root r.root (placed (roots_of ks))
+put-anywhere [] zero r = refl
+put-anywhere [] (suc i) r = refl
+put-anywhere (k ∷ ks) zero r = refl
+put-anywhere (k ∷ ks) (suc i) r = ap (place_root k.root) (put-anywhere ks i r) ∙ place-commute (placed (roots_of ks)) k.root r.root
 
 root-plain : (at : Shard) (c : Catalogue) (held : ℕ) (a : Address) (key : List ℕ) → plain (keep_root at c held a key) ≡ plain_keep at (plain c) held a key
 root-plain at c held a key = go (is_rooted at (plain c) held a key) (retained_in (plain c) key)
@@ -64,8 +67,8 @@ root-plain at c held a key = go (is_rooted at (plain c) held a key) (retained_in
     new : Root
     new = record { key = key; address = a; dropped = None }
 
-    go : (b : Bool) (found : Option Root) → plain (cond (b && is_none found) (record c { roots = c.roots ++ new_root c.epoch a key ∷ [] }) c) ≡ cond b (record (plain c) { roots = roots_with found (plain c).roots new }) (plain c)
-    go true None = ap (λ rs. record (plain c) { roots = rs }) (put-last c.roots (new_root c.epoch a key))
+    go : (b : Bool) (found : Option Root) → plain (cond (b && is_none found) (record c { roots = insert_root (new_root c.epoch a key) c.roots }) c) ≡ cond b (record (plain c) { roots = roots_with found (plain c).roots new }) (plain c)
+    go true None = ap (λ rs. record (plain c) { roots = rs }) (put-anywhere c.roots (count_upto (λ (r : RootFacts). r.root.key) key c.roots) (new_root c.epoch a key))
     go true (Some r) = refl
     go false found = refl
 

@@ -1,5 +1,5 @@
 -- A shard has no more blocks than it takes.
-use Rattle.std.proofs.Common.{◌≡◌, ℕ, zero, suc, ◌+◌, ◌<◌, ◌≤◌, ◌==◌, ◌&&◌, Bool, true, false, cond, not, List, [], ◌∷◌, ◌++◌, length, map, filter, Option, Some, None, is_none, Result, Ok, Err, nat_lt, refl, sym, ap, ◌∙◌, arith}
+use Rattle.std.proofs.Common.{◌≡◌, ℕ, zero, suc, ◌+◌, ◌<◌, ◌≤◌, ◌==◌, ◌&&◌, Bool, true, false, cond, not, List, [], ◌∷◌, length, map, filter, Option, Some, None, is_none, Result, Ok, Err, nat_lt, refl, sym, ap, ◌∙◌, arith}
 use Rattle.std.proofs.lemmas.Bool.Decides.{nat_tests}
 use Rattle.std.proofs.lemmas.Map.{length-set_value}
 use Rattle.std.specs.BTreeMap.{insert_entry, is_at}
@@ -16,7 +16,7 @@ use Rattle.hs_fold.specs.Catalogue.{Shard, fresh_present}
 use Rattle.hs_fold.specs.Shards.Catalogue.{present_at, is_fresh, has_room, is_marked, is_rooted, retained_in}
 use Rattle.hs_fold.specs.Shards.Setting.{Numbered}
 use Rattle.hs_fold.specs.Runs.Catalogue.{apply, apply_all, catalogue_of}
-use Rattle.hs_fold.specs.Runs.Clients.{new_facts, store_block, remark, marked, give_block, new_root, keep_root, end_retention, drop_key}
+use Rattle.hs_fold.specs.Runs.Clients.{new_facts, store_block, remark, marked, give_block, insert_root, new_root, keep_root, end_retention, drop_key}
 use Rattle.hs_fold.specs.Runs.Facts.{Facts, Catalogue, empty_catalogue, facts_at, plain}
 use Rattle.hs_rounds.specs.declared.body.RoundBody.{RoundBody}
 use Rattle.hs_rounds.specs.declared.place.Place.{Place}
@@ -62,7 +62,7 @@ give-fits c least number a h = go (facts_at c a) (is_marked (plain c) least numb
 root-fits : (at : Shard) (c : Catalogue) (held : ℕ) (a : Address) (key : List ℕ) → Fits c.blocks → Fits (keep_root at c held a key).blocks
 root-fits at c held a key h = go (is_rooted at (plain c) held a key && is_none (retained_in (plain c) key))
   where
-    go : (b : Bool) → Fits (cond b (record c { roots = c.roots ++ new_root c.epoch a key ∷ [] }) c).blocks
+    go : (b : Bool) → Fits (cond b (record c { roots = insert_root (new_root c.epoch a key) c.roots }) c).blocks
     go true = h
     go false = h
 

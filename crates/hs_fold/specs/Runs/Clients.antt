@@ -1,5 +1,5 @@
 -- What clients' entries do to a catalogue: a new block and a new root do not count yet.
-use Rattle.std.specs.Prelude.{ℕ, false, ◌==◌, ◌&&◌, ◌++◌, if◌then◌else◌, List, [], ◌∷◌, map, Option, Some, None, is_none, Result, Ok, Err}
+use Rattle.std.specs.Prelude.{ℕ, false, ◌==◌, ◌&&◌, if◌then◌else◌, List, map, Option, Some, None, is_none, Result, Ok, Err}
 use Rattle.std.specs.BTreeMap.{insert_entry, is_at}
 use Rattle.std.specs.Map.{set_value}
 use Rattle.std.specs.Option.{option_map}
@@ -8,6 +8,7 @@ use Rattle.hs_limits.specs.declared.spelling.SpellingFault.{SpellingFault}
 use Rattle.hs_limits.specs.Block.{Block}
 use Rattle.hs_limits.specs.Shape.{shard_of_key}
 use Rattle.hs_model.specs.Store.{address_cmp, is_retained}
+use Rattle.hs_roots.specs.ByKey.{insert_by_key}
 use Rattle.hs_fold.specs.Catalogue.{Present, Shard, fresh_present}
 use Rattle.hs_fold.specs.Shards.Catalogue.{is_stored, is_marked, is_rooted, retained_in}
 use Rattle.hs_fold.specs.Runs.Facts.{Facts, RootFacts, Catalogue, facts_at, plain}
@@ -38,10 +39,14 @@ give_block c least number a = if is_marked (plain c) least number (option_map (�
 abbrev pub new_root : ℕ → Address → List ℕ → RootFacts
 new_root epoch a key = record { root = record { key = key; address = a; dropped = None }; created = epoch; counted = false }
 
+-- the roots with one more: by key, behind those of its own key
+abbrev pub insert_root : RootFacts → List RootFacts → List RootFacts
+insert_root new roots = insert_by_key (λ (r : RootFacts). r.root.key) new roots
+
 -- a Root entry puts a root; one that is retained already stays as it is
 abbrev pub keep_root : Shard → Catalogue → ℕ → Address → List ℕ → Catalogue
 keep_root at c held a key =
-    if is_rooted at (plain c) held a key && is_none (retained_in (plain c) key) then record c { roots = c.roots ++ new_root c.epoch a key ∷ [] } else c
+    if is_rooted at (plain c) held a key && is_none (retained_in (plain c) key) then record c { roots = insert_root (new_root c.epoch a key) c.roots } else c
 
 -- a retained root of this key is one that was dropped now
 abbrev pub end_retention : List ℕ → ℕ → RootFacts → RootFacts

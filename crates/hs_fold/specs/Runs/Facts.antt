@@ -24,7 +24,7 @@ pub record RootFacts : Type 0 where
   pub created : ℕ
   pub counted : Bool
 
--- blocks by address; roots in the order in which they were put; round: the open one where the epoch is not swept, and else 0;
+-- blocks by address; roots by key, and of one key as they were put; round: the open one where the epoch is not swept, and else 0;
 -- got: what came for it and what waits; sent: the last two rounds, the last one first
 pub record Catalogue : Type 0 where
   pub blocks : List (Address × Facts)

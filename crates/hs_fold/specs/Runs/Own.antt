@@ -2,8 +2,13 @@
 use Rattle.std.specs.Prelude.{◌≡◌, ℕ, ◌+◌, true, false, List, [], ◌∷◌, is_none}
 use Rattle.std.specs.List.{AllByRecursion}
 use Rattle.hs_model.specs.Store.{Root, is_retained}
+use Rattle.hs_roots.specs.ByKey.{StandByKey}
 use Rattle.hs_fold.specs.Shards.Mine.{IsMine}
-use Rattle.hs_fold.specs.Runs.Facts.{Catalogue, plain, roots_of}
+use Rattle.hs_fold.specs.Runs.Facts.{Catalogue, RootFacts, plain, roots_of}
+
+-- root records by key; a retained one is the last of its key
+abbrev pub AreKeyed : List RootFacts → Type 0
+AreKeyed roots = StandByKey (λ (r : RootFacts). r.root.key) (λ (r : RootFacts). is_none r.root.dropped) roots
 
 -- behind a retained root none is retained under its key
 abbrev pub OneRetained : List Root → Type 0

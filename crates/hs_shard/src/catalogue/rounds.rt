@@ -5,7 +5,7 @@ ghost use Rattle.hs_rounds.specs.Rounds.{complete, is_last};
 ghost use Rattle.hs_shard.specs.declared.fault.ShardFault.TheVariants.{NoMemory};
 ghost use Rattle.hs_shard.specs.Clients.{applied};
 ghost use Rattle.hs_shard.specs.Listed.{pointers_each};
-ghost use Rattle.hs_shard.specs.Rounds.{advanced, end_open, enter, enter_epoch, get_round, is_accepted, is_due, is_of_run, let_go, log_got, may_enter, message_to, messages, searched, still_kept, swept};
+ghost use Rattle.hs_shard.specs.Rounds.{advanced, end_open, enter, enter_epoch, get_round, is_accepted, is_due, is_of_run, let_go, let_go_count, log_got, may_enter, message_to, messages, searched, still_kept, swept};
 ghost use Rattle.hs_shard.specs.Tally.{tally};
 
 use crate::catalogue::Catalogue;
@@ -94,9 +94,10 @@ impl Catalogue {
         ensures only { IsOkUnless result NoMemory }
     {
         let zeros = self.blocks.new_zeros(epoch)?;
+        let leaving = self.let_go_count(epoch, round);
         let gone = self.let_go(epoch, round)?;
         let decrements = self.tally(zeros.as_slice(), gone.as_slice())?;
-        let Ok(total) = u32::try_from(zeros.len() + gone.len()) else {
+        let Ok(total) = u32::try_from(zeros.len().saturating_add(leaving)) else {
             return Err(ShardFault::NoMemory);
         };
         self.run.go_on(total, decrements)?;
@@ -153,6 +154,16 @@ impl Catalogue {
         self.run
             .got(place.from, place.epoch, place.round, total, deltas)?;
         Ok(())
+    }
+
+    /// How many roots go with round 1. It takes no memory.
+    fn let_go_count(&self, epoch: u64, round: u32) -> usize
+        ensures { result ≡ let_go_count epoch round self.now.roots }
+    {
+        if round > 0 {
+            return 0;
+        }
+        self.roots.released(epoch)
     }
 
     /// The roots that go with round 1 are forgotten: what they keep.

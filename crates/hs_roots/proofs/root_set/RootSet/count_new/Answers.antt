@@ -1,5 +1,5 @@
-use Rattle.hs_roots.proofs.RootLemmas.{counted_places}
+use Rattle.hs_roots.proofs.RootLemmas.{counted_kept}
 use Rattle.hs_roots.proofs.root_set.RootSet.count_new.Goals as goal
 
 pub invariant_of-self : goal.invariant_of-self
-invariant_of-self c = counted_places c.self.inside.records.items _ c.self.inside.places.entries c.args.epoch c.self.invariant c.count_all.ensures
+invariant_of-self c = rw c.count_all.ensures (counted_kept c.self.inside.records.items c.self.inside.retained c.args.epoch c.self.invariant)
