@@ -2,9 +2,9 @@ mod Deleting
 mod Entering
 mod Full
 mod Meeting
+mod Observed
 mod Rejoining
 mod Stopping
-mod Told
 mod UnscriptedLemmas
 mod Whole
 mod Wording
