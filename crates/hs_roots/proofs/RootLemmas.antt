@@ -115,7 +115,6 @@ place_last roots key i root h e is =
 pub length_insert_root : (roots : List RootRecord) (new : RootRecord) → length (insert_root new roots) ≡ length roots + 1
 length_insert_root roots new = longer (λ (root : RootRecord). is_upto root.key new.key) roots new
 
-
 pub map_none : {A B : Type 0} (f : A → B) (o : Option A) → option_map f o ≡ None → o ≡ None
 map_none f None e = refl
 map_none f (Some x) e = cc
