@@ -1,5 +1,8 @@
+mod AppendedLemmas
 mod CloseLemmas
 mod EntryLemmas
+mod FoundLemmas
+mod HeaderLemmas
 pub mod ImageLemmas
 mod ListLemmas
 mod MakeLemmas
@@ -7,5 +10,7 @@ mod NumberedLemmas
 pub mod OpenLemmas
 mod PlaceLemmas
 mod ResetLemmas
+mod ShownLemmas
 mod SoleLemmas
 pub mod StayLemmas
+mod ViewLemmas

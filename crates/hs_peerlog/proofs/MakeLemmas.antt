@@ -1,5 +1,5 @@
 -- The log that a blank side gets.
-use Rattle.std.proofs.Common.{◌≡◌, ◌∙◌, inl, inr, ℕ, ◌^◌, ◌<◌, ◌≤◌, List, [], Option, Some, None, IfSome, IsSome, MatchOption, is_some, true, false, refl, ap, sym, subst, arith}
+use Rattle.std.proofs.Common.{◌≡◌, ◌∙◌, inl, inr, ℕ, ◌^◌, ◌<◌, ◌≤◌, List, [], Option, Some, None, IfSome, IsSome, MatchOption, is_some, true, false, refl, ap, sym, subst}
 use Rattle.hs_ports.specs.declared.disk.Side.{Side}
 use Rattle.hs_ports.specs.Disk.{Standing, IsImage, other_side, settled}
 use Rattle.hs_ports.specs.Moments.{EachMoment}
@@ -12,11 +12,13 @@ use Rattle.hs_side.specs.Reading.{is_blank, log_of, listed, list_of}
 use Rattle.hs_side.specs.Spelling.{spelled}
 use Rattle.hs_side.specs.Standing.{SideState, Stands, HasLog, HasNone}
 use Rattle.hs_side.proofs.BlankLemmas.{empty_log, blank_log}
-use Rattle.hs_peerlog.specs.Images.{Is, IsAlone, GivesList, LeavesEach}
+use Rattle.hs_peerlog.specs.Images.{IsAlone}
 use Rattle.hs_peerlog.specs.Lists.{HasFrames, HasList}
 use Rattle.hs_peerlog.specs.Opening.{HasOpened}
-use Rattle.hs_peerlog.proofs.ImageLemmas.{Since, first-current, list-there, two-sides}
+use Rattle.hs_peerlog.specs.Steps.{IsKeptOrMade, ShowsEach, current_bytes}
+use Rattle.hs_peerlog.proofs.ImageLemmas.{Since, current-same, first-current, image-is, two-sides}
 use Rattle.hs_peerlog.proofs.ListLemmas.{has-list}
+use Rattle.hs_peerlog.proofs.ShownLemmas.{one-shown, still-shown}
 
 pub none-if : (head : Option (Header × ℕ)) (generation : Option ℕ) → IfSome head (λ x. generation ≡ Some x.1) → is_some generation ≡ false → head ≡ None
 none-if None generation some none = refl
@@ -53,26 +55,21 @@ opened-list tells log size disk entries s told opened = go log.head refl
     go (Some x) e = has-list log.places seen entries (opened.begun (subst (λ h. IsSome h) (sym e) refl))
 
 -- what is left while a blank side gets an empty log
-pub first-each : {before now : ℕ} {side : Side} {old new : Standing} (header : Header) (entries : List (ℕ × Entry)) → EachMoment before now side old new (GivesEmpty header 1) → old.last ≤ before → Since old → IsAlone side old → is_blank (old.seen side) ≡ true → entries ≡ []
-    → LeavesEach before now old new (Is entries)
-first-each {before} {now} {side} {old} {new} header entries run last since alone blank empty = record {
-  later = run.later;
-  last = run.last;
-  earlier = λ s m low fits. elim (two-sides side s) [
-    | inl e ↦ subst (λ x. new.past m x ≡ old.past m x) e (run.earlier m low fits)
-    | inr e ↦ subst (λ x. new.past m x ≡ old.past m x) e (run.other.past m)
-  ];
-  each = λ m high fits image left. given image (run.each m high fits (image side) (left side))
-      (subst (λ l. IsImage l (image (other_side side))) (run.other.past m ∙ since (other_side side) m (omega (arith, last, high))) (left (other_side side)));
-  standing = λ image left. given image (run.standing (image side) (left.sides side)) (subst (λ l. IsImage l (image (other_side side))) run.other.loose (left.sides (other_side side)));
-}
+pub first-shown : {before now : ℕ} {side : Side} {old new : Standing} (header : Header) → EachMoment before now side old new (GivesEmpty header 1) → old.last ≤ before → Since old → IsAlone side old → is_blank (old.seen side) ≡ true
+    → ShowsEach before now old new (IsKeptOrMade (old.seen side) header)
+first-shown {before} {now} {side} {old} {new} header run last since alone blank = one-shown run last since given
   where
-    given : (image : Side → List ℕ) → GivesEmpty header 1 (image side) → IsImage (old.loose (other_side side)) (image (other_side side)) → GivesList (Is entries) image
+    given : (image : Side → List ℕ) → GivesEmpty header 1 (image side) → IsImage (old.loose (other_side side)) (image (other_side side)) → IsKeptOrMade (old.seen side) header (current_bytes image)
     given image g left =
         let beside : image (other_side side) ≡ old.seen (other_side side) = settled_only (old.seen (other_side side)) (image (other_side side)) (subst (λ l. IsImage l (image (other_side side))) (alone.settled (other_side side)) left) in
         let is : current image ≡ side = first-current side old.seen (image side) alone.current blank image refl beside in
-        let none : list_of (image side) ≡ Some [] = elim g.one [ inl e ↦ ap (λ r. listed r) e | inr e ↦ ap (λ r. listed r) e ] in
-        record { list = entries; read = list-there side image (image side) refl is ∙ none ∙ ap (λ es. Some es) (sym empty); holds = refl }
+        subst (λ (s : Side). IsKeptOrMade (old.seen side) header (image s)) (sym is) (record { one = inr (blank, g) })
+
+-- and while nothing is called
+pub alone-shown : (side : Side) (disk : Standing) (now : ℕ) (header : Header) → disk.last ≤ now → Since disk → IsAlone side disk → ShowsEach now now disk disk (IsKeptOrMade (disk.seen side) header)
+alone-shown side disk now header last since alone = still-shown last since (λ image left.
+    let same = image-is disk image alone.settled left.sides in
+    record { one = inl (ap (λ s. image s) (current-same disk.seen image same ∙ alone.current) ∙ same side) })
 
 -- and after it both sides are at rest
 pub first-alone : {before now : ℕ} {side : Side} {old new : Standing} {P : List ℕ → Type 0} (written : List ℕ) → EachMoment before now side old new P → IsAlone side old → is_blank (old.seen side) ≡ true → new.loose side ≡ settled written → new.seen side ≡ written → IsAlone side new

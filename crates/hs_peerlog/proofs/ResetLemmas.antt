@@ -1,10 +1,11 @@
 -- What a crash leaves while a log is emptied: one side is closed after the other, and an empty log is written.
-use Rattle.std.proofs.Common.{◌≡◌, ◌∙◌, ◌⊎◌, inl, inr, ℕ, ◌^◌, ◌<◌, ◌≤◌, Bool, true, false, List, [], Option, Some, None, Result, Ok, Err, OnOk, refl, ap, sym, subst, arith}
+use Rattle.std.proofs.Common.{◌≡◌, ◌∙◌, ◌⊎◌, inl, inr, ℕ, ◌^◌, ◌<◌, ◌≤◌, Bool, true, false, List, [], Option, Some, None, Result, Ok, Err, OnOk, refl, ap, sym, subst}
 use Rattle.hs_ports.specs.declared.disk.Side.{Side}
 use Rattle.hs_ports.specs.declared.disk.Side.TheVariants.{Zero, One}
 use Rattle.hs_ports.specs.Disk.{Standing, IsImage, Untouched, other_side, settled}
 use Rattle.hs_ports.specs.Moments.{EachMoment}
 use Rattle.hs_ports.proofs.Images.{settled_only}
+use Rattle.hs_ports.proofs.MomentLemmas.{weaker}
 use Rattle.hs_entry.specs.declared.entry.Entry.{Entry}
 use Rattle.hs_side.specs.declared.header.Header.{Header}
 use Rattle.hs_side.specs.Current.{current, generation_in, later_side, list_in}
@@ -12,9 +13,13 @@ use Rattle.hs_side.specs.Giving.{GivesEmpty, IsBlankEverywhere}
 use Rattle.hs_side.specs.Reading.{is_blank, list_of, listed, log_of}
 use Rattle.hs_side.specs.Spelling.{spelled}
 use Rattle.hs_side.proofs.BlankLemmas.{blank_log, empty_log}
-use Rattle.hs_peerlog.specs.Images.{GivesClosed, Is, IsOne, IsSole, IsStanding, GivesList, LeavesEach, LeavesOnly}
+use Rattle.hs_peerlog.specs.Heads.{IsBlankOrOf, KeepsHeader, LeavesHeader, SidesHave}
+use Rattle.hs_peerlog.specs.Images.{GivesClosed, IsOne, IsSole, IsStanding, LeavesEach, LeavesOnly}
 use Rattle.hs_peerlog.specs.Lists.{HasList, IsBlankBeside}
-use Rattle.hs_peerlog.proofs.ImageLemmas.{Since, list-there, log-generation, two-sides}
+use Rattle.hs_peerlog.specs.Steps.{CouldShow, CouldShowOrBlank, ShowsEach, current_bytes}
+use Rattle.hs_peerlog.proofs.HeaderLemmas.{blank-headed, empty-headed}
+use Rattle.hs_peerlog.proofs.ImageLemmas.{Since, log-generation, two-sides}
+use Rattle.hs_peerlog.proofs.ShownLemmas.{Lists, image-header, one-shown, shown-header, shown-lists, then-shown, weaker-shown}
 use Rattle.hs_peerlog.proofs.SoleLemmas.{beside, beside-here, beside-there}
 
 pub twice : (s : Side) → other_side (other_side s) ≡ s
@@ -57,53 +62,9 @@ beside-blank One seen image is same none = go (generation_in (seen One)) refl
     go (Some n) e = ap (λ g. later_side g (generation_in (image One))) none ∙ ap (λ g. later_side None g) (same ∙ e)
     go None e = absurd (cc (sym (ap (λ g. later_side (generation_in (seen Zero)) g) e ∙ zero-first (generation_in (seen Zero))) ∙ is))
 
--- ---- the moments of calls on one side
-
-module _ {before now : ℕ} {side : Side} {old new : Standing} {P : List ℕ → Type 0} (Q : List (ℕ × Entry) → Type 0) (run : EachMoment before now side old new P) (last : old.last ≤ before) (since : Since old)
-    (gives : (image : Side → List ℕ) → P (image side) → IsImage (old.loose (other_side side)) (image (other_side side)) → GivesList Q image) where
-  pub one-each : LeavesEach before now old new Q
-  one-each = record {
-    later = run.later;
-    last = run.last;
-    earlier = λ s m low fits. elim (two-sides side s) [
-      | inl e ↦ subst (λ x. new.past m x ≡ old.past m x) e (run.earlier m low fits)
-      | inr e ↦ subst (λ x. new.past m x ≡ old.past m x) e (run.other.past m)
-    ];
-    each = λ m high fits image left. gives image (run.each m high fits (image side) (left side))
-        (subst (λ l. IsImage l (image (other_side side))) (run.other.past m ∙ since (other_side side) m (omega (arith, last, high))) (left (other_side side)));
-    standing = λ image left. gives image (run.standing (image side) (left.sides side)) (subst (λ l. IsImage l (image (other_side side))) run.other.loose (left.sides (other_side side)));
-  }
-
--- some calls, and then some
-pub each-run : {first middle last : ℕ} {a b c : Standing} {P Q R : List (ℕ × Entry) → Type 0} → LeavesEach middle last b c Q → LeavesEach first middle a b P → ((l : List (ℕ × Entry)) → P l → R l) → ((l : List (ℕ × Entry)) → Q l → R l) → LeavesEach first last a c R
-each-run {first} {middle} {last} {a} {b} {c} two one p q = record {
-  later = omega (arith, one.later, two.later);
-  last = two.last;
-  earlier = λ side m low fits. two.earlier side m (omega (arith, low, one.later)) fits ∙ one.earlier side m low fits;
-  each = λ m high fits image left. elim (ordered m middle) [
-    | inl low ↦
-        let g = one.each m high fits image (λ s. subst (λ l. IsImage l (image s)) (two.earlier s m low fits) (left s)) in
-        record { list = g.list; read = g.read; holds = p g.list g.holds }
-    | inr up ↦ let g = two.each m up fits image left in record { list = g.list; read = g.read; holds = q g.list g.holds }
-  ];
-  standing = λ image left. let g = two.standing image left in record { list = g.list; read = g.read; holds = q g.list g.holds };
-}
-  where
-    ordered : (m n : ℕ) → (m ≤ n) ⊎ (n < m)
-    ordered m n = grind arith
-
-pub each-weaker : {before now : ℕ} {a b : Standing} {P Q : List (ℕ × Entry) → Type 0} → LeavesEach before now a b P → ((l : List (ℕ × Entry)) → P l → Q l) → LeavesEach before now a b Q
-each-weaker run p = record {
-  later = run.later;
-  last = run.last;
-  earlier = run.earlier;
-  each = λ m high fits image left. let g = run.each m high fits image left in record { list = g.list; read = g.read; holds = p g.list g.holds };
-  standing = λ image left. let g = run.standing image left in record { list = g.list; read = g.read; holds = p g.list g.holds };
-}
-
 -- ---- the other side is closed
 
-module _ (side : Side) {a : Standing} (list : List (ℕ × Entry)) (sole : IsSole side a) (leaves : LeavesOnly a list) (stays : (s : Side) → IsImage (a.loose s) (a.seen s)) where
+module _ (side : Side) {a : Standing} (sole : IsSole side a) (stays : (s : Side) → IsImage (a.loose s) (a.seen s)) where
   -- this content of the side in use, beside what is read of the other
   mixed-left : (content : List ℕ) → IsImage (a.loose side) content → IsStanding a (beside side content (a.seen (other_side side)))
   mixed-left content left = record {
@@ -113,31 +74,27 @@ module _ (side : Side) {a : Standing} (list : List (ℕ × Entry)) (sole : IsSol
     ];
   }
 
-  -- each content of the side in use gives the list
-  pub side-list : (content : List ℕ) → IsImage (a.loose side) content → list_of content ≡ Some list
-  side-list content left =
+  -- each content of the side in use is shown by an image
+  side-shown : (content : List ℕ) → IsImage (a.loose side) content → CouldShow a content
+  side-shown content left =
       let mixed : Side → List ℕ = beside side content (a.seen (other_side side)) in
       let stands = mixed-left content left in
-      sym (list-there side mixed content (beside-here side content (a.seen (other_side side))) (sole mixed stands)) ∙ leaves mixed stands
+      record { image = mixed; stands = stands; same = ap (λ s. mixed s) (sole mixed stands) ∙ beside-here side content (a.seen (other_side side)) }
 
   -- and is current beside a blank side
-  pub side-current : (image : Side → List ℕ) → IsImage (a.loose side) (image side) → is_blank (image (other_side side)) ≡ true → current image ≡ side
+  side-current : (image : Side → List ℕ) → IsImage (a.loose side) (image side) → is_blank (image (other_side side)) ≡ true → current image ≡ side
   side-current image left blank =
       let mixed : Side → List ℕ = beside side (image side) (a.seen (other_side side)) in
       beside-blank side mixed image (sole mixed (mixed-left (image side) left)) (ap (λ b. generation_in b) (sym (beside-here side (image side) (a.seen (other_side side))))) (blank-generation (image (other_side side)) blank)
 
-  closed-gives : (image : Side → List ℕ) → GivesClosed (a.loose (other_side side)) (image (other_side side)) → IsImage (a.loose side) (image side) → GivesList (Is list) image
-  closed-gives image g left = record {
-    list = list;
-    read = elim g.one [
-      | inl blank ↦ list-there side image (image side) refl (side-current image left blank) ∙ side-list (image side) left
-      | inr there ↦ leaves image (record { sides = λ s. elim (two-sides side s) [ inl e ↦ subst (λ x. IsImage (a.loose x) (image x)) e left | inr e ↦ subst (λ x. IsImage (a.loose x) (image x)) e there ] })
-    ];
-    holds = refl;
-  }
+  closed-shows : (image : Side → List ℕ) → GivesClosed (a.loose (other_side side)) (image (other_side side)) → IsImage (a.loose side) (image side) → CouldShow a (current_bytes image)
+  closed-shows image g left = elim g.one [
+    | inl blank ↦ subst (λ (s : Side). CouldShow a (image s)) (sym (side-current image left blank)) (side-shown (image side) left)
+    | inr there ↦ record { image = image; stands = record { sides = λ s. elim (two-sides side s) [ inl e ↦ subst (λ x. IsImage (a.loose x) (image x)) e left | inr e ↦ subst (λ x. IsImage (a.loose x) (image x)) e there ] }; same = refl }
+  ]
 
-  pub other-closed : {before now : ℕ} {b : Standing} → EachMoment before now (other_side side) a b (GivesClosed (a.loose (other_side side))) → a.last ≤ before → Since a → LeavesEach before now a b (Is list)
-  other-closed {before} {now} {b} run last since = one-each (Is list) run last since (λ image g left. closed-gives image g (subst (λ s. IsImage (a.loose s) (image s)) (twice side) left))
+  pub other-closed : {before now : ℕ} {b : Standing} → EachMoment before now (other_side side) a b (GivesClosed (a.loose (other_side side))) → a.last ≤ before → Since a → ShowsEach before now a b (CouldShow a)
+  other-closed {before} {now} {b} run last since = one-shown run last since (λ image g left. closed-shows image g (subst (λ s. IsImage (a.loose s) (image s)) (twice side) left))
 
 -- then it is blank, whatever a crash leaves
 pub closed-beside : (side : Side) (a b : Standing) → IsBlankBeside side a → (is_blank (a.seen (other_side side)) ≡ true → b ≡ a) → (is_blank (a.seen (other_side side)) ≡ false → IsBlankEverywhere (b.loose (other_side side))) → IsBlankEverywhere (b.loose (other_side side))
@@ -149,30 +106,33 @@ closed-beside side a b beside left closed = go (is_blank (a.seen (other_side sid
 
 -- ---- the side in use is closed, beside a blank one
 
-pub side-closed : {before now : ℕ} (side : Side) {b c : Standing} (list : List (ℕ × Entry)) → LeavesOnly b list → IsBlankEverywhere (b.loose (other_side side)) → EachMoment before now side b c (GivesClosed (b.loose side)) → b.last ≤ before → Since b → LeavesEach before now b c (IsOne list [])
-side-closed {before} {now} side {b} {c} list leaves gone run last since = one-each (IsOne list []) run last since given
+-- what an image shows beside a blank side is its own, or blank
+shows-one : (P : List ℕ → Type 0) (side : Side) (image : Side → List ℕ) → P (image side) → P (image (other_side side)) → P (current_bytes image)
+shows-one P side image here there = elim (two-sides side (current image)) [
+  | inl e ↦ subst (λ (s : Side). P (image s)) e here
+  | inr e ↦ subst (λ (s : Side). P (image s)) e there
+]
+
+pub side-closed : {before now : ℕ} (side : Side) {b c : Standing} → IsBlankEverywhere (b.loose (other_side side)) → EachMoment before now side b c (GivesClosed (b.loose side)) → b.last ≤ before → Since b → ShowsEach before now b c (CouldShowOrBlank b)
+side-closed {before} {now} side {b} {c} gone run last since = one-shown run last since given
   where
-    given : (image : Side → List ℕ) → GivesClosed (b.loose side) (image side) → IsImage (b.loose (other_side side)) (image (other_side side)) → GivesList (IsOne list []) image
+    given : (image : Side → List ℕ) → GivesClosed (b.loose side) (image side) → IsImage (b.loose (other_side side)) (image (other_side side)) → CouldShowOrBlank b (current_bytes image)
     given image g there = elim g.one [
-      | inl blank ↦ record { list = []; read = both-empty side image (blank-list (image side) blank) (blank-list (image (other_side side)) (gone (image (other_side side)) there)); holds = inr refl }
+      | inl blank ↦ shows-one (λ bytes. CouldShowOrBlank b bytes) side image (record { one = inr blank }) (record { one = inr (gone (image (other_side side)) there) })
       | inr left ↦ record {
-        list = list;
-        read = leaves image (record { sides = λ s. elim (two-sides side s) [ inl e ↦ subst (λ x. IsImage (b.loose x) (image x)) e left | inr e ↦ subst (λ x. IsImage (b.loose x) (image x)) e there ] });
-        holds = inl refl;
+        one = inl (record { image = image; stands = record { sides = λ s. elim (two-sides side s) [ inl e ↦ subst (λ x. IsImage (b.loose x) (image x)) e left | inr e ↦ subst (λ x. IsImage (b.loose x) (image x)) e there ] }; same = refl });
       }
     ]
 
 -- ---- an empty log is written, beside a blank side
 
-empty-list : (header : Header) (generation : ℕ) (content : List ℕ) → GivesEmpty header generation content → list_of content ≡ Some []
-empty-list header generation content g = elim g.one [ inl e ↦ ap (λ r. listed r) e | inr e ↦ ap (λ r. listed r) e ]
+blank-empty : (header : Header) (generation : ℕ) (content : List ℕ) → is_blank content ≡ true → GivesEmpty header generation content
+blank-empty header generation content blank = record { one = inl (blank_log content blank) }
 
-pub side-empty : {before now : ℕ} (side : Side) {c d : Standing} (header : Header) (generation : ℕ) → IsBlankEverywhere (c.loose (other_side side)) → EachMoment before now side c d (GivesEmpty header generation) → c.last ≤ before → Since c → LeavesEach before now c d (Is [])
-side-empty side {c} {d} header generation gone run last since = one-each (Is []) run last since (λ image g there. record {
-  list = [];
-  read = both-empty side image (empty-list header generation (image side) g) (blank-list (image (other_side side)) (gone (image (other_side side)) there));
-  holds = refl;
-})
+pub side-empty : {before now : ℕ} (side : Side) {c d : Standing} (header : Header) (generation : ℕ) → IsBlankEverywhere (c.loose (other_side side)) → EachMoment before now side c d (GivesEmpty header generation) → c.last ≤ before → Since c
+    → ShowsEach before now c d (GivesEmpty header generation)
+side-empty side {c} {d} header generation gone run last since =
+    one-shown run last since (λ image g there. shows-one (λ bytes. GivesEmpty header generation bytes) side image g (blank-empty header generation (image (other_side side)) (gone (image (other_side side)) there)))
 
 module _ (side : Side) (d : Standing) (header : Header) (generation : ℕ) (fits : generation < 2 ^ 64) (gone : IsBlankEverywhere (d.loose (other_side side))) (loose : d.loose side ≡ settled (spelled 165 header generation [] 0 [])) where
   here-is : (image : Side → List ℕ) → IsStanding d image → image side ≡ spelled 165 header generation [] 0 []
@@ -195,9 +155,68 @@ pub gone-if : {T E : Type 0} (result : Result T E) (side : Side) (a b : Standing
 gone-if (Ok x) side a b beside left closed = closed-beside side a b beside left closed
 gone-if (Err fault) side a b beside left closed = tt
 
--- each image has the list
-pub only-list : {before now : ℕ} {a b : Standing} (list : List (ℕ × Entry)) → LeavesEach before now a b (Is list) → LeavesOnly b list
-only-list list run image left = let g = run.standing image left in g.read ∙ ap (λ es. Some es) g.holds
-
 pub gone-stays : (side : Side) (a b : Standing) → Untouched (other_side side) a b → IsBlankEverywhere (a.loose (other_side side)) → IsBlankEverywhere (b.loose (other_side side))
 gone-stays side a b other gone = subst (λ l. IsBlankEverywhere l) (sym other.loose) gone
+
+-- ---- a log is emptied
+
+-- what a crash leaves of the disk then
+pub record IsEmptied (disk : Standing) (header : Header) (generation : ℕ) (bytes : List ℕ) : Type 0 where
+  pub one : CouldShow disk bytes ⊎ GivesEmpty header generation bytes
+
+module _ (disk : Standing) (header : Header) (generation : ℕ) where
+  shown-emptied : (bytes : List ℕ) → CouldShow disk bytes → IsEmptied disk header generation bytes
+  shown-emptied bytes s = record { one = inl s }
+
+  -- of what the disk shows behind calls that left it so
+  closed-emptied : {before now : ℕ} {mid : Standing} → ShowsEach before now disk mid (CouldShow disk) → (bytes : List ℕ) → CouldShowOrBlank mid bytes → IsEmptied disk header generation bytes
+  closed-emptied {before} {now} {mid} run bytes s = elim s.one [
+    | inl there ↦ record { one = inl (subst (λ b. CouldShow disk b) there.same (run.standing there.image there.stands)) }
+    | inr blank ↦ record { one = inr (blank-empty header generation bytes blank) }
+  ]
+
+  -- the other side is closed, and then the side in use, and then an empty log is written
+  pub one-emptied : {first second : ℕ} {b : Standing} → ShowsEach first second disk b (CouldShow disk) → ShowsEach first second disk b (IsEmptied disk header generation)
+  one-emptied one = weaker-shown one shown-emptied
+
+  pub two-emptied : {first second third : ℕ} {b c : Standing} → ShowsEach first second disk b (CouldShow disk) → ShowsEach second third b c (CouldShowOrBlank b) → ShowsEach first third disk c (IsEmptied disk header generation)
+  two-emptied one two = then-shown two one shown-emptied (closed-emptied one)
+
+  pub all-emptied : {first second third last : ℕ} {b c d : Standing} → ShowsEach first second disk b (CouldShow disk) → ShowsEach second third b c (CouldShowOrBlank b) → ShowsEach third last c d (GivesEmpty header generation)
+      → ShowsEach first last disk d (IsEmptied disk header generation)
+  all-emptied one two three = then-shown three (two-emptied one two) (λ bytes s. s) (λ bytes g. record { one = inr g })
+
+  module _ {before now : ℕ} {new : Standing} (run : ShowsEach before now disk new (IsEmptied disk header generation)) where
+    -- it has the list that it had, or the empty one
+    pub emptied-lists : (list : List (ℕ × Entry)) → LeavesOnly disk list → LeavesEach before now disk new (IsOne list [])
+    emptied-lists list leaves = shown-lists (weaker-shown run given)
+      where
+        given : (bytes : List ℕ) → IsEmptied disk header generation bytes → Lists (IsOne list []) bytes
+        given bytes s = elim s.one [
+          | inl there ↦ record { list = list; read = ap (λ b. list_of b) (sym there.same) ∙ leaves there.image there.stands; holds = inl refl }
+          | inr g ↦ record { list = []; read = elim g.one [ inl e ↦ ap (λ r. listed r) e | inr e ↦ ap (λ r. listed r) e ]; holds = inr refl }
+        ]
+
+    -- and its header
+    pub emptied-header : LeavesHeader disk header → KeepsHeader before new header
+    emptied-header leaves = shown-header (weaker-shown run (λ bytes s. elim s.one [ inl there ↦ image-header disk leaves bytes there | inr g ↦ empty-headed header generation bytes g ]))
+
+-- ---- both sides are closed, whatever they had
+
+-- calls on one side, which leave it blank or as it was, on a disk no side of which has another header
+module _ (header : Header) {before now : ℕ} {side : Side} {old new : Standing} (had : SidesHave old header) where
+  pub sides-shown : EachMoment before now side old new (IsBlankOrOf header) → old.last ≤ before → Since old → ShowsEach before now old new (IsBlankOrOf header)
+  sides-shown run last since = one-shown run last since (λ image g left. shows-one (λ bytes. IsBlankOrOf header bytes) side image g (had (other_side side) (image (other_side side)) left))
+
+  pub sides-have : EachMoment before now side old new (IsBlankOrOf header) → SidesHave new header
+  sides-have run s content left = elim (two-sides side s) [
+    | inl e ↦ run.standing content (subst (λ x. IsImage (new.loose x) content) (sym e) left)
+    | inr e ↦ had (other_side side) content (subst (λ l. IsImage l content) run.other.loose (subst (λ x. IsImage (new.loose x) content) (sym e) left))
+  ]
+
+  -- of a side that is closed, and of one that is put on the medium
+  pub closed-headed : EachMoment before now side old new (GivesClosed (old.loose side)) → EachMoment before now side old new (IsBlankOrOf header)
+  closed-headed run = weaker run (λ content g. elim g.one [ inl blank ↦ blank-headed header content blank | inr left ↦ had side content left ])
+
+  pub settled-headed : EachMoment before now side old new (IsImage (old.loose side)) → EachMoment before now side old new (IsBlankOrOf header)
+  settled-headed run = weaker run (λ content left. had side content left)

@@ -34,7 +34,7 @@ pub record Gives (seen : List ℕ) (Q : List (ℕ × Entry) → Type 0) (content
 
 module _ (side : Side) (old : Standing) (sole : IsSole side old) (seen : IsImage (old.loose side) (old.seen side)) where
   -- a content with the generation that is read, beside what a crash may leave of the other side
-  sole-stays : (image : Side → List ℕ) → generation_in (image side) ≡ generation_in (old.seen side) → IsImage (old.loose (other_side side)) (image (other_side side)) → current image ≡ side
+  pub sole-stays : (image : Side → List ℕ) → generation_in (image side) ≡ generation_in (old.seen side) → IsImage (old.loose (other_side side)) (image (other_side side)) → current image ≡ side
   sole-stays image same left =
       let mixed : Side → List ℕ = beside side (old.seen side) (image (other_side side)) in
       let stands : IsStanding old mixed = record {

@@ -37,6 +37,16 @@ Is one list = list ≡ one
 abbrev pub IsOne : List (ℕ × Entry) → List (ℕ × Entry) → List (ℕ × Entry) → Type 0
 IsOne one other list = (list ≡ one) ⊎ (list ≡ other)
 
+-- one of these, of which there may be many, as the fronts `take n list` of a list
+pub record IsAny (lists : ℕ → List (ℕ × Entry)) (list : List (ℕ × Entry)) : Type 0 where
+  pub at : ℕ
+  pub same : list ≡ lists at
+
+-- every image has one of these lists
+abbrev pub LeavesAny : Standing → (ℕ → List (ℕ × Entry)) → Type 0
+LeavesAny disk lists =
+    (image : Side → List ℕ) → IsStanding disk image → GivesList (IsAny lists) image
+
 -- every image has this list
 abbrev pub LeavesOnly : Standing → List (ℕ × Entry) → Type 0
 LeavesOnly disk list =

@@ -1,13 +1,15 @@
 -- A peer's log as a list.
-use Rattle.std.specs.Prelude.{◌≡◌, ◌⊎◌, ℕ, ◌+◌, ◌==◌, true, false, List, [], ◌∷◌, ◌++◌, map, Option, None, Some, MatchOption, IsSome, is_some, Ok, if◌then◌else◌}
+use Rattle.std.specs.Prelude.{◌≡◌, ◌⊎◌, ℕ, ◌+◌, ◌==◌, ◌&&◌, Bool, true, false, nat_le, nat_lt, List, [], ◌∷◌, ◌++◌, length, map, Option, None, Some, MatchOption, IsSome, is_some, Ok, if◌then◌else◌}
 use Rattle.hs_ports.specs.declared.disk.Side.{Side}
 use Rattle.hs_ports.specs.Disk.{Standing, other_side}
 use Rattle.hs_entry.specs.declared.entry.Entry.{Entry}
 use Rattle.hs_entry.specs.declared.rank.Rank.{Rank}
 use Rattle.hs_entry.specs.Entries.{is_of_base, rank_after, rank_of}
+use Rattle.hs_side.specs.declared.header.Header.{Header}
 use Rattle.hs_side.specs.Giving.{IsBlankEverywhere}
 use Rattle.hs_side.specs.Reading.{Log, is_blank, log_of, entry_of, with_frame}
 use Rattle.hs_side.specs.Standing.{SideState, Stands, opened}
+use Rattle.hs_peerlog.specs.Heads.{LeavesHeader}
 use Rattle.hs_peerlog.specs.Images.{IsSole, LeavesOnly}
 
 -- the side is not blank, and its log has this list of entries, in frames at these places
@@ -87,10 +89,16 @@ IsBlankBeside side disk =
     is_blank (disk.seen (other_side side)) ≡ true
     → IsBlankEverywhere (disk.loose (other_side side))
 
--- the log has this list on the disk, and this entry waits; whatever a crash leaves has just the list
+-- the log has this list on the disk, and this entry waits; whatever a crash leaves has just the list,
+-- and the log's header
 pub record HasLog (keeping : Keeping) (disk : Standing) (list : List (ℕ × Entry))
     (waiting : Option Entry) : Type 0 where
   pub kept : IsKept keeping (disk.seen keeping.log.side) list waiting
   pub sole : IsSole keeping.log.side disk
   pub leaves : LeavesOnly disk list
   pub beside : IsBlankBeside keeping.log.side disk
+  pub headed : (head : Header × ℕ) → keeping.log.head ≡ Some head → LeavesHeader disk head.0
+
+-- whether a number has one of these places, which are those of the numbers from 1 on
+abbrev pub has_place : List ℕ → ℕ → Bool
+has_place places number = nat_lt 0 number && nat_le number (length places)

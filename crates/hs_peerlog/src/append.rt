@@ -5,8 +5,11 @@ ghost use Rattle.hs_entry.specs.declared.entry.Entry.{Entry};
 ghost use Rattle.hs_entry.specs.Entries.{rank_after};
 ghost use Rattle.hs_entry.specs.Reading.{IsReadable};
 ghost use Rattle.hs_peerlog.specs.Caused.{IsCalm, IsCaused, IsOutside};
+ghost use Rattle.hs_side.specs.declared.header.Header.{Header};
+ghost use Rattle.hs_peerlog.specs.Heads.{KeepsHeader};
 ghost use Rattle.hs_peerlog.specs.Images.{Is, LeavesEach};
 ghost use Rattle.hs_peerlog.specs.Lists.{HasLog, IsKept, IsReady};
+ghost use Rattle.hs_peerlog.specs.Past.{PastStays};
 
 use crate::{LogFault, PeerLog};
 use hs_entry::Entry;
@@ -34,6 +37,7 @@ impl PeerLog {
         ensures waits { OnOk result (self.new.waits
             ≡ Some (rank_after self.old.rank number entry.now)) }
         ensures rank { OnOk result (self.new.rank ≡ self.old.rank) }
+        ensures head { OnOk result (self.new.log.head ≡ self.old.log.head) }
         ensures list { D.tells → (D.stands disk.old).last ≤ watch.old → (list : List (ℕ × Entry))
             → HasLog self.old (D.stands disk.old) list None
             → OnOk result (HasLog self.new (D.stands disk.new) list (Some entry.now)) }
@@ -51,6 +55,12 @@ impl PeerLog {
         ensures any_moment { D.tells → (D.stands disk.old).last ≤ watch.old
             → (list : List (ℕ × Entry)) → HasLog self.old (D.stands disk.old) list None
             → LeavesEach watch.old watch.new (D.stands disk.old) (D.stands disk.new) (Is list) }
+        ensures headed { D.tells → (D.stands disk.old).last ≤ watch.old
+            → (list : List (ℕ × Entry)) → HasLog self.old (D.stands disk.old) list None
+            → (head : Header × ℕ) → self.old.log.head ≡ Some head
+            → KeepsHeader watch.old (D.stands disk.new) head.0 }
+        ensures past { D.tells → (D.stands disk.old).last ≤ watch.old
+            → PastStays watch.old watch.new (D.stands disk.old) (D.stands disk.new) }
         // It costs one call that changes the disk: no sync.
         ensures cost { OnOk result (watch.new ≡ next_moment watch.old) }
         ensures ticks { watch.old ≤ watch.new }

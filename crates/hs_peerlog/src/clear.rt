@@ -1,23 +1,28 @@
 //! An empty log on a disk, whatever was on it.
-ghost use Rattle.std.specs.Prelude.{◌≡◌, ◌≤◌, [], None, IfOk, IfErr, OnOk};
+ghost use Rattle.std.specs.Prelude.{◌≡◌, ◌≤◌, [], None, Some, IfOk, IfErr, OnOk};
 ghost use Rattle.hs_ports.specs.declared.disk.Side.{Side};
+ghost use Rattle.hs_side.specs.declared.header.Header.{Header};
 ghost use Rattle.hs_side.specs.Giving.{IsBlankEverywhere};
+ghost use Rattle.hs_side.specs.Headers.{own_header};
 ghost use Rattle.hs_peerlog.specs.Caused.{IsCalm, IsCaused, IsOutside};
+ghost use Rattle.hs_peerlog.specs.Heads.{IsBlankOrOf, KeepsHeader, SidesHave};
 ghost use Rattle.hs_peerlog.specs.Lists.{HasLog, IsReady};
+ghost use Rattle.hs_peerlog.specs.Past.{PastStays};
+ghost use Rattle.hs_peerlog.specs.Steps.{ShowsEach};
 
 use crate::close::{close, settle};
 use crate::empty::write_empty;
+use crate::header::own_header;
 use crate::{LogFault, PeerLog};
 use hs_entry::Rank;
 use hs_limits::Shape;
 use hs_ports::{Disk, Side, Watch};
-use hs_side::Header;
 use std::alloc::Global;
 
 impl PeerLog {
     /// Makes a disk whose log can't be recovered an empty one: closes both sides, puts both on the
-    /// medium, and writes an empty log on side zero. Of its moments nothing is said: its disk counts
-    /// as blank.
+    /// medium, and writes an empty log on side zero. Of the lists at its moments nothing is said: its
+    /// disk counts as blank.
     pub fn clear<D: Disk>(
         alloc: Global,
         disk: &mut D,
@@ -30,19 +35,22 @@ impl PeerLog {
         ensures sealed { IfOk result (λ log. log.waits ≡ None) }
         ensures list { D.tells → (D.stands disk.old).last ≤ watch.old
             → IfOk result (λ log. HasLog log (D.stands disk.new) [] None) }
+        ensures head { IfOk result (λ log. log.log.head ≡ Some (own_header shape peer, 1)) }
 
         ensures refused { IfErr result IsOutside }
 
+        // Whose header a crash leaves at each moment, where no side had another's.
+        ensures headed { D.tells → (D.stands disk.old).last ≤ watch.old
+            → SidesHave (D.stands disk.old) (own_header shape peer)
+            → KeepsHeader watch.old (D.stands disk.new) (own_header shape peer) }
+        ensures past { D.tells → (D.stands disk.old).last ≤ watch.old
+            → PastStays watch.old watch.new (D.stands disk.old) (D.stands disk.new) }
         ensures ticks { watch.old ≤ watch.new }
         ensures calm { IsCalm (D.faults disk.old) (D.faults disk.new) result }
         ensures cause { IsCaused (D.faults disk.old) (D.faults disk.new) result }
     {
         close_both(alloc, disk, watch)?;
-        let header = Header {
-            shards: shape.shards,
-            copies: shape.copies,
-            peer,
-        };
+        let header = own_header(shape, peer);
         let log = match write_empty(alloc, disk, watch, Side::Zero, header, 1) {
             Ok(log) => log,
             Err(fault) => return Err(fault),
@@ -62,8 +70,12 @@ fn close_both<D: Disk>(alloc: Global, disk: &mut D, watch: &mut Watch) -> Result
         → IsBlankEverywhere ((D.stands disk.new).loose side)) }
     ensures refused { IfErr result IsOutside }
 
-    ensures last { D.tells → (D.stands disk.old).last ≤ watch.old
-        → OnOk result ((D.stands disk.new).last ≤ watch.new) }
+    ensures shown { (header : Header) → D.tells → (D.stands disk.old).last ≤ watch.old
+        → SidesHave (D.stands disk.old) header
+        → ShowsEach watch.old watch.new (D.stands disk.old) (D.stands disk.new)
+        (IsBlankOrOf header) }
+    ensures past { D.tells → (D.stands disk.old).last ≤ watch.old
+        → PastStays watch.old watch.new (D.stands disk.old) (D.stands disk.new) }
     ensures ticks { watch.old ≤ watch.new }
     ensures calm { IsCalm (D.faults disk.old) (D.faults disk.new) result }
     ensures cause { IsCaused (D.faults disk.old) (D.faults disk.new) result }

@@ -1,13 +1,14 @@
 //! The steps that empty a log.
-ghost use Rattle.std.specs.Prelude.{◌≡◌, ◌≤◌, [], ℕ, List, None, Some, false, OnOk, IfOk, IfErr};
+ghost use Rattle.std.specs.Prelude.{◌≡◌, ◌≤◌, [], None, Some, false, OnOk, IfOk, IfErr};
 ghost use Rattle.hs_ports.specs.Disk.{Untouched, other_side};
-ghost use Rattle.hs_entry.specs.declared.entry.Entry.{Entry};
-ghost use Rattle.hs_side.specs.Giving.{IsBlankEverywhere};
+ghost use Rattle.hs_side.specs.Giving.{GivesEmpty, IsBlankEverywhere};
 ghost use Rattle.hs_side.specs.Reading.{is_blank};
 ghost use Rattle.hs_side.specs.Standing.{Stands};
 ghost use Rattle.hs_peerlog.specs.Caused.{IsCalm, IsCaused, IsOutside};
-ghost use Rattle.hs_peerlog.specs.Images.{Is, IsOne, IsSole, LeavesEach, LeavesOnly};
+ghost use Rattle.hs_peerlog.specs.Images.{IsSole, LeavesOnly};
 ghost use Rattle.hs_peerlog.specs.Lists.{HasList, IsBlankBeside};
+ghost use Rattle.hs_peerlog.specs.Past.{PastStays};
+ghost use Rattle.hs_peerlog.specs.Steps.{CouldShow, CouldShowOrBlank, ShowsEach};
 
 use crate::LogFault;
 use crate::close::close;
@@ -37,10 +38,12 @@ pub(crate) fn close_other<D: Disk>(
     ensures refused { IfErr result IsOutside }
     ensures other { D.tells → Untouched side (D.stands disk.old) (D.stands disk.new) }
 
-    ensures any_moment { D.tells → (D.stands disk.old).last ≤ watch.old
-        → (list : List (ℕ × Entry)) → IsSole side (D.stands disk.old)
-        → LeavesOnly (D.stands disk.old) list
-        → LeavesEach watch.old watch.new (D.stands disk.old) (D.stands disk.new) (Is list) }
+    ensures shown { D.tells → (D.stands disk.old).last ≤ watch.old
+        → IsSole side (D.stands disk.old)
+        → ShowsEach watch.old watch.new (D.stands disk.old) (D.stands disk.new)
+        (CouldShow (D.stands disk.old)) }
+    ensures past { D.tells → (D.stands disk.old).last ≤ watch.old
+        → PastStays watch.old watch.new (D.stands disk.old) (D.stands disk.new) }
     ensures ticks { watch.old ≤ watch.new }
     ensures calm { IsCalm (D.faults disk.old) (D.faults disk.new) result }
     ensures cause { IsCaused (D.faults disk.old) (D.faults disk.new) result }
@@ -61,11 +64,12 @@ pub(crate) fn close_own<D: Disk>(
     ensures other { D.tells →
         Untouched (other_side side) (D.stands disk.old) (D.stands disk.new) }
 
-    ensures any_moment { D.tells → (D.stands disk.old).last ≤ watch.old
-        → (list : List (ℕ × Entry)) → LeavesOnly (D.stands disk.old) list
+    ensures shown { D.tells → (D.stands disk.old).last ≤ watch.old
         → IsBlankEverywhere ((D.stands disk.old).loose (other_side side))
-        → LeavesEach watch.old watch.new (D.stands disk.old) (D.stands disk.new)
-        (IsOne list []) }
+        → ShowsEach watch.old watch.new (D.stands disk.old) (D.stands disk.new)
+        (CouldShowOrBlank (D.stands disk.old)) }
+    ensures past { D.tells → (D.stands disk.old).last ≤ watch.old
+        → PastStays watch.old watch.new (D.stands disk.old) (D.stands disk.new) }
     ensures ticks { watch.old ≤ watch.new }
     ensures calm { IsCalm (D.faults disk.old) (D.faults disk.new) result }
     ensures cause { IsCaused (D.faults disk.old) (D.faults disk.new) result }
@@ -107,9 +111,12 @@ pub(crate) fn write_empty<D: Disk>(
 
     ensures refused { IfErr result IsOutside }
 
-    ensures any_moment { D.tells → (D.stands disk.old).last ≤ watch.old
+    ensures shown { D.tells → (D.stands disk.old).last ≤ watch.old
         → IsBlankEverywhere ((D.stands disk.old).loose (other_side side))
-        → LeavesEach watch.old watch.new (D.stands disk.old) (D.stands disk.new) (Is []) }
+        → ShowsEach watch.old watch.new (D.stands disk.old) (D.stands disk.new)
+        (GivesEmpty header generation) }
+    ensures past { D.tells → (D.stands disk.old).last ≤ watch.old
+        → PastStays watch.old watch.new (D.stands disk.old) (D.stands disk.new) }
     ensures ticks { watch.old ≤ watch.new }
     ensures calm { IsCalm (D.faults disk.old) (D.faults disk.new) result }
     ensures cause { IsCaused (D.faults disk.old) (D.faults disk.new) result }

@@ -5,14 +5,16 @@ ghost use Rattle.hs_ports.specs.Disk.{settled};
 ghost use Rattle.hs_side.specs.Current.{current, header_in};
 ghost use Rattle.hs_side.specs.Standing.{Stands};
 ghost use Rattle.hs_peerlog.specs.Caused.{IsCalm, IsCaused, IsOutside};
+ghost use Rattle.hs_peerlog.specs.Heads.{head_found};
 ghost use Rattle.hs_peerlog.specs.Images.{LeavesAll};
-ghost use Rattle.hs_peerlog.specs.Opening.{is_own, refused_head, refusal_in, IsOpened, IsRefusal};
+ghost use Rattle.hs_peerlog.specs.Opening.{refused_head, refusal_in, IsOpened, IsRefusal};
 
 use crate::LogFault;
+use crate::header::is_own;
 use hs_entry::Rank;
 use hs_limits::Shape;
 use hs_ports::{Disk, Side, Watch};
-use hs_side::{Header, SideLog, later_side};
+use hs_side::{SideLog, later_side};
 use std::alloc::Global;
 
 /// Opens the current side of a disk: puts both sides on the medium, and reads the current one. It
@@ -28,6 +30,8 @@ pub(crate) fn open_current<D: Disk>(
     ensures stands { IfOk result (λ x. Stands D.tells x.0
         (D.size disk.new x.0.side) (D.stands disk.new)) }
     ensures rests { IfOk result (λ x. x.0.waiting ≡ None) }
+    ensures head { D.tells → IfOk result (λ x.
+        x.0.head ≡ head_found shape peer (D.stands disk.old).seen) }
 
     // Which fault it is, and that there is one where the disk is refused.
     ensures accepted { D.tells → OnOk result
@@ -107,11 +111,4 @@ fn check_head<D: Disk>(
         return Err(LogFault::WrongShape { found });
     }
     Ok(())
-}
-
-/// Whether a header is that of this peer's disk.
-fn is_own(shape: Shape, peer: u8, header: Header) -> bool
-    ensures { result ≡ is_own shape peer header }
-{
-    header.shards == shape.shards && header.copies == shape.copies && header.peer == peer
 }

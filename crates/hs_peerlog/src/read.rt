@@ -1,11 +1,11 @@
 //! Reading one entry.
-ghost use Rattle.std.specs.Prelude.{◌≡◌, ◌+◌, ◌-◌, ◌<◌, ◌≤◌, ℕ, List, Option, length, slice_index, None, Some, Ok, IfOk, IfErr, IfSome, Contains};
+ghost use Rattle.std.specs.Prelude.{◌≡◌, ◌+◌, ◌-◌, ◌<◌, ◌≤◌, ℕ, List, Option, length, slice_index, None, Some, is_some, true, Ok, IfOk, IfErr, IfSome, Contains};
 ghost use Rattle.hs_ports.specs.declared.disk.Side.{Side};
 ghost use Rattle.hs_entry.specs.declared.entry.Entry.{Entry};
 ghost use Rattle.hs_entry.specs.Reading.{entry_at};
 ghost use Rattle.hs_side.specs.Standing.{Stands};
 ghost use Rattle.hs_peerlog.specs.Caused.{IsCalm, IsCaused, IsOutside};
-ghost use Rattle.hs_peerlog.specs.Lists.{numbered_entry, HasFrames, IsKept, IsNumbered, IsReady};
+ghost use Rattle.hs_peerlog.specs.Lists.{has_place, numbered_entry, HasFrames, IsKept, IsNumbered, IsReady};
 
 use crate::{LogFault, PeerLog};
 use hs_entry::{Entry, EntryFault, read_entry};
@@ -26,6 +26,9 @@ impl PeerLog {
         ensures found { D.tells → (list : List (ℕ × Entry)) (waiting : Option Entry)
             → IsKept self.now ((D.stands disk.old).seen self.now.log.side) list waiting
             → IfOk result (λ found. found ≡ numbered_entry list number) }
+        // Of any disk: it is None exactly where no entry of that number is kept.
+        ensures kept { IfOk result (λ found.
+            is_some found ≡ has_place self.now.log.places number) }
         ensures refused { D.tells → IfErr result IsOutside }
         ensures place { IfErr result (λ fault. (at : ℕ) → fault ≡ LogFault.NotALog at
             → (i : ℕ) → number ≡ i + 1 → at ≡ slice_index self.now.log.places i) }
@@ -51,6 +54,7 @@ pub(crate) fn entry_of<D: Disk>(
     ensures found { D.tells → (list : List (ℕ × Entry))
         → HasFrames log.now.places ((D.stands disk.old).seen log.now.side) list
         → IsNumbered list → IfOk result (λ found. found ≡ numbered_entry list number) }
+    ensures kept { IfOk result (λ found. is_some found ≡ has_place log.now.places number) }
     ensures refused { D.tells → (list : List (ℕ × Entry))
         → HasFrames log.now.places ((D.stands disk.old).seen log.now.side) list
         → IsNumbered list → IfErr result IsOutside }
@@ -84,6 +88,7 @@ fn place_of(log: &SideLog, number: u64) -> Option<u64>
     ensures some { IfSome result (λ place. (0 < number) × (number - 1 < length log.now.places)
         × (place ≡ slice_index log.now.places (number - 1))) }
     ensures none { result ≡ None → (i : ℕ) → number ≡ i + 1 → length log.now.places ≤ i }
+    ensures kept { is_some result ≡ has_place log.now.places number }
 {
     let places = log.places();
     if number == 0 || number - 1 >= places.len() as u64 {
@@ -105,6 +110,7 @@ fn entry_in(
         → IfErr result (λ fault. fault ≡ LogFault.NoMemory) }
     ensures only { IfOk result (λ found. IfSome found (λ entry.
         entry_at payload ≡ Ok (number, entry))) }
+    ensures some { IfOk result (λ found. is_some found ≡ true) }
     ensures place { IfErr result (λ fault. (at : ℕ) → fault ≡ LogFault.NotALog at → at ≡ place) }
     ensures memory { IfErr result (λ fault. fault ≡ LogFault.Disk → ⊥) }
 {

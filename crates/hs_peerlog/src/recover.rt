@@ -1,19 +1,21 @@
 //! Recovering a peer's log.
-ghost use Rattle.std.specs.Prelude.{◌≡◌, ◌≤◌, [], ℕ, List, None, Some, IsSome, IfOk, IfErr, OnOk};
-ghost use Rattle.hs_ports.specs.declared.disk.Side.{Side};
+ghost use Rattle.std.specs.Prelude.{◌≡◌, ◌≤◌, ℕ, List, None, Some, IsSome, IfOk, IfErr, OnOk};
 ghost use Rattle.hs_entry.specs.declared.entry.Entry.{Entry};
 ghost use Rattle.hs_side.specs.Current.{list_in};
-ghost use Rattle.hs_side.specs.Standing.{Stands};
-ghost use Rattle.hs_peerlog.specs.Caused.{IsCalm, IsCaused, IsOutside};
-ghost use Rattle.hs_peerlog.specs.Images.{Is, IsAlone, LeavesEach, LeavesOnly};
-ghost use Rattle.hs_peerlog.specs.Lists.{HasList, HasLog, IsKept, IsReady};
-ghost use Rattle.hs_peerlog.specs.Opening.{refusal_in, HasOpened, IsRefusal};
+ghost use Rattle.hs_side.specs.Headers.{own_header};
+ghost use Rattle.hs_peerlog.specs.Caused.{IsCalm, IsCaused};
+ghost use Rattle.hs_peerlog.specs.Heads.{own_head, KeepsHeader, LeavesHeader};
+ghost use Rattle.hs_peerlog.specs.Images.{Is, IsAny, LeavesAny, LeavesEach, LeavesOnly};
+ghost use Rattle.hs_peerlog.specs.Lists.{HasLog, IsKept, IsReady};
+ghost use Rattle.hs_peerlog.specs.Opening.{refusal_in, IsRefusal};
+ghost use Rattle.hs_peerlog.specs.Past.{PastStays};
 
+use crate::header::own_header;
+use crate::made::make_log;
 use crate::opening::open_current;
 use crate::{LogFault, PeerLog};
 use hs_limits::Shape;
 use hs_ports::{Disk, Watch};
-use hs_side::{Header, SideLog};
 use std::alloc::Global;
 
 impl PeerLog {
@@ -30,6 +32,9 @@ impl PeerLog {
         ensures ready { IfOk result (λ log. IsReady D.tells log
             (D.size disk.new log.log.side) (D.stands disk.new)) }
         ensures sealed { IfOk result (λ log. log.waits ≡ None) }
+        // The log's head: the peer's header, with the generation of the disk, or 1 where that is blank.
+        ensures head { D.tells → IfOk result (λ log.
+            log.log.head ≡ Some (own_head shape peer (D.stands disk.old).seen)) }
         ensures list { D.tells → (D.stands disk.old).last ≤ watch.old → (list : List (ℕ × Entry))
             → list_in (D.stands disk.old).seen ≡ Some list
             → IfOk result (λ log. HasLog log (D.stands disk.new) list None) }
@@ -50,6 +55,16 @@ impl PeerLog {
         ensures any_moment { D.tells → (D.stands disk.old).last ≤ watch.old
             → (list : List (ℕ × Entry)) → LeavesOnly (D.stands disk.old) list
             → LeavesEach watch.old watch.new (D.stands disk.old) (D.stands disk.new) (Is list) }
+        // So with any of several lists: where each image had a front of a list, it has one.
+        ensures any_of { D.tells → (D.stands disk.old).last ≤ watch.old
+            → (lists : ℕ → List (ℕ × Entry)) → LeavesAny (D.stands disk.old) lists
+            → LeavesEach watch.old watch.new (D.stands disk.old) (D.stands disk.new)
+            (IsAny lists) }
+        ensures headed { D.tells → (D.stands disk.old).last ≤ watch.old
+            → LeavesHeader (D.stands disk.old) (own_header shape peer)
+            → KeepsHeader watch.old (D.stands disk.new) (own_header shape peer) }
+        ensures past { D.tells → (D.stands disk.old).last ≤ watch.old
+            → PastStays watch.old watch.new (D.stands disk.old) (D.stands disk.new) }
         ensures ticks { watch.old ≤ watch.new }
         ensures calm { IsCalm (D.faults disk.old) (D.faults disk.new) result }
         ensures cause { IsCaused (D.faults disk.old) (D.faults disk.new) result }
@@ -58,11 +73,7 @@ impl PeerLog {
             Ok(opened) => opened,
             Err(fault) => return Err(fault),
         };
-        let header = Header {
-            shards: shape.shards,
-            copies: shape.copies,
-            peer,
-        };
+        let header = own_header(shape, peer);
         let log = match make_log(alloc, log, disk, watch, header) {
             Ok(log) => log,
             Err(fault) => return Err(fault),
@@ -74,44 +85,4 @@ impl PeerLog {
             waits: None,
         })
     }
-}
-
-/// The log itself, or an empty one where its side is blank.
-fn make_log<D: Disk>(
-    alloc: Global,
-    log: SideLog,
-    disk: &mut D,
-    watch: &mut Watch,
-    header: Header,
-) -> Result<SideLog, LogFault>
-    requires stands { Stands D.tells log (D.size disk.old log.side) (D.stands disk.old) }
-    requires rests { log.waiting ≡ None }
-
-    ensures stands { IfOk result (λ made.
-        Stands D.tells made (D.size disk.new made.side) (D.stands disk.new)) }
-    ensures begun { IfOk result (λ made. IsSome made.head) }
-    ensures rests { IfOk result (λ made. made.waiting ≡ None) }
-    ensures side { IfOk result (λ made. made.side ≡ log.side) }
-    ensures list { D.tells → (list : List (ℕ × Entry))
-        → HasOpened log ((D.stands disk.old).seen log.side) list
-        → IfOk result (λ made. HasList made.places ((D.stands disk.new).seen log.side) list) }
-
-    ensures refused { IfErr result IsOutside }
-
-    ensures alone { D.tells → (D.stands disk.old).last ≤ watch.old
-        → IsAlone log.side (D.stands disk.old)
-        → OnOk result (IsAlone log.side (D.stands disk.new)) }
-    ensures any_moment { D.tells → (D.stands disk.old).last ≤ watch.old
-        → IsAlone log.side (D.stands disk.old) → (list : List (ℕ × Entry))
-        → HasOpened log ((D.stands disk.old).seen log.side) list
-        → LeavesEach watch.old watch.new (D.stands disk.old) (D.stands disk.new) (Is list) }
-    ensures ticks { watch.old ≤ watch.new }
-    ensures calm { IsCalm (D.faults disk.old) (D.faults disk.new) result }
-    ensures cause { IsCaused (D.faults disk.old) (D.faults disk.new) result }
-{
-    if log.generation().is_some() {
-        return Ok(log);
-    }
-    let made = SideLog::format(alloc, disk, watch, log.side(), header, 1)?;
-    Ok(made)
 }

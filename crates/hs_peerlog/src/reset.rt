@@ -1,9 +1,12 @@
 //! Emptying a peer's log.
-ghost use Rattle.std.specs.Prelude.{◌≡◌, ◌≤◌, [], ℕ, List, Option, None, OnOk, IfErr};
+ghost use Rattle.std.specs.Prelude.{◌≡◌, ◌≤◌, [], ℕ, List, Option, None, Some, OnOk, IfErr};
 ghost use Rattle.hs_entry.specs.declared.entry.Entry.{Entry};
 ghost use Rattle.hs_peerlog.specs.Caused.{IsCalm, IsCaused, IsOutside};
+ghost use Rattle.hs_side.specs.declared.header.Header.{Header};
+ghost use Rattle.hs_peerlog.specs.Heads.{KeepsHeader};
 ghost use Rattle.hs_peerlog.specs.Images.{IsOne, LeavesEach};
 ghost use Rattle.hs_peerlog.specs.Lists.{HasLog, IsReady};
+ghost use Rattle.hs_peerlog.specs.Past.{PastStays};
 
 use crate::empty::{close_other, close_own, write_empty};
 use crate::{LogFault, PeerLog};
@@ -33,6 +36,13 @@ impl PeerLog {
             → HasLog self.old (D.stands disk.old) list waiting
             → LeavesEach watch.old watch.new (D.stands disk.old) (D.stands disk.new)
             (IsOne list []) }
+        ensures headed { D.tells → (D.stands disk.old).last ≤ watch.old
+            → (list : List (ℕ × Entry)) → (waiting : Option Entry)
+            → HasLog self.old (D.stands disk.old) list waiting
+            → (head : Header × ℕ) → self.old.log.head ≡ Some head
+            → KeepsHeader watch.old (D.stands disk.new) head.0 }
+        ensures past { D.tells → (D.stands disk.old).last ≤ watch.old
+            → PastStays watch.old watch.new (D.stands disk.old) (D.stands disk.new) }
         ensures ticks { watch.old ≤ watch.new }
         ensures calm { IsCalm (D.faults disk.old) (D.faults disk.new) result }
         ensures cause { IsCaused (D.faults disk.old) (D.faults disk.new) result }

@@ -3,8 +3,11 @@ ghost use Rattle.std.specs.Prelude.{◌≡◌, ◌≤◌, ℕ, List, None, Some,
 ghost use Rattle.hs_ports.specs.Watch.{next_moment};
 ghost use Rattle.hs_entry.specs.declared.entry.Entry.{Entry};
 ghost use Rattle.hs_peerlog.specs.Caused.{IsCalm, IsCaused};
+ghost use Rattle.hs_side.specs.declared.header.Header.{Header};
+ghost use Rattle.hs_peerlog.specs.Heads.{KeepsHeader};
 ghost use Rattle.hs_peerlog.specs.Images.{IsOne, LeavesEach};
 ghost use Rattle.hs_peerlog.specs.Lists.{with_waiting, HasLog, IsKept, IsReady};
+ghost use Rattle.hs_peerlog.specs.Past.{PastStays};
 
 use crate::{LogFault, PeerLog};
 use hs_ports::{Disk, Watch};
@@ -22,6 +25,7 @@ impl PeerLog {
             (D.size disk.new self.new.log.side) (D.stands disk.new)) }
         ensures rank { OnOk result (IfSome self.old.waits (λ rank. self.new.rank ≡ rank)) }
         ensures sealed { OnOk result (self.new.waits ≡ None) }
+        ensures head { OnOk result (self.new.log.head ≡ self.old.log.head) }
         ensures list { D.tells → (D.stands disk.old).last ≤ watch.old → (list : List (ℕ × Entry))
             → (entry : Entry) → HasLog self.old (D.stands disk.old) list (Some entry)
             → OnOk result (HasLog self.new (D.stands disk.new) (with_waiting list entry) None) }
@@ -40,6 +44,13 @@ impl PeerLog {
             → HasLog self.old (D.stands disk.old) list (Some entry)
             → LeavesEach watch.old watch.new (D.stands disk.old) (D.stands disk.new)
             (IsOne list (with_waiting list entry)) }
+        ensures headed { D.tells → (D.stands disk.old).last ≤ watch.old
+            → (list : List (ℕ × Entry)) → (entry : Entry)
+            → HasLog self.old (D.stands disk.old) list (Some entry)
+            → (head : Header × ℕ) → self.old.log.head ≡ Some head
+            → KeepsHeader watch.old (D.stands disk.new) head.0 }
+        ensures past { D.tells → (D.stands disk.old).last ≤ watch.old
+            → PastStays watch.old watch.new (D.stands disk.old) (D.stands disk.new) }
         // It costs three calls that change the disk, two of them syncs.
         ensures cost { OnOk result (watch.new
             ≡ next_moment (next_moment (next_moment watch.old))) }

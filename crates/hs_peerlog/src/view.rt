@@ -1,15 +1,16 @@
 //! A peer's list that is only read.
-ghost use Rattle.std.specs.Prelude.{◌≡◌, ◌≤◌, ◌+◌, ℕ, List, None, Some, IsSome, IfOk, IfErr, OnOk, slice_index};
+ghost use Rattle.std.specs.Prelude.{◌≡◌, ◌≤◌, ◌+◌, ℕ, List, None, Some, IsSome, is_some, IfOk, IfErr, OnOk, slice_index};
 ghost use Rattle.hs_ports.specs.declared.disk.Side.{Side};
 ghost use Rattle.hs_ports.specs.Disk.{settled};
 ghost use Rattle.hs_entry.specs.declared.entry.Entry.{Entry};
 ghost use Rattle.hs_side.specs.Current.{list_in};
 ghost use Rattle.hs_side.specs.Standing.{Stands};
 ghost use Rattle.hs_peerlog.specs.Caused.{IsCalm, IsCaused, IsOutside};
+ghost use Rattle.hs_peerlog.specs.Heads.{head_found};
 ghost use Rattle.hs_peerlog.specs.Images.{LeavesAll};
-ghost use Rattle.hs_peerlog.specs.Lists.{numbered_entry};
+ghost use Rattle.hs_peerlog.specs.Lists.{has_place, numbered_entry};
 ghost use Rattle.hs_peerlog.specs.Opening.{refusal_in, IsRefusal};
-ghost use Rattle.hs_peerlog.specs.Views.{HasView};
+ghost use Rattle.hs_peerlog.specs.Views.{HasView, IsAsViewed};
 
 use crate::LogFault;
 use crate::opening::open_current;
@@ -25,9 +26,9 @@ use std::marker::Model;
 /// long as the disk stays as it was read.
 #[derive(Drop)]
 pub struct PeerView {
-    alloc: Global,
-    log: SideLog,
-    rank: Rank,
+    pub(crate) alloc: Global,
+    pub(crate) log: SideLog,
+    pub(crate) rank: Rank,
 }
 
 impl Model for PeerView {
@@ -50,6 +51,11 @@ impl PeerView {
     ) -> Result<PeerView, LogFault>
         ensures stands { IfOk result (λ view. Stands D.tells view.log
             (D.size disk.new view.log.side) (D.stands disk.new)) }
+        ensures as_viewed { IfOk result (λ view. IsAsViewed D.tells view
+            (D.size disk.new view.log.side) (D.stands disk.new)) }
+        // The head of the disk: the peer's header with its generation, None where it is blank.
+        ensures head { D.tells → IfOk result (λ view.
+            view.log.head ≡ head_found shape peer (D.stands disk.old).seen) }
         ensures list { D.tells → (list : List (ℕ × Entry))
             → list_in (D.stands disk.old).seen ≡ Some list
             → IfOk result (λ view. HasView view (D.stands disk.new).seen list) }
@@ -104,6 +110,9 @@ impl PeerView {
         ensures found { D.tells → (list : List (ℕ × Entry))
             → HasView self.now (D.stands disk.old).seen list
             → IfOk result (λ found. found ≡ numbered_entry list number) }
+        // Of any disk: it is None exactly where no entry of that number is kept.
+        ensures kept { IfOk result (λ found.
+            is_some found ≡ has_place self.now.log.places number) }
         ensures refused { D.tells → (list : List (ℕ × Entry))
             → HasView self.now (D.stands disk.old).seen list → IfErr result IsOutside }
         ensures place { IfErr result (λ fault. (at : ℕ) → fault ≡ LogFault.NotALog at

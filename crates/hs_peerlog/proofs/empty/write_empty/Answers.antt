@@ -5,14 +5,21 @@ use Rattle.hs_peerlog.specs.Images.{IsSole}
 use Rattle.hs_peerlog.specs.Lists.{HasList, IsBlankBeside}
 use Rattle.hs_peerlog.proofs.MakeLemmas.{formatted}
 use Rattle.hs_peerlog.proofs.ResetLemmas.{empty-leaves, empty-sole, gone-stays, side-empty}
+use Rattle.hs_peerlog.proofs.ShownLemmas.{side-past}
 use Rattle.hs_peerlog.proofs.empty.write_empty.Goals as goal
 
-pub returns-in_err-log-clause-any_moment : goal.returns-in_err-log-clause-any_moment
-returns-in_err-log-clause-any_moment g c = λ told last gone.
+pub returns-in_err-log-clause-shown : goal.returns-in_err-log-clause-shown
+returns-in_err-log-clause-shown g c = λ told last gone.
     side-empty c.args.side c.args.header c.args.generation gone (c.format.ensures.any_moment told last) last (g.met.D.Disk.since told c.args.disk.now)
 
-pub returns-clause-any_moment : goal.returns-clause-any_moment
-returns-clause-any_moment g c = λ told last gone.
+pub returns-in_err-log-clause-past : goal.returns-in_err-log-clause-past
+returns-in_err-log-clause-past g c = λ told last. side-past (c.format.ensures.any_moment told last)
+
+pub returns-clause-past : goal.returns-clause-past
+returns-clause-past g c = λ told last. side-past (c.format.ensures.any_moment told last)
+
+pub returns-clause-shown : goal.returns-clause-shown
+returns-clause-shown g c = λ told last gone.
     side-empty c.args.side c.args.header c.args.generation gone (c.format.ensures.any_moment told last) last (g.met.D.Disk.since told c.args.disk.now)
 
 pub returns-clause-list : goal.returns-clause-list

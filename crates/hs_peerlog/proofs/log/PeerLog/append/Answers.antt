@@ -5,8 +5,10 @@ use Rattle.hs_entry.specs.Payload.{payload}
 use Rattle.hs_side.specs.Standing.{SideState, MayCome}
 use Rattle.hs_peerlog.specs.Images.{IsSole}
 use Rattle.hs_peerlog.specs.Lists.{IsBlankBeside, Keeping}
+use Rattle.hs_peerlog.proofs.AppendedLemmas.{append-header}
 use Rattle.hs_peerlog.proofs.EntryLemmas.{last-length, may-come, readable-ordinary}
 use Rattle.hs_peerlog.proofs.ListLemmas.{none-waits, appended, append-leaves, append-sole, append-only}
+use Rattle.hs_peerlog.proofs.ShownLemmas.{side-past}
 use Rattle.hs_peerlog.proofs.StayLemmas.{beside-stays}
 use Rattle.hs_peerlog.proofs.log.PeerLog.append.Goals as goal
 
@@ -64,6 +66,8 @@ returns-clause-list g c = λ told last list has.
       sole = subst (λ s. IsSole s (g.D.Disk.stands c.append_entry.new.disk)) (sym (ap (λ (k : SideState). k.side) value)) (append-sole c.args.self.now.log.places list has.kept.listed last since has.sole stays run);
       leaves = append-only c.args.self.now.log.places list has.kept.listed last since has.sole stays run;
       beside = subst (λ s. IsBlankBeside s (g.D.Disk.stands c.append_entry.new.disk)) (sym (ap (λ (k : SideState). k.side) value)) (beside-stays c.args.self.now.log.side (g.D.Disk.stands c.args.disk.now) (g.D.Disk.stands c.append_entry.new.disk) run.other has.beside);
+      headed = λ head is.
+          (append-header c.args.self.now.log.places list has.kept.listed has.sole (λ s. g.met.D.Disk.stays told c.args.disk.now s) head.0 (has.headed head (sym (ap (λ (k : SideState). k.head) value) ∙ is)) last since run).standing;
     }
 
 pub returns-clause-reads : goal.returns-clause-reads
@@ -74,3 +78,19 @@ returns-clause-reads g c = λ told list kept.
     let waits = ap (λ r. Some r) (c.after.ensures ∙ ap (λ r. rank_after r c.args.number c.args.entry.now) rank) in
     appended c.args.self.now _ (g.D.Disk.stands c.args.disk.now).seen (g.D.Disk.stands c.append_entry.new.disk).seen _ c.args.number list c.args.entry.now kept
     (readable-ordinary c.args.entry.now c.requires.readable) c.requires.next value rank waits (rw view at (c.in_ok-append_entry.ensures.same told)) (rw view at (c.in_ok-append_entry.ensures.later told))
+
+pub returns-in_err-append_entry-clause-headed : goal.returns-in_err-append_entry-clause-headed
+returns-in_err-append_entry-clause-headed g c = λ told last list has head is.
+    let view : c.self.inside.log ≡ c.args.self.now.log = ap (λ (k : Keeping). k.log) c.self.view_is in
+    append-header c.args.self.now.log.places list has.kept.listed has.sole (λ s. g.met.D.Disk.stays told c.args.disk.now s) head.0 (has.headed head is) last (g.met.D.Disk.since told c.args.disk.now) (rw view at (c.append_entry.ensures.any_moment told last))
+
+pub returns-in_err-append_entry-clause-past : goal.returns-in_err-append_entry-clause-past
+returns-in_err-append_entry-clause-past g c = λ told last. side-past (c.append_entry.ensures.any_moment told last)
+
+pub returns-clause-headed : goal.returns-clause-headed
+returns-clause-headed g c = λ told last list has head is.
+    let view : c.self.inside.log ≡ c.args.self.now.log = ap (λ (k : Keeping). k.log) c.self.view_is in
+    append-header c.args.self.now.log.places list has.kept.listed has.sole (λ s. g.met.D.Disk.stays told c.args.disk.now s) head.0 (has.headed head is) last (g.met.D.Disk.since told c.args.disk.now) (rw view at (c.append_entry.ensures.any_moment told last))
+
+pub returns-clause-past : goal.returns-clause-past
+returns-clause-past g c = λ told last. side-past (c.append_entry.ensures.any_moment told last)

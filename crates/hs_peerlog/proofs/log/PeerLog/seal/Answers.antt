@@ -1,7 +1,9 @@
 use Rattle.std.proofs.Common.{◌≡◌, ◌∙◌, ◌+◌, ap, sym, refl, subst, None, Some, IsSome, is_some}
 use Rattle.hs_peerlog.specs.Images.{IsSole}
 use Rattle.hs_peerlog.specs.Lists.{IsBlankBeside, Keeping, last_of, with_waiting}
+use Rattle.hs_peerlog.proofs.AppendedLemmas.{seal-header}
 use Rattle.hs_peerlog.proofs.ListLemmas.{some-waits, sealed, sealed-is, seal-leaves, seal-sole, seal-only}
+use Rattle.hs_peerlog.proofs.ShownLemmas.{side-past}
 use Rattle.hs_peerlog.proofs.StayLemmas.{beside-stays}
 use Rattle.hs_peerlog.proofs.log.PeerLog.seal.Goals as goal
 
@@ -51,6 +53,9 @@ returns-clause-list g c = λ told last list entry has.
       leaves = seal-only c.args.self.now.log.places list has.kept.listed last since has.sole stays c.args.self.now.log.end (record { place = c.args.self.now.log.end; number = last_of list + 1; entry = entry }) has.kept.waits.opens run
           (rw view at (c.in_ok-seal.ensures.durable told));
       beside = subst (λ s. IsBlankBeside s (g.D.Disk.stands c.seal.new.disk)) (sym is.side) (beside-stays c.args.self.now.log.side (g.D.Disk.stands c.args.disk.now) (g.D.Disk.stands c.seal.new.disk) run.other has.beside);
+      headed = λ head same.
+          (seal-header c.args.self.now.log.places list has.kept.listed has.sole (λ s. g.met.D.Disk.stays told c.args.disk.now s) head.0 (has.headed head (sym is.head ∙ same)) last since
+          c.args.self.now.log.end (record { place = c.args.self.now.log.end; number = last_of list + 1; entry = entry }) has.kept.waits.opens run).standing;
     }
 
 pub returns-clause-reads : goal.returns-clause-reads
@@ -59,3 +64,27 @@ returns-clause-reads g c = λ told list entry kept.
     let waits : c.args.self.now.waits ≡ Some c.in-Some.rank = ap (λ (k : Keeping). k.waits) (sym c.self.view_is) ∙ c.in-Some.is in
     let is = sealed-is c.args.self.now.log c.seal.new.self (sym c.requires.ready.waits ∙ ap (λ o. is_some o) waits) (rw view at c.in_ok-seal.ensures.value) in
     sealed c.args.self.now _ (g.D.Disk.stands c.args.disk.now).seen (g.D.Disk.stands c.seal.new.disk).seen list entry kept is (rw view at (c.in_ok-seal.ensures.written told)) waits refl
+
+pub returns-in_err-seal-clause-headed : goal.returns-in_err-seal-clause-headed
+returns-in_err-seal-clause-headed g c = λ told last list entry has head is.
+    let view : c.self.inside.log ≡ c.args.self.now.log = ap (λ (k : Keeping). k.log) c.self.view_is in
+    seal-header c.args.self.now.log.places list has.kept.listed has.sole (λ s. g.met.D.Disk.stays told c.args.disk.now s) head.0 (has.headed head is) last (g.met.D.Disk.since told c.args.disk.now)
+    c.args.self.now.log.end (record { place = c.args.self.now.log.end; number = last_of list + 1; entry = entry }) has.kept.waits.opens (rw view at (c.seal.ensures.any_moment told last))
+
+pub returns-in_err-seal-clause-past : goal.returns-in_err-seal-clause-past
+returns-in_err-seal-clause-past g c = λ told last. side-past (c.seal.ensures.any_moment told last)
+
+pub returns-clause-headed : goal.returns-clause-headed
+returns-clause-headed g c = λ told last list entry has head is.
+    let view : c.self.inside.log ≡ c.args.self.now.log = ap (λ (k : Keeping). k.log) c.self.view_is in
+    seal-header c.args.self.now.log.places list has.kept.listed has.sole (λ s. g.met.D.Disk.stays told c.args.disk.now s) head.0 (has.headed head is) last (g.met.D.Disk.since told c.args.disk.now)
+    c.args.self.now.log.end (record { place = c.args.self.now.log.end; number = last_of list + 1; entry = entry }) has.kept.waits.opens (rw view at (c.seal.ensures.any_moment told last))
+
+pub returns-clause-past : goal.returns-clause-past
+returns-clause-past g c = λ told last. side-past (c.seal.ensures.any_moment told last)
+
+pub returns-clause-head : goal.returns-clause-head
+returns-clause-head g c =
+    let view : c.self.inside.log ≡ c.args.self.now.log = ap (λ (k : Keeping). k.log) c.self.view_is in
+    let waits : c.args.self.now.waits ≡ Some c.in-Some.rank = ap (λ (k : Keeping). k.waits) (sym c.self.view_is) ∙ c.in-Some.is in
+    (sealed-is c.args.self.now.log c.seal.new.self (sym c.requires.ready.waits ∙ ap (λ o. is_some o) waits) (rw view at c.in_ok-seal.ensures.value)).head
