@@ -1,5 +1,5 @@
 -- No block of a catalogue has more pointers than a block takes, whatever its list holds.
-use Rattle.std.proofs.Common.{◌≡◌, inl, inr, ℕ, zero, suc, ◌≤◌, ◌*◌, ◌-◌, ◌+◌, ◌==◌, ◌++◌, ◌∷◌, eqb, leb, Bool, true, false, cond, ◌&&◌, not, List, [], length, map, filter, Option, Some, None, is_none, Result, Ok, Err, refl, sym, ap, subst, arith}
+use Rattle.std.proofs.Common.{◌≡◌, inl, inr, ℕ, zero, suc, ◌≤◌, ◌*◌, ◌-◌, ◌+◌, ◌==◌, eqb, leb, Bool, true, false, cond, ◌&&◌, not, List, length, map, filter, Option, Some, None, is_none, Result, Ok, Err, refl, sym, ap, subst, arith}
 use Rattle.std.proofs.lemmas.Bool.{leb-true}
 use Rattle.std.specs.BTreeMap.{insert_entry, is_at}
 use Rattle.std.specs.Int.{w16, w32}

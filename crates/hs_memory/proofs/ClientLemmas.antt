@@ -1,5 +1,5 @@
 -- Clients' entries in memory and in the fold.
-use Rattle.std.proofs.Common.{◌≡◌, ℕ, ◌+◌, ◌==◌, ◌&&◌, ◌||◌, not, nat_le, nat_lt, List, [], ◌∷◌, ◌++◌, count_by, find, length, map, Bool, true, false, cond, Option, Some, None, is_none, is_some, Result, Ok, Err, bytes_eq, is_gt, refl, sym, ap, subst, ◌∙◌, arith}
+use Rattle.std.proofs.Common.{◌≡◌, ℕ, ◌+◌, ◌==◌, ◌&&◌, ◌||◌, not, nat_le, nat_lt, List, [], ◌∷◌, count_by, find, length, map, Bool, true, false, cond, Option, Some, None, is_none, is_some, Result, Ok, Err, bytes_eq, is_gt, refl, sym, ap, subst, ◌∙◌, arith}
 use Rattle.std.proofs.lemmas.Bool.{false≢true}
 use Rattle.std.proofs.lemmas.Bool.Decides.{Decides-eqb, nat_tests}
 use Rattle.std.proofs.lemmas.Map.Made.{lookup-map_values}
