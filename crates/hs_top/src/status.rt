@@ -92,6 +92,13 @@ fn put_refused(reply: &Reply, out: &mut Vec<u8>) -> io::Result<()>
         (codes "hydra: refused: " ++ (refusal_text reply.now ++ codes "\n"))) }
 {
     write!(out, "hydra: refused: ")?;
+    put_reason(reply, out)
+}
+
+/// Puts why it was refused at the end of `out`, and a line feed.
+fn put_reason(reply: &Reply, out: &mut Vec<u8>) -> io::Result<()>
+    ensures { OnOk result (out.new.items ≡ out.old.items ++ (refusal_text reply.now ++ codes "\n")) }
+{
     print_refusal(reply, out)?;
     write!(out, "\n")
 }

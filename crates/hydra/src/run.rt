@@ -16,7 +16,7 @@ use crate::streams::{ReaderSource, WriterSink};
 use crate::usage::tell_usage;
 use hs_block::ShaNames;
 use hs_ports::Watch;
-use hs_promise::{Outcome, Status};
+use hs_promise::Status;
 use hs_top::{fault_line, shape_of};
 use std::alloc::{AllocError, Global};
 use std::fs::File;
@@ -112,17 +112,8 @@ where
     if let Ok(note) = note_of(alloc, &disks) {
         let _ = tell_file(alloc, errors, dir_of(words), &note);
     }
-    let Outcome {
-        status,
-        journal: _,
-        kept: _,
-        stored: _,
-        refused: _,
-        course: _,
-        line: _,
-    } = outcome;
-    let _ = tell_cause(errors, cause_of_end(&status, &source));
-    status
+    let _ = tell_cause(errors, cause_of_end(&outcome.status, &source));
+    outcome.status
 }
 
 // What is wrong with the line at which the script ended, where it ended at a bad one.
