@@ -1,5 +1,5 @@
 -- A peer's log as a list.
-use Rattle.std.specs.Prelude.{◌≡◌, ◌⊎◌, ℕ, ◌+◌, ◌==◌, ◌&&◌, Bool, true, false, nat_le, nat_lt, List, [], ◌∷◌, ◌++◌, length, map, Option, None, Some, MatchOption, IsSome, is_some, Ok, if◌then◌else◌}
+use Rattle.std.specs.Prelude.{◌≡◌, ◌⊎◌, ℕ, ◌+◌, ◌==◌, ◌&&◌, Bool, true, false, nat_le, nat_lt, List, [], ◌∷◌, ◌++◌, length, map, Option, None, Some, MatchOption, IfSome, IsSome, is_some, Ok, if◌then◌else◌}
 use Rattle.hs_ports.specs.declared.disk.Side.{Side}
 use Rattle.hs_ports.specs.Disk.{Standing, other_side}
 use Rattle.hs_entry.specs.declared.entry.Entry.{Entry}
@@ -75,12 +75,14 @@ pub record KeepsSome (keeping : Keeping) (seen : List ℕ) : Type 0 where
   pub waiting : Option Entry
   pub kept : IsKept keeping seen list waiting
 
--- whatever the disk tells: the current side stands as the last call left it, and a frame waits
--- exactly where an entry does
+-- whatever the disk tells: the current side stands as the last call left it, a frame waits exactly
+-- where an entry does, and the number of the last entry tells how many are sealed
 pub record IsReady (tells : Type 0) (keeping : Keeping) (size : ℕ) (disk : Standing) : Type 0 where
   pub stands : Stands tells keeping.log size disk
   pub begun : IsSome keeping.log.head
   pub waits : is_some keeping.waits ≡ is_some keeping.log.waiting
+  pub counted : keeping.rank.number ≡ length keeping.log.places
+  pub next : IfSome keeping.waits (λ rank. rank.number ≡ keeping.rank.number + 1)
   pub told : tells → KeepsSome keeping (disk.seen keeping.log.side)
 
 -- where the other side reads as blank, whatever a crash leaves of it is blank

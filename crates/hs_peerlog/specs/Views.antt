@@ -1,5 +1,5 @@
 -- A disk that is only read.
-use Rattle.std.specs.Prelude.{◌≡◌, ℕ, List, None, Some}
+use Rattle.std.specs.Prelude.{◌≡◌, ℕ, List, [], length, None, Some}
 use Rattle.hs_ports.specs.declared.disk.Side.{Side}
 use Rattle.hs_ports.specs.Disk.{Standing}
 use Rattle.hs_entry.specs.declared.entry.Entry.{Entry}
@@ -27,9 +27,12 @@ pub record HasSomeView (viewing : Viewing) (seen : Side → List ℕ) : Type 0 w
   pub list : List (ℕ × Entry)
   pub has : HasView viewing seen list
 
--- the disk stands as it was read: the side of the view is current, and all of both is on the medium
+-- the disk stands as it was read: the side of the view is current, and all of both is on the medium;
+-- whatever the disk tells, the number of the last entry tells how many there are
 pub record IsAsViewed (tells : Type 0) (viewing : Viewing) (size : ℕ) (disk : Standing) : Type 0 where
   pub stands : Stands tells viewing.log size disk
   pub rests : viewing.log.waiting ≡ None
+  pub counted : viewing.rank.number ≡ length viewing.log.places
+  pub empty : viewing.log.head ≡ None → viewing.log.places ≡ []
   pub alone : tells → IsAlone viewing.log.side disk
   pub told : tells → HasSomeView viewing disk.seen

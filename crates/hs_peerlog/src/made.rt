@@ -1,5 +1,5 @@
 //! The log of a side that was opened.
-ghost use Rattle.std.specs.Prelude.{◌≡◌, ◌≤◌, ◌≢◌, ℕ, List, None, Some, IsSome, IfOk, IfErr, unwrap_or};
+ghost use Rattle.std.specs.Prelude.{◌≡◌, ◌≤◌, [], ℕ, List, None, Some, IsSome, IfOk, IfErr, unwrap_or};
 ghost use Rattle.hs_entry.specs.declared.entry.Entry.{Entry};
 ghost use Rattle.hs_side.specs.Standing.{Stands};
 ghost use Rattle.hs_peerlog.specs.Caused.{IsCalm, IsCaused, IsOutside};
@@ -24,11 +24,13 @@ pub(crate) fn make_log<D: Disk>(
 ) -> Result<SideLog, LogFault>
     requires stands { Stands D.tells log (D.size disk.old log.side) (D.stands disk.old) }
     requires rests { log.waiting ≡ None }
+    requires empty { log.head ≡ None → log.places ≡ [] }
 
     ensures stands { IfOk result (λ made.
         Stands D.tells made (D.size disk.new made.side) (D.stands disk.new)) }
     ensures head { IfOk result (λ made. made.head ≡ Some (unwrap_or log.head (header, 1))) }
     ensures rests { IfOk result (λ made. made.waiting ≡ None) }
+    ensures places { IfOk result (λ made. made.places ≡ log.places) }
     ensures side { IfOk result (λ made. made.side ≡ log.side) }
     ensures list { D.tells → (list : List (ℕ × Entry))
         → HasOpened log ((D.stands disk.old).seen log.side) list

@@ -1,5 +1,5 @@
 //! Opening the log of a disk, without a write.
-ghost use Rattle.std.specs.Prelude.{◌≡◌, ◌≤◌, None, IfOk, IfErr, OnOk};
+ghost use Rattle.std.specs.Prelude.{◌≡◌, ◌≤◌, [], length, None, IfOk, IfErr, OnOk};
 ghost use Rattle.hs_ports.specs.declared.disk.Side.{Side};
 ghost use Rattle.hs_ports.specs.Disk.{settled};
 ghost use Rattle.hs_side.specs.Current.{current, header_in};
@@ -30,6 +30,8 @@ pub(crate) fn open_current<D: Disk>(
     ensures stands { IfOk result (λ x. Stands D.tells x.0
         (D.size disk.new x.0.side) (D.stands disk.new)) }
     ensures rests { IfOk result (λ x. x.0.waiting ≡ None) }
+    ensures counted { IfOk result (λ x. x.1.number ≡ length x.0.places) }
+    ensures empty { IfOk result (λ x. x.0.head ≡ None → x.0.places ≡ []) }
     ensures head { D.tells → IfOk result (λ x.
         x.0.head ≡ head_found shape peer (D.stands disk.old).seen) }
 

@@ -1,7 +1,7 @@
 -- One frame of a side: the tests of the code are those of the reading.
-use Rattle.std.proofs.Common.{◌≡◌, ◌∙◌, ℕ, ◌+◌, ◌<◌, ◌≤◌, ◌&&◌, Bool, true, false, cond, eqb, ltb, List, ◌∷◌, ◌++◌, length, take, drop, None, Some, Result, Ok, Err, IfOk, IfErr, refl, ap, sym, arith, append_assoc, length-drop, take-append-drop}
+use Rattle.std.proofs.Common.{◌≡◌, ◌∙◌, ℕ, ◌+◌, ◌<◌, ◌≤◌, ◌&&◌, Bool, true, false, cond, eqb, ltb, List, ◌∷◌, ◌++◌, length, take, drop, None, Some, Result, Ok, Err, IfOk, IfSome, IfErr, refl, ap, sym, arith, append_assoc, length-drop, take-append-drop}
 use Rattle.std.specs.Int.{w32, to_be_bytes}
-use Rattle.std.proofs.lemmas.Bool.{le-ltb, lt-ltb}
+use Rattle.std.proofs.lemmas.Bool.{eqb-true, le-ltb, lt-ltb}
 use Rattle.std.proofs.lemmas.List.{drop-drop, length-take-le}
 use Rattle.hs_entry.specs.declared.entry.Entry.{Entry}
 use Rattle.hs_entry.specs.declared.entry.Entry.TheVariants.{View, Block, Mark, Root, Drop, Enter, Got, Base, KeptBlock, KeptRoot, KeptRound}
@@ -152,6 +152,21 @@ memory_alone (entry_fault.Short at) = tt
 memory_alone (entry_fault.BadKind kind) = tt
 memory_alone (entry_fault.BadField at) = tt
 memory_alone (entry_fault.Trailing at) = tt
+
+-- what is answered is one above the last
+pub refused_above : (number : ℕ) (fault : EntryFault) → IfOk (refusal fault) (λ rank. IfSome rank (λ next. next.number ≡ number))
+refused_above number entry_fault.NoMemory = tt
+refused_above number (entry_fault.Short at) = tt
+refused_above number (entry_fault.BadKind kind) = tt
+refused_above number (entry_fault.BadField at) = tt
+refused_above number (entry_fault.Trailing at) = tt
+
+pub follows_above : (number : ℕ) (rank : Rank) → IfSome (cond (eqb rank.number number) (Some rank) None) (λ next. next.number ≡ number)
+follows_above number rank = go (eqb rank.number number) refl
+  where
+    go : (same : Bool) → eqb rank.number number ≡ same → IfSome (cond same (Some rank) None) (λ next. next.number ≡ number)
+    go true is = eqb-true rank.number number is
+    go false is = tt
 
 -- ---- the frame
 

@@ -1,6 +1,6 @@
 //! Reading one frame of a side.
 ghost use Rattle.hs_ports.specs.declared.disk.Side.{Side};
-ghost use Rattle.std.specs.Prelude.{◌≡◌, ◌<◌, ◌≤◌, ◌+◌, ◌++◌, ℕ, length, drop, IfOk, OnOk, OnErr, IfErr, None, Some, ◌==◌, if◌then◌else◌};
+ghost use Rattle.std.specs.Prelude.{◌≡◌, ◌<◌, ◌≤◌, ◌+◌, ◌++◌, ℕ, length, drop, IfOk, IfSome, OnOk, OnErr, IfErr, None, Some, ◌==◌, if◌then◌else◌};
 ghost use Rattle.std.specs.Int.{w32, from_be_bytes, to_be_bytes};
 ghost use Rattle.hs_side.specs.Caused.{IsCalm, IsCaused};
 ghost use Rattle.hs_side.specs.Steps.{IsGate, IsLength, IsPayload, IsNext, IsFrame, refusal};
@@ -125,6 +125,7 @@ pub(crate) fn read_payload<D: Disk>(
 /// of the rank `last`, or first where its number is 0. Only ordinary entries are read so far.
 fn next_rank(alloc: Global, last: Rank, payload: &[u8]) -> Result<Option<Rank>, SideFault>
     ensures exact { IfOk result (λ rank. IsNext rank last payload.now) }
+    ensures above { IfOk result (λ rank. IfSome rank (λ next. next.number ≡ last.number + 1)) }
     ensures memory { IfErr result (λ fault. fault ≡ SideFault.NoMemory) }
 {
     let rank = match read_rank(alloc, last, payload) {
@@ -171,6 +172,7 @@ pub(crate) fn read_frame<D: Disk>(
 
     ensures exact { D.tells →
         IsFrame result at last ((D.stands disk.old).seen side) held.new.items }
+    ensures above { IfOk result (λ rank. rank.number ≡ last.number + 1) }
     ensures short { OnOk result (length held.new.items ≤ MOST_PAYLOAD) }
     ensures within { OnOk result (at + 5 + length held.new.items ≤ size) }
 

@@ -69,6 +69,9 @@ impl SideLog {
             Stands D.tells x.0 (D.size disk.new side) (D.stands disk.new)) }
         ensures side { IfOk result (λ x. x.0.side ≡ side) }
         ensures rests { IfOk result (λ x. x.0.waiting ≡ None) }
+        // Of any disk: the last entry's number tells how many frames there are.
+        ensures counted { IfOk result (λ x. x.1.number ≡ length x.0.places) }
+        ensures empty { IfOk result (λ x. x.0.head ≡ None → x.0.places ≡ []) }
         ensures durable { D.tells → OnOk result ((D.stands disk.new).loose side
             ≡ settled ((D.stands disk.old).seen side)) }
 
@@ -118,6 +121,8 @@ fn read_log<D: Disk>(alloc: Global, disk: &mut D, side: Side) -> Result<(SideLog
     ensures room { IfOk result (λ x. HasRoom x.0 (D.size disk.old side)) }
     ensures side { IfOk result (λ x. x.0.side ≡ side) }
     ensures rests { IfOk result (λ x. x.0.waiting ≡ None) }
+    ensures counted { IfOk result (λ x. x.1.number ≡ length x.0.places) }
+    ensures empty { IfOk result (λ x. x.0.head ≡ None → x.0.places ≡ []) }
 
     ensures same_size { (s : Side) → D.size disk.new s ≡ D.size disk.old s }
     ensures same { D.tells → D.stands disk.new ≡ D.stands disk.old }
@@ -163,6 +168,7 @@ fn read_frames<D: Disk>(
         (λ x. record { places = x.0.items; end = x.1; rank = x.2 }) result
         ((D.stands disk.old).seen side) }
     ensures inside { IfOk result (λ x. x.1 < size) }
+    ensures counted { IfOk result (λ x. x.2.number ≡ length x.0.items) }
 
     ensures same_size { (s : Side) → D.size disk.new s ≡ D.size disk.old s }
     ensures same { D.tells → D.stands disk.new ≡ D.stands disk.old }

@@ -26,3 +26,8 @@ returns-clause-shown g c = λ told last alone.
     let none : c.args.log.head ≡ None = none-if c.args.log.head c.generation.result c.generation.ensures.some (sym c.is_some.ensures ∙ c.if-is_some.false) in
     let blank = blank-side g.D.Disk.tells c.args.log (g.D.Disk.size c.args.disk.now c.args.log.side) (g.D.Disk.stands c.args.disk.now) c.requires.stands told none in
     first-shown c.args.header (rw c.side.ensures at (c.format.ensures.any_moment told last)) last (g.met.D.Disk.since told c.args.disk.now) alone blank
+
+pub returns-clause-places : goal.returns-clause-places
+returns-clause-places g c =
+    let none : c.args.log.head ≡ None = none-if c.args.log.head c.generation.result c.generation.ensures.some (sym c.is_some.ensures ∙ c.if-is_some.false) in
+    ap (λ (k : SideState). k.places) c.in_ok-made.ensures.value ∙ sym (c.requires.empty none)

@@ -1,4 +1,4 @@
-use Rattle.std.proofs.Common.{◌≡◌, ◌∙◌, length, sym, subst, refl, Ok, Err, vec_len, arith}
+use Rattle.std.proofs.Common.{◌≡◌, ◌∙◌, ℕ, ◌+◌, List, [], ◌∷◌, length, length-append, ap, sym, subst, refl, Ok, Err, vec_len, arith}
 use Rattle.hs_ports.specs.Disk.{Standing}
 use Rattle.hs_side.specs.Steps.{IsGate, IsFrame, Scan}
 use Rattle.hs_side.proofs.ScanLemmas.{headed, scan_start, scan_more, scan_gate, scan_frame}
@@ -10,6 +10,7 @@ frames-init g c = record {
   same = λ told. refl;
   same_size = λ s. refl;
   calm = refl;
+  counted = sym (ap (λ (ps : List ℕ). length ps) c.new-places.ensures.items);
   scanned = λ told. scan_start _ c.new-places.result.items c.new-places.ensures.items;
 }
 
@@ -41,6 +42,7 @@ frames-preserved g c =
       same = λ told. c.read_frame.ensures.same told ∙ c.open_at.ensures.same told ∙ before.same told;
       same_size = λ s. c.read_frame.ensures.same_size s ∙ c.open_at.ensures.same_size s ∙ before.same_size s;
       calm = c.in-Ok-read_frame.ensures.calm ∙ c.in-Ok.ensures.calm ∙ before.calm;
+      counted = c.in-Ok-read_frame.ensures.above ∙ ap (λ n. n + 1) before.counted ∙ sym (length-append c.frames.places.items (c.frames.at ∷ [])) ∙ ap (λ (ps : List ℕ). length ps) (sym c.in_ok-push.ensures.items);
       scanned = λ told.
           let seen = (g.D.Disk.stands c.args.disk.now).seen c.args.side in
           let gate = subst (λ (d : Standing). IsGate (Ok c.in-Ok.opens) c.frames.at (d.seen c.args.side)) (before.same told) (c.in-Ok.ensures.exact told) in

@@ -1,4 +1,4 @@
-use Rattle.std.proofs.Common.{◌≡◌, ◌-◌}
+use Rattle.std.proofs.Common.{◌≡◌, ◌-◌, length}
 use Rattle.hs_ports.specs.declared.disk.Side.{Side}
 use Rattle.hs_side.specs.Steps.{Scanned}
 use Rattle.hs_side.proofs.open.read_frames.Given as goal
@@ -10,6 +10,7 @@ invariant-frames g l = record {
   same : g.D.Disk.tells → g.D.Disk.stands l.disk ≡ g.D.Disk.stands l.fn.disk;
   same_size : (s : Side) → g.D.Disk.size l.disk s ≡ g.D.Disk.size l.fn.disk s;
   calm : g.D.Disk.faults l.disk ≡ g.D.Disk.faults l.fn.disk;
+  counted : l.last.number ≡ length l.places.items;
   scanned : g.D.Disk.tells → Scanned ((g.D.Disk.stands l.fn.disk).seen l.side) l.at l.last l.places.items;
 }
 

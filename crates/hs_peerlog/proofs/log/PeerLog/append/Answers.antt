@@ -2,6 +2,7 @@ use Rattle.std.proofs.Common.{◌≡◌, ◌∙◌, ◌+◌, length, ap, sym, su
 use Rattle.hs_entry.specs.declared.rank.Rank.{Rank}
 use Rattle.hs_entry.specs.Entries.{rank_after}
 use Rattle.hs_entry.specs.Payload.{payload}
+use Rattle.hs_entry.proofs.RankLemmas.{rank_plain}
 use Rattle.hs_side.specs.Standing.{SideState, MayCome}
 use Rattle.hs_peerlog.specs.Images.{IsSole}
 use Rattle.hs_peerlog.specs.Lists.{IsBlankBeside, Keeping}
@@ -41,6 +42,8 @@ returns-clause-ready g c =
       stands = c.in_ok-append_entry.ensures.stands;
       begun = subst (λ (k : SideState). IsSome k.head) (sym value) c.requires.ready.begun;
       waits = sym (ap (λ (k : SideState). is_some k.waiting) value);
+      counted = ap (λ (r : Rank). r.number) rank ∙ c.requires.ready.counted ∙ sym (ap (λ (k : SideState). length k.places) value);
+      next = ap (λ (r : Rank). r.number) (c.after.ensures ∙ rank_plain c.self.inside.rank c.args.number c.args.entry.now (readable-ordinary c.args.entry.now c.requires.readable)) ∙ c.requires.next ∙ ap (λ (r : Rank). r.number + 1) (sym rank);
       told = λ told.
           let some = c.requires.ready.told told in
           record {

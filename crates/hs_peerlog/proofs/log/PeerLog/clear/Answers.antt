@@ -1,4 +1,4 @@
-use Rattle.std.proofs.Common.{ap, sym, refl, subst, [], None, IsSome, is_some}
+use Rattle.std.proofs.Common.{ap, sym, refl, subst, [], length, None, IsSome, is_some}
 use Rattle.hs_ports.specs.declared.disk.Side.TheVariants.{Zero, One}
 use Rattle.hs_side.specs.declared.header.Header.{Header}
 use Rattle.hs_side.specs.Standing.{SideState}
@@ -16,6 +16,8 @@ returns-clause-ready g c = record {
   stands = c.in-Ok.ensures.stands;
   begun = subst (λ (k : SideState). IsSome k.head) (sym c.in-Ok.ensures.value) refl;
   waits = ap (λ (k : SideState). is_some k.waiting) (sym c.in-Ok.ensures.value);
+  counted = ap (λ (k : SideState). length k.places) (sym c.in-Ok.ensures.value);
+  next = tt;
   told = λ told. record { list = []; waiting = None; kept = empty-kept _ _ (c.in-Ok.ensures.list told) refl refl };
 }
 

@@ -1,4 +1,4 @@
-use Rattle.std.proofs.Common.{◌≡◌, ◌∙◌, ap, sym, refl, subst, Some, None, IsSome, is_some}
+use Rattle.std.proofs.Common.{◌≡◌, ◌∙◌, ℕ, List, [], length, ap, sym, refl, subst, Some, None, IsSome, is_some}
 use Rattle.std.specs.Prelude.{unwrap_or}
 use Rattle.hs_side.specs.declared.header.Header.{Header}
 use Rattle.hs_side.specs.Headers.{own_header}
@@ -121,6 +121,8 @@ returns-clause-ready g c =
       stands = c.in-Ok-make_log.ensures.stands;
       begun = subst (λ h. IsSome h) (sym c.in-Ok-make_log.ensures.head) refl;
       waits = ap (λ o. is_some o) (sym c.in-Ok-make_log.ensures.rests);
+      counted = ap (λ (k : Viewing). k.rank.number) c.view.view_is ∙ c.requires.counted ∙ ap (λ (k : SideState). length k.places) is ∙ ap (λ (ps : List ℕ). length ps) (sym c.in-Ok-make_log.ensures.places);
+      next = tt;
       told = λ told.
           let some = c.requires.told told in
           let now = g.D.Disk.stands c.make_log.new.disk in
@@ -198,3 +200,8 @@ returns-clause-accepted g c = λ told.
     let stands = subst (λ (k : SideState). Stands g.D.Disk.tells k (g.D.Disk.size c.args.disk.now k.side) disk) is c.requires.stands in
     let some = c.requires.told told in
     view-accepted g.D.Disk.tells c.view.inside.log (g.D.Disk.size c.args.disk.now c.view.inside.log.side) disk stands told alone c.args.shape c.args.peer some.list some.has.listed c.in-Ok.ensures.own
+
+pub make_log-requires-clause-empty : goal.make_log-requires-clause-empty
+make_log-requires-clause-empty g c =
+    let is : c.args.view.log ≡ c.view.inside.log = sym (ap (λ (k : Viewing). k.log) c.view.view_is) in
+    subst (λ (k : SideState). k.head ≡ None → k.places ≡ []) is c.requires.empty

@@ -1,4 +1,4 @@
-use Rattle.std.proofs.Common.{◌≡◌, ◌∙◌, ap, sym, refl, subst, [], None, IsSome, is_some, false}
+use Rattle.std.proofs.Common.{◌≡◌, ◌∙◌, ap, sym, refl, subst, [], length, None, IsSome, is_some, false}
 use Rattle.hs_ports.specs.declared.disk.Side.{Side}
 use Rattle.hs_side.specs.Reading.{is_blank}
 use Rattle.hs_side.specs.Standing.{SideState}
@@ -132,6 +132,8 @@ returns-clause-ready g c = record {
   stands = c.in-Ok.ensures.stands;
   begun = subst (λ (k : SideState). IsSome k.head) (sym c.in-Ok.ensures.value) refl;
   waits = ap (λ (k : SideState). is_some k.waiting) (sym c.in-Ok.ensures.value);
+  counted = ap (λ (k : SideState). length k.places) (sym c.in-Ok.ensures.value);
+  next = tt;
   told = λ told. record { list = []; waiting = None; kept = empty-kept _ _ (c.in-Ok.ensures.list told) refl refl };
 }
 

@@ -1,4 +1,5 @@
-use Rattle.std.proofs.Common.{◌≡◌, ◌∙◌, ◌+◌, ap, sym, refl, subst, None, Some, IsSome, is_some}
+use Rattle.std.proofs.Common.{◌≡◌, ◌∙◌, ℕ, ◌+◌, List, [], ◌∷◌, length, length-append, ap, sym, refl, subst, Option, None, Some, IfSome, IsSome, is_some}
+use Rattle.hs_entry.specs.declared.rank.Rank.{Rank}
 use Rattle.hs_peerlog.specs.Images.{IsSole}
 use Rattle.hs_peerlog.specs.Lists.{IsBlankBeside, Keeping, last_of, with_waiting}
 use Rattle.hs_peerlog.proofs.AppendedLemmas.{seal-header}
@@ -28,6 +29,9 @@ returns-clause-ready g c =
       stands = c.in_ok-seal.ensures.stands;
       begun = subst (λ h. IsSome h) (sym is.head) c.requires.ready.begun;
       waits = ap (λ o. is_some o) (sym is.rests);
+      counted = subst (λ (o : Option Rank). IfSome o (λ r. r.number ≡ c.args.self.now.rank.number + 1)) waits c.requires.ready.next
+          ∙ ap (λ n. n + 1) c.requires.ready.counted ∙ sym (length-append c.args.self.now.log.places (c.args.self.now.log.end ∷ [])) ∙ sym (ap (λ (ps : List ℕ). length ps) is.places);
+      next = tt;
       told = λ told.
           let some = c.requires.ready.told told in
           let kept = some-waits c.args.self.now _ some c.requires.waits in

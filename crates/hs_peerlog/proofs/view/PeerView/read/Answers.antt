@@ -31,6 +31,8 @@ returns-clause-as_viewed g c =
     record {
       stands = c.in-Ok.ensures.stands;
       rests = c.in-Ok.ensures.rests;
+      counted = c.in-Ok.ensures.counted;
+      empty = c.in-Ok.ensures.empty;
       alone = λ told. open-alone log.side a e (λ s. c.in-Ok.ensures.durable told s) (c.open_current.ensures.same told) (c.in-Ok.ensures.value told).side;
       told = λ told.
           let same = c.open_current.ensures.same told in

@@ -1,4 +1,4 @@
-use Rattle.std.proofs.Common.{◌≡◌, ◌∙◌, ℕ, drop, length, ap, subst, arith}
+use Rattle.std.proofs.Common.{◌≡◌, ◌∙◌, drop, length, ap, subst, arith}
 use Rattle.hs_ports.specs.Disk.{Standing}
 use Rattle.hs_side.specs.Standing.{SideState}
 use Rattle.hs_side.specs.Steps.{IsPayload}
