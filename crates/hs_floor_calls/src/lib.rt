@@ -7,6 +7,8 @@ mod counted;
 #[cfg(test)]
 mod lists;
 #[cfg(test)]
+mod notes;
+#[cfg(test)]
 mod peer_log;
 #[cfg(test)]
 mod plans;
