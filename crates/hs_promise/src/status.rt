@@ -35,8 +35,8 @@ pub enum Status {
     Mismatch {
         session: Name,
         place: u64,
-        told: Told,
-        kept: Told,
+        told: Box<Told>,
+        kept: Box<Told>,
     },
     /// The journal can't take the entries of the next event.
     OpsFull,
