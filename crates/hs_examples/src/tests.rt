@@ -1,7 +1,7 @@
 //! The calls of the top at concrete types, where no case makes them.
 use hs_block::ShaNames;
 use hs_limits::{Address, Key, ListOf, Name};
-use hs_model::{Deed, Reply};
+use hs_model::Reply;
 use hs_ports::{ListSink, ListSource, MemoryDisk, Watch};
 use hs_promise::{Status, Told};
 use hs_top::{exit_code, fault_line, hydra, shape_of};
@@ -60,8 +60,8 @@ fn statuses_that_no_case_reaches_have_their_code_and_their_line(
             Status::Mismatch {
                 session,
                 place: 0,
-                told: Told::Absent,
-                kept: Told::Item(0, Deed::Nothing, Reply::Ok),
+                told: Box::new(rt.alloc(), Told::Absent)?,
+                kept: Box::new(rt.alloc(), Told::Absent)?,
             },
             9,
             "hydra: a writer's answer differs from the journal\n",
