@@ -11,7 +11,7 @@ use hs_peerlog::PeerView;
 use std::alloc::{AllocError, Global};
 
 /// The ranks of the lists of some views.
-pub(crate) fn ranks_of(
+pub fn ranks_of(
     alloc: Global,
     views: &[Option<PeerView>],
 ) -> Result<Vec<Option<Rank>>, AllocError>
@@ -38,7 +38,7 @@ fn rank_of(view: &Option<PeerView>) -> Option<Rank>
 /// The peer whose log a shard opens with: that of greatest rank, of equals the lowest. Where no peer
 /// of the shard has a log it is the first.
 #[tactic(auto, using(crate::proofs::ChoiceLemmas::shard_within, crate::proofs::ChoiceLemmas::chosen_within))]
-pub(crate) fn taken_peer(ranks: &[Option<Rank>], shape: Shape, shard: u8) -> u8
+pub fn taken_peer(ranks: &[Option<Rank>], shape: Shape, shard: u8) -> u8
     requires shape { IsShape shape }
     requires shard { shard < shape.shards }
     requires ranks { length ranks.now ≡ shape.shards * shape.copies }

@@ -9,6 +9,9 @@ mod store;
 mod taking;
 mod viewing;
 
+pub use choosing::{ranks_of, taken_peer};
 pub use fault::TakeFault;
+pub use loading::{Loaded, load};
 pub use shares::{Share, Taking};
 pub use store::read_store;
+pub use viewing::view_all;

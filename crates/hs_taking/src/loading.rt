@@ -21,15 +21,15 @@ use std::alloc::Global;
 
 /// What a list amounts to: the catalogue of its shard, and its rank.
 #[derive(Drop)]
-pub(crate) struct Loaded {
-    pub(crate) catalogue: Catalogue,
-    pub(crate) rank: Rank,
+pub struct Loaded {
+    pub catalogue: Catalogue,
+    pub rank: Rank,
 }
 
 /// Applies the entries of a view, one after another; no more than one is held. What is read under a
 /// number that is no entry of it makes the disk no log: a disk that tells its contents never gives
 /// that. An entry that its catalogue can't take counts as want of memory.
-pub(crate) fn load<A: Addresser, D: Disk>(
+pub fn load<A: Addresser, D: Disk>(
     alloc: Global,
     naming: &A,
     view: &PeerView,

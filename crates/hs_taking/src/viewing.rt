@@ -12,7 +12,7 @@ use std::alloc::Global;
 
 /// Reads the disk of each peer, and writes none: a view of its log, and None where the disk failed or
 /// is no log. A disk of another store, or of another peer, ends it: the first one whose count stands.
-pub(crate) fn view_all<D: Disk>(
+pub fn view_all<D: Disk>(
     alloc: Global,
     disks: &mut [D],
     watch: &mut Watch,
