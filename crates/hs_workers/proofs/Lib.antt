@@ -1,0 +1,4 @@
+pub mod AskLemmas
+pub mod DeltaLemmas
+pub mod ElementLemmas
+pub mod WorkLemmas
