@@ -1,8 +1,8 @@
 -- Operations asked one after another.
-use Rattle.std.proofs.Common.{◌≡◌, ℕ, ◌+◌, List, [], ◌∷◌, ◌++◌, map, length, drop, Option, Some, None, Result, Ok, Err, refl, sym, ap, subst, append_assoc, ◌∙◌}
+use Rattle.std.proofs.Common.{◌≡◌, ◌<◌, ℕ, ◌+◌, Bool, cond, true, arith, List, [], ◌∷◌, ◌++◌, length, drop, Option, Some, None, Result, Ok, Err, refl, sym, ap, subst, append_assoc, ◌∙◌}
 use Rattle.std.proofs.lemmas.List.{append-nil}
 use Rattle.std.proofs.lemmas.List.Sums.{fold-append}
-use Rattle.std.specs.Prelude.{fold}
+use Rattle.std.specs.Prelude.{fold, nat_lt, ⊤}
 use Rattle.hs_limits.specs.declared.address.Held.{Held}
 use Rattle.hs_model.specs.Deed.{deed_of}
 use Rattle.hs_model.specs.Judge.{asked_of}
@@ -20,9 +20,11 @@ use Rattle.hs_workers.specs.declared.fault.WorkFault.TheVariants as fault
 follow_on : (next : List Reply → Option Op) (replies : List Reply) (h k m : List Held) (xs ys : List Item)
     → Follow next replies h xs k → Follow next (replies ++ replies_of xs) k ys m → Follow next replies h (xs ++ ys) m
 follow_on next replies h k m [] ys one two = subst (λ (r : List Reply). Follow next r h ys m) (append-nil replies) (subst (λ (x : List Held). Follow next (replies ++ []) x ys m) one two)
-follow_on next replies h k m (x ∷ xs) ys one two =
-    (one.0, follow_on next (replies ++ x.2 ∷ []) (held_behind h (next replies) x.2) k m xs ys one.1
-    (subst (λ (r : List Reply). Follow next r k ys m) (sym (append_assoc replies (x.2 ∷ []) (replies_of xs))) two))
+follow_on next replies h k m (x ∷ xs) ys one two = (
+  one.0,
+  follow_on next (replies ++ x.2 ∷ []) (held_behind h (next replies) x.2) k m xs ys one.1
+      (subst (λ (r : List Reply). Follow next r k ys m) (sym (append_assoc replies (x.2 ∷ []) (replies_of xs))) two),
+)
 
 pub asks_none : (next : List Reply → Option Op) (a : Token) → Asks next a a []
 asks_none next a = record { answers = refl; kept = sym (append-nil a.kept); session = refl }
@@ -31,16 +33,21 @@ asks_none next a = record { answers = refl; kept = sym (append-nil a.kept); sess
 pub asks_more : (next : List Reply → Option Op) (a b c : Token) (items : List Item) (o : Op) (reply : Reply)
     → Asks next a b items → next (replies_of items) ≡ Some o → HasAsked o b c (Ok reply)
     → (place : ℕ) × Asks next a c (items ++ (place, deed_of b.held (asked_of o) reply, reply) ∷ [])
-asks_more next a b c items o reply one is did = (did.1, record {
-  answers = follow_on next [] a.held b.held c.held items (item ∷ []) one.answers (answer, held);
-  kept = ap (λ (t : Token). t.kept) did.2 ∙ (ap (λ (xs : List Item). xs ++ item ∷ []) one.kept ∙ append_assoc a.kept items (item ∷ []));
-  session = ap (λ (t : Token). t.session) did.2 ∙ one.session;
-})
+asks_more next a b c items o reply one is did = (
+  did.1,
+  record {
+    answers = follow_on next [] a.held b.held c.held items (item ∷ []) one.answers (answer, held);
+    kept = ap (λ (t : Token). t.kept) did.2 ∙ (ap (λ (xs : List Item). xs ++ item ∷ []) one.kept ∙ append_assoc a.kept items (item ∷ []));
+    session = ap (λ (t : Token). t.session) did.2 ∙ one.session;
+  },
+)
   where
     item : Item
     item = (did.1, deed_of b.held (asked_of o) reply, reply)
+
     answer : Answers b.held (next (replies_of items)) item
     answer = subst (λ (x : Option Op). Answers b.held x item) (sym is) refl
+
     held : c.held ≡ held_behind b.held (next (replies_of items)) reply
     held = ap (λ (t : Token). t.held) did.2 ∙ sym (ap (λ (x : Option Op). held_behind b.held x reply) is)
 
@@ -95,10 +102,17 @@ stands_more w a b c s o asks reply one is had was =
       calm = ap (λ (t : Token). t.fault) did.2 ∙ one.calm;
     }
 
--- what was not answered ends a writer's work
+pub stands_stage : (w : Writer) (a b : Token) (s t : Stage) → t ≡ s → Stands w a b s → Stands w a b t
+stands_stage w a b s t is one = subst (λ (x : Stage). Stands w a b x) (sym is) one
+
+-- a want of memory ends a writer's work
+pub stands_memory : {T : Type 0} (w : Writer) (a b : Token) (s : Stage) (result : Result T WorkFault) → Stands w a b s → result ≡ Err fault.NoMemory → HasEnded (asked_behind w) a b result
+stands_memory {T} w a b s result one out = subst (λ (x : Result T WorkFault). HasEnded (asked_behind w) a b x) (sym out) (record { items = one.items; asked = one.asked }, tt)
+
+-- so does what was not answered
 pub stands_left : (w : Writer) (a b c : Token) (s : Stage) (o : Op) (asks : Result Reply WorkFault) (why : WorkFault)
-    → Stands w a b s → HasAsked o b c asks → asks ≡ Err why → AsksSome (asked_behind w) a c × HasFault c why
-stands_left w a b c s o asks why one had was = left_some (asked_behind w) a b c one.items why one.asked (subst (λ (x : Result Reply WorkFault). HasAsked o b c x) was had)
+    → (result : Result ⊤ WorkFault) → Stands w a b s → HasAsked o b c asks → asks ≡ Err why → result ≡ Err why → HasEnded (asked_behind w) a c result
+stands_left w a b c s o asks why result one had was out = subst (λ (x : Result ⊤ WorkFault). HasEnded (asked_behind w) a c x) (sym out) (left_some (asked_behind w) a b c one.items why one.asked (subst (λ (x : Result Reply WorkFault). HasAsked o b c x) was had))
 
 pub stands_some : (w : Writer) (a b : Token) (s : Stage) → Stands w a b s → AsksSome (asked_behind w) a b
 stands_some w a b s one = record { items = one.items; asked = one.asked }
@@ -118,6 +132,11 @@ pub record Deletes (a b : Token) (count : ℕ) : Type 0 where
 pub deletes_first : (a : Token) → a.asked ≡ None → Deletes a a 0
 deletes_first a rests = record { items = []; asked = asks_none deletion_behind a; at = refl; rests = rests; calm = refl }
 
+pub one_of_four : (count : ℕ) → count < 4 → deletion_asked count ≡ Some op.Delete
+one_of_four count below =
+    let is : nat_lt count 4 ≡ true = grind arith in
+    ap (λ (b : Bool). cond b (Some op.Delete) None) is
+
 pub deletes_more : (a b c : Token) (count : ℕ) (asks : Result Reply WorkFault) (reply : Reply)
     → Deletes a b count → deletion_asked count ≡ Some op.Delete → HasAsked op.Delete b c asks → asks ≡ Ok reply → Deletes a c (count + 1)
 deletes_more a b c count asks reply one is had was =
@@ -133,8 +152,8 @@ deletes_more a b c count asks reply one is had was =
     }
 
 pub deletes_left : (a b c : Token) (count : ℕ) (asks : Result Reply WorkFault) (why : WorkFault)
-    → Deletes a b count → HasAsked op.Delete b c asks → asks ≡ Err why → AsksSome deletion_behind a c × HasFault c why
-deletes_left a b c count asks why one had was = left_some deletion_behind a b c one.items why one.asked (subst (λ (x : Result Reply WorkFault). HasAsked op.Delete b c x) was had)
+    → (result : Result ⊤ WorkFault) → Deletes a b count → HasAsked op.Delete b c asks → asks ≡ Err why → result ≡ Err why → HasEnded deletion_behind a c result
+deletes_left a b c count asks why result one had was out = subst (λ (x : Result ⊤ WorkFault). HasEnded deletion_behind a c x) (sym out) (left_some deletion_behind a b c one.items why one.asked (subst (λ (x : Result Reply WorkFault). HasAsked op.Delete b c x) was had))
 
 pub deletes_all : (a b : Token) (count : ℕ) → Deletes a b count → count ≡ 4 → AsksAll deletion_behind a b
 deletes_all a b count one four = record { items = one.items; asked = one.asked; rests = one.rests; calm = one.calm; none = ap (λ (n : ℕ). deletion_asked n) (one.at ∙ four) }

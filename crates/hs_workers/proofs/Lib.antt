@@ -1,4 +1,4 @@
 pub mod AskLemmas
 pub mod DeltaLemmas
-pub mod ElementLemmas
+pub mod StageLemmas
 pub mod WorkLemmas

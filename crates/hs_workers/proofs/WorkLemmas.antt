@@ -1,9 +1,9 @@
 -- What single jobs do, and jobs one after another.
-use Rattle.std.proofs.Common.{◌≡◌, ◌≤◌, ◌<◌, zero, suc, ℕ, ◌+◌, Bool, cond, ◌==◌, true, false, not, List, [], ◌∷◌, ◌++◌, length, map, Option, Some, None, Result, Ok, Err, IfSome, IsSome, refl, sym, ap, subst, arith, append_assoc, length-append, ◌∙◌, inl, inr}
+use Rattle.std.proofs.Common.{◌≡◌, ◌≤◌, zero, suc, ℕ, ◌+◌, Bool, cond, ◌==◌, true, false, not, List, [], ◌∷◌, ◌++◌, length, map, Option, Some, None, Result, Ok, Err, IfSome, IsSome, refl, sym, ap, subst, arith, append_assoc, length-append, ◌∙◌, inl, inr}
 use Rattle.std.proofs.lemmas.List.{append-nil}
 use Rattle.std.proofs.lemmas.List.Elements.{All-append}
 use Rattle.std.specs.List.{range_with_len}
-use Rattle.std.specs.Prelude.{All, get_or, if◌then◌else◌}
+use Rattle.std.specs.Prelude.{All, get_or}
 use Rattle.hs_entry.specs.declared.entry.Entry.{Entry}
 use Rattle.hs_entry.specs.declared.entry.Entry.TheVariants as entry
 use Rattle.hs_entry.specs.declared.rank.Rank.{Rank}
@@ -17,7 +17,7 @@ use Rattle.hs_desk.specs.declared.job.Job.TheVariants as job
 use Rattle.hs_desk.specs.declared.job.Work.{Work}
 use Rattle.hs_desk.specs.declared.job.Work.TheVariants as work
 use Rattle.hs_desk.specs.declared.slip.Slip.{Slip}
-use Rattle.hs_workers.specs.Work.{Bench, Came, Ends, GivesJob, GoesOn, Grows, GrowsAndFails, GrowsAndStops, Has, HasBlock, HasDone, IsInPlace, IsRefused, Stops, Working, is_failed, next_to_seal, told_of}
+use Rattle.hs_workers.specs.Work.{Bench, Came, Ends, GivesJob, GoesOn, Grows, GrowsAndStops, Has, HasBlock, HasDone, IsInPlace, IsRefused, Stops, Working, is_failed, next_to_seal, told_of}
 use Rattle.hs_workers.specs.declared.fault.WorkFault.{WorkFault}
 use Rattle.hs_workers.specs.declared.fault.WorkFault.TheVariants as fault
 
@@ -112,6 +112,7 @@ sealed_one tells a b number (Some r) is here some next rank calm list = record {
   where
     one : number ≡ a.log.rank.number + 1
     one = here ∙ (rw is next)
+
     on : tells → (l : List (ℕ × Entry)) (waiting : Option Entry) → Has a l waiting → GoesOn b l (number ∷ []) []
     on told l None has = absurd (let h = has.waits in cc (is, h))
     on told l (Some w) has = record {
@@ -132,20 +133,23 @@ pub read_done : (tells : Type 0) (a b : Bench) (n : ℕ) (e : Entry)
     → (tells → (list : List (ℕ × Entry)) (waiting : Option Entry) → Has a list waiting → numbered_entry list n ≡ Some e)
     → HasDone tells a b (told_of n e)
 unfolding told_of
-read_done tells a b n (entry.View view) log calm disk told = stays tells a b [] log calm disk (λ t l w has. shows_none l)
+read_done tells a b n (entry.View view) log calm disk told = (stays tells a b [] log calm disk (λ t l w has. shows_none l), λ t l w has bytes shown. cc (told t l w has, shown.entry))
 read_done tells a b n (entry.Block op least bytes) log calm disk told = stays tells a b ((n, bytes) ∷ []) log calm disk (λ t l w has. shows_one l n op least bytes (told t l w has))
-read_done tells a b n (entry.Mark op least block address) log calm disk told = stays tells a b [] log calm disk (λ t l w has. shows_none l)
-read_done tells a b n (entry.Root op held address key) log calm disk told = stays tells a b [] log calm disk (λ t l w has. shows_none l)
-read_done tells a b n (entry.Drop op key) log calm disk told = stays tells a b [] log calm disk (λ t l w has. shows_none l)
-read_done tells a b n (entry.Enter op epoch) log calm disk told = stays tells a b [] log calm disk (λ t l w has. shows_none l)
-read_done tells a b n (entry.Got sender epoch round total deltas) log calm disk told = stays tells a b [] log calm disk (λ t l w has. shows_none l)
-read_done tells a b n (entry.Base view epoch swept round frames) log calm disk told = stays tells a b [] log calm disk (λ t l w has. shows_none l)
-read_done tells a b n (entry.KeptBlock born mark flags count bytes) log calm disk told = stays tells a b [] log calm disk (λ t l w has. shows_none l)
-read_done tells a b n (entry.KeptRoot created dropped counted address key) log calm disk told = stays tells a b [] log calm disk (λ t l w has. shows_none l)
-read_done tells a b n (entry.KeptRound way other epoch round total deltas) log calm disk told = stays tells a b [] log calm disk (λ t l w has. shows_none l)
+read_done tells a b n (entry.Mark op least block address) log calm disk told = (stays tells a b [] log calm disk (λ t l w has. shows_none l), λ t l w has bytes shown. cc (told t l w has, shown.entry))
+read_done tells a b n (entry.Root op held address key) log calm disk told = (stays tells a b [] log calm disk (λ t l w has. shows_none l), λ t l w has bytes shown. cc (told t l w has, shown.entry))
+read_done tells a b n (entry.Drop op key) log calm disk told = (stays tells a b [] log calm disk (λ t l w has. shows_none l), λ t l w has bytes shown. cc (told t l w has, shown.entry))
+read_done tells a b n (entry.Enter op epoch) log calm disk told = (stays tells a b [] log calm disk (λ t l w has. shows_none l), λ t l w has bytes shown. cc (told t l w has, shown.entry))
+read_done tells a b n (entry.Got sender epoch round total deltas) log calm disk told = (stays tells a b [] log calm disk (λ t l w has. shows_none l), λ t l w has bytes shown. cc (told t l w has, shown.entry))
+read_done tells a b n (entry.Base view epoch swept round frames) log calm disk told = (stays tells a b [] log calm disk (λ t l w has. shows_none l), λ t l w has bytes shown. cc (told t l w has, shown.entry))
+read_done tells a b n (entry.KeptBlock born mark flags count bytes) log calm disk told = (stays tells a b [] log calm disk (λ t l w has. shows_none l), λ t l w has bytes shown. cc (told t l w has, shown.entry))
+read_done tells a b n (entry.KeptRoot created dropped counted address key) log calm disk told = (stays tells a b [] log calm disk (λ t l w has. shows_none l), λ t l w has bytes shown. cc (told t l w has, shown.entry))
+read_done tells a b n (entry.KeptRound way other epoch round total deltas) log calm disk told = (stays tells a b [] log calm disk (λ t l w has. shows_none l), λ t l w has bytes shown. cc (told t l w has, shown.entry))
 
-pub gone_done : (tells : Type 0) (a b : Bench) → b.log ≡ a.log → b.faults ≡ a.faults → (tells → b.disk ≡ a.disk) → Working tells a b [] []
-gone_done tells a b log calm disk = stays tells a b [] log calm disk (λ t l w has. shows_none l)
+-- no entry of that number is kept
+pub gone_done : (tells : Type 0) (a b : Bench) (n : ℕ) → b.log ≡ a.log → b.faults ≡ a.faults → (tells → b.disk ≡ a.disk)
+    → (tells → (list : List (ℕ × Entry)) (waiting : Option Entry) → Has a list waiting → numbered_entry list n ≡ None)
+    → HasDone tells a b (done.Gone n)
+gone_done tells a b n log calm disk told = (stays tells a b [] log calm disk (λ t l w has. shows_none l), λ t l w has bytes shown. cc (told t l w has, shown.entry))
 
 -- ---- jobs one after another
 
@@ -168,6 +172,7 @@ working_more tells a b c stored more shown further one two = record {
         ap (λ (xs : List ℕ). xs ++ more) one.numbers
         ∙ (ap (λ (xs : List ℕ). range_with_len n (length stored) ++ xs) (two.numbers ∙ ap (λ (k : ℕ). range_with_len k (length more)) at)
         ∙ (sym (range_on n (length stored) (length more)) ∙ ap (λ (k : ℕ). range_with_len n k) (sym (length-append stored more))))
+
     on : tells → (l : List (ℕ × Entry)) (waiting : Option Entry) → Has a l waiting → GoesOn c l (stored ++ more) (shown ++ further)
     on told l waiting has =
         let first : GoesOn b l stored shown = one.list told l waiting has in
@@ -210,20 +215,23 @@ pub came : (tells : Type 0) (slip slip' : Slip) (a b : Bench) (d : Done) → sli
 came tells slip slip' a b (done.Stored number) noted did place later = (ap (λ (s : Slip). s.fault) noted, (record { stored = []; shown = []; peer = ap (λ (s : Slip). s.peer) noted; noted_stored = ap (λ (s : Slip). s.stored) noted; noted_shown = ap (λ (s : Slip). s.shown) noted; done = did }, place refl))
 came tells slip slip' a b (done.Sealed number) noted did place later = (ap (λ (s : Slip). s.fault) noted, (record { stored = number ∷ []; shown = []; peer = ap (λ (s : Slip). s.peer) noted; noted_stored = ap (λ (s : Slip). s.stored) noted; noted_shown = ap (λ (s : Slip). s.shown) noted; done = did }, place refl))
 came tells slip slip' a b (done.Bytes number bytes) noted did place later = (ap (λ (s : Slip). s.fault) noted, (record { stored = []; shown = (number, bytes) ∷ []; peer = ap (λ (s : Slip). s.peer) noted; noted_stored = ap (λ (s : Slip). s.stored) noted; noted_shown = ap (λ (s : Slip). s.shown) noted; done = did }, place refl))
-came tells slip slip' a b (done.Gone number) noted did place later = (ap (λ (s : Slip). s.fault) noted, (record { stored = []; shown = []; peer = ap (λ (s : Slip). s.peer) noted; noted_stored = ap (λ (s : Slip). s.stored) noted; noted_shown = ap (λ (s : Slip). s.shown) noted; done = did }, place refl))
+came tells slip slip' a b (done.Gone number) noted did place later = (ap (λ (s : Slip). s.fault) noted, (record { stored = []; shown = []; peer = ap (λ (s : Slip). s.peer) noted; noted_stored = ap (λ (s : Slip). s.stored) noted; noted_shown = ap (λ (s : Slip). s.shown) noted; done = did.0 }, place refl))
 came tells slip slip' a b done.Emptied noted did place later = absurd did
 came tells slip slip' a b (done.Copied number) noted did place later = absurd did
 came tells slip slip' a b (done.Stepped switched) noted did place later = absurd did
-came tells slip slip' a b (done.Failed disk) noted did place later = (ap (λ (s : Slip). s.fault) noted, record {
-  before = slip;
-  between = a;
-  grows = grows_none tells slip slip a refl refl refl;
-  peer = ap (λ (s : Slip). s.peer) noted;
-  stored = ap (λ (s : Slip). s.stored) noted;
-  shown = ap (λ (s : Slip). s.shown) noted ∙ append-nil slip.shown;
-  later = later;
-  cause = did;
-})
+came tells slip slip' a b (done.Failed disk) noted did place later = (
+  ap (λ (s : Slip). s.fault) noted,
+  record {
+    before = slip;
+    between = a;
+    grows = grows_none tells slip slip a refl refl refl;
+    peer = ap (λ (s : Slip). s.peer) noted;
+    stored = ap (λ (s : Slip). s.stored) noted;
+    shown = ap (λ (s : Slip). s.shown) noted ∙ append-nil slip.shown;
+    later = later;
+    cause = did;
+  },
+)
 
 own_work : (j : Job) → is_own_job j ≡ true → (w : Work) × (work_of j ≡ Some w)
 own_work (job.Append number entry) own = (work.Append number, refl)
@@ -281,8 +289,9 @@ goes_none tells slip a place = record { grows = grows_none tells slip slip a ref
 
 -- one job more
 pub goes_more : (tells : Type 0) (s t u v : Slip) (a b c : Bench) (given : Result (Option Job) WorkFault) (j : Job) → Goes tells s t a b → GivesJob t u given → given ≡ Ok (Some j)
-    → Came tells u v b c true → Goes tells s v a c
-goes_more tells s t u v a b c given j goes gives is did =
+    → (on : Bool) → on ≡ true → Came tells u v b c on → Goes tells s v a c
+goes_more tells s t u v a b c given j goes gives is on goes_on came_on =
+    let did : Came tells u v b c true = subst (λ (x : Bool). Came tells u v b c x) goes_on came_on in
     let gave : GivesJob t u (Ok (Some j)) = subst (λ (x : Result (Option Job) WorkFault). GivesJob t u x) is gives in
     record {
       grows = grows_more tells s u v a b c (grows_more tells s t u a b b goes.grows (given_grows tells t u b (Ok (Some j)) gave)) did.1.0;
@@ -292,29 +301,32 @@ goes_more tells s t u v a b c given j goes gives is did =
 
 -- its disk failed
 pub ends_failed : (tells : Type 0) (s t u v : Slip) (a b c : Bench) (given : Result (Option Job) WorkFault) (j : Job) → Goes tells s t a b → GivesJob t u given → given ≡ Ok (Some j)
-    → Came tells u v b c false → Ends tells s v a c (Ok tt)
-ends_failed tells s t u v a b c given j goes gives is did =
+    → (on : Bool) → on ≡ false → Came tells u v b c on → Ends tells s v a c (Ok tt)
+ends_failed tells s t u v a b c given j goes gives is on fails_on came_on =
+    let did : Came tells u v b c false = subst (λ (x : Bool). Came tells u v b c x) fails_on came_on in
     let gave : GivesJob t u (Ok (Some j)) = subst (λ (x : Result (Option Job) WorkFault). GivesJob t u x) is gives in
-    let fails = did.1 in
-    (did.0 ∙ (ap (λ (x : Slip). x.fault) gave.0 ∙ goes.calm),
-    inr (record {
-      before = fails.before;
-      between = fails.between;
-      grows = grows_more tells s u fails.before a b fails.between (grows_more tells s t u a b b goes.grows (given_grows tells t u b (Ok (Some j)) gave)) fails.grows;
-      peer = fails.peer;
-      stored = fails.stored;
-      shown = fails.shown;
-      later = fails.later;
-      cause = fails.cause;
-    }))
+    let fails = did.1 in (
+      did.0 ∙ (ap (λ (x : Slip). x.fault) gave.0 ∙ goes.calm),
+      inr (record {
+        before = fails.before;
+        between = fails.between;
+        grows = grows_more tells s u fails.before a b fails.between (grows_more tells s t u a b b goes.grows (given_grows tells t u b (Ok (Some j)) gave)) fails.grows;
+        peer = fails.peer;
+        stored = fails.stored;
+        shown = fails.shown;
+        later = fails.later;
+        cause = fails.cause;
+      }),
+    )
 
 -- it is idle
 pub ends_idle : (tells : Type 0) (s t u : Slip) (a b : Bench) (given : Result (Option Job) WorkFault) → Goes tells s t a b → GivesJob t u given → given ≡ Ok None
     → b.log.waits ≡ None → Ends tells s u a b (Ok tt)
 ends_idle tells s t u a b given goes gives is sealed =
-    let gave : GivesJob t u (Ok None) = subst (λ (x : Result (Option Job) WorkFault). GivesJob t u x) is gives in
-    (ap (λ (x : Slip). x.fault) gave ∙ goes.calm,
-    inl (grows_more tells s t u a b b goes.grows (given_grows tells t u b (Ok None) gave), record { idle = ap (λ (x : Slip). x.idle) gave; sealed = sealed; in_place = goes.in_place }))
+    let gave : GivesJob t u (Ok None) = subst (λ (x : Result (Option Job) WorkFault). GivesJob t u x) is gives in (
+      ap (λ (x : Slip). x.fault) gave ∙ goes.calm,
+      inl (grows_more tells s t u a b b goes.grows (given_grows tells t u b (Ok None) gave), record { idle = ap (λ (x : Slip). x.idle) gave; sealed = sealed; in_place = goes.in_place }),
+    )
 
 -- it is idle, and an entry waits
 pub ends_waiting : (tells : Type 0) (s t u : Slip) (a b : Bench) (given : Result (Option Job) WorkFault) → Goes tells s t a b → GivesJob t u given

@@ -30,4 +30,9 @@ module _ {S P D : Type 0} (seat : S → Slip) (pass : P → Token) (tells : Type
         × HasEnded (asked_behind (writer_of name seed a.number files)) (pass a.pass) (pass b.pass) b.ended
         × IfOk b.ended (λ sum. sum ≡ sum_of (drop (length (pass a.pass).kept) (pass b.pass).kept))
     HasCome (element.Deleter a) (element.Deleter b) = HasEnded deletion_behind (pass a.pass) (pass b.pass) b.ended
-    HasCome a b = ⊥
+    HasCome (element.Worker a) (element.Writer b) = ⊥
+    HasCome (element.Worker a) (element.Deleter b) = ⊥
+    HasCome (element.Writer a) (element.Worker b) = ⊥
+    HasCome (element.Writer a) (element.Deleter b) = ⊥
+    HasCome (element.Deleter a) (element.Worker b) = ⊥
+    HasCome (element.Deleter a) (element.Writer b) = ⊥

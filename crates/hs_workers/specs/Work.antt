@@ -82,6 +82,10 @@ pub record HasBlock (list : List (ℕ × Entry)) (pair : ℕ × List ℕ) : Type
   pub least : ℕ
   pub entry : numbered_entry list pair.0 ≡ Some (entry.Block op least pair.1)
 
+-- the list has no entry of this number, or none with a block
+abbrev pub LacksBlock : List (ℕ × Entry) → ℕ → Type 0
+LacksBlock list number = (bytes : List ℕ) → HasBlock list (number, bytes) → ⊥
+
 -- from this list a log went on by the entries of the numbers that were sealed, and the blocks that were read stand in it
 pub record GoesOn (b : Bench) (list : List (ℕ × Entry)) (stored : List ℕ) (shown : List (ℕ × List ℕ)) : Type 0 where
   pub more : List (ℕ × Entry)
@@ -106,7 +110,7 @@ abbrev pub HasDone : Type 0 → Bench → Bench → Done → Type 0
 HasDone tells a b (done.Stored number) = Working tells a b (stored_by (done.Stored number)) []
 HasDone tells a b (done.Sealed number) = Working tells a b (stored_by (done.Sealed number)) []
 HasDone tells a b (done.Bytes number bytes) = Working tells a b [] (shown_by (done.Bytes number bytes))
-HasDone tells a b (done.Gone number) = Working tells a b [] []
+HasDone tells a b (done.Gone number) = Working tells a b [] [] × (tells → (list : List (ℕ × Entry)) (waiting : Option Entry) → Has a list waiting → LacksBlock list number)
 HasDone tells a b done.Emptied = ⊥
 HasDone tells a b (done.Copied number) = ⊥
 HasDone tells a b (done.Stepped switched) = ⊥

@@ -42,7 +42,16 @@ where
         → HasCome B.Seat.noted B.Pass.noted D.tells D.size D.stands D.faults (A.name naming.now) seed files
         (slice_index_or elements.old.items i d) (slice_index_or elements.new.items i d) }
 {
-    work_beside(alloc, rt, naming, book, elements.as_mut_slice(), seed, files, gate);
+    work_beside(
+        alloc,
+        rt,
+        naming,
+        book,
+        elements.as_mut_slice(),
+        seed,
+        files,
+        gate,
+    );
 }
 
 /// The same over a slice.
@@ -75,9 +84,14 @@ where
     if count == 0 {
         return;
     }
-    thread::for_each_mut(rt, elements, count, &|_, element| {
-        work(alloc, rt, naming, book, element, seed, files, gate);
-    });
+    thread::for_each_mut(
+        rt,
+        elements,
+        count,
+        &|_, element| {
+            work(alloc, rt, naming, book, element, seed, files, gate);
+        },
+    );
 }
 
 /// The work of one.

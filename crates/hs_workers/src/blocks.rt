@@ -1,16 +1,16 @@
 //! The blocks of a load's files, and their addresses.
-ghost use Rattle.std.specs.Prelude.{◌≡◌, ◌∷◌, ◌++◌, [], ℕ, codes, decimal, map, IfOk, OnOk};
+ghost use Rattle.std.specs.Prelude.{◌≡◌, ◌∷◌, ◌++◌, [], ℕ, Some, map, IfOk, OnOk};
 ghost use Rattle.std.specs.Int.{to_be_bytes, w64};
 ghost use Rattle.hs_limits.specs.Block.{spell};
 ghost use Rattle.hs_model.specs.declared.op.Op.TheVariants as op;
+ghost use Rattle.hs_desk.specs.Tokens.{HasAddress, IsOfSession};
 ghost use Rattle.hs_script.specs.Loads.{Writer, block_op, file_key, leaf_block, session_name, top_block, write_of};
 
-use crate::WorkFault;
 use hs_block::{Addresser, Block};
 use hs_limits::{Address, Key, ListOf, Name};
 use hs_model::Op;
 use hs_script::FilePlan;
-use std::alloc::Global;
+use std::alloc::{AllocError, Global};
 use std::io;
 use std::io::Write;
 
@@ -20,16 +20,16 @@ fn block_address<A: Addresser>(
     naming: &A,
     pointers: &[Address],
     bytes: &[u8],
-) -> Result<Address, WorkFault>
+) -> Result<Address, AllocError>
     ensures { IfOk result (λ address. address
         ≡ A.name naming.now (spell (record { pointers = pointers.now; bytes = bytes.now }))) }
 {
     let Ok(block) = Block::make(alloc, pointers, bytes) else {
-        return Err(WorkFault::NoMemory);
+        return Err(AllocError);
     };
     let mut spelling = Vec::new(alloc);
     if block.write(&mut spelling).is_err() {
-        return Err(WorkFault::NoMemory);
+        return Err(AllocError);
     }
     Ok(naming.address(spelling.as_slice()))
 }
@@ -39,7 +39,7 @@ pub(crate) fn leaf_address<A: Addresser>(
     alloc: Global,
     naming: &A,
     leaf: u64,
-) -> Result<Address, WorkFault>
+) -> Result<Address, AllocError>
     ensures { IfOk result (λ address. address ≡ A.name naming.now (spell (leaf_block leaf))) }
 {
     block_address(alloc, naming, &[], &leaf.to_be_bytes())
@@ -53,9 +53,11 @@ fn write_op<A: Addresser>(
     pointers: &[Address],
     number: u64,
     handles: ListOf<u32>,
-) -> Result<Op, WorkFault>
-    ensures { IfOk result (λ asked. asked ≡ op.Write session.now (to_be_bytes w64 number) handles
+) -> Result<Op, AllocError>
+    ensures value { IfOk result (λ asked. asked ≡ op.Write session.now (to_be_bytes w64 number) handles
         (Some (A.name naming.now (spell (record { pointers = pointers.now; bytes = to_be_bytes w64 number }))))) }
+    ensures own { IfOk result (IsOfSession session.now) }
+    ensures address { IfOk result HasAddress }
 {
     let bytes = number.to_be_bytes();
     let address = block_address(alloc, naming, pointers, &bytes)?;
@@ -74,9 +76,11 @@ pub(crate) fn block_op<A: Addresser>(
     session: &Name,
     plan: &FilePlan,
     leaves: &[(u32, Address)],
-) -> Result<Op, WorkFault>
-    ensures { (w : Writer) → w.name ≡ A.name naming.now → session.now ≡ session_name w.number
+) -> Result<Op, AllocError>
+    ensures value { (w : Writer) → w.name ≡ A.name naming.now → session.now ≡ session_name w.number
         → IfOk result (λ asked. asked ≡ block_op w plan.now leaves.now) }
+    ensures own { IfOk result (IsOfSession session.now) }
+    ensures address { IfOk result HasAddress }
 {
     match plan.leaves.as_slice().get(leaves.len()) {
         Some(leaf) => write_op(alloc, naming, session, &[], *leaf, ListOf::new(alloc)),
@@ -91,9 +95,11 @@ fn top_op<A: Addresser>(
     session: &Name,
     tag: u64,
     leaves: &[(u32, Address)],
-) -> Result<Op, WorkFault>
-    ensures { (w : Writer) → w.name ≡ A.name naming.now → session.now ≡ session_name w.number
+) -> Result<Op, AllocError>
+    ensures value { (w : Writer) → w.name ≡ A.name naming.now → session.now ≡ session_name w.number
         → IfOk result (λ asked. asked ≡ write_of w (top_block tag leaves.now) (map (λ leaf. leaf.0) leaves.now)) }
+    ensures own { IfOk result (IsOfSession session.now) }
+    ensures address { IfOk result HasAddress }
 {
     let mut handles = ListOf::new(alloc);
     let mut pointers = ListOf::new(alloc);
@@ -105,16 +111,16 @@ fn top_op<A: Addresser>(
 }
 
 /// The key of a file's root.
-pub(crate) fn file_key(alloc: Global, writer: u8, file: u32) -> Result<Key, WorkFault>
+pub(crate) fn file_key(alloc: Global, writer: u8, file: u32) -> Result<Key, AllocError>
     ensures { IfOk result (λ key. key ≡ file_key writer file) }
 {
     let mut bytes = Vec::with_capacity(alloc, 32)?;
     if put_key(writer, file, &mut bytes).is_err() {
-        return Err(WorkFault::NoMemory);
+        return Err(AllocError);
     }
     match Key::from_list(ListOf::from_vec(bytes)) {
         Some(key) => Ok(key),
-        None => Err(WorkFault::NoMemory),
+        None => Err(AllocError),
     }
 }
 

@@ -2,10 +2,11 @@
 ghost use Rattle.std.specs.Prelude.{◌≡◌, ◌≢◌, ◌≤◌, ◌<◌, ◌+◌, ℕ, List, [], length, if◌then◌else◌, Some, None, true, false, IfOk, IfErr};
 ghost use Rattle.hs_entry.specs.declared.entry.Entry.{Entry};
 ghost use Rattle.hs_desk.specs.Slips.{answers_one, answers_work, is_own_job, work_of};
+ghost use Rattle.hs_desk.specs.declared.job.Job.TheVariants.{Append};
 ghost use Rattle.hs_desk.specs.declared.job.Work.{Work};
 ghost use Rattle.hs_desk.specs.declared.job.Work.TheVariants as work;
 ghost use Rattle.hs_peerlog.specs.Lists.{Keeping};
-ghost use Rattle.hs_workers.specs.Work.{HasDone, IsInPlace, IsRefused, IsTorn, bench_of, is_failed, told_of, next_to_append, next_to_seal};
+ghost use Rattle.hs_workers.specs.Work.{Has, HasDone, IsInPlace, IsRefused, IsTorn, bench_of, is_failed, told_of, next_to_append, next_to_seal};
 
 use crate::WorkFault;
 use crate::readable::is_readable;
@@ -31,6 +32,13 @@ pub(crate) fn do_job<D: Disk>(
         (bench_of D.size D.stands D.faults log.new disk.new)) }
     ensures in_place { IfOk result (λ done. is_failed done ≡ false
         → IsInPlace D.tells (bench_of D.size D.stands D.faults log.new disk.new)) }
+
+    // What was appended is the job's entry.
+    ensures entry { D.tells → (number : ℕ) (entry : Entry) (list : List (ℕ × Entry))
+        → job.now ≡ Append number entry
+        → Has (bench_of D.size D.stands D.faults log.old disk.old) list None
+        → IfOk result (λ done. is_failed done ≡ false
+        → Has (bench_of D.size D.stands D.faults log.new disk.new) list (Some entry)) }
 
     ensures refused { (stored : List ℕ) (w : Work) → place ≡ length stored → work_of job.now ≡ Some w
         → IfErr result (IsRefused w log.new stored) }
@@ -64,6 +72,11 @@ fn append_one<D: Disk>(
         (bench_of D.size D.stands D.faults log.new disk.new)) }
     ensures in_place { IfOk result (λ done. is_failed done ≡ false
         → IsInPlace D.tells (bench_of D.size D.stands D.faults log.new disk.new)) }
+
+    ensures entry { D.tells → (list : List (ℕ × Entry))
+        → Has (bench_of D.size D.stands D.faults log.old disk.old) list None
+        → IfOk result (λ done. is_failed done ≡ false
+        → Has (bench_of D.size D.stands D.faults log.new disk.new) list (Some entry.now)) }
 
     ensures refused { (stored : List ℕ) → place ≡ length stored
         → IfErr result (IsRefused (work.Append number) log.new stored) }
@@ -145,12 +158,7 @@ fn seal_one<D: Disk>(
 }
 
 /// Reads the block of the entry of a number. A later read that gives no entry counts as a disk that failed.
-fn read_one<D: Disk>(
-    log: &PeerLog,
-    disk: &mut D,
-    peer: u8,
-    number: u64,
-) -> Result<Done, WorkFault>
+fn read_one<D: Disk>(log: &PeerLog, disk: &mut D, peer: u8, number: u64) -> Result<Done, WorkFault>
     requires in_place { IsInPlace D.tells (bench_of D.size D.stands D.faults log.now disk.old) }
 
     ensures answer { IfOk result (λ done. answers_one (work.Read number) peer done ≡ true) }

@@ -58,11 +58,11 @@ fn do_jobs<H: Wait, B: Desk, D: Disk, T: Gate>(
 {
     for _ in rt.forever() {
         match next_job(rt, book, seat) {
-            Ok(Some(job)) => {
-                if !do_one(rt, book, seat, log, disk, watch, gate, job)? {
-                    return Ok(());
-                }
-            }
+            Ok(Some(job)) => match do_one(rt, book, seat, log, disk, watch, gate, job) {
+                Ok(true) => {}
+                Ok(false) => return Ok(()),
+                Err(fault) => return Err(fault),
+            },
             Ok(None) => {
                 if log.unsealed().is_some() {
                     return Err(WorkFault::NoMemory);
@@ -134,7 +134,10 @@ fn do_one<H: Wait, B: Desk, D: Disk, T: Gate>(
     let peer = slip.peer;
     let place = slip.stored.len() as u64;
     gate.before(peer, &job);
-    let done = do_job(log, disk, watch, peer, place, &job)?;
+    let done = match do_job(log, disk, watch, peer, place, &job) {
+        Ok(done) => done,
+        Err(fault) => return Err(fault),
+    };
     let failed = is_failed(&done);
     match report(rt, book, seat, done) {
         Ok(()) => {

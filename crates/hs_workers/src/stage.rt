@@ -4,22 +4,29 @@ ghost use Rattle.hs_script.specs.Loads.{Writer, behind_block, behind_root, stage
 ghost use Rattle.hs_script.specs.Plans.{plan_of};
 ghost use Rattle.hs_workers.specs.Stages.{stage_of};
 
-use crate::WorkFault;
 use crate::blocks::leaf_address;
 use hs_block::Addresser;
 use hs_limits::{Address, ListOf};
 use hs_model::Reply;
 use hs_script::{FilePlan, generate};
-use std::alloc::Global;
+use std::alloc::{AllocError, Global};
 
 /// Where a writer stands: it opens its session, writes the blocks of a file behind its leaves so far, keeps the
 /// root of a file, or gives that up.
 #[derive(Debug, Drop)]
 pub enum Stage {
     Opening,
-    Writing { file: u32, leaves: ListOf<(u32, Address)> },
-    Rooting { file: u32, handle: u32 },
-    Dropping { file: u32 },
+    Writing {
+        file: u32,
+        leaves: ListOf<(u32, Address)>,
+    },
+    Rooting {
+        file: u32,
+        handle: u32,
+    },
+    Dropping {
+        file: u32,
+    },
 }
 
 /// Where a writer stands behind an answer.
@@ -30,7 +37,7 @@ pub(crate) fn next_stage<A: Addresser>(
     seed: u64,
     stage: Stage,
     reply: Reply,
-) -> Result<Stage, WorkFault>
+) -> Result<Stage, AllocError>
     ensures { (files : ℕ) → IfOk result (λ next. stage_of next
         ≡ stage_after (writer_of (A.name naming.now) seed writer files) (stage_of stage) reply) }
 {
@@ -59,12 +66,12 @@ pub(crate) fn plan_of(
     seed: u64,
     writer: u8,
     file: u32,
-) -> Result<FilePlan, WorkFault>
+) -> Result<FilePlan, AllocError>
     ensures { IfOk result (λ plan. plan ≡ plan_of seed writer file) }
 {
     match generate(alloc, seed, writer, file) {
         Ok(plan) => Ok(plan),
-        Err(_) => Err(WorkFault::NoMemory),
+        Err(_) => Err(AllocError),
     }
 }
 
@@ -79,17 +86,17 @@ fn first_stage(alloc: Global, file: u32) -> Stage
 }
 
 /// The next file is begun.
-fn next_file(alloc: Global, file: u32) -> Result<Stage, WorkFault>
+fn next_file(alloc: Global, file: u32) -> Result<Stage, AllocError>
     ensures { IfOk result (λ next. stage_of next ≡ writing (file + 1) []) }
 {
     match file.checked_add(1) {
         Some(next) => Ok(first_stage(alloc, next)),
-        None => Err(WorkFault::NoMemory),
+        None => Err(AllocError),
     }
 }
 
 /// Behind a file whose root is kept: each fourth file is given up again.
-fn behind_root(alloc: Global, file: u32) -> Result<Stage, WorkFault>
+fn behind_root(alloc: Global, file: u32) -> Result<Stage, AllocError>
     ensures { IfOk result (λ next. stage_of next ≡ behind_root file) }
 {
     if file % 4 == 3 {
@@ -107,7 +114,7 @@ fn behind_block<A: Addresser>(
     file: u32,
     leaves: ListOf<(u32, Address)>,
     handle: u32,
-) -> Result<Stage, WorkFault>
+) -> Result<Stage, AllocError>
     ensures { (w : Writer) → w.name ≡ A.name naming.now → w.plan file ≡ plan.now
         → IfOk result (λ next. stage_of next ≡ behind_block w file leaves handle) }
 {

@@ -2,15 +2,12 @@
 ghost use Rattle.std.specs.Prelude.{◌≡◌, ◌≤◌, length, drop, count_by, IfOk};
 ghost use Rattle.hs_workers.specs.Asks.{is_dropped, is_rooted, sum_of};
 
-use crate::WorkFault;
 use hs_model::{Deed, Reply};
 use hs_script::WriterSum;
+use std::alloc::AllocError;
 
 /// What the answers from a place on did.
-pub(crate) fn sum_of(
-    kept: &[(u64, Deed, Reply)],
-    before: usize,
-) -> Result<WriterSum, WorkFault>
+pub(crate) fn sum_of(kept: &[(u64, Deed, Reply)], before: usize) -> Result<WriterSum, AllocError>
     requires { before ≤ length kept.now }
     ensures { IfOk result (λ sum. sum ≡ sum_of (drop before kept.now)) }
 {
@@ -18,7 +15,7 @@ pub(crate) fn sum_of(
     let files = rooted(answers);
     let kept = files.saturating_sub(dropped(answers));
     let (Ok(files), Ok(kept)) = (u32::try_from(files), u32::try_from(kept)) else {
-        return Err(WorkFault::NoMemory);
+        return Err(AllocError);
     };
     Ok(WriterSum { files, kept })
 }

@@ -16,7 +16,7 @@ use hs_desk::{Clerk, Pass};
 use hs_limits::Name;
 use hs_model::Op;
 use hs_script::WriterSum;
-use std::alloc::Global;
+use std::alloc::{AllocError, Global};
 use std::sync::Wait;
 
 /// The work of one writer of a load: it opens its session, writes the blocks of its files, keeps the root of
@@ -67,7 +67,8 @@ fn write_all<H: Wait, A: Addresser, B: Clerk>(
 {
     let before = pass.token().kept.len();
     write_files(alloc, rt, naming, book, pass, writer, seed, files)?;
-    sum_of(pass.token().kept.as_slice(), before)
+    let sum = sum_of(pass.token().kept.as_slice(), before)?;
+    Ok(sum)
 }
 
 /// Asks, stage after stage, until nothing more is asked.
@@ -108,7 +109,7 @@ fn next_op<A: Addresser>(
     seed: u64,
     files: u32,
     stage: &Stage,
-) -> Result<Option<Op>, WorkFault>
+) -> Result<Option<Op>, AllocError>
     requires { session.now ≡ session_name writer }
 
     ensures value { IfOk result (λ op. op

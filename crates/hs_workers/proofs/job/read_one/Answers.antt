@@ -14,4 +14,5 @@ returns-in-Ok-Some-clause-done g c =
 pub returns-in-Ok-None-clause-done : goal.returns-in-Ok-None-clause-done
 returns-in-Ok-None-clause-done g c =
     let bench = bench_of g.D.Disk.size g.D.Disk.stands g.D.Disk.faults c.args.log.now in
-    gone_done g.D.Disk.tells (bench c.args.disk.now) (bench c.read_entry.new.disk) refl c.in-Ok-None.ensures.calm c.read_entry.ensures.same
+    gone_done g.D.Disk.tells (bench c.args.disk.now) (bench c.read_entry.new.disk) c.args.number refl c.in-Ok-None.ensures.calm c.read_entry.ensures.same
+    (λ t l w has. sym (c.in-Ok-None.ensures.found t l w has) ∙ c.in-Ok-None.field-0-is)

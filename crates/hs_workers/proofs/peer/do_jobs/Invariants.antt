@@ -9,6 +9,6 @@ invariant-loop g l =
     let disk = g.D.Disk in
     record {
       goes : Goes disk.tells (noted l.fn.seat) (noted l.seat)
-      (bench_of disk.size disk.stands disk.faults l.fn.log l.fn.disk) (bench_of disk.size disk.stands disk.faults l.log l.disk);
+          (bench_of disk.size disk.stands disk.faults l.fn.log l.fn.disk) (bench_of disk.size disk.stands disk.faults l.log l.disk);
       ticks : l.fn.watch ≤ l.watch;
     }
