@@ -1,5 +1,5 @@
 -- Addresses that ascend, each once.
-use Rattle.std.proofs.Common.{◌≡◌, ◌∙◌, List, [], ◌∷◌, Bool, true, false, ◌||◌, refl, sym, ap, subst, Less, Equal, Greater, is_eq}
+use Rattle.std.proofs.Common.{inl, ◌≡◌, ◌∙◌, List, [], ◌∷◌, Bool, true, false, ◌||◌, refl, sym, ap, subst, Less, Equal, Greater, is_eq}
 use Rattle.std.proofs.lemmas.Bool.{false≢true}
 use Rattle.std.proofs.lemmas.Map.Keys.{sorted_head, sorted_tail}
 use Rattle.std.specs.BTreeSet.{insert_key}
@@ -108,14 +108,14 @@ sorted-insert (x ∷ ks) k s = go (address_cmp k x) refl (sorted-insert ks k s.1
 
 -- ---- all of some
 
+sorted_none : IsStrictlySortedBy address_cmp []
+unfolding IsStrictlySortedBy
+sorted_none = tt
+
 pub among-ascending : (xs : List Address) (a : Address) → is_among (ascending xs) a ≡ is_among xs a
 among-ascending [] a = refl
 among-ascending (x ∷ xs) a = among-insert (ascending xs) x a ∙ ap (λ b. is_same a x || b) (among-ascending xs a)
 
 pub sorted-ascending : (xs : List Address) → IsStrictlySortedBy address_cmp (ascending xs)
-sorted-ascending [] = none
-  where
-    none : IsStrictlySortedBy address_cmp []
-    unfolding IsStrictlySortedBy
-    none = tt
+sorted-ascending [] = sorted_none
 sorted-ascending (x ∷ xs) = sorted-insert (ascending xs) x (sorted-ascending xs)

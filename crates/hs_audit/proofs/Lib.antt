@@ -1,3 +1,4 @@
 pub mod AscendingLemmas
 pub mod MissingLemmas
+pub mod RangeLemmas
 mod TextExamples

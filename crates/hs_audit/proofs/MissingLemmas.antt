@@ -17,6 +17,7 @@ use Rattle.hs_model.proofs.SweptLemmas.{seen_is_listed}
 use Rattle.hs_model.specs.declared.plain.PlainBlock.{PlainBlock}
 use Rattle.hs_model.specs.declared.store.StoredBlock.{StoredBlock}
 use Rattle.hs_model.specs.Listed.{IsListOf}
+use Rattle.hs_model.specs.Plain.{entry_of}
 use Rattle.hs_model.specs.Reach.{IsReached, is_among, is_same, reached_from}
 use Rattle.hs_model.specs.Store.{Store, address_cmp, block_at}
 
@@ -68,3 +69,7 @@ one_present old now blocks i x low is updates so_far a =
     let long : length (addresses_of blocks) ≡ length blocks = length-map blocks (λ (block : PlainBlock). block.address) in
     let there : x.address ≡ slice_index_or (addresses_of blocks) i x.address = ap (λ (b : PlainBlock). b.address) is ∙ sym (get_or-map (λ (block : PlainBlock). block.address) blocks i x x.address low) in
     add_step (is_among old) (λ q. false) (is_among now) (addresses_of blocks) i x.address (omega (arith, low, long)) there (keys_more old now x.address updates) so_far a
+
+pub keys_are : (blocks : List PlainBlock) → keys_of (map entry_of blocks) ≡ addresses_of blocks
+keys_are [] = refl
+keys_are (block ∷ blocks) = ap (λ z. block.address ∷ z) (keys_are blocks)
