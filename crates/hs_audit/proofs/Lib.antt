@@ -1,4 +1,5 @@
 pub mod AscendingLemmas
+pub mod HollowLemmas
 pub mod MissingLemmas
 pub mod RangeLemmas
 mod TextExamples
