@@ -3,6 +3,7 @@ use Rattle.std.proofs.Common.{◌≡◌, ◌∙◌, ◌+◌, ◌<◌, ◌≤◌,
 use Rattle.std.proofs.lemmas.Bool.{false≢true}
 use Rattle.std.proofs.lemmas.Bool.Decides.{nat_tests}
 use Rattle.std.proofs.lemmas.List.{length-map}
+use Rattle.std.proofs.lemmas.List.Sums.{length-filter}
 use Rattle.std.specs.BTreeMap.{is_at}
 use Rattle.std.specs.Fmt.{decimal}
 use Rattle.std.specs.List.{count_by, flat_map, list_all, range_with_len}
@@ -37,21 +38,19 @@ filter_twice p q (x ∷ xs) h = go (q x) refl (p x) refl (filter_twice p q xs h)
     go false e false f ih = ih
 
 count_twice : {A : Type 0} (p q : A → Bool) (xs : List A) → ((x : A) → p x ≡ true → q x ≡ true) → count_by p (filter q xs) ≡ count_by p xs
-count_twice p q [] h = refl
-count_twice p q (x ∷ xs) h = go (q x) refl (p x) refl (count_twice p q xs h)
+count_twice p q xs h = sym (length-filter p (filter q xs)) ∙ ap (λ z. length z) (filter_twice p q xs h) ∙ length-filter p xs
+
+length_mapped : (p : Address → Bool) (es : Blocks) → length (filter (λ e. p e.0) (hollow_blocks es)) ≡ length (filter (λ e. p e.0) es)
+length_mapped p [] = refl
+length_mapped p (e ∷ es) = go (p e.0) (length_mapped p es)
   where
-    go : (b : Bool) → q x ≡ b → (c : Bool) → p x ≡ c → count_by p (filter q xs) ≡ count_by p xs → count_by p (cond b (x ∷ filter q xs) (filter q xs)) ≡ count_by p (x ∷ xs)
-    go true e c f ih = rw (f, ih) refl
-    go false e true f ih = absurd (false≢true (sym e ∙ h x f))
-    go false e false f ih = rw f ih
+    go : (b : Bool) → length (filter (λ e. p e.0) (hollow_blocks es)) ≡ length (filter (λ e. p e.0) es)
+        → length (cond b ((e.0, without_bytes e.1) ∷ filter (λ e. p e.0) (hollow_blocks es)) (filter (λ e. p e.0) (hollow_blocks es))) ≡ length (cond b (e ∷ filter (λ e. p e.0) es) (filter (λ e. p e.0) es))
+    go true ih = ap (λ n. suc n) ih
+    go false ih = ih
 
 count_mapped : (p : Address → Bool) (es : Blocks) → count_by (λ e. p e.0) (hollow_blocks es) ≡ count_by (λ e. p e.0) es
-count_mapped p [] = refl
-count_mapped p (e ∷ es) = go (p e.0) refl (count_mapped p es)
-  where
-    go : (b : Bool) → p e.0 ≡ b → count_by (λ e. p e.0) (hollow_blocks es) ≡ count_by (λ e. p e.0) es → count_by (λ e. p e.0) (hollow_blocks (e ∷ es)) ≡ count_by (λ e. p e.0) (e ∷ es)
-    go true f ih = rw (f, ih) refl
-    go false f ih = rw f ih
+count_mapped p es = sym (length-filter (λ (e : Address × StoredBlock). p e.0) (hollow_blocks es)) ∙ length_mapped p es ∙ length-filter (λ (e : Address × StoredBlock). p e.0) es
 
 -- ---- what is reached over blocks without data
 
@@ -97,14 +96,14 @@ absent_hollow s a = absent_is (hollow_blocks s.blocks) a ∙ ap (λ z. not (is_a
 
 -- ---- roots that are gone count for nothing
 
+both : (b c : Bool) → (b && c) ≡ true → (b ≡ true) × (c ≡ true)
+both true c h = (refl, h)
+both false c h = absurd (false≢true h)
+
 all_at : (p : ℕ → Bool) (xs : List ℕ) (i : ℕ) → i < length xs → list_all p xs ≡ true → p (slice_index xs i) ≡ true
 all_at p [] i low h = absurd (omega (arith, low))
-all_at p (x ∷ xs) i low h = go (p x) refl i low h
-  where
-    go : (b : Bool) → p x ≡ b → (i : ℕ) → i < length (x ∷ xs) → (b && list_all p xs) ≡ true → p (slice_index (x ∷ xs) i) ≡ true
-    go true e zero low h = e
-    go true e (suc i) low h = all_at p xs i (omega (arith, low)) h
-    go false e i low h = absurd (false≢true h)
+all_at p (x ∷ xs) zero low h = (both (p x) (list_all p xs) h).0
+all_at p (x ∷ xs) (suc i) low h = all_at p xs i (omega (arith, low)) (both (p x) (list_all p xs) h).1
 
 kept_stays : (s : Store) (root : Root) → is_none root.dropped ≡ true → stays s root ≡ true
 kept_stays s root h = go root.dropped h
@@ -134,14 +133,10 @@ module _ (u : Store) where
   shard_blocks shard = count_mapped (λ a. shard_of (length u.epochs) a == shard) u.blocks
 
   shard_roots : (shard : ℕ) → roots_in (hollow u) shard ≡ roots_in (pruned u) shard
-  shard_roots shard = sym (count_twice (λ (root : Root). is_none root.dropped && shard_of_key (length u.epochs) root.key == shard) (stays u) u.roots (λ root e. kept_stays u root (first (is_none root.dropped) (shard_of_key (length u.epochs) root.key == shard) e)))
-    where
-      first : (b c : Bool) → (b && c) ≡ true → b ≡ true
-      first true c e = refl
-      first false c e = e
+  shard_roots shard = sym (count_twice (λ (root : Root). is_none root.dropped && shard_of_key (length u.epochs) root.key == shard) (stays u) u.roots (λ root e. kept_stays u root (both (is_none root.dropped) (shard_of_key (length u.epochs) root.key == shard) e).0))
 
   module _ (shard : ℕ) (low : shard < length u.epochs) where
-    run : ℕ
+    abbrev run : ℕ
     run = slice_index u.epochs shard + 1
 
     same_anchors : anchors u run ≡ anchors (pruned u) run
