@@ -108,7 +108,7 @@ sorted-insert (x ∷ ks) k s = go (address_cmp k x) refl (sorted-insert ks k s.1
 
 -- ---- all of some
 
-sorted_none : IsStrictlySortedBy address_cmp []
+pub sorted_none : IsStrictlySortedBy address_cmp []
 unfolding IsStrictlySortedBy
 sorted_none = tt
 

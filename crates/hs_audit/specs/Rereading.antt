@@ -72,6 +72,14 @@ pub record HasShardView (shape : Shape) (views : List (Option Viewing)) (shard :
 abbrev pub HasNoShardView : Shape → List (Option Viewing) → ℕ → Type 0
 HasNoShardView shape views shard = (copy : ℕ) → copy < shape.copies → view_at views (peer_of shape shard copy) ≡ None
 
+-- a view of a shard was given up, and no other
+pub record HasGivenUp (shape : Shape) (shard : ℕ) (before after : List (Option Viewing)) : Type 0 where
+  pub copy : ℕ
+  pub within : copy < shape.copies
+  pub had : IsSome (view_at before (peer_of shape shard copy))
+  pub gone : view_at after (peer_of shape shard copy) ≡ None
+  pub others : (peer : ℕ) → (peer ≡ peer_of shape shard copy → ⊥) → view_at after peer ≡ view_at before peer
+
 -- some list was folded: where the disk tells the one that it reads as
 pub record IsLogOf (tells : Type 0) (fold : Numbered → Catalogue) (disk : DiskSeen) (catalogue : Catalogue) : Type 0 where
   pub list : Numbered
@@ -102,6 +110,12 @@ pub record IsWithoutView (shape : Shape) (views : List (Option Viewing)) (shard 
   pub within : shard < shape.shards
   pub none : HasNoShardView shape views shard
   pub first : (before : ℕ) → before < shard → HasShardView shape views before
+
+-- of a fault: there is no view
+abbrev pub IsNotViewed : ℕ → Option Viewing → AuditFault → Type 0
+IsNotViewed shard view (WrongShape peer found) = ⊥
+IsNotViewed shard view (ShardLost lost) = (lost ≡ shard) × (view ≡ None)
+IsNotViewed shard view NoMemory = Unit {0}
 
 -- of a fault: the shard has no view
 abbrev pub IsUnviewed : Shape → List (Option Viewing) → ℕ → AuditFault → Type 0

@@ -1,10 +1,9 @@
 //! The log of a shard, folded entry by entry.
-ghost use Rattle.std.specs.Option.{option_map};
-ghost use Rattle.std.specs.Prelude.{◌≡◌, ◌<◌, ◌*◌, ◌≤◌, ◌⊎◌, ℕ, IfErr, IfOk, IfSome, IsSome, None, OnOk, false, is_some, length, map};
-ghost use Rattle.hs_audit.specs.declared.fault.AuditFault.TheVariants.{NoMemory};
-ghost use Rattle.hs_audit.specs.Rereading.{AreReread, AreStill, AreViewsOf, HasNoShardView, IsLogOf, IsReread, IsStill, IsTakenOf, IsUnviewed, ran_out, view_at};
+ghost use Rattle.std.specs.Prelude.{◌≡◌, ◌<◌, ◌*◌, ◌≤◌, ◌⊎◌, ℕ, IfErr, IfOk, IfSome, IsSome, None, OnOk, false, is_some, length, map, true};
+ghost use Rattle.hs_audit.specs.Rereading.{AreReread, AreStill, AreViewsOf, HasGivenUp, IsLogOf, IsNotViewed, IsStill, IsTakenOf, IsUnviewed, ran_out, view_at};
 ghost use Rattle.hs_limits.specs.Shape.{IsShape, peer_of};
 ghost use Rattle.hs_memory.specs.Forget.{apply_all};
+ghost use Rattle.hs_ports.specs.Fault.{HasRisen};
 ghost use Rattle.hs_shard.specs.Facts.{empty_catalogue};
 ghost use Rattle.hs_taking.specs.Disks.{seen_as};
 ghost use Rattle.hs_taking.specs.Viewed.{IsViewOf};
@@ -82,7 +81,8 @@ fn take_best<A: Addresser, D: Disk>(
         (apply_all (A.name naming.now) (empty_catalogue shape shard)) shape
         (map (λ disk. seen_as (D.size disk) (D.stands disk) (D.faults disk)) disks.old)
         views.new shard)) }
-    ensures given_up { IfOk result (λ found. found ≡ None → HasGivenUp shape shard views.old views.new) }
+    ensures given_up { IfOk result (λ found. found ≡ None
+        → HasGivenUp shape shard views.old views.new) }
     ensures lost { IfErr result (IsUnviewed shape views.new shard) }
     ensures still { AreStill D.tells (shape.shards * shape.copies)
         (map (λ disk. seen_as (D.size disk) (D.stands disk) (D.faults disk)) disks.old)
@@ -154,8 +154,8 @@ fn read_log<A: Addresser, D: Disk>(
     match load(alloc, naming, seen, disk, shape, Limits::greatest(), shard) {
         Ok(loaded) => Ok(Some(loaded.catalogue)),
         Err(LogFault::NoMemory) => Err(AuditFault::NoMemory),
-        Err(LogFault::Disk) | Err(LogFault::NotALog { .. }) | Err(LogFault::WrongShape { .. }) => {
-            Ok(None)
-        }
+        Err(LogFault::Disk) => Ok(None),
+        Err(LogFault::NotALog { .. }) => Ok(None),
+        Err(LogFault::WrongShape { .. }) => Ok(None),
     }
 }
