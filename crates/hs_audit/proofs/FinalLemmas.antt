@@ -101,21 +101,18 @@ risen_or tells X before now h = elim (cases_lt now (min (before + 1) (2 ^ 64 - 1
 risen_from : (a b c : ℕ) → a ≤ b → HasRisen b c → HasRisen a c
 risen_from a b c le h = omega (arith, le, h)
 
-none_is : {A : Type 0} → IsSome {T = A} None → ⊥
-none_is h = false≢true h
-
 some_is : {A : Type 0} (o : Option A) → IsSome o → (x : A) × (o ≡ Some x)
-some_is None h = absurd (none_is h)
+some_is None h = absurd (false≢true h)
 some_is (Some x) h = (x, refl)
 
 module _ (tells : Type 0) (shape : Shape) (peer : ℕ) (entry viewed final : DiskSeen) (first last : Option Viewing) (before now : ℕ)
     (is : IsViewed tells shape peer entry viewed first) (read : IsOnlyRead tells before now entry viewed) (counted : viewed.faults ≤ final.faults) (reread : IsReread tells viewed final first last) where
   calm_of : (o : Option Viewing) → first ≡ o → IsSome o → viewed.faults ≡ entry.faults
-  calm_of None e h = absurd (none_is h)
+  calm_of None e h = absurd (false≢true h)
   calm_of (Some v) e h = (subst (λ o. IfSome o (HasViewed tells shape peer entry viewed)) e is.some).calm
 
   listed_of : (o : Option Viewing) → first ≡ o → IsSome o → tells → IsSome (list_in entry.stands.seen)
-  listed_of None e h = absurd (none_is h)
+  listed_of None e h = absurd (false≢true h)
   listed_of (Some v) e h = (subst (λ o. IfSome o (HasViewed tells shape peer entry viewed)) e is.some).listed
 
   -- the view stays: no call failed, and the disk has a list
@@ -126,7 +123,7 @@ module _ (tells : Type 0) (shape : Shape) (peer : ℕ) (entry viewed final : Dis
       go (inl h) =
           let had : IsSome first = subst (λ o. IsSome o) h.0 there in
           (h.1 ∙ calm_of first refl had, listed_of first refl had)
-      go (inr h) = absurd (none_is (subst (λ o. IsSome o) h.0 there))
+      go (inr h) = absurd (false≢true (subst (λ o. IsSome o) h.0 there))
 
   -- there is none any more: the disk failed, or is no log
   pub unviewed : last ≡ None → IsUnread tells entry final
@@ -150,7 +147,7 @@ module _ (tells : Type 0) (shape : Shape) (peer : ℕ) (entry viewed final : Dis
   counts_as = go last refl
     where
       there : (o : Option Numbered) → IsSome o → Some (unwrap_or o []) ≡ o
-      there None h = absurd (none_is h)
+      there None h = absurd (false≢true h)
       there (Some list) h = refl
 
       no_log : IsUnread tells entry final → tells → (None ≡ list_in entry.stands.seen) ⊎ ((None ≡ None) × HasRisen entry.faults final.faults)
@@ -158,7 +155,7 @@ module _ (tells : Type 0) (shape : Shape) (peer : ℕ) (entry viewed final : Dis
       no_log (inr none_in) told = inl (sym (none_in told))
 
       go : (o : Option Viewing) → last ≡ o → CountsAs tells entry final (log_as o)
-      go None e = record { read = no_log (unviewed e); calm = λ h. absurd (none_is h) }
+      go None e = record { read = no_log (unviewed e); calm = λ h. absurd (false≢true h) }
       go (Some v) e =
           let still = still_viewed (subst (λ o. IsSome o) (sym e) (some_there v)) in
           record { read = λ told. inl (there (list_in entry.stands.seen) (still.1 told)); calm = λ h. still.0 }
@@ -252,4 +249,4 @@ not_refused tells shape old new (fault.ShardLost shard) told count can h =
   where
     go : (p : ℕ) → p < shape.shards * shape.copies → IsSome (list_in (seen_at old p).stands.seen) → IsUnread tells (seen_at old p) (seen_at new p) → ⊥
     go p less there (inl rose) = can.calm p less rose
-    go p less there (inr none_in) = none_is (subst (λ o. IsSome o) (none_in told) there)
+    go p less there (inr none_in) = false≢true (subst (λ o. IsSome o) (none_in told) there)

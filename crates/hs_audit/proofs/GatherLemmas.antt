@@ -96,6 +96,15 @@ below_it copies k shard low =
 
 -- ---- what was gathered
 
+-- the views of a shard stay where those of a later one are given up
+pub still_viewed_shard : (shape : Shape) (u v : List (Option Viewing)) (shard k : ℕ) → k < shard → ((peer : ℕ) → (peer < peer_of shape shard 0) ⊎ (peer_of shape shard shape.copies ≤ peer) → view_at v peer ≡ view_at u peer)
+    → HasShardView shape u k → HasShardView shape v k
+still_viewed_shard shape u v shard k before others had = record {
+  copy = had.copy;
+  within = had.within;
+  there = subst (λ o. IsSome o) (sym (others (peer_of shape k had.copy) (inl (let m = below_it shape.copies k shard before in let w = had.within in omega (arith, w, m))))) had.there;
+}
+
 pub gathered_none : (tells : Type 0) (set : Setting) (disks : List DiskSeen) (views : List (Option Viewing)) (store : PlainStore) → plain_of store ≡ empty_store set.shape.shards → IsGathered tells set disks views 0 store
 gathered_none tells set disks views store is = record {
   lists = [];
@@ -130,13 +139,7 @@ gathered_more tells set a b u v shard catalogue old new low still others so_far 
             ∙ ap (λ n. chosen (shard_lists set.shape a v n)) (sym same)
       ];
       viewed = λ k less. elim (cases_lt k shard) [
-        | inl before ↦
-            let had = so_far.viewed k before in
-            record {
-              copy = had.copy;
-              within = had.within;
-              there = subst (λ o. IsSome o) (sym (others (peer_of set.shape k had.copy) (inl (let m = below_it set.shape.copies k shard before in let w = had.within in omega (arith, w, m))))) had.there;
-            }
+        | inl before ↦ still_viewed_shard set.shape u v shard k before others (so_far.viewed k before)
         | inr after ↦ subst (λ n. HasShardView set.shape v n) (sym (omega (arith, after, less))) taken.viewed
       ];
     }

@@ -5,11 +5,12 @@ use Rattle.std.specs.Prelude.{IfSome, IsSome, Err}
 use Rattle.hs_audit.proofs.GatherLemmas.{lists_same}
 use Rattle.hs_audit.specs.declared.fault.AuditFault.{AuditFault}
 use Rattle.hs_audit.specs.declared.fault.AuditFault.TheVariants as fault
-use Rattle.hs_audit.specs.Rereading.{AreStill, HasNoShardView, HasShardView, IsFirstUnviewed, IsLogOf, IsNotViewed, IsTakenOf, IsUnviewed, IsWithoutView, ran_out}
+use Rattle.hs_audit.specs.Rereading.{AreStill, HasNoShardView, HasShardView, IsFirstUnviewed, IsLogOf, IsNotViewed, IsTakenOf, IsUnviewed, IsWithoutView, fold_in, ran_out}
 use Rattle.hs_fold.specs.Opened.{chosen}
-use Rattle.hs_fold.specs.Shards.Setting.{Numbered}
+use Rattle.hs_fold.specs.Shards.Setting.{Numbered, Setting}
 use Rattle.hs_limits.specs.declared.shape.Shape.{Shape}
 use Rattle.hs_limits.specs.Shape.{peer_of}
+use Rattle.hs_memory.proofs.AgreeLemmas.{list_alike}
 use Rattle.hs_peerlog.specs.Views.{HasView, Viewing}
 use Rattle.hs_ports.specs.Disk.{Standing}
 use Rattle.hs_shard.specs.Facts.{Catalogue}
@@ -20,11 +21,8 @@ use Rattle.hs_taking.specs.Disks.{DiskSeen, seen_at}
 use Rattle.hs_taking.specs.Loaded.{IsLoaded}
 use Rattle.hs_taking.specs.Viewed.{IsViewOf}
 
-none_is : {A : Type 0} → IsSome {T = A} None → ⊥
-none_is h = false≢true h
-
 pub some_is : {A : Type 0} (o : Option A) → IsSome o → (x : A) × (o ≡ Some x)
-some_is None h = absurd (none_is h)
+some_is None h = absurd (false≢true h)
 some_is (Some x) h = (x, refl)
 
 -- what holds of the list of a view's disk holds where the disk tells
@@ -74,3 +72,6 @@ taken_before tells fold shape a b views shard catalogue low still taken = record
       (λ i small. ap (λ (s : Standing). list_in s.seen) ((still (peer_of shape shard 0 + i) (let w = shard_within shape shard low in omega (arith, small, w))).same told)) (λ i small. refl));
   viewed = taken.viewed;
 }
+
+pub taken_shape : (tells : Type 0) (set : Setting) (disks : List DiskSeen) (views : List (Option Viewing)) (shard : ℕ) (catalogue : Catalogue) → IsTakenOf tells (fold_in set shard) set.shape disks views shard catalogue → catalogue.shape ≡ set.shape
+taken_shape tells set disks views shard catalogue taken = ap (λ (x : Catalogue). x.shape) (taken.folded ∙ list_alike set.name set.shape shard taken.list)

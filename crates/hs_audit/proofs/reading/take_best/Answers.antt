@@ -1,17 +1,18 @@
-use Rattle.std.proofs.Common.{◌≡◌, ◌≢◌, ◌∙◌, ◌*◌, ◌+◌, ◌<◌, ℕ, List, Option, None, Some, ap, arith, inl, inr, length, map, refl, subst, sym, take, drop}
+use Rattle.std.proofs.Common.{◌≡◌, ◌≢◌, ◌∙◌, ◌*◌, ◌+◌, ◌<◌, ℕ, List, Option, None, Some, ap, arith, inl, inr, is_some, length, map, refl, subst, sym, take, drop}
 use Rattle.std.proofs.lemmas.Grind.{common_steps}
 use Rattle.std.specs.Option.{option_map}
 use Rattle.std.specs.Prelude.{IfSome, IsSome, slice_index_or, slice_set, unwrap_or}
 use Rattle.hs_audit.proofs.ReadLemmas.{calm_of, some_is, unviewed_of}
 use Rattle.hs_audit.proofs.RereadLemmas.{given_up_here, given_up_there, one_reread, one_still}
 use Rattle.hs_audit.proofs.ShardLemmas.{copy_within, none_viewed, taken_counts}
-use Rattle.hs_audit.specs.Rereading.{view_at}
+use Rattle.hs_audit.specs.Rereading.{IsLogOf, view_at}
 use Rattle.hs_coldstart.specs.Choose.{choose}
 use Rattle.hs_entry.specs.declared.rank.Rank.{Rank}
 use Rattle.hs_fold.specs.Shards.Setting.{Numbered}
 use Rattle.hs_limits.specs.Shape.{peer_of}
+use Rattle.hs_memory.specs.Forget.{apply_all}
 use Rattle.hs_peerlog.specs.Views.{Viewing}
-use Rattle.hs_shard.specs.Facts.{Catalogue}
+use Rattle.hs_shard.specs.Facts.{Catalogue, empty_catalogue}
 use Rattle.hs_side.specs.Current.{list_in}
 use Rattle.hs_taking.proofs.DiskLemmas.{seen_is}
 use Rattle.hs_taking.proofs.StepLemmas.{at_any}
@@ -46,7 +47,7 @@ returns-in-Ok-Some-clause-taken g c =
     let is : i ≡ peer_of c.args.shape c.args.shard (unwrap_or (choose (take c.args.shape.copies (drop (peer_of c.args.shape c.args.shard 0) ranks))) 0) = e ∙ c.taken_peer-peer.ensures.value in
     let to : i < peer_of c.args.shape c.args.shard 0 + c.args.shape.copies = omega (arith, e, c.taken_peer-peer.ensures.to) in
     let seen = some_is (slice_index_or c.args.views.now i c.index-views-place.result) c.in-Ok-Some.ensures.viewed in
-    let log = c.in-Ok-Some.ensures.log in
+    let log = subst (λ o. IfSome o (IsLogOf g.D.Disk.tells (apply_all (g.A.Addresser.name c.args.naming.now) (empty_catalogue c.args.shape c.args.shard)) (f (slice_index_or c.args.disks.now i c.index-disks-place.result)))) c.in-Ok-Some.field-0-is c.in-Ok-Some.ensures.log in
     record {
       list = log.list;
       folded = log.folded;
@@ -71,7 +72,7 @@ returns-in-Ok-Some-clause-reread g c =
     let f : g.row.D.Denot → DiskSeen = λ disk. seen_as (g.D.Disk.size disk) (g.D.Disk.stands disk) (g.D.Disk.faults disk) in
     let e : c.from-place.result ≡ c.taken_peer-peer.result = c.from-place.ensures in
     let low : c.from-place.result < length c.args.disks.now = omega (arith, c.taken_peer-peer.ensures.within, e, c.requires.count) in
-    λ calm. one_reread g.D.Disk.tells f c.args.disks.now c.from-place.result c.read_log-found.new.disk c.index-disks-place.result low c.args.views.now c.args.views.now (inl (refl, c.in-Ok-Some.ensures.calm refl)) (λ peer differs. refl) (c.args.shape.shards * c.args.shape.copies)
+    λ calm. one_reread g.D.Disk.tells f c.args.disks.now c.from-place.result c.read_log-found.new.disk c.index-disks-place.result low c.args.views.now c.args.views.now (inl (refl, c.in-Ok-Some.ensures.calm (ap (λ (o : Option Catalogue). is_some o) c.in-Ok-Some.field-0-is))) (λ peer differs. refl) (c.args.shape.shards * c.args.shape.copies)
 
 pub returns-in-Ok-None-clause-given_up : goal.returns-in-Ok-None-clause-given_up
 returns-in-Ok-None-clause-given_up g c = λ none.
@@ -108,7 +109,7 @@ returns-in-Ok-None-clause-reread g c =
     let low : i < length c.args.disks.now = omega (arith, within, c.requires.count) in
     let there : i < length c.args.views.now = omega (arith, within, c.requires.views) in
     λ calm. one_reread g.D.Disk.tells f c.args.disks.now i c.read_log-found.new.disk c.index-disks-place.result low c.args.views.now (slice_set c.args.views.now i None)
-        (inr (given_up_here c.args.views.now i there, c.in-Ok-None.ensures.failed refl)) (λ peer differs. given_up_there c.args.views.now i peer differs) (c.args.shape.shards * c.args.shape.copies)
+        (inr (given_up_here c.args.views.now i there, c.in-Ok-None.ensures.failed c.in-Ok-None.field-0-is)) (λ peer differs. given_up_there c.args.views.now i peer differs) (c.args.shape.shards * c.args.shape.copies)
 
 pub returns-clause-lost : goal.returns-clause-lost
 returns-clause-lost g c =

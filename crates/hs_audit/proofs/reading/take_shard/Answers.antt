@@ -1,9 +1,9 @@
 use Rattle.std.proofs.Common.{◌≡◌, ◌≢◌, ◌∙◌, ◌*◌, ◌+◌, ◌<◌, ◌≤◌, ℕ, Bool, true, false, List, Option, None, Some, ap, arith, inl, inr, is_some, length, map, refl, subst, sym}
-use Rattle.std.specs.Prelude.{IsSome}
+use Rattle.std.specs.Prelude.{IfSome}
 use Rattle.hs_audit.proofs.ReadLemmas.{taken_before}
 use Rattle.hs_audit.proofs.RereadLemmas.{all_reread, all_reread_then, all_still, all_still_then, views_stay}
 use Rattle.hs_audit.proofs.TriesLemmas.{count_from, count_less, count_most, count_none}
-use Rattle.hs_audit.specs.Rereading.{HasGivenUp, view_at}
+use Rattle.hs_audit.specs.Rereading.{HasGivenUp, IsTakenOf, view_at}
 use Rattle.hs_limits.specs.Shape.{peer_of}
 use Rattle.hs_memory.specs.Forget.{apply_all}
 use Rattle.hs_peerlog.specs.Views.{Viewing}
@@ -47,7 +47,7 @@ loop-attempt-preserved g c =
     let u : List (Option Viewing) = c.loop-attempt.views in
     let v : List (Option Viewing) = c.take_best.new.views in
     let step = c.in-Ok-None.ensures.reread refl in
-    let gone : HasGivenUp c.args.shape c.args.shard u v = c.in-Ok-None.ensures.given_up refl in
+    let gone : HasGivenUp c.args.shape c.args.shard u v = c.in-Ok-None.ensures.given_up c.in-Ok-None.field-0-is in
     let first : ℕ = peer_of c.args.shape c.args.shard 0 in
     let less = count_less (λ peer. is_some (view_at u peer)) (λ peer. is_some (view_at v peer)) first c.args.shape.copies (peer_of c.args.shape c.args.shard gone.copy)
         (omega arith) (let w = gone.within in omega (arith, w)) gone.had (ap (λ (o : Option Viewing). is_some o) gone.gone) (λ k differs. ap (λ (o : Option Viewing). is_some o) (gone.others k differs)) in
@@ -65,7 +65,8 @@ pub returns-in-Ok-Some-clause-taken : goal.returns-in-Ok-Some-clause-taken
 returns-in-Ok-Some-clause-taken g c =
     let f : g.row.D.Denot → DiskSeen = λ disk. seen_as (g.D.Disk.size disk) (g.D.Disk.stands disk) (g.D.Disk.faults disk) in
     taken_before g.D.Disk.tells (apply_all (g.A.Addresser.name c.args.naming.now) (empty_catalogue c.args.shape c.args.shard)) c.args.shape (map f c.args.disks.now) (map f c.loop-attempt.disks) c.take_best.new.views c.args.shard c.in-Ok-Some.catalogue
-    c.requires.shard c.loop-attempt.invariant.still c.in-Ok-Some.ensures.taken
+    c.requires.shard c.loop-attempt.invariant.still
+    (subst (λ o. IfSome o (IsTakenOf g.D.Disk.tells (apply_all (g.A.Addresser.name c.args.naming.now) (empty_catalogue c.args.shape c.args.shard)) c.args.shape (map f c.loop-attempt.disks) c.take_best.new.views c.args.shard)) c.in-Ok-Some.field-0-is c.in-Ok-Some.ensures.taken)
 
 pub returns-in-Ok-Some-clause-still : goal.returns-in-Ok-Some-clause-still
 returns-in-Ok-Some-clause-still g c =
