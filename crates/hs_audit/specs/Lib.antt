@@ -1,0 +1,4 @@
+pub mod Audited
+pub mod Missing
+pub mod Rereading
+pub mod Text
