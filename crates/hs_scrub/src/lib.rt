@@ -1,0 +1,11 @@
+//! Whether the copies of a shard agree, and copying one of them over the others.
+#![tactic(auto)]
+
+mod fault;
+mod look;
+mod mark;
+mod text;
+
+pub use fault::ScrubFault;
+pub use mark::PeerMark;
+pub use text::put_text;
