@@ -1,2 +1,4 @@
+mod LookLemmas
+mod MarkLemmas
 mod TextExamples
 mod TextLemmas

@@ -7,9 +7,9 @@ use Rattle.hs_scrub.specs.declared.mark.PeerMark.{PeerMark}
 use Rattle.hs_scrub.specs.declared.mark.PeerMark.TheVariants.{Same, Behind, Differs, NoLog, Fault}
 
 -- the taken list begins with this one, of this length, and goes on
-pub record IsBehind (taken list : List (ℕ × Entry)) (length : ℕ) : Type 0 where
+pub record IsBehind (taken list : List (ℕ × Entry)) (count : ℕ) : Type 0 where
   pub front : IsPrefix list taken
-  pub length : length ≡ last_of list
+  pub length : count ≡ last_of list
   pub shorter : last_of list < last_of taken
 
 -- the first number under which the list has an entry that is not the taken one's

@@ -1,5 +1,5 @@
 -- What a scrub tells of the disks of a store.
-use Rattle.std.specs.Prelude.{◌≡◌, ◌≤◌, ◌<◌, ◌+◌, ◌*◌, ◌⊎◌, ℕ, Bool, true, false, List, [], length, None, Some, slice_index_or}
+use Rattle.std.specs.Prelude.{◌≡◌, ◌≤◌, ◌<◌, ◌+◌, ◌*◌, ◌⊎◌, ⊤, ℕ, Bool, true, false, List, [], length, None, Some, slice_index_or}
 use Rattle.hs_coldstart.specs.Choose.{is_above}
 use Rattle.hs_entry.specs.declared.entry.Entry.{Entry}
 use Rattle.hs_entry.specs.Entries.{rank_of}
@@ -70,11 +70,11 @@ pub record IsUntaken (shape : Shape) (shard : ℕ) (marks : List PeerMark) (list
   pub none : (peer : ℕ) → IsOf shape shard peer → is_read (mark_at marks peer) ≡ false
   pub empty : list ≡ []
 
--- each peer of a shard has its mark by its cause, and the taken list has this length
-pub record IsScrubbed (tells : Type 0) (shape : Shape) (shard : ℕ) (old new : List DiskSeen) (marks : List PeerMark) (length : ℕ) : Type 0 where
+-- each peer of a shard has its mark by its cause, and the taken list has so many entries
+pub record IsScrubbed (tells : Type 0) (shape : Shape) (shard : ℕ) (old new : List DiskSeen) (marks : List PeerMark) (count : ℕ) : Type 0 where
   pub list : List (ℕ × Entry)
   pub taken : tells → IsTaken shape shard old marks list ⊎ IsUntaken shape shard marks list
-  pub length : tells → length ≡ last_of list
+  pub length : tells → count ≡ last_of list
   pub each : (peer : ℕ) → IsOf shape shard peer → HasCause tells shape peer (seen_at old peer) (seen_at new peer) list (mark_at marks peer)
 
 -- ---- all of them

@@ -101,9 +101,9 @@ pub record AreKept (from to : ℕ) (views views' : List (Option Viewing)) (marks
 
 -- the view of this peer has the greatest rank of those from a peer to another, and is the first of them
 pub record IsGreatest (views : List (Option Viewing)) (from to taken : ℕ) (view : Viewing) : Type 0 where
-  pub from : from ≤ taken
-  pub to : taken < to
-  pub view : view_at views taken ≡ Some view
+  pub low : from ≤ taken
+  pub high : taken < to
+  pub own : view_at views taken ≡ Some view
   pub greatest : (other : ℕ) (its : Viewing) → from ≤ other → other < to → view_at views other ≡ Some its → is_above its.rank view.rank ≡ false
   pub lowest : (other : ℕ) (its : Viewing) → from ≤ other → other < taken → view_at views other ≡ Some its → is_above view.rank its.rank ≡ true
 

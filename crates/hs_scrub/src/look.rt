@@ -91,12 +91,20 @@ fn look_at<D: Disk>(
         (seen_as (D.size disk.new) (D.stands disk.new) (D.faults disk.new)) }
     ensures ticks { watch.old ≤ watch.new }
 {
-    let (view, mark) = match PeerView::read(alloc, disk, watch, shape, peer) {
-        Ok(view) => (Some(view), PeerMark::Same),
-        Err(LogFault::Disk) => (None, PeerMark::Fault),
-        Err(LogFault::NotALog { at }) => (None, PeerMark::NoLog { at }),
-        Err(LogFault::WrongShape { found }) => return Err(ScrubFault::WrongShape { peer, found }),
-        Err(LogFault::NoMemory) => return Err(ScrubFault::NoMemory),
-    };
-    Ok(Look { view, mark })
+    match PeerView::read(alloc, disk, watch, shape, peer) {
+        Ok(view) => Ok(Look {
+            view: Some(view),
+            mark: PeerMark::Same,
+        }),
+        Err(LogFault::Disk) => Ok(Look {
+            view: None,
+            mark: PeerMark::Fault,
+        }),
+        Err(LogFault::NotALog { at }) => Ok(Look {
+            view: None,
+            mark: PeerMark::NoLog { at },
+        }),
+        Err(LogFault::WrongShape { found }) => Err(ScrubFault::WrongShape { peer, found }),
+        Err(LogFault::NoMemory) => Err(ScrubFault::NoMemory),
+    }
 }
