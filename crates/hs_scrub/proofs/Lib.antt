@@ -1,4 +1,5 @@
 mod LookLemmas
 mod MarkLemmas
+mod StillLemmas
 mod TextExamples
 mod TextLemmas

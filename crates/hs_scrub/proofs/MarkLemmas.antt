@@ -4,6 +4,8 @@ use Rattle.std.proofs.lemmas.Bool.Decides.{eqb_tells}
 use Rattle.hs_entry.specs.declared.entry.Entry.{Entry}
 use Rattle.hs_entry.specs.Entries.{IsPrefix, rank_of}
 use Rattle.hs_peerlog.specs.Lists.{GoOn, IsNumbered, last_of, numbered_entry}
+use Rattle.hs_scrub.specs.declared.mark.PeerMark.TheVariants.{Same, Behind, Differs}
+use Rattle.hs_scrub.specs.Marks.{IsMarked}
 use Rattle.hs_taking.proofs.LoadLemmas.{count_is}
 
 -- the two have the same entries under these numbers
@@ -109,3 +111,27 @@ some_kept list index g low =
     let c = count_is list g in
     let k : 0 + index + 1 ≡ index + 1 = omega arith in
     ap (λ j. is_some (numbered_entry list j)) (sym k) ∙ kept_from 0 list index g (omega (arith, low, c))
+
+-- ---- the marks of a comparison
+
+pub agree_less : (whole list : List (ℕ × Entry)) (m n : ℕ) → Agree whole list m → n ≤ m → Agree whole list n
+agree_less whole list m n agree up = record { each = λ number low high. agree.each number low (omega (arith, high, up)) }
+
+pub differs_marked : (whole list : List (ℕ × Entry)) (index : ℕ) → IsNumbered list → Agree whole list index → index < last_of list
+    → (numbered_entry list (index + 1) ≡ numbered_entry whole (index + 1) → ⊥) → IsMarked whole (Differs (index + 1)) list
+differs_marked whole list index g agree low other = record {
+  kept = some_kept list index g low;
+  other = other;
+  first = λ before from under. agree.each before from (omega (arith, under));
+}
+
+pub behind_marked : (whole list : List (ℕ × Entry)) (index count : ℕ) → IsNumbered list → IsNumbered whole → Agree whole list index → last_of list ≤ index
+    → count ≡ last_of list → last_of list < last_of whole → IsMarked whole (Behind count) list
+behind_marked whole list index count g h agree all is less = record {
+  front = front_is whole list g h (agree_less whole list index (last_of list) agree all);
+  length = is;
+  shorter = less;
+}
+
+pub same_marked : (whole list : List (ℕ × Entry)) (index : ℕ) → IsNumbered list → IsNumbered whole → Agree whole list index → last_of list ≤ index → last_of whole ≤ last_of list → IsMarked whole Same list
+same_marked whole list index g h agree all up = same_is whole list g h (front_is whole list g h (agree_less whole list index (last_of list) agree all)) up

@@ -52,6 +52,7 @@ Counts before now log.NoMemory = before ≤ now
 pub record IsLostBy (tells : Type 0) (old new : List DiskSeen) (lost : ℕ) (fault : LogFault) : Type 0 where
   pub still : (peer : ℕ) → IsStill tells (seen_at old peer) (seen_at new peer)
   pub calm : (peer : ℕ) → (peer ≡ lost → ⊥) → (seen_at new peer).faults ≡ (seen_at old peer).faults
+  pub counted : (seen_at old lost).faults ≤ (seen_at new lost).faults
   pub counts : Counts (seen_at old lost).faults (seen_at new lost).faults fault
 
 -- ---- what was found of each peer
@@ -123,3 +124,54 @@ pub record HasNoView (views : List (Option Viewing)) (from to length : ℕ) : Ty
 
 abbrev pub IsDone : Type 0 → List DiskSeen → List (Option Viewing) → List PeerMark → ℕ → ℕ → ℕ → Type 0
 IsDone tells begun views marks from to length = IsMeasured tells begun views marks from to length ⊎ HasNoView views from to length
+
+-- ---- calls that mark peers
+
+-- the disks, the views and the marks at some time
+pub record State : Type 0 where
+  pub disks : List DiskSeen
+  pub views : List (Option Viewing)
+  pub marks : List PeerMark
+
+-- what was found of each peer is so still, and some views may be gone
+pub record Walks (tells : Type 0) (old new : State) : Type 0 where
+  pub called : AreCalled tells old.disks new.disks
+  pub views : AreViews tells new.views new.disks
+  pub looked : (shape : Shape) (begun : List DiskSeen) (count : ℕ) → AreLooked tells shape begun old.disks old.views old.marks count
+      → AreLooked tells shape begun new.disks new.views new.marks count
+  pub fewer : AreFewer old.views new.views
+
+-- so, and nothing but the view and the mark of this peer changed
+pub record Touches (tells : Type 0) (at : ℕ) (old new : State) : Type 0 where
+  pub walks : Walks tells old new
+  pub view : (peer : ℕ) → (peer ≡ at → ⊥) → view_at new.views peer ≡ view_at old.views peer
+  pub mark : (peer : ℕ) → (peer ≡ at → ⊥) → mark_at new.marks peer ≡ mark_at old.marks peer
+
+-- peers were marked by the list of the taken one, whose view stands: of those from a peer to another the first
+pub record Goes (tells : Type 0) (from upto to taken : ℕ) (old new : State) : Type 0 where
+  pub walks : Walks tells old new
+  pub kept : AreKept from to old.views new.views old.marks new.marks
+  pub view : view_at new.views taken ≡ view_at old.views taken
+  pub same : mark_at new.marks taken ≡ Same
+  pub fits : (shape : Shape) (begun : List DiskSeen) (count : ℕ) → AreLooked tells shape begun old.disks old.views old.marks count → to ≤ count
+      → (peer : ℕ) → from ≤ peer → peer < upto → Fits tells (seen_at begun taken) (seen_at begun peer) (view_at new.views peer) (mark_at new.marks peer)
+
+-- the view of the taken one is gone
+pub record Ends (tells : Type 0) (from to taken : ℕ) (old new : State) : Type 0 where
+  pub walks : Walks tells old new
+  pub kept : AreKept from to old.views new.views old.marks new.marks
+  pub gone : view_at new.views taken ≡ None
+
+-- all of a shard is marked
+pub record Settles (tells : Type 0) (from to length : ℕ) (old new : State) : Type 0 where
+  pub walks : Walks tells old new
+  pub kept : AreKept from to old.views new.views old.marks new.marks
+  pub done : (shape : Shape) (begun : List DiskSeen) (count : ℕ) → AreLooked tells shape begun old.disks old.views old.marks count → to ≤ count
+      → IsDone tells begun new.views new.marks from to length
+
+-- the mark of a peer of whose log a read was refused so, None for want of memory; that another store's header was read can't be
+abbrev pub mark_of : LogFault → Option PeerMark
+mark_of (log.NotALog at) = Some (NoLog at)
+mark_of (log.WrongShape found) = Some (NoLog 6)
+mark_of log.Disk = Some Fault
+mark_of log.NoMemory = None

@@ -1,6 +1,7 @@
 //! Whether the copies of a shard agree, and copying one of them over the others.
 #![tactic(auto)]
 
+mod compare;
 mod fault;
 mod look;
 mod mark;
