@@ -1,5 +1,5 @@
 -- What a scrub tells of the disks of a store.
-use Rattle.std.specs.Prelude.{◌≡◌, ◌≤◌, ◌<◌, ◌+◌, ◌*◌, ◌⊎◌, ⊤, ℕ, Bool, true, false, List, [], length, None, Some, slice_index_or}
+use Rattle.std.specs.Prelude.{◌≡◌, ◌≤◌, ◌<◌, ◌+◌, ◌*◌, ◌⊎◌, ⊤, ℕ, Bool, true, false, List, [], ◌++◌, length, None, Some, slice_index_or}
 use Rattle.hs_coldstart.specs.Choose.{is_above}
 use Rattle.hs_entry.specs.declared.entry.Entry.{Entry}
 use Rattle.hs_entry.specs.Entries.{rank_of}
@@ -17,6 +17,7 @@ use Rattle.hs_scrub.specs.declared.fault.ScrubFault.TheVariants.{WrongShape, NoM
 use Rattle.hs_scrub.specs.declared.mark.PeerMark.{PeerMark}
 use Rattle.hs_scrub.specs.declared.mark.PeerMark.TheVariants.{Same, Behind, Differs, NoLog, Fault}
 use Rattle.hs_scrub.specs.Marks.{IsMarked, is_read}
+use Rattle.hs_scrub.specs.Text.{scrub_text}
 use Rattle.hs_side.specs.Current.{list_in}
 use Rattle.hs_taking.specs.Disks.{DiskSeen, seen_at}
 use Rattle.hs_taking.specs.Viewed.{IsFirstOther}
@@ -88,3 +89,9 @@ pub record AreScrubbed (tells : Type 0) (shape : Shape) (old new : List DiskSeen
 abbrev pub IsOther : Type 0 → Shape → List DiskSeen → List DiskSeen → ScrubFault → Type 0
 IsOther tells shape old new (WrongShape peer found) = IsFirstOther tells shape old new peer found
 IsOther tells shape old new NoMemory = ⊤
+
+-- what a scrub tells: each peer's mark by its cause, and the text of the marks
+pub record HasScrubbed (tells : Type 0) (shape : Shape) (old new : List DiskSeen) (marks : List PeerMark) (before after : List ℕ) : Type 0 where
+  pub lengths : List ℕ
+  pub marked : AreScrubbed tells shape old new marks lengths
+  pub text : after ≡ before ++ scrub_text shape.copies lengths marks

@@ -1,8 +1,9 @@
 -- Words of the private steps; no public clause cites them.
-use Rattle.std.specs.Prelude.{◌≡◌, ◌≤◌, ◌<◌, ◌⊎◌, ℕ, ⊤, true, false, List, Option, None, Some, IfSome, MatchOption, slice_index_or}
+use Rattle.std.specs.Prelude.{◌≡◌, ◌≤◌, ◌<◌, ◌+◌, ◌*◌, ◌⊎◌, ℕ, ⊤, true, false, List, Option, None, Some, IfSome, MatchOption, slice_index_or}
 use Rattle.hs_coldstart.specs.Choose.{is_above}
 use Rattle.hs_entry.specs.declared.entry.Entry.{Entry}
 use Rattle.hs_limits.specs.declared.shape.Shape.{Shape}
+use Rattle.hs_limits.specs.Shape.{peer_of}
 use Rattle.hs_peerlog.specs.declared.fault.LogFault.{LogFault}
 use Rattle.hs_peerlog.specs.declared.fault.LogFault.TheVariants as log
 use Rattle.hs_peerlog.specs.Opening.{refusal_in}
@@ -175,3 +176,9 @@ mark_of (log.NotALog at) = Some (NoLog at)
 mark_of (log.WrongShape found) = Some (NoLog 6)
 mark_of log.Disk = Some Fault
 mark_of log.NoMemory = None
+
+-- so many shards are marked, the taken log of each of which has this length
+pub record AreDone (tells : Type 0) (shape : Shape) (upto : ℕ) (lengths : List ℕ) (old new : State) : Type 0 where
+  pub walks : Walks tells old new
+  pub done : (shard : ℕ) → shard < upto → (of : Shape) (begun : List DiskSeen) (count : ℕ) → AreLooked tells of begun old.disks old.views old.marks count → shape.shards * shape.copies ≤ count
+      → IsDone tells begun new.views new.marks (peer_of shape shard 0) (peer_of shape shard 0 + shape.copies) (slice_index_or lengths shard 0)

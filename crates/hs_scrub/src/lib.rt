@@ -5,8 +5,10 @@ mod compare;
 mod fault;
 mod look;
 mod mark;
+mod scrub;
+mod shard;
 mod text;
 
 pub use fault::ScrubFault;
 pub use mark::PeerMark;
-pub use text::put_text;
+pub use scrub::scrub;

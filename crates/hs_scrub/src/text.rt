@@ -10,7 +10,7 @@ use std::io::Write;
 
 /// Puts the text of a scrub at the end of `out`: a line for each peer, and the last one. `lengths` has
 /// by shard the number of the last entry of its taken log, and `copies` are those of a shard.
-pub fn put_text(
+pub(crate) fn put_text(
     copies: u8,
     lengths: &[u64],
     marks: &[PeerMark],
