@@ -1,5 +1,5 @@
 -- What a scrub tells of all shards.
-use Rattle.std.proofs.Common.{◌≡◌, ◌≢◌, ◌∙◌, inl, inr, ap, sym, subst, ℕ, suc, ◌+◌, ◌*◌, ◌<◌, ◌≤◌, true, false, List, [], ◌∷◌, ◌++◌, map, length, Option, Some, None, IsSome, refl, arith}
+use Rattle.std.proofs.Common.{◌≡◌, ◌≢◌, ◌∙◌, inl, inr, ap, sym, subst, ℕ, suc, ◌+◌, ◌*◌, ◌<◌, ◌≤◌, true, false, List, [], ◌∷◌, ◌++◌, take, drop, map, length, Option, Some, None, IsSome, refl, arith}
 use Rattle.std.proofs.lemmas.Bool.{cases_eq}
 use Rattle.std.proofs.lemmas.List.{get_or_push}
 use Rattle.std.proofs.Math.ListN.{get_or-append}
@@ -229,4 +229,25 @@ only_called tells before now a b c one still up = record {
   seen = λ told side. ap (λ (d : Standing). d.seen side) (still.stands told) ∙ one.seen told side;
   moments = λ told last. subst (λ (d : Standing). LeavesAll before now a.stands d) (sym (still.stands told)) (one.moments told last);
   counted = let k = one.counted in omega (arith, k, up);
+}
+
+-- what a call that was lent a whole list wrote back
+pub written_back : {A : Type 0} (new old : List A) (n : ℕ) → length new ≡ length old → n ≡ length old → take n (new ++ drop (length new) old) ≡ new
+written_back {A = A} new old n same is = ap (λ k. take k (new ++ drop (length new) old)) (is ∙ sym same) ∙ go new old same
+  where
+    go : (new old : List A) → length new ≡ length old → take (length new) (new ++ drop (length new) old) ≡ new
+    go [] old same = refl
+    go (x ∷ new) [] same = absurd (omega (arith, same))
+    go (x ∷ new) (y ∷ old) same = ap (λ xs. x ∷ xs) (go new old (omega (arith, same)))
+
+-- all that is told of some disks
+pub scrubbed_so : (tells : Type 0) (shape : Shape) (old mid new : List DiskSeen) (views : List (Option Viewing)) (marks : List PeerMark) (lengths : List ℕ) (views' : List (Option Viewing)) (marks' : List PeerMark) (total : ℕ) → total ≡ shape.shards * shape.copies → length marks' ≡ total → length lengths ≡ shape.shards
+    → AreLooked tells shape old mid views marks total → AreDone tells shape shape.shards lengths (record { disks = mid; views = views; marks = marks }) (record { disks = new; views = views'; marks = marks' }) → AreScrubbed tells shape old new marks' lengths
+scrubbed_so tells shape old mid new views marks lengths views' marks' total total_is many shards looked done = record {
+  peers = many ∙ total_is;
+  shards = shards;
+  each = λ shard low.
+      let w = shard_within shape shard low in
+      scrubbed_of tells shape old new views' marks' total (done.walks.looked shape old total looked) shard (slice_index_or lengths shard 0) (omega (arith, w, total_is))
+      (done.done shard low shape old total looked (omega (arith, total_is)));
 }

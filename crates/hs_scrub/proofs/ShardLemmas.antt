@@ -204,7 +204,7 @@ module _ (tells : Type 0) (a b : List DiskSeen) (views : List (Option Viewing)) 
 
 -- ---- all peers of a shard are marked
 
-walks_none : (tells : Type 0) (s : State) → AreViews tells s.views s.disks → Walks tells s s
+pub walks_none : (tells : Type 0) (s : State) → AreViews tells s.views s.disks → Walks tells s s
 walks_none tells s ready = record {
   called = still_called tells s.disks s.disks (calm_none tells s.disks);
   views = ready;
@@ -212,7 +212,7 @@ walks_none tells s ready = record {
   fewer = λ peer. inl refl;
 }
 
-walks_then : (tells : Type 0) (a b c : State) → Walks tells a b → Walks tells b c → Walks tells a c
+pub walks_then : (tells : Type 0) (a b c : State) → Walks tells a b → Walks tells b c → Walks tells a c
 walks_then tells a b c one two = record {
   called = record {
     still = λ peer. still_then tells (seen_at a.disks peer) (seen_at b.disks peer) (seen_at c.disks peer) (one.called.still peer) (two.called.still peer);

@@ -5,10 +5,10 @@ mod compare;
 mod fault;
 mod look;
 mod mark;
-mod scrub;
+mod scrubbing;
 mod shard;
 mod text;
 
 pub use fault::ScrubFault;
 pub use mark::PeerMark;
-pub use scrub::scrub;
+pub use scrubbing::scrub;

@@ -36,4 +36,16 @@ mark_one-requires-clause-stands g c =
 
 pub loop-place-preserved : goal.loop-place-preserved
 loop-place-preserved g c =
-    ?
+    let f : g.row.D.Denot → DiskSeen = λ disk. seen_as (g.D.Disk.size disk) (g.D.Disk.stands disk) (g.D.Disk.faults disk) in
+    let a : State = state (map f c.args.disks.now) c.args.views.now c.args.marks.now in
+    let inv = c.loop-place.invariant in
+    let b : State = state (map f c.loop-place.disks) c.loop-place.views c.loop-place.marks in
+    let d : State = state (map f c.mark_one.new.disks) c.mark_one.new.views c.mark_one.new.marks in
+    record {
+      goes = goes_more g.D.Disk.tells c.args.from c.args.to c.args.taken c.loop-place.place a b d inv.from c.loop-place-test.true c.requires.high inv.goes (c.in-Ok.ensures.goes c.if-not-lasts.false) (c.in-Ok.ensures.own c.if-not-lasts.false)
+          (λ shape begun count looked low under. c.in-Ok.ensures.fits c.if-not-lasts.false shape begun count looked low under);
+      from = omega (arith, inv.from);
+      views = omega (arith, c.mark_one.ensures.views, inv.views);
+      marks = omega (arith, c.mark_one.ensures.marks, inv.marks);
+      count = omega (arith, c.mark_one.ensures.count, inv.count);
+    }
