@@ -1,3 +1,4 @@
+mod CauseLemmas
 mod LookLemmas
 mod MarkLemmas
 mod ScrubLemmas

@@ -8,24 +8,6 @@ use Rattle.hs_scrub.specs.declared.mark.PeerMark.TheVariants.{Same, Behind, Diff
 use Rattle.hs_scrub.specs.Marks.{IsMarked}
 use Rattle.hs_taking.proofs.LoadLemmas.{count_is}
 
--- the two have the same entries under these numbers
-pub record Agree (whole list : List (ℕ × Entry)) (upto : ℕ) : Type 0 where
-  pub each : (number : ℕ) → 1 ≤ number → number ≤ upto → numbered_entry list number ≡ numbered_entry whole number
-
-pub agree_none : (whole list : List (ℕ × Entry)) → Agree whole list 0
-agree_none whole list = record { each = λ number low high. absurd (omega (arith, low, high)) }
-
-pub agree_more : (whole list : List (ℕ × Entry)) (index : ℕ) → Agree whole list index → numbered_entry list (index + 1) ≡ numbered_entry whole (index + 1) → Agree whole list (index + 1)
-agree_more whole list index so_far here = record {
-  each = λ number low high. elim (eqb_tells number (index + 1)) [
-    | inl same ↦ ap (λ n. numbered_entry list n) same.1 ∙ here ∙ ap (λ n. numbered_entry whole n) (sym same.1)
-    | inr differ ↦ let d = differ.1 in so_far.each number low (less number high d)
-  ];
-}
-  where
-    less : (number : ℕ) → number ≤ index + 1 → number ≢ index + 1 → number ≤ index
-    less number high d = omega (arith, high, d)
-
 -- ---- the entry of a number
 
 here_is : (x : ℕ × Entry) (xs : List (ℕ × Entry)) (n : ℕ) → x.0 ≡ n → numbered_entry (x ∷ xs) n ≡ Some x.1
@@ -44,6 +26,24 @@ there_is x xs n is = elim (eqb_tells x.0 n) [
 none_below : (n k : ℕ) (es : List (ℕ × Entry)) → GoOn n es → k ≤ n → numbered_entry es k ≡ None
 none_below n k [] g low = refl
 none_below n k (x ∷ es) g low = let a = g.0 in there_is x es k (λ same. omega (arith, low, same, a)) ∙ none_below (n + 1) k es g.2 (omega (arith, low))
+
+-- the two have the same entries under these numbers
+pub record Agree (whole list : List (ℕ × Entry)) (upto : ℕ) : Type 0 where
+  pub each : (number : ℕ) → number ≤ upto → numbered_entry list number ≡ numbered_entry whole number
+
+pub agree_none : (whole list : List (ℕ × Entry)) → IsNumbered list → IsNumbered whole → Agree whole list 0
+agree_none whole list g h = record { each = λ number high. none_below 0 number list g high ∙ sym (none_below 0 number whole h high) }
+
+pub agree_more : (whole list : List (ℕ × Entry)) (index : ℕ) → Agree whole list index → numbered_entry list (index + 1) ≡ numbered_entry whole (index + 1) → Agree whole list (index + 1)
+agree_more whole list index so_far here = record {
+  each = λ number high. elim (eqb_tells number (index + 1)) [
+    | inl same ↦ ap (λ n. numbered_entry list n) same.1 ∙ here ∙ ap (λ n. numbered_entry whole n) (sym same.1)
+    | inr differ ↦ let d = differ.1 in so_far.each number (less number high d)
+  ];
+}
+  where
+    less : (number : ℕ) → number ≤ index + 1 → number ≢ index + 1 → number ≤ index
+    less number high d = omega (arith, high, d)
 
 some_is : (a b : Entry) → Some a ≡ Some b → a ≡ b
 some_is a b e = cc e
@@ -69,7 +69,7 @@ front_from n (x ∷ list) (y ∷ whole) g h agree =
 pub front_is : (whole list : List (ℕ × Entry)) → IsNumbered list → IsNumbered whole → Agree whole list (last_of list) → IsPrefix list whole
 front_is whole list g h agree =
     let c = count_is list g in
-    front_from 0 list whole g h (λ k low high. agree.each k (omega (arith, low)) (omega (arith, high, c)))
+    front_from 0 list whole g h (λ k low high. agree.each k (omega (arith, high, c)))
 
 -- and where it is not shorter it is the other
 longer : (list rest : List (ℕ × Entry)) → length (list ++ rest) ≡ length list + length rest
@@ -115,14 +115,14 @@ some_kept list index g low =
 -- ---- the marks of a comparison
 
 pub agree_less : (whole list : List (ℕ × Entry)) (m n : ℕ) → Agree whole list m → n ≤ m → Agree whole list n
-agree_less whole list m n agree up = record { each = λ number low high. agree.each number low (omega (arith, high, up)) }
+agree_less whole list m n agree up = record { each = λ number high. agree.each number (omega (arith, high, up)) }
 
 pub differs_marked : (whole list : List (ℕ × Entry)) (index : ℕ) → IsNumbered list → Agree whole list index → index < last_of list
     → (numbered_entry list (index + 1) ≡ numbered_entry whole (index + 1) → ⊥) → IsMarked whole (Differs (index + 1)) list
 differs_marked whole list index g agree low other = record {
   kept = some_kept list index g low;
   other = other;
-  first = λ before from under. agree.each before from (omega (arith, under));
+  first = λ before under. agree.each before (omega (arith, under));
 }
 
 pub behind_marked : (whole list : List (ℕ × Entry)) (index count : ℕ) → IsNumbered list → IsNumbered whole → Agree whole list index → last_of list ≤ index

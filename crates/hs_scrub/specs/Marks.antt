@@ -1,5 +1,5 @@
 -- How a list stands beside the taken one: both are numbered from 1 on, without a Base.
-use Rattle.std.specs.Prelude.{◌≡◌, ◌≤◌, ◌<◌, ℕ, Bool, true, false, List, is_some}
+use Rattle.std.specs.Prelude.{◌≡◌, ◌<◌, ℕ, Bool, true, false, List, is_some}
 use Rattle.hs_entry.specs.declared.entry.Entry.{Entry}
 use Rattle.hs_entry.specs.Entries.{IsPrefix}
 use Rattle.hs_peerlog.specs.Lists.{last_of, numbered_entry}
@@ -16,8 +16,7 @@ pub record IsBehind (taken list : List (ℕ × Entry)) (count : ℕ) : Type 0 wh
 pub record IsFirstOther (taken list : List (ℕ × Entry)) (number : ℕ) : Type 0 where
   pub kept : is_some (numbered_entry list number) ≡ true
   pub other : numbered_entry list number ≡ numbered_entry taken number → ⊥
-  pub first : (before : ℕ) → 1 ≤ before → before < number
-      → numbered_entry list before ≡ numbered_entry taken before
+  pub first : (before : ℕ) → before < number → numbered_entry list before ≡ numbered_entry taken before
 
 -- what a mark says of a list beside the taken one
 abbrev pub IsMarked : List (ℕ × Entry) → PeerMark → List (ℕ × Entry) → Type 0

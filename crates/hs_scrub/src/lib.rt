@@ -3,6 +3,7 @@
 
 mod compare;
 mod fault;
+mod laws;
 mod look;
 mod mark;
 mod scrubbing;
@@ -10,5 +11,6 @@ mod shard;
 mod text;
 
 pub use fault::ScrubFault;
+pub use laws::{each_mark_is_by_its_cause, none_is_bad_where_all_are_same};
 pub use mark::PeerMark;
 pub use scrubbing::scrub;

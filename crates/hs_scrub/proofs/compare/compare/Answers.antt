@@ -15,7 +15,7 @@ entries-init g c =
     record {
       still = calm_none g.D.Disk.tells old;
       count = refl;
-      agree = λ told whole list has own. agree_none whole list;
+      agree = λ told whole list has own. agree_none whole list own.numbered has.numbered;
     }
 
 pub read_at-requires-clause-stands : goal.read_at-requires-clause-stands
