@@ -1,6 +1,5 @@
 -- No two marks have their causes.
-use Rattle.std.proofs.Common.{◌≡◌, ◌≢◌, ◌∙◌, ◌↔◌, ap, sym, subst, ℕ, zero, suc, ◌+◌, ◌<◌, ◌≤◌, ◌⊎◌, ◌++◌, Bool, true, false, not, cond, eqb, List, [], ◌∷◌, length, Option, Some, None, is_some, inl, inr, refl, arith}
-use Rattle.std.proofs.lemmas.Bool.Decides.{eqb_tells}
+use Rattle.std.proofs.Common.{◌≡◌, ◌∙◌, ap, sym, subst, ℕ, zero, suc, ◌+◌, ◌<◌, ◌≤◌, ◌⊎◌, ◌++◌, Bool, true, false, not, cond, eqb, List, [], ◌∷◌, length, Some, None, is_some, inl, inr, refl, arith}
 use Rattle.std.proofs.lemmas.List.Sums.{sum_by-cons}
 use Rattle.hs_entry.specs.declared.entry.Entry.{Entry}
 use Rattle.hs_limits.specs.declared.shape.Shape.{Shape}
@@ -13,7 +12,6 @@ use Rattle.hs_scrub.specs.declared.mark.PeerMark.TheVariants.{Same, Behind, Diff
 use Rattle.hs_scrub.specs.Marks.{IsBehind, IsFirstOther, IsMarked}
 use Rattle.hs_scrub.specs.Scrubbed.{HasCause, IsListed, mark_at}
 use Rattle.hs_scrub.specs.Text.{bad_of, is_same}
-use Rattle.hs_side.specs.Current.{list_in}
 use Rattle.hs_taking.specs.Disks.{DiskSeen}
 
 -- an entry of a front is one of the whole

@@ -1,5 +1,5 @@
 -- Reading the disks one after another.
-use Rattle.std.proofs.Common.{◌≡◌, ◌≢◌, ◌∙◌, inl, inr, ap, sym, subst, ℕ, ◌+◌, ◌*◌, ◌<◌, ◌≤◌, true, false, List, [], ◌∷◌, ◌++◌, map, length, Option, Some, None, refl, arith}
+use Rattle.std.proofs.Common.{◌≡◌, ◌≢◌, ◌∙◌, inl, inr, ap, sym, subst, ℕ, ◌+◌, ◌*◌, ◌<◌, List, [], ◌∷◌, ◌++◌, map, length, Option, Some, None, refl, arith}
 use Rattle.std.proofs.lemmas.Bool.{cases_eq}
 use Rattle.std.proofs.lemmas.List.{get_or_push}
 use Rattle.std.proofs.Math.ListN.{get_or-append}
@@ -48,12 +48,12 @@ module _ {A : Type 0} (f : A → DiskSeen) (tells : Type 0) (shape : Shape) (bef
     looked_more view mark count many one = record {
       each = λ peer within. each_set f disks i x low (λ p (s : DiskSeen). IsLooked tells shape p (seen_at old p) s (view_at (views ++ view ∷ []) p) (mark_at (marks ++ mark ∷ []) p)) peer
           (λ differs.
-            let less : peer < i = omega (arith, within, differs) in
-            subst (λ v. IsLooked tells shape peer (seen_at old peer) (seen_at (map f disks) peer) v (mark_at (marks ++ mark ∷ []) peer)) (sym (get_or-append views (view ∷ []) None peer (omega (arith, less, count))))
-            (subst (λ m. IsLooked tells shape peer (seen_at old peer) (seen_at (map f disks) peer) (view_at views peer) m) (sym (get_or-append marks (mark ∷ []) Fault peer (omega (arith, less, many)))) (so_far.each peer less)))
+          let less : peer < i = omega (arith, within, differs) in
+          subst (λ v. IsLooked tells shape peer (seen_at old peer) (seen_at (map f disks) peer) v (mark_at (marks ++ mark ∷ []) peer)) (sym (get_or-append views (view ∷ []) None peer (omega (arith, less, count))))
+          (subst (λ m. IsLooked tells shape peer (seen_at old peer) (seen_at (map f disks) peer) (view_at views peer) m) (sym (get_or-append marks (mark ∷ []) Fault peer (omega (arith, less, many)))) (so_far.each peer less)))
           (λ same.
-            subst (λ v. IsLooked tells shape i (seen_at old i) (f x) v (mark_at (marks ++ mark ∷ []) i)) (sym (get_or_push views view None i count))
-            (subst (λ m. IsLooked tells shape i (seen_at old i) (f x) view m) (sym (get_or_push marks mark Fault i many)) (subst (λ (s : DiskSeen). IsLooked tells shape i s (f x) view mark) was one)));
+          subst (λ v. IsLooked tells shape i (seen_at old i) (f x) v (mark_at (marks ++ mark ∷ []) i)) (sym (get_or_push views view None i count))
+          (subst (λ m. IsLooked tells shape i (seen_at old i) (f x) view m) (sym (get_or_push marks mark Fault i many)) (subst (λ (s : DiskSeen). IsLooked tells shape i s (f x) view mark) was one)));
     }
 
     -- a disk of another store

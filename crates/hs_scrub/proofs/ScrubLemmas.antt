@@ -1,5 +1,5 @@
 -- What a scrub tells of all shards.
-use Rattle.std.proofs.Common.{◌≡◌, ◌≢◌, ◌∙◌, inl, inr, ap, sym, subst, ℕ, suc, ◌+◌, ◌*◌, ◌<◌, ◌≤◌, true, false, List, [], ◌∷◌, ◌++◌, take, drop, map, length, Option, Some, None, IsSome, refl, arith}
+use Rattle.std.proofs.Common.{◌≡◌, ◌∙◌, inl, inr, ap, sym, subst, ℕ, suc, ◌+◌, ◌*◌, ◌<◌, ◌≤◌, true, false, List, [], ◌∷◌, ◌++◌, take, drop, length, Option, Some, None, IsSome, refl, arith}
 use Rattle.std.proofs.lemmas.Bool.{cases_eq}
 use Rattle.std.proofs.lemmas.List.{get_or_push}
 use Rattle.std.proofs.Math.ListN.{get_or-append}
@@ -13,14 +13,14 @@ use Rattle.hs_limits.specs.declared.shape.Shape.{Shape}
 use Rattle.hs_limits.specs.Shape.{peer_of}
 use Rattle.hs_peerlog.specs.Images.{LeavesAll}
 use Rattle.hs_peerlog.specs.Lists.{last_of}
-use Rattle.hs_peerlog.specs.Views.{HasView, Viewing}
+use Rattle.hs_peerlog.specs.Views.{Viewing}
 use Rattle.hs_ports.specs.Disk.{Standing}
 use Rattle.hs_scrub.proofs.ShardLemmas.{walks_none, walks_then}
 use Rattle.hs_scrub.specs.declared.mark.PeerMark.{PeerMark}
 use Rattle.hs_scrub.specs.declared.mark.PeerMark.TheVariants.{Same, Behind, Differs, NoLog, Fault}
 use Rattle.hs_scrub.specs.Marks.{IsMarked, is_read}
-use Rattle.hs_scrub.specs.Scrubbed.{AreScrubbed, HasCause, IsListed, IsOf, IsScrubbed, IsTaken, IsUntaken, mark_at}
-use Rattle.hs_scrub.specs.Steps.{AreCalled, AreDone, AreKept, AreLooked, AreViews, Fits, HasNoView, IsDone, IsGreatest, IsLooked, IsLost, IsMeasured, IsStill, Settles, State, Walks, view_at}
+use Rattle.hs_scrub.specs.Scrubbed.{AreScrubbed, HasCause, IsListed, IsOf, IsScrubbed, mark_at}
+use Rattle.hs_scrub.specs.Steps.{AreDone, AreKept, AreLooked, AreViews, Fits, IsDone, IsLooked, IsLost, IsStill, Settles, State, view_at}
 use Rattle.hs_side.specs.Current.{list_in}
 use Rattle.hs_taking.specs.Disks.{DiskSeen, seen_at}
 use Rattle.hs_taking.specs.Viewed.{HasViewed, IsOnlyRead}

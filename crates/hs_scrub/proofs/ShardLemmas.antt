@@ -1,9 +1,9 @@
 -- Marking the peers of a shard.
-use Rattle.std.proofs.Common.{◌≡◌, ◌≢◌, ◌⊎◌, ◌∙◌, inl, inr, ap, sym, subst, ℕ, zero, suc, ◌+◌, ◌-◌, ◌<◌, ◌≤◌, true, false, not, eqb, List, [], ◌∷◌, map, length, Option, Some, None, IsSome, is_some, refl, arith}
+use Rattle.std.proofs.Common.{◌≡◌, ◌≢◌, ◌⊎◌, ◌∙◌, inl, inr, ap, sym, subst, ℕ, zero, suc, ◌+◌, ◌-◌, ◌<◌, ◌≤◌, true, false, not, eqb, List, [], ◌∷◌, length, Option, Some, None, IsSome, refl, arith}
 use Rattle.std.proofs.lemmas.Bool.{cases_eq}
 use Rattle.std.proofs.lemmas.Bool.Decides.{eqb_tells}
 use Rattle.std.proofs.lemmas.List.{get_or-set_other, get_or-set_same}
-use Rattle.std.specs.Prelude.{IfSome, slice_index_or, slice_set}
+use Rattle.std.specs.Prelude.{slice_index_or, slice_set}
 use Rattle.hs_entry.specs.declared.entry.Entry.{Entry}
 use Rattle.hs_limits.specs.declared.shape.Shape.{Shape}
 use Rattle.hs_peerlog.specs.Caused.{IsOutside}
@@ -12,14 +12,13 @@ use Rattle.hs_peerlog.specs.declared.fault.LogFault.TheVariants as log
 use Rattle.hs_peerlog.specs.Views.{HasView, Viewing}
 use Rattle.hs_ports.specs.Disk.{Standing}
 use Rattle.hs_ports.specs.Fault.{HasRisen}
-use Rattle.hs_scrub.proofs.StillLemmas.{calm_none, has_still, lost_called, stands_still, still_called, still_none, still_then}
+use Rattle.hs_scrub.proofs.StillLemmas.{calm_none, has_still, lost_called, stands_still, still_called, still_then}
 use Rattle.hs_scrub.specs.declared.mark.PeerMark.{PeerMark}
 use Rattle.hs_scrub.specs.declared.mark.PeerMark.TheVariants.{Same, Behind, Differs, NoLog, Fault}
 use Rattle.hs_scrub.specs.Marks.{IsMarked, is_read}
 use Rattle.hs_scrub.specs.Scrubbed.{mark_at}
-use Rattle.hs_scrub.specs.Steps.{AreCalled, AreFewer, AreKept, AreLooked, AreStill, AreViews, Counts, Ends, Fits, Goes, HasNoView, IsDone, IsGreatest, IsLooked, IsLost, IsLostBy, IsMeasured, IsStill, Settles, State, Touches, Walks, mark_of, view_at}
+use Rattle.hs_scrub.specs.Steps.{AreFewer, AreKept, AreLooked, AreStill, AreViews, Counts, Ends, Fits, Goes, IsGreatest, IsLooked, IsLost, IsLostBy, IsStill, Settles, State, Touches, Walks, mark_of, view_at}
 use Rattle.hs_side.specs.Current.{list_in}
-use Rattle.hs_side.specs.Standing.{Stands}
 use Rattle.hs_taking.specs.Disks.{DiskSeen, seen_at}
 use Rattle.hs_taking.specs.Viewed.{HasViewed}
 
@@ -200,7 +199,6 @@ module _ (tells : Type 0) (a b : List DiskSeen) (views : List (Option Viewing)) 
       where
         gone : (view : Viewing) → None ≡ Some view → ⊥
         gone view e = cc e
-
 
 -- ---- all peers of a shard are marked
 

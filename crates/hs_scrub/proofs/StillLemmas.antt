@@ -1,5 +1,5 @@
 -- Reads of disks that stand.
-use Rattle.std.proofs.Common.{◌≡◌, ◌≢◌, ◌∙◌, inl, inr, ap, sym, subst, ℕ, ◌+◌, ◌<◌, ◌≤◌, List, map, length, Option, Some, None, refl, arith}
+use Rattle.std.proofs.Common.{◌≡◌, ◌≢◌, ◌∙◌, inl, inr, ap, sym, subst, ℕ, ◌<◌, ◌≤◌, List, map, length, refl, arith}
 use Rattle.std.proofs.lemmas.Bool.{cases_eq}
 use Rattle.std.specs.Prelude.{Err, IfErr, Ok, OnOk, Result, slice_index_or, slice_set}
 use Rattle.hs_entry.specs.declared.entry.Entry.{Entry}
@@ -8,13 +8,12 @@ use Rattle.hs_peerlog.specs.declared.fault.LogFault.{LogFault}
 use Rattle.hs_peerlog.specs.declared.fault.LogFault.TheVariants as log
 use Rattle.hs_peerlog.specs.Views.{HasView, Viewing}
 use Rattle.hs_ports.specs.Disk.{Standing}
-use Rattle.hs_ports.specs.declared.disk.Side.{Side}
-use Rattle.hs_ports.specs.Fault.{HasRisen, IsCausedBy}
+use Rattle.hs_ports.specs.Fault.{IsCausedBy}
 use Rattle.hs_scrub.proofs.LookLemmas.{each_set}
 use Rattle.hs_scrub.specs.Steps.{AreCalled, AreStill, Counts, IsLostBy, IsStill}
 use Rattle.hs_side.specs.Standing.{HasBytes, HasRoom, SideState, Stands}
-use Rattle.hs_taking.proofs.DiskLemmas.{seen_here, seen_is, seen_there}
-use Rattle.hs_taking.specs.Disks.{DiskSeen, seen_as, seen_at}
+use Rattle.hs_taking.proofs.DiskLemmas.{seen_here, seen_is}
+use Rattle.hs_taking.specs.Disks.{DiskSeen, seen_at}
 
 -- ---- one disk
 

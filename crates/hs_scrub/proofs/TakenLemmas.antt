@@ -1,5 +1,5 @@
 -- Whose log is taken of some views.
-use Rattle.std.proofs.Common.{◌≡◌, ◌≢◌, ◌∙◌, ap, sym, subst, ℕ, zero, suc, ◌+◌, ◌-◌, ◌<◌, ◌≤◌, ◌&&◌, Bool, true, false, not, List, [], ◌∷◌, take, drop, map, length, Option, Some, None, is_some, refl, arith}
+use Rattle.std.proofs.Common.{◌≡◌, ◌∙◌, ap, sym, subst, ℕ, zero, suc, ◌+◌, ◌-◌, ◌<◌, ◌≤◌, ◌&&◌, Bool, true, false, not, List, [], ◌∷◌, take, drop, map, length, Option, Some, None, is_some, refl, arith}
 use Rattle.std.proofs.lemmas.Bool.Decides.{nat_tests}
 use Rattle.std.proofs.lemmas.List.Quantifiers.{position-Some}
 use Rattle.std.specs.List.{list_all, list_any}
@@ -107,20 +107,22 @@ part_long f (suc n) (suc from) (x ∷ xs) h = part_long f (suc n) from xs (omega
 
 pub taken_is : (views : List (Option Viewing)) (ranks own : List (Option Rank)) (from to copy : ℕ) → from ≤ to → to ≤ length views → ranks ≡ map rank_in views → own ≡ take (to - from) (drop from ranks)
     → choose own ≡ Some copy → (view : Viewing) × IsGreatest views from to (from + copy) view
-taken_is views ranks own from to copy order within ranked parted is =
-    (its.0, record {
-      low = omega arith;
-      high = omega (arith, order, copy_low);
-      own = its.1;
-      greatest = λ other v low high e.
-          let k : from + (other - from) ≡ other = omega (arith, low) in
-          subst (λ r. is_above v.rank r ≡ false) (sym its.2) (c.greatest (other - from) v.rank (omega (arith, low, high, long))
-          (at (other - from) (omega (arith, low, high)) ∙ ap (λ j. rank_in (view_at views j)) k ∙ ap rank_in e));
-      lowest = λ other v low less e.
-          let k : from + (other - from) ≡ other = omega (arith, low) in
-          subst (λ r. is_above r v.rank ≡ true) (sym its.2) (c.lowest (other - from) v.rank (omega (arith, low, less))
-          (at (other - from) (omega (arith, low, less, copy_low)) ∙ ap (λ j. rank_in (view_at views j)) k ∙ ap rank_in e));
-    })
+taken_is views ranks own from to copy order within ranked parted is = (
+  its.0,
+  record {
+    low = omega arith;
+    high = omega (arith, order, copy_low);
+    own = its.1;
+    greatest = λ other v low high e.
+        let k : from + (other - from) ≡ other = omega (arith, low) in
+        subst (λ r. is_above v.rank r ≡ false) (sym its.2) (c.greatest (other - from) v.rank (omega (arith, low, high, long))
+        (at (other - from) (omega (arith, low, high)) ∙ ap (λ j. rank_in (view_at views j)) k ∙ ap rank_in e));
+    lowest = λ other v low less e.
+        let k : from + (other - from) ≡ other = omega (arith, low) in
+        subst (λ r. is_above r v.rank ≡ true) (sym its.2) (c.lowest (other - from) v.rank (omega (arith, low, less))
+        (at (other - from) (omega (arith, low, less, copy_low)) ∙ ap (λ j. rank_in (view_at views j)) k ∙ ap rank_in e));
+  },
+)
   where
     c : Chosen own copy
     c = chosen_first own copy is

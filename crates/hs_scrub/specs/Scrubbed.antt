@@ -1,5 +1,5 @@
 -- What a scrub tells of the disks of a store.
-use Rattle.std.specs.Prelude.{◌≡◌, ◌≤◌, ◌<◌, ◌+◌, ◌*◌, ◌⊎◌, ⊤, ℕ, Bool, true, false, List, [], ◌++◌, length, None, Some, slice_index_or}
+use Rattle.std.specs.Prelude.{◌≡◌, ◌≤◌, ◌<◌, ◌+◌, ◌*◌, ◌⊎◌, ⊤, ℕ, true, false, List, [], ◌++◌, length, None, Some, slice_index_or}
 use Rattle.hs_coldstart.specs.Choose.{is_above}
 use Rattle.hs_entry.specs.declared.entry.Entry.{Entry}
 use Rattle.hs_entry.specs.Entries.{rank_of}

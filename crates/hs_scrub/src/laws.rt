@@ -21,12 +21,10 @@ pub fn each_mark_is_by_its_cause<D: Disk>()
     ensures failed { (shape : Shape) (peer : ℕ) (old new : DiskSeen) (taken : List (ℕ × Entry))
         (mark : PeerMark) → (new.faults ≡ old.faults → ⊥)
         → HasCause D.tells shape peer old new taken mark → mark ≡ Fault }
-{
-}
+{}
 
 /// None is bad exactly where each peer has the list that was taken of its shard.
 pub fn none_is_bad_where_all_are_same()
     ensures { (marks : List PeerMark) → (bad_of marks ≡ 0)
         ↔ ((peer : ℕ) → peer < length marks → mark_at marks peer ≡ Same) }
-{
-}
+{}

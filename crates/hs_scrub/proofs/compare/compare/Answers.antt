@@ -1,4 +1,4 @@
-use Rattle.std.proofs.Common.{◌≡◌, ◌∙◌, ◌+◌, ◌<◌, ◌≤◌, ap, arith, ℕ, List, length, map, refl, subst, sym}
+use Rattle.std.proofs.Common.{◌≡◌, ◌∙◌, ◌+◌, ◌<◌, ap, arith, ℕ, List, map, refl, sym}
 use Rattle.hs_entry.specs.declared.entry.Entry.{Entry}
 use Rattle.hs_peerlog.specs.Lists.{last_of, numbered_entry}
 use Rattle.hs_peerlog.specs.Views.{HasView}
@@ -89,9 +89,9 @@ returns-then-not-are_same-clause-marked g c =
     let via : List DiskSeen = map f c.read_at.new.disks in
     let so_far : AreStill g.D.Disk.tells old via = calm_then g.D.Disk.tells old now via inv.still c.in-Ok.ensures.still in
     let own_is : (told : g.D.Disk.tells) (list : List (ℕ × Entry)) → HasView c.args.own.now (seen_at old c.args.place).stands.seen list → c.in-Ok.one ≡ numbered_entry list (c.entries.index + 1)
-        = λ told list own. c.in-Ok.ensures.found told list (has_still g.D.Disk.tells (seen_at old c.args.place) (seen_at now c.args.place) c.args.own.now list (inv.still.still c.args.place) told own) in
+    = λ told list own. c.in-Ok.ensures.found told list (has_still g.D.Disk.tells (seen_at old c.args.place) (seen_at now c.args.place) c.args.own.now list (inv.still.still c.args.place) told own) in
     let taken_is : (told : g.D.Disk.tells) (whole : List (ℕ × Entry)) → HasView c.args.taken.now (seen_at old c.args.from).stands.seen whole → c.in-Ok-read_at.other ≡ numbered_entry whole (c.entries.index + 1)
-        = λ told whole has. c.in-Ok-read_at.ensures.found told whole (has_still g.D.Disk.tells (seen_at old c.args.from) (seen_at via c.args.from) c.args.taken.now whole (so_far.still c.args.from) told has) in
+    = λ told whole has. c.in-Ok-read_at.ensures.found told whole (has_still g.D.Disk.tells (seen_at old c.args.from) (seen_at via c.args.from) c.args.taken.now whole (so_far.still c.args.from) told has) in
     λ told whole list has own.
     let last = ap (λ r. r.number) own.rank in
     let low : c.entries.index < last_of list = omega (arith, c.entries-test.true, c.last-index-end.ensures, last) in
@@ -121,9 +121,9 @@ entries-preserved g c =
     let late : List DiskSeen = map f c.read_at-in-entries.new.disks in
     let whole_so : AreStill g.D.Disk.tells old late = calm_then g.D.Disk.tells old via late so_far c.in-Ok-read_at.ensures.still in
     let own_is : (told : g.D.Disk.tells) (list : List (ℕ × Entry)) → HasView c.args.own.now (seen_at old c.args.place).stands.seen list → c.in-Ok.one ≡ numbered_entry list (c.entries.index + 1)
-        = λ told list own. c.in-Ok.ensures.found told list (has_still g.D.Disk.tells (seen_at old c.args.place) (seen_at now c.args.place) c.args.own.now list (inv.still.still c.args.place) told own) in
+    = λ told list own. c.in-Ok.ensures.found told list (has_still g.D.Disk.tells (seen_at old c.args.place) (seen_at now c.args.place) c.args.own.now list (inv.still.still c.args.place) told own) in
     let taken_is : (told : g.D.Disk.tells) (whole : List (ℕ × Entry)) → HasView c.args.taken.now (seen_at old c.args.from).stands.seen whole → c.in-Ok-read_at.other ≡ numbered_entry whole (c.entries.index + 1)
-        = λ told whole has. c.in-Ok-read_at.ensures.found told whole (has_still g.D.Disk.tells (seen_at old c.args.from) (seen_at via c.args.from) c.args.taken.now whole (so_far.still c.args.from) told has) in
+    = λ told whole has. c.in-Ok-read_at.ensures.found told whole (has_still g.D.Disk.tells (seen_at old c.args.from) (seen_at via c.args.from) c.args.taken.now whole (so_far.still c.args.from) told has) in
     record {
       still = whole_so;
       count = omega (arith, c.read_at-in-entries.ensures.count, c.read_at.ensures.count, inv.count);

@@ -1,4 +1,4 @@
-use Rattle.std.proofs.Common.{◌≡◌, ℕ, List, sym, subst}
+use Rattle.std.proofs.Common.{subst}
 use Rattle.std.specs.Prelude.{slice_index_or}
 use Rattle.hs_peerlog.specs.Views.{HasView}
 use Rattle.hs_scrub.proofs.StillLemmas.{read_err, read_ok}

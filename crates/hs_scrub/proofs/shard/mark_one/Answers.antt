@@ -1,7 +1,7 @@
-use Rattle.std.proofs.Common.{◌≡◌, ◌∙◌, ◌<◌, List, None, ap, arith, inl, inr, length, map, refl, subst, sym}
+use Rattle.std.proofs.Common.{◌≡◌, ◌∙◌, ◌<◌, List, None, ap, arith, inl, inr, length, map, subst, sym}
 use Rattle.std.proofs.lemmas.Grind.{common_steps}
 use Rattle.std.specs.Prelude.{is_some, slice_set}
-use Rattle.hs_scrub.proofs.ShardLemmas.{fits_own, gone_at, is_equal, not_equal, state, touch_lost, touch_mark, touch_none, view_else, mark_else}
+use Rattle.hs_scrub.proofs.ShardLemmas.{fits_own, gone_at, is_equal, not_equal, state, touch_lost, touch_mark, touch_none}
 use Rattle.hs_scrub.proofs.StillLemmas.{calm_none}
 use Rattle.hs_scrub.specs.Scrubbed.{mark_at}
 use Rattle.hs_scrub.specs.Steps.{Fits, Touches, view_at}
@@ -44,8 +44,8 @@ returns-in-Some-clause-goes g c =
     let under : c.in-Err.refused.peer < length c.args.marks.now = omega (arith, low, c.requires.views, c.requires.marks) in
     let is = sym c.lost_mark.ensures ∙ c.in-Some.is in
     let touched : Touches g.D.Disk.tells c.in-Err.refused.peer (state old c.args.views.now c.args.marks.now) (state new (slice_set c.args.views.now c.in-Err.refused.peer None) (slice_set c.args.marks.now c.in-Err.refused.peer c.in-Some.mark))
-        = touch_lost g.D.Disk.tells old new c.args.views.now c.args.marks.now c.requires.stands c.in-Err.refused.peer c.in-Some.mark c.in-Err.refused.fault low under c.in-Err.ensures.viewed is c.in-Err.ensures.lost
-        (λ shape begun count looked less told. c.in-Err.ensures.outside shape begun c.args.marks.now count looked less told) in
+    = touch_lost g.D.Disk.tells old new c.args.views.now c.args.marks.now c.requires.stands c.in-Err.refused.peer c.in-Some.mark c.in-Err.refused.fault low under c.in-Err.ensures.viewed is c.in-Err.ensures.lost
+    (λ shape begun count looked less told. c.in-Err.ensures.outside shape begun c.args.marks.now count looked less told) in
     λ e.
     let at : c.in-Err.refused.peer ≡ c.args.place = elim c.in-Err.ensures.one [ inl same ↦ absurd (not_equal c.in-Err.refused.peer c.args.taken e same) | inr same ↦ same ] in
     subst (λ p. Touches g.D.Disk.tells p (state old c.args.views.now c.args.marks.now) (state new (slice_set c.args.views.now c.in-Err.refused.peer None) (slice_set c.args.marks.now c.in-Err.refused.peer c.in-Some.mark))) at touched
@@ -59,9 +59,10 @@ returns-in-Some-clause-ends g c =
     let under : c.in-Err.refused.peer < length c.args.marks.now = omega (arith, low, c.requires.views, c.requires.marks) in
     let is = sym c.lost_mark.ensures ∙ c.in-Some.is in
     let touched : Touches g.D.Disk.tells c.in-Err.refused.peer (state old c.args.views.now c.args.marks.now) (state new (slice_set c.args.views.now c.in-Err.refused.peer None) (slice_set c.args.marks.now c.in-Err.refused.peer c.in-Some.mark))
-        = touch_lost g.D.Disk.tells old new c.args.views.now c.args.marks.now c.requires.stands c.in-Err.refused.peer c.in-Some.mark c.in-Err.refused.fault low under c.in-Err.ensures.viewed is c.in-Err.ensures.lost
-        (λ shape begun count looked less told. c.in-Err.ensures.outside shape begun c.args.marks.now count looked less told) in
+    = touch_lost g.D.Disk.tells old new c.args.views.now c.args.marks.now c.requires.stands c.in-Err.refused.peer c.in-Some.mark c.in-Err.refused.fault low under c.in-Err.ensures.viewed is c.in-Err.ensures.lost
+    (λ shape begun count looked less told. c.in-Err.ensures.outside shape begun c.args.marks.now count looked less told) in
     λ e.
-    let at : c.in-Err.refused.peer ≡ c.args.taken = is_equal c.in-Err.refused.peer c.args.taken e in
-    (subst (λ p. Touches g.D.Disk.tells p (state old c.args.views.now c.args.marks.now) (state new (slice_set c.args.views.now c.in-Err.refused.peer None) (slice_set c.args.marks.now c.in-Err.refused.peer c.in-Some.mark))) at touched,
-     subst (λ p. view_at (slice_set c.args.views.now c.in-Err.refused.peer None) p ≡ None) at (gone_at c.args.views.now c.in-Err.refused.peer low))
+    let at : c.in-Err.refused.peer ≡ c.args.taken = is_equal c.in-Err.refused.peer c.args.taken e in (
+      subst (λ p. Touches g.D.Disk.tells p (state old c.args.views.now c.args.marks.now) (state new (slice_set c.args.views.now c.in-Err.refused.peer None) (slice_set c.args.marks.now c.in-Err.refused.peer c.in-Some.mark))) at touched,
+      subst (λ p. view_at (slice_set c.args.views.now c.in-Err.refused.peer None) p ≡ None) at (gone_at c.args.views.now c.in-Err.refused.peer low),
+    )

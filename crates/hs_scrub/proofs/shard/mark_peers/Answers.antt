@@ -1,6 +1,6 @@
-use Rattle.std.proofs.Common.{◌≡◌, ◌∙◌, ◌<◌, List, ap, arith, length, map, refl, subst, sym}
+use Rattle.std.proofs.Common.{arith, map, refl}
 use Rattle.std.proofs.lemmas.Grind.{common_steps}
-use Rattle.hs_scrub.proofs.ShardLemmas.{ends_so, goes_all, goes_begin, goes_more, some_stays, state}
+use Rattle.hs_scrub.proofs.ShardLemmas.{goes_begin, goes_more, some_stays, state}
 use Rattle.hs_scrub.specs.Steps.{State}
 use Rattle.hs_taking.specs.Disks.{DiskSeen, seen_as}
 use Rattle.hs_scrub.proofs.shard.mark_peers.Goals as goal

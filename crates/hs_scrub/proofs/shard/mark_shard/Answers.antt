@@ -1,6 +1,6 @@
-use Rattle.std.proofs.Common.{◌≡◌, ◌∙◌, ◌+◌, ◌-◌, ◌<◌, ℕ, List, Option, ap, arith, length, map, refl, subst, sym}
+use Rattle.std.proofs.Common.{◌≡◌, ◌∙◌, ◌+◌, ◌-◌, ℕ, Option, ap, arith, map, refl, subst, sym}
 use Rattle.std.specs.Prelude.{IfSome, is_some}
-use Rattle.hs_scrub.proofs.ShardLemmas.{Rounds, rounds_more, rounds_none, settles_none, settles_one, settles_over, state}
+use Rattle.hs_scrub.proofs.ShardLemmas.{Rounds, rounds_more, rounds_none, settles_one, settles_over, state}
 use Rattle.hs_peerlog.specs.Views.{Viewing}
 use Rattle.hs_scrub.specs.Steps.{IsGreatest, State}
 use Rattle.hs_taking.specs.Disks.{DiskSeen, seen_as}
@@ -27,7 +27,7 @@ returns-then-lasts-clause-settled g c =
     let b : State = state (map f c.loop-round.disks) c.loop-round.views c.loop-round.marks in
     let d : State = state (map f c.mark_peers.new.disks) c.mark_peers.new.views c.mark_peers.new.marks in
     let found : (view : Viewing) × IsGreatest c.loop-round.views c.args.from c.args.to c.in-Some.taken view
-        = subst (λ (o : Option ℕ). IfSome o (λ peer. (view : Viewing) × IsGreatest c.loop-round.views c.args.from c.args.to peer view)) c.in-Some.is c.in_ok-taken.ensures.found in
+    = subst (λ (o : Option ℕ). IfSome o (λ peer. (view : Viewing) × IsGreatest c.loop-round.views c.args.from c.args.to peer view)) c.in-Some.is c.in_ok-taken.ensures.found in
     let goes = c.in-Ok.ensures.goes c.if-lasts.true in
     settles_one g.D.Disk.tells c.args.from c.args.to (c.loop-round._round - c.args.from) c.in-Some.taken c.last_of.result found.0 a b d inv.rounds found.1 goes (c.last_of.ensures found.0 (goes.view ∙ found.1.own))
 
@@ -39,7 +39,7 @@ loop-round-preserved g c =
     let b : State = state (map f c.loop-round.disks) c.loop-round.views c.loop-round.marks in
     let d : State = state (map f c.mark_peers.new.disks) c.mark_peers.new.views c.mark_peers.new.marks in
     let found : (view : Viewing) × IsGreatest c.loop-round.views c.args.from c.args.to c.in-Some.taken view
-        = subst (λ (o : Option ℕ). IfSome o (λ peer. (view : Viewing) × IsGreatest c.loop-round.views c.args.from c.args.to peer view)) c.in-Some.is c.in_ok-taken.ensures.found in
+    = subst (λ (o : Option ℕ). IfSome o (λ peer. (view : Viewing) × IsGreatest c.loop-round.views c.args.from c.args.to peer view)) c.in-Some.is c.in_ok-taken.ensures.found in
     let ends = c.in-Ok.ensures.ends c.if-lasts.false in
     let e : c.loop-round._round - c.args.from + 1 ≡ c.loop-round._round + 1 - c.args.from = omega (arith, inv.from) in
     record {
