@@ -46,7 +46,7 @@ fn is_served(shape: Shape, task: &Task<'_>) -> bool
             visits: None,
             cache: None,
         } => shape.copies == 1,
-        Task::Audit => true,
+        Task::Audit | Task::Scrub { from: None } => true,
         Task::Script { .. }
         | Task::Load { .. }
         | Task::Store { .. }

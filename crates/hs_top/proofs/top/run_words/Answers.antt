@@ -1,9 +1,9 @@
-use Rattle.std.proofs.Common.{◌≡◌, ◌∙◌, sym, subst, refl, ℕ, ◌++◌, List, length, map, take, drop}
+use Rattle.std.proofs.Common.{◌≡◌, ◌∙◌, sym, subst, ℕ, ◌++◌, List, length, map, take, drop}
 use Rattle.std.specs.Prelude.{string_bytes}
 use Rattle.hs_limits.specs.declared.address.Address.{Address}
 use Rattle.hs_ports.specs.Objects.{Objects, handed}
 use Rattle.hs_promise.specs.Run.{ran_of}
-use Rattle.hs_top.proofs.CalledLemmas.{called_not, called_of, handed_count, written_back}
+use Rattle.hs_top.proofs.CalledLemmas.{called_of, handed_count, written_back}
 use Rattle.hs_top.specs.Calls.{IsCalled}
 use Rattle.hs_top.proofs.top.run_words.Goals as goal
 
@@ -19,8 +19,8 @@ returns-in-Some g c =
     let count : length left ≡ length slice = c.do_task.auto.disks in
     let long : length slice ≡ c.args.disks.now.len = c.as_mut_slice-handed.ensures.len in
     let called : IsCalled g.D.Disk.tells name words (ran_of c.do_task.result (before slice) (behind left)) =
-    called_of g.D.Disk.tells name words c.args.disks.now.len (ran_of c.do_task.result (before slice) (behind left))
-    (handed_count (λ disk. (g.D.Disk.stands disk, g.D.Disk.faults disk)) slice ∙ long)
+    called_of g.D.Disk.tells name words c.len.result (ran_of c.do_task.result (before slice) (behind left))
+    (handed_count (λ disk. (g.D.Disk.stands disk, g.D.Disk.faults disk)) slice ∙ long ∙ sym c.len.ensures)
     c.in-Some.asked (sym c.in-Some.ensures.exact) c.do_task.ensures.does c.do_task.ensures.begun in
     record {
       called =
