@@ -1,8 +1,10 @@
-use Rattle.std.proofs.Common.{◌≡◌, ◌<◌, arith, length, map, slice_set}
+use Rattle.std.proofs.Common.{◌≡◌, ◌∙◌, ◌<◌, arith, length, map, refl, slice_set, subst}
 use Rattle.std.proofs.lemmas.Grind.{common_steps}
 use Rattle.std.proofs.lemmas.List.{length-set}
 use Rattle.hs_cluster.proofs.CountLemmas.{copied_results, falls_not, falls_then, paid_at, rises_not, stand_at, stand_failed, stand_then}
-use Rattle.hs_cluster.proofs.DiskLemmas.{at_ok, ready_slot, slot_at}
+use Rattle.hs_cluster.proofs.CopyLemmas.{works_copied, works_read}
+use Rattle.hs_cluster.proofs.DiskLemmas.{at_ok, ready_slot, since_of, slot_at}
+use Rattle.hs_cluster.specs.Jobs.{HasCopied}
 use Rattle.hs_cluster.specs.Disks.{AreReady, DiskSeen, log_at, seen_as, seen_at}
 use Rattle.hs_cluster.proofs.job.do_copy.Goals as goal
 
@@ -88,3 +90,42 @@ returns-in-Err-Disk-clause-calm g c =
     let f : g.row.D.Denot → DiskSeen = λ disk. seen_as (g.D.Disk.size disk) (g.D.Disk.stands disk) (g.D.Disk.faults disk) in
     let source : c.from-source.result ≡ c.args.from = grind (arith, common_steps) in
     stand_failed f c.args.disks.now c.args.from c.from-source.result c.read_copy.new.disk source
+
+-- ---- what it leaves
+
+pub returns-in-Ok-clause-works : goal.returns-in-Ok-clause-works
+returns-in-Ok-clause-works g c = λ head told.
+    let f : g.row.D.Denot → DiskSeen = λ disk. seen_as (g.D.Disk.size disk) (g.D.Disk.stands disk) (g.D.Disk.faults disk) in
+    let item : c.index_mut.result.now ≡ log_at c.args.logs.now.items c.from-source.result = grind (arith, common_steps) in
+    let in_logs : c.from-source.result < length c.args.logs.now.items = grind (arith, common_steps) in
+    let in_disks : c.from-source.result < length c.args.disks.now = grind (arith, common_steps) in
+    let place_logs : c.from-place.result < length c.args.logs.now.items = grind (arith, common_steps) in
+    let place_disks : c.from-place.result < length c.args.disks.now = grind (arith, common_steps) in
+    let source : c.from-source.result ≡ c.args.from = grind (arith, common_steps) in
+    let place : c.from-place.result ≡ c.args.peer = grind (arith, common_steps) in
+    let here : c.index_mut-in-Ok.result.now ≡ log_at (slice_set c.args.logs.now.items c.from-source.result c.read_copy.new.slot) c.from-place.result = grind (arith, common_steps) in
+    works_copied head c.args.logs.now.items c.args.disks.now f c.args.peer c.args.from c.from-source.result c.from-place.result c.args.number c.args.watch.now c.write_copy.new.watch
+    c.index_mut.result.now c.read_copy.new.slot c.write_copy.new.slot c.index-disks-source.result c.index-disks-place.result c.read_copy.new.disk c.write_copy.new.disk c.in-Ok.entry c.write_copy.result
+    source place item c.in-Ok.ensures.kept in_logs in_disks place_logs place_disks (c.read_copy.ensures.same told)
+    (λ keeping list waiting at kept. c.in-Ok.ensures.found told keeping list waiting at kept)
+    (λ theirs list waiting keeping last found at has. subst (λ o. HasCopied (record { before = c.args.watch.now; now = c.write_copy.new.watch; slot = o; kept = c.write_copy.new.slot; old = (f c.index-disks-place.result).stands; new = (f c.write_copy.new.disk).stands }) c.args.peer c.args.from c.args.number theirs list c.write_copy.result) here
+    (c.write_copy.ensures.copies c.args.from theirs list waiting keeping told last found (here ∙ at) has))
+    c.write_copy.ensures.fails
+
+pub returns-in-Err-NoMemory-clause-works : goal.returns-in-Err-NoMemory-clause-works
+returns-in-Err-NoMemory-clause-works g c = λ head told.
+    let f : g.row.D.Denot → DiskSeen = λ disk. seen_as (g.D.Disk.size disk) (g.D.Disk.stands disk) (g.D.Disk.faults disk) in
+    let in_logs : c.args.from < length c.args.logs.now.items = grind (arith, common_steps) in
+    let in_disks : c.from-source.result < length c.args.disks.now = grind (arith, common_steps) in
+    let source : c.from-source.result ≡ c.args.from = grind (arith, common_steps) in
+    works_read head c.args.logs.now.items c.args.disks.now f c.args.peer c.args.from c.from-source.result c.args.number c.args.watch.now c.read_copy.new.slot c.index-disks-source.result c.read_copy.new.disk _
+    source in_logs in_disks (c.read_copy.ensures.same told) c.in-Err-NoMemory.ensures.out tt (since_of f c.args.disks.now (g.met.D.Disk.since told) c.args.peer)
+
+pub returns-in-Err-Disk-clause-works : goal.returns-in-Err-Disk-clause-works
+returns-in-Err-Disk-clause-works g c = λ head told.
+    let f : g.row.D.Denot → DiskSeen = λ disk. seen_as (g.D.Disk.size disk) (g.D.Disk.stands disk) (g.D.Disk.faults disk) in
+    let in_logs : c.args.from < length c.args.logs.now.items = grind (arith, common_steps) in
+    let in_disks : c.from-source.result < length c.args.disks.now = grind (arith, common_steps) in
+    let source : c.from-source.result ≡ c.args.from = grind (arith, common_steps) in
+    works_read head c.args.logs.now.items c.args.disks.now f c.args.peer c.args.from c.from-source.result c.args.number c.args.watch.now c.read_copy.new.slot c.index-disks-source.result c.read_copy.new.disk _
+    source in_logs in_disks (c.read_copy.ensures.same told) c.in-Err-Disk.ensures.out refl (since_of f c.args.disks.now (g.met.D.Disk.since told) c.args.peer)
