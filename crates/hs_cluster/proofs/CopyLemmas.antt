@@ -2,11 +2,12 @@
 use Rattle.std.proofs.Common.{◌≡◌, ◌≢◌, ◌∙◌, ◌⊎◌, inl, inr, ap, sym, subst, ℕ, zero, suc, ◌+◌, ◌<◌, ◌≤◌, Bool, true, false, List, [], ◌∷◌, Option, Some, None, map, length, refl, arith}
 use Rattle.std.proofs.lemmas.Bool.{cases_eq}
 use Rattle.std.proofs.lemmas.List.{get_or-set_same, get_or-set_other}
-use Rattle.std.specs.Prelude.{IfOk, OnErr, OnOk, Result, Ok, Err, slice_index_or, slice_set}
+use Rattle.std.specs.Prelude.{◌==◌, ◌||◌, IfOk, Result, Ok, Err, slice_index_or, slice_set}
 use Rattle.hs_cluster.proofs.DiskLemmas.{length_map, length_set, stands_at, stands_other, stands_set}
 use Rattle.hs_cluster.proofs.JobLemmas.{Since, weaker}
 use Rattle.hs_cluster.specs.Disks.{DiskSeen, log_at, stands_of}
 use Rattle.hs_cluster.specs.Jobs.{Copies, Empties, FailsAlone, HasCopied, IsAnyOrNone, LeavesCopy, Try, WithCopy, Working, Works, WorksAlone, is_own, try_of}
+use Rattle.hs_desk.specs.Answers.{answers}
 use Rattle.hs_desk.specs.declared.done.Done.{Done}
 use Rattle.hs_desk.specs.declared.done.Done.TheVariants as done
 use Rattle.hs_desk.specs.declared.job.Job.{Job}
@@ -38,6 +39,18 @@ alone_fine peer done fine = λ disk at. absurd (none_is_not disk (sym fine ∙ a
 
 pub alone_failed : (peer : ℕ) → FailsAlone peer (done.Failed peer)
 alone_failed peer = λ disk at. sym (some_is peer disk at)
+
+-- it is told
+pub told_as : {E : Type 0} (r : Result Done E) (x : Done) (P : Done → Type 0) → P x → IfOk r (λ told. told ≡ x) → IfOk r P
+told_as (Ok told) x P p is = subst P (sym is) p
+told_as (Err fault) x P p is = tt
+
+-- a call of the lead's disk answers a copying step
+pub lead_answers : {E : Type 0} (peer from number : ℕ) (r : Result Done E) → IfOk r (λ told. told ≡ done.Failed from) → IfOk r (λ told. answers peer (job.Copy from number) told ≡ true)
+lead_answers peer from number r is = told_as r (done.Failed from) (λ told. answers peer (job.Copy from number) told ≡ true) (either from peer) is
+  where
+    either : (a b : ℕ) → (a == b || a == a) ≡ true
+    either a b = grind arith
 
 abbrev pub LogsStay : {E : Type 0} → ℕ → List (Option Keeping) → List (Option Keeping) → Result Done E → Type 0
 LogsStay peer logs after result = IfOk result (λ done. (p : ℕ) → p ≢ peer → (failed_disk done ≢ Some p → log_at after p ≡ log_at logs p) × (failed_disk done ≡ Some p → log_at after p ≡ None))

@@ -10,6 +10,7 @@ ghost use Rattle.hs_events.specs.Asked.{failed_disk};
 ghost use Rattle.hs_events.specs.Due.{is_answer};
 ghost use Rattle.hs_events.specs.Reports.{only_reads};
 ghost use Rattle.hs_desk.specs.Answers.{answers};
+ghost use Rattle.hs_desk.specs.declared.done.Done.TheVariants as done;
 ghost use Rattle.hs_desk.specs.declared.job.Job.{Job};
 ghost use Rattle.hs_desk.specs.declared.job.Job.TheVariants as job;
 ghost use Rattle.hs_members.specs.Members.{IsPeer};
@@ -188,8 +189,18 @@ fn do_copy<D: Disk>(
                 &entry,
             )
         }
-        Err(LogFault::NoMemory) => Err(ClusterFault::NoMemory),
-        Err(LogFault::Disk) | Err(LogFault::NotALog { .. }) | Err(LogFault::WrongShape { .. }) => {
+        Err(fault) => failed_read(fault, from),
+    }
+}
+
+/// What a copying step tells where its read of the lead's disk was refused.
+fn failed_read(fault: LogFault, from: u8) -> Result<Done, ClusterFault>
+    ensures told { IfOk result (λ told. told ≡ done.Failed from) }
+    ensures only { IsOkUnless result NoMemory }
+{
+    match fault {
+        LogFault::NoMemory => Err(ClusterFault::NoMemory),
+        LogFault::Disk | LogFault::NotALog { .. } | LogFault::WrongShape { .. } => {
             Ok(Done::Failed { disk: from })
         }
     }

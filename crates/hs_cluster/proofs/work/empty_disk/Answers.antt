@@ -29,10 +29,10 @@ returns-in_ok-reset-in-Ok-clause-any_moment g c = λ told last lists leaves head
     (c.recover.ensures.any_of told last lists leaves)
     (c.reset.ensures.any_moment told past.last list None (c.in-Ok.ensures.list told last list is)))
 
-pub returns-then-is_outside-in-Err-clause-any_moment : goal.returns-then-is_outside-in-Err-clause-any_moment
-returns-then-is_outside-in-Err-clause-any_moment g c = λ told last lists leaves headed.
+pub returns-then-is_outside-clause-any_moment : goal.returns-then-is_outside-clause-any_moment
+returns-then-is_outside-clause-any_moment g c = λ told last lists leaves headed.
     failed_moments c.args.watch.now c.recover.new.watch (g.D.Disk.stands c.args.disk.now) (g.D.Disk.stands c.recover.new.disk) lists (c.recover.ensures.any_of told last lists leaves)
 
-pub returns-else-is_outside-in-Err-clause-any_moment : goal.returns-else-is_outside-in-Err-clause-any_moment
-returns-else-is_outside-in-Err-clause-any_moment g c = λ told last lists leaves headed.
+pub returns-else-is_outside-clause-any_moment : goal.returns-else-is_outside-clause-any_moment
+returns-else-is_outside-clause-any_moment g c = λ told last lists leaves headed.
     not_refused c.args.shape c.args.peer (g.D.Disk.stands c.args.disk.now) lists c.in-Err.fault (g.met.D.Disk.stays told c.args.disk.now) leaves headed (c.in-Err.ensures.refused told) (c.is_outside.ensures.no c.if-is_outside.false)
