@@ -1,6 +1,6 @@
 use Rattle.std.proofs.Common.{rules, ◌≡◌, ◌∙◌, ◌<◌, ◌≤◌, Some, ap, arith, length, map, refl, slice_set, subst, sym, true}
 use Rattle.std.proofs.lemmas.Grind.{common_steps}
-use Rattle.std.specs.Prelude.{IfOk, IsSome}
+use Rattle.std.specs.Prelude.{IfOk, IsSome, slice_index_or}
 use Rattle.hs_cluster.proofs.CopyLemmas.{works_cut, works_own, works_reset}
 use Rattle.hs_cluster.proofs.CountLemmas.{all_paid_result, copy_paid_result, falls_not, falls_same, job_paid_result, paid_at, stand_at}
 use Rattle.hs_cluster.proofs.DiskLemmas.{log_read, not_own, reads_at, since_of, slot_at, stored_as, works_at, works_nothing}
@@ -20,7 +20,7 @@ do_usual-requires g c =
     let f : g.row.D.Denot → DiskSeen = λ disk. seen_as (g.D.Disk.size disk) (g.D.Disk.stands disk) (g.D.Disk.faults disk) in
     let item : c.index_mut-in-Append.result.now ≡ log_at c.args.logs.now.items c.from-place.result = grind (arith, common_steps) in
     let low : c.from-place.result < length c.args.disks.now = grind (arith, common_steps) in
-    record { usual = ?; ready = slot_at g.D.Disk.tells c.args.logs.now.items c.args.disks.now f c.from-place.result c.index_mut-in-Append.result.now c.index-disks-place-in-Append.result c.requires.ready item low }
+    record { usual = let is = c.in-Append.is in ?; ready = slot_at g.D.Disk.tells c.args.logs.now.items c.args.disks.now f c.from-place.result c.index_mut-in-Append.result.now c.index-disks-place-in-Append.result c.requires.ready item low }
 
 pub returns-in_default-clause-works : goal.returns-in_default-clause-works
 returns-in_default-clause-works g c = λ told.
@@ -49,12 +49,12 @@ returns-in-Reset-clause-works g c = λ told.
     }) (first_job c.args.peer c.args.core.now) c.do_reset.result) place
     (works_reset (own_header c.args.core.now.members.shape c.args.peer) c.args.logs.now.items c.args.disks.now f c.from-place.result c.args.watch.now c.do_reset.new.watch c.index_mut.result.now c.do_reset.new.slot c.index-disks-place.result c.do_reset.new.disk
     (first_job c.args.peer c.args.core.now) c.do_reset.result item low_logs low (sym first ∙ ap (λ (j : Job). Some j) c.in-Reset.is)
-    (subst (λ (s : Shape). (f c.index-disks-place.result).stands.last ≤ c.args.watch.now → Empties (own_header s c.args.peer) (record {
+    (subst (λ (s : Shape). (f (slice_index_or c.args.disks.now c.from-place.result c.index-disks-place.result)).stands.last ≤ c.args.watch.now → Empties (own_header s c.args.peer) (record {
       before = c.args.watch.now;
       now = c.do_reset.new.watch;
       slot = c.index_mut.result.now;
       kept = c.do_reset.new.slot;
-      old = (f c.index-disks-place.result).stands;
+      old = (f (slice_index_or c.args.disks.now c.from-place.result c.index-disks-place.result)).stands;
       new = (f c.do_reset.new.disk).stands;
     }) c.do_reset.result) shape (c.do_reset.ensures.empties told))
     (subst (λ k. IfOk c.do_reset.result (FailsAlone k)) (sym place) c.do_reset.ensures.fails))
