@@ -3,10 +3,13 @@ ghost use Rattle.std.specs.Prelude.{◌≡◌, ◌≢◌, ◌*◌, ◌<◌, ◌�
 ghost use Rattle.hs_cluster.specs.Calls.{RunsLine, of_core};
 ghost use Rattle.hs_events.specs.Commands.{is_served, uses_disks};
 ghost use Rattle.hs_cluster.specs.Disks.{AreReady, DiskSeen, log_at, seen_as};
+ghost use Rattle.hs_cluster.specs.Jobs.{StandsBeside};
 ghost use Rattle.hs_cluster.specs.Kept.{Shows};
+ghost use Rattle.hs_core_words.specs.Looking.{first_job};
 ghost use Rattle.hs_desk.specs.declared.fault.CoreFault.{CoreFault};
 ghost use Rattle.hs_limits.specs.declared.address.Address.{Address};
 ghost use Rattle.hs_model.specs.declared.command.Command.TheVariants as command;
+ghost use Rattle.hs_model.specs.declared.command.Command.TheVariants.{Fail, Turn};
 ghost use Rattle.hs_peerlog.specs.Lists.{Keeping};
 
 use crate::{Cluster, ClusterFault};
@@ -56,8 +59,14 @@ impl Cluster {
         ensures still { uses_disks command ≡ false
             → (disks.new ≡ disks.old) × (watch.new ≡ watch.old) }
 
+        // A turn works on the disk of its peer, and reads that of the lead in a copying step: each other
+        // one stays as it is.
+        ensures beside { (peer : ℕ) → command ≡ Turn peer → StandsBeside D.tells peer
+            (first_job peer self.old.core)
+            (map (λ disk. seen_as (D.size disk) (D.stands disk) (D.faults disk)) disks.old)
+            (map (λ disk. seen_as (D.size disk) (D.stands disk) (D.faults disk)) disks.new) }
         // A line that has a peer fail puts its log out of use, and no other.
-        ensures falls { (peer : ℕ) → command ≡ command.Fail peer → (p : ℕ) → p ≢ peer
+        ensures falls { (peer : ℕ) → command ≡ Fail peer → (p : ℕ) → p ≢ peer
             → log_at self.new.logs p ≡ log_at self.old.logs p }
 
         ensures ready { OnOk result (AreReady D.tells self.new.logs
@@ -185,6 +194,9 @@ impl Cluster {
               disks = map (λ disk. seen_as (D.size disk) (D.stands disk) (D.faults disk)) disks.old;
               left = map (λ disk. seen_as (D.size disk) (D.stands disk) (D.faults disk)) disks.new;
             }) result) }
+        ensures beside { StandsBeside D.tells peer (first_job peer self.old.core)
+            (map (λ disk. seen_as (D.size disk) (D.stands disk) (D.faults disk)) disks.old)
+            (map (λ disk. seen_as (D.size disk) (D.stands disk) (D.faults disk)) disks.new) }
         ensures ready { OnOk result (AreReady D.tells self.new.logs
             (map (λ disk. seen_as (D.size disk) (D.stands disk) (D.faults disk)) disks.new)) }
         ensures count { length disks.new ≡ length disks.old }
