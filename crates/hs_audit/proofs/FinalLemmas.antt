@@ -7,10 +7,10 @@ use Rattle.std.specs.Prelude.{Err, IfSome, IsSome, unwrap_or}
 use Rattle.hs_audit.proofs.GatherLemmas.{catalogues_long, map_same}
 use Rattle.hs_audit.proofs.HollowLemmas.{same_report}
 use Rattle.hs_audit.proofs.RereadLemmas.{risen_then}
-use Rattle.hs_audit.specs.Audited.{Audits, CanBeAudited, CountsAs, HasGoodCopy, HaveOthersFailed, IsLostShard, IsRefused, audit_text, lists_by, of_taking}
+use Rattle.hs_audit.specs.Audited.{Audits, CanBeAudited, CountsAs, HasGoodCopy, HaveOthersFailed, IsLostShard, IsAuditRefused, audit_text, lists_by, of_viewing}
 use Rattle.hs_audit.specs.declared.fault.AuditFault.{AuditFault}
 use Rattle.hs_audit.specs.declared.fault.AuditFault.TheVariants as fault
-use Rattle.hs_audit.specs.Rereading.{AreReread, AreStill, HasShardView, IsFirstUnviewed, IsGathered, IsReread, IsStill, IsWithoutView, ran_out, shard_lists, view_at, viewed_list}
+use Rattle.hs_audit.specs.Rereading.{AreReread, AreStill, HasShardView, IsFirstUnviewed, IsGathered, IsReread, IsStill, IsWithoutView, ran_out, shard_lists, viewing_at, viewed_list}
 use Rattle.hs_audit.specs.Text.{report}
 use Rattle.hs_fold.specs.Opened.{chosen, chosen_each}
 use Rattle.hs_fold.specs.Runs.Facts.{Catalogue as Folded, plain}
@@ -170,26 +170,26 @@ module _ (tells : Type 0) (shape : Shape) (peer : ℕ) (entry viewed final : Dis
 
 module _ (tells : Type 0) (set : Setting) (entry viewed final : List DiskSeen) (first last : List (Option Viewing)) (before now : ℕ)
     (count : length entry ≡ set.shape.shards * set.shape.copies)
-    (is : (peer : ℕ) → peer < length entry → IsViewed tells set.shape peer (seen_at entry peer) (seen_at viewed peer) (view_at first peer))
+    (is : (peer : ℕ) → peer < length entry → IsViewed tells set.shape peer (seen_at entry peer) (seen_at viewed peer) (viewing_at first peer))
     (read : (peer : ℕ) → peer < length entry → IsOnlyRead tells before now (seen_at entry peer) (seen_at viewed peer))
     (still : AreStill tells (set.shape.shards * set.shape.copies) viewed final) (reread : AreReread tells (set.shape.shards * set.shape.copies) viewed final first last) where
   within : (shard copy : ℕ) → shard < set.shape.shards → copy < set.shape.copies → peer_of set.shape shard copy < length entry
   within shard copy low small = let w = shard_within set.shape shard low in omega (arith, w, small, count)
 
   abbrev log_of : ℕ → Option Numbered
-  log_of peer = if is_some (view_at last peer) then Some (unwrap_or (list_in (seen_at entry peer).stands.seen) []) else None
+  log_of peer = if is_some (viewing_at last peer) then Some (unwrap_or (list_in (seen_at entry peer).stands.seen) []) else None
 
   pub have_failed : HaveOthersFailed tells set.shape entry final
   have_failed = λ told peer found low refused.
       let less : peer < set.shape.shards * set.shape.copies = omega (arith, low, count) in
-      other_failed tells set.shape peer (seen_at entry peer) (seen_at viewed peer) (seen_at final peer) (view_at first peer) (view_at last peer) before now (is peer low) (read peer low) (still peer less).counted (reread peer less) told found refused
+      other_failed tells set.shape peer (seen_at entry peer) (seen_at viewed peer) (seen_at final peer) (viewing_at first peer) (viewing_at last peer) before now (is peer low) (read peer low) (still peer less).counted (reread peer less) told found refused
 
   good_copy : (shard : ℕ) → shard < set.shape.shards → HasShardView set.shape last shard → HasGoodCopy tells set.shape entry final shard
   good_copy shard low h =
       let p : ℕ = peer_of set.shape shard h.copy in
       let in_all : p < length entry = within shard h.copy low h.within in
       let less : p < set.shape.shards * set.shape.copies = omega (arith, in_all, count) in
-      let so = still_viewed tells set.shape p (seen_at entry p) (seen_at viewed p) (seen_at final p) (view_at first p) (view_at last p) before now (is p in_all) (read p in_all) (still p less).counted (reread p less) h.there in
+      let so = still_viewed tells set.shape p (seen_at entry p) (seen_at viewed p) (seen_at final p) (viewing_at first p) (viewing_at last p) before now (is p in_all) (read p in_all) (still p less).counted (reread p less) h.there in
       record { copy = h.copy; within = h.within; listed = so.1; calm = so.0 }
 
   -- the lists by peer, of a shard
@@ -208,7 +208,7 @@ module _ (tells : Type 0) (set : Setting) (entry viewed final : List DiskSeen) (
       one : (peer : ℕ) → peer < length entry → viewed_list viewed last peer ≡ unwrap_or (log_of peer) []
       one peer in_all =
           let both : (seen_at viewed peer).stands.seen ≡ (seen_at entry peer).stands.seen = λ i side. (read peer in_all).seen told side i in
-          by (view_at last peer) (list_in (seen_at viewed peer).stands.seen) (list_in (seen_at entry peer).stands.seen) (ap (λ (s : Side → List ℕ). list_in s) both)
+          by (viewing_at last peer) (list_in (seen_at viewed peer).stands.seen) (list_in (seen_at entry peer).stands.seen) (ap (λ (s : Side → List ℕ). list_in s) both)
 
   pub audited : (store : PlainStore) (text old new : List ℕ) → IsGathered tells set viewed last set.shape.shards store → text ≡ report (plain_of store) → new ≡ old ++ text → Audits tells set entry final old new
   audited store text old new gathered written put =
@@ -217,7 +217,7 @@ module _ (tells : Type 0) (set : Setting) (entry viewed final : List DiskSeen) (
         log = log_of;
         read = λ peer low.
             let less : peer < set.shape.shards * set.shape.copies = omega (arith, low, count) in
-            counts_as tells set.shape peer (seen_at entry peer) (seen_at viewed peer) (seen_at final peer) (view_at first peer) (view_at last peer) before now (is peer low) (read peer low) (still peer less).counted (reread peer less);
+            counts_as tells set.shape peer (seen_at entry peer) (seen_at viewed peer) (seen_at final peer) (viewing_at first peer) (viewing_at last peer) before now (is peer low) (read peer low) (still peer less).counted (reread peer less);
         others = have_failed;
         shards = λ shard low. good_copy shard low (gathered.viewed shard low);
         told = λ told. says ∙ ap (λ (z : List Numbered). old ++ report (store_of (catalogues set 0 z)))
@@ -234,14 +234,14 @@ module _ (tells : Type 0) (set : Setting) (entry viewed final : List DiskSeen) (
         let p : ℕ = peer_of set.shape shard copy in
         let in_all : p < length entry = within shard copy h.within small in
         let less : p < set.shape.shards * set.shape.copies = omega (arith, in_all, count) in
-        unviewed tells set.shape p (seen_at entry p) (seen_at viewed p) (seen_at final p) (view_at first p) (view_at last p) before now (is p in_all) (read p in_all) (still p less).counted (reread p less) (h.none copy small);
+        unviewed tells set.shape p (seen_at entry p) (seen_at viewed p) (seen_at final p) (viewing_at first p) (viewing_at last p) before now (is p in_all) (read p in_all) (still p less).counted (reread p less) (h.none copy small);
     first = λ k low. good_copy k (let w = h.within in omega (arith, low, w)) (h.first k low);
     others = have_failed;
   }
 
 -- ---- where they can be audited
 
-pub not_refused : (tells : Type 0) (shape : Shape) (old new : List DiskSeen) (why : AuditFault) → tells → length old ≡ shape.shards * shape.copies → CanBeAudited shape old new → IsRefused tells shape old new why → why ≡ fault.NoMemory
+pub not_refused : (tells : Type 0) (shape : Shape) (old new : List DiskSeen) (why : AuditFault) → tells → length old ≡ shape.shards * shape.copies → CanBeAudited shape old new → IsAuditRefused tells shape old new why → why ≡ fault.NoMemory
 not_refused tells shape old new (fault.WrongShape peer found) told count can h = absurd (can.own peer found h.within (h.told told))
 not_refused tells shape old new fault.NoMemory told count can h = refl
 not_refused tells shape old new (fault.ShardLost shard) told count can h =
@@ -264,17 +264,17 @@ read_on tells before now a b c read still = record {
   counted = let l = read.counted in let m = still.counted in omega (arith, l, m);
 }
 
-pub refused_by_viewing : (tells : Type 0) (shape : Shape) (old new : List DiskSeen) (why : TakeFault) → IsOther tells shape old new why → IsRefused tells shape old new (of_taking why)
+pub refused_by_viewing : (tells : Type 0) (shape : Shape) (old new : List DiskSeen) (why : TakeFault) → IsOther tells shape old new why → IsAuditRefused tells shape old new (of_viewing why)
 refused_by_viewing tells shape old new (take_fault.WrongShape peer found) h = h
 refused_by_viewing tells shape old new take_fault.NoMemory h = tt
 
 pub refused_of : (tells T : Type 0) (set : Setting) (entry viewed final : List DiskSeen) (first last : List (Option Viewing)) (before now : ℕ)
     → length entry ≡ set.shape.shards * set.shape.copies
-    → ((peer : ℕ) → peer < length entry → IsViewed tells set.shape peer (seen_at entry peer) (seen_at viewed peer) (view_at first peer))
+    → ((peer : ℕ) → peer < length entry → IsViewed tells set.shape peer (seen_at entry peer) (seen_at viewed peer) (viewing_at first peer))
     → ((peer : ℕ) → peer < length entry → IsOnlyRead tells before now (seen_at entry peer) (seen_at viewed peer))
     → AreStill tells (set.shape.shards * set.shape.copies) viewed final → (why : AuditFault)
     → (ran_out {T = T} (Err why) ≡ false → AreReread tells (set.shape.shards * set.shape.copies) viewed final first last)
-    → IsFirstUnviewed set.shape last why → IsRefused tells set.shape entry final why
+    → IsFirstUnviewed set.shape last why → IsAuditRefused tells set.shape entry final why
 refused_of tells T set entry viewed final first last before now count is read still (fault.WrongShape peer found) reread h = absurd h
 refused_of tells T set entry viewed final first last before now count is read still (fault.ShardLost shard) reread h =
     lost tells set entry viewed final first last before now count is read still (reread refl) shard h

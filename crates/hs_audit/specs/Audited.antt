@@ -63,15 +63,15 @@ pub record IsLostShard (tells : Type 0) (shape : Shape) (old new : List DiskSeen
   pub others : HaveOthersFailed tells shape old new
 
 -- why an audit is refused: the first disk of another store whose count stands, and where there is none the first shard that is lost; want of memory needs no cause
-abbrev pub IsRefused : Type 0 → Shape → List DiskSeen → List DiskSeen → AuditFault → Type 0
-IsRefused tells shape old new (WrongShape peer found) = IsFirstOther tells shape old new peer found
-IsRefused tells shape old new (ShardLost shard) = IsLostShard tells shape old new shard
-IsRefused tells shape old new NoMemory = ⊤
+abbrev pub IsAuditRefused : Type 0 → Shape → List DiskSeen → List DiskSeen → AuditFault → Type 0
+IsAuditRefused tells shape old new (WrongShape peer found) = IsFirstOther tells shape old new peer found
+IsAuditRefused tells shape old new (ShardLost shard) = IsLostShard tells shape old new shard
+IsAuditRefused tells shape old new NoMemory = ⊤
 
 -- the fault of an audit where the disks can't be viewed
-abbrev pub of_taking : TakeFault → AuditFault
-of_taking (take.WrongShape peer found) = WrongShape peer found
-of_taking take.NoMemory = NoMemory
+abbrev pub of_viewing : TakeFault → AuditFault
+of_viewing (take.WrongShape peer found) = WrongShape peer found
+of_viewing take.NoMemory = NoMemory
 
 -- disks that are audited where there is memory: none is of another store, each shard has one that is a log or blank, and none failed
 pub record CanBeAudited (shape : Shape) (old new : List DiskSeen) : Type 0 where

@@ -1,6 +1,6 @@
 //! The audit of a store.
 ghost use Rattle.std.specs.Prelude.{◌≡◌, ◌*◌, ◌<◌, ◌≤◌, ℕ, IfErr, IsOkUnless, OnErr, OnOk, length, map};
-ghost use Rattle.hs_audit.specs.Audited.{Audits, CanBeAudited, IsRefused, of_taking};
+ghost use Rattle.hs_audit.specs.Audited.{Audits, CanBeAudited, IsAuditRefused, of_viewing};
 ghost use Rattle.hs_audit.specs.declared.fault.AuditFault.TheVariants.{NoMemory};
 ghost use Rattle.hs_limits.specs.Limits.{greatest_limits};
 ghost use Rattle.hs_limits.specs.Shape.{IsShape};
@@ -17,7 +17,7 @@ use hs_taking::{TakeFault, view_all};
 use std::alloc::Global;
 
 impl From<TakeFault> for AuditFault {
-    ghost from_gives = { λ taken fault. fault ≡ of_taking taken };
+    ghost from_gives = { λ taken fault. fault ≡ of_viewing taken };
 
     fn from(taken: TakeFault) -> AuditFault {
         match taken {
@@ -50,7 +50,7 @@ pub fn audit<A: Addresser, D: Disk>(
         (map (λ disk. seen_as (D.size disk) (D.stands disk) (D.faults disk)) disks.new)
         out.old.items out.new.items) }
 
-    ensures refused { IfErr result (IsRefused D.tells shape
+    ensures refused { IfErr result (IsAuditRefused D.tells shape
         (map (λ disk. seen_as (D.size disk) (D.stands disk) (D.faults disk)) disks.old)
         (map (λ disk. seen_as (D.size disk) (D.stands disk) (D.faults disk)) disks.new)) }
     ensures complete { D.tells → CanBeAudited shape

@@ -1,8 +1,8 @@
 use Rattle.std.proofs.Common.{◌≡◌, ◌∙◌, ◌*◌, ◌++◌, ◌<◌, ℕ, List, Option, None, ap, arith, length, map, refl, subst, sym}
 use Rattle.std.specs.Prelude.{IfSome, slice_index_or}
 use Rattle.hs_audit.proofs.FinalLemmas.{audited, not_refused, read_on, refused_by_viewing, refused_of}
-use Rattle.hs_audit.specs.Rereading.{view_at}
-use Rattle.hs_audit.specs.Audited.{IsRefused}
+use Rattle.hs_audit.specs.Rereading.{viewing_at}
+use Rattle.hs_audit.specs.Audited.{IsAuditRefused}
 use Rattle.hs_audit.specs.declared.fault.AuditFault.{AuditFault}
 use Rattle.hs_fold.specs.Shards.Setting.{Setting}
 use Rattle.hs_limits.specs.Limits.{greatest_limits}
@@ -22,15 +22,15 @@ gather-requires-clause-viewed g c =
     let b : List DiskSeen = map f c.view_all.new.disks in
     λ peer low.
     let in_all : peer < length c.args.disks.now = omega (arith, low, c.requires.count) in
-    subst (λ (vs : List (Option Viewing)). IfSome (view_at vs peer) (IsViewOf g.D.Disk.tells c.args.shape peer (seen_at b peer))) (sym c.as_mut_slice.ensures.value)
-    (view_of g.D.Disk.tells c.args.shape peer (seen_at a peer) (seen_at b peer) (view_at c.in-Ok.views.items peer) (c.view_all.ensures.read peer in_all).seen (c.in-Ok.ensures.viewed peer in_all).some)
+    subst (λ (vs : List (Option Viewing)). IfSome (viewing_at vs peer) (IsViewOf g.D.Disk.tells c.args.shape peer (seen_at b peer))) (sym c.as_mut_slice.ensures.value)
+    (view_of g.D.Disk.tells c.args.shape peer (seen_at a peer) (seen_at b peer) (viewing_at c.in-Ok.views.items peer) (c.view_all.ensures.read peer in_all).seen (c.in-Ok.ensures.viewed peer in_all).some)
 
 pub returns-in-Err-clause-refused : goal.returns-in-Err-clause-refused
 returns-in-Err-clause-refused g c =
     let f : g.row.D.Denot → DiskSeen = λ disk. seen_as (g.D.Disk.size disk) (g.D.Disk.stands disk) (g.D.Disk.faults disk) in
     let a : List DiskSeen = map f c.args.disks.now in
     let b : List DiskSeen = map f c.view_all.new.disks in
-    subst (λ (x : AuditFault). IsRefused g.D.Disk.tells c.args.shape a b x) (sym c.from.ensures) (refused_by_viewing g.D.Disk.tells c.args.shape a b c.in-Err.fault c.in-Err.ensures.other)
+    subst (λ (x : AuditFault). IsAuditRefused g.D.Disk.tells c.args.shape a b x) (sym c.from.ensures) (refused_by_viewing g.D.Disk.tells c.args.shape a b c.in-Err.fault c.in-Err.ensures.other)
 
 pub returns-in-Err-clause-complete : goal.returns-in-Err-clause-complete
 returns-in-Err-clause-complete g c =
@@ -41,9 +41,9 @@ returns-in-Err-clause-complete g c =
 -- what was viewed, by the views that are handed on
 viewed_by : (tells : Type 0) (shape : Shape) (a b : List DiskSeen) (views first : List (Option Viewing)) (count : ℕ) → length a ≡ count → first ≡ views
     → ((peer : ℕ) → peer < count → IsViewed tells shape peer (seen_at a peer) (seen_at b peer) (slice_index_or views peer None))
-    → (peer : ℕ) → peer < length a → IsViewed tells shape peer (seen_at a peer) (seen_at b peer) (view_at first peer)
+    → (peer : ℕ) → peer < length a → IsViewed tells shape peer (seen_at a peer) (seen_at b peer) (viewing_at first peer)
 viewed_by tells shape a b views first count long same viewed peer low =
-    subst (λ (vs : List (Option Viewing)). IsViewed tells shape peer (seen_at a peer) (seen_at b peer) (view_at vs peer)) (sym same) (viewed peer (omega (arith, low, long)))
+    subst (λ (vs : List (Option Viewing)). IsViewed tells shape peer (seen_at a peer) (seen_at b peer) (viewing_at vs peer)) (sym same) (viewed peer (omega (arith, low, long)))
 
 pub returns-in-Err-gather-clause-refused : goal.returns-in-Err-gather-clause-refused
 returns-in-Err-gather-clause-refused g c =
