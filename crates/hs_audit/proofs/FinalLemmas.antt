@@ -7,11 +7,11 @@ use Rattle.std.specs.Prelude.{Err, IfSome, IsSome, unwrap_or}
 use Rattle.hs_audit.proofs.GatherLemmas.{catalogues_long, map_same}
 use Rattle.hs_audit.proofs.HollowLemmas.{same_report}
 use Rattle.hs_audit.proofs.RereadLemmas.{risen_then}
-use Rattle.hs_audit.specs.Audited.{Audits, CanBeAudited, CountsAs, HasGoodCopy, HaveOthersFailed, IsLostShard, IsAuditRefused, audit_text, lists_by, of_viewing}
+use Rattle.hs_audit.specs.Audited.{Audits, CanBeAudited, CountsAs, HasGoodCopy, HaveOthersFailed, IsLostShard, IsAuditRefused, of_viewing}
 use Rattle.hs_audit.specs.declared.fault.AuditFault.{AuditFault}
 use Rattle.hs_audit.specs.declared.fault.AuditFault.TheVariants as fault
 use Rattle.hs_audit.specs.Rereading.{AreReread, AreStill, HasShardView, IsFirstUnviewed, IsGathered, IsReread, IsStill, IsWithoutView, ran_out, shard_lists, viewing_at, viewed_list}
-use Rattle.hs_audit.specs.Text.{report}
+use Rattle.hs_audit.specs.Text.{audit_text, lists_by, report}
 use Rattle.hs_fold.specs.Opened.{chosen, chosen_each}
 use Rattle.hs_fold.specs.Runs.Facts.{Catalogue as Folded, plain}
 use Rattle.hs_fold.specs.Runs.Opened.{catalogues, store_of}

@@ -3,9 +3,8 @@ use Rattle.std.proofs.Common.{◌≡◌, ℕ, ◌-◌, ◌++◌, [], ◌∷◌, 
 use Rattle.std.specs.Fmt.{digits}
 use Rattle.std.specs.Prelude.{codes}
 use Rattle.hex.proofs.OnLiterals.{hex_on_literals}
-use Rattle.hs_audit.specs.Audited.{audit_text}
 use Rattle.hs_audit.specs.Missing.{missing}
-use Rattle.hs_audit.specs.Text.{report, shard_line}
+use Rattle.hs_audit.specs.Text.{audit_text, report, shard_line}
 use Rattle.hs_entry.specs.declared.entry.Entry.TheVariants as kind
 use Rattle.hs_entry.specs.Entries.{rank_of}
 use Rattle.hs_fold.specs.Shards.Setting.{Numbered, Setting}

@@ -1,10 +1,9 @@
 -- What an audit reads, and what it says.
-use Rattle.std.specs.List.{range_with_len}
-use Rattle.std.specs.Prelude.{◌≡◌, ◌⊎◌, ◌++◌, ◌*◌, ◌<◌, ℕ, ⊤, List, [], length, map, Option, None, Some, IsSome, unwrap_or}
+use Rattle.std.specs.Prelude.{◌≡◌, ◌⊎◌, ◌++◌, ◌*◌, ◌<◌, ℕ, ⊤, List, length, Option, None, Some, IsSome}
 use Rattle.hs_audit.specs.declared.fault.AuditFault.{AuditFault}
 use Rattle.hs_audit.specs.declared.fault.AuditFault.TheVariants.{WrongShape, ShardLost, NoMemory}
-use Rattle.hs_audit.specs.Text.{report}
-use Rattle.hs_fold.specs.Runs.Opened.{catalogues, opened, store_of}
+use Rattle.hs_audit.specs.Text.{audit_text, lists_by, report}
+use Rattle.hs_fold.specs.Runs.Opened.{catalogues, store_of}
 use Rattle.hs_fold.specs.Shards.Setting.{Numbered, Setting}
 use Rattle.hs_limits.specs.declared.shape.Shape.{Shape}
 use Rattle.hs_limits.specs.Shape.{peer_of}
@@ -17,14 +16,6 @@ use Rattle.hs_taking.specs.declared.fault.TakeFault.{TakeFault}
 use Rattle.hs_taking.specs.declared.fault.TakeFault.TheVariants as take
 use Rattle.hs_taking.specs.Disks.{DiskSeen, seen_at}
 use Rattle.hs_taking.specs.Viewed.{IsFirstOther, IsUnread}
-
--- the text of an audit of a store whose peers have these lists
-abbrev pub audit_text : Setting → List Numbered → List ℕ
-audit_text set lists = report (opened set lists)
-
--- the lists of so many peers, where a disk without a log counts as blank
-abbrev pub lists_by : ℕ → (ℕ → Option Numbered) → List Numbered
-lists_by peers log = map (λ peer. unwrap_or (log peer) []) (range_with_len 0 peers)
 
 -- the log of a peer's disk as it counts: what the disk reads as, or none, where its count rose in the call; and no call failed on one that counts
 pub record CountsAs (tells : Type 0) (old new : DiskSeen) (log : Option Numbered) : Type 0 where
