@@ -95,7 +95,7 @@ all-insert P (x ∷ ks) k h p = go (address_cmp k x) (all-insert P ks k h.1 p)
     go Equal ih = h
     go Greater ih = (h.0, ih)
 
-sorted-insert : (ks : List Address) (k : Address) → IsStrictlySortedBy address_cmp ks → IsStrictlySortedBy address_cmp (insert_key address_cmp ks k)
+pub sorted-insert : (ks : List Address) (k : Address) → IsStrictlySortedBy address_cmp ks → IsStrictlySortedBy address_cmp (insert_key address_cmp ks k)
 unfolding IsStrictlySortedBy
 sorted-insert [] k s = (tt, tt)
 sorted-insert (x ∷ ks) k s = go (address_cmp k x) refl (sorted-insert ks k s.1)

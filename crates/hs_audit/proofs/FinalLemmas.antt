@@ -1,17 +1,17 @@
 -- What was read of all disks, and what is said of it.
-use Rattle.std.proofs.Common.{◌≡◌, ◌∙◌, ◌+◌, ◌*◌, ◌-◌, ◌^◌, ◌++◌, ◌∷◌, [], ◌<◌, ◌≤◌, ◌⊎◌, inl, inr, ap, sym, subst, ℕ, zero, suc, List, Option, None, Some, length, map, refl, arith, get_or, is_some, take, drop, min, if◌then◌else◌}
+use Rattle.std.proofs.Common.{◌≡◌, ◌∙◌, ◌+◌, ◌*◌, ◌-◌, ◌^◌, ◌++◌, ◌∷◌, [], ◌<◌, ◌≤◌, ◌⊎◌, inl, inr, ap, sym, subst, ℕ, zero, suc, List, Option, None, Some, length, map, refl, arith, get_or, is_some, take, drop, min, false, if◌then◌else◌}
 use Rattle.std.proofs.Math.Nat.{suc-mul}
 use Rattle.std.proofs.lemmas.Bool.{cases_lt, false≢true}
 use Rattle.std.specs.List.{range_with_len}
-use Rattle.std.specs.Prelude.{IfSome, IsSome, unwrap_or}
+use Rattle.std.specs.Prelude.{Err, IfSome, IsSome, unwrap_or}
 use Rattle.hs_audit.proofs.GatherLemmas.{catalogues_long, map_same}
 use Rattle.hs_audit.proofs.HollowLemmas.{same_report}
 use Rattle.hs_audit.proofs.RereadLemmas.{risen_then}
-use Rattle.hs_audit.specs.Audited.{Audits, CanBeAudited, CountsAs, HasGoodCopy, HaveOthersFailed, IsLostShard, IsRefused, audit_text, lists_by}
+use Rattle.hs_audit.specs.Audited.{Audits, CanBeAudited, CountsAs, HasGoodCopy, HaveOthersFailed, IsLostShard, IsAuditRefused, of_viewing}
 use Rattle.hs_audit.specs.declared.fault.AuditFault.{AuditFault}
 use Rattle.hs_audit.specs.declared.fault.AuditFault.TheVariants as fault
-use Rattle.hs_audit.specs.Rereading.{AreReread, AreStill, HasShardView, IsGathered, IsReread, IsWithoutView, shard_lists, view_at, viewed_list}
-use Rattle.hs_audit.specs.Text.{report}
+use Rattle.hs_audit.specs.Rereading.{AreReread, AreStill, HasShardView, IsFirstUnviewed, IsGathered, IsReread, IsStill, IsWithoutView, ran_out, shard_lists, viewing_at, viewed_list}
+use Rattle.hs_audit.specs.Text.{audit_text, lists_by, report}
 use Rattle.hs_fold.specs.Opened.{chosen, chosen_each}
 use Rattle.hs_fold.specs.Runs.Facts.{Catalogue as Folded, plain}
 use Rattle.hs_fold.specs.Runs.Opened.{catalogues, store_of}
@@ -27,16 +27,19 @@ use Rattle.hs_model.specs.Hollow.{hollow}
 use Rattle.hs_model.specs.Plain.{plain_of}
 use Rattle.hs_model.specs.Store.{empty_store}
 use Rattle.hs_peerlog.specs.declared.fault.LogFault.TheVariants as log
+use Rattle.hs_peerlog.specs.Images.{LeavesAll}
 use Rattle.hs_peerlog.specs.Opening.{refusal_in}
 use Rattle.hs_peerlog.specs.Views.{Viewing}
 use Rattle.hs_ports.specs.declared.disk.Side.{Side}
+use Rattle.hs_ports.specs.Disk.{Standing}
 use Rattle.hs_ports.specs.Fault.{HasRisen}
 use Rattle.hs_side.specs.Current.{list_in}
 use Rattle.hs_side.specs.declared.header.Header.{Header}
 use Rattle.hs_taking.proofs.ChoiceLemmas.{shard_within}
+use Rattle.hs_taking.specs.declared.fault.TakeFault.{TakeFault}
 use Rattle.hs_taking.specs.declared.fault.TakeFault.TheVariants as take_fault
 use Rattle.hs_taking.specs.Disks.{DiskSeen, seen_at}
-use Rattle.hs_taking.specs.Viewed.{HasViewed, IsOnlyRead, IsUnread, IsViewed, IsViewOf}
+use Rattle.hs_taking.specs.Viewed.{HasViewed, IsOnlyRead, IsOther, IsUnread, IsViewed, IsViewOf}
 use Rattle.hs_taking.proofs.ViewLemmas.{view_of}
 
 -- the text of what was gathered is that of its lists
@@ -65,8 +68,8 @@ chosen_by_shard (suc n) copies [] all long each = absurd (omega (arith, long))
 chosen_by_shard (suc n) copies (x ∷ lists) all long each =
     let first : x ≡ chosen (take copies all) = each 0 (omega arith) ∙ (let z : 0 * copies ≡ 0 = omega arith in ap (λ m. chosen (take copies (drop m all))) z) in
     let rest = chosen_by_shard n copies lists (drop copies all) (omega (arith, long))
-        (λ k low. each (suc k) (omega (arith, low)) ∙ ap (λ m. chosen (take copies (drop m all))) (let e : suc k * copies ≡ k * copies + copies = suc-mul k copies in let f : k * copies + copies ≡ copies + k * copies = omega arith in e ∙ f)
-            ∙ ap (λ z. chosen (take copies z)) (sym (drop_more copies (k * copies) all))) in
+    (λ k low. each (suc k) (omega (arith, low)) ∙ ap (λ m. chosen (take copies (drop m all))) (let e : suc k * copies ≡ k * copies + copies = suc-mul k copies in let f : k * copies + copies ≡ copies + k * copies = omega arith in e ∙ f)
+    ∙ ap (λ z. chosen (take copies z)) (sym (drop_more copies (k * copies) all))) in
     ap (λ y. y ∷ lists) first ∙ ap (λ ys. chosen (take copies all) ∷ ys) rest
 
 drop_range : {A : Type 0} (f : ℕ → A) (from m n : ℕ) → drop m (map f (range_with_len from (m + n))) ≡ map f (range_with_len (from + m) n)
@@ -150,12 +153,12 @@ module _ (tells : Type 0) (shape : Shape) (peer : ℕ) (entry viewed final : Dis
       there None h = absurd (false≢true h)
       there (Some list) h = refl
 
-      no_log : IsUnread tells entry final → tells → (None ≡ list_in entry.stands.seen) ⊎ ((None ≡ None) × HasRisen entry.faults final.faults)
-      no_log (inl rose) told = inr (refl, rose)
-      no_log (inr none_in) told = inl (sym (none_in told))
+      no_log : (o : Option Numbered) → o ≡ None → IsUnread tells entry final → tells → (o ≡ list_in entry.stands.seen) ⊎ ((o ≡ None) × HasRisen entry.faults final.faults)
+      no_log o e (inl rose) told = inr (e, rose)
+      no_log o e (inr none_in) told = inl (e ∙ sym (none_in told))
 
       go : (o : Option Viewing) → last ≡ o → CountsAs tells entry final (log_as o)
-      go None e = record { read = no_log (unviewed e); calm = λ h. absurd (false≢true h) }
+      go None e = record { read = no_log None refl (unviewed e); calm = λ h. absurd (false≢true h) }
       go (Some v) e =
           let still = still_viewed (subst (λ o. IsSome o) (sym e) (some_there v)) in
           record { read = λ told. inl (there (list_in entry.stands.seen) (still.1 told)); calm = λ h. still.0 }
@@ -167,26 +170,26 @@ module _ (tells : Type 0) (shape : Shape) (peer : ℕ) (entry viewed final : Dis
 
 module _ (tells : Type 0) (set : Setting) (entry viewed final : List DiskSeen) (first last : List (Option Viewing)) (before now : ℕ)
     (count : length entry ≡ set.shape.shards * set.shape.copies)
-    (is : (peer : ℕ) → peer < length entry → IsViewed tells set.shape peer (seen_at entry peer) (seen_at viewed peer) (view_at first peer))
+    (is : (peer : ℕ) → peer < length entry → IsViewed tells set.shape peer (seen_at entry peer) (seen_at viewed peer) (viewing_at first peer))
     (read : (peer : ℕ) → peer < length entry → IsOnlyRead tells before now (seen_at entry peer) (seen_at viewed peer))
     (still : AreStill tells (set.shape.shards * set.shape.copies) viewed final) (reread : AreReread tells (set.shape.shards * set.shape.copies) viewed final first last) where
   within : (shard copy : ℕ) → shard < set.shape.shards → copy < set.shape.copies → peer_of set.shape shard copy < length entry
   within shard copy low small = let w = shard_within set.shape shard low in omega (arith, w, small, count)
 
   abbrev log_of : ℕ → Option Numbered
-  log_of peer = if is_some (view_at last peer) then Some (unwrap_or (list_in (seen_at entry peer).stands.seen) []) else None
+  log_of peer = if is_some (viewing_at last peer) then Some (unwrap_or (list_in (seen_at entry peer).stands.seen) []) else None
 
   pub have_failed : HaveOthersFailed tells set.shape entry final
   have_failed = λ told peer found low refused.
       let less : peer < set.shape.shards * set.shape.copies = omega (arith, low, count) in
-      other_failed tells set.shape peer (seen_at entry peer) (seen_at viewed peer) (seen_at final peer) (view_at first peer) (view_at last peer) before now (is peer low) (read peer low) (still peer less).counted (reread peer less) told found refused
+      other_failed tells set.shape peer (seen_at entry peer) (seen_at viewed peer) (seen_at final peer) (viewing_at first peer) (viewing_at last peer) before now (is peer low) (read peer low) (still peer less).counted (reread peer less) told found refused
 
   good_copy : (shard : ℕ) → shard < set.shape.shards → HasShardView set.shape last shard → HasGoodCopy tells set.shape entry final shard
   good_copy shard low h =
       let p : ℕ = peer_of set.shape shard h.copy in
       let in_all : p < length entry = within shard h.copy low h.within in
       let less : p < set.shape.shards * set.shape.copies = omega (arith, in_all, count) in
-      let so = still_viewed tells set.shape p (seen_at entry p) (seen_at viewed p) (seen_at final p) (view_at first p) (view_at last p) before now (is p in_all) (read p in_all) (still p less).counted (reread p less) h.there in
+      let so = still_viewed tells set.shape p (seen_at entry p) (seen_at viewed p) (seen_at final p) (viewing_at first p) (viewing_at last p) before now (is p in_all) (read p in_all) (still p less).counted (reread p less) h.there in
       record { copy = h.copy; within = h.within; listed = so.1; calm = so.0 }
 
   -- the lists by peer, of a shard
@@ -205,7 +208,7 @@ module _ (tells : Type 0) (set : Setting) (entry viewed final : List DiskSeen) (
       one : (peer : ℕ) → peer < length entry → viewed_list viewed last peer ≡ unwrap_or (log_of peer) []
       one peer in_all =
           let both : (seen_at viewed peer).stands.seen ≡ (seen_at entry peer).stands.seen = λ i side. (read peer in_all).seen told side i in
-          by (view_at last peer) (list_in (seen_at viewed peer).stands.seen) (list_in (seen_at entry peer).stands.seen) (ap (λ (s : Side → List ℕ). list_in s) both)
+          by (viewing_at last peer) (list_in (seen_at viewed peer).stands.seen) (list_in (seen_at entry peer).stands.seen) (ap (λ (s : Side → List ℕ). list_in s) both)
 
   pub audited : (store : PlainStore) (text old new : List ℕ) → IsGathered tells set viewed last set.shape.shards store → text ≡ report (plain_of store) → new ≡ old ++ text → Audits tells set entry final old new
   audited store text old new gathered written put =
@@ -214,7 +217,7 @@ module _ (tells : Type 0) (set : Setting) (entry viewed final : List DiskSeen) (
         log = log_of;
         read = λ peer low.
             let less : peer < set.shape.shards * set.shape.copies = omega (arith, low, count) in
-            counts_as tells set.shape peer (seen_at entry peer) (seen_at viewed peer) (seen_at final peer) (view_at first peer) (view_at last peer) before now (is peer low) (read peer low) (still peer less).counted (reread peer less);
+            counts_as tells set.shape peer (seen_at entry peer) (seen_at viewed peer) (seen_at final peer) (viewing_at first peer) (viewing_at last peer) before now (is peer low) (read peer low) (still peer less).counted (reread peer less);
         others = have_failed;
         shards = λ shard low. good_copy shard low (gathered.viewed shard low);
         told = λ told. says ∙ ap (λ (z : List Numbered). old ++ report (store_of (catalogues set 0 z)))
@@ -231,14 +234,14 @@ module _ (tells : Type 0) (set : Setting) (entry viewed final : List DiskSeen) (
         let p : ℕ = peer_of set.shape shard copy in
         let in_all : p < length entry = within shard copy h.within small in
         let less : p < set.shape.shards * set.shape.copies = omega (arith, in_all, count) in
-        unviewed tells set.shape p (seen_at entry p) (seen_at viewed p) (seen_at final p) (view_at first p) (view_at last p) before now (is p in_all) (read p in_all) (still p less).counted (reread p less) (h.none copy small);
+        unviewed tells set.shape p (seen_at entry p) (seen_at viewed p) (seen_at final p) (viewing_at first p) (viewing_at last p) before now (is p in_all) (read p in_all) (still p less).counted (reread p less) (h.none copy small);
     first = λ k low. good_copy k (let w = h.within in omega (arith, low, w)) (h.first k low);
     others = have_failed;
   }
 
 -- ---- where they can be audited
 
-pub not_refused : (tells : Type 0) (shape : Shape) (old new : List DiskSeen) (why : AuditFault) → tells → length old ≡ shape.shards * shape.copies → CanBeAudited shape old new → IsRefused tells shape old new why → why ≡ fault.NoMemory
+pub not_refused : (tells : Type 0) (shape : Shape) (old new : List DiskSeen) (why : AuditFault) → tells → length old ≡ shape.shards * shape.copies → CanBeAudited shape old new → IsAuditRefused tells shape old new why → why ≡ fault.NoMemory
 not_refused tells shape old new (fault.WrongShape peer found) told count can h = absurd (can.own peer found h.within (h.told told))
 not_refused tells shape old new fault.NoMemory told count can h = refl
 not_refused tells shape old new (fault.ShardLost shard) told count can h =
@@ -250,3 +253,29 @@ not_refused tells shape old new (fault.ShardLost shard) told count can h =
     go : (p : ℕ) → p < shape.shards * shape.copies → IsSome (list_in (seen_at old p).stands.seen) → IsUnread tells (seen_at old p) (seen_at new p) → ⊥
     go p less there (inl rose) = can.calm p less rose
     go p less there (inr none_in) = false≢true (subst (λ o. IsSome o) (none_in told) there)
+
+-- ---- the other clauses
+
+-- reads behind the views leave a disk as it is
+pub read_on : (tells : Type 0) (before now : ℕ) (a b c : DiskSeen) → IsOnlyRead tells before now a b → IsStill tells b c → IsOnlyRead tells before now a c
+read_on tells before now a b c read still = record {
+  seen = λ told side. ap (λ (s : Standing). s.seen side) (still.same told) ∙ read.seen told side;
+  moments = λ told last. subst (λ (s : Standing). LeavesAll before now a.stands s) (sym (still.same told)) (read.moments told last);
+  counted = let l = read.counted in let m = still.counted in omega (arith, l, m);
+}
+
+pub refused_by_viewing : (tells : Type 0) (shape : Shape) (old new : List DiskSeen) (why : TakeFault) → IsOther tells shape old new why → IsAuditRefused tells shape old new (of_viewing why)
+refused_by_viewing tells shape old new (take_fault.WrongShape peer found) h = h
+refused_by_viewing tells shape old new take_fault.NoMemory h = tt
+
+pub refused_of : (tells T : Type 0) (set : Setting) (entry viewed final : List DiskSeen) (first last : List (Option Viewing)) (before now : ℕ)
+    → length entry ≡ set.shape.shards * set.shape.copies
+    → ((peer : ℕ) → peer < length entry → IsViewed tells set.shape peer (seen_at entry peer) (seen_at viewed peer) (viewing_at first peer))
+    → ((peer : ℕ) → peer < length entry → IsOnlyRead tells before now (seen_at entry peer) (seen_at viewed peer))
+    → AreStill tells (set.shape.shards * set.shape.copies) viewed final → (why : AuditFault)
+    → (ran_out {T = T} (Err why) ≡ false → AreReread tells (set.shape.shards * set.shape.copies) viewed final first last)
+    → IsFirstUnviewed set.shape last why → IsAuditRefused tells set.shape entry final why
+refused_of tells T set entry viewed final first last before now count is read still (fault.WrongShape peer found) reread h = absurd h
+refused_of tells T set entry viewed final first last before now count is read still (fault.ShardLost shard) reread h =
+    lost tells set entry viewed final first last before now count is read still (reread refl) shard h
+refused_of tells T set entry viewed final first last before now count is read still fault.NoMemory reread h = tt

@@ -5,7 +5,7 @@ use Rattle.std.proofs.lemmas.Bool.{cases_eq, cases_lt}
 use Rattle.std.proofs.lemmas.Grind.{common_steps}
 use Rattle.std.specs.List.{range_with_len}
 use Rattle.std.specs.Prelude.{IsSome, unwrap_or}
-use Rattle.hs_audit.specs.Rereading.{AreStill, HasShardView, IsGathered, IsTakenOf, fold_in, shard_lists, view_at, viewed_list}
+use Rattle.hs_audit.specs.Rereading.{AreStill, HasShardView, IsGathered, IsTakenOf, fold_in, shard_lists, viewing_at, viewed_list}
 use Rattle.hs_fold.specs.Opened.{chosen}
 use Rattle.hs_fold.specs.Runs.Catalogue.{catalogue_of}
 use Rattle.hs_fold.specs.Runs.Facts.{Catalogue as Folded}
@@ -66,14 +66,14 @@ map_same f g from (suc n) h =
 -- what the disks have and which views there are is all that counts
 pub lists_same : (tells : Type 0) (shape : Shape) (a b : List DiskSeen) (u v : List (Option Viewing)) (shard : ℕ)
     → ((i : ℕ) → i < shape.copies → list_in (seen_at b (peer_of shape shard 0 + i)).stands.seen ≡ list_in (seen_at a (peer_of shape shard 0 + i)).stands.seen)
-    → ((i : ℕ) → i < shape.copies → view_at v (peer_of shape shard 0 + i) ≡ view_at u (peer_of shape shard 0 + i))
+    → ((i : ℕ) → i < shape.copies → viewing_at v (peer_of shape shard 0 + i) ≡ viewing_at u (peer_of shape shard 0 + i))
     → shard_lists shape b v shard ≡ shard_lists shape a u shard
 lists_same tells shape a b u v shard seen views =
     map_same (viewed_list b v) (viewed_list a u) (peer_of shape shard 0) shape.copies
     (λ i low.
-        let p : ℕ = peer_of shape shard 0 + i in
-        ap (λ (o : Option Viewing). if is_some o then unwrap_or (list_in (seen_at b p).stands.seen) [] else []) (views i low)
-        ∙ ap (λ (o : Option Numbered). if is_some (view_at u p) then unwrap_or o [] else []) (seen i low))
+    let p : ℕ = peer_of shape shard 0 + i in
+    ap (λ (o : Option Viewing). if is_some o then unwrap_or (list_in (seen_at b p).stands.seen) [] else []) (views i low)
+    ∙ ap (λ (o : Option Numbered). if is_some (viewing_at u p) then unwrap_or o [] else []) (seen i low))
 
 get_more : {A : Type 0} (xs : List A) (x d : A) → get_or (xs ++ x ∷ []) (length xs) d ≡ x
 get_more [] x d = refl
@@ -97,7 +97,7 @@ below_it copies k shard low =
 -- ---- what was gathered
 
 -- the views of a shard stay where those of a later one are given up
-pub still_viewed_shard : (shape : Shape) (u v : List (Option Viewing)) (shard k : ℕ) → k < shard → ((peer : ℕ) → (peer < peer_of shape shard 0) ⊎ (peer_of shape shard shape.copies ≤ peer) → view_at v peer ≡ view_at u peer)
+pub still_viewed_shard : (shape : Shape) (u v : List (Option Viewing)) (shard k : ℕ) → k < shard → ((peer : ℕ) → (peer < peer_of shape shard 0) ⊎ (peer_of shape shard shape.copies ≤ peer) → viewing_at v peer ≡ viewing_at u peer)
     → HasShardView shape u k → HasShardView shape v k
 still_viewed_shard shape u v shard k before others had = record {
   copy = had.copy;
@@ -116,7 +116,7 @@ gathered_none tells set disks views store is = record {
 
 pub gathered_more : (tells : Type 0) (set : Setting) (a b : List DiskSeen) (u v : List (Option Viewing)) (shard : ℕ) (catalogue : Catalogue) (old new : PlainStore)
     → shard < set.shape.shards → AreStill tells (set.shape.shards * set.shape.copies) a b
-    → ((peer : ℕ) → (peer < peer_of set.shape shard 0) ⊎ (peer_of set.shape shard set.shape.copies ≤ peer) → view_at v peer ≡ view_at u peer)
+    → ((peer : ℕ) → (peer < peer_of set.shape shard 0) ⊎ (peer_of set.shape shard set.shape.copies ≤ peer) → viewing_at v peer ≡ viewing_at u peer)
     → IsGathered tells set a u shard old → IsTakenOf tells (fold_in set shard) set.shape b v shard catalogue → plain_of new ≡ add_shard catalogue (plain_of old)
     → IsGathered tells set a v (shard + 1) new
 gathered_more tells set a b u v shard catalogue old new low still others so_far taken put =
@@ -135,7 +135,7 @@ gathered_more tells set a b u v shard catalogue old new low still others so_far 
             let same : k ≡ shard = omega (arith, after, less) in
             ap (λ n. get_or (so_far.lists ++ taken.list ∷ []) n []) (same ∙ sym one) ∙ get_more so_far.lists taken.list [] ∙ taken.told told
             ∙ ap chosen (lists_same tells set.shape a b v v shard
-                (λ i small. ap (λ (s : Standing). list_in s.seen) ((still (peer_of set.shape shard 0 + i) (let m = below_it set.shape.copies shard set.shape.shards low in omega (arith, small, m))).same told)) (λ i small. refl))
+            (λ i small. ap (λ (s : Standing). list_in s.seen) ((still (peer_of set.shape shard 0 + i) (let m = below_it set.shape.copies shard set.shape.shards low in omega (arith, small, m))).same told)) (λ i small. refl))
             ∙ ap (λ n. chosen (shard_lists set.shape a v n)) (sym same)
       ];
       viewed = λ k less. elim (cases_lt k shard) [

@@ -158,8 +158,8 @@ module _ (u : Store) where
     unfolding shard_line
     same_line =
         let text : ℕ → ℕ → ℕ → List ℕ = λ blocks roots garbage.
-            codes "shard " ++ (decimal shard ++ (codes " epoch " ++ (decimal (slice_index u.epochs shard) ++ (codes " swept " ++ (decimal (slice_index u.swept shard)
-            ++ (codes " blocks " ++ (decimal blocks ++ (codes " roots " ++ (decimal roots ++ (codes " garbage " ++ (decimal garbage ++ 10 ∷ []))))))))))) in
+        codes "shard " ++ (decimal shard ++ (codes " epoch " ++ (decimal (slice_index u.epochs shard) ++ (codes " swept " ++ (decimal (slice_index u.swept shard)
+        ++ (codes " blocks " ++ (decimal blocks ++ (codes " roots " ++ (decimal roots ++ (codes " garbage " ++ (decimal garbage ++ 10 ∷ []))))))))))) in
         λ i. text (shard_blocks shard i) (shard_roots shard i) (length (same_garbage i))
 
   same_kept : kept_by_roots u ≡ kept_by_roots (pruned u)

@@ -3,6 +3,8 @@ pub mod ChosenLemmas
 pub mod FinalLemmas
 pub mod GatherLemmas
 pub mod HollowLemmas
+pub mod LawLemmas
+mod ListExamples
 pub mod MissingLemmas
 pub mod RangeLemmas
 pub mod ReadLemmas

@@ -31,7 +31,7 @@ absent_is (e ∷ es) a = rw (at_is_same a e.0) (go (is_same a e.0) (absent_is es
     go false ih = ih
 
 -- a filter keeps what is among a list and passes
-among-filter : (p : Address → Bool) (xs : List Address) (a : Address) → is_among (filter p xs) a ≡ (p a && is_among xs a)
+pub among-filter : (p : Address → Bool) (xs : List Address) (a : Address) → is_among (filter p xs) a ≡ (p a && is_among xs a)
 among-filter p [] a = none (p a)
   where
     none : (b : Bool) → false ≡ (b && false)
@@ -54,8 +54,8 @@ missing_is s seen present list d h sorted same e =
     let tests : (a : Address) → p a ≡ q a = λ a. ap not (same a) ∙ sym (absent_is s.blocks a) in
     let all : List Address = reached_from s (kept_by_roots s) in
     e ∙ sorted_alike (filter p seen) (ascending (filter q all)) (IsStrictlySortedBy-filter address_cmp p seen sorted) (sorted-ascending (filter q all))
-        (λ a. among-filter p seen a ∙ ap (λ b. b && is_among seen a) (tests a) ∙ ap (λ b. q a && b) (seen_is_listed s (kept_by_roots s) seen d h a)
-            ∙ sym (among-filter q all a) ∙ sym (among-ascending (filter q all) a))
+    (λ a. among-filter p seen a ∙ ap (λ b. b && is_among seen a) (tests a) ∙ ap (λ b. q a && b) (seen_is_listed s (kept_by_roots s) seen d h a)
+    ∙ sym (among-filter q all a) ∙ sym (among-ascending (filter q all) a))
 
 -- ---- the addresses of the first blocks are in a set
 

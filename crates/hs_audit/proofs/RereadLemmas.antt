@@ -3,7 +3,7 @@ use Rattle.std.proofs.Common.{◌≡◌, ◌≢◌, ◌∙◌, ◌*◌, ◌<◌,
 use Rattle.std.proofs.lemmas.Bool.{cases_eq}
 use Rattle.std.proofs.lemmas.List.{get_or-set_other, get_or-set_same}
 use Rattle.std.specs.Prelude.{IfSome, IsSome, slice_index_or, slice_set}
-use Rattle.hs_audit.specs.Rereading.{AreReread, AreStill, AreViewsOf, IsReread, IsStill, view_at}
+use Rattle.hs_audit.specs.Rereading.{AreReread, AreStill, AreViewsOf, IsReread, IsStill, viewing_at}
 use Rattle.hs_fold.specs.Shards.Setting.{Numbered}
 use Rattle.hs_limits.specs.declared.shape.Shape.{Shape}
 use Rattle.hs_peerlog.specs.Images.{LeavesOnly}
@@ -68,18 +68,18 @@ module _ (tells : Type 0) where
   all_still_then peers a b c one two = λ peer low. still_then (seen_at a peer) (seen_at b peer) (seen_at c peer) (one peer low) (two peer low)
 
   pub all_reread : (peers : ℕ) (disks : List DiskSeen) (views : List (Option Viewing)) → AreReread tells peers disks disks views views
-  all_reread peers disks views = λ peer low. reread_none (seen_at disks peer) (view_at views peer)
+  all_reread peers disks views = λ peer low. reread_none (seen_at disks peer) (viewing_at views peer)
 
   pub all_reread_then : (peers : ℕ) (a b c : List DiskSeen) (u v w : List (Option Viewing)) → AreStill tells peers b c → AreReread tells peers a b u v → AreReread tells peers b c v w → AreReread tells peers a c u w
   all_reread_then peers a b c u v w still one two =
-      λ peer low. reread_then (seen_at a peer) (seen_at b peer) (seen_at c peer) (view_at u peer) (view_at v peer) (view_at w peer) (still peer low) (one peer low) (two peer low)
+      λ peer low. reread_then (seen_at a peer) (seen_at b peer) (seen_at c peer) (viewing_at u peer) (viewing_at v peer) (viewing_at w peer) (still peer low) (one peer low) (two peer low)
 
   pub views_stay : (shape : Shape) (a b : List DiskSeen) (u v : List (Option Viewing)) → AreStill tells (shape.shards * shape.copies) a b → AreReread tells (shape.shards * shape.copies) a b u v
       → AreViewsOf tells shape a u → AreViewsOf tells shape b v
   views_stay shape a b u v still reread views = λ peer low. go peer low (reread peer low)
     where
-      go : (peer : ℕ) → peer < shape.shards * shape.copies → IsReread tells (seen_at a peer) (seen_at b peer) (view_at u peer) (view_at v peer) → IfSome (view_at v peer) (IsViewOf tells shape peer (seen_at b peer))
-      go peer low (inl h) = subst (λ o. IfSome o (IsViewOf tells shape peer (seen_at b peer))) (sym h.0) (some_stays shape peer (seen_at a peer) (seen_at b peer) (view_at u peer) (still peer low) (views peer low))
+      go : (peer : ℕ) → peer < shape.shards * shape.copies → IsReread tells (seen_at a peer) (seen_at b peer) (viewing_at u peer) (viewing_at v peer) → IfSome (viewing_at v peer) (IsViewOf tells shape peer (seen_at b peer))
+      go peer low (inl h) = subst (λ o. IfSome o (IsViewOf tells shape peer (seen_at b peer))) (sym h.0) (some_stays shape peer (seen_at a peer) (seen_at b peer) (viewing_at u peer) (still peer low) (views peer low))
       go peer low (inr h) = subst (λ o. IfSome o (IsViewOf tells shape peer (seen_at b peer))) (sym h.0) tt
 
   -- ---- one of them was read
@@ -92,19 +92,19 @@ module _ (tells : Type 0) where
       | inr differs ↦ subst (λ (s : DiskSeen). IsStill tells (seen_at (map f disks) peer) s) (sym (seen_there f disks i peer x differs)) (still_none (seen_at (map f disks) peer))
     ]
 
-    pub one_reread : (u v : List (Option Viewing)) → IsReread tells (f (slice_index_or disks i d)) (f x) (view_at u i) (view_at v i) → ((peer : ℕ) → peer ≢ i → view_at v peer ≡ view_at u peer)
+    pub one_reread : (u v : List (Option Viewing)) → IsReread tells (f (slice_index_or disks i d)) (f x) (viewing_at u i) (viewing_at v i) → ((peer : ℕ) → peer ≢ i → viewing_at v peer ≡ viewing_at u peer)
         → (peers : ℕ) → AreReread tells peers (map f disks) (map f (slice_set disks i x)) u v
     one_reread u v here others peers = λ peer less. elim (cases_eq peer i) [
-      | inl same ↦ subst (λ p. IsReread tells (seen_at (map f disks) p) (seen_at (map f (slice_set disks i x)) p) (view_at u p) (view_at v p)) (sym same)
-          (subst (λ (s : DiskSeen). IsReread tells (seen_at (map f disks) i) s (view_at u i) (view_at v i)) (sym (seen_here f disks i x low))
-          (subst (λ (s : DiskSeen). IsReread tells s (f x) (view_at u i) (view_at v i)) (sym (seen_is f disks i d low)) here))
+      | inl same ↦ subst (λ p. IsReread tells (seen_at (map f disks) p) (seen_at (map f (slice_set disks i x)) p) (viewing_at u p) (viewing_at v p)) (sym same)
+          (subst (λ (s : DiskSeen). IsReread tells (seen_at (map f disks) i) s (viewing_at u i) (viewing_at v i)) (sym (seen_here f disks i x low))
+          (subst (λ (s : DiskSeen). IsReread tells s (f x) (viewing_at u i) (viewing_at v i)) (sym (seen_is f disks i d low)) here))
       | inr differs ↦ inl (others peer differs, ap (λ (s : DiskSeen). s.faults) (seen_there f disks i peer x differs))
     ]
 
 -- ---- one view was given up
 
-pub given_up_here : (views : List (Option Viewing)) (i : ℕ) → i < length views → view_at (slice_set views i None) i ≡ None
+pub given_up_here : (views : List (Option Viewing)) (i : ℕ) → i < length views → viewing_at (slice_set views i None) i ≡ None
 given_up_here views i low = get_or-set_same views i None None low
 
-pub given_up_there : (views : List (Option Viewing)) (i peer : ℕ) → peer ≢ i → view_at (slice_set views i None) peer ≡ view_at views peer
+pub given_up_there : (views : List (Option Viewing)) (i peer : ℕ) → peer ≢ i → viewing_at (slice_set views i None) peer ≡ viewing_at views peer
 given_up_there views i peer differs = get_or-set_other views i peer None None differs

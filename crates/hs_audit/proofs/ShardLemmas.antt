@@ -7,7 +7,7 @@ use Rattle.std.specs.List.{range_with_len}
 use Rattle.std.specs.Option.{option_map}
 use Rattle.std.specs.Prelude.{IfSome, IsSome, unwrap_or}
 use Rattle.hs_audit.proofs.ChosenLemmas.{Ranks, chosen_counts, none_ranked}
-use Rattle.hs_audit.specs.Rereading.{AreViewsOf, HasNoShardView, shard_lists, view_at, viewed_list}
+use Rattle.hs_audit.specs.Rereading.{AreViewsOf, HasNoShardView, shard_lists, viewing_at, viewed_list}
 use Rattle.hs_coldstart.specs.Choose.{choose}
 use Rattle.hs_entry.specs.declared.rank.Rank.{Rank}
 use Rattle.hs_fold.specs.Opened.{chosen}
@@ -60,7 +60,7 @@ module _ (shape : Shape) (shard : ℕ) (in_shape : shard < shape.shards) (views 
   own_long : length own ≡ shape.copies
   own_long = length-take-le shape.copies (drop first ranks) (let d = length-drop first ranks in omega (arith, d, count, within))
 
-  own_at : (i : ℕ) → i < shape.copies → get_or own i None ≡ rank_in (view_at views (first + i))
+  own_at : (i : ℕ) → i < shape.copies → get_or own i None ≡ rank_in (viewing_at views (first + i))
   own_at i low =
       get_or-take shape.copies (drop first ranks) i None low ∙ get_or-drop first ranks i None
       ∙ ap (λ (z : List (Option Rank)). get_or z (first + i) None) ranked
@@ -76,30 +76,30 @@ module _ (shape : Shape) (shard : ℕ) (in_shape : shard < shape.shards) (views 
     place_is : first + copy ≡ place
     place_is = omega (arith, is)
 
-    rank_there : get_or own copy None ≡ rank_in (view_at views place)
-    rank_there = own_at copy copy_within ∙ ap (λ n. rank_in (view_at views n)) place_is
+    rank_there : get_or own copy None ≡ rank_in (viewing_at views place)
+    rank_there = own_at copy copy_within ∙ ap (λ n. rank_in (viewing_at views n)) place_is
 
     -- where it has no view, no copy has one
-    pub none_viewed : view_at views place ≡ None → HasNoShardView shape views shard
+    pub none_viewed : viewing_at views place ≡ None → HasNoShardView shape views shard
     none_viewed none = λ i low.
         let no = none_ranked own copy refl (rank_there ∙ ap rank_in none) i (omega (arith, low, own_long)) in
         let e : first + i ≡ peer_of shape shard i = omega arith in
-        no_rank_in (view_at views (peer_of shape shard i)) (ap (λ n. rank_in (view_at views n)) (sym e) ∙ sym (own_at i low) ∙ no)
+        no_rank_in (viewing_at views (peer_of shape shard i)) (ap (λ n. rank_in (viewing_at views n)) (sym e) ∙ sym (own_at i low) ∙ no)
 
     -- where it has one, its list counts
-    pub taken_counts : (tells : Type 0) (disks : List DiskSeen) → tells → AreViewsOf tells shape disks views → (v : Viewing) → view_at views place ≡ Some v → (list : Numbered) → list_in (seen_at disks place).stands.seen ≡ Some list
+    pub taken_counts : (tells : Type 0) (disks : List DiskSeen) → tells → AreViewsOf tells shape disks views → (v : Viewing) → viewing_at views place ≡ Some v → (list : Numbered) → list_in (seen_at disks place).stands.seen ≡ Some list
         → list ≡ chosen (shard_lists shape disks views shard)
     taken_counts tells disks told are v there list listed =
         let lists : List Numbered = shard_lists shape disks views shard in
         let lists_long : length lists ≡ shape.copies = length-map-range_with_len (viewed_list disks views) first shape.copies in
         let list_at : (i : ℕ) → i < shape.copies → get_or lists i [] ≡ viewed_list disks views (first + i) = λ i low. get_or-map-range_with_len (viewed_list disks views) first shape.copies i (first + i) [] low refl in
         let each : (i : ℕ) → i < length lists → Ranks (get_or own i None) (get_or lists i []) = λ i low.
-            let less : i < shape.copies = omega (arith, low, lists_long) in
-            subst (λ l. Ranks (get_or own i None) l) (sym (list_at i less))
-            (subst (λ o. Ranks o (viewed_list disks views (first + i))) (sym (own_at i less))
-            (list_of_view tells shape (first + i) (seen_at disks (first + i)) (view_at views (first + i)) told (are (first + i) (omega (arith, less, within))))) in
+        let less : i < shape.copies = omega (arith, low, lists_long) in
+        subst (λ l. Ranks (get_or own i None) l) (sym (list_at i less))
+        (subst (λ o. Ranks o (viewed_list disks views (first + i))) (sym (own_at i less))
+        (list_of_view tells shape (first + i) (seen_at disks (first + i)) (viewing_at views (first + i)) told (are (first + i) (omega (arith, less, within))))) in
         let here : get_or lists copy [] ≡ list =
-            list_at copy copy_within ∙ ap (λ n. viewed_list disks views n) place_is
-            ∙ ap (λ (o : Option Viewing). if is_some o then unwrap_or (list_in (seen_at disks place).stands.seen) [] else []) there
-            ∙ ap (λ (o : Option Numbered). unwrap_or o []) listed in
+        list_at copy copy_within ∙ ap (λ n. viewed_list disks views n) place_is
+        ∙ ap (λ (o : Option Viewing). if is_some o then unwrap_or (list_in (seen_at disks place).stands.seen) [] else []) there
+        ∙ ap (λ (o : Option Numbered). unwrap_or o []) listed in
         sym (chosen_counts own lists (own_long ∙ sym lists_long) each copy v.rank refl (omega (arith, copy_within, lists_long)) (rank_there ∙ ap rank_in there) ∙ here)

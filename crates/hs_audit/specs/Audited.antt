@@ -1,10 +1,9 @@
 -- What an audit reads, and what it says.
-use Rattle.std.specs.List.{range_with_len}
-use Rattle.std.specs.Prelude.{◌≡◌, ◌⊎◌, ◌++◌, ◌*◌, ◌<◌, ℕ, ⊤, List, [], length, map, Option, None, Some, IsSome, unwrap_or}
+use Rattle.std.specs.Prelude.{◌≡◌, ◌⊎◌, ◌++◌, ◌*◌, ◌<◌, ℕ, ⊤, List, length, Option, None, Some, IsSome}
 use Rattle.hs_audit.specs.declared.fault.AuditFault.{AuditFault}
 use Rattle.hs_audit.specs.declared.fault.AuditFault.TheVariants.{WrongShape, ShardLost, NoMemory}
-use Rattle.hs_audit.specs.Text.{report}
-use Rattle.hs_fold.specs.Runs.Opened.{catalogues, opened, store_of}
+use Rattle.hs_audit.specs.Text.{audit_text, lists_by, report}
+use Rattle.hs_fold.specs.Runs.Opened.{catalogues, store_of}
 use Rattle.hs_fold.specs.Shards.Setting.{Numbered, Setting}
 use Rattle.hs_limits.specs.declared.shape.Shape.{Shape}
 use Rattle.hs_limits.specs.Shape.{peer_of}
@@ -13,16 +12,10 @@ use Rattle.hs_peerlog.specs.Opening.{refusal_in}
 use Rattle.hs_ports.specs.Fault.{HasRisen}
 use Rattle.hs_side.specs.Current.{list_in}
 use Rattle.hs_side.specs.declared.header.Header.{Header}
+use Rattle.hs_taking.specs.declared.fault.TakeFault.{TakeFault}
+use Rattle.hs_taking.specs.declared.fault.TakeFault.TheVariants as take
 use Rattle.hs_taking.specs.Disks.{DiskSeen, seen_at}
 use Rattle.hs_taking.specs.Viewed.{IsFirstOther, IsUnread}
-
--- the text of an audit of a store whose peers have these lists
-abbrev pub audit_text : Setting → List Numbered → List ℕ
-audit_text set lists = report (opened set lists)
-
--- the lists of so many peers, where a disk without a log counts as blank
-abbrev pub lists_by : ℕ → (ℕ → Option Numbered) → List Numbered
-lists_by peers log = map (λ peer. unwrap_or (log peer) []) (range_with_len 0 peers)
 
 -- the log of a peer's disk as it counts: what the disk reads as, or none, where its count rose in the call; and no call failed on one that counts
 pub record CountsAs (tells : Type 0) (old new : DiskSeen) (log : Option Numbered) : Type 0 where
@@ -61,10 +54,15 @@ pub record IsLostShard (tells : Type 0) (shape : Shape) (old new : List DiskSeen
   pub others : HaveOthersFailed tells shape old new
 
 -- why an audit is refused: the first disk of another store whose count stands, and where there is none the first shard that is lost; want of memory needs no cause
-abbrev pub IsRefused : Type 0 → Shape → List DiskSeen → List DiskSeen → AuditFault → Type 0
-IsRefused tells shape old new (WrongShape peer found) = IsFirstOther tells shape old new peer found
-IsRefused tells shape old new (ShardLost shard) = IsLostShard tells shape old new shard
-IsRefused tells shape old new NoMemory = ⊤
+abbrev pub IsAuditRefused : Type 0 → Shape → List DiskSeen → List DiskSeen → AuditFault → Type 0
+IsAuditRefused tells shape old new (WrongShape peer found) = IsFirstOther tells shape old new peer found
+IsAuditRefused tells shape old new (ShardLost shard) = IsLostShard tells shape old new shard
+IsAuditRefused tells shape old new NoMemory = ⊤
+
+-- the fault of an audit where the disks can't be viewed
+abbrev pub of_viewing : TakeFault → AuditFault
+of_viewing (take.WrongShape peer found) = WrongShape peer found
+of_viewing take.NoMemory = NoMemory
 
 -- disks that are audited where there is memory: none is of another store, each shard has one that is a log or blank, and none failed
 pub record CanBeAudited (shape : Shape) (old new : List DiskSeen) : Type 0 where

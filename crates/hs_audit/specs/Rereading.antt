@@ -30,12 +30,12 @@ ran_out (Err (ShardLost shard)) = false
 ran_out (Err NoMemory) = true
 
 -- the view of a peer
-abbrev pub view_at : List (Option Viewing) → ℕ → Option Viewing
-view_at views peer = slice_index_or views peer None
+abbrev pub viewing_at : List (Option Viewing) → ℕ → Option Viewing
+viewing_at views peer = slice_index_or views peer None
 
 -- each view is of its disk as it stands
 abbrev pub AreViewsOf : Type 0 → Shape → List DiskSeen → List (Option Viewing) → Type 0
-AreViewsOf tells shape disks views = (peer : ℕ) → peer < shape.shards * shape.copies → IfSome (view_at views peer) (IsViewOf tells shape peer (seen_at disks peer))
+AreViewsOf tells shape disks views = (peer : ℕ) → peer < shape.shards * shape.copies → IfSome (viewing_at views peer) (IsViewOf tells shape peer (seen_at disks peer))
 
 -- reads of a disk leave it as it is, and its count never falls
 pub record IsStill (tells : Type 0) (old new : DiskSeen) : Type 0 where
@@ -52,11 +52,11 @@ abbrev pub AreStill : Type 0 → ℕ → List DiskSeen → List DiskSeen → Typ
 AreStill tells peers old new = (peer : ℕ) → peer < peers → IsStill tells (seen_at old peer) (seen_at new peer)
 
 abbrev pub AreReread : Type 0 → ℕ → List DiskSeen → List DiskSeen → List (Option Viewing) → List (Option Viewing) → Type 0
-AreReread tells peers old new before after = (peer : ℕ) → peer < peers → IsReread tells (seen_at old peer) (seen_at new peer) (view_at before peer) (view_at after peer)
+AreReread tells peers old new before after = (peer : ℕ) → peer < peers → IsReread tells (seen_at old peer) (seen_at new peer) (viewing_at before peer) (viewing_at after peer)
 
 -- the list of a disk that has a view
 abbrev pub viewed_list : List DiskSeen → List (Option Viewing) → ℕ → Numbered
-viewed_list disks views peer = if is_some (view_at views peer) then unwrap_or (list_in (seen_at disks peer).stands.seen) [] else []
+viewed_list disks views peer = if is_some (viewing_at views peer) then unwrap_or (list_in (seen_at disks peer).stands.seen) [] else []
 
 -- those of a shard
 abbrev pub shard_lists : Shape → List DiskSeen → List (Option Viewing) → ℕ → List Numbered
@@ -66,19 +66,19 @@ shard_lists shape disks views shard = map (viewed_list disks views) (range_with_
 pub record HasShardView (shape : Shape) (views : List (Option Viewing)) (shard : ℕ) : Type 0 where
   pub copy : ℕ
   pub within : copy < shape.copies
-  pub there : IsSome (view_at views (peer_of shape shard copy))
+  pub there : IsSome (viewing_at views (peer_of shape shard copy))
 
 -- no copy has one
 abbrev pub HasNoShardView : Shape → List (Option Viewing) → ℕ → Type 0
-HasNoShardView shape views shard = (copy : ℕ) → copy < shape.copies → view_at views (peer_of shape shard copy) ≡ None
+HasNoShardView shape views shard = (copy : ℕ) → copy < shape.copies → viewing_at views (peer_of shape shard copy) ≡ None
 
 -- a view of a shard was given up, and no other
 pub record HasGivenUp (shape : Shape) (shard : ℕ) (before after : List (Option Viewing)) : Type 0 where
   pub copy : ℕ
   pub within : copy < shape.copies
-  pub had : IsSome (view_at before (peer_of shape shard copy))
-  pub gone : view_at after (peer_of shape shard copy) ≡ None
-  pub others : (peer : ℕ) → (peer ≡ peer_of shape shard copy → ⊥) → view_at after peer ≡ view_at before peer
+  pub had : IsSome (viewing_at before (peer_of shape shard copy))
+  pub gone : viewing_at after (peer_of shape shard copy) ≡ None
+  pub others : (peer : ℕ) → (peer ≡ peer_of shape shard copy → ⊥) → viewing_at after peer ≡ viewing_at before peer
 
 -- some list was folded: where the disk tells the one that it reads as
 pub record IsLogOf (tells : Type 0) (fold : Numbered → Catalogue) (disk : DiskSeen) (catalogue : Catalogue) : Type 0 where

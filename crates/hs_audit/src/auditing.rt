@@ -1,6 +1,6 @@
 //! The audit of a store.
 ghost use Rattle.std.specs.Prelude.{◌≡◌, ◌*◌, ◌<◌, ◌≤◌, ℕ, IfErr, IsOkUnless, OnErr, OnOk, length, map};
-ghost use Rattle.hs_audit.specs.Audited.{Audits, CanBeAudited, IsRefused};
+ghost use Rattle.hs_audit.specs.Audited.{Audits, CanBeAudited, IsAuditRefused, of_viewing};
 ghost use Rattle.hs_audit.specs.declared.fault.AuditFault.TheVariants.{NoMemory};
 ghost use Rattle.hs_limits.specs.Limits.{greatest_limits};
 ghost use Rattle.hs_limits.specs.Shape.{IsShape};
@@ -15,6 +15,17 @@ use hs_limits::Shape;
 use hs_ports::{Disk, Watch};
 use hs_taking::{TakeFault, view_all};
 use std::alloc::Global;
+
+impl From<TakeFault> for AuditFault {
+    ghost from_gives = { λ taken fault. fault ≡ of_viewing taken };
+
+    fn from(taken: TakeFault) -> AuditFault {
+        match taken {
+            TakeFault::WrongShape { peer, found } => AuditFault::WrongShape { peer, found },
+            TakeFault::NoMemory => AuditFault::NoMemory,
+        }
+    }
+}
 
 /// Reads the disks of a store, writes none, and puts at the end of `out` what their logs amount to: a
 /// line for each shard, one for each address that a retained root reaches and at which no block is,
@@ -39,7 +50,7 @@ pub fn audit<A: Addresser, D: Disk>(
         (map (λ disk. seen_as (D.size disk) (D.stands disk) (D.faults disk)) disks.new)
         out.old.items out.new.items) }
 
-    ensures refused { IfErr result (IsRefused D.tells shape
+    ensures refused { IfErr result (IsAuditRefused D.tells shape
         (map (λ disk. seen_as (D.size disk) (D.stands disk) (D.faults disk)) disks.old)
         (map (λ disk. seen_as (D.size disk) (D.stands disk) (D.faults disk)) disks.new)) }
     ensures complete { D.tells → CanBeAudited shape
@@ -60,10 +71,7 @@ pub fn audit<A: Addresser, D: Disk>(
 {
     let mut views = match view_all(alloc, disks, watch, shape) {
         Ok(views) => views,
-        Err(TakeFault::WrongShape { peer, found }) => {
-            return Err(AuditFault::WrongShape { peer, found });
-        }
-        Err(TakeFault::NoMemory) => return Err(AuditFault::NoMemory),
+        Err(fault) => return Err(AuditFault::from(fault)),
     };
     let store = match gather(alloc, naming, views.as_mut_slice(), disks, shape) {
         Ok(store) => store,

@@ -63,7 +63,10 @@ fn roots_in(roots: &[PlainRoot], shape: Shape, shard: u8) -> usize
     ensures { result ≡ count_by (λ root. is_none root.dropped
         && shard_of_key shape.shards root.key == shard) roots.now }
 {
-    roots.iter().filter(|root| is_kept_in(root, shape, shard)).count()
+    roots
+        .iter()
+        .filter(|root| is_kept_in(root, shape, shard))
+        .count()
 }
 
 /// Whether a root is not dropped, and of a shard.

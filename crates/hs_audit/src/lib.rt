@@ -5,6 +5,7 @@ mod auditing;
 mod counting;
 mod fault;
 mod gathering;
+mod law;
 mod missing;
 mod printing;
 mod reading;
@@ -12,3 +13,4 @@ mod reporting;
 
 pub use auditing::audit;
 pub use fault::AuditFault;
+pub use law::{an_ok_audit_finds_each_tree_whole, what_is_missing_is_told};

@@ -1,6 +1,6 @@
 //! The log of a shard, folded entry by entry.
 ghost use Rattle.std.specs.Prelude.{◌≡◌, ◌<◌, ◌*◌, ◌≤◌, ◌⊎◌, ℕ, IfErr, IfOk, IfSome, IsSome, None, OnOk, false, is_some, length, map, true};
-ghost use Rattle.hs_audit.specs.Rereading.{AreReread, AreStill, AreViewsOf, HasGivenUp, IsLogOf, IsNotViewed, IsStill, IsTakenOf, IsUnviewed, ran_out, view_at};
+ghost use Rattle.hs_audit.specs.Rereading.{AreReread, AreStill, AreViewsOf, HasGivenUp, IsLogOf, IsNotViewed, IsStill, IsTakenOf, IsUnviewed, ran_out, viewing_at};
 ghost use Rattle.hs_limits.specs.Shape.{IsShape, peer_of};
 ghost use Rattle.hs_memory.specs.Forget.{apply_all};
 ghost use Rattle.hs_ports.specs.Fault.{HasRisen};
@@ -48,7 +48,7 @@ pub(crate) fn take_shard<A: Addresser, D: Disk>(
     // The views of other shards stay.
     ensures others { (peer : ℕ) → (peer < peer_of shape shard 0)
         ⊎ (peer_of shape shard shape.copies ≤ peer)
-        → view_at views.new peer ≡ view_at views.old peer }
+        → viewing_at views.new peer ≡ viewing_at views.old peer }
     ensures same_views { length views.new ≡ length views.old }
     ensures same_count { length disks.new ≡ length disks.old }
 {
@@ -93,7 +93,7 @@ fn take_best<A: Addresser, D: Disk>(
         views.old views.new }
     ensures others { (peer : ℕ) → (peer < peer_of shape shard 0)
         ⊎ (peer_of shape shard shape.copies ≤ peer)
-        → view_at views.new peer ≡ view_at views.old peer }
+        → viewing_at views.new peer ≡ viewing_at views.old peer }
     ensures same_views { length views.new ≡ length views.old }
     ensures same_count { length disks.new ≡ length disks.old }
 {

@@ -1,6 +1,6 @@
 -- An audit, from what its calls say.
 use Rattle.std.proofs.Common.{◌≡◌, ◌∙◌, ◌⊎◌, inl, inr, ap, sym, subst, ℕ, ◌<◌, List, [], length}
-use Rattle.hs_audit.specs.Audited.{Audits, CanBeAudited, IsRefused}
+use Rattle.hs_audit.specs.Audited.{Audits, CanBeAudited, IsAuditRefused}
 use Rattle.hs_audit.specs.declared.fault.AuditFault.{AuditFault}
 use Rattle.hs_audit.specs.declared.fault.AuditFault.TheVariants as fault
 use Rattle.hs_fold.specs.Shards.Setting.{Setting}
@@ -46,13 +46,13 @@ module _ (tells : Type 0) (name : List ℕ → Address) (shape : Shape) (r : Ran
       ];
   }
 
-  ends_by : (f : AuditFault) → r.new.got ≡ r.old.got → IsRefused tells shape old new f → EndsAudit tells set old new r (audit_status f)
+  ends_by : (f : AuditFault) → r.new.got ≡ r.old.got → IsAuditRefused tells shape old new f → EndsAudit tells set old new r (audit_status f)
   ends_by (fault.WrongShape peer found) same refused = (same, refused)
   ends_by (fault.ShardLost shard) same refused = (same, refused)
   ends_by fault.NoMemory same refused = same
 
   -- it could not be given
-  pub by_fault : (f : AuditFault) → r.ending ≡ audit_status f → r.new.got ≡ r.old.got → IsRefused tells shape old new f → (tells → CanBeAudited shape old new → f ≡ fault.NoMemory) → IsAudited tells name shape r
+  pub by_fault : (f : AuditFault) → r.ending ≡ audit_status f → r.new.got ≡ r.old.got → IsAuditRefused tells shape old new f → (tells → CanBeAudited shape old new → f ≡ fault.NoMemory) → IsAudited tells name shape r
   by_fault f is same refused complete = record {
     silent = silent;
     old = old;

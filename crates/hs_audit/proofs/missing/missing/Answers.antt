@@ -17,8 +17,8 @@ pub returns : goal.returns
 returns c =
     let s = c.args.store.now in
     let from : c.as_slice-2.result.now ≡ kept_by_roots (plain_of s) = c.as_slice-2.ensures.value ∙ c.in_ok-kept.ensures
-        ∙ ap (λ (z : List PlainRoot). map (λ (root : PlainRoot). root.address) (filter (λ (root : PlainRoot). is_none root.dropped) z)) c.as_slice.ensures
-        ∙ sym (filter_of_map (λ (root : Root). root.address) (λ (root : Root). is_none root.dropped) root_of s.roots) in
+    ∙ ap (λ (z : List PlainRoot). map (λ (root : PlainRoot). root.address) (filter (λ (root : PlainRoot). is_none root.dropped) z)) c.as_slice.ensures
+    ∙ sym (filter_of_map (λ (root : Root). root.address) (λ (root : Root). is_none root.dropped) root_of s.roots) in
     let listed = subst (λ (z : List Address). IsListOf c.in_ok-reached.reached (IsReached (plain_of s) z)) from c.in_ok-reached.ensures.exact in
     let seen : c.as_slice-4.result.now ≡ c.in_ok-reached.reached = grind (arith, common_steps) in
     let same : (a : Address) → is_among c.in_ok-present.present.keys a ≡ is_among (keys_of (plain_of s).blocks) a

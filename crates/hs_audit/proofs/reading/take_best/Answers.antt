@@ -5,7 +5,7 @@ use Rattle.std.specs.Prelude.{IfSome, IsSome, slice_index_or, slice_set, unwrap_
 use Rattle.hs_audit.proofs.ReadLemmas.{calm_of, some_is, unviewed_of}
 use Rattle.hs_audit.proofs.RereadLemmas.{given_up_here, given_up_there, one_reread, one_still}
 use Rattle.hs_audit.proofs.ShardLemmas.{copy_within, none_viewed, taken_counts}
-use Rattle.hs_audit.specs.Rereading.{IsLogOf, view_at}
+use Rattle.hs_audit.specs.Rereading.{IsLogOf, viewing_at}
 use Rattle.hs_coldstart.specs.Choose.{choose}
 use Rattle.hs_entry.specs.declared.rank.Rank.{Rank}
 use Rattle.hs_fold.specs.Shards.Setting.{Numbered}
@@ -56,7 +56,7 @@ returns-in-Ok-Some-clause-taken g c =
       viewed = record {
         copy = unwrap_or (choose (take c.args.shape.copies (drop (peer_of c.args.shape c.args.shard 0) ranks))) 0;
         within = copy_within c.args.shape c.args.shard c.requires.shard c.args.views.now ranks c.requires.views ranked i is to;
-        there = subst (λ n. IsSome (view_at c.args.views.now n)) is (subst (λ o. IsSome o) (sym item) c.in-Ok-Some.ensures.viewed);
+        there = subst (λ n. IsSome (viewing_at c.args.views.now n)) is (subst (λ o. IsSome o) (sym item) c.in-Ok-Some.ensures.viewed);
       };
     }
 
@@ -88,8 +88,8 @@ returns-in-Ok-None-clause-given_up g c = λ none.
     record {
       copy = unwrap_or (choose (take c.args.shape.copies (drop (peer_of c.args.shape c.args.shard 0) ranks))) 0;
       within = copy_within c.args.shape c.args.shard c.requires.shard c.args.views.now ranks c.requires.views ranked i is to;
-      had = subst (λ n. IsSome (view_at c.args.views.now n)) is (subst (λ o. IsSome o) (sym item) c.in-Ok-None.ensures.viewed);
-      gone = subst (λ n. view_at (slice_set c.args.views.now i None) n ≡ None) is (given_up_here c.args.views.now i there);
+      had = subst (λ n. IsSome (viewing_at c.args.views.now n)) is (subst (λ o. IsSome o) (sym item) c.in-Ok-None.ensures.viewed);
+      gone = subst (λ n. viewing_at (slice_set c.args.views.now i None) n ≡ None) is (given_up_here c.args.views.now i there);
       others = λ peer differs. given_up_there c.args.views.now i peer (λ same. differs (same ∙ is));
     }
 
@@ -109,7 +109,7 @@ returns-in-Ok-None-clause-reread g c =
     let low : i < length c.args.disks.now = omega (arith, within, c.requires.count) in
     let there : i < length c.args.views.now = omega (arith, within, c.requires.views) in
     λ calm. one_reread g.D.Disk.tells f c.args.disks.now i c.read_log-found.new.disk c.index-disks-place.result low c.args.views.now (slice_set c.args.views.now i None)
-        (inr (given_up_here c.args.views.now i there, c.in-Ok-None.ensures.failed c.in-Ok-None.field-0-is)) (λ peer differs. given_up_there c.args.views.now i peer differs) (c.args.shape.shards * c.args.shape.copies)
+    (inr (given_up_here c.args.views.now i there, c.in-Ok-None.ensures.failed c.in-Ok-None.field-0-is)) (λ peer differs. given_up_there c.args.views.now i peer differs) (c.args.shape.shards * c.args.shape.copies)
 
 pub returns-clause-lost : goal.returns-clause-lost
 returns-clause-lost g c =
@@ -139,5 +139,5 @@ returns-clause-reread g c =
     let e : i ≡ c.taken_peer-peer.result = c.from-place.ensures in
     let low : i < length c.args.disks.now = omega (arith, c.taken_peer-peer.ensures.within, e, c.requires.count) in
     λ calm. one_reread g.D.Disk.tells f c.args.disks.now i c.read_log-found.new.disk c.index-disks-place.result low c.args.views.now c.args.views.now
-        (inl (refl, calm_of (g.D.Disk.faults c.read_log-found.new.disk ≡ g.D.Disk.faults (slice_index_or c.args.disks.now i c.index-disks-place.result)) (Option Catalogue) c.args.shard (slice_index_or c.args.views.now i c.index-views-place.result) c.in-Err.fault c.in-Err.ensures.lost c.in-Err.ensures.lost_calm calm))
-        (λ peer differs. refl) (c.args.shape.shards * c.args.shape.copies)
+    (inl (refl, calm_of (g.D.Disk.faults c.read_log-found.new.disk ≡ g.D.Disk.faults (slice_index_or c.args.disks.now i c.index-disks-place.result)) (Option Catalogue) c.args.shard (slice_index_or c.args.views.now i c.index-views-place.result) c.in-Err.fault c.in-Err.ensures.lost c.in-Err.ensures.lost_calm calm))
+    (λ peer differs. refl) (c.args.shape.shards * c.args.shape.copies)

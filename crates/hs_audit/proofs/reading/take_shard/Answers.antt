@@ -3,7 +3,7 @@ use Rattle.std.specs.Prelude.{IfSome}
 use Rattle.hs_audit.proofs.ReadLemmas.{taken_before}
 use Rattle.hs_audit.proofs.RereadLemmas.{all_reread, all_reread_then, all_still, all_still_then, views_stay}
 use Rattle.hs_audit.proofs.TriesLemmas.{count_from, count_less, count_most, count_none}
-use Rattle.hs_audit.specs.Rereading.{HasGivenUp, IsTakenOf, view_at}
+use Rattle.hs_audit.specs.Rereading.{HasGivenUp, IsTakenOf, viewing_at}
 use Rattle.hs_limits.specs.Shape.{peer_of}
 use Rattle.hs_memory.specs.Forget.{apply_all}
 use Rattle.hs_peerlog.specs.Views.{Viewing}
@@ -22,7 +22,7 @@ pub loop-attempt-init : goal.loop-attempt-init
 loop-attempt-init g c =
     let f : g.row.D.Denot → DiskSeen = λ disk. seen_as (g.D.Disk.size disk) (g.D.Disk.stands disk) (g.D.Disk.faults disk) in
     let n : ℕ = c.args.shape.shards * c.args.shape.copies in
-    let most = count_most (λ peer. is_some (view_at c.args.views.now peer)) (peer_of c.args.shape c.args.shard 0) c.args.shape.copies in
+    let most = count_most (λ peer. is_some (viewing_at c.args.views.now peer)) (peer_of c.args.shape c.args.shard 0) c.args.shape.copies in
     record {
       views = c.requires.viewed;
       still = all_still g.D.Disk.tells n (map f c.args.disks.now);
@@ -49,8 +49,8 @@ loop-attempt-preserved g c =
     let step = c.in-Ok-None.ensures.reread refl in
     let gone : HasGivenUp c.args.shape c.args.shard u v = c.in-Ok-None.ensures.given_up c.in-Ok-None.field-0-is in
     let first : ℕ = peer_of c.args.shape c.args.shard 0 in
-    let less = count_less (λ peer. is_some (view_at u peer)) (λ peer. is_some (view_at v peer)) first c.args.shape.copies (peer_of c.args.shape c.args.shard gone.copy)
-        (omega arith) (let w = gone.within in omega (arith, w)) gone.had (ap (λ (o : Option Viewing). is_some o) gone.gone) (λ k differs. ap (λ (o : Option Viewing). is_some o) (gone.others k differs)) in
+    let less = count_less (λ peer. is_some (viewing_at u peer)) (λ peer. is_some (viewing_at v peer)) first c.args.shape.copies (peer_of c.args.shape c.args.shard gone.copy)
+    (omega arith) (let w = gone.within in omega (arith, w)) gone.had (ap (λ (o : Option Viewing). is_some o) gone.gone) (λ k differs. ap (λ (o : Option Viewing). is_some o) (gone.others k differs)) in
     record {
       views = views_stay g.D.Disk.tells c.args.shape b z u v c.take_best.ensures.still step inv.views;
       still = all_still_then g.D.Disk.tells n a b z inv.still c.take_best.ensures.still;
@@ -101,6 +101,8 @@ returns-clause-lost g c =
     let v : List (Option Viewing) = c.loop-attempt.views in
     let first : ℕ = peer_of c.args.shape c.args.shard 0 in
     let left = c.loop-attempt.invariant.left in
-    let none : count_from (λ peer. is_some (view_at v peer)) first c.args.shape.copies ≡ 0 = omega (arith, left, c.loop-attempt-test.false) in
-    (refl, λ copy small. no_view (view_at v (peer_of c.args.shape c.args.shard copy))
-        (count_none (λ peer. is_some (view_at v peer)) first c.args.shape.copies none (peer_of c.args.shape c.args.shard copy) (omega arith) (omega (arith, small))))
+    let none : count_from (λ peer. is_some (viewing_at v peer)) first c.args.shape.copies ≡ 0 = omega (arith, left, c.loop-attempt-test.false) in (
+      refl,
+      λ copy small. no_view (viewing_at v (peer_of c.args.shape c.args.shard copy))
+          (count_none (λ peer. is_some (viewing_at v peer)) first c.args.shape.copies none (peer_of c.args.shape c.args.shard copy) (omega arith) (omega (arith, small))),
+    )
