@@ -3,26 +3,14 @@ use crate::book::Book;
 use crate::held::{Flags, HeldDisk, RaisingGate};
 use crate::refusing::append;
 use crate::shelf::Task;
-use crate::team::{Team, blank, workers};
+use crate::team::{blank, workers};
 use crate::turns::peers_in_turn;
 use hs_block::ShaNames;
-use hs_ports::MemoryDisk;
 use hs_workers::{Shared, all_work};
 use std::alloc::{AllocError, Global};
 use std::sync::Wait;
 use std::test::Fail;
 use std::thread::Threads;
-
-/// Two peers over disks that hold for at most so many turns.
-fn held_team<'a>(
-    alloc: Global,
-    flags: &'a Flags,
-    turns: u64,
-) -> Result<Team<HeldDisk<'a, MemoryDisk>>, AllocError> {
-    let zero = HeldDisk::new(blank(alloc, &[])?, flags, 0, turns);
-    let one = HeldDisk::new(blank(alloc, &[])?, flags, 1, turns);
-    workers(alloc, zero, one)
-}
 
 /// A book in which an entry waits for each peer, and nobody asks.
 fn book_of(alloc: Global) -> Result<Shared<Book>, AllocError> {
@@ -37,7 +25,9 @@ fn book_of(alloc: Global) -> Result<Shared<Book>, AllocError> {
 /// Whether both are let through where they work beside each other.
 fn beside<H: Threads + Wait + Sync>(alloc: Global, rt: &H) -> Result<bool, AllocError> {
     let flags = Flags::new();
-    let mut team = held_team(alloc, &flags, 1_000_000_000)?;
+    let zero = HeldDisk::new(blank(alloc, &[])?, &flags, 0, 1_000_000_000);
+    let one = HeldDisk::new(blank(alloc, &[])?, &flags, 1, 1_000_000_000);
+    let mut team = workers(alloc, zero, one)?;
     let gate = RaisingGate::new(&flags);
     all_work(
         alloc,
@@ -55,7 +45,9 @@ fn beside<H: Threads + Wait + Sync>(alloc: Global, rt: &H) -> Result<bool, Alloc
 /// Whether both are let through where they work in turn.
 fn in_turn<H: Threads + Wait + Sync>(alloc: Global, rt: &H) -> Result<bool, AllocError> {
     let flags = Flags::new();
-    let mut team = held_team(alloc, &flags, 1_000_000)?;
+    let zero = HeldDisk::new(blank(alloc, &[])?, &flags, 0, 1_000_000);
+    let one = HeldDisk::new(blank(alloc, &[])?, &flags, 1, 1_000_000);
+    let mut team = workers(alloc, zero, one)?;
     let gate = RaisingGate::new(&flags);
     peers_in_turn(rt, &book_of(alloc)?, team.as_mut_slice(), &gate);
     Ok(flags.are_through())

@@ -5,9 +5,10 @@ use crate::team::{SHAPE, Team, add_askers, blank, workers};
 use hs_block::ShaNames;
 use hs_desk::OpenGate;
 use hs_entry::Entry;
-use hs_model::Reply;
+use hs_model::{Deed, Reply};
 use hs_peerlog::PeerLog;
 use hs_ports::{MemoryDisk, Watch};
+use hs_shared::SharedBytes;
 use hs_workers::{Element, Shared, all_work};
 use std::alloc::{AllocError, Global};
 use std::sync::Wait;
@@ -29,15 +30,31 @@ fn load<H: Threads + Wait + Sync>(
     Ok(team)
 }
 
-/// How many files a writer rooted and how many it kept. None for another, or with a fault.
-fn sum_of(part: &Part) -> Option<(u32, u32)> {
-    match part {
-        Element::Writer { writer } => match writer.ended {
-            Ok(sum) => Some((sum.files, sum.kept)),
-            Err(_) => None,
-        },
-        _ => None,
+/// How many of these answers are Stale, and how many ShardFull.
+fn refusals(answers: &[(u64, Deed, Reply)]) -> (u64, u64) {
+    let mut stale = 0u64;
+    let mut full = 0u64;
+    for (_, _, reply) in answers {
+        match reply {
+            Reply::Stale { .. } => stale = stale.saturating_add(1),
+            Reply::ShardFull { .. } => full = full.saturating_add(1),
+            _ => {}
+        }
     }
+    (stale, full)
+}
+
+/// How many files a writer rooted, how many it kept, how often it was told Stale, and how often ShardFull.
+/// Nothing but zeros of another, and of one that ended with a fault.
+fn told_of(part: &Part) -> [u64; 4] {
+    let Element::Writer { writer } = part else {
+        return [0; 4];
+    };
+    let Ok(sum) = writer.ended else {
+        return [0; 4];
+    };
+    let (stale, full) = refusals(writer.pass.token.kept.as_slice());
+    [u64::from(sum.files), u64::from(sum.kept), stale, full]
 }
 
 /// How many answers one who asks has kept.
@@ -49,103 +66,112 @@ fn answers(part: &Part) -> usize {
     }
 }
 
-/// How many of a writer's answers were Stale, and how many ShardFull.
-fn refusals(part: &Part) -> (usize, usize) {
-    let Element::Writer { writer } = part else {
-        return (0, 0);
-    };
-    let mut stale = 0usize;
-    let mut full = 0usize;
-    for (_, _, reply) in writer.pass.token.kept.as_slice() {
-        match reply {
-            Reply::Stale { .. } => stale = stale.saturating_add(1),
-            Reply::ShardFull { .. } => full = full.saturating_add(1),
-            _ => {}
-        }
-    }
-    (stale, full)
-}
-
-/// How many numbers a worker stored, where they are those from 1 on and it returned without a fault.
-fn stored(part: &Part) -> Option<usize> {
-    let Element::Worker { worker } = part else {
-        return None;
-    };
+/// Whether these are the numbers from 1 on.
+fn are_numbered(numbers: &[u64]) -> bool {
     let mut next = 1u64;
-    for number in worker.seat.slip.stored.as_slice() {
+    for number in numbers {
         if *number != next {
-            return None;
+            return false;
         }
         next = next.saturating_add(1);
     }
-    if worker.ended.is_err() {
-        return None;
-    }
-    Some(worker.seat.slip.stored.len())
+    true
 }
 
-/// The last number that a worker stored, where it returned without a fault.
-fn last_stored(part: &Part) -> Option<u64> {
-    let Element::Worker { worker } = part else {
-        return None;
-    };
-    if worker.ended.is_err() {
-        return None;
-    }
-    worker.seat.slip.stored.as_slice().last().copied()
-}
-
-/// How many blocks a worker showed that its disk has, read from the disk anew.
-fn shown(alloc: Global, part: &mut Part, peer: u8) -> usize {
-    let Element::Worker { worker } = part else {
-        return 0;
-    };
+/// Whether the entry of a number is a block of these bytes, on the disk of a peer that is opened anew.
+fn has_block(
+    alloc: Global,
+    disk: &mut MemoryDisk,
+    peer: u8,
+    number: u64,
+    bytes: &SharedBytes,
+) -> bool {
     let mut watch = Watch::new();
-    let Ok(log) = PeerLog::recover(alloc, &mut worker.disk, &mut watch, SHAPE, peer) else {
-        return 0;
+    let Ok(log) = PeerLog::recover(alloc, disk, &mut watch, SHAPE, peer) else {
+        return false;
     };
-    let mut count = 0usize;
-    for (number, shown) in worker.seat.slip.shown.as_slice() {
-        if let Ok(Some(Entry::Block { bytes, .. })) = log.read_entry(&mut worker.disk, *number) {
-            if bytes.as_slice() == shown.as_slice() {
-                count = count.saturating_add(1);
-            }
+    match log.read_entry(disk, number) {
+        Ok(Some(Entry::Block { bytes: found, .. })) => found.as_slice() == bytes.as_slice(),
+        _ => false,
+    }
+}
+
+/// Whether a worker returned without a fault and stored so many entries, and its disk has each block that it
+/// showed, which is one of each.
+fn has_stored(alloc: Global, part: &mut Part, peer: u8, entries: usize) -> bool {
+    let Element::Worker { worker } = part else {
+        return false;
+    };
+    let slip = &worker.seat.slip;
+    if worker.ended.is_err() || slip.stored.len() != entries || slip.shown.len() != entries {
+        return false;
+    }
+    for (number, bytes) in slip.shown.as_slice() {
+        if !has_block(alloc, &mut worker.disk, peer, *number, bytes) {
+            return false;
         }
     }
-    count
+    are_numbered(slip.stored.as_slice())
+}
+
+/// Whether a worker returned without a fault, and the last number that it stored is a 0.
+fn has_failed(part: &Part) -> bool {
+    let Element::Worker { worker } = part else {
+        return false;
+    };
+    worker.ended.is_ok() && worker.seat.slip.stored.as_slice().last() == Some(&0)
+}
+
+/// What is told of the three writers, and whether all else is as it should be: the deleter has four answers,
+/// and each peer has an entry for each answer but that of an opening.
+fn whole<H: Threads + Wait + Sync>(
+    alloc: Global,
+    rt: &H,
+) -> Result<([[u64; 4]; 3], bool), AllocError> {
+    let mut team = load(alloc, rt, &[])?;
+    let [zero, one, first, second, third, deleter] = team.as_mut_slice() else {
+        return Err(AllocError);
+    };
+    let even = answers(first)
+        .saturating_add(answers(third))
+        .saturating_add(2);
+    let odd = answers(second).saturating_sub(1);
+    let stored = has_stored(alloc, zero, 0, even) && has_stored(alloc, one, 1, odd);
+    Ok((
+        [told_of(first), told_of(second), told_of(third)],
+        stored && answers(deleter) == 4,
+    ))
+}
+
+/// What is told of writers 0 and 2, and whether all else is as it should be, where the disk of peer 1 fails:
+/// its worker has a last 0, writer 1 is refused, and the deleter has four answers.
+fn failing<H: Threads + Wait + Sync>(
+    alloc: Global,
+    rt: &H,
+) -> Result<([[u64; 4]; 2], bool), AllocError> {
+    let mut team = load(alloc, rt, &[40])?;
+    let [_, one, first, second, third, deleter] = team.as_mut_slice() else {
+        return Err(AllocError);
+    };
+    let refused = told_of(second)[3] > 0;
+    Ok((
+        [told_of(first), told_of(third)],
+        has_failed(one) && refused && answers(deleter) == 4,
+    ))
 }
 
 #[test]
 fn each_writer_has_its_files_and_each_peer_its_entries(rt: HostRuntime) -> Result<(), Fail> {
-    let mut team = load(rt.alloc(), &rt, &[])?;
-    assert_eq!(rt; team.len(), 6);
-    assert_eq!(rt; sum_of(&team[2]), Some((4, 3)));
-    assert_eq!(rt; sum_of(&team[3]), Some((4, 3)));
-    assert_eq!(rt; sum_of(&team[4]), Some((3, 2)));
-    assert_eq!(rt; refusals(&team[2]), (2, 0));
-    assert_eq!(rt; refusals(&team[3]), (0, 0));
-    assert_eq!(rt; refusals(&team[4]), (0, 1));
-    assert_eq!(rt; answers(&team[5]), 4);
-    let even = answers(&team[2])
-        .saturating_add(answers(&team[4]))
-        .saturating_add(2);
-    let odd = answers(&team[3]).saturating_sub(1);
-    assert_eq!(rt; stored(&team[0]), Some(even));
-    assert_eq!(rt; stored(&team[1]), Some(odd));
-    assert_eq!(rt; shown(rt.alloc(), &mut team[0], 0), even);
-    assert_eq!(rt; shown(rt.alloc(), &mut team[1], 1), odd);
+    let (writers, others) = whole(rt.alloc(), &rt)?;
+    assert_eq!(rt; writers, [[4, 3, 2, 0], [4, 3, 0, 0], [3, 2, 0, 1]]);
+    assert_eq!(rt; others, true);
     Ok(())
 }
 
 #[test]
 fn a_disk_that_fails_is_told_and_leaves_the_others(rt: HostRuntime) -> Result<(), Fail> {
-    let team = load(rt.alloc(), &rt, &[40])?;
-    assert_eq!(rt; team.len(), 6);
-    assert_eq!(rt; last_stored(&team[1]), Some(0));
-    assert_eq!(rt; sum_of(&team[2]), Some((4, 3)));
-    assert_eq!(rt; sum_of(&team[4]), Some((3, 2)));
-    assert_eq!(rt; sum_of(&team[3]).is_some(), true);
-    assert_eq!(rt; refusals(&team[3]).1 > 0, true);
-    assert_eq!(rt; answers(&team[5]), 4);
+    let (writers, others) = failing(rt.alloc(), &rt)?;
+    assert_eq!(rt; writers, [[4, 3, 2, 0], [3, 2, 0, 1]]);
+    assert_eq!(rt; others, true);
     Ok(())
 }
