@@ -1,6 +1,7 @@
 //! Peers beside each other: each disk waits for the other's first write, and both are let through.
 use crate::book::Book;
 use crate::held::{Flags, HeldDisk, RaisingGate};
+use crate::locked::LockedDisk;
 use crate::refusing::append;
 use crate::shelf::Task;
 use crate::team::{blank, workers};
@@ -8,7 +9,7 @@ use crate::turns::peers_in_turn;
 use hs_block::ShaNames;
 use hs_workers::{Shared, all_work};
 use std::alloc::{AllocError, Global};
-use std::sync::Wait;
+use std::sync::{Mutex, Wait};
 use std::test::Fail;
 use std::thread::Threads;
 
@@ -53,6 +54,29 @@ fn in_turn<H: Threads + Wait + Sync>(alloc: Global, rt: &H) -> Result<bool, Allo
     Ok(flags.are_through())
 }
 
+/// Whether both are let through where a lock is held through each write.
+fn under_a_lock<H: Threads + Wait + Sync>(alloc: Global, rt: &H) -> Result<bool, AllocError> {
+    let flags = Flags::new();
+    let lock = Mutex::new(0);
+    let zero = HeldDisk::new(blank(alloc, &[])?, &flags, 0, 1_000_000);
+    let one = HeldDisk::new(blank(alloc, &[])?, &flags, 1, 1_000_000);
+    let zero = LockedDisk::new(zero, rt, &lock);
+    let one = LockedDisk::new(one, rt, &lock);
+    let mut team = workers(alloc, zero, one)?;
+    let gate = RaisingGate::new(&flags);
+    all_work(
+        alloc,
+        rt,
+        &ShaNames,
+        &book_of(alloc)?,
+        &mut team,
+        1,
+        0,
+        &gate,
+    );
+    Ok(flags.are_through())
+}
+
 #[test]
 fn peers_work_beside_each_other(rt: HostRuntime) -> Result<(), Fail> {
     assert_eq!(rt; beside(rt.alloc(), &rt)?, true);
@@ -62,5 +86,11 @@ fn peers_work_beside_each_other(rt: HostRuntime) -> Result<(), Fail> {
 #[test]
 fn peers_in_turn_are_not_let_through(rt: HostRuntime) -> Result<(), Fail> {
     assert_eq!(rt; in_turn(rt.alloc(), &rt)?, false);
+    Ok(())
+}
+
+#[test]
+fn peers_under_one_lock_are_not_let_through(rt: HostRuntime) -> Result<(), Fail> {
+    assert_eq!(rt; under_a_lock(rt.alloc(), &rt)?, false);
     Ok(())
 }

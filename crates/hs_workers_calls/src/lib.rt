@@ -6,6 +6,7 @@ mod book;
 #[cfg(test)]
 mod gate;
 mod held;
+mod locked;
 mod pass;
 #[cfg(test)]
 mod refusing;
