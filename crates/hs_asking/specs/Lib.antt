@@ -1,0 +1,6 @@
+pub mod Shown
+pub mod Telling
+pub mod Asked
+pub mod Lawful
+pub mod Judged
+pub mod Staying
