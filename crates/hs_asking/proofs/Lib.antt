@@ -1,3 +1,6 @@
 pub mod EventLemmas
 pub mod AskLemmas
 pub mod StayLemmas
+pub mod HandLemmas
+pub mod SeatLemmas
+pub mod UseLemmas

@@ -14,7 +14,7 @@ use Rattle.hs_laws.proofs.JudgeKeeps.{step_valid}
 use Rattle.hs_laws.proofs.RootKeeps.{found_root, retained_is}
 use Rattle.hs_laws.proofs.RunLemmas.{held_whole, root_whole}
 use Rattle.hs_laws.proofs.SweepLemmas.{stays_spared}
-use Rattle.hs_laws.proofs.ValidLemmas.{Valid, held_from_in}
+use Rattle.hs_laws.proofs.ValidLemmas.{Valid, held_from_in, is_from_valid, valid_from_is}
 use Rattle.hs_laws.specs.Distinct.{HasDistinctAddresses}
 use Rattle.hs_laws.specs.Held.{IsFreshHeld, IsHeld}
 use Rattle.hs_laws.specs.Reached.{IsPresent, IsWhole}
@@ -29,14 +29,8 @@ use Rattle.hs_model.specs.Store.{Root, Session, Store, address_cmp, block_at, ep
 use Rattle.hs_model.specs.declared.store.StoredBlock.{StoredBlock}
 use Rattle.hs_asking.specs.Judged.{Drifts, IsInner}
 use Rattle.hs_asking.specs.Lawful.{AreBlocks}
+use Rattle.hs_asking.specs.Seats.{IsSane}
 use Rattle.hs_asking.specs.Staying.{IsKept, Stays, by_handle, by_root}
-
--- ---- a valid store whose blocks are blocks, each at an address of its own
-
-pub record Sane (s : Store) : Type 0 where
-  pub valid : Valid s
-  pub distinct : HasDistinctAddresses s
-  pub blocks : AreBlocks s
 
 -- ---- one thing that a shard does
 
@@ -83,9 +77,9 @@ inner_was limits s (asks o) h d a y p = absurd h
 inner_was limits s (enters shard) h d a y p = p
 inner_was limits s (sweeps shard) h d a y p = (stays_spared s (slice_index s.epochs shard) shard a y d p).0
 
-pub inner_sane : (limits : Limits) (s : Store) (e : Event) → IsInner e → IsAllowed s e → Sane s → Sane (step limits s e).store
+pub inner_sane : (limits : Limits) (s : Store) (e : Event) → IsInner e → IsAllowed s e → IsSane s → IsSane (step limits s e).store
 inner_sane limits s e h may sane = record {
-  valid = step_valid limits s sane.valid e may;
+  valid = is_from_valid (step limits s e).store (step_valid limits s (valid_from_is s sane.valid) e may);
   distinct = step-distinct limits s e sane.distinct;
   blocks = λ a y p. sane.blocks a y (inner_was limits s e h sane.distinct a y p);
 }
@@ -152,7 +146,7 @@ whole-next s a next w c b r = w b (go r)
     go : IsReached s (next ∷ []) b → IsReached s (a ∷ []) b
     go r = reached_by s a (next ∷ r.path) b (c, subst (λ z. Leads s z r.path b) (only r.start r.anchored) r.leads)
 
-whole-here : (s : Store) (a : Address) → IsWhole s a → IsPresent s a
+pub whole-here : (s : Store) (a : Address) → IsWhole s a → IsPresent s a
 whole-here s a w = w a (reached_by s a [] a refl)
 
 pub stays_where_both : (s t : Store) (a : Address) → IsWhole s a → IsWhole t a → SameWhereBoth s t → Stays s t a
@@ -176,7 +170,7 @@ stays-trans s t u a h k = record { leads = λ path b l. k.leads path b (h.leads 
 
 -- what holds behind it
 pub record Drifted (s t : Store) : Type 0 where
-  pub sane : Sane t
+  pub sane : IsSane t
   pub sessions : (name : List ℕ) → session_at t name ≡ session_at s name
   pub count : length t.sessions ≡ length s.sessions
   pub first : slice_index t.epochs 0 ≡ slice_index s.epochs 0
@@ -190,10 +184,10 @@ sessions-same limits s (asks o) h = absurd h
 sessions-same limits s (enters shard) h = refl
 sessions-same limits s (sweeps shard) h = refl
 
-inner_drifted : (limits : Limits) (s : Store) (e : Event) → IsInner e → IsAllowed s e → Sane s → Drifted s (step limits s e).store
+inner_drifted : (limits : Limits) (s : Store) (e : Event) → IsInner e → IsAllowed s e → IsSane s → Drifted s (step limits s e).store
 inner_drifted limits s e h may sane =
     let t : Store = (step limits s e).store in
-    let after : Sane t = inner_sane limits s e h may sane in
+    let after : IsSane t = inner_sane limits s e h may sane in
     record {
       sane = after;
       sessions = λ name. session-same limits s e h name;
@@ -202,7 +196,7 @@ inner_drifted limits s e h may sane =
       shards = inner-shards limits s e h;
       retained = λ key. inner-retained limits s e key h;
       kept = λ a k. inner_kept limits s e h a k;
-      stays = λ a k. stays_where_both s t a (kept_whole s sane.valid a k) (kept_whole t after.valid a (inner_kept limits s e h a k)) (λ b x y p q. let r = inner_was limits s e h sane.distinct b y q in cc (p, r));
+      stays = λ a k. stays_where_both s t a (kept_whole s (valid_from_is s sane.valid) a k) (kept_whole t (valid_from_is t after.valid) a (inner_kept limits s e h a k)) (λ b x y p q. let r = inner_was limits s e h sane.distinct b y q in cc (p, r));
     }
 
 drifted-trans : (s t u : Store) → Drifted s t → Drifted t u → Drifted s u
@@ -217,14 +211,14 @@ drifted-trans s t u h k = record {
   stays = λ a x. stays-trans s t u a (h.stays a x) (k.stays a (h.kept a x));
 }
 
-drifted-refl : (s : Store) → Sane s → Drifted s s
+drifted-refl : (s : Store) → IsSane s → Drifted s s
 drifted-refl s sane = record { sane = sane; sessions = λ name. refl; count = refl; first = refl; shards = refl; retained = λ key. refl; kept = λ a k. k; stays = λ a k. stays-refl s a }
 
-pub inner_drift : (limits : Limits) (s : Store) (es : List Event) → AllByRecursion IsInner es → IsLegal limits s es → Sane s → Drifted s (run limits s es)
+pub inner_drift : (limits : Limits) (s : Store) (es : List Event) → AllByRecursion IsInner es → IsLegal limits s es → IsSane s → Drifted s (run limits s es)
 inner_drift limits s [] h l sane = drifted-refl s sane
 inner_drift limits s (e ∷ es) h l sane =
     let first = inner_drifted limits s e h.0 l.0 sane in
     drifted-trans s (step limits s e).store (run limits (step limits s e).store es) first (inner_drift limits (step limits s e).store es h.1 l.1 first.sane)
 
-pub drift : (limits : Limits) (s t : Store) → Drifts limits s t → Sane s → Drifted s t
+pub drift : (limits : Limits) (s t : Store) → Drifts limits s t → IsSane s → Drifted s t
 drift limits s t d sane = subst (λ z. Drifted s z) d.leaves (inner_drift limits s d.events d.inner d.legal sane)

@@ -4,3 +4,4 @@ pub mod Asked
 pub mod Lawful
 pub mod Judged
 pub mod Staying
+pub mod Seats
