@@ -4,3 +4,4 @@ pub mod StayLemmas
 pub mod HandLemmas
 pub mod SeatLemmas
 pub mod UseLemmas
+pub mod AloneLemmas

@@ -5,3 +5,4 @@ pub mod Lawful
 pub mod Judged
 pub mod Staying
 pub mod Seats
+pub mod Alone
