@@ -1,0 +1,5 @@
+pub mod Trees
+pub mod Levels
+pub mod Calls
+pub mod Telling
+pub mod Growing

@@ -1,0 +1,53 @@
+//! Pieces of a file, as a source gives them.
+ghost use Rattle.std.specs.Prelude.{◌≡◌, ◌<◌, ◌≤◌, [], length, IfOk, IfErr, OnOk};
+ghost use Rattle.hs_limits.specs.declared.spelling.TheConstants.{MOST_BYTES};
+ghost use Rattle.hs_ports.specs.Fault.{HasRisen};
+ghost use Rattle.hs_ports.specs.Source.{IsEnded, Took, before};
+ghost use Rattle.hs_tree.specs.Calls.{IsTakeFault};
+
+use crate::TreeFault;
+use hs_limits::MOST_BYTES;
+use hs_ports::{PortFault, Source};
+use std::alloc::Global;
+
+/// The next `most` bytes of a source, or fewer where it ends.
+pub(crate) fn take_piece<S: Source>(
+    alloc: Global,
+    source: &mut S,
+    most: usize,
+) -> Result<Vec<u8>, TreeFault>
+    ensures bound { IfOk result (λ piece. length piece.items ≤ most) }
+    ensures stream { IfOk result (λ piece.
+        before piece.items (S.left source.new) ≡ S.left source.old) }
+    ensures short { IfOk result (λ piece.
+        length piece.items < most → IsEnded (S.left source.new)) }
+    ensures fault { IfErr result (λ fault.
+        IsTakeFault (S.faults source.old) (S.faults source.new) fault) }
+    ensures later { S.faults source.old ≤ S.faults source.new }
+{
+    let mut piece = Vec::new(alloc);
+    while piece.len() < most {
+        let taken = take_some(source, most - piece.len(), &mut piece)?;
+        if taken == 0 {
+            break;
+        }
+    }
+    Ok(piece)
+}
+
+/// One take, with its fault as a file's.
+fn take_some<S: Source>(source: &mut S, max: usize, into: &mut Vec<u8>) -> Result<usize, TreeFault>
+    requires { 0 < max }
+    ensures taken { IfOk result (λ n.
+        Took (S.left source.old) into.old.items (S.left source.new) into.new.items max n) }
+    ensures calm { OnOk result (S.faults source.new ≡ S.faults source.old) }
+    ensures fault { IfErr result (λ fault.
+        IsTakeFault (S.faults source.old) (S.faults source.new) fault) }
+    ensures later { S.faults source.old ≤ S.faults source.new }
+{
+    match source.take(max, into) {
+        Ok(n) => Ok(n),
+        Err(PortFault::Failed) => Err(TreeFault::Read),
+        Err(PortFault::NoMemory) => Err(TreeFault::NoMemory),
+    }
+}
