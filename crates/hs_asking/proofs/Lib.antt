@@ -5,3 +5,4 @@ pub mod HandLemmas
 pub mod SeatLemmas
 pub mod UseLemmas
 pub mod AloneLemmas
+pub mod SaneLemmas

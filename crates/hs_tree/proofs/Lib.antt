@@ -1,2 +1,9 @@
 pub mod TreeExamples
 pub mod CallLemmas
+pub mod PlantLemmas
+pub mod GrowLemmas
+pub mod StepLemmas
+pub mod TreeSteps
+pub mod StopLemmas
+pub mod RunsLemmas
+pub mod PartLemmas

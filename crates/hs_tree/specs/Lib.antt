@@ -3,3 +3,4 @@ pub mod Levels
 pub mod Calls
 pub mod Telling
 pub mod Growing
+pub mod Steps
