@@ -42,9 +42,9 @@ module _ (s at u t : Store) (name : List ℕ) (next : ℕ) (es : List (ℕ × He
   pub stays_through : (e : ℕ × Held) → Member e es → Member e fs → Stays s t e.1.address
   stays_through e m k =
       stays-trans s at t e.1.address (before.stays e.1.address (seat_kept s name next es seat e m))
-        (stays-trans at u t e.1.address
-          (stays_where_both at u e.1.address (kept_whole at (valid_from_is at seat_there.sane.valid) e.1.address (seat_kept at name next es seat_there e m)) (kept_whole u (valid_from_is u after.sane.valid) e.1.address (seat_kept u name n fs after e k)) same)
-          (behind.stays e.1.address (seat_kept u name n fs after e k)))
+      (stays-trans at u t e.1.address
+      (stays_where_both at u e.1.address (kept_whole at (valid_from_is at seat_there.sane.valid) e.1.address (seat_kept at name next es seat_there e m)) (kept_whole u (valid_from_is u after.sane.valid) e.1.address (seat_kept u name n fs after e k)) same)
+      (behind.stays e.1.address (seat_kept u name n fs after e k)))
 
   pub goes_through : ((key : List ℕ) → retained_at u key ≡ retained_at at key) → Goes s t name es n fs
   goes_through roots = record {
@@ -94,25 +94,25 @@ module _ (limits : Limits) (s t : Store) (name : List ℕ) where
     -- ---- a write
 
     pub writes_alone : (payload handles : List ℕ) (a : Address) (told : Reply) → length payload ≤ MOST_BYTES → length handles ≤ MOST_POINTERS → length es + 1 ≤ limits.handles → AllByRecursion (IsUsable s session) handles
-      → IsJudged limits s t (op.Write name payload handles (Some a)) told → IsWritten limits s t name next es a (written_block s name payload handles) told
+        → IsJudged limits s t (op.Write name payload handles (Some a)) told → IsWritten limits s t name next es a (written_block s name payload handles) told
     writes_alone payload handles a told short few room usable j =
         let before : Drifted s j.at = drift limits s j.at j.before seat.sane in
         let here : HasSeat j.at name next es = seat_drift s j.at name next es before seat in
         let same : written_block j.at name payload handles ≡ written_block s name payload handles = ap (λ (x : Option Session). record { pointers = map (λ handle. (unwrap_or (held_in x handle) judging.nothing).address) handles; bytes = payload }) (before.sessions name) in
         go before (judge limits j.at (op.Write name payload handles (Some a))).store refl
-          (subst (λ z. WriteComes limits j.at (judge limits j.at (op.Write name payload handles (Some a))).store name next es a z (judge limits j.at (op.Write name payload handles (Some a))).reply) same
-            (write_comes limits j.at name next es here payload handles a short few room (usable_drift s j.at session before handles usable)))
+        (subst (λ z. WriteComes limits j.at (judge limits j.at (op.Write name payload handles (Some a))).store name next es a z (judge limits j.at (op.Write name payload handles (Some a))).reply) same
+        (write_comes limits j.at name next es here payload handles a short few room (usable_drift s j.at session before handles usable)))
       where
         go : Drifted s j.at → (u : Store) → (judge limits j.at (op.Write name payload handles (Some a))).store ≡ u
-          → WriteComes limits j.at u name next es a (written_block s name payload handles) (judge limits j.at (op.Write name payload handles (Some a))).reply
-          → IsWritten limits s t name next es a (written_block s name payload handles) told
+            → WriteComes limits j.at u name next es a (written_block s name payload handles) (judge limits j.at (op.Write name payload handles (Some a))).reply
+            → IsWritten limits s t name next es a (written_block s name payload handles) told
         go before u e (write_done epoch told_is after there same roots epochs) =
             let behind : Drifted u t = drift limits u t (subst (λ z. Drifts limits z t) e j.behind) after.sane in
             let held : ℕ × Held = (next, record { address = a; epoch = epoch }) in
             let last : Member held (es ++ held ∷ []) = member-append_right held es (held ∷ []) (inl refl) in
             written epoch (elim told_is [ inl q ↦ inl (sym j.reply ∙ q) | inr q ↦ inr (sym j.reply ∙ q) ])
-              (goes_through s j.at u t name next es (next + 1) (es ++ held ∷ []) before seat after same behind (same_roots j.at u roots))
-              (block_after u t a (written_block s name payload handles) (behind.stays a (seat_kept u name (next + 1) (es ++ held ∷ []) after held last)) there)
+            (goes_through s j.at u t name next es (next + 1) (es ++ held ∷ []) before seat after same behind (same_roots j.at u roots))
+            (block_after u t a (written_block s name payload handles) (behind.stays a (seat_kept u name (next + 1) (es ++ held ∷ []) after held last)) there)
         go before u e (write_refused told_is still) =
             unwritten (elim told_is [ inl q ↦ inl (sym j.reply ∙ q) | inr q ↦ inr (sym j.reply ∙ q) ]) (stays_put j.at u before still (subst (λ z. Drifts limits z t) e j.behind))
 
@@ -150,7 +150,7 @@ module _ (limits : Limits) (s t : Store) (name : List ℕ) where
             let behind : Drifted u t = drift limits u t (subst (λ z. Drifts limits z t) e j.behind) after.sane in
             let fs : List (ℕ × Held) = es ++ (next, record { address = root.address; epoch = epoch }) ∷ [] in
             looked root epoch (behind.retained key ∙ (same_roots j.at u rest.roots key ∙ r)) (sym j.reply ∙ told_is)
-              (goes_through s j.at u t name next es (next + 1) fs before seat after (same_blocks j.at u rest.blocks) behind (same_roots j.at u rest.roots))
+            (goes_through s j.at u t name next es (next + 1) fs before seat after (same_blocks j.at u rest.blocks) behind (same_roots j.at u rest.roots))
         go before here u e (look_none told_is r still) =
             let goes : Goes s t name es next es = stays_put j.at u before still (subst (λ z. Drifts limits z t) e j.behind) in
             nothing (sym j.reply ∙ told_is) (goes.roots key ∙ (sym (before.retained key) ∙ r)) goes
@@ -167,7 +167,7 @@ module _ (limits : Limits) (s t : Store) (name : List ℕ) where
         go before here u e (root_done told_is r kept same after blocks epochs) =
             let behind : Drifted u t = drift limits u t (subst (λ z. Drifts limits z t) e j.behind) after.sane in
             rooted (sym j.reply ∙ told_is) r (behind.retained key ∙ kept) same (seat_drift u t name next es behind after)
-              (λ x k. stays_through s j.at u t name next es next es before seat after (same_blocks j.at u blocks) behind x k k)
+            (λ x k. stays_through s j.at u t name next es next es before seat after (same_blocks j.at u blocks) behind x k k)
         go before here u e (root_refused told_is still) =
             unrooted (elim told_is [ inl q ↦ inl (sym j.reply ∙ q) | inr q ↦ inr (sym j.reply ∙ q) ]) (stays_put j.at u before still (subst (λ z. Drifts limits z t) e j.behind))
 

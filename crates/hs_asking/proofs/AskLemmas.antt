@@ -41,13 +41,13 @@ each_finds c d line others (x ∷ xs) h = ((λ n e. sym (others n (λ z. h.0 (e 
 module _ (commands : ℕ → Option Command) (name : List ℕ → Address) (limits : Limits) where
   -- from a store on, entries of no line, one of a line that is answered, and more of no line
   pub parts_judged : (s : Store) (front : List JournalEntry) (entry : JournalEntry) (back : List JournalEntry) (line : ℕ) (o : Op) (told : Reply)
-    → AllByRecursion IsOfNoLine front → AllByRecursion IsOfNoLine back
-    → entry.who ≡ who.Line line → client_op (commands line) ≡ Some o → entry.reply ≡ told → MayBeTold o told
-    → addressed name s o ≡ o
-    → AllByRecursion IsForALine (front ++ entry ∷ back)
-    → IsAnswered commands name limits s (front ++ entry ∷ back)
-    → IsLegal limits s (events_of commands name limits s (front ++ entry ∷ back))
-    → IsJudged limits s (run limits s (events_of commands name limits s (front ++ entry ∷ back))) o told
+      → AllByRecursion IsOfNoLine front → AllByRecursion IsOfNoLine back
+      → entry.who ≡ who.Line line → client_op (commands line) ≡ Some o → entry.reply ≡ told → MayBeTold o told
+      → addressed name s o ≡ o
+      → AllByRecursion IsForALine (front ++ entry ∷ back)
+      → IsAnswered commands name limits s (front ++ entry ∷ back)
+      → IsLegal limits s (events_of commands name limits s (front ++ entry ∷ back))
+      → IsJudged limits s (run limits s (events_of commands name limits s (front ++ entry ∷ back))) o told
   parts_judged s front entry back line o told nf nb of_line asks_it answer may named led answered legal =
       let es : List Event = events_of commands name limits s front in
       let u : Store = run limits s es in
@@ -59,14 +59,14 @@ module _ (commands : ℕ → Option Command) (name : List ℕ → Address) (limi
       let event : event_at commands name u entry ≡ Some (asks o) = rw (of_line, asks_it, answer) (line_event-told name u o told may ∙ ap (λ x. Some (asks x)) named_there) in
       let whole : run limits s (events_of commands name limits s (front ++ rest)) ≡ run limits u (events_of commands name limits u rest) = ap (λ x. run limits s x) split ∙ run-append limits s es (events_of commands name limits u rest) in
       subst (λ t. IsJudged limits s t o told) (sym whole)
-        (later u es inner (legal_left limits s es _ legal_split) refl (event_at commands name u entry) event
-          (answered_right commands name limits s front rest answered) (legal_right limits s es _ legal_split))
+      (later u es inner (legal_left limits s es _ legal_split) refl (event_at commands name u entry) event
+      (answered_right commands name limits s front rest answered) (legal_right limits s es _ legal_split))
     where
       later : (u : Store) (es : List Event) → AllByRecursion IsInner es → IsLegal limits s es → run limits s es ≡ u
-        → (e : Option Event) → e ≡ Some (asks o)
-        → HasAnswer limits u entry e × IsAnswered commands name limits (store_by limits u e) back
-        → IsLegal limits u (with_event e (events_of commands name limits (store_by limits u e) back))
-        → IsJudged limits s (run limits u (with_event e (events_of commands name limits (store_by limits u e) back))) o told
+          → (e : Option Event) → e ≡ Some (asks o)
+          → HasAnswer limits u entry e × IsAnswered commands name limits (store_by limits u e) back
+          → IsLegal limits u (with_event e (events_of commands name limits (store_by limits u e) back))
+          → IsJudged limits s (run limits u (with_event e (events_of commands name limits (store_by limits u e) back))) o told
       later u es inner legal_es leaves None e h l = cc e
       later u es inner legal_es leaves (Some ev) e h l =
           let is : ev ≡ asks o = cc e in
@@ -74,17 +74,17 @@ module _ (commands : ℕ → Option Command) (name : List ℕ → Address) (limi
           let h' : HasAnswer limits u entry (Some (asks o)) × IsAnswered commands name limits t back = subst (λ z. HasAnswer limits u entry (Some z) × IsAnswered commands name limits (step limits u z).store back) is h in
           let l' : IsLegal limits u (asks o ∷ events_of commands name limits t back) = subst (λ z. IsLegal limits u (z ∷ events_of commands name limits (step limits u z).store back)) is l in
           subst (λ z. IsJudged limits s (run limits u (z ∷ events_of commands name limits (step limits u z).store back)) o told) (sym is)
-            (record {
-              at = u;
-              before = record { events = es; inner = inner; legal = legal_es; leaves = leaves };
-              reply = sym h'.0.0 ∙ answer;
-              behind = record {
-                events = events_of commands name limits t back;
-                inner = inner_events commands name limits t back nb (all_right IsForALine front (entry ∷ back) led).1 h'.1;
-                legal = l'.1;
-                leaves = refl;
-              };
-            })
+          (record {
+            at = u;
+            before = record { events = es; inner = inner; legal = legal_es; leaves = leaves };
+            reply = sym h'.0.0 ∙ answer;
+            behind = record {
+              events = events_of commands name limits t back;
+              inner = inner_events commands name limits t back nb (all_right IsForALine front (entry ∷ back) led).1 h'.1;
+              legal = l'.1;
+              leaves = refl;
+            };
+          })
 
 pub ask_judged : (b : Began) (old new : Shown) (o : Op) (told : Reply) → AreAnswersOf b new → HasAsked old new o told → addressed b.name (store_now b old) o ≡ o → IsJudged b.limits (store_now b old) (store_now b new) o told
 ask_judged b old new o told law h named =
@@ -101,5 +101,5 @@ ask_judged b old new o told law h named =
     let there : store_now b new ≡ run b.limits s (events_of d b.name b.limits s rest) = ap (λ x. run b.limits b.store x) (ap (λ x. events_of d b.name b.limits b.store x) h.journal ∙ split) ∙ run-append b.limits b.store es (events_of d b.name b.limits s rest) in
     let named_there : addressed b.name s o ≡ o = subst (λ z. addressed b.name z o ≡ o) here named in
     let found : IsJudged b.limits s (run b.limits s (events_of d b.name b.limits s rest)) o told =
-        parts_judged d b.name b.limits s h.front h.entry h.back h.line o told h.before h.behind h.of_line h.asks h.answer h.may named_there (all_right IsForALine old.journal rest led_all) (answered_right d b.name b.limits b.store old.journal rest answered_all) (legal_right b.limits b.store es _ legal_all) in
+    parts_judged d b.name b.limits s h.front h.entry h.back h.line o told h.before h.behind h.of_line h.asks h.answer h.may named_there (all_right IsForALine old.journal rest led_all) (answered_right d b.name b.limits b.store old.journal rest answered_all) (legal_right b.limits b.store es _ legal_all) in
     subst (λ z. IsJudged b.limits z (store_now b new) o told) (sym here) (subst (λ z. IsJudged b.limits s z o told) (sym there) found)

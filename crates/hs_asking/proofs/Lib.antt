@@ -6,3 +6,4 @@ pub mod SeatLemmas
 pub mod UseLemmas
 pub mod AloneLemmas
 pub mod SaneLemmas
+pub mod RootLemmas

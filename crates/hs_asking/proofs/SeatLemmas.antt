@@ -228,18 +228,18 @@ module _ (limits : Limits) (s : Store) (name : List ℕ) (next : ℕ) (es : List
         let roots_are : (judge limits s line).store.roots ≡ s.roots = ap (λ x. x.store.roots) j ∙ put-roots (with_block s a block) name _ in
         let more : HasMore s (judge limits s line).store = more_with s (judge limits s line).store a block (epoch_at s a) block_bounds blocks_are in
         let after : HasSeat (judge limits s line).store name (next + 1) (es ++ (next, held) ∷ []) = record {
-              sane = judge_sane limits s line seat.sane more;
-              opened = ap (λ x. session_at x.store name) j ∙ hold_one (with_block s a block) held refl;
-              ascend = ascend_last 0 es next held seat.ascend;
-              fresh = fresh_more (judge limits s line).store held epochs_are (epoch_behind s seat.sane a);
-            } in
+          sane = judge_sane limits s line seat.sane more;
+          opened = ap (λ x. session_at x.store name) j ∙ hold_one (with_block s a block) held refl;
+          ascend = ascend_last 0 es next held seat.ascend;
+          fresh = fresh_more (judge limits s line).store held epochs_are (epoch_behind s seat.sane a);
+        } in
         let told : (judge limits s line).reply ≡ written_reply (is_some (block_at s a)) next (epoch_at s a) = ap (λ x. x.reply) j ∙ ap (λ x. written_reply (is_some (block_at s a)) (next_of x) (epoch_at s a)) seat.opened in
         go (is_some (block_at s a)) told after more roots_are epochs_are
       where
         go : (present : Bool) → (judge limits s line).reply ≡ written_reply present next (epoch_at s a)
-          → HasSeat (judge limits s line).store name (next + 1) (es ++ (next, record { address = a; epoch = epoch_at s a }) ∷ []) → HasMore s (judge limits s line).store
-          → (judge limits s line).store.roots ≡ s.roots → (judge limits s line).store.epochs ≡ s.epochs
-          → WriteComes limits s (judge limits s line).store name next es a block (judge limits s line).reply
+            → HasSeat (judge limits s line).store name (next + 1) (es ++ (next, record { address = a; epoch = epoch_at s a }) ∷ []) → HasMore s (judge limits s line).store
+            → (judge limits s line).store.roots ≡ s.roots → (judge limits s line).store.epochs ≡ s.epochs
+            → WriteComes limits s (judge limits s line).store name next es a block (judge limits s line).reply
         go true t after more r p =
             let there : IsBlockAt s a block = dup_there limits s name payload handles (Some a) next (epoch_at s a) t in
             let same : (judge limits s line).store.blocks ≡ s.blocks = dup_stays limits s name payload handles (Some a) next (epoch_at s a) t in

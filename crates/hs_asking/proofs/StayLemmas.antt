@@ -35,7 +35,7 @@ use Rattle.hs_asking.specs.Staying.{IsKept, Stays, by_handle, by_root}
 -- ---- one thing that a shard does
 
 -- a test that an order of roots passes is found behind a filter that lets it through
-find-filter : (test pass : Root → Bool) → ((root : Root) → test root ≡ true → pass root ≡ true) → (roots : List Root) → find test (filter pass roots) ≡ find test roots
+pub find-filter : (test pass : Root → Bool) → ((root : Root) → test root ≡ true → pass root ≡ true) → (roots : List Root) → find test (filter pass roots) ≡ find test roots
 find-filter test pass f [] = refl
 find-filter test pass f (root ∷ roots) = go (find-filter test pass f roots) (test root) refl (pass root) refl
   where
@@ -49,7 +49,7 @@ none_is : {X : Type 0} (o : Option X) → is_none o ≡ true → o ≡ None
 none_is None e = refl
 none_is (Some x) e = cc e
 
-retained_stays : (s : Store) (key : List ℕ) (root : Root) → is_retained key root ≡ true → stays s root ≡ true
+pub retained_stays : (s : Store) (key : List ℕ) (root : Root) → is_retained key root ≡ true → stays s root ≡ true
 retained_stays s key root t =
     let n : root.dropped ≡ None = none_is root.dropped (and_parts (is_none root.dropped) _ t).0 in
     rw n refl

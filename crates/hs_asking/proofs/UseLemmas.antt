@@ -95,17 +95,17 @@ module _ (limits : Limits) (s : Store) (name : List ℕ) (next : ℕ) (es : List
         let here : epoch_at s (address_of s name handle) ≡ epoch_at s held.address = ap (λ a. epoch_at s a) address-is in
         let more : length stored.pointers ≡ length (pointers_at s (address_of s name handle)) = ap (λ x. length x) (sym pointers) ∙ ap (λ a. length (pointers_at s a)) (sym address-is) in
         let free : first (refusals limits s o) ≡ None =
-              read_of_open limits s name handle session (epoch_at s held.address) (length stored.pointers) seat.opened (sym here) more
-              ∙ (skip (no_handle_in (Some session) (handle ∷ [])) _ (no_handle_none s session (handle ∷ []) is_usable)
-              ∙ (skip (stale_in (Some session) (epoch_at s held.address) (handle ∷ [])) _ (stale_none s session (epoch_at s held.address) (epoch_within s seat.sane held.address) (handle ∷ []) is_usable)
-              ∙ skip (handles_full_in limits (Some session) (length stored.pointers)) [] (full_none limits session (length stored.pointers) (omega (arith, room, few))))) in
+        read_of_open limits s name handle session (epoch_at s held.address) (length stored.pointers) seat.opened (sym here) more
+        ∙ (skip (no_handle_in (Some session) (handle ∷ [])) _ (no_handle_none s session (handle ∷ []) is_usable)
+        ∙ (skip (stale_in (Some session) (epoch_at s held.address) (handle ∷ [])) _ (stale_none s session (epoch_at s held.address) (epoch_within s seat.sane held.address) (handle ∷ []) is_usable)
+        ∙ skip (handles_full_in limits (Some session) (length stored.pointers)) [] (full_none limits session (length stored.pointers) (omega (arith, room, few))))) in
         let j : judge limits s o ≡ read s name held = judge_read limits s name handle free ∙ ap (λ x. read s name x) held-is in
         let helds : List Held = helds_of stored.pointers held.epoch in
         let same : (judge limits s o).store.blocks ≡ s.blocks = ap (λ x. x.store.blocks) j ∙ put-blocks s name _ in
         let epochs_are : (judge limits s o).store.epochs ≡ s.epochs = ap (λ x. x.store.epochs) j ∙ put-epochs s name _ in
         let held_all : hold_all s name (helds_of (pointers_at s held.address) held.epoch) ≡ hold_all s name helds = ap (λ x. hold_all s name (helds_of x held.epoch)) pointers in
         let opened_is : session_at (hold_all s name helds) name ≡ Some (record { next = next + length helds; handles = es ++ numbered next helds }) =
-              ap (λ x. session_at (put_session s name (option_map (holding_all helds) x)) name) seat.opened ∙ (put-opened s name session (holding_all helds session) seat.opened ∙ ap (λ x. Some x) (holding-numbered 0 es next helds seat.ascend)) in
+        ap (λ x. session_at (put_session s name (option_map (holding_all helds) x)) name) seat.opened ∙ (put-opened s name session (holding_all helds session) seat.opened ∙ ap (λ x. Some x) (holding-numbered 0 es next helds seat.ascend)) in
         let counted : length helds ≡ length stored.pointers = length-map stored.pointers (λ address. record { address = address; epoch = held.epoch }) in
         let usable : slice_index s.epochs 0 ≤ held.epoch + 1 = member_all (λ (x : ℕ × Held). slice_index s.epochs 0 ≤ x.1.epoch + 1) es (handle, held) seat.fresh m in
         record {
@@ -176,15 +176,15 @@ module _ (limits : Limits) (s : Store) (name : List ℕ) (next : ℕ) (es : List
             let same : (judge limits s o).store.blocks ≡ s.blocks = ap (λ x. x.store.blocks) j in
             let epochs_are : (judge limits s o).store.epochs ≡ s.epochs = ap (λ x. x.store.epochs) j in
             let after : HasSeat (judge limits s o).store name next es = record {
-                  sane = sane_after o same;
-                  opened = ap (λ x. session_at x.store name) j ∙ seat.opened;
-                  ascend = seat.ascend;
-                  fresh = subst (λ z. AllByRecursion (λ (e : ℕ × Held). slice_index z 0 ≤ e.1.epoch + 1) es) (sym epochs_are) seat.fresh;
-                } in
+              sane = sane_after o same;
+              opened = ap (λ x. session_at x.store name) j ∙ seat.opened;
+              ascend = seat.ascend;
+              fresh = subst (λ z. AllByRecursion (λ (e : ℕ × Held). slice_index z 0 ≤ e.1.epoch + 1) es) (sym epochs_are) seat.fresh;
+            } in
             with_root found e k roots_are (ap (λ x. x.reply) j) after same epochs_are
           where
             with_root : (found : Option Root) → retained_at s key ≡ found → keeps_other found held.address ≡ false → (judge limits s o).store.roots ≡ roots_with found s.roots fresh_root
-              → (judge limits s o).reply ≡ reply.Ok → HasSeat (judge limits s o).store name next es → (judge limits s o).store.blocks ≡ s.blocks → (judge limits s o).store.epochs ≡ s.epochs → RootComes key (judge limits s o).store (judge limits s o).reply
+                → (judge limits s o).reply ≡ reply.Ok → HasSeat (judge limits s o).store name next es → (judge limits s o).store.blocks ≡ s.blocks → (judge limits s o).store.epochs ≡ s.epochs → RootComes key (judge limits s o).store (judge limits s o).reply
             with_root (Some root) e k r t after b p = done t root (ap (λ x. find (is_retained key) x) r ∙ e) (kept_same key root k) after b p
             with_root None e k r t after b p = done t fresh_root (ap (λ x. find (is_retained key) x) r ∙ find_placed key fresh_root ((bytes_eq-Decides key key).1 refl) s.roots e) refl after b p
 
@@ -231,14 +231,14 @@ module _ (limits : Limits) (s : Store) (name : List ℕ) (next : ℕ) (es : List
           let same : (judge limits s o).store.blocks ≡ s.blocks = ap (λ x. x.store.blocks) j ∙ put-blocks s name _ in
           let epochs_are : (judge limits s o).store.epochs ≡ s.epochs = ap (λ x. x.store.epochs) j ∙ put-epochs s name _ in
           done root e (root_epoch s key)
-            (ap (λ x. x.reply) j ∙ ap (λ x. reply.Held (next_of x) (root_epoch s key)) seat.opened)
-            (record {
-              sane = sane_after o same;
-              opened = ap (λ x. session_at x.store name) j ∙ (ap (λ x. session_at x name) hold ∙ hold_one limits s name next es seat s held refl);
-              ascend = ascend_last 0 es next held seat.ascend;
-              fresh = fresh_more limits s name next es seat (judge limits s o).store held epochs_are (root_behind key);
-            })
-            (record { blocks = same; roots = ap (λ x. x.store.roots) j ∙ put-roots s name _; epochs = epochs_are })
+          (ap (λ x. x.reply) j ∙ ap (λ x. reply.Held (next_of x) (root_epoch s key)) seat.opened)
+          (record {
+            sane = sane_after o same;
+            opened = ap (λ x. session_at x.store name) j ∙ (ap (λ x. session_at x name) hold ∙ hold_one limits s name next es seat s held refl);
+            ascend = ascend_last 0 es next held seat.ascend;
+            fresh = fresh_more limits s name next es seat (judge limits s o).store held epochs_are (root_behind key);
+          })
+          (record { blocks = same; roots = ap (λ x. x.store.roots) j ∙ put-roots s name _; epochs = epochs_are })
 
   -- ---- a forget
 
@@ -291,8 +291,8 @@ open_comes limits s name sane none_open room =
     let none : s.sessions ≡ [] = no_sessions s.sessions none_open in
     let absent : session_at s name ≡ None = ap (λ x. lookup (is_at (text_cmp name)) x) none in
     let free : first (refusals limits s o) ≡ None =
-          skip (session_taken s name) (sessions_full limits s ∷ []) (ap (λ x. refused_when (is_some x) (reply.SessionTaken name)) absent)
-          ∙ skip (sessions_full limits s) [] (when_not (nat_le limits.sessions (length s.sessions)) (reply.SessionsFull limits.sessions) (le-false limits.sessions (length s.sessions) (omega (arith, none_open, room)))) in
+    skip (session_taken s name) (sessions_full limits s ∷ []) (ap (λ x. refused_when (is_some x) (reply.SessionTaken name)) absent)
+    ∙ skip (sessions_full limits s) [] (when_not (nat_le limits.sessions (length s.sessions)) (reply.SessionsFull limits.sessions) (le-false limits.sessions (length s.sessions) (omega (arith, none_open, room)))) in
     let j : judge limits s o ≡ opened s name = judge_opened limits s name free in
     let same : (judge limits s o).store.blocks ≡ s.blocks = ap (λ x. x.store.blocks) j in
     record {

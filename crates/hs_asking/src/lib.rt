@@ -2,5 +2,7 @@
 #![tactic(auto)]
 
 mod asker;
+mod laws;
 
 pub use asker::Asker;
+pub use laws::{a_root_keeps_its_blocks, an_ask_is_judged};

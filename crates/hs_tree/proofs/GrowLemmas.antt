@@ -133,12 +133,12 @@ write_named name b s session nodes payload named few short h =
     let handles : List ℕ = map (λ n. n.handle) nodes in
     let counted : length handles ≡ length nodes = length-map nodes (λ n. n.handle) in
     let has : has_block s session payload handles ≡ true =
-          and_from (list_all (λ handle. is_some (held_at s session handle)) handles && nat_le (length handles) MOST_POINTERS) (nat_le (length payload) MOST_BYTES)
-            (and_from (list_all (λ handle. is_some (held_at s session handle)) handles) (nat_le (length handles) MOST_POINTERS) (stand_all s session nodes h) (le-true (length handles) MOST_POINTERS (omega (arith, counted, few))))
-            (le-true (length payload) MOST_BYTES short) in
+    and_from (list_all (λ handle. is_some (held_at s session handle)) handles && nat_le (length handles) MOST_POINTERS) (nat_le (length payload) MOST_BYTES)
+    (and_from (list_all (λ handle. is_some (held_at s session handle)) handles) (nat_le (length handles) MOST_POINTERS) (stand_all s session nodes h) (le-true (length handles) MOST_POINTERS (omega (arith, counted, few))))
+    (le-true (length payload) MOST_BYTES short) in
     let block_is : judging.written s session payload handles ≡ record { pointers = map (λ n. n.address) nodes; bytes = payload } = written-above s session nodes payload h in
     let address_is : (if has_block s session payload handles then Some (b.name (spell (judging.written s session payload handles))) else None) ≡ Some (name (spell (record { pointers = map (λ n. n.address) nodes; bytes = payload }))) =
-          ap (λ c. if c then Some (b.name (spell (judging.written s session payload handles))) else None) has ∙ (ap (λ (f : List ℕ → Address). Some (f (spell (judging.written s session payload handles)))) named ∙ ap (λ z. Some (name (spell z))) block_is) in
+    ap (λ c. if c then Some (b.name (spell (judging.written s session payload handles))) else None) has ∙ (ap (λ (f : List ℕ → Address). Some (f (spell (judging.written s session payload handles)))) named ∙ ap (λ z. Some (name (spell z))) block_is) in
     ap (λ z. op.Write session payload handles z) address_is
 
 -- what makes a write's condition

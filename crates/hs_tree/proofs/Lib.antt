@@ -7,3 +7,7 @@ pub mod TreeSteps
 pub mod StopLemmas
 pub mod RunsLemmas
 pub mod PartLemmas
+pub mod StoreLemmas
+pub mod FinishLemmas
+pub mod EndLemmas
+pub mod LawLemmas

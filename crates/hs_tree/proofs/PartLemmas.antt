@@ -40,7 +40,7 @@ may_write name session payload old nodes addresses handles a few short named e f
 
 pub wrote_node : (name : List ℕ → Address) (session payload : List ℕ) (old new : Shown) (nodes : List Node) (addresses : List Address) (handles : List ℕ) (a : Address) (handle : ℕ) → addresses ≡ map (λ (n : Node). n.address) nodes → handles ≡ map (λ (n : Node). n.handle) nodes → a ≡ name (spell (record { pointers = addresses; bytes = payload })) → IsWrittenAs old new (op.Write session payload handles (Some a)) handle → WritesNode name session old new nodes payload (record { handle = handle; address = a })
 wrote_node name session payload old new nodes addresses handles a handle e f h w = record {
-  as = subst (λ z. IsWrittenAs old new z handle) (op_is name session payload nodes addresses handles a e f h) w;
+  answered = subst (λ z. IsWrittenAs old new z handle) (op_is name session payload nodes addresses handles a e f h) w;
   named = h ∙ ap (λ (z : List Address). name (spell (record { pointers = z; bytes = payload }))) e;
 }
 
@@ -86,7 +86,7 @@ forget_stopped session old mid new nodes i x f l e g c name key start front spar
 module _ (name : List ℕ → Address) (session : List ℕ) (old new : Shown) (piece : List ℕ) (run : List Node) (short : length piece ≤ MOST_BYTES) where
   pub adds_piece : (made : Node) (after : List Node) → WritesNode name session old new [] piece made → after ≡ run ++ made ∷ [] → AddsPiece name session old new piece run after
   adds_piece made after w e start front places fit h =
-      let grown = grows_piece name session start old new (front ++ run) places piece made.handle made.address fit.counted short fit.room h w.as w.named in
+      let grown = grows_piece name session start old new (front ++ run) places piece made.handle made.address fit.counted short fit.room h w.answered w.named in
       let nodes : (front ++ run) ++ made ∷ [] ≡ front ++ after = append_assoc front run (made ∷ []) ∙ ap (λ z. front ++ z) (sym e) in
       subst (λ z. IsGrown name session start new z (places ++ piece_at piece ∷ [])) nodes grown
 
@@ -101,10 +101,10 @@ module _ (name : List ℕ → Address) (session : List ℕ) (old new : Shown) (p
       let none : nodes ++ [] ≡ nodes = append-nil nodes in
       let none_places : places ++ [] ≡ places = append-nil places in
       let before : IsGrowing name session start old (nodes ++ []) [] [] (flat_map (tree_below name) places) (places ++ []) =
-            subst (λ z. IsGrowing name session start old z [] [] (flat_map (tree_below name) places) (places ++ [])) (sym none) (subst (λ z. IsGrowing name session start old nodes [] [] (flat_map (tree_below name) places) z) (sym none_places) h) in
+      subst (λ z. IsGrowing name session start old z [] [] (flat_map (tree_below name) places) (places ++ [])) (sym none) (subst (λ z. IsGrowing name session start old nodes [] [] (flat_map (tree_below name) places) z) (sym none_places) h) in
       let room_there : length (nodes ++ []) + 1 ≤ 4096 = subst (λ (z : List Node). length z + 1 ≤ 4096) (sym none) fit.room in
       fails_stops name session key start old new (nodes ++ []) [] [] (flat_map (tree_below name) places) (places ++ []) (write_above name session [] piece) f before refl
-        (λ b x told j refusal. refused_written name session start old new nodes [] (flat_map (tree_below name) places) places [] (piece_at piece) piece 0 fit.counted (leaf_is name piece) (λ s n there. leaf_planted name piece s n there) (omega arith) short room_there b x told j refusal key) c
+      (λ b x told j refusal. refused_written name session start old new nodes [] (flat_map (tree_below name) places) places [] (piece_at piece) piece 0 fit.counted (leaf_is name piece) (λ s n there. leaf_planted name piece s n there) (omega arith) short room_there b x told j refusal key) c
 
 -- ---- a run
 
@@ -113,11 +113,11 @@ module _ (name : List ℕ → Address) (session : List ℕ) (old : Shown) (bytes
   run_payload fp h cs r = counts ∙ ap (λ z. to_be_bytes w64 z) r.bytes
 
   written_run : (mid : Shown) (made : Node) → WritesNode name session old mid run payload made → (start : Shown) (fp : List Place) (h : ℕ) (cs : List (List ℕ)) → IsRun above fp h cs bytes → length (above ++ run) + 1 ≤ 4096 → IsGrown name session start old (above ++ run) (fp ++ places_at h cs)
-    → IsGrowing name session start mid above run (made ∷ []) (flat_map (tree_below name) (fp ++ run_at h cs ∷ [])) (fp ++ run_at h cs ∷ [])
-  written_run mid made w start fp h cs r room g = grows_run name session start old mid above run fp h cs payload made.handle made.address r.counted r.cut (run_payload fp h cs r) few short room g w.as w.named
+      → IsGrowing name session start mid above run (made ∷ []) (flat_map (tree_below name) (fp ++ run_at h cs ∷ [])) (fp ++ run_at h cs ∷ [])
+  written_run mid made w start fp h cs r room g = grows_run name session start old mid above run fp h cs payload made.handle made.address r.counted r.cut (run_payload fp h cs r) few short room g w.answered w.named
 
   forgotten_run : (mid new : Shown) (made : Node) → WritesNode name session old mid run payload made → Forgets session mid new run → (start : Shown) (fp : List Place) (h : ℕ) (cs : List (List ℕ)) → IsRun above fp h cs bytes → length (above ++ run) + 1 ≤ 4096 → IsGrown name session start old (above ++ run) (fp ++ places_at h cs)
-    → IsGrown name session start new (above ++ made ∷ []) (fp ++ run_at h cs ∷ [])
+      → IsGrown name session start new (above ++ made ∷ []) (fp ++ run_at h cs ∷ [])
   forgotten_run mid new made w f start fp h cs r room g =
       let there = written_run mid made w start fp h cs r room g in
       let ps : List Place = fp ++ run_at h cs ∷ [] in
@@ -146,7 +146,7 @@ module _ (name : List ℕ → Address) (session : List ℕ) (old : Shown) (bytes
       let pointers : map (λ (n : Node). n.address) run ≡ map (name_of name) rp = run_names name above run fp rp r.counted names_all in
       let is_block : record { pointers = map (λ (n : Node). n.address) run; bytes = payload } ≡ block_of name (run_at h cs) = ap (λ (z : List ℕ). record { pointers = map (λ (n : Node). n.address) run; bytes = z }) (run_payload fp h cs r) ∙ node_is name h cs (map (λ (n : Node). n.address) run) r.cut pointers in
       fails_stops name session key start old new (above ++ run) [] [] (flat_map (tree_below name) (fp ++ rp)) (fp ++ rp) (write_above name session run payload) f g refl
-        (λ b x told j refusal. refused_written name session start old new above run (flat_map (tree_below name) (fp ++ rp)) fp rp (run_at h cs) payload 0 r.counted is_block (λ s below there. run_planted name h cs s r.cut below there) few short room b x told j refusal key) c
+      (λ b x told j refusal. refused_written name session start old new above run (flat_map (tree_below name) (fp ++ rp)) fp rp (run_at h cs) payload 0 r.counted is_block (λ s below there. run_planted name h cs s r.cut below there) few short room b x told j refusal key) c
 
   pub run_unstarted : CloseStops name session old old bytes run above fault.NoMemory
   run_unstarted key start fp h cs r room g = stops_quietly name session key start old (above ++ run) [] [] (flat_map (tree_below name) (fp ++ places_at h cs)) (fp ++ places_at h cs) fault.NoMemory tt g

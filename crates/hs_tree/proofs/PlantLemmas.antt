@@ -30,7 +30,7 @@ module _ (name : List ℕ → Address) (s t : Store) where
   addr h bytes = name (spell (node stored_cut name h bytes))
 
   each_planted : (h : ℕ) → ((bytes : List ℕ) → IsPlanted name s h bytes → Stays s t (addr h bytes) → IsPlanted name t h bytes)
-    → (cs : List (List ℕ)) → ((c : List ℕ) → Member c cs → Stays s t (addr h c)) → AllByRecursion (IsPlanted name s h) cs → AllByRecursion (IsPlanted name t h) cs
+      → (cs : List (List ℕ)) → ((c : List ℕ) → Member c cs → Stays s t (addr h c)) → AllByRecursion (IsPlanted name s h) cs → AllByRecursion (IsPlanted name t h) cs
   each_planted h f [] stays p = tt
   each_planted h f (c ∷ cs) stays p = (f c p.0 (stays c (inl refl)), each_planted h f cs (λ d m. stays d (inr m)) p.1)
 
@@ -53,4 +53,4 @@ unfolding IsPlanted tree
 planted_present name s zero bytes p = (p, tt)
 planted_present name s (suc h) bytes p =
     all_append (λ (block : Block). IsBlockAt s (name (spell block)) block) (flat_map (tree stored_cut name h) (runs (span stored_cut h) bytes)) (node stored_cut name (suc h) bytes ∷ [])
-      (all_flat (λ (block : Block). IsBlockAt s (name (spell block)) block) (tree stored_cut name h) (IsPlanted name s h) (λ c q. planted_present name s h c q) (runs (span stored_cut h) bytes) p.0) (p.1, tt)
+    (all_flat (λ (block : Block). IsBlockAt s (name (spell block)) block) (tree stored_cut name h) (IsPlanted name s h) (λ c q. planted_present name s h c q) (runs (span stored_cut h) bytes) p.0) (p.1, tt)

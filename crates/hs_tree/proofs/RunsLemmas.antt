@@ -4,6 +4,7 @@ use Rattle.std.proofs.lemmas.List.{take-append-le, drop-append-le}
 use Rattle.std.proofs.lemmas.List.Folds.{concat-append}
 use Rattle.std.proofs.lemmas.Grind.{common_steps}
 use Rattle.std.specs.List.{AllByRecursion, concat, flat_map}
+use Rattle.hs_tree.specs.Storing.{AreFull, IsCut}
 use Rattle.hs_tree.specs.Trees.{Cut, height, height_from, runs, runs_in, span, stored_cut}
 
 -- ---- taking a whole list
@@ -54,27 +55,18 @@ runs-cons n (x ∷ xs) rest p h =
     let both : length (xs ++ rest) ≡ length xs + length rest = length-append xs rest in
     (λ i. t i ∷ runs_in (length (xs ++ rest)) n (d i)) ∙ ap (λ z. (x ∷ xs) ∷ z) (turns_enough (length (xs ++ rest)) (length rest) n rest p (omega (arith, both)) (omega arith))
 
--- chunks of n each, but for the last, which may be shorter
-abbrev pub IsCut : {A : Type 0} → ℕ → List (List A) → Type 0
-IsCut n [] = Unit {0}
-IsCut n (c ∷ []) = (0 < length c) × (length c ≤ n)
-IsCut n (c ∷ d ∷ cs) = (length c ≡ n) × IsCut n (d ∷ cs)
-
 pub runs-concat : (n : ℕ) (cs : List (List ℕ)) → 0 < n → IsCut n cs → runs n (concat cs) ≡ cs
 unfolding runs
 runs-concat n [] p h = refl
 runs-concat n (c ∷ []) p h = ap (λ z. runs n z) (append-nil c) ∙ runs-one n c h.0 h.1
 runs-concat n (c ∷ d ∷ cs) p h = runs-cons n c (concat (d ∷ cs)) p h.0 ∙ ap (λ z. c ∷ z) (runs-concat n (d ∷ cs) p h.1)
 
-abbrev pub AreFull : {A : Type 0} → ℕ → List (List A) → Type 0
-AreFull n cs = AllByRecursion (λ c. length c ≡ n) cs
-
-pub full_cut : {A : Type 0} (n : ℕ) (cs : List (List A)) → 0 < n → AreFull n cs → IsCut n cs
+pub full_cut : (n : ℕ) (cs : List (List ℕ)) → 0 < n → AreFull n cs → IsCut n cs
 full_cut n [] p h = tt
 full_cut n (c ∷ []) p h = let k : length c ≡ n = h.0 in (omega (arith, k, p), omega (arith, k))
 full_cut n (c ∷ d ∷ cs) p h = (h.0, full_cut n (d ∷ cs) p h.1)
 
-pub full_cut_last : {A : Type 0} (n : ℕ) (cs : List (List A)) (c : List A) → AreFull n cs → 0 < length c → length c ≤ n → IsCut n (cs ++ c ∷ [])
+pub full_cut_last : (n : ℕ) (cs : List (List ℕ)) (c : List ℕ) → AreFull n cs → 0 < length c → length c ≤ n → IsCut n (cs ++ c ∷ [])
 full_cut_last n [] c h p k = (p, k)
 full_cut_last n (d ∷ []) c h p k = (h.0, (p, k))
 full_cut_last n (d ∷ e ∷ cs) c h p k = (h.0, full_cut_last n (e ∷ cs) c h.1 p k)

@@ -100,10 +100,10 @@ module _ (name : List ℕ → Address) (session : List ℕ) (start old new : Sho
     not_refused told limit g (inr e) = subst (λ z. GivesWritten z handle) e g
 
     told_from : (b : Began) → IsOurs name b → (next : ℕ) (left right : List (ℕ × Held)) → AllZip Matches front left → AllZip Matches run right
-      → (map (λ (n : Node). n.address) front ≡ map (name_of name) fp) × (map (λ (n : Node). n.address) run ≡ map (name_of name) rp)
-      → ArePlanted name (store_now b old) (fp ++ rp) → (block : Block) → block ≡ block_of name p → (told : Reply) → GivesWritten told handle
-      → IsWritten b.limits (store_now b old) (store_now b new) session next (left ++ right) (name (spell (record { pointers = map (λ (n : Node). n.address) run; bytes = payload }))) block told
-      → HasPlanted name b (store_now b new) session front run (m ∷ []) (fp ++ p ∷ [])
+        → (map (λ (n : Node). n.address) front ≡ map (name_of name) fp) × (map (λ (n : Node). n.address) run ≡ map (name_of name) rp)
+        → ArePlanted name (store_now b old) (fp ++ rp) → (block : Block) → block ≡ block_of name p → (told : Reply) → GivesWritten told handle
+        → IsWritten b.limits (store_now b old) (store_now b new) session next (left ++ right) (name (spell (record { pointers = map (λ (n : Node). n.address) run; bytes = payload }))) block told
+        → HasPlanted name b (store_now b new) session front run (m ∷ []) (fp ++ p ∷ [])
     told_from b ours next left right mf mr names planted block e told gives (unwritten which goes) = absurd (not_refused told b.limits.blocks gives which)
     told_from b ours next left right mf mr names planted block e told gives (written epoch which goes there) =
         let s : Store = store_now b old in
@@ -136,8 +136,8 @@ module _ (name : List ℕ → Address) (session : List ℕ) (start old new : Sho
 
     -- what the write comes to where the store is told
     pub outcome : {C : Type 0} → (b : Began) → HasPlanted name b (store_now b old) session (front ++ run) [] [] (fp ++ rp)
-      → (told : Reply) → IsJudged b.limits (store_now b old) (store_now b new) (write_above name session run payload) told
-      → ((next : ℕ) (left right : List (ℕ × Held)) → AllZip Matches front left → AllZip Matches run right → (block : Block) → block ≡ block_of name p
+        → (told : Reply) → IsJudged b.limits (store_now b old) (store_now b new) (write_above name session run payload) told
+        → ((next : ℕ) (left right : List (ℕ × Held)) → AllZip Matches front left → AllZip Matches run right → (block : Block) → block ≡ block_of name p
         → IsWritten b.limits (store_now b old) (store_now b new) session next (left ++ right) (name (spell (record { pointers = map (λ (n : Node). n.address) run; bytes = payload }))) block told → C) → C
     outcome b h told j k =
         let s : Store = store_now b old in
@@ -151,17 +151,17 @@ module _ (name : List ℕ → Address) (session : List ℕ) (start old new : Sho
         let limit : b.limits.handles ≡ 4096 = h.ours.handles in
         let addr : Address = name (spell (record { pointers = map (λ (n : Node). n.address) run; bytes = payload })) in
         let w : IsWritten b.limits s t session h.next (parts.left ++ parts.right) addr (judging.written s session payload (map (λ (n : Node). n.handle) run)) told =
-              writes_alone b.limits s t session h.next (parts.left ++ parts.right) seat payload (map (λ (n : Node). n.handle) run) addr told short
-                (subst (λ z. z ≤ MOST_POINTERS) (sym (length-map run (λ (n : Node). n.handle))) few)
-                (omega (arith, counted, limit, room))
-                (usable s session h.next (parts.left ++ parts.right) seat run parts.right parts.second within) j in
+        writes_alone b.limits s t session h.next (parts.left ++ parts.right) seat payload (map (λ (n : Node). n.handle) run) addr told short
+        (subst (λ z. z ≤ MOST_POINTERS) (sym (length-map run (λ (n : Node). n.handle))) few)
+        (omega (arith, counted, limit, room))
+        (usable s session h.next (parts.left ++ parts.right) seat run parts.right parts.second within) j in
         let block_is : judging.written s session payload (map (λ (n : Node). n.handle) run) ≡ block_of name p = written-above s session run payload (stand s session h.next (parts.left ++ parts.right) seat run parts.right parts.second within) ∙ is_block in
         k h.next parts.left parts.right parts.first parts.second (judging.written s session payload (map (λ (n : Node). n.handle) run)) block_is w
 
     -- where the store is told
     told_written : (b : Began) → HasPlanted name b (store_now b old) session (front ++ run) [] [] (fp ++ rp) → map (λ (n : Node). n.address) (front ++ run) ≡ map (name_of name) (fp ++ rp)
-      → (told : Reply) → GivesWritten told handle → IsJudged b.limits (store_now b old) (store_now b new) (write_above name session run payload) told
-      → HasPlanted name b (store_now b new) session front run (m ∷ []) (fp ++ p ∷ [])
+        → (told : Reply) → GivesWritten told handle → IsJudged b.limits (store_now b old) (store_now b new) (write_above name session run payload) told
+        → HasPlanted name b (store_now b new) session front run (m ∷ []) (fp ++ p ∷ [])
     told_written b h names told gives j = outcome b h told j (λ next left right mf mr block e w. told_from b h.ours next left right mf mr (split_names names) h.planted block e told gives w)
 
     -- a refusal is one of its block
@@ -206,19 +206,21 @@ module _ (name : List ℕ → Address) (session : List ℕ) (start old new : Sho
           let f : IsForgot s t session h.next (h.fore ++ (e ∷ middle ++ h.back)) (h.fore ++ (middle ++ h.back)) told = forgets_alone b.limits s t session h.next (h.fore ++ (e ∷ middle ++ h.back)) seat h.fore e (middle ++ h.back) told refl judged in
           let kept : AllZip Matches (front ++ last) (h.fore ++ h.back) = zip_append Matches front h.fore last h.back h.fronts h.lasts in
           let old_member : (y : ℕ × Held) → Member y (h.fore ++ h.back) → Member y (h.fore ++ (e ∷ middle ++ h.back)) = λ y k. elim (member-append y h.fore h.back k) [ inl q ↦ member-append_left y h.fore (e ∷ middle ++ h.back) q | inr q ↦ member-append_right y h.fore (e ∷ middle ++ h.back) (inr (member-append_right y middle h.back q)) ] in
-          let new_member : (y : ℕ × Held) → Member y (h.fore ++ h.back) → Member y (h.fore ++ (middle ++ h.back)) = λ y k. elim (member-append y h.fore h.back k) [ inl q ↦ member-append_left y h.fore (middle ++ h.back) q | inr q ↦ member-append_right y h.fore (middle ++ h.back) (member-append_right y middle h.back q) ] in
-          (f.told_is, record {
-            ours = h.ours;
-            next = h.next;
-            fore = h.fore;
-            middle = middle;
-            back = h.back;
-            seat = f.goes.seat;
-            fronts = h.fronts;
-            spares = z.1;
-            lasts = h.lasts;
-            planted = places_stay name s t (front ++ last) (h.fore ++ h.back) places (names_zip name (front ++ last) places names) kept (λ y k. f.goes.stays y (old_member y k) (new_member y k)) h.planted;
-          })
+          let new_member : (y : ℕ × Held) → Member y (h.fore ++ h.back) → Member y (h.fore ++ (middle ++ h.back)) = λ y k. elim (member-append y h.fore h.back k) [ inl q ↦ member-append_left y h.fore (middle ++ h.back) q | inr q ↦ member-append_right y h.fore (middle ++ h.back) (member-append_right y middle h.back q) ] in (
+            f.told_is,
+            record {
+              ours = h.ours;
+              next = h.next;
+              fore = h.fore;
+              middle = middle;
+              back = h.back;
+              seat = f.goes.seat;
+              fronts = h.fronts;
+              spares = z.1;
+              lasts = h.lasts;
+              planted = places_stay name s t (front ++ last) (h.fore ++ h.back) places (names_zip name (front ++ last) places names) kept (λ y k. f.goes.stays y (old_member y k) (new_member y k)) h.planted;
+            },
+          )
 
   pub forgets_one : (front : List Node) (x : Node) (spare last : List Node) (written_before : List Block) (places : List Place) → IsGrowing name session start old front (x ∷ spare) last written_before places → Hears old new (op.Forget session x.handle) reply.Ok → IsGrowing name session start new front spare last written_before places
   forgets_one front x spare last written_before places h w = record {

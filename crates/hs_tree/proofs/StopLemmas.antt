@@ -82,8 +82,8 @@ module _ (name : List ℕ → Address) (session key : List ℕ) (start : Shown) 
 
   -- a call of this kind fails, where a refusal is one that a storing may meet
   pub fails_stops : (old new : Shown) (front spare last : List Node) (written : List Block) (places : List Place) (o : Op) (f : TreeFault) → IsGrowing name session start old front spare last written places → IsStoringOp session key o
-    → ((b : Began) → HasPlanted name b (store_now b old) session front spare last places → (told : Reply) → IsJudged b.limits (store_now b old) (store_now b new) o told → grants o told ≡ false → IsStoreRefusal key told)
-    → CallFails old new o f → IsStopped session key start new f
+      → ((b : Began) → HasPlanted name b (store_now b old) session front spare last places → (told : Reply) → IsJudged b.limits (store_now b old) (store_now b new) o told → grants o told ≡ false → IsStoreRefusal key told)
+      → CallFails old new o f → IsStopped session key start new f
   fails_stops old new front spare last written places o (fault.Core core) h kind refusal c = record {
     ops = op.Open session ∷ h.worked.ops ++ o ∷ [];
     asked = c.asked ∙ (ap (λ z. z ++ o ∷ []) h.worked.asked ∙ append_assoc start.asked (op.Open session ∷ h.worked.ops) (o ∷ []));
@@ -110,7 +110,7 @@ module _ (name : List ℕ → Address) (session key : List ℕ) (start : Shown) 
   unfolding grants
   forget_stops old new front x spare last written places f h c =
       fails_stops old new front (x ∷ spare) last written places (op.Forget session x.handle) f h refl
-        (λ b y told j refusal. never told (forget_told name session start old new b front x spare last places y h.names told j).0 refusal) c
+      (λ b y told j refusal. never told (forget_told name session start old new b front x spare last places y h.names told j).0 refusal) c
     where
       never : (told : Reply) → told ≡ reply.Ok → is_ok told ≡ false → IsStoreRefusal key told
       never told e refusal = let k = subst (λ z. is_ok z ≡ false) e refusal in cc k

@@ -33,29 +33,29 @@ unfolding IsPlanted
 leaf_planted name piece s none h = h
 
 pub grows_piece : (name : List ℕ → Address) (session : List ℕ) (start old new : Shown) (nodes : List Node) (places : List Place) (piece : List ℕ) (handle : ℕ) (a : Address)
-  → length nodes ≡ length places → length piece ≤ MOST_BYTES → length nodes + 1 ≤ 4096
-  → IsGrown name session start old nodes places → IsWrittenAs old new (write_above name session [] piece) handle
-  → a ≡ name (spell (record { pointers = map (λ (n : Node). n.address) []; bytes = piece }))
-  → IsGrown name session start new (nodes ++ record { handle = handle; address = a } ∷ []) (places ++ piece_at piece ∷ [])
+    → length nodes ≡ length places → length piece ≤ MOST_BYTES → length nodes + 1 ≤ 4096
+    → IsGrown name session start old nodes places → IsWrittenAs old new (write_above name session [] piece) handle
+    → a ≡ name (spell (record { pointers = map (λ (n : Node). n.address) []; bytes = piece }))
+    → IsGrown name session start new (nodes ++ record { handle = handle; address = a } ∷ []) (places ++ piece_at piece ∷ [])
 grows_piece name session start old new nodes places piece handle a same short room h w named =
     let p : Place = piece_at piece in
     let none : nodes ++ [] ≡ nodes = append-nil nodes in
     let none_places : places ++ [] ≡ places = append-nil places in
     let before : IsGrowing name session start old (nodes ++ []) [] [] (flat_map (tree_below name) places) (places ++ []) =
-          subst (λ z. IsGrowing name session start old z [] [] (flat_map (tree_below name) places) (places ++ [])) (sym none) (subst (λ z. IsGrowing name session start old nodes [] [] (flat_map (tree_below name) places) z) (sym none_places) h) in
+    subst (λ z. IsGrowing name session start old z [] [] (flat_map (tree_below name) places) (places ++ [])) (sym none) (subst (λ z. IsGrowing name session start old nodes [] [] (flat_map (tree_below name) places) z) (sym none_places) h) in
     let room_there : length (nodes ++ []) + 1 ≤ 4096 = subst (λ (z : List Node). length z + 1 ≤ 4096) (sym none) room in
     let after : IsGrowing name session start new nodes [] (record { handle = handle; address = name_of name p } ∷ []) (flat_map (tree_below name) places ++ block_of name p ∷ []) (places ++ p ∷ []) =
-          grows_above name session start old new nodes [] (flat_map (tree_below name) places) places [] p piece handle same (leaf_is name piece) (λ s none there. leaf_planted name piece s none there) (omega arith) short room_there before w in
+    grows_above name session start old new nodes [] (flat_map (tree_below name) places) places [] p piece handle same (leaf_is name piece) (λ s none there. leaf_planted name piece s none there) (omega arith) short room_there before w in
     let joined = joins name session start new new nodes (record { handle = handle; address = name_of name p } ∷ []) (flat_map (tree_below name) places ++ block_of name p ∷ []) (places ++ p ∷ []) after in
     let blocks : flat_map (tree_below name) places ++ block_of name p ∷ [] ≡ flat_map (tree_below name) (places ++ p ∷ []) = ap (λ z. flat_map (tree_below name) places ++ z) (sym (leaf_tree name piece)) ∙ sym (flat_last name places p) in
     let addr : name_of name p ≡ a = sym (named ∙ ap (λ z. name (spell z)) (leaf_is name piece)) in
     subst (λ z. IsGrowing name session start new (nodes ++ record { handle = handle; address = a } ∷ []) [] [] z (places ++ p ∷ [])) blocks
-      (subst (λ z. IsGrowing name session start new (nodes ++ record { handle = handle; address = z } ∷ []) [] [] (flat_map (tree_below name) places ++ block_of name p ∷ []) (places ++ p ∷ [])) addr joined)
+    (subst (λ z. IsGrowing name session start new (nodes ++ record { handle = handle; address = z } ∷ []) [] [] (flat_map (tree_below name) places ++ block_of name p ∷ []) (places ++ p ∷ [])) addr joined)
 
 -- ---- a block above a run
 
 pub node_is : (name : List ℕ → Address) (h : ℕ) (cs : List (List ℕ)) (addresses : List Address) → runs (span stored_cut h) (concat cs) ≡ cs → addresses ≡ map (name_of name) (places_at h cs)
-  → record { pointers = addresses; bytes = to_be_bytes w64 (length (concat cs)) } ≡ node stored_cut name (suc h) (concat cs)
+    → record { pointers = addresses; bytes = to_be_bytes w64 (length (concat cs)) } ≡ node stored_cut name (suc h) (concat cs)
 unfolding node
 node_is name h cs addresses cut e =
     let all : (xs : List (List ℕ)) → map (name_of name) (places_at h xs) ≡ map (λ run. name (spell (node stored_cut name h run))) xs = map_places name h in
@@ -90,11 +90,11 @@ run_names name (n ∷ ns) run [] rp l e = absurd (omega (arith, l))
 run_names name (n ∷ ns) run (q ∷ ps) rp l e = run_names name ns run ps rp (omega (arith, l)) (cc e)
 
 pub grows_run : (name : List ℕ → Address) (session : List ℕ) (start old new : Shown) (front run : List Node) (fp : List Place) (h : ℕ) (cs : List (List ℕ)) (payload : List ℕ) (handle : ℕ) (a : Address)
-  → length front ≡ length fp → runs (span stored_cut h) (concat cs) ≡ cs → payload ≡ to_be_bytes w64 (length (concat cs))
-  → length run ≤ MOST_POINTERS → length payload ≤ MOST_BYTES → length (front ++ run) + 1 ≤ 4096
-  → IsGrown name session start old (front ++ run) (fp ++ places_at h cs) → IsWrittenAs old new (write_above name session run payload) handle
-  → a ≡ name (spell (record { pointers = map (λ (n : Node). n.address) run; bytes = payload }))
-  → IsGrowing name session start new front run (record { handle = handle; address = a } ∷ []) (flat_map (tree_below name) (fp ++ run_at h cs ∷ [])) (fp ++ run_at h cs ∷ [])
+    → length front ≡ length fp → runs (span stored_cut h) (concat cs) ≡ cs → payload ≡ to_be_bytes w64 (length (concat cs))
+    → length run ≤ MOST_POINTERS → length payload ≤ MOST_BYTES → length (front ++ run) + 1 ≤ 4096
+    → IsGrown name session start old (front ++ run) (fp ++ places_at h cs) → IsWrittenAs old new (write_above name session run payload) handle
+    → a ≡ name (spell (record { pointers = map (λ (n : Node). n.address) run; bytes = payload }))
+    → IsGrowing name session start new front run (record { handle = handle; address = a } ∷ []) (flat_map (tree_below name) (fp ++ run_at h cs ∷ [])) (fp ++ run_at h cs ∷ [])
 grows_run name session start old new front run fp h cs payload handle a same cut bytes few short room g w named =
     let p : Place = run_at h cs in
     let rp : List Place = places_at h cs in
@@ -104,7 +104,7 @@ grows_run name session start old new front run fp h cs payload handle a same cut
     let before_blocks : flat_map (tree_below name) (fp ++ rp) ≡ flat_map (tree_below name) fp ++ flat_map (tree_below name) rp = flat_map-append (tree_below name) fp rp in
     let after = grows_above name session start old new front run (flat_map (tree_below name) (fp ++ rp)) fp rp p payload handle same is_block (λ s below there. run_planted name h cs s cut below there) few short room g w in
     let blocks : flat_map (tree_below name) (fp ++ rp) ++ block_of name p ∷ [] ≡ flat_map (tree_below name) (fp ++ p ∷ []) =
-          ap (λ z. z ++ block_of name p ∷ []) before_blocks ∙ (append_assoc (flat_map (tree_below name) fp) (flat_map (tree_below name) rp) (block_of name p ∷ []) ∙ (ap (λ z. flat_map (tree_below name) fp ++ z) (run_tree name h cs cut) ∙ sym (flat_last name fp p))) in
+    ap (λ z. z ++ block_of name p ∷ []) before_blocks ∙ (append_assoc (flat_map (tree_below name) fp) (flat_map (tree_below name) rp) (block_of name p ∷ []) ∙ (ap (λ z. flat_map (tree_below name) fp ++ z) (run_tree name h cs cut) ∙ sym (flat_last name fp p))) in
     let addr : name_of name p ≡ a = sym (named ∙ ap (λ z. name (spell z)) is_block) in
     subst (λ z. IsGrowing name session start new front run (record { handle = handle; address = a } ∷ []) z (fp ++ p ∷ [])) blocks
-      (subst (λ z. IsGrowing name session start new front run (record { handle = handle; address = z } ∷ []) (flat_map (tree_below name) (fp ++ rp) ++ block_of name p ∷ []) (fp ++ p ∷ [])) addr after)
+    (subst (λ z. IsGrowing name session start new front run (record { handle = handle; address = z } ∷ []) (flat_map (tree_below name) (fp ++ rp) ++ block_of name p ∷ []) (fp ++ p ∷ [])) addr after)

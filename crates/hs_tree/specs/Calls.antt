@@ -1,5 +1,5 @@
 -- What one call of an asker comes to.
-use Rattle.std.specs.Prelude.{ℕ, ◌≡◌, List, [], ◌∷◌, ◌++◌, None, Option, Some, IfSome, false}
+use Rattle.std.specs.Prelude.{ℕ, ◌<◌, ◌≡◌, List, [], ◌∷◌, ◌++◌, None, Option, Some, IfSome, false, length}
 use Rattle.hs_asking.specs.Judged.{IsJudged}
 use Rattle.hs_asking.specs.Shown.{Shown, store_now}
 use Rattle.hs_asking.specs.Telling.{MayBeTold, grants}
@@ -22,6 +22,33 @@ IsTakeFault before now (fault.NotATree address) = ⊥
 IsTakeFault before now fault.NoMemory = Unit {0}
 
 -- ---- an asker
+
+-- a fault of what asks alone
+abbrev pub IsAskFault : TreeFault → Type 0
+IsAskFault (fault.Core core) = Unit {0}
+IsAskFault fault.Read = ⊥
+IsAskFault fault.InputFull = ⊥
+IsAskFault (fault.Refused told) = Unit {0}
+IsAskFault (fault.NotATree address) = ⊥
+IsAskFault fault.NoMemory = Unit {0}
+
+-- a fault of taking and asking, but not of the file's end
+abbrev pub IsPartFault : ℕ → ℕ → TreeFault → Type 0
+IsPartFault before now (fault.Core core) = Unit {0}
+IsPartFault before now fault.Read = HasRisen before now
+IsPartFault before now fault.InputFull = ⊥
+IsPartFault before now (fault.Refused told) = Unit {0}
+IsPartFault before now (fault.NotATree address) = ⊥
+IsPartFault before now fault.NoMemory = Unit {0}
+
+-- a fault of storing: the source failed and was counted, or gave more than a file may have
+abbrev pub IsStoringFault : ℕ → ℕ → Option (List ℕ) → TreeFault → Type 0
+IsStoringFault before now left (fault.Core core) = Unit {0}
+IsStoringFault before now left fault.Read = HasRisen before now
+IsStoringFault before now left fault.InputFull = IfSome left (λ all. 67108864 < length all)
+IsStoringFault before now left (fault.Refused told) = Unit {0}
+IsStoringFault before now left (fault.NotATree address) = ⊥
+IsStoringFault before now left fault.NoMemory = Unit {0}
 
 -- an operation was asked for and is told this, as it is judged where the store is told
 pub record Hears (old new : Shown) (o : Op) (told : Reply) : Type 0 where

@@ -1,7 +1,7 @@
 -- A tree that is being stored: what was asked for so far, and what the session holds.
 use Rattle.std.proofs.Common.{zero, suc}
 use Rattle.std.specs.List.{AllByRecursion, AllZip, concat, flat_map}
-use Rattle.std.specs.Prelude.{ℕ, ◌≡◌, List, [], ◌∷◌, ◌++◌, None, Option, Some, IfSome, map}
+use Rattle.std.specs.Prelude.{ℕ, ◌≡◌, List, [], ◌∷◌, ◌++◌, None, Option, Some, IfSome, length, map}
 use Rattle.hs_asking.specs.Seats.{HasSeat}
 use Rattle.hs_asking.specs.Shown.{Began, Shown, store_now}
 use Rattle.hs_desk.specs.declared.fault.CoreFault.{CoreFault}
@@ -14,7 +14,7 @@ use Rattle.hs_model.specs.declared.op.Op.{Op}
 use Rattle.hs_model.specs.declared.op.Op.TheVariants as op
 use Rattle.hs_model.specs.declared.reply.Reply.{Reply}
 use Rattle.hs_model.specs.declared.reply.Reply.TheVariants as reply
-use Rattle.hs_tree.specs.Trees.{node, runs, span, stored_cut, tree}
+use Rattle.hs_tree.specs.Trees.{height, node, runs, span, stored_cut, tree}
 use Rattle.hs_tree.specs.declared.fault.TreeFault.{TreeFault}
 use Rattle.hs_tree.specs.declared.fault.TreeFault.TheVariants as fault
 use Rattle.hs_tree.specs.declared.grow.Node.{Node}
@@ -130,6 +130,10 @@ places_at h cs = map (λ c. record { height = h; bytes = c }) cs
 
 abbrev pub run_at : ℕ → List (List ℕ) → Place
 run_at h cs = record { height = suc h; bytes = concat cs }
+
+-- a node was written for the top of a file, and nothing else is held
+abbrev pub HasTop : (List ℕ → Address) → List ℕ → Shown → Shown → Node → List ℕ → Type 0
+HasTop name session start now n file = IsGrown name session start now (n ∷ []) (record { height = height stored_cut (length file); bytes = file } ∷ [])
 
 -- ---- how it fails
 

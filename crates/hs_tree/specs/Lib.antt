@@ -4,3 +4,4 @@ pub mod Calls
 pub mod Telling
 pub mod Growing
 pub mod Steps
+pub mod Storing

@@ -12,7 +12,7 @@ use Rattle.hs_tree.specs.declared.grow.Node.{Node}
 
 -- a block was written above some nodes, and this is its node
 pub record WritesNode (name : List ℕ → Address) (session : List ℕ) (old new : Shown) (nodes : List Node) (payload : List ℕ) (made : Node) : Type 0 where
-  pub as : IsWrittenAs old new (write_above name session nodes payload) made.handle
+  pub answered : IsWrittenAs old new (write_above name session nodes payload) made.handle
   pub named : made.address ≡ name (spell (record { pointers = map (λ (n : Node). n.address) nodes; bytes = payload }))
 
 -- some nodes that are not needed are given up

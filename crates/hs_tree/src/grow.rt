@@ -4,7 +4,7 @@ ghost use Rattle.hs_tree.specs.declared.fault.TreeFault.TheVariants.{NoMemory};
 ghost use Rattle.std.specs.Int.{to_be_bytes, w64};
 ghost use Rattle.hs_limits.specs.Block.{IsBlock, spell};
 ghost use Rattle.hs_limits.specs.declared.spelling.TheConstants.{MOST_BYTES, MOST_POINTERS};
-ghost use Rattle.hs_tree.specs.Calls.{CallFails};
+ghost use Rattle.hs_tree.specs.Calls.{CallFails, IsAskFault};
 ghost use Rattle.hs_tree.specs.Growing.{IsNamedBy, write_above};
 ghost use Rattle.hs_tree.specs.Steps.{AddsPiece, CloseStops, ClosesRun, ForgetStops, Forgets, Stops, WritesNode};
 
@@ -36,14 +36,19 @@ fn handles_of(alloc: Global, nodes: &[Node]) -> Result<Vec<u32>, AllocError>
     nodes.iter().map(|node| node.handle).collect(alloc)
 }
 
+/// Puts a node at the end of some. Without memory they stay as they were.
+pub(crate) fn push_node(nodes: &mut Vec<Node>, node: Node) -> Result<(), AllocError>
+    ensures ok { OnOk result (nodes.new.items ≡ nodes.old.items ++ node ∷ []) }
+{
+    nodes.push(node)?;
+    Ok(())
+}
+
 /// A number in 8 bytes.
 fn in_bytes(alloc: Global, number: u64) -> Result<ListOf<u8>, AllocError>
     ensures { IfOk result (λ list. list ≡ to_be_bytes w64 number) }
 {
-    Ok(ListOf::from_vec(Vec::from_slice(
-        alloc,
-        &number.to_be_bytes(),
-    )?))
+    Ok(ListOf::from_vec(Vec::from_slice(alloc, &number.to_be_bytes())?))
 }
 
 /// The name of the block of these pointers and bytes.
@@ -109,6 +114,7 @@ fn forget_all<B: Asker>(
     ensures ok { OnOk result (
         Forgets session.now (B.shows asker.old) (B.shows asker.new) nodes.now) }
     ensures going { OnOk result ((B.shows asker.new).ended ≡ None) }
+    ensures kind { IfErr result IsAskFault }
     ensures err { IfErr result (λ fault.
         ForgetStops session.now (B.shows asker.old) (B.shows asker.new) nodes.now fault) }
 {
@@ -134,18 +140,12 @@ pub(crate) fn add_piece<B: Asker, A: Addresser>(
         (B.shows asker.old) (B.shows asker.new) piece.items run.old.items run.new.items) }
     ensures one { OnOk result (length run.new.items ≡ length run.old.items + 1) }
     ensures going { OnOk result ((B.shows asker.new).ended ≡ None) }
+    ensures kind { IfErr result IsAskFault }
     ensures err { IfErr result (λ fault. Stops (A.name naming.now) session.now
         (B.shows asker.old) (B.shows asker.new) run.old.items fault) }
 {
-    let node = write_node(
-        alloc,
-        asker,
-        naming,
-        session,
-        &[],
-        ListOf::from_vec(piece),
-    )?;
-    run.push(node)?;
+    let node = write_node(alloc, asker, naming, session, &[], ListOf::from_vec(piece))?;
+    push_node(run, node)?;
     Ok(())
 }
 
@@ -169,6 +169,7 @@ pub(crate) fn close_run<B: Asker, A: Addresser>(
     ensures empty { OnOk result (run.new.items ≡ []) }
     ensures one { OnOk result (length above.new.items ≡ length above.old.items + 1) }
     ensures going { OnOk result ((B.shows asker.new).ended ≡ None) }
+    ensures kind { IfErr result IsAskFault }
     ensures err { IfErr result (λ fault. CloseStops (A.name naming.now) session.now
         (B.shows asker.old) (B.shows asker.new) bytes run.old.items above.old.items fault) }
 {
@@ -176,6 +177,6 @@ pub(crate) fn close_run<B: Asker, A: Addresser>(
     let node = write_node(alloc, asker, naming, session, run, payload)?;
     forget_all(alloc, asker, session, run)?;
     run.clear();
-    above.push(node)?;
+    push_node(above, node)?;
     Ok(())
 }

@@ -1,11 +1,16 @@
-//! Files as trees of blocks: how one is stored under a key, and given back.
+//! Files as trees of blocks: how one is stored under a key.
 #![tactic(auto)]
 
 mod calls;
 mod fault;
 mod grow;
+mod laws;
+mod session;
 mod sizes;
+mod store;
 mod taking;
 
 pub use fault::TreeFault;
-pub use sizes::{MOST_FILE, MOST_PIECES};
+pub use laws::a_stored_file_stays;
+pub use sizes::MOST_FILE;
+pub use store::store_file;

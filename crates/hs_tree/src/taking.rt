@@ -1,5 +1,5 @@
 //! Pieces of a file, as a source gives them.
-ghost use Rattle.std.specs.Prelude.{◌≡◌, ◌<◌, ◌≤◌, [], length, IfOk, IfErr, OnOk};
+ghost use Rattle.std.specs.Prelude.{◌≡◌, ◌<◌, ◌≤◌, [], false, length, IfOk, IfErr, IfSome, IsTrue, OnOk};
 ghost use Rattle.hs_limits.specs.declared.spelling.TheConstants.{MOST_BYTES};
 ghost use Rattle.hs_ports.specs.Fault.{HasRisen};
 ghost use Rattle.hs_ports.specs.Source.{IsEnded, Took, before};
@@ -50,4 +50,18 @@ fn take_some<S: Source>(source: &mut S, max: usize, into: &mut Vec<u8>) -> Resul
         Err(PortFault::Failed) => Err(TreeFault::Read),
         Err(PortFault::NoMemory) => Err(TreeFault::NoMemory),
     }
+}
+
+/// Whether a source has no byte left. One that has is left without its first.
+pub(crate) fn is_at_end<S: Source>(alloc: Global, source: &mut S) -> Result<bool, TreeFault>
+    ensures ended { IfOk result (λ ended. IsTrue ended → IsEnded (S.left source.new)
+        × (S.left source.new ≡ S.left source.old)) }
+    ensures more { IfOk result (λ ended. ended ≡ false →
+        IfSome (S.left source.old) (λ rest. 0 < length rest)) }
+    ensures fault { IfErr result (λ fault.
+        IsTakeFault (S.faults source.old) (S.faults source.new) fault) }
+    ensures later { S.faults source.old ≤ S.faults source.new }
+{
+    let more = take_piece(alloc, source, 1)?;
+    Ok(more.is_empty())
 }
