@@ -1,5 +1,5 @@
 -- How a storing begins with its session, and ends with its root.
-use Rattle.std.proofs.Common.{◌≡◌, ◌⊎◌, inl, inr, ℕ, ◌+◌, ◌<◌, ◌≤◌, List, [], ◌∷◌, ◌++◌, zero, suc, Option, Some, None, IfSome, Bool, true, false, refl, sym, ap, ◌∙◌, subst, map, length, arith, append-nil, append_assoc}
+use Rattle.std.proofs.Common.{◌≡◌, ◌⊎◌, inl, inr, ℕ, ◌+◌, ◌<◌, ◌≤◌, List, [], ◌∷◌, ◌++◌, zero, suc, Option, Some, None, IfSome, Result, Ok, Err, IfErr, OnOk, Bool, true, false, refl, sym, ap, ◌∙◌, subst, map, length, arith, append-nil, append_assoc}
 use Rattle.std.specs.List.{AllByRecursion, AllZip, flat_map}
 use Rattle.hs_asking.proofs.AloneLemmas.{opens_alone, roots_alone}
 use Rattle.hs_asking.proofs.SaneLemmas.{answers_sane}
@@ -100,7 +100,7 @@ module _ (name : List ℕ → Address) (key : List ℕ) (start old new : Shown) 
 
   rooted_as : {C : Type 0} (b : Began) (told : Reply) → HasPlanted name b (store_now b old) our_session (n ∷ []) [] [] (place ∷ []) → IsJudged b.limits (store_now b old) (store_now b new) (op.Root our_session key n.handle) told
       → ((next : ℕ) (e : ℕ × Held) (es : List (ℕ × Held)) → Member e es → Matches n e → IsRooted b.limits (store_now b old) (store_now b new) our_session next es key e.1 told → C) → C
-  rooted_as b told k j f = go k.fore k.fronts k.seat
+  rooted_as {C = C} b told k j f = go k.fore k.fronts k.seat
     where
       go : (fore : List (ℕ × Held)) → AllZip Matches (n ∷ []) fore → HasSeat (store_now b old) our_session k.next (fore ++ (k.middle ++ k.back)) → C
       go [] z seat = absurd z
@@ -150,3 +150,13 @@ module _ (name : List ℕ → Address) (key : List ℕ) (start old new : Shown) 
       which told refusal (rooted e root kept same seat stays) = let k = subst (λ z. is_ok z ≡ false) e refusal in cc k
       which told refusal (unrooted (inl e) goes) = subst (λ z. IsStoreRefusal key z) (sym e) refl
       which told refusal (unrooted (inr e) goes) = subst (λ z. IsStoreRefusal key z) (sym e) tt
+
+-- ---- the same of results
+
+pub begins : {T : Type 0} (r : Result T TreeFault) (name : List ℕ → Address) (session : List ℕ) (old new : Shown) → session ≡ our_session → IfSome old.began (λ b. IsIdle name b old) → IfSome old.began (λ b. AreAnswersOf b old) → OnOk r (Hears old new (op.Open session) reply.Ok) → OnOk r (IsGrown name our_session old new [] [])
+begins (Ok x) name session old new same idle law h = opens_grown name old new idle law (subst (λ z. Hears old new (op.Open z) reply.Ok) same h)
+begins (Err f) name session old new same idle law h = tt
+
+pub begin_stops : {T : Type 0} (r : Result T TreeFault) (name : List ℕ → Address) (session : List ℕ) (old new : Shown) → session ≡ our_session → old.ended ≡ None → IfSome old.began (λ b. IsIdle name b old) → IfSome old.began (λ b. AreAnswersOf b old) → IfErr r (λ f. CallFails old new (op.Open session) f) → IfErr r (λ f. (key : List ℕ) → IsStopped our_session key old new f)
+begin_stops (Ok x) name session old new same going idle law h = tt
+begin_stops (Err f) name session old new same going idle law h = λ key. open_stops name old new idle law key f going (subst (λ z. CallFails old new (op.Open z) f) same h)

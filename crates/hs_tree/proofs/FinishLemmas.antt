@@ -86,10 +86,10 @@ module _ (name : List ℕ → Address) (session : List ℕ) (start old : Shown) 
     last_run = record {
       counted = g.uppers ∙ sym (places-count 1 g.tops);
       cut = ap (λ n. runs n (concat g.pieces)) span-0 ∙ runs-concat 65536 g.pieces (omega arith) is_cut;
-      bytes = refl;
+      below = refl;
     }
 
-    tops : List (List ℕ)
+    abbrev pub tops : List (List ℕ)
     tops = g.tops ++ concat g.pieces ∷ []
 
     -- after it is closed
@@ -118,15 +118,12 @@ module _ (name : List ℕ → Address) (session : List ℕ) (start old : Shown) 
           two (suc (suc n)) p q = omega arith
 
       pub grown_tops : IsGrown name session start mid ([] ++ after) ([] ++ places_at 1 tops)
-      unfolding tops
       grown_tops = subst (λ z. IsGrown name session start mid after z) (sym (places-last 1 g.tops (concat g.pieces))) grown
 
       whole_tops : concat tops ≡ file
-      unfolding tops
       whole_tops = concat-last g.tops (concat g.pieces) ∙ g.whole
 
       tops_cut : IsCut 4194304 tops
-      unfolding tops
       tops_cut =
           let some : 0 < length (concat g.pieces) = cut-some 65536 g.pieces (omega arith) is_cut g.some in
           let most : length (concat g.pieces) ≤ 65536 * length g.pieces = cut-most 65536 g.pieces is_cut in
@@ -137,7 +134,7 @@ module _ (name : List ℕ → Address) (session : List ℕ) (start old : Shown) 
       top_run = record {
         counted = refl;
         cut = ap (λ n. runs n (concat tops)) span-1 ∙ runs-concat 4194304 tops (omega arith) tops_cut;
-        bytes = ap (λ z. length z) (sym whole_tops);
+        below = ap (λ z. length z) (sym whole_tops);
       }
 
       pub third : (new : Shown) (n : Node) (last : List Node) → IsGrown name session start new last ([] ++ run_at 1 tops ∷ []) → last ≡ n ∷ [] → 2 ≤ length after → HasTop name session start new n file

@@ -11,3 +11,6 @@ pub mod StoreLemmas
 pub mod FinishLemmas
 pub mod EndLemmas
 pub mod LawLemmas
+pub mod GatherLemmas
+pub mod OneFileLemmas
+pub mod NextLemmas

@@ -36,7 +36,7 @@ op_is name session payload nodes addresses handles a e f h =
 
 pub may_write : (name : List ℕ → Address) (session payload : List ℕ) (old : Shown) (nodes : List Node) (addresses : List Address) (handles : List ℕ) (a : Address) → length nodes ≤ MOST_POINTERS → length payload ≤ MOST_BYTES → IsNamedBy name session old nodes → addresses ≡ map (λ (n : Node). n.address) nodes → handles ≡ map (λ (n : Node). n.handle) nodes → a ≡ name (spell (record { pointers = addresses; bytes = payload })) → IsNamed old (op.Write session payload handles (Some a))
 may_write name session payload old nodes addresses handles a few short named e f h =
-    subst (IsNamed old) (sym (op_is name session payload nodes addresses handles a e f h)) (tt, is_named name session old nodes payload few short named)
+    subst (IsNamed old) (sym (op_is name session payload nodes addresses handles a e f h)) (refl, is_named name session old nodes payload few short named)
 
 pub wrote_node : (name : List ℕ → Address) (session payload : List ℕ) (old new : Shown) (nodes : List Node) (addresses : List Address) (handles : List ℕ) (a : Address) (handle : ℕ) → addresses ≡ map (λ (n : Node). n.address) nodes → handles ≡ map (λ (n : Node). n.handle) nodes → a ≡ name (spell (record { pointers = addresses; bytes = payload })) → IsWrittenAs old new (op.Write session payload handles (Some a)) handle → WritesNode name session old new nodes payload (record { handle = handle; address = a })
 wrote_node name session payload old new nodes addresses handles a handle e f h w = record {
@@ -49,15 +49,19 @@ write_failed name session payload old new nodes addresses handles a f e k h c = 
 
 -- ---- forgets in a row
 
-take-more : (nodes : List Node) (i : ℕ) (x : Node) → i < length nodes → x ≡ get_or nodes i x → take (i + 1) nodes ≡ take i nodes ++ x ∷ []
-take-more [] i x h e = absurd (omega (arith, h))
-take-more (n ∷ ns) zero x h e = ap (λ z. z ∷ []) (sym e)
-take-more (n ∷ ns) (suc i) x h e = ap (λ z. n ∷ z) (take-more ns i x (omega (arith, h)) e)
+take-more : (nodes : List Node) (i : ℕ) (x d : Node) → i < length nodes → x ≡ get_or nodes i d → take (i + 1) nodes ≡ take i nodes ++ x ∷ []
+take-more [] i x d h e = absurd (omega (arith, h))
+take-more (n ∷ ns) zero x d h e = ap (λ z. z ∷ []) (sym e)
+take-more (n ∷ ns) (suc i) x d h e =
+    let next : suc i + 1 ≡ suc (i + 1) = omega arith in
+    ap (λ k. take k (n ∷ ns)) next ∙ ap (λ z. n ∷ z) (take-more ns i x d (omega (arith, h)) e)
 
-drop-at : (nodes : List Node) (i : ℕ) (x : Node) → i < length nodes → x ≡ get_or nodes i x → nodes ≡ take i nodes ++ x ∷ drop (i + 1) nodes
-drop-at [] i x h e = absurd (omega (arith, h))
-drop-at (n ∷ ns) zero x h e = ap (λ z. z ∷ ns) (sym e)
-drop-at (n ∷ ns) (suc i) x h e = ap (λ z. n ∷ z) (drop-at ns i x (omega (arith, h)) e)
+drop-at : (nodes : List Node) (i : ℕ) (x d : Node) → i < length nodes → x ≡ get_or nodes i d → nodes ≡ take i nodes ++ x ∷ drop (i + 1) nodes
+drop-at [] i x d h e = absurd (omega (arith, h))
+drop-at (n ∷ ns) zero x d h e = ap (λ z. z ∷ ns) (sym e)
+drop-at (n ∷ ns) (suc i) x d h e =
+    let next : suc (i + 1) ≡ suc i + 1 = omega arith in
+    ap (λ z. n ∷ z) (drop-at ns i x d (omega (arith, h)) e) ∙ ap (λ k. n ∷ (take i ns ++ x ∷ drop k (n ∷ ns))) next
 
 take-whole : (nodes : List Node) (i : ℕ) → length nodes ≤ i → take i nodes ≡ nodes
 take-whole [] i h = grind (arith, common_steps)
@@ -67,17 +71,19 @@ take-whole (n ∷ ns) (suc i) h = ap (λ z. n ∷ z) (take-whole ns i (omega (ar
 pub forgets_none : (session : List ℕ) (old : Shown) → Forgets session old old []
 forgets_none session old name start front spare last blocks places h = h
 
-pub forgets_next : (session : List ℕ) (old mid new : Shown) (nodes : List Node) (i : ℕ) (x : Node) → i < length nodes → x ≡ get_or nodes i x → Forgets session old mid (take i nodes) → Hears mid new (op.Forget session x.handle) reply.Ok → Forgets session old new (take (i + 1) nodes)
-forgets_next session old mid new nodes i x l e f w name start front spare last blocks places h =
-    let more : take (i + 1) nodes ++ spare ≡ take i nodes ++ (x ∷ spare) = ap (λ z. z ++ spare) (take-more nodes i x l e) ∙ append_assoc (take i nodes) (x ∷ []) spare in
+pub forgets_next : (session : List ℕ) (old mid new : Shown) (nodes : List Node) (i : ℕ) (d : Node) → i < length nodes → Forgets session old mid (take i nodes) → Hears mid new (op.Forget session (get_or nodes i d).handle) reply.Ok → Forgets session old new (take (i + 1) nodes)
+forgets_next session old mid new nodes i d l f w name start front spare last blocks places h =
+    let x : Node = get_or nodes i d in
+    let more : take (i + 1) nodes ++ spare ≡ take i nodes ++ (x ∷ spare) = ap (λ z. z ++ spare) (take-more nodes i x d l refl) ∙ append_assoc (take i nodes) (x ∷ []) spare in
     forgets_one name session start mid new front x spare last blocks places (f name start front (x ∷ spare) last blocks places (subst (λ z. IsGrowing name session start old front z last blocks places) more h)) w
 
 pub forgets_all : (session : List ℕ) (old new : Shown) (nodes : List Node) (i : ℕ) → length nodes ≤ i → Forgets session old new (take i nodes) → Forgets session old new nodes
 forgets_all session old new nodes i h f = subst (λ z. Forgets session old new z) (take-whole nodes i h) f
 
-pub forget_stopped : (session : List ℕ) (old mid new : Shown) (nodes : List Node) (i : ℕ) (x : Node) (f : TreeFault) → i < length nodes → x ≡ get_or nodes i x → Forgets session old mid (take i nodes) → CallFails mid new (op.Forget session x.handle) f → ForgetStops session old new nodes f
-forget_stopped session old mid new nodes i x f l e g c name key start front spare last blocks places h =
-    let parts : nodes ++ spare ≡ take i nodes ++ (x ∷ (drop (i + 1) nodes ++ spare)) = ap (λ z. z ++ spare) (drop-at nodes i x l e) ∙ append_assoc (take i nodes) (x ∷ drop (i + 1) nodes) spare in
+pub forget_stopped : (session : List ℕ) (old mid new : Shown) (nodes : List Node) (i : ℕ) (d : Node) (f : TreeFault) → i < length nodes → Forgets session old mid (take i nodes) → CallFails mid new (op.Forget session (get_or nodes i d).handle) f → ForgetStops session old new nodes f
+forget_stopped session old mid new nodes i d f l g c name key start front spare last blocks places h =
+    let x : Node = get_or nodes i d in
+    let parts : nodes ++ spare ≡ take i nodes ++ (x ∷ (drop (i + 1) nodes ++ spare)) = ap (λ z. z ++ spare) (drop-at nodes i x d l refl) ∙ append_assoc (take i nodes) (x ∷ drop (i + 1) nodes) spare in
     let there = g name start front (x ∷ (drop (i + 1) nodes ++ spare)) last blocks places (subst (λ z. IsGrowing name session start old front z last blocks places) parts h) in
     forget_stops name session key start mid new front x (drop (i + 1) nodes ++ spare) last blocks places f there c
 
@@ -110,7 +116,7 @@ module _ (name : List ℕ → Address) (session : List ℕ) (old new : Shown) (p
 
 module _ (name : List ℕ → Address) (session : List ℕ) (old : Shown) (bytes : ℕ) (run above : List Node) (payload : List ℕ) (counts : payload ≡ to_be_bytes w64 bytes) (few : length run ≤ MOST_POINTERS) (short : length payload ≤ MOST_BYTES) where
   run_payload : (fp : List Place) (h : ℕ) (cs : List (List ℕ)) → IsRun above fp h cs bytes → payload ≡ to_be_bytes w64 (length (concat cs))
-  run_payload fp h cs r = counts ∙ ap (λ z. to_be_bytes w64 z) r.bytes
+  run_payload fp h cs r = counts ∙ ap (λ z. to_be_bytes w64 z) r.below
 
   written_run : (mid : Shown) (made : Node) → WritesNode name session old mid run payload made → (start : Shown) (fp : List Place) (h : ℕ) (cs : List (List ℕ)) → IsRun above fp h cs bytes → length (above ++ run) + 1 ≤ 4096 → IsGrown name session start old (above ++ run) (fp ++ places_at h cs)
       → IsGrowing name session start mid above run (made ∷ []) (flat_map (tree_below name) (fp ++ run_at h cs ∷ [])) (fp ++ run_at h cs ∷ [])
@@ -148,8 +154,13 @@ module _ (name : List ℕ → Address) (session : List ℕ) (old : Shown) (bytes
       fails_stops name session key start old new (above ++ run) [] [] (flat_map (tree_below name) (fp ++ rp)) (fp ++ rp) (write_above name session run payload) f g refl
       (λ b x told j refusal. refused_written name session start old new above run (flat_map (tree_below name) (fp ++ rp)) fp rp (run_at h cs) payload 0 r.counted is_block (λ s below there. run_planted name h cs s r.cut below there) few short room b x told j refusal key) c
 
-  pub run_unstarted : CloseStops name session old old bytes run above fault.NoMemory
-  run_unstarted key start fp h cs r room g = stops_quietly name session key start old (above ++ run) [] [] (flat_map (tree_below name) (fp ++ places_at h cs)) (fp ++ places_at h cs) fault.NoMemory tt g
+pub run_unstarted : (name : List ℕ → Address) (session : List ℕ) (old : Shown) (bytes : ℕ) (run above : List Node) → CloseStops name session old old bytes run above fault.NoMemory
+run_unstarted name session old bytes run above key start fp h cs r room g = stops_quietly name session key start old (above ++ run) [] [] (flat_map (tree_below name) (fp ++ places_at h cs)) (fp ++ places_at h cs) fault.NoMemory tt g
+
+pub eight_short : (payload : List ℕ) (bytes : ℕ) → payload ≡ to_be_bytes w64 bytes → length payload ≤ MOST_BYTES
+eight_short payload bytes e =
+    let eight : length payload ≡ 8 = ap (λ z. length z) e in
+    omega (arith, eight)
 
 -- ---- a condition of what comes next
 

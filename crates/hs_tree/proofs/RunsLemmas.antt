@@ -30,7 +30,7 @@ drop-front (x ∷ xs) ys = drop-front xs ys
 -- ---- runs
 
 -- with turns enough their number doesn't matter
-turns_enough : {A : Type 0} (t u n : ℕ) (xs : List A) → 0 < n → length xs ≤ t → length xs ≤ u → runs_in t n xs ≡ runs_in u n xs
+pub turns_enough : {A : Type 0} (t u n : ℕ) (xs : List A) → 0 < n → length xs ≤ t → length xs ≤ u → runs_in t n xs ≡ runs_in u n xs
 turns_enough t u n [] p h k = refl
 turns_enough zero u n (x ∷ xs) p h k = absurd (omega (arith, h))
 turns_enough (suc t) zero n (x ∷ xs) p h k = absurd (omega (arith, k))
@@ -109,3 +109,8 @@ span-0 = refl
 pub span-1 : span stored_cut 1 ≡ 4194304
 unfolding span
 span-1 = refl
+
+pub span-positive : (h : ℕ) → 0 < span stored_cut h
+unfolding span
+span-positive zero = omega arith
+span-positive (suc h) = let p : 0 < span stored_cut h = span-positive h in omega (arith, p)

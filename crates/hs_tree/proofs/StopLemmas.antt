@@ -65,7 +65,7 @@ quiet_cause key (fault.Refused told) q = absurd q
 quiet_cause key (fault.NotATree address) q = absurd q
 quiet_cause key fault.NoMemory q = tt
 
-if_some_all : (P : Began → Type 0) (o : Option Began) → ((b : Began) → P b) → IfSome o P
+pub if_some_all : (P : Began → Type 0) (o : Option Began) → ((b : Began) → P b) → IfSome o P
 if_some_all P None f = tt
 if_some_all P (Some b) f = f b
 

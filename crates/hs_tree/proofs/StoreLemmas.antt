@@ -14,13 +14,13 @@ use Rattle.hs_tree.specs.declared.grow.Node.{Node}
 
 -- ---- counts
 
-places-count : (h : ℕ) (cs : List (List ℕ)) → length (places_at h cs) ≡ length cs
+pub places-count : (h : ℕ) (cs : List (List ℕ)) → length (places_at h cs) ≡ length cs
 places-count h cs = length-map cs (λ c. record { height = h; bytes = c })
 
-places-last : (h : ℕ) (cs : List (List ℕ)) (c : List ℕ) → places_at h (cs ++ c ∷ []) ≡ places_at h cs ++ record { height = h; bytes = c } ∷ []
+pub places-last : (h : ℕ) (cs : List (List ℕ)) (c : List ℕ) → places_at h (cs ++ c ∷ []) ≡ places_at h cs ++ record { height = h; bytes = c } ∷ []
 places-last h cs c = map-append (λ (c : List ℕ). record { height = h; bytes = c }) cs (c ∷ [])
 
-no_length : {A : Type 0} (xs : List A) → length xs ≡ 0 → xs ≡ []
+pub no_length : {A : Type 0} (xs : List A) → length xs ≡ 0 → xs ≡ []
 no_length [] e = refl
 no_length (x ∷ xs) e = absurd (omega (arith, e))
 
@@ -53,7 +53,7 @@ module _ (name : List ℕ → Address) (session : List ℕ) (start : Shown) wher
       let pieces_are : length g.pieces ≡ 64 = sym g.lowers ∙ full in
       let bytes : 4194304 ≡ length (concat g.pieces) = let p : length (concat g.pieces) ≡ 65536 * length g.pieces = length-full 65536 g.pieces g.full_pieces in omega (arith, p, pieces_are) in
       let cut : runs (span stored_cut 0) (concat g.pieces) ≡ g.pieces = ap (λ n. runs n (concat g.pieces)) span-0 ∙ runs-concat 65536 g.pieces (omega arith) (full_cut 65536 g.pieces (omega arith) g.full_pieces) in
-      let run : IsRun upper (places_at 1 g.tops) 0 g.pieces 4194304 = record { counted = g.uppers ∙ sym (places-count 1 g.tops); cut = cut; bytes = bytes } in
+      let run : IsRun upper (places_at 1 g.tops) 0 g.pieces 4194304 = record { counted = g.uppers ∙ sym (places-count 1 g.tops); cut = cut; below = bytes } in
       let grown : IsGrown name session start mid after (places_at 1 g.tops ++ run_at 0 g.pieces ∷ []) = closes start (places_at 1 g.tops) 0 g.pieces run fit.room g.grown in
       let tops : List (List ℕ) = g.tops ++ concat g.pieces ∷ [] in
       let places : places_at 1 g.tops ++ run_at 0 g.pieces ∷ [] ≡ places_at 1 tops ++ places_at 0 [] = sym (places-last 1 g.tops (concat g.pieces)) ∙ sym (append-nil (places_at 1 tops)) in

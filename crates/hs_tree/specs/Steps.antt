@@ -46,7 +46,7 @@ Stops name session old new run f =
 pub record IsRun (front : List Node) (fp : List Place) (h : ℕ) (cs : List (List ℕ)) (bytes : ℕ) : Type 0 where
   pub counted : length front ≡ length fp
   pub cut : runs (span stored_cut h) (concat cs) ≡ cs
-  pub bytes : bytes ≡ length (concat cs)
+  pub below : bytes ≡ length (concat cs)
 
 -- a block is written above a run, and its node stands behind those above in place of the run
 abbrev pub ClosesRun : (List ℕ → Address) → List ℕ → Shown → Shown → ℕ → List Node → List Node → List Node → Type 0

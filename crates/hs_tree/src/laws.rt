@@ -1,6 +1,6 @@
 //! What follows of a file that is stored.
 ghost use Rattle.std.specs.List.{AllByRecursion};
-ghost use Rattle.std.specs.Prelude.{List, ℕ};
+ghost use Rattle.std.specs.Prelude.{◌≡◌, ◌<◌, ◌^◌, List, length, ℕ};
 ghost use Rattle.hs_asking.specs.Seats.{IsSane};
 ghost use Rattle.hs_asking.specs.Staying.{NeverDrops};
 ghost use Rattle.hs_limits.specs.declared.address.Address.{Address};
@@ -17,4 +17,10 @@ pub fn a_stored_file_stays()
         IsStored name s key file → IsStored name (run limits s events) key file }
     ensures stands { (name : List ℕ → Address) (s : Store) (key file : List ℕ) (stored : IsStored name s key file) →
         IsTreeAt s stored.root.address file }
+{}
+
+/// The blocks at an address and below it are the tree of at most one file of fewer than 2^64 bytes.
+pub fn a_tree_is_of_one_file()
+    ensures { (s : Store) (a : Address) (f g : List ℕ) → length f < 2 ^ 64 → length g < 2 ^ 64 →
+        IsTreeAt s a f → IsTreeAt s a g → f ≡ g }
 {}
