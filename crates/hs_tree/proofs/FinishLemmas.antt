@@ -44,19 +44,19 @@ cut-more n (c ∷ d ∷ cs) p h l =
     omega (arith, k, rest, e)
 
 module _ (name : List ℕ → Address) (session : List ℕ) (start old : Shown) (upper lower : List Node) (file : List ℕ) (g : IsGathered name session start old upper lower file) (fits : length file ≤ 67108864) where
-  counts : length file ≡ 4194304 * length g.tops + length (concat g.pieces)
-  counts =
+  pub counted_tops : length file ≡ 4194304 * length g.tops + length (concat g.pieces)
+  counted_tops =
       let t : length (concat g.tops) ≡ 4194304 * length g.tops = length-full 4194304 g.tops g.full_tops in
       let both : length (concat g.tops ++ concat g.pieces) ≡ length (concat g.tops) + length (concat g.pieces) = length-append (concat g.tops) (concat g.pieces) in
       let whole : length (concat g.tops ++ concat g.pieces) ≡ length file = ap (λ z. length z) g.whole in
       omega (arith, t, both, whole)
 
   pub few_tops : length upper ≤ 16
-  few_tops = let c = counts in let u : length upper ≡ length g.tops = g.uppers in omega (arith, c, u, fits)
+  few_tops = let c = counted_tops in let u : length upper ≡ length g.tops = g.uppers in omega (arith, c, u, fits)
 
   -- what is below the open pieces
   pub below_is : length file - length upper * 4194304 ≡ length (concat g.pieces)
-  below_is = let c = counts in let u : length upper ≡ length g.tops = g.uppers in omega (arith, c, u)
+  below_is = let c = counted_tops in let u : length upper ≡ length g.tops = g.uppers in omega (arith, c, u)
 
   -- a file of one piece
   pub alone : (n : Node) → upper ≡ [] → lower ≡ n ∷ [] → HasTop name session start old n file
@@ -140,7 +140,7 @@ module _ (name : List ℕ → Address) (session : List ℕ) (start old : Shown) 
       pub third : (new : Shown) (n : Node) (last : List Node) → IsGrown name session start new last ([] ++ run_at 1 tops ∷ []) → last ≡ n ∷ [] → 2 ≤ length after → HasTop name session start new n file
       third new n last there one several =
           let u : length upper ≡ length g.tops = g.uppers in
-          let c = counts in
+          let c = counted_tops in
           let some : 0 < length (concat g.pieces) = cut-some 65536 g.pieces (omega arith) is_cut g.some in
           let level : 2 ≡ height stored_cut (length file) = sym (height-2 (length file) (omega (arith, c, u, counted, several, some))) in
           let file_is : concat tops ≡ file = whole_tops in

@@ -14,3 +14,5 @@ pub mod LawLemmas
 pub mod GatherLemmas
 pub mod OneFileLemmas
 pub mod NextLemmas
+pub mod FileLemmas
+pub mod TopLemmas
