@@ -1,9 +1,9 @@
 -- The top of a gathered file, from what closing its runs does.
-use Rattle.std.proofs.Common.{◌≡◌, ◌⊎◌, ℕ, ◌+◌, ◌*◌, ◌-◌, ◌<◌, ◌≤◌, List, [], ◌∷◌, ◌++◌, zero, suc, refl, sym, ap, ◌∙◌, subst, length, get_or, arith, append-nil, length-append}
+use Rattle.std.proofs.Common.{◌≡◌, ◌⊎◌, ℕ, ◌+◌, ◌*◌, ◌-◌, ◌<◌, ◌≤◌, List, [], ◌∷◌, ◌++◌, zero, suc, refl, sym, ap, ◌∙◌, subst, length, get_or, arith, tests, append-nil, length-append, Bool, true, false, ◌==◌}
 use Rattle.std.specs.List.{concat}
 use Rattle.hs_asking.specs.Shown.{Shown}
 use Rattle.hs_limits.specs.declared.address.Address.{Address}
-use Rattle.hs_tree.proofs.FinishLemmas.{alone, below_is, few_tops, grown_tops, last_run, second, third, top_run, tops}
+use Rattle.hs_tree.proofs.FinishLemmas.{alone, below_is, counted_tops, few_tops, grown_tops, last_run, second, third, top_run, tops}
 use Rattle.hs_tree.proofs.PartLemmas.{grown_named}
 use Rattle.hs_tree.specs.Growing.{HasTop, IsGrown, IsNamedBy, IsStopped, Place, places_at, run_at}
 use Rattle.hs_tree.specs.Steps.{CloseStops, ClosesRun, IsRun}
@@ -11,10 +11,16 @@ use Rattle.hs_tree.specs.Storing.{IsGathered, IsWhole}
 use Rattle.hs_tree.specs.declared.fault.TreeFault.{TreeFault}
 use Rattle.hs_tree.specs.declared.grow.Node.{Node}
 
-pub one_is : (xs : List Node) (d : Node) → length xs ≡ 1 → xs ≡ get_or xs 0 d ∷ []
-one_is [] d e = absurd (omega (arith, e))
-one_is (x ∷ []) d e = refl
-one_is (x ∷ y ∷ xs) d e = absurd (omega (arith, e))
+pub one_is : (xs : List Node) (n : Node) → length xs ≡ 1 → n ≡ get_or xs 0 n → xs ≡ n ∷ []
+one_is [] n e k = absurd (omega (arith, e))
+one_is (x ∷ []) n e k = ap (λ z. z ∷ []) (sym k)
+one_is (x ∷ y ∷ xs) n e k = absurd (omega (arith, e))
+
+pub zero_from : (n : ℕ) → (n == 0) ≡ true → n ≡ 0
+zero_from n h = grind (arith, tests, h)
+
+pub not_zero : (n : ℕ) → (n == 0) ≡ false → n ≡ 0 → ⊥
+not_zero n h e = let k : (n == 0) ≡ true = grind (arith, tests, e) in cc (h, k)
 
 -- of every file that was gathered
 abbrev pub Ends : (List ℕ → Address) → List ℕ → Shown → Shown → List Node → List Node → ℕ → Node → Type 0
@@ -43,8 +49,8 @@ module _ (name : List ℕ → Address) (session : List ℕ) (old : Shown) (upper
   pub whole_lower : length lower ≤ 64
   whole_lower = let l : length lower ≡ length whole.gathered.pieces = whole.gathered.lowers in let f : length whole.gathered.pieces ≤ 64 = whole.gathered.few in omega (arith, l, f)
 
-  pub ends_alone : (d : Node) → upper ≡ [] → length lower ≡ 1 → Ends name session old old upper lower bytes (get_or lower 0 d)
-  ends_alone d none one start file g e = alone name session start old upper lower file g (fits file e) (get_or lower 0 d) none (one_is lower d one)
+  pub ends_alone : (n : Node) → upper ≡ [] → length lower ≡ 1 → n ≡ get_or lower 0 n → Ends name session old old upper lower bytes n
+  ends_alone n none one at start file g e = alone name session start old upper lower file g (fits file e) n none (one_is lower n one at)
 
   module _ (more : length upper ≡ 0 → length lower ≡ 1 → ⊥) (below : ℕ) (is : below ≡ bytes - length upper * 4194304) where
     run_is : (start : Shown) (file : List ℕ) (g : IsGathered name session start old upper lower file) → bytes ≡ length file → IsRun upper (places_at 1 g.tops) 0 g.pieces below
@@ -63,8 +69,8 @@ module _ (name : List ℕ → Address) (session : List ℕ) (old : Shown) (upper
       grown : (start : Shown) (file : List ℕ) (g : IsGathered name session start old upper lower file) → bytes ≡ length file → IsGrown name session start mid after (places_at 1 g.tops ++ run_at 0 g.pieces ∷ [])
       grown start file g e = closes start (places_at 1 g.tops) 0 g.pieces (run_is start file g e) room g.grown
 
-      pub ends_second : (d : Node) → length after ≡ 1 → Ends name session old mid upper lower bytes (get_or after 0 d)
-      ends_second d single start file g e = second name session start old upper lower file g (fits file e) more mid after (grown start file g e) one (get_or after 0 d) (one_is after d single)
+      pub ends_second : (n : Node) → length after ≡ 1 → n ≡ get_or after 0 n → Ends name session old mid upper lower bytes n
+      ends_second n single at start file g e = second name session start old upper lower file g (fits file e) more mid after (grown start file g e) one n (one_is after n single at)
 
       pub few_after : length after ≤ 64
       few_after = let a = whole_few in omega (arith, a, one)
@@ -84,12 +90,12 @@ module _ (name : List ℕ → Address) (session : List ℕ) (old : Shown) (upper
       second_stops none n new f h key start file g e =
           (subst (λ z. CloseStops name session mid new bytes after z f) n h) key start [] 1 (g.tops ++ concat g.pieces ∷ []) (top_is start file g e) room_after (grown_tops name session start old upper lower file g (fits file e) more mid after (grown start file g e) one)
 
-      pub ends_third : (none : List Node) → none ≡ [] → (new : Shown) (last : List Node) (d : Node) → ClosesRun name session mid new bytes after none last → length last ≡ length none + 1 → (length after ≡ 1 → ⊥) → Ends name session old new upper lower bytes (get_or last 0 d)
-      ends_third none n new last d h single several start file g e =
+      pub ends_third : (none : List Node) → none ≡ [] → (new : Shown) (last : List Node) (top : Node) → ClosesRun name session mid new bytes after none last → length last ≡ length none + 1 → (length after ≡ 1 → ⊥) → top ≡ get_or last 0 top → Ends name session old new upper lower bytes top
+      ends_third none n new last top h single several at start file g e =
           let closes : ClosesRun name session mid new bytes after [] last = subst (λ z. ClosesRun name session mid new bytes after z last) n h in
           let there = closes start [] 1 (g.tops ++ concat g.pieces ∷ []) (top_is start file g e) room_after (grown_tops name session start old upper lower file g (fits file e) more mid after (grown start file g e) one) in
           let empty : length none ≡ 0 = ap (λ z. length z) n in
-          third name session start old upper lower file g (fits file e) more mid after (grown start file g e) one new (get_or last 0 d) last there (one_is last d (omega (arith, single, empty))) (two (length after) (omega (arith, one)) several)
+          third name session start old upper lower file g (fits file e) more mid after (grown start file g e) one new top last there (one_is last top (omega (arith, single, empty)) at) (two (length after) (omega (arith, one)) several)
         where
           two : (n : ℕ) → 0 < n → (n ≡ 1 → ⊥) → 2 ≤ n
           two zero p q = absurd (omega (arith, p))
