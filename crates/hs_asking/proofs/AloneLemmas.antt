@@ -1,12 +1,12 @@
 -- Each operation of a client alone, with what shards do around it.
-use Rattle.std.proofs.Common.{◌≡◌, ◌⊎◌, inl, inr, ℕ, ◌+◌, ◌<◌, ◌≤◌, List, [], ◌∷◌, ◌++◌, Option, Some, None, refl, sym, ap, ◌∙◌, subst, arith, length, map, unwrap_or}
-use Rattle.std.specs.List.{AllByRecursion, range_with_len}
+use Rattle.std.proofs.Common.{◌≡◌, inl, inr, ℕ, ◌+◌, ◌<◌, ◌≤◌, List, [], ◌∷◌, ◌++◌, Option, Some, refl, sym, ap, ◌∙◌, subst, length, map, unwrap_or}
+use Rattle.std.specs.List.{AllByRecursion}
 use Rattle.std.specs.BTreeMap.{is_at}
 use Rattle.std.specs.Map.{lookup}
 use Rattle.std.specs.Prelude.{find}
-use Rattle.hs_asking.proofs.SeatLemmas.{HasMore, IsUsable, WriteComes, judge_sane, more_same, put-blocks, seat_drift, seat_kept, write_comes}
+use Rattle.hs_asking.proofs.SeatLemmas.{IsUsable, WriteComes, more_same, seat_drift, seat_kept, write_comes}
 use Rattle.hs_asking.proofs.StayLemmas.{Drifted, SameWhereBoth, drift, kept_whole, stays_where_both, stays-trans}
-use Rattle.hs_asking.proofs.UseLemmas.{ForgetComes, LeavesRest, LookComes, OpenComes, ReadComes, RootComes, forget_comes, look_comes, open_comes, read_comes, root_comes}
+use Rattle.hs_asking.proofs.UseLemmas.{LookComes, RootComes, forget_comes, look_comes, open_comes, read_comes, root_comes}
 use Rattle.hs_asking.proofs.SeatLemmas.WriteComes.{done as write_done, refused as write_refused}
 use Rattle.hs_asking.proofs.UseLemmas.LookComes.{done as look_done, none as look_none}
 use Rattle.hs_asking.proofs.UseLemmas.RootComes.{done as root_done, refused as root_refused}
@@ -21,15 +21,13 @@ use Rattle.hs_limits.specs.declared.address.Address.{Address}
 use Rattle.hs_limits.specs.declared.address.Held.{Held}
 use Rattle.hs_limits.specs.declared.limits.Limits.{Limits}
 use Rattle.hs_limits.specs.declared.spelling.TheConstants.{MOST_BYTES, MOST_POINTERS}
-use Rattle.hs_model.proofs.Members.{Member, contains_from_member, member-append_left, member-append_right}
+use Rattle.hs_model.proofs.Members.{Member, member-append_left, member-append_right}
 use Rattle.hs_model.specs.Judge.{address_of, judge, written as written_block}
 use Rattle.hs_model.specs.Judge as judging
-use Rattle.hs_model.specs.Store.{Root, Session, Store, address_cmp, block_at, held_in, helds_of, is_retained, retained_at, session_at}
+use Rattle.hs_model.specs.Store.{Session, Store, address_cmp, block_at, held_in, helds_of, is_retained, retained_at}
 use Rattle.hs_model.specs.declared.op.Op.{Op}
 use Rattle.hs_model.specs.declared.op.Op.TheVariants as op
 use Rattle.hs_model.specs.declared.reply.Reply.{Reply}
-use Rattle.hs_model.specs.declared.reply.Reply.TheVariants as reply
-use Rattle.hs_model.specs.declared.store.StoredBlock.{StoredBlock}
 
 same_roots : (s u : Store) → u.roots ≡ s.roots → (key : List ℕ) → retained_at u key ≡ retained_at s key
 same_roots s u e key = ap (λ x. find (is_retained key) x) e

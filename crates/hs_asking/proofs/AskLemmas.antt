@@ -1,22 +1,22 @@
 -- An ask whose journal is lawful is judged on the plain store.
 use Rattle.std.proofs.Common.{◌≡◌, ℕ, List, [], ◌∷◌, ◌++◌, Option, Some, None, refl, sym, ap, ◌∙◌, subst}
 use Rattle.std.specs.List.{AllByRecursion}
-use Rattle.hs_journal.specs.Events.{HasAnswer, IsAnswered, addressed, client_op, event_at, events_of, line_event, store_by, with_event}
+use Rattle.hs_journal.specs.Events.{HasAnswer, IsAnswered, addressed, client_op, event_at, events_of, store_by, with_event}
 use Rattle.hs_journal.specs.declared.entry.JournalEntry.{JournalEntry}
 use Rattle.hs_journal.specs.declared.entry.Who.TheVariants as who
 use Rattle.hs_limits.specs.declared.address.Address.{Address}
 use Rattle.hs_limits.specs.declared.limits.Limits.{Limits}
 use Rattle.hs_model.specs.Judge.{judge}
 use Rattle.hs_model.specs.Run.{Event, IsLegal, asks, enters, run, step, sweeps}
-use Rattle.hs_model.specs.Store.{Session, Store}
+use Rattle.hs_model.specs.Store.{Store}
 use Rattle.hs_model.specs.declared.command.Command.{Command}
 use Rattle.hs_model.specs.declared.op.Op.{Op}
 use Rattle.hs_model.specs.declared.reply.Reply.{Reply}
 use Rattle.hs_asking.proofs.EventLemmas.{FindsTheSame, addressed-sessions, answered_left, answered_right, events-append, events-same, inner_events, legal_left, legal_right, line_event-told, run-append}
 use Rattle.hs_asking.specs.Asked.{HasAsked, IsOfAnother, IsOfNoLine}
-use Rattle.hs_asking.specs.Judged.{Drifts, IsInner, IsJudged}
+use Rattle.hs_asking.specs.Judged.{IsInner, IsJudged}
 use Rattle.hs_asking.specs.Lawful.{AreAnswersOf, IsForALine}
-use Rattle.hs_asking.specs.Shown.{Began, Shown, events_since, store_now}
+use Rattle.hs_asking.specs.Shown.{Began, Shown, store_now}
 use Rattle.hs_asking.specs.Telling.{MayBeTold}
 
 -- what shards do leaves the sessions

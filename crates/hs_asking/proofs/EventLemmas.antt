@@ -1,5 +1,5 @@
 -- Events and answers of joined journals, and of journals whose other lines ask for something else.
-use Rattle.std.proofs.Common.{◌≡◌, ℕ, List, [], ◌∷◌, ◌++◌, Option, Some, None, false, true, refl, sym, ap, ◌∙◌, subst}
+use Rattle.std.proofs.Common.{◌≡◌, ℕ, List, [], ◌∷◌, ◌++◌, Option, Some, None, false, true, refl, ap, ◌∙◌, subst}
 use Rattle.std.specs.List.{AllByRecursion}
 use Rattle.hs_journal.specs.Events.{HasAnswer, IsAnswered, addressed, client_op, event_at, events_of, line_event, shard_event, store_by, with_event}
 use Rattle.hs_journal.specs.declared.entry.JournalEntry.{JournalEntry}
@@ -7,7 +7,7 @@ use Rattle.hs_journal.specs.declared.entry.Who.{Who}
 use Rattle.hs_journal.specs.declared.entry.Who.TheVariants as who
 use Rattle.hs_limits.specs.declared.address.Address.{Address}
 use Rattle.hs_limits.specs.declared.limits.Limits.{Limits}
-use Rattle.hs_model.specs.Run.{Event, IsAllowed, IsLegal, asks, enters, run, step, sweeps}
+use Rattle.hs_model.specs.Run.{Event, IsLegal, asks, run, step}
 use Rattle.hs_model.specs.Store.{Session, Store, with_sessions}
 use Rattle.hs_model.specs.declared.command.Command.{Command}
 use Rattle.hs_model.specs.declared.deed.Deed.{Deed}

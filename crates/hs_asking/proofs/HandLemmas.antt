@@ -1,6 +1,5 @@
 -- Handles whose numbers ascend, and sessions by name.
-use Rattle.std.proofs.Common.{◌≡◌, ◌≢◌, ℕ, ◌+◌, ◌<◌, ◌≤◌, List, [], ◌∷◌, ◌++◌, Option, Some, None, Bool, true, false, cond, refl, sym, ap, ◌∙◌, subst, arith, length, map, Less, Equal, Greater, Ordering, is_eq, inl, inr, append-nil, append_assoc}
-use Rattle.std.proofs.lemmas.Grind.{common_steps}
+use Rattle.std.proofs.Common.{◌≡◌, ℕ, ◌+◌, ◌<◌, ◌≤◌, List, [], ◌∷◌, ◌++◌, Some, Bool, true, false, refl, sym, ap, ◌∙◌, subst, arith, length, Less, Equal, Greater, Ordering, is_eq, inl, inr, append-nil, append_assoc}
 use Rattle.std.specs.Ordering.{match_ordering, nat_cmp}
 use Rattle.std.specs.BTreeMap.{insert_entry, is_at}
 use Rattle.std.specs.Cmp.{nat_cmp_is}
@@ -8,7 +7,7 @@ use Rattle.std.specs.List.{AllByRecursion}
 use Rattle.std.specs.Map.{lookup, remove_entry, set_value}
 use Rattle.hs_limits.specs.declared.address.Held.{Held}
 use Rattle.hs_model.proofs.Members.{Member}
-use Rattle.hs_model.specs.Store.{Session, holding, holding_all}
+use Rattle.hs_model.specs.Store.{holding_all}
 use Rattle.hs_asking.specs.Seats.{Ascend, numbered}
 
 -- ---- numbers

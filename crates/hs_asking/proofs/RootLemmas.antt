@@ -1,16 +1,16 @@
 -- What a root keeps stays, as long as its key is not dropped.
-use Rattle.std.proofs.Common.{◌≡◌, ◌≢◌, ◌⊎◌, inl, inr, ℕ, ◌+◌, List, [], ◌∷◌, ◌++◌, Option, Some, None, Bool, true, false, cond, refl, sym, ap, ◌∙◌, subst, filter, is_none, bytes_eq, ◌&&◌, if◌then◌else◌, slice_index, slice_set}
+use Rattle.std.proofs.Common.{◌≡◌, ℕ, ◌+◌, List, [], ◌∷◌, Option, Some, None, Bool, true, false, refl, sym, ap, ◌∙◌, subst, is_none, bytes_eq, ◌&&◌, if◌then◌else◌, slice_index, slice_set}
 use Rattle.std.proofs.lemmas.Bool.{and_parts}
 use Rattle.std.proofs.lemmas.Slice.Eq.{bytes_eq-Decides}
 use Rattle.std.specs.List.{AllByRecursion}
 use Rattle.std.specs.Option.{option_map}
 use Rattle.std.specs.Ordering.{is_gt}
 use Rattle.std.specs.Prelude.{find}
-use Rattle.hs_asking.proofs.SaneLemmas.{judge_more, step_more, step_sane}
-use Rattle.hs_asking.proofs.SeatLemmas.{HasMore, put-roots}
+use Rattle.hs_asking.proofs.SaneLemmas.{step_more, step_sane}
+use Rattle.hs_asking.proofs.SeatLemmas.{put-roots}
 use Rattle.hs_asking.proofs.StayLemmas.{find-filter, kept_whole, retained_stays, stays-refl, stays-trans, stays_where_both}
 use Rattle.hs_asking.specs.Seats.{IsSane}
-use Rattle.hs_asking.specs.Staying.{IsKept, NeverDrops, NotDropping, Stays, by_root}
+use Rattle.hs_asking.specs.Staying.{NeverDrops, NotDropping, Stays, by_root}
 use Rattle.hs_laws.proofs.ValidLemmas.{valid_from_is}
 use Rattle.hs_limits.specs.declared.address.Address.{Address}
 use Rattle.hs_limits.specs.declared.limits.Limits.{Limits}
@@ -18,7 +18,7 @@ use Rattle.hs_model.proofs.JudgeLemmas.{judge_granted, judge_refused}
 use Rattle.hs_model.specs.Inner.{enter, stays}
 use Rattle.hs_model.specs.Judge.{address_of, drop_root, given_address, granted, judge, refusals, roots_with, written}
 use Rattle.hs_model.specs.Refusals.{first}
-use Rattle.hs_model.specs.Run.{Event, IsAllowed, IsLegal, asks, enters, run, step, sweeps}
+use Rattle.hs_model.specs.Run.{Event, IsLegal, asks, enters, run, step, sweeps}
 use Rattle.hs_model.specs.Store.{Root, Session, Store, epoch_at, holding_all, is_retained, place_root, put_session, retained_at, root_cmp, root_epoch, session_at, with_block, without_first}
 use Rattle.hs_model.specs.declared.op.Op.{Op}
 use Rattle.hs_model.specs.declared.op.Op.TheVariants as op

@@ -1,13 +1,12 @@
 -- A store stays one of blocks, each at an address of its own, whatever happens to it.
-use Rattle.std.proofs.Common.{◌≡◌, ◌⊎◌, inl, inr, ℕ, ◌≤◌, List, [], ◌∷◌, Option, Some, None, refl, sym, ap, ◌∙◌, subst, arith, tests, length, map, nat_lt, Bool, true, false, slice_index}
+use Rattle.std.proofs.Common.{◌≡◌, inl, inr, ℕ, ◌≤◌, List, [], ◌∷◌, Option, Some, None, refl, sym, ap, subst, arith, tests, length, nat_lt, Bool, true, false, slice_index}
 use Rattle.std.proofs.lemmas.List.{length-map}
-use Rattle.hs_asking.proofs.SeatLemmas.{HasMore, judge_sane, more_same, more_with, put-blocks}
-use Rattle.hs_asking.proofs.StayLemmas.{SameWhereBoth}
-use Rattle.hs_asking.specs.Lawful.{AreAnswersOf, AreBlocks}
+use Rattle.hs_asking.proofs.SeatLemmas.{HasMore, more_same, more_with, put-blocks}
+use Rattle.hs_asking.specs.Lawful.{AreAnswersOf}
 use Rattle.hs_asking.specs.Seats.{IsSane}
 use Rattle.hs_asking.specs.Shown.{Began, Shown, events_since, store_now}
 use Rattle.hs_laws.proofs.DistinctLemmas.{step-distinct}
-use Rattle.hs_laws.proofs.JudgeKeeps.{AllNone, all_none, step_valid}
+use Rattle.hs_laws.proofs.JudgeKeeps.{all_none, step_valid}
 use Rattle.hs_laws.proofs.SweepLemmas.{stays_spared}
 use Rattle.hs_laws.proofs.ValidLemmas.{is_from_valid, valid_from_is}
 use Rattle.hs_laws.specs.Distinct.{HasDistinctAddresses}
@@ -16,10 +15,10 @@ use Rattle.hs_limits.specs.declared.address.Address.{Address}
 use Rattle.hs_limits.specs.declared.limits.Limits.{Limits}
 use Rattle.hs_limits.specs.declared.spelling.TheConstants.{MOST_BYTES, MOST_POINTERS}
 use Rattle.hs_model.proofs.JudgeLemmas.{judge_granted, judge_refused}
-use Rattle.hs_model.specs.Judge.{address_of, given_address, granted, judge, refusals, wrote, written}
+use Rattle.hs_model.specs.Judge.{address_of, given_address, granted, judge, refusals, written}
 use Rattle.hs_model.specs.Refusals.{first, refused_when}
 use Rattle.hs_model.specs.Run.{Event, IsAllowed, IsLegal, asks, enters, run, step, sweeps}
-use Rattle.hs_model.specs.Store.{Store, block_at, block_of, blocks_with, epoch_at, with_block}
+use Rattle.hs_model.specs.Store.{Store, block_at, epoch_at, with_block}
 use Rattle.hs_model.specs.declared.op.Op.{Op}
 use Rattle.hs_model.specs.declared.op.Op.TheVariants as op
 use Rattle.hs_model.specs.declared.reply.Reply.{Reply}

@@ -1,16 +1,13 @@
 -- What is judged of a client's operations does to its seat.
-use Rattle.std.proofs.Common.{◌≡◌, ◌≢◌, ◌⊎◌, inl, inr, ℕ, ◌+◌, ◌<◌, ◌≤◌, List, [], ◌∷◌, ◌++◌, Option, Some, None, Bool, true, false, cond, refl, sym, ap, ◌∙◌, subst, arith, tests, length, map, is_none, is_some, nat_le, nat_lt, slice_index, mod-lt, unwrap_or, Less, Equal, Greater}
-use Rattle.std.proofs.lemmas.Grind.{common_steps}
+use Rattle.std.proofs.Common.{◌≡◌, ◌⊎◌, inl, inr, ℕ, ◌+◌, ◌≤◌, List, [], ◌∷◌, ◌++◌, Option, Some, None, Bool, true, false, refl, sym, ap, ◌∙◌, subst, arith, tests, length, map, is_none, is_some, nat_lt, slice_index, mod-lt}
 use Rattle.std.proofs.lemmas.List.{length-map}
-use Rattle.std.proofs.lemmas.Map.Text.{is_eq-slice_cmp}
 use Rattle.std.specs.BTreeMap.{insert_entry, is_at}
-use Rattle.std.specs.List.{AllByRecursion, range_with_len}
-use Rattle.std.specs.Map.{lookup, remove_entry, set_value}
+use Rattle.std.specs.List.{AllByRecursion}
+use Rattle.std.specs.Map.{lookup}
 use Rattle.std.specs.Option.{option_map}
-use Rattle.std.specs.Ordering.{nat_cmp}
 use Rattle.hs_laws.proofs.DistinctLemmas.{step-distinct}
 use Rattle.hs_laws.proofs.InsertLemmas.{lookup-insert_other, lookup-insert_same}
-use Rattle.hs_laws.proofs.JudgeKeeps.{all_none, judge_valid}
+use Rattle.hs_laws.proofs.JudgeKeeps.{judge_valid}
 use Rattle.hs_laws.proofs.ValidLemmas.{is_from_valid, valid_from_is}
 use Rattle.hs_laws.proofs.WriteAnswers.{dup_stays, dup_there, new_there}
 use Rattle.hs_laws.specs.Written.{IsBlockAt}
@@ -19,23 +16,23 @@ use Rattle.hs_limits.specs.declared.address.Address.{Address}
 use Rattle.hs_limits.specs.declared.address.Held.{Held}
 use Rattle.hs_limits.specs.declared.limits.Limits.{Limits}
 use Rattle.hs_limits.specs.declared.spelling.TheConstants.{MOST_BYTES, MOST_POINTERS}
-use Rattle.hs_model.proofs.JudgeLemmas.{judge_forgot, judge_looked, judge_opened, judge_read, judge_refused, judge_rooted, judge_wrote, look_refused, root_refused}
-use Rattle.hs_model.proofs.Members.{Member, at_is_same, same-refl, same_from}
-use Rattle.hs_model.proofs.RefusalLemmas.{held_of_open, look_key, read_of_open, root_used, write_of_block, write_of_open}
-use Rattle.hs_model.specs.Judge.{address_of, granted, given_address, held_or, judge, judged, kept_address, nothing, pointers_at, refusals, refused as refused_by, wrote, written, written_reply}
-use Rattle.hs_model.specs.Reach.{is_same, pointers_of}
-use Rattle.hs_model.specs.Refusals.{collision, first, handles_full, handles_full_in, is_block, is_other, key_taken, no_handle, no_handle_in, no_key, no_session, no_such_handle, refused_when, roots_full, shard_full, stale, stale_handle, stale_in, too_long, too_many}
+use Rattle.hs_model.proofs.JudgeLemmas.{judge_refused, judge_wrote}
+use Rattle.hs_model.proofs.Members.{Member, same_from}
+use Rattle.hs_model.proofs.RefusalLemmas.{write_of_block, write_of_open}
+use Rattle.hs_model.specs.Judge.{address_of, judge, refusals, refused as refused_by, wrote, written, written_reply}
+use Rattle.hs_model.specs.Reach.{is_same}
+use Rattle.hs_model.specs.Refusals.{collision, first, handles_full, handles_full_in, no_handle, no_handle_in, no_session, no_such_handle, refused_when, shard_full, stale, stale_handle, stale_in, too_long, too_many}
 use Rattle.hs_model.specs.Run.{asks}
-use Rattle.hs_model.specs.Store.{Root, Session, Store, address_cmp, block_at, block_of, blocks_in, blocks_with, epoch_at, held_at, held_in, helds_of, hold_all, holding_all, next_of, put_session, retained_at, root_epoch, session_at, shard_at, text_cmp, with_block}
+use Rattle.hs_model.specs.Store.{Session, Store, address_cmp, block_at, block_of, blocks_with, epoch_at, held_at, held_in, hold_all, holding_all, next_of, put_session, session_at, shard_at, text_cmp, with_block}
 use Rattle.hs_model.specs.declared.op.Op.{Op}
 use Rattle.hs_model.specs.declared.op.Op.TheVariants as op
 use Rattle.hs_model.specs.declared.reply.Reply.{Reply}
 use Rattle.hs_model.specs.declared.reply.Reply.TheVariants as reply
 use Rattle.hs_model.specs.declared.store.StoredBlock.{StoredBlock}
-use Rattle.hs_asking.proofs.HandLemmas.{all_append, all_left, all_more, all_right, ascend_last, ascend_numbered, ascend_without, find_member, find_in, holding-numbered, lookup_inserted, lookup_set, remove_in}
-use Rattle.hs_asking.proofs.StayLemmas.{Drifted, SameWhereBoth, kept_whole, stays_where_both}
-use Rattle.hs_asking.specs.Seats.{Ascend, HasSeat, IsSane, numbered}
-use Rattle.hs_asking.specs.Staying.{IsKept, Stays, by_handle, by_root}
+use Rattle.hs_asking.proofs.HandLemmas.{all_append, ascend_last, find_member, holding-numbered, lookup_set}
+use Rattle.hs_asking.proofs.StayLemmas.{Drifted, SameWhereBoth}
+use Rattle.hs_asking.specs.Seats.{HasSeat, IsSane}
+use Rattle.hs_asking.specs.Staying.{IsKept, by_handle}
 
 -- ---- sessions that are put back
 

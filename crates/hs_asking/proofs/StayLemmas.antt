@@ -1,17 +1,16 @@
 -- What shards do while shard 0 stays in its epoch, and what then stays.
-use Rattle.std.proofs.Common.{◌≡◌, ◌≢◌, ℕ, ◌+◌, ◌<◌, ◌≤◌, inl, inr, List, [], ◌∷◌, Option, Some, None, Bool, true, false, cond, IsSome, is_some, is_none, ◌&&◌, refl, sym, ap, ◌∙◌, subst, arith, length, filter, slice_index, slice_set, mod-lt, Contains}
+use Rattle.std.proofs.Common.{◌≡◌, ℕ, ◌+◌, ◌<◌, ◌≤◌, inl, inr, List, [], ◌∷◌, Option, Some, None, Bool, true, false, IsSome, is_none, refl, sym, ap, ◌∙◌, subst, arith, length, filter, slice_index, slice_set, mod-lt, Contains}
 use Rattle.std.proofs.lemmas.Bool.{and_parts}
 use Rattle.std.proofs.lemmas.List.{get_or-set_other, length-set}
 use Rattle.std.specs.BTreeMap.{is_at}
 use Rattle.std.specs.List.{AllByRecursion}
-use Rattle.std.specs.Map.{lookup}
 use Rattle.std.specs.Ordering.{nat_cmp}
 use Rattle.std.specs.Prelude.{find}
 use Rattle.hs_laws.proofs.DistinctLemmas.{step-distinct}
 use Rattle.hs_laws.proofs.HoldKeeps.{session_entry}
 use Rattle.hs_laws.proofs.InsertLemmas.{entry_from_lookup}
 use Rattle.hs_laws.proofs.JudgeKeeps.{step_valid}
-use Rattle.hs_laws.proofs.RootKeeps.{found_root, retained_is}
+use Rattle.hs_laws.proofs.RootKeeps.{retained_is}
 use Rattle.hs_laws.proofs.RunLemmas.{held_whole, root_whole}
 use Rattle.hs_laws.proofs.SweepLemmas.{stays_spared}
 use Rattle.hs_laws.proofs.ValidLemmas.{Valid, held_from_in, is_from_valid, valid_from_is}
@@ -22,13 +21,12 @@ use Rattle.hs_limits.specs.declared.address.Address.{Address}
 use Rattle.hs_limits.specs.declared.address.Held.{Held}
 use Rattle.hs_limits.specs.declared.limits.Limits.{Limits}
 use Rattle.hs_model.proofs.Members.{Member, contains_from_member, member_from_contains}
-use Rattle.hs_model.specs.Inner.{enter, stays, sweep}
+use Rattle.hs_model.specs.Inner.{stays}
 use Rattle.hs_model.specs.Reach.{IsReached, Leads, pointers_of}
 use Rattle.hs_model.specs.Run.{Event, IsAllowed, IsLegal, asks, enters, run, step, sweeps}
-use Rattle.hs_model.specs.Store.{Root, Session, Store, address_cmp, block_at, epoch_at, held_at, held_in, is_retained, retained_at, session_at, shard_at, text_cmp}
+use Rattle.hs_model.specs.Store.{Root, Session, Store, block_at, epoch_at, held_at, held_in, is_retained, retained_at, session_at, shard_at}
 use Rattle.hs_model.specs.declared.store.StoredBlock.{StoredBlock}
 use Rattle.hs_asking.specs.Judged.{Drifts, IsInner}
-use Rattle.hs_asking.specs.Lawful.{AreBlocks}
 use Rattle.hs_asking.specs.Seats.{IsSane}
 use Rattle.hs_asking.specs.Staying.{IsKept, Stays, by_handle, by_root}
 

@@ -1,40 +1,37 @@
 -- What reading, looking up, putting a root, forgetting and opening do to a client's seat.
-use Rattle.std.proofs.Common.{◌≡◌, ◌≢◌, ◌⊎◌, inl, inr, ℕ, ◌+◌, ◌-◌, ◌<◌, ◌≤◌, List, [], ◌∷◌, ◌++◌, Option, Some, None, Bool, true, false, cond, refl, sym, ap, ◌∙◌, subst, arith, tests, length, map, is_none, is_some, nat_le, nat_lt, not, slice_index, mod-lt, unwrap_or, bytes_eq, IsSome, Less, Equal, Greater, if◌then◌else◌, ◌&&◌}
-use Rattle.std.proofs.lemmas.Bool.{and_parts}
+use Rattle.std.proofs.Common.{◌≡◌, ◌⊎◌, inl, inr, ℕ, ◌+◌, ◌-◌, ◌<◌, ◌≤◌, List, [], ◌∷◌, ◌++◌, Option, Some, None, Bool, true, false, refl, sym, ap, ◌∙◌, subst, arith, tests, length, map, is_none, is_some, nat_le, not, slice_index, mod-lt, unwrap_or, bytes_eq, IsSome, Less, Equal, Greater, if◌then◌else◌}
 use Rattle.std.proofs.lemmas.List.{length-map}
 use Rattle.std.proofs.lemmas.Slice.Eq.{bytes_eq-Decides}
 use Rattle.std.proofs.lemmas.Map.Text.{is_eq-slice_cmp}
-use Rattle.std.specs.BTreeMap.{insert_entry, is_at}
-use Rattle.std.specs.Cmp.Lexicographic.{slice_cmp}
+use Rattle.std.specs.BTreeMap.{is_at}
 use Rattle.std.specs.List.{AllByRecursion, range_with_len}
-use Rattle.std.specs.Map.{lookup, remove_entry, set_value}
+use Rattle.std.specs.Map.{lookup, remove_entry}
 use Rattle.std.specs.Option.{option_map}
 use Rattle.std.specs.Ordering.{is_eq, is_gt, nat_cmp}
 use Rattle.std.specs.Prelude.{find}
 use Rattle.std.specs.declared.cmp.Ordering.{Ordering}
 use Rattle.hs_laws.proofs.JudgeKeeps.{AllNone, all_none}
 use Rattle.hs_laws.proofs.ValidLemmas.{valid_from_is}
-use Rattle.hs_laws.specs.Reached.{IsPresent, IsWhole}
 use Rattle.hs_limits.specs.Shape.{shard_of_key}
 use Rattle.hs_limits.specs.declared.address.Address.{Address}
 use Rattle.hs_limits.specs.declared.address.Held.{Held}
 use Rattle.hs_limits.specs.declared.limits.Limits.{Limits}
 use Rattle.hs_limits.specs.declared.spelling.TheConstants.{MOST_POINTERS}
-use Rattle.hs_model.proofs.JudgeLemmas.{forget_refused, judge_forgot, judge_looked, judge_opened, judge_read, judge_refused, judge_rooted, look_refused, root_refusals, root_refused}
+use Rattle.hs_model.proofs.JudgeLemmas.{judge_forgot, judge_looked, judge_opened, judge_read, judge_rooted, look_refused, root_refusals, root_refused}
 use Rattle.hs_model.proofs.Members.{Member, member-append_right}
 use Rattle.hs_model.proofs.RefusalLemmas.{held_of_open, look_key, read_of_open, root_used}
 use Rattle.hs_model.specs.Judge.{address_of, bytes_of, forgetting, forgot, held_or, judge, kept_address, looked, nothing, opened, pointers_at, read, refusals, refused as refused_by, rooted, roots_with}
 use Rattle.hs_model.specs.Reach.{pointers_of}
 use Rattle.hs_model.specs.Refusals.{first, handles_full, handles_full_in, keeps_other, key_taken, no_handle, no_handle_in, no_key, no_session, refused_when, roots_full, session_taken, sessions_full, stale_in}
-use Rattle.hs_model.specs.Store.{Root, Session, Store, block_at, block_of, epoch_at, held_at, held_in, helds_of, hold_all, holding_all, is_retained, new_session, next_of, place_root, put_session, retained_at, root_cmp, root_epoch, roots_in, session_at, text_cmp, with_roots, with_sessions}
+use Rattle.hs_model.specs.Store.{Root, Session, Store, block_at, epoch_at, held_at, helds_of, hold_all, holding_all, is_retained, new_session, next_of, place_root, put_session, retained_at, root_cmp, root_epoch, session_at, text_cmp}
 use Rattle.hs_model.specs.declared.op.Op.{Op}
 use Rattle.hs_model.specs.declared.op.Op.TheVariants as op
 use Rattle.hs_model.specs.declared.reply.Reply.{Reply}
 use Rattle.hs_model.specs.declared.reply.Reply.TheVariants as reply
 use Rattle.hs_model.specs.declared.store.StoredBlock.{StoredBlock}
-use Rattle.hs_asking.proofs.HandLemmas.{all_append, all_left, all_right, ascend_last, ascend_numbered, ascend_without, find_in, find_member, holding-numbered, lookup_inserted, lookup_set, remove_in}
-use Rattle.hs_asking.proofs.SeatLemmas.{HasMore, epoch_behind, epoch_within, fresh_more, full_none, hold_one, IsUsable, judge_sane, lt-false, member_all, more_same, no_handle_none, one_of_two, put-blocks, put-epochs, put-opened, put-roots, seat_held, seat_kept, skip, stale_none, when_not}
-use Rattle.hs_asking.proofs.StayLemmas.{SameWhereBoth, kept_whole, whole-here}
+use Rattle.hs_asking.proofs.HandLemmas.{all_append, all_left, all_right, ascend_last, ascend_numbered, ascend_without, find_member, holding-numbered, lookup_inserted, remove_in}
+use Rattle.hs_asking.proofs.SeatLemmas.{epoch_within, fresh_more, full_none, hold_one, IsUsable, judge_sane, member_all, more_same, no_handle_none, one_of_two, put-blocks, put-epochs, put-opened, put-roots, seat_held, seat_kept, skip, stale_none, when_not}
+use Rattle.hs_asking.proofs.StayLemmas.{kept_whole, whole-here}
 use Rattle.hs_asking.specs.Seats.{Ascend, HasSeat, IsSane, numbered}
 
 -- what an operation that touches no block, root or epoch leaves

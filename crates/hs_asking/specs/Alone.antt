@@ -1,6 +1,6 @@
 -- What a client alone is answered, and what it can rely on: each operation from a store s to a store t, where a session holds these handles.
 use Rattle.std.specs.List.{range_with_len}
-use Rattle.std.specs.Prelude.{ℕ, ◌+◌, ◌≡◌, ◌≤◌, ◌⊎◌, List, [], ◌∷◌, ◌++◌, Contains, None, Some, length}
+use Rattle.std.specs.Prelude.{ℕ, ◌+◌, ◌≡◌, ◌≤◌, ◌⊎◌, List, [], ◌∷◌, ◌++◌, None, Some, length}
 use Rattle.hs_asking.specs.Seats.{HasSeat, numbered}
 use Rattle.hs_asking.specs.Staying.{Stays}
 use Rattle.hs_laws.specs.Written.{IsBlockAt}

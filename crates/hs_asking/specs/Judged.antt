@@ -1,6 +1,6 @@
 -- What an ask does to the plain store.
 use Rattle.std.specs.List.{AllByRecursion}
-use Rattle.std.specs.Prelude.{ℕ, ◌≡◌, List}
+use Rattle.std.specs.Prelude.{◌≡◌, List}
 use Rattle.hs_limits.specs.declared.limits.Limits.{Limits}
 use Rattle.hs_model.specs.Judge.{judge}
 use Rattle.hs_model.specs.Run.{Event, IsLegal, asks, enters, run, sweeps}

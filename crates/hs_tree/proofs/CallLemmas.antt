@@ -1,5 +1,5 @@
 -- What an ask comes to where the store is told.
-use Rattle.std.proofs.Common.{◌≡◌, ◌∙◌, Bool, false, Option, Some, None, IfSome, Result, Ok, Err, IfErr, refl, sym, subst}
+use Rattle.std.proofs.Common.{◌≡◌, ◌∙◌, Bool, Option, Some, None, IfSome, Result, Ok, Err, IfErr, sym, subst}
 use Rattle.hs_asking.proofs.AskLemmas.{ask_judged}
 use Rattle.hs_asking.specs.Asked.{HasAsked}
 use Rattle.hs_asking.specs.Judged.{IsJudged}

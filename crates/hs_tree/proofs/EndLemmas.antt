@@ -1,6 +1,6 @@
 -- How a storing begins with its session, and ends with its root.
-use Rattle.std.proofs.Common.{◌≡◌, ◌⊎◌, inl, inr, ℕ, ◌+◌, ◌<◌, ◌≤◌, List, [], ◌∷◌, ◌++◌, zero, suc, Option, Some, None, IfSome, Result, Ok, Err, IfErr, OnOk, Bool, true, false, refl, sym, ap, ◌∙◌, subst, map, length, arith, append-nil, append_assoc}
-use Rattle.std.specs.List.{AllByRecursion, AllZip, flat_map}
+use Rattle.std.proofs.Common.{◌≡◌, inl, inr, ℕ, ◌≤◌, List, [], ◌∷◌, ◌++◌, Option, Some, None, IfSome, Result, Ok, Err, IfErr, OnOk, false, refl, sym, ap, ◌∙◌, subst, length, arith, append-nil, append_assoc}
+use Rattle.std.specs.List.{AllZip, flat_map}
 use Rattle.hs_asking.proofs.AloneLemmas.{opens_alone, roots_alone}
 use Rattle.hs_asking.proofs.SaneLemmas.{answers_sane}
 use Rattle.hs_asking.specs.Alone.{IsOpened, IsRooted, rooted, unrooted}
@@ -10,15 +10,11 @@ use Rattle.hs_asking.specs.Seats.{HasSeat}
 use Rattle.hs_asking.specs.Shown.{Began, Shown, store_now}
 use Rattle.hs_asking.specs.Staying.{Stays}
 use Rattle.hs_asking.specs.Telling.{grants, is_ok}
-use Rattle.hs_desk.specs.declared.fault.CoreFault.{CoreFault}
-use Rattle.hs_limits.specs.Block.{Block, spell}
-use Rattle.hs_limits.specs.Limits.{greatest_limits}
 use Rattle.hs_limits.specs.declared.address.Address.{Address}
 use Rattle.hs_limits.specs.declared.address.Held.{Held}
 use Rattle.hs_limits.specs.declared.limits.Limits.{Limits}
 use Rattle.hs_model.proofs.Members.{Member}
-use Rattle.hs_model.specs.Store.{Root, Store, retained_at}
-use Rattle.hs_model.specs.declared.op.Op.{Op}
+use Rattle.hs_model.specs.Store.{Store}
 use Rattle.hs_model.specs.declared.op.Op.TheVariants as op
 use Rattle.hs_model.specs.declared.reply.Reply.{Reply}
 use Rattle.hs_model.specs.declared.reply.Reply.TheVariants as reply
@@ -27,9 +23,9 @@ use Rattle.hs_tree.proofs.PlantLemmas.{planted_present, planted_stays}
 use Rattle.hs_tree.proofs.StepLemmas.{both_told}
 use Rattle.hs_tree.proofs.StopLemmas.{fails_stops, if_some_all}
 use Rattle.hs_tree.specs.Calls.{CallFails, Hears}
-use Rattle.hs_tree.specs.Growing.{ArePlanted, HasPlanted, HasTop, HasWorked, IsEndOf, IsGrown, IsPlanted, IsStopped, IsStoreFault, IsStoreRefusal, Matches, Place, as_writes, name_of, tree_below, writes_in}
-use Rattle.hs_tree.specs.Storing.{HasGathered, HasStored, IsIdle, our_session}
-use Rattle.hs_tree.specs.Trees.{ArePresent, IsStored, height, node, stored_cut, top, tree, tree_of}
+use Rattle.hs_tree.specs.Growing.{HasPlanted, HasTop, IsGrown, IsStopped, IsStoreRefusal, Matches, Place, as_writes, name_of, tree_below}
+use Rattle.hs_tree.specs.Storing.{HasStored, IsIdle, our_session}
+use Rattle.hs_tree.specs.Trees.{IsStored, height, stored_cut, top, tree, tree_of}
 use Rattle.hs_tree.specs.declared.fault.TreeFault.{TreeFault}
 use Rattle.hs_tree.specs.declared.fault.TreeFault.TheVariants as fault
 use Rattle.hs_tree.specs.declared.grow.Node.{Node}

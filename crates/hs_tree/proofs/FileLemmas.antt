@@ -1,5 +1,5 @@
 -- A file is stored, part by part.
-use Rattle.std.proofs.Common.{◌≡◌, ℕ, ◌+◌, ◌<◌, ◌≤◌, List, [], ◌∷◌, ◌++◌, Option, Some, None, IfSome, refl, sym, ap, ◌∙◌, subst, length, arith}
+use Rattle.std.proofs.Common.{◌≡◌, ℕ, ◌≤◌, List, [], Option, refl, sym, subst, arith}
 use Rattle.hs_asking.specs.Shown.{Shown}
 use Rattle.hs_limits.specs.declared.address.Address.{Address}
 use Rattle.hs_model.specs.declared.op.Op.TheVariants as op
@@ -7,7 +7,7 @@ use Rattle.hs_model.specs.declared.reply.Reply.TheVariants as reply
 use Rattle.hs_tree.proofs.EndLemmas.{ends_stored, root_stops}
 use Rattle.hs_tree.specs.Calls.{CallFails, Hears}
 use Rattle.hs_tree.specs.Growing.{HasTop, IsGrown, IsStopped}
-use Rattle.hs_tree.specs.Storing.{HasGathered, HasStored, IsGathered, IsTaking, IsUnderWay, IsWhole, our_session}
+use Rattle.hs_tree.specs.Storing.{HasGathered, HasStored, IsTaking, IsUnderWay, IsWhole, our_session}
 use Rattle.hs_tree.specs.declared.fault.TreeFault.{TreeFault}
 use Rattle.hs_tree.specs.declared.grow.Node.{Node}
 

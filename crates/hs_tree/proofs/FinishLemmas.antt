@@ -1,14 +1,14 @@
 -- A gathered file is finished: its top is the only block that is held.
-use Rattle.std.proofs.Common.{◌≡◌, ◌⊎◌, inl, inr, ℕ, ◌+◌, ◌*◌, ◌-◌, ◌<◌, ◌≤◌, List, [], ◌∷◌, ◌++◌, zero, suc, Option, Some, None, refl, sym, ap, ◌∙◌, subst, map, length, arith, append-nil, append_assoc, length-append}
-use Rattle.std.specs.List.{AllByRecursion, concat, flat_map}
-use Rattle.hs_asking.specs.Shown.{Began, Shown, store_now}
+use Rattle.std.proofs.Common.{◌≡◌, ◌⊎◌, inl, inr, ℕ, ◌+◌, ◌*◌, ◌-◌, ◌<◌, ◌≤◌, List, [], ◌∷◌, ◌++◌, zero, suc, refl, sym, ap, ◌∙◌, subst, length, arith, append-nil, length-append}
+use Rattle.std.specs.List.{concat}
+use Rattle.hs_asking.specs.Shown.{Shown}
 use Rattle.hs_limits.specs.declared.address.Address.{Address}
-use Rattle.hs_tree.proofs.RunsLemmas.{concat-last, full_cut, full_cut_last, height-0, height-1, height-2, length-full, runs-concat, span-0, span-1}
+use Rattle.hs_tree.proofs.RunsLemmas.{concat-last, full_cut_last, height-0, height-1, height-2, length-full, runs-concat, span-0, span-1}
 use Rattle.hs_tree.proofs.StoreLemmas.{no_length, places-count, places-last}
-use Rattle.hs_tree.specs.Growing.{HasTop, IsGrown, Place, places_at, run_at}
-use Rattle.hs_tree.specs.Steps.{ClosesRun, IsRun}
-use Rattle.hs_tree.specs.Storing.{AreFull, IsCut, IsGathered}
-use Rattle.hs_tree.specs.Trees.{height, runs, span, stored_cut}
+use Rattle.hs_tree.specs.Growing.{HasTop, IsGrown, places_at, run_at}
+use Rattle.hs_tree.specs.Steps.{IsRun}
+use Rattle.hs_tree.specs.Storing.{IsCut, IsGathered}
+use Rattle.hs_tree.specs.Trees.{height, runs, stored_cut}
 use Rattle.hs_tree.specs.declared.grow.Node.{Node}
 
 cut-most : (n : ℕ) (cs : List (List ℕ)) → IsCut n cs → length (concat cs) ≤ n * length cs

@@ -1,5 +1,5 @@
 -- A source is taken to its end.
-use Rattle.std.proofs.Common.{◌≡◌, ◌⊎◌, inl, inr, ℕ, ◌+◌, ◌*◌, ◌<◌, ◌≤◌, List, [], ◌∷◌, ◌++◌, zero, suc, Option, Some, None, IfSome, refl, sym, ap, ◌∙◌, subst, map, length, arith, append-nil, append_assoc, length-append}
+use Rattle.std.proofs.Common.{◌≡◌, ℕ, ◌+◌, ◌*◌, ◌<◌, ◌≤◌, List, [], ◌++◌, Option, Some, None, IfSome, refl, sym, ap, ◌∙◌, subst, length, arith, append-nil, append_assoc, length-append}
 use Rattle.std.specs.List.{flat_map}
 use Rattle.hs_asking.specs.Shown.{Shown}
 use Rattle.hs_limits.specs.declared.address.Address.{Address}
@@ -8,7 +8,7 @@ use Rattle.hs_tree.proofs.StopLemmas.{IsQuiet, stops_quietly}
 use Rattle.hs_tree.proofs.StoreLemmas.{ended, file-count, no_length}
 use Rattle.hs_tree.specs.Calls.{IsTakeFault}
 use Rattle.hs_tree.specs.Growing.{IsStopped, places_at, tree_below}
-use Rattle.hs_tree.specs.Storing.{HasAdded, HasGathered, HasTaken, IsGathered, IsTaking, IsUnderWay, IsWhole}
+use Rattle.hs_tree.specs.Storing.{HasGathered, HasTaken, IsGathered, IsTaking, IsUnderWay}
 use Rattle.hs_tree.specs.declared.fault.TreeFault.{TreeFault}
 use Rattle.hs_tree.specs.declared.fault.TreeFault.TheVariants as fault
 use Rattle.hs_tree.specs.declared.grow.Node.{Node}

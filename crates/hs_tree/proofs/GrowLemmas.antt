@@ -1,35 +1,25 @@
 -- What each call does to a tree that is being stored.
-use Rattle.std.proofs.Common.{◌≡◌, ◌⊎◌, inl, inr, ℕ, ◌+◌, ◌≤◌, List, [], ◌∷◌, ◌++◌, zero, suc, Option, Some, None, IfSome, Bool, true, false, ◌&&◌, refl, sym, ap, ◌∙◌, subst, map, length, is_some, nat_le, arith, append-nil, append_assoc, unwrap_or, if◌then◌else◌, slice_index}
+use Rattle.std.proofs.Common.{◌≡◌, inl, inr, ℕ, ◌+◌, ◌≤◌, List, [], ◌∷◌, ◌++◌, Option, Some, None, IfSome, true, ◌&&◌, refl, sym, ap, ◌∙◌, map, length, is_some, nat_le, arith, append_assoc, unwrap_or, if◌then◌else◌, slice_index}
 use Rattle.std.proofs.Common.{tests}
 use Rattle.std.proofs.lemmas.Bool.{and_from}
 use Rattle.std.proofs.lemmas.List.{length-map, map-append}
-use Rattle.std.specs.List.{AllByRecursion, AllZip, flat_map, list_all}
-use Rattle.hs_asking.proofs.HandLemmas.{all_append, all_left, all_right, find_member}
+use Rattle.std.specs.List.{AllByRecursion, AllZip, list_all}
+use Rattle.hs_asking.proofs.HandLemmas.{all_append, find_member}
 use Rattle.hs_asking.proofs.SeatLemmas.{IsUsable, member_all, seat_held}
-use Rattle.hs_asking.specs.Judged.{IsJudged}
-use Rattle.hs_asking.specs.Seats.{HasSeat, IsSane}
+use Rattle.hs_asking.specs.Seats.{HasSeat}
 use Rattle.hs_asking.specs.Shown.{Began, Shown, store_now}
-use Rattle.hs_asking.specs.Staying.{Stays}
-use Rattle.hs_asking.specs.Telling.{grants}
 use Rattle.hs_journal.specs.Events.{addressed, has_block}
-use Rattle.hs_laws.specs.Written.{IsBlockAt}
 use Rattle.hs_limits.specs.Block.{Block, spell}
 use Rattle.hs_limits.specs.declared.address.Address.{Address}
 use Rattle.hs_limits.specs.declared.address.Held.{Held}
 use Rattle.hs_limits.specs.declared.spelling.TheConstants.{MOST_BYTES, MOST_POINTERS}
-use Rattle.hs_model.proofs.Members.{Member, member-append, member-append_left, member-append_right}
+use Rattle.hs_model.proofs.Members.{Member}
 use Rattle.hs_model.specs.Judge as judging
 use Rattle.hs_model.specs.Judge.{address_of}
-use Rattle.hs_model.specs.Store.{Session, Store, held_at, held_in, session_at}
+use Rattle.hs_model.specs.Store.{Store, held_at, held_in}
 use Rattle.hs_model.specs.declared.op.Op.{Op}
 use Rattle.hs_model.specs.declared.op.Op.TheVariants as op
-use Rattle.hs_model.specs.declared.reply.Reply.{Reply}
-use Rattle.hs_model.specs.declared.reply.Reply.TheVariants as reply
-use Rattle.hs_tree.proofs.PlantLemmas.{planted_stays}
-use Rattle.hs_tree.specs.Calls.{CallFails, Ends, Hears}
-use Rattle.hs_tree.specs.Growing.{ArePlanted, HasPlanted, HasWorked, IsGrowing, IsNamedBy, IsOurs, IsPlanted, IsWork, Matches, Place, StandsFor, as_write, as_writes, block_of, name_of, tree_below, write_above, writes_in}
-use Rattle.hs_tree.specs.Telling.{GivesWritten, IsWrittenAs}
-use Rattle.hs_tree.specs.Trees.{node, runs, span, stored_cut, tree}
+use Rattle.hs_tree.specs.Growing.{HasWorked, IsNamedBy, IsWork, Matches, StandsFor, as_write, as_writes, write_above, writes_in}
 use Rattle.hs_tree.specs.declared.grow.Node.{Node}
 
 -- ---- lists side by side

@@ -1,6 +1,5 @@
 -- A file that is stored stays so, and stands at its root.
-use Rattle.std.proofs.Common.{◌≡◌, ℕ, ◌+◌, List, [], ◌∷◌, ◌++◌, zero, suc, Option, Some, None, refl, sym, ap, ◌∙◌, subst, map, length}
-use Rattle.std.specs.Int.{to_be_bytes, w64}
+use Rattle.std.proofs.Common.{ℕ, List, [], ◌∷◌, zero, suc, sym, subst, map, length}
 use Rattle.std.specs.List.{AllByRecursion, AllZip, flat_map}
 use Rattle.hs_asking.proofs.HandLemmas.{all_left, all_right}
 use Rattle.hs_asking.proofs.RootLemmas.{root_stays}
@@ -11,7 +10,7 @@ use Rattle.hs_limits.specs.Block.{Block, spell}
 use Rattle.hs_limits.specs.declared.address.Address.{Address}
 use Rattle.hs_limits.specs.declared.limits.Limits.{Limits}
 use Rattle.hs_model.specs.Run.{Event, IsLegal, run}
-use Rattle.hs_model.specs.Store.{Root, Store}
+use Rattle.hs_model.specs.Store.{Store}
 use Rattle.hs_tree.proofs.PlantLemmas.{planted_present, planted_stays}
 use Rattle.hs_tree.specs.Growing.{IsPlanted}
 use Rattle.hs_tree.specs.Trees.{ArePresent, IsStored, IsTreeAt, IsTreeBelow, height, node, runs, span, stored_cut, top, tree, tree_of}

@@ -1,10 +1,9 @@
 -- The next piece of a file, behind a run that is closed first where it is whole.
-use Rattle.std.proofs.Common.{◌≡◌, ◌⊎◌, inl, inr, ℕ, ◌+◌, ◌*◌, ◌<◌, ◌≤◌, List, [], ◌∷◌, ◌++◌, Option, Some, None, IfSome, Result, Ok, Err, IfErr, OnOk, refl, sym, ap, ◌∙◌, subst, length, arith, append-nil}
+use Rattle.std.proofs.Common.{◌≡◌, ℕ, ◌+◌, ◌*◌, ◌<◌, ◌≤◌, List, [], ◌++◌, Option, Result, Ok, Err, IfErr, OnOk, refl, sym, ap, ◌∙◌, subst, length, arith}
 use Rattle.std.specs.List.{concat, flat_map}
 use Rattle.hs_asking.specs.Shown.{Shown}
 use Rattle.hs_limits.specs.declared.address.Address.{Address}
 use Rattle.hs_ports.specs.Source.{IsEnded, before}
-use Rattle.hs_tree.proofs.GatherLemmas.{before_none}
 use Rattle.hs_tree.proofs.PartLemmas.{grown_named}
 use Rattle.hs_tree.proofs.RunsLemmas.{full_cut, length-full, runs-concat, span-0}
 use Rattle.hs_tree.proofs.StopLemmas.{IsQuiet, stops_quietly}
@@ -12,7 +11,7 @@ use Rattle.hs_tree.proofs.StoreLemmas.{added, closed, ended, fitting, no_length,
 use Rattle.hs_tree.specs.Growing.{IsNamedBy, IsStopped, places_at, tree_below}
 use Rattle.hs_tree.specs.Steps.{AddsPiece, CloseStops, ClosesRun, IsRun, Stops}
 use Rattle.hs_tree.specs.Storing.{HasAdded, HasTaken, IsGathering, IsTaking, IsUnderWay}
-use Rattle.hs_tree.specs.Trees.{runs, span, stored_cut}
+use Rattle.hs_tree.specs.Trees.{runs}
 use Rattle.hs_tree.specs.declared.fault.TreeFault.{TreeFault}
 use Rattle.hs_tree.specs.declared.grow.Node.{Node}
 

@@ -1,5 +1,5 @@
 -- A tree is of one file.
-use Rattle.std.proofs.Common.{◌≡◌, ℕ, ◌+◌, ◌-◌, ◌<◌, ◌≤◌, ◌^◌, List, [], ◌∷◌, ◌++◌, zero, suc, Option, Some, None, refl, sym, ap, ◌∙◌, subst, length, take, drop, arith, length-drop}
+use Rattle.std.proofs.Common.{◌≡◌, ℕ, ◌-◌, ◌<◌, ◌≤◌, ◌^◌, List, [], ◌∷◌, ◌++◌, zero, suc, Some, refl, sym, ap, ◌∙◌, subst, length, take, drop, arith, length-drop}
 use Rattle.std.proofs.lemmas.List.{take-append-drop}
 use Rattle.std.proofs.lemmas.Nat.{from_be_bytes-to_be_bytes_8}
 use Rattle.std.specs.Int.{from_be_bytes, to_be_bytes, w64}
@@ -9,8 +9,8 @@ use Rattle.hs_limits.specs.Block.{Block}
 use Rattle.hs_limits.specs.declared.address.Address.{Address}
 use Rattle.hs_model.specs.Store.{Store, block_at}
 use Rattle.hs_model.specs.declared.store.StoredBlock.{StoredBlock}
-use Rattle.hs_tree.proofs.RunsLemmas.{height-0, span-positive, turns_enough}
-use Rattle.hs_tree.specs.Trees.{IsTreeAt, IsTreeBelow, height, height_from, runs, runs_in, span, stored_cut}
+use Rattle.hs_tree.proofs.RunsLemmas.{height-0, span-positive}
+use Rattle.hs_tree.specs.Trees.{IsTreeAt, IsTreeBelow, height, runs, runs_in, span, stored_cut}
 
 -- ---- runs joined are the list
 

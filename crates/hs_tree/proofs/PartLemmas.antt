@@ -1,17 +1,14 @@
 -- What each part of a storing does, from what its calls do.
-use Rattle.std.proofs.Common.{◌≡◌, ◌⊎◌, inl, inr, ℕ, ◌+◌, ◌<◌, ◌≤◌, List, [], ◌∷◌, ◌++◌, zero, suc, Option, Some, None, IfSome, Result, Ok, Err, IfErr, IfOk, Bool, false, refl, sym, ap, ◌∙◌, subst, map, length, take, drop, get_or, arith, append-nil, append_assoc, length-append}
+use Rattle.std.proofs.Common.{◌≡◌, ℕ, ◌+◌, ◌<◌, ◌≤◌, List, [], ◌∷◌, ◌++◌, zero, suc, Some, refl, sym, ap, ◌∙◌, subst, map, length, take, drop, get_or, arith, append-nil, append_assoc}
 use Rattle.std.proofs.lemmas.Grind.{common_steps}
 use Rattle.std.specs.Int.{to_be_bytes, w64}
 use Rattle.std.specs.List.{AllByRecursion, concat, flat_map}
 use Rattle.hs_asking.specs.Asked.{IsNamed}
 use Rattle.hs_asking.specs.Shown.{Began, Shown, store_now}
-use Rattle.hs_laws.specs.Written.{IsBlockAt}
 use Rattle.hs_limits.specs.Block.{Block, spell}
 use Rattle.hs_limits.specs.declared.address.Address.{Address}
 use Rattle.hs_limits.specs.declared.spelling.TheConstants.{MOST_BYTES, MOST_POINTERS}
 use Rattle.hs_model.proofs.Members.{Member, member-append_left, member-append_right}
-use Rattle.hs_model.specs.Store.{Store}
-use Rattle.hs_model.specs.declared.op.Op.{Op}
 use Rattle.hs_model.specs.declared.op.Op.TheVariants as op
 use Rattle.hs_model.specs.declared.reply.Reply.TheVariants as reply
 use Rattle.hs_tree.proofs.GrowLemmas.{is_named, stand, zip_split}
@@ -19,10 +16,9 @@ use Rattle.hs_tree.proofs.StepLemmas.{forgets_one, joins, refused_written, where
 use Rattle.hs_tree.proofs.StopLemmas.{fails_stops, forget_stops, stops_quietly}
 use Rattle.hs_tree.proofs.TreeSteps.{grows_piece, grows_run, leaf_is, leaf_planted, node_is, run_names, run_planted}
 use Rattle.hs_tree.specs.Calls.{CallFails, Hears}
-use Rattle.hs_tree.specs.Growing.{ArePlanted, HasPlanted, IsGrowing, IsGrown, IsNamedBy, IsPlanted, IsStopped, Matches, Place, StandsFor, block_of, name_of, piece_at, places_at, run_at, tree_below, write_above}
-use Rattle.hs_tree.specs.Steps.{AddsPiece, CloseStops, ClosesRun, ForgetStops, Forgets, IsFitting, IsRun, Stops, WritesNode}
+use Rattle.hs_tree.specs.Growing.{HasPlanted, IsGrowing, IsGrown, IsNamedBy, Matches, Place, StandsFor, block_of, name_of, piece_at, places_at, run_at, tree_below, write_above}
+use Rattle.hs_tree.specs.Steps.{AddsPiece, CloseStops, ClosesRun, ForgetStops, Forgets, IsRun, Stops, WritesNode}
 use Rattle.hs_tree.specs.Telling.{IsWrittenAs}
-use Rattle.hs_tree.specs.Trees.{node, runs, span, stored_cut}
 use Rattle.hs_tree.specs.declared.fault.TreeFault.{TreeFault}
 use Rattle.hs_tree.specs.declared.fault.TreeFault.TheVariants as fault
 use Rattle.hs_tree.specs.declared.grow.Node.{Node}

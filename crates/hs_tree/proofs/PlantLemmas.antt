@@ -1,17 +1,17 @@
 -- Trees that are present stay so, and have all their blocks.
-use Rattle.std.proofs.Common.{◌≡◌, ℕ, ◌+◌, ◌⊎◌, inl, inr, List, [], ◌∷◌, ◌++◌, zero, suc, Option, Some, None, refl, sym, ap, ◌∙◌, subst, map, length, Contains}
-use Rattle.std.specs.List.{AllByRecursion, AllZip, flat_map}
+use Rattle.std.proofs.Common.{◌≡◌, ℕ, inl, inr, List, [], ◌∷◌, zero, suc, Some, refl, sym, ◌∙◌, subst, Contains}
+use Rattle.std.specs.List.{AllByRecursion, flat_map}
 use Rattle.hs_asking.proofs.HandLemmas.{all_append}
 use Rattle.hs_asking.specs.Staying.{Stays}
 use Rattle.hs_laws.specs.Written.{IsBlockAt}
 use Rattle.hs_limits.specs.Block.{Block, spell}
 use Rattle.hs_limits.specs.declared.address.Address.{Address}
 use Rattle.hs_model.proofs.Members.{Member, contains_from_member, member-map}
-use Rattle.hs_model.specs.Reach.{Leads, pointers_of}
+use Rattle.hs_model.specs.Reach.{pointers_of}
 use Rattle.hs_model.specs.Store.{Store, block_at}
 use Rattle.hs_model.specs.declared.store.StoredBlock.{StoredBlock}
 use Rattle.hs_tree.specs.Growing.{IsPlanted}
-use Rattle.hs_tree.specs.Trees.{ArePresent, IsTreeBelow, node, runs, span, stored_cut, tree}
+use Rattle.hs_tree.specs.Trees.{ArePresent, node, runs, span, stored_cut, tree}
 
 -- ---- what stays of an address stays of its pointers
 

@@ -1,11 +1,10 @@
 -- Runs of lists, and the heights of files.
-use Rattle.std.proofs.Common.{◌≡◌, ℕ, ◌+◌, ◌*◌, ◌-◌, ◌<◌, ◌≤◌, List, [], ◌∷◌, ◌++◌, zero, suc, refl, sym, ap, ◌∙◌, subst, arith, tests, length, map, take, drop, append-nil, append_assoc, Bool, true, false, nat_le, if◌then◌else◌, length-append, length-drop}
-use Rattle.std.proofs.lemmas.List.{take-append-le, drop-append-le}
+use Rattle.std.proofs.Common.{◌≡◌, ℕ, ◌+◌, ◌*◌, ◌-◌, ◌<◌, ◌≤◌, List, [], ◌∷◌, ◌++◌, zero, suc, refl, sym, ap, ◌∙◌, arith, tests, length, take, drop, append-nil, true, false, nat_le, length-append, length-drop}
 use Rattle.std.proofs.lemmas.List.Folds.{concat-append}
 use Rattle.std.proofs.lemmas.Grind.{common_steps}
-use Rattle.std.specs.List.{AllByRecursion, concat, flat_map}
+use Rattle.std.specs.List.{concat}
 use Rattle.hs_tree.specs.Storing.{AreFull, IsCut}
-use Rattle.hs_tree.specs.Trees.{Cut, height, height_from, runs, runs_in, span, stored_cut}
+use Rattle.hs_tree.specs.Trees.{height, height_from, runs, runs_in, span, stored_cut}
 
 -- ---- taking a whole list
 

@@ -1,17 +1,15 @@
 -- How a tree grows by each call, and how it stops.
-use Rattle.std.proofs.Common.{◌≡◌, ◌⊎◌, inl, inr, ℕ, ◌+◌, ◌≤◌, List, [], ◌∷◌, ◌++◌, zero, suc, Option, Some, None, IfSome, Bool, true, false, refl, sym, ap, ◌∙◌, subst, map, length, arith, append-nil, append_assoc}
-use Rattle.std.proofs.lemmas.List.{length-map, length-append, map-append}
-use Rattle.std.specs.Int.{to_be_bytes, w64}
-use Rattle.std.specs.List.{AllByRecursion, AllZip, concat, flat_map}
-use Rattle.hs_asking.proofs.AloneLemmas.{forgets_alone, opens_alone, roots_alone, writes_alone}
+use Rattle.std.proofs.Common.{◌≡◌, ◌⊎◌, inl, inr, ℕ, ◌+◌, ◌≤◌, List, [], ◌∷◌, ◌++◌, Option, Some, None, IfSome, false, refl, sym, ap, ◌∙◌, subst, map, length, arith, append-nil, append_assoc}
+use Rattle.std.proofs.lemmas.List.{length-map, map-append}
+use Rattle.std.specs.List.{AllZip}
+use Rattle.hs_asking.proofs.AloneLemmas.{forgets_alone, writes_alone}
 use Rattle.hs_asking.proofs.HandLemmas.{all_append, all_left, all_right}
-use Rattle.hs_asking.specs.Alone.{Goes, IsForgot, IsOpened, IsRooted, IsWritten, rooted, unrooted, unwritten, written}
+use Rattle.hs_asking.specs.Alone.{IsForgot, IsWritten, unwritten, written}
 use Rattle.hs_asking.specs.Judged.{IsJudged}
-use Rattle.hs_asking.specs.Seats.{HasSeat, IsSane}
+use Rattle.hs_asking.specs.Seats.{HasSeat}
 use Rattle.hs_asking.specs.Shown.{Began, Shown, store_now}
 use Rattle.hs_asking.specs.Staying.{Stays}
 use Rattle.hs_asking.specs.Telling.{grants, is_written}
-use Rattle.hs_desk.specs.declared.fault.CoreFault.{CoreFault}
 use Rattle.hs_laws.specs.Written.{IsBlockAt}
 use Rattle.hs_limits.specs.Block.{Block, spell}
 use Rattle.hs_limits.specs.declared.address.Address.{Address}
@@ -19,19 +17,15 @@ use Rattle.hs_limits.specs.declared.address.Held.{Held}
 use Rattle.hs_limits.specs.declared.spelling.TheConstants.{MOST_BYTES, MOST_POINTERS}
 use Rattle.hs_model.proofs.Members.{Member, member-append, member-append_left, member-append_right}
 use Rattle.hs_model.specs.Judge as judging
-use Rattle.hs_model.specs.Store.{Session, Store, held_at}
-use Rattle.hs_model.specs.declared.op.Op.{Op}
+use Rattle.hs_model.specs.Store.{Store}
 use Rattle.hs_model.specs.declared.op.Op.TheVariants as op
 use Rattle.hs_model.specs.declared.reply.Reply.{Reply}
 use Rattle.hs_model.specs.declared.reply.Reply.TheVariants as reply
 use Rattle.hs_tree.proofs.GrowLemmas.{Split, stand, usable, worked_more, written-above, zip_append, zip_length, zip_split}
-use Rattle.hs_tree.proofs.PlantLemmas.{block_stays, planted_stays}
-use Rattle.hs_tree.specs.Calls.{CallFails, Ends, Hears}
-use Rattle.hs_tree.specs.Growing.{ArePlanted, HasPlanted, HasWorked, IsEndOf, IsGrowing, IsNamedBy, IsOurs, IsPlanted, IsStopped, IsStoreFault, IsStoreRefusal, IsStoringOp, IsWork, Matches, Place, StandsFor, as_writes, block_of, name_of, tree_below, write_above, writes_in}
+use Rattle.hs_tree.proofs.PlantLemmas.{planted_stays}
+use Rattle.hs_tree.specs.Calls.{Hears}
+use Rattle.hs_tree.specs.Growing.{ArePlanted, HasPlanted, HasWorked, IsGrowing, IsOurs, IsPlanted, IsStoreRefusal, Matches, Place, block_of, name_of, write_above}
 use Rattle.hs_tree.specs.Telling.{GivesWritten, IsWrittenAs}
-use Rattle.hs_tree.specs.Trees.{node, runs, span, stored_cut, tree}
-use Rattle.hs_tree.specs.declared.fault.TreeFault.{TreeFault}
-use Rattle.hs_tree.specs.declared.fault.TreeFault.TheVariants as fault
 use Rattle.hs_tree.specs.declared.grow.Node.{Node}
 
 -- ---- where the store is told

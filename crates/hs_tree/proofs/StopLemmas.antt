@@ -1,21 +1,20 @@
 -- How a storing stops, from a tree that has grown so far.
-use Rattle.std.proofs.Common.{◌≡◌, ◌⊎◌, inl, inr, ℕ, ◌+◌, ◌≤◌, List, [], ◌∷◌, ◌++◌, Option, Some, None, IfSome, Bool, true, false, refl, sym, ap, ◌∙◌, subst, map, length, append_assoc}
+use Rattle.std.proofs.Common.{◌≡◌, ℕ, List, [], ◌∷◌, ◌++◌, Option, Some, None, IfSome, false, refl, sym, ap, ◌∙◌, subst, append_assoc}
 use Rattle.std.specs.List.{AllByRecursion}
 use Rattle.hs_asking.proofs.HandLemmas.{all_append}
 use Rattle.hs_asking.specs.Judged.{IsJudged}
 use Rattle.hs_asking.specs.Shown.{Began, Shown, store_now}
 use Rattle.hs_asking.specs.Telling.{grants, is_ok}
 use Rattle.hs_desk.specs.declared.fault.CoreFault.{CoreFault}
-use Rattle.hs_limits.specs.Block.{Block, spell}
+use Rattle.hs_limits.specs.Block.{Block}
 use Rattle.hs_limits.specs.declared.address.Address.{Address}
-use Rattle.hs_limits.specs.declared.spelling.TheConstants.{MOST_BYTES, MOST_POINTERS}
 use Rattle.hs_model.specs.declared.op.Op.{Op}
 use Rattle.hs_model.specs.declared.op.Op.TheVariants as op
 use Rattle.hs_model.specs.declared.reply.Reply.{Reply}
 use Rattle.hs_model.specs.declared.reply.Reply.TheVariants as reply
-use Rattle.hs_tree.proofs.StepLemmas.{both_told, forget_told, where_told}
-use Rattle.hs_tree.specs.Calls.{CallFails, Ends, Hears}
-use Rattle.hs_tree.specs.Growing.{HasPlanted, HasWorked, IsEndOf, IsGrowing, IsStopped, IsStoreFault, IsStoreRefusal, IsStoringOp, IsWork, Place, name_of, write_above}
+use Rattle.hs_tree.proofs.StepLemmas.{both_told, forget_told}
+use Rattle.hs_tree.specs.Calls.{CallFails}
+use Rattle.hs_tree.specs.Growing.{HasPlanted, IsEndOf, IsGrowing, IsStopped, IsStoreFault, IsStoreRefusal, IsStoringOp, IsWork, Place}
 use Rattle.hs_tree.specs.declared.fault.TreeFault.{TreeFault}
 use Rattle.hs_tree.specs.declared.fault.TreeFault.TheVariants as fault
 use Rattle.hs_tree.specs.declared.grow.Node.{Node}

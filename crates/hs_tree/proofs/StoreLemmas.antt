@@ -1,15 +1,15 @@
 -- A file's pieces gathered, closed and finished.
-use Rattle.std.proofs.Common.{◌≡◌, ◌⊎◌, inl, inr, ℕ, ◌+◌, ◌*◌, ◌<◌, ◌≤◌, List, [], ◌∷◌, ◌++◌, zero, suc, Option, Some, None, IfSome, refl, sym, ap, ◌∙◌, subst, map, length, arith, append-nil, append_assoc, length-append}
+use Rattle.std.proofs.Common.{◌≡◌, ◌⊎◌, inl, inr, ℕ, ◌+◌, ◌*◌, ◌<◌, ◌≤◌, List, [], ◌∷◌, ◌++◌, refl, sym, ap, ◌∙◌, subst, length, arith, append-nil, append_assoc, length-append}
 use Rattle.std.proofs.lemmas.List.{length-map, map-append}
-use Rattle.std.specs.List.{AllByRecursion, concat, flat_map}
+use Rattle.std.specs.List.{concat}
 use Rattle.hs_asking.proofs.HandLemmas.{all_append}
-use Rattle.hs_asking.specs.Shown.{Began, Shown, store_now}
+use Rattle.hs_asking.specs.Shown.{Shown}
 use Rattle.hs_limits.specs.declared.address.Address.{Address}
-use Rattle.hs_tree.proofs.RunsLemmas.{concat-last, full_cut, full_cut_last, height-0, height-1, height-2, length-full, runs-concat, span-0, span-1}
-use Rattle.hs_tree.specs.Growing.{IsGrown, Place, piece_at, places_at, run_at}
+use Rattle.hs_tree.proofs.RunsLemmas.{concat-last, full_cut, full_cut_last, length-full, runs-concat, span-0}
+use Rattle.hs_tree.specs.Growing.{IsGrown, piece_at, places_at, run_at}
 use Rattle.hs_tree.specs.Steps.{AddsPiece, ClosesRun, IsFitting, IsRun}
-use Rattle.hs_tree.specs.Storing.{AreFull, HasAdded, IsCut, IsGathered, IsGathering, IsTaking}
-use Rattle.hs_tree.specs.Trees.{height, runs, span, stored_cut}
+use Rattle.hs_tree.specs.Storing.{HasAdded, IsCut, IsGathered, IsGathering, IsTaking}
+use Rattle.hs_tree.specs.Trees.{runs, span, stored_cut}
 use Rattle.hs_tree.specs.declared.grow.Node.{Node}
 
 -- ---- counts

@@ -1,11 +1,11 @@
 -- The top of a gathered file, from what closing its runs does.
-use Rattle.std.proofs.Common.{◌≡◌, ◌⊎◌, ℕ, ◌+◌, ◌*◌, ◌-◌, ◌<◌, ◌≤◌, List, [], ◌∷◌, ◌++◌, zero, suc, refl, sym, ap, ◌∙◌, subst, length, get_or, arith, tests, append-nil, length-append, Bool, true, false, ◌==◌}
+use Rattle.std.proofs.Common.{◌≡◌, ℕ, ◌+◌, ◌*◌, ◌-◌, ◌<◌, ◌≤◌, List, [], ◌∷◌, ◌++◌, zero, suc, refl, sym, ap, ◌∙◌, subst, length, get_or, arith, tests, length-append, true, false, ◌==◌}
 use Rattle.std.specs.List.{concat}
 use Rattle.hs_asking.specs.Shown.{Shown}
 use Rattle.hs_limits.specs.declared.address.Address.{Address}
-use Rattle.hs_tree.proofs.FinishLemmas.{alone, below_is, counted_tops, few_tops, grown_tops, last_run, second, third, top_run, tops}
+use Rattle.hs_tree.proofs.FinishLemmas.{alone, below_is, counted_tops, few_tops, grown_tops, last_run, second, third, top_run}
 use Rattle.hs_tree.proofs.PartLemmas.{grown_named}
-use Rattle.hs_tree.specs.Growing.{HasTop, IsGrown, IsNamedBy, IsStopped, Place, places_at, run_at}
+use Rattle.hs_tree.specs.Growing.{HasTop, IsGrown, IsNamedBy, IsStopped, places_at, run_at}
 use Rattle.hs_tree.specs.Steps.{CloseStops, ClosesRun, IsRun}
 use Rattle.hs_tree.specs.Storing.{IsGathered, IsWhole}
 use Rattle.hs_tree.specs.declared.fault.TreeFault.{TreeFault}

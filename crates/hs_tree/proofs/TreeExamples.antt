@@ -1,11 +1,9 @@
 -- Small trees, computed: pieces of 2 bytes and runs of 2, with names that tell their blocks apart.
-use Rattle.std.proofs.Common.{◌≡◌, ℕ, ◌+◌, List, [], ◌∷◌, refl, length, map, sum}
-use Rattle.std.specs.Int.{to_be_bytes, w64}
-use Rattle.std.specs.List.{flat_map}
+use Rattle.std.proofs.Common.{◌≡◌, ℕ, List, [], ◌∷◌, refl, length, map, sum}
 use Rattle.hs_limits.specs.Block.{Block, spell}
 use Rattle.hs_limits.specs.declared.address.Address.{Address}
 use Rattle.hs_tree.specs.Levels.{Node, levels, levels_of}
-use Rattle.hs_tree.specs.Trees.{Cut, height, height_from, node, runs, span, stored_cut, top, tree, tree_of}
+use Rattle.hs_tree.specs.Trees.{Cut, height, height_from, node, runs, span, stored_cut, tree, tree_of}
 
 -- ---- heights of the files that are stored
 

@@ -1,13 +1,11 @@
 -- A tree grows by pieces and by blocks above runs, and its blocks are written children first.
-use Rattle.std.proofs.Common.{◌≡◌, ◌⊎◌, inl, inr, ℕ, ◌+◌, ◌≤◌, List, [], ◌∷◌, ◌++◌, zero, suc, Option, Some, None, IfSome, Bool, true, false, refl, sym, ap, ◌∙◌, subst, map, length, arith, append-nil, append_assoc}
+use Rattle.std.proofs.Common.{◌≡◌, ℕ, ◌+◌, ◌≤◌, List, [], ◌∷◌, ◌++◌, suc, refl, sym, ap, ◌∙◌, subst, map, length, arith, append-nil, append_assoc}
 use Rattle.std.proofs.lemmas.Grind.{flat_map-append}
-use Rattle.std.proofs.lemmas.List.{map-append}
 use Rattle.std.specs.Int.{to_be_bytes, w64}
-use Rattle.std.specs.List.{AllByRecursion, AllZip, concat, flat_map}
-use Rattle.hs_asking.proofs.HandLemmas.{all_append}
-use Rattle.hs_asking.specs.Shown.{Began, Shown, store_now}
+use Rattle.std.specs.List.{AllByRecursion, concat, flat_map}
+use Rattle.hs_asking.specs.Shown.{Shown}
 use Rattle.hs_laws.specs.Written.{IsBlockAt}
-use Rattle.hs_limits.specs.Block.{Block, spell}
+use Rattle.hs_limits.specs.Block.{spell}
 use Rattle.hs_limits.specs.declared.address.Address.{Address}
 use Rattle.hs_limits.specs.declared.spelling.TheConstants.{MOST_BYTES, MOST_POINTERS}
 use Rattle.hs_model.specs.Store.{Store}

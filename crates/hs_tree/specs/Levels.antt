@@ -1,7 +1,7 @@
 -- The same tree from its pieces up, level by level.
 use Rattle.std.proofs.Common.{zero, suc}
 use Rattle.std.specs.Int.{to_be_bytes, w64}
-use Rattle.std.specs.Prelude.{ℕ, ◌≡◌, List, [], ◌∷◌, ◌++◌, if◌then◌else◌, length, map, nat_le, sum}
+use Rattle.std.specs.Prelude.{ℕ, List, [], ◌∷◌, if◌then◌else◌, length, map, nat_le, sum}
 use Rattle.hs_limits.specs.Block.{Block, spell}
 use Rattle.hs_limits.specs.declared.address.Address.{Address}
 use Rattle.hs_tree.specs.Trees.{Cut, runs}

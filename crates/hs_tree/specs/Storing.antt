@@ -1,16 +1,14 @@
 -- A file that is taken piece by piece and stored.
 use Rattle.std.specs.List.{AllByRecursion, concat}
-use Rattle.std.specs.Prelude.{ℕ, ◌+◌, ◌<◌, ◌≡◌, ◌≤◌, ◌⊎◌, List, [], ◌∷◌, ◌++◌, None, Option, Some, IfSome, length}
-use Rattle.hs_asking.specs.Lawful.{AreAnswersOf}
+use Rattle.std.specs.Prelude.{ℕ, ◌<◌, ◌≡◌, ◌≤◌, ◌⊎◌, List, [], ◌∷◌, ◌++◌, None, Option, IfSome, length}
 use Rattle.hs_asking.specs.Shown.{Began, Shown, store_now}
 use Rattle.hs_limits.specs.Limits.{greatest_limits}
 use Rattle.hs_limits.specs.declared.address.Address.{Address}
-use Rattle.hs_model.specs.Store.{Store}
 use Rattle.hs_model.specs.declared.op.Op.{Op}
 use Rattle.hs_model.specs.declared.op.Op.TheVariants as op
 use Rattle.hs_ports.specs.Source.{IsEnded, before}
-use Rattle.hs_tree.specs.Growing.{IsGrown, IsWork, Place, as_writes, places_at, writes_in}
-use Rattle.hs_tree.specs.Trees.{IsStored, height, stored_cut, tree_of}
+use Rattle.hs_tree.specs.Growing.{IsGrown, IsWork, as_writes, places_at, writes_in}
+use Rattle.hs_tree.specs.Trees.{IsStored, stored_cut, tree_of}
 use Rattle.hs_tree.specs.declared.grow.Node.{Node}
 
 -- files are stored and fetched in the session `a`

@@ -2,7 +2,7 @@
 use Rattle.std.proofs.Common.{zero, suc}
 use Rattle.std.specs.Int.{to_be_bytes, w64}
 use Rattle.std.specs.List.{AllByRecursion, AllZip, flat_map}
-use Rattle.std.specs.Prelude.{ℕ, ◌*◌, ◌+◌, ◌≡◌, ◌≤◌, List, [], ◌∷◌, ◌++◌, Some, drop, if◌then◌else◌, length, map, nat_le, take}
+use Rattle.std.specs.Prelude.{ℕ, ◌*◌, ◌+◌, ◌≡◌, List, [], ◌∷◌, ◌++◌, Some, drop, if◌then◌else◌, length, map, nat_le, take}
 use Rattle.hs_laws.specs.Written.{IsBlockAt}
 use Rattle.hs_limits.specs.Block.{Block, spell}
 use Rattle.hs_limits.specs.declared.address.Address.{Address}

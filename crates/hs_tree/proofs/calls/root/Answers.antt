@@ -1,4 +1,4 @@
-use Rattle.std.proofs.Common.{Some, refl}
+use Rattle.std.proofs.Common.{refl}
 use Rattle.hs_asking.specs.Telling.{grants}
 use Rattle.hs_model.specs.declared.op.Op.TheVariants as op
 use Rattle.hs_tree.proofs.CallLemmas.{refused_fails}

@@ -1,4 +1,4 @@
-use Rattle.std.proofs.Common.{◌<◌, ◌≤◌, arith, length}
+use Rattle.std.proofs.Common.{arith}
 use Rattle.std.proofs.lemmas.Result.{err_from_is_err_and}
 use Rattle.hs_tree.proofs.NextLemmas.{added_closed, added_ok, close_stopped, closed_named, stopped_closed, stopped_ok, under_named}
 use Rattle.hs_tree.proofs.store.add_next.Goals as goal

@@ -1,8 +1,7 @@
-use Rattle.std.proofs.Common.{◌≡◌, ◌∙◌, ◌*◌, ◌-◌, ◌≤◌, List, [], ap, arith, length, sym, vec_len}
+use Rattle.std.proofs.Common.{◌≡◌, ◌∙◌, ◌*◌, ◌-◌, ◌≤◌, ap, arith, length, sym, vec_len}
 use Rattle.std.proofs.lemmas.Result.{err_from_is_err_and}
 use Rattle.hs_tree.proofs.StoreLemmas.{no_length}
 use Rattle.hs_tree.proofs.TopLemmas.{ends_alone, ends_second, ends_third, few_after, first_stops, named_after, not_zero, second_stops, whole_few, whole_least, whole_named, zero_from}
-use Rattle.hs_tree.specs.declared.grow.Node.{Node}
 use Rattle.hs_tree.proofs.store.finish.Goals as goal
 use Rattle.hs_tree.proofs.store.finish.Goals.{else-is_empty-via-then-is_empty+else-len-eq1, else-is_empty-via-else-is_empty}
 

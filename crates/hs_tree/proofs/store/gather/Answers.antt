@@ -1,4 +1,4 @@
-use Rattle.std.proofs.Common.{◌≡◌, ◌+◌, ◌≤◌, arith, length}
+use Rattle.std.proofs.Common.{◌+◌, arith}
 use Rattle.std.proofs.lemmas.Result.{err_from_is_err_and}
 use Rattle.hs_tree.proofs.GatherLemmas.{begun_at, goes_on, so_under_way, stops_full, stops_here, take_quiet, taking_stops, too_long}
 use Rattle.hs_tree.specs.declared.fault.TreeFault.TheVariants as fault

@@ -1,4 +1,4 @@
-use Rattle.std.proofs.Common.{◌-◌, ◌≡◌, ◌≤◌, List, [], None, ℕ}
+use Rattle.std.proofs.Common.{◌-◌, ◌≡◌, ◌≤◌, [], None}
 use Rattle.hs_asking.specs.Shown.{Shown}
 use Rattle.hs_tree.proofs.GatherLemmas.{SoFar}
 use Rattle.hs_tree.specs.Storing.{IsTaking, IsUnderWay}

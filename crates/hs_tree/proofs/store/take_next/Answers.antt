@@ -1,4 +1,4 @@
-use Rattle.std.proofs.Common.{◌≡◌, ℕ, length, rules}
+use Rattle.std.proofs.Common.{◌≡◌, length, rules}
 use Rattle.std.proofs.lemmas.Result.{err_from_is_err_and}
 use Rattle.hs_tree.proofs.GatherLemmas.{take_quiet}
 use Rattle.hs_tree.proofs.NextLemmas.{taken_nothing, taken_piece, taking_stopped}
