@@ -1,0 +1,43 @@
+-- Where a journal answers a line.
+use Rattle.std.specs.BTreeMap.{is_at}
+use Rattle.std.specs.List.{position_from}
+use Rattle.std.specs.Map.{lookup}
+use Rattle.std.specs.Option.{option_map_or}
+use Rattle.std.specs.Ordering.{nat_cmp}
+use Rattle.std.specs.Prelude.{◌≡◌, ℕ, ◌==◌, Bool, false, List, Option, Some, None, is_some, slice_get}
+use Rattle.hs_desk.specs.declared.token.Token.{Token}
+use Rattle.hs_desk.specs.Tokens.{answered}
+use Rattle.hs_journal.specs.declared.entry.JournalEntry.{JournalEntry}
+use Rattle.hs_journal.specs.Deeds.{line_answered}
+use Rattle.hs_model.specs.declared.op.Asked.{Asked}
+use Rattle.hs_model.specs.declared.reply.Reply.{Reply}
+
+-- whether an entry answers a line
+abbrev pub is_of_line : ℕ → JournalEntry → Bool
+is_of_line line entry = option_map_or (λ n. n == line) (line_answered entry.who) false
+
+-- the place of the first entry that does
+abbrev pub place_of : ℕ → List JournalEntry → Option ℕ
+place_of line journal = position_from (is_of_line line) 0 journal
+
+abbrev pub is_told : ℕ → List JournalEntry → Bool
+is_told line journal = is_some (place_of line journal)
+
+-- the reply of the entry that answers a line, and the token that has noted it with its place
+pub record IsAnswerOf (line : ℕ) (journal : List JournalEntry) (o : Asked) (old new : Token) (told : Reply) : Type 0 where
+  pub place : ℕ
+  pub entry : JournalEntry
+  pub first : place_of line journal ≡ Some place
+  pub at : slice_get journal place ≡ Some entry
+  pub reply : told ≡ entry.reply
+  pub noted : new ≡ answered place o told old
+
+-- ---- by line
+
+-- the place of a line in an index
+abbrev pub place_in : ℕ → List (ℕ × ℕ) → Option ℕ
+place_in line places = lookup (is_at (nat_cmp line)) places
+
+-- an index has for each line the place of the first entry that answers it
+abbrev pub Indexes : List JournalEntry → List (ℕ × ℕ) → Type 0
+Indexes journal places = (line : ℕ) → place_in line places ≡ place_of line journal

@@ -1,0 +1,96 @@
+//! The book as those who ask see it.
+ghost use Rattle.std.specs.Prelude.{◌≡◌, ◌+◌, None, Some, true, IsSome, IfOk, IfSome, is_some};
+ghost use Rattle.hs_book.specs.Answers.{IsAnswerOf, is_told};
+ghost use Rattle.hs_book.specs.Calls.{DoesEvent};
+ghost use Rattle.hs_book.specs.Events.{BringsAddress};
+ghost use Rattle.hs_core_words.specs.declared.event.Event.TheVariants as event;
+ghost use Rattle.hs_desk.specs.Faults.{EndsOnce};
+ghost use Rattle.hs_desk.specs.Tokens.{HasAddress, HasAnswered, IsOfSession, begun};
+ghost use Rattle.hs_model.specs.Judge.{asked_of};
+ghost use Rattle.hs_model.specs.declared.op.Asked.{Asked};
+
+use crate::{Book, BookPass, Opening};
+use hs_desk::{Clerk, CoreFault};
+use hs_model::{Asked, Op, Reply};
+
+impl<O: Opening> Clerk for Book<O> {
+    type Pass = BookPass;
+
+    ghost ended = { λ b. b.ended };
+
+    ghost is_answered = { λ b number. is_told number b.core.journal };
+
+    /// Begins an operation, and answers its number: one Line, of the next number.
+    #[tactic(auto, using(crate::proofs::HistoryLemmas::still_a_book))]
+    fn begin(&mut self, pass: &mut BookPass, op: Op) -> Result<u64, CoreFault>
+        requires asked { pass.old.asked ≡ None }
+        requires own { IsOfSession pass.old.session op }
+        requires address { HasAddress op }
+
+        ensures noted { pass.new ≡ begun (asked_of op) result pass.old }
+
+        ensures number { IfOk result (λ number. number ≡ self.old.core.progress.last_line + 1) }
+        ensures does { DoesEvent (Some (event.Line (self.old.core.progress.last_line + 1) op))
+            self.old self.new }
+
+        ensures ends { EndsOnce self.old.ended self.new.ended result }
+    {
+        let _whole = is_whole(&op);
+        let Ok(asked) = Asked::of(self.keeper.alloc, &op) else {
+            let fault = self.keeper.run_out();
+            pass.token.fail(fault);
+            return Err(fault);
+        };
+        let given = self.keeper.begin(op);
+        pass.token.begin(asked, given);
+        given
+    }
+
+    /// The answer of the operation that is under way: that of the first entry of the journal which
+    /// answers its line. None exactly where there is none yet. It is no event.
+    #[tactic(auto, using(crate::proofs::HistoryLemmas::still_a_book))]
+    fn answer(&mut self, pass: &mut BookPass, number: u64) -> Result<Option<Reply>, CoreFault>
+        requires asked { IsSome pass.old.asked }
+        requires number { pass.old.number ≡ number }
+
+        ensures noted { (asked : Asked) → pass.old.asked ≡ Some asked
+            → HasAnswered asked pass.old pass.new result }
+        ensures found { IfOk result (λ reply.
+            is_some reply ≡ is_told number self.old.core.journal) }
+
+        ensures reply { (asked : Asked) → pass.old.asked ≡ Some asked
+            → IfOk result (λ reply. IfSome reply (λ told.
+              IsAnswerOf number self.old.core.journal asked pass.old pass.new told)) }
+        ensures does { DoesEvent None self.old self.new }
+
+        ensures ends { EndsOnce self.old.ended self.new.ended result }
+    {
+        if self.keeper.ended().is_some() {
+            let fault = self.keeper.run_out();
+            pass.token.fail(fault);
+            return Err(fault);
+        }
+        let Some(place) = self.keeper.place(number) else {
+            return Ok(None);
+        };
+        match self.keeper.tell(&mut pass.token, number, place) {
+            Ok(reply) => Ok(Some(reply)),
+            Err(fault) => Err(fault),
+        }
+    }
+}
+
+/// Whether the address that an operation brings, if it brings one, has 32 bytes, as every address.
+fn is_whole(op: &Op) -> bool
+    requires { HasAddress op.now }
+    ensures value { result ≡ true }
+    ensures whole { BringsAddress op.now }
+{
+    match op {
+        Op::Write { address, .. } => match address {
+            Some(address) => address.0.len() == 32,
+            None => true,
+        },
+        _ => true,
+    }
+}

@@ -1,0 +1,10 @@
+//! The book: the core behind a lock, as the workers of peers and those who ask see it.
+#![tactic(auto)]
+
+mod own;
+mod pass;
+mod places;
+mod seat;
+
+pub use pass::BookPass;
+pub use seat::BookSeat;
