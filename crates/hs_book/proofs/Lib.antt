@@ -1,2 +1,7 @@
-pub mod PlaceLemmas
 pub mod NextLemmas
+pub mod ReportLemmas
+pub mod StepLemmas
+pub mod HistoryLemmas
+pub mod PlaceLemmas
+pub mod CallLemmas
+pub mod CalmLemmas

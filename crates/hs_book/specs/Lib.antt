@@ -1,2 +1,6 @@
-pub mod Answers
 pub mod Book
+pub mod Answers
+pub mod Reports
+pub mod Events
+pub mod Calls
+pub mod History
