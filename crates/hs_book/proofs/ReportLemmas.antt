@@ -64,13 +64,7 @@ replicate_more (suc n) x =
     let e : suc n + 1 ≡ suc (n + 1) = omega arith in
     rw e (ap (λ xs. x ∷ xs) (replicate_more n x))
 
-pub nothing_reported : (n peer : ℕ) → slice_index_or (replicate n []) peer [] ≡ []
-nothing_reported n peer = go n peer
-  where
-    none : List ℕ
-    none = []
-
-    go : (n peer : ℕ) → slice_index_or (replicate n none) peer none ≡ none
-    go zero peer = refl
-    go (suc n) zero = refl
-    go (suc n) (suc peer) = go n peer
+pub nothing_reported : (n peer : ℕ) → slice_index_or {A = List ℕ} (replicate n []) peer [] ≡ []
+nothing_reported zero peer = refl
+nothing_reported (suc n) zero = refl
+nothing_reported (suc n) (suc peer) = nothing_reported n peer
