@@ -1,12 +1,12 @@
 -- A book goes on from how it came to be by the events that its calls make.
-use Rattle.std.proofs.Common.{◌≡◌, ◌∙◌, ap, sym, subst, ℕ, ◌<◌, Bool, true, false, List, [], ◌∷◌, ◌++◌, Option, Some, None, length, refl}
-use Rattle.std.proofs.lemmas.List.{append-nil}
+use Rattle.std.proofs.Common.{◌≡◌, ◌∙◌, ap, sym, subst, ℕ, ◌<◌, Bool, true, false, List, [], ◌∷◌, ◌++◌, Option, Some, None, length, replicate, refl}
+use Rattle.std.proofs.lemmas.List.{append-nil, length-replicate}
 use Rattle.std.specs.Prelude.{◌&&◌, is_none, slice_index_or, if◌then◌else◌}
-use Rattle.hs_book.proofs.ReportLemmas.{report_adds, report_keeps_length, told_more}
+use Rattle.hs_book.proofs.ReportLemmas.{nothing_reported, report_adds, report_keeps_length, told_more}
 use Rattle.hs_book.specs.Book.{Book, peer_count}
 use Rattle.hs_book.specs.Calls.{DoesEvent, book_behind, is_out_of_memory, memory_ran_out, book_with, book_after}
 use Rattle.hs_book.specs.Events.{AreBookSteps, IsBookEvent, IsBookStep}
-use Rattle.hs_book.specs.History.{History, IsBook}
+use Rattle.hs_book.specs.History.{History, IsBook, NobodyJoins}
 use Rattle.hs_book.specs.Reports.{told_along, told_of, with_report}
 use Rattle.hs_core_words.specs.declared.event.Event.{Event}
 use Rattle.hs_core_words.specs.Records.{HasRecordRoom}
@@ -43,6 +43,7 @@ one_more start book e none h may room =
     let led : after ≡ step e at (steps start es) = ap (λ c. step e at c) h.led in
     let one : IsBookStep book.core next = record { going = sym h.ended ∙ none; may = may; moment = refl; room = room } in
     record {
+      calm = h.calm;
       events = es ++ next ∷ [];
       may = steps_more start es next h.may (subst (λ c. IsBookStep c next) h.led one);
       led = led ∙ sym (steps_append start es (next ∷ []));
@@ -80,3 +81,15 @@ by_event start (Some e) old new None is h does none =
 -- the book of a start is one behind a call
 pub still_a_book : (start : Core) (e : Option Event) (old new : Book) → IsBook start old → DoesEvent e old new → IsBook start new
 still_a_book start e old new h does = λ none. by_event start e old new old.ended refl h does none
+
+-- a book that was opened
+pub opens : (start : Core) (book : Book) → book.core ≡ start → NobodyJoins start → book.core.ended ≡ None → book.reported ≡ replicate (peer_count start) [] → book.ended ≡ None → IsBook start book
+opens start book is calm going reported ended = λ none. record {
+  calm = calm;
+  events = [];
+  may = tt;
+  led = is;
+  peers = ap length reported ∙ length-replicate (peer_count start) [];
+  reported = λ peer there. ap (λ rs. slice_index_or rs peer []) reported ∙ nothing_reported (peer_count start) peer;
+  ended = ended ∙ sym going;
+}

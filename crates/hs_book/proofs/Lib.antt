@@ -5,3 +5,4 @@ pub mod HistoryLemmas
 pub mod PlaceLemmas
 pub mod CallLemmas
 pub mod CalmLemmas
+pub mod JoiningLemmas

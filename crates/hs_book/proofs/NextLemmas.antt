@@ -1,12 +1,13 @@
 -- What is next for a peer, by cases.
-use Rattle.std.proofs.Common.{◌≡◌, ap, ℕ, ◌<◌, ◌≤◌, Bool, true, false, Option, Some, None, refl, arith}
+use Rattle.std.proofs.Common.{◌≡◌, ◌∙◌, ap, ℕ, ◌<◌, ◌≤◌, Bool, true, false, Option, Some, None, refl, arith}
 use Rattle.std.proofs.lemmas.Bool.Decides.{nat_tests}
-use Rattle.std.specs.Prelude.{not, ◌||◌, ◌&&◌, is_none, nat_lt}
+use Rattle.std.specs.Prelude.{Result, Ok, Err, IfOk, not, ◌||◌, ◌&&◌, is_none, nat_lt}
 use Rattle.hs_book.specs.Book.{delivery_by, delivery_of, has_nothing, is_there, next_by, next_of, peer_count}
 use Rattle.hs_core_words.specs.declared.event.Event.{Event}
 use Rattle.hs_core_words.specs.declared.event.Event.TheVariants as event
 use Rattle.hs_core_words.specs.Looking.{first_job, oldest_message}
 use Rattle.hs_core_words.specs.State.{Core}
+use Rattle.hs_desk.specs.declared.fault.CoreFault.{CoreFault}
 use Rattle.hs_desk.specs.declared.job.Job.{Job}
 use Rattle.hs_desk.specs.declared.job.Next.{Next}
 use Rattle.hs_desk.specs.declared.job.Next.TheVariants as next
@@ -49,3 +50,7 @@ message_is_next peer core number h job is = by_parts true None (Some number) pee
 
 pub nothing_is_next : (peer : ℕ) (core : Core) → peer < peer_count core → first_job peer core ≡ None → oldest_message peer core ≡ None → IsNext peer core next.Idle None
 nothing_is_next peer core h job none = by_parts true None None peer core (there_is peer core h) job none
+
+pub idle_of : (result : Result Next CoreFault) (peer : ℕ) (core : Core) → IfOk result (λ n. n ≡ next_of peer core) → IfOk result (λ n. is_idle n ≡ has_nothing peer core)
+idle_of (Ok n) peer core h = ap is_idle h ∙ idle_is_nothing peer core
+idle_of (Err f) peer core h = tt

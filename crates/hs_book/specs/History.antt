@@ -16,8 +16,9 @@ use Rattle.hs_book.specs.Reports.{told_along}
 abbrev pub NobodyJoins : Core → Type 0
 NobodyJoins core = (peer : ℕ) → is_joining (status_of peer core) ≡ false
 
--- events of a book have led from this core to its core; the numbers by peer are those of their reports; it has ended as its core has
+-- events of a book have led from this core, of which nobody joins, to its core; the numbers by peer are those of their reports; it has ended as its core has
 pub record History (start : Core) (book : Book) : Type 0 where
+  pub calm : NobodyJoins start
   pub events : Events
   pub may : AreBookSteps start events
   pub led : book.core ≡ steps start events

@@ -1,5 +1,5 @@
 //! The book as those who ask see it.
-ghost use Rattle.std.specs.Prelude.{◌≡◌, ◌+◌, None, Some, true, IsSome, IfOk, IfSome, is_some};
+ghost use Rattle.std.specs.Prelude.{◌≡◌, ◌+◌, None, Some, true, IsSome, IfOk, IfSome, is_some, length};
 ghost use Rattle.hs_book.specs.Answers.{IsAnswerOf, is_told};
 ghost use Rattle.hs_book.specs.Calls.{DoesEvent};
 ghost use Rattle.hs_book.specs.Events.{BringsAddress};
@@ -11,6 +11,7 @@ ghost use Rattle.hs_model.specs.declared.op.Asked.{Asked};
 
 use crate::{Book, BookPass, Opening};
 use hs_desk::{Clerk, CoreFault};
+use hs_limits::Address;
 use hs_model::{Asked, Op, Reply};
 
 impl<O: Opening> Clerk for Book<O> {
@@ -88,9 +89,17 @@ fn is_whole(op: &Op) -> bool
 {
     match op {
         Op::Write { address, .. } => match address {
-            Some(address) => address.0.len() == 32,
+            Some(address) => has_32_bytes(*address),
             None => true,
         },
         _ => true,
     }
+}
+
+/// Whether an address has 32 bytes, as every address.
+fn has_32_bytes(address: Address) -> bool
+    ensures value { result ≡ true }
+    ensures whole { length address.0 ≡ 32 }
+{
+    address.0.len() == 32
 }

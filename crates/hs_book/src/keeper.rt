@@ -1,5 +1,5 @@
 //! The core, with what is kept beside it.
-ghost use Rattle.std.specs.Prelude.{◌≡◌, ◌+◌, ◌<◌, true, [], length, None, Some, IfErr, IfOk, IfSome, IsOkUnless, IsSome, OnOk, replicate, slice_get, slice_index_or};
+ghost use Rattle.std.specs.Prelude.{◌≡◌, ◌+◌, ◌<◌, true, [], length, None, Some, IfErr, IfOk, IfSome, IsOkUnless, IsSome, OnOk, Option, replicate, slice_get, slice_index_or};
 ghost use Rattle.hs_book.specs.Answers.{IsAnswerOf, place_of};
 ghost use Rattle.hs_book.specs.Book.{Book, delivery_of, next_of, peer_count};
 ghost use Rattle.hs_book.specs.Calls.{DoesEvent, StepsOnce};

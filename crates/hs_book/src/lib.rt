@@ -3,6 +3,7 @@
 
 mod asking;
 mod book;
+mod calm;
 mod handing;
 mod keeper;
 mod own;
@@ -11,5 +12,6 @@ mod places;
 mod seat;
 
 pub use book::{Book, Opening};
+pub use calm::nobody_joins;
 pub use pass::BookPass;
 pub use seat::BookSeat;
