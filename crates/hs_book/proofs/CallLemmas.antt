@@ -1,7 +1,8 @@
 -- What the calls make of a book, by cases.
-use Rattle.std.proofs.Common.{◌≡◌, ◌∙◌, ap, sym, subst, ℕ, ◌<◌, ◌≤◌, Bool, true, false, List, [], ◌++◌, Option, Some, None, refl, arith}
+use Rattle.std.proofs.Common.{◌≡◌, ◌∙◌, ap, sym, subst, ℕ, zero, suc, ◌<◌, ◌≤◌, Bool, true, false, List, [], ◌∷◌, ◌++◌, Option, Some, None, length, refl, arith}
 use Rattle.std.specs.Option.{option_map_or}
-use Rattle.std.specs.Prelude.{◌&&◌, is_none, if◌then◌else◌}
+use Rattle.std.specs.Prelude.{◌&&◌, IsOkUnless, OnOk, Result, Ok, Err, ⊤, is_none, slice_get, slice_index_or, if◌then◌else◌}
+use Rattle.hs_book.specs.Answers.{IsTold}
 use Rattle.hs_book.proofs.NextLemmas.{job_is_next, message_is_next, no_peer_is_next, nothing_is_next}
 use Rattle.hs_book.specs.Book.{Book, delivery_of, peer_count}
 use Rattle.hs_book.specs.Calls.{DoesEvent, StepsOnce, book_after, book_behind, book_with, is_out_of_memory, memory_ran_out}
@@ -17,8 +18,14 @@ use Rattle.hs_desk.specs.declared.done.Done.{Done}
 use Rattle.hs_desk.specs.declared.fault.CoreFault.{CoreFault}
 use Rattle.hs_desk.specs.declared.fault.CoreFault.TheVariants as fault
 use Rattle.hs_desk.specs.declared.job.Job.{Job}
+use Rattle.hs_desk.specs.declared.token.Token.{Token}
+use Rattle.hs_desk.specs.Faults.{EndsOnce}
 use Rattle.hs_desk.specs.Slips.{stored_by}
+use Rattle.hs_desk.specs.Tokens.{HasAnswered}
 use Rattle.hs_events.specs.Asked.{report_in}
+use Rattle.hs_journal.specs.declared.entry.JournalEntry.{JournalEntry}
+use Rattle.hs_model.specs.declared.op.Asked.{Asked}
+use Rattle.hs_model.specs.declared.reply.Reply.{Reply}
 
 -- ---- no event
 
@@ -139,3 +146,23 @@ report_does peer d b m c none may steps goes noted = record {
 
     went : record m { reported = with_numbers peer (stored_by d) m.reported } ≡ book_after e b
     went = ap (λ (x : Book). record x { reported = with_numbers peer (stored_by d) x.reported }) is ∙ kept (sym (ap (λ (x : Book). x.ended) is) ∙ goes)
+
+-- a report that was taken, and is kept or not
+pub kept_report_does : (peer : ℕ) (d : Done) (b m c : Book) (result : Result ⊤ CoreFault) → b.ended ≡ None → IsBookEvent b.core (event.Report peer d) → StepsOnce (event.Report peer d) b m → m.ended ≡ None
+    → EndsOnce m.ended c.ended result → IsOkUnless result fault.NoMemory → OnOk result (c ≡ record m { reported = with_numbers peer (stored_by d) m.reported }) → DoesEvent (Some (event.Report peer d)) b c
+kept_report_does peer d b m c (Ok u) none may steps goes ends only noted = report_does peer d b m c none may steps goes noted
+kept_report_does peer d b m c (Err f) none may steps goes ends only noted = runs_out b c none (ends.0 ∙ ap (λ x. Some x) only) (Some (event.Report peer d))
+
+-- ---- what a clerk is told
+
+pub has_answered : (line : ℕ) (journal : List JournalEntry) (o : Asked) (old new : Token) (result : Result (Option Reply) CoreFault) → IsTold line journal o old new result → HasAnswered o old new result
+has_answered line journal o old new (Ok None) h = h.1
+has_answered line journal o old new (Ok (Some told)) h = (h.place, h.noted)
+has_answered line journal o old new (Err f) h = h
+
+-- ---- what stands at a place
+
+pub get_is : {A : Type 0} (xs : List A) (i : ℕ) (x : A) → i < length xs → x ≡ slice_index_or xs i x → slice_get xs i ≡ Some x
+get_is [] i x h is = absurd (omega arith)
+get_is (y ∷ ys) zero x h is = ap (λ z. Some z) (sym is)
+get_is (y ∷ ys) (suc i) x h is = get_is ys i x (omega arith) is

@@ -4,7 +4,8 @@ use Rattle.std.specs.List.{position_from}
 use Rattle.std.specs.Map.{lookup}
 use Rattle.std.specs.Option.{option_map_or}
 use Rattle.std.specs.Ordering.{nat_cmp}
-use Rattle.std.specs.Prelude.{◌≡◌, ℕ, ◌==◌, Bool, false, List, Option, Some, None, is_some, slice_get}
+use Rattle.std.specs.Prelude.{◌≡◌, ℕ, ◌==◌, Bool, false, List, Option, Some, None, Result, Ok, Err, is_some, slice_get}
+use Rattle.hs_desk.specs.declared.fault.CoreFault.{CoreFault}
 use Rattle.hs_desk.specs.declared.token.Token.{Token}
 use Rattle.hs_desk.specs.Tokens.{answered}
 use Rattle.hs_journal.specs.declared.entry.JournalEntry.{JournalEntry}
@@ -31,6 +32,12 @@ pub record IsAnswerOf (line : ℕ) (journal : List JournalEntry) (o : Asked) (ol
   pub at : slice_get journal place ≡ Some entry
   pub reply : told ≡ entry.reply
   pub noted : new ≡ answered place o told old
+
+-- what a token is told of a line: nothing, where the journal does not answer it; its first answer; or a fault
+abbrev pub IsTold : ℕ → List JournalEntry → Asked → Token → Token → Result (Option Reply) CoreFault → Type 0
+IsTold line journal o old new (Ok None) = (place_of line journal ≡ None) × (new ≡ old)
+IsTold line journal o old new (Ok (Some told)) = IsAnswerOf line journal o old new told
+IsTold line journal o old new (Err fault) = new ≡ record old { fault = Some fault }
 
 -- ---- by line
 

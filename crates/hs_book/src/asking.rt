@@ -1,6 +1,6 @@
 //! The book as those who ask see it.
-ghost use Rattle.std.specs.Prelude.{◌≡◌, ◌+◌, None, Some, true, IsSome, IfOk, IfSome, is_some, length};
-ghost use Rattle.hs_book.specs.Answers.{IsAnswerOf, is_told};
+ghost use Rattle.std.specs.Prelude.{◌≡◌, ◌+◌, None, Some, true, IsSome, IfOk, is_some, length};
+ghost use Rattle.hs_book.specs.Answers.{IsTold, is_told};
 ghost use Rattle.hs_book.specs.Calls.{DoesEvent};
 ghost use Rattle.hs_book.specs.Events.{BringsAddress};
 ghost use Rattle.hs_core_words.specs.declared.event.Event.TheVariants as event;
@@ -12,7 +12,7 @@ ghost use Rattle.hs_model.specs.declared.op.Asked.{Asked};
 use crate::{Book, BookPass, Opening};
 use hs_desk::{Clerk, CoreFault};
 use hs_limits::Address;
-use hs_model::{Asked, Op, Reply};
+use hs_model::{Op, Reply};
 
 impl<O: Opening> Clerk for Book<O> {
     type Pass = BookPass;
@@ -37,14 +37,7 @@ impl<O: Opening> Clerk for Book<O> {
         ensures ends { EndsOnce self.old.ended self.new.ended result }
     {
         let _whole = is_whole(&op);
-        let Ok(asked) = Asked::of(self.keeper.alloc, &op) else {
-            let fault = self.keeper.run_out();
-            pass.token.fail(fault);
-            return Err(fault);
-        };
-        let given = self.keeper.begin(op);
-        pass.token.begin(asked, given);
-        given
+        self.keeper.begin_for(&mut pass.token, op)
     }
 
     /// The answer of the operation that is under way: that of the first entry of the journal which
@@ -59,25 +52,13 @@ impl<O: Opening> Clerk for Book<O> {
         ensures found { IfOk result (λ reply.
             is_some reply ≡ is_told number self.old.core.journal) }
 
-        ensures reply { (asked : Asked) → pass.old.asked ≡ Some asked
-            → IfOk result (λ reply. IfSome reply (λ told.
-              IsAnswerOf number self.old.core.journal asked pass.old pass.new told)) }
+        ensures told { (asked : Asked) → pass.old.asked ≡ Some asked
+            → IsTold number self.old.core.journal asked pass.old pass.new result }
         ensures does { DoesEvent None self.old self.new }
 
         ensures ends { EndsOnce self.old.ended self.new.ended result }
     {
-        if self.keeper.ended().is_some() {
-            let fault = self.keeper.run_out();
-            pass.token.fail(fault);
-            return Err(fault);
-        }
-        let Some(place) = self.keeper.place(number) else {
-            return Ok(None);
-        };
-        match self.keeper.tell(&mut pass.token, number, place) {
-            Ok(reply) => Ok(Some(reply)),
-            Err(fault) => Err(fault),
-        }
+        self.keeper.answer_for(&mut pass.token, number)
     }
 }
 

@@ -46,12 +46,6 @@ impl<O: Opening> Desk for Book<O> {
 
         ensures ends { EndsOnce self.old.ended self.new.ended result }
     {
-        let taken = self.keeper.report(seat.slip.peer, &done);
-        let was_taken = taken.is_ok();
-        let noted = seat.slip.take_report(done, taken);
-        if was_taken && noted.is_err() {
-            self.keeper.run_out();
-        }
-        noted
+        self.keeper.report_for(&mut seat.slip, done)
     }
 }

@@ -1,6 +1,6 @@
 //! The core, with what is kept beside it.
-ghost use Rattle.std.specs.Prelude.{◌≡◌, ◌+◌, ◌<◌, true, [], length, None, Some, IfErr, IfOk, IfSome, IsOkUnless, IsSome, OnOk, Option, replicate, slice_get, slice_index_or};
-ghost use Rattle.hs_book.specs.Answers.{IsAnswerOf, place_of};
+ghost use Rattle.std.specs.Prelude.{◌≡◌, ◌+◌, ◌<◌, true, [], length, None, Some, IfErr, IfNone, IfOk, IfSome, IsOkUnless, IsSome, OnOk, Option, is_some, replicate, slice_index_or};
+ghost use Rattle.hs_book.specs.Answers.{IsAnswerOf, IsTold, is_told, place_of};
 ghost use Rattle.hs_book.specs.Book.{Book, delivery_of, next_of, peer_count};
 ghost use Rattle.hs_book.specs.Calls.{DoesEvent, StepsOnce};
 ghost use Rattle.hs_book.specs.Events.{BringsAddress, IsBookEvent};
@@ -10,10 +10,9 @@ ghost use Rattle.hs_core_words.specs.declared.event.Event.{Event};
 ghost use Rattle.hs_core_words.specs.declared.event.Event.TheVariants as event;
 ghost use Rattle.hs_desk.specs.declared.fault.CoreFault.TheVariants.{NoMemory};
 ghost use Rattle.hs_desk.specs.Faults.{EndsOnce};
-ghost use Rattle.hs_desk.specs.Slips.{is_own_next, stored_by};
-ghost use Rattle.hs_desk.specs.Tokens.{HasAnswered};
-ghost use Rattle.hs_events.specs.Due.{is_answer};
-ghost use Rattle.hs_members.specs.Members.{IsPeer};
+ghost use Rattle.hs_desk.specs.Slips.{is_own_next, reported, stored_by};
+ghost use Rattle.hs_desk.specs.Tokens.{begun};
+ghost use Rattle.hs_model.specs.Judge.{asked_of};
 ghost use Rattle.hs_model.specs.declared.op.Asked.{Asked};
 
 use crate::own::copy_own;
@@ -22,7 +21,7 @@ use hs_core::Core;
 use hs_core_words::Event;
 use hs_desk::{CoreFault, Done, Next, Slip, Token};
 use hs_limits::ListOf;
-use hs_model::{Op, Reply};
+use hs_model::{Asked, Op, Reply};
 use std::alloc::{AllocError, Global};
 use std::marker::Model;
 
@@ -30,7 +29,7 @@ use std::marker::Model;
 /// book has ended.
 #[derive(Drop)]
 pub(crate) struct Keeper {
-    pub(crate) alloc: Global,
+    alloc: Global,
     core: Core,
     reported: Vec<ListOf<u64>>,
     places: Places,
@@ -108,6 +107,7 @@ impl Keeper {
     pub(crate) fn run_out(&mut self) -> CoreFault
         ensures ended { self.new.ended ≡ Some result }
         ensures first { IfSome self.old.ended (λ earlier. result ≡ earlier) }
+        ensures only { IfNone self.old.ended (result ≡ NoMemory) }
         ensures does { (e : Option Event) → DoesEvent e self.old self.new }
     {
         if let Some(fault) = self.fault {
@@ -161,9 +161,24 @@ impl Keeper {
         }
     }
 
+    /// Takes a report of the work in hand of a peer, and notes it in its slip.
+    pub(crate) fn report_for(&mut self, slip: &mut Slip, done: Done) -> Result<(), CoreFault>
+        ensures noted { slip.new ≡ reported done result slip.old }
+        ensures ends { EndsOnce self.old.ended self.new.ended result }
+        ensures does { DoesEvent (Some (event.Report slip.old.peer done)) self.old self.new }
+    {
+        match self.report(slip.peer, &done) {
+            Ok(()) => match slip.take_report(done, Ok(())) {
+                Ok(()) => Ok(()),
+                Err(_) => Err(self.run_out()),
+            },
+            Err(fault) => slip.take_report(done, Err(fault)),
+        }
+    }
+
     /// Takes a report of a peer. One that does not answer the first job of the peer, which never
     /// comes, counts as want of memory.
-    pub(crate) fn report(&mut self, peer: u8, done: &Done) -> Result<(), CoreFault>
+    fn report(&mut self, peer: u8, done: &Done) -> Result<(), CoreFault>
         ensures ends { EndsOnce self.old.ended self.new.ended result }
         ensures does { DoesEvent (Some (event.Report peer done.now)) self.old self.new }
     {
@@ -197,6 +212,7 @@ impl Keeper {
     fn note(&mut self, peer: u8, done: &Done) -> Result<(), CoreFault>
         requires going { self.old.ended ≡ None }
         ensures ends { EndsOnce self.old.ended self.new.ended result }
+        ensures only { IsOkUnless result NoMemory }
         ensures noted { OnOk result (self.new ≡ record self.old {
           reported = with_numbers peer (stored_by done.now) self.old.reported;
         }) }
@@ -207,8 +223,27 @@ impl Keeper {
         Ok(())
     }
 
+    /// Begins an operation, and notes it in a token.
+    pub(crate) fn begin_for(&mut self, token: &mut Token, op: Op) -> Result<u64, CoreFault>
+        requires address { BringsAddress op }
+        ensures noted { token.new ≡ begun (asked_of op) result token.old }
+        ensures number { IfOk result (λ number. number ≡ self.old.core.progress.last_line + 1) }
+        ensures ends { EndsOnce self.old.ended self.new.ended result }
+        ensures does { DoesEvent (Some (event.Line (self.old.core.progress.last_line + 1) op))
+            self.old self.new }
+    {
+        let Ok(asked) = Asked::of(self.alloc, &op) else {
+            let fault = self.run_out();
+            token.fail(fault);
+            return Err(fault);
+        };
+        let given = self.begin(op);
+        token.begin(asked, given);
+        given
+    }
+
     /// Begins an operation under the next line.
-    pub(crate) fn begin(&mut self, op: Op) -> Result<u64, CoreFault>
+    fn begin(&mut self, op: Op) -> Result<u64, CoreFault>
         requires address { BringsAddress op }
         ensures number { IfOk result (λ number. number ≡ self.old.core.progress.last_line + 1) }
         ensures ends { EndsOnce self.old.ended self.new.ended result }
@@ -227,21 +262,37 @@ impl Keeper {
         }
     }
 
-    /// The place at which the journal answers a line. None exactly where it does not. It takes no
-    /// memory.
-    pub(crate) fn place(&self, line: u64) -> Option<usize>
-        requires going { self.now.ended ≡ None }
-        ensures { result ≡ place_of line self.now.core.journal }
-    {
-        self.places.of(line)
-    }
-
-    /// Tells a token the answer at a place of the journal, which is that of its line.
-    pub(crate) fn tell(&mut self, token: &mut Token, line: u64, place: usize) -> Result<Reply, CoreFault>
-        requires going { self.old.ended ≡ None }
-        requires place { place_of line self.old.core.journal ≡ Some place }
+    /// The answer to a line, and notes it in a token. None exactly where the journal does not answer
+    /// it.
+    pub(crate) fn answer_for(&mut self, token: &mut Token, line: u64) -> Result<Option<Reply>, CoreFault>
         requires asked { IsSome token.old.asked }
         ensures noted { (asked : Asked) → token.old.asked ≡ Some asked
+            → IsTold line self.old.core.journal asked token.old token.new result }
+        ensures found { IfOk result (λ reply. is_some reply ≡ is_told line self.old.core.journal) }
+        ensures ends { EndsOnce self.old.ended self.new.ended result }
+        ensures does { DoesEvent None self.old self.new }
+    {
+        if self.fault.is_some() {
+            let fault = self.run_out();
+            token.fail(fault);
+            return Err(fault);
+        }
+        let Some(place) = self.places.of(line) else {
+            return Ok(None);
+        };
+        match self.tell(token, line, place) {
+            Ok(reply) => Ok(Some(reply)),
+            Err(fault) => Err(fault),
+        }
+    }
+
+    /// Tells a token the answer at a place of the journal, which is that to its line.
+    fn tell(&mut self, token: &mut Token, line: u64, place: usize) -> Result<Reply, CoreFault>
+        requires going { self.old.ended ≡ None }
+        requires within { place < length self.old.core.journal }
+        requires place { place_of line self.old.core.journal ≡ Some place }
+        requires asked { IsSome token.old.asked }
+        ensures told { (asked : Asked) → token.old.asked ≡ Some asked
             → IfOk result (λ told. IsAnswerOf line self.old.core.journal asked token.old token.new told) }
         ensures failed { IfErr result (λ fault. token.new ≡ record token.old { fault = Some fault }) }
         ensures ends { EndsOnce self.old.ended self.new.ended result }
