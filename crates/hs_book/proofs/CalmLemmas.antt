@@ -53,7 +53,9 @@ use Rattle.hs_shard.specs.Facts.{Catalogue}
 use Rattle.hs_tokens.specs.Seats.{Seats}
 use Rattle.std.specs.Prelude.{slice_index_or, slice_set}
 use Rattle.hs_book.specs.Events.{AreBookSteps, IsBookEvent}
-use Rattle.hs_book.specs.History.{NobodyJoins}
+use Rattle.hs_book.specs.Book.{Book}
+use Rattle.hs_book.specs.Calls.{is_out_of_memory}
+use Rattle.hs_book.specs.History.{History, IsBook, NobodyJoins}
 use Rattle.hs_core_words.specs.Changing.{change_pool}
 use Rattle.hs_core_words.specs.Step.{begin_event, end_event, keep_entries, line_of, refuse_entries, step}
 use Rattle.hs_events.specs.Course.{steps}
@@ -61,7 +63,7 @@ use Rattle.hs_events.specs.Due.{Events}
 use Rattle.hs_limits.specs.declared.limits.PeerStatus.TheVariants.{Good, Down}
 use Rattle.hs_members.specs.Members.{is_joining, status}
 use Rattle.hs_post.specs.Pool.{is_empty, restart_numbers}
-use Rattle.std.proofs.Common.{ap, ◌∙◌, ◌==◌, ◌&&◌, not, nat_lt, is_none, length}
+use Rattle.std.proofs.Common.{ap, subst, sym, ◌∙◌, ◌==◌, ◌&&◌, not, nat_lt, is_none, length}
 
 -- where nobody joins before, nobody does after
 pub record Calms (old new : Core) : Type 0 where
@@ -394,3 +396,8 @@ step_calms e at c may = go (is_none c.ended) refl
 pub nobody_joins : (core : Core) (es : Events) → AreBookSteps core es → NobodyJoins core → NobodyJoins (steps core es)
 nobody_joins core [] may h = h
 nobody_joins core (e ∷ es) may h = nobody_joins (step e.0 e.1 core) es may.1 ((step_calms e.0 e.1 core may.0.may).calm h)
+
+pub still_calm : (start : Core) (book : Book) → IsBook start book → is_out_of_memory book.ended ≡ false → NobodyJoins book.core
+still_calm start book h none =
+    let it : History start book = h none in
+    subst NobodyJoins (sym it.led) (nobody_joins start it.events it.may it.calm)

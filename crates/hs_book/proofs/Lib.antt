@@ -6,3 +6,4 @@ pub mod PlaceLemmas
 pub mod CallLemmas
 pub mod CalmLemmas
 pub mod JoiningLemmas
+pub mod Examples

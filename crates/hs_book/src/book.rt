@@ -1,6 +1,7 @@
 //! The book.
-ghost use Rattle.std.specs.Prelude.{◌≡◌, [], None, IfOk, IsOkUnless, replicate, slice_index_or};
+ghost use Rattle.std.specs.Prelude.{◌≡◌, [], None, false, IfOk, IsOkUnless, replicate, slice_index_or};
 ghost use Rattle.hs_book.specs.Book.{peer_count};
+ghost use Rattle.hs_book.specs.Calls.{is_out_of_memory};
 ghost use Rattle.hs_book.specs.History.{IsBook, NobodyJoins};
 ghost use Rattle.hs_desk.specs.declared.fault.CoreFault.TheVariants.{NoMemory};
 
@@ -63,9 +64,11 @@ impl<O: Opening> Book<O> {
     }
 
     /// The core, which the events of the book have led to, unless memory ran out. It takes no memory.
+    #[tactic(auto, using(crate::proofs::CalmLemmas::still_calm))]
     pub fn into_core(self) -> Core
         ensures core { result ≡ self.core }
         ensures book { IsBook O.start self }
+        ensures calm { is_out_of_memory self.ended ≡ false → NobodyJoins result }
     {
         let Book { keeper, of: _ } = self;
         keeper.into_core()
