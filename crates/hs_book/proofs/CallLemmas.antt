@@ -2,9 +2,9 @@
 use Rattle.std.proofs.Common.{◌≡◌, ◌∙◌, ap, sym, subst, ℕ, zero, suc, ◌<◌, ◌≤◌, Bool, true, false, List, [], ◌∷◌, ◌++◌, Option, Some, None, length, refl, arith}
 use Rattle.std.specs.Option.{option_map_or}
 use Rattle.std.specs.Prelude.{◌&&◌, IsOkUnless, OnOk, Result, Ok, Err, ⊤, is_none, slice_get, slice_index_or, if◌then◌else◌}
-use Rattle.hs_book.specs.Answers.{IsTold}
+use Rattle.hs_book.specs.Answers.{Hears}
 use Rattle.hs_book.proofs.NextLemmas.{job_is_next, message_is_next, no_peer_is_next, nothing_is_next}
-use Rattle.hs_book.specs.Book.{Book, delivery_of, peer_count}
+use Rattle.hs_book.specs.Book.{Book, delivery_of, count_of_peers}
 use Rattle.hs_book.specs.Calls.{DoesEvent, StepsOnce, book_after, book_behind, book_with, is_out_of_memory, memory_ran_out}
 use Rattle.hs_book.specs.Events.{IsBookEvent, IsHandling}
 use Rattle.hs_book.specs.Reports.{with_numbers, with_report}
@@ -61,13 +61,13 @@ runs_out b c none short e = record {
 
 -- ---- what is next
 
-pub no_peer_does : (peer : ℕ) (b : Book) → peer_count b.core ≤ peer → DoesEvent (delivery_of peer b.core) b b
+pub no_peer_does : (peer : ℕ) (b : Book) → count_of_peers b.core ≤ peer → DoesEvent (delivery_of peer b.core) b b
 no_peer_does peer b h = subst (λ e. DoesEvent e b b) (sym (no_peer_is_next peer b.core h).event) (nothing_done b)
 
-pub job_does : (peer : ℕ) (b : Book) (job : Job) → peer < peer_count b.core → first_job peer b.core ≡ Some job → DoesEvent (delivery_of peer b.core) b b
+pub job_does : (peer : ℕ) (b : Book) (job : Job) → peer < count_of_peers b.core → first_job peer b.core ≡ Some job → DoesEvent (delivery_of peer b.core) b b
 job_does peer b job h is = subst (λ e. DoesEvent e b b) (sym (job_is_next peer b.core job h is).event) (nothing_done b)
 
-pub nothing_does : (peer : ℕ) (b : Book) → peer < peer_count b.core → first_job peer b.core ≡ None → oldest_message peer b.core ≡ None → DoesEvent (delivery_of peer b.core) b b
+pub nothing_does : (peer : ℕ) (b : Book) → peer < count_of_peers b.core → first_job peer b.core ≡ None → oldest_message peer b.core ≡ None → DoesEvent (delivery_of peer b.core) b b
 nothing_does peer b h job message = subst (λ e. DoesEvent e b b) (sym (nothing_is_next peer b.core h job message).event) (nothing_done b)
 
 -- ---- one event
@@ -94,7 +94,7 @@ event_does e b c none may other steps = record {
   room = steps.room;
 }
 
-pub message_does : (peer number : ℕ) (b c : Book) → b.ended ≡ None → peer < peer_count b.core → first_job peer b.core ≡ None → oldest_message peer b.core ≡ Some number
+pub message_does : (peer number : ℕ) (b c : Book) → b.ended ≡ None → peer < count_of_peers b.core → first_job peer b.core ≡ None → oldest_message peer b.core ≡ Some number
     → StepsOnce (event.Deliver 0 number) b c → DoesEvent (delivery_of peer b.core) b c
 message_does peer number b c none there job message steps =
     let handling : IsHandling b.core 0 number = record { no_line = refl; peer = peer; there = there; no_job = job; oldest = message } in
@@ -155,7 +155,7 @@ kept_report_does peer d b m c (Err f) none may steps goes ends only noted = runs
 
 -- ---- what a clerk is told
 
-pub has_answered : (line : ℕ) (journal : List JournalEntry) (o : Asked) (old new : Token) (result : Result (Option Reply) CoreFault) → IsTold line journal o old new result → HasAnswered o old new result
+pub has_answered : (line : ℕ) (journal : List JournalEntry) (o : Asked) (old new : Token) (result : Result (Option Reply) CoreFault) → Hears line journal o old new result → HasAnswered o old new result
 has_answered line journal o old new (Ok None) h = h.1
 has_answered line journal o old new (Ok (Some told)) h = (h.place, h.noted)
 has_answered line journal o old new (Err f) h = h

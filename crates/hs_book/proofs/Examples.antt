@@ -1,10 +1,10 @@
 -- What the words say of small values.
 use Rattle.std.proofs.Common.{◌≡◌, ℕ, Bool, true, false, List, [], ◌∷◌, map, Option, Some, None, refl}
-use Rattle.hs_book.specs.Answers.{is_told, place_of}
+use Rattle.hs_book.specs.Answers.{is_line_answered, answer_place}
 use Rattle.hs_book.specs.Book.{Book, delivery_by, next_by}
 use Rattle.hs_book.specs.Calls.{book_after, book_behind, is_out_of_memory, memory_ran_out}
 use Rattle.hs_book.specs.History.{no_core}
-use Rattle.hs_book.specs.Reports.{told_along, told_of, with_report}
+use Rattle.hs_book.specs.Reports.{numbers_along, numbers_of, with_report}
 use Rattle.hs_core_words.specs.declared.event.Event.{Event}
 use Rattle.hs_core_words.specs.declared.event.Event.TheVariants as event
 use Rattle.hs_desk.specs.declared.done.Done.TheVariants as done
@@ -27,10 +27,10 @@ entry_of w = record { who = w; moment = 0; deed = deed.Nothing; reply = reply.Ok
 abbrev journal : List JournalEntry
 journal = entry_of who.Store ∷ entry_of (who.Line 4) ∷ entry_of (who.Shard 3) ∷ entry_of (who.Line 3) ∷ []
 
-places : map (λ line. place_of line journal) (3 ∷ 4 ∷ 5 ∷ 0 ∷ []) ≡ Some 3 ∷ Some 1 ∷ None ∷ None ∷ []
+places : map (λ line. answer_place line journal) (3 ∷ 4 ∷ 5 ∷ 0 ∷ []) ≡ Some 3 ∷ Some 1 ∷ None ∷ None ∷ []
 places = refl
 
-told_lines : map (λ line. is_told line journal) (3 ∷ 4 ∷ 5 ∷ []) ≡ true ∷ true ∷ false ∷ []
+told_lines : map (λ line. is_line_answered line journal) (3 ∷ 4 ∷ 5 ∷ []) ≡ true ∷ true ∷ false ∷ []
 told_lines = refl
 
 -- ---- what is next
@@ -68,7 +68,7 @@ failed = refl
 others : map (λ e. with_report e reported) (event.Report 1 (done.Stored 7) ∷ event.Deliver 0 7 ∷ []) ≡ reported ∷ reported ∷ []
 others = refl
 
-told : map (λ peer. told_of peer (event.Report 1 (done.Sealed 7))) (0 ∷ 1 ∷ []) ≡ [] ∷ (7 ∷ []) ∷ []
+told : map (λ peer. numbers_of peer (event.Report 1 (done.Sealed 7))) (0 ∷ 1 ∷ []) ≡ [] ∷ (7 ∷ []) ∷ []
 told = refl
 
 -- ---- ends
@@ -99,5 +99,5 @@ ends = refl
 not_kept : last.reported ≡ [] ∷ []
 not_kept = refl
 
-not_told : told_along 0 no_core ((event.Report 0 (done.Sealed 1), 0) ∷ []) ≡ []
+not_told : numbers_along 0 no_core ((event.Report 0 (done.Sealed 1), 0) ∷ []) ≡ []
 not_told = refl

@@ -3,11 +3,11 @@ use Rattle.std.proofs.Common.{◌≡◌, ◌∙◌, ap, sym, subst, ℕ, ◌<◌
 use Rattle.std.proofs.lemmas.List.{append-nil, length-replicate}
 use Rattle.std.specs.Prelude.{◌&&◌, is_none, slice_index_or, if◌then◌else◌}
 use Rattle.hs_book.proofs.ReportLemmas.{nothing_reported, report_adds, report_keeps_length, told_more}
-use Rattle.hs_book.specs.Book.{Book, peer_count}
+use Rattle.hs_book.specs.Book.{Book, count_of_peers}
 use Rattle.hs_book.specs.Calls.{DoesEvent, book_behind, is_out_of_memory, memory_ran_out, book_with, book_after}
 use Rattle.hs_book.specs.Events.{AreBookSteps, IsBookEvent, IsBookStep}
 use Rattle.hs_book.specs.History.{History, IsBook, NobodyJoins}
-use Rattle.hs_book.specs.Reports.{told_along, told_of, with_report}
+use Rattle.hs_book.specs.Reports.{numbers_along, numbers_of, with_report}
 use Rattle.hs_core_words.specs.declared.event.Event.{Event}
 use Rattle.hs_core_words.specs.Records.{HasRecordRoom}
 use Rattle.hs_core_words.specs.State.{Core}
@@ -29,7 +29,7 @@ kept_by true e reported = report_keeps_length e reported
 kept_by false e reported = refl
 
 told_by : (b : Bool) (peer : ℕ) (e : Event) (reported : List (List ℕ)) → peer < length reported
-    → slice_index_or (if b then with_report e reported else reported) peer [] ≡ slice_index_or reported peer [] ++ (if b then told_of peer e else [])
+    → slice_index_or (if b then with_report e reported else reported) peer [] ≡ slice_index_or reported peer [] ++ (if b then numbers_of peer e else [])
 told_by true peer e reported h = report_adds peer e reported h
 told_by false peer e reported h = sym (append-nil (slice_index_or reported peer []))
 
@@ -49,10 +49,10 @@ one_more start book e none h may room =
       led = led ∙ sym (steps_append start es (next ∷ []));
       peers = kept_by (is_none after.ended) e book.reported ∙ h.peers;
       reported = λ peer there.
-        told_by (is_none after.ended) peer e book.reported (subst (λ n. peer < n) (sym h.peers) there)
-        ∙ ap (λ xs. xs ++ (if is_none after.ended then told_of peer e else [])) (h.reported peer there)
-        ∙ ap (λ (c : Core). told_along peer start es ++ (if is_none c.ended then told_of peer e else [])) led
-        ∙ sym (told_more peer start es next);
+          told_by (is_none after.ended) peer e book.reported (subst (λ n. peer < n) (sym h.peers) there)
+          ∙ ap (λ xs. xs ++ (if is_none after.ended then numbers_of peer e else [])) (h.reported peer there)
+          ∙ ap (λ (c : Core). numbers_along peer start es ++ (if is_none c.ended then numbers_of peer e else [])) led
+          ∙ sym (told_more peer start es next);
       ended = refl;
     }
 
@@ -83,13 +83,13 @@ pub still_a_book : (start : Core) (e : Option Event) (old new : Book) → IsBook
 still_a_book start e old new h does = λ none. by_event start e old new old.ended refl h does none
 
 -- a book that was opened
-pub opens : (start : Core) (book : Book) → book.core ≡ start → NobodyJoins start → book.core.ended ≡ None → book.reported ≡ replicate (peer_count start) [] → book.ended ≡ None → IsBook start book
+pub opens : (start : Core) (book : Book) → book.core ≡ start → NobodyJoins start → book.core.ended ≡ None → book.reported ≡ replicate (count_of_peers start) [] → book.ended ≡ None → IsBook start book
 opens start book is calm going reported ended = λ none. record {
   calm = calm;
   events = [];
   may = tt;
   led = is;
-  peers = ap length reported ∙ length-replicate (peer_count start) [];
-  reported = λ peer there. ap (λ rs. slice_index_or rs peer []) reported ∙ nothing_reported (peer_count start) peer;
+  peers = ap length reported ∙ length-replicate (count_of_peers start) [];
+  reported = λ peer there. ap (λ rs. slice_index_or rs peer []) reported ∙ nothing_reported (count_of_peers start) peer;
   ended = ended ∙ sym going;
 }

@@ -3,7 +3,7 @@ use Rattle.std.proofs.Common.{◌≡◌, ◌∙◌, ap, sym, ℕ, zero, suc, ◌
 use Rattle.std.specs.List.{position_from}
 use Rattle.std.specs.Option.{option_or}
 use Rattle.std.specs.Prelude.{if◌then◌else◌, slice_index_or}
-use Rattle.hs_book.specs.Answers.{Indexes, is_of_line, place_in, place_of}
+use Rattle.hs_book.specs.Answers.{Indexes, answers_line, place_in, answer_place}
 use Rattle.hs_journal.specs.declared.entry.JournalEntry.{JournalEntry}
 
 -- ---- one item more at the end
@@ -73,14 +73,14 @@ length_front (x ∷ xs) (suc i) h = ap suc (length_front xs i (omega arith))
 
 -- an index of the entries up to a place, with the entry there
 pub indexes_more : (journal : List JournalEntry) (i : ℕ) (x : JournalEntry) (old new : List (ℕ × ℕ)) → i < length journal → x ≡ slice_index_or journal i x → Indexes (take i journal) old
-    → ((line : ℕ) → place_in line new ≡ option_or (place_in line old) (if is_of_line line x then Some i else None)) → Indexes (take (i + 1) journal) new
+    → ((line : ℕ) → place_in line new ≡ option_or (place_in line old) (if answers_line line x then Some i else None)) → Indexes (take (i + 1) journal) new
 indexes_more journal i x old new h is before one = λ line.
     let at : 0 + length (take i journal) ≡ i = omega (arith, length_front journal i (omega arith)) in
     let up_to : take (i + 1) journal ≡ take i journal ++ x ∷ [] = take_more journal i x h ∙ ap (λ y. take i journal ++ y ∷ []) (sym is) in
-    one line ∙ ap (λ o. option_or o (if is_of_line line x then Some i else None)) (before line)
-    ∙ ap (λ n. option_or (place_of line (take i journal)) (if is_of_line line x then Some n else None)) (sym at)
-    ∙ sym (place_more (is_of_line line) 0 (take i journal) x) ∙ ap (λ xs. place_of line xs) (sym up_to)
+    one line ∙ ap (λ o. option_or o (if answers_line line x then Some i else None)) (before line)
+    ∙ ap (λ n. option_or (answer_place line (take i journal)) (if answers_line line x then Some n else None)) (sym at)
+    ∙ sym (place_more (answers_line line) 0 (take i journal) x) ∙ ap (λ xs. answer_place line xs) (sym up_to)
 
 -- what is found in an index of all entries is a place of one
-pub indexed_within : (journal : List JournalEntry) (line place : ℕ) → place_of line journal ≡ Some place → place < length journal
-indexed_within journal line place h = place_within (is_of_line line) journal place h
+pub indexed_within : (journal : List JournalEntry) (line place : ℕ) → answer_place line journal ≡ Some place → place < length journal
+indexed_within journal line place h = place_within (answers_line line) journal place h

@@ -5,7 +5,7 @@ use Rattle.std.proofs.lemmas.List.{append-nil, append_assoc, get_or-set_same, ge
 use Rattle.std.proofs.Math.ListN.{length-set}
 use Rattle.std.specs.Option.{option_map_or}
 use Rattle.std.specs.Prelude.{◌==◌, is_none, slice_index_or, slice_set, if◌then◌else◌}
-use Rattle.hs_book.specs.Reports.{told_along, told_of, with_numbers, with_report}
+use Rattle.hs_book.specs.Reports.{numbers_along, numbers_of, with_numbers, with_report}
 use Rattle.hs_core_words.specs.declared.event.Event.{Event}
 use Rattle.hs_core_words.specs.State.{Core}
 use Rattle.hs_core_words.specs.Step.{step}
@@ -31,7 +31,7 @@ one_peer : (q : ℕ) (reported : List (List ℕ)) (r : Option (ℕ × Done)) →
 one_peer q reported None h = sym (append-nil (slice_index_or reported q []))
 one_peer q reported (Some r) h = same_peer r.0 q (stored_by r.1) reported h (r.0 == q) refl
 
-pub report_adds : (peer : ℕ) (e : Event) (reported : List (List ℕ)) → peer < length reported → slice_index_or (with_report e reported) peer [] ≡ slice_index_or reported peer [] ++ told_of peer e
+pub report_adds : (peer : ℕ) (e : Event) (reported : List (List ℕ)) → peer < length reported → slice_index_or (with_report e reported) peer [] ≡ slice_index_or reported peer [] ++ numbers_of peer e
 report_adds peer e reported h = one_peer peer reported (report_in e) h
 
 as_long : (reported : List (List ℕ)) (r : Option (ℕ × Done)) → length (option_map_or (λ r. with_numbers r.0 (stored_by r.1) reported) r reported) ≡ length reported
@@ -44,13 +44,13 @@ report_keeps_length e reported = as_long reported (report_in e)
 -- ---- some more events
 
 pub told_more : (peer : ℕ) (core : Core) (es : Events) (e : Event × ℕ)
-    → told_along peer core (es ++ e ∷ []) ≡ told_along peer core es ++ (if is_none (step e.0 e.1 (steps core es)).ended then told_of peer e.0 else [])
-told_more peer core [] e = append-nil (if is_none (step e.0 e.1 core).ended then told_of peer e.0 else [])
+    → numbers_along peer core (es ++ e ∷ []) ≡ numbers_along peer core es ++ (if is_none (step e.0 e.1 (steps core es)).ended then numbers_of peer e.0 else [])
+told_more peer core [] e = append-nil (if is_none (step e.0 e.1 core).ended then numbers_of peer e.0 else [])
 told_more peer core (d ∷ es) e =
-    let here : List ℕ = if is_none (step d.0 d.1 core).ended then told_of peer d.0 else [] in
+    let here : List ℕ = if is_none (step d.0 d.1 core).ended then numbers_of peer d.0 else [] in
     let after : Core = step d.0 d.1 core in
     ap (λ xs. here ++ xs) (told_more peer after es e)
-    ∙ sym (append_assoc here (told_along peer after es) (if is_none (step e.0 e.1 (steps after es)).ended then told_of peer e.0 else []))
+    ∙ sym (append_assoc here (numbers_along peer after es) (if is_none (step e.0 e.1 (steps after es)).ended then numbers_of peer e.0 else []))
 
 -- ---- lists of numbers
 

@@ -14,30 +14,30 @@ use Rattle.hs_model.specs.declared.op.Asked.{Asked}
 use Rattle.hs_model.specs.declared.reply.Reply.{Reply}
 
 -- whether an entry answers a line
-abbrev pub is_of_line : ℕ → JournalEntry → Bool
-is_of_line line entry = option_map_or (λ n. n == line) (line_answered entry.who) false
+abbrev pub answers_line : ℕ → JournalEntry → Bool
+answers_line line entry = option_map_or (λ n. n == line) (line_answered entry.who) false
 
 -- the place of the first entry that does
-abbrev pub place_of : ℕ → List JournalEntry → Option ℕ
-place_of line journal = position_from (is_of_line line) 0 journal
+abbrev pub answer_place : ℕ → List JournalEntry → Option ℕ
+answer_place line journal = position_from (answers_line line) 0 journal
 
-abbrev pub is_told : ℕ → List JournalEntry → Bool
-is_told line journal = is_some (place_of line journal)
+abbrev pub is_line_answered : ℕ → List JournalEntry → Bool
+is_line_answered line journal = is_some (answer_place line journal)
 
 -- the reply of the entry that answers a line, and the token that has noted it with its place
 pub record IsAnswerOf (line : ℕ) (journal : List JournalEntry) (o : Asked) (old new : Token) (told : Reply) : Type 0 where
   pub place : ℕ
   pub entry : JournalEntry
-  pub first : place_of line journal ≡ Some place
+  pub first : answer_place line journal ≡ Some place
   pub at : slice_get journal place ≡ Some entry
   pub reply : told ≡ entry.reply
   pub noted : new ≡ answered place o told old
 
 -- what a token is told of a line: nothing, where the journal does not answer it; its first answer; or a fault
-abbrev pub IsTold : ℕ → List JournalEntry → Asked → Token → Token → Result (Option Reply) CoreFault → Type 0
-IsTold line journal o old new (Ok None) = (place_of line journal ≡ None) × (new ≡ old)
-IsTold line journal o old new (Ok (Some told)) = IsAnswerOf line journal o old new told
-IsTold line journal o old new (Err fault) = new ≡ record old { fault = Some fault }
+abbrev pub Hears : ℕ → List JournalEntry → Asked → Token → Token → Result (Option Reply) CoreFault → Type 0
+Hears line journal o old new (Ok None) = (answer_place line journal ≡ None) × (new ≡ old)
+Hears line journal o old new (Ok (Some told)) = IsAnswerOf line journal o old new told
+Hears line journal o old new (Err fault) = new ≡ record old { fault = Some fault }
 
 -- ---- by line
 
@@ -47,4 +47,4 @@ place_in line places = lookup (is_at (nat_cmp line)) places
 
 -- an index has for each line the place of the first entry that answers it
 abbrev pub Indexes : List JournalEntry → List (ℕ × ℕ) → Type 0
-Indexes journal places = (line : ℕ) → place_in line places ≡ place_of line journal
+Indexes journal places = (line : ℕ) → place_in line places ≡ answer_place line journal

@@ -16,11 +16,11 @@ pub record Book : Type 0 where
   pub ended : Option CoreFault
 
 -- how many peers there are, and whether there is such a peer
-abbrev pub peer_count : Core → ℕ
-peer_count core = (shape_of core).shards * (shape_of core).copies
+abbrev pub count_of_peers : Core → ℕ
+count_of_peers core = (shape_of core).shards * (shape_of core).copies
 
-abbrev pub is_there : ℕ → Core → Bool
-is_there peer core = nat_lt peer (peer_count core)
+abbrev pub has_peer : ℕ → Core → Bool
+has_peer peer core = nat_lt peer (count_of_peers core)
 
 -- of a peer that is there or not, with this first job and this oldest message, what is next: the job, else the handling of the message, else nothing
 abbrev pub next_by : Bool → Option Job → Option ℕ → Next
@@ -29,8 +29,8 @@ next_by true (Some job) message = next.Do job
 next_by true None (Some number) = next.Handled
 next_by true None None = next.Idle
 
-abbrev pub next_of : ℕ → Core → Next
-next_of peer core = next_by (is_there peer core) (first_job peer core) (oldest_message peer core)
+abbrev pub handed_next : ℕ → Core → Next
+handed_next peer core = next_by (has_peer peer core) (first_job peer core) (oldest_message peer core)
 
 -- the event that this is: a message is delivered where it is handled
 abbrev pub delivery_by : Bool → Option Job → Option ℕ → Option Event
@@ -40,8 +40,8 @@ delivery_by true None (Some number) = Some (event.Deliver 0 number)
 delivery_by true None None = None
 
 abbrev pub delivery_of : ℕ → Core → Option Event
-delivery_of peer core = delivery_by (is_there peer core) (first_job peer core) (oldest_message peer core)
+delivery_of peer core = delivery_by (has_peer peer core) (first_job peer core) (oldest_message peer core)
 
 -- a peer has neither a job nor a message, or is not there
 abbrev pub has_nothing : ℕ → Core → Bool
-has_nothing peer core = not (is_there peer core) || (is_none (first_job peer core) && is_none (oldest_message peer core))
+has_nothing peer core = not (has_peer peer core) || (is_none (first_job peer core) && is_none (oldest_message peer core))

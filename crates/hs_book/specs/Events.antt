@@ -14,23 +14,23 @@ use Rattle.hs_model.specs.declared.op.Op.{Op}
 use Rattle.hs_model.specs.declared.op.Op.TheVariants as op
 
 -- a write brings an address, of 32 bytes
-abbrev pub BringsAddress : Op → Type 0
-BringsAddress (op.Open name) = Unit {0}
-BringsAddress (op.Close name) = Unit {0}
-BringsAddress (op.Write name payload handles address) = IsSomeAnd address (λ a. length a.0 ≡ 32)
-BringsAddress (op.Read name handle) = Unit {0}
-BringsAddress (op.Look name key) = Unit {0}
-BringsAddress (op.Root name key handle) = Unit {0}
-BringsAddress (op.Drop key) = Unit {0}
-BringsAddress (op.Forget name handle) = Unit {0}
-BringsAddress (op.Name name handle) = Unit {0}
-BringsAddress op.Delete = Unit {0}
-BringsAddress op.Stat = Unit {0}
+abbrev pub HasWholeAddress : Op → Type 0
+HasWholeAddress (op.Open name) = Unit {0}
+HasWholeAddress (op.Close name) = Unit {0}
+HasWholeAddress (op.Write name payload handles address) = IsSomeAnd address (λ a. length a.0 ≡ 32)
+HasWholeAddress (op.Read name handle) = Unit {0}
+HasWholeAddress (op.Look name key) = Unit {0}
+HasWholeAddress (op.Root name key handle) = Unit {0}
+HasWholeAddress (op.Drop key) = Unit {0}
+HasWholeAddress (op.Forget name handle) = Unit {0}
+HasWholeAddress (op.Name name handle) = Unit {0}
+HasWholeAddress op.Delete = Unit {0}
+HasWholeAddress op.Stat = Unit {0}
 
 -- a client's line is the next one
-pub record IsLine (core : Core) (line : ℕ) (o : Op) : Type 0 where
+pub record IsNextOperation (core : Core) (line : ℕ) (o : Op) : Type 0 where
   pub next : line ≡ core.progress.last_line + 1
-  pub address : BringsAddress o
+  pub address : HasWholeAddress o
 
 -- some peer has no job, and this is the oldest message for it
 pub record IsHandling (core : Core) (line number : ℕ) : Type 0 where
@@ -42,7 +42,7 @@ pub record IsHandling (core : Core) (line number : ℕ) : Type 0 where
 
 -- a book may make this event of this core; a report answers the first job of a peer
 abbrev pub IsBookEvent : Core → Event → Type 0
-IsBookEvent core (event.Line line o) = IsLine core line o
+IsBookEvent core (event.Line line o) = IsNextOperation core line o
 IsBookEvent core (event.Report peer done) = IsPeer core.members.shape peer × (is_answer core peer done ≡ true)
 IsBookEvent core (event.Turn line peer) = ⊥
 IsBookEvent core (event.Deliver line number) = IsHandling core line number

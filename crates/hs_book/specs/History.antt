@@ -7,10 +7,10 @@ use Rattle.hs_events.specs.Course.{steps}
 use Rattle.hs_events.specs.Due.{Events}
 use Rattle.hs_limits.specs.Limits.{greatest_limits}
 use Rattle.hs_members.specs.Members.{IsPeer, is_joining}
-use Rattle.hs_book.specs.Book.{Book, peer_count}
+use Rattle.hs_book.specs.Book.{Book, count_of_peers}
 use Rattle.hs_book.specs.Calls.{is_out_of_memory}
 use Rattle.hs_book.specs.Events.{AreBookSteps}
-use Rattle.hs_book.specs.Reports.{told_along}
+use Rattle.hs_book.specs.Reports.{numbers_along}
 
 -- no peer is joining
 abbrev pub NobodyJoins : Core → Type 0
@@ -22,8 +22,8 @@ pub record History (start : Core) (book : Book) : Type 0 where
   pub events : Events
   pub may : AreBookSteps start events
   pub led : book.core ≡ steps start events
-  pub peers : length book.reported ≡ peer_count start
-  pub reported : (peer : ℕ) → IsPeer start.members.shape peer → slice_index_or book.reported peer [] ≡ told_along peer start events
+  pub peers : length book.reported ≡ count_of_peers start
+  pub reported : (peer : ℕ) → IsPeer start.members.shape peer → slice_index_or book.reported peer [] ≡ numbers_along peer start events
   pub ended : book.ended ≡ book.core.ended
 
 -- so is it, until memory ran out

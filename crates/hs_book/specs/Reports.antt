@@ -17,10 +17,10 @@ abbrev pub with_report : Event → List (List ℕ) → List (List ℕ)
 with_report e reported = option_map_or (λ r. with_numbers r.0 (stored_by r.1) reported) (report_in e) reported
 
 -- what it tells of one peer
-abbrev pub told_of : ℕ → Event → List ℕ
-told_of peer e = option_map_or (λ r. if r.0 == peer then stored_by r.1 else []) (report_in e) []
+abbrev pub numbers_of : ℕ → Event → List ℕ
+numbers_of peer e = option_map_or (λ r. if r.0 == peer then stored_by r.1 else []) (report_in e) []
 
 -- what some events tell of it, but for one with which the core has ended: that report was not taken
-abbrev pub told_along : ℕ → Core → Events → List ℕ
-told_along peer core [] = []
-told_along peer core (e ∷ es) = (if is_none (step e.0 e.1 core).ended then told_of peer e.0 else []) ++ told_along peer (step e.0 e.1 core) es
+abbrev pub numbers_along : ℕ → Core → Events → List ℕ
+numbers_along peer core [] = []
+numbers_along peer core (e ∷ es) = (if is_none (step e.0 e.1 core).ended then numbers_of peer e.0 else []) ++ numbers_along peer (step e.0 e.1 core) es

@@ -1,8 +1,8 @@
 //! The book as those who ask see it.
 ghost use Rattle.std.specs.Prelude.{◌≡◌, ◌+◌, None, Some, true, IsSome, IfOk, is_some, length};
-ghost use Rattle.hs_book.specs.Answers.{IsTold, is_told};
+ghost use Rattle.hs_book.specs.Answers.{Hears, is_line_answered};
 ghost use Rattle.hs_book.specs.Calls.{DoesEvent};
-ghost use Rattle.hs_book.specs.Events.{BringsAddress};
+ghost use Rattle.hs_book.specs.Events.{HasWholeAddress};
 ghost use Rattle.hs_core_words.specs.declared.event.Event.TheVariants as event;
 ghost use Rattle.hs_desk.specs.Faults.{EndsOnce};
 ghost use Rattle.hs_desk.specs.Tokens.{HasAddress, HasAnswered, IsOfSession, begun};
@@ -19,7 +19,7 @@ impl<O: Opening> Clerk for Book<O> {
 
     ghost ended = { λ b. b.ended };
 
-    ghost is_answered = { λ b number. is_told number b.core.journal };
+    ghost is_answered = { λ b number. is_line_answered number b.core.journal };
 
     /// Begins an operation, and answers its number: one Line, of the next number.
     #[tactic(auto, using(crate::proofs::HistoryLemmas::still_a_book))]
@@ -50,10 +50,10 @@ impl<O: Opening> Clerk for Book<O> {
         ensures noted { (asked : Asked) → pass.old.asked ≡ Some asked
             → HasAnswered asked pass.old pass.new result }
         ensures found { IfOk result (λ reply.
-            is_some reply ≡ is_told number self.old.core.journal) }
+            is_some reply ≡ is_line_answered number self.old.core.journal) }
 
         ensures told { (asked : Asked) → pass.old.asked ≡ Some asked
-            → IsTold number self.old.core.journal asked pass.old pass.new result }
+            → Hears number self.old.core.journal asked pass.old pass.new result }
         ensures does { DoesEvent None self.old self.new }
 
         ensures ends { EndsOnce self.old.ended self.new.ended result }
@@ -66,7 +66,7 @@ impl<O: Opening> Clerk for Book<O> {
 fn is_whole(op: &Op) -> bool
     requires { HasAddress op.now }
     ensures value { result ≡ true }
-    ensures whole { BringsAddress op.now }
+    ensures whole { HasWholeAddress op.now }
 {
     match op {
         Op::Write { address, .. } => match address {

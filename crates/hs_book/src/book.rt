@@ -1,6 +1,6 @@
 //! The book.
 ghost use Rattle.std.specs.Prelude.{◌≡◌, [], None, false, IfOk, IsOkUnless, replicate, slice_index_or};
-ghost use Rattle.hs_book.specs.Book.{peer_count};
+ghost use Rattle.hs_book.specs.Book.{count_of_peers};
 ghost use Rattle.hs_book.specs.Calls.{is_out_of_memory};
 ghost use Rattle.hs_book.specs.History.{IsBook, NobodyJoins};
 ghost use Rattle.hs_desk.specs.declared.fault.CoreFault.TheVariants.{NoMemory};
@@ -51,7 +51,7 @@ impl<O: Opening> Book<O> {
         requires calm { NobodyJoins core }
         ensures ok { IfOk result (λ book. book ≡ record {
           core = core;
-          reported = replicate (peer_count core) [];
+          reported = replicate (count_of_peers core) [];
           ended = None;
         }) }
         ensures only { IsOkUnless result NoMemory }

@@ -1,6 +1,6 @@
 //! The book as the workers of peers see it.
 ghost use Rattle.std.specs.Prelude.{◌≡◌, true, IfOk, Some};
-ghost use Rattle.hs_book.specs.Book.{delivery_of, has_nothing, next_of};
+ghost use Rattle.hs_book.specs.Book.{delivery_of, has_nothing, handed_next};
 ghost use Rattle.hs_book.specs.Calls.{DoesEvent};
 ghost use Rattle.hs_core_words.specs.declared.event.Event.TheVariants as event;
 ghost use Rattle.hs_desk.specs.Faults.{EndsOnce};
@@ -24,7 +24,7 @@ impl<O: Opening> Desk for Book<O> {
 
         ensures idle { IfOk result (λ next. is_idle next ≡ has_nothing seat.old.peer self.old.core) }
         ensures own { IfOk result (λ next. is_own_next next ≡ true) }
-        ensures given { IfOk result (λ next. next ≡ next_of seat.old.peer self.old.core) }
+        ensures given { IfOk result (λ next. next ≡ handed_next seat.old.peer self.old.core) }
         ensures does { DoesEvent (delivery_of seat.old.peer self.old.core) self.old self.new }
 
         ensures ends { EndsOnce self.old.ended self.new.ended result }

@@ -1,9 +1,9 @@
 //! The core, with what is kept beside it.
 ghost use Rattle.std.specs.Prelude.{◌≡◌, ◌+◌, ◌<◌, true, [], length, None, Some, IfErr, IfNone, IfOk, IfSome, IsOkUnless, IsSome, OnOk, Option, is_some, replicate, slice_index_or};
-ghost use Rattle.hs_book.specs.Answers.{IsAnswerOf, IsTold, is_told, place_of};
-ghost use Rattle.hs_book.specs.Book.{Book, delivery_of, next_of, peer_count};
+ghost use Rattle.hs_book.specs.Answers.{IsAnswerOf, Hears, is_line_answered, answer_place};
+ghost use Rattle.hs_book.specs.Book.{Book, delivery_of, handed_next, count_of_peers};
 ghost use Rattle.hs_book.specs.Calls.{DoesEvent, StepsOnce};
-ghost use Rattle.hs_book.specs.Events.{BringsAddress, IsBookEvent};
+ghost use Rattle.hs_book.specs.Events.{HasWholeAddress, IsBookEvent};
 ghost use Rattle.hs_book.specs.Reports.{with_numbers};
 ghost use Rattle.hs_core_words.specs.Calls.{IsNextLine};
 ghost use Rattle.hs_core_words.specs.declared.event.Event.{Event};
@@ -57,7 +57,7 @@ impl Keeper {
     pub(crate) fn new(alloc: Global, core: Core) -> Result<Keeper, CoreFault>
         ensures ok { IfOk result (λ book. book ≡ record {
           core = core;
-          reported = replicate (peer_count core) [];
+          reported = replicate (count_of_peers core) [];
           ended = None;
         }) }
         ensures only { IsOkUnless result NoMemory }
@@ -120,7 +120,7 @@ impl Keeper {
     /// What is next for a peer, where there is room for what a report may add to its slip.
     pub(crate) fn next_for(&mut self, slip: &mut Slip) -> Result<Next, CoreFault>
         ensures slip { slip.new ≡ slip.old }
-        ensures given { IfOk result (λ next. next ≡ next_of slip.old.peer self.old.core) }
+        ensures given { IfOk result (λ next. next ≡ handed_next slip.old.peer self.old.core) }
         ensures own { IfOk result (λ next. is_own_next next ≡ true) }
         ensures ends { EndsOnce self.old.ended self.new.ended result }
         ensures does { DoesEvent (delivery_of slip.old.peer self.old.core) self.old self.new }
@@ -134,7 +134,7 @@ impl Keeper {
     /// What is next for a peer.
     #[tactic(auto, using(crate::proofs::CallLemmas::stays_ended, crate::proofs::CallLemmas::no_peer_does, crate::proofs::CallLemmas::job_does, crate::proofs::CallLemmas::nothing_does, crate::proofs::CallLemmas::message_does))]
     fn next(&mut self, peer: u8) -> Result<Next, CoreFault>
-        ensures given { IfOk result (λ next. next ≡ next_of peer self.old.core) }
+        ensures given { IfOk result (λ next. next ≡ handed_next peer self.old.core) }
         ensures own { IfOk result (λ next. is_own_next next ≡ true) }
         ensures ends { EndsOnce self.old.ended self.new.ended result }
         ensures does { DoesEvent (delivery_of peer self.old.core) self.old self.new }
@@ -225,7 +225,7 @@ impl Keeper {
 
     /// Begins an operation, and notes it in a token.
     pub(crate) fn begin_for(&mut self, token: &mut Token, op: Op) -> Result<u64, CoreFault>
-        requires address { BringsAddress op }
+        requires address { HasWholeAddress op }
         ensures noted { token.new ≡ begun (asked_of op) result token.old }
         ensures number { IfOk result (λ number. number ≡ self.old.core.progress.last_line + 1) }
         ensures ends { EndsOnce self.old.ended self.new.ended result }
@@ -244,7 +244,7 @@ impl Keeper {
 
     /// Begins an operation under the next line.
     fn begin(&mut self, op: Op) -> Result<u64, CoreFault>
-        requires address { BringsAddress op }
+        requires address { HasWholeAddress op }
         ensures number { IfOk result (λ number. number ≡ self.old.core.progress.last_line + 1) }
         ensures ends { EndsOnce self.old.ended self.new.ended result }
         ensures does { DoesEvent (Some (event.Line (self.old.core.progress.last_line + 1) op))
@@ -264,11 +264,15 @@ impl Keeper {
 
     /// The answer to a line, and notes it in a token. None exactly where the journal does not answer
     /// it.
-    pub(crate) fn answer_for(&mut self, token: &mut Token, line: u64) -> Result<Option<Reply>, CoreFault>
+    pub(crate) fn answer_for(
+        &mut self,
+        token: &mut Token,
+        line: u64,
+    ) -> Result<Option<Reply>, CoreFault>
         requires asked { IsSome token.old.asked }
         ensures noted { (asked : Asked) → token.old.asked ≡ Some asked
-            → IsTold line self.old.core.journal asked token.old token.new result }
-        ensures found { IfOk result (λ reply. is_some reply ≡ is_told line self.old.core.journal) }
+            → Hears line self.old.core.journal asked token.old token.new result }
+        ensures found { IfOk result (λ reply. is_some reply ≡ is_line_answered line self.old.core.journal) }
         ensures ends { EndsOnce self.old.ended self.new.ended result }
         ensures does { DoesEvent None self.old self.new }
     {
@@ -290,7 +294,7 @@ impl Keeper {
     fn tell(&mut self, token: &mut Token, line: u64, place: usize) -> Result<Reply, CoreFault>
         requires going { self.old.ended ≡ None }
         requires within { place < length self.old.core.journal }
-        requires place { place_of line self.old.core.journal ≡ Some place }
+        requires place { answer_place line self.old.core.journal ≡ Some place }
         requires asked { IsSome token.old.asked }
         ensures told { (asked : Asked) → token.old.asked ≡ Some asked
             → IfOk result (λ told. IsAnswerOf line self.old.core.journal asked token.old token.new told) }

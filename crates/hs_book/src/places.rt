@@ -1,7 +1,7 @@
 //! Where the journal answers each line.
 ghost use Rattle.std.specs.Prelude.{◌≡◌, ◌≤◌, ℕ, [], length, take, OnOk, Some, None, if◌then◌else◌};
 ghost use Rattle.std.specs.Option.{option_or};
-ghost use Rattle.hs_book.specs.Answers.{Indexes, is_of_line, place_in};
+ghost use Rattle.hs_book.specs.Answers.{Indexes, answers_line, place_in};
 
 use hs_journal::{JournalEntry, Who};
 use std::alloc::{AllocError, Global};
@@ -54,7 +54,7 @@ impl Places {
     /// Notes the entry at a place.
     fn note_one(&mut self, entry: &JournalEntry, place: usize) -> Result<(), AllocError>
         ensures { OnOk result ((line : ℕ) → place_in line self.new
-            ≡ option_or (place_in line self.old) (if is_of_line line entry.now then Some place else None)) }
+            ≡ option_or (place_in line self.old) (if answers_line line entry.now then Some place else None)) }
     {
         let Who::Line(line) = entry.who else {
             return Ok(());

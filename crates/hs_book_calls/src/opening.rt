@@ -13,6 +13,7 @@ const ALONE: Shape = Shape {
     shards: 2,
     copies: 1,
 };
+
 const IN_PAIRS: Shape = Shape {
     shards: 2,
     copies: 2,

@@ -79,10 +79,18 @@ pub(crate) fn is_answered_as_wanted<O: Opening>(
     let written = tell(alloc, book, seats, Line::Write)?;
     let rooted = tell(alloc, book, seats, Line::Root)?;
     let entered = tell(alloc, book, seats, Line::Delete)?;
-    Ok(matches!(opened, Some(Reply::Ok))
-        && matches!(written, Some(Reply::New { handle: 0, epoch: 1 }))
-        && matches!(rooted, Some(Reply::Ok))
-        && matches!(entered, Some(Reply::Run { epoch: 2 })))
+    Ok(
+        matches!(opened, Some(Reply::Ok))
+            && matches!(
+                written,
+                Some(Reply::New {
+                    handle: 0,
+                    epoch: 1
+                })
+            )
+            && matches!(rooted, Some(Reply::Ok))
+            && matches!(entered, Some(Reply::Run { epoch: 2 })),
+    )
 }
 
 /// What is told of a core at which workers took turns: whether each answer was as wanted, and how many
@@ -109,7 +117,9 @@ fn workers_and_one_who_asks_take_turns_at_shards_of_one_copy(rt: HostRuntime) ->
 }
 
 #[test]
-fn workers_and_one_who_asks_take_turns_at_shards_of_two_copies(rt: HostRuntime) -> Result<(), Fail> {
+fn workers_and_one_who_asks_take_turns_at_shards_of_two_copies(
+    rt: HostRuntime,
+) -> Result<(), Fail> {
     assert_eq!(rt; in_pairs(rt.alloc())?, (true, 8));
     Ok(())
 }
