@@ -1,7 +1,6 @@
 -- What the calls make of a book, by cases.
-use Rattle.std.proofs.Common.{◌≡◌, ◌∙◌, ap, sym, subst, ℕ, zero, suc, ◌<◌, ◌≤◌, Bool, true, false, List, [], ◌∷◌, ◌++◌, Option, Some, None, length, refl, arith}
-use Rattle.std.specs.Option.{option_map_or}
-use Rattle.std.specs.Prelude.{◌&&◌, IsOkUnless, OnOk, Result, Ok, Err, ⊤, is_none, slice_get, slice_index_or, if◌then◌else◌}
+use Rattle.std.proofs.Common.{◌≡◌, ◌∙◌, ap, sym, subst, ℕ, zero, suc, ◌<◌, ◌≤◌, Bool, true, false, List, [], ◌∷◌, Option, Some, None, length, refl, arith}
+use Rattle.std.specs.Prelude.{IsOkUnless, OnOk, Result, Ok, Err, ⊤, is_none, slice_get, slice_index_or, if◌then◌else◌}
 use Rattle.hs_book.specs.Answers.{Hears}
 use Rattle.hs_book.proofs.NextLemmas.{job_is_next, message_is_next, no_peer_is_next, nothing_is_next}
 use Rattle.hs_book.specs.Book.{Book, delivery_of, count_of_peers}

@@ -1,11 +1,10 @@
 -- What the words say of small values.
-use Rattle.std.proofs.Common.{◌≡◌, ℕ, Bool, true, false, List, [], ◌∷◌, map, Option, Some, None, refl}
+use Rattle.std.proofs.Common.{◌≡◌, ℕ, true, false, List, [], ◌∷◌, map, Option, Some, None, refl}
 use Rattle.hs_book.specs.Answers.{is_line_answered, answer_place}
 use Rattle.hs_book.specs.Book.{Book, delivery_by, next_by}
 use Rattle.hs_book.specs.Calls.{book_after, book_behind, is_out_of_memory, memory_ran_out}
 use Rattle.hs_book.specs.History.{no_core}
 use Rattle.hs_book.specs.Reports.{numbers_along, numbers_of, with_report}
-use Rattle.hs_core_words.specs.declared.event.Event.{Event}
 use Rattle.hs_core_words.specs.declared.event.Event.TheVariants as event
 use Rattle.hs_desk.specs.declared.done.Done.TheVariants as done
 use Rattle.hs_desk.specs.declared.fault.CoreFault.{CoreFault}

@@ -4,7 +4,7 @@ use Rattle.std.proofs.lemmas.List.{append-nil, length-replicate}
 use Rattle.std.specs.Prelude.{◌&&◌, is_none, slice_index_or, if◌then◌else◌}
 use Rattle.hs_book.proofs.ReportLemmas.{nothing_reported, report_adds, report_keeps_length, told_more}
 use Rattle.hs_book.specs.Book.{Book, count_of_peers}
-use Rattle.hs_book.specs.Calls.{DoesEvent, book_behind, is_out_of_memory, memory_ran_out, book_with, book_after}
+use Rattle.hs_book.specs.Calls.{DoesEvent, book_behind, is_out_of_memory, book_after}
 use Rattle.hs_book.specs.Events.{AreBookSteps, IsBookEvent, IsBookStep}
 use Rattle.hs_book.specs.History.{History, IsBook, NobodyJoins}
 use Rattle.hs_book.specs.Reports.{numbers_along, numbers_of, with_report}
@@ -16,7 +16,6 @@ use Rattle.hs_desk.specs.declared.fault.CoreFault.{CoreFault}
 use Rattle.hs_events.proofs.RunLemmas.{steps_append}
 use Rattle.hs_events.specs.Course.{steps}
 use Rattle.hs_events.specs.Due.{Events}
-use Rattle.hs_members.specs.Members.{IsPeer}
 
 -- ---- one event more
 

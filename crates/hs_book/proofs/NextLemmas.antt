@@ -1,7 +1,7 @@
 -- What is next for a peer, by cases.
 use Rattle.std.proofs.Common.{◌≡◌, ◌∙◌, ap, ℕ, ◌<◌, ◌≤◌, Bool, true, false, Option, Some, None, refl, arith}
 use Rattle.std.proofs.lemmas.Bool.Decides.{nat_tests}
-use Rattle.std.specs.Prelude.{Result, Ok, Err, IfOk, not, ◌||◌, ◌&&◌, is_none, nat_lt}
+use Rattle.std.specs.Prelude.{Result, Ok, Err, IfOk, not, ◌||◌, ◌&&◌, is_none}
 use Rattle.hs_book.specs.Book.{delivery_by, delivery_of, has_nothing, has_peer, next_by, handed_next, count_of_peers}
 use Rattle.hs_core_words.specs.declared.event.Event.{Event}
 use Rattle.hs_core_words.specs.declared.event.Event.TheVariants as event

@@ -1,6 +1,6 @@
 -- What one event leaves of a core: its journal goes on, and it answers why it has ended.
 use Rattle.std.proofs.Common.{◌≡◌, ◌∙◌, ap, sym, ℕ, ◌+◌, ◌≤◌, ◌==◌, ◌&&◌, not, Bool, true, false, List, [], ◌∷◌, ◌++◌, Option, Some, None, refl, length, nat_lt, is_none, take, arith, length-append}
-use Rattle.std.proofs.lemmas.List.{append-nil, take-append-le}
+use Rattle.std.proofs.lemmas.List.{append-nil}
 use Rattle.std.specs.Prelude.{Result, Ok, Err, ⊤}
 use Rattle.hs_awaiting.specs.Words.{change_if}
 use Rattle.hs_core_words.specs.Calls.{outcome_of}
@@ -8,7 +8,7 @@ use Rattle.hs_core_words.specs.Changing.{change_pool}
 use Rattle.hs_core_words.specs.declared.event.Event.{Event}
 use Rattle.hs_core_words.specs.declared.event.Event.TheVariants as event
 use Rattle.hs_core_words.specs.State.{Core}
-use Rattle.hs_core_words.specs.Step.{begin_event, do_event, end_event, line_of, run_event, step}
+use Rattle.hs_core_words.specs.Step.{begin_event, do_event, end_event, line_of, step}
 use Rattle.hs_desk.specs.declared.fault.CoreFault.{CoreFault}
 use Rattle.hs_events.proofs.KeepLemmas.{Leaves, ReportLeaves, keeps_do, with_line}
 use Rattle.hs_journal.specs.declared.entry.JournalEntry.{JournalEntry}

@@ -1,5 +1,5 @@
 -- What a call makes of a book.
-use Rattle.std.specs.Prelude.{◌≡◌, ℕ, ◌&&◌, Bool, true, false, Option, Some, None, IfSome, is_none, if◌then◌else◌}
+use Rattle.std.specs.Prelude.{◌≡◌, ◌&&◌, Bool, true, false, Option, Some, None, IfSome, is_none, if◌then◌else◌}
 use Rattle.hs_core_words.specs.declared.event.Event.{Event}
 use Rattle.hs_core_words.specs.Records.{HasRecordRoom}
 use Rattle.hs_core_words.specs.State.{Core}

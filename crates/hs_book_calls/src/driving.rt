@@ -75,7 +75,7 @@ pub(crate) fn ask<O: Opening>(
     requires own { IsOfSession session op }
     requires address { HasAddress op }
 {
-    let mut pass = BookPass::new(alloc, session);
+    let mut pass = sent(BookPass::new(alloc, session));
     let number = book.begin(&mut pass, op)?;
     settle(book, seats)?;
     book.answer(&mut pass, number)
@@ -100,16 +100,23 @@ pub(crate) fn driven(alloc: Global, core: Core) -> Result<(Core, bool), CoreFaul
     drive::<Brand>(alloc, core)
 }
 
+/// A value that may go to another thread, as books, seats and passes go.
+fn sent<T: Send>(value: T) -> T
+    ensures { result ≡ value }
+{
+    value
+}
+
 /// The same with a book of an opening that the caller picks.
-fn drive<O: Opening>(alloc: Global, core: Core) -> Result<(Core, bool), CoreFault>
+fn drive<O: Opening + Send>(alloc: Global, core: Core) -> Result<(Core, bool), CoreFault>
     requires start { core ≡ O.start }
     requires going { core.ended ≡ None }
     requires calm { NobodyJoins core }
     ensures { IfOk result (λ r. (book : Book) × (book.core ≡ r.0) × IsBook O.start book) }
 {
     let shape = core.shape();
-    let mut seats = seats_of(alloc, shape.shards * shape.copies)?;
-    let mut book: Book<O> = Book::open(alloc, core)?;
+    let mut seats = sent(seats_of(alloc, shape.shards * shape.copies)?);
+    let mut book: Book<O> = sent(Book::open(alloc, core)?);
     settle(&mut book, &mut seats)?;
     let wanted = is_answered_as_wanted(alloc, &mut book, &mut seats)?;
     Ok((book.into_core(), wanted))

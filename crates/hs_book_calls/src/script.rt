@@ -112,7 +112,7 @@ fn in_pairs(alloc: Global) -> Result<(bool, usize), CoreFault> {
 // Each operation, the sweeps of both shards, and that the run is done.
 #[test]
 fn workers_and_one_who_asks_take_turns_at_shards_of_one_copy(rt: HostRuntime) -> Result<(), Fail> {
-    assert_eq!(rt; alone(rt.alloc())?, (true, 8));
+    assert_eq!(rt; alone(rt.alloc())?, (true, 7));
     Ok(())
 }
 
@@ -120,6 +120,6 @@ fn workers_and_one_who_asks_take_turns_at_shards_of_one_copy(rt: HostRuntime) ->
 fn workers_and_one_who_asks_take_turns_at_shards_of_two_copies(
     rt: HostRuntime,
 ) -> Result<(), Fail> {
-    assert_eq!(rt; in_pairs(rt.alloc())?, (true, 8));
+    assert_eq!(rt; in_pairs(rt.alloc())?, (true, 7));
     Ok(())
 }

@@ -1,4 +1,4 @@
-use Rattle.std.proofs.Common.{◌≡◌, ◌∙◌, ap, subst, [], replicate}
+use Rattle.std.proofs.Common.{◌∙◌, ap, subst, [], replicate}
 use Rattle.hs_book.proofs.HistoryLemmas.{opens}
 use Rattle.hs_book.specs.Book.{Book, count_of_peers}
 use Rattle.hs_book.specs.History.{NobodyJoins}

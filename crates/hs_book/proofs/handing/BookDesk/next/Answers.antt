@@ -1,4 +1,3 @@
-use Rattle.std.proofs.Common.{◌≡◌, ◌∙◌, ap, IfOk}
 use Rattle.hs_book.proofs.NextLemmas.{idle_of}
 use Rattle.hs_book.proofs.handing.BookDesk.next.Goals as goal
 

@@ -1,7 +1,6 @@
-use Rattle.std.proofs.Common.{◌≡◌, ◌∙◌, ap, Some, None, rules, refl}
+use Rattle.std.proofs.Common.{◌≡◌, Some, rules}
 use Rattle.hs_book.proofs.PlaceLemmas.{indexed_within}
 use Rattle.hs_book.specs.Answers.{answer_place}
-use Rattle.hs_book.specs.Book.{Book}
 use Rattle.hs_book.proofs.keeper.Keeper.answer_for.Goals as goal
 
 pub tell-requires-clause-within : goal.tell-requires-clause-within
