@@ -7,3 +7,4 @@ pub mod CallLemmas
 pub mod CalmLemmas
 pub mod JoiningLemmas
 pub mod Examples
+pub mod RunExamples
