@@ -118,17 +118,17 @@ ops = op.Open a ∷ op.Write a (97 ∷ 98 ∷ []) [] None ∷ op.Write a (97 ∷
 abbrev told : List (Who × Reply)
 told =
     (who.Line 1, reply.Ok) ∷ (who.Line 2, reply.New 0 1) ∷ (who.Line 3, reply.Dup 1 1) ∷ (who.Line 4, reply.Ok)
-    ∷ (who.Line 5, reply.Run 2) ∷ (who.Shard 0, reply.Sweep 2 0) ∷ (who.Shard 1, reply.Sweep 2 0) ∷ (who.Store, reply.Done 2)
+    ∷ (who.Line 5, reply.Run 2) ∷ (who.Shard 1, reply.Enter 2) ∷ (who.Shard 0, reply.Sweep 2 0) ∷ (who.Shard 1, reply.Sweep 2 0) ∷ (who.Store, reply.Done 2)
     ∷ (who.Line 6, reply.Bytes (97 ∷ 98 ∷ []) []) ∷ []
 
 abbrev said : Core → List (Who × Reply)
 said core = map (λ e. (e.who, e.reply)) core.journal
 
 -- two shards of one copy, and of two
-alone : said (asks 12 ops (book_of (2, 1))).book.core ≡ told
+alone : said (asks 40 ops (book_of (2, 1))).book.core ≡ told
 unfolding gained addresses block_at read_block no_handle_in stale_in helds_of deed_of seats_after asked_for begin block_entry compared data_of go is_same_block judged_in mark_entry on_bytes on_effect refusals_of asked_block least_epoch
 alone = refl
 
-in_pairs : said (asks 12 ops (book_of (2, 2))).book.core ≡ told
+in_pairs : said (asks 40 ops (book_of (2, 2))).book.core ≡ told
 unfolding gained addresses block_at read_block no_handle_in stale_in helds_of deed_of seats_after asked_for begin block_entry compared data_of go is_same_block judged_in mark_entry on_bytes on_effect refusals_of asked_block least_epoch
 in_pairs = refl

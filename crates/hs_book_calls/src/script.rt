@@ -109,10 +109,10 @@ fn in_pairs(alloc: Global) -> Result<(bool, usize), CoreFault> {
     told(driven_if_calm(alloc, opened_in_pairs(alloc)?))
 }
 
-// Each operation, the sweeps of both shards, and that the run is done.
+// Each operation, that the second shard enters, the sweeps of both, and that the run is done.
 #[test]
 fn workers_and_one_who_asks_take_turns_at_shards_of_one_copy(rt: HostRuntime) -> Result<(), Fail> {
-    assert_eq!(rt; alone(rt.alloc())?, (true, 7));
+    assert_eq!(rt; alone(rt.alloc())?, (true, 8));
     Ok(())
 }
 
@@ -120,6 +120,6 @@ fn workers_and_one_who_asks_take_turns_at_shards_of_one_copy(rt: HostRuntime) ->
 fn workers_and_one_who_asks_take_turns_at_shards_of_two_copies(
     rt: HostRuntime,
 ) -> Result<(), Fail> {
-    assert_eq!(rt; in_pairs(rt.alloc())?, (true, 7));
+    assert_eq!(rt; in_pairs(rt.alloc())?, (true, 8));
     Ok(())
 }
