@@ -1,4 +1,8 @@
 mod CauseLemmas
+mod CopyLemmas
+mod DeltaLemmas
+mod EmptyLemmas
+mod GiveLemmas
 mod LookLemmas
 mod MarkLemmas
 mod ScrubLemmas

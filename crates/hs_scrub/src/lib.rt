@@ -2,10 +2,13 @@
 #![tactic(auto)]
 
 mod compare;
+mod emptying;
 mod fault;
+mod giving;
 mod laws;
 mod look;
 mod mark;
+mod readable;
 mod scrubbing;
 mod shard;
 mod text;

@@ -1,0 +1,81 @@
+-- Words of the private steps of copying; no public clause cites them.
+use Rattle.std.specs.Prelude.{◌≡◌, ◌≤◌, ◌+◌, ℕ, List, [], None, Some, take}
+use Rattle.hs_entry.specs.declared.entry.Entry.{Entry}
+use Rattle.hs_entry.specs.Entries.{IsPrefix}
+use Rattle.hs_peerlog.specs.Images.{LeavesEach, LeavesOnly}
+use Rattle.hs_peerlog.specs.Lists.{HasLog, IsReady, Keeping}
+use Rattle.hs_peerlog.specs.Past.{PastStays}
+use Rattle.hs_peerlog.specs.Views.{HasView, Viewing}
+use Rattle.hs_ports.specs.Fault.{HasRisen}
+use Rattle.hs_scrub.specs.declared.giving.Given.{Given}
+use Rattle.hs_scrub.specs.declared.giving.Given.TheVariants.{Ended, Left, Whole}
+use Rattle.hs_scrub.specs.declared.mark.PeerMark.{PeerMark}
+use Rattle.hs_scrub.specs.declared.mark.PeerMark.TheVariants.{Same, Behind, Differs, NoLog, Fault}
+use Rattle.hs_scrub.specs.Steps.{IsStill}
+use Rattle.hs_side.specs.Current.{list_in}
+use Rattle.hs_taking.specs.Disks.{DiskSeen, seen_at}
+
+-- the log of a disk may go on, and no entry waits
+pub record IsOpen (tells : Type 0) (disk : DiskSeen) (log : Keeping) : Type 0 where
+  pub ready : IsReady tells log (disk.size log.log.side) disk.stands
+  pub sealed : log.waits ≡ None
+
+-- an empty log was made of a disk, and no call on it failed
+pub record IsEmptied (tells : Type 0) (before : ℕ) (old new : DiskSeen) (log : Keeping) : Type 0 where
+  pub opens : IsOpen tells new log
+  pub list : tells → old.stands.last ≤ before → HasLog log new.stands [] None
+  pub calm : new.faults ≡ old.faults
+
+-- the list is a front of this one
+pub record IsFront (whole list : List (ℕ × Entry)) : Type 0 where
+  pub front : IsPrefix list whole
+
+-- calls that read a peer's disk and change another's, and touch no other
+pub record Calls (tells : Type 0) (from place before now : ℕ) (old new : List DiskSeen) : Type 0 where
+  pub source : IsStill tells (seen_at old from) (seen_at new from)
+  pub read : (seen_at old from).faults ≤ (seen_at new from).faults
+  pub others : (peer : ℕ) → (peer ≡ from → ⊥) → (peer ≡ place → ⊥) → seen_at new peer ≡ seen_at old peer
+  pub past : tells → (seen_at old place).stands.last ≤ before → PastStays before now (seen_at old place).stands (seen_at new place).stands
+  pub counted : (seen_at old place).faults ≤ (seen_at new place).faults
+  pub later : before ≤ now
+
+-- no call on either of the two failed
+pub record AreCalm (from place : ℕ) (old new : List DiskSeen) : Type 0 where
+  pub source : (seen_at new from).faults ≡ (seen_at old from).faults
+  pub target : (seen_at new place).faults ≡ (seen_at old place).faults
+
+-- why a read of the source was refused; where it tells a list it only failed
+abbrev pub IsStopped : Type 0 → (List (ℕ × Entry) → Type 0) → ℕ → ℕ → PeerMark → Type 0
+IsStopped tells has before now Same = ⊥
+IsStopped tells has before now (Behind length) = ⊥
+IsStopped tells has before now (Differs number) = ⊥
+IsStopped tells has before now (NoLog at) = (now ≡ before) × (tells → (list : List (ℕ × Entry)) → has list → ⊥)
+IsStopped tells has before now Fault = HasRisen before now
+
+-- what comes of giving entries, by its cause: all was given, of which more may be said; the disk that gets them failed; or a read of the source was refused
+abbrev pub Outcome : Type 0 → (List (ℕ × Entry) → Type 0) → ℕ → ℕ → List DiskSeen → List DiskSeen → Type 0 → Given → Type 0
+Outcome tells has from place old new more Whole = AreCalm from place old new × more
+Outcome tells has from place old new more Left =
+    HasRisen (seen_at old place).faults (seen_at new place).faults × ((seen_at new from).faults ≡ (seen_at old from).faults)
+Outcome tells has from place old new more (Ended mark) = IsStopped tells has (seen_at old from).faults (seen_at new from).faults mark
+
+-- a log that had the first entries of the source has one more
+pub record HasMore (tells : Type 0) (source : Viewing) (before : ℕ) (from old new : DiskSeen) (log log' : Keeping) (index : ℕ) : Type 0 where
+  pub opens : IsOpen tells new log'
+  pub list : tells → old.stands.last ≤ before → (whole : List (ℕ × Entry)) → HasView source from.stands.seen whole → HasLog log old.stands (take index whole) None
+      → HasLog log' new.stands (take (index + 1) whole) None
+
+-- a disk has this list, by reads and whatever a stop leaves
+pub record HasWhole (disk : DiskSeen) (whole : List (ℕ × Entry)) : Type 0 where
+  pub gives : list_in disk.stands.seen ≡ Some whole
+  pub leaves : LeavesOnly disk.stands whole
+
+-- a log that was empty has them all
+pub record HasAll (tells : Type 0) (source : Viewing) (before : ℕ) (from old new : DiskSeen) (log : Keeping) : Type 0 where
+  pub list : tells → old.stands.last ≤ before → (whole : List (ℕ × Entry)) → HasView source from.stands.seen whole → HasLog log old.stands [] None → HasWhole new whole
+
+-- a stop leaves fronts of the source's list meanwhile
+abbrev pub HasFronts : Type 0 → Viewing → ℕ → ℕ → DiskSeen → DiskSeen → DiskSeen → Keeping → ℕ → Type 0
+HasFronts tells source before now from old new log index =
+    tells → old.stands.last ≤ before → (whole : List (ℕ × Entry)) → HasView source from.stands.seen whole → HasLog log old.stands (take index whole) None
+    → LeavesEach before now old.stands new.stands (IsFront whole)
