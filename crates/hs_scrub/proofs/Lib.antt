@@ -3,6 +3,7 @@ mod CopyLemmas
 mod DeltaLemmas
 mod EmptyLemmas
 mod GiveLemmas
+mod GivingLemmas
 mod LookLemmas
 mod MarkLemmas
 mod ScrubLemmas

@@ -74,8 +74,8 @@ pub(crate) fn put_entry<D: Disk>(
     }
 }
 
-/// Gives the entry behind the first `index` ones of the source to a log that has these. An entry that
-/// may not stand there counts as want of memory.
+/// Gives the entry of a number, behind the first `index` ones of the source, to a log that has these. An
+/// entry that may not stand there counts as want of memory.
 fn copy_entry<D: Disk>(
     source: &PeerView,
     log: &mut PeerLog,
@@ -84,6 +84,7 @@ fn copy_entry<D: Disk>(
     from: usize,
     place: usize,
     index: u64,
+    number: u64,
 ) -> Result<Given, ScrubFault>
     requires from { from < length disks.old }
     requires place { place < length disks.old }
@@ -94,7 +95,7 @@ fn copy_entry<D: Disk>(
         from).stands }
     requires opens { IsOpen D.tells (seen_at (map (λ disk. seen_as (D.size disk) (D.stands disk) (D.faults disk)) disks.old)
         place) log.old }
-    requires low { index < source.now.rank.number }
+    requires next { number ≡ index + 1 }
     ensures outcome { IfOk result (Outcome D.tells
         (HasView source.now (seen_at (map (λ disk. seen_as (D.size disk) (D.stands disk) (D.faults disk)) disks.old)
         from).stands.seen) from place
@@ -119,7 +120,6 @@ fn copy_entry<D: Disk>(
         (map (λ disk. seen_as (D.size disk) (D.stands disk) (D.faults disk)) disks.new) }
     ensures count { length disks.new ≡ length disks.old }
 {
-    let number = index + 1;
     let entry = match read_at(source, disks, from, number) {
         Ok(Some(entry)) => entry,
         Ok(None) => return Err(ScrubFault::NoMemory),
@@ -182,10 +182,12 @@ pub(crate) fn copy_list<D: Disk>(
 {
     let mut log = log;
     for index in 0..source.last() {
-        let given = match copy_entry(source, &mut log, disks, watch, from, place, index) {
-            Ok(given) => given,
-            Err(fault) => return Err(fault),
-        };
+        let number = index + 1;
+        let given =
+            match copy_entry(source, &mut log, disks, watch, from, place, index, number) {
+                Ok(given) => given,
+                Err(fault) => return Err(fault),
+            };
         match given {
             Given::Whole => {}
             Given::Left => return Ok(Given::Left),
