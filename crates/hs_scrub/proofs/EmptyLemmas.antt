@@ -4,6 +4,8 @@ use Rattle.std.specs.Prelude.{Err, IfOk, IfSome, MatchOption, Ok, Result}
 use Rattle.hs_entry.specs.declared.entry.Entry.{Entry}
 use Rattle.hs_limits.specs.declared.shape.Shape.{Shape}
 use Rattle.hs_peerlog.proofs.StayLemmas.{seen-list}
+use Rattle.hs_peerlog.specs.Caused.{IsCalm}
+use Rattle.hs_peerlog.specs.declared.fault.LogFault.{LogFault}
 use Rattle.hs_peerlog.specs.declared.fault.LogFault.TheVariants as log
 use Rattle.hs_peerlog.specs.Images.{Is, IsOne, LeavesEach, LeavesOnly}
 use Rattle.hs_peerlog.specs.Lists.{HasLog, Keeping}
@@ -43,7 +45,14 @@ empty_each list one two = each_then (IsOne list []) (append_each list [] one) tw
 
 -- a disk of which a stop leaves a list is a log
 pub no_log_not : (shape : Shape) (peer at : ℕ) (disk : Standing) (list : List (ℕ × Entry)) → ((side : Side) → IsImage (disk.loose side) (disk.seen side)) → LeavesOnly disk list → refusal_in shape peer disk.seen ≡ Some (log.NotALog at) → ⊥
-no_log_not shape peer at disk list stays leaves refused = some_not list (sym (seen-list disk stays leaves) ∙ no_list shape peer at disk.seen refused)
+no_log_not shape peer at disk list stays leaves refused = some_not list (sym (seen-list disk list stays leaves) ∙ no_list shape peer at disk.seen refused)
   where
     some_not : (list : List (ℕ × Entry)) → Some list ≡ None → ⊥
     some_not list e = cc e
+
+-- no call failed where the disk is told to be no log
+abbrev refused : LogFault → Result Keeping LogFault
+refused fault = Err fault
+
+pub calm_no_log : (fault : LogFault) (at before now : ℕ) → fault ≡ log.NotALog at → IsCalm before now (refused fault) → now ≡ before
+calm_no_log fault at before now is calm = subst (λ k. IsCalm before now (refused k)) is calm

@@ -6,6 +6,7 @@ mod GiveLemmas
 mod GivingLemmas
 mod LookLemmas
 mod MarkLemmas
+mod PeerLemmas
 mod ScrubLemmas
 mod ShardLemmas
 mod StillLemmas

@@ -2,11 +2,13 @@
 use Rattle.std.specs.Prelude.{◌≡◌, ◌≤◌, ◌+◌, ℕ, List, [], None, Some, take}
 use Rattle.hs_entry.specs.declared.entry.Entry.{Entry}
 use Rattle.hs_entry.specs.Entries.{IsPrefix}
+use Rattle.hs_limits.specs.declared.shape.Shape.{Shape}
 use Rattle.hs_peerlog.specs.Images.{LeavesEach, LeavesOnly}
 use Rattle.hs_peerlog.specs.Lists.{HasLog, IsReady, Keeping}
 use Rattle.hs_peerlog.specs.Past.{PastStays}
 use Rattle.hs_peerlog.specs.Views.{HasView, Viewing}
 use Rattle.hs_ports.specs.Fault.{HasRisen}
+use Rattle.hs_scrub.specs.Copied.{IsLeft, IsOldOrFront}
 use Rattle.hs_scrub.specs.declared.giving.Given.{Given}
 use Rattle.hs_scrub.specs.declared.giving.Given.TheVariants.{Ended, Left, Whole}
 use Rattle.hs_scrub.specs.declared.mark.PeerMark.{PeerMark}
@@ -79,3 +81,23 @@ abbrev pub HasFronts : Type 0 → Viewing → ℕ → ℕ → DiskSeen → DiskS
 HasFronts tells source before now from old new log index =
     tells → old.stands.last ≤ before → (whole : List (ℕ × Entry)) → HasView source from.stands.seen whole → HasLog log old.stands (take index whole) None
     → LeavesEach before now old.stands new.stands (IsFront whole)
+
+-- ---- one peer gets the list
+
+-- a disk got the whole of the source's list
+pub record GotAll (tells : Type 0) (source : Viewing) (before : ℕ) (from old new : DiskSeen) : Type 0 where
+  pub list : tells → old.stands.last ≤ before → (whole : List (ℕ × Entry)) → HasView source from.stands.seen whole → HasWhole new whole
+
+-- what comes of copying to a peer, by its cause
+abbrev pub CopyOutcome : Type 0 → Shape → Viewing → ℕ → ℕ → ℕ → List DiskSeen → List DiskSeen → Given → Type 0
+CopyOutcome tells shape source before from place old new Whole = AreCalm from place old new × GotAll tells source before (seen_at old from) (seen_at old place) (seen_at new place)
+CopyOutcome tells shape source before from place old new Left =
+    IsLeft tells shape place (seen_at old place) (seen_at new place) × ((seen_at new from).faults ≡ (seen_at old from).faults)
+CopyOutcome tells shape source before from place old new (Ended mark) =
+    IsStopped tells (HasView source (seen_at old from).stands.seen) (seen_at old from).faults (seen_at new from).faults mark
+
+-- a stop leaves the old list, or a front of the source's meanwhile
+abbrev pub CopyFronts : Type 0 → Viewing → ℕ → ℕ → DiskSeen → DiskSeen → DiskSeen → Type 0
+CopyFronts tells source before now from old new =
+    tells → old.stands.last ≤ before → (whole : List (ℕ × Entry)) → HasView source from.stands.seen whole → (held : List (ℕ × Entry)) → LeavesOnly old.stands held
+    → LeavesEach before now old.stands new.stands (IsOldOrFront held whole)

@@ -2,6 +2,7 @@
 #![tactic(auto)]
 
 mod compare;
+mod copying;
 mod emptying;
 mod fault;
 mod giving;

@@ -41,14 +41,6 @@ returns-then-last-index-clause-any_moment g c =
     fronts_none g.D.Disk.tells c.args.source.now c.args.watch.now (seen_at old c.args.from) (seen_at old c.args.place) (seen_at via c.args.place) c.args.log.now c.args.index (c.read_at.ensures.rest c.args.place (λ is. c.requires.other (sym is)))
     (λ told. seen_each (λ (s : DiskSeen). Since s.stands) f (λ x side m high. g.met.D.Disk.since told x side m high) c.args.disks.now c.args.place c.requires.place)
 
-pub returns-then-not-is_readable-clause-any_moment : goal.returns-then-not-is_readable-clause-any_moment
-returns-then-not-is_readable-clause-any_moment g c =
-    let f : g.row.D.Denot → DiskSeen = λ disk. seen_as (g.D.Disk.size disk) (g.D.Disk.stands disk) (g.D.Disk.faults disk) in
-    let old : List DiskSeen = map f c.args.disks.now in
-    let via : List DiskSeen = map f c.read_at.new.disks in
-    fronts_none g.D.Disk.tells c.args.source.now c.args.watch.now (seen_at old c.args.from) (seen_at old c.args.place) (seen_at via c.args.place) c.args.log.now c.args.index (c.read_at.ensures.rest c.args.place (λ is. c.requires.other (sym is)))
-    (λ told. seen_each (λ (s : DiskSeen). Since s.stands) f (λ x side m high. g.met.D.Disk.since told x side m high) c.args.disks.now c.args.place c.requires.place)
-
 pub returns-in-Ok-true-clause-outcome : goal.returns-in-Ok-true-clause-outcome
 returns-in-Ok-true-clause-outcome g c =
     let f : g.row.D.Denot → DiskSeen = λ disk. seen_as (g.D.Disk.size disk) (g.D.Disk.stands disk) (g.D.Disk.faults disk) in
