@@ -1,7 +1,9 @@
+mod AllLemmas
 mod CauseLemmas
 mod CopyLemmas
 mod DeltaLemmas
 mod EmptyLemmas
+mod FromLemmas
 mod GiveLemmas
 mod GivingLemmas
 mod LookLemmas

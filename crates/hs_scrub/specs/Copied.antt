@@ -1,5 +1,5 @@
 -- What copying the list of a peer over the others of its shard leaves.
-use Rattle.std.specs.Prelude.{◌≡◌, ◌≤◌, ◌<◌, ◌⊎◌, ⊤, ℕ, List, [], ◌++◌, Contains, Option, None, Some, IfSome, flat_map}
+use Rattle.std.specs.Prelude.{◌≡◌, ◌≤◌, ◌<◌, ◌*◌, ◌/◌, ◌⊎◌, ⊤, ℕ, List, [], ◌++◌, Contains, Option, None, Some, IfSome, flat_map}
 use Rattle.std.specs.Option.{option_map_or}
 use Rattle.hs_entry.specs.declared.entry.Entry.{Entry}
 use Rattle.hs_entry.specs.Entries.{IsPrefix}
@@ -12,18 +12,15 @@ use Rattle.hs_scrub.specs.declared.fault.ScrubFault.{ScrubFault}
 use Rattle.hs_scrub.specs.declared.fault.ScrubFault.TheVariants.{WrongShape, NoMemory}
 use Rattle.hs_scrub.specs.declared.mark.PeerMark.{PeerMark}
 use Rattle.hs_scrub.specs.declared.mark.PeerMark.TheVariants.{Same, Behind, Differs, NoLog, Fault}
-use Rattle.hs_scrub.specs.Scrubbed.{IsNoLog, IsOf}
+use Rattle.hs_scrub.specs.Scrubbed.{IsNoLog}
 use Rattle.hs_scrub.specs.Text.{line_of}
 use Rattle.hs_side.specs.Current.{list_in}
 use Rattle.hs_side.specs.declared.header.Header.{Header}
 use Rattle.hs_taking.specs.Disks.{DiskSeen, seen_at}
-use Rattle.hs_taking.specs.Viewed.{IsOnlyRead}
 
--- two peers of one shard
-pub record AreBeside (shape : Shape) (peer other : ℕ) : Type 0 where
-  pub shard : ℕ
-  pub own : IsOf shape shard peer
-  pub its : IsOf shape shard other
+-- two peers of one shard: peer g*R+i keeps a copy of shard g
+abbrev pub AreBeside : Shape → ℕ → ℕ → Type 0
+AreBeside shape peer other = other / shape.copies ≡ peer / shape.copies
 
 -- ---- another peer
 
@@ -73,7 +70,7 @@ pub record HasCopied (tells : Type 0) (shape : Shape) (from before : ℕ) (old n
   -- the list that was copied, and who has it
   pub copied : List (ℕ × Entry)
   pub source : tells → ended ≡ None → list_in (seen_at old from).stands.seen ≡ Some copied
-  pub done : ended ≡ None → (peer : ℕ) → AreBeside shape from peer → (peer ≡ from → ⊥) → Contains left peer ⊎ HasCopy tells before (seen_at old peer) (seen_at new peer) copied
+  pub done : ended ≡ None → (peer : ℕ) → peer < shape.shards * shape.copies → AreBeside shape from peer → (peer ≡ from → ⊥) → Contains left peer ⊎ HasCopy tells before (seen_at old peer) (seen_at new peer) copied
 
 -- a fault that the copied peer's disk is of another store, and its count stands
 abbrev pub IsOtherSource : Type 0 → Shape → ℕ → DiskSeen → DiskSeen → ScrubFault → Type 0

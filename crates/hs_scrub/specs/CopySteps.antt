@@ -1,5 +1,5 @@
 -- Words of the private steps of copying; no public clause cites them.
-use Rattle.std.specs.Prelude.{◌≡◌, ◌≤◌, ◌+◌, ℕ, List, [], None, Some, take}
+use Rattle.std.specs.Prelude.{◌≡◌, ◌≤◌, ◌<◌, ◌+◌, ◌++◌, ◌⊎◌, ℕ, List, [], Contains, Option, None, Some, IfSome, flat_map, take}
 use Rattle.hs_entry.specs.declared.entry.Entry.{Entry}
 use Rattle.hs_entry.specs.Entries.{IsPrefix}
 use Rattle.hs_limits.specs.declared.shape.Shape.{Shape}
@@ -8,12 +8,13 @@ use Rattle.hs_peerlog.specs.Lists.{HasLog, IsReady, Keeping}
 use Rattle.hs_peerlog.specs.Past.{PastStays}
 use Rattle.hs_peerlog.specs.Views.{HasView, Viewing}
 use Rattle.hs_ports.specs.Fault.{HasRisen}
-use Rattle.hs_scrub.specs.Copied.{IsLeft, IsOldOrFront}
+use Rattle.hs_scrub.specs.Copied.{AreBeside, IsLeft, IsOldOrFront, copy_text}
 use Rattle.hs_scrub.specs.declared.giving.Given.{Given}
 use Rattle.hs_scrub.specs.declared.giving.Given.TheVariants.{Ended, Left, Whole}
 use Rattle.hs_scrub.specs.declared.mark.PeerMark.{PeerMark}
 use Rattle.hs_scrub.specs.declared.mark.PeerMark.TheVariants.{Same, Behind, Differs, NoLog, Fault}
 use Rattle.hs_scrub.specs.Steps.{IsStill}
+use Rattle.hs_scrub.specs.Text.{line_of}
 use Rattle.hs_side.specs.Current.{list_in}
 use Rattle.hs_taking.specs.Disks.{DiskSeen, seen_at}
 
@@ -101,3 +102,67 @@ abbrev pub CopyFronts : Type 0 → Viewing → ℕ → ℕ → DiskSeen → Disk
 CopyFronts tells source before now from old new =
     tells → old.stands.last ≤ before → (whole : List (ℕ × Entry)) → HasView source from.stands.seen whole → (held : List (ℕ × Entry)) → LeavesOnly old.stands held
     → LeavesEach before now old.stands new.stands (IsOldOrFront held whole)
+
+-- ---- the peers of a shard, one after another
+
+-- a peer got the list, and no call on its disk failed
+pub record HasGot (tells : Type 0) (source : Viewing) (before : ℕ) (from old new : DiskSeen) : Type 0 where
+  pub calm : new.faults ≡ old.faults
+  pub got : GotAll tells source before from old new
+
+-- the source's disk was only read, no peer of another shard was called, and a stop leaves old lists or fronts of the source's
+pub record Spares (tells : Type 0) (shape : Shape) (source : Viewing) (from before now total : ℕ) (old new : List DiskSeen) : Type 0 where
+  pub still : IsStill tells (seen_at old from) (seen_at new from)
+  pub read : (seen_at old from).faults ≤ (seen_at new from).faults
+  pub others : (peer : ℕ) → (AreBeside shape from peer → ⊥) → seen_at new peer ≡ seen_at old peer
+  pub fronts : (peer : ℕ) → peer < total → (peer ≡ from → ⊥) → CopyFronts tells source before now (seen_at old from) (seen_at old peer) (seen_at new peer)
+  pub later : before ≤ now
+
+-- a peer was passed over: it is the source, or of another shard
+pub record Skips (shape : Shape) (from peer : ℕ) (old new : List DiskSeen) (out out' : List ℕ) : Type 0 where
+  pub other : AreBeside shape from peer → (peer ≡ from → ⊥) → ⊥
+  pub same : new ≡ old
+  pub text : out' ≡ out
+
+-- it got the list
+pub record Takes (tells : Type 0) (shape : Shape) (source : Viewing) (from peer before : ℕ) (old new : List DiskSeen) (out out' : List ℕ) : Type 0 where
+  pub beside : AreBeside shape from peer
+  pub differ : peer ≡ from → ⊥
+  pub calm : AreCalm from peer old new
+  pub got : GotAll tells source before (seen_at old from) (seen_at old peer) (seen_at new peer)
+  pub text : out' ≡ out
+
+-- it was left, and its line put
+pub record Leaves (tells : Type 0) (shape : Shape) (from peer : ℕ) (old new : List DiskSeen) (out out' : List ℕ) : Type 0 where
+  pub beside : AreBeside shape from peer
+  pub differ : peer ≡ from → ⊥
+  pub left : IsLeft tells shape peer (seen_at old peer) (seen_at new peer)
+  pub calm : (seen_at new from).faults ≡ (seen_at old from).faults
+  pub text : out' ≡ out ++ line_of 0 peer Fault
+
+-- what comes of one peer; or a read of the source was refused
+abbrev pub OneGiven : Type 0 → Shape → Viewing → ℕ → ℕ → ℕ → List DiskSeen → List DiskSeen → List ℕ → List ℕ → Option PeerMark → Type 0
+OneGiven tells shape source from peer before old new out out' None =
+    Skips shape from peer old new out out' ⊎ Takes tells shape source from peer before old new out out' ⊎ Leaves tells shape from peer old new out out'
+OneGiven tells shape source from peer before old new out out' (Some mark) =
+    IsStopped tells (HasView source (seen_at old from).stands.seen) (seen_at old from).faults (seen_at new from).faults mark × (out' ≡ out)
+
+-- so far, of the first peers
+pub record Copies (tells : Type 0) (shape : Shape) (source : Viewing) (from before now upto total : ℕ) (old new : List DiskSeen) (out out' : List ℕ) : Type 0 where
+  pub spares : Spares tells shape source from before now total old new
+  pub calm : (seen_at new from).faults ≡ (seen_at old from).faults
+  pub left : List ℕ
+  pub text : out' ≡ out ++ flat_map (λ peer. line_of 0 peer Fault) left
+  pub low : (peer : ℕ) → Contains left peer → peer < upto
+  pub told : (peer : ℕ) → Contains left peer → AreBeside shape from peer × (peer ≡ from → ⊥) × IsLeft tells shape peer (seen_at old peer) (seen_at new peer)
+  pub done : (peer : ℕ) → peer < upto → AreBeside shape from peer → (peer ≡ from → ⊥) → Contains left peer ⊎ HasGot tells source before (seen_at old from) (seen_at old peer) (seen_at new peer)
+  pub rest : (peer : ℕ) → upto ≤ peer → (peer ≡ from → ⊥) → seen_at new peer ≡ seen_at old peer
+
+-- in the end
+pub record HasGiven (tells : Type 0) (shape : Shape) (source : Viewing) (from before total : ℕ) (old new : List DiskSeen) (out out' : List ℕ) : Type 0 where
+  pub left : List ℕ
+  pub ended : Option PeerMark
+  pub text : out' ≡ out ++ copy_text from left ended
+  pub told : (peer : ℕ) → Contains left peer → AreBeside shape from peer × (peer ≡ from → ⊥) × IsLeft tells shape peer (seen_at old peer) (seen_at new peer)
+  pub stopped : IfSome ended (IsStopped tells (HasView source (seen_at old from).stands.seen) (seen_at old from).faults (seen_at new from).faults)
+  pub done : ended ≡ None → (peer : ℕ) → peer < total → AreBeside shape from peer → (peer ≡ from → ⊥) → Contains left peer ⊎ HasGot tells source before (seen_at old from) (seen_at old peer) (seen_at new peer)
