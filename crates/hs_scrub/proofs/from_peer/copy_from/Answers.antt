@@ -1,12 +1,12 @@
 use Rattle.std.proofs.Common.{◌≡◌, ◌∙◌, ◌*◌, ◌<◌, ◌≤◌, ◌++◌, None, Some, ap, arith, ℕ, List, length, map, refl, subst, sym}
-use Rattle.std.specs.Prelude.{slice_index_or, slice_set}
+use Rattle.std.specs.Prelude.{Err, slice_index_or, slice_set}
 use Rattle.hs_peerlog.proofs.ImageLemmas.{Since}
 use Rattle.hs_scrub.proofs.FromLemmas.{copied_so, ended_read, no_log_not_wrong, none_not_wrong, on_ok_any, other_read, own_not, own_risen, stands_read, view_no_log, view_other, fronts_copied, fronts_read, memory_other, memory_unwritten, ok_so, others_copied, others_read, read_only, source_copied, unwritten_read}
+use Rattle.hs_peerlog.specs.declared.fault.LogFault.{LogFault}
 use Rattle.hs_peerlog.specs.declared.fault.LogFault.TheVariants as log
 use Rattle.hs_peerlog.specs.Opening.{IsRefusal, refusal_in}
 use Rattle.hs_ports.specs.Fault.{HasRisen}
-use Rattle.hs_scrub.specs.Copied.{AreBeside, HasCopied, HasEnded, IsOtherSource, KeepsFronts}
-use Rattle.hs_scrub.specs.declared.fault.ScrubFault.TheVariants as fault
+use Rattle.hs_scrub.specs.Copied.{AreBeside, HasCopied, HasEnded, KeepsFronts}
 use Rattle.hs_scrub.specs.declared.mark.PeerMark.TheVariants.{Fault, NoLog}
 use Rattle.hs_scrub.specs.Text.{line_of}
 use Rattle.hs_side.specs.Standing.{Stands}
@@ -338,7 +338,7 @@ returns-in-Err-Disk-clause-copied g c =
         = record { seen = λ told side. c.read.ensures.same told side; moments = λ told last. c.read.ensures.any_moment told last; counted = c.read.ensures.cause.later } in
     ok_so c.put_mark.result c.put_mark.ensures.ok
     (λ text. subst (λ n. HasCopied g.D.Disk.tells c.args.shape n c.args.watch.now old via c.args.out.now.items c.put_mark.new.out.items) e
-    (ended_read f g.D.Disk.tells c.args.shape p c.args.watch.now c.read.new.watch c.read.new.watch c.args.disks.now y d low Fault c.args.out.now.items c.put_mark.new.out.items (subst (λ n. HasEnded g.D.Disk.tells c.args.shape n (f (slice_index_or c.args.disks.now p d)) (f y) Fault) (sym e) (c.in-Err-Disk.ensures.cause.failed c.in-Err-Disk.field-0-is))
+    (ended_read f g.D.Disk.tells c.args.shape p c.args.watch.now c.read.new.watch c.read.new.watch c.args.disks.now y d low Fault c.args.out.now.items c.put_mark.new.out.items (subst (λ n. HasEnded g.D.Disk.tells c.args.shape n (f (slice_index_or c.args.disks.now p d)) (f y) Fault) (sym e) (c.in-Err-Disk.ensures.cause.failed (ap (λ (k : LogFault). Err k) c.in-Err-Disk.field-0-is)))
     (text ∙ ap (λ n. c.args.out.now.items ++ line_of 0 n Fault) (sym e))))
 
 pub returns-in-Err-NotALog-clause-copied : goal.returns-in-Err-NotALog-clause-copied
@@ -354,9 +354,9 @@ returns-in-Err-NotALog-clause-copied g c =
     let since : (peer : ℕ) → peer < length c.args.disks.now → g.D.Disk.tells → Since (seen_at old peer).stands = λ peer within told. seen_each (λ (s : DiskSeen). Since s.stands) f (λ x side m high. g.met.D.Disk.since told x side m high) c.args.disks.now peer within in
     let only : IsOnlyRead g.D.Disk.tells c.args.watch.now c.read.new.watch (f (slice_index_or c.args.disks.now p d)) (f y)
         = record { seen = λ told side. c.read.ensures.same told side; moments = λ told last. c.read.ensures.any_moment told last; counted = c.read.ensures.cause.later } in
-    ok_so c.put_mark.result c.put_mark.ensures.ok
-    (λ text. subst (λ n. HasCopied g.D.Disk.tells c.args.shape n c.args.watch.now old via c.args.out.now.items c.put_mark.new.out.items) e
-    (ended_read f g.D.Disk.tells c.args.shape p c.args.watch.now c.read.new.watch c.read.new.watch c.args.disks.now y d low (NoLog c.in-Err-NotALog.at) c.args.out.now.items c.put_mark.new.out.items (subst (λ n. HasEnded g.D.Disk.tells c.args.shape n (f (slice_index_or c.args.disks.now p d)) (f y) (NoLog c.in-Err-NotALog.at)) (sym e) (record { calm = view_no_log c.in-Err-NotALog.field-0 c.in-Err-NotALog.at (g.D.Disk.faults (slice_index_or c.args.disks.now p d)) (g.D.Disk.faults y) c.in-Err-NotALog.field-0-is c.in-Err-NotALog.ensures.calm; refused = λ told. (subst (λ fault. IsRefusal fault (refusal_in c.args.shape c.args.from (f (slice_index_or c.args.disks.now p d)).stands.seen)) c.in-Err-NotALog.field-0-is (c.in-Err-NotALog.ensures.refused told)) }))
+    ok_so c.put_mark-in-Err-NotALog.result c.put_mark-in-Err-NotALog.ensures.ok
+    (λ text. subst (λ n. HasCopied g.D.Disk.tells c.args.shape n c.args.watch.now old via c.args.out.now.items c.put_mark-in-Err-NotALog.new.out.items) e
+    (ended_read f g.D.Disk.tells c.args.shape p c.args.watch.now c.read.new.watch c.read.new.watch c.args.disks.now y d low (NoLog c.in-Err-NotALog.at) c.args.out.now.items c.put_mark-in-Err-NotALog.new.out.items (subst (λ n. HasEnded g.D.Disk.tells c.args.shape n (f (slice_index_or c.args.disks.now p d)) (f y) (NoLog c.in-Err-NotALog.at)) (sym e) (record { calm = view_no_log c.in-Err-NotALog.field-0 c.in-Err-NotALog.at (g.D.Disk.faults (slice_index_or c.args.disks.now p d)) (g.D.Disk.faults y) c.in-Err-NotALog.field-0-is c.in-Err-NotALog.ensures.calm; refused = λ told. (subst (λ fault. IsRefusal fault (refusal_in c.args.shape c.args.from (f (slice_index_or c.args.disks.now p d)).stands.seen)) c.in-Err-NotALog.field-0-is (c.in-Err-NotALog.ensures.refused told)) }))
     (text ∙ ap (λ n. c.args.out.now.items ++ line_of 0 n (NoLog c.in-Err-NotALog.at)) (sym e))))
 
 pub returns-in-Err-Disk-clause-own : goal.returns-in-Err-Disk-clause-own
@@ -372,7 +372,7 @@ returns-in-Err-Disk-clause-own g c =
     let since : (peer : ℕ) → peer < length c.args.disks.now → g.D.Disk.tells → Since (seen_at old peer).stands = λ peer within told. seen_each (λ (s : DiskSeen). Since s.stands) f (λ x side m high. g.met.D.Disk.since told x side m high) c.args.disks.now peer within in
     let only : IsOnlyRead g.D.Disk.tells c.args.watch.now c.read.new.watch (f (slice_index_or c.args.disks.now p d)) (f y)
         = record { seen = λ told side. c.read.ensures.same told side; moments = λ told last. c.read.ensures.any_moment told last; counted = c.read.ensures.cause.later } in
-    λ told. on_ok_any c.put_mark.result (λ found k. subst (λ n. HasRisen (seen_at old n).faults (seen_at via n).faults) e (own_risen f g.D.Disk.tells c.args.shape p c.args.watch.now c.read.new.watch c.read.new.watch c.args.disks.now y d low (c.in-Err-Disk.ensures.cause.failed c.in-Err-Disk.field-0-is)))
+    λ told. on_ok_any c.put_mark.result (λ found k. subst (λ n. HasRisen (seen_at old n).faults (seen_at via n).faults) e (own_risen f g.D.Disk.tells c.args.shape p c.args.watch.now c.read.new.watch c.read.new.watch c.args.disks.now y d low (c.in-Err-Disk.ensures.cause.failed (ap (λ (k : LogFault). Err k) c.in-Err-Disk.field-0-is))))
 
 pub returns-in-Err-NotALog-clause-own : goal.returns-in-Err-NotALog-clause-own
 returns-in-Err-NotALog-clause-own g c =
@@ -387,7 +387,7 @@ returns-in-Err-NotALog-clause-own g c =
     let since : (peer : ℕ) → peer < length c.args.disks.now → g.D.Disk.tells → Since (seen_at old peer).stands = λ peer within told. seen_each (λ (s : DiskSeen). Since s.stands) f (λ x side m high. g.met.D.Disk.since told x side m high) c.args.disks.now peer within in
     let only : IsOnlyRead g.D.Disk.tells c.args.watch.now c.read.new.watch (f (slice_index_or c.args.disks.now p d)) (f y)
         = record { seen = λ told side. c.read.ensures.same told side; moments = λ told last. c.read.ensures.any_moment told last; counted = c.read.ensures.cause.later } in
-    λ told. on_ok_any c.put_mark.result (λ found k. absurd (own_not f g.D.Disk.tells c.args.shape p c.args.watch.now c.read.new.watch c.read.new.watch c.args.disks.now y d low (Some (log.NotALog c.in-Err-NotALog.at)) found (no_log_not_wrong c.in-Err-NotALog.at found) (subst (λ n. refusal_in c.args.shape n (f (slice_index_or c.args.disks.now p d)).stands.seen ≡ (Some (log.NotALog c.in-Err-NotALog.at))) (sym e) (subst (λ fault. IsRefusal fault (refusal_in c.args.shape c.args.from (f (slice_index_or c.args.disks.now p d)).stands.seen)) c.in-Err-NotALog.field-0-is (c.in-Err-NotALog.ensures.refused told)))
+    λ told. on_ok_any c.put_mark-in-Err-NotALog.result (λ found k. absurd (own_not f g.D.Disk.tells c.args.shape p c.args.watch.now c.read.new.watch c.read.new.watch c.args.disks.now y d low (Some (log.NotALog c.in-Err-NotALog.at)) found (no_log_not_wrong c.in-Err-NotALog.at found) (subst (λ n. refusal_in c.args.shape n (f (slice_index_or c.args.disks.now p d)).stands.seen ≡ (Some (log.NotALog c.in-Err-NotALog.at))) (sym e) (subst (λ fault. IsRefusal fault (refusal_in c.args.shape c.args.from (f (slice_index_or c.args.disks.now p d)).stands.seen)) c.in-Err-NotALog.field-0-is (c.in-Err-NotALog.ensures.refused told)))
     (subst (λ n. refusal_in c.args.shape n (seen_at old n).stands.seen ≡ Some (log.WrongShape found)) (sym e) k)))
 
 pub returns-clause-own : goal.returns-clause-own
@@ -419,9 +419,9 @@ returns-in-Err-WrongShape-clause-other g c =
     let since : (peer : ℕ) → peer < length c.args.disks.now → g.D.Disk.tells → Since (seen_at old peer).stands = λ peer within told. seen_each (λ (s : DiskSeen). Since s.stands) f (λ x side m high. g.met.D.Disk.since told x side m high) c.args.disks.now peer within in
     let only : IsOnlyRead g.D.Disk.tells c.args.watch.now c.read.new.watch (f (slice_index_or c.args.disks.now p d)) (f y)
         = record { seen = λ told side. c.read.ensures.same told side; moments = λ told last. c.read.ensures.any_moment told last; counted = c.read.ensures.cause.later } in
-    subst (λ n. IsOtherSource g.D.Disk.tells c.args.shape n (seen_at old n) (seen_at via n) (fault.WrongShape n c.in-Err-WrongShape.found)) e
-    (other_read f g.D.Disk.tells c.args.shape p c.args.watch.now c.read.new.watch c.read.new.watch c.args.disks.now y d low c.in-Err-WrongShape.found (λ told. subst (λ n. refusal_in c.args.shape n (f (slice_index_or c.args.disks.now p d)).stands.seen ≡ Some (log.WrongShape c.in-Err-WrongShape.found)) (sym e) (subst (λ fault. IsRefusal fault (refusal_in c.args.shape c.args.from (f (slice_index_or c.args.disks.now p d)).stands.seen)) c.in-Err-WrongShape.field-0-is (c.in-Err-WrongShape.ensures.refused told)))
-    (view_other c.in-Err-WrongShape.field-0 c.in-Err-WrongShape.found (g.D.Disk.faults (slice_index_or c.args.disks.now p d)) (g.D.Disk.faults y) c.in-Err-WrongShape.field-0-is c.in-Err-WrongShape.ensures.calm))
+    let o = (other_read f g.D.Disk.tells c.args.shape p c.args.watch.now c.read.new.watch c.read.new.watch c.args.disks.now y d low c.in-Err-WrongShape.found (λ told. subst (λ n. refusal_in c.args.shape n (f (slice_index_or c.args.disks.now p d)).stands.seen ≡ Some (log.WrongShape c.in-Err-WrongShape.found)) (sym e) (subst (λ fault. IsRefusal fault (refusal_in c.args.shape c.args.from (f (slice_index_or c.args.disks.now p d)).stands.seen)) c.in-Err-WrongShape.field-0-is (c.in-Err-WrongShape.ensures.refused told)))
+    (view_other c.in-Err-WrongShape.field-0 c.in-Err-WrongShape.found (g.D.Disk.faults (slice_index_or c.args.disks.now p d)) (g.D.Disk.faults y) c.in-Err-WrongShape.field-0-is c.in-Err-WrongShape.ensures.calm)) in
+    (refl, λ told. subst (λ n. refusal_in c.args.shape n (seen_at old n).stands.seen ≡ Some (log.WrongShape c.in-Err-WrongShape.found)) e (o.1 told), subst (λ n. (seen_at via n).faults ≡ (seen_at old n).faults) e o.2)
 
 pub copy_to_all-requires-clause-source : goal.copy_to_all-requires-clause-source
 copy_to_all-requires-clause-source g c =
