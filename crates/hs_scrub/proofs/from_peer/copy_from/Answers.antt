@@ -357,7 +357,7 @@ returns-in-Err-NotALog-clause-copied g c =
     ok_so c.put_mark-in-Err-NotALog.result c.put_mark-in-Err-NotALog.ensures.ok
     (λ text. subst (λ n. HasCopied g.D.Disk.tells c.args.shape n c.args.watch.now old via c.args.out.now.items c.put_mark-in-Err-NotALog.new.out.items) e
     (ended_read f g.D.Disk.tells c.args.shape p c.args.watch.now c.read.new.watch c.read.new.watch c.args.disks.now y d low (NoLog c.in-Err-NotALog.at) c.args.out.now.items c.put_mark-in-Err-NotALog.new.out.items (subst (λ n. HasEnded g.D.Disk.tells c.args.shape n (f (slice_index_or c.args.disks.now p d)) (f y) (NoLog c.in-Err-NotALog.at)) (sym e) (record { calm = view_no_log c.in-Err-NotALog.field-0 c.in-Err-NotALog.at (g.D.Disk.faults (slice_index_or c.args.disks.now p d)) (g.D.Disk.faults y) c.in-Err-NotALog.field-0-is c.in-Err-NotALog.ensures.calm; refused = λ told. (subst (λ fault. IsRefusal fault (refusal_in c.args.shape c.args.from (f (slice_index_or c.args.disks.now p d)).stands.seen)) c.in-Err-NotALog.field-0-is (c.in-Err-NotALog.ensures.refused told)) }))
-    (text ∙ ap (λ n. c.args.out.now.items ++ line_of 0 n (NoLog c.in-Err-NotALog.at)) (sym e))))
+    (text ∙ ap (λ a. c.args.out.now.items ++ line_of 0 c.args.from (NoLog a)) (sym c.in-Err-NotALog.at-is) ∙ ap (λ n. c.args.out.now.items ++ line_of 0 n (NoLog c.in-Err-NotALog.at)) (sym e))))
 
 pub returns-in-Err-Disk-clause-own : goal.returns-in-Err-Disk-clause-own
 returns-in-Err-Disk-clause-own g c =
@@ -421,7 +421,9 @@ returns-in-Err-WrongShape-clause-other g c =
         = record { seen = λ told side. c.read.ensures.same told side; moments = λ told last. c.read.ensures.any_moment told last; counted = c.read.ensures.cause.later } in
     let o = (other_read f g.D.Disk.tells c.args.shape p c.args.watch.now c.read.new.watch c.read.new.watch c.args.disks.now y d low c.in-Err-WrongShape.found (λ told. subst (λ n. refusal_in c.args.shape n (f (slice_index_or c.args.disks.now p d)).stands.seen ≡ Some (log.WrongShape c.in-Err-WrongShape.found)) (sym e) (subst (λ fault. IsRefusal fault (refusal_in c.args.shape c.args.from (f (slice_index_or c.args.disks.now p d)).stands.seen)) c.in-Err-WrongShape.field-0-is (c.in-Err-WrongShape.ensures.refused told)))
     (view_other c.in-Err-WrongShape.field-0 c.in-Err-WrongShape.found (g.D.Disk.faults (slice_index_or c.args.disks.now p d)) (g.D.Disk.faults y) c.in-Err-WrongShape.field-0-is c.in-Err-WrongShape.ensures.calm)) in
-    (refl, λ told. subst (λ n. refusal_in c.args.shape n (seen_at old n).stands.seen ≡ Some (log.WrongShape c.in-Err-WrongShape.found)) e (o.1 told), subst (λ n. (seen_at via n).faults ≡ (seen_at old n).faults) e o.2)
+    let told_so : g.D.Disk.tells → refusal_in c.args.shape c.args.from (seen_at old c.args.from).stands.seen ≡ Some (log.WrongShape c.in-Err-WrongShape.found)
+        = λ told. subst (λ n. refusal_in c.args.shape n (seen_at old n).stands.seen ≡ Some (log.WrongShape c.in-Err-WrongShape.found)) e (o.1 told) in
+    (refl, λ told. told_so told ∙ ap (λ w. Some (log.WrongShape w)) c.in-Err-WrongShape.found-is, subst (λ n. (seen_at via n).faults ≡ (seen_at old n).faults) e o.2)
 
 pub copy_to_all-requires-clause-source : goal.copy_to_all-requires-clause-source
 copy_to_all-requires-clause-source g c =
