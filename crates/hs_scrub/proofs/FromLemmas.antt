@@ -5,7 +5,11 @@ use Rattle.hs_entry.specs.declared.entry.Entry.{Entry}
 use Rattle.hs_limits.specs.declared.shape.Shape.{Shape}
 use Rattle.hs_peerlog.proofs.ImageLemmas.{Since}
 use Rattle.hs_peerlog.proofs.StayLemmas.{stays}
+use Rattle.hs_peerlog.specs.Caused.{IsCalm}
+use Rattle.hs_peerlog.specs.declared.fault.LogFault.{LogFault}
+use Rattle.hs_peerlog.specs.declared.fault.LogFault.TheVariants as log
 use Rattle.hs_peerlog.specs.Images.{LeavesEach, LeavesOnly}
+use Rattle.hs_peerlog.specs.Opening.{refusal_in}
 use Rattle.hs_peerlog.specs.Views.{HasView, Viewing}
 use Rattle.hs_ports.specs.Fault.{HasRisen}
 use Rattle.hs_scrub.proofs.AllLemmas.{each_wait}
@@ -20,6 +24,7 @@ use Rattle.hs_scrub.specs.declared.mark.PeerMark.TheVariants.{Same, Behind, Diff
 use Rattle.hs_scrub.specs.Text.{line_of}
 use Rattle.hs_side.specs.Current.{list_in}
 use Rattle.hs_side.specs.declared.header.Header.{Header}
+use Rattle.hs_side.specs.Standing.{Stands}
 use Rattle.hs_taking.proofs.DiskLemmas.{seen_here, seen_is, seen_there}
 use Rattle.hs_taking.proofs.ViewLemmas.{only_wait}
 use Rattle.hs_taking.specs.Disks.{DiskSeen, seen_at}
@@ -48,6 +53,22 @@ ok_so (Err fault) h f = tt
 pub on_ok_any : {X E P : Type 0} (r : Result X E) → P → OnOk r P
 on_ok_any (Ok x) p = p
 on_ok_any (Err fault) p = tt
+
+-- no call failed where the disk is told to be no log, or of another store
+abbrev refused_view : LogFault → Result Viewing LogFault
+refused_view fault = Err fault
+
+pub view_no_log : (fault : LogFault) (at before now : ℕ) → fault ≡ log.NotALog at → IsCalm before now (refused_view fault) → now ≡ before
+view_no_log fault at before now is calm = subst (λ k. IsCalm before now (refused_view k)) is calm
+
+pub view_other : (fault : LogFault) (found : Header) (before now : ℕ) → fault ≡ log.WrongShape found → IsCalm before now (refused_view fault) → now ≡ before
+view_other fault found before now is calm = subst (λ k. IsCalm before now (refused_view k)) is calm
+
+pub no_log_not_wrong : (at : ℕ) (found : Header) → Some (log.NotALog at) ≡ Some (log.WrongShape found) → ⊥
+no_log_not_wrong at found e = cc e
+
+pub none_not_wrong : (found : Header) → None ≡ Some (log.WrongShape found) → ⊥
+none_not_wrong found e = cc e
 
 module _ {A : Type 0} (f : A → DiskSeen) (tells : Type 0) (shape : Shape) (from before mid now : ℕ) (disks : List A) (y d : A) (low : from < length disks) where
   abbrev old : List DiskSeen
@@ -101,6 +122,20 @@ module _ {A : Type 0} (f : A → DiskSeen) (tells : Type 0) (shape : Shape) (fro
 
       some_not : Some mark ≡ None → ⊥
       some_not e = cc e
+
+  pub stands_read : (source : Viewing) → Stands tells source.log ((f y).size source.log.side) (f y).stands → Stands tells source.log ((seen_at via from).size source.log.side) (seen_at via from).stands
+  stands_read source h = subst (λ (s : DiskSeen). Stands tells source.log (s.size source.log.side) s.stands) (sym is) h
+
+  -- where it is of another store it failed
+  pub own_risen : HasRisen (f (slice_index_or disks from d)).faults (f y).faults → HasRisen (seen_at old from).faults (seen_at via from).faults
+  own_risen h = subst (λ (s : DiskSeen). HasRisen (seen_at old from).faults s.faults) (sym is) (subst (λ (s : DiskSeen). HasRisen s.faults (f y).faults) was h)
+
+  pub own_not : (o : Option LogFault) (found : Header) → (o ≡ Some (log.WrongShape found) → ⊥) → refusal_in shape from (f (slice_index_or disks from d)).stands.seen ≡ o → refusal_in shape from (seen_at old from).stands.seen ≡ Some (log.WrongShape found) → ⊥
+  own_not o found not refused e = not (sym refused ∙ ap (λ (s : DiskSeen). refusal_in shape from s.stands.seen) was ∙ e)
+
+  pub other_read : (found : Header) → (tells → refusal_in shape from (f (slice_index_or disks from d)).stands.seen ≡ Some (log.WrongShape found)) → (f y).faults ≡ (f (slice_index_or disks from d)).faults
+      → IsOtherSource tells shape from (seen_at old from) (seen_at via from) (WrongShape from found)
+  other_read found refused calm = (refl, λ told. sym (ap (λ (s : DiskSeen). refusal_in shape from s.stands.seen) was) ∙ refused told, ap (λ (s : DiskSeen). s.faults) is ∙ calm ∙ ap (λ (s : DiskSeen). s.faults) was)
 
   -- ---- and then its list was copied
 

@@ -131,8 +131,9 @@ fn copy_to_all<D: Disk>(
             Ok(ended) => ended,
             Err(fault) => return Err(fault),
         };
-        if let Some(mark) = ended {
-            return put_mark(from, mark, out);
+        match ended {
+            Some(mark) => return put_mark(from, mark, out),
+            None => {}
         }
     }
     Ok(())

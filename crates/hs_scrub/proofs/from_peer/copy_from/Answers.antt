@@ -1,8 +1,15 @@
-use Rattle.std.proofs.Common.{◌≡◌, ◌∙◌, ◌*◌, ◌<◌, ◌≤◌, ap, arith, ℕ, List, length, map, refl, subst, sym}
-use Rattle.std.specs.Prelude.{slice_index_or, slice_set}
+use Rattle.std.proofs.Common.{◌≡◌, ◌∙◌, ◌*◌, ◌<◌, ◌≤◌, ◌++◌, None, Some, ap, arith, ℕ, List, length, map, refl, subst, sym}
+use Rattle.std.specs.Prelude.{Err, slice_index_or, slice_set}
 use Rattle.hs_peerlog.proofs.ImageLemmas.{Since}
-use Rattle.hs_scrub.proofs.FromLemmas.{copied_so, fronts_copied, fronts_read, memory_other, memory_unwritten, ok_so, others_copied, others_read, read_only, source_copied, unwritten_read}
-use Rattle.hs_scrub.specs.Copied.{AreBeside, HasCopied, KeepsFronts}
+use Rattle.hs_scrub.proofs.FromLemmas.{copied_so, ended_read, no_log_not_wrong, none_not_wrong, on_ok_any, other_read, own_not, own_risen, stands_read, view_no_log, view_other, fronts_copied, fronts_read, memory_other, memory_unwritten, ok_so, others_copied, others_read, read_only, source_copied, unwritten_read}
+use Rattle.hs_peerlog.specs.declared.fault.LogFault.{LogFault}
+use Rattle.hs_peerlog.specs.declared.fault.LogFault.TheVariants as log
+use Rattle.hs_peerlog.specs.Opening.{IsRefusal, refusal_in}
+use Rattle.hs_ports.specs.Fault.{HasRisen}
+use Rattle.hs_scrub.specs.Copied.{AreBeside, HasCopied, HasEnded, KeepsFronts}
+use Rattle.hs_scrub.specs.declared.mark.PeerMark.TheVariants.{Fault, NoLog}
+use Rattle.hs_scrub.specs.Text.{line_of}
+use Rattle.hs_side.specs.Standing.{Stands}
 use Rattle.hs_scrub.specs.CopySteps.{HasGiven, Spares}
 use Rattle.hs_side.specs.Current.{list_in}
 use Rattle.hs_taking.proofs.DiskLemmas.{seen_each}
@@ -276,7 +283,7 @@ returns-clause-other g c =
     let new : List DiskSeen = map f c.copy_to_all.new.disks in
     let total : ℕ = c.args.shape.shards * c.args.shape.copies in
     let spares : Spares g.D.Disk.tells c.args.shape c.in-Ok.source p c.read.new.watch c.copy_to_all.new.watch total via new = subst (λ n. Spares g.D.Disk.tells c.args.shape c.in-Ok.source n c.read.new.watch c.copy_to_all.new.watch total via new) (sym e) c.copy_to_all.ensures.spares in
-    memory_other g.D.Disk.tells c.args.shape c.args.from _ _ c.copy_to_all.result c.copy_to_all.ensures.memory
+    memory_other g.D.Disk.tells c.args.shape c.args.from (seen_at old c.args.from) (seen_at new c.args.from) c.copy_to_all.result c.copy_to_all.ensures.memory
 
 pub returns-clause-unwritten : goal.returns-clause-unwritten
 returns-clause-unwritten g c =
@@ -315,3 +322,118 @@ returns-clause-copied g c =
     ok_so c.copy_to_all.result c.copy_to_all.ensures.given
     (λ h. subst (λ n. HasCopied g.D.Disk.tells c.args.shape n c.args.watch.now old new c.args.out.now.items c.copy_to_all.new.out.items) e
     (copied_so f g.D.Disk.tells c.args.shape p c.args.watch.now c.read.new.watch c.copy_to_all.new.watch c.args.disks.now y d low c.in-Ok.source new (λ told. c.in-Ok.ensures.listed told) (λ told list k. c.in-Ok.ensures.list told list k) c.in-Ok.ensures.calm c.read.ensures.ticks spares c.args.out.now.items c.copy_to_all.new.out.items (subst (λ n. HasGiven g.D.Disk.tells c.args.shape c.in-Ok.source n c.read.new.watch total via new c.args.out.now.items c.copy_to_all.new.out.items) (sym e) h)))
+
+pub returns-in-Err-Disk-clause-copied : goal.returns-in-Err-Disk-clause-copied
+returns-in-Err-Disk-clause-copied g c =
+    let f : g.row.D.Denot → DiskSeen = λ disk. seen_as (g.D.Disk.size disk) (g.D.Disk.stands disk) (g.D.Disk.faults disk) in
+    let old : List DiskSeen = map f c.args.disks.now in
+    let p : ℕ = c.from-place.result in
+    let e : c.from-place.result ≡ c.args.from = c.from-place.ensures in
+    let d = c.index-disks-place.result in
+    let y = c.read.new.disk in
+    let via : List DiskSeen = map f (slice_set c.args.disks.now p y) in
+    let low : c.from-place.result < length c.args.disks.now = omega (arith, c.requires.count, c.requires.from, e) in
+    let since : (peer : ℕ) → peer < length c.args.disks.now → g.D.Disk.tells → Since (seen_at old peer).stands = λ peer within told. seen_each (λ (s : DiskSeen). Since s.stands) f (λ x side m high. g.met.D.Disk.since told x side m high) c.args.disks.now peer within in
+    let only : IsOnlyRead g.D.Disk.tells c.args.watch.now c.read.new.watch (f (slice_index_or c.args.disks.now p d)) (f y)
+        = record { seen = λ told side. c.read.ensures.same told side; moments = λ told last. c.read.ensures.any_moment told last; counted = c.read.ensures.cause.later } in
+    ok_so c.put_mark.result c.put_mark.ensures.ok
+    (λ text. subst (λ n. HasCopied g.D.Disk.tells c.args.shape n c.args.watch.now old via c.args.out.now.items c.put_mark.new.out.items) e
+    (ended_read f g.D.Disk.tells c.args.shape p c.args.watch.now c.read.new.watch c.read.new.watch c.args.disks.now y d low Fault c.args.out.now.items c.put_mark.new.out.items (subst (λ n. HasEnded g.D.Disk.tells c.args.shape n (f (slice_index_or c.args.disks.now p d)) (f y) Fault) (sym e) (c.in-Err-Disk.ensures.cause.failed (ap (λ (k : LogFault). Err k) c.in-Err-Disk.field-0-is)))
+    (text ∙ ap (λ n. c.args.out.now.items ++ line_of 0 n Fault) (sym e))))
+
+pub returns-in-Err-NotALog-clause-copied : goal.returns-in-Err-NotALog-clause-copied
+returns-in-Err-NotALog-clause-copied g c =
+    let f : g.row.D.Denot → DiskSeen = λ disk. seen_as (g.D.Disk.size disk) (g.D.Disk.stands disk) (g.D.Disk.faults disk) in
+    let old : List DiskSeen = map f c.args.disks.now in
+    let p : ℕ = c.from-place.result in
+    let e : c.from-place.result ≡ c.args.from = c.from-place.ensures in
+    let d = c.index-disks-place.result in
+    let y = c.read.new.disk in
+    let via : List DiskSeen = map f (slice_set c.args.disks.now p y) in
+    let low : c.from-place.result < length c.args.disks.now = omega (arith, c.requires.count, c.requires.from, e) in
+    let since : (peer : ℕ) → peer < length c.args.disks.now → g.D.Disk.tells → Since (seen_at old peer).stands = λ peer within told. seen_each (λ (s : DiskSeen). Since s.stands) f (λ x side m high. g.met.D.Disk.since told x side m high) c.args.disks.now peer within in
+    let only : IsOnlyRead g.D.Disk.tells c.args.watch.now c.read.new.watch (f (slice_index_or c.args.disks.now p d)) (f y)
+        = record { seen = λ told side. c.read.ensures.same told side; moments = λ told last. c.read.ensures.any_moment told last; counted = c.read.ensures.cause.later } in
+    ok_so c.put_mark-in-Err-NotALog.result c.put_mark-in-Err-NotALog.ensures.ok
+    (λ text. subst (λ n. HasCopied g.D.Disk.tells c.args.shape n c.args.watch.now old via c.args.out.now.items c.put_mark-in-Err-NotALog.new.out.items) e
+    (ended_read f g.D.Disk.tells c.args.shape p c.args.watch.now c.read.new.watch c.read.new.watch c.args.disks.now y d low (NoLog c.in-Err-NotALog.at) c.args.out.now.items c.put_mark-in-Err-NotALog.new.out.items (subst (λ n. HasEnded g.D.Disk.tells c.args.shape n (f (slice_index_or c.args.disks.now p d)) (f y) (NoLog c.in-Err-NotALog.at)) (sym e) (record { calm = view_no_log c.in-Err-NotALog.field-0 c.in-Err-NotALog.at (g.D.Disk.faults (slice_index_or c.args.disks.now p d)) (g.D.Disk.faults y) c.in-Err-NotALog.field-0-is c.in-Err-NotALog.ensures.calm; refused = λ told. (subst (λ fault. IsRefusal fault (refusal_in c.args.shape c.args.from (f (slice_index_or c.args.disks.now p d)).stands.seen)) c.in-Err-NotALog.field-0-is (c.in-Err-NotALog.ensures.refused told)) }))
+    (text ∙ ap (λ n. c.args.out.now.items ++ line_of 0 n (NoLog c.in-Err-NotALog.at)) (sym e))))
+
+pub returns-in-Err-Disk-clause-own : goal.returns-in-Err-Disk-clause-own
+returns-in-Err-Disk-clause-own g c =
+    let f : g.row.D.Denot → DiskSeen = λ disk. seen_as (g.D.Disk.size disk) (g.D.Disk.stands disk) (g.D.Disk.faults disk) in
+    let old : List DiskSeen = map f c.args.disks.now in
+    let p : ℕ = c.from-place.result in
+    let e : c.from-place.result ≡ c.args.from = c.from-place.ensures in
+    let d = c.index-disks-place.result in
+    let y = c.read.new.disk in
+    let via : List DiskSeen = map f (slice_set c.args.disks.now p y) in
+    let low : c.from-place.result < length c.args.disks.now = omega (arith, c.requires.count, c.requires.from, e) in
+    let since : (peer : ℕ) → peer < length c.args.disks.now → g.D.Disk.tells → Since (seen_at old peer).stands = λ peer within told. seen_each (λ (s : DiskSeen). Since s.stands) f (λ x side m high. g.met.D.Disk.since told x side m high) c.args.disks.now peer within in
+    let only : IsOnlyRead g.D.Disk.tells c.args.watch.now c.read.new.watch (f (slice_index_or c.args.disks.now p d)) (f y)
+        = record { seen = λ told side. c.read.ensures.same told side; moments = λ told last. c.read.ensures.any_moment told last; counted = c.read.ensures.cause.later } in
+    λ told. on_ok_any c.put_mark.result (λ found k. subst (λ n. HasRisen (seen_at old n).faults (seen_at via n).faults) e (own_risen f g.D.Disk.tells c.args.shape p c.args.watch.now c.read.new.watch c.read.new.watch c.args.disks.now y d low (c.in-Err-Disk.ensures.cause.failed (ap (λ (k : LogFault). Err k) c.in-Err-Disk.field-0-is))))
+
+pub returns-in-Err-NotALog-clause-own : goal.returns-in-Err-NotALog-clause-own
+returns-in-Err-NotALog-clause-own g c =
+    let f : g.row.D.Denot → DiskSeen = λ disk. seen_as (g.D.Disk.size disk) (g.D.Disk.stands disk) (g.D.Disk.faults disk) in
+    let old : List DiskSeen = map f c.args.disks.now in
+    let p : ℕ = c.from-place.result in
+    let e : c.from-place.result ≡ c.args.from = c.from-place.ensures in
+    let d = c.index-disks-place.result in
+    let y = c.read.new.disk in
+    let via : List DiskSeen = map f (slice_set c.args.disks.now p y) in
+    let low : c.from-place.result < length c.args.disks.now = omega (arith, c.requires.count, c.requires.from, e) in
+    let since : (peer : ℕ) → peer < length c.args.disks.now → g.D.Disk.tells → Since (seen_at old peer).stands = λ peer within told. seen_each (λ (s : DiskSeen). Since s.stands) f (λ x side m high. g.met.D.Disk.since told x side m high) c.args.disks.now peer within in
+    let only : IsOnlyRead g.D.Disk.tells c.args.watch.now c.read.new.watch (f (slice_index_or c.args.disks.now p d)) (f y)
+        = record { seen = λ told side. c.read.ensures.same told side; moments = λ told last. c.read.ensures.any_moment told last; counted = c.read.ensures.cause.later } in
+    λ told. on_ok_any c.put_mark-in-Err-NotALog.result (λ found k. absurd (own_not f g.D.Disk.tells c.args.shape p c.args.watch.now c.read.new.watch c.read.new.watch c.args.disks.now y d low (Some (log.NotALog c.in-Err-NotALog.at)) found (no_log_not_wrong c.in-Err-NotALog.at found) (subst (λ n. refusal_in c.args.shape n (f (slice_index_or c.args.disks.now p d)).stands.seen ≡ (Some (log.NotALog c.in-Err-NotALog.at))) (sym e) (subst (λ fault. IsRefusal fault (refusal_in c.args.shape c.args.from (f (slice_index_or c.args.disks.now p d)).stands.seen)) c.in-Err-NotALog.field-0-is (c.in-Err-NotALog.ensures.refused told)))
+    (subst (λ n. refusal_in c.args.shape n (seen_at old n).stands.seen ≡ Some (log.WrongShape found)) (sym e) k)))
+
+pub returns-clause-own : goal.returns-clause-own
+returns-clause-own g c =
+    let f : g.row.D.Denot → DiskSeen = λ disk. seen_as (g.D.Disk.size disk) (g.D.Disk.stands disk) (g.D.Disk.faults disk) in
+    let old : List DiskSeen = map f c.args.disks.now in
+    let p : ℕ = c.from-place.result in
+    let e : c.from-place.result ≡ c.args.from = c.from-place.ensures in
+    let d = c.index-disks-place.result in
+    let y = c.read.new.disk in
+    let via : List DiskSeen = map f (slice_set c.args.disks.now p y) in
+    let low : c.from-place.result < length c.args.disks.now = omega (arith, c.requires.count, c.requires.from, e) in
+    let since : (peer : ℕ) → peer < length c.args.disks.now → g.D.Disk.tells → Since (seen_at old peer).stands = λ peer within told. seen_each (λ (s : DiskSeen). Since s.stands) f (λ x side m high. g.met.D.Disk.since told x side m high) c.args.disks.now peer within in
+    let only : IsOnlyRead g.D.Disk.tells c.args.watch.now c.read.new.watch (f (slice_index_or c.args.disks.now p d)) (f y)
+        = record { seen = λ told side. c.read.ensures.same told side; moments = λ told last. c.read.ensures.any_moment told last; counted = c.read.ensures.cause.later } in
+    λ told. on_ok_any c.copy_to_all.result (λ found k. absurd (own_not f g.D.Disk.tells c.args.shape p c.args.watch.now c.read.new.watch c.read.new.watch c.args.disks.now y d low None found (none_not_wrong found) (subst (λ n. refusal_in c.args.shape n (f (slice_index_or c.args.disks.now p d)).stands.seen ≡ None) (sym e) (c.in-Ok.ensures.accepted told))
+    (subst (λ n. refusal_in c.args.shape n (seen_at old n).stands.seen ≡ Some (log.WrongShape found)) (sym e) k)))
+
+pub returns-in-Err-WrongShape-clause-other : goal.returns-in-Err-WrongShape-clause-other
+returns-in-Err-WrongShape-clause-other g c =
+    let f : g.row.D.Denot → DiskSeen = λ disk. seen_as (g.D.Disk.size disk) (g.D.Disk.stands disk) (g.D.Disk.faults disk) in
+    let old : List DiskSeen = map f c.args.disks.now in
+    let p : ℕ = c.from-place.result in
+    let e : c.from-place.result ≡ c.args.from = c.from-place.ensures in
+    let d = c.index-disks-place.result in
+    let y = c.read.new.disk in
+    let via : List DiskSeen = map f (slice_set c.args.disks.now p y) in
+    let low : c.from-place.result < length c.args.disks.now = omega (arith, c.requires.count, c.requires.from, e) in
+    let since : (peer : ℕ) → peer < length c.args.disks.now → g.D.Disk.tells → Since (seen_at old peer).stands = λ peer within told. seen_each (λ (s : DiskSeen). Since s.stands) f (λ x side m high. g.met.D.Disk.since told x side m high) c.args.disks.now peer within in
+    let only : IsOnlyRead g.D.Disk.tells c.args.watch.now c.read.new.watch (f (slice_index_or c.args.disks.now p d)) (f y)
+        = record { seen = λ told side. c.read.ensures.same told side; moments = λ told last. c.read.ensures.any_moment told last; counted = c.read.ensures.cause.later } in
+    let o = (other_read f g.D.Disk.tells c.args.shape p c.args.watch.now c.read.new.watch c.read.new.watch c.args.disks.now y d low c.in-Err-WrongShape.found (λ told. subst (λ n. refusal_in c.args.shape n (f (slice_index_or c.args.disks.now p d)).stands.seen ≡ Some (log.WrongShape c.in-Err-WrongShape.found)) (sym e) (subst (λ fault. IsRefusal fault (refusal_in c.args.shape c.args.from (f (slice_index_or c.args.disks.now p d)).stands.seen)) c.in-Err-WrongShape.field-0-is (c.in-Err-WrongShape.ensures.refused told)))
+    (view_other c.in-Err-WrongShape.field-0 c.in-Err-WrongShape.found (g.D.Disk.faults (slice_index_or c.args.disks.now p d)) (g.D.Disk.faults y) c.in-Err-WrongShape.field-0-is c.in-Err-WrongShape.ensures.calm)) in
+    (refl, λ told. subst (λ n. refusal_in c.args.shape n (seen_at old n).stands.seen ≡ Some (log.WrongShape c.in-Err-WrongShape.found)) e (o.1 told), subst (λ n. (seen_at via n).faults ≡ (seen_at old n).faults) e o.2)
+
+pub copy_to_all-requires-clause-source : goal.copy_to_all-requires-clause-source
+copy_to_all-requires-clause-source g c =
+    let f : g.row.D.Denot → DiskSeen = λ disk. seen_as (g.D.Disk.size disk) (g.D.Disk.stands disk) (g.D.Disk.faults disk) in
+    let old : List DiskSeen = map f c.args.disks.now in
+    let p : ℕ = c.from-place.result in
+    let e : c.from-place.result ≡ c.args.from = c.from-place.ensures in
+    let d = c.index-disks-place.result in
+    let y = c.read.new.disk in
+    let via : List DiskSeen = map f (slice_set c.args.disks.now p y) in
+    let low : c.from-place.result < length c.args.disks.now = omega (arith, c.requires.count, c.requires.from, e) in
+    let since : (peer : ℕ) → peer < length c.args.disks.now → g.D.Disk.tells → Since (seen_at old peer).stands = λ peer within told. seen_each (λ (s : DiskSeen). Since s.stands) f (λ x side m high. g.met.D.Disk.since told x side m high) c.args.disks.now peer within in
+    let only : IsOnlyRead g.D.Disk.tells c.args.watch.now c.read.new.watch (f (slice_index_or c.args.disks.now p d)) (f y)
+        = record { seen = λ told side. c.read.ensures.same told side; moments = λ told last. c.read.ensures.any_moment told last; counted = c.read.ensures.cause.later } in
+    subst (λ n. Stands g.D.Disk.tells c.in-Ok.source.log ((seen_at via n).size c.in-Ok.source.log.side) (seen_at via n).stands) e (stands_read f g.D.Disk.tells c.args.shape p c.args.watch.now c.read.new.watch c.read.new.watch c.args.disks.now y d low c.in-Ok.source c.in-Ok.ensures.stands)
