@@ -139,11 +139,13 @@ module _ (tells : Type 0) (shape : Shape) (source : Viewing) (from before mid no
 
   took : Takes tells shape source from peer mid cur new out' out'' → Copies tells shape source from before now (peer + 1) total old new out out''
   took h = one_more (λ beside differ. record {
-      calm = h.calm.target ∙ ap (λ (s : DiskSeen). s.faults) (unmoved differ);
-      got = record { list = λ told last whole has.
+    calm = h.calm.target ∙ ap (λ (s : DiskSeen). s.faults) (unmoved differ);
+    got = record {
+      list = λ told last whole has.
           h.got.list told (subst (λ (s : DiskSeen). s.stands.last ≤ mid) (sym (unmoved differ)) (let l = so_far.spares.later in omega (arith, last, l))) whole
-          (has_still tells (seen_at old from) (seen_at cur from) source whole so_far.spares.still told has) };
-    }) h.calm.source h.text
+          (has_still tells (seen_at old from) (seen_at cur from) source whole so_far.spares.still told has);
+    };
+  }) h.calm.source h.text
 
   left_so : Leaves tells shape from peer cur new out' out'' → Copies tells shape source from before now (peer + 1) total old new out out''
   left_so h = record {

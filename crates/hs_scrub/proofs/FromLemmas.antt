@@ -168,7 +168,7 @@ module _ {A : Type 0} (f : A → DiskSeen) (tells : Type 0) (shape : Shape) (fro
     got_copy : (peer : ℕ) → (peer ≡ from → ⊥) → HasGot tells source mid (seen_at via from) (seen_at via peer) (seen_at new peer) → HasCopy tells before (seen_at old peer) (seen_at new peer) copied_list
     got_copy peer differ got =
         let whole : tells → (seen_at old peer).stands.last ≤ before → HasWhole (seen_at new peer) copied_list
-            = λ told last. got.got.list told (subst (λ (s : DiskSeen). s.stands.last ≤ mid) (sym (there peer differ)) (omega (arith, last, up))) copied_list (has_via told copied_list (read_is told)) in
+        = λ told last. got.got.list told (subst (λ (s : DiskSeen). s.stands.last ≤ mid) (sym (there peer differ)) (omega (arith, last, up))) copied_list (has_via told copied_list (read_is told)) in
         record {
           calm = got.calm ∙ ap (λ (s : DiskSeen). s.faults) (there peer differ);
           gives = λ told last. (whole told last).gives;
@@ -197,5 +197,5 @@ module _ {A : Type 0} (f : A → DiskSeen) (tells : Type 0) (shape : Shape) (fro
     fronts_copied peer within differ since copied read = λ told last held leaves.
         let first = each_wait (IsOldOrFront held copied) up (stays (seen_at old peer).stands before held (IsOldOrFront held copied) last (since told) leaves (record { one = inl refl })) in
         let second = spares.fronts peer within differ told (subst (λ (s : DiskSeen). s.stands.last ≤ mid) (sym (there peer differ)) (omega (arith, last, up))) copied (has_via told copied (read told)) held
-            (subst (λ (s : DiskSeen). LeavesOnly s.stands held) (sym (there peer differ)) leaves) in
+        (subst (λ (s : DiskSeen). LeavesOnly s.stands held) (sym (there peer differ)) leaves) in
         each_then (IsOldOrFront held copied) first (subst (λ (s : DiskSeen). LeavesEach mid now s.stands (seen_at new peer).stands (IsOldOrFront held copied)) (there peer differ) second)

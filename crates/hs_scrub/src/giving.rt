@@ -183,11 +183,10 @@ pub(crate) fn copy_list<D: Disk>(
     let mut log = log;
     for index in 0..source.last() {
         let number = index + 1;
-        let given =
-            match copy_entry(source, &mut log, disks, watch, from, place, index, number) {
-                Ok(given) => given,
-                Err(fault) => return Err(fault),
-            };
+        let given = match copy_entry(source, &mut log, disks, watch, from, place, index, number) {
+            Ok(given) => given,
+            Err(fault) => return Err(fault),
+        };
         match given {
             Given::Whole => {}
             Given::Left => return Ok(Given::Left),

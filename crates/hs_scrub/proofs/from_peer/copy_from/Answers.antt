@@ -29,7 +29,7 @@ returns-in-Err-Disk-clause-source g c =
     let low : c.from-place.result < length c.args.disks.now = omega (arith, c.requires.count, c.requires.from, e) in
     let since : (peer : ℕ) → peer < length c.args.disks.now → g.D.Disk.tells → Since (seen_at old peer).stands = λ peer within told. seen_each (λ (s : DiskSeen). Since s.stands) f (λ x side m high. g.met.D.Disk.since told x side m high) c.args.disks.now peer within in
     let only : IsOnlyRead g.D.Disk.tells c.args.watch.now c.read.new.watch (f (slice_index_or c.args.disks.now p d)) (f y)
-        = record { seen = λ told side. c.read.ensures.same told side; moments = λ told last. c.read.ensures.any_moment told last; counted = c.read.ensures.cause.later } in
+    = record { seen = λ told side. c.read.ensures.same told side; moments = λ told last. c.read.ensures.any_moment told last; counted = c.read.ensures.cause.later } in
     subst (λ n. IsOnlyRead g.D.Disk.tells c.args.watch.now c.read.new.watch (seen_at old n) (seen_at via n)) e (read_only f g.D.Disk.tells c.args.shape p c.args.watch.now c.read.new.watch c.read.new.watch c.args.disks.now y d low only)
 
 pub returns-in-Err-Disk-clause-others : goal.returns-in-Err-Disk-clause-others
@@ -44,7 +44,7 @@ returns-in-Err-Disk-clause-others g c =
     let low : c.from-place.result < length c.args.disks.now = omega (arith, c.requires.count, c.requires.from, e) in
     let since : (peer : ℕ) → peer < length c.args.disks.now → g.D.Disk.tells → Since (seen_at old peer).stands = λ peer within told. seen_each (λ (s : DiskSeen). Since s.stands) f (λ x side m high. g.met.D.Disk.since told x side m high) c.args.disks.now peer within in
     let only : IsOnlyRead g.D.Disk.tells c.args.watch.now c.read.new.watch (f (slice_index_or c.args.disks.now p d)) (f y)
-        = record { seen = λ told side. c.read.ensures.same told side; moments = λ told last. c.read.ensures.any_moment told last; counted = c.read.ensures.cause.later } in
+    = record { seen = λ told side. c.read.ensures.same told side; moments = λ told last. c.read.ensures.any_moment told last; counted = c.read.ensures.cause.later } in
     λ peer out. others_read f g.D.Disk.tells c.args.shape p c.args.watch.now c.read.new.watch c.read.new.watch c.args.disks.now y d low peer (subst (λ n. AreBeside c.args.shape n peer → ⊥) (sym e) out)
 
 pub returns-in-Err-Disk-clause-fronts : goal.returns-in-Err-Disk-clause-fronts
@@ -59,7 +59,7 @@ returns-in-Err-Disk-clause-fronts g c =
     let low : c.from-place.result < length c.args.disks.now = omega (arith, c.requires.count, c.requires.from, e) in
     let since : (peer : ℕ) → peer < length c.args.disks.now → g.D.Disk.tells → Since (seen_at old peer).stands = λ peer within told. seen_each (λ (s : DiskSeen). Since s.stands) f (λ x side m high. g.met.D.Disk.since told x side m high) c.args.disks.now peer within in
     let only : IsOnlyRead g.D.Disk.tells c.args.watch.now c.read.new.watch (f (slice_index_or c.args.disks.now p d)) (f y)
-        = record { seen = λ told side. c.read.ensures.same told side; moments = λ told last. c.read.ensures.any_moment told last; counted = c.read.ensures.cause.later } in
+    = record { seen = λ told side. c.read.ensures.same told side; moments = λ told last. c.read.ensures.any_moment told last; counted = c.read.ensures.cause.later } in
     λ peer within differ copied read. fronts_read f g.D.Disk.tells c.args.shape p c.args.watch.now c.read.new.watch c.read.new.watch c.args.disks.now y d low peer copied c.read.ensures.ticks (since peer within) (λ h. differ (h ∙ e))
 
 pub returns-in-Err-NotALog-clause-source : goal.returns-in-Err-NotALog-clause-source
@@ -74,7 +74,7 @@ returns-in-Err-NotALog-clause-source g c =
     let low : c.from-place.result < length c.args.disks.now = omega (arith, c.requires.count, c.requires.from, e) in
     let since : (peer : ℕ) → peer < length c.args.disks.now → g.D.Disk.tells → Since (seen_at old peer).stands = λ peer within told. seen_each (λ (s : DiskSeen). Since s.stands) f (λ x side m high. g.met.D.Disk.since told x side m high) c.args.disks.now peer within in
     let only : IsOnlyRead g.D.Disk.tells c.args.watch.now c.read.new.watch (f (slice_index_or c.args.disks.now p d)) (f y)
-        = record { seen = λ told side. c.read.ensures.same told side; moments = λ told last. c.read.ensures.any_moment told last; counted = c.read.ensures.cause.later } in
+    = record { seen = λ told side. c.read.ensures.same told side; moments = λ told last. c.read.ensures.any_moment told last; counted = c.read.ensures.cause.later } in
     subst (λ n. IsOnlyRead g.D.Disk.tells c.args.watch.now c.read.new.watch (seen_at old n) (seen_at via n)) e (read_only f g.D.Disk.tells c.args.shape p c.args.watch.now c.read.new.watch c.read.new.watch c.args.disks.now y d low only)
 
 pub returns-in-Err-NotALog-clause-others : goal.returns-in-Err-NotALog-clause-others
@@ -89,7 +89,7 @@ returns-in-Err-NotALog-clause-others g c =
     let low : c.from-place.result < length c.args.disks.now = omega (arith, c.requires.count, c.requires.from, e) in
     let since : (peer : ℕ) → peer < length c.args.disks.now → g.D.Disk.tells → Since (seen_at old peer).stands = λ peer within told. seen_each (λ (s : DiskSeen). Since s.stands) f (λ x side m high. g.met.D.Disk.since told x side m high) c.args.disks.now peer within in
     let only : IsOnlyRead g.D.Disk.tells c.args.watch.now c.read.new.watch (f (slice_index_or c.args.disks.now p d)) (f y)
-        = record { seen = λ told side. c.read.ensures.same told side; moments = λ told last. c.read.ensures.any_moment told last; counted = c.read.ensures.cause.later } in
+    = record { seen = λ told side. c.read.ensures.same told side; moments = λ told last. c.read.ensures.any_moment told last; counted = c.read.ensures.cause.later } in
     λ peer out. others_read f g.D.Disk.tells c.args.shape p c.args.watch.now c.read.new.watch c.read.new.watch c.args.disks.now y d low peer (subst (λ n. AreBeside c.args.shape n peer → ⊥) (sym e) out)
 
 pub returns-in-Err-NotALog-clause-fronts : goal.returns-in-Err-NotALog-clause-fronts
@@ -104,7 +104,7 @@ returns-in-Err-NotALog-clause-fronts g c =
     let low : c.from-place.result < length c.args.disks.now = omega (arith, c.requires.count, c.requires.from, e) in
     let since : (peer : ℕ) → peer < length c.args.disks.now → g.D.Disk.tells → Since (seen_at old peer).stands = λ peer within told. seen_each (λ (s : DiskSeen). Since s.stands) f (λ x side m high. g.met.D.Disk.since told x side m high) c.args.disks.now peer within in
     let only : IsOnlyRead g.D.Disk.tells c.args.watch.now c.read.new.watch (f (slice_index_or c.args.disks.now p d)) (f y)
-        = record { seen = λ told side. c.read.ensures.same told side; moments = λ told last. c.read.ensures.any_moment told last; counted = c.read.ensures.cause.later } in
+    = record { seen = λ told side. c.read.ensures.same told side; moments = λ told last. c.read.ensures.any_moment told last; counted = c.read.ensures.cause.later } in
     λ peer within differ copied read. fronts_read f g.D.Disk.tells c.args.shape p c.args.watch.now c.read.new.watch c.read.new.watch c.args.disks.now y d low peer copied c.read.ensures.ticks (since peer within) (λ h. differ (h ∙ e))
 
 pub returns-in-Err-WrongShape-clause-source : goal.returns-in-Err-WrongShape-clause-source
@@ -119,7 +119,7 @@ returns-in-Err-WrongShape-clause-source g c =
     let low : c.from-place.result < length c.args.disks.now = omega (arith, c.requires.count, c.requires.from, e) in
     let since : (peer : ℕ) → peer < length c.args.disks.now → g.D.Disk.tells → Since (seen_at old peer).stands = λ peer within told. seen_each (λ (s : DiskSeen). Since s.stands) f (λ x side m high. g.met.D.Disk.since told x side m high) c.args.disks.now peer within in
     let only : IsOnlyRead g.D.Disk.tells c.args.watch.now c.read.new.watch (f (slice_index_or c.args.disks.now p d)) (f y)
-        = record { seen = λ told side. c.read.ensures.same told side; moments = λ told last. c.read.ensures.any_moment told last; counted = c.read.ensures.cause.later } in
+    = record { seen = λ told side. c.read.ensures.same told side; moments = λ told last. c.read.ensures.any_moment told last; counted = c.read.ensures.cause.later } in
     subst (λ n. IsOnlyRead g.D.Disk.tells c.args.watch.now c.read.new.watch (seen_at old n) (seen_at via n)) e (read_only f g.D.Disk.tells c.args.shape p c.args.watch.now c.read.new.watch c.read.new.watch c.args.disks.now y d low only)
 
 pub returns-in-Err-WrongShape-clause-others : goal.returns-in-Err-WrongShape-clause-others
@@ -134,7 +134,7 @@ returns-in-Err-WrongShape-clause-others g c =
     let low : c.from-place.result < length c.args.disks.now = omega (arith, c.requires.count, c.requires.from, e) in
     let since : (peer : ℕ) → peer < length c.args.disks.now → g.D.Disk.tells → Since (seen_at old peer).stands = λ peer within told. seen_each (λ (s : DiskSeen). Since s.stands) f (λ x side m high. g.met.D.Disk.since told x side m high) c.args.disks.now peer within in
     let only : IsOnlyRead g.D.Disk.tells c.args.watch.now c.read.new.watch (f (slice_index_or c.args.disks.now p d)) (f y)
-        = record { seen = λ told side. c.read.ensures.same told side; moments = λ told last. c.read.ensures.any_moment told last; counted = c.read.ensures.cause.later } in
+    = record { seen = λ told side. c.read.ensures.same told side; moments = λ told last. c.read.ensures.any_moment told last; counted = c.read.ensures.cause.later } in
     λ peer out. others_read f g.D.Disk.tells c.args.shape p c.args.watch.now c.read.new.watch c.read.new.watch c.args.disks.now y d low peer (subst (λ n. AreBeside c.args.shape n peer → ⊥) (sym e) out)
 
 pub returns-in-Err-WrongShape-clause-fronts : goal.returns-in-Err-WrongShape-clause-fronts
@@ -149,7 +149,7 @@ returns-in-Err-WrongShape-clause-fronts g c =
     let low : c.from-place.result < length c.args.disks.now = omega (arith, c.requires.count, c.requires.from, e) in
     let since : (peer : ℕ) → peer < length c.args.disks.now → g.D.Disk.tells → Since (seen_at old peer).stands = λ peer within told. seen_each (λ (s : DiskSeen). Since s.stands) f (λ x side m high. g.met.D.Disk.since told x side m high) c.args.disks.now peer within in
     let only : IsOnlyRead g.D.Disk.tells c.args.watch.now c.read.new.watch (f (slice_index_or c.args.disks.now p d)) (f y)
-        = record { seen = λ told side. c.read.ensures.same told side; moments = λ told last. c.read.ensures.any_moment told last; counted = c.read.ensures.cause.later } in
+    = record { seen = λ told side. c.read.ensures.same told side; moments = λ told last. c.read.ensures.any_moment told last; counted = c.read.ensures.cause.later } in
     λ peer within differ copied read. fronts_read f g.D.Disk.tells c.args.shape p c.args.watch.now c.read.new.watch c.read.new.watch c.args.disks.now y d low peer copied c.read.ensures.ticks (since peer within) (λ h. differ (h ∙ e))
 
 pub returns-in-Err-NoMemory-clause-source : goal.returns-in-Err-NoMemory-clause-source
@@ -164,7 +164,7 @@ returns-in-Err-NoMemory-clause-source g c =
     let low : c.from-place.result < length c.args.disks.now = omega (arith, c.requires.count, c.requires.from, e) in
     let since : (peer : ℕ) → peer < length c.args.disks.now → g.D.Disk.tells → Since (seen_at old peer).stands = λ peer within told. seen_each (λ (s : DiskSeen). Since s.stands) f (λ x side m high. g.met.D.Disk.since told x side m high) c.args.disks.now peer within in
     let only : IsOnlyRead g.D.Disk.tells c.args.watch.now c.read.new.watch (f (slice_index_or c.args.disks.now p d)) (f y)
-        = record { seen = λ told side. c.read.ensures.same told side; moments = λ told last. c.read.ensures.any_moment told last; counted = c.read.ensures.cause.later } in
+    = record { seen = λ told side. c.read.ensures.same told side; moments = λ told last. c.read.ensures.any_moment told last; counted = c.read.ensures.cause.later } in
     subst (λ n. IsOnlyRead g.D.Disk.tells c.args.watch.now c.read.new.watch (seen_at old n) (seen_at via n)) e (read_only f g.D.Disk.tells c.args.shape p c.args.watch.now c.read.new.watch c.read.new.watch c.args.disks.now y d low only)
 
 pub returns-in-Err-NoMemory-clause-others : goal.returns-in-Err-NoMemory-clause-others
@@ -179,7 +179,7 @@ returns-in-Err-NoMemory-clause-others g c =
     let low : c.from-place.result < length c.args.disks.now = omega (arith, c.requires.count, c.requires.from, e) in
     let since : (peer : ℕ) → peer < length c.args.disks.now → g.D.Disk.tells → Since (seen_at old peer).stands = λ peer within told. seen_each (λ (s : DiskSeen). Since s.stands) f (λ x side m high. g.met.D.Disk.since told x side m high) c.args.disks.now peer within in
     let only : IsOnlyRead g.D.Disk.tells c.args.watch.now c.read.new.watch (f (slice_index_or c.args.disks.now p d)) (f y)
-        = record { seen = λ told side. c.read.ensures.same told side; moments = λ told last. c.read.ensures.any_moment told last; counted = c.read.ensures.cause.later } in
+    = record { seen = λ told side. c.read.ensures.same told side; moments = λ told last. c.read.ensures.any_moment told last; counted = c.read.ensures.cause.later } in
     λ peer out. others_read f g.D.Disk.tells c.args.shape p c.args.watch.now c.read.new.watch c.read.new.watch c.args.disks.now y d low peer (subst (λ n. AreBeside c.args.shape n peer → ⊥) (sym e) out)
 
 pub returns-in-Err-NoMemory-clause-fronts : goal.returns-in-Err-NoMemory-clause-fronts
@@ -194,7 +194,7 @@ returns-in-Err-NoMemory-clause-fronts g c =
     let low : c.from-place.result < length c.args.disks.now = omega (arith, c.requires.count, c.requires.from, e) in
     let since : (peer : ℕ) → peer < length c.args.disks.now → g.D.Disk.tells → Since (seen_at old peer).stands = λ peer within told. seen_each (λ (s : DiskSeen). Since s.stands) f (λ x side m high. g.met.D.Disk.since told x side m high) c.args.disks.now peer within in
     let only : IsOnlyRead g.D.Disk.tells c.args.watch.now c.read.new.watch (f (slice_index_or c.args.disks.now p d)) (f y)
-        = record { seen = λ told side. c.read.ensures.same told side; moments = λ told last. c.read.ensures.any_moment told last; counted = c.read.ensures.cause.later } in
+    = record { seen = λ told side. c.read.ensures.same told side; moments = λ told last. c.read.ensures.any_moment told last; counted = c.read.ensures.cause.later } in
     λ peer within differ copied read. fronts_read f g.D.Disk.tells c.args.shape p c.args.watch.now c.read.new.watch c.read.new.watch c.args.disks.now y d low peer copied c.read.ensures.ticks (since peer within) (λ h. differ (h ∙ e))
 
 pub returns-in-Err-WrongShape-clause-unwritten : goal.returns-in-Err-WrongShape-clause-unwritten
@@ -209,7 +209,7 @@ returns-in-Err-WrongShape-clause-unwritten g c =
     let low : c.from-place.result < length c.args.disks.now = omega (arith, c.requires.count, c.requires.from, e) in
     let since : (peer : ℕ) → peer < length c.args.disks.now → g.D.Disk.tells → Since (seen_at old peer).stands = λ peer within told. seen_each (λ (s : DiskSeen). Since s.stands) f (λ x side m high. g.met.D.Disk.since told x side m high) c.args.disks.now peer within in
     let only : IsOnlyRead g.D.Disk.tells c.args.watch.now c.read.new.watch (f (slice_index_or c.args.disks.now p d)) (f y)
-        = record { seen = λ told side. c.read.ensures.same told side; moments = λ told last. c.read.ensures.any_moment told last; counted = c.read.ensures.cause.later } in
+    = record { seen = λ told side. c.read.ensures.same told side; moments = λ told last. c.read.ensures.any_moment told last; counted = c.read.ensures.cause.later } in
     λ at found k peer differ. unwritten_read f g.D.Disk.tells c.args.shape p c.args.watch.now c.read.new.watch c.read.new.watch c.args.disks.now y d low peer (λ h. differ (h ∙ e))
 
 pub returns-clause-source : goal.returns-clause-source
@@ -224,7 +224,7 @@ returns-clause-source g c =
     let low : c.from-place.result < length c.args.disks.now = omega (arith, c.requires.count, c.requires.from, e) in
     let since : (peer : ℕ) → peer < length c.args.disks.now → g.D.Disk.tells → Since (seen_at old peer).stands = λ peer within told. seen_each (λ (s : DiskSeen). Since s.stands) f (λ x side m high. g.met.D.Disk.since told x side m high) c.args.disks.now peer within in
     let only : IsOnlyRead g.D.Disk.tells c.args.watch.now c.read.new.watch (f (slice_index_or c.args.disks.now p d)) (f y)
-        = record { seen = λ told side. c.read.ensures.same told side; moments = λ told last. c.read.ensures.any_moment told last; counted = c.read.ensures.cause.later } in
+    = record { seen = λ told side. c.read.ensures.same told side; moments = λ told last. c.read.ensures.any_moment told last; counted = c.read.ensures.cause.later } in
     let new : List DiskSeen = map f c.copy_to_all.new.disks in
     let total : ℕ = c.args.shape.shards * c.args.shape.copies in
     let spares : Spares g.D.Disk.tells c.args.shape c.in-Ok.source p c.read.new.watch c.copy_to_all.new.watch total via new = subst (λ n. Spares g.D.Disk.tells c.args.shape c.in-Ok.source n c.read.new.watch c.copy_to_all.new.watch total via new) (sym e) c.copy_to_all.ensures.spares in
@@ -242,7 +242,7 @@ returns-clause-others g c =
     let low : c.from-place.result < length c.args.disks.now = omega (arith, c.requires.count, c.requires.from, e) in
     let since : (peer : ℕ) → peer < length c.args.disks.now → g.D.Disk.tells → Since (seen_at old peer).stands = λ peer within told. seen_each (λ (s : DiskSeen). Since s.stands) f (λ x side m high. g.met.D.Disk.since told x side m high) c.args.disks.now peer within in
     let only : IsOnlyRead g.D.Disk.tells c.args.watch.now c.read.new.watch (f (slice_index_or c.args.disks.now p d)) (f y)
-        = record { seen = λ told side. c.read.ensures.same told side; moments = λ told last. c.read.ensures.any_moment told last; counted = c.read.ensures.cause.later } in
+    = record { seen = λ told side. c.read.ensures.same told side; moments = λ told last. c.read.ensures.any_moment told last; counted = c.read.ensures.cause.later } in
     let new : List DiskSeen = map f c.copy_to_all.new.disks in
     let total : ℕ = c.args.shape.shards * c.args.shape.copies in
     let spares : Spares g.D.Disk.tells c.args.shape c.in-Ok.source p c.read.new.watch c.copy_to_all.new.watch total via new = subst (λ n. Spares g.D.Disk.tells c.args.shape c.in-Ok.source n c.read.new.watch c.copy_to_all.new.watch total via new) (sym e) c.copy_to_all.ensures.spares in
@@ -260,7 +260,7 @@ returns-clause-fronts g c =
     let low : c.from-place.result < length c.args.disks.now = omega (arith, c.requires.count, c.requires.from, e) in
     let since : (peer : ℕ) → peer < length c.args.disks.now → g.D.Disk.tells → Since (seen_at old peer).stands = λ peer within told. seen_each (λ (s : DiskSeen). Since s.stands) f (λ x side m high. g.met.D.Disk.since told x side m high) c.args.disks.now peer within in
     let only : IsOnlyRead g.D.Disk.tells c.args.watch.now c.read.new.watch (f (slice_index_or c.args.disks.now p d)) (f y)
-        = record { seen = λ told side. c.read.ensures.same told side; moments = λ told last. c.read.ensures.any_moment told last; counted = c.read.ensures.cause.later } in
+    = record { seen = λ told side. c.read.ensures.same told side; moments = λ told last. c.read.ensures.any_moment told last; counted = c.read.ensures.cause.later } in
     let new : List DiskSeen = map f c.copy_to_all.new.disks in
     let total : ℕ = c.args.shape.shards * c.args.shape.copies in
     let spares : Spares g.D.Disk.tells c.args.shape c.in-Ok.source p c.read.new.watch c.copy_to_all.new.watch total via new = subst (λ n. Spares g.D.Disk.tells c.args.shape c.in-Ok.source n c.read.new.watch c.copy_to_all.new.watch total via new) (sym e) c.copy_to_all.ensures.spares in
@@ -279,7 +279,7 @@ returns-clause-other g c =
     let low : c.from-place.result < length c.args.disks.now = omega (arith, c.requires.count, c.requires.from, e) in
     let since : (peer : ℕ) → peer < length c.args.disks.now → g.D.Disk.tells → Since (seen_at old peer).stands = λ peer within told. seen_each (λ (s : DiskSeen). Since s.stands) f (λ x side m high. g.met.D.Disk.since told x side m high) c.args.disks.now peer within in
     let only : IsOnlyRead g.D.Disk.tells c.args.watch.now c.read.new.watch (f (slice_index_or c.args.disks.now p d)) (f y)
-        = record { seen = λ told side. c.read.ensures.same told side; moments = λ told last. c.read.ensures.any_moment told last; counted = c.read.ensures.cause.later } in
+    = record { seen = λ told side. c.read.ensures.same told side; moments = λ told last. c.read.ensures.any_moment told last; counted = c.read.ensures.cause.later } in
     let new : List DiskSeen = map f c.copy_to_all.new.disks in
     let total : ℕ = c.args.shape.shards * c.args.shape.copies in
     let spares : Spares g.D.Disk.tells c.args.shape c.in-Ok.source p c.read.new.watch c.copy_to_all.new.watch total via new = subst (λ n. Spares g.D.Disk.tells c.args.shape c.in-Ok.source n c.read.new.watch c.copy_to_all.new.watch total via new) (sym e) c.copy_to_all.ensures.spares in
@@ -297,7 +297,7 @@ returns-clause-unwritten g c =
     let low : c.from-place.result < length c.args.disks.now = omega (arith, c.requires.count, c.requires.from, e) in
     let since : (peer : ℕ) → peer < length c.args.disks.now → g.D.Disk.tells → Since (seen_at old peer).stands = λ peer within told. seen_each (λ (s : DiskSeen). Since s.stands) f (λ x side m high. g.met.D.Disk.since told x side m high) c.args.disks.now peer within in
     let only : IsOnlyRead g.D.Disk.tells c.args.watch.now c.read.new.watch (f (slice_index_or c.args.disks.now p d)) (f y)
-        = record { seen = λ told side. c.read.ensures.same told side; moments = λ told last. c.read.ensures.any_moment told last; counted = c.read.ensures.cause.later } in
+    = record { seen = λ told side. c.read.ensures.same told side; moments = λ told last. c.read.ensures.any_moment told last; counted = c.read.ensures.cause.later } in
     let new : List DiskSeen = map f c.copy_to_all.new.disks in
     let total : ℕ = c.args.shape.shards * c.args.shape.copies in
     let spares : Spares g.D.Disk.tells c.args.shape c.in-Ok.source p c.read.new.watch c.copy_to_all.new.watch total via new = subst (λ n. Spares g.D.Disk.tells c.args.shape c.in-Ok.source n c.read.new.watch c.copy_to_all.new.watch total via new) (sym e) c.copy_to_all.ensures.spares in
@@ -315,7 +315,7 @@ returns-clause-copied g c =
     let low : c.from-place.result < length c.args.disks.now = omega (arith, c.requires.count, c.requires.from, e) in
     let since : (peer : ℕ) → peer < length c.args.disks.now → g.D.Disk.tells → Since (seen_at old peer).stands = λ peer within told. seen_each (λ (s : DiskSeen). Since s.stands) f (λ x side m high. g.met.D.Disk.since told x side m high) c.args.disks.now peer within in
     let only : IsOnlyRead g.D.Disk.tells c.args.watch.now c.read.new.watch (f (slice_index_or c.args.disks.now p d)) (f y)
-        = record { seen = λ told side. c.read.ensures.same told side; moments = λ told last. c.read.ensures.any_moment told last; counted = c.read.ensures.cause.later } in
+    = record { seen = λ told side. c.read.ensures.same told side; moments = λ told last. c.read.ensures.any_moment told last; counted = c.read.ensures.cause.later } in
     let new : List DiskSeen = map f c.copy_to_all.new.disks in
     let total : ℕ = c.args.shape.shards * c.args.shape.copies in
     let spares : Spares g.D.Disk.tells c.args.shape c.in-Ok.source p c.read.new.watch c.copy_to_all.new.watch total via new = subst (λ n. Spares g.D.Disk.tells c.args.shape c.in-Ok.source n c.read.new.watch c.copy_to_all.new.watch total via new) (sym e) c.copy_to_all.ensures.spares in
@@ -335,7 +335,7 @@ returns-in-Err-Disk-clause-copied g c =
     let low : c.from-place.result < length c.args.disks.now = omega (arith, c.requires.count, c.requires.from, e) in
     let since : (peer : ℕ) → peer < length c.args.disks.now → g.D.Disk.tells → Since (seen_at old peer).stands = λ peer within told. seen_each (λ (s : DiskSeen). Since s.stands) f (λ x side m high. g.met.D.Disk.since told x side m high) c.args.disks.now peer within in
     let only : IsOnlyRead g.D.Disk.tells c.args.watch.now c.read.new.watch (f (slice_index_or c.args.disks.now p d)) (f y)
-        = record { seen = λ told side. c.read.ensures.same told side; moments = λ told last. c.read.ensures.any_moment told last; counted = c.read.ensures.cause.later } in
+    = record { seen = λ told side. c.read.ensures.same told side; moments = λ told last. c.read.ensures.any_moment told last; counted = c.read.ensures.cause.later } in
     ok_so c.put_mark.result c.put_mark.ensures.ok
     (λ text. subst (λ n. HasCopied g.D.Disk.tells c.args.shape n c.args.watch.now old via c.args.out.now.items c.put_mark.new.out.items) e
     (ended_read f g.D.Disk.tells c.args.shape p c.args.watch.now c.read.new.watch c.read.new.watch c.args.disks.now y d low Fault c.args.out.now.items c.put_mark.new.out.items (subst (λ n. HasEnded g.D.Disk.tells c.args.shape n (f (slice_index_or c.args.disks.now p d)) (f y) Fault) (sym e) (c.in-Err-Disk.ensures.cause.failed (ap (λ (k : LogFault). Err k) c.in-Err-Disk.field-0-is)))
@@ -353,11 +353,11 @@ returns-in-Err-NotALog-clause-copied g c =
     let low : c.from-place.result < length c.args.disks.now = omega (arith, c.requires.count, c.requires.from, e) in
     let since : (peer : ℕ) → peer < length c.args.disks.now → g.D.Disk.tells → Since (seen_at old peer).stands = λ peer within told. seen_each (λ (s : DiskSeen). Since s.stands) f (λ x side m high. g.met.D.Disk.since told x side m high) c.args.disks.now peer within in
     let only : IsOnlyRead g.D.Disk.tells c.args.watch.now c.read.new.watch (f (slice_index_or c.args.disks.now p d)) (f y)
-        = record { seen = λ told side. c.read.ensures.same told side; moments = λ told last. c.read.ensures.any_moment told last; counted = c.read.ensures.cause.later } in
+    = record { seen = λ told side. c.read.ensures.same told side; moments = λ told last. c.read.ensures.any_moment told last; counted = c.read.ensures.cause.later } in
     ok_so c.put_mark-in-Err-NotALog.result c.put_mark-in-Err-NotALog.ensures.ok
     (λ text. subst (λ n. HasCopied g.D.Disk.tells c.args.shape n c.args.watch.now old via c.args.out.now.items c.put_mark-in-Err-NotALog.new.out.items) e
     (ended_read f g.D.Disk.tells c.args.shape p c.args.watch.now c.read.new.watch c.read.new.watch c.args.disks.now y d low (NoLog c.in-Err-NotALog.at) c.args.out.now.items c.put_mark-in-Err-NotALog.new.out.items (subst (λ n. HasEnded g.D.Disk.tells c.args.shape n (f (slice_index_or c.args.disks.now p d)) (f y) (NoLog c.in-Err-NotALog.at)) (sym e) (record { calm = view_no_log c.in-Err-NotALog.field-0 c.in-Err-NotALog.at (g.D.Disk.faults (slice_index_or c.args.disks.now p d)) (g.D.Disk.faults y) c.in-Err-NotALog.field-0-is c.in-Err-NotALog.ensures.calm; refused = λ told. (subst (λ fault. IsRefusal fault (refusal_in c.args.shape c.args.from (f (slice_index_or c.args.disks.now p d)).stands.seen)) c.in-Err-NotALog.field-0-is (c.in-Err-NotALog.ensures.refused told)) }))
-    (text ∙ ap (λ n. c.args.out.now.items ++ line_of 0 n (NoLog c.in-Err-NotALog.at)) (sym e))))
+    (text ∙ ap (λ a. c.args.out.now.items ++ line_of 0 c.args.from (NoLog a)) c.in-Err-NotALog.at-is ∙ ap (λ n. c.args.out.now.items ++ line_of 0 n (NoLog c.in-Err-NotALog.at)) (sym e))))
 
 pub returns-in-Err-Disk-clause-own : goal.returns-in-Err-Disk-clause-own
 returns-in-Err-Disk-clause-own g c =
@@ -371,7 +371,7 @@ returns-in-Err-Disk-clause-own g c =
     let low : c.from-place.result < length c.args.disks.now = omega (arith, c.requires.count, c.requires.from, e) in
     let since : (peer : ℕ) → peer < length c.args.disks.now → g.D.Disk.tells → Since (seen_at old peer).stands = λ peer within told. seen_each (λ (s : DiskSeen). Since s.stands) f (λ x side m high. g.met.D.Disk.since told x side m high) c.args.disks.now peer within in
     let only : IsOnlyRead g.D.Disk.tells c.args.watch.now c.read.new.watch (f (slice_index_or c.args.disks.now p d)) (f y)
-        = record { seen = λ told side. c.read.ensures.same told side; moments = λ told last. c.read.ensures.any_moment told last; counted = c.read.ensures.cause.later } in
+    = record { seen = λ told side. c.read.ensures.same told side; moments = λ told last. c.read.ensures.any_moment told last; counted = c.read.ensures.cause.later } in
     λ told. on_ok_any c.put_mark.result (λ found k. subst (λ n. HasRisen (seen_at old n).faults (seen_at via n).faults) e (own_risen f g.D.Disk.tells c.args.shape p c.args.watch.now c.read.new.watch c.read.new.watch c.args.disks.now y d low (c.in-Err-Disk.ensures.cause.failed (ap (λ (k : LogFault). Err k) c.in-Err-Disk.field-0-is))))
 
 pub returns-in-Err-NotALog-clause-own : goal.returns-in-Err-NotALog-clause-own
@@ -386,7 +386,7 @@ returns-in-Err-NotALog-clause-own g c =
     let low : c.from-place.result < length c.args.disks.now = omega (arith, c.requires.count, c.requires.from, e) in
     let since : (peer : ℕ) → peer < length c.args.disks.now → g.D.Disk.tells → Since (seen_at old peer).stands = λ peer within told. seen_each (λ (s : DiskSeen). Since s.stands) f (λ x side m high. g.met.D.Disk.since told x side m high) c.args.disks.now peer within in
     let only : IsOnlyRead g.D.Disk.tells c.args.watch.now c.read.new.watch (f (slice_index_or c.args.disks.now p d)) (f y)
-        = record { seen = λ told side. c.read.ensures.same told side; moments = λ told last. c.read.ensures.any_moment told last; counted = c.read.ensures.cause.later } in
+    = record { seen = λ told side. c.read.ensures.same told side; moments = λ told last. c.read.ensures.any_moment told last; counted = c.read.ensures.cause.later } in
     λ told. on_ok_any c.put_mark-in-Err-NotALog.result (λ found k. absurd (own_not f g.D.Disk.tells c.args.shape p c.args.watch.now c.read.new.watch c.read.new.watch c.args.disks.now y d low (Some (log.NotALog c.in-Err-NotALog.at)) found (no_log_not_wrong c.in-Err-NotALog.at found) (subst (λ n. refusal_in c.args.shape n (f (slice_index_or c.args.disks.now p d)).stands.seen ≡ (Some (log.NotALog c.in-Err-NotALog.at))) (sym e) (subst (λ fault. IsRefusal fault (refusal_in c.args.shape c.args.from (f (slice_index_or c.args.disks.now p d)).stands.seen)) c.in-Err-NotALog.field-0-is (c.in-Err-NotALog.ensures.refused told)))
     (subst (λ n. refusal_in c.args.shape n (seen_at old n).stands.seen ≡ Some (log.WrongShape found)) (sym e) k)))
 
@@ -402,7 +402,7 @@ returns-clause-own g c =
     let low : c.from-place.result < length c.args.disks.now = omega (arith, c.requires.count, c.requires.from, e) in
     let since : (peer : ℕ) → peer < length c.args.disks.now → g.D.Disk.tells → Since (seen_at old peer).stands = λ peer within told. seen_each (λ (s : DiskSeen). Since s.stands) f (λ x side m high. g.met.D.Disk.since told x side m high) c.args.disks.now peer within in
     let only : IsOnlyRead g.D.Disk.tells c.args.watch.now c.read.new.watch (f (slice_index_or c.args.disks.now p d)) (f y)
-        = record { seen = λ told side. c.read.ensures.same told side; moments = λ told last. c.read.ensures.any_moment told last; counted = c.read.ensures.cause.later } in
+    = record { seen = λ told side. c.read.ensures.same told side; moments = λ told last. c.read.ensures.any_moment told last; counted = c.read.ensures.cause.later } in
     λ told. on_ok_any c.copy_to_all.result (λ found k. absurd (own_not f g.D.Disk.tells c.args.shape p c.args.watch.now c.read.new.watch c.read.new.watch c.args.disks.now y d low None found (none_not_wrong found) (subst (λ n. refusal_in c.args.shape n (f (slice_index_or c.args.disks.now p d)).stands.seen ≡ None) (sym e) (c.in-Ok.ensures.accepted told))
     (subst (λ n. refusal_in c.args.shape n (seen_at old n).stands.seen ≡ Some (log.WrongShape found)) (sym e) k)))
 
@@ -418,10 +418,12 @@ returns-in-Err-WrongShape-clause-other g c =
     let low : c.from-place.result < length c.args.disks.now = omega (arith, c.requires.count, c.requires.from, e) in
     let since : (peer : ℕ) → peer < length c.args.disks.now → g.D.Disk.tells → Since (seen_at old peer).stands = λ peer within told. seen_each (λ (s : DiskSeen). Since s.stands) f (λ x side m high. g.met.D.Disk.since told x side m high) c.args.disks.now peer within in
     let only : IsOnlyRead g.D.Disk.tells c.args.watch.now c.read.new.watch (f (slice_index_or c.args.disks.now p d)) (f y)
-        = record { seen = λ told side. c.read.ensures.same told side; moments = λ told last. c.read.ensures.any_moment told last; counted = c.read.ensures.cause.later } in
+    = record { seen = λ told side. c.read.ensures.same told side; moments = λ told last. c.read.ensures.any_moment told last; counted = c.read.ensures.cause.later } in
     let o = (other_read f g.D.Disk.tells c.args.shape p c.args.watch.now c.read.new.watch c.read.new.watch c.args.disks.now y d low c.in-Err-WrongShape.found (λ told. subst (λ n. refusal_in c.args.shape n (f (slice_index_or c.args.disks.now p d)).stands.seen ≡ Some (log.WrongShape c.in-Err-WrongShape.found)) (sym e) (subst (λ fault. IsRefusal fault (refusal_in c.args.shape c.args.from (f (slice_index_or c.args.disks.now p d)).stands.seen)) c.in-Err-WrongShape.field-0-is (c.in-Err-WrongShape.ensures.refused told)))
     (view_other c.in-Err-WrongShape.field-0 c.in-Err-WrongShape.found (g.D.Disk.faults (slice_index_or c.args.disks.now p d)) (g.D.Disk.faults y) c.in-Err-WrongShape.field-0-is c.in-Err-WrongShape.ensures.calm)) in
-    (refl, λ told. subst (λ n. refusal_in c.args.shape n (seen_at old n).stands.seen ≡ Some (log.WrongShape c.in-Err-WrongShape.found)) e (o.1 told), subst (λ n. (seen_at via n).faults ≡ (seen_at old n).faults) e o.2)
+    let told_so : g.D.Disk.tells → refusal_in c.args.shape c.args.from (seen_at old c.args.from).stands.seen ≡ Some (log.WrongShape c.in-Err-WrongShape.found)
+    = λ told. subst (λ n. refusal_in c.args.shape n (seen_at old n).stands.seen ≡ Some (log.WrongShape c.in-Err-WrongShape.found)) e (o.1 told) in
+    (refl, λ told. told_so told ∙ ap (λ w. Some (log.WrongShape w)) (sym c.in-Err-WrongShape.found-is), subst (λ n. (seen_at via n).faults ≡ (seen_at old n).faults) e o.2)
 
 pub copy_to_all-requires-clause-source : goal.copy_to_all-requires-clause-source
 copy_to_all-requires-clause-source g c =
@@ -435,5 +437,5 @@ copy_to_all-requires-clause-source g c =
     let low : c.from-place.result < length c.args.disks.now = omega (arith, c.requires.count, c.requires.from, e) in
     let since : (peer : ℕ) → peer < length c.args.disks.now → g.D.Disk.tells → Since (seen_at old peer).stands = λ peer within told. seen_each (λ (s : DiskSeen). Since s.stands) f (λ x side m high. g.met.D.Disk.since told x side m high) c.args.disks.now peer within in
     let only : IsOnlyRead g.D.Disk.tells c.args.watch.now c.read.new.watch (f (slice_index_or c.args.disks.now p d)) (f y)
-        = record { seen = λ told side. c.read.ensures.same told side; moments = λ told last. c.read.ensures.any_moment told last; counted = c.read.ensures.cause.later } in
+    = record { seen = λ told side. c.read.ensures.same told side; moments = λ told last. c.read.ensures.any_moment told last; counted = c.read.ensures.cause.later } in
     subst (λ n. Stands g.D.Disk.tells c.in-Ok.source.log ((seen_at via n).size c.in-Ok.source.log.side) (seen_at via n).stands) e (stands_read f g.D.Disk.tells c.args.shape p c.args.watch.now c.read.new.watch c.read.new.watch c.args.disks.now y d low c.in-Ok.source c.in-Ok.ensures.stands)

@@ -51,9 +51,10 @@ returns-in-Ok-true-clause-outcome g c =
     let low : c.args.place < length c.read_at.new.disks = omega (arith, c.requires.place, c.read_at.ensures.count) in
     let level : c.args.index ≡ c.args.log.now.rank.number = grind (arith, common_steps) in
     let found : g.D.Disk.tells → (whole : List (ℕ × Entry)) → HasView c.args.source.now (seen_at old c.args.from).stands.seen whole → numbered_entry whole (c.args.index + 1) ≡ Some c.in-Ok-Some.entry
-        = λ told whole has. ap (λ n. numbered_entry whole n) (sym c.requires.next) ∙ sym (c.in-Ok-Some.ensures.found told whole has) ∙ c.in-Ok-Some.field-0-is in
-    (put_calm f g.D.Disk.tells c.args.source.now c.args.from c.args.place c.args.watch.now c.put_entry.new.watch c.args.index c.args.disks.now c.read_at.new.disks x d c.args.log.now c.put_entry.new.log c.in-Ok-Some.entry c.requires.other low c.read_at.ensures.rest (c.in-Ok-Some.ensures.still.calm c.args.from) (c.in-Ok-true.ensures.calm c.in-Ok-true.field-0-test),
-     put_more f g.D.Disk.tells c.args.source.now c.args.from c.args.place c.args.watch.now c.put_entry.new.watch c.args.index c.args.disks.now c.read_at.new.disks x d c.args.log.now c.put_entry.new.log c.in-Ok-Some.entry c.requires.other low c.read_at.ensures.rest found level (c.in-Ok-true.ensures.opens c.in-Ok-true.field-0-test) (λ told last list own. c.in-Ok-true.ensures.list told last list own c.in-Ok-true.field-0-test))
+    = λ told whole has. ap (λ n. numbered_entry whole n) (sym c.requires.next) ∙ sym (c.in-Ok-Some.ensures.found told whole has) ∙ c.in-Ok-Some.field-0-is in (
+      put_calm f g.D.Disk.tells c.args.source.now c.args.from c.args.place c.args.watch.now c.put_entry.new.watch c.args.index c.args.disks.now c.read_at.new.disks x d c.args.log.now c.put_entry.new.log c.in-Ok-Some.entry c.requires.other low c.read_at.ensures.rest (c.in-Ok-Some.ensures.still.calm c.args.from) (c.in-Ok-true.ensures.calm c.in-Ok-true.field-0-test),
+      put_more f g.D.Disk.tells c.args.source.now c.args.from c.args.place c.args.watch.now c.put_entry.new.watch c.args.index c.args.disks.now c.read_at.new.disks x d c.args.log.now c.put_entry.new.log c.in-Ok-Some.entry c.requires.other low c.read_at.ensures.rest found level (c.in-Ok-true.ensures.opens c.in-Ok-true.field-0-test) (λ told last list own. c.in-Ok-true.ensures.list told last list own c.in-Ok-true.field-0-test),
+    )
 
 pub returns-in-Ok-true-clause-any_moment : goal.returns-in-Ok-true-clause-any_moment
 returns-in-Ok-true-clause-any_moment g c =
@@ -65,7 +66,7 @@ returns-in-Ok-true-clause-any_moment g c =
     let low : c.args.place < length c.read_at.new.disks = omega (arith, c.requires.place, c.read_at.ensures.count) in
     let level : c.args.index ≡ c.args.log.now.rank.number = grind (arith, common_steps) in
     let found : g.D.Disk.tells → (whole : List (ℕ × Entry)) → HasView c.args.source.now (seen_at old c.args.from).stands.seen whole → numbered_entry whole (c.args.index + 1) ≡ Some c.in-Ok-Some.entry
-        = λ told whole has. ap (λ n. numbered_entry whole n) (sym c.requires.next) ∙ sym (c.in-Ok-Some.ensures.found told whole has) ∙ c.in-Ok-Some.field-0-is in
+    = λ told whole has. ap (λ n. numbered_entry whole n) (sym c.requires.next) ∙ sym (c.in-Ok-Some.ensures.found told whole has) ∙ c.in-Ok-Some.field-0-is in
     put_fronts f g.D.Disk.tells c.args.source.now c.args.from c.args.place c.args.watch.now c.put_entry.new.watch c.args.index c.args.disks.now c.read_at.new.disks x d c.args.log.now c.put_entry.new.log c.in-Ok-Some.entry c.requires.other low c.read_at.ensures.rest found level (λ told last list own. c.put_entry.ensures.any_moment told last list own)
 
 pub returns-in-Ok-true-clause-calls : goal.returns-in-Ok-true-clause-calls
@@ -98,7 +99,7 @@ returns-in-Ok-false-clause-any_moment g c =
     let low : c.args.place < length c.read_at.new.disks = omega (arith, c.requires.place, c.read_at.ensures.count) in
     let level : c.args.index ≡ c.args.log.now.rank.number = grind (arith, common_steps) in
     let found : g.D.Disk.tells → (whole : List (ℕ × Entry)) → HasView c.args.source.now (seen_at old c.args.from).stands.seen whole → numbered_entry whole (c.args.index + 1) ≡ Some c.in-Ok-Some.entry
-        = λ told whole has. ap (λ n. numbered_entry whole n) (sym c.requires.next) ∙ sym (c.in-Ok-Some.ensures.found told whole has) ∙ c.in-Ok-Some.field-0-is in
+    = λ told whole has. ap (λ n. numbered_entry whole n) (sym c.requires.next) ∙ sym (c.in-Ok-Some.ensures.found told whole has) ∙ c.in-Ok-Some.field-0-is in
     put_fronts f g.D.Disk.tells c.args.source.now c.args.from c.args.place c.args.watch.now c.put_entry.new.watch c.args.index c.args.disks.now c.read_at.new.disks x d c.args.log.now c.put_entry.new.log c.in-Ok-Some.entry c.requires.other low c.read_at.ensures.rest found level (λ told last list own. c.put_entry.ensures.any_moment told last list own)
 
 pub returns-in-Ok-false-clause-calls : goal.returns-in-Ok-false-clause-calls
@@ -121,7 +122,7 @@ returns-clause-any_moment g c =
     let low : c.args.place < length c.read_at.new.disks = omega (arith, c.requires.place, c.read_at.ensures.count) in
     let level : c.args.index ≡ c.args.log.now.rank.number = grind (arith, common_steps) in
     let found : g.D.Disk.tells → (whole : List (ℕ × Entry)) → HasView c.args.source.now (seen_at old c.args.from).stands.seen whole → numbered_entry whole (c.args.index + 1) ≡ Some c.in-Ok-Some.entry
-        = λ told whole has. ap (λ n. numbered_entry whole n) (sym c.requires.next) ∙ sym (c.in-Ok-Some.ensures.found told whole has) ∙ c.in-Ok-Some.field-0-is in
+    = λ told whole has. ap (λ n. numbered_entry whole n) (sym c.requires.next) ∙ sym (c.in-Ok-Some.ensures.found told whole has) ∙ c.in-Ok-Some.field-0-is in
     put_fronts f g.D.Disk.tells c.args.source.now c.args.from c.args.place c.args.watch.now c.put_entry.new.watch c.args.index c.args.disks.now c.read_at.new.disks x d c.args.log.now c.put_entry.new.log c.in-Ok-Some.entry c.requires.other low c.read_at.ensures.rest found level (λ told last list own. c.put_entry.ensures.any_moment told last list own)
 
 pub returns-clause-calls : goal.returns-clause-calls

@@ -124,9 +124,11 @@ returns-clause-outcome g c =
     let f : g.row.D.Denot → DiskSeen = λ disk. seen_as (g.D.Disk.size disk) (g.D.Disk.stands disk) (g.D.Disk.faults disk) in
     let old : List DiskSeen = map f c.args.disks.now in
     let cur : List DiskSeen = map f c.loop-index.disks in
-    let so_far = c.loop-index.invariant.giving in
-    (so_far.calm, giving_all g.D.Disk.tells c.args.source.now c.args.from c.args.place c.args.watch.now c.loop-index.watch c.loop-index.index old cur c.args.log c.loop-index.log (omega (arith, c.loop-index-test.false, c.last-index-end.ensures))
-     (λ told. seen_each (λ (s : DiskSeen). (side : Side) → IsImage (s.stands.loose side) (s.stands.seen side)) f (λ x side. g.met.D.Disk.stays told x side) c.loop-index.disks c.args.place (omega (arith, c.requires.place, c.loop-index.invariant.count))) so_far)
+    let so_far = c.loop-index.invariant.giving in (
+      so_far.calm,
+      giving_all g.D.Disk.tells c.args.source.now c.args.from c.args.place c.args.watch.now c.loop-index.watch c.loop-index.index old cur c.args.log c.loop-index.log (omega (arith, c.loop-index-test.false, c.last-index-end.ensures))
+          (λ told. seen_each (λ (s : DiskSeen). (side : Side) → IsImage (s.stands.loose side) (s.stands.seen side)) f (λ x side. g.met.D.Disk.stays told x side) c.loop-index.disks c.args.place (omega (arith, c.requires.place, c.loop-index.invariant.count))) so_far,
+    )
 
 pub returns-clause-any_moment : goal.returns-clause-any_moment
 returns-clause-any_moment g c =
