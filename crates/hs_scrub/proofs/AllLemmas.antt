@@ -1,10 +1,10 @@
 -- Copying a list to the peers of a shard, one after another.
-use Rattle.std.proofs.Common.{◌≡◌, ◌≢◌, ◌⊎◌, ◌∙◌, inl, inr, ap, sym, subst, ℕ, ◌+◌, ◌<◌, ◌≤◌, ◌++◌, List, [], ◌∷◌, map, length, Option, Some, None, refl, arith, append_assoc}
+use Rattle.std.proofs.Common.{◌≡◌, ◌⊎◌, ◌∙◌, inl, inr, ap, sym, subst, ℕ, ◌+◌, ◌<◌, ◌≤◌, ◌++◌, List, [], ◌∷◌, Some, None, refl, arith, append_assoc}
 use Rattle.std.proofs.lemmas.Bool.{cases_eq}
 use Rattle.std.proofs.lemmas.Grind.{flat_map-append}
 use Rattle.std.proofs.lemmas.List.{append-nil}
 use Rattle.std.proofs.lemmas.List.Elements.{Contains-append_left, Contains-push, Contains-push_cases}
-use Rattle.std.specs.Prelude.{Contains, IfSome, flat_map}
+use Rattle.std.specs.Prelude.{Contains, flat_map}
 use Rattle.hs_entry.specs.declared.entry.Entry.{Entry}
 use Rattle.hs_limits.specs.declared.shape.Shape.{Shape}
 use Rattle.hs_peerlog.proofs.ImageLemmas.{Since}
@@ -12,14 +12,12 @@ use Rattle.hs_peerlog.proofs.StayLemmas.{stays}
 use Rattle.hs_peerlog.specs.Images.{LeavesEach, LeavesOnly}
 use Rattle.hs_peerlog.specs.Views.{HasView, Viewing}
 use Rattle.hs_ports.specs.Disk.{Standing}
-use Rattle.hs_ports.specs.Fault.{HasRisen}
 use Rattle.hs_scrub.proofs.CopyLemmas.{each_then, stopped_then}
 use Rattle.hs_scrub.proofs.StillLemmas.{has_still, still_none, still_then}
-use Rattle.hs_scrub.specs.Copied.{AreBeside, IsLeft, IsOldOrFront, copy_text}
-use Rattle.hs_scrub.specs.CopySteps.{AreCalm, Calls, Copies, CopyFronts, GotAll, HasGiven, HasGot, IsStopped, Leaves, OneGiven, Skips, Spares, Takes}
+use Rattle.hs_scrub.specs.Copied.{AreBeside, IsLeft, IsOldOrFront}
+use Rattle.hs_scrub.specs.CopySteps.{Calls, Copies, CopyFronts, HasGiven, HasGot, Leaves, OneGiven, Skips, Spares, Takes}
 use Rattle.hs_scrub.specs.declared.mark.PeerMark.{PeerMark}
 use Rattle.hs_scrub.specs.declared.mark.PeerMark.TheVariants.{Fault}
-use Rattle.hs_scrub.specs.Steps.{IsStill}
 use Rattle.hs_scrub.specs.Text.{line_of}
 use Rattle.hs_taking.specs.Disks.{DiskSeen, seen_at}
 

@@ -1,6 +1,6 @@
 -- Giving a disk the list of another.
-use Rattle.std.proofs.Common.{◌≡◌, ◌≢◌, ◌⊎◌, ◌∙◌, inl, inr, ap, sym, subst, ℕ, zero, suc, ◌+◌, ◌-◌, ◌^◌, ◌<◌, ◌≤◌, ◌++◌, true, false, List, [], ◌∷◌, take, drop, map, length, Option, Some, None, refl, arith}
-use Rattle.std.proofs.lemmas.Bool.{cases_eq, cases_lt}
+use Rattle.std.proofs.Common.{◌≡◌, ◌≢◌, ◌∙◌, inl, inr, ap, sym, subst, ℕ, zero, suc, ◌+◌, ◌<◌, ◌≤◌, ◌++◌, List, [], ◌∷◌, take, map, length, Some, None, refl, arith}
+use Rattle.std.proofs.lemmas.Bool.{cases_lt}
 use Rattle.std.specs.Prelude.{slice_index_or, slice_set}
 use Rattle.hs_entry.specs.declared.entry.Entry.{Entry}
 use Rattle.hs_entry.specs.Entries.{IsPrefix}
@@ -9,21 +9,20 @@ use Rattle.hs_peerlog.proofs.StayLemmas.{stays}
 use Rattle.hs_peerlog.specs.Caused.{IsOutside}
 use Rattle.hs_peerlog.specs.declared.fault.LogFault.{LogFault}
 use Rattle.hs_peerlog.specs.declared.fault.LogFault.TheVariants as log
-use Rattle.hs_peerlog.specs.Images.{GivesList, Is, IsOne, LeavesEach, LeavesOnly}
-use Rattle.hs_peerlog.specs.Lists.{HasLog, IsKept, IsReady, KeepsSome, Keeping, last_of, numbered_entry, with_waiting}
+use Rattle.hs_peerlog.specs.Images.{GivesList, Is, IsOne, LeavesEach}
+use Rattle.hs_peerlog.specs.Lists.{HasLog, Keeping, last_of, numbered_entry, with_waiting}
 use Rattle.hs_peerlog.specs.Past.{PastStays}
 use Rattle.hs_peerlog.specs.Views.{HasView, Viewing}
 use Rattle.hs_ports.specs.declared.disk.Side.{Side}
 use Rattle.hs_ports.specs.Disk.{IsImage, Standing}
 use Rattle.hs_ports.specs.Fault.{HasRisen}
 use Rattle.hs_scrub.proofs.StillLemmas.{still_none, still_then}
-use Rattle.hs_scrub.specs.CopySteps.{AreCalm, Calls, IsFront, IsOpen, IsStopped}
+use Rattle.hs_scrub.specs.CopySteps.{AreCalm, Calls, IsFront, IsStopped}
 use Rattle.hs_scrub.specs.declared.mark.PeerMark.{PeerMark}
 use Rattle.hs_scrub.specs.declared.mark.PeerMark.TheVariants.{Same, Behind, Differs, NoLog, Fault}
-use Rattle.hs_scrub.specs.Steps.{AreStill, Counts, IsLostBy, IsStill, mark_of}
-use Rattle.hs_side.specs.Standing.{HasBytes, HasRoom, Stands}
+use Rattle.hs_scrub.specs.Steps.{Counts, IsStill, mark_of}
 use Rattle.hs_taking.proofs.DiskLemmas.{seen_here, seen_is, seen_there}
-use Rattle.hs_taking.proofs.LoadLemmas.{count_is, next_is}
+use Rattle.hs_taking.proofs.LoadLemmas.{next_is}
 use Rattle.hs_taking.specs.Disks.{DiskSeen, seen_at}
 
 -- ---- moments

@@ -1,5 +1,5 @@
 -- Emptying the disk of a peer.
-use Rattle.std.proofs.Common.{◌≡◌, ◌⊎◌, ◌∙◌, inl, inr, ap, sym, subst, ℕ, ◌≤◌, true, false, List, [], ◌∷◌, Option, Some, None, IsSome, refl, arith}
+use Rattle.std.proofs.Common.{◌≡◌, ◌∙◌, inl, sym, subst, ℕ, ◌≤◌, List, [], Option, Some, None, IsSome, refl}
 use Rattle.std.specs.Prelude.{Err, IfOk, IfSome, MatchOption, Ok, Result}
 use Rattle.hs_entry.specs.declared.entry.Entry.{Entry}
 use Rattle.hs_limits.specs.declared.shape.Shape.{Shape}
@@ -17,8 +17,6 @@ use Rattle.hs_scrub.proofs.CopyLemmas.{append_each, each_then}
 use Rattle.hs_scrub.specs.Copied.{IsLeft}
 use Rattle.hs_scrub.specs.CopySteps.{IsEmptied, IsOpen}
 use Rattle.hs_scrub.specs.declared.fault.ScrubFault.{ScrubFault}
-use Rattle.hs_side.specs.Current.{list_in}
-use Rattle.hs_side.specs.declared.header.Header.{Header}
 use Rattle.hs_taking.proofs.ViewLemmas.{no_list}
 use Rattle.hs_taking.specs.Disks.{DiskSeen}
 

@@ -1,5 +1,5 @@
 -- Copying from a peer, whose disk is read first.
-use Rattle.std.proofs.Common.{◌≡◌, ◌≢◌, ◌⊎◌, ◌∙◌, inl, inr, ap, sym, subst, ℕ, ◌*◌, ◌/◌, ◌<◌, ◌≤◌, ◌++◌, List, [], map, length, Option, Some, None, IsSome, refl, arith}
+use Rattle.std.proofs.Common.{◌≡◌, ◌∙◌, inl, inr, ap, sym, subst, ℕ, ◌*◌, ◌/◌, ◌<◌, ◌≤◌, ◌++◌, List, [], map, length, Option, Some, None, IsSome, refl, arith}
 use Rattle.std.specs.Prelude.{Contains, Err, IfErr, IfSome, Ok, OnOk, Result, slice_index_or, slice_set, unwrap_or}
 use Rattle.hs_entry.specs.declared.entry.Entry.{Entry}
 use Rattle.hs_limits.specs.declared.shape.Shape.{Shape}

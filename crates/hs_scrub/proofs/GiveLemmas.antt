@@ -1,5 +1,5 @@
 -- Giving a log one entry more of another list.
-use Rattle.std.proofs.Common.{◌≡◌, ◌≢◌, ◌∙◌, ap, sym, subst, ℕ, ◌+◌, ◌<◌, ◌≤◌, true, false, List, map, length, Option, Some, None, refl, arith}
+use Rattle.std.proofs.Common.{◌≡◌, ◌≢◌, ◌∙◌, ap, sym, subst, ℕ, ◌+◌, ◌<◌, ◌≤◌, List, map, length, Some, None}
 use Rattle.std.specs.Prelude.{slice_index_or, slice_set}
 use Rattle.hs_entry.specs.declared.entry.Entry.{Entry}
 use Rattle.hs_peerlog.proofs.ImageLemmas.{Since}
@@ -7,7 +7,6 @@ use Rattle.hs_peerlog.specs.Images.{IsOne, LeavesEach}
 use Rattle.hs_peerlog.specs.Lists.{HasLog, Keeping, numbered_entry, with_waiting}
 use Rattle.hs_peerlog.specs.Past.{PastStays}
 use Rattle.hs_peerlog.specs.Views.{HasView, Viewing}
-use Rattle.hs_ports.specs.Disk.{Standing}
 use Rattle.hs_ports.specs.Fault.{HasRisen}
 use Rattle.hs_scrub.proofs.CopyLemmas.{calls_put, calls_read, calls_then, each_weaker, front_one, front_stays, take_more}
 use Rattle.hs_scrub.specs.CopySteps.{AreCalm, Calls, HasFronts, HasMore, IsFront, IsOpen}

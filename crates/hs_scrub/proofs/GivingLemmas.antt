@@ -1,9 +1,8 @@
 -- Giving a log the whole of another list.
-use Rattle.std.proofs.Common.{◌≡◌, ◌≢◌, ◌∙◌, ap, sym, subst, ℕ, ◌+◌, ◌<◌, ◌≤◌, List, Option, Some, None, take, refl, arith}
+use Rattle.std.proofs.Common.{◌≡◌, ◌∙◌, subst, ℕ, ◌+◌, ◌≤◌, List, None, take, refl}
 use Rattle.hs_entry.specs.declared.entry.Entry.{Entry}
 use Rattle.hs_peerlog.proofs.ImageLemmas.{Since}
 use Rattle.hs_peerlog.proofs.StayLemmas.{seen-list}
-use Rattle.hs_peerlog.specs.Images.{LeavesEach, LeavesOnly}
 use Rattle.hs_peerlog.specs.Lists.{HasLog, Keeping}
 use Rattle.hs_peerlog.specs.Views.{HasView, Viewing}
 use Rattle.hs_ports.specs.declared.disk.Side.{Side}
@@ -12,10 +11,8 @@ use Rattle.hs_ports.specs.Fault.{HasRisen}
 use Rattle.hs_scrub.proofs.CopyLemmas.{calls_none, calls_then, calm_both, each_then, stopped_then}
 use Rattle.hs_scrub.proofs.GiveLemmas.{fronts_none}
 use Rattle.hs_scrub.proofs.StillLemmas.{has_still}
-use Rattle.hs_scrub.specs.CopySteps.{AreCalm, Calls, HasAll, HasFronts, HasMore, HasWhole, IsFront, IsOpen, IsStopped}
+use Rattle.hs_scrub.specs.CopySteps.{AreCalm, Calls, HasAll, HasFronts, HasMore, IsFront, IsOpen, IsStopped}
 use Rattle.hs_scrub.specs.declared.mark.PeerMark.{PeerMark}
-use Rattle.hs_scrub.specs.Steps.{IsStill}
-use Rattle.hs_side.specs.Current.{list_in}
 use Rattle.hs_taking.proofs.LoadLemmas.{all_read}
 use Rattle.hs_taking.specs.Disks.{DiskSeen, seen_at}
 

@@ -1,5 +1,5 @@
 -- Copying a list to a peer.
-use Rattle.std.proofs.Common.{◌≡◌, ◌≢◌, ◌⊎◌, ◌∙◌, inl, inr, ap, sym, subst, ℕ, ◌<◌, ◌≤◌, ◌++◌, List, [], map, length, None, refl, arith}
+use Rattle.std.proofs.Common.{◌≡◌, ◌∙◌, inl, inr, ap, sym, subst, ℕ, ◌<◌, ◌≤◌, ◌++◌, List, [], map, length, None}
 use Rattle.std.specs.Prelude.{Err, IfOk, Ok, Result, slice_index_or, slice_set}
 use Rattle.hs_entry.specs.declared.entry.Entry.{Entry}
 use Rattle.hs_limits.specs.declared.shape.Shape.{Shape}
@@ -10,10 +10,9 @@ use Rattle.hs_peerlog.specs.Views.{HasView, Viewing}
 use Rattle.hs_ports.specs.Fault.{HasRisen}
 use Rattle.hs_scrub.proofs.CopyLemmas.{calls_put, calls_then, each_then, each_weaker}
 use Rattle.hs_scrub.specs.Copied.{IsLeft, IsOldOrFront}
-use Rattle.hs_scrub.specs.CopySteps.{AreCalm, Calls, CopyFronts, CopyOutcome, GotAll, HasAll, HasFronts, IsEmptied, IsFront, IsOpen, IsStopped, Outcome}
+use Rattle.hs_scrub.specs.CopySteps.{Calls, CopyFronts, CopyOutcome, HasAll, HasFronts, IsEmptied, IsFront, IsOpen, IsStopped, Outcome}
 use Rattle.hs_scrub.specs.declared.giving.Given.{Given}
 use Rattle.hs_scrub.specs.declared.giving.Given.TheVariants.{Ended, Left, Whole}
-use Rattle.hs_scrub.specs.declared.mark.PeerMark.{PeerMark}
 use Rattle.hs_side.specs.Standing.{Stands}
 use Rattle.hs_taking.proofs.DiskLemmas.{seen_here, seen_is, seen_there}
 use Rattle.hs_taking.specs.Disks.{DiskSeen, seen_at}

@@ -26,7 +26,8 @@ pub(crate) fn copy_to<D: Disk>(
     requires from { from < length disks.old }
     requires place { peer < length disks.old }
     requires other { from ≡ peer → ⊥ }
-    requires source { Stands D.tells source.now.log ((seen_at (map (λ disk. seen_as (D.size disk) (D.stands disk) (D.faults disk)) disks.old)
+    requires source { Stands D.tells source.now.log ((seen_at (map (λ disk. seen_as (D.size disk)
+        (D.stands disk) (D.faults disk)) disks.old)
         from).size source.now.log.side)
         (seen_at (map (λ disk. seen_as (D.size disk) (D.stands disk) (D.faults disk)) disks.old)
         from).stands }

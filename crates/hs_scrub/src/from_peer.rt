@@ -59,25 +59,30 @@ pub fn copy_from<D: Disk>(
         (seen_at (map (λ disk. seen_as (D.size disk) (D.stands disk) (D.faults disk)) disks.new)
         from).faults) }
     ensures unwritten { IfErr result (λ fault. (at : ℕ) (found : Header) → fault ≡ WrongShape at found
-        → (peer : ℕ) → (peer ≡ from → ⊥) → (seen_at (map (λ disk. seen_as (D.size disk) (D.stands disk) (D.faults disk)) disks.new)
+        → (peer : ℕ) → (peer ≡ from → ⊥) →
+        (seen_at (map (λ disk. seen_as (D.size disk) (D.stands disk) (D.faults disk)) disks.new)
         peer)
         ≡ (seen_at (map (λ disk. seen_as (D.size disk) (D.stands disk) (D.faults disk)) disks.old)
         peer)) }
 
     // Whatever it answers: the copied peer's disk is only read, those of other shards are not called,
     // and a stop leaves the old list of each other disk, or a front of the copied one.
-    ensures source { IsOnlyRead D.tells watch.old watch.new (seen_at (map (λ disk. seen_as (D.size disk) (D.stands disk) (D.faults disk)) disks.old)
+    ensures source { IsOnlyRead D.tells watch.old watch.new
+        (seen_at (map (λ disk. seen_as (D.size disk) (D.stands disk) (D.faults disk)) disks.old)
         from)
         (seen_at (map (λ disk. seen_as (D.size disk) (D.stands disk) (D.faults disk)) disks.new)
         from) }
-    ensures others { (peer : ℕ) → (AreBeside shape from peer → ⊥) → (seen_at (map (λ disk. seen_as (D.size disk) (D.stands disk) (D.faults disk)) disks.new)
+    ensures others { (peer : ℕ) → (AreBeside shape from peer → ⊥) →
+        (seen_at (map (λ disk. seen_as (D.size disk) (D.stands disk) (D.faults disk)) disks.new)
         peer)
         ≡ (seen_at (map (λ disk. seen_as (D.size disk) (D.stands disk) (D.faults disk)) disks.old)
         peer) }
     ensures fronts { (peer : ℕ) → peer < length disks.old → (peer ≡ from → ⊥)
-        → (copied : List (ℕ × Entry)) → (D.tells → list_in (seen_at (map (λ disk. seen_as (D.size disk) (D.stands disk) (D.faults disk)) disks.old)
+        → (copied : List (ℕ × Entry)) → (D.tells → list_in
+        (seen_at (map (λ disk. seen_as (D.size disk) (D.stands disk) (D.faults disk)) disks.old)
         from).stands.seen ≡ Some copied)
-        → KeepsFronts D.tells watch.old watch.new (seen_at (map (λ disk. seen_as (D.size disk) (D.stands disk) (D.faults disk)) disks.old)
+        → KeepsFronts D.tells watch.old watch.new
+        (seen_at (map (λ disk. seen_as (D.size disk) (D.stands disk) (D.faults disk)) disks.old)
         peer)
         (seen_at (map (λ disk. seen_as (D.size disk) (D.stands disk) (D.faults disk)) disks.new)
         peer) copied }
@@ -110,7 +115,8 @@ fn copy_to_all<D: Disk>(
     requires shape { IsShape shape }
     requires total { length disks.old ≡ shape.shards * shape.copies }
     requires from { from < shape.shards * shape.copies }
-    requires source { Stands D.tells source.now.log ((seen_at (map (λ disk. seen_as (D.size disk) (D.stands disk) (D.faults disk)) disks.old)
+    requires source { Stands D.tells source.now.log ((seen_at (map (λ disk. seen_as (D.size disk)
+        (D.stands disk) (D.faults disk)) disks.old)
         from).size source.now.log.side)
         (seen_at (map (λ disk. seen_as (D.size disk) (D.stands disk) (D.faults disk)) disks.old)
         from).stands }
@@ -154,7 +160,8 @@ fn copy_one<D: Disk>(
     requires shape { IsShape shape }
     requires from { from < length disks.old }
     requires place { peer < length disks.old }
-    requires source { Stands D.tells source.now.log ((seen_at (map (λ disk. seen_as (D.size disk) (D.stands disk) (D.faults disk)) disks.old)
+    requires source { Stands D.tells source.now.log ((seen_at (map (λ disk. seen_as (D.size disk)
+        (D.stands disk) (D.faults disk)) disks.old)
         from).size source.now.log.side)
         (seen_at (map (λ disk. seen_as (D.size disk) (D.stands disk) (D.faults disk)) disks.old)
         from).stands }
@@ -165,7 +172,8 @@ fn copy_one<D: Disk>(
     ensures calls { Calls D.tells from peer watch.old watch.new
         (map (λ disk. seen_as (D.size disk) (D.stands disk) (D.faults disk)) disks.old)
         (map (λ disk. seen_as (D.size disk) (D.stands disk) (D.faults disk)) disks.new) }
-    ensures spared { (AreBeside shape from peer → ⊥) → (seen_at (map (λ disk. seen_as (D.size disk) (D.stands disk) (D.faults disk)) disks.new)
+    ensures spared { (AreBeside shape from peer → ⊥) →
+        (seen_at (map (λ disk. seen_as (D.size disk) (D.stands disk) (D.faults disk)) disks.new)
         peer)
         ≡ (seen_at (map (λ disk. seen_as (D.size disk) (D.stands disk) (D.faults disk)) disks.old)
         peer) }

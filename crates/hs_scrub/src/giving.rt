@@ -89,11 +89,13 @@ fn copy_entry<D: Disk>(
     requires from { from < length disks.old }
     requires place { place < length disks.old }
     requires other { from ≡ place → ⊥ }
-    requires source { Stands D.tells source.now.log ((seen_at (map (λ disk. seen_as (D.size disk) (D.stands disk) (D.faults disk)) disks.old)
+    requires source { Stands D.tells source.now.log ((seen_at (map (λ disk. seen_as (D.size disk)
+        (D.stands disk) (D.faults disk)) disks.old)
         from).size source.now.log.side)
         (seen_at (map (λ disk. seen_as (D.size disk) (D.stands disk) (D.faults disk)) disks.old)
         from).stands }
-    requires opens { IsOpen D.tells (seen_at (map (λ disk. seen_as (D.size disk) (D.stands disk) (D.faults disk)) disks.old)
+    requires opens { IsOpen D.tells
+        (seen_at (map (λ disk. seen_as (D.size disk) (D.stands disk) (D.faults disk)) disks.old)
         place) log.old }
     requires next { number ≡ index + 1 }
     ensures outcome { IfOk result (Outcome D.tells
@@ -101,7 +103,8 @@ fn copy_entry<D: Disk>(
         from).stands.seen) from place
         (map (λ disk. seen_as (D.size disk) (D.stands disk) (D.faults disk)) disks.old)
         (map (λ disk. seen_as (D.size disk) (D.stands disk) (D.faults disk)) disks.new)
-        (HasMore D.tells source.now watch.old (seen_at (map (λ disk. seen_as (D.size disk) (D.stands disk) (D.faults disk)) disks.old)
+        (HasMore D.tells source.now watch.old
+        (seen_at (map (λ disk. seen_as (D.size disk) (D.stands disk) (D.faults disk)) disks.old)
         from)
         (seen_at (map (λ disk. seen_as (D.size disk) (D.stands disk) (D.faults disk)) disks.old)
         place)
@@ -150,18 +153,21 @@ pub(crate) fn copy_list<D: Disk>(
     requires from { from < length disks.old }
     requires place { place < length disks.old }
     requires other { from ≡ place → ⊥ }
-    requires source { Stands D.tells source.now.log ((seen_at (map (λ disk. seen_as (D.size disk) (D.stands disk) (D.faults disk)) disks.old)
+    requires source { Stands D.tells source.now.log ((seen_at (map (λ disk. seen_as (D.size disk)
+        (D.stands disk) (D.faults disk)) disks.old)
         from).size source.now.log.side)
         (seen_at (map (λ disk. seen_as (D.size disk) (D.stands disk) (D.faults disk)) disks.old)
         from).stands }
-    requires opens { IsOpen D.tells (seen_at (map (λ disk. seen_as (D.size disk) (D.stands disk) (D.faults disk)) disks.old)
+    requires opens { IsOpen D.tells
+        (seen_at (map (λ disk. seen_as (D.size disk) (D.stands disk) (D.faults disk)) disks.old)
         place) log }
     ensures outcome { IfOk result (Outcome D.tells
         (HasView source.now (seen_at (map (λ disk. seen_as (D.size disk) (D.stands disk) (D.faults disk)) disks.old)
         from).stands.seen) from place
         (map (λ disk. seen_as (D.size disk) (D.stands disk) (D.faults disk)) disks.old)
         (map (λ disk. seen_as (D.size disk) (D.stands disk) (D.faults disk)) disks.new)
-        (HasAll D.tells source.now watch.old (seen_at (map (λ disk. seen_as (D.size disk) (D.stands disk) (D.faults disk)) disks.old)
+        (HasAll D.tells source.now watch.old
+        (seen_at (map (λ disk. seen_as (D.size disk) (D.stands disk) (D.faults disk)) disks.old)
         from)
         (seen_at (map (λ disk. seen_as (D.size disk) (D.stands disk) (D.faults disk)) disks.old)
         place)

@@ -1,10 +1,9 @@
-use Rattle.std.proofs.Common.{◌≡◌, ◌∙◌, ◌<◌, ap, arith, ℕ, List, None, Option, Some, length, map, refl, subst, sym}
-use Rattle.std.specs.Prelude.{IfOk, MatchOption, slice_index_or, slice_set}
+use Rattle.std.proofs.Common.{◌≡◌, ◌∙◌, ◌<◌, arith, ℕ, List, Option, length, map, subst, sym}
+use Rattle.std.specs.Prelude.{MatchOption, slice_index_or, slice_set}
 use Rattle.hs_peerlog.specs.Lists.{Keeping}
 use Rattle.hs_scrub.proofs.PeerLemmas.{calls_empty, copy_calls, copy_fronts, copy_outcome, fronts_empty, left_empty, ok_weaker, opens_empty, source_empty}
 use Rattle.hs_scrub.specs.Copied.{IsLeft}
 use Rattle.hs_scrub.specs.CopySteps.{Calls, CopyFronts, CopyOutcome, IsEmptied}
-use Rattle.hs_scrub.specs.declared.giving.Given.{Given}
 use Rattle.hs_scrub.specs.declared.giving.Given.TheVariants.{Left}
 use Rattle.hs_taking.specs.Disks.{DiskSeen, seen_as, seen_at}
 use Rattle.hs_scrub.proofs.copying.copy_to.Goals as goal

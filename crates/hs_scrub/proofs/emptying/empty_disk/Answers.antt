@@ -1,4 +1,4 @@
-use Rattle.std.proofs.Common.{◌≡◌, ◌∙◌, [], inl, inr, refl, subst}
+use Rattle.std.proofs.Common.{[], inr, subst}
 use Rattle.hs_peerlog.proofs.StayLemmas.{seen-list}
 use Rattle.hs_peerlog.specs.Opening.{IsRefusal, refusal_in}
 use Rattle.hs_scrub.proofs.CopyLemmas.{append_each, past_then}

@@ -1,4 +1,4 @@
-use Rattle.std.proofs.Common.{◌≡◌, ◌∙◌, ◌*◌, ◌<◌, ◌≤◌, ◌++◌, None, Some, ap, arith, ℕ, List, length, map, refl, subst, sym}
+use Rattle.std.proofs.Common.{◌≡◌, ◌∙◌, ◌*◌, ◌<◌, ◌++◌, None, Some, ap, arith, ℕ, List, length, map, refl, subst, sym}
 use Rattle.std.specs.Prelude.{Err, slice_index_or, slice_set}
 use Rattle.hs_peerlog.proofs.ImageLemmas.{Since}
 use Rattle.hs_scrub.proofs.FromLemmas.{copied_so, ended_read, no_log_not_wrong, none_not_wrong, on_ok_any, other_read, own_not, own_risen, stands_read, view_no_log, view_other, fronts_copied, fronts_read, memory_other, memory_unwritten, ok_so, others_copied, others_read, read_only, source_copied, unwritten_read}
@@ -6,7 +6,7 @@ use Rattle.hs_peerlog.specs.declared.fault.LogFault.{LogFault}
 use Rattle.hs_peerlog.specs.declared.fault.LogFault.TheVariants as log
 use Rattle.hs_peerlog.specs.Opening.{IsRefusal, refusal_in}
 use Rattle.hs_ports.specs.Fault.{HasRisen}
-use Rattle.hs_scrub.specs.Copied.{AreBeside, HasCopied, HasEnded, KeepsFronts}
+use Rattle.hs_scrub.specs.Copied.{AreBeside, HasCopied, HasEnded}
 use Rattle.hs_scrub.specs.declared.mark.PeerMark.TheVariants.{Fault, NoLog}
 use Rattle.hs_scrub.specs.Text.{line_of}
 use Rattle.hs_side.specs.Standing.{Stands}

@@ -1,4 +1,4 @@
-use Rattle.std.proofs.Common.{◌≡◌, List, arith, length, map, subst}
+use Rattle.std.proofs.Common.{List, arith, map, subst}
 use Rattle.hs_peerlog.proofs.ImageLemmas.{Since}
 use Rattle.hs_scrub.proofs.AllLemmas.{fronts_still}
 use Rattle.hs_scrub.specs.CopySteps.{CopyFronts}

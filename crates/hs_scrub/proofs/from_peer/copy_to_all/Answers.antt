@@ -1,4 +1,4 @@
-use Rattle.std.proofs.Common.{◌≡◌, ◌∙◌, ◌*◌, ◌<◌, ◌≤◌, ap, arith, ℕ, List, Option, None, Some, length, map, refl, subst, sym}
+use Rattle.std.proofs.Common.{◌*◌, arith, ℕ, List, Option, map, refl, subst}
 use Rattle.hs_peerlog.proofs.ImageLemmas.{Since}
 use Rattle.hs_scrub.proofs.AllLemmas.{all_spares, copies_more, copies_none, given_all, given_ended}
 use Rattle.hs_scrub.proofs.FromLemmas.{ok_so}

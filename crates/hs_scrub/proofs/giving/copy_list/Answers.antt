@@ -1,4 +1,4 @@
-use Rattle.std.proofs.Common.{◌≡◌, ◌∙◌, ◌+◌, ◌<◌, ◌≤◌, ap, arith, ℕ, List, length, map, refl, subst, sym}
+use Rattle.std.proofs.Common.{arith, List, map, refl, subst}
 use Rattle.hs_peerlog.proofs.ImageLemmas.{Since}
 use Rattle.hs_peerlog.specs.Views.{HasView}
 use Rattle.hs_ports.specs.declared.disk.Side.{Side}
@@ -7,7 +7,7 @@ use Rattle.hs_scrub.proofs.GivingLemmas.{calls_more, fronts_more, giving_all, gi
 use Rattle.hs_scrub.proofs.StillLemmas.{stands_still}
 use Rattle.hs_scrub.specs.CopySteps.{HasMore, Outcome}
 use Rattle.hs_scrub.specs.declared.giving.Given.{Given}
-use Rattle.hs_scrub.specs.declared.giving.Given.TheVariants.{Ended, Left, Whole}
+use Rattle.hs_scrub.specs.declared.giving.Given.TheVariants.{Whole}
 use Rattle.hs_taking.proofs.DiskLemmas.{seen_each}
 use Rattle.hs_taking.specs.Disks.{DiskSeen, seen_as, seen_at}
 use Rattle.hs_scrub.proofs.giving.copy_list.Goals as goal
