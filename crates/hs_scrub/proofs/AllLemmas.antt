@@ -42,6 +42,7 @@ spares_none tells shape source from now total disks since = record {
   read = omega arith;
   others = λ peer out. refl;
   fronts = λ peer low differ. fronts_still tells source now now (seen_at disks from) (seen_at disks peer) (omega arith) (since peer low);
+  counted = λ peer. omega arith;
   later = omega arith;
 }
 
@@ -53,6 +54,15 @@ module _ (tells : Type 0) (shape : Shape) (source : Viewing) (from before mid no
 
   not_from : (q : ℕ) → (AreBeside shape from q → ⊥) → q ≡ from → ⊥
   not_from q out is = out (subst (λ p. AreBeside shape from p) (sym is) own)
+
+  counted_more : (q : ℕ) → (seen_at old q).faults ≤ (seen_at new q).faults
+  counted_more q = elim (cases_eq q peer) [
+    | inl is ↦ subst (λ (p : ℕ). (seen_at old p).faults ≤ (seen_at new p).faults) (sym is) (let l = so_far.counted peer in let m = calls.counted in omega (arith, l, m))
+    | inr differs ↦ elim (cases_eq q from) [
+      | inl own ↦ subst (λ (p : ℕ). (seen_at old p).faults ≤ (seen_at new p).faults) (sym own) (let l = so_far.read in let m = calls.read in omega (arith, l, m))
+      | inr other ↦ let l = so_far.counted q in let e = ap (λ (s : DiskSeen). s.faults) (calls.others q other differs) in omega (arith, l, e)
+    ]
+  ]
 
   pub spares_more : Spares tells shape source from before now total old new
   spares_more = record {
@@ -68,6 +78,7 @@ module _ (tells : Type 0) (shape : Shape) (source : Viewing) (from before mid no
           subst (λ (s : DiskSeen). LeavesEach before now (seen_at old q).stands s.stands (IsOldOrFront held whole)) (sym (calls.others q differ differs))
           (each_wait (IsOldOrFront held whole) calls.later (so_far.fronts q low differ told last whole has held leaves))
     ];
+    counted = counted_more;
     later = let l = so_far.later in let m = calls.later in omega (arith, l, m);
   }
     where

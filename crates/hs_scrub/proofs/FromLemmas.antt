@@ -1,5 +1,6 @@
 -- Copying from a peer, whose disk is read first.
 use Rattle.std.proofs.Common.{◌≡◌, ◌∙◌, inl, inr, ap, sym, subst, ℕ, ◌*◌, ◌/◌, ◌<◌, ◌≤◌, ◌++◌, List, [], map, length, Option, Some, None, IsSome, refl, arith}
+use Rattle.std.proofs.lemmas.Bool.{cases_eq}
 use Rattle.std.specs.Prelude.{Contains, Err, IfErr, IfSome, Ok, OnOk, Result, slice_index_or, slice_set, unwrap_or}
 use Rattle.hs_entry.specs.declared.entry.Entry.{Entry}
 use Rattle.hs_limits.specs.declared.shape.Shape.{Shape}
@@ -97,6 +98,13 @@ module _ {A : Type 0} (f : A → DiskSeen) (tells : Type 0) (shape : Shape) (fro
   pub others_read : (peer : ℕ) → (AreBeside shape from peer → ⊥) → seen_at via peer ≡ seen_at old peer
   others_read peer out = there peer (not_from peer out)
 
+  pub counted_read : (f (slice_index_or disks from d)).faults ≤ (f y).faults → (peer : ℕ) → (seen_at old peer).faults ≤ (seen_at via peer).faults
+  counted_read h peer = elim (cases_eq peer from) [
+    | inl same ↦ subst (λ (k : ℕ). (seen_at old k).faults ≤ (seen_at via k).faults) (sym same)
+        (subst (λ (s : DiskSeen). (seen_at old from).faults ≤ s.faults) (sym is) (subst (λ (s : DiskSeen). s.faults ≤ (f y).faults) was h))
+    | inr differ ↦ let e = ap (λ (s : DiskSeen). s.faults) (there peer differ) in omega (arith, e)
+  ]
+
   pub unwritten_read : (peer : ℕ) → (peer ≡ from → ⊥) → seen_at via peer ≡ seen_at old peer
   unwritten_read peer differ = there peer differ
 
@@ -192,6 +200,9 @@ module _ {A : Type 0} (f : A → DiskSeen) (tells : Type 0) (shape : Shape) (fro
 
     pub others_copied : (peer : ℕ) → (AreBeside shape from peer → ⊥) → seen_at new peer ≡ seen_at old peer
     others_copied peer out = spares.others peer out ∙ others_read peer out
+
+    pub counted_copied : (f (slice_index_or disks from d)).faults ≤ (f y).faults → (peer : ℕ) → (seen_at old peer).faults ≤ (seen_at new peer).faults
+    counted_copied h peer = let l = counted_read h peer in let m = spares.counted peer in omega (arith, l, m)
 
     pub fronts_copied : (peer : ℕ) → peer < shape.shards * shape.copies → (peer ≡ from → ⊥) → (tells → Since (seen_at old peer).stands) → (copied : List (ℕ × Entry)) → (tells → list_in (seen_at old from).stands.seen ≡ Some copied) → KeepsFronts tells before now (seen_at old peer) (seen_at new peer) copied
     fronts_copied peer within differ since copied read = λ told last held leaves.

@@ -116,6 +116,7 @@ pub record Spares (tells : Type 0) (shape : Shape) (source : Viewing) (from befo
   pub read : (seen_at old from).faults ≤ (seen_at new from).faults
   pub others : (peer : ℕ) → (AreBeside shape from peer → ⊥) → seen_at new peer ≡ seen_at old peer
   pub fronts : (peer : ℕ) → peer < total → (peer ≡ from → ⊥) → CopyFronts tells source before now (seen_at old from) (seen_at old peer) (seen_at new peer)
+  pub counted : (peer : ℕ) → (seen_at old peer).faults ≤ (seen_at new peer).faults
   pub later : before ≤ now
 
 -- a peer was passed over: it is the source, or of another shard

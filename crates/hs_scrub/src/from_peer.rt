@@ -86,6 +86,10 @@ pub fn copy_from<D: Disk>(
         peer)
         (seen_at (map (λ disk. seen_as (D.size disk) (D.stands disk) (D.faults disk)) disks.new)
         peer) copied }
+    ensures counted { (peer : ℕ) → (seen_at (map (λ disk. seen_as (D.size disk) (D.stands disk) (D.faults disk)) disks.old)
+        peer).faults
+        ≤ (seen_at (map (λ disk. seen_as (D.size disk) (D.stands disk) (D.faults disk)) disks.new)
+        peer).faults }
     ensures count { length disks.new ≡ length disks.old }
     ensures ticks { watch.old ≤ watch.new }
 {

@@ -1,7 +1,7 @@
 use Rattle.std.proofs.Common.{◌≡◌, ◌∙◌, ◌*◌, ◌<◌, ◌++◌, None, Some, ap, arith, ℕ, List, length, map, refl, subst, sym}
 use Rattle.std.specs.Prelude.{Err, slice_index_or, slice_set}
 use Rattle.hs_peerlog.proofs.ImageLemmas.{Since}
-use Rattle.hs_scrub.proofs.FromLemmas.{copied_so, ended_read, no_log_not_wrong, none_not_wrong, on_ok_any, other_read, own_not, own_risen, stands_read, view_no_log, view_other, fronts_copied, fronts_read, memory_other, memory_unwritten, ok_so, others_copied, others_read, read_only, source_copied, unwritten_read}
+use Rattle.hs_scrub.proofs.FromLemmas.{copied_so, counted_copied, counted_read, ended_read, fronts_copied, fronts_read, memory_other, memory_unwritten, no_log_not_wrong, none_not_wrong, ok_so, on_ok_any, other_read, others_copied, others_read, own_not, own_risen, read_only, source_copied, stands_read, unwritten_read, view_no_log, view_other}
 use Rattle.hs_peerlog.specs.declared.fault.LogFault.{LogFault}
 use Rattle.hs_peerlog.specs.declared.fault.LogFault.TheVariants as log
 use Rattle.hs_peerlog.specs.Opening.{IsRefusal, refusal_in}
@@ -439,3 +439,81 @@ copy_to_all-requires-clause-source g c =
     let only : IsOnlyRead g.D.Disk.tells c.args.watch.now c.read.new.watch (f (slice_index_or c.args.disks.now p d)) (f y)
     = record { seen = λ told side. c.read.ensures.same told side; moments = λ told last. c.read.ensures.any_moment told last; counted = c.read.ensures.cause.later } in
     subst (λ n. Stands g.D.Disk.tells c.in-Ok.source.log ((seen_at via n).size c.in-Ok.source.log.side) (seen_at via n).stands) e (stands_read f g.D.Disk.tells c.args.shape p c.args.watch.now c.read.new.watch c.read.new.watch c.args.disks.now y d low c.in-Ok.source c.in-Ok.ensures.stands)
+
+pub returns-in-Err-Disk-clause-counted : goal.returns-in-Err-Disk-clause-counted
+returns-in-Err-Disk-clause-counted g c =
+    let f : g.row.D.Denot → DiskSeen = λ disk. seen_as (g.D.Disk.size disk) (g.D.Disk.stands disk) (g.D.Disk.faults disk) in
+    let old : List DiskSeen = map f c.args.disks.now in
+    let p : ℕ = c.from-place.result in
+    let e : c.from-place.result ≡ c.args.from = c.from-place.ensures in
+    let d = c.index-disks-place.result in
+    let y = c.read.new.disk in
+    let via : List DiskSeen = map f (slice_set c.args.disks.now p y) in
+    let low : c.from-place.result < length c.args.disks.now = omega (arith, c.requires.count, c.requires.from, e) in
+    let since : (peer : ℕ) → peer < length c.args.disks.now → g.D.Disk.tells → Since (seen_at old peer).stands = λ peer within told. seen_each (λ (s : DiskSeen). Since s.stands) f (λ x side m high. g.met.D.Disk.since told x side m high) c.args.disks.now peer within in
+    let only : IsOnlyRead g.D.Disk.tells c.args.watch.now c.read.new.watch (f (slice_index_or c.args.disks.now p d)) (f y)
+    = record { seen = λ told side. c.read.ensures.same told side; moments = λ told last. c.read.ensures.any_moment told last; counted = c.read.ensures.cause.later } in
+    λ peer. counted_read f g.D.Disk.tells c.args.shape p c.args.watch.now c.read.new.watch c.read.new.watch c.args.disks.now y d low c.read.ensures.cause.later peer
+
+pub returns-in-Err-NotALog-clause-counted : goal.returns-in-Err-NotALog-clause-counted
+returns-in-Err-NotALog-clause-counted g c =
+    let f : g.row.D.Denot → DiskSeen = λ disk. seen_as (g.D.Disk.size disk) (g.D.Disk.stands disk) (g.D.Disk.faults disk) in
+    let old : List DiskSeen = map f c.args.disks.now in
+    let p : ℕ = c.from-place.result in
+    let e : c.from-place.result ≡ c.args.from = c.from-place.ensures in
+    let d = c.index-disks-place.result in
+    let y = c.read.new.disk in
+    let via : List DiskSeen = map f (slice_set c.args.disks.now p y) in
+    let low : c.from-place.result < length c.args.disks.now = omega (arith, c.requires.count, c.requires.from, e) in
+    let since : (peer : ℕ) → peer < length c.args.disks.now → g.D.Disk.tells → Since (seen_at old peer).stands = λ peer within told. seen_each (λ (s : DiskSeen). Since s.stands) f (λ x side m high. g.met.D.Disk.since told x side m high) c.args.disks.now peer within in
+    let only : IsOnlyRead g.D.Disk.tells c.args.watch.now c.read.new.watch (f (slice_index_or c.args.disks.now p d)) (f y)
+    = record { seen = λ told side. c.read.ensures.same told side; moments = λ told last. c.read.ensures.any_moment told last; counted = c.read.ensures.cause.later } in
+    λ peer. counted_read f g.D.Disk.tells c.args.shape p c.args.watch.now c.read.new.watch c.read.new.watch c.args.disks.now y d low c.read.ensures.cause.later peer
+
+pub returns-in-Err-WrongShape-clause-counted : goal.returns-in-Err-WrongShape-clause-counted
+returns-in-Err-WrongShape-clause-counted g c =
+    let f : g.row.D.Denot → DiskSeen = λ disk. seen_as (g.D.Disk.size disk) (g.D.Disk.stands disk) (g.D.Disk.faults disk) in
+    let old : List DiskSeen = map f c.args.disks.now in
+    let p : ℕ = c.from-place.result in
+    let e : c.from-place.result ≡ c.args.from = c.from-place.ensures in
+    let d = c.index-disks-place.result in
+    let y = c.read.new.disk in
+    let via : List DiskSeen = map f (slice_set c.args.disks.now p y) in
+    let low : c.from-place.result < length c.args.disks.now = omega (arith, c.requires.count, c.requires.from, e) in
+    let since : (peer : ℕ) → peer < length c.args.disks.now → g.D.Disk.tells → Since (seen_at old peer).stands = λ peer within told. seen_each (λ (s : DiskSeen). Since s.stands) f (λ x side m high. g.met.D.Disk.since told x side m high) c.args.disks.now peer within in
+    let only : IsOnlyRead g.D.Disk.tells c.args.watch.now c.read.new.watch (f (slice_index_or c.args.disks.now p d)) (f y)
+    = record { seen = λ told side. c.read.ensures.same told side; moments = λ told last. c.read.ensures.any_moment told last; counted = c.read.ensures.cause.later } in
+    λ peer. counted_read f g.D.Disk.tells c.args.shape p c.args.watch.now c.read.new.watch c.read.new.watch c.args.disks.now y d low c.read.ensures.cause.later peer
+
+pub returns-in-Err-NoMemory-clause-counted : goal.returns-in-Err-NoMemory-clause-counted
+returns-in-Err-NoMemory-clause-counted g c =
+    let f : g.row.D.Denot → DiskSeen = λ disk. seen_as (g.D.Disk.size disk) (g.D.Disk.stands disk) (g.D.Disk.faults disk) in
+    let old : List DiskSeen = map f c.args.disks.now in
+    let p : ℕ = c.from-place.result in
+    let e : c.from-place.result ≡ c.args.from = c.from-place.ensures in
+    let d = c.index-disks-place.result in
+    let y = c.read.new.disk in
+    let via : List DiskSeen = map f (slice_set c.args.disks.now p y) in
+    let low : c.from-place.result < length c.args.disks.now = omega (arith, c.requires.count, c.requires.from, e) in
+    let since : (peer : ℕ) → peer < length c.args.disks.now → g.D.Disk.tells → Since (seen_at old peer).stands = λ peer within told. seen_each (λ (s : DiskSeen). Since s.stands) f (λ x side m high. g.met.D.Disk.since told x side m high) c.args.disks.now peer within in
+    let only : IsOnlyRead g.D.Disk.tells c.args.watch.now c.read.new.watch (f (slice_index_or c.args.disks.now p d)) (f y)
+    = record { seen = λ told side. c.read.ensures.same told side; moments = λ told last. c.read.ensures.any_moment told last; counted = c.read.ensures.cause.later } in
+    λ peer. counted_read f g.D.Disk.tells c.args.shape p c.args.watch.now c.read.new.watch c.read.new.watch c.args.disks.now y d low c.read.ensures.cause.later peer
+
+pub returns-clause-counted : goal.returns-clause-counted
+returns-clause-counted g c =
+    let f : g.row.D.Denot → DiskSeen = λ disk. seen_as (g.D.Disk.size disk) (g.D.Disk.stands disk) (g.D.Disk.faults disk) in
+    let old : List DiskSeen = map f c.args.disks.now in
+    let p : ℕ = c.from-place.result in
+    let e : c.from-place.result ≡ c.args.from = c.from-place.ensures in
+    let d = c.index-disks-place.result in
+    let y = c.read.new.disk in
+    let via : List DiskSeen = map f (slice_set c.args.disks.now p y) in
+    let low : c.from-place.result < length c.args.disks.now = omega (arith, c.requires.count, c.requires.from, e) in
+    let since : (peer : ℕ) → peer < length c.args.disks.now → g.D.Disk.tells → Since (seen_at old peer).stands = λ peer within told. seen_each (λ (s : DiskSeen). Since s.stands) f (λ x side m high. g.met.D.Disk.since told x side m high) c.args.disks.now peer within in
+    let only : IsOnlyRead g.D.Disk.tells c.args.watch.now c.read.new.watch (f (slice_index_or c.args.disks.now p d)) (f y)
+    = record { seen = λ told side. c.read.ensures.same told side; moments = λ told last. c.read.ensures.any_moment told last; counted = c.read.ensures.cause.later } in
+    let new : List DiskSeen = map f c.copy_to_all.new.disks in
+    let total : ℕ = c.args.shape.shards * c.args.shape.copies in
+    let spares : Spares g.D.Disk.tells c.args.shape c.in-Ok.source p c.read.new.watch c.copy_to_all.new.watch total via new = subst (λ n. Spares g.D.Disk.tells c.args.shape c.in-Ok.source n c.read.new.watch c.copy_to_all.new.watch total via new) (sym e) c.copy_to_all.ensures.spares in
+    λ peer. counted_copied f g.D.Disk.tells c.args.shape p c.args.watch.now c.read.new.watch c.copy_to_all.new.watch c.args.disks.now y d low c.in-Ok.source new (λ told. c.in-Ok.ensures.listed told) (λ told list k. c.in-Ok.ensures.list told list k) c.in-Ok.ensures.calm c.read.ensures.ticks spares c.read.ensures.cause.later peer
