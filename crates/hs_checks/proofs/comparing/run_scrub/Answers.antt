@@ -58,7 +58,7 @@ returns-in-Err-clause-compared g c = λ source.
       counts = counts_of old new was is before behind counted (omega arith) (omega arith);
     } in
     let since : (peer : ℕ) → peer < length was → tells → Since (seen_at mid peer).stands = λ peer low told.
-        seen_each (λ (s : DiskSeen). Since s.stands) f (λ x side m high. g.met.D.Disk.since told x side m high) c.scrub.new.disks peer (omega (arith, long, low, c.scrub.ensures.count)) in
+    seen_each (λ (s : DiskSeen). Since s.stands) f (λ x side m high. g.met.D.Disk.since told x side m high) c.scrub.new.disks peer (omega (arith, long, low, c.scrub.ensures.count)) in
     read_alone tells c.args.shape c.args.from r was mid c.scrub.new.watch before behind silent (omega arith) read
     (Refused c.in-Err.fault (c.closed.ensures.status ∙ c.status_of.ensures) refl c.in-Err.ensures.other refl)
     (λ peer low copy copied. kept tells (seen_at mid peer) c.scrub.new.watch c.scrub.new.watch copied (omega arith) (since peer low))
@@ -99,7 +99,7 @@ returns-then-is_err-clause-compared g c = λ source.
       counts = counts_of old new was is before behind counted sunk (omega arith);
     } in
     let since : (peer : ℕ) → peer < length was → tells → Since (seen_at mid peer).stands = λ peer low told.
-        seen_each (λ (s : DiskSeen). Since s.stands) f (λ x side m high. g.met.D.Disk.since told x side m high) c.scrub.new.disks peer (omega (arith, long, low, c.scrub.ensures.count)) in
+    seen_each (λ (s : DiskSeen). Since s.stands) f (λ x side m high. g.met.D.Disk.since told x side m high) c.scrub.new.disks peer (omega (arith, long, low, c.scrub.ensures.count)) in
     let reads : (peer : ℕ) → peer < length was → IsOnlyRead tells c.args.watch.now c.put_all.new.watch (seen_at was peer) (seen_at mid peer) = λ peer low. only_wait tells c.args.watch.now c.scrub.new.watch c.put_all.new.watch (seen_at was peer) (seen_at mid peer) passed (read peer low) in
     let compared : Compares tells c.args.shape was mid = record {
       marks = c.in-Ok.marks.items;
@@ -148,7 +148,7 @@ returns-in_default-clause-compared g c = λ source.
       counts = counts_of old new was is before behind counted sunk (omega arith);
     } in
     let since : (peer : ℕ) → peer < length was → tells → Since (seen_at mid peer).stands = λ peer low told.
-        seen_each (λ (s : DiskSeen). Since s.stands) f (λ x side m high. g.met.D.Disk.since told x side m high) c.scrub.new.disks peer (omega (arith, long, low, c.scrub.ensures.count)) in
+    seen_each (λ (s : DiskSeen). Since s.stands) f (λ x side m high. g.met.D.Disk.since told x side m high) c.scrub.new.disks peer (omega (arith, long, low, c.scrub.ensures.count)) in
     let reads : (peer : ℕ) → peer < length was → IsOnlyRead tells c.args.watch.now c.put_all.new.watch (seen_at was peer) (seen_at mid peer) = λ peer low. only_wait tells c.args.watch.now c.scrub.new.watch c.put_all.new.watch (seen_at was peer) (seen_at mid peer) passed (read peer low) in
     let compared : Compares tells c.args.shape was mid = record {
       marks = c.in-Ok.marks.items;
@@ -197,7 +197,7 @@ returns-then-not-has_list-clause-compared g c = λ source.
       counts = counts_of old new was is before behind counted sunk (omega arith);
     } in
     let since : (peer : ℕ) → peer < length was → tells → Since (seen_at mid peer).stands = λ peer low told.
-        seen_each (λ (s : DiskSeen). Since s.stands) f (λ x side m high. g.met.D.Disk.since told x side m high) c.scrub.new.disks peer (omega (arith, long, low, c.scrub.ensures.count)) in
+    seen_each (λ (s : DiskSeen). Since s.stands) f (λ x side m high. g.met.D.Disk.since told x side m high) c.scrub.new.disks peer (omega (arith, long, low, c.scrub.ensures.count)) in
     let reads : (peer : ℕ) → peer < length was → IsOnlyRead tells c.args.watch.now c.put_all.new.watch (seen_at was peer) (seen_at mid peer) = λ peer low. only_wait tells c.args.watch.now c.scrub.new.watch c.put_all.new.watch (seen_at was peer) (seen_at mid peer) passed (read peer low) in
     let compared : Compares tells c.args.shape was mid = record {
       marks = c.in-Ok.marks.items;
@@ -238,9 +238,9 @@ returns-in-Err-copy_from-clause-compared g c = λ source.
     let scrubbed : c.args.watch.now ≤ c.scrub.new.watch = c.scrub.ensures.ticks in
     let read : (peer : ℕ) → peer < length was → IsOnlyRead tells c.args.watch.now c.scrub.new.watch (seen_at was peer) (seen_at mid peer) = λ peer low. c.scrub.ensures.read peer (omega (arith, long, low)) in
     let counted : (peer : ℕ) → peer < length was → (seen_at was peer).faults ≤ (seen_at is peer).faults = λ peer low.
-        let first : (seen_at was peer).faults ≤ (seen_at mid peer).faults = (read peer low).counted in
-        let more : (seen_at mid peer).faults ≤ (seen_at is peer).faults = c.copy_from.ensures.counted peer in
-        omega (arith, first, more) in
+    let first : (seen_at was peer).faults ≤ (seen_at mid peer).faults = (read peer low).counted in
+    let more : (seen_at mid peer).faults ≤ (seen_at is peer).faults = c.copy_from.ensures.counted peer in
+    omega (arith, first, more) in
     let time : KeepsTime old new = time_with old new c.scrub.new.watch scrubbed (omega (arith, passed, copied)) (stamped_on c.scrub.new.watch c.put_all.new.watch c.copy_from.new.watch (g.K.Sink.got c.args.sink.now) (g.K.Sink.got c.put_all.new.sink) copied stamped) in
     let silent : RunsNoScript r = record {
       journal = c.closed-in-Err-copy_from.ensures.journal;
@@ -300,9 +300,9 @@ returns-then-is_err-2-clause-compared g c = λ source.
     let scrubbed : c.args.watch.now ≤ c.scrub.new.watch = c.scrub.ensures.ticks in
     let read : (peer : ℕ) → peer < length was → IsOnlyRead tells c.args.watch.now c.scrub.new.watch (seen_at was peer) (seen_at mid peer) = λ peer low. c.scrub.ensures.read peer (omega (arith, long, low)) in
     let counted : (peer : ℕ) → peer < length was → (seen_at was peer).faults ≤ (seen_at is peer).faults = λ peer low.
-        let first : (seen_at was peer).faults ≤ (seen_at mid peer).faults = (read peer low).counted in
-        let more : (seen_at mid peer).faults ≤ (seen_at is peer).faults = c.copy_from.ensures.counted peer in
-        omega (arith, first, more) in
+    let first : (seen_at was peer).faults ≤ (seen_at mid peer).faults = (read peer low).counted in
+    let more : (seen_at mid peer).faults ≤ (seen_at is peer).faults = c.copy_from.ensures.counted peer in
+    omega (arith, first, more) in
     let time : KeepsTime old new = time_with old new c.scrub.new.watch scrubbed (omega (arith, passed, later))
     (stamped_both c.scrub.new.watch c.put_all.new.watch c.copy_from.new.watch c.put_all-2.new.watch (g.K.Sink.got c.args.sink.now) (g.K.Sink.got c.put_all.new.sink) (g.K.Sink.got c.put_all-2.new.sink) (omega (arith, passed, copied)) later stamped stamped-2) in
     let silent : RunsNoScript r = record {
@@ -368,9 +368,9 @@ returns-clause-compared g c = λ source.
     let scrubbed : c.args.watch.now ≤ c.scrub.new.watch = c.scrub.ensures.ticks in
     let read : (peer : ℕ) → peer < length was → IsOnlyRead tells c.args.watch.now c.scrub.new.watch (seen_at was peer) (seen_at mid peer) = λ peer low. c.scrub.ensures.read peer (omega (arith, long, low)) in
     let counted : (peer : ℕ) → peer < length was → (seen_at was peer).faults ≤ (seen_at is peer).faults = λ peer low.
-        let first : (seen_at was peer).faults ≤ (seen_at mid peer).faults = (read peer low).counted in
-        let more : (seen_at mid peer).faults ≤ (seen_at is peer).faults = c.copy_from.ensures.counted peer in
-        omega (arith, first, more) in
+    let first : (seen_at was peer).faults ≤ (seen_at mid peer).faults = (read peer low).counted in
+    let more : (seen_at mid peer).faults ≤ (seen_at is peer).faults = c.copy_from.ensures.counted peer in
+    omega (arith, first, more) in
     let time : KeepsTime old new = time_with old new c.scrub.new.watch scrubbed (omega (arith, passed, later))
     (stamped_both c.scrub.new.watch c.put_all.new.watch c.copy_from.new.watch c.put_all-2.new.watch (g.K.Sink.got c.args.sink.now) (g.K.Sink.got c.put_all.new.sink) (g.K.Sink.got c.put_all-2.new.sink) (omega (arith, passed, copied)) later stamped stamped-2) in
     let silent : RunsNoScript r = record {
