@@ -1,7 +1,6 @@
-use Rattle.std.proofs.Common.{◌≡◌, ◌∙◌, inl, inr, ap, sym, subst, refl, ℕ, ◌<◌, ◌≤◌, List, [], Option, length, map, arith}
+use Rattle.std.proofs.Common.{◌≡◌, ◌∙◌, inl, inr, ap, sym, subst, refl, ℕ, ◌<◌, ◌≤◌, List, [], length, map, arith}
 use Rattle.std.proofs.lemmas.List.{length-map}
-use Rattle.hs_audit.specs.Audited.{Audits, CanBeAudited}
-use Rattle.hs_audit.specs.declared.fault.AuditFault.TheVariants as fault
+use Rattle.hs_audit.specs.Audited.{Audits}
 use Rattle.hs_fold.specs.Shards.Setting.{Setting}
 use Rattle.hs_limits.specs.Limits.{greatest_limits}
 use Rattle.hs_ports.specs.Disk.{Standing}
@@ -10,7 +9,6 @@ use Rattle.hs_ports.specs.Objects.{CountsStand, KeepsTime, Objects, handed}
 use Rattle.hs_ports.specs.Putting.{PutsFront}
 use Rattle.hs_ports.specs.Sink.{bytes_of, followed}
 use Rattle.hs_promise.specs.Run.{Ran, ran_of}
-use Rattle.hs_promise.specs.declared.status.Status.TheVariants as status
 use Rattle.hs_run.proofs.DisksLemmas.{handed_counts, handed_stands}
 use Rattle.hs_run.proofs.WholeLemmas.{handed_count}
 use Rattle.hs_run.specs.Machine.{AreHanded}
