@@ -1,12 +1,11 @@
 //! One job on the disk of a peer.
-ghost use Rattle.std.specs.Prelude.{◌≡◌, ◌≢◌, ◌≤◌, ◌<◌, ◌+◌, ℕ, List, [], length, if◌then◌else◌, Some, None, true, false, IfOk, IfErr};
+ghost use Rattle.std.specs.Prelude.{◌≡◌, ◌≤◌, ◌<◌, ℕ, List, length, if◌then◌else◌, Some, None, true, false, IfOk, IfErr};
 ghost use Rattle.hs_entry.specs.declared.entry.Entry.{Entry};
 ghost use Rattle.hs_desk.specs.Slips.{answers_one, answers_work, is_own_job, work_of};
 ghost use Rattle.hs_desk.specs.declared.job.Job.TheVariants.{Append};
 ghost use Rattle.hs_desk.specs.declared.job.Work.{Work};
 ghost use Rattle.hs_desk.specs.declared.job.Work.TheVariants as work;
-ghost use Rattle.hs_peerlog.specs.Lists.{Keeping};
-ghost use Rattle.hs_workers.specs.Work.{Has, HasDone, IsInPlace, RefusesWork, IsTorn, bench_of, is_failed, shown_of, next_to_append, next_to_seal};
+ghost use Rattle.hs_workers.specs.Work.{Has, HasDone, IsInPlace, RefusesWork, bench_of, is_failed, shown_of, next_to_append};
 
 use crate::WorkFault;
 use crate::readable::is_readable;
