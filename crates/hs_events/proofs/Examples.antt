@@ -1,4 +1,4 @@
--- A run over one shard with one copy: its events, its course, its lists, that these events are the ones due, and what happens where the journal is full. A store of two copies, of which one was set aside.
+-- A run over one shard with one copy: its events, its course, its lists, that these events are the ones due, and what happens where the journal is full. A store of two copies: of which one was set aside; and where one fails as it joins.
 use Rattle.std.specs.List.{range_with_len}
 use Rattle.std.specs.Prelude.{◌≡◌, refl, ℕ, ◌++◌, Bool, false, true, List, [], ◌∷◌, map, Option, Some, None}
 use Rattle.hs_events.specs.Commands.{AreOfCommand, LineAt}
@@ -14,7 +14,7 @@ use Rattle.hs_desk.specs.declared.done.Done.TheVariants as done
 use Rattle.hs_desk.specs.declared.job.Job.TheVariants as job
 use Rattle.hs_entry.specs.Entries.{rank_of}
 use Rattle.hs_entry.specs.declared.entry.Entry.TheVariants as kind
-use Rattle.hs_fold.specs.Shards.Setting.{Setting}
+use Rattle.hs_fold.specs.Shards.Setting.{Numbered, Setting}
 use Rattle.hs_limits.specs.declared.address.Address.{Address}
 use Rattle.hs_limits.specs.declared.shape.Shape.{Shape}
 use Rattle.hs_limits.specs.Limits.{greatest_limits}
@@ -205,3 +205,61 @@ of_the_second = refl
 it_counts_as_blank : counts both 1 ≡ false
 unfolding gained addresses block_at read_block no_handle_in stale_in helds_of deed_of seats_after asked_for begin block_entry compared data_of go is_same_block judged_in mark_entry on_bytes on_effect refusals_of asked_block least_epoch rank_of
 it_counts_as_blank = refl
+
+-- ---- two equal copies: the second fails, is started again, and fails as it copies
+
+abbrev equal : Whole
+equal = open_whole (record { name = λ bytes. its_address; limits = greatest_limits; shape = record { shards = 1; copies = 2 } })
+    (record { logs = Some ((1, kind.View 1) ∷ []) ∷ Some ((1, kind.View 1) ∷ []) ∷ []; lost = []; good = true ∷ true ∷ []; opened = 0 })
+
+-- it was emptied, and copies the first entry
+abbrev copying : Events
+copying = (event.Fail 1 1, 1) ∷ (event.Start 2 1, 2) ∷ (event.Report 1 done.Emptied, 3) ∷ []
+
+abbrev failing : Events
+failing = copying ++ ((event.Report 1 (done.Failed 1), 4) ∷ [])
+
+abbrev again : Events
+again = failing ++ ((event.Start 5 1, 5) ∷ [])
+
+abbrev first_entry : Numbered
+first_entry = (1, kind.View 1) ∷ []
+
+it_has_one : reach equal 1 ≡ first_entry
+unfolding gained addresses block_at read_block no_handle_in stale_in helds_of deed_of seats_after asked_for begin block_entry compared data_of go is_same_block judged_in mark_entry on_bytes on_effect refusals_of asked_block least_epoch rank_of
+it_has_one = refl
+
+may_have_a_copy : reach (run_whole equal copying) 1 ≡ first_entry
+unfolding gained addresses block_at read_block no_handle_in stale_in helds_of deed_of seats_after asked_for begin block_entry compared data_of go is_same_block judged_in mark_entry on_bytes on_effect refusals_of asked_block least_epoch rank_of
+may_have_a_copy = refl
+
+still_when_it_failed : reach (run_whole equal failing) 1 ≡ first_entry
+unfolding gained addresses block_at read_block no_handle_in stale_in helds_of deed_of seats_after asked_for begin block_entry compared data_of go is_same_block judged_in mark_entry on_bytes on_effect refusals_of asked_block least_epoch rank_of
+still_when_it_failed = refl
+
+-- its emptying is due: what the step before may have added is there still
+still_when_it_starts : reach (run_whole equal again) 1 ≡ first_entry
+unfolding gained addresses block_at read_block no_handle_in stale_in helds_of deed_of seats_after asked_for begin block_entry compared data_of go is_same_block judged_in mark_entry on_bytes on_effect refusals_of asked_block least_epoch rank_of
+still_when_it_starts = refl
+
+it_may_be_blank : floor (run_whole equal again) 1 ≡ 0
+unfolding gained addresses block_at read_block no_handle_in stale_in helds_of deed_of seats_after asked_for begin block_entry compared data_of go is_same_block judged_in mark_entry on_bytes on_effect refusals_of asked_block least_epoch rank_of
+it_may_be_blank = refl
+
+it_still_counts : counts (run_whole equal again) 1 ≡ true
+unfolding gained addresses block_at read_block no_handle_in stale_in helds_of deed_of seats_after asked_for begin block_entry compared data_of go is_same_block judged_in mark_entry on_bytes on_effect refusals_of asked_block least_epoch rank_of
+it_still_counts = refl
+
+-- emptied again it has nothing but what the next step adds, which it then has
+emptied_again : (run_whole equal (again ++ ((event.Report 1 done.Emptied, 6) ∷ []))).lists 1 ≡ []
+unfolding gained addresses block_at read_block no_handle_in stale_in helds_of deed_of seats_after asked_for begin block_entry compared data_of go is_same_block judged_in mark_entry on_bytes on_effect refusals_of asked_block least_epoch rank_of
+emptied_again = refl
+
+copied_then : (run_whole equal (again ++ ((event.Report 1 done.Emptied, 6) ∷ (event.Report 1 (done.Copied 1), 7) ∷ []))).lists 1 ≡ first_entry
+unfolding gained addresses block_at read_block no_handle_in stale_in helds_of deed_of seats_after asked_for begin block_entry compared data_of go is_same_block judged_in mark_entry on_bytes on_effect refusals_of asked_block least_epoch rank_of
+copied_then = refl
+
+-- and where the lead fails meanwhile the joining one has no step
+still_without_a_lead : reach (run_whole equal (copying ++ ((event.Fail 4 0, 4) ∷ []))) 1 ≡ first_entry
+unfolding gained addresses block_at read_block no_handle_in stale_in helds_of deed_of seats_after asked_for begin block_entry compared data_of go is_same_block judged_in mark_entry on_bytes on_effect refusals_of asked_block least_epoch rank_of
+still_without_a_lead = refl

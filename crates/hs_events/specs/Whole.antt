@@ -4,7 +4,7 @@ use Rattle.std.specs.Prelude.{ℕ, ◌-◌, ◌++◌, ◌==◌, ◌&&◌, Bool, 
 use Rattle.hs_events.specs.Asked.{report_in}
 use Rattle.hs_events.specs.Due.{is_answer}
 use Rattle.hs_core_words.specs.declared.event.Event.{Event}
-use Rattle.hs_core_words.specs.Looking.{first_job, group_of, home, sealed_of, status_of}
+use Rattle.hs_core_words.specs.Looking.{first_job, group_of, home, rejoin_of, sealed_of, status_of}
 use Rattle.hs_core_words.specs.State.{Core}
 use Rattle.hs_core_words.specs.Step.{step}
 use Rattle.hs_desk.specs.declared.done.Done.{Done}
@@ -13,7 +13,10 @@ use Rattle.hs_desk.specs.declared.job.Job.{Job}
 use Rattle.hs_desk.specs.declared.job.Job.TheVariants as job
 use Rattle.hs_events.specs.Found.{Found, first_core, opened_list, starts_good}
 use Rattle.hs_fold.specs.Shards.Setting.{Numbered, Setting}
-use Rattle.hs_members.specs.Members.{is_good_status, is_joining}
+use Rattle.hs_limits.specs.declared.limits.PeerStatus.{PeerStatus}
+use Rattle.hs_limits.specs.declared.limits.PeerStatus.TheVariants.{Down, Good, Joining}
+use Rattle.hs_members.specs.Members.{is_good_status}
+use Rattle.hs_rejoin.specs.Rejoin.{Rejoin}
 use Rattle.hs_replica.specs.Group.{Group, entries_above, length_of}
 
 -- lists: by peer; adds: what the last copying step of a peer may have added on its disk; aside: whether opening set the peer aside and it was not good since
@@ -75,6 +78,18 @@ copied_entry lists (Some job.Reclaim) = []
 abbrev pub lists_after : Event → Whole → Core → ℕ → Numbered
 lists_after e c after peer = grown (group_of (home peer after) after) peer (told_list c peer (taken_report c.core e))
 
+-- what its last copying step may have added, by its status, how far it joins and its first job: what is due is added to nothing else before;
+-- where an emptying is due, where the peer is down, and where it has no lead to copy from, that of the last step is still there
+abbrev pub added_by : Numbered → (ℕ → Numbered) → PeerStatus → Option Rejoin → Option Job → Numbered
+added_by before lists Good rejoin job = []
+added_by before lists Down rejoin job = before
+added_by before lists Joining None job = before
+added_by before lists Joining (Some r) (Some job.Reset) = before
+added_by before lists Joining (Some r) job = copied_entry lists job
+
+abbrev pub adds_after : Whole → Core → (ℕ → Numbered) → ℕ → Numbered
+adds_after c after lists peer = added_by (c.adds peer) lists (status_of peer after) (rejoin_of peer after) (first_job peer after)
+
 -- one event at a moment
 abbrev pub step_whole : Event → ℕ → Whole → Whole
 step_whole e at c =
@@ -82,8 +97,7 @@ step_whole e at c =
     record {
       core = after;
       lists = lists_after e c after;
-      adds = λ peer. if is_joining (status_of peer after) then copied_entry (lists_after e c after) (first_job peer after)
-          else if is_good_status (status_of peer after) then [] else c.adds peer;
+      adds = adds_after c after (lists_after e c after);
       aside = λ peer. c.aside peer && not (is_good_status (status_of peer after));
     }
 

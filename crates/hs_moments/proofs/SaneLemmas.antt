@@ -8,7 +8,7 @@ use Rattle.std.specs.Prelude.{if◌then◌else◌, slice_index_or, take}
 use Rattle.hs_core_words.specs.declared.event.Event.{Event}
 use Rattle.hs_core_words.specs.declared.event.Event.TheVariants as event
 use Rattle.hs_core_words.specs.declared.task.Task.{Task}
-use Rattle.hs_core_words.specs.Looking.{first_job, group_of, home, lost_shard, sealed_of, shape_of, status_of, tasks_of}
+use Rattle.hs_core_words.specs.Looking.{first_job, group_of, home, lost_shard, rejoin_of, sealed_of, shape_of, status_of, tasks_of}
 use Rattle.hs_core_words.specs.Reporting.{on_report}
 use Rattle.hs_core_words.specs.State.{Core}
 use Rattle.hs_core_words.specs.Step.{do_event, end_event, step}
@@ -31,7 +31,7 @@ use Rattle.hs_events.specs.Course.{is_refused}
 use Rattle.hs_events.specs.Due.{is_answer}
 use Rattle.hs_moments.specs.Moments.{Grows}
 use Rattle.hs_events.specs.Sane.{IsSane, appended_of}
-use Rattle.hs_events.specs.Whole.{Whole, copied_entry, counts, floor, grown, lists_after, reach, reported, step_whole, taken_report, told_list}
+use Rattle.hs_events.specs.Whole.{Whole, added_by, counts, floor, grown, lists_after, reach, reported, step_whole, taken_report, told_list}
 use Rattle.hs_moments.specs.WholeMachine.{IsFrontOf, whole_machine}
 use Rattle.hs_moments.specs.Working.{HasReported, IsBehind}
 use Rattle.hs_moments.proofs.AloneEventLemmas.{Falls, alone_begun, begun, ends, home_here, one_lost, quiet, status_past, step_is}
@@ -163,9 +163,9 @@ module _ (c : Whole) (e : Event) (at : ℕ) (h : IsSane c) where
 
   -- no peer copies
   adds_by : (p : ℕ) (s : PeerStatus) → status_of p after ≡ s → is_joining s ≡ false → new.adds p ≡ []
-  adds_by p s is not_joining = ap (λ s. if is_joining s then copied_entry (lists_after e c after) (first_job p after) else if is_good_status s then [] else c.adds p) is ∙ by_status s not_joining
+  adds_by p s is not_joining = ap (λ s. added_by (c.adds p) (lists_after e c after) s (rejoin_of p after) (first_job p after)) is ∙ by_status s not_joining
     where
-      by_status : (s : PeerStatus) → is_joining s ≡ false → (if is_joining s then copied_entry (lists_after e c after) (first_job p after) else if is_good_status s then [] else c.adds p) ≡ []
+      by_status : (s : PeerStatus) → is_joining s ≡ false → added_by (c.adds p) (lists_after e c after) s (rejoin_of p after) (first_job p after) ≡ []
       by_status Good n = refl
       by_status Joining n = cc
       by_status Down n = h.adds p
