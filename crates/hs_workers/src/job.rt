@@ -40,7 +40,8 @@ pub(crate) fn do_job<D: Disk>(
         → Has (bench_of D.size D.stands D.faults log.new disk.new) list (Some entry)) }
 
     ensures refused { (stored : List ℕ) (w : Work) → place ≡ length stored → work_of job.now ≡ Some w
-        → IfErr result (RefusesWork w log.new stored) }
+        → IfErr result (RefusesWork w (bench_of D.size D.stands D.faults log.old disk.old)
+        (bench_of D.size D.stands D.faults log.new disk.new) stored) }
     ensures later { D.faults disk.old ≤ D.faults disk.new }
     ensures ticks { watch.old ≤ watch.new }
 {
@@ -78,7 +79,8 @@ fn append_one<D: Disk>(
         → Has (bench_of D.size D.stands D.faults log.new disk.new) list (Some entry.now)) }
 
     ensures refused { (stored : List ℕ) → place ≡ length stored
-        → IfErr result (RefusesWork (work.Append number) log.new stored) }
+        → IfErr result (RefusesWork (work.Append number) (bench_of D.size D.stands D.faults log.old disk.old)
+        (bench_of D.size D.stands D.faults log.new disk.new) stored) }
     ensures later { D.faults disk.old ≤ D.faults disk.new }
     ensures ticks { watch.old ≤ watch.new }
 {
@@ -133,7 +135,8 @@ fn seal_one<D: Disk>(
         → IsInPlace D.tells (bench_of D.size D.stands D.faults log.new disk.new)) }
 
     ensures refused { (stored : List ℕ) → place ≡ length stored
-        → IfErr result (RefusesWork (work.Seal number) log.new stored) }
+        → IfErr result (RefusesWork (work.Seal number) (bench_of D.size D.stands D.faults log.old disk.old)
+        (bench_of D.size D.stands D.faults log.new disk.new) stored) }
     ensures later { D.faults disk.old ≤ D.faults disk.new }
     ensures ticks { watch.old ≤ watch.new }
 {
