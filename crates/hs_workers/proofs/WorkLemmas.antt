@@ -241,27 +241,27 @@ own_work job.Reset own = absurd (cc own)
 own_work (job.Copy from number) own = absurd (cc own)
 own_work job.Reclaim own = absurd (cc own)
 
-refused_stops : (slip : Slip) (w : Work) (b : Bench) (why : WorkFault) → slip.work ≡ Some w → RefusesWork w b.log slip.stored why → WorkStops slip b.log why
-refused_stops slip w b (fault.Core f) at not_so = absurd not_so
-refused_stops slip w b (fault.Torn place told kept) at torn = (torn.0, (w, at, torn.1))
-refused_stops slip w b fault.NoMemory at not_so = tt
+refused_stops : (tells : Type 0) (slip : Slip) (w : Work) (a b : Bench) (why : WorkFault) → slip.work ≡ Some w → RefusesWork w a b slip.stored why → WorkStops tells slip a b why
+refused_stops tells slip w a b (fault.Core f) at not_so = absurd not_so
+refused_stops tells slip w a b (fault.Torn place told kept) at torn = (torn.0, torn.1, (w, at, torn.2))
+refused_stops tells slip w a b fault.NoMemory at same = inr (same, (w, at))
 
 -- a job was not done
 pub stops_refused : (tells : Type 0) (slip : Slip) (a b : Bench) (j : Job) (why : WorkFault) → slip.work ≡ work_of j → is_own_job j ≡ true
-    → ((stored : List ℕ) (w : Work) → stored ≡ slip.stored → work_of j ≡ Some w → RefusesWork w b.log stored why) → a.faults ≤ b.faults
+    → ((stored : List ℕ) (w : Work) → stored ≡ slip.stored → work_of j ≡ Some w → RefusesWork w a b stored why) → a.faults ≤ b.faults
     → GrowsAndStops tells slip slip a b why
 stops_refused tells slip a b j why at own told later =
     let w = own_work j own in
-    record { between = a; grows = grows_none tells slip slip a refl refl refl; later = later; cause = refused_stops slip w.0 b why (at ∙ w.1) (told slip.stored w.0 refl w.1) }
+    record { between = a; grows = grows_none tells slip slip a refl refl refl; later = later; cause = refused_stops tells slip w.0 a b why (at ∙ w.1) (told slip.stored w.0 refl w.1) }
 
 -- or its report not taken
-pub stops_untaken : (tells : Type 0) (slip slip' : Slip) (a b : Bench) (d : Done) (f : CoreFault) → slip' ≡ reported d (Err f) slip → a.faults ≤ b.faults
+pub stops_untaken : (tells : Type 0) (slip slip' : Slip) (a b : Bench) (d : Done) (f : CoreFault) → slip' ≡ reported d (Err f) slip → HasDone tells a b d → a.faults ≤ b.faults
     → GrowsAndStops tells slip slip' a b (fault.Core f)
-stops_untaken tells slip slip' a b d f noted later = record {
+stops_untaken tells slip slip' a b d f noted did later = record {
   between = a;
   grows = grows_none tells slip slip' a (ap (λ (s : Slip). s.peer) noted) (ap (λ (s : Slip). s.stored) noted) (ap (λ (s : Slip). s.shown) noted);
   later = later;
-  cause = ap (λ (s : Slip). s.fault) noted;
+  cause = (ap (λ (s : Slip). s.fault) noted, inr (d, did));
 }
 
 -- ---- a peer's work
@@ -273,10 +273,10 @@ given_grows tells s t b (Err (fault.Core f)) is = grows_none tells s t b (ap (λ
 given_grows tells s t b (Err (fault.Torn place told kept)) is = absurd is
 given_grows tells s t b (Err fault.NoMemory) is = grows_none tells s t b (ap (λ (x : Slip). x.peer) is) (ap (λ (x : Slip). x.stored) is) (ap (λ (x : Slip). x.shown) is)
 
-given_stops : (s t : Slip) (b : Bench) (why : WorkFault) → GivesJob s t (Err why) → WorkStops t b.log why
-given_stops s t b (fault.Core f) is = ap (λ (x : Slip). x.fault) is
-given_stops s t b (fault.Torn place told kept) is = absurd is
-given_stops s t b fault.NoMemory is = tt
+given_stops : (tells : Type 0) (s t : Slip) (b : Bench) (why : WorkFault) → GivesJob s t (Err why) → WorkStops tells t b b why
+given_stops tells s t b (fault.Core f) is = (ap (λ (x : Slip). x.fault) is, inl refl)
+given_stops tells s t b (fault.Torn place told kept) is = absurd is
+given_stops tells s t b fault.NoMemory is = inl refl
 
 -- what a peer's work keeps on its way
 pub record Goes (tells : Type 0) (slip slip' : Slip) (a b : Bench) : Type 0 where
@@ -332,14 +332,14 @@ ends_idle tells s t u a b given goes gives is sealed =
 pub ends_waiting : (tells : Type 0) (s t u : Slip) (a b : Bench) (given : Result (Option Job) WorkFault) → Goes tells s t a b → GivesJob t u given
     → WorkEnds tells s u a b (Err fault.NoMemory)
 ends_waiting tells s t u a b given goes gives =
-    record { between = b; grows = grows_more tells s t u a b b goes.grows (given_grows tells t u b given gives); later = omega arith; cause = tt }
+    record { between = b; grows = grows_more tells s t u a b b goes.grows (given_grows tells t u b given gives); later = omega arith; cause = inl refl }
 
 -- no job was taken
 pub ends_untaken : (tells : Type 0) (s t u : Slip) (a b : Bench) (given : Result (Option Job) WorkFault) (why : WorkFault) → Goes tells s t a b → GivesJob t u given → given ≡ Err why
     → WorkEnds tells s u a b (Err why)
 ends_untaken tells s t u a b given why goes gives is =
     let gave : GivesJob t u (Err why) = subst (λ (x : Result (Option Job) WorkFault). GivesJob t u x) is gives in
-    record { between = b; grows = grows_more tells s t u a b b goes.grows (given_grows tells t u b (Err why) gave); later = omega arith; cause = given_stops t u b why gave }
+    record { between = b; grows = grows_more tells s t u a b b goes.grows (given_grows tells t u b (Err why) gave); later = omega arith; cause = given_stops tells t u b why gave }
 
 -- a job was not done, or its report not taken
 pub ends_stopped : (tells : Type 0) (s t u v : Slip) (a b c : Bench) (given : Result (Option Job) WorkFault) (why : WorkFault) → Goes tells s t a b → GivesJob t u given

@@ -54,11 +54,11 @@ IsTorn (work.Append number) log told kept = (told ≡ number) × (kept ≡ next_
 IsTorn (work.Seal number) log told kept = (told ≡ number) × (kept ≡ next_to_seal log) × (told ≢ kept)
 IsTorn (work.Read number) log told kept = ⊥
 
--- why a work was not done; what was stored before tells the place
-abbrev pub RefusesWork : Work → Keeping → List ℕ → WorkFault → Type 0
-RefusesWork w log stored (fault.Core f) = ⊥
-RefusesWork w log stored (fault.Torn place told kept) = (place ≡ length stored) × IsTorn w log told kept
-RefusesWork w log stored fault.NoMemory = ⊤
+-- why a work was not done; what was stored before tells the place. The log stays as it was, and behind a wrong number the whole bench
+abbrev pub RefusesWork : Work → Bench → Bench → List ℕ → WorkFault → Type 0
+RefusesWork w a b stored (fault.Core f) = ⊥
+RefusesWork w a b stored (fault.Torn place told kept) = (b ≡ a) × (place ≡ length stored) × IsTorn w a.log told kept
+RefusesWork w a b stored fault.NoMemory = b.log ≡ a.log
 
 -- ---- what was done
 
@@ -163,18 +163,19 @@ pub record GrowsAndFails (tells : Type 0) (slip slip' : Slip) (a b : Bench) : Ty
   pub later : between.faults ≤ b.faults
   pub cause : DiskFailed tells between b
 
--- why a peer's work stopped: of a fault that the slip has; of a number that was not the next one, in the work in hand; or for want of memory
-abbrev pub WorkStops : Slip → Keeping → WorkFault → Type 0
-WorkStops slip log (fault.Core f) = slip.fault ≡ Some f
-WorkStops slip log (fault.Torn place told kept) = (place ≡ length slip.stored) × ((w : Work) × (slip.work ≡ Some w) × IsTorn w log told kept)
-WorkStops slip log fault.NoMemory = ⊤
+-- why a peer's work stopped, and what it did since the last report that was taken: of a fault that the slip has, behind nothing or a job whose report was not taken;
+-- of a number that was not the next one, in the work in hand, behind nothing; or for want of memory, behind nothing, or with a work in hand that left the log as it was
+abbrev pub WorkStops : Type 0 → Slip → Bench → Bench → WorkFault → Type 0
+WorkStops tells slip between b (fault.Core f) = (slip.fault ≡ Some f) × ((b ≡ between) ⊎ ((d : Done) × HasDone tells between b d))
+WorkStops tells slip between b (fault.Torn place told kept) = (b ≡ between) × (place ≡ length slip.stored) × ((w : Work) × (slip.work ≡ Some w) × IsTorn w between.log told kept)
+WorkStops tells slip between b fault.NoMemory = (b ≡ between) ⊎ ((b.log ≡ between.log) × ((w : Work) × (slip.work ≡ Some w)))
 
--- a slip grew so up to a bench, and then the work stopped
+-- a slip grew so up to a bench, the one behind the last report that was taken, and then the work stopped
 pub record GrowsAndStops (tells : Type 0) (slip slip' : Slip) (a b : Bench) (why : WorkFault) : Type 0 where
   pub between : Bench
   pub grows : Grows tells slip slip' a between
   pub later : between.faults ≤ b.faults
-  pub cause : WorkStops slip' b.log why
+  pub cause : WorkStops tells slip' between b why
 
 -- how the work of a peer ends: idle with nothing unsealed, or with a 0, or with a fault
 abbrev pub WorkEnds : Type 0 → Slip → Slip → Bench → Bench → Result ⊤ WorkFault → Type 0

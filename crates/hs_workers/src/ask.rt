@@ -1,7 +1,6 @@
 //! One operation, asked and answered.
-ghost use Rattle.std.specs.Prelude.{◌≡◌, None, Some, IfOk, IfErr};
-ghost use Rattle.hs_model.specs.Judge.{asked_of};
-ghost use Rattle.hs_desk.specs.Tokens.{HasAddress, IsOfSession, begun};
+ghost use Rattle.std.specs.Prelude.{◌≡◌, None, Some};
+ghost use Rattle.hs_desk.specs.Tokens.{HasAddress, IsOfSession};
 ghost use Rattle.hs_workers.specs.Asks.{AsksOnce, HasBegun};
 
 use crate::{Shared, WorkFault};

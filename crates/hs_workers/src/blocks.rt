@@ -1,5 +1,5 @@
 //! The blocks of a load's files, and their addresses.
-ghost use Rattle.std.specs.Prelude.{◌≡◌, ◌∷◌, ◌++◌, [], ℕ, Some, map, IfOk, OnOk};
+ghost use Rattle.std.specs.Prelude.{◌≡◌, ◌++◌, [], Some, map, IfOk, OnOk};
 ghost use Rattle.std.specs.Int.{to_be_bytes, w64};
 ghost use Rattle.hs_limits.specs.Block.{spell};
 ghost use Rattle.hs_model.specs.declared.op.Op.TheVariants as op;

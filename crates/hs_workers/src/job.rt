@@ -1,12 +1,11 @@
 //! One job on the disk of a peer.
-ghost use Rattle.std.specs.Prelude.{◌≡◌, ◌≢◌, ◌≤◌, ◌<◌, ◌+◌, ℕ, List, [], length, if◌then◌else◌, Some, None, true, false, IfOk, IfErr};
+ghost use Rattle.std.specs.Prelude.{◌≡◌, ◌≤◌, ◌<◌, ℕ, List, length, if◌then◌else◌, Some, None, true, false, IfOk, IfErr};
 ghost use Rattle.hs_entry.specs.declared.entry.Entry.{Entry};
 ghost use Rattle.hs_desk.specs.Slips.{answers_one, answers_work, is_own_job, work_of};
 ghost use Rattle.hs_desk.specs.declared.job.Job.TheVariants.{Append};
 ghost use Rattle.hs_desk.specs.declared.job.Work.{Work};
 ghost use Rattle.hs_desk.specs.declared.job.Work.TheVariants as work;
-ghost use Rattle.hs_peerlog.specs.Lists.{Keeping};
-ghost use Rattle.hs_workers.specs.Work.{Has, HasDone, IsInPlace, RefusesWork, IsTorn, bench_of, is_failed, shown_of, next_to_append, next_to_seal};
+ghost use Rattle.hs_workers.specs.Work.{Has, HasDone, IsInPlace, RefusesWork, bench_of, is_failed, shown_of, next_to_append};
 
 use crate::WorkFault;
 use crate::readable::is_readable;
@@ -41,7 +40,8 @@ pub(crate) fn do_job<D: Disk>(
         → Has (bench_of D.size D.stands D.faults log.new disk.new) list (Some entry)) }
 
     ensures refused { (stored : List ℕ) (w : Work) → place ≡ length stored → work_of job.now ≡ Some w
-        → IfErr result (RefusesWork w log.new stored) }
+        → IfErr result (RefusesWork w (bench_of D.size D.stands D.faults log.old disk.old)
+        (bench_of D.size D.stands D.faults log.new disk.new) stored) }
     ensures later { D.faults disk.old ≤ D.faults disk.new }
     ensures ticks { watch.old ≤ watch.new }
 {
@@ -79,7 +79,8 @@ fn append_one<D: Disk>(
         → Has (bench_of D.size D.stands D.faults log.new disk.new) list (Some entry.now)) }
 
     ensures refused { (stored : List ℕ) → place ≡ length stored
-        → IfErr result (RefusesWork (work.Append number) log.new stored) }
+        → IfErr result (RefusesWork (work.Append number) (bench_of D.size D.stands D.faults log.old disk.old)
+        (bench_of D.size D.stands D.faults log.new disk.new) stored) }
     ensures later { D.faults disk.old ≤ D.faults disk.new }
     ensures ticks { watch.old ≤ watch.new }
 {
@@ -134,7 +135,8 @@ fn seal_one<D: Disk>(
         → IsInPlace D.tells (bench_of D.size D.stands D.faults log.new disk.new)) }
 
     ensures refused { (stored : List ℕ) → place ≡ length stored
-        → IfErr result (RefusesWork (work.Seal number) log.new stored) }
+        → IfErr result (RefusesWork (work.Seal number) (bench_of D.size D.stands D.faults log.old disk.old)
+        (bench_of D.size D.stands D.faults log.new disk.new) stored) }
     ensures later { D.faults disk.old ≤ D.faults disk.new }
     ensures ticks { watch.old ≤ watch.new }
 {

@@ -1,5 +1,5 @@
 //! One peer's work.
-ghost use Rattle.std.specs.Prelude.{◌≡◌, ◌≤◌, None, Some, true, OnOk, IfOk, IfErr};
+ghost use Rattle.std.specs.Prelude.{◌≡◌, ◌≤◌, None, Some, true, IfOk, IfErr};
 ghost use Rattle.hs_desk.specs.Slips.{answers_work, is_own_job, reported, work_of};
 ghost use Rattle.hs_workers.specs.Work.{Came, WorkEnds, GivesJob, GrowsAndStops, IsInPlace, bench_of};
 

@@ -1,5 +1,5 @@
 //! Those that work over a book in memory.
-ghost use Rattle.std.specs.Prelude.{◌≡◌, ◌++◌, All, IfOk, OnOk, codes, decimal};
+ghost use Rattle.std.specs.Prelude.{◌≡◌, ◌++◌, All, IfOk, OnOk};
 ghost use Rattle.hs_script.specs.Loads.{session_name};
 ghost use Rattle.hs_workers.specs.Elements.{CanBegin};
 

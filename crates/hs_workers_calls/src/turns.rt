@@ -1,5 +1,5 @@
 //! Peers in turn: a body that meets each contract, and that the gate test refuses.
-ghost use Rattle.std.specs.Prelude.{◌≡◌, All};
+ghost use Rattle.std.specs.Prelude.{All};
 ghost use Rattle.hs_workers.specs.Elements.{CanBegin};
 
 use crate::book::Book;

@@ -15,4 +15,4 @@ returns-in-Ok-report-clause-came g c =
     (came _ _ _ _ _ c.in-Ok.done c.in-Ok-report.ensures c.in-Ok.ensures.done c.in-Ok.ensures.in_place c.do_job.ensures.later)
 
 pub returns-clause-stops : goal.returns-clause-stops
-returns-clause-stops g c = stops_untaken _ _ _ _ _ c.in-Ok.done c.in-Err-report.fault c.in-Err-report.ensures c.do_job.ensures.later
+returns-clause-stops g c = stops_untaken _ _ _ _ _ c.in-Ok.done c.in-Err-report.fault c.in-Err-report.ensures c.in-Ok.ensures.done c.do_job.ensures.later
