@@ -1,6 +1,6 @@
 //! Workers that take turns.
 ghost use Rattle.std.specs.Prelude.{◌≡◌, true, None, IfOk};
-ghost use Rattle.hs_book.specs.Book.{Book};
+ghost use Rattle.hs_book.specs.Book as books;
 ghost use Rattle.hs_book.specs.History.{IsBook, NobodyJoins};
 ghost use Rattle.hs_desk.specs.Slips.{answers_work, is_own_job, work_of};
 ghost use Rattle.hs_desk.specs.Tokens.{HasAddress, IsOfSession};
@@ -8,10 +8,10 @@ ghost use Rattle.hs_desk.specs.Tokens.{HasAddress, IsOfSession};
 use crate::script::is_answered_as_wanted;
 use hs_book::{Book, BookPass, BookSeat, Opening, nobody_joins};
 use hs_core::Core;
-use hs_desk::{Clerk, CoreFault, Desk, Done, Job, Next};
+use hs_desk::{Clerk, CoreFault, Desk, Done, Job, Next, Seat};
 use hs_limits::Name;
 use hs_model::{Op, Reply};
-use std::alloc::Global;
+use std::alloc::{AllocError, Global};
 use std::marker::Brand;
 
 /// How many turns all workers have at most.
@@ -82,7 +82,7 @@ pub(crate) fn ask<O: Opening>(
 }
 
 /// The seats of so many peers.
-fn seats_of(alloc: Global, peers: u8) -> Result<Vec<BookSeat>, CoreFault> {
+fn seats_of(alloc: Global, peers: u8) -> Result<Vec<BookSeat>, AllocError> {
     let mut seats = Vec::new(alloc);
     for peer in 0..peers {
         seats.push(BookSeat::new(alloc, peer))?;
@@ -95,7 +95,7 @@ fn seats_of(alloc: Global, peers: u8) -> Result<Vec<BookSeat>, CoreFault> {
 pub(crate) fn driven(alloc: Global, core: Core) -> Result<(Core, bool), CoreFault>
     requires going { core.ended ≡ None }
     requires calm { NobodyJoins core }
-    ensures { IfOk result (λ r. (book : Book) × (book.core ≡ r.0) × IsBook core book) }
+    ensures { IfOk result (λ r. (book : books.Book) × (book.core ≡ r.0) × IsBook core book) }
 {
     drive::<Brand>(alloc, core)
 }
@@ -112,7 +112,7 @@ fn drive<O: Opening + Send>(alloc: Global, core: Core) -> Result<(Core, bool), C
     requires start { core ≡ O.start }
     requires going { core.ended ≡ None }
     requires calm { NobodyJoins core }
-    ensures { IfOk result (λ r. (book : Book) × (book.core ≡ r.0) × IsBook O.start book) }
+    ensures { IfOk result (λ r. (book : books.Book) × (book.core ≡ r.0) × IsBook O.start book) }
 {
     let shape = core.shape();
     let mut seats = sent(seats_of(alloc, shape.shards * shape.copies)?);

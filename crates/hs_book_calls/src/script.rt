@@ -28,6 +28,7 @@ fn key(alloc: Global) -> Result<Key, CoreFault> {
 }
 
 /// The operations that are asked, in order.
+#[derive(Clone, Copy, Debug)]
 enum Line {
     Open,
     Write,
