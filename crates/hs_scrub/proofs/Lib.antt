@@ -1,0 +1,17 @@
+mod AllLemmas
+mod CauseLemmas
+mod CopyLemmas
+mod DeltaLemmas
+mod EmptyLemmas
+mod FromLemmas
+mod GiveLemmas
+mod GivingLemmas
+mod LookLemmas
+mod MarkLemmas
+mod PeerLemmas
+mod ScrubLemmas
+mod ShardLemmas
+mod StillLemmas
+mod TakenLemmas
+mod TextExamples
+mod TextLemmas
