@@ -9,7 +9,8 @@ use hs_limits::PeerStatus;
 /// Whether no peer of a core is joining. It takes no memory.
 #[tactic(auto, using(crate::proofs::JoiningLemmas::all_are_calm, crate::proofs::JoiningLemmas::one_more_is_calm))]
 pub fn nobody_joins(core: &Core) -> bool
-    ensures { result ≡ true → NobodyJoins core.now }
+    ensures found { result ≡ true → NobodyJoins core.now }
+    ensures only { NobodyJoins core.now → result ≡ true }
 {
     let shape = core.shape();
     for peer in 0..shape.shards * shape.copies {
