@@ -5,14 +5,14 @@ ghost use Rattle.hs_ports.specs.Objects.{handed};
 ghost use Rattle.hs_promise.specs.Promise.{IsUsage};
 ghost use Rattle.hs_promise.specs.Run.{ran_of, script_of};
 ghost use Rattle.hs_run.specs.Machine.{IsOfCluster};
-ghost use Rattle.hs_run.specs.Words.{built_of};
+ghost use Rattle.hs_script.specs.CommandLine.{wanted_of};
 
 use crate::outcome::closed;
 use crate::top::run_script_on;
-use crate::words::built_of;
 use hs_block::Addresser;
 use hs_ports::{Disk, Sink, Source, Watch};
 use hs_promise::{Outcome, Status};
+use hs_wanted::wanted_of;
 use std::alloc::Global;
 
 /// Runs the script that the source has, as the words ask, on the disks of a store, one for each peer,
@@ -27,17 +27,17 @@ pub fn run_on_cluster<A: Addresser, S: Source, K: Sink, D: Disk>(
     watch: &mut Watch,
 ) -> Outcome
     // A run ends as Usage exactly where the words are outside the language, or ask for what isn't
-    // built, or the disks are not as many as they ask for.
-    ensures usage { built_of (map (λ word. string_bytes word) words.now) (length disks.old) ≡ None
+    // served, or the disks are not as many as they ask for.
+    ensures usage { wanted_of (map (λ word. string_bytes word) words.now) (length disks.old) ≡ None
         → IsUsage (ran_of result
         (handed watch.old (map (λ disk. (D.stands disk, D.faults disk)) disks.old)
         (K.got sink.old, K.faults sink.old) (S.left source.old, S.faults source.old))
         (handed watch.new (map (λ disk. (D.stands disk, D.faults disk)) disks.new)
         (K.got sink.new, K.faults sink.new) (S.left source.new, S.faults source.new))) }
     ensures only_usage { result.status ≡ Status.Usage
-        → built_of (map (λ word. string_bytes word) words.now) (length disks.old) ≡ None }
+        → wanted_of (map (λ word. string_bytes word) words.now) (length disks.old) ≡ None }
     // It is the machine's run, and what is promised of it without a word of the plain store.
-    ensures ran { IfSome (built_of (map (λ word. string_bytes word) words.now) (length disks.old)) (λ wanted.
+    ensures ran { IfSome (wanted_of (map (λ word. string_bytes word) words.now) (length disks.old)) (λ wanted.
         (commands : ℕ → Option Command) × IsOfCluster D.tells (script_of (A.name naming.now) wanted commands)
         (ran_of result
         (handed watch.old (map (λ disk. (D.stands disk, D.faults disk)) disks.old)
@@ -45,7 +45,7 @@ pub fn run_on_cluster<A: Addresser, S: Source, K: Sink, D: Disk>(
         (handed watch.new (map (λ disk. (D.stands disk, D.faults disk)) disks.new)
         (K.got sink.new, K.faults sink.new) (S.left source.new, S.faults source.new)))) }
 {
-    match built_of(words, disks.len()) {
+    match wanted_of(words, disks.len()) {
         Some((shape, limits)) => {
             run_script_on(alloc, shape, limits, naming, source, sink, disks, watch)
         }

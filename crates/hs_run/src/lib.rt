@@ -10,7 +10,6 @@ mod run;
 mod script;
 mod stop;
 mod top;
-mod words;
 
 pub use called::run_on_cluster;
 pub use top::run_script_on;
