@@ -9,8 +9,7 @@ use Rattle.hs_promise.specs.declared.status.Status.TheVariants as status
 use Rattle.hs_promise.specs.Promise.{IsUsage}
 use Rattle.hs_promise.specs.Run.{Ran, Script, script_of}
 use Rattle.hs_run.specs.Machine.{IsOfCluster}
-use Rattle.hs_run.specs.Words.{built_of}
-use Rattle.hs_script.specs.CommandLine.{Wanted}
+use Rattle.hs_script.specs.CommandLine.{Wanted, wanted_of}
 use Rattle.hs_top.specs.Calls.{IsCalled, Promised, RunsSo}
 
 -- as many disks are handed in as there are
@@ -46,20 +45,20 @@ none_there : {T : Type 0} (o : Option T) (x : T) → o ≡ None → o ≡ Some x
 none_there {T} o x none there = false≢true (ap (λ (o : Option T). is_some o) (sym none ∙ there))
 
 module _ (tells : Type 0) (name : List ℕ → Address) (words : List (List ℕ)) (disks : ℕ) (r : Ran) (same : length r.old.disks ≡ disks) where
-  pub called_of : (built_of words disks ≡ None → IsUsage r) → (r.ending ≡ status.Usage → built_of words disks ≡ None)
-      → IfSome (built_of words disks) (λ wanted. (commands : ℕ → Option Command) × IsOfCluster tells (script_of name wanted commands) r)
+  pub called_of : (wanted_of words disks ≡ None → IsUsage r) → (r.ending ≡ status.Usage → wanted_of words disks ≡ None)
+      → IfSome (wanted_of words disks) (λ wanted. (commands : ℕ → Option Command) × IsOfCluster tells (script_of name wanted commands) r)
       → ((S : Script) → S.set.name ≡ name → (r.ending ≡ status.Usage → ⊥) → IsOfCluster tells S r → Promised tells S r) → IsCalled tells name words r
   called_of usage only ran promised = record {
-    runs = subst (λ (n : ℕ). IfSome (built_of words n) (λ wanted. (commands : ℕ → Option Command) × RunsSo tells (script_of name wanted commands) r)) (sym same)
+    runs = subst (λ (n : ℕ). IfSome (wanted_of words n) (λ wanted. (commands : ℕ → Option Command) × RunsSo tells (script_of name wanted commands) r)) (sym same)
         (if_there (λ (wanted : Wanted). (commands : ℕ → Option Command) × IsOfCluster tells (script_of name wanted commands) r)
-        (λ (wanted : Wanted). (commands : ℕ → Option Command) × RunsSo tells (script_of name wanted commands) r) (built_of words disks) (built_of words disks) refl ran
-        (λ wanted built p. (
+        (λ (wanted : Wanted). (commands : ℕ → Option Command) × RunsSo tells (script_of name wanted commands) r) (wanted_of words disks) (wanted_of words disks) refl ran
+        (λ wanted asks p. (
           p.0,
           record {
-            promised = promised (script_of name wanted p.0) refl (λ is. none_there (built_of words disks) wanted (only is) built) p.1;
+            promised = promised (script_of name wanted p.0) refl (λ is. none_there (wanted_of words disks) wanted (only is) asks) p.1;
             machine = p.1;
           },
         )));
-    usage = λ none. usage (subst (λ (n : ℕ). built_of words n ≡ None) same none);
-    only_usage = λ is. subst (λ (n : ℕ). built_of words n ≡ None) (sym same) (only is);
+    usage = λ none. usage (subst (λ (n : ℕ). wanted_of words n ≡ None) same none);
+    only_usage = λ is. subst (λ (n : ℕ). wanted_of words n ≡ None) (sym same) (only is);
   }

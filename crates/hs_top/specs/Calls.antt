@@ -1,4 +1,4 @@
--- What the two calls of the program promise, for stores of one copy a shard.
+-- What the two calls of the program promise.
 use Rattle.std.specs.Prelude.{IfSome, List, None, Option, [], length, true, ℕ, ◌<◌, ◌≡◌, ◌⊎◌}
 use Rattle.hs_journal.specs.Order.{IsOrdered}
 use Rattle.hs_limits.specs.declared.address.Address.{Address}
@@ -7,7 +7,7 @@ use Rattle.hs_ports.specs.Moments.{disk_at}
 use Rattle.hs_ports.specs.Objects.{CountsStand, KeepsPast, KeepsTime}
 use Rattle.hs_promise.specs.Answers.{Prints}
 use Rattle.hs_promise.specs.Calm.{EndsCalm}
-use Rattle.hs_promise.specs.Causes.{Cause}
+use Rattle.hs_promise.specs.Causes.{Cause, CauseButLoss}
 use Rattle.hs_promise.specs.Completes.{HasPrompt}
 use Rattle.hs_promise.specs.Ends.{Ends}
 use Rattle.hs_promise.specs.Entry.{IsSoundAtEntry, MayStop, entry_store, is_aside}
@@ -19,21 +19,27 @@ use Rattle.hs_promise.specs.Stops.{Stops}
 use Rattle.hs_promise.specs.Untold.{IsGoodUntold}
 use Rattle.hs_promise.specs.declared.status.Status.TheVariants as status
 use Rattle.hs_run.specs.Machine.{IsOfCluster}
-use Rattle.hs_run.specs.Words.{built_of}
+use Rattle.hs_script.specs.CommandLine.{wanted_of}
 use Rattle.hs_side.specs.Current.{list_in}
 
 -- ---- what is promised of a run: `Promise` of hs_promise, and what stands beside it of any run
 
--- over disks that tell their contents; a peer is set aside only where its disk failed, or has no log
+-- with one copy a shard, over disks that tell their contents; a peer is set aside only where its disk failed, or has no log
 pub record PromisedWhereTold (S : Script) (r : Ran) : Type 0 where
   pub clauses : IsSoundAtEntry S r → Clauses S r
   pub stops : MayStop S r → Stops S (entry_store S r) r
   pub past : KeepsPast r.old r.new
-  pub shape : ShapeCause S r
   pub aside : (peer : ℕ) → peer < length r.old.disks → is_aside S r peer ≡ true → DiskRose r 1 peer ⊎ (list_in (disk_at r.old.disks peer).seen ≡ None)
   pub notes : NotesCause S r
 
--- all of it: what stands whatever the objects tell, and what stands where they do
+-- so far with one copy a shard: why one is lost, what notes tell, and how long a peer is good
+pub record PromisedAlone (tells : Type 0) (S : Script) (r : Ran) : Type 0 where
+  pub cause : Cause S r r.ending
+  pub good : IsGoodUntold S r
+  pub notes_end : NotesEnd r
+  pub told : tells → PromisedWhereTold S r
+
+-- all of it: what stands whatever the objects tell, and where the disks do, of any number of copies; and what stands of one
 pub record Promised (tells : Type 0) (S : Script) (r : Ran) : Type 0 where
   pub script : AreOfScript S r
   pub handed_back : length r.new.disks ≡ length r.old.disks
@@ -42,14 +48,13 @@ pub record Promised (tells : Type 0) (S : Script) (r : Ran) : Type 0 where
   pub time : KeepsTime r.old r.new
   pub counts : CountsStand r.old r.new
   pub no_load : IsNoLoad r
-  pub cause : Cause S r r.ending
+  pub cause : CauseButLoss S r r.ending
   pub calm : EndsCalm S r
-  pub good : IsGoodUntold S r
-  pub notes_end : NotesEnd r
   pub ordered : IsOrdered S.commands r.journal
   pub none_good : r.course ≡ [] → NoneGoodCause S r
   pub ends : IfSome r.old.left (λ script. IfSome r.new.left (Ends r script))
-  pub told : tells → PromisedWhereTold S r
+  pub shape : tells → ShapeCause S r
+  pub alone : S.set.shape.copies ≡ 1 → PromisedAlone tells S r
 
 -- ---- what a call promises
 
@@ -60,6 +65,6 @@ pub record RunsSo (tells : Type 0) (S : Script) (r : Ran) : Type 0 where
 
 -- the words of a call ask for a run of some commands, which goes so; or for what is not served, and then nothing was done
 pub record IsCalled (tells : Type 0) (name : List ℕ → Address) (words : List (List ℕ)) (r : Ran) : Type 0 where
-  pub runs : IfSome (built_of words (length r.old.disks)) (λ wanted. (commands : ℕ → Option Command) × RunsSo tells (script_of name wanted commands) r)
-  pub usage : built_of words (length r.old.disks) ≡ None → IsUsage r
-  pub only_usage : r.ending ≡ status.Usage → built_of words (length r.old.disks) ≡ None
+  pub runs : IfSome (wanted_of words (length r.old.disks)) (λ wanted. (commands : ℕ → Option Command) × RunsSo tells (script_of name wanted commands) r)
+  pub usage : wanted_of words (length r.old.disks) ≡ None → IsUsage r
+  pub only_usage : r.ending ≡ status.Usage → wanted_of words (length r.old.disks) ≡ None

@@ -64,9 +64,9 @@ fn run_words<A: Addresser, S: Source, K: Sink, D: Disk + Drop>(
     run_on_cluster(alloc, words, naming, source, sink, handed, watch)
 }
 
-/// Does every command but `load`, and waits for nobody. So far that is `script DIR G 1` with its
-/// options: it runs the script that the source has on the disks of a store, one for each shard, and
-/// puts what is answered into the sink. Other words are a faulty command line.
+/// Does every command but `load`, and waits for nobody. So far that is `script DIR G R` with its
+/// options: it runs the script that the source has on the disks of a store, one for each copy of each
+/// shard, and puts what is answered into the sink. Other words are a faulty command line.
 pub fn hydra_alone<A: Addresser, S: Source, K: Sink, D: Disk + Drop>(
     alloc: Global,
     words: &[String],

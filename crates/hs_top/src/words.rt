@@ -6,12 +6,12 @@ use hs_limits::Shape;
 use hs_wanted::wanted;
 
 /// The shape of the store that the words ask for. None exactly where they are outside the command
-/// language, or ask for several copies of a shard, which are not served yet.
+/// language, or ask for what is not served yet.
 pub fn shape_of(words: &[String]) -> Option<Shape>
     ensures { result ≡ shape_in (map (λ word. string_bytes word) words.now) }
 {
     match wanted(words) {
-        Some((shape, _)) => { if shape.copies == 1 { Some(shape) } else { None } }
+        Some((shape, _)) => Some(shape),
         None => None,
     }
 }
