@@ -15,19 +15,24 @@ reads. A root keeps a block under a key, and with it all that the block points
 to, block by block. A deletion gives back the space of what no root keeps and no
 session has been given lately.
 
-One command is served so far, with R 1:
+One command is served so far:
 
-  hydra script DIR G 1 [options]
+  hydra script DIR G R [options]
 
 Not served yet: load, audit, store, fetch, scrub and copy.
 
 It reads a script from standard input and prints the answers to standard output.
-G is the number of shards among which the blocks are parted: 1, 2, 4 or 8, the
-same at each run. Shard P keeps its blocks in DIR, which is made if absent, in the
-files peerP.side0 and peerP.side1. What a line did is on the disk before it is
-answered, and a later run finds what an earlier one left, wherever that one
-stopped; sessions end with their run. One run at a time has a DIR: another is told
-so on standard error.
+G is the number of shards among which the blocks are parted: 1, 2, 4 or 8. R is
+the number of copies of each: 1 to 4. Both are the same at each run. Shard S has
+the peers S*R to S*R + R - 1, one a copy. Peer P keeps it in DIR, which is made if
+absent, in the files peerP.side0 and peerP.side1: its disk. What a line did is on
+each disk in use before it is answered, and a later run finds what an earlier one
+left, wherever that one stopped; sessions end with their run. One run at a time
+has a DIR: another is told so on standard error.
+
+A shard goes on as long as one of its disks is in use. One that fails, or is no
+log of a store, is out of use, which - down P tells, until a line start P empties
+it and fills it again. Each run begins by making the disks of a shard equal.
 
 An option is a name and a number, and lowers a limit of the run: each at most
 once, in any order, with a number from 1 to the greatest, which is the limit
@@ -38,7 +43,7 @@ where the option is not given:
   --roots N     roots of a shard; 4096
   --sessions N  sessions that are open; 64
   --handles N   handles that a session holds; 4096
-  --pool N      messages under way between shards; from 16 on; 65536
+  --pool N      messages under way between peers; from 16 on; 65536
   --epochs N    the last epoch, at which no deletion begins; 281474976710655
 
 The lines of a script, each ended by a line feed:
@@ -66,12 +71,13 @@ A write, a read, a root, a drop and a deletion wait for the disks, which work at
 gets `no busy`. These lines have the disks do single things, for who wants to see
 them in another order:
 
-  turn P           shard P does its next job, or takes its oldest message
-  nudge P          shard P sends again what may have been lost
+  turn P           peer P does its next job, or takes its oldest message
+  nudge P          peer P sends again what may have been lost
   deliver K, lose K, repeat K
                    message K comes now, is lost, or is sent once more
-  fail P           shard P fails, and with its only copy the run ends
-  start P          a failed shard joins again; with its only copy none is there
+  fail P           peer P fails, and with the last one of its shard the run ends
+  start P          a failed peer joins again: its disk is emptied, and filled from
+                   that of another one of its shard, at settle
 
 An answer begins with the number of the line that asked, or with - where none
 did: ok, new for a block that was not there, dup for one that was, bytes for its
@@ -96,12 +102,13 @@ wrong with the line of a script.
    0  the script was read to its end
    2  the words are not those of a command
    3  a line is not in the script language; the lines before it were run
-   4  a disk failed or is no log of a store, or another run has DIR; the line
-      - down P stands in the output, unless a line of the script had it fail
+   4  a shard has no peer left: each of its disks failed or is no log of a store,
+      or another run has DIR; the line - down P stands in the output for each,
+      unless a line of the script had it fail
    5  the input could not be read
    6  the output could not be written
    7  out of memory
-   8  a disk is of another store, or of another G; nothing was written to any
+   8  a disk is of another store, or of another G or R; nothing was written to any
   10  the run has as many answers as --ops allows, and one more was due
   13  the input is too long
  126  of the launcher bin/hydra: the program could not be proved or built
@@ -110,6 +117,8 @@ wrong with the line of a script.
 
 A damaged disk: a log has no checksum. A bit that flips in a block's data is found
 only where the block is compared with one that is written; until then reads give
-the changed data. One in a gate hides what is behind it. Copies of a shard and the
-scrub are the answer to that, from the steps on that build them.
+the changed data. One in a gate hides what is behind it. With several copies each
+run begins by making those equal that differ, and takes the longest list of the
+latest run: it can't tell which one is damaged. The scrub is the answer to that,
+from the step on that builds it.
 ";
