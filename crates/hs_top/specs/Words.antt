@@ -1,12 +1,28 @@
 -- What the words of the command line ask for.
-use Rattle.std.specs.Option.{option_map}
-use Rattle.std.specs.Prelude.{Bool, List, Option, [], bytes_eq, codes, false, ℕ, ◌∷◌}
+use Rattle.std.specs.Option.{option_and_then, option_map}
+use Rattle.std.specs.Prelude.{Bool, List, None, Option, Some, [], bytes_eq, codes, false, if◌then◌else◌, true, ℕ, ◌∷◌}
 use Rattle.hs_limits.specs.declared.shape.Shape.{Shape}
-use Rattle.hs_script.specs.CommandLine.{wanted}
+use Rattle.hs_script.specs.CommandLine.{invocation_of, invocation_on}
+use Rattle.hs_script.specs.declared.invocation.Invocation.{Invocation}
+use Rattle.hs_script.specs.declared.invocation.Task.{Task}
+use Rattle.hs_script.specs.declared.invocation.Task.TheVariants as task
 
--- the shape that they ask for
+-- what is served so far: a script without --visits and --cache, an audit
+abbrev pub is_served : Task → Bool
+is_served (task.Script limits None None) = true
+is_served task.Audit = true
+is_served other = false
+
+abbrev pub where_served : Invocation → Option Invocation
+where_served asked = if is_served asked.task then Some asked else None
+
+-- what they ask for, where it is served and is run on so many disks
+abbrev pub served_on : List (List ℕ) → ℕ → Option Invocation
+served_on words disks = option_and_then where_served (invocation_on words disks)
+
+-- the shape of the store that they ask for, where it is served
 abbrev pub shape_in : List (List ℕ) → Option Shape
-shape_in words = option_map (λ w. w.shape) (wanted words)
+shape_in words = option_map (λ asked. asked.shape) (option_and_then where_served (invocation_of words))
 
 -- the first word is `load`
 abbrev pub is_load : List (List ℕ) → Bool

@@ -1,18 +1,67 @@
 //! The words of the command line.
-ghost use Rattle.std.specs.Prelude.{◌≡◌, map, string_bytes};
-ghost use Rattle.hs_top.specs.Words.{is_load, shape_in};
+ghost use Rattle.std.specs.Prelude.{◌≡◌, IfSome, map, string_bytes};
+ghost use Rattle.hs_script.specs.CommandLine.{disks_of};
+ghost use Rattle.hs_top.specs.Words.{is_load, is_served, served_on, shape_in, where_served};
+ghost use Rattle.hs_wanted.specs.Asked.{IsInvocation};
 
 use hs_limits::Shape;
-use hs_wanted::wanted;
+use hs_script::{Invocation, Task};
+use hs_wanted::{invocation_of, invocation_on};
 
 /// The shape of the store that the words ask for. None exactly where they are outside the command
 /// language, or ask for what is not served yet.
 pub fn shape_of(words: &[String]) -> Option<Shape>
     ensures { result ≡ shape_in (map (λ word. string_bytes word) words.now) }
 {
-    match wanted(words) {
-        Some((shape, _)) => Some(shape),
+    match where_served(invocation_of(words)) {
+        Some(asked) => Some(asked.shape),
         None => None,
+    }
+}
+
+/// What the words ask for on so many disks, where it is served.
+pub(crate) fn served_on<'a>(words: &'a [String], disks: usize) -> Option<Invocation<'a>>
+    ensures exact { result ≡ served_on (map (λ word. string_bytes word) words.now) disks }
+    ensures bounds { IfSome result IsInvocation }
+    ensures count { IfSome result (λ asked. disks ≡ disks_of asked) }
+    ensures served { IfSome result (λ asked. is_served asked.task ≡ true) }
+{
+    where_served(invocation_on(words, disks))
+}
+
+/// What is asked for, where it is served.
+fn where_served<'a>(asked: Option<Invocation<'a>>) -> Option<Invocation<'a>>
+    ensures { result ≡ option_and_then where_served asked }
+{
+    match asked {
+        Some(asked) => {
+            if is_served(&asked.task) {
+                Some(asked)
+            } else {
+                None
+            }
+        }
+        None => None,
+    }
+}
+
+/// Whether what is asked for is served so far.
+fn is_served(task: &Task<'_>) -> bool
+    ensures { result ≡ is_served task.now }
+{
+    match task {
+        Task::Script {
+            limits: _,
+            visits: None,
+            cache: None,
+        }
+        | Task::Audit => true,
+        Task::Script { .. }
+        | Task::Load { .. }
+        | Task::Store { .. }
+        | Task::Fetch { .. }
+        | Task::Scrub { .. }
+        | Task::Copy { .. } => false,
     }
 }
 

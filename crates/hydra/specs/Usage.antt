@@ -17,7 +17,6 @@ later_option words =
 unfoldable pub later_command : List ℕ → Option Later
 later_command command =
     if bytes_eq command (codes "load") then Some later.Load
-    else if bytes_eq command (codes "audit") then Some later.Audit
     else if bytes_eq command (codes "store") then Some later.Store
     else if bytes_eq command (codes "fetch") then Some later.Fetch
     else if bytes_eq command (codes "scrub") then Some later.Scrub
@@ -37,7 +36,6 @@ later_in other = None
 abbrev pub later_text : Option Later → List ℕ
 later_text None = codes "hydra: see hydra --help\n"
 later_text (Some later.Load) = codes "hydra: load is not served yet: see hydra --help\n"
-later_text (Some later.Audit) = codes "hydra: audit is not served yet: see hydra --help\n"
 later_text (Some later.Store) = codes "hydra: store is not served yet: see hydra --help\n"
 later_text (Some later.Fetch) = codes "hydra: fetch is not served yet: see hydra --help\n"
 later_text (Some later.Scrub) = codes "hydra: scrub is not served yet: see hydra --help\n"

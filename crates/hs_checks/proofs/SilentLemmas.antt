@@ -1,0 +1,41 @@
+-- Runs that run no script: their time, and the counts of their disks.
+use Rattle.std.proofs.Common.{◌≡◌, ◌∙◌, inl, inr, ap, sym, subst, refl, ℕ, zero, suc, ◌<◌, ◌≤◌, List, [], ◌∷◌, Option, length, arith}
+use Rattle.std.proofs.lemmas.Nat.{lt_or_ge}
+use Rattle.hs_cluster.specs.Counts.{NoneFalls}
+use Rattle.hs_ports.specs.Objects.{CountsStand, KeepsTime, Objects}
+use Rattle.hs_run.proofs.DisksLemmas.{falls_is}
+use Rattle.hs_run.proofs.PrintedLemmas.{stamped_both, stamped_none, stamped_on}
+use Rattle.hs_run.specs.Machine.{AreHanded}
+use Rattle.hs_run.specs.Puts.{IsStamped}
+use Rattle.hs_taking.specs.Disks.{DiskSeen, seen_at}
+
+-- past the last disk nothing has failed
+none_there : (disks : List DiskSeen) (k : ℕ) → length disks ≤ k → (seen_at disks k).faults ≡ 0
+none_there [] k h = refl
+none_there (d ∷ disks) zero h = absurd (omega (arith, h))
+none_there (d ∷ disks) (suc k) h = none_there disks k (omega (arith, h))
+
+-- no count falls, where none of a disk does that is there
+pub none_falls : (old new : List DiskSeen) → ((k : ℕ) → k < length old → (seen_at old k).faults ≤ (seen_at new k).faults) → NoneFalls old new
+none_falls old new each k = elim (lt_or_ge k (length old)) [
+  | inl low ↦ each k low
+  | inr high ↦
+      let none = none_there old k high in
+      omega (arith, none)
+]
+
+pub counts_of : (old new : Objects) (disks left : List DiskSeen) → AreHanded old disks → AreHanded new left → ((k : ℕ) → k < length disks → (seen_at disks k).faults ≤ (seen_at left k).faults)
+    → old.sink_faults ≤ new.sink_faults → old.source_faults ≤ new.source_faults → CountsStand old new
+counts_of old new disks left was is each sink source = record { disks = falls_is old new disks left was is (none_falls disks left each); sink = sink; source = source }
+
+-- nothing was put
+pub time_without : (old new : Objects) → old.moment ≤ new.moment → new.got ≡ old.got → KeepsTime old new
+time_without old new later same =
+    let none : IsStamped old.moment new.moment old.got new.got = subst (λ (got : Option (List (ℕ × ℕ))). IsStamped old.moment new.moment old.got got) (sym same) (stamped_on old.moment old.moment new.moment old.got old.got later (stamped_none old.moment old.got)) in
+    record { later = later; puts = record { more = none.more; put = none.put; stamped = none.stamped } }
+
+-- all was put from a moment on
+pub time_with : (old new : Objects) (mid : ℕ) → old.moment ≤ mid → mid ≤ new.moment → IsStamped mid new.moment old.got new.got → KeepsTime old new
+time_with old new mid first then stamped =
+    let all : IsStamped old.moment new.moment old.got new.got = stamped_both old.moment mid mid new.moment old.got old.got new.got first then (stamped_on old.moment old.moment mid old.got old.got first (stamped_none old.moment old.got)) stamped in
+    record { later = omega (arith, first, then); puts = record { more = all.more; put = all.put; stamped = all.stamped } }
