@@ -1,6 +1,5 @@
 -- Runs that run no script: their time, and the counts of their disks.
-use Rattle.std.proofs.Common.{◌≡◌, ◌∙◌, inl, inr, ap, sym, subst, refl, ℕ, zero, suc, ◌<◌, ◌≤◌, List, [], ◌∷◌, Option, length, arith}
-use Rattle.std.proofs.lemmas.Nat.{lt_or_ge}
+use Rattle.std.proofs.Common.{◌≡◌, sym, subst, ℕ, zero, suc, ◌<◌, ◌≤◌, List, [], ◌∷◌, Option, length, arith}
 use Rattle.hs_cluster.specs.Counts.{NoneFalls}
 use Rattle.hs_ports.specs.Objects.{CountsStand, KeepsTime, Objects}
 use Rattle.hs_run.proofs.DisksLemmas.{falls_is}
@@ -9,20 +8,12 @@ use Rattle.hs_run.specs.Machine.{AreHanded}
 use Rattle.hs_run.specs.Puts.{IsStamped}
 use Rattle.hs_taking.specs.Disks.{DiskSeen, seen_at}
 
--- past the last disk nothing has failed
-none_there : (disks : List DiskSeen) (k : ℕ) → length disks ≤ k → (seen_at disks k).faults ≡ 0
-none_there [] k h = refl
-none_there (d ∷ disks) zero h = absurd (omega (arith, h))
-none_there (d ∷ disks) (suc k) h = none_there disks k (omega (arith, h))
-
 -- no count falls, where none of a disk does that is there
 pub none_falls : (old new : List DiskSeen) → ((k : ℕ) → k < length old → (seen_at old k).faults ≤ (seen_at new k).faults) → NoneFalls old new
-none_falls old new each k = elim (lt_or_ge k (length old)) [
-  | inl low ↦ each k low
-  | inr high ↦
-      let none = none_there old k high in
-      omega (arith, none)
-]
+none_falls [] new each k = omega arith
+none_falls (d ∷ old) new each zero = each 0 (omega arith)
+none_falls (d ∷ old) [] each (suc k) = none_falls old [] (λ j low. each (suc j) (omega (arith, low))) k
+none_falls (d ∷ old) (e ∷ new) each (suc k) = none_falls old new (λ j low. each (suc j) (omega (arith, low))) k
 
 pub counts_of : (old new : Objects) (disks left : List DiskSeen) → AreHanded old disks → AreHanded new left → ((k : ℕ) → k < length disks → (seen_at disks k).faults ≤ (seen_at left k).faults)
     → old.sink_faults ≤ new.sink_faults → old.source_faults ≤ new.source_faults → CountsStand old new

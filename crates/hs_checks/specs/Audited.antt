@@ -1,6 +1,8 @@
 -- What the command `audit` promises.
 use Rattle.std.specs.Prelude.{List, [], length, ℕ, ◌<◌, ◌≡◌, ◌⊎◌}
 use Rattle.hs_audit.specs.Audited.{Audits, CanBeAudited, IsLostShard}
+use Rattle.hs_audit.specs.declared.fault.AuditFault.{AuditFault}
+use Rattle.hs_audit.specs.declared.fault.AuditFault.TheVariants as fault
 use Rattle.hs_fold.specs.Shards.Setting.{Setting}
 use Rattle.hs_limits.specs.Limits.{greatest_limits}
 use Rattle.hs_limits.specs.declared.address.Address.{Address}
@@ -15,6 +17,12 @@ use Rattle.hs_run.specs.Machine.{AreHanded}
 use Rattle.hs_taking.specs.Disks.{DiskSeen, seen_at}
 use Rattle.hs_taking.specs.Viewed.{IsFirstOther, IsOnlyRead}
 use Rattle.hs_checks.specs.Silent.{RunsNoScript}
+
+-- how it ends where an audit can't be given
+abbrev pub audit_status : AuditFault → Status
+audit_status (fault.WrongShape peer found) = status.WrongShape peer found
+audit_status (fault.ShardLost shard) = status.ShardLost shard
+audit_status fault.NoMemory = status.NoMemory
 
 -- a text of the store was put, whole
 pub record PutsAudit (tells : Type 0) (set : Setting) (old new : List DiskSeen) (r : Ran) : Type 0 where

@@ -1,6 +1,6 @@
 //! The command `audit`.
-ghost use Rattle.std.specs.Prelude.{◌≡◌, ◌*◌, ◌×◌, ℕ, List, Option, length, map};
-ghost use Rattle.hs_checks.specs.Audited.{IsAudited};
+ghost use Rattle.std.specs.Prelude.{◌≡◌, ◌*◌, ℕ, List, Option, length, map};
+ghost use Rattle.hs_checks.specs.Audited.{IsAudited, audit_status};
 ghost use Rattle.hs_limits.specs.Shape.{IsShape};
 ghost use Rattle.hs_ports.specs.Objects.{handed};
 ghost use Rattle.hs_promise.specs.Run.{ran_of};

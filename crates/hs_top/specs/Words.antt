@@ -7,10 +7,11 @@ use Rattle.hs_script.specs.declared.invocation.Invocation.{Invocation}
 use Rattle.hs_script.specs.declared.invocation.Task.{Task}
 use Rattle.hs_script.specs.declared.invocation.Task.TheVariants as task
 
--- what is served so far: a script without --visits and --cache, an audit
+-- what is served so far: a script without --visits and --cache, an audit, a scrub without --from
 abbrev pub is_served : Task → Bool
 is_served (task.Script limits None None) = true
 is_served task.Audit = true
+is_served (task.Scrub None) = true
 is_served other = false
 
 abbrev pub where_served : Invocation → Option Invocation

@@ -9,7 +9,7 @@ ghost use Rattle.hs_top.specs.Words.{is_load, is_served};
 
 use crate::words::served_on;
 use hs_block::Addresser;
-use hs_checks::run_audit;
+use hs_checks::{run_audit, run_scrub};
 use hs_clauses::{
     a_run_is_answered, a_run_keeps, a_run_may_stop, a_run_stands, what_is_read_is_sealed,
 };
@@ -101,11 +101,12 @@ fn do_task<A: Addresser, S: Source, K: Sink, D: Disk>(
             run_script(alloc, shape, *limits, naming, source, sink, disks, watch)
         }
         Task::Audit => run_audit(alloc, naming, shape, sink, disks, watch),
-        Task::Load { .. }
-        | Task::Store { .. }
-        | Task::Fetch { .. }
-        | Task::Scrub { .. }
-        | Task::Copy { .. } => closed(alloc, Status::Usage, 0),
+        Task::Scrub { .. } => run_scrub(alloc, shape, sink, disks, watch),
+        Task::Load { .. } | Task::Store { .. } | Task::Fetch { .. } | Task::Copy { .. } => closed(
+            alloc,
+            Status::Usage,
+            0,
+        ),
     }
 }
 
@@ -129,7 +130,16 @@ fn run_words<A: Addresser, S: Source, K: Sink, D: Disk + Drop>(
     match served_on(words, disks.len()) {
         Some(asked) => {
             let handed = disks.as_mut_slice();
-            do_task(alloc, asked.shape, &asked.task, naming, source, sink, handed, watch)
+            do_task(
+                alloc,
+                asked.shape,
+                &asked.task,
+                naming,
+                source,
+                sink,
+                handed,
+                watch,
+            )
         }
         None => closed(alloc, Status::Usage, 0),
     }
@@ -137,8 +147,9 @@ fn run_words<A: Addresser, S: Source, K: Sink, D: Disk + Drop>(
 
 /// Does every command but `load`, and waits for nobody. So far these are `script DIR G R` with its
 /// options, which runs the script that the source has on the disks of a store, one for each peer, and
-/// puts what is answered into the sink; and `audit DIR G R`, which puts there what the logs of a store
-/// amount to. Other words are a faulty command line.
+/// puts what is answered into the sink; `audit DIR G R`, which puts there what the logs of a store
+/// amount to; and `scrub DIR G R`, which puts there whether the copies of each shard agree. Other words
+/// are a faulty command line.
 pub fn hydra_alone<A: Addresser, S: Source, K: Sink, D: Disk + Drop>(
     alloc: Global,
     words: &[String],

@@ -1,7 +1,7 @@
 //! The words of the command line.
-ghost use Rattle.std.specs.Prelude.{◌≡◌, IfSome, map, string_bytes};
+ghost use Rattle.std.specs.Prelude.{◌≡◌, IfSome, map, string_bytes, true};
 ghost use Rattle.hs_script.specs.CommandLine.{disks_of};
-ghost use Rattle.hs_top.specs.Words.{is_load, is_served, served_on, shape_in, where_served};
+ghost use Rattle.hs_top.specs.Words.{is_load, is_served, served_on, shape_in};
 ghost use Rattle.hs_wanted.specs.Asked.{IsInvocation};
 
 use hs_limits::Shape;
@@ -13,9 +13,11 @@ use hs_wanted::{invocation_of, invocation_on};
 pub fn shape_of(words: &[String]) -> Option<Shape>
     ensures { result ≡ shape_in (map (λ word. string_bytes word) words.now) }
 {
-    match where_served(invocation_of(words)) {
-        Some(asked) => Some(asked.shape),
-        None => None,
+    let asked = invocation_of(words)?;
+    if is_served(&asked.task) {
+        Some(asked.shape)
+    } else {
+        None
     }
 }
 
@@ -26,22 +28,11 @@ pub(crate) fn served_on<'a>(words: &'a [String], disks: usize) -> Option<Invocat
     ensures count { IfSome result (λ asked. disks ≡ disks_of asked) }
     ensures served { IfSome result (λ asked. is_served asked.task ≡ true) }
 {
-    where_served(invocation_on(words, disks))
-}
-
-/// What is asked for, where it is served.
-fn where_served<'a>(asked: Option<Invocation<'a>>) -> Option<Invocation<'a>>
-    ensures { result ≡ option_and_then where_served asked }
-{
-    match asked {
-        Some(asked) => {
-            if is_served(&asked.task) {
-                Some(asked)
-            } else {
-                None
-            }
-        }
-        None => None,
+    let asked = invocation_on(words, disks)?;
+    if is_served(&asked.task) {
+        Some(asked)
+    } else {
+        None
     }
 }
 
@@ -55,7 +46,8 @@ fn is_served(task: &Task<'_>) -> bool
             visits: None,
             cache: None,
         }
-        | Task::Audit => true,
+        | Task::Audit
+        | Task::Scrub { from: None } => true,
         Task::Script { .. }
         | Task::Load { .. }
         | Task::Store { .. }

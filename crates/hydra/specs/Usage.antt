@@ -19,13 +19,19 @@ later_command command =
     if bytes_eq command (codes "load") then Some later.Load
     else if bytes_eq command (codes "store") then Some later.Store
     else if bytes_eq command (codes "fetch") then Some later.Fetch
-    else if bytes_eq command (codes "scrub") then Some later.Scrub
     else if bytes_eq command (codes "copy") then Some later.Copy
     else None
 
--- the first of these that a later step serves: the command, or an option of a script
+-- the option of a scrub that a later step serves
+unfoldable pub later_scrub : List (List ℕ) → Option Later
+later_scrub words = if list_any (λ word. bytes_eq word (codes "--from")) words then Some later.From else None
+
+-- the first of these that a later step serves: the command, or an option of a scrub or of a script
 unfoldable pub later_part : List ℕ → List (List ℕ) → Option Later
-later_part command options = if not (bytes_eq command (codes "script")) then later_command command else later_option options
+later_part command options =
+    if bytes_eq command (codes "scrub") then later_scrub options
+    else if not (bytes_eq command (codes "script")) then later_command command
+    else later_option options
 
 -- the first part of the words that a later step serves
 abbrev pub later_in : List (List ℕ) → Option Later
@@ -38,7 +44,7 @@ later_text None = codes "hydra: see hydra --help\n"
 later_text (Some later.Load) = codes "hydra: load is not served yet: see hydra --help\n"
 later_text (Some later.Store) = codes "hydra: store is not served yet: see hydra --help\n"
 later_text (Some later.Fetch) = codes "hydra: fetch is not served yet: see hydra --help\n"
-later_text (Some later.Scrub) = codes "hydra: scrub is not served yet: see hydra --help\n"
+later_text (Some later.From) = codes "hydra: scrub with --from is not served yet: see hydra --help\n"
 later_text (Some later.Copy) = codes "hydra: copy is not served yet: see hydra --help\n"
 later_text (Some later.Visits) = codes "hydra: --visits is not served yet: see hydra --help\n"
 later_text (Some later.Cache) = codes "hydra: --cache is not served yet: see hydra --help\n"

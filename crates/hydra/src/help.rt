@@ -15,13 +15,15 @@ reads. A root keeps a block under a key, and with it all that the block points
 to, block by block. A deletion gives back the space of what no root keeps and no
 session has been given lately.
 
-One command is served so far:
+Three commands are served so far:
 
   hydra script DIR G R [options]
+  hydra audit DIR G R
+  hydra scrub DIR G R
 
-Not served yet: load, audit, store, fetch, scrub and copy.
+Not served yet: load, store, fetch and copy, and scrub with its option --from.
 
-It reads a script from standard input and prints the answers to standard output.
+A script is read from standard input, and the answers go to standard output.
 G is the number of shards among which the blocks are parted: 1, 2, 4 or 8. R is
 the number of copies of each: 1 to 4. Both are the same at each run. Shard S has
 the peers S*R to S*R + R - 1, one a copy. Peer P keeps it in DIR, which is made if
@@ -34,9 +36,22 @@ A shard goes on as long as one of its disks is in use. One that fails, or is no
 log of a store, is out of use, which - down P tells, until a line start P empties
 it and fills it again. Each run begins by making the disks of a shard equal.
 
-An option is a name and a number, and lowers a limit of the run: each at most
-once, in any order, with a number from 1 to the greatest, which is the limit
-where the option is not given:
+An audit reads the files and writes none. It prints a line for each shard: its
+epoch, the last one that it swept, its blocks, its roots, and how many blocks its
+next deletion would give back; for each block that a root needs and that is not
+there a line `missing` with its address; and then `audit ok`, or `audit bad` and
+how many are missing. R is the number of copies of a shard, 1 to 4; of several
+the one is taken that a run would open with.
+
+A scrub reads the files and writes none. It prints for each copy, by its number,
+whether it is the same as the one of its shard that a run would open with: `same`,
+`behind` where it only lacks the end, `differs` from an entry on, `nolog` where it
+can't be read from a byte on, or `fault` where a call failed; and then `scrub ok`,
+or `scrub bad` and how many are not the same.
+
+An option of a script is a name and a number, and lowers a limit of the run: each
+at most once, in any order, with a number from 1 to the greatest, which is the
+limit where the option is not given:
 
   --ops N       answers of the run; the greatest is 1048576
   --blocks N    blocks of a shard; 16384
@@ -99,7 +114,8 @@ Exit statuses. Each but 0 has its line on standard error, and before it may stan
 another: the file that failed and why, which word is not served yet, or what is
 wrong with the line of a script.
 
-   0  the script was read to its end
+   0  the script was read to its end; or an audit or a scrub was printed, whatever
+      it says
    2  the words are not those of a command
    3  a line is not in the script language; the lines before it were run
    4  a shard has no peer left: each of its disks failed or is no log of a store,
@@ -115,10 +131,11 @@ wrong with the line of a script.
  127  of the launcher: the command rt of the Rattle kit is not on the path
  130  of the launcher: the building was interrupted
 
-A damaged disk: a log has no checksum. A bit that flips in a block's data is found
-only where the block is compared with one that is written; until then reads give
-the changed data. One in a gate hides what is behind it. With several copies each
-run begins by making those equal that differ, and takes the longest list of the
-latest run: it can't tell which one is damaged. The scrub is the answer to that,
-from the step on that builds it.
+A damaged disk: a log has no checksum. A bit that flips in a block's data gives
+the block another address at the next opening: a read of the old one has no data,
+and two deletions remove the block, until an audit tells what is missing. A bit
+that flips in a gate hides what is behind it in the log. With several copies each
+script begins by making those equal that differ, and takes the longest list of the
+latest run: it can't tell which one is damaged. A scrub before it tells of each
+whether it is that one.
 ";
