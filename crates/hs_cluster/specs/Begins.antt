@@ -11,6 +11,7 @@ use Rattle.hs_core_words.specs.Opening.{Taken as Opened, open_core}
 use Rattle.hs_events.specs.Due.{Events, MomentsRise, is_walk, next_turn}
 use Rattle.hs_fold.specs.Shards.Setting.{Setting}
 use Rattle.hs_limits.specs.declared.shape.Shape.{Shape}
+use Rattle.hs_limits.specs.Shape.{IsShape}
 use Rattle.hs_members.specs.Members.{all_peers, home_of}
 use Rattle.hs_model.specs.declared.course.CourseItem.{CourseItem}
 use Rattle.hs_model.specs.declared.course.CourseItem.TheVariants as item
@@ -18,12 +19,12 @@ use Rattle.hs_peerlog.specs.declared.fault.LogFault.TheVariants as log
 use Rattle.hs_peerlog.specs.Opening.{refusal_in}
 use Rattle.hs_ports.specs.Fault.{HasRisen}
 use Rattle.hs_side.specs.declared.header.Header.{Header}
+use Rattle.hs_taking.specs.Copies.{HasEvened}
 use Rattle.hs_taking.specs.declared.fault.TakeFault.{TakeFault}
 use Rattle.hs_taking.specs.declared.fault.TakeFault.TheVariants as take
 use Rattle.hs_taking.specs.declared.shares.Share.{Share}
 use Rattle.hs_taking.specs.Disks.{DiskSeen, log_at, seen_at}
 use Rattle.hs_taking.specs.Shares.{Span, Taken}
-use Rattle.hs_taking.specs.Store.{HasRead}
 use Rattle.hs_taking.specs.Viewed.{IsFirstOther}
 
 -- ---- faults
@@ -72,7 +73,8 @@ begun_course shape entry opened taken =
 -- the core over what was taken, when all of it was
 pub record Begins (tells : Type 0) (set : Setting) (span : Span) (cluster : Running) : Type 0 where
   pub taken : Taken
-  pub read : HasRead tells set span taken
+  pub shape : IsShape set.shape
+  pub read : HasEvened tells set span taken
   pub shares : length taken.shares ≡ set.shape.shards
   pub own : tells → (peer : ℕ) (found : Header) → peer < length span.old → refusal_in set.shape peer (seen_at span.old peer).stands.seen ≡ Some (log.WrongShape found)
       → HasRisen (seen_at span.old peer).faults (seen_at span.new peer).faults

@@ -48,7 +48,8 @@ pub record IsLeftBehind (set : Setting) (found : Found) (peer : ℕ) : Type 0 wh
 -- good, kept: it is good where its log is in use; its disk had a log then
 -- aside: of any other the disk failed, or had no log, or the taken log of its shard was lost
 -- calm: no call on a good peer's disk failed
--- log, reads: a log that is in use has the list that its shard opens with, right before the first turn; reads of the disk give it, whatever a stop leaves
+-- log: a log that is in use has the list that its shard opens with, right before the first turn, whatever a stop leaves
+-- reads: with one copy a shard, reads of the disk give it, however the disk was
 -- past: what is past of its disk stays
 -- disk: with one copy a shard, the calls on its disk leave its list as it is, at each moment
 pub record IsFound (tells : Type 0) (set : Setting) (span : Span) (found : Found) (logs : List (Option Keeping)) (peer : ℕ) : Type 0 where
@@ -60,7 +61,7 @@ pub record IsFound (tells : Type 0) (set : Setting) (span : Span) (found : Found
   pub calm : starts_good found peer ≡ true → (seen_at span.new peer).faults ≡ (seen_at span.old peer).faults
   pub log : tells → (seen_at span.old peer).stands.last ≤ span.before → (keeping : Keeping) → log_at logs peer ≡ Some keeping
       → HasLog keeping (seen_at span.new peer).stands (opened_list set found (home_of set.shape peer)) None
-  pub reads : tells → (keeping : Keeping) → log_at logs peer ≡ Some keeping
+  pub reads : set.shape.copies ≡ 1 → tells → (keeping : Keeping) → log_at logs peer ≡ Some keeping
       → IsKept keeping ((seen_at span.new peer).stands.seen keeping.log.side) (opened_list set found (home_of set.shape peer)) None
   pub past : tells → (seen_at span.old peer).stands.last ≤ span.before → PastStays span.before span.now (seen_at span.old peer).stands (seen_at span.new peer).stands
   pub disk : set.shape.copies ≡ 1 → KeepsDisk tells span.before span.now (seen_at span.old peer) (seen_at span.new peer)
