@@ -59,18 +59,15 @@ pub above_or_least : (rank : Rank) → (outranks rank (rank_of []) ≡ true) ⊎
 unfolding rank_of
 above_or_least rank = by rank.view rank.number refl refl
   where
+    above : (a b : ℕ) → (0 < a) ⊎ (0 < b) → (nat_lt 0 a || (a == 0 && nat_lt 0 b)) ≡ true
+    above zero zero h = elim h [ inl low ↦ absurd (omega (arith, low)) | inr low ↦ absurd (omega (arith, low)) ]
+    above (suc a) b h = refl
+    above zero (suc b) h = refl
+
     by : (view number : ℕ) → rank.view ≡ view → rank.number ≡ number → (outranks rank (record { view = 0; number = 0 }) ≡ true) ⊎ (rank ≡ record { view = 0; number = 0 })
     by zero zero v n = inr (λ i. record { view = v i; number = n i })
     by (suc view) number v n = inl (above rank.view rank.number (inl (omega (arith, v))))
-      where
-        above : (a b : ℕ) → (0 < a) ⊎ (0 < b) → (nat_lt 0 a || (a == 0 && nat_lt 0 b)) ≡ true
-        above zero zero h = elim h [ inl low ↦ absurd (omega (arith, low)) | inr low ↦ absurd (omega (arith, low)) ]
-        above (suc a) b h = refl
-        above zero (suc b) h = refl
-    by zero (suc number) v n = inl (above rank.view rank.number (omega (arith, v)) (omega (arith, n)))
-      where
-        above : (a b : ℕ) → a ≡ 0 → 0 < b → (nat_lt 0 a || (a == 0 && nat_lt 0 b)) ≡ true
-        above a b is low = grind (arith, nat_tests, is, low)
+    by zero (suc number) v n = inl (above rank.view rank.number (inr (omega (arith, n))))
 
 -- ---- the list of greatest rank
 
