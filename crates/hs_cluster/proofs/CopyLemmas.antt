@@ -1,12 +1,18 @@
 -- A job that needs the log of its peer, and maybe that of another: what it leaves of the logs and the disks of all.
 use Rattle.std.proofs.Common.{◌≡◌, ◌≢◌, ◌∙◌, ◌⊎◌, inl, inr, ap, sym, subst, ℕ, zero, suc, ◌+◌, ◌<◌, ◌≤◌, Bool, true, false, List, [], ◌∷◌, Option, Some, None, map, length, refl, arith}
-use Rattle.std.proofs.lemmas.Bool.{cases_eq}
+use Rattle.std.proofs.lemmas.Bool.{cases_eq, eq-eqb}
 use Rattle.std.proofs.lemmas.List.{get_or-set_same, get_or-set_other}
-use Rattle.std.specs.Prelude.{◌==◌, ◌||◌, IfOk, Result, Ok, Err, slice_index_or, slice_set}
+use Rattle.std.specs.Option.{option_map, option_or}
+use Rattle.std.specs.Prelude.{◌==◌, ◌||◌, ◌&&◌, IfOk, Result, Ok, Err, if◌then◌else◌, is_none, is_some, nat_lt, not, slice_index_or, slice_set}
 use Rattle.hs_cluster.proofs.DiskLemmas.{length_map, length_set, stands_at, stands_other, stands_set}
 use Rattle.hs_cluster.proofs.JobLemmas.{Since, weaker}
-use Rattle.hs_cluster.specs.Disks.{DiskSeen, log_at, stands_of}
-use Rattle.hs_cluster.specs.Jobs.{Copies, Empties, FailsAlone, HasCopied, IsAnyOrNone, LeavesCopy, Try, WithCopy, Working, Works, WorksAlone, is_own, try_of}
+use Rattle.hs_cluster.specs.Disks.{DiskSeen, log_at, seen_at, stands_of}
+use Rattle.hs_cluster.specs.Jobs.{Copies, Empties, FailsAlone, HasCopied, IsAnyOrNone, LeavesCopy, StandsBeside, Try, WithCopy, Working, Works, WorksAlone, is_own, try_of}
+use Rattle.hs_core_words.specs.Asking.{no_peer, not_up, with_up}
+use Rattle.hs_core_words.specs.declared.event.Event.TheVariants as event
+use Rattle.hs_core_words.specs.Looking.{first_job, oldest_message}
+use Rattle.hs_core_words.specs.State.{Core}
+use Rattle.hs_core_words.specs.Step.{begin_event, end_event, step}
 use Rattle.hs_desk.specs.Answers.{answers}
 use Rattle.hs_desk.specs.declared.done.Done.{Done}
 use Rattle.hs_desk.specs.declared.done.Done.TheVariants as done
@@ -14,6 +20,9 @@ use Rattle.hs_desk.specs.declared.job.Job.{Job}
 use Rattle.hs_desk.specs.declared.job.Job.TheVariants as job
 use Rattle.hs_entry.specs.declared.entry.Entry.{Entry}
 use Rattle.hs_events.specs.Asked.{failed_disk}
+use Rattle.hs_events.specs.declared.due.Due.{Due}
+use Rattle.hs_events.specs.declared.due.Due.TheVariants.{Handling, Reporting}
+use Rattle.hs_events.specs.Due.{peer_due, turn_behind, turn_of}
 use Rattle.hs_fold.specs.Shards.Setting.{Numbered}
 use Rattle.hs_peerlog.specs.Heads.{LeavesHeader}
 use Rattle.hs_peerlog.specs.Images.{GivesList, IsStanding, LeavesAny, LeavesEach}
@@ -21,7 +30,11 @@ use Rattle.hs_peerlog.specs.Lists.{HasLog, IsKept, Keeping, numbered_entry}
 use Rattle.hs_ports.specs.declared.disk.Side.{Side}
 use Rattle.hs_ports.specs.Disk.{IsImage, Standing}
 use Rattle.hs_ports.specs.Moments.{disk_at}
+use Rattle.hs_model.specs.declared.reply.Reply.{Reply}
+use Rattle.hs_model.specs.Refusals.{first}
+use Rattle.hs_post.specs.Pool.{is_empty}
 use Rattle.hs_side.specs.declared.header.Header.{Header}
+use Rattle.hs_taking.proofs.DiskLemmas.{seen_here, seen_is, seen_there}
 
 none_is_not : {A : Type 0} (x : A) → None ≡ Some x → ⊥
 none_is_not x e = cc e
@@ -62,11 +75,17 @@ logs_alone peer logs after (Ok done) same fails = λ p differs. (λ other. same 
 
 -- ---- a job of its peer alone
 
-not_reset : (j : Job) → is_own (Some j) ≡ true → j ≡ job.Reset → ⊥
-not_reset j own is = false_is_not (sym (ap (λ k. is_own (Some k)) is) ∙ own)
-
-not_copy : (j : Job) (from number : ℕ) → is_own (Some j) ≡ true → j ≡ job.Copy from number → ⊥
-not_copy j from number own is = false_is_not (sym (ap (λ k. is_own (Some k)) is) ∙ own)
+pub usual_own : (j : Job) → ((n : ℕ) × (e : Entry) × (j ≡ job.Append n e)) ⊎ (((n : ℕ) × (j ≡ job.Seal n)) ⊎ (((n : ℕ) × (j ≡ job.Read n)) ⊎ (j ≡ job.Reclaim))) → is_own (Some j) ≡ true
+usual_own j h = elim h [
+  | inl appends ↦ ap (λ k. is_own (Some k)) appends.2
+  | inr rest ↦ elim rest [
+    | inl seals ↦ ap (λ k. is_own (Some k)) seals.1
+    | inr more ↦ elim more [
+      | inl reads ↦ ap (λ k. is_own (Some k)) reads.1
+      | inr reclaims ↦ ap (λ k. is_own (Some k)) reclaims
+    ]
+  ]
+]
 
 -- it is neither an emptying nor a copying step
 pub works_own : {E : Type 0} (head : Header) (w : Working) (todo : Option Job) (result : Result Done E) → is_own todo ≡ true → WorksAlone w todo result → IfOk result (FailsAlone w.peer) → Works head w todo result
@@ -283,3 +302,79 @@ works_cut head logs disks f peer now todo fault since works = record {
   others = λ p differs. refl;
   logs = tt;
 }
+
+-- ---- every other disk
+
+pub beside_same : (tells : Type 0) (peer : ℕ) (todo : Option Job) (disks : List DiskSeen) → StandsBeside tells peer todo disks disks
+beside_same tells peer todo disks = record { same = λ disk differs none. refl; stands = λ told disk differs. refl }
+
+pub beside_then : (tells : Type 0) (peer : ℕ) (todo : Option Job) (a b c : List DiskSeen) → StandsBeside tells peer todo a b → StandsBeside tells peer todo b c → StandsBeside tells peer todo a c
+beside_then tells peer todo a b c one two = record {
+  same = λ disk differs none. two.same disk differs none ∙ one.same disk differs none;
+  stands = λ told disk differs. two.stands told disk differs ∙ one.stands told disk differs;
+}
+
+-- where that of its peer had a call
+pub beside_one : {A : Type 0} (tells : Type 0) (f : A → DiskSeen) (disks : List A) (peer place : ℕ) (disk : A) (todo : Option Job) → place ≡ peer → StandsBeside tells peer todo (map f disks) (map f (slice_set disks place disk))
+beside_one tells f disks peer place disk todo is = record {
+  same = λ q differs none. seen_there f disks place q disk (λ e. differs (e ∙ is));
+  stands = λ told q differs. ap (λ (s : DiskSeen). s.stands) (seen_there f disks place q disk (λ e. differs (e ∙ is)));
+}
+
+-- and where that of the lead was read
+pub beside_read : {A : Type 0} (tells : Type 0) (f : A → DiskSeen) (disks : List A) (peer from source number : ℕ) (d disk : A) → source ≡ from → source < length disks → (tells → (f disk).stands ≡ (f (slice_index_or disks source d)).stands)
+    → StandsBeside tells peer (Some (job.Copy from number)) (map f disks) (map f (slice_set disks source disk))
+beside_read tells f disks peer from source number d disk is low same = record {
+  same = λ q differs none. seen_there f disks source q disk (λ e. true_is_not (sym (eq-eqb q from (e ∙ is)) ∙ none));
+  stands = λ told q differs. elim (cases_eq q source) [
+    | inl here ↦ subst (λ p. (seen_at (map f (slice_set disks source disk)) p).stands ≡ (seen_at (map f disks) p).stands) (sym here)
+        (ap (λ (s : DiskSeen). s.stands) (seen_here f disks source disk low) ∙ same told ∙ sym (ap (λ (s : DiskSeen). s.stands) (seen_is f disks source d low)))
+    | inr there ↦ ap (λ (s : DiskSeen). s.stands) (seen_there f disks source q disk there)
+  ];
+}
+  where
+    true_is_not : true ≡ false → ⊥
+    true_is_not e = cc e
+
+-- ---- the first job behind a line that asks for a turn
+
+turn_begins : (line at peer : ℕ) (c : Core) → first_job peer (begin_event line at c) ≡ first_job peer c
+turn_begins line at peer c = go ((c.progress.event_line == 0 && not (line == 0)) && is_empty c.pool) refl
+  where
+    go : (b : Bool) → ((c.progress.event_line == 0 && not (line == 0)) && is_empty c.pool) ≡ b → first_job peer (begin_event line at c) ≡ first_job peer c
+    go true e = rw e refl
+    go false e = rw e refl
+
+turn_asks : (line p peer : ℕ) (c : Core) → first_job peer (with_up line p (λ core. core) c) ≡ first_job peer c
+turn_asks line p peer c = go (first (no_peer p c ∷ not_up p c ∷ [])) refl
+  where
+    go : (o : Option Reply) → first (no_peer p c ∷ not_up p c ∷ []) ≡ o → first_job peer (with_up line p (λ core. core) c) ≡ first_job peer c
+    go (Some refusal) e = rw e refl
+    go None e = rw e refl
+
+turn_ends : (peer : ℕ) (c : Core) → first_job peer (end_event c) ≡ first_job peer c
+turn_ends peer c = go (nat_lt c.limits.ops (length c.journal + length c.entries)) refl
+  where
+    go : (b : Bool) → nat_lt c.limits.ops (length c.journal + length c.entries) ≡ b → first_job peer (end_event c) ≡ first_job peer c
+    go true e = rw e refl
+    go false e = rw e refl
+
+pub turn_same : (line p at peer : ℕ) (c : Core) → first_job peer (step (event.Turn line p) at c) ≡ first_job peer c
+turn_same line p at peer c = go (is_none c.ended) refl
+  where
+    go : (b : Bool) → is_none c.ended ≡ b → first_job peer (step (event.Turn line p) at c) ≡ first_job peer c
+    go true e = rw e (turn_ends peer (with_up line p (λ core. core) (begin_event line at c)) ∙ turn_asks line p peer (begin_event line at c) ∙ turn_begins line at peer c)
+    go false e = rw e refl
+
+-- a turn that is due then is of its peer
+pub turn_of_peer : (peer : ℕ) (c : Core) (due : Due) → turn_behind peer c ≡ Some due → peer_due due ≡ peer
+turn_of_peer peer c due is = go (is_some c.ended || is_some (first (no_peer peer c ∷ not_up peer c ∷ []))) is
+  where
+    by : (j : Option Job) (m : Option ℕ) → option_or (option_map (λ job. Reporting peer) j) (option_map (Handling peer) m) ≡ Some due → peer_due due ≡ peer
+    by (Some job) m e = ap peer_due (sym (some_is (Reporting peer) due e))
+    by None (Some message) e = ap peer_due (sym (some_is (Handling peer message) due e))
+    by None None e = absurd (none_is_not due e)
+
+    go : (b : Bool) → (if b then None else turn_of c peer) ≡ Some due → peer_due due ≡ peer
+    go true e = absurd (none_is_not due e)
+    go false e = by (first_job peer c) (oldest_message peer c) e

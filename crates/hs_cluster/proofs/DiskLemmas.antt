@@ -40,6 +40,20 @@ dropped_fewer (log ∷ logs) zero (suc peer) keeping h = h
 dropped_fewer (log ∷ logs) (suc at) zero keeping h = h
 dropped_fewer (log ∷ logs) (suc at) (suc peer) keeping h = dropped_fewer logs at peer keeping h
 
+pub dropped_own : (logs : List (Option Keeping)) (at : ℕ) → log_at (slice_set logs at None) at ≡ None
+dropped_own [] at = refl
+dropped_own (log ∷ logs) zero = refl
+dropped_own (log ∷ logs) (suc at) = dropped_own logs at
+
+pub dropped_past : (logs : List (Option Keeping)) (at : ℕ) → length logs ≤ at → log_at logs at ≡ None
+dropped_past [] at past = refl
+dropped_past (log ∷ logs) zero past = absurd (omega (arith, past))
+dropped_past (log ∷ logs) (suc at) past = dropped_past logs at (omega (arith, past))
+
+-- and no other
+pub dropped_other : (logs : List (Option Keeping)) (at peer : ℕ) → peer ≢ at → log_at (slice_set logs at None) peer ≡ log_at logs peer
+dropped_other logs at peer differs = get_or-set_other logs at peer None None differs
+
 -- ---- at Ok
 
 pub at_ok : {T E : Type 0} {P Q : Type 0} (r : Result T E) → OnOk r P → (P → Q) → OnOk r Q

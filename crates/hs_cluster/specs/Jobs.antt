@@ -1,6 +1,8 @@
 -- What a job leaves of a log, and of its disk at each moment.
+use Rattle.std.specs.Option.{option_map_or}
 use Rattle.std.specs.Prelude.{◌≡◌, ◌≢◌, ◌⊎◌, ◌≤◌, ◌+◌, ◌++◌, ◌∷◌, ℕ, ⊤, Bool, true, false, is_some, slice_index, ◌<◌, Contains, List, [], length, Option, Some, None, Result, IfOk}
-use Rattle.hs_cluster.specs.Disks.{DiskSeen, log_at, stands_of}
+use Rattle.hs_cluster.specs.Disks.{DiskSeen, log_at, seen_at, stands_of}
+use Rattle.hs_desk.specs.Answers.{is_copy_from}
 use Rattle.hs_desk.specs.declared.done.Done.{Done}
 use Rattle.hs_desk.specs.declared.done.Done.TheVariants as done
 use Rattle.hs_desk.specs.declared.job.Job.{Job}
@@ -50,6 +52,15 @@ is_own (Some (job.Read number)) = true
 is_own (Some job.Reset) = false
 is_own (Some (job.Copy from number)) = false
 is_own (Some job.Reclaim) = true
+
+-- whether a job reads the disk of a peer beside its own
+abbrev pub reads_from : ℕ → Option Job → Bool
+reads_from peer todo = option_map_or (is_copy_from peer) todo false
+
+-- each other disk stays as it is, but of one that is read the count
+pub record StandsBeside (tells : Type 0) (peer : ℕ) (todo : Option Job) (old new : List DiskSeen) : Type 0 where
+  pub same : (disk : ℕ) → disk ≢ peer → reads_from disk todo ≡ false → seen_at new disk ≡ seen_at old disk
+  pub stands : tells → (disk : ℕ) → disk ≢ peer → (seen_at new disk).stands ≡ (seen_at old disk).stands
 
 -- bytes, and not just numbers
 abbrev pub AreBytes : List ℕ → Type 0

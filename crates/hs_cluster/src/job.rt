@@ -3,7 +3,7 @@ ghost use Rattle.std.specs.Prelude.{◌≡◌, ◌≢◌, ◌*◌, ◌+◌, ◌�
 ghost use Rattle.hs_cluster.specs.declared.fault.ClusterFault.TheVariants.{NoMemory};
 ghost use Rattle.hs_cluster.specs.Counts.{AllStandUntold, HasAllPaid, HasPaid, IsCopyPaid, IsPaid, NoneFalls, StandsUntold};
 ghost use Rattle.hs_cluster.specs.Disks.{AreReady, IsSlotReady, log_at, seen_as, seen_at, stands_of};
-ghost use Rattle.hs_cluster.specs.Jobs.{Empties, FailsAlone, HasCopied, HasStored, ReadsOn, TellsBytes, Tries, Works, is_own};
+ghost use Rattle.hs_cluster.specs.Jobs.{Empties, FailsAlone, HasCopied, HasStored, ReadsOn, StandsBeside, TellsBytes, Tries, Works, is_own};
 ghost use Rattle.hs_core_words.specs.Looking.{catalogue_of, first_job, home};
 ghost use Rattle.hs_entry.specs.declared.entry.Entry.{Entry};
 ghost use Rattle.hs_events.specs.Asked.{failed_disk};
@@ -66,6 +66,9 @@ pub(crate) fn do_job<D: Disk>(
       disks = map (λ disk. seen_as (D.size disk) (D.stands disk) (D.faults disk)) disks.old;
       left = map (λ disk. seen_as (D.size disk) (D.stands disk) (D.faults disk)) disks.new;
     }) (first_job peer core.now) result }
+    ensures beside { StandsBeside D.tells peer (first_job peer core.now)
+        (map (λ disk. seen_as (D.size disk) (D.stands disk) (D.faults disk)) disks.old)
+        (map (λ disk. seen_as (D.size disk) (D.stands disk) (D.faults disk)) disks.new) }
     // No count falls. That of a disk whose failed call is told rose, but for a job that only read.
     ensures later { NoneFalls
         (map (λ disk. seen_as (D.size disk) (D.stands disk) (D.faults disk)) disks.old)
@@ -160,6 +163,9 @@ fn do_copy<D: Disk>(
       disks = map (λ disk. seen_as (D.size disk) (D.stands disk) (D.faults disk)) disks.old;
       left = map (λ disk. seen_as (D.size disk) (D.stands disk) (D.faults disk)) disks.new;
     }) (Some (job.Copy from number)) result }
+    ensures beside { StandsBeside D.tells peer (Some (job.Copy from number))
+        (map (λ disk. seen_as (D.size disk) (D.stands disk) (D.faults disk)) disks.old)
+        (map (λ disk. seen_as (D.size disk) (D.stands disk) (D.faults disk)) disks.new) }
     ensures later { NoneFalls
         (map (λ disk. seen_as (D.size disk) (D.stands disk) (D.faults disk)) disks.old)
         (map (λ disk. seen_as (D.size disk) (D.stands disk) (D.faults disk)) disks.new) }

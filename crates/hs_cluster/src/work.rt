@@ -278,11 +278,7 @@ pub(crate) fn empty_disk<D: Disk>(
     ensures cause { IsCaused (D.faults disk.old) (D.faults disk.new) result }
 {
     match PeerLog::recover(alloc, disk, watch, shape, peer) {
-        Ok(log) => {
-            let mut log = log;
-            log.reset(disk, watch)?;
-            Ok(log)
-        }
+        Ok(log) => empty_log(log, disk, watch),
         Err(fault) => {
             if is_outside(fault) {
                 return Err(fault);
@@ -290,6 +286,31 @@ pub(crate) fn empty_disk<D: Disk>(
             PeerLog::clear(alloc, disk, watch, shape, peer)
         }
     }
+}
+
+/// Empties a log.
+fn empty_log<D: Disk>(
+    log: PeerLog,
+    disk: &mut D,
+    watch: &mut Watch,
+) -> Result<PeerLog, LogFault>
+    requires ready { IsReady D.tells log (D.size disk.old log.log.side) (D.stands disk.old) }
+    ensures ready { IfOk result (λ emptied. IsReady D.tells emptied
+        (D.size disk.new emptied.log.side) (D.stands disk.new)) }
+    ensures list { D.tells → (D.stands disk.old).last ≤ watch.old → (list : Numbered)
+        → HasLog log (D.stands disk.old) list None
+        → IfOk result (λ emptied. HasLog emptied (D.stands disk.new) [] None) }
+    ensures any_moment { D.tells → (D.stands disk.old).last ≤ watch.old → (list : Numbered)
+        → HasLog log (D.stands disk.old) list None
+        → LeavesEach watch.old watch.new (D.stands disk.old) (D.stands disk.new) (IsOne list []) }
+    ensures refused { IfErr result IsOutside }
+    ensures ticks { watch.old ≤ watch.new }
+    ensures calm { IsCalm (D.faults disk.old) (D.faults disk.new) result }
+    ensures cause { IsCaused (D.faults disk.old) (D.faults disk.new) result }
+{
+    let mut emptied = log;
+    emptied.reset(disk, watch)?;
+    Ok(emptied)
 }
 
 /// Whether the disk failed, or memory ran out.

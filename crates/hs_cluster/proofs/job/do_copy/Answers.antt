@@ -1,12 +1,13 @@
-use Rattle.std.proofs.Common.{◌≡◌, ◌∙◌, ◌<◌, arith, inl, length, map, refl, slice_set, subst}
+use Rattle.std.proofs.Common.{◌≡◌, ◌∙◌, ◌<◌, Some, arith, inl, length, map, refl, slice_set, subst}
 use Rattle.std.specs.Prelude.{slice_index_or}
 use Rattle.std.proofs.lemmas.Grind.{common_steps}
 use Rattle.std.proofs.lemmas.List.{length-set}
 use Rattle.hs_cluster.proofs.CountLemmas.{copied_results, falls_not, falls_then, paid_at, rises_not, stand_at, stand_failed, stand_then}
-use Rattle.hs_cluster.proofs.CopyLemmas.{lead_answers, told_as, works_copied, works_read}
+use Rattle.hs_cluster.proofs.CopyLemmas.{beside_one, beside_read, beside_same, beside_then, lead_answers, told_as, works_copied, works_read}
 use Rattle.hs_cluster.proofs.DiskLemmas.{at_ok, ready_slot, since_of, slot_at}
 use Rattle.hs_cluster.specs.Jobs.{HasCopied, TellsBytes}
 use Rattle.hs_desk.specs.declared.done.Done.TheVariants as done
+use Rattle.hs_desk.specs.declared.job.Job.TheVariants as job
 use Rattle.hs_cluster.specs.Disks.{AreReady, DiskSeen, log_at, seen_as, seen_at}
 use Rattle.hs_cluster.proofs.job.do_copy.Goals as goal
 
@@ -125,3 +126,28 @@ returns-in-Err-clause-works g c = λ head told.
     let source : c.from-source.result ≡ c.args.from = grind (arith, common_steps) in
     works_read head c.args.logs.now.items c.args.disks.now f c.args.peer c.args.from c.from-source.result c.args.number c.args.watch.now c.read_copy.new.slot c.index-disks-source.result c.read_copy.new.disk c.failed_read.result
     source in_logs in_disks (c.read_copy.ensures.same told) c.in-Err.ensures.out c.failed_read.ensures.told (since_of f c.args.disks.now (g.met.D.Disk.since told) c.args.peer)
+
+-- ---- every other disk
+
+pub returns-then-source-len-clause-beside : goal.returns-then-source-len-clause-beside
+returns-then-source-len-clause-beside g c =
+    let f : g.row.D.Denot → DiskSeen = λ disk. seen_as (g.D.Disk.size disk) (g.D.Disk.stands disk) (g.D.Disk.faults disk) in
+    beside_same g.D.Disk.tells c.args.peer (Some (job.Copy c.args.from c.args.number)) (map f c.args.disks.now)
+
+pub returns-in-Ok-clause-beside : goal.returns-in-Ok-clause-beside
+returns-in-Ok-clause-beside g c =
+    let f : g.row.D.Denot → DiskSeen = λ disk. seen_as (g.D.Disk.size disk) (g.D.Disk.stands disk) (g.D.Disk.faults disk) in
+    let in_disks : c.from-source.result < length c.args.disks.now = grind (arith, common_steps) in
+    let source : c.from-source.result ≡ c.args.from = grind (arith, common_steps) in
+    let place : c.from-place.result ≡ c.args.peer = grind (arith, common_steps) in
+    let disks = slice_set c.args.disks.now c.from-source.result c.read_copy.new.disk in
+    beside_then g.D.Disk.tells c.args.peer (Some (job.Copy c.args.from c.args.number)) (map f c.args.disks.now) (map f disks) (map f (slice_set disks c.from-place.result c.write_copy.new.disk))
+    (beside_read g.D.Disk.tells f c.args.disks.now c.args.peer c.args.from c.from-source.result c.args.number c.index-disks-source.result c.read_copy.new.disk source in_disks c.read_copy.ensures.same)
+    (beside_one g.D.Disk.tells f disks c.args.peer c.from-place.result c.write_copy.new.disk (Some (job.Copy c.args.from c.args.number)) place)
+
+pub returns-in-Err-clause-beside : goal.returns-in-Err-clause-beside
+returns-in-Err-clause-beside g c =
+    let f : g.row.D.Denot → DiskSeen = λ disk. seen_as (g.D.Disk.size disk) (g.D.Disk.stands disk) (g.D.Disk.faults disk) in
+    let in_disks : c.from-source.result < length c.args.disks.now = grind (arith, common_steps) in
+    let source : c.from-source.result ≡ c.args.from = grind (arith, common_steps) in
+    beside_read g.D.Disk.tells f c.args.disks.now c.args.peer c.args.from c.from-source.result c.args.number c.index-disks-source.result c.read_copy.new.disk source in_disks c.read_copy.ensures.same

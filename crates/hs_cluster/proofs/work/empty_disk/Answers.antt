@@ -1,33 +1,20 @@
 use Rattle.hs_cluster.proofs.EmptyLemmas.{failed_moments, list_found, not_refused, recovered_moments}
-use Rattle.hs_entry.specs.declared.entry.Entry.{Entry}
-use Rattle.hs_peerlog.specs.Lists.{HasLog}
-use Rattle.hs_peerlog.specs.Images.{LeavesEach}
-use Rattle.hs_cluster.specs.Jobs.{IsAnyOrNone}
-use Rattle.std.proofs.Common.{[], None}
 use Rattle.hs_side.specs.Current.{list_in}
 use Rattle.hs_cluster.proofs.work.empty_disk.Goals as goal
 
-pub returns-in_err-reset-in-Ok-clause-any_moment : goal.returns-in_err-reset-in-Ok-clause-any_moment
-returns-in_err-reset-in-Ok-clause-any_moment g c = λ told last lists leaves headed.
+pub returns-in-Ok-clause-list : goal.returns-in-Ok-clause-list
+returns-in-Ok-clause-list g c = λ told last.
     let past = c.recover.ensures.past told last in
     list_found _ (list_in (g.D.Disk.stands c.args.disk.now).seen) (c.in-Ok.ensures.listed told) (λ list is.
-    recovered_moments c.args.watch.now c.recover.new.watch c.reset.new.watch (g.D.Disk.stands c.args.disk.now) (g.D.Disk.stands c.recover.new.disk) (g.D.Disk.stands c.reset.new.disk) lists list (g.met.D.Disk.stays told c.args.disk.now) leaves is
-    (c.recover.ensures.any_of told last lists leaves)
-    (c.reset.ensures.any_moment told past.last list None (c.in-Ok.ensures.list told last list is)))
+    c.empty_log.ensures.list told past.last list (c.in-Ok.ensures.list told last list is))
 
-pub returns-in_ok-reset-in-Ok-clause-list : goal.returns-in_ok-reset-in-Ok-clause-list
-returns-in_ok-reset-in-Ok-clause-list g c = λ told last.
+pub returns-in-Ok-clause-any_moment : goal.returns-in-Ok-clause-any_moment
+returns-in-Ok-clause-any_moment g c = λ told last lists leaves headed.
     let past = c.recover.ensures.past told last in
     list_found _ (list_in (g.D.Disk.stands c.args.disk.now).seen) (c.in-Ok.ensures.listed told) (λ list is.
-    c.in_ok-reset-in-Ok.ensures.list told past.last list None (c.in-Ok.ensures.list told last list is))
-
-pub returns-in_ok-reset-in-Ok-clause-any_moment : goal.returns-in_ok-reset-in-Ok-clause-any_moment
-returns-in_ok-reset-in-Ok-clause-any_moment g c = λ told last lists leaves headed.
-    let past = c.recover.ensures.past told last in
-    list_found _ (list_in (g.D.Disk.stands c.args.disk.now).seen) (c.in-Ok.ensures.listed told) (λ list is.
-    recovered_moments c.args.watch.now c.recover.new.watch c.reset.new.watch (g.D.Disk.stands c.args.disk.now) (g.D.Disk.stands c.recover.new.disk) (g.D.Disk.stands c.reset.new.disk) lists list (g.met.D.Disk.stays told c.args.disk.now) leaves is
+    recovered_moments c.args.watch.now c.recover.new.watch c.empty_log.new.watch (g.D.Disk.stands c.args.disk.now) (g.D.Disk.stands c.recover.new.disk) (g.D.Disk.stands c.empty_log.new.disk) lists list (g.met.D.Disk.stays told c.args.disk.now) leaves is
     (c.recover.ensures.any_of told last lists leaves)
-    (c.reset.ensures.any_moment told past.last list None (c.in-Ok.ensures.list told last list is)))
+    (c.empty_log.ensures.any_moment told past.last list (c.in-Ok.ensures.list told last list is)))
 
 pub returns-then-is_outside-clause-any_moment : goal.returns-then-is_outside-clause-any_moment
 returns-then-is_outside-clause-any_moment g c = λ told last lists leaves headed.

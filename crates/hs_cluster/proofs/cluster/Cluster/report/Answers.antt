@@ -7,7 +7,7 @@ use Rattle.hs_cluster.specs.Calls.{Does, done_of}
 use Rattle.hs_cluster.specs.declared.fault.ClusterFault.{ClusterFault}
 use Rattle.hs_cluster.specs.Counts.{HasAllPaid, HasPaid}
 use Rattle.hs_cluster.specs.Disks.{DiskSeen, log_at, seen_as, stands_of}
-use Rattle.hs_cluster.specs.Jobs.{HasStored, ReadsOn, WorksAlone, is_own}
+use Rattle.hs_cluster.specs.Jobs.{HasStored, ReadsOn, StandsBeside, WorksAlone, is_own}
 use Rattle.hs_cluster.specs.Running.{Running}
 use Rattle.hs_core_words.specs.declared.event.Event.{Event}
 use Rattle.hs_core_words.specs.declared.event.Event.TheVariants as event
@@ -74,3 +74,13 @@ returns-clause-does g c = λ line.
     → ((keeping : Keeping) → log_at r.logs c.args.peer ≡ Some keeping → IsKept keeping ((disk_at (stands_of (map f c.args.disks.now)) c.args.peer).seen keeping.log.side) list waiting)
     → (j : Job) → first_job c.args.peer r.core ≡ Some j → ReadsOn (log_at c.do_job-done.new.logs.items c.args.peer) (disk_at (stands_of (map f c.do_job-done.new.disks)) c.args.peer) j list waiting c.in-Ok.done)
     c.self.view_is (c.in-Ok.ensures.reads told)))
+
+pub returns-in_default-clause-beside : goal.returns-in_default-clause-beside
+returns-in_default-clause-beside g c =
+    let f : g.row.D.Denot → DiskSeen = λ disk. seen_as (g.D.Disk.size disk) (g.D.Disk.stands disk) (g.D.Disk.faults disk) in
+    subst (λ (r : Running). StandsBeside g.D.Disk.tells c.args.peer (first_job c.args.peer r.core) (map f c.args.disks.now) (map f c.do_job-done.new.disks)) c.self.view_is c.do_job-done.ensures.beside
+
+pub returns-clause-beside : goal.returns-clause-beside
+returns-clause-beside g c =
+    let f : g.row.D.Denot → DiskSeen = λ disk. seen_as (g.D.Disk.size disk) (g.D.Disk.stands disk) (g.D.Disk.faults disk) in
+    subst (λ (r : Running). StandsBeside g.D.Disk.tells c.args.peer (first_job c.args.peer r.core) (map f c.args.disks.now) (map f c.do_job-done.new.disks)) c.self.view_is c.do_job-done.ensures.beside
