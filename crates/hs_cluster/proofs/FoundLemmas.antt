@@ -119,10 +119,10 @@ module _ (tells : Type 0) (set : Setting) (span : Span) (taken : Taken) (some : 
   abbrev pub first : ℕ → ℕ
   first shard = (share_at taken shard).peer
 
-  abbrev Has : ℕ → Type 0
+  abbrev pub Has : ℕ → Type 0
   Has shard = HasShard tells set span taken shard
 
-  has : (shard : ℕ) → shard < set.shape.shards → Has shard
+  pub has : (shard : ℕ) → shard < set.shape.shards → Has shard
   has shard low = h.each shard (omega (arith, low, shares))
 
   -- the log that was read of a peer
@@ -134,11 +134,11 @@ module _ (tells : Type 0) (set : Setting) (span : Span) (taken : Taken) (some : 
   log_of peer = logs_by (home peer) (cases_lt (home peer) set.shape.shards) peer
 
   -- a shard, with the logs of its peers
-  record Shard (shard : ℕ) : Type 0 where
-    is : Has shard
-    same : (peer : ℕ) → home peer ≡ shard → log_of peer ≡ is.logs peer
+  pub record Shard (shard : ℕ) : Type 0 where
+    pub is : Has shard
+    pub same : (peer : ℕ) → home peer ≡ shard → log_of peer ≡ is.logs peer
 
-  shard_at : (shard : ℕ) → shard < set.shape.shards → Shard shard
+  pub shard_at : (shard : ℕ) → shard < set.shape.shards → Shard shard
   shard_at shard low = record { is = (go (cases_lt shard set.shape.shards)).0; same = λ peer at. ap (λ k. logs_by k (cases_lt k set.shape.shards) peer) at ∙ (go (cases_lt shard set.shape.shards)).1 peer }
     where
       go : (o : (shard < set.shape.shards) ⊎ (set.shape.shards ≤ shard)) → (x : Has shard) × ((peer : ℕ) → logs_by shard o peer ≡ x.logs peer)
@@ -148,23 +148,23 @@ module _ (tells : Type 0) (set : Setting) (span : Span) (taken : Taken) (some : 
   abbrev pub found : Found
   found = record { logs = map log_of (range_with_len 0 count); lost = all_lost taken; good = map (λ log. is_some log) taken.logs; opened = span.now }
 
-  log_there : (peer : ℕ) → peer < count → slice_index_or (map log_of (range_with_len 0 count)) peer None ≡ log_of peer
+  pub log_there : (peer : ℕ) → peer < count → slice_index_or (map log_of (range_with_len 0 count)) peer None ≡ log_of peer
   log_there peer low = get_or-map-range_with_len log_of 0 count peer peer None low (omega arith)
 
   pub good_is : (peer : ℕ) → starts_good found peer ≡ is_some (log_at taken.logs peer)
   good_is peer = some_at taken.logs peer
 
-  of_home : (peer : ℕ) → IsOf set.shape (home peer) peer
+  pub of_home : (peer : ℕ) → IsOf set.shape (home peer) peer
   of_home peer = record { from = home_low set.shape peer; to = home_high set.shape peer some }
 
-  home_is : (shard peer : ℕ) → IsOf set.shape shard peer → home peer ≡ shard
+  pub home_is : (shard peer : ℕ) → IsOf set.shape shard peer → home peer ≡ shard
   home_is shard peer of = home_between set.shape shard peer of.from of.to
 
-  shard_low : (peer : ℕ) → peer < count → home peer < set.shape.shards
+  pub shard_low : (peer : ℕ) → peer < count → home peer < set.shape.shards
   shard_low peer low = home_within set.shape peer some low
 
   -- its peers are peers
-  peer_low : (shard peer : ℕ) → shard < set.shape.shards → IsOf set.shape shard peer → peer < count
+  pub peer_low : (shard peer : ℕ) → shard < set.shape.shards → IsOf set.shape shard peer → peer < count
   peer_low shard peer low of =
       let m : (shard + 1) * set.shape.copies ≤ set.shape.shards * set.shape.copies = more (shard + 1) set.shape.shards (omega (arith, low)) in
       let to = of.to in
@@ -175,42 +175,42 @@ module _ (tells : Type 0) (set : Setting) (span : Span) (taken : Taken) (some : 
       more a b up = mul-le-mul_right set.shape.copies up
 
       one_more : (a c : ℕ) → (a + 1) * c ≡ a * c + c
-      one_more a c = suc-mul a c
+      one_more a c = let e : a + 1 ≡ suc a = omega arith in ap (λ k. k * c) e ∙ suc-mul a c
 
   -- ---- one shard
 
   module _ (s : ℕ) (low : s < set.shape.shards) where
-    abbrev x : Shard s
+    abbrev pub x : Shard s
     x = shard_at s low
 
-    abbrev k : ℕ
+    abbrev pub k : ℕ
     k = first s
 
     -- its taken log
-    abbrev top : Option Numbered
+    abbrev pub top : Option Numbered
     top = x.is.logs k
 
-    of_first : IsOf set.shape s k
+    pub of_first : IsOf set.shape s k
     of_first = x.is.first.home
 
-    log_at_peer : (peer : ℕ) → IsOf set.shape s peer → log_of peer ≡ x.is.logs peer
+    pub log_at_peer : (peer : ℕ) → IsOf set.shape s peer → log_of peer ≡ x.is.logs peer
     log_at_peer peer of = x.same peer (home_is s peer of)
 
-    found_log : (peer : ℕ) → IsOf set.shape s peer → slice_index_or found.logs peer None ≡ x.is.logs peer
+    pub found_log : (peer : ℕ) → IsOf set.shape s peer → slice_index_or found.logs peer None ≡ x.is.logs peer
     found_log peer of = log_there peer (peer_low s peer low of) ∙ log_at_peer peer of
 
     -- no log, no list
-    abbrev list_of : ℕ → Numbered
+    abbrev pub list_of : ℕ → Numbered
     list_of peer = unwrap_or (x.is.logs peer) []
 
-    none_at_all : top ≡ None → (peer : ℕ) → IsOf set.shape s peer → x.is.logs peer ≡ None
+    pub none_at_all : top ≡ None → (peer : ℕ) → IsOf set.shape s peer → x.is.logs peer ≡ None
     none_at_all none peer of = go (x.is.logs peer) refl
       where
         go : (o : Option Numbered) → x.is.logs peer ≡ o → x.is.logs peer ≡ None
         go None is = is
         go (Some list) is = absurd (false_is_not (sym (ap is_some none) ∙ x.is.first.some peer of (ap is_some is)))
 
-    best : (peer : ℕ) → IsOf set.shape s peer → outranks (rank_of (list_of peer)) (rank_of (list_of k)) ≡ false
+    pub best : (peer : ℕ) → IsOf set.shape s peer → outranks (rank_of (list_of peer)) (rank_of (list_of k)) ≡ false
     best peer of = go (x.is.logs peer) top refl refl
       where
         go : (o t : Option Numbered) → x.is.logs peer ≡ o → top ≡ t → outranks (rank_of (list_of peer)) (rank_of (list_of k)) ≡ false
@@ -219,7 +219,7 @@ module _ (tells : Type 0) (set : Setting) (span : Span) (taken : Taken) (some : 
         go (Some list) (Some t) is there =
             (λ i. outranks (rank_of (unwrap_or (is i) [])) (rank_of (unwrap_or (there i) []))) ∙ x.is.first.best peer of list t is there
 
-    earlier : (peer : ℕ) → IsOf set.shape s peer → peer < k → (outranks (rank_of (list_of k)) (rank_of (list_of peer)) ≡ true) ⊎ (list_of peer ≡ list_of k)
+    pub earlier : (peer : ℕ) → IsOf set.shape s peer → peer < k → (outranks (rank_of (list_of k)) (rank_of (list_of peer)) ≡ true) ⊎ (list_of peer ≡ list_of k)
     earlier peer of before = go (x.is.logs peer) top refl refl
       where
         list_is : (q : ℕ) (o : Option Numbered) → x.is.logs q ≡ o → list_of q ≡ unwrap_or o []
@@ -260,7 +260,7 @@ module _ (tells : Type 0) (set : Setting) (span : Span) (taken : Taken) (some : 
             ∙ ap (λ n. map (λ p. unwrap_or (log_of p) []) (range_with_len n set.shape.copies)) from_is
             ∙ map_same (λ p. unwrap_or (log_of p) []) list_of (peer_of set.shape s 0) set.shape.copies (λ j l u. ap (λ (o : Option Numbered). unwrap_or o []) (log_at_peer j (record { from = l; to = u })))
 
-    best_is : (peer : ℕ) → IsOf set.shape s peer → is_best set.shape found.logs s peer ≡ option_map_or (λ log. not (outranks (rank_of (list_of k)) (rank_of log))) (x.is.logs peer) false
+    pub best_is : (peer : ℕ) → IsOf set.shape s peer → is_best set.shape found.logs s peer ≡ option_map_or (λ log. not (outranks (rank_of (list_of k)) (rank_of log))) (x.is.logs peer) false
     best_is peer of = λ i. option_map_or (λ log. not (outranks (rank_of (list_is i)) (rank_of log))) (found_log peer of i) false
 
     pub peer_is : taken_peer set.shape found.logs s ≡ option_map (λ (list : Numbered). k) top
@@ -269,12 +269,12 @@ module _ (tells : Type 0) (set : Setting) (span : Span) (taken : Taken) (some : 
         go : (t : Option Numbered) → top ≡ t → taken_peer set.shape found.logs s ≡ option_map (λ (list : Numbered). k) top
         go None there =
             find_none (is_best set.shape found.logs s) (peer_of set.shape s 0) set.shape.copies
-            (λ j l u. let of = record { from = l; to = u } in best_is j of ∙ ap (λ (o : Option Numbered). option_map_or (λ log. not (outranks (rank_of (list_of k)) (rank_of log))) o false) (none_at_all there j of))
+            (λ j l u. let of : IsOf set.shape s j = record { from = l; to = u } in best_is j of ∙ ap (λ (o : Option Numbered). option_map_or (λ log. not (outranks (rank_of (list_of k)) (rank_of log))) o false) (none_at_all there j of))
             ∙ ap (option_map (λ (list : Numbered). k)) (sym there)
         go (Some t) there =
             find_first (is_best set.shape found.logs s) (peer_of set.shape s 0) set.shape.copies k of_first.from of_first.to
             (best_is k of_first ∙ (λ i. option_map_or (λ log. not (outranks (rank_of (unwrap_or (there i) [])) (rank_of log))) (there i) false) ∙ ap not (none_above (rank_of t)))
-            (λ j l u. let of = record { from = l; to = let f = of_first.to in omega (arith, u, f) } in best_is j of ∙ not_best t there j of u)
+            (λ j l u. let of : IsOf set.shape s j = record { from = l; to = let f = of_first.to in omega (arith, u, f) } in best_is j of ∙ not_best t there j of u)
             ∙ ap (option_map (λ (list : Numbered). k)) (sym there)
           where
             not_best : (t : Numbered) → top ≡ Some t → (j : ℕ) (of : IsOf set.shape s j) → j < k → option_map_or (λ log. not (outranks (rank_of (list_of k)) (rank_of log))) (x.is.logs j) false ≡ false
@@ -293,13 +293,13 @@ module _ (tells : Type 0) (set : Setting) (span : Span) (taken : Taken) (some : 
     pub opened_kept : (peer : ℕ) → IsOf set.shape s peer → is_some (log_at taken.logs peer) ≡ true → opened_list set found s ≡ list_of k
     opened_kept peer of kept = opened_is ∙ ap (λ b. if b then list_of k else []) (any_there (λ p. is_some (log_at taken.logs p)) (peer_of set.shape s 0) set.shape.copies peer of.from of.to kept)
 
-    catalogue_is : (share_at taken s).catalogue ≡ opened_catalogue set found s
+    pub catalogue_is : (share_at taken s).catalogue ≡ opened_catalogue set found s
     catalogue_is = x.is.catalogue ∙ ap (apply_all set.name (empty_catalogue set.shape s)) (sym opened_is)
 
-    rank_is : (share_at taken s).rank ≡ rank_of (opened_list set found s)
+    pub rank_is : (share_at taken s).rank ≡ rank_of (opened_list set found s)
     rank_is = x.is.rank ∙ ap rank_of (sym opened_is)
 
-    took_some : is_some (share_at taken s).took ≡ is_some top
+    pub took_some : is_some (share_at taken s).took ≡ is_some top
     took_some = ap is_some x.is.took ∙ some_mapped top
 
   pub opens_so : opens_with set found ≡ opened_with taken
@@ -319,7 +319,7 @@ module _ (tells : Type 0) (set : Setting) (span : Span) (taken : Taken) (some : 
 
   -- ---- how the course begins
 
-  taken_is : (p : ℕ) (low : p < count) → is_taken set.shape found.logs p ≡ (is_some (share_at taken (home p)).took && first (home p) == p)
+  pub taken_is : (p : ℕ) (low : p < count) → is_taken set.shape found.logs p ≡ (is_some (share_at taken (home p)).took && first (home p) == p)
   taken_is p low =
       ap (λ (o : Option ℕ). option_map_or (λ q. q == p) o false) (peer_is (home p) (shard_low p low))
       ∙ go (top (home p) (shard_low p low)) ∙ ap (λ b. b && first (home p) == p) (sym (took_some (home p) (shard_low p low)))
@@ -328,13 +328,13 @@ module _ (tells : Type 0) (set : Setting) (span : Span) (taken : Taken) (some : 
       go None = refl
       go (Some list) = refl
 
-  took_is : (p : ℕ) (low : p < count) → is_took set.shape taken.shares p ≡ is_taken set.shape found.logs p
+  pub took_is : (p : ℕ) (low : p < count) → is_took set.shape taken.shares p ≡ is_taken set.shape found.logs p
   took_is p low =
       ap (λ (o : Option Share). option_map_or (λ share. is_some share.took && share.peer == p) o false) (get_there taken.shares (home p) no_share (let b = shard_low p low in omega (arith, b, shares)))
       ∙ sym (taken_is p low)
 
   module _ (entry : ℕ) where
-    piece : (s : ℕ) (low : s < set.shape.shards) → items_for set.shape found.logs entry s (taken_peer set.shape found.logs s) ≡ took_of entry (share_at taken s)
+    pub piece : (s : ℕ) (low : s < set.shape.shards) → items_for set.shape found.logs entry s (taken_peer set.shape found.logs s) ≡ took_of entry (share_at taken s)
     piece s low = ap (items_for set.shape found.logs entry s) (peer_is s low) ∙ from (top s low) (list_is s low) refl ∙ sym right
       where
         items : ℕ → ℕ → Option ℕ → List CourseItem
@@ -347,14 +347,14 @@ module _ (tells : Type 0) (set : Setting) (span : Span) (taken : Taken) (some : 
         right : took_of entry (share_at taken s) ≡ items (first s) s (option_map (λ (list : Numbered). (rank_of list).number) (top s low))
         right = λ i. items (first s) ((shard_at s low).is.shard_is i) ((shard_at s low).is.took i)
 
-    tooks : taken_items set.shape found.logs entry ≡ flat_map (took_of entry) taken.shares
+    pub tooks : taken_items set.shape found.logs entry ≡ flat_map (took_of entry) taken.shares
     tooks =
         flat_same (λ s. items_for set.shape found.logs entry s (taken_peer set.shape found.logs s)) (λ s. took_of entry (share_at taken s)) 0 set.shape.shards (λ k low high. piece k (omega (arith, high)))
         ∙ sym (flat_map-map (took_of entry) (share_at taken) (range_with_len 0 set.shape.shards))
         ∙ ap (flat_map (took_of entry)) (sym (fill_by_all (share_at taken) taken.shares set.shape.shards no_share shares (λ k low. refl)))
 
     -- each other good peer
-    other : (p : ℕ) → p < count → change_item (is_taken set.shape found.logs p) (is_taken set.shape found.logs p || starts_good found p) p span.now ≡ good_of set.shape taken span.now p
+    pub other : (p : ℕ) → p < count → change_item (is_taken set.shape found.logs p) (is_taken set.shape found.logs p || starts_good found p) p span.now ≡ good_of set.shape taken span.now p
     other p low =
         ap (λ g. change_item (is_taken set.shape found.logs p) (is_taken set.shape found.logs p || g) p span.now) (good_is p)
         ∙ ap (λ b. change_item b (b || is_some (log_at taken.logs p)) p span.now) (sym (took_is p low))
@@ -366,7 +366,7 @@ module _ (tells : Type 0) (set : Setting) (span : Span) (taken : Taken) (some : 
         go false true = refl
         go false false = refl
 
-    goods : flat_map (λ peer. change_item (is_taken set.shape found.logs peer) (is_taken set.shape found.logs peer || starts_good found peer) peer span.now) (all_peers set.shape) ≡ flat_map (good_of set.shape taken span.now) (all_peers set.shape)
+    pub goods : flat_map (λ peer. change_item (is_taken set.shape found.logs peer) (is_taken set.shape found.logs peer || starts_good found peer) peer span.now) (all_peers set.shape) ≡ flat_map (good_of set.shape taken span.now) (all_peers set.shape)
     goods = flat_same (λ peer. change_item (is_taken set.shape found.logs peer) (is_taken set.shape found.logs peer || starts_good found peer) peer span.now) (good_of set.shape taken span.now) 0 count (λ k low high. other k (omega (arith, high)))
 
     pub begins_so : first_items set.shape found entry ≡ begun_course set.shape entry span.now taken
@@ -387,30 +387,30 @@ module _ (tells : Type 0) (set : Setting) (span : Span) (taken : Taken) (some : 
     abbrev s : ℕ
     s = home peer
 
-    s_low : s < set.shape.shards
+    pub s_low : s < set.shape.shards
     s_low = shard_low peer low
 
-    copy : IsCopy tells span.before span.now old new ((shard_at s s_low).is.logs peer) (list_of s s_low (first s)) slot (is_some (share_at taken s).lost)
+    pub copy : IsCopy tells span.before span.now old new ((shard_at s s_low).is.logs peer) (list_of s s_low (first s)) slot (is_some (share_at taken s).lost)
     copy = (shard_at s s_low).is.each peer (of_home peer)
 
-    log_here : slice_index_or found.logs peer None ≡ (shard_at s s_low).is.logs peer
+    pub log_here : slice_index_or found.logs peer None ≡ (shard_at s s_low).is.logs peer
     log_here = found_log s s_low peer (of_home peer)
 
-    read : tells → (slice_index_or found.logs peer None ≡ list_in old.stands.seen) ⊎ ((slice_index_or found.logs peer None ≡ None) × HasRisen old.faults new.faults)
+    pub read : tells → (slice_index_or found.logs peer None ≡ list_in old.stands.seen) ⊎ ((slice_index_or found.logs peer None ≡ None) × HasRisen old.faults new.faults)
     read told = elim (copy.read told) [
       | inl same ↦ inl (log_here ∙ same)
       | inr failed ↦ inr (log_here ∙ failed.0, failed.1)
     ]
 
-    has_log : starts_good found peer ≡ true → IsSome (slice_index_or found.logs peer None)
+    pub has_log : starts_good found peer ≡ true → IsSome (slice_index_or found.logs peer None)
     has_log good = ap is_some log_here ∙ copy.kept (sym (good_is peer) ∙ good)
 
-    left : is_some (share_at taken s).lost ≡ true → IsLeftBehind set found peer
+    pub left : is_some (share_at taken s).lost ≡ true → IsLeftBehind set found peer
     left lost =
         let there = h.all s (let b = s_low in omega (arith, b, shares)) lost in
         record { lost = (first s, there.0); among = there.1; same_shard = home_is s (first s) (of_first s s_low) }
 
-    aside : starts_good found peer ≡ false → HasRisen old.faults new.faults ⊎ ((slice_index_or found.logs peer None ≡ None) ⊎ IsLeftBehind set found peer)
+    pub aside : starts_good found peer ≡ false → HasRisen old.faults new.faults ⊎ ((slice_index_or found.logs peer None ≡ None) ⊎ IsLeftBehind set found peer)
     aside bad = elim (copy.aside (not_some slot (sym (good_is peer) ∙ bad))) [
       | inl none ↦ inr (inl (log_here ∙ none))
       | inr why ↦ elim why [
@@ -419,16 +419,16 @@ module _ (tells : Type 0) (set : Setting) (span : Span) (taken : Taken) (some : 
       ]
     ]
 
-    opened_here : (keeping : Keeping) → slot ≡ Some keeping → opened_list set found s ≡ list_of s s_low (first s)
+    pub opened_here : (keeping : Keeping) → slot ≡ Some keeping → opened_list set found s ≡ list_of s s_low (first s)
     opened_here keeping at = opened_kept s s_low peer (of_home peer) (ap is_some at)
 
-    log : tells → old.stands.last ≤ span.before → (keeping : Keeping) → slot ≡ Some keeping → HasLog keeping new.stands (opened_list set found s) None
+    pub log : tells → old.stands.last ≤ span.before → (keeping : Keeping) → slot ≡ Some keeping → HasLog keeping new.stands (opened_list set found s) None
     log told last keeping at = subst (λ l. HasLog keeping new.stands l None) (sym (opened_here keeping at)) (copy.has told last keeping at)
 
     -- ---- with one copy
 
     module _ (one : set.shape.copies ≡ 1) where
-      first_is : first s ≡ peer
+      pub first_is : first s ≡ peer
       first_is =
           let a = (of_first s s_low).from in let b = (of_first s s_low).to in
           let c = (of_home peer).from in let d = (of_home peer).to in
@@ -446,12 +446,12 @@ module _ (tells : Type 0) (set : Setting) (span : Span) (taken : Taken) (some : 
           by (Some list) is same =
               sym same ∙ is ∙ ap (λ (l : Numbered). Some l) (sym (opened_here keeping at ∙ ap (list_of s s_low) first_is ∙ ap (λ (o : Option Numbered). unwrap_or o []) is))
 
-      reads : tells → (keeping : Keeping) → slot ≡ Some keeping → IsKept keeping (new.stands.seen keeping.log.side) (opened_list set found s) None
+      pub reads : tells → (keeping : Keeping) → slot ≡ Some keeping → IsKept keeping (new.stands.seen keeping.log.side) (opened_list set found s) None
       reads told keeping at =
           subst (λ l. IsKept keeping (new.stands.seen keeping.log.side) l None) (sym (opened_here keeping at))
           (copy.reads told keeping at (read_as keeping at told ∙ ap (λ (l : Numbered). Some l) (opened_here keeping at)))
 
-    is_found : IsFound tells set span found taken.logs peer
+    pub is_found : IsFound tells set span found taken.logs peer
     is_found = record {
       read = read;
       good = good_is peer;
@@ -464,7 +464,7 @@ module _ (tells : Type 0) (set : Setting) (span : Span) (taken : Taken) (some : 
       disk = λ one. subst (λ p. KeepsDisk tells span.before span.now (seen_at span.old p) (seen_at span.new p)) (first_is one) (shard_at s s_low).is.disk;
     }
 
-    all_here : is_taken set.shape found.logs peer ≡ true → starts_good found peer ≡ false → (moment : ℕ) × Contains (all_lost taken) (peer, moment)
+    pub all_here : is_taken set.shape found.logs peer ≡ true → starts_good found peer ≡ false → (moment : ℕ) × Contains (all_lost taken) (peer, moment)
     all_here there bad =
         let parts = both_true (is_some (share_at taken s).took) (first s == peer) (sym (taken_is peer low) ∙ there) in
         let same : first s ≡ peer = eqb-true (first s) peer parts.1 in
@@ -478,7 +478,7 @@ module _ (tells : Type 0) (set : Setting) (span : Span) (taken : Taken) (some : 
   pub was_read : (one : set.shape.copies ≡ 1) (peer : ℕ) → peer < count → (keeping : Keeping) → log_at taken.logs peer ≡ Some keeping → tells → list_in (seen_at span.old peer).stands.seen ≡ Some (opened_list set found (home peer))
   was_read one peer low = read_as peer low one
 
-  lost_log : (x : ℕ × ℕ) → IsLostOf tells span taken x → IsLostLog tells set span found x
+  pub lost_log : (x : ℕ × ℕ) → IsLostOf tells span taken x → IsLostLog tells set span found x
   lost_log x is = record {
     taken = taken_is x.0 low ∙ (λ i. parts.0 i && here i);
     bad = good_is x.0 ∙ ap (λ p. is_some (log_at taken.logs p)) is.peer ∙ not_true (is_some (log_at taken.logs (first is.shard))) parts.1;

@@ -59,15 +59,16 @@ pub above_or_least : (rank : Rank) → (outranks rank (rank_of []) ≡ true) ⊎
 unfolding rank_of
 above_or_least rank = by rank.view rank.number refl refl
   where
-    above : (a b : ℕ) → (0 < a) ⊎ (0 < b) → (nat_lt 0 a || (a == 0 && nat_lt 0 b)) ≡ true
-    above zero zero h = elim h [ inl low ↦ absurd (omega (arith, low)) | inr low ↦ absurd (omega (arith, low)) ]
-    above (suc a) b h = refl
-    above zero (suc b) h = refl
+    one : (a b : ℕ) → 0 < a → (nat_lt 0 a || (a == 0 && nat_lt 0 b)) ≡ true
+    one a b low = grind (arith, nat_tests, low)
+
+    two : (a b : ℕ) → 0 < b → (nat_lt 0 a || (a == 0 && nat_lt 0 b)) ≡ true
+    two a b low = grind (arith, nat_tests, low)
 
     by : (view number : ℕ) → rank.view ≡ view → rank.number ≡ number → (outranks rank (record { view = 0; number = 0 }) ≡ true) ⊎ (rank ≡ record { view = 0; number = 0 })
     by zero zero v n = inr (λ i. record { view = v i; number = n i })
-    by (suc view) number v n = inl (above rank.view rank.number (inl (omega (arith, v))))
-    by zero (suc number) v n = inl (above rank.view rank.number (inr (omega (arith, n))))
+    by (suc view) number v n = inl (one rank.view rank.number (omega (arith, v)))
+    by zero (suc number) v n = inl (two rank.view rank.number (omega (arith, n)))
 
 -- ---- the list of greatest rank
 
@@ -111,7 +112,9 @@ chosen_is f a (suc c) k low high best first = elim (cases_lt a k) [
 
 pub chosen_at : (n s c : ℕ) (lists : List Numbered) → s < n → slice_index_or (chosen_each n c lists) s [] ≡ chosen (take c (drop (s * c) lists))
 chosen_at zero s c lists low = absurd (omega (arith, low))
-chosen_at (suc n) zero c lists low = refl
+chosen_at (suc n) zero c lists low =
+    let none : 0 * c ≡ 0 = omega arith in
+    sym (ap (λ k. chosen (take c (drop k lists))) none)
 chosen_at (suc n) (suc s) c lists low = chosen_at n s c (drop c lists) (omega (arith, low)) ∙ ap (λ xs. chosen (take c xs)) (drop_twice (s * c) c lists ∙ ap (λ k. drop k lists) (omega arith))
   where
     the_nil : List Numbered
@@ -122,9 +125,9 @@ chosen_at (suc n) (suc s) c lists low = chosen_at n s c (drop c lists) (omega (a
     drop_nil (suc k) = refl
 
     drop_twice : (a b : ℕ) (xs : List Numbered) → drop a (drop b xs) ≡ drop (b + a) xs
-    drop_twice a zero xs = refl
-    drop_twice a (suc b) [] = drop_nil a
-    drop_twice a (suc b) (x ∷ xs) = drop_twice a b xs
+    drop_twice a zero xs = let e : a ≡ 0 + a = omega arith in ap (λ k. drop k xs) e
+    drop_twice a (suc b) [] = drop_nil a ∙ sym (drop_nil (suc b + a))
+    drop_twice a (suc b) (x ∷ xs) = let e : suc (b + a) ≡ suc b + a = omega arith in drop_twice a b xs ∙ ap (λ k. drop k (x ∷ xs)) e
 
 -- ---- the first of a range that passes
 

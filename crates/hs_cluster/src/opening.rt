@@ -300,7 +300,6 @@ fn first_course(
 }
 
 /// Notes each peer whose log is in use and was not taken.
-#[tactic(auto, using(hs_events::proofs::RangeLemmas::flat_map_range_more))]
 fn note_others(
     shape: Shape,
     shares: &[Share],
@@ -314,12 +313,30 @@ fn note_others(
         (all_peers shape)) }
 {
     for peer in 0..shape.shards * shape.copies {
-        if is_in_use(logs, peer) && !is_took(shape, shares, peer) {
-            course.push(CourseItem::Good {
-                peer,
-                moment: opened,
-            })?;
-        }
+        note_other(shape, shares, logs, opened, peer, course)?;
+    }
+    Ok(())
+}
+
+/// Notes a peer where its log is in use and was not taken.
+fn note_other(
+    shape: Shape,
+    shares: &[Share],
+    logs: &[Option<PeerLog>],
+    opened: u64,
+    peer: u8,
+    course: &mut Vec<CourseItem>,
+) -> Result<(), AllocError>
+    requires shape { IsShape shape }
+    requires peer { IsPeer shape peer }
+    ensures { IfOk result (λ done. course.new.items ≡ course.old.items
+        ++ good_of shape (record { logs = logs.now; shares = shares.now }) opened peer) }
+{
+    if is_in_use(logs, peer) && !is_took(shape, shares, peer) {
+        course.push(CourseItem::Good {
+            peer,
+            moment: opened,
+        })?;
     }
     Ok(())
 }
