@@ -184,9 +184,10 @@ works_read {A = A} {E = E} head logs disks f peer from source number now slot d 
 
     which : (r : Result Done E) → IfOk r (λ told. told ≡ done.Failed from) → LogsStay peer logs (slice_set logs source slot) r
     which (Err fault) e = tt
-    which (Ok told) e = λ p differs.
-        (λ other. get_or-set_other logs source p slot None (λ at. other (ap failed_disk e ∙ ap (λ n. Some n) (sym (at ∙ is)))),
-        λ failed. subst (λ q. log_at (slice_set logs source slot) q ≡ None) (is ∙ some_is from p (sym (ap failed_disk e) ∙ failed)) (get_or-set_same logs source slot None (subst (λ q. q < length logs) (sym is) in_logs) ∙ out))
+    which (Ok told) e = λ p differs. (
+      λ other. get_or-set_other logs source p slot None (λ at. other (ap failed_disk e ∙ ap (λ n. Some n) (sym (at ∙ is)))),
+      λ failed. subst (λ q. log_at (slice_set logs source slot) q ≡ None) (is ∙ some_is from p (sym (ap failed_disk e) ∙ failed)) (get_or-set_same logs source slot None (subst (λ q. q < length logs) (sym is) in_logs) ∙ out),
+    )
 
     copied : (k n : ℕ) → from ≡ k → number ≡ n → k ≢ peer → (keeping : Keeping) (theirs list : Numbered) (waiting : Option Entry) → (disk_at (stands_of (map f disks)) peer).last ≤ now → HasLog keeping (disk_at (stands_of (map f disks)) peer) list waiting
         → HasCopied (record { before = now; now = now; slot = log_at logs peer; kept = log_at (slice_set logs source slot) peer; old = disk_at (stands_of (map f disks)) peer; new = disk_at (stands_of (map f (slice_set disks source disk))) peer }) peer k n theirs list result

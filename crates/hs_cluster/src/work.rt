@@ -289,11 +289,7 @@ pub(crate) fn empty_disk<D: Disk>(
 }
 
 /// Empties a log.
-fn empty_log<D: Disk>(
-    log: PeerLog,
-    disk: &mut D,
-    watch: &mut Watch,
-) -> Result<PeerLog, LogFault>
+fn empty_log<D: Disk>(log: PeerLog, disk: &mut D, watch: &mut Watch) -> Result<PeerLog, LogFault>
     requires ready { IsReady D.tells log (D.size disk.old log.log.side) (D.stands disk.old) }
     ensures ready { IfOk result (λ emptied. IsReady D.tells emptied
         (D.size disk.new emptied.log.side) (D.stands disk.new)) }
