@@ -1,12 +1,12 @@
 -- Deltas that ascend are those of an entry.
-use Rattle.std.proofs.Common.{◌≡◌, ◌≤◌, ◌&&◌, Bool, true, false, List, [], ◌∷◌, length, map, Option, Some, None, refl, arith, leb}
+use Rattle.std.proofs.Common.{◌≡◌, ◌<◌, ◌≤◌, ◌&&◌, ap, suc, Bool, true, false, ℕ, List, [], ◌∷◌, length, map, Option, Some, None, refl, arith, leb}
 use Rattle.std.specs.declared.cmp.Ordering.{Ordering}
 use Rattle.std.specs.declared.cmp.Ordering.TheVariants.{Less, Equal, Greater}
 use Rattle.std.proofs.lemmas.Cmp.{nat_list_cmp_total}
 use Rattle.std.specs.List.{AllByRecursion}
 use Rattle.std.specs.List.Sorted.{IsStrictlySortedBy}
 use Rattle.std.specs.Ordering.{is_lt}
-use Rattle.std.specs.Prelude.{All}
+use Rattle.std.specs.Prelude.{All, ⊤}
 use Rattle.hs_cluster.specs.Ascending.{are_ascending}
 use Rattle.hs_entry.specs.Reading.{AreDeltas, IsDelta, address_cmp, comes_after}
 use Rattle.hs_limits.specs.declared.address.Address.{Address}
@@ -52,3 +52,29 @@ sorted last (d ∷ deltas) h =
 pub ascending_are_deltas : (deltas : List Delta) → length deltas ≤ 16665 → are_ascending None deltas ≡ true → All IsDelta deltas → AreDeltas deltas
 unfolding addresses_of
 ascending_are_deltas deltas few h each = record { few = few; each = each; ascend = sorted None deltas h }
+
+-- ---- and those of an entry ascend
+
+-- some addresses come after one, where there is one
+abbrev AllAfter : Option Address → List Address → Type 0
+AllAfter None xs = ⊤
+AllAfter (Some a) xs = AllByRecursion (λ b. address_cmp a b ≡ Less) xs
+
+ascends : (last : Option Address) (deltas : List Delta) → AllAfter last (addresses_of deltas) → IsStrictlySortedBy address_cmp (addresses_of deltas) → All IsDelta deltas → are_ascending last deltas ≡ true
+unfolding addresses_of IsStrictlySortedBy
+ascends last [] after sorted each = refl
+ascends last (d ∷ deltas) after sorted each =
+    let one : leb 1 d.amount ≡ true = some d.amount (each 0 d (omega arith)).some in
+    let rest : are_ascending (Some d.address) deltas ≡ true = ascends (Some d.address) deltas sorted.0 sorted.1 (λ k e low. each (suc k) e (omega (arith, low))) in
+    (λ i. (one i && comes last after i) && rest i)
+  where
+    some : (n : ℕ) → 1 ≤ n → leb 1 n ≡ true
+    some n low = grind (arith, low)
+
+    comes : (l : Option Address) → AllAfter l (d.address ∷ addresses_of deltas) → comes_after l d.address ≡ true
+    comes None h = refl
+    comes (Some a) h = ap is_lt h.0
+
+pub deltas_are_ascending : (deltas : List Delta) → AreDeltas deltas → are_ascending None deltas ≡ true
+unfolding addresses_of
+deltas_are_ascending deltas h = ascends None deltas tt h.ascend h.each

@@ -4,7 +4,7 @@ use Rattle.std.proofs.lemmas.List.{get_or-set_same, get_or-set_other}
 use Rattle.std.specs.Prelude.{IfOk, OnOk, Result, Ok, Err, slice_index_or, slice_set}
 use Rattle.hs_cluster.specs.Disks.{AreReady, DiskSeen, log_at, stands_of}
 use Rattle.hs_cluster.proofs.JobLemmas.{Since, leaves_err, stays_all, stays_one}
-use Rattle.hs_cluster.specs.Jobs.{HasStored, ReadsOn, Tries, Try, Works, is_own, list_after}
+use Rattle.hs_cluster.specs.Jobs.{HasStored, ReadsOn, Tries, Try, WorksAlone, is_own, list_after}
 use Rattle.hs_desk.specs.declared.done.Done.{Done}
 use Rattle.hs_desk.specs.declared.job.Job.{Job}
 use Rattle.hs_entry.specs.declared.entry.Entry.{Entry}
@@ -40,6 +40,20 @@ dropped_fewer (log ∷ logs) zero (suc peer) keeping h = h
 dropped_fewer (log ∷ logs) (suc at) zero keeping h = h
 dropped_fewer (log ∷ logs) (suc at) (suc peer) keeping h = dropped_fewer logs at peer keeping h
 
+pub dropped_own : (logs : List (Option Keeping)) (at : ℕ) → log_at (slice_set logs at None) at ≡ None
+dropped_own [] at = refl
+dropped_own (log ∷ logs) zero = refl
+dropped_own (log ∷ logs) (suc at) = dropped_own logs at
+
+pub dropped_past : (logs : List (Option Keeping)) (at : ℕ) → length logs ≤ at → log_at logs at ≡ None
+dropped_past [] at past = refl
+dropped_past (log ∷ logs) zero past = absurd (omega (arith, past))
+dropped_past (log ∷ logs) (suc at) past = dropped_past logs at (omega (arith, past))
+
+-- and no other
+pub dropped_other : (logs : List (Option Keeping)) (at peer : ℕ) → peer ≢ at → log_at (slice_set logs at None) peer ≡ log_at logs peer
+dropped_other logs at peer differs = get_or-set_other logs at peer None None differs
+
 -- ---- at Ok
 
 pub at_ok : {T E : Type 0} {P Q : Type 0} (r : Result T E) → OnOk r P → (P → Q) → OnOk r Q
@@ -52,25 +66,25 @@ always_ok (Err e) q = tt
 
 -- ---- a job on one of the disks
 
-stands_at : {A : Type 0} (f : A → DiskSeen) (disks : List A) (k : ℕ) (d : A) → k < length disks → disk_at (stands_of (map f disks)) k ≡ (f (slice_index_or disks k d)).stands
+pub stands_at : {A : Type 0} (f : A → DiskSeen) (disks : List A) (k : ℕ) (d : A) → k < length disks → disk_at (stands_of (map f disks)) k ≡ (f (slice_index_or disks k d)).stands
 stands_at f [] k d low = absurd (omega (arith, low))
 stands_at f (x ∷ xs) zero d low = refl
 stands_at f (x ∷ xs) (suc k) d low = stands_at f xs k d (omega (arith, low))
 
-length_set : {A : Type 0} (xs : List A) (k : ℕ) (x : A) → length (slice_set xs k x) ≡ length xs
+pub length_set : {A : Type 0} (xs : List A) (k : ℕ) (x : A) → length (slice_set xs k x) ≡ length xs
 length_set [] k x = refl
 length_set (y ∷ xs) zero x = refl
 length_set (y ∷ xs) (suc k) x = ap (λ n. suc n) (length_set xs k x)
 
-length_map : {A B : Type 0} (f : A → B) (xs : List A) → length (map f xs) ≡ length xs
+pub length_map : {A B : Type 0} (f : A → B) (xs : List A) → length (map f xs) ≡ length xs
 length_map f [] = refl
 length_map f (x ∷ xs) = ap (λ n. suc n) (length_map f xs)
 
-stands_set : {A : Type 0} (f : A → DiskSeen) (disks : List A) (k : ℕ) (disk : A) → k < length disks → disk_at (stands_of (map f (slice_set disks k disk))) k ≡ (f disk).stands
+pub stands_set : {A : Type 0} (f : A → DiskSeen) (disks : List A) (k : ℕ) (disk : A) → k < length disks → disk_at (stands_of (map f (slice_set disks k disk))) k ≡ (f disk).stands
 stands_set f disks k disk low =
     stands_at f (slice_set disks k disk) k disk (subst (λ n. k < n) (sym (length_set disks k disk)) low) ∙ ap (λ d. (f d).stands) (get_or-set_same disks k disk disk low)
 
-stands_other : {A : Type 0} (f : A → DiskSeen) (disks : List A) (k p : ℕ) (disk : A) → p ≢ k → disk_at (stands_of (map f (slice_set disks k disk))) p ≡ disk_at (stands_of (map f disks)) p
+pub stands_other : {A : Type 0} (f : A → DiskSeen) (disks : List A) (k p : ℕ) (disk : A) → p ≢ k → disk_at (stands_of (map f (slice_set disks k disk))) p ≡ disk_at (stands_of (map f disks)) p
 stands_other f [] k p disk differs = refl
 stands_other f (x ∷ xs) zero zero disk differs = absurd (differs refl)
 stands_other f (x ∷ xs) zero (suc p) disk differs = refl
@@ -81,7 +95,7 @@ stands_other f (x ∷ xs) (suc k) (suc p) disk differs = stands_other f xs k p d
 pub works_at : {A E : Type 0} (logs : List (Option Keeping)) (disks : List A) (f : A → DiskSeen) (peer before now : ℕ) (slot kept : Option Keeping) (d disk : A) (had todo : Option Job) (result : Result Done E)
     → slot ≡ log_at logs peer → peer < length logs → peer < length disks → had ≡ todo
     → ((f (slice_index_or disks peer d)).stands.last ≤ before → Tries (record { before = before; now = now; slot = slot; kept = kept; old = (f (slice_index_or disks peer d)).stands; new = (f disk).stands }) had result)
-    → Works (record { peer = peer; before = before; now = now; logs = logs; after = slice_set logs peer kept; disks = map f disks; left = map f (slice_set disks peer disk) }) todo result
+    → WorksAlone (record { peer = peer; before = before; now = now; logs = logs; after = slice_set logs peer kept; disks = map f disks; left = map f (slice_set disks peer disk) }) todo result
 works_at logs disks f peer before now slot kept d disk had todo result is low within job_is tries = record {
   tries = λ last. subst (λ (t : Try). Tries t todo result) same (subst (λ o. Tries (trying slot kept (f (slice_index_or disks peer d)).stands (f disk).stands) o result) job_is (tries (subst (λ (s : Standing). s.last ≤ before) old_is last)));
   count = length_map f (slice_set disks peer disk) ∙ length_set disks peer disk ∙ sym (length_map f disks);
@@ -136,7 +150,7 @@ not_own todo j is not own = never (sym not ∙ ap is_own (sym is) ∙ own)
 
 -- nothing was tried
 pub works_nothing : {A E : Type 0} (logs : List (Option Keeping)) (disks : List A) (f : A → DiskSeen) (peer now : ℕ) (todo : Option Job) (fault : E) → Since (disk_at (stands_of (map f disks)) peer)
-    → Works {E = E} (record { peer = peer; before = now; now = now; logs = logs; after = logs; disks = map f disks; left = map f disks }) todo (Err fault)
+    → WorksAlone {E = E} (record { peer = peer; before = now; now = now; logs = logs; after = logs; disks = map f disks; left = map f disks }) todo (Err fault)
 works_nothing logs disks f peer now todo fault since = record {
   tries = λ last. record {
     idle = λ h. stays_all (disk_at (stands_of (map f disks)) peer) now last since;

@@ -1,8 +1,10 @@
 pub mod BeginLemmas
 pub mod CalmLemmas
+pub mod CopyLemmas
 pub mod CountLemmas
 pub mod DeltaLemmas
 pub mod DiskLemmas
+pub mod EmptyLemmas
 pub mod EventLemmas
 pub mod FindLemmas
 pub mod FoundLemmas

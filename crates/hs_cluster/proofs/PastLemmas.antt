@@ -6,7 +6,7 @@ use Rattle.hs_cluster.proofs.HeldLemmas.{own_job}
 use Rattle.hs_cluster.specs.Calm.{GoesCalmly}
 use Rattle.hs_cluster.specs.declared.fault.ClusterFault.{ClusterFault}
 use Rattle.hs_cluster.specs.Disks.{DiskSeen, log_at, stands_of}
-use Rattle.hs_cluster.specs.Jobs.{Leaves, LeavesLog, Tries, Working, Works, is_own, list_after, try_of, waiting_after}
+use Rattle.hs_cluster.specs.Jobs.{Leaves, LeavesLog, Tries, Working, WorksAlone, is_own, list_after, try_of, waiting_after}
 use Rattle.hs_cluster.specs.Past.{HasSomeLog, HoldsLog, LeavesPast}
 use Rattle.hs_core_words.specs.Looking.{first_job}
 use Rattle.hs_core_words.specs.State.{Core}
@@ -49,7 +49,7 @@ pub record Worked {E : Type 0} (w : Working) (result : Result Done E) (p : ℕ) 
   pub stays : PastStays w.before w.now (disk_at (stands_of w.disks) p) (disk_at (stands_of w.left) p)
   pub holds : OnOk result (HoldsLog w.now w.after w.left p)
 
-module _ {E : Type 0} (w : Working) (todo : Option Job) (result : Result Done E) (works : Works w todo result) (up : w.before ≤ w.now) where
+module _ {E : Type 0} (w : Working) (todo : Option Job) (result : Result Done E) (works : WorksAlone w todo result) (up : w.before ≤ w.now) where
   abbrev old : Standing
   old = disk_at (stands_of w.disks) w.peer
 

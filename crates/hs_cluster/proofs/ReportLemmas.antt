@@ -4,7 +4,7 @@ use Rattle.std.proofs.lemmas.Bool.{cases_eq}
 use Rattle.std.specs.Prelude.{Result, Ok}
 use Rattle.hs_cluster.proofs.HeldLemmas.{HasKept, MayHave, after_may, done_is, done_may, failed_may, sealed_beside, sealed_may}
 use Rattle.hs_cluster.specs.Disks.{DiskSeen, log_at, stands_of}
-use Rattle.hs_cluster.specs.Jobs.{Leaves, LeavesLog, Tries, Working, Works, list_after, try_of}
+use Rattle.hs_cluster.specs.Jobs.{Leaves, LeavesLog, Tries, Working, WorksAlone, list_after, try_of}
 use Rattle.hs_cluster.specs.Kept.{KeepsLogs, sealed_front}
 use Rattle.hs_events.specs.Sane.{IsSane, appended_of}
 use Rattle.hs_core_words.specs.declared.event.Event.TheVariants as event
@@ -93,7 +93,7 @@ module _ (c : Whole) (w : Working) (sane : IsSane c) (is : IsPeer c.core.members
 
   -- ---- the call
 
-  pub call_fine : {E : Type 0} (result : Result Done E) → Works w (first_job w.peer c.core) result
+  pub call_fine : {E : Type 0} (result : Result Done E) → WorksAlone w (first_job w.peer c.core) result
       → EachImageOfOne w.before w.now w.peer (stands_of w.disks) (stands_of w.left) (λ image. counts c w.peer ≡ true → Fine c image)
   call_fine result works = go (first_job w.peer c.core) refl (log_at w.logs w.peer) refl
     where
@@ -116,7 +116,7 @@ module _ (c : Whole) (w : Working) (sane : IsSane c) (is : IsPeer c.core.members
 
   -- ---- its report
 
-  module _ (done : Done) (at : ℕ) (E : Type 0) (works : Works {E = E} w (first_job w.peer c.core) (Ok done)) (answer : is_answer c.core w.peer done ≡ true) where
+  module _ (done : Done) (at : ℕ) (E : Type 0) (works : WorksAlone {E = E} w (first_job w.peer c.core) (Ok done)) (answer : is_answer c.core w.peer done ≡ true) where
     abbrev after : Whole
     after = step_whole (event.Report w.peer done) at c
 

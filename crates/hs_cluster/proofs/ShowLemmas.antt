@@ -16,7 +16,7 @@ use Rattle.hs_cluster.specs.declared.fault.ClusterFault.{ClusterFault}
 use Rattle.hs_cluster.specs.declared.fault.ClusterFault.TheVariants.{NoMemory}
 use Rattle.hs_cluster.specs.Counts.{AllStandUntold, AreAllCounted, HasAllPaid, HasPaid, NoneFalls}
 use Rattle.hs_cluster.specs.Disks.{DiskSeen, log_at, stands_of}
-use Rattle.hs_cluster.specs.Jobs.{HasStored, ReadsOn, TellsBytes, Working, Works, is_own}
+use Rattle.hs_cluster.specs.Jobs.{HasStored, ReadsOn, TellsBytes, Working, WorksAlone, is_own}
 use Rattle.hs_cluster.specs.Kept.{AreStored, AreTold, CanGoOn, CanRead, IsTold, KeepsLogs, LeavesLists, ReadsLogs, Shows, Span, sealed_front}
 use Rattle.hs_cluster.specs.Past.{HoldsLog, LeavesPast}
 use Rattle.hs_cluster.specs.Rooms.{HaveRecordRoom}
@@ -297,7 +297,7 @@ module _ (c : Whole) (before now peer : ℕ) (disks left : List Standing) (since
 -- the job was not done, or its report did not come
 pub job_cut : (tells : Type 0) (before now peer : ℕ) (old new : Running) (after : List (Option Keeping)) (disks left : List DiskSeen) {E : Type 0} (result : Result Done E) → IsPeer old.core.members.shape peer → before ≤ now
     → (tells → Since (stands_of disks))
-    → (tells → is_own (first_job peer old.core) ≡ true → Works (record { peer = peer; before = before; now = now; logs = old.logs; after = after; disks = disks; left = left }) (first_job peer old.core) result)
+    → (tells → is_own (first_job peer old.core) ≡ true → WorksAlone (record { peer = peer; before = before; now = now; logs = old.logs; after = after; disks = disks; left = left }) (first_job peer old.core) result)
     → NoneFalls disks left
     → Shows tells (record { before = before; now = now; old = old; new = new; disks = disks; left = left }) (Err NoMemory) []
 job_cut tells before now peer old new after disks left {E = E} result is up since works falls = record {
@@ -310,7 +310,7 @@ job_cut tells before now peer old new after disks left {E = E} result is up sinc
       let low : IsPeer c.core.members.shape peer = subst (λ (x : Core). IsPeer x.members.shape peer) (sym core) is in
       let w : Working = record { peer = peer; before = before; now = now; logs = old.logs; after = after; disks = disks; left = left } in
       let own : is_own (first_job peer old.core) ≡ true = subst (λ x. is_own (first_job peer x) ≡ true) core (own_job c peer can.sane) in
-      let done : Works w (first_job peer c.core) result = subst (λ x. Works w (first_job peer x) result) (sym core) (works told own) in
+      let done : WorksAlone w (first_job peer c.core) result = subst (λ x. WorksAlone w (first_job peer x) result) (sym core) (works told own) in
       let call = call_fine c w can.sane low can.listed can.keeps result done in
       call_lists c before now peer (stands_of disks) (stands_of left) (since told) can.keeps call (record { before = before; now = now; old = old; new = new; disks = disks; left = left }) refl refl refl refl;
   goes_on = λ told c core can. tt;
@@ -322,7 +322,7 @@ job_cut tells before now peer old new after disks left {E = E} result is up sinc
 -- the job was done, and its report came, unless memory ran out or it was refused
 pub job_shows : (tells : Type 0) (before now peer : ℕ) (old new : Running) (after : List (Option Keeping)) (disks left : List DiskSeen) (E : Type 0) (done : Done) (r : Result ⊤ ClusterFault) → IsPeer old.core.members.shape peer → before ≤ now
     → old.core.ended ≡ None → is_answer old.core peer done ≡ true → (tells → Since (stands_of disks))
-    → (tells → is_own (first_job peer old.core) ≡ true → Works {E = E} (record { peer = peer; before = before; now = now; logs = old.logs; after = after; disks = disks; left = left }) (first_job peer old.core) (Ok done))
+    → (tells → is_own (first_job peer old.core) ≡ true → WorksAlone {E = E} (record { peer = peer; before = before; now = now; logs = old.logs; after = after; disks = disks; left = left }) (first_job peer old.core) (Ok done))
     → new.logs ≡ after → Does (done_of r (event.Report peer done, now)) old new r → NoneFalls disks left → HasPaid old.core peer done disks left → AllStandUntold done disks left → TellsBytes done
     → (tells → is_own (first_job peer old.core) ≡ true → (list : Numbered) (waiting : Option Entry) → ((keeping : Keeping) → log_at old.logs peer ≡ Some keeping → IsKept keeping ((disk_at (stands_of disks) peer).seen keeping.log.side) list waiting)
     → HasStored (first_job peer old.core) (catalogue_of (home peer old.core) old.core).blocks list → HasAllPaid old.core peer done disks left)
@@ -359,11 +359,11 @@ job_shows tells before now peer old new after disks left E done r is up was answ
     w : Working
     w = record { peer = peer; before = before; now = now; logs = old.logs; after = after; disks = disks; left = left }
 
-    did : tells → (c : Whole) → c.core ≡ old.core → CanGoOn c old.logs disks before → Works {E = E} w (first_job peer c.core) (Ok done)
+    did : tells → (c : Whole) → c.core ≡ old.core → CanGoOn c old.logs disks before → WorksAlone {E = E} w (first_job peer c.core) (Ok done)
     did told c core can =
         let low : IsPeer c.core.members.shape peer = subst (λ (x : Core). IsPeer x.members.shape peer) (sym core) is in
         let own : is_own (first_job peer old.core) ≡ true = subst (λ x. is_own (first_job peer x) ≡ true) core (own_job c peer can.sane) in
-        subst (λ x. Works {E = E} w (first_job peer x) (Ok done)) (sym core) (works told own)
+        subst (λ x. WorksAlone {E = E} w (first_job peer x) (Ok done)) (sym core) (works told own)
 
     low_in : (c : Whole) → c.core ≡ old.core → IsPeer c.core.members.shape peer
     low_in c core = subst (λ (x : Core). IsPeer x.members.shape peer) (sym core) is

@@ -1,6 +1,8 @@
 -- What a job leaves of a log, and of its disk at each moment.
-use Rattle.std.specs.Prelude.{◌≡◌, ◌≢◌, ◌⊎◌, ◌≤◌, ℕ, ⊤, Bool, true, false, is_some, slice_index, ◌<◌, Contains, List, [], length, Option, Some, None, Result, IfOk}
-use Rattle.hs_cluster.specs.Disks.{DiskSeen, log_at, stands_of}
+use Rattle.std.specs.Option.{option_map_or}
+use Rattle.std.specs.Prelude.{◌≡◌, ◌≢◌, ◌⊎◌, ◌≤◌, ◌+◌, ◌++◌, ◌∷◌, ℕ, ⊤, Bool, true, false, is_some, slice_index, ◌<◌, Contains, List, [], length, Option, Some, None, Result, IfOk}
+use Rattle.hs_cluster.specs.Disks.{DiskSeen, log_at, seen_at, stands_of}
+use Rattle.hs_desk.specs.Answers.{is_copy_from}
 use Rattle.hs_desk.specs.declared.done.Done.{Done}
 use Rattle.hs_desk.specs.declared.done.Done.TheVariants as done
 use Rattle.hs_desk.specs.declared.job.Job.{Job}
@@ -9,10 +11,12 @@ use Rattle.hs_entry.specs.declared.entry.Entry.{Entry}
 use Rattle.hs_events.specs.Asked.{failed_disk}
 use Rattle.hs_events.specs.Reports.{TellsOf}
 use Rattle.hs_fold.specs.Shards.Setting.{Numbered}
-use Rattle.hs_peerlog.specs.Images.{IsOne, LeavesAll, LeavesEach}
-use Rattle.hs_peerlog.specs.Lists.{HasLog, IsKept, Keeping, with_waiting}
+use Rattle.hs_peerlog.specs.Heads.{LeavesHeader}
+use Rattle.hs_peerlog.specs.Images.{IsAny, IsOne, LeavesAll, LeavesAny, LeavesEach}
+use Rattle.hs_peerlog.specs.Lists.{HasLog, IsKept, Keeping, last_of, numbered_entry, with_waiting}
 use Rattle.hs_ports.specs.Disk.{Standing}
 use Rattle.hs_ports.specs.Moments.{disk_at}
+use Rattle.hs_side.specs.declared.header.Header.{Header}
 use Rattle.hs_shard.specs.Facts.{BlockList, pointers_at}
 
 -- ---- the list behind a job
@@ -39,7 +43,7 @@ waiting_after job.Reset waiting = None
 waiting_after (job.Copy from number) waiting = waiting
 waiting_after job.Reclaim waiting = waiting
 
--- whether a job needs the log of its peer alone; so where there is none
+-- whether a job needs the log of its peer, and no other; so where there is none
 abbrev pub is_own : Option Job → Bool
 is_own None = true
 is_own (Some (job.Append number entry)) = true
@@ -48,6 +52,15 @@ is_own (Some (job.Read number)) = true
 is_own (Some job.Reset) = false
 is_own (Some (job.Copy from number)) = false
 is_own (Some job.Reclaim) = true
+
+-- whether a job reads the disk of a peer beside its own
+abbrev pub reads_from : ℕ → Option Job → Bool
+reads_from peer todo = option_map_or (is_copy_from peer) todo false
+
+-- each other disk stays as it is, but of one that is read the count
+pub record StandsBeside (tells : Type 0) (peer : ℕ) (todo : Option Job) (old new : List DiskSeen) : Type 0 where
+  pub same : (disk : ℕ) → disk ≢ peer → reads_from disk todo ≡ false → seen_at new disk ≡ seen_at old disk
+  pub stands : tells → (disk : ℕ) → disk ≢ peer → (seen_at new disk).stands ≡ (seen_at old disk).stands
 
 -- bytes, and not just numbers
 abbrev pub AreBytes : List ℕ → Type 0
@@ -130,9 +143,67 @@ try_of w = record {
   new = disk_at (stands_of w.left) w.peer;
 }
 
--- a job was tried there, and every other disk stays, with its log
-pub record Works {E : Type 0} (w : Working) (todo : Option Job) (result : Result Done E) : Type 0 where
+-- a job that needs the log of its peer alone was tried there, and every other disk stays, with its log
+pub record WorksAlone {E : Type 0} (w : Working) (todo : Option Job) (result : Result Done E) : Type 0 where
   pub tries : (disk_at (stands_of w.disks) w.peer).last ≤ w.before → Tries (try_of w) todo result
   pub count : length w.left ≡ length w.disks
   pub logs : (p : ℕ) → p ≢ w.peer → log_at w.after p ≡ log_at w.logs p
   pub others : (p : ℕ) → p ≢ w.peer → disk_at (stands_of w.left) p ≡ disk_at (stands_of w.disks) p
+
+-- the call that is told to have failed, where one is, was of this disk
+abbrev pub FailsAlone : ℕ → Done → Type 0
+FailsAlone peer done = (disk : ℕ) → failed_disk done ≡ Some disk → disk ≡ peer
+
+-- ---- an emptying
+
+-- one of these lists, or the empty one
+abbrev pub IsAnyOrNone : (ℕ → Numbered) → Numbered → Type 0
+IsAnyOrNone lists list = IsAny lists list ⊎ (list ≡ [])
+
+-- its log is in use, and has the empty list, whatever a stop leaves; a disk whose call failed is out of use
+abbrev pub LeavesEmpty : Option ℕ → Try → Type 0
+LeavesEmpty None t = (keeping : Keeping) × (t.kept ≡ Some keeping) × HasLog keeping t.new [] None
+LeavesEmpty (Some disk) t = t.kept ≡ None
+
+-- so behind it, whatever the disk held. Where whatever a stop left had one of some lists, and no other peer's header, each moment leaves one of these, or the empty one
+pub record Empties {E : Type 0} (head : Header) (t : Try) (result : Result Done E) : Type 0 where
+  pub log : IfOk result (λ done. LeavesEmpty (failed_disk done) t)
+  pub moments : (lists : ℕ → Numbered) → LeavesAny t.old lists → LeavesHeader t.old head → LeavesEach t.before t.now t.old t.new (IsAnyOrNone lists)
+
+-- ---- a copying step
+
+-- a list with an entry that another list has by this number, behind it
+pub record WithCopy (number : ℕ) (source list longer : Numbered) : Type 0 where
+  pub entry : Entry
+  pub found : numbered_entry source number ≡ Some entry
+  pub behind : number ≡ last_of list + 1
+  pub same : longer ≡ list ++ (number, entry) ∷ []
+
+-- its peer's log has the copy behind its list; where the lead's call failed nothing was done, and a peer whose own call failed is out of use
+abbrev pub LeavesCopy : Option ℕ → Try → ℕ → ℕ → ℕ → Numbered → Numbered → Type 0
+LeavesCopy None t peer from number source list = (keeping : Keeping) × (longer : Numbered) × (t.kept ≡ Some keeping) × WithCopy number source list longer × HasLog keeping t.new longer None
+LeavesCopy (Some disk) t peer from number source list = ((disk ≡ from) × (t.kept ≡ t.slot) × (t.new ≡ t.old)) ⊎ ((disk ≡ peer) × (t.kept ≡ None))
+
+-- each moment leaves the list before it, or that with the copy
+pub record HasCopied {E : Type 0} (t : Try) (peer from number : ℕ) (source list : Numbered) (result : Result Done E) : Type 0 where
+  pub log : IfOk result (λ done. LeavesCopy (failed_disk done) t peer from number source list)
+  pub moments : LeavesEach t.before t.now t.old t.new (λ l. (l ≡ list) ⊎ WithCopy number source list l)
+
+-- so with the list that the lead's log reads as, and that of its own
+abbrev pub Copies : {E : Type 0} → Working → ℕ → ℕ → Result Done E → Type 0
+Copies w from number result =
+    (lead keeping : Keeping) (source list : Numbered) (ahead waiting : Option Entry)
+    → log_at w.logs from ≡ Some lead → IsKept lead ((disk_at (stands_of w.disks) from).seen lead.log.side) source ahead
+    → log_at w.logs w.peer ≡ Some keeping → HasLog keeping (disk_at (stands_of w.disks) w.peer) list waiting
+    → HasCopied (try_of w) w.peer from number source list result
+
+-- ---- any job
+
+-- a job was tried on the disk of its peer, which has this header, and every other disk stays; of the logs only that of a disk falls whose failed call is told
+pub record Works {E : Type 0} (head : Header) (w : Working) (todo : Option Job) (result : Result Done E) : Type 0 where
+  pub alone : is_own todo ≡ true → WorksAlone w todo result
+  pub empties : todo ≡ Some job.Reset → (disk_at (stands_of w.disks) w.peer).last ≤ w.before → Empties head (try_of w) result
+  pub copies : (from number : ℕ) → todo ≡ Some (job.Copy from number) → from ≢ w.peer → (disk_at (stands_of w.disks) w.peer).last ≤ w.before → Copies w from number result
+  pub count : length w.left ≡ length w.disks
+  pub others : (p : ℕ) → p ≢ w.peer → disk_at (stands_of w.left) p ≡ disk_at (stands_of w.disks) p
+  pub logs : IfOk result (λ done. (p : ℕ) → p ≢ w.peer → (failed_disk done ≢ Some p → log_at w.after p ≡ log_at w.logs p) × (failed_disk done ≡ Some p → log_at w.after p ≡ None))

@@ -1,20 +1,24 @@
 //! The first job of a peer.
-ghost use Rattle.std.specs.Prelude.{◌≡◌, ◌*◌, ◌+◌, ◌≤◌, ℕ, Option, Some, length, map, true, false, IfOk, IsOkUnless, IsSome, OnOk};
+ghost use Rattle.std.specs.Prelude.{◌≡◌, ◌≢◌, ◌*◌, ◌+◌, ◌≤◌, ℕ, None, Option, Some, length, map, true, false, IfOk, IsOkUnless, IsSome, OnErr, OnOk};
 ghost use Rattle.hs_cluster.specs.declared.fault.ClusterFault.TheVariants.{NoMemory};
 ghost use Rattle.hs_cluster.specs.Counts.{AllStandUntold, HasAllPaid, HasPaid, IsCopyPaid, IsPaid, NoneFalls, StandsUntold};
 ghost use Rattle.hs_cluster.specs.Disks.{AreReady, IsSlotReady, log_at, seen_as, seen_at, stands_of};
-ghost use Rattle.hs_cluster.specs.Jobs.{HasStored, ReadsOn, TellsBytes, Tries, Works, is_own};
+ghost use Rattle.hs_cluster.specs.Jobs.{Empties, FailsAlone, HasCopied, HasStored, ReadsOn, StandsBeside, TellsBytes, Tries, Works, is_own};
 ghost use Rattle.hs_core_words.specs.Looking.{catalogue_of, first_job, home};
 ghost use Rattle.hs_entry.specs.declared.entry.Entry.{Entry};
+ghost use Rattle.hs_events.specs.Asked.{failed_disk};
 ghost use Rattle.hs_events.specs.Due.{is_answer};
 ghost use Rattle.hs_events.specs.Reports.{only_reads};
 ghost use Rattle.hs_desk.specs.Answers.{answers};
+ghost use Rattle.hs_desk.specs.declared.done.Done.TheVariants as done;
 ghost use Rattle.hs_desk.specs.declared.job.Job.{Job};
 ghost use Rattle.hs_desk.specs.declared.job.Job.TheVariants as job;
 ghost use Rattle.hs_members.specs.Members.{IsPeer};
 ghost use Rattle.hs_fold.specs.Shards.Setting.{Numbered};
-ghost use Rattle.hs_peerlog.specs.Lists.{IsKept, IsReady, Keeping};
+ghost use Rattle.hs_peerlog.specs.Lists.{HasLog, IsKept, IsReady, Keeping, numbered_entry};
 ghost use Rattle.hs_ports.specs.Moments.{disk_at};
+ghost use Rattle.hs_side.specs.declared.header.Header.{Header};
+ghost use Rattle.hs_side.specs.Headers.{own_header};
 
 use crate::ClusterFault;
 use crate::work::{do_own, empty_disk, keep_copy};
@@ -52,8 +56,8 @@ pub(crate) fn do_job<D: Disk>(
         (map (λ disk. seen_as (D.size disk) (D.stands disk) (D.faults disk)) disks.new)) }
     ensures logs { length logs.new.items ≡ length logs.old.items }
     ensures disks { length disks.new ≡ length disks.old }
-    // A job that needs the log of its peer alone: what it leaves of its disk, and of no other.
-    ensures works { D.tells → is_own (first_job peer core.now) ≡ true → Works (record {
+    // What it leaves of the disk of its peer, and of every other one.
+    ensures works { D.tells → Works (own_header core.now.members.shape peer) (record {
       peer = peer;
       before = watch.old;
       now = watch.new;
@@ -62,6 +66,9 @@ pub(crate) fn do_job<D: Disk>(
       disks = map (λ disk. seen_as (D.size disk) (D.stands disk) (D.faults disk)) disks.old;
       left = map (λ disk. seen_as (D.size disk) (D.stands disk) (D.faults disk)) disks.new;
     }) (first_job peer core.now) result }
+    ensures beside { StandsBeside D.tells peer (first_job peer core.now)
+        (map (λ disk. seen_as (D.size disk) (D.stands disk) (D.faults disk)) disks.old)
+        (map (λ disk. seen_as (D.size disk) (D.stands disk) (D.faults disk)) disks.new) }
     // No count falls. That of a disk whose failed call is told rose, but for a job that only read.
     ensures later { NoneFalls
         (map (λ disk. seen_as (D.size disk) (D.stands disk) (D.faults disk)) disks.old)
@@ -126,7 +133,7 @@ pub(crate) fn do_job<D: Disk>(
     }
 }
 
-/// Copies the entry of a number from the disk of another peer.
+/// Copies the entry of a number from the disk of another peer, behind the list of its own.
 #[tactic(auto, using(crate::proofs::DiskLemmas::slot_at, crate::proofs::DiskLemmas::ready_slot, crate::proofs::CountLemmas::falls_not, crate::proofs::CountLemmas::read_failed))]
 fn do_copy<D: Disk>(
     logs: &mut Vec<Option<PeerLog>>,
@@ -147,6 +154,18 @@ fn do_copy<D: Disk>(
         (map (λ disk. seen_as (D.size disk) (D.stands disk) (D.faults disk)) disks.new)) }
     ensures logs { length logs.new.items ≡ length logs.old.items }
     ensures disks { length disks.new ≡ length disks.old }
+    ensures works { (head : Header) → D.tells → Works head (record {
+      peer = peer;
+      before = watch.old;
+      now = watch.new;
+      logs = logs.old.items;
+      after = logs.new.items;
+      disks = map (λ disk. seen_as (D.size disk) (D.stands disk) (D.faults disk)) disks.old;
+      left = map (λ disk. seen_as (D.size disk) (D.stands disk) (D.faults disk)) disks.new;
+    }) (Some (job.Copy from number)) result }
+    ensures beside { StandsBeside D.tells peer (Some (job.Copy from number))
+        (map (λ disk. seen_as (D.size disk) (D.stands disk) (D.faults disk)) disks.old)
+        (map (λ disk. seen_as (D.size disk) (D.stands disk) (D.faults disk)) disks.new) }
     ensures later { NoneFalls
         (map (λ disk. seen_as (D.size disk) (D.stands disk) (D.faults disk)) disks.old)
         (map (λ disk. seen_as (D.size disk) (D.stands disk) (D.faults disk)) disks.new) }
@@ -176,8 +195,18 @@ fn do_copy<D: Disk>(
                 &entry,
             )
         }
-        Err(LogFault::NoMemory) => Err(ClusterFault::NoMemory),
-        Err(LogFault::Disk) | Err(LogFault::NotALog { .. }) | Err(LogFault::WrongShape { .. }) => {
+        Err(fault) => failed_read(fault, from),
+    }
+}
+
+/// What a copying step tells where its read of the lead's disk was refused.
+fn failed_read(fault: LogFault, from: u8) -> Result<Done, ClusterFault>
+    ensures told { IfOk result (λ told. told ≡ done.Failed from) }
+    ensures only { IsOkUnless result NoMemory }
+{
+    match fault {
+        LogFault::NoMemory => Err(ClusterFault::NoMemory),
+        LogFault::Disk | LogFault::NotALog { .. } | LogFault::WrongShape { .. } => {
             Ok(Done::Failed { disk: from })
         }
     }
@@ -192,6 +221,7 @@ fn do_usual<D: Disk>(
     job: &Job,
     catalogue: &Catalogue,
 ) -> Result<Done, ClusterFault>
+    requires usual { is_own (Some job.now) ≡ true }
     requires ready { IsSlotReady D.tells slot.old (D.size disk.old) (D.stands disk.old) }
     ensures answer { IfOk result (λ told. answers peer job.now told ≡ true) }
     ensures bytes { IfOk result TellsBytes }
@@ -206,6 +236,7 @@ fn do_usual<D: Disk>(
       old = D.stands disk.old;
       new = D.stands disk.new;
     }) (Some job.now) result }
+    ensures fails { IfOk result (FailsAlone peer) }
     ensures later { D.faults disk.old ≤ D.faults disk.new }
     ensures paid { (at : ℕ) → only_reads at job.now ≡ false
         → IfOk result (IsPaid peer (D.faults disk.old) (D.faults disk.new)) }
@@ -239,7 +270,7 @@ fn do_usual<D: Disk>(
     }
 }
 
-/// Empties the disk of a peer.
+/// Empties the disk of a peer. Its log is in use from then on.
 fn do_reset<D: Disk>(
     alloc: Global,
     slot: &mut Option<PeerLog>,
@@ -253,6 +284,16 @@ fn do_reset<D: Disk>(
     ensures only { IsOkUnless result NoMemory }
     ensures ready { OnOk result
         (IsSlotReady D.tells slot.new (D.size disk.new) (D.stands disk.new)) }
+    ensures empties { D.tells → (D.stands disk.old).last ≤ watch.old
+        → Empties (own_header shape peer) (record {
+          before = watch.old;
+          now = watch.new;
+          slot = slot.old;
+          kept = slot.new;
+          old = D.stands disk.old;
+          new = D.stands disk.new;
+        }) result }
+    ensures fails { IfOk result (FailsAlone peer) }
     ensures later { D.faults disk.old ≤ D.faults disk.new }
     ensures paid { IfOk result (IsPaid peer (D.faults disk.old) (D.faults disk.new)) }
     ensures calm { IfOk result (StandsUntold peer (D.faults disk.old) (D.faults disk.new)) }
@@ -280,6 +321,13 @@ fn read_copy<D: Disk>(
 ) -> Result<Entry, LogFault>
     requires ready { IsSlotReady D.tells slot.old (D.size disk.old) (D.stands disk.old) }
     ensures ready { IsSlotReady D.tells slot.new (D.size disk.new) (D.stands disk.new) }
+    ensures kept { OnOk result (slot.new ≡ slot.old) }
+    ensures out { OnErr result (slot.new ≡ None) }
+    ensures found { D.tells → (keeping : Keeping) (list : Numbered) (waiting : Option Entry)
+        → slot.old ≡ Some keeping
+        → IsKept keeping ((D.stands disk.old).seen keeping.log.side) list waiting
+        → IfOk result (λ entry. numbered_entry list number ≡ Some entry) }
+    ensures same { D.tells → D.stands disk.new ≡ D.stands disk.old }
     ensures later { D.faults disk.old ≤ D.faults disk.new }
     ensures calm { OnOk result (D.faults disk.new ≡ D.faults disk.old) }
 {
@@ -297,6 +345,10 @@ fn read_sealed<D: Disk>(log: &PeerLog, disk: &mut D, number: u64) -> Result<Entr
         (D.stands disk.old) }
     ensures ready { OnOk result (IsReady D.tells log.now (D.size disk.new log.now.log.side)
         (D.stands disk.new)) }
+    ensures found { D.tells → (list : Numbered) (waiting : Option Entry)
+        → IsKept log.now ((D.stands disk.old).seen log.now.log.side) list waiting
+        → IfOk result (λ entry. numbered_entry list number ≡ Some entry) }
+    ensures same { D.tells → D.stands disk.new ≡ D.stands disk.old }
     ensures later { D.faults disk.old ≤ D.faults disk.new }
     ensures calm { OnOk result (D.faults disk.new ≡ D.faults disk.old) }
 {
@@ -322,6 +374,19 @@ fn write_copy<D: Disk>(
     ensures only { IsOkUnless result NoMemory }
     ensures ready { OnOk result
         (IsSlotReady D.tells slot.new (D.size disk.new) (D.stands disk.new)) }
+    ensures copies { (from : ℕ) (source list : Numbered) (waiting : Option Entry)
+        (keeping : Keeping) → D.tells → (D.stands disk.old).last ≤ watch.old
+        → numbered_entry source number ≡ Some entry.now → slot.old ≡ Some keeping
+        → HasLog keeping (D.stands disk.old) list waiting
+        → HasCopied (record {
+          before = watch.old;
+          now = watch.new;
+          slot = slot.old;
+          kept = slot.new;
+          old = D.stands disk.old;
+          new = D.stands disk.new;
+        }) peer from number source list result }
+    ensures fails { IfOk result (FailsAlone peer) }
     ensures later { D.faults disk.old ≤ D.faults disk.new }
     ensures paid { IfOk result (IsPaid peer (D.faults disk.old) (D.faults disk.new)) }
     ensures calm { IfOk result (StandsUntold peer (D.faults disk.old) (D.faults disk.new)) }

@@ -1,12 +1,15 @@
 //! One line of a script.
-ghost use Rattle.std.specs.Prelude.{◌≡◌, ◌*◌, ◌<◌, ◌≤◌, ⊤, ℕ, Err, List, None, Some, false, length, map, true, IfSome, OnOk};
+ghost use Rattle.std.specs.Prelude.{◌≡◌, ◌≢◌, ◌*◌, ◌<◌, ◌≤◌, ⊤, ℕ, Err, List, None, Some, false, length, map, true, IfSome, OnOk};
 ghost use Rattle.hs_cluster.specs.Calls.{RunsLine, of_core};
 ghost use Rattle.hs_events.specs.Commands.{is_served, uses_disks};
 ghost use Rattle.hs_cluster.specs.Disks.{AreReady, DiskSeen, log_at, seen_as};
+ghost use Rattle.hs_cluster.specs.Jobs.{StandsBeside};
 ghost use Rattle.hs_cluster.specs.Kept.{Shows};
+ghost use Rattle.hs_core_words.specs.Looking.{first_job};
 ghost use Rattle.hs_desk.specs.declared.fault.CoreFault.{CoreFault};
 ghost use Rattle.hs_limits.specs.declared.address.Address.{Address};
 ghost use Rattle.hs_model.specs.declared.command.Command.TheVariants as command;
+ghost use Rattle.hs_model.specs.declared.command.Command.TheVariants.{Fail, Turn};
 ghost use Rattle.hs_peerlog.specs.Lists.{Keeping};
 
 use crate::{Cluster, ClusterFault};
@@ -55,6 +58,16 @@ impl Cluster {
         // But for turns and `settle` the disks are as they were.
         ensures still { uses_disks command ≡ false
             → (disks.new ≡ disks.old) × (watch.new ≡ watch.old) }
+
+        // A turn works on the disk of its peer, and reads that of the lead in a copying step: each other
+        // one stays as it is.
+        ensures beside { (peer : ℕ) → command ≡ Turn peer → StandsBeside D.tells peer
+            (first_job peer self.old.core)
+            (map (λ disk. seen_as (D.size disk) (D.stands disk) (D.faults disk)) disks.old)
+            (map (λ disk. seen_as (D.size disk) (D.stands disk) (D.faults disk)) disks.new) }
+        // A line that has a peer fail puts its log out of use, and no other.
+        ensures falls { (peer : ℕ) → command ≡ Fail peer → (p : ℕ) → p ≢ peer
+            → log_at self.new.logs p ≡ log_at self.old.logs p }
 
         ensures ready { OnOk result (AreReady D.tells self.new.logs
             (map (λ disk. seen_as (D.size disk) (D.stands disk) (D.faults disk)) disks.new)) }
@@ -112,7 +125,7 @@ impl Cluster {
         self.step(Event::Line { line, op }, moment)
     }
 
-    /// A peer fails: its disk is out of use.
+    /// A peer fails: its disk is out of use, and no other.
     fn fail(&mut self, line: u64, peer: u8, moment: u64) -> Result<(), ClusterFault>
         requires going { self.old.core.ended ≡ None }
         requires moment { self.old.core.moment ≤ moment }
@@ -128,6 +141,9 @@ impl Cluster {
             }) result) }
         ensures logs { (p : ℕ) (keeping : Keeping) → log_at self.new.logs p ≡ Some keeping
             → log_at self.old.logs p ≡ Some keeping }
+        ensures own { OnOk result (log_at self.new.logs peer ≡ None) }
+        ensures others { (p : ℕ) → p ≢ peer
+            → log_at self.new.logs p ≡ log_at self.old.logs p }
         ensures shape { self.new.core.members.shape ≡ self.old.core.members.shape }
         ensures moment { self.new.core.moment ≤ moment }
     {
@@ -136,11 +152,14 @@ impl Cluster {
         Ok(())
     }
 
-    /// The disk of a peer is out of use.
-    #[tactic(auto, using(crate::proofs::DiskLemmas::dropped_fewer))]
+    /// The disk of a peer is out of use, and no other.
+    #[tactic(auto, using(crate::proofs::DiskLemmas::dropped_fewer, crate::proofs::DiskLemmas::dropped_own, crate::proofs::DiskLemmas::dropped_past, crate::proofs::DiskLemmas::dropped_other))]
     fn put_out(&mut self, peer: u8)
         ensures core { self.new.core ≡ self.old.core }
         ensures course { self.new.course ≡ self.old.course }
+        ensures own { log_at self.new.logs peer ≡ None }
+        ensures others { (p : ℕ) → p ≢ peer
+            → log_at self.new.logs p ≡ log_at self.old.logs p }
         ensures logs { (p : ℕ) (keeping : Keeping) → log_at self.new.logs p ≡ Some keeping
             → log_at self.old.logs p ≡ Some keeping }
     {
@@ -175,6 +194,9 @@ impl Cluster {
               disks = map (λ disk. seen_as (D.size disk) (D.stands disk) (D.faults disk)) disks.old;
               left = map (λ disk. seen_as (D.size disk) (D.stands disk) (D.faults disk)) disks.new;
             }) result) }
+        ensures beside { StandsBeside D.tells peer (first_job peer self.old.core)
+            (map (λ disk. seen_as (D.size disk) (D.stands disk) (D.faults disk)) disks.old)
+            (map (λ disk. seen_as (D.size disk) (D.stands disk) (D.faults disk)) disks.new) }
         ensures ready { OnOk result (AreReady D.tells self.new.logs
             (map (λ disk. seen_as (D.size disk) (D.stands disk) (D.faults disk)) disks.new)) }
         ensures count { length disks.new ≡ length disks.old }

@@ -9,7 +9,8 @@ use hs_limits::{Address, Delta, spelt};
 /// Whether an entry is within the bounds of its kind, and of a kind that is written so far. It takes
 /// no memory.
 pub(crate) fn is_readable(entry: &Entry) -> bool
-    ensures { IsTrue result → IsReadable entry.now }
+    ensures readable { IsTrue result → IsReadable entry.now }
+    ensures only { IsReadable entry.now → result ≡ true }
 {
     match entry {
         Entry::View { view } => *view >= 1,
@@ -81,9 +82,10 @@ fn is_epoch(epoch: u64) -> bool
 }
 
 /// Whether there are no more deltas than an entry has, each of some amount, ascending by address.
-#[tactic(auto, using(crate::proofs::DeltaLemmas::ascending_are_deltas))]
+#[tactic(auto, using(crate::proofs::DeltaLemmas::ascending_are_deltas, crate::proofs::DeltaLemmas::deltas_are_ascending))]
 fn are_deltas(deltas: &[Delta]) -> bool
-    ensures { IsTrue result → AreDeltas deltas.now }
+    ensures deltas { IsTrue result → AreDeltas deltas.now }
+    ensures only { AreDeltas deltas.now → result ≡ true }
 {
     deltas.len() <= 16_665 && are_ascending(deltas)
 }

@@ -7,7 +7,8 @@ ghost use Rattle.hs_cluster.specs.Kept.{Shows};
 ghost use Rattle.hs_events.specs.Due.{place_after, raises_known};
 ghost use Rattle.hs_cluster.specs.Settling.{DoesDue, RunsWalk, due_with};
 ghost use Rattle.hs_events.specs.Due.{IsDueOf, peer_due};
-ghost use Rattle.hs_core_words.specs.Looking.{known_of};
+ghost use Rattle.hs_cluster.specs.Jobs.{StandsBeside};
+ghost use Rattle.hs_core_words.specs.Looking.{first_job, known_of};
 ghost use Rattle.hs_members.specs.Members.{IsPeer, all_peers};
 
 use crate::job::do_job;
@@ -132,6 +133,9 @@ impl Cluster {
               disks = map (λ disk. seen_as (D.size disk) (D.stands disk) (D.faults disk)) disks.old;
               left = map (λ disk. seen_as (D.size disk) (D.stands disk) (D.faults disk)) disks.new;
             }) result) }
+        ensures beside { StandsBeside D.tells (peer_due due) (first_job (peer_due due) self.old.core)
+            (map (λ disk. seen_as (D.size disk) (D.stands disk) (D.faults disk)) disks.old)
+            (map (λ disk. seen_as (D.size disk) (D.stands disk) (D.faults disk)) disks.new) }
         ensures ready { OnOk result (AreReady D.tells self.new.logs
             (map (λ disk. seen_as (D.size disk) (D.stands disk) (D.faults disk)) disks.new)) }
         ensures count { length disks.new ≡ length disks.old }
@@ -173,6 +177,9 @@ impl Cluster {
               disks = map (λ disk. seen_as (D.size disk) (D.stands disk) (D.faults disk)) disks.old;
               left = map (λ disk. seen_as (D.size disk) (D.stands disk) (D.faults disk)) disks.new;
             }) result) }
+        ensures beside { StandsBeside D.tells peer (first_job peer self.old.core)
+            (map (λ disk. seen_as (D.size disk) (D.stands disk) (D.faults disk)) disks.old)
+            (map (λ disk. seen_as (D.size disk) (D.stands disk) (D.faults disk)) disks.new) }
         ensures ready { OnOk result (AreReady D.tells self.new.logs
             (map (λ disk. seen_as (D.size disk) (D.stands disk) (D.faults disk)) disks.new)) }
         ensures count { length disks.new ≡ length disks.old }

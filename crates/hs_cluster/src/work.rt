@@ -1,6 +1,7 @@
 //! One job on the disk of a peer.
-ghost use Rattle.std.specs.Prelude.{◌≡◌, ◌+◌, ◌≤◌, ℕ, List, Option, None, Some, true, false, is_some, IfOk, IfErr, OnOk};
-ghost use Rattle.hs_cluster.specs.Jobs.{AreBytes, HasStored, Leaves, ReadsOn, TellsBytes, is_own, sealed_list};
+ghost use Rattle.std.specs.Option.{option_map};
+ghost use Rattle.std.specs.Prelude.{◌≡◌, ◌⊎◌, ◌+◌, ◌==◌, ◌&&◌, ◌≤◌, ℕ, List, [], Option, None, Some, not, true, false, is_some, IfOk, IfErr, OnOk};
+ghost use Rattle.hs_cluster.specs.Jobs.{AreBytes, HasStored, IsAnyOrNone, Leaves, ReadsOn, TellsBytes, is_own, sealed_list};
 ghost use Rattle.hs_desk.specs.Answers.{answers};
 ghost use Rattle.hs_desk.specs.declared.done.Done.TheVariants as done;
 ghost use Rattle.hs_desk.specs.declared.job.Job.TheVariants as job;
@@ -10,9 +11,11 @@ ghost use Rattle.hs_events.specs.Asked.{failed_disk};
 ghost use Rattle.hs_events.specs.Reports.{TellsOf, only_reads};
 ghost use Rattle.hs_fold.specs.Shards.Setting.{Numbered};
 ghost use Rattle.hs_peerlog.specs.Caused.{IsCalm, IsCaused, IsOutside};
-ghost use Rattle.hs_peerlog.specs.Images.{Is, IsOne, LeavesEach};
-ghost use Rattle.hs_peerlog.specs.Lists.{HasLog, IsKept, IsReady};
+ghost use Rattle.hs_peerlog.specs.Heads.{LeavesHeader};
+ghost use Rattle.hs_peerlog.specs.Images.{Is, IsOne, LeavesAny, LeavesEach};
+ghost use Rattle.hs_peerlog.specs.Lists.{HasLog, IsKept, IsReady, with_waiting};
 ghost use Rattle.hs_shard.specs.Facts.{pointers_at};
+ghost use Rattle.hs_side.specs.Headers.{own_header};
 
 use crate::readable::is_readable;
 use hs_desk::{Done, Job};
@@ -105,6 +108,7 @@ pub(crate) fn append_entry<D: Disk>(
         → IsKept log.old ((D.stands disk.old).seen log.old.log.side) list waiting
         → OnOk result (IsKept log.new ((D.stands disk.new).seen log.new.log.side) list
         (Some entry.now)) }
+    ensures next { OnOk result (number ≡ log.old.rank.number + 1) }
     ensures any_moment { D.tells → (D.stands disk.old).last ≤ watch.old
         → (list : Numbered) (waiting : Option Entry)
         → HasLog log.old (D.stands disk.old) list waiting
@@ -122,6 +126,7 @@ pub(crate) fn append_entry<D: Disk>(
 
 /// Whether nothing waits to be sealed, and this is the next number.
 fn is_next(log: &PeerLog, number: u64) -> bool
+    ensures value { result ≡ (not (is_some log.now.waits) && log.now.rank.number + 1 == number) }
     ensures next { result ≡ true → number ≡ log.now.rank.number + 1 }
     ensures none { result ≡ true → log.now.waits ≡ None }
 {
@@ -134,7 +139,7 @@ fn is_next(log: &PeerLog, number: u64) -> bool
     }
 }
 
-/// Seals the entry of a number, where it waits.
+/// Seals the entry that waits, where it has this number.
 #[tactic(auto, using(crate::proofs::CountLemmas::outside_disk))]
 fn seal_entry<D: Disk>(
     log: &mut PeerLog,
@@ -154,6 +159,8 @@ fn seal_entry<D: Disk>(
         → IsKept log.old ((D.stands disk.old).seen log.old.log.side) list waiting
         → OnOk result (IsKept log.new ((D.stands disk.new).seen log.new.log.side)
         (sealed_list list waiting) None) }
+    ensures number { OnOk result
+        (option_map (λ rank. rank.number) log.old.waits ≡ Some number) }
     ensures any_moment { D.tells → (D.stands disk.old).last ≤ watch.old
         → (list : Numbered) (waiting : Option Entry)
         → HasLog log.old (D.stands disk.old) list waiting
@@ -256,22 +263,60 @@ pub(crate) fn empty_disk<D: Disk>(
 ) -> Result<PeerLog, LogFault>
     ensures ready { IfOk result (λ log. IsReady D.tells log (D.size disk.new log.log.side)
         (D.stands disk.new)) }
+    ensures list { D.tells → (D.stands disk.old).last ≤ watch.old
+        → IfOk result (λ log. HasLog log (D.stands disk.new) [] None) }
+    // Where whatever a stop left had one of some lists, and no other peer's header, each moment leaves
+    // one of these, or the empty one.
+    ensures any_moment { D.tells → (D.stands disk.old).last ≤ watch.old
+        → (lists : ℕ → Numbered) → LeavesAny (D.stands disk.old) lists
+        → LeavesHeader (D.stands disk.old) (own_header shape peer)
+        → LeavesEach watch.old watch.new (D.stands disk.old) (D.stands disk.new)
+        (IsAnyOrNone lists) }
     ensures refused { IfErr result IsOutside }
     ensures ticks { watch.old ≤ watch.new }
     ensures calm { IsCalm (D.faults disk.old) (D.faults disk.new) result }
     ensures cause { IsCaused (D.faults disk.old) (D.faults disk.new) result }
 {
     match PeerLog::recover(alloc, disk, watch, shape, peer) {
-        Ok(log) => {
-            let mut log = log;
-            log.reset(disk, watch)?;
-            Ok(log)
-        }
-        Err(LogFault::Disk) => Err(LogFault::Disk),
-        Err(LogFault::NoMemory) => Err(LogFault::NoMemory),
-        Err(LogFault::NotALog { .. }) | Err(LogFault::WrongShape { .. }) => {
+        Ok(log) => empty_log(log, disk, watch),
+        Err(fault) => {
+            if is_outside(fault) {
+                return Err(fault);
+            }
             PeerLog::clear(alloc, disk, watch, shape, peer)
         }
+    }
+}
+
+/// Empties a log.
+fn empty_log<D: Disk>(log: PeerLog, disk: &mut D, watch: &mut Watch) -> Result<PeerLog, LogFault>
+    requires ready { IsReady D.tells log (D.size disk.old log.log.side) (D.stands disk.old) }
+    ensures ready { IfOk result (λ emptied. IsReady D.tells emptied
+        (D.size disk.new emptied.log.side) (D.stands disk.new)) }
+    ensures list { D.tells → (D.stands disk.old).last ≤ watch.old → (list : Numbered)
+        → HasLog log (D.stands disk.old) list None
+        → IfOk result (λ emptied. HasLog emptied (D.stands disk.new) [] None) }
+    ensures any_moment { D.tells → (D.stands disk.old).last ≤ watch.old → (list : Numbered)
+        → HasLog log (D.stands disk.old) list None
+        → LeavesEach watch.old watch.new (D.stands disk.old) (D.stands disk.new) (IsOne list []) }
+    ensures refused { IfErr result IsOutside }
+    ensures ticks { watch.old ≤ watch.new }
+    ensures calm { IsCalm (D.faults disk.old) (D.faults disk.new) result }
+    ensures cause { IsCaused (D.faults disk.old) (D.faults disk.new) result }
+{
+    let mut emptied = log;
+    emptied.reset(disk, watch)?;
+    Ok(emptied)
+}
+
+/// Whether the disk failed, or memory ran out.
+fn is_outside(fault: LogFault) -> bool
+    ensures yes { result ≡ true → IsOutside fault }
+    ensures no { result ≡ false → IsOutside fault → ⊥ }
+{
+    match fault {
+        LogFault::Disk | LogFault::NoMemory => true,
+        LogFault::NotALog { .. } | LogFault::WrongShape { .. } => false,
     }
 }
 
@@ -287,6 +332,19 @@ pub(crate) fn keep_copy<D: Disk>(
         (D.stands disk.old) }
     ensures ready { OnOk result (IsReady D.tells log.new (D.size disk.new log.new.log.side)
         (D.stands disk.new)) }
+    ensures list { D.tells → (D.stands disk.old).last ≤ watch.old
+        → (list : Numbered) (waiting : Option Entry)
+        → HasLog log.old (D.stands disk.old) list waiting
+        → OnOk result (HasLog log.new (D.stands disk.new)
+        (with_waiting list entry.now) None) }
+    ensures next { OnOk result (number ≡ log.old.rank.number + 1) }
+    // Each moment leaves the list before, or that with the entry, which has this number then.
+    ensures any_moment { D.tells → (D.stands disk.old).last ≤ watch.old
+        → (list : Numbered) (waiting : Option Entry)
+        → HasLog log.old (D.stands disk.old) list waiting
+        → LeavesEach watch.old watch.new (D.stands disk.old) (D.stands disk.new)
+        (λ l. (l ≡ list) ⊎ (number ≡ log.old.rank.number + 1)
+        × (l ≡ with_waiting list entry.now)) }
     ensures refused { IfErr result IsOutside }
     ensures ticks { watch.old ≤ watch.new }
     ensures calm { IsCalm (D.faults disk.old) (D.faults disk.new) result }

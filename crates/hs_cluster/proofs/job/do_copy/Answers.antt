@@ -1,8 +1,13 @@
-use Rattle.std.proofs.Common.{◌≡◌, ◌<◌, arith, length, map, slice_set}
+use Rattle.std.proofs.Common.{◌≡◌, ◌∙◌, ◌<◌, Some, arith, inl, length, map, refl, slice_set, subst}
+use Rattle.std.specs.Prelude.{slice_index_or}
 use Rattle.std.proofs.lemmas.Grind.{common_steps}
 use Rattle.std.proofs.lemmas.List.{length-set}
 use Rattle.hs_cluster.proofs.CountLemmas.{copied_results, falls_not, falls_then, paid_at, rises_not, stand_at, stand_failed, stand_then}
-use Rattle.hs_cluster.proofs.DiskLemmas.{at_ok, ready_slot, slot_at}
+use Rattle.hs_cluster.proofs.CopyLemmas.{beside_one, beside_read, beside_same, beside_then, lead_answers, told_as, works_copied, works_read}
+use Rattle.hs_cluster.proofs.DiskLemmas.{at_ok, ready_slot, since_of, slot_at}
+use Rattle.hs_cluster.specs.Jobs.{HasCopied, TellsBytes}
+use Rattle.hs_desk.specs.declared.done.Done.TheVariants as done
+use Rattle.hs_desk.specs.declared.job.Job.TheVariants as job
 use Rattle.hs_cluster.specs.Disks.{AreReady, DiskSeen, log_at, seen_as, seen_at}
 use Rattle.hs_cluster.proofs.job.do_copy.Goals as goal
 
@@ -60,17 +65,20 @@ returns-in-Ok-clause-paid g c =
     (falls_not f c.args.disks.now c.from-source.result c.index-disks-source.result c.read_copy.new.disk in_disks c.read_copy.ensures.later c.args.peer)
     (paid_at f disks c.args.peer c.from-place.result c.index-disks-place.result c.write_copy.new.disk c.write_copy.result place low c.write_copy.ensures.paid)
 
-pub returns-in-Err-NoMemory-clause-later : goal.returns-in-Err-NoMemory-clause-later
-returns-in-Err-NoMemory-clause-later g c =
+pub returns-in-Err-clause-later : goal.returns-in-Err-clause-later
+returns-in-Err-clause-later g c =
     let f : g.row.D.Denot → DiskSeen = λ disk. seen_as (g.D.Disk.size disk) (g.D.Disk.stands disk) (g.D.Disk.faults disk) in
     let in_disks : c.from-source.result < length c.args.disks.now = grind (arith, common_steps) in
     falls_not f c.args.disks.now c.from-source.result c.index-disks-source.result c.read_copy.new.disk in_disks c.read_copy.ensures.later
 
-pub returns-in-Err-Disk-clause-later : goal.returns-in-Err-Disk-clause-later
-returns-in-Err-Disk-clause-later g c =
-    let f : g.row.D.Denot → DiskSeen = λ disk. seen_as (g.D.Disk.size disk) (g.D.Disk.stands disk) (g.D.Disk.faults disk) in
-    let in_disks : c.from-source.result < length c.args.disks.now = grind (arith, common_steps) in
-    falls_not f c.args.disks.now c.from-source.result c.index-disks-source.result c.read_copy.new.disk in_disks c.read_copy.ensures.later
+pub returns-in-Err-clause-answer : goal.returns-in-Err-clause-answer
+returns-in-Err-clause-answer g c = lead_answers c.args.peer c.args.from c.args.number c.failed_read.result c.failed_read.ensures.told
+
+pub returns-in-Err-clause-bytes : goal.returns-in-Err-clause-bytes
+returns-in-Err-clause-bytes g c = told_as c.failed_read.result (done.Failed c.args.from) TellsBytes tt c.failed_read.ensures.told
+
+pub returns-in-Err-clause-paid : goal.returns-in-Err-clause-paid
+returns-in-Err-clause-paid g c = told_as c.failed_read.result (done.Failed c.args.from) _ (inl refl) c.failed_read.ensures.told
 
 pub returns-in-Ok-clause-calm : goal.returns-in-Ok-clause-calm
 returns-in-Ok-clause-calm g c =
@@ -83,8 +91,63 @@ returns-in-Ok-clause-calm g c =
     (rises_not f c.args.disks.now c.from-source.result c.index-disks-source.result c.read_copy.new.disk in_disks c.in-Ok.ensures.calm)
     (stand_at f disks c.args.peer c.from-place.result c.index-disks-place.result c.write_copy.new.disk c.write_copy.result place low c.write_copy.ensures.calm)
 
-pub returns-in-Err-Disk-clause-calm : goal.returns-in-Err-Disk-clause-calm
-returns-in-Err-Disk-clause-calm g c =
+pub returns-in-Err-clause-calm : goal.returns-in-Err-clause-calm
+returns-in-Err-clause-calm g c =
     let f : g.row.D.Denot → DiskSeen = λ disk. seen_as (g.D.Disk.size disk) (g.D.Disk.stands disk) (g.D.Disk.faults disk) in
     let source : c.from-source.result ≡ c.args.from = grind (arith, common_steps) in
-    stand_failed f c.args.disks.now c.args.from c.from-source.result c.read_copy.new.disk source
+    told_as c.failed_read.result (done.Failed c.args.from) _ (stand_failed f c.args.disks.now c.args.from c.from-source.result c.read_copy.new.disk source) c.failed_read.ensures.told
+
+-- ---- what it leaves
+
+pub returns-in-Ok-clause-works : goal.returns-in-Ok-clause-works
+returns-in-Ok-clause-works g c = λ head told.
+    let f : g.row.D.Denot → DiskSeen = λ disk. seen_as (g.D.Disk.size disk) (g.D.Disk.stands disk) (g.D.Disk.faults disk) in
+    let item : c.index_mut.result.now ≡ log_at c.args.logs.now.items c.from-source.result = grind (arith, common_steps) in
+    let in_logs : c.from-source.result < length c.args.logs.now.items = grind (arith, common_steps) in
+    let in_disks : c.from-source.result < length c.args.disks.now = grind (arith, common_steps) in
+    let place_logs : c.from-place.result < length c.args.logs.now.items = grind (arith, common_steps) in
+    let place_disks : c.from-place.result < length c.args.disks.now = grind (arith, common_steps) in
+    let source : c.from-source.result ≡ c.args.from = grind (arith, common_steps) in
+    let place : c.from-place.result ≡ c.args.peer = grind (arith, common_steps) in
+    let here : c.index_mut-in-Ok.result.now ≡ log_at (slice_set c.args.logs.now.items c.from-source.result c.read_copy.new.slot) c.from-place.result = grind (arith, common_steps) in
+    works_copied head c.args.logs.now.items c.args.disks.now f c.args.peer c.args.from c.from-source.result c.from-place.result c.args.number c.args.watch.now c.write_copy.new.watch
+    c.index_mut.result.now c.read_copy.new.slot c.write_copy.new.slot c.index-disks-source.result c.index-disks-place.result c.read_copy.new.disk c.write_copy.new.disk c.in-Ok.entry c.write_copy.result
+    source place item c.in-Ok.ensures.kept in_logs in_disks place_logs place_disks (c.read_copy.ensures.same told)
+    (λ keeping list waiting at kept. c.in-Ok.ensures.found told keeping list waiting at kept)
+    (λ theirs list waiting keeping last found at has. subst (λ o. HasCopied (record { before = c.args.watch.now; now = c.write_copy.new.watch; slot = o; kept = c.write_copy.new.slot; old = (f (slice_index_or (slice_set c.args.disks.now c.from-source.result c.read_copy.new.disk) c.from-place.result c.index-disks-place.result)).stands; new = (f c.write_copy.new.disk).stands }) c.args.peer c.args.from c.args.number theirs list c.write_copy.result) here
+    (c.write_copy.ensures.copies c.args.from theirs list waiting keeping told last found (here ∙ at) has))
+    c.write_copy.ensures.fails
+
+pub returns-in-Err-clause-works : goal.returns-in-Err-clause-works
+returns-in-Err-clause-works g c = λ head told.
+    let f : g.row.D.Denot → DiskSeen = λ disk. seen_as (g.D.Disk.size disk) (g.D.Disk.stands disk) (g.D.Disk.faults disk) in
+    let in_logs : c.args.from < length c.args.logs.now.items = grind (arith, common_steps) in
+    let in_disks : c.from-source.result < length c.args.disks.now = grind (arith, common_steps) in
+    let source : c.from-source.result ≡ c.args.from = grind (arith, common_steps) in
+    works_read head c.args.logs.now.items c.args.disks.now f c.args.peer c.args.from c.from-source.result c.args.number c.args.watch.now c.read_copy.new.slot c.index-disks-source.result c.read_copy.new.disk c.failed_read.result
+    source in_logs in_disks (c.read_copy.ensures.same told) c.in-Err.ensures.out c.failed_read.ensures.told (since_of f c.args.disks.now (g.met.D.Disk.since told) c.args.peer)
+
+-- ---- every other disk
+
+pub returns-then-source-len-clause-beside : goal.returns-then-source-len-clause-beside
+returns-then-source-len-clause-beside g c =
+    let f : g.row.D.Denot → DiskSeen = λ disk. seen_as (g.D.Disk.size disk) (g.D.Disk.stands disk) (g.D.Disk.faults disk) in
+    beside_same g.D.Disk.tells c.args.peer (Some (job.Copy c.args.from c.args.number)) (map f c.args.disks.now)
+
+pub returns-in-Ok-clause-beside : goal.returns-in-Ok-clause-beside
+returns-in-Ok-clause-beside g c =
+    let f : g.row.D.Denot → DiskSeen = λ disk. seen_as (g.D.Disk.size disk) (g.D.Disk.stands disk) (g.D.Disk.faults disk) in
+    let in_disks : c.from-source.result < length c.args.disks.now = grind (arith, common_steps) in
+    let source : c.from-source.result ≡ c.args.from = grind (arith, common_steps) in
+    let place : c.from-place.result ≡ c.args.peer = grind (arith, common_steps) in
+    let disks = slice_set c.args.disks.now c.from-source.result c.read_copy.new.disk in
+    beside_then g.D.Disk.tells c.args.peer (Some (job.Copy c.args.from c.args.number)) (map f c.args.disks.now) (map f disks) (map f (slice_set disks c.from-place.result c.write_copy.new.disk))
+    (beside_read g.D.Disk.tells f c.args.disks.now c.args.peer c.args.from c.from-source.result c.args.number c.index-disks-source.result c.read_copy.new.disk source in_disks c.read_copy.ensures.same)
+    (beside_one g.D.Disk.tells f disks c.args.peer c.from-place.result c.write_copy.new.disk (Some (job.Copy c.args.from c.args.number)) place)
+
+pub returns-in-Err-clause-beside : goal.returns-in-Err-clause-beside
+returns-in-Err-clause-beside g c =
+    let f : g.row.D.Denot → DiskSeen = λ disk. seen_as (g.D.Disk.size disk) (g.D.Disk.stands disk) (g.D.Disk.faults disk) in
+    let in_disks : c.from-source.result < length c.args.disks.now = grind (arith, common_steps) in
+    let source : c.from-source.result ≡ c.args.from = grind (arith, common_steps) in
+    beside_read g.D.Disk.tells f c.args.disks.now c.args.peer c.args.from c.from-source.result c.args.number c.index-disks-source.result c.read_copy.new.disk source in_disks c.read_copy.ensures.same

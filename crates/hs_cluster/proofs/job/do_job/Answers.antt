@@ -1,16 +1,18 @@
-use Rattle.std.proofs.Common.{rules, ◌≡◌, ◌∙◌, ◌<◌, Some, ap, arith, length, map, refl, slice_set, subst, sym}
+use Rattle.std.proofs.Common.{rules, ◌≡◌, ◌∙◌, ◌<◌, ◌≤◌, Some, ap, arith, length, map, refl, slice_set, subst, sym, true}
 use Rattle.std.proofs.lemmas.Grind.{common_steps}
-use Rattle.std.specs.Prelude.{IfOk, IsSome}
+use Rattle.std.specs.Prelude.{IfOk, IsSome, slice_index_or}
+use Rattle.hs_cluster.proofs.CopyLemmas.{beside_one, beside_same, usual_own, works_cut, works_own, works_reset}
 use Rattle.hs_cluster.proofs.CountLemmas.{all_paid_result, copy_paid_result, falls_not, falls_same, job_paid_result, paid_at, stand_at}
 use Rattle.hs_cluster.proofs.DiskLemmas.{log_read, not_own, reads_at, since_of, slot_at, stored_as, works_at, works_nothing}
 use Rattle.hs_cluster.specs.Disks.{DiskSeen, log_at, seen_as}
 use Rattle.hs_cluster.specs.declared.fault.ClusterFault.TheVariants.{NoMemory}
-use Rattle.hs_cluster.specs.Jobs.{Works, is_own}
+use Rattle.hs_cluster.specs.Jobs.{Empties, FailsAlone, StandsBeside, Works, WorksAlone, is_own}
 use Rattle.hs_core_words.specs.Looking.{catalogue_of, first_job, home}
 use Rattle.hs_desk.specs.declared.job.Job.{Job}
 use Rattle.hs_desk.specs.declared.job.Job.TheVariants as job
 use Rattle.hs_limits.specs.declared.shape.Shape.{Shape}
 use Rattle.hs_members.specs.Members.{home_of}
+use Rattle.hs_side.specs.Headers.{own_header}
 use Rattle.hs_cluster.proofs.job.do_job.Goals as goal
 
 pub do_usual-requires : goal.do_usual-requires
@@ -18,23 +20,68 @@ do_usual-requires g c =
     let f : g.row.D.Denot → DiskSeen = λ disk. seen_as (g.D.Disk.size disk) (g.D.Disk.stands disk) (g.D.Disk.faults disk) in
     let item : c.index_mut-in-Append.result.now ≡ log_at c.args.logs.now.items c.from-place.result = grind (arith, common_steps) in
     let low : c.from-place.result < length c.args.disks.now = grind (arith, common_steps) in
-    record { ready = slot_at g.D.Disk.tells c.args.logs.now.items c.args.disks.now f c.from-place.result c.index_mut-in-Append.result.now c.index-disks-place-in-Append.result c.requires.ready item low }
+    record { usual = usual_own c.in-Some.job.now c.in-Append.is; ready = slot_at g.D.Disk.tells c.args.logs.now.items c.args.disks.now f c.from-place.result c.index_mut-in-Append.result.now c.index-disks-place-in-Append.result c.requires.ready item low }
 
 pub returns-in_default-clause-works : goal.returns-in_default-clause-works
-returns-in_default-clause-works g c = λ told own.
+returns-in_default-clause-works g c = λ told.
     let f : g.row.D.Denot → DiskSeen = λ disk. seen_as (g.D.Disk.size disk) (g.D.Disk.stands disk) (g.D.Disk.faults disk) in
-    works_nothing c.args.logs.now.items c.args.disks.now f c.args.peer c.args.watch.now (first_job c.args.peer c.args.core.now) NoMemory
+    works_cut (own_header c.args.core.now.members.shape c.args.peer) c.args.logs.now.items c.args.disks.now f c.args.peer c.args.watch.now (first_job c.args.peer c.args.core.now) NoMemory
     (since_of f c.args.disks.now (g.met.D.Disk.since told) c.args.peer)
+    (λ own. works_nothing c.args.logs.now.items c.args.disks.now f c.args.peer c.args.watch.now (first_job c.args.peer c.args.core.now) NoMemory (since_of f c.args.disks.now (g.met.D.Disk.since told) c.args.peer))
+
+pub returns-in-Reset-clause-works : goal.returns-in-Reset-clause-works
+returns-in-Reset-clause-works g c = λ told.
+    let f : g.row.D.Denot → DiskSeen = λ disk. seen_as (g.D.Disk.size disk) (g.D.Disk.stands disk) (g.D.Disk.faults disk) in
+    let item : c.index_mut.result.now ≡ log_at c.args.logs.now.items c.from-place.result = grind (arith, common_steps) in
+    let low : c.from-place.result < length c.args.disks.now = grind (arith, common_steps) in
+    let low_logs : c.from-place.result < length c.args.logs.now.items = grind (arith, common_steps) in
+    let place : c.from-place.result ≡ c.args.peer = grind (arith, common_steps) in
+    let first : Some c.in-Some.job.now ≡ first_job c.args.peer c.args.core.now = first_of (search rules, grind (arith, common_steps)) in
+    let shape : c.shape.result ≡ c.args.core.now.members.shape = c.shape.ensures.value in
+    subst (λ k. Works (own_header c.args.core.now.members.shape c.args.peer) (record {
+      peer = k;
+      before = c.args.watch.now;
+      now = c.do_reset.new.watch;
+      logs = c.args.logs.now.items;
+      after = slice_set c.args.logs.now.items c.from-place.result c.do_reset.new.slot;
+      disks = map f c.args.disks.now;
+      left = map f (slice_set c.args.disks.now c.from-place.result c.do_reset.new.disk);
+    }) (first_job c.args.peer c.args.core.now) c.do_reset.result) place
+    (works_reset (own_header c.args.core.now.members.shape c.args.peer) c.args.logs.now.items c.args.disks.now f c.from-place.result c.args.watch.now c.do_reset.new.watch c.index_mut.result.now c.do_reset.new.slot c.index-disks-place.result c.do_reset.new.disk
+    (first_job c.args.peer c.args.core.now) c.do_reset.result item low_logs low (sym first ∙ ap (λ (j : Job). Some j) c.in-Reset.is)
+    (subst (λ (s : Shape). (f (slice_index_or c.args.disks.now c.from-place.result c.index-disks-place.result)).stands.last ≤ c.args.watch.now → Empties (own_header s c.args.peer) (record {
+      before = c.args.watch.now;
+      now = c.do_reset.new.watch;
+      slot = c.index_mut.result.now;
+      kept = c.do_reset.new.slot;
+      old = (f (slice_index_or c.args.disks.now c.from-place.result c.index-disks-place.result)).stands;
+      new = (f c.do_reset.new.disk).stands;
+    }) c.do_reset.result) shape (c.do_reset.ensures.empties told))
+    (subst (λ k. IfOk c.do_reset.result (FailsAlone k)) (sym place) c.do_reset.ensures.fails))
+
+pub returns-in-Copy-clause-works : goal.returns-in-Copy-clause-works
+returns-in-Copy-clause-works g c = λ told.
+    let f : g.row.D.Denot → DiskSeen = λ disk. seen_as (g.D.Disk.size disk) (g.D.Disk.stands disk) (g.D.Disk.faults disk) in
+    let first : Some c.in-Some.job.now ≡ first_job c.args.peer c.args.core.now = first_of (search rules, grind (arith, common_steps)) in
+    subst (λ o. Works (own_header c.args.core.now.members.shape c.args.peer) (record {
+      peer = c.args.peer;
+      before = c.args.watch.now;
+      now = c.do_copy.new.watch;
+      logs = c.args.logs.now.items;
+      after = c.do_copy.new.logs.items;
+      disks = map f c.args.disks.now;
+      left = map f c.do_copy.new.disks;
+    }) o c.do_copy.result) (sym (ap (λ (j : Job). Some j) c.in-Copy.is) ∙ first) (c.do_copy.ensures.works (own_header c.args.core.now.members.shape c.args.peer) told)
 
 pub returns-in-Append-clause-works : goal.returns-in-Append-clause-works
-returns-in-Append-clause-works g c = λ told own.
+returns-in-Append-clause-works g c = λ told.
     let f : g.row.D.Denot → DiskSeen = λ disk. seen_as (g.D.Disk.size disk) (g.D.Disk.stands disk) (g.D.Disk.faults disk) in
     let item : c.index_mut-in-Append.result.now ≡ log_at c.args.logs.now.items c.from-place.result = grind (arith, common_steps) in
     let low : c.from-place.result < length c.args.disks.now = grind (arith, common_steps) in
     let low_logs : c.from-place.result < length c.args.logs.now.items = grind (arith, common_steps) in
     let place : c.from-place.result ≡ c.args.peer = grind (arith, common_steps) in
     let first : Some c.in-Some.job.now ≡ first_job c.args.peer c.args.core.now = first_of (search rules, grind (arith, common_steps)) in
-    subst (λ k. Works (record {
+    let works = subst (λ k. WorksAlone (record {
       peer = k;
       before = c.args.watch.now;
       now = c.do_usual.new.watch;
@@ -44,7 +91,9 @@ returns-in-Append-clause-works g c = λ told own.
       left = map f (slice_set c.args.disks.now c.from-place.result c.do_usual.new.disk);
     }) (first_job c.args.peer c.args.core.now) c.do_usual.result) place
     (works_at c.args.logs.now.items c.args.disks.now f c.from-place.result c.args.watch.now c.do_usual.new.watch c.index_mut-in-Append.result.now c.do_usual.new.slot c.index-disks-place-in-Append.result c.do_usual.new.disk
-    (Some c.in-Some.job.now) (first_job c.args.peer c.args.core.now) c.do_usual.result item low_logs low first (c.do_usual.ensures.tries told))
+    (Some c.in-Some.job.now) (first_job c.args.peer c.args.core.now) c.do_usual.result item low_logs low first (c.do_usual.ensures.tries told)) in
+    let usual : is_own (Some c.in-Some.job.now) ≡ true = usual_own c.in-Some.job.now c.in-Append.is in
+    works_own (own_header c.args.core.now.members.shape c.args.peer) _ (first_job c.args.peer c.args.core.now) c.do_usual.result (ap is_own (sym first) ∙ usual) works c.do_usual.ensures.fails
 
 -- ---- the counts
 
@@ -181,3 +230,28 @@ returns-in-Append-clause-had g c = λ own.
     let item : c.index_mut-in-Append.result.now ≡ log_at c.args.logs.now.items c.from-place.result = grind (arith, common_steps) in
     let place : c.from-place.result ≡ c.args.peer = grind (arith, common_steps) in
     subst (λ o. IfOk c.do_usual.result (λ done. IsSome o)) (item ∙ ap (λ p. log_at c.args.logs.now.items p) place) c.do_usual.ensures.had
+
+-- ---- every other disk
+
+pub returns-in_default-clause-beside : goal.returns-in_default-clause-beside
+returns-in_default-clause-beside g c =
+    let f : g.row.D.Denot → DiskSeen = λ disk. seen_as (g.D.Disk.size disk) (g.D.Disk.stands disk) (g.D.Disk.faults disk) in
+    beside_same g.D.Disk.tells c.args.peer (first_job c.args.peer c.args.core.now) (map f c.args.disks.now)
+
+pub returns-in-Reset-clause-beside : goal.returns-in-Reset-clause-beside
+returns-in-Reset-clause-beside g c =
+    let f : g.row.D.Denot → DiskSeen = λ disk. seen_as (g.D.Disk.size disk) (g.D.Disk.stands disk) (g.D.Disk.faults disk) in
+    let place : c.from-place.result ≡ c.args.peer = grind (arith, common_steps) in
+    beside_one g.D.Disk.tells f c.args.disks.now c.args.peer c.from-place.result c.do_reset.new.disk (first_job c.args.peer c.args.core.now) place
+
+pub returns-in-Copy-clause-beside : goal.returns-in-Copy-clause-beside
+returns-in-Copy-clause-beside g c =
+    let f : g.row.D.Denot → DiskSeen = λ disk. seen_as (g.D.Disk.size disk) (g.D.Disk.stands disk) (g.D.Disk.faults disk) in
+    let first : Some c.in-Some.job.now ≡ first_job c.args.peer c.args.core.now = first_of (search rules, grind (arith, common_steps)) in
+    subst (λ o. StandsBeside g.D.Disk.tells c.args.peer o (map f c.args.disks.now) (map f c.do_copy.new.disks)) (sym (ap (λ (j : Job). Some j) c.in-Copy.is) ∙ first) c.do_copy.ensures.beside
+
+pub returns-in-Append-clause-beside : goal.returns-in-Append-clause-beside
+returns-in-Append-clause-beside g c =
+    let f : g.row.D.Denot → DiskSeen = λ disk. seen_as (g.D.Disk.size disk) (g.D.Disk.stands disk) (g.D.Disk.faults disk) in
+    let place : c.from-place.result ≡ c.args.peer = grind (arith, common_steps) in
+    beside_one g.D.Disk.tells f c.args.disks.now c.args.peer c.from-place.result c.do_usual.new.disk (first_job c.args.peer c.args.core.now) place

@@ -1,4 +1,8 @@
 use Rattle.std.proofs.Common.{◌≡◌, Some, arith, map, refl, subst, sym}
+use Rattle.hs_cluster.proofs.CopyLemmas.{beside_same}
+use Rattle.hs_cluster.specs.Jobs.{StandsBeside}
+use Rattle.hs_core_words.specs.Looking.{first_job}
+use Rattle.hs_events.specs.Due.{peer_due}
 use Rattle.hs_cluster.proofs.ShowLemmas.{any_shows, quiet_shows}
 use Rattle.hs_cluster.proofs.WalkLemmas.{deliver_of, event_due, nudge_of}
 use Rattle.hs_cluster.specs.Calls.{Does, done_of}
@@ -39,3 +43,18 @@ returns-in-Reporting-clause-does g c =
     subst (λ d. DoesDue c.args.line d c.args.watch.now c.report.new.watch c.args.self.now c.report.new.self c.report.result
     (Shows g.D.Disk.tells (record { before = c.args.watch.now; now = c.report.new.watch; old = c.args.self.now; new = c.report.new.self; disks = map f c.args.disks.now; left = map f c.report.new.disks }) c.report.result))
     (sym c.in-Reporting.is) (c.report.ensures.does c.args.line)
+
+pub returns-in-Handling-clause-beside : goal.returns-in-Handling-clause-beside
+returns-in-Handling-clause-beside g c =
+    let f : g.row.D.Denot → DiskSeen = λ disk. seen_as (g.D.Disk.size disk) (g.D.Disk.stands disk) (g.D.Disk.faults disk) in
+    beside_same g.D.Disk.tells (peer_due c.args.due) (first_job (peer_due c.args.due) c.args.self.now.core) (map f c.args.disks.now)
+
+pub returns-in-Nudging-clause-beside : goal.returns-in-Nudging-clause-beside
+returns-in-Nudging-clause-beside g c =
+    let f : g.row.D.Denot → DiskSeen = λ disk. seen_as (g.D.Disk.size disk) (g.D.Disk.stands disk) (g.D.Disk.faults disk) in
+    beside_same g.D.Disk.tells (peer_due c.args.due) (first_job (peer_due c.args.due) c.args.self.now.core) (map f c.args.disks.now)
+
+pub returns-in-Reporting-clause-beside : goal.returns-in-Reporting-clause-beside
+returns-in-Reporting-clause-beside g c =
+    let f : g.row.D.Denot → DiskSeen = λ disk. seen_as (g.D.Disk.size disk) (g.D.Disk.stands disk) (g.D.Disk.faults disk) in
+    subst (λ d. StandsBeside g.D.Disk.tells (peer_due d) (first_job (peer_due d) c.args.self.now.core) (map f c.args.disks.now) (map f c.report.new.disks)) (sym c.in-Reporting.is) c.report.ensures.beside

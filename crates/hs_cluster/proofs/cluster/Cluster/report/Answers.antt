@@ -7,7 +7,7 @@ use Rattle.hs_cluster.specs.Calls.{Does, done_of}
 use Rattle.hs_cluster.specs.declared.fault.ClusterFault.{ClusterFault}
 use Rattle.hs_cluster.specs.Counts.{HasAllPaid, HasPaid}
 use Rattle.hs_cluster.specs.Disks.{DiskSeen, log_at, seen_as, stands_of}
-use Rattle.hs_cluster.specs.Jobs.{HasStored, ReadsOn, Works, is_own}
+use Rattle.hs_cluster.specs.Jobs.{HasStored, ReadsOn, StandsBeside, WorksAlone, is_own}
 use Rattle.hs_cluster.specs.Running.{Running}
 use Rattle.hs_core_words.specs.declared.event.Event.{Event}
 use Rattle.hs_core_words.specs.declared.event.Event.TheVariants as event
@@ -28,7 +28,7 @@ returns-in_default-clause-does g c = λ line.
     (ap (λ (r : Running). r.course) c.self.view_is) (ap (λ (r : Running). r.core) c.self.view_is)
     (job_cut g.D.Disk.tells c.args.watch.now c.do_job-done.new.watch c.args.peer c.args.self.now _ c.do_job-done.new.logs.items (map f c.args.disks.now) (map f c.do_job-done.new.disks) c.do_job-done.result c.requires.peer c.do_job-done.ensures.ticks
     (λ told. since_of f c.args.disks.now (g.met.D.Disk.since told))
-    (λ told. subst (λ (r : Running). is_own (first_job c.args.peer r.core) ≡ true → Works {E = ClusterFault} (record {
+    (λ told. subst (λ (r : Running). is_own (first_job c.args.peer r.core) ≡ true → WorksAlone {E = ClusterFault} (record {
       peer = c.args.peer;
       before = c.args.watch.now;
       now = c.do_job-done.new.watch;
@@ -36,7 +36,7 @@ returns-in_default-clause-does g c = λ line.
       after = c.do_job-done.new.logs.items;
       disks = map f c.args.disks.now;
       left = map f c.do_job-done.new.disks;
-    }) (first_job c.args.peer r.core) c.do_job-done.result) c.self.view_is (c.do_job-done.ensures.works told))
+    }) (first_job c.args.peer r.core) c.do_job-done.result) c.self.view_is (λ own. (c.do_job-done.ensures.works told).alone own))
     c.do_job-done.ensures.later)
 
 pub returns-clause-does : goal.returns-clause-does
@@ -54,7 +54,7 @@ returns-clause-does g c = λ line.
     event_due line (Reporting c.args.peer) c.args.watch.now now old new e now c.step.result _ (report_is_it line old.core c.args.peer c.in-Ok.done answer) c.do_job-done.ensures.ticks (omega arith) does
     (job_shows g.D.Disk.tells c.args.watch.now now c.args.peer old new c.do_job-done.new.logs.items (map f c.args.disks.now) (map f c.do_job-done.new.disks) ClusterFault c.in-Ok.done c.step.result c.requires.peer c.do_job-done.ensures.ticks c.requires.going answer
     (λ told. since_of f c.args.disks.now (g.met.D.Disk.since told))
-    (λ told. subst (λ (r : Running). is_own (first_job c.args.peer r.core) ≡ true → Works {E = ClusterFault} (record {
+    (λ told. subst (λ (r : Running). is_own (first_job c.args.peer r.core) ≡ true → WorksAlone {E = ClusterFault} (record {
       peer = c.args.peer;
       before = c.args.watch.now;
       now = c.do_job-done.new.watch;
@@ -62,7 +62,7 @@ returns-clause-does g c = λ line.
       after = c.do_job-done.new.logs.items;
       disks = map f c.args.disks.now;
       left = map f c.do_job-done.new.disks;
-    }) (first_job c.args.peer r.core) (Ok c.in-Ok.done)) c.self.view_is (c.in-Ok.ensures.works told))
+    }) (first_job c.args.peer r.core) (Ok c.in-Ok.done)) c.self.view_is (λ own. (c.in-Ok.ensures.works told).alone own))
     c.step.ensures.logs does c.do_job-done.ensures.later
     (subst (λ (r : Running). HasPaid r.core c.args.peer c.in-Ok.done (map f c.args.disks.now) (map f c.do_job-done.new.disks)) c.self.view_is c.in-Ok.ensures.paid) c.in-Ok.ensures.calm c.in-Ok.ensures.bytes
     (λ told. subst (λ (r : Running). is_own (first_job c.args.peer r.core) ≡ true → (list : Numbered) (waiting : Option Entry)
@@ -74,3 +74,13 @@ returns-clause-does g c = λ line.
     → ((keeping : Keeping) → log_at r.logs c.args.peer ≡ Some keeping → IsKept keeping ((disk_at (stands_of (map f c.args.disks.now)) c.args.peer).seen keeping.log.side) list waiting)
     → (j : Job) → first_job c.args.peer r.core ≡ Some j → ReadsOn (log_at c.do_job-done.new.logs.items c.args.peer) (disk_at (stands_of (map f c.do_job-done.new.disks)) c.args.peer) j list waiting c.in-Ok.done)
     c.self.view_is (c.in-Ok.ensures.reads told)))
+
+pub returns-in_default-clause-beside : goal.returns-in_default-clause-beside
+returns-in_default-clause-beside g c =
+    let f : g.row.D.Denot → DiskSeen = λ disk. seen_as (g.D.Disk.size disk) (g.D.Disk.stands disk) (g.D.Disk.faults disk) in
+    subst (λ (r : Running). StandsBeside g.D.Disk.tells c.args.peer (first_job c.args.peer r.core) (map f c.args.disks.now) (map f c.do_job-done.new.disks)) c.self.view_is c.do_job-done.ensures.beside
+
+pub returns-clause-beside : goal.returns-clause-beside
+returns-clause-beside g c =
+    let f : g.row.D.Denot → DiskSeen = λ disk. seen_as (g.D.Disk.size disk) (g.D.Disk.stands disk) (g.D.Disk.faults disk) in
+    subst (λ (r : Running). StandsBeside g.D.Disk.tells c.args.peer (first_job c.args.peer r.core) (map f c.args.disks.now) (map f c.do_job-done.new.disks)) c.self.view_is c.do_job-done.ensures.beside

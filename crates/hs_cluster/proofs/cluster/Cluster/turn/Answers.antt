@@ -1,6 +1,10 @@
 use Rattle.std.proofs.Common.{◌≡◌, ◌∙◌, ◌∷◌, [], ap, arith, map, refl, sym, subst, Some}
 use Rattle.std.proofs.lemmas.Result.{err_from_is_err_and}
 use Rattle.std.specs.Prelude.{Err, Ok}
+use Rattle.hs_cluster.proofs.CopyLemmas.{beside_same, turn_of_peer, turn_same}
+use Rattle.hs_cluster.specs.Jobs.{StandsBeside}
+use Rattle.hs_core_words.specs.Looking.{first_job}
+use Rattle.hs_core_words.specs.State.{Core}
 use Rattle.hs_cluster.proofs.LineLemmas.{runs_turn, runs_turn_alone, runs_turn_cut}
 use Rattle.hs_cluster.proofs.ShowLemmas.{any_shows, quiet_shows, shows_then}
 use Rattle.hs_cluster.specs.Calls.{Does, RunsLine, done_of}
@@ -55,3 +59,26 @@ returns-in-None-clause-runs g c = λ name.
     runs_turn_alone name c.args.line c.args.peer start start start old new _ (omega arith) (omega arith) first
     (ap (λ (r : Running). turn_behind c.args.peer r.core) (sym c.self.view_is) ∙ sym c.turn_behind.ensures.value ∙ c.in-None.is)
     (any_shows g.D.Disk.tells _ (Ok tt) _ (quiet_shows e start old new (map f c.args.disks.now) (Ok tt) refl c.requires.going first (λ p keeping at. subst (λ l. log_at l p ≡ Some keeping) c.step.ensures.logs at)))
+
+pub returns-in_err-step-clause-beside : goal.returns-in_err-step-clause-beside
+returns-in_err-step-clause-beside g c =
+    let f : g.row.D.Denot → DiskSeen = λ disk. seen_as (g.D.Disk.size disk) (g.D.Disk.stands disk) (g.D.Disk.faults disk) in
+    beside_same g.D.Disk.tells c.args.peer (first_job c.args.peer c.args.self.now.core) (map f c.args.disks.now)
+
+pub returns-in-None-clause-beside : goal.returns-in-None-clause-beside
+returns-in-None-clause-beside g c =
+    let f : g.row.D.Denot → DiskSeen = λ disk. seen_as (g.D.Disk.size disk) (g.D.Disk.stands disk) (g.D.Disk.faults disk) in
+    beside_same g.D.Disk.tells c.args.peer (first_job c.args.peer c.args.self.now.core) (map f c.args.disks.now)
+
+pub returns-in-Some-clause-beside : goal.returns-in-Some-clause-beside
+returns-in-Some-clause-beside g c =
+    let f : g.row.D.Denot → DiskSeen = λ disk. seen_as (g.D.Disk.size disk) (g.D.Disk.stands disk) (g.D.Disk.faults disk) in
+    let old = c.args.self.now in
+    let mid = c.step.new.self in
+    let start = c.args.watch.now in
+    let e : Event = event.Turn c.args.line c.args.peer in
+    let first : Does ((e, start) ∷ []) old mid (Ok tt) = subst (λ k. Does ((e, k) ∷ []) old mid (Ok tt)) c.now.ensures.value c.in_ok-step.ensures.does in
+    let is : turn_behind c.args.peer mid.core ≡ Some c.in-Some.due = ap (λ (r : Running). turn_behind c.args.peer r.core) (sym c.self.view_is) ∙ sym c.turn_behind.ensures.value ∙ c.in-Some.is in
+    let job = ap (λ (x : Core). first_job c.args.peer x) (first.core refl) ∙ turn_same c.args.line c.args.peer start c.args.peer old.core in
+    subst (λ o. StandsBeside g.D.Disk.tells c.args.peer o (map f c.args.disks.now) (map f c.do_due.new.disks)) job
+    (subst (λ q. StandsBeside g.D.Disk.tells q (first_job q mid.core) (map f c.args.disks.now) (map f c.do_due.new.disks)) (turn_of_peer c.args.peer mid.core c.in-Some.due is) c.do_due.ensures.beside)

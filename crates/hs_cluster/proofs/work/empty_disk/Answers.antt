@@ -1,0 +1,25 @@
+use Rattle.hs_cluster.proofs.EmptyLemmas.{failed_moments, list_found, not_refused, recovered_moments}
+use Rattle.hs_side.specs.Current.{list_in}
+use Rattle.hs_cluster.proofs.work.empty_disk.Goals as goal
+
+pub returns-in-Ok-clause-list : goal.returns-in-Ok-clause-list
+returns-in-Ok-clause-list g c = λ told last.
+    let past = c.recover.ensures.past told last in
+    list_found _ (list_in (g.D.Disk.stands c.args.disk.now).seen) (c.in-Ok.ensures.listed told) (λ list is.
+    c.empty_log.ensures.list told past.last list (c.in-Ok.ensures.list told last list is))
+
+pub returns-in-Ok-clause-any_moment : goal.returns-in-Ok-clause-any_moment
+returns-in-Ok-clause-any_moment g c = λ told last lists leaves headed.
+    let past = c.recover.ensures.past told last in
+    list_found _ (list_in (g.D.Disk.stands c.args.disk.now).seen) (c.in-Ok.ensures.listed told) (λ list is.
+    recovered_moments c.args.watch.now c.recover.new.watch c.empty_log.new.watch (g.D.Disk.stands c.args.disk.now) (g.D.Disk.stands c.recover.new.disk) (g.D.Disk.stands c.empty_log.new.disk) lists list (g.met.D.Disk.stays told c.args.disk.now) leaves is
+    (c.recover.ensures.any_of told last lists leaves)
+    (c.empty_log.ensures.any_moment told past.last list (c.in-Ok.ensures.list told last list is)))
+
+pub returns-then-is_outside-clause-any_moment : goal.returns-then-is_outside-clause-any_moment
+returns-then-is_outside-clause-any_moment g c = λ told last lists leaves headed.
+    failed_moments c.args.watch.now c.recover.new.watch (g.D.Disk.stands c.args.disk.now) (g.D.Disk.stands c.recover.new.disk) lists (c.recover.ensures.any_of told last lists leaves)
+
+pub returns-else-is_outside-clause-any_moment : goal.returns-else-is_outside-clause-any_moment
+returns-else-is_outside-clause-any_moment g c = λ told last lists leaves headed.
+    not_refused c.args.shape c.args.peer (g.D.Disk.stands c.args.disk.now) lists c.in-Err.fault (g.met.D.Disk.stays told c.args.disk.now) leaves headed (c.in-Err.ensures.refused told) (c.is_outside.ensures.no c.if-is_outside.false)
