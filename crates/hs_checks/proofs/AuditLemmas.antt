@@ -36,14 +36,14 @@ module _ (tells : Type 0) (name : List ℕ → Address) (shape : Shape) (r : Ran
     before = before;
     behind = behind;
     ends = elim only [
-        | inl is ↦ subst (λ (s : Status). EndsAudit tells set old new r s) (sym is) (record { text = text; audits = audits; put = done is })
-        | inr is ↦ subst (λ (s : Status). EndsAudit tells set old new r s) (sym is) (record { text = text; audits = audits; put = front is; failed = failed is })
-      ];
+      | inl is ↦ subst (λ (s : Status). EndsAudit tells set old new r s) (sym is) (record { text = text; audits = audits; put = done is })
+      | inr is ↦ subst (λ (s : Status). EndsAudit tells set old new r s) (sym is) (record { text = text; audits = audits; put = front is; failed = failed is })
+    ];
     read = read;
     complete = λ told can calm. elim only [
-        | inl is ↦ inl is
-        | inr is ↦ absurd (calm (failed is))
-      ];
+      | inl is ↦ inl is
+      | inr is ↦ absurd (calm (failed is))
+    ];
   }
 
   ends_by : (f : AuditFault) → r.new.got ≡ r.old.got → IsAuditRefused tells shape old new f → EndsAudit tells set old new r (audit_status f)

@@ -30,9 +30,9 @@ module _ (tells : Type 0) (shape : Shape) (r : Ran) (old new : List DiskSeen) (b
     before = before;
     behind = behind;
     ends = elim only [
-        | inl is ↦ subst (λ (s : Status). EndsScrub tells shape old new r s) (sym is) (record { compared = compared; put = done is })
-        | inr is ↦ subst (λ (s : Status). EndsScrub tells shape old new r s) (sym is) (record { compared = compared; put = front is; failed = failed is })
-      ];
+      | inl is ↦ subst (λ (s : Status). EndsScrub tells shape old new r s) (sym is) (record { compared = compared; put = done is })
+      | inr is ↦ subst (λ (s : Status). EndsScrub tells shape old new r s) (sym is) (record { compared = compared; put = front is; failed = failed is })
+    ];
     read = read;
   }
 

@@ -103,10 +103,11 @@ fn do_task<A: Addresser, S: Source, K: Sink, D: Disk>(
         }
         Task::Audit => run_audit(alloc, naming, shape, sink, disks, watch),
         Task::Scrub { .. } => run_scrub(alloc, shape, sink, disks, watch),
-        Task::Load { .. }
-        | Task::Store { .. }
-        | Task::Fetch { .. }
-        | Task::Copy { .. } => closed(alloc, Status::Usage, 0),
+        Task::Load { .. } | Task::Store { .. } | Task::Fetch { .. } | Task::Copy { .. } => closed(
+            alloc,
+            Status::Usage,
+            0,
+        ),
     }
 }
 
@@ -130,7 +131,16 @@ fn run_words<A: Addresser, S: Source, K: Sink, D: Disk + Drop>(
     match served_on(words, disks.len()) {
         Some(asked) => {
             let handed = disks.as_mut_slice();
-            do_task(alloc, asked.shape, &asked.task, naming, source, sink, handed, watch)
+            do_task(
+                alloc,
+                asked.shape,
+                &asked.task,
+                naming,
+                source,
+                sink,
+                handed,
+                watch,
+            )
         }
         None => closed(alloc, Status::Usage, 0),
     }

@@ -39,7 +39,7 @@ returns g c = λ source.
     let behind : AreHanded new is = record { stands = handed_stands f h (λ disk. refl) c.audit.new.disks; counts = handed_counts f h (λ disk. refl) c.audit.new.disks } in
     let long : length was ≡ length c.args.disks.now = length-map c.args.disks.now f in
     let reads : (now : ℕ) → c.audit.new.watch ≤ now → (peer : ℕ) → peer < length was → IsOnlyRead tells old.moment now (seen_at was peer) (seen_at is peer) =
-        λ now up peer low. only_wait tells c.args.watch.now c.audit.new.watch now (seen_at was peer) (seen_at is peer) up (c.audit.ensures.read peer (omega (arith, long, low))) in
+    λ now up peer low. only_wait tells c.args.watch.now c.audit.new.watch now (seen_at was peer) (seen_at is peer) up (c.audit.ensures.read peer (omega (arith, long, low))) in
     let silent : KeepsTime old new → CountsStand old new → RunsNoScript r = λ time counts. record {
       journal = c.closed.ensures.journal;
       no_load = record { kept = c.closed.ensures.kept; stored = c.closed.ensures.stored };
