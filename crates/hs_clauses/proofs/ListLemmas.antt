@@ -1,19 +1,20 @@
 -- The lists with which a run opens whose peers are all good are those of its disks at entry.
-use Rattle.std.proofs.Common.{◌≡◌, ◌∙◌, inl, inr, ap, sym, refl, ℕ, ◌*◌, ◌<◌, ◌&&◌, ◌||◌, ◌++◌, not, Bool, true, false, List, [], Option, Some, None, length, arith, if◌then◌else◌}
+use Rattle.std.proofs.Common.{◌≡◌, ◌∙◌, inl, inr, ap, sym, refl, ℕ, zero, suc, ◌+◌, ◌*◌, ◌<◌, ◌==◌, ◌||◌, ◌++◌, not, Bool, true, false, List, [], ◌∷◌, Option, Some, None, length, take, drop, arith, if◌then◌else◌, true≢false}
+use Rattle.std.proofs.lemmas.Bool.{ne_eqb}
 use Rattle.std.specs.List.{list_any}
-use Rattle.std.specs.Prelude.{IsSome, slice_index_or, unwrap_or}
+use Rattle.std.specs.Prelude.{IsSome, slice_index_or, take_while, unwrap_or}
 use Rattle.hs_clauses.proofs.EntryLemmas.{entry_lists, entry_log}
 use Rattle.hs_clauses.proofs.FoundLemmas.{many, opens_begins}
 use Rattle.hs_clauses.proofs.TakenLemmas.{list_is, peers_are}
 use Rattle.hs_events.specs.Course.{items_of}
 use Rattle.hs_events.specs.Found.{first_core, opened_list, starts_good}
 use Rattle.hs_events.specs.Taken.{peer_count, taken_list, taken_lists}
-use Rattle.hs_fold.specs.Shards.Course.{begins}
+use Rattle.hs_fold.specs.Shards.Course.{begins, is_good_of}
 use Rattle.hs_fold.specs.Shards.Setting.{Numbered}
 use Rattle.hs_journal.specs.Notes.{is_first_noted}
 use Rattle.hs_model.specs.declared.course.CourseItem.{CourseItem}
 use Rattle.hs_ports.specs.Moments.{disk_at}
-use Rattle.hs_promise.specs.Entry.{entry_logs, is_aside}
+use Rattle.hs_promise.specs.Entry.{entry_logs, is_aside, is_no_took, opens_good}
 use Rattle.hs_promise.specs.Found.{IsReadAs}
 use Rattle.hs_promise.specs.Machine.{Went}
 use Rattle.hs_promise.specs.Run.{Ran, Script}
@@ -24,18 +25,24 @@ use Rattle.hs_standing.specs.Lists.{whole_from}
 
 -- ---- small words
 
-and_not : (a b : Bool) → b ≡ true → (a && not b) ≡ false
-and_not true true e = refl
-and_not true false e = absurd (cc e)
-and_not false b e = refl
-
 pub some_there : (o : Option Numbered) → IsSome o → (list : Numbered) × (o ≡ Some list)
 some_there None e = absurd (cc e)
 some_there (Some list) e = (list, refl)
 
+none_begins : (n p : ℕ) → list_any (is_good_of p) (take n []) ≡ false
+none_begins zero p = refl
+none_begins (suc n) p = refl
+
+-- a course that a Good begins has items
+some_items : (shards p : ℕ) (course : List CourseItem) → begins shards course p ≡ true → (length course == 0) ≡ false
+some_items shards p [] is = absurd (true≢false (sym is ∙ none_begins (shards + shards) p))
+some_items shards p (i ∷ items) is = ne_eqb (length (i ∷ items)) 0 (λ same. omega (arith, same))
+
 -- a peer whose Good begins the course was not set aside
 pub begins_counts : (S : Script) (r : Ran) (p : ℕ) → begins S.set.shape.shards r.course p ≡ true → is_aside S r p ≡ false
-begins_counts S r p is = and_not (is_first_noted p (r.journal ++ r.refused)) (begins S.set.shape.shards r.course p) is
+begins_counts S r p is =
+    ap (λ c. if c then is_first_noted p (r.journal ++ r.refused) else not (opens_good S.set.shape.shards r.course p)) (some_items S.set.shape.shards p r.course is)
+    ∙ ap (λ b. not (b || list_any (is_good_of p) (take_while is_no_took (drop (S.set.shape.shards + S.set.shape.shards) r.course)))) is
 
 module _ (S : Script) (r : Ran) (story : Story) (went : Went S r story) (one : S.set.shape.copies ≡ 1) where
   -- who has a log begins the course, so its disk counts

@@ -10,6 +10,7 @@ use Rattle.hs_fold.specs.Shards.Setting.{Numbered}
 use Rattle.hs_journal.specs.declared.entry.JournalEntry.{JournalEntry}
 use Rattle.hs_journal.specs.declared.entry.Who.TheVariants as who
 use Rattle.hs_limits.specs.declared.shape.Shape.{Shape}
+use Rattle.hs_model.specs.declared.course.CourseItem.{CourseItem}
 use Rattle.hs_model.specs.declared.course.CourseItem.TheVariants as item
 use Rattle.hs_model.specs.declared.deed.Deed.TheVariants as deed
 use Rattle.hs_model.specs.declared.reply.Reply.TheVariants as reply
@@ -82,17 +83,33 @@ with_note ending entry = record {
   new = handed (1 ∷ 1 ∷ []);
 }
 
+-- and this happened behind that
+abbrev with_more : Status → JournalEntry → List CourseItem → Ran
+with_more ending entry items = record (with_note ending entry) { course = item.Good 0 0 ∷ item.Took 0 0 0 ∷ items }
+
 -- opening set the other peer aside, and its disk counts as blank
 the_other_is_aside : is_aside script (with_note status.NoMemory (note 1 0)) 1 ≡ true
 the_other_is_aside = refl
+
+-- also where it joined later, behind the first View
+one_that_joined_was_aside : is_aside script (with_more status.Done (note 1 0) (item.Took 0 1 5 ∷ item.Good 1 9 ∷ [])) 1 ≡ true
+one_that_joined_was_aside = refl
 
 -- not so the peer of the taken log, though its disk failed in opening too
 the_taken_is_not_aside : is_aside script (with_note status.NoMemory (note 0 0)) 0 ≡ false
 the_taken_is_not_aside = refl
 
+-- nor one that was good as the core opened and failed in a turn of opening, which its note tells alike
+a_failure_in_a_turn_is_not_aside : is_aside script (with_more status.Done (note 1 0) (item.Good 1 2 ∷ item.Bad 1 4 ∷ item.Took 0 1 5 ∷ [])) 1 ≡ false
+a_failure_in_a_turn_is_not_aside = refl
+
 -- nor one that failed behind a line
-a_later_failure_is_not_aside : is_aside script (with_note status.Done (note 1 4)) 1 ≡ false
+a_later_failure_is_not_aside : is_aside script (with_more status.Done (note 1 4) (item.Good 1 2 ∷ item.Took 0 1 5 ∷ item.Bad 1 8 ∷ [])) 1 ≡ false
 a_later_failure_is_not_aside = refl
+
+-- where no log was taken each peer was set aside that is told to be down
+without_a_course : is_aside script (record (with_note (status.ShardLost 0) (note 1 0)) { course = [] }) 1 ≡ true
+without_a_course = refl
 
 logs_at_entry : entry_logs script (with_note status.NoMemory (note 1 0)) ≡ Some [] ∷ None ∷ []
 unfolding log_of

@@ -1,7 +1,8 @@
 -- The store at entry: which logs count of the disks as they were.
-use Rattle.std.specs.Prelude.{Bool, List, None, Option, [], false, filter, if◌then◌else◌, length, not, true, ℕ, ◌&&◌, ◌++◌, ◌+◌, ◌==◌, ◌∷◌, ◌≡◌}
+use Rattle.std.specs.List.{list_any}
+use Rattle.std.specs.Prelude.{Bool, List, None, Option, [], drop, false, filter, if◌then◌else◌, length, not, take_while, true, ℕ, ◌&&◌, ◌++◌, ◌+◌, ◌==◌, ◌||◌, ◌∷◌, ◌≡◌}
 use Rattle.hs_fold.specs.Runs.Opened.{opened}
-use Rattle.hs_fold.specs.Shards.Course.{begins}
+use Rattle.hs_fold.specs.Shards.Course.{begins, is_good_of}
 use Rattle.hs_fold.specs.Shards.Images.{Image}
 use Rattle.hs_fold.specs.Shards.Setting.{Numbered}
 use Rattle.hs_model.specs.Store.{Store}
@@ -20,9 +21,20 @@ use Rattle.hs_ports.specs.Objects.{NoneAhead, faults_at}
 
 -- ---- which disks count at entry
 
--- opening set a peer aside: it is told to be down before any line had an event, and its Good does not begin the course
+-- whether an item is no Took
+abbrev pub is_no_took : CourseItem → Bool
+is_no_took (item.Good peer moment) = true
+is_no_took (item.Bad peer moment) = true
+is_no_took (item.Begun line moment) = true
+is_no_took (item.Took shard number moment) = false
+
+-- a peer was good as the core opened, or its log was taken: its Good stands before the Took of the first View, which comes behind a Good and a Took for each shard
+abbrev pub opens_good : ℕ → List CourseItem → ℕ → Bool
+opens_good shards course peer = begins shards course peer || list_any (is_good_of peer) (take_while is_no_took (drop (shards + shards) course))
+
+-- opening set a peer aside: it was not; where there is no course, it is told to be down before any line had an event
 abbrev pub is_aside : Script → Ran → ℕ → Bool
-is_aside S r peer = is_first_noted peer (r.journal ++ r.refused) && not (begins S.set.shape.shards r.course peer)
+is_aside S r peer = if length r.course == 0 then is_first_noted peer (r.journal ++ r.refused) else not (opens_good S.set.shape.shards r.course peer)
 
 -- the logs of the disks as they were, from a peer on; the disk of a peer that was set aside counts as blank
 abbrev pub logs_from : Script → Ran → ℕ → List Standing → List (Option Numbered)

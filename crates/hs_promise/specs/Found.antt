@@ -1,13 +1,14 @@
 -- What opening found: which disks were read as what, and which peers were set aside.
-use Rattle.std.specs.Prelude.{All, AllPairs, Contains, IsSome, None, false, length, slice_index_or, true, ℕ, ◌+◌, ◌-◌, ◌<◌, ◌^◌, ◌≡◌, ◌≤◌, ◌⊎◌}
+use Rattle.std.specs.Prelude.{All, AllPairs, Bool, Contains, IsSome, None, false, length, slice_index_or, true, ℕ, ◌+◌, ◌-◌, ◌<◌, ◌^◌, ◌≡◌, ◌≤◌, ◌⊎◌}
 use Rattle.hs_members.specs.Members.{home_of}
 use Rattle.hs_ports.specs.declared.disk.Side.{Side}
 use Rattle.hs_ports.specs.Moments.{disk_at}
 use Rattle.hs_side.specs.Current.{list_in}
+use Rattle.hs_events.specs.Reports.{failures}
 use Rattle.hs_events.specs.Taken.{is_taken}
 use Rattle.hs_promise.specs.Run.{DiskRose, Ran, Script}
-use Rattle.hs_events.specs.Found.{starts_good}
-use Rattle.hs_promise.specs.Story.{Story}
+use Rattle.hs_events.specs.Found.{first_core, starts_good}
+use Rattle.hs_promise.specs.Story.{Story, all_events}
 use Rattle.hs_events.specs.Taken.{peer_count}
 
 -- a peer of a taken log whose disk failed before the core was opened, and when
@@ -23,9 +24,13 @@ pub record IsLeftBehind (S : Script) (story : Story) (peer : ℕ) : Type 0 where
   pub among : Contains story.found.lost lost
   pub same_shard : home_of S.set.shape lost.0 ≡ home_of S.set.shape peer
 
--- why a peer was not good when the core was opened: its disk failed, or is no log, or it was not yet made equal to a log that was lost
+-- how often the core was told that a disk failed; of a disk that tells its contents a read that fails is counted too
+abbrev pub told_failures : Bool → Script → Story → ℕ → ℕ
+told_failures tells S story disk = failures tells disk (first_core S.set story.found) (all_events story)
+
+-- why a peer was not good when the core was opened: its disk failed, beside all that is told later; or is no log; or it was not yet made equal to a log that was lost
 abbrev pub IsSetAside : Script → Ran → Story → ℕ → Type 0
-IsSetAside S r story peer = DiskRose r 1 peer ⊎ ((slice_index_or story.found.logs peer None ≡ None) ⊎ IsLeftBehind S story peer)
+IsSetAside S r story peer = DiskRose r (1 + told_failures false S story peer) peer ⊎ ((slice_index_or story.found.logs peer None ≡ None) ⊎ IsLeftBehind S story peer)
 
 -- what was found
 pub record HasFound (S : Script) (r : Ran) (story : Story) : Type 0 where
@@ -37,6 +42,12 @@ pub record HasFound (S : Script) (r : Ran) (story : Story) : Type 0 where
   pub all_lost : (peer : ℕ) → peer < peer_count S.set.shape → is_taken S.set.shape story.found.logs peer ≡ true → starts_good story.found peer ≡ false → (moment : ℕ) × Contains story.found.lost (peer, moment)
   pub kept : (peer : ℕ) → starts_good story.found peer ≡ true → IsSome (slice_index_or story.found.logs peer None)
   pub aside : (peer : ℕ) → peer < peer_count S.set.shape → starts_good story.found peer ≡ false → IsSetAside S r story peer
+
+-- and so where the disks tell their contents
+abbrev pub IsToldAside : Script → Ran → Story → ℕ → Type 0
+IsToldAside S r story peer =
+    DiskRose r (1 + told_failures true S story peer) peer
+    ⊎ ((slice_index_or story.found.logs peer None ≡ None) × (list_in (disk_at r.old.disks peer).seen ≡ None) ⊎ IsLeftBehind S story peer)
 
 -- where the disks tell their contents no call changed its disk from then on until the core was opened
 abbrev pub IsStillBehind : Ran → Story → ℕ × ℕ → Type 0

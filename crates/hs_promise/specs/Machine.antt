@@ -6,15 +6,14 @@ use Rattle.hs_model.specs.Refusals.{first}
 use Rattle.hs_promise.specs.Course.{course_of}
 use Rattle.hs_promise.specs.Ending.{Ending, ending_of}
 use Rattle.hs_promise.specs.Entry.{MayStop}
-use Rattle.hs_promise.specs.Found.{HasFound, IsReadAs, IsStillBehind}
+use Rattle.hs_promise.specs.Found.{HasFound, IsReadAs, IsStillBehind, IsToldAside, told_failures}
 use Rattle.hs_promise.specs.Lines.{AreLines}
 use Rattle.hs_events.specs.Course.{steps}
 use Rattle.hs_events.specs.Due.{Events, MomentsRise, is_walk, next_turn}
-use Rattle.hs_events.specs.Reports.{failures}
 use Rattle.hs_promise.specs.Promise.{AreOfScript}
 use Rattle.hs_promise.specs.Reports.{TellTheirLists}
 use Rattle.hs_promise.specs.Run.{DiskRose, Ran, Script}
-use Rattle.hs_events.specs.Found.{first_core}
+use Rattle.hs_events.specs.Found.{first_core, starts_good}
 use Rattle.hs_promise.specs.Story.{Story, all_events, last_core}
 use Rattle.hs_events.specs.Taken.{peer_count}
 use Rattle.hs_events.specs.Whole.{open_whole}
@@ -51,14 +50,15 @@ pub record Went (S : Script) (r : Ran) (story : Story) : Type 0 where
   pub refused : r.refused ≡ (if (ending_of r.ending).full then (last_core S story).refused else [])
   pub course : r.course ≡ course_of S story r.old.moment
   pub ends : EndsAs (ending_of r.ending) (last_core S story).ended
-  pub failed : (disk : ℕ) → DiskRose r (failures false disk (first_core S.set story.found) (all_events story)) disk
+  pub failed : (disk : ℕ) → DiskRose r (told_failures false S story disk) disk
 
 -- and so where the disks tell their contents, so that no read finds what is no log, and what was read is told
 pub record IsOfDisks (S : Script) (r : Ran) (story : Story) : Type 0 where
   pub read : (peer : ℕ) → peer < peer_count S.set.shape → IsReadAs r story peer
   pub told : (first_core S.set story.found).ended ≡ None → TellTheirLists (open_whole S.set story.found) (all_events story)
   pub still : MayStop S r → All (IsStillBehind r story) story.found.lost
-  pub failed : (disk : ℕ) → DiskRose r (failures true disk (first_core S.set story.found) (all_events story) + loss_count story disk) disk
+  pub failed : (disk : ℕ) → DiskRose r (told_failures true S story disk + loss_count story disk) disk
+  pub aside : (peer : ℕ) → peer < peer_count S.set.shape → starts_good story.found peer ≡ false → IsToldAside S r story peer
 
 -- no core was opened, since a disk is of another store or memory was wanting: nothing was answered, read or put
 pub record NeverOpened (r : Ran) : Type 0 where

@@ -11,4 +11,3 @@ pub mod Reader
 pub mod Reading
 pub mod Served
 pub mod Stopping
-pub mod Words

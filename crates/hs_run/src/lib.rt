@@ -1,7 +1,6 @@
 //! A script run on a cluster: its lines, what is printed of them, and how the run ends.
 #![tactic(auto)]
 
-mod called;
 mod kinds;
 mod outcome;
 mod put;
@@ -10,7 +9,8 @@ mod run;
 mod script;
 mod stop;
 mod top;
-mod words;
 
-pub use called::run_on_cluster;
+pub use outcome::closed;
+pub use put::put_all;
+pub use stop::Stop;
 pub use top::run_script_on;

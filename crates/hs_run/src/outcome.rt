@@ -9,8 +9,9 @@ use hs_limits::ListOf;
 use hs_promise::{Outcome, Status};
 use std::alloc::Global;
 
-/// The outcome of a run that opened no cluster: nothing was answered. It takes no memory.
-pub(crate) fn closed(alloc: Global, status: Status, limit: u32) -> Outcome
+/// The outcome of a run that opened no cluster: nothing was answered, with a journal that has room for so
+/// many entries. It takes no memory.
+pub fn closed(alloc: Global, status: Status, limit: u32) -> Outcome
     ensures status { result.status ≡ status }
     ensures line { result.line ≡ 0 }
     ensures journal { result.journal.entries ≡ [] }

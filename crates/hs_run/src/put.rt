@@ -12,7 +12,7 @@ use hs_ports::{Sink, Watch};
 use hs_script::print_entry;
 
 /// Puts all of the bytes, piece after piece. A fault leaves a front of them put.
-pub(crate) fn put_all<K: Sink>(sink: &mut K, watch: &mut Watch, bytes: &[u8]) -> Result<(), Stop>
+pub fn put_all<K: Sink>(sink: &mut K, watch: &mut Watch, bytes: &[u8]) -> Result<(), Stop>
     ensures put { OnOk result (bytes_of (K.got sink.new) ≡ followed (bytes_of (K.got sink.old))
         bytes.now) }
     ensures front { OnErr result (PutsFront (bytes_of (K.got sink.old)) bytes.now

@@ -10,7 +10,7 @@ use std::alloc::{AllocError, AllocFailed};
 
 /// Why a run stops: what the top call makes a status of.
 #[derive(Clone, Copy, Debug, PartialEq, Eq)]
-pub(crate) enum Stop {
+pub enum Stop {
     /// The disk of a peer is of a store of another shape, or of another peer.
     WrongShape { peer: u8, found: Header },
     /// A shard has no good peer.

@@ -7,8 +7,8 @@ use Rattle.std.proofs.lemmas.List.Sums.{sum_by-cons}
 use Rattle.std.proofs.Math.Nat.{le-min, min-le_left, min-le_right}
 use Rattle.std.specs.List.{AllByRecursion}
 use Rattle.std.specs.Option.{option_map_or}
-use Rattle.std.specs.Prelude.{Contains, count_by, if◌then◌else◌, slice_index_or}
-use Rattle.hs_settled.proofs.CourseLemmas.{no_good, not_begins}
+use Rattle.std.specs.Prelude.{Contains, count_by, if◌then◌else◌, length, slice_index_or}
+use Rattle.hs_settled.proofs.CourseLemmas.{no_good, not_opens}
 use Rattle.hs_settled.proofs.CausesFirstLemmas.{IsFirst, members_first, told_first}
 use Rattle.hs_settled.proofs.CausesGoodLemmas.{last_opened, no_events, opened_good}
 use Rattle.hs_settled.proofs.KeptLemmas.{Kept, all_answer, all_own}
@@ -26,7 +26,7 @@ use Rattle.hs_events.specs.Due.{Events}
 use Rattle.hs_events.specs.Found.{first_core, opens_with, starts_good}
 use Rattle.hs_events.specs.Reports.{failures}
 use Rattle.hs_events.specs.Taken.{is_taken}
-use Rattle.hs_fold.specs.Shards.Course.{begins, is_good_of}
+use Rattle.hs_fold.specs.Shards.Course.{is_good_of}
 use Rattle.hs_fold.specs.Shards.Setting.{Numbered}
 use Rattle.hs_journal.specs.declared.entry.JournalEntry.{JournalEntry}
 use Rattle.hs_journal.specs.Notes.{down_in, is_first_noted, is_note, note_count}
@@ -38,8 +38,8 @@ use Rattle.hs_settled.proofs.NotedFirstLemmas.{first_notes}
 use Rattle.hs_ports.specs.Moments.{disk_at}
 use Rattle.hs_ports.specs.Objects.{RoseBy, faults_at}
 use Rattle.hs_promise.specs.Ending.{ending_of}
-use Rattle.hs_promise.specs.Entry.{is_aside}
-use Rattle.hs_promise.specs.Found.{IsLostBefore, IsReadAs, IsSetAside}
+use Rattle.hs_promise.specs.Entry.{is_aside, opens_good}
+use Rattle.hs_promise.specs.Found.{IsLostBefore, IsReadAs, IsSetAside, told_failures}
 use Rattle.hs_promise.specs.Lost.{extra_note, lost_taken}
 use Rattle.hs_promise.specs.Machine.{Went, loss_count}
 use Rattle.hs_promise.specs.Run.{DiskRose, Ran, Script}
@@ -60,6 +60,9 @@ rose_less m n a b le rose =
 -- one that stands rose by nothing
 pub stands_rose : (a b : ℕ) → a ≤ b → RoseBy 0 a b
 stands_rose a b le = let low : min (a + 0) (2 ^ 64 - 1) ≤ a + 0 = min-le_left (a + 0) (2 ^ 64 - 1) in omega (arith, low, le)
+
+one_more : (n : ℕ) → 1 ≤ 1 + n
+one_more n = omega arith
 
 pub less_none : (n : ℕ) → 0 - n ≡ 0
 less_none n = omega arith
@@ -201,25 +204,29 @@ module _ (S : Script) (r : Ran) (story : Story) (went : Went S r story) (one : S
         ∙ append-nil (first_items S.set.shape story.found r.old.moment)
 
     by_blank : slice_index_or story.found.logs peer None ≡ None → list_in (disk_at r.old.disks peer).seen ≡ None → DiskRose r (note_count peer told_all - extra_note S r peer) peer
-    by_blank none seen = go (is_first_noted peer told_all) refl
+    by_blank none seen = go (length r.course == 0) refl (is_first_noted peer told_all) refl
       where
-        begun : begins S.set.shape.shards r.course peer ≡ false
-        begun = not_begins S.set.shape.shards peer r.course (subst (λ course. AllByRecursion (λ i. is_good_of peer i ≡ false) course) (sym course_is) (no_good S.set.shape story.found r.old.moment peer none bad))
+        gone : opens_good S.set.shape.shards r.course peer ≡ false
+        gone = not_opens S.set.shape.shards peer r.course (subst (λ course. AllByRecursion (λ i. is_good_of peer i ≡ false) course) (sym course_is) (no_good S.set.shape story.found r.old.moment peer none bad))
 
         nothing : note_count peer told_all - extra_note S r peer ≡ 0 → DiskRose r (note_count peer told_all - extra_note S r peer) peer
         nothing zero_left = rose_less (note_count peer told_all - extra_note S r peer) (loss_count story peer) (faults_at r.old.disk_faults peer) (faults_at r.new.disk_faults peer) (omega (arith, zero_left)) lost
 
-        go : (b : Bool) → is_first_noted peer told_all ≡ b → DiskRose r (note_count peer told_all - extra_note S r peer) peer
-        go false t = nothing (let none_told : note_count peer told_all ≡ 0 = not_noted n peer told_all first_all t in omega (arith, none_told))
-        go true t =
-            let aside : is_aside S r peer ≡ true = ap (λ b. b && not (begins S.set.shape.shards r.course peer)) t ∙ ap (λ b. true && not b) begun in
+        counts : is_aside S r peer ≡ true → DiskRose r (note_count peer told_all - extra_note S r peer) peer
+        counts aside =
             let extra : extra_note S r peer ≡ 1 =
             ap (λ b. if b && (is_none (list_in (disk_at r.old.disks peer).seen) || lost_taken S r peer) then 1 else 0) aside
             ∙ ap (λ (o : Option Numbered). if true && (is_none o || lost_taken S r peer) then 1 else 0) seen in
             nothing (let o : note_count peer told_all ≤ 1 = once in omega (arith, o, extra))
 
+        go : (e : Bool) → (length r.course == 0) ≡ e → (b : Bool) → is_first_noted peer told_all ≡ b → DiskRose r (note_count peer told_all - extra_note S r peer) peer
+        go false some b t =
+            counts (ap (λ c. if c then is_first_noted peer told_all else not (opens_good S.set.shape.shards r.course peer)) some ∙ ap (λ c. not c) gone)
+        go true empty false t = nothing (let none_told : note_count peer told_all ≡ 0 = not_noted n peer told_all first_all t in omega (arith, none_told))
+        go true empty true t = counts (ap (λ c. if c then is_first_noted peer told_all else not (opens_good S.set.shape.shards r.course peer)) empty ∙ t)
+
     by_aside : IsSetAside S r story peer → DiskRose r (note_count peer told_all - extra_note S r peer) peer
-    by_aside (inl rose) = by_one rose
+    by_aside (inl rose) = by_one (rose_less 1 (1 + told_failures false S story peer) (faults_at r.old.disk_faults peer) (faults_at r.new.disk_faults peer) (one_more (told_failures false S story peer)) rose)
     by_aside (inr (inl none)) = elim read [
       | inl seen ↦ by_blank none (sym seen ∙ none)
       | inr failed ↦ by_one failed.1

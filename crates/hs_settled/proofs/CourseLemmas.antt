@@ -1,10 +1,10 @@
 -- How a course begins: with whose Good, and where nobody's, that no peer was good.
-use Rattle.std.proofs.Common.{◌≡◌, ◌⊎◌, inl, inr, ◌∙◌, ap, sym, ℕ, ◌+◌, ◌*◌, ◌<◌, ◌==◌, ◌||◌, ◌++◌, Bool, true, false, not, List, [], ◌∷◌, Option, Some, None, refl, arith, map}
+use Rattle.std.proofs.Common.{◌≡◌, ◌⊎◌, inl, inr, ◌∙◌, ap, sym, ℕ, zero, suc, ◌+◌, ◌*◌, ◌<◌, ◌==◌, ◌||◌, ◌++◌, Bool, true, false, not, List, [], ◌∷◌, Option, Some, None, refl, arith, map}
 use Rattle.std.proofs.lemmas.Bool.{eqb-true}
 use Rattle.std.proofs.lemmas.Nat.{div_below}
-use Rattle.std.specs.List.{AllByRecursion, range_with_len}
+use Rattle.std.specs.List.{AllByRecursion, list_any, prefix_len, range_with_len}
 use Rattle.std.specs.Option.{option_map_or}
-use Rattle.std.specs.Prelude.{flat_map, slice_index_or}
+use Rattle.std.specs.Prelude.{drop, flat_map, slice_index_or, take_while}
 use Rattle.hs_settled.proofs.CausesListLemmas.{any_none, both_nil, find_true, flat_all, flat_nil, not_both, range_all, range_each, take_all}
 use Rattle.hs_entry.specs.Entries.{rank_of}
 use Rattle.hs_events.specs.Beginning.{first_items}
@@ -18,6 +18,7 @@ use Rattle.hs_limits.specs.declared.shape.Shape.{Shape}
 use Rattle.hs_members.specs.Members.{all_peers, home_of, peers_of}
 use Rattle.hs_model.specs.declared.course.CourseItem.{CourseItem}
 use Rattle.hs_model.specs.declared.course.CourseItem.TheVariants as item
+use Rattle.hs_promise.specs.Entry.{is_no_took, opens_good}
 use Rattle.hs_settled.proofs.NotingLemmas.{all_append}
 
 pub which_peer : (o : Option ℕ) → (o ≡ None) ⊎ ((p : ℕ) × (o ≡ Some p))
@@ -107,3 +108,15 @@ no_good shape found entry peer none bad =
 -- so that its Good does not begin a course that has nothing more
 pub not_begins : (shards peer : ℕ) (course : List CourseItem) → AllByRecursion (IsNotOf peer) course → begins shards course peer ≡ false
 not_begins shards peer course all = any_none (is_good_of peer) _ (take_all (IsNotOf peer) (shards + shards) course all)
+
+drop_all : {X : Type 0} (P : X → Type 0) (n : ℕ) (xs : List X) → AllByRecursion P xs → AllByRecursion P (drop n xs)
+drop_all P zero xs all = all
+drop_all P (suc n) [] all = tt
+drop_all P (suc n) (x ∷ xs) all = drop_all P n xs all.1
+
+-- nor does it stand there
+pub not_opens : (shards peer : ℕ) (course : List CourseItem) → AllByRecursion (IsNotOf peer) course → opens_good shards course peer ≡ false
+not_opens shards peer course all =
+    ap (λ b. b || list_any (is_good_of peer) (take_while is_no_took (drop (shards + shards) course))) (not_begins shards peer course all)
+    ∙ any_none (is_good_of peer) (take_while is_no_took (drop (shards + shards) course))
+    (take_all (IsNotOf peer) (prefix_len is_no_took (drop (shards + shards) course)) (drop (shards + shards) course) (drop_all (IsNotOf peer) (shards + shards) course all))

@@ -208,6 +208,15 @@ module _ (commands : ℕ → Option Command) (shape : Shape) (limits : Limits) (
 
 -- ---- a run
 
+-- of any number of copies: the shard is lost in the last core, and is one of the store
+module _ (S : Script) (r : Ran) (story : Story) (went : Went S r story) (g : ℕ) (over : (last_core S story).ended ≡ Some (fault.ShardLost g)) where
+  is_lost : lost_shard (last_core S story) ≡ Some g
+  is_lost = (last_kept S r story went).ends.lost g over
+
+  pub lost_within : g < S.set.shape.shards
+  lost_within = let l : g < (shape_of (last_core S story)).shards = lost_low (last_core S story) g is_lost in
+      let s : (shape_of (last_core S story)).shards ≡ S.set.shape.shards = ap (λ (z : Shape). z.shards) (last_kept S r story went).shaped in omega (arith, l, s)
+
 module _ (S : Script) (r : Ran) (story : Story) (went : Went S r story) (one : S.set.shape.copies ≡ 1) (g : ℕ) (over : (last_core S story).ended ≡ Some (fault.ShardLost g)) where
   abbrev opened : Core
   opened = first_core S.set story.found
@@ -215,12 +224,8 @@ module _ (S : Script) (r : Ran) (story : Story) (went : Went S r story) (one : S
   abbrev commands : ℕ → Option Command
   commands = mute S.commands
 
-  lost_is : lost_shard (last_core S story) ≡ Some g
-  lost_is = (last_kept S r story went).ends.lost g over
-
   shard_low : g < S.set.shape.shards
-  shard_low = let l : g < (shape_of (last_core S story)).shards = lost_low (last_core S story) g lost_is in
-      let s : (shape_of (last_core S story)).shards ≡ S.set.shape.shards = ap (λ (z : Shape). z.shards) (last_kept S r story went).shaped in omega (arith, l, s)
+  shard_low = lost_within S r story went g over
 
   -- it was lost as the core opened
   opened_loss : opened.ended ≡ Some (fault.ShardLost g) → Loss commands g opened

@@ -2,20 +2,25 @@
 ghost use Rattle.std.specs.Prelude.{◌≡◌, ◌<◌, ℕ, Option};
 ghost use Rattle.hs_events.specs.Taken.{peer_count};
 ghost use Rattle.hs_ports.specs.Fault.{HasRisen};
-ghost use Rattle.hs_promise.specs.Causes.{Cause};
+ghost use Rattle.hs_promise.specs.Causes.{Cause, CauseButLoss};
 ghost use Rattle.hs_promise.specs.declared.status.Status.TheVariants as status;
 ghost use Rattle.hs_promise.specs.Machine.{WentAs};
 ghost use Rattle.hs_promise.specs.Run.{Ran, Script};
 ghost use Rattle.hs_promise.specs.Story.{Story};
 ghost use Rattle.hs_side.specs.declared.header.Header.{Header};
 
-/// With one copy a shard, each status has its cause. A shard is lost where its peer was to fail, or
-/// was noted to be down, by the last event, and no line behind it starts the peer. A full journal
-/// would have had more entries than its limit, each of which stands for something; with any other
-/// status nothing was refused. That the source or the sink failed its count shows; which disk is of
-/// another store is known from opening.
+/// Each status has its cause, but for a shard that is lost (`any`): a full journal would have had more
+/// entries than its limit, each of which stands for something; with any other status nothing was
+/// refused. That the source or the sink failed its count shows; which disk is of another store is
+/// known from opening. With one copy a shard (`one`), a shard is lost where its peer was to fail, or
+/// was noted to be down, by the last event, and no line behind it starts the peer.
 pub fn each_status_has_its_cause()
-    ensures { (S : Script) (r : Ran) (how : Option Story) → S.set.shape.copies ≡ 1
+    ensures any { (S : Script) (r : Ran) (how : Option Story) → WentAs S r how
+        → (r.ending ≡ status.ReadFault → HasRisen r.old.source_faults r.new.source_faults)
+        → (r.ending ≡ status.WriteFault → HasRisen r.old.sink_faults r.new.sink_faults)
+        → ((peer : ℕ) (found : Header) → r.ending ≡ status.WrongShape peer found
+        → peer < peer_count S.set.shape) → CauseButLoss S r r.ending }
+    ensures one { (S : Script) (r : Ran) (how : Option Story) → S.set.shape.copies ≡ 1
         → WentAs S r how
         → (r.ending ≡ status.ReadFault → HasRisen r.old.source_faults r.new.source_faults)
         → (r.ending ≡ status.WriteFault → HasRisen r.old.sink_faults r.new.sink_faults)

@@ -4,14 +4,12 @@ use Rattle.std.proofs.lemmas.Bool.{false≢true}
 use Rattle.std.proofs.lemmas.List.{length-map}
 use Rattle.std.specs.Prelude.{IfSome, is_some}
 use Rattle.hs_limits.specs.declared.address.Address.{Address}
-use Rattle.hs_model.specs.declared.command.Command.{Command}
 use Rattle.hs_promise.specs.declared.status.Status.TheVariants as status
 use Rattle.hs_promise.specs.Promise.{IsUsage}
-use Rattle.hs_promise.specs.Run.{Ran, Script, script_of}
-use Rattle.hs_run.specs.Machine.{IsOfCluster}
-use Rattle.hs_run.specs.Words.{built_of}
-use Rattle.hs_script.specs.CommandLine.{Wanted}
-use Rattle.hs_top.specs.Calls.{IsCalled, Promised, RunsSo}
+use Rattle.hs_promise.specs.Run.{Ran}
+use Rattle.hs_script.specs.declared.invocation.Invocation.{Invocation}
+use Rattle.hs_top.specs.Calls.{Does, IsCalled}
+use Rattle.hs_top.specs.Words.{served_on}
 
 -- as many disks are handed in as there are
 pub handed_count : {A B C : Type 0} (f : A → B × C) (disks : List A) → length (map (λ (d : B × C). d.0) (map f disks)) ≡ length disks
@@ -37,29 +35,25 @@ written_back {X} n new old same all =
 
 -- ---- a call
 
--- of what is there, knowing what it is
-if_there : {T : Type 0} (P Q : T → Type 0) (whole o : Option T) → whole ≡ o → IfSome o P → ((x : T) → whole ≡ Some x → P x → Q x) → IfSome o Q
-if_there P Q whole None is h f = tt
-if_there P Q whole (Some x) is h f = f x is h
-
 none_there : {T : Type 0} (o : Option T) (x : T) → o ≡ None → o ≡ Some x → ⊥
 none_there {T} o x none there = false≢true (ap (λ (o : Option T). is_some o) (sym none ∙ there))
 
 module _ (tells : Type 0) (name : List ℕ → Address) (words : List (List ℕ)) (disks : ℕ) (r : Ran) (same : length r.old.disks ≡ disks) where
-  pub called_of : (built_of words disks ≡ None → IsUsage r) → (r.ending ≡ status.Usage → built_of words disks ≡ None)
-      → IfSome (built_of words disks) (λ wanted. (commands : ℕ → Option Command) × IsOfCluster tells (script_of name wanted commands) r)
-      → ((S : Script) → S.set.name ≡ name → (r.ending ≡ status.Usage → ⊥) → IsOfCluster tells S r → Promised tells S r) → IsCalled tells name words r
-  called_of usage only ran promised = record {
-    runs = subst (λ (n : ℕ). IfSome (built_of words n) (λ wanted. (commands : ℕ → Option Command) × RunsSo tells (script_of name wanted commands) r)) (sym same)
-        (if_there (λ (wanted : Wanted). (commands : ℕ → Option Command) × IsOfCluster tells (script_of name wanted commands) r)
-        (λ (wanted : Wanted). (commands : ℕ → Option Command) × RunsSo tells (script_of name wanted commands) r) (built_of words disks) (built_of words disks) refl ran
-        (λ wanted built p. (
-          p.0,
-          record {
-            promised = promised (script_of name wanted p.0) refl (λ is. none_there (built_of words disks) wanted (only is) built) p.1;
-            machine = p.1;
-          },
-        )));
-    usage = λ none. usage (subst (λ (n : ℕ). built_of words n ≡ None) same none);
-    only_usage = λ is. subst (λ (n : ℕ). built_of words n ≡ None) (sym same) (only is);
+  -- what the words ask for was done
+  pub called_of : (asked : Invocation) → served_on words disks ≡ Some asked → Does tells name asked.shape asked.task r → (r.ending ≡ status.Usage → ⊥) → IsCalled tells name words r
+  called_of asked is does begun = record {
+    does = subst (λ (n : ℕ). IfSome (served_on words n) (λ (a : Invocation). Does tells name a.shape a.task r)) (sym same)
+        (subst (λ (o : Option Invocation). IfSome o (λ (a : Invocation). Does tells name a.shape a.task r)) (sym is) does);
+    usage = λ none. absurd (none_there (served_on words disks) asked (subst (λ (n : ℕ). served_on words n ≡ None) same none) is);
+    only_usage = λ ends. absurd (begun ends);
   }
+
+  -- they ask for nothing that is served
+  pub called_not : served_on words disks ≡ None → IsUsage r → IsCalled tells name words r
+  called_not none usage =
+      let there : served_on words (length r.old.disks) ≡ None = subst (λ (n : ℕ). served_on words n ≡ None) (sym same) none in
+      record {
+        does = subst (λ (o : Option Invocation). IfSome o (λ (a : Invocation). Does tells name a.shape a.task r)) (sym there) tt;
+        usage = λ is. usage;
+        only_usage = λ ends. there;
+      }

@@ -82,22 +82,22 @@ blank_may S r image sound blank rest =
 
 -- ---- what a stop left
 
-logs_are : (S : Script) (r : Ran) (peer : ℕ) (disks : List Standing) (images : List Image) → length disks ≡ length images → ((p : ℕ) → is_aside S r p ≡ false)
+logs_are : (S : Script) (r : Ran) (peer : ℕ) (disks : List Standing) (images : List Image) → length disks ≡ length images → ((p : ℕ) → p < peer + length disks → is_aside S r p ≡ false)
     → ((k : ℕ) (side : Side) → (disk_at disks k).seen side ≡ image_at images k side) → logs_from S r peer disks ≡ image_logs images
 logs_are S r peer [] [] same none h = refl
 logs_are S r peer [] (image ∷ images) same none h = absurd (omega (arith, same))
 logs_are S r peer (disk ∷ disks) [] same none h = absurd (omega (arith, same))
 logs_are S r peer (disk ∷ disks) (image ∷ images) same none h =
-    ap (λ (b : Bool). (if b then None else list_in disk.seen) ∷ logs_from S r (peer + 1) disks) (none peer)
+    ap (λ (b : Bool). (if b then None else list_in disk.seen) ∷ logs_from S r (peer + 1) disks) (none peer (omega arith))
     ∙ ap (λ (log : Option Numbered). log ∷ logs_from S r (peer + 1) disks) (list-same image disk.seen (λ side. h 0 side))
-    ∙ ap (λ (logs : List (Option Numbered)). list_in image ∷ logs) (logs_are S r (peer + 1) disks images (omega (arith, same)) none (λ k side. h (suc k) side))
+    ∙ ap (λ (logs : List (Option Numbered)). list_in image ∷ logs) (logs_are S r (peer + 1) disks images (omega (arith, same)) (λ p low. none p (omega (arith, low))) (λ k side. h (suc k) side))
 
 pub stopped_may : (S : Script) (r : Ran) (images : List Image) → AreSoundAlong S.set (taken_lists S.set.shape (image_logs images)) → AreAtRest (λ peer. image_at images peer) r.old
-    → length r.old.disks ≡ length images → ((peer : ℕ) → is_aside S r peer ≡ false) → MayStop S r
+    → length r.old.disks ≡ length images → ((peer : ℕ) → peer < length r.old.disks → is_aside S r peer ≡ false) → MayStop S r
 stopped_may S r images sound rest same none =
     rest_may S r (λ peer. image_at images peer) rest
     (subst (λ (logs : List (Option Numbered)). AreSoundAlong S.set (taken_lists S.set.shape logs))
-    (sym (logs_are S r 0 r.old.disks images same none (λ k side. (rest.each k).seen side))) sound)
+    (sym (logs_are S r 0 r.old.disks images same (λ p low. none p (omega (arith, low))) (λ k side. (rest.each k).seen side))) sound)
 
 -- ---- what a stop left of one shard of one copy
 

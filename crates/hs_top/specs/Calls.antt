@@ -1,7 +1,10 @@
--- What the two calls of the program promise, for stores of one copy a shard.
+-- What the two calls of the program promise.
 use Rattle.std.specs.Prelude.{IfSome, List, None, Option, [], length, true, ℕ, ◌<◌, ◌≡◌, ◌⊎◌}
+use Rattle.hs_checks.specs.Audited.{IsAudited}
+use Rattle.hs_checks.specs.Compared.{IsCompared}
 use Rattle.hs_journal.specs.Order.{IsOrdered}
 use Rattle.hs_limits.specs.declared.address.Address.{Address}
+use Rattle.hs_limits.specs.declared.shape.Shape.{Shape}
 use Rattle.hs_model.specs.declared.command.Command.{Command}
 use Rattle.hs_ports.specs.Moments.{disk_at}
 use Rattle.hs_ports.specs.Objects.{CountsStand, KeepsPast, KeepsTime}
@@ -19,8 +22,10 @@ use Rattle.hs_promise.specs.Stops.{Stops}
 use Rattle.hs_promise.specs.Untold.{IsGoodUntold}
 use Rattle.hs_promise.specs.declared.status.Status.TheVariants as status
 use Rattle.hs_run.specs.Machine.{IsOfCluster}
-use Rattle.hs_run.specs.Words.{built_of}
+use Rattle.hs_script.specs.declared.invocation.Task.{Task}
+use Rattle.hs_script.specs.declared.invocation.Task.TheVariants as task
 use Rattle.hs_side.specs.Current.{list_in}
+use Rattle.hs_top.specs.Words.{served_on}
 
 -- ---- what is promised of a run: `Promise` of hs_promise, and what stands beside it of any run
 
@@ -58,8 +63,15 @@ pub record RunsSo (tells : Type 0) (S : Script) (r : Ran) : Type 0 where
   pub promised : Promised tells S r
   pub machine : IsOfCluster tells S r
 
--- the words of a call ask for a run of some commands, which goes so; or for what is not served, and then nothing was done
+-- what is asked for is done: a run of some commands goes so; an audit says what the store amounts to, and a scrub whether its copies agree; nothing else is served
+abbrev pub Does : Type 0 → (List ℕ → Address) → Shape → Task → Ran → Type 0
+Does tells name shape (task.Script limits visits cache) r = (commands : ℕ → Option Command) × RunsSo tells (script_of name (record { shape = shape; limits = limits }) commands) r
+Does tells name shape task.Audit r = IsAudited tells name shape r
+Does tells name shape (task.Scrub from) r = IsCompared tells shape r
+Does tells name shape other r = ⊥
+
+-- the words of a call ask for what is served, and that is done; or for what is not, and then nothing was done
 pub record IsCalled (tells : Type 0) (name : List ℕ → Address) (words : List (List ℕ)) (r : Ran) : Type 0 where
-  pub runs : IfSome (built_of words (length r.old.disks)) (λ wanted. (commands : ℕ → Option Command) × RunsSo tells (script_of name wanted commands) r)
-  pub usage : built_of words (length r.old.disks) ≡ None → IsUsage r
-  pub only_usage : r.ending ≡ status.Usage → built_of words (length r.old.disks) ≡ None
+  pub does : IfSome (served_on words (length r.old.disks)) (λ asked. Does tells name asked.shape asked.task r)
+  pub usage : served_on words (length r.old.disks) ≡ None → IsUsage r
+  pub only_usage : r.ending ≡ status.Usage → served_on words (length r.old.disks) ≡ None

@@ -1,12 +1,29 @@
 -- What the words of the command line ask for.
-use Rattle.std.specs.Option.{option_and_then}
-use Rattle.std.specs.Prelude.{Bool, List, None, Option, Some, [], bytes_eq, codes, false, if◌then◌else◌, ℕ, ◌==◌, ◌∷◌}
+use Rattle.std.specs.Option.{option_and_then, option_map}
+use Rattle.std.specs.Prelude.{Bool, List, None, Option, Some, [], bytes_eq, codes, false, if◌then◌else◌, true, ℕ, ◌==◌, ◌∷◌}
 use Rattle.hs_limits.specs.declared.shape.Shape.{Shape}
-use Rattle.hs_script.specs.CommandLine.{wanted}
+use Rattle.hs_script.specs.CommandLine.{invocation_of, invocation_on}
+use Rattle.hs_script.specs.declared.invocation.Invocation.{Invocation}
+use Rattle.hs_script.specs.declared.invocation.Task.{Task}
+use Rattle.hs_script.specs.declared.invocation.Task.TheVariants as task
 
--- the shape that they ask for; that of several copies is not served yet
+-- what is served so far: a script on one copy a shard without --visits and --cache, an audit, a scrub without --from
+abbrev pub is_served : Shape → Task → Bool
+is_served shape (task.Script limits None None) = shape.copies == 1
+is_served shape task.Audit = true
+is_served shape (task.Scrub None) = true
+is_served shape other = false
+
+abbrev pub where_served : Invocation → Option Invocation
+where_served asked = if is_served asked.shape asked.task then Some asked else None
+
+-- what they ask for, where it is served and is run on so many disks
+abbrev pub served_on : List (List ℕ) → ℕ → Option Invocation
+served_on words disks = option_and_then where_served (invocation_on words disks)
+
+-- the shape of the store that they ask for, where it is served
 abbrev pub shape_in : List (List ℕ) → Option Shape
-shape_in words = option_and_then (λ w. if w.shape.copies == 1 then Some w.shape else None) (wanted words)
+shape_in words = option_map (λ asked. asked.shape) (option_and_then where_served (invocation_of words))
 
 -- the first word is `load`
 abbrev pub is_load : List (List ℕ) → Bool

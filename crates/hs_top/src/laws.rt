@@ -28,7 +28,8 @@ pub fn a_run_may_begin()
         → (limits : Limits) (commands : ℕ → Option Command) (next : Ran)
         → AreAtRest (λ peer. image_at images peer) next.old
         → length next.old.disks ≡ length images
-        → ((peer : ℕ) → is_aside (script_after S limits commands) next peer ≡ false)
+        → ((peer : ℕ) → peer < length next.old.disks
+        → is_aside (script_after S limits commands) next peer ≡ false)
         → MayStop (script_after S limits commands) next }
     ensures alone { (S : Script) (entry : Store) (r : Ran) (m : ℕ) (images : List Image)
         → S.set.shape.shards ≡ 1 → S.set.shape.copies ≡ 1

@@ -1,17 +1,23 @@
 //! The top call.
-ghost use Rattle.std.specs.Prelude.{◌≡◌, false, map, string_bytes};
+ghost use Rattle.std.specs.Prelude.{◌≡◌, ◌*◌, false, length, map, string_bytes, true, ℕ, Option};
+ghost use Rattle.hs_limits.specs.Shape.{IsShape};
+ghost use Rattle.hs_model.specs.declared.command.Command.{Command};
 ghost use Rattle.hs_ports.specs.Objects.{handed};
-ghost use Rattle.hs_promise.specs.Run.{ran_of};
-ghost use Rattle.hs_top.specs.Calls.{IsCalled};
-ghost use Rattle.hs_top.specs.Words.{is_load};
+ghost use Rattle.hs_promise.specs.Run.{ran_of, script_of};
+ghost use Rattle.hs_top.specs.Calls.{Does, IsCalled, RunsSo};
+ghost use Rattle.hs_top.specs.Words.{is_load, is_served};
 
+use crate::words::served_on;
 use hs_block::Addresser;
+use hs_checks::{run_audit, run_scrub};
 use hs_clauses::{
     a_run_is_answered, a_run_keeps, a_run_may_stop, a_run_stands, what_is_read_is_sealed,
 };
+use hs_limits::{Limits, Shape};
 use hs_ports::{Disk, Sink, Source, Watch};
-use hs_promise::Outcome;
-use hs_run::run_on_cluster;
+use hs_promise::{Outcome, Status};
+use hs_run::{closed, run_script_on};
+use hs_script::Task;
 use hs_settled::{
     a_calm_run_ends_well, a_full_journal_deletes_as_promised, a_journal_is_in_order,
     a_note_ends_the_run, a_peer_is_good_until_it_is_told, a_prompt_line_has_its_entry,
@@ -23,22 +29,28 @@ use std::alloc::Global;
 use std::sync::Wait;
 use std::thread::Threads;
 
-/// Runs a script as the words ask. The calls before it are laws.
-fn run_words<A: Addresser, S: Source, K: Sink, D: Disk + Drop>(
+/// Runs a script on a store of one copy a shard. The calls before it are laws.
+fn run_script<A: Addresser, S: Source, K: Sink, D: Disk>(
     alloc: Global,
-    words: &[String],
+    shape: Shape,
+    limits: Limits,
     naming: &A,
     source: &mut S,
     sink: &mut K,
-    disks: &mut Vec<D>,
+    disks: &mut [D],
     watch: &mut Watch,
 ) -> Outcome
-    ensures called { IsCalled D.tells (A.name naming.now) (map (λ word. string_bytes word) words.now)
+    requires shape { IsShape shape }
+    requires copies { shape.copies ≡ 1 }
+    requires count { length disks.old ≡ shape.shards * shape.copies }
+    ensures runs { (commands : ℕ → Option Command) × RunsSo D.tells
+        (script_of (A.name naming.now) (record { shape = shape; limits = limits }) commands)
         (ran_of result
-        (handed watch.old (map (λ disk. (D.stands disk, D.faults disk)) disks.old.items)
+        (handed watch.old (map (λ disk. (D.stands disk, D.faults disk)) disks.old)
         (K.got sink.old, K.faults sink.old) (S.left source.old, S.faults source.old))
-        (handed watch.new (map (λ disk. (D.stands disk, D.faults disk)) disks.new.items)
+        (handed watch.new (map (λ disk. (D.stands disk, D.faults disk)) disks.new)
         (K.got sink.new, K.faults sink.new) (S.left source.new, S.faults source.new))) }
+    ensures begun { result.status ≡ Status.Usage → ⊥ }
 {
     each_entry_stands_for_its_cause();
     a_journal_is_in_order();
@@ -60,13 +72,85 @@ fn run_words<A: Addresser, S: Source, K: Sink, D: Disk + Drop>(
     a_full_journal_deletes_as_promised();
     shard_0_is_led_by_lines();
     a_calm_run_ends_well();
-    let handed = disks.as_mut_slice();
-    run_on_cluster(alloc, words, naming, source, sink, handed, watch)
+    run_script_on(alloc, shape, limits, naming, source, sink, disks, watch)
 }
 
-/// Does every command but `load`, and waits for nobody. So far that is `script DIR G 1` with its
-/// options: it runs the script that the source has on the disks of a store, one for each shard, and
-/// puts what is answered into the sink. Other words are a faulty command line.
+/// Does what is asked for, which is served.
+fn do_task<A: Addresser, S: Source, K: Sink, D: Disk>(
+    alloc: Global,
+    shape: Shape,
+    task: &Task<'_>,
+    naming: &A,
+    source: &mut S,
+    sink: &mut K,
+    disks: &mut [D],
+    watch: &mut Watch,
+) -> Outcome
+    requires shape { IsShape shape }
+    requires served { is_served shape task.now ≡ true }
+    requires count { length disks.old ≡ shape.shards * shape.copies }
+    ensures does { Does D.tells (A.name naming.now) shape task.now
+        (ran_of result
+        (handed watch.old (map (λ disk. (D.stands disk, D.faults disk)) disks.old)
+        (K.got sink.old, K.faults sink.old) (S.left source.old, S.faults source.old))
+        (handed watch.new (map (λ disk. (D.stands disk, D.faults disk)) disks.new)
+        (K.got sink.new, K.faults sink.new) (S.left source.new, S.faults source.new))) }
+    ensures begun { result.status ≡ Status.Usage → ⊥ }
+{
+    match task {
+        Task::Script { limits, .. } => {
+            run_script(alloc, shape, *limits, naming, source, sink, disks, watch)
+        }
+        Task::Audit => run_audit(alloc, naming, shape, sink, disks, watch),
+        Task::Scrub { .. } => run_scrub(alloc, shape, sink, disks, watch),
+        Task::Load { .. } | Task::Store { .. } | Task::Fetch { .. } | Task::Copy { .. } => closed(
+            alloc,
+            Status::Usage,
+            0,
+        ),
+    }
+}
+
+/// Does what the words ask for.
+fn run_words<A: Addresser, S: Source, K: Sink, D: Disk + Drop>(
+    alloc: Global,
+    words: &[String],
+    naming: &A,
+    source: &mut S,
+    sink: &mut K,
+    disks: &mut Vec<D>,
+    watch: &mut Watch,
+) -> Outcome
+    ensures called { IsCalled D.tells (A.name naming.now) (map (λ word. string_bytes word) words.now)
+        (ran_of result
+        (handed watch.old (map (λ disk. (D.stands disk, D.faults disk)) disks.old.items)
+        (K.got sink.old, K.faults sink.old) (S.left source.old, S.faults source.old))
+        (handed watch.new (map (λ disk. (D.stands disk, D.faults disk)) disks.new.items)
+        (K.got sink.new, K.faults sink.new) (S.left source.new, S.faults source.new))) }
+{
+    match served_on(words, disks.len()) {
+        Some(asked) => {
+            let handed = disks.as_mut_slice();
+            do_task(
+                alloc,
+                asked.shape,
+                &asked.task,
+                naming,
+                source,
+                sink,
+                handed,
+                watch,
+            )
+        }
+        None => closed(alloc, Status::Usage, 0),
+    }
+}
+
+/// Does every command but `load`, and waits for nobody. So far these are `script DIR G 1` with its
+/// options, which runs the script that the source has on the disks of a store, one for each peer, and
+/// puts what is answered into the sink; `audit DIR G R`, which puts there what the logs of a store
+/// amount to; and `scrub DIR G R`, which puts there whether the copies of each shard agree. Other words
+/// are a faulty command line.
 pub fn hydra_alone<A: Addresser, S: Source, K: Sink, D: Disk + Drop>(
     alloc: Global,
     words: &[String],

@@ -1,18 +1,58 @@
 //! The words of the command line.
-ghost use Rattle.std.specs.Prelude.{◌≡◌, map, string_bytes};
-ghost use Rattle.hs_top.specs.Words.{is_load, shape_in};
+ghost use Rattle.std.specs.Prelude.{◌≡◌, IfSome, map, string_bytes, true};
+ghost use Rattle.hs_script.specs.CommandLine.{disks_of};
+ghost use Rattle.hs_top.specs.Words.{is_load, is_served, served_on, shape_in};
+ghost use Rattle.hs_wanted.specs.Asked.{IsInvocation};
 
 use hs_limits::Shape;
-use hs_wanted::wanted;
+use hs_script::{Invocation, Task};
+use hs_wanted::{invocation_of, invocation_on};
 
 /// The shape of the store that the words ask for. None exactly where they are outside the command
-/// language, or ask for several copies of a shard, which are not served yet.
+/// language, or ask for what is not served yet.
 pub fn shape_of(words: &[String]) -> Option<Shape>
     ensures { result ≡ shape_in (map (λ word. string_bytes word) words.now) }
 {
-    match wanted(words) {
-        Some((shape, _)) => { if shape.copies == 1 { Some(shape) } else { None } }
-        None => None,
+    let asked = invocation_of(words)?;
+    if is_served(asked.shape, &asked.task) {
+        Some(asked.shape)
+    } else {
+        None
+    }
+}
+
+/// What the words ask for on so many disks, where it is served.
+pub(crate) fn served_on<'a>(words: &'a [String], disks: usize) -> Option<Invocation<'a>>
+    ensures exact { result ≡ served_on (map (λ word. string_bytes word) words.now) disks }
+    ensures bounds { IfSome result IsInvocation }
+    ensures count { IfSome result (λ asked. disks ≡ disks_of asked) }
+    ensures served { IfSome result (λ asked. is_served asked.shape asked.task ≡ true) }
+{
+    let asked = invocation_on(words, disks)?;
+    if is_served(asked.shape, &asked.task) {
+        Some(asked)
+    } else {
+        None
+    }
+}
+
+/// Whether what is asked for is served so far.
+fn is_served(shape: Shape, task: &Task<'_>) -> bool
+    ensures { result ≡ is_served shape task.now }
+{
+    match task {
+        Task::Script {
+            limits: _,
+            visits: None,
+            cache: None,
+        } => shape.copies == 1,
+        Task::Audit | Task::Scrub { from: None } => true,
+        Task::Script { .. }
+        | Task::Load { .. }
+        | Task::Store { .. }
+        | Task::Fetch { .. }
+        | Task::Scrub { .. }
+        | Task::Copy { .. } => false,
     }
 }
 

@@ -1,57 +1,68 @@
 -- Words that name a shape are run on as many disks as it has peers.
-use Rattle.std.proofs.Common.{◌≡◌, ℕ, ◌*◌, ◌==◌, Bool, true, false, List, Option, Some, None, length, map, refl, subst}
-use Rattle.std.proofs.lemmas.Bool.{eq-eqb}
-use Rattle.std.specs.Option.{option_and_then, option_map_or}
+use Rattle.std.proofs.Common.{◌≡◌, ◌∙◌, ℕ, ◌+◌, ◌*◌, ◌==◌, Bool, true, false, List, Option, Some, None, length, map, refl, subst, ap, arith}
+use Rattle.std.proofs.lemmas.Bool.{eq-eqb, eqb-eq}
+use Rattle.std.specs.Option.{option_and_then, option_map, option_map_or}
 use Rattle.std.specs.Prelude.{if◌then◌else◌}
-use Rattle.hs_run.specs.Words.{built_of}
-use Rattle.hs_script.specs.CommandLine.{Wanted, wanted}
+use Rattle.hs_limits.specs.declared.shape.Shape.{Shape}
+use Rattle.hs_script.specs.CommandLine.{disks_of, invocation_of, second_disks}
+use Rattle.hs_script.specs.declared.invocation.Invocation.{Invocation}
+use Rattle.hs_script.specs.declared.invocation.Task.{Task}
+use Rattle.hs_script.specs.declared.invocation.Task.TheVariants as task
 use Rattle.hs_top.proofs.CalledLemmas.{handed_count}
-use Rattle.hs_top.specs.Words.{shape_in}
+use Rattle.hs_top.specs.Words.{is_served, served_on, shape_in, where_served}
 use Rattle.hydra.specs.CommandLine.{peers_in}
 
 some_none : {X : Type 0} (x : X) → Some x ≡ None → ⊥
 some_none x is = absurd cc
 
-none_too : {X Y : Type 0} (x : X) (y : Y) (one : Bool) → (if one then Some x else None) ≡ None → (if one then Some y else None) ≡ None
-none_too x y true none = absurd (some_none x none)
-none_too x y false none = refl
+-- what is served is run on the disks of one store
+one_store : (shape : Shape) (t : Task) → is_served shape t ≡ true → second_disks t ≡ 0
+one_store shape (task.Script limits visits cache) is = refl
+one_store shape (task.Load seed writers files) is = refl
+one_store shape task.Audit is = refl
+one_store shape (task.Store key) is = refl
+one_store shape (task.Fetch key) is = refl
+one_store shape (task.Scrub from) is = refl
+one_store shape (task.Copy key dir second delete) is = absurd cc
 
-module _ (w : Wanted) where
-  unshaped : (fits : Bool) → (if w.shape.copies == 1 then Some w.shape else None) ≡ None
-      → option_and_then (λ v. if v.shape.copies == 1 then Some v else None) (if fits then Some w else None) ≡ None
-  unshaped true none = none_too w.shape w (w.shape.copies == 1) none
-  unshaped false none = refl
+module _ (n : ℕ) (a : Invocation) where
+  unshaped : (o : Option Invocation) → option_map (λ asked. asked.shape) o ≡ None → o ≡ None
+  unshaped None none = refl
+  unshaped (Some b) none = absurd (some_none b.shape none)
 
-  where_fit : (fits : Bool) → option_and_then (λ v. if v.shape.copies == 1 then Some v else None) (if fits then Some w else None) ≡ None
-      → fits ≡ true → (if w.shape.copies == 1 then Some w else None) ≡ None
+  no_fit : (fits : Bool) → where_served a ≡ None → option_and_then where_served (if fits then Some a else None) ≡ None
+  no_fit true none = none
+  no_fit false none = refl
+
+  shaped : (served : Bool) → is_served a.shape a.task ≡ served → n ≡ option_map_or (λ shape. shape.shards * shape.copies) (option_map (λ asked. asked.shape) (if served then Some a else None)) 0
+      → ((n == disks_of a) ≡ true → (if served then Some a else None) ≡ None) → option_map (λ asked. asked.shape) (if served then Some a else None) ≡ None
+  shaped true is same none = absurd (some_none a (none (eq-eqb n (disks_of a) (omega (arith, same, one_store a.shape a.task is)))))
+  shaped false is same none = refl
+
+  where_fit : (fits : Bool) → option_and_then where_served (if fits then Some a else None) ≡ None → fits ≡ true → where_served a ≡ None
   where_fit true none is = none
   where_fit false none is = absurd cc
 
-  shaped : (n : ℕ) (one : Bool) → n ≡ option_map_or (λ shape. shape.shards * shape.copies) (if one then Some w.shape else None) 0
-      → ((n == w.shape.shards * w.shape.copies) ≡ true → (if one then Some w else None) ≡ None) → (if one then Some w.shape else None) ≡ None
-  shaped n true same none = absurd (some_none w (none (eq-eqb n (w.shape.shards * w.shape.copies) same)))
-  shaped n false same none = refl
-
 -- words that name none are run on no disks
-pub no_shape : (words : List (List ℕ)) (n : ℕ) → shape_in words ≡ None → built_of words n ≡ None
-no_shape words n none = go (wanted words) none
+pub no_shape : (words : List (List ℕ)) (n : ℕ) → shape_in words ≡ None → served_on words n ≡ None
+no_shape words n none = go (invocation_of words) none
   where
-    go : (o : Option Wanted) → option_and_then (λ w. if w.shape.copies == 1 then Some w.shape else None) o ≡ None
-        → option_and_then (λ w. if w.shape.copies == 1 then Some w else None) (option_and_then (λ w. if n == w.shape.shards * w.shape.copies then Some w else None) o) ≡ None
+    go : (o : Option Invocation) → option_map (λ asked. asked.shape) (option_and_then where_served o) ≡ None
+        → option_and_then where_served (option_and_then (λ asked. if n == disks_of asked then Some asked else None) o) ≡ None
     go None h = refl
-    go (Some w) h = unshaped w (n == w.shape.shards * w.shape.copies) h
+    go (Some a) h = no_fit n a (n == disks_of a) (unshaped n a (where_served a) h)
 
 -- words that are not run on as many disks as they name peers name no shape
-pub no_run : (words : List (List ℕ)) (n : ℕ) → n ≡ peers_in words → built_of words n ≡ None → shape_in words ≡ None
-no_run words n same none = go (wanted words) same none
+pub no_run : (words : List (List ℕ)) (n : ℕ) → n ≡ peers_in words → served_on words n ≡ None → shape_in words ≡ None
+no_run words n same none = go (invocation_of words) same none
   where
-    go : (o : Option Wanted) → n ≡ option_map_or (λ shape. shape.shards * shape.copies) (option_and_then (λ w. if w.shape.copies == 1 then Some w.shape else None) o) 0
-        → option_and_then (λ w. if w.shape.copies == 1 then Some w else None) (option_and_then (λ w. if n == w.shape.shards * w.shape.copies then Some w else None) o) ≡ None
-        → option_and_then (λ w. if w.shape.copies == 1 then Some w.shape else None) o ≡ None
+    go : (o : Option Invocation) → n ≡ option_map_or (λ shape. shape.shards * shape.copies) (option_map (λ asked. asked.shape) (option_and_then where_served o)) 0
+        → option_and_then where_served (option_and_then (λ asked. if n == disks_of asked then Some asked else None) o) ≡ None
+        → option_map (λ asked. asked.shape) (option_and_then where_served o) ≡ None
     go None m h = refl
-    go (Some w) m h = shaped w n (w.shape.copies == 1) m (where_fit w (n == w.shape.shards * w.shape.copies) h)
+    go (Some a) m h = shaped n a (is_served a.shape a.task) refl m (where_fit n a (n == disks_of a) h)
 
 -- nor do those that are handed in
 pub no_run_on : {A B C : Type 0} (f : A → B × C) (words : List (List ℕ)) (disks : List A) → length disks ≡ peers_in words
-    → built_of words (length (map (λ (d : B × C). d.0) (map f disks))) ≡ None → shape_in words ≡ None
-no_run_on {A} {B} {C} f words disks same none = no_run words (length disks) same (subst (λ (n : ℕ). built_of words n ≡ None) (handed_count f disks) none)
+    → served_on words (length (map (λ (d : B × C). d.0) (map f disks))) ≡ None → shape_in words ≡ None
+no_run_on {A} {B} {C} f words disks same none = no_run words (length disks) same (subst (λ (n : ℕ). served_on words n ≡ None) (handed_count f disks) none)

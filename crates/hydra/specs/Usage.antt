@@ -21,10 +21,9 @@ later_option words =
 unfoldable pub later_command : List ℕ → Option Later
 later_command command =
     if bytes_eq command (codes "load") then Some later.Load
-    else if bytes_eq command (codes "audit") then Some later.Audit
     else if bytes_eq command (codes "store") then Some later.Store
     else if bytes_eq command (codes "fetch") then Some later.Fetch
-    else if bytes_eq command (codes "scrub") then Some later.Scrub
+    else if bytes_eq command (codes "scrub") then Some later.From
     else if bytes_eq command (codes "copy") then Some later.Copy
     else None
 
@@ -44,10 +43,9 @@ later_in other = None
 abbrev pub later_text : Option Later → List ℕ
 later_text None = codes "hydra: see hydra --help\n"
 later_text (Some later.Load) = codes "hydra: load is not served yet: see hydra --help\n"
-later_text (Some later.Audit) = codes "hydra: audit is not served yet: see hydra --help\n"
 later_text (Some later.Store) = codes "hydra: store is not served yet: see hydra --help\n"
 later_text (Some later.Fetch) = codes "hydra: fetch is not served yet: see hydra --help\n"
-later_text (Some later.Scrub) = codes "hydra: scrub is not served yet: see hydra --help\n"
+later_text (Some later.From) = codes "hydra: scrub with --from is not served yet: see hydra --help\n"
 later_text (Some later.Copy) = codes "hydra: copy is not served yet: see hydra --help\n"
 later_text (Some later.Copies) = codes "hydra: R above 1 is not served yet: see hydra --help\n"
 later_text (Some later.Visits) = codes "hydra: --visits is not served yet: see hydra --help\n"

@@ -15,13 +15,14 @@ reads. A root keeps a block under a key, and with it all that the block points
 to, block by block. A deletion gives back the space of what no root keeps and no
 session has been given lately.
 
-One command is served so far, with R 1:
+Two commands are served so far:
 
   hydra script DIR G 1 [options]
+  hydra audit DIR G R
 
-Not served yet: load, audit, store, fetch, scrub and copy.
+Not served yet: load, store, fetch, scrub and copy, and a script with R above 1.
 
-It reads a script from standard input and prints the answers to standard output.
+A script is read from standard input, and the answers go to standard output.
 G is the number of shards among which the blocks are parted: 1, 2, 4 or 8, the
 same at each run. Shard P keeps its blocks in DIR, which is made if absent, in the
 files peerP.side0 and peerP.side1. What a line did is on the disk before it is
@@ -29,9 +30,16 @@ answered, and a later run finds what an earlier one left, wherever that one
 stopped; sessions end with their run. One run at a time has a DIR: another is told
 so on standard error.
 
-An option is a name and a number, and lowers a limit of the run: each at most
-once, in any order, with a number from 1 to the greatest, which is the limit
-where the option is not given:
+An audit reads the files and writes none. It prints a line for each shard: its
+epoch, the last one that it swept, its blocks, its roots, and how many blocks its
+next deletion would give back; for each block that a root needs and that is not
+there a line `missing` with its address; and then `audit ok`, or `audit bad` and
+how many are missing. R is the number of copies of a shard, 1 to 4; of several
+the one is taken that a run would open with.
+
+An option of a script is a name and a number, and lowers a limit of the run: each
+at most once, in any order, with a number from 1 to the greatest, which is the
+limit where the option is not given:
 
   --ops N       answers of the run; the greatest is 1048576
   --blocks N    blocks of a shard; 16384
@@ -93,7 +101,7 @@ Exit statuses. Each but 0 has its line on standard error, and before it may stan
 another: the file that failed and why, which word is not served yet, or what is
 wrong with the line of a script.
 
-   0  the script was read to its end
+   0  the script was read to its end; the audit was printed, whatever it says
    2  the words are not those of a command
    3  a line is not in the script language; the lines before it were run
    4  a disk failed or is no log of a store, or another run has DIR; the line
@@ -108,8 +116,8 @@ wrong with the line of a script.
  127  of the launcher: the command rt of the Rattle kit is not on the path
  130  of the launcher: the building was interrupted
 
-A damaged disk: a log has no checksum. A bit that flips in a block's data is found
-only where the block is compared with one that is written; until then reads give
-the changed data. One in a gate hides what is behind it. Copies of a shard and the
-scrub are the answer to that, from the steps on that build them.
+A damaged disk: a log has no checksum. A bit that flips in a block's data gives
+the block another address at the next opening: a read of the old one has no data,
+and two deletions remove the block, until an audit tells what is missing. A bit
+that flips in a gate hides what is behind it in the log.
 ";

@@ -12,7 +12,6 @@ use std::io::Write;
 #[derive(Clone, Copy)]
 pub enum Later {
     Load,
-    Audit,
     Store,
     Fetch,
     Scrub,
@@ -42,7 +41,6 @@ fn later_line(later: Option<Later>) -> &'static str
     match later {
         None => "hydra: see hydra --help\n",
         Some(Later::Load) => "hydra: load is not served yet: see hydra --help\n",
-        Some(Later::Audit) => "hydra: audit is not served yet: see hydra --help\n",
         Some(Later::Store) => "hydra: store is not served yet: see hydra --help\n",
         Some(Later::Fetch) => "hydra: fetch is not served yet: see hydra --help\n",
         Some(Later::Scrub) => "hydra: scrub is not served yet: see hydra --help\n",
@@ -87,8 +85,6 @@ fn later_command(command: &[u8]) -> Option<Later>
 {
     if command == b"load".as_slice() {
         Some(Later::Load)
-    } else if command == b"audit".as_slice() {
-        Some(Later::Audit)
     } else if command == b"store".as_slice() {
         Some(Later::Store)
     } else if command == b"fetch".as_slice() {

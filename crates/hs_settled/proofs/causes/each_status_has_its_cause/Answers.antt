@@ -1,5 +1,8 @@
-use Rattle.hs_settled.proofs.CauseLemmas.{cause_is}
+use Rattle.hs_settled.proofs.CauseLemmas.{cause_but_loss, cause_is}
 use Rattle.hs_settled.proofs.causes.each_status_has_its_cause.Goals as goal
 
-pub returns : goal.returns
-returns c = λ S r how one went read write shape. cause_is S r how one went (record { read = read; write = write; shape = shape })
+pub returns-clause-any : goal.returns-clause-any
+returns-clause-any c = λ S r how went read write shape. cause_but_loss S r how went (record { read = read; write = write; shape = shape })
+
+pub returns-clause-one : goal.returns-clause-one
+returns-clause-one c = λ S r how one went read write shape. cause_is S r how one went (record { read = read; write = write; shape = shape })

@@ -1,0 +1,3 @@
+pub mod AuditLemmas
+pub mod ScrubLemmas
+pub mod SilentLemmas

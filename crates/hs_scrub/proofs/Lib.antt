@@ -1,0 +1,9 @@
+mod CauseLemmas
+mod LookLemmas
+mod MarkLemmas
+mod ScrubLemmas
+mod ShardLemmas
+mod StillLemmas
+mod TakenLemmas
+mod TextExamples
+mod TextLemmas

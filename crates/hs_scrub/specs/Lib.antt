@@ -1,0 +1,4 @@
+pub mod Marks
+pub mod Scrubbed
+pub mod Steps
+pub mod Text

@@ -1,0 +1,51 @@
+use Rattle.std.proofs.Common.{◌≡◌}
+use Rattle.hs_top.proofs.LawLemmas.{Laws}
+use Rattle.hs_top.proofs.PromisedLemmas.{promised_of}
+use Rattle.hs_top.proofs.top.run_script.Goals as goal
+
+pub returns : goal.returns
+returns g c =
+    let laws : Laws = record {
+      answers = c.a_run_is_answered.ensures.answers;
+      full = c.a_run_is_answered.ensures.full;
+      keeps = c.a_run_keeps.ensures.run;
+      stops = c.a_run_may_stop.ensures;
+      opens = c.a_run_stands.ensures.opens;
+      stands = c.a_run_stands.ensures.keeps;
+      deletes = c.a_run_deletes_as_promised.ensures.went;
+      deletes_ended = c.a_run_deletes_as_promised.ensures.ended;
+      deletes_never = c.a_run_deletes_as_promised.ensures.never;
+      entries = c.each_entry_stands_for_its_cause.ensures.journal;
+      dated = c.notes_have_their_line.ensures;
+      nothing = c.a_run_without_a_course_began_nothing.ensures;
+      start_good = c.a_peer_is_good_until_it_is_told.ensures.opens;
+      stay_good = c.a_peer_is_good_until_it_is_told.ensures.stays;
+      notes_end = c.a_note_ends_the_run.ensures;
+      ordered = c.a_journal_is_in_order.ensures;
+      none_good = c.a_run_without_a_course_has_its_cause.ensures;
+      prompt = c.a_prompt_line_has_its_entry.ensures;
+      cause = c.each_status_has_its_cause.ensures.one;
+      notes = c.each_note_has_its_cause.ensures.opened;
+      notes_never = c.each_note_has_its_cause.ensures.never;
+      stored = c.what_is_read_is_sealed.ensures.opens;
+      settles = c.each_settle_settles.ensures;
+      valid = c.a_run_is_answered.ensures.valid;
+      whole = c.a_full_journal_deletes_as_promised.ensures.went;
+      whole_ended = c.a_full_journal_deletes_as_promised.ensures.ended;
+      whole_never = c.a_full_journal_deletes_as_promised.ensures.never;
+      led = c.shard_0_is_led_by_lines.ensures.went;
+      led_ended = c.shard_0_is_led_by_lines.ensures.ended;
+      led_never = c.shard_0_is_led_by_lines.ensures.never;
+      ends_well = c.a_calm_run_ends_well.ensures;
+    } in
+    let ran = c.run_script_on.ensures.ran in
+    record {
+      runs = (
+        ran.0,
+        record {
+          promised = promised_of laws g.D.Disk.tells _ _ (g.A.Addresser.sized c.args.naming.now) c.run_script_on.ensures.begun ran.1;
+          machine = ran.1;
+        },
+      );
+      begun = c.run_script_on.ensures.begun;
+    }

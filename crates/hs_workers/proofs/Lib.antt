@@ -1,0 +1,4 @@
+pub mod AskLemmas
+pub mod DeltaLemmas
+pub mod StageLemmas
+pub mod WorkLemmas

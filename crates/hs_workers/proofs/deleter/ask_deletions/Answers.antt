@@ -1,0 +1,5 @@
+use Rattle.hs_workers.proofs.AskLemmas.{deletes_more, one_of_four}
+use Rattle.hs_workers.proofs.deleter.ask_deletions.Goals as goal
+
+pub loop-turn-preserved : goal.loop-turn-preserved
+loop-turn-preserved g c = deletes_more _ _ _ _ _ _ c.loop-turn.invariant (one_of_four c.loop-turn.turn c.loop-turn-test.true) c.ask.ensures c.in_ok-ask.was

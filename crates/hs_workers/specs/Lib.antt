@@ -1,0 +1,5 @@
+pub mod Ascending
+pub mod Asks
+pub mod Elements
+pub mod Stages
+pub mod Work
