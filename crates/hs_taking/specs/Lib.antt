@@ -1,3 +1,4 @@
+pub mod Copies
 pub mod Disks
 pub mod Loaded
 pub mod Past
