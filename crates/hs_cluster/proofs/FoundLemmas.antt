@@ -229,7 +229,7 @@ module _ (tells : Type 0) (set : Setting) (span : Span) (taken : Taken) (some : 
         go None None is there = inr (list_is peer None is ∙ sym (list_is k None there))
         go None (Some t) is there = elim (above_or_least (rank_of t)) [
           | inl above ↦ inl ((λ i. outranks (rank_of (list_is k (Some t) there i)) (rank_of (list_is peer None is i))) ∙ above)
-          | inr least ↦ inr (list_is peer None is ∙ sym (x.is.blank k of_first t there least) ∙ sym (list_is k (Some t) there))
+          | inr least ↦ inr (list_is peer None is ∙ sym (x.is.blank t there least) ∙ sym (list_is k (Some t) there))
         ]
         go (Some list) None is there = absurd (none_is_not list (sym (none_at_all there peer of) ∙ is))
         go (Some list) (Some t) is there = inl ((λ i. outranks (rank_of (list_is k (Some t) there i)) (rank_of (list_is peer (Some list) is i))) ∙ x.is.first.first peer of before list t is there)
