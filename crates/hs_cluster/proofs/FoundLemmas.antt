@@ -1,13 +1,13 @@
 -- What was taken of each shard, as what opening found.
 use Rattle.std.proofs.Common.{◌≡◌, ◌∙◌, ◌⊎◌, inl, inr, ap, sym, subst, ℕ, zero, suc, ◌+◌, ◌*◌, ◌-◌, ◌<◌, ◌≤◌, ◌==◌, ◌&&◌, ◌||◌, not, Bool, true, false, List, [], ◌∷◌, ◌++◌, Option, Some, None, refl, arith, drop, length, map, is_some, take}
-use Rattle.std.proofs.lemmas.Bool.{cases_eq, cases_lt, eq-eqb, eqb-true}
+use Rattle.std.proofs.lemmas.Bool.{cases_lt, eq-eqb, eqb-true}
 use Rattle.std.proofs.lemmas.List.{get_or-map, length-map}
 use Rattle.std.proofs.lemmas.List.Folds.{flat_map-map}
 use Rattle.std.proofs.lemmas.List.FromFn.{fill_by_all, get_or-map-range_with_len, length-map-range_with_len}
 use Rattle.std.proofs.Math.Nat.{mul-le-mul_right, suc-mul}
-use Rattle.std.specs.List.{list_any, range_with_len}
+use Rattle.std.specs.List.{range_with_len}
 use Rattle.std.specs.Option.{option_map, option_map_or}
-use Rattle.std.specs.Prelude.{Contains, IsSome, find, flat_map, if◌then◌else◌, slice_get, slice_index_or, unwrap_or}
+use Rattle.std.specs.Prelude.{Contains, IsSome, flat_map, if◌then◌else◌, slice_index_or, unwrap_or}
 use Rattle.hs_cluster.proofs.TakenLemmas.{above_or_least, any_same, any_there, chosen_at, chosen_is, find_first, find_none, get_there, home_between, home_high, home_low, home_within, none_above, none_below, some_at}
 use Rattle.hs_cluster.specs.Begins.{bad_of, begun_course, good_of, is_took, opened_with, took_of}
 use Rattle.hs_cluster.specs.Opens.{Finds, IsFound, IsLeftBehind, IsLostLog}
@@ -18,7 +18,7 @@ use Rattle.hs_events.specs.Beginning.{first_items}
 use Rattle.hs_events.specs.Course.{change_item}
 use Rattle.hs_events.specs.Found.{Found, opened_catalogue, opened_list, opens_with, starts_good}
 use Rattle.hs_events.specs.Taken.{is_best, is_taken, or_blank, taken_items, taken_list, taken_peer}
-use Rattle.hs_fold.specs.Opened.{chosen, chosen_each, outranks}
+use Rattle.hs_fold.specs.Opened.{chosen, outranks}
 use Rattle.hs_fold.specs.Shards.Setting.{Numbered, Setting}
 use Rattle.hs_limits.specs.declared.shape.Shape.{Shape}
 use Rattle.hs_limits.specs.Shape.{peer_of}
@@ -28,9 +28,9 @@ use Rattle.hs_model.specs.declared.course.CourseItem.{CourseItem}
 use Rattle.hs_model.specs.declared.course.CourseItem.TheVariants as item
 use Rattle.hs_peerlog.specs.Lists.{HasLog, IsKept, Keeping}
 use Rattle.hs_ports.specs.Fault.{HasRisen}
-use Rattle.hs_shard.specs.Facts.{Catalogue, empty_catalogue}
+use Rattle.hs_shard.specs.Facts.{empty_catalogue}
 use Rattle.hs_side.specs.Current.{list_in}
-use Rattle.hs_taking.specs.Copies.{HasEvened, HasShard, IsCopy, IsOf, IsLostOf, begun_list, is_kept}
+use Rattle.hs_taking.specs.Copies.{HasEvened, HasShard, IsCopy, IsOf, IsLostOf, begun_list}
 use Rattle.hs_taking.specs.declared.shares.Share.{Share}
 use Rattle.hs_taking.specs.Disks.{DiskSeen, log_at, seen_at}
 use Rattle.hs_taking.specs.Shares.{KeepsDisk, Span, Taken, all_lost, lost_of, no_share, share_at}
@@ -229,7 +229,7 @@ module _ (tells : Type 0) (set : Setting) (span : Span) (taken : Taken) (some : 
         go None None is there = inr (list_is peer None is ∙ sym (list_is k None there))
         go None (Some t) is there = elim (above_or_least (rank_of t)) [
           | inl above ↦ inl ((λ i. outranks (rank_of (list_is k (Some t) there i)) (rank_of (list_is peer None is i))) ∙ above)
-          | inr least ↦ inr (list_is peer None is ∙ sym (x.is.blank k of_first t there least) ∙ sym (list_is k (Some t) there))
+          | inr least ↦ inr (list_is peer None is ∙ sym (x.is.blank t there least) ∙ sym (list_is k (Some t) there))
         ]
         go (Some list) None is there = absurd (none_is_not list (sym (none_at_all there peer of) ∙ is))
         go (Some list) (Some t) is there = inl ((λ i. outranks (rank_of (list_is k (Some t) there i)) (rank_of (list_is peer (Some list) is i))) ∙ x.is.first.first peer of before list t is there)

@@ -1,11 +1,10 @@
 -- Of a shard's peers the log of greatest rank is taken, and the first of equals: as a list of all lists says it.
-use Rattle.std.proofs.Common.{◌≡◌, ◌∙◌, ◌⊎◌, inl, inr, ap, sym, subst, ℕ, zero, suc, ◌+◌, ◌*◌, ◌-◌, ◌/◌, ◌%◌, ◌<◌, ◌≤◌, ◌==◌, ◌&&◌, ◌||◌, not, Bool, true, false, List, [], ◌∷◌, ◌++◌, Option, Some, None, refl, arith, length, map, nat_lt, is_some, take, drop}
+use Rattle.std.proofs.Common.{◌≡◌, ◌∙◌, ◌⊎◌, inl, inr, ap, sym, ℕ, zero, suc, ◌+◌, ◌*◌, ◌-◌, ◌/◌, ◌%◌, ◌<◌, ◌≤◌, ◌==◌, ◌&&◌, ◌||◌, Bool, true, false, List, [], ◌∷◌, Option, Some, None, refl, arith, length, map, nat_lt, is_some, take, drop}
 use Rattle.std.proofs.lemmas.Bool.{cases_lt}
 use Rattle.std.proofs.lemmas.Bool.Decides.{nat_tests}
 use Rattle.std.proofs.lemmas.Nat.{div-add-mod', div-mul-add, div_below, mod_below}
 use Rattle.std.specs.List.{list_any, range_with_len}
-use Rattle.std.specs.Option.{option_map_or}
-use Rattle.std.specs.Prelude.{find, flat_map, if◌then◌else◌, slice_get, slice_index_or, unwrap_or}
+use Rattle.std.specs.Prelude.{find, if◌then◌else◌, slice_get, slice_index_or}
 use Rattle.hs_entry.specs.declared.rank.Rank.{Rank}
 use Rattle.hs_entry.specs.Entries.{rank_of}
 use Rattle.hs_fold.specs.Opened.{chosen, chosen_each, outranks}
