@@ -17,3 +17,6 @@ pub mod NextLemmas
 pub mod FileLemmas
 pub mod TopLemmas
 pub mod LevelLemmas
+pub mod RowLemmas
+pub mod RowSteps
+pub mod FetchLemmas

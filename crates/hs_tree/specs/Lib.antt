@@ -3,5 +3,6 @@ pub mod Levels
 pub mod Calls
 pub mod Telling
 pub mod Growing
+pub mod Fetching
 pub mod Steps
 pub mod Storing
