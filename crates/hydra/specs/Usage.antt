@@ -23,14 +23,18 @@ later_command command =
     if bytes_eq command (codes "load") then Some later.Load
     else if bytes_eq command (codes "store") then Some later.Store
     else if bytes_eq command (codes "fetch") then Some later.Fetch
-    else if bytes_eq command (codes "scrub") then Some later.From
     else if bytes_eq command (codes "copy") then Some later.Copy
     else None
 
--- the first of these that a later step serves: the command, or more copies or an option of a script
+-- the option of a scrub that a later step serves
+unfoldable pub later_scrub : List (List ℕ) → Option Later
+later_scrub words = if list_any (λ word. bytes_eq word (codes "--from")) words then Some later.From else None
+
+-- the first of these that a later step serves: the command, an option of a scrub, or more copies or an option of a script
 unfoldable pub later_part : List ℕ → List ℕ → List (List ℕ) → Option Later
 later_part command copies options =
-    if not (bytes_eq command (codes "script")) then later_command command
+    if bytes_eq command (codes "scrub") then later_scrub options
+    else if not (bytes_eq command (codes "script")) then later_command command
     else if is_later_copies copies then Some later.Copies
     else later_option options
 
