@@ -16,3 +16,4 @@ pub mod OneFileLemmas
 pub mod NextLemmas
 pub mod FileLemmas
 pub mod TopLemmas
+pub mod LevelLemmas

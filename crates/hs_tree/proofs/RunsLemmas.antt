@@ -37,7 +37,7 @@ turns_enough (suc t) (suc u) n (x ∷ xs) p h k =
     let shorter : length (drop n (x ∷ xs)) ≡ length (x ∷ xs) - n = length-drop n (x ∷ xs) in
     ap (λ z. take n (x ∷ xs) ∷ z) (turns_enough t u n (drop n (x ∷ xs)) p (omega (arith, shorter, h, p)) (omega (arith, shorter, k, p)))
 
-runs-one : {A : Type 0} (n : ℕ) (c : List A) → 0 < length c → length c ≤ n → runs n c ≡ c ∷ []
+pub runs-one : {A : Type 0} (n : ℕ) (c : List A) → 0 < length c → length c ≤ n → runs n c ≡ c ∷ []
 unfolding runs
 runs-one n [] p h = absurd (omega (arith, p))
 runs-one n (x ∷ xs) p h =
@@ -45,7 +45,7 @@ runs-one n (x ∷ xs) p h =
     let d : drop n (x ∷ xs) ≡ [] = drop-all n (x ∷ xs) h in
     λ i. t i ∷ runs_in (length xs) n (d i)
 
-runs-cons : {A : Type 0} (n : ℕ) (c rest : List A) → 0 < n → length c ≡ n → runs n (c ++ rest) ≡ c ∷ runs n rest
+pub runs-cons : {A : Type 0} (n : ℕ) (c rest : List A) → 0 < n → length c ≡ n → runs n (c ++ rest) ≡ c ∷ runs n rest
 unfolding runs
 runs-cons n [] rest p h = absurd (omega (arith, p, h))
 runs-cons n (x ∷ xs) rest p h =

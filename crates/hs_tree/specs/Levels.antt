@@ -1,10 +1,10 @@
 -- The same tree from its pieces up, level by level.
 use Rattle.std.proofs.Common.{zero, suc}
 use Rattle.std.specs.Int.{to_be_bytes, w64}
-use Rattle.std.specs.Prelude.{ℕ, List, [], ◌∷◌, if◌then◌else◌, length, map, nat_le, sum}
+use Rattle.std.specs.Prelude.{ℕ, List, [], ◌∷◌, ◌++◌, if◌then◌else◌, length, map, nat_le, sum}
 use Rattle.hs_limits.specs.Block.{Block, spell}
 use Rattle.hs_limits.specs.declared.address.Address.{Address}
-use Rattle.hs_tree.specs.Trees.{Cut, runs}
+use Rattle.hs_tree.specs.Trees.{Cut, node, runs, span, stored_cut}
 
 -- a block of a level, and the number of file bytes below it
 pub record Node : Type 0 where
@@ -38,3 +38,12 @@ levels cut name (suc turns) level = if nat_le (length level) 1 then level ∷ []
 -- the levels of a file's tree
 abbrev pub levels_of : Cut → (List ℕ → Address) → List ℕ → List (List Node)
 levels_of cut name file = levels cut name 2 (first_level cut file)
+
+-- the level of a height by the tree: the block of each run that the height spans, with its bytes
+abbrev pub level_at : (List ℕ → Address) → ℕ → List ℕ → List Node
+level_at name h file = map (λ c. record { block = node stored_cut name h c; below = length c }) (runs (span stored_cut h) file)
+
+-- the levels up to a height
+abbrev pub levels_to : (List ℕ → Address) → ℕ → List ℕ → List (List Node)
+levels_to name zero file = level_at name 0 file ∷ []
+levels_to name (suc h) file = levels_to name h file ++ level_at name (suc h) file ∷ []

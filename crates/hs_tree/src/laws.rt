@@ -1,13 +1,14 @@
 //! What follows of a file that is stored.
 ghost use Rattle.std.specs.List.{AllByRecursion};
-ghost use Rattle.std.specs.Prelude.{◌≡◌, ◌<◌, ◌^◌, List, length, ℕ};
+ghost use Rattle.std.specs.Prelude.{◌≡◌, ◌<◌, ◌≤◌, ◌^◌, ◌∷◌, [], List, length, ℕ};
 ghost use Rattle.hs_asking.specs.Seats.{IsSane};
 ghost use Rattle.hs_asking.specs.Staying.{NeverDrops};
 ghost use Rattle.hs_limits.specs.declared.address.Address.{Address};
 ghost use Rattle.hs_limits.specs.declared.limits.Limits.{Limits};
 ghost use Rattle.hs_model.specs.Run.{Event, IsLegal, run};
 ghost use Rattle.hs_model.specs.Store.{Store};
-ghost use Rattle.hs_tree.specs.Trees.{IsStored, IsTreeAt};
+ghost use Rattle.hs_tree.specs.Levels.{level_at, levels_of, levels_to};
+ghost use Rattle.hs_tree.specs.Trees.{IsStored, IsTreeAt, height, node, stored_cut};
 
 /// A stored file stays so along legal events of which none drops its key, deletions among them (`stays`).
 /// Its tree stands at its root, place by place (`stands`).
@@ -23,4 +24,14 @@ pub fn a_stored_file_stays()
 pub fn a_tree_is_of_one_file()
     ensures { (s : Store) (a : Address) (f g : List ℕ) → length f < 2 ^ 64 → length g < 2 ^ 64 →
         IsTreeAt s a f → IsTreeAt s a g → f ≡ g }
+{}
+
+/// The levels of a file from its pieces up are those of its tree, height by height (`levels`), and the last
+/// one is its top alone (`top`).
+pub fn a_tree_is_its_levels()
+    ensures levels { (name : List ℕ → Address) (file : List ℕ) → 0 < length file → length file ≤ 268435456 →
+        levels_of stored_cut name file ≡ levels_to name (height stored_cut (length file)) file }
+    ensures top { (name : List ℕ → Address) (file : List ℕ) → 0 < length file → length file ≤ 268435456 →
+        level_at name (height stored_cut (length file)) file
+        ≡ record { block = node stored_cut name (height stored_cut (length file)) file; below = length file } ∷ [] }
 {}
