@@ -32,18 +32,18 @@ answered, and a later run finds what an earlier one left, wherever that one
 stopped; sessions end with their run. One run at a time has a DIR: another is told
 so on standard error.
 
-An audit reads the files and writes none. It prints a line for each shard: its
-epoch, the last one that it swept, its blocks, its roots, and how many blocks its
-next deletion would give back; for each block that a root needs and that is not
-there a line `missing` with its address; and then `audit ok`, or `audit bad` and
-how many are missing. R is the number of copies of a shard, 1 to 4; of several
-the one is taken that a run would open with.
+An audit reads the files, and makes and writes none. It prints a line for each
+shard: its epoch, the last one that it swept, its blocks, its roots, and how many
+blocks its next deletion would give back; for each block that a root needs and
+that is not there a line `missing` with its address; and then `audit ok`, or
+`audit bad` and how many are missing. R is the number of copies of a shard, 1 to
+4; of several the one is taken that a run would open with.
 
-A scrub reads the files and writes none. It prints for each copy, by its number,
-whether it is the same as the one of its shard that a run would open with: `same`,
-`behind` where it only lacks the end, `differs` from an entry on, `nolog` where it
-can't be read from a byte on, or `fault` where a call failed; and then `scrub ok`,
-or `scrub bad` and how many are not the same.
+A scrub reads the files, and makes and writes none. It prints for each copy, by
+its number, whether it is the same as the one of its shard that a run would open
+with: `same`, `behind` where it only lacks the end, `differs` from an entry on,
+`nolog` where it can't be read from a byte on, or `fault` where a call failed; and
+then `scrub ok`, or `scrub bad` and how many are not the same.
 
 An option of a script is a name and a number, and lowers a limit of the run: each
 at most once, in any order, with a number from 1 to the greatest, which is the
@@ -113,8 +113,8 @@ wrong with the line of a script.
       it says
    2  the words are not those of a command
    3  a line is not in the script language; the lines before it were run
-   4  a disk failed or is no log of a store, or another run has DIR; the line
-      - down P stands in the output, unless a line of the script had it fail
+   4  a disk failed or is no log of a store, or another run has DIR; in a script's
+      output stands the line - down P, unless one of its lines had the disk fail
    5  the input could not be read
    6  the output could not be written
    7  out of memory
