@@ -26,15 +26,10 @@ later_command command =
     else if bytes_eq command (codes "copy") then Some later.Copy
     else None
 
--- the option of a scrub that a later step serves
-unfoldable pub later_scrub : List (List ℕ) → Option Later
-later_scrub words = if list_any (λ word. bytes_eq word (codes "--from")) words then Some later.From else None
-
--- the first of these that a later step serves: the command, an option of a scrub, or more copies or an option of a script
+-- the first of these that a later step serves: the command, or more copies or an option of a script
 unfoldable pub later_part : List ℕ → List ℕ → List (List ℕ) → Option Later
 later_part command copies options =
-    if bytes_eq command (codes "scrub") then later_scrub options
-    else if not (bytes_eq command (codes "script")) then later_command command
+    if not (bytes_eq command (codes "script")) then later_command command
     else if is_later_copies copies then Some later.Copies
     else later_option options
 
@@ -49,7 +44,6 @@ later_text None = codes "hydra: see hydra --help\n"
 later_text (Some later.Load) = codes "hydra: load is not served yet: see hydra --help\n"
 later_text (Some later.Store) = codes "hydra: store is not served yet: see hydra --help\n"
 later_text (Some later.Fetch) = codes "hydra: fetch is not served yet: see hydra --help\n"
-later_text (Some later.From) = codes "hydra: scrub with --from is not served yet: see hydra --help\n"
 later_text (Some later.Copy) = codes "hydra: copy is not served yet: see hydra --help\n"
 later_text (Some later.Copies) = codes "hydra: R above 1 is not served yet: see hydra --help\n"
 later_text (Some later.Visits) = codes "hydra: --visits is not served yet: see hydra --help\n"

@@ -19,10 +19,9 @@ Three commands are served so far:
 
   hydra script DIR G 1 [options]
   hydra audit DIR G R
-  hydra scrub DIR G R
+  hydra scrub DIR G R [--from P]
 
-Not served yet: load, store, fetch and copy, scrub with its option --from, and a
-script with R above 1.
+Not served yet: load, store, fetch and copy, and a script with R above 1.
 
 A script is read from standard input, and the answers go to standard output.
 G is the number of shards among which the blocks are parted: 1, 2, 4 or 8, the
@@ -39,11 +38,15 @@ that is not there a line `missing` with its address; and then `audit ok`, or
 `audit bad` and how many are missing. R is the number of copies of a shard, 1 to
 4; of several the one is taken that a run would open with.
 
-A scrub reads the files, and makes and writes none. It prints for each copy, by
-its number, whether it is the same as the one of its shard that a run would open
-with: `same`, `behind` where it only lacks the end, `differs` from an entry on,
-`nolog` where it can't be read from a byte on, or `fault` where a call failed; and
-then `scrub ok`, or `scrub bad` and how many are not the same.
+A scrub prints for each copy, by its number, whether it is the same as the one of
+its shard that a run would open with: `same`, `behind` where it only lacks the
+end, `differs` from an entry on, `nolog` where it can't be read from a byte on, or
+`fault` where a call failed; and then `scrub ok`, or `scrub bad` and how many are
+not the same. It makes no file, and without an option it writes none. With --from
+P it then empties the other copies of the shard of copy P and gives them what P
+has; a copy whose files fail meanwhile has one line more. Scrub again to see what
+came of it.
+
 
 An option of a script is a name and a number, and lowers a limit of the run: each
 at most once, in any order, with a number from 1 to the greatest, which is the
@@ -121,6 +124,8 @@ wrong with the line of a script.
    8  a disk is of another store, or of another G; nothing was written to any
   10  the run has as many answers as --ops allows, and one more was due
   13  the input is too long
+  16  the copy that --from names has no log, or its files failed; nothing was
+      written
  126  of the launcher bin/hydra: the program could not be proved or built
  127  of the launcher: the command rt of the Rattle kit is not on the path
  130  of the launcher: the building was interrupted

@@ -2,7 +2,7 @@
 ghost use Rattle.std.specs.Prelude.{◌≡◌, OnOk, bytes_eq, map, string_bytes};
 ghost use Rattle.std.specs.Io.KnownBytes.{Appends};
 ghost use Rattle.std.specs.List.{list_any};
-ghost use Rattle.hydra.specs.Usage.{is_later_copies, later_command, later_in, later_option, later_part, later_scrub, later_text, usage_text};
+ghost use Rattle.hydra.specs.Usage.{is_later_copies, later_command, later_in, later_option, later_part, later_text, usage_text};
 
 use hs_top::shape_of;
 use std::io;
@@ -15,8 +15,6 @@ pub enum Later {
     Store,
     Fetch,
     Copy,
-    /// The option of a scrub that makes other copies as that of a peer.
-    From,
     /// More than one copy.
     Copies,
     Visits,
@@ -45,7 +43,6 @@ fn later_line(later: Option<Later>) -> &'static str
         Some(Later::Store) => "hydra: store is not served yet: see hydra --help\n",
         Some(Later::Fetch) => "hydra: fetch is not served yet: see hydra --help\n",
         Some(Later::Copy) => "hydra: copy is not served yet: see hydra --help\n",
-        Some(Later::From) => "hydra: scrub with --from is not served yet: see hydra --help\n",
         Some(Later::Copies) => "hydra: R above 1 is not served yet: see hydra --help\n",
         Some(Later::Visits) => "hydra: --visits is not served yet: see hydra --help\n",
         Some(Later::Cache) => "hydra: --cache is not served yet: see hydra --help\n",
@@ -70,26 +67,12 @@ fn later_part(command: &[u8], copies: &[u8], options: &[String]) -> Option<Later
     ensures { result ≡ later_part command.now copies.now
         (map (λ word. string_bytes word) options.now) }
 {
-    if command == b"scrub".as_slice() {
-        later_scrub(options)
-    } else if command != b"script".as_slice() {
+    if command != b"script".as_slice() {
         later_command(command)
     } else if is_later_copies(copies) {
         Some(Later::Copies)
     } else {
         later_option(options)
-    }
-}
-
-// The option of a scrub that a later step serves.
-#[tactic(auto, unfolding(crate::specs::Usage::later_scrub))]
-fn later_scrub(words: &[String]) -> Option<Later>
-    ensures { result ≡ later_scrub (map (λ word. string_bytes word) words.now) }
-{
-    if has_word(words, b"--from") {
-        Some(Later::From)
-    } else {
-        None
     }
 }
 
