@@ -2,7 +2,6 @@
 use Rattle.std.proofs.Common.{◌≡◌, ◌∙◌, ◌+◌, ◌<◌, ◌⊎◌, inl, inr, ◌==◌, ◌&&◌, ◌||◌, ℕ, zero, suc, List, [], ◌∷◌, Bool, true, false, not, cond, refl, sym, ap, subst, length, arith, Option, None, Some, nat_lt, get_or}
 use Rattle.std.proofs.lemmas.Bool.{false≢true}
 use Rattle.std.proofs.lemmas.Bool.Decides.{nat_tests}
-use Rattle.std.specs.Option.{option_map}
 use Rattle.std.specs.Prelude.{unwrap_or}
 use Rattle.hs_coldstart.proofs.ChooseLemmas.{IsBelow, IsBest, IsSoFar, chosen_at_end, so_far_more}
 use Rattle.hs_coldstart.specs.Choose.{better, choose, is_above, is_up_to}

@@ -11,7 +11,7 @@ use Rattle.hs_audit.specs.Audited.{Audits, CanBeAudited, CountsAs, HasGoodCopy, 
 use Rattle.hs_audit.specs.declared.fault.AuditFault.{AuditFault}
 use Rattle.hs_audit.specs.declared.fault.AuditFault.TheVariants as fault
 use Rattle.hs_audit.specs.Rereading.{AreReread, AreStill, HasShardView, IsFirstUnviewed, IsGathered, IsReread, IsStill, IsWithoutView, ran_out, shard_lists, viewing_at, viewed_list}
-use Rattle.hs_audit.specs.Text.{audit_text, lists_by, report}
+use Rattle.hs_audit.specs.Text.{lists_by, report}
 use Rattle.hs_fold.specs.Opened.{chosen, chosen_each}
 use Rattle.hs_fold.specs.Runs.Facts.{Catalogue as Folded, plain}
 use Rattle.hs_fold.specs.Runs.Opened.{catalogues, store_of}
@@ -23,7 +23,6 @@ use Rattle.hs_limits.specs.Shape.{peer_of}
 use Rattle.hs_memory.proofs.WholeLemmas.{whole}
 use Rattle.hs_memory.specs.Whole.{add_folds}
 use Rattle.hs_model.specs.declared.plain.PlainStore.{PlainStore}
-use Rattle.hs_model.specs.Hollow.{hollow}
 use Rattle.hs_model.specs.Plain.{plain_of}
 use Rattle.hs_model.specs.Store.{empty_store}
 use Rattle.hs_peerlog.specs.declared.fault.LogFault.TheVariants as log
@@ -39,8 +38,7 @@ use Rattle.hs_taking.proofs.ChoiceLemmas.{shard_within}
 use Rattle.hs_taking.specs.declared.fault.TakeFault.{TakeFault}
 use Rattle.hs_taking.specs.declared.fault.TakeFault.TheVariants as take_fault
 use Rattle.hs_taking.specs.Disks.{DiskSeen, seen_at}
-use Rattle.hs_taking.specs.Viewed.{HasViewed, IsOnlyRead, IsOther, IsUnread, IsViewed, IsViewOf}
-use Rattle.hs_taking.proofs.ViewLemmas.{view_of}
+use Rattle.hs_taking.specs.Viewed.{HasViewed, IsOnlyRead, IsOther, IsUnread, IsViewed}
 
 -- the text of what was gathered is that of its lists
 said_of : (set : Setting) (lists : List Numbered) (store : PlainStore) → length lists ≡ set.shape.shards

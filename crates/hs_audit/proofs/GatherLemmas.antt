@@ -1,8 +1,7 @@
 -- The logs of shards, folded and put into a plain store one after another.
-use Rattle.std.proofs.Common.{◌≡◌, ◌∙◌, ◌+◌, ◌*◌, ◌++◌, ◌∷◌, [], ◌<◌, ◌≤◌, ◌⊎◌, inl, inr, ap, sym, subst, ℕ, zero, suc, List, Option, length, map, refl, arith, get_or, is_some, append_assoc, if◌then◌else◌}
+use Rattle.std.proofs.Common.{◌≡◌, ◌∙◌, ◌+◌, ◌*◌, ◌++◌, ◌∷◌, [], ◌<◌, ◌≤◌, ◌⊎◌, inl, inr, ap, sym, subst, ℕ, zero, suc, List, Option, length, map, refl, arith, get_or, is_some, if◌then◌else◌}
 use Rattle.std.proofs.Math.Nat.{suc-mul, mul-le-mul_right}
-use Rattle.std.proofs.lemmas.Bool.{cases_eq, cases_lt}
-use Rattle.std.proofs.lemmas.Grind.{common_steps}
+use Rattle.std.proofs.lemmas.Bool.{cases_lt}
 use Rattle.std.specs.List.{range_with_len}
 use Rattle.std.specs.Prelude.{IsSome, unwrap_or}
 use Rattle.hs_audit.specs.Rereading.{AreStill, HasShardView, IsGathered, IsTakenOf, fold_in, shard_lists, viewing_at, viewed_list}

@@ -1,18 +1,17 @@
 -- The text sees no data of blocks, and no root that counts in no epoch any more.
-use Rattle.std.proofs.Common.{◌≡◌, ◌∙◌, ◌+◌, ◌<◌, ◌≤◌, ◌++◌, ℕ, zero, suc, List, [], ◌∷◌, Bool, true, false, not, ◌&&◌, ◌==◌, cond, refl, sym, ap, subst, map, filter, length, is_none, arith, Option, None, Some, nat_le, nat_lt}
+use Rattle.std.proofs.Common.{◌≡◌, ◌∙◌, ◌+◌, ◌<◌, ◌≤◌, ◌++◌, ℕ, zero, suc, List, [], ◌∷◌, Bool, true, false, not, ◌&&◌, ◌==◌, cond, refl, sym, ap, map, filter, length, is_none, arith, Option, None, Some, nat_le, nat_lt}
 use Rattle.std.proofs.lemmas.Bool.{false≢true}
 use Rattle.std.proofs.lemmas.Bool.Decides.{nat_tests}
 use Rattle.std.proofs.lemmas.List.{length-map}
 use Rattle.std.proofs.lemmas.List.Sums.{length-filter}
-use Rattle.std.specs.BTreeMap.{is_at}
 use Rattle.std.specs.Fmt.{decimal}
 use Rattle.std.specs.List.{count_by, flat_map, list_all, range_with_len}
-use Rattle.std.specs.Map.{keys_of, lookup}
+use Rattle.std.specs.Map.{keys_of}
 use Rattle.std.specs.Option.{option_map}
 use Rattle.std.specs.Prelude.{codes, slice_index}
 use Rattle.hs_audit.proofs.MissingLemmas.{absent_is}
 use Rattle.hs_audit.specs.Missing.{ascending, kept_by_roots, missing}
-use Rattle.hs_audit.specs.Text.{garbage_in, last_line, missing_line, report, shard_line}
+use Rattle.hs_audit.specs.Text.{last_line, missing_line, report, shard_line}
 use Rattle.hs_fold.specs.Runs.Opened.{pruned}
 use Rattle.hs_limits.specs.declared.address.Address.{Address}
 use Rattle.hs_limits.specs.Shape.{shard_of, shard_of_key}
@@ -21,7 +20,7 @@ use Rattle.hs_model.specs.declared.store.StoredBlock.{StoredBlock}
 use Rattle.hs_model.specs.Hollow.{hollow, hollow_blocks, without_bytes}
 use Rattle.hs_model.specs.Inner.{stays}
 use Rattle.hs_model.specs.Reach.{anchors, close, counts_in, is_among, is_swept, left, pick, pointers_of, reached_from, unreachable}
-use Rattle.hs_model.specs.Store.{Root, Store, address_cmp, block_at, blocks_in, roots_in}
+use Rattle.hs_model.specs.Store.{Root, Store, block_at, blocks_in, roots_in}
 
 abbrev Blocks : Type 0
 Blocks = List (Address × StoredBlock)

@@ -1,5 +1,5 @@
 -- What the text of an audit says of the store.
-use Rattle.std.proofs.Common.{inl, inr, ◌⊎◌, ◌≡◌, ◌≢◌, ◌∙◌, ◌+◌, ◌++◌, ◌∷◌, ◌<◌, ◌≤◌, ◌/◌, ◌%◌, ◌==◌, ◌&&◌, [], ℕ, zero, suc, List, Option, None, Some, Bool, true, false, not, cond, refl, sym, ap, subst, map, filter, length, is_none, is_some, arith, nat_lt, append-nil, append_assoc}
+use Rattle.std.proofs.Common.{inl, inr, ◌≡◌, ◌≢◌, ◌∙◌, ◌+◌, ◌++◌, ◌∷◌, ◌<◌, ◌≤◌, ◌/◌, ◌%◌, ◌==◌, ◌&&◌, [], ℕ, zero, suc, List, Option, None, Some, Bool, true, false, cond, refl, sym, ap, subst, map, filter, length, is_none, is_some, arith, nat_lt, append_assoc}
 use Rattle.std.proofs.lemmas.Bool.{false≢true}
 use Rattle.std.proofs.lemmas.Bool.Decides.{nat_tests}
 use Rattle.std.specs.BTreeMap.{insert_entry}
@@ -11,7 +11,7 @@ use Rattle.std.specs.List.{IsDistinct, flat_map, range_with_len}
 use Rattle.std.specs.List.Sorted.{IsStrictlySortedBy}
 use Rattle.std.specs.Map.{keys_of}
 use Rattle.std.specs.Ordering.{match_ordering}
-use Rattle.std.specs.Prelude.{◌↔◌, Contains, IsTrue, codes}
+use Rattle.std.specs.Prelude.{Contains, codes}
 use Rattle.hs_audit.proofs.AscendingLemmas.{among-ascending, sorted-ascending, sorted-insert, sorted_none}
 use Rattle.hs_audit.proofs.MissingLemmas.{among-filter}
 use Rattle.hs_audit.specs.Laws.{AreMissing, EndsOk}
@@ -19,7 +19,7 @@ use Rattle.hs_audit.specs.Missing.{ascending, kept_by_roots, missing}
 use Rattle.hs_audit.specs.Text.{last_line, missing_line, report, shard_line}
 use Rattle.hs_fold.specs.Catalogue.{Present}
 use Rattle.hs_fold.specs.Opened.{both}
-use Rattle.hs_fold.specs.Runs.Opened.{catalogues, store_of}
+use Rattle.hs_fold.specs.Runs.Opened.{store_of}
 use Rattle.hs_fold.specs.Runs.Facts.{Catalogue as Folded, plain}
 use Rattle.hs_fold.specs.Shards.Catalogue.{Catalogue}
 use Rattle.hs_fold.specs.Shards.Opened.{all_present}
@@ -28,7 +28,7 @@ use Rattle.hs_laws.proofs.ValidLemmas.{valid_from_is}
 use Rattle.hs_laws.specs.Reached.{IsWhole}
 use Rattle.hs_laws.specs.Valid.{IsValid}
 use Rattle.hs_limits.specs.declared.address.Address.{Address}
-use Rattle.hs_model.proofs.Members.{Member, among_from_member, contains_from_member, member_from_among, member_from_contains, member_of_filter, member_of_map, member-filter, member-map, same-refl}
+use Rattle.hs_model.proofs.Members.{Member, among_from_member, contains_from_member, member_from_contains, member_of_filter, member_of_map, member-filter, member-map}
 use Rattle.hs_model.proofs.ReachLemmas.{is_listed, listed_is}
 use Rattle.hs_model.proofs.SetLemmas.{distinct_from_sorted}
 use Rattle.hs_model.specs.declared.store.StoredBlock.{StoredBlock}

@@ -1,7 +1,7 @@
 -- One read of a log.
 use Rattle.std.proofs.Common.{◌≡◌, ◌∙◌, ◌+◌, ◌*◌, ◌<◌, ap, sym, subst, ℕ, List, Option, None, Some, true, false, refl, arith}
 use Rattle.std.proofs.lemmas.Bool.{false≢true}
-use Rattle.std.specs.Prelude.{IfSome, IsSome, Err}
+use Rattle.std.specs.Prelude.{IsSome, Err}
 use Rattle.hs_audit.proofs.GatherLemmas.{lists_same}
 use Rattle.hs_audit.specs.declared.fault.AuditFault.{AuditFault}
 use Rattle.hs_audit.specs.declared.fault.AuditFault.TheVariants as fault
@@ -17,7 +17,7 @@ use Rattle.hs_shard.specs.Facts.{Catalogue}
 use Rattle.hs_side.specs.Current.{list_in}
 use Rattle.hs_taking.proofs.ChoiceLemmas.{shard_within}
 use Rattle.hs_taking.specs.declared.loading.Loaded.{Loaded}
-use Rattle.hs_taking.specs.Disks.{DiskSeen, seen_at}
+use Rattle.hs_taking.specs.Disks.{DiskSeen}
 use Rattle.hs_taking.specs.Loaded.{IsLoaded}
 use Rattle.hs_taking.specs.Viewed.{IsViewOf}
 

@@ -1,10 +1,9 @@
 -- Reads of disks, one after another, and of one disk among several.
-use Rattle.std.proofs.Common.{◌≡◌, ◌≢◌, ◌∙◌, ◌*◌, ◌<◌, ◌≤◌, ◌⊎◌, inl, inr, ap, sym, subst, ℕ, List, Option, None, Some, length, map, refl, arith}
+use Rattle.std.proofs.Common.{◌≡◌, ◌≢◌, ◌∙◌, ◌*◌, ◌<◌, ◌≤◌, inl, inr, ap, sym, subst, ℕ, List, Option, None, Some, length, map, refl, arith}
 use Rattle.std.proofs.lemmas.Bool.{cases_eq}
 use Rattle.std.proofs.lemmas.List.{get_or-set_other, get_or-set_same}
 use Rattle.std.specs.Prelude.{IfSome, IsSome, slice_index_or, slice_set}
 use Rattle.hs_audit.specs.Rereading.{AreReread, AreStill, AreViewsOf, IsReread, IsStill, viewing_at}
-use Rattle.hs_fold.specs.Shards.Setting.{Numbered}
 use Rattle.hs_limits.specs.declared.shape.Shape.{Shape}
 use Rattle.hs_peerlog.specs.Images.{LeavesOnly}
 use Rattle.hs_peerlog.specs.Opening.{refusal_in}

@@ -1,11 +1,11 @@
 -- Texts of audits, computed.
 use Rattle.std.proofs.Common.{◌≡◌, ℕ, Option, None, Some, [], ◌∷◌, List, refl}
 use Rattle.std.specs.Fmt.{digits}
-use Rattle.std.specs.Prelude.{codes, replicate}
+use Rattle.std.specs.Prelude.{codes}
 use Rattle.hex.proofs.OnLiterals.{hex_on_literals}
 use Rattle.hs_limits.specs.declared.address.Address.{Address}
 use Rattle.hs_model.specs.declared.store.StoredBlock.{StoredBlock}
-use Rattle.hs_model.specs.Store.{Root, Store, empty_store}
+use Rattle.hs_model.specs.Store.{Root, empty_store}
 use Rattle.hs_audit.specs.Missing.{missing}
 use Rattle.hs_audit.specs.Text.{report, shard_line}
 

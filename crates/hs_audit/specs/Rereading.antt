@@ -6,7 +6,6 @@ use Rattle.hs_audit.specs.declared.fault.AuditFault.TheVariants.{WrongShape, Sha
 use Rattle.hs_fold.specs.Opened.{chosen}
 use Rattle.hs_fold.specs.Runs.Opened.{catalogues}
 use Rattle.hs_fold.specs.Shards.Setting.{Numbered, Setting}
-use Rattle.hs_limits.specs.declared.address.Address.{Address}
 use Rattle.hs_limits.specs.declared.shape.Shape.{Shape}
 use Rattle.hs_limits.specs.Shape.{peer_of}
 use Rattle.hs_memory.specs.Forget.{apply_all}

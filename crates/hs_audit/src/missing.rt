@@ -1,5 +1,5 @@
 //! What the retained roots of a store reach that is not there.
-ghost use Rattle.std.specs.Prelude.{◌≡◌, ◌||◌, filter, is_none, map, not, IfOk, OnOk};
+ghost use Rattle.std.specs.Prelude.{◌≡◌, filter, is_none, map, not, IfOk};
 ghost use Rattle.hs_audit.specs.Missing.{kept_by_roots, missing};
 ghost use Rattle.hs_model.specs.Plain.{IsPlain, plain_of};
 ghost use Rattle.hs_model.specs.Reach.{is_among};

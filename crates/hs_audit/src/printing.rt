@@ -1,5 +1,5 @@
 //! The lines of an audit.
-ghost use Rattle.std.specs.Prelude.{◌≡◌, ◌++◌, OnOk, IsTrue, slice_index};
+ghost use Rattle.std.specs.Prelude.{◌≡◌, ◌++◌, OnOk, slice_index};
 ghost use Rattle.std.specs.List.{flat_map};
 ghost use Rattle.hs_model.specs.Store.{Store, blocks_in, roots_in};
 ghost use Rattle.hs_audit.specs.Text.{garbage_in, last_line, missing_line, shard_line};

@@ -1,6 +1,14 @@
+mod AllLemmas
 mod CauseLemmas
+mod CopyLemmas
+mod DeltaLemmas
+mod EmptyLemmas
+mod FromLemmas
+mod GiveLemmas
+mod GivingLemmas
 mod LookLemmas
 mod MarkLemmas
+mod PeerLemmas
 mod ScrubLemmas
 mod ShardLemmas
 mod StillLemmas

@@ -1,3 +1,6 @@
+pub mod Ascending
+pub mod Copied
+pub mod CopySteps
 pub mod Marks
 pub mod Scrubbed
 pub mod Steps

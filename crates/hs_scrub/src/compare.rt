@@ -85,7 +85,7 @@ pub(crate) fn compare<D: Disk>(
 }
 
 /// The entry of a number in the log of a peer, by a read of its disk.
-fn read_at<D: Disk>(
+pub(crate) fn read_at<D: Disk>(
     view: &PeerView,
     disks: &mut [D],
     place: usize,
@@ -108,6 +108,11 @@ fn read_at<D: Disk>(
     ensures outside { D.tells → (list : List (ℕ × Entry)) → HasView view.now
         (seen_at (map (λ disk. seen_as (D.size disk) (D.stands disk) (D.faults disk)) disks.old)
         place).stands.seen list → IfErr result IsOutside }
+    ensures rest { (peer : ℕ) → (peer ≡ place → ⊥) →
+        seen_at (map (λ disk. seen_as (D.size disk) (D.stands disk) (D.faults disk)) disks.new)
+        peer
+        ≡ seen_at (map (λ disk. seen_as (D.size disk) (D.stands disk) (D.faults disk)) disks.old)
+        peer }
     ensures count { length disks.new ≡ length disks.old }
 {
     view.entry(&mut disks[place], number)

@@ -2,15 +2,21 @@
 #![tactic(auto)]
 
 mod compare;
+mod copying;
+mod emptying;
 mod fault;
+mod from_peer;
+mod giving;
 mod laws;
 mod look;
 mod mark;
+mod readable;
 mod scrubbing;
 mod shard;
 mod text;
 
 pub use fault::ScrubFault;
+pub use from_peer::copy_from;
 pub use laws::{each_mark_is_by_its_cause, none_is_bad_where_all_are_same};
 pub use mark::PeerMark;
 pub use scrubbing::scrub;

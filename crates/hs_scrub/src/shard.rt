@@ -281,7 +281,7 @@ fn compare_at<D: Disk>(
 }
 
 /// The mark of a peer of whose log a read was refused so; None for want of memory.
-fn lost_mark(fault: LogFault) -> Option<PeerMark>
+pub(crate) fn lost_mark(fault: LogFault) -> Option<PeerMark>
     ensures { result ≡ mark_of fault }
 {
     match fault {

@@ -67,7 +67,7 @@ pub record RunsSo (tells : Type 0) (S : Script) (r : Ran) : Type 0 where
 abbrev pub Does : Type 0 → (List ℕ → Address) → Shape → Task → Ran → Type 0
 Does tells name shape (task.Script limits visits cache) r = (commands : ℕ → Option Command) × RunsSo tells (script_of name (record { shape = shape; limits = limits }) commands) r
 Does tells name shape task.Audit r = IsAudited tells name shape r
-Does tells name shape (task.Scrub from) r = IsCompared tells shape r
+Does tells name shape (task.Scrub from) r = IsCompared tells shape from r
 Does tells name shape other r = ⊥
 
 -- the words of a call ask for what is served, and that is done; or for what is not, and then nothing was done

@@ -7,11 +7,11 @@ use Rattle.hs_script.specs.declared.invocation.Invocation.{Invocation}
 use Rattle.hs_script.specs.declared.invocation.Task.{Task}
 use Rattle.hs_script.specs.declared.invocation.Task.TheVariants as task
 
--- what is served so far: a script on one copy a shard without --visits and --cache, an audit, a scrub without --from
+-- what is served so far: a script on one copy a shard without --visits and --cache, an audit, a scrub
 abbrev pub is_served : Shape → Task → Bool
 is_served shape (task.Script limits None None) = shape.copies == 1
 is_served shape task.Audit = true
-is_served shape (task.Scrub None) = true
+is_served shape (task.Scrub from) = true
 is_served shape other = false
 
 abbrev pub where_served : Invocation → Option Invocation

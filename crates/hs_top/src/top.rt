@@ -6,6 +6,7 @@ ghost use Rattle.hs_ports.specs.Objects.{handed};
 ghost use Rattle.hs_promise.specs.Run.{ran_of, script_of};
 ghost use Rattle.hs_top.specs.Calls.{Does, IsCalled, RunsSo};
 ghost use Rattle.hs_top.specs.Words.{is_load, is_served};
+ghost use Rattle.hs_wanted.specs.Asked.{IsTask};
 
 use crate::words::served_on;
 use hs_block::Addresser;
@@ -88,6 +89,7 @@ fn do_task<A: Addresser, S: Source, K: Sink, D: Disk>(
 ) -> Outcome
     requires shape { IsShape shape }
     requires served { is_served shape task.now ≡ true }
+    requires task { IsTask shape task.now }
     requires count { length disks.old ≡ shape.shards * shape.copies }
     ensures does { Does D.tells (A.name naming.now) shape task.now
         (ran_of result
@@ -102,7 +104,7 @@ fn do_task<A: Addresser, S: Source, K: Sink, D: Disk>(
             run_script(alloc, shape, *limits, naming, source, sink, disks, watch)
         }
         Task::Audit => run_audit(alloc, naming, shape, sink, disks, watch),
-        Task::Scrub { .. } => run_scrub(alloc, shape, sink, disks, watch),
+        Task::Scrub { from } => run_scrub(alloc, shape, *from, sink, disks, watch),
         Task::Load { .. } | Task::Store { .. } | Task::Fetch { .. } | Task::Copy { .. } => closed(
             alloc,
             Status::Usage,
@@ -149,8 +151,9 @@ fn run_words<A: Addresser, S: Source, K: Sink, D: Disk + Drop>(
 /// Does every command but `load`, and waits for nobody. So far these are `script DIR G 1` with its
 /// options, which runs the script that the source has on the disks of a store, one for each peer, and
 /// puts what is answered into the sink; `audit DIR G R`, which puts there what the logs of a store
-/// amount to; and `scrub DIR G R`, which puts there whether the copies of each shard agree. Other words
-/// are a faulty command line.
+/// amount to; and `scrub DIR G R`, which puts there whether the copies of each shard agree, and with
+/// `--from P` copies the list of a peer over the others of its shard. Other words are a faulty command
+/// line.
 pub fn hydra_alone<A: Addresser, S: Source, K: Sink, D: Disk + Drop>(
     alloc: Global,
     words: &[String],

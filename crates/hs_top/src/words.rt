@@ -46,12 +46,11 @@ fn is_served(shape: Shape, task: &Task<'_>) -> bool
             visits: None,
             cache: None,
         } => shape.copies == 1,
-        Task::Audit | Task::Scrub { from: None } => true,
+        Task::Audit | Task::Scrub { .. } => true,
         Task::Script { .. }
         | Task::Load { .. }
         | Task::Store { .. }
         | Task::Fetch { .. }
-        | Task::Scrub { .. }
         | Task::Copy { .. } => false,
     }
 }

@@ -17,7 +17,7 @@ use Rattle.hs_desk.specs.declared.job.Job.TheVariants as job
 use Rattle.hs_desk.specs.declared.job.Work.{Work}
 use Rattle.hs_desk.specs.declared.job.Work.TheVariants as work
 use Rattle.hs_desk.specs.declared.slip.Slip.{Slip}
-use Rattle.hs_workers.specs.Work.{Bench, Came, Ends, GivesJob, GoesOn, Grows, GrowsAndStops, Has, HasBlock, HasDone, IsInPlace, IsRefused, Stops, Working, is_failed, next_to_seal, told_of}
+use Rattle.hs_workers.specs.Work.{Bench, Came, WorkEnds, GivesJob, GoesOnBy, Grows, GrowsAndStops, Has, ShowsBlock, HasDone, IsInPlace, RefusesWork, WorkStops, WorksOn, is_failed, next_to_seal, shown_of}
 use Rattle.hs_workers.specs.declared.fault.WorkFault.{WorkFault}
 use Rattle.hs_workers.specs.declared.fault.WorkFault.TheVariants as fault
 
@@ -33,12 +33,12 @@ numbered_front (x ∷ xs) ys n e at = go (x.0 == n) at (numbered_front xs ys n e
     go false is later = later is
 
 -- blocks that a list shows are shown by a longer one
-shows_front : (list more : List (ℕ × Entry)) (pairs : List (ℕ × List ℕ)) → All (HasBlock list) pairs → All (HasBlock (list ++ more)) pairs
+shows_front : (list more : List (ℕ × Entry)) (pairs : List (ℕ × List ℕ)) → All (ShowsBlock list) pairs → All (ShowsBlock (list ++ more)) pairs
 shows_front list more pairs each k d below =
     let h = each k d below in
     record { op = h.op; least = h.least; entry = numbered_front list more (get_or pairs k d).0 _ h.entry }
 
-shows_none : (list : List (ℕ × Entry)) → All (HasBlock list) []
+shows_none : (list : List (ℕ × Entry)) → All (ShowsBlock list) []
 shows_none list k d below = absurd (omega (arith, below))
 
 range_on : (a m n : ℕ) → range_with_len a (m + n) ≡ range_with_len a m ++ range_with_len (a + m) n
@@ -61,7 +61,7 @@ map_on (x ∷ xs) ys = ap (λ (ns : List ℕ). x.0 ∷ ns) (map_on xs ys)
 pub appended : (tells : Type 0) (a b : Bench) (entry : Entry)
     → b.log.rank ≡ a.log.rank → b.faults ≡ a.faults → a.log.waits ≡ None
     → (tells → (list : List (ℕ × Entry)) → Has a list None → Has b list (Some entry))
-    → Working tells a b [] []
+    → WorksOn tells a b [] []
 appended tells a b entry rank calm none list = record {
   last = ap (λ (r : Rank). r.number) rank ∙ sym (omega arith);
   numbers = refl;
@@ -69,7 +69,7 @@ appended tells a b entry rank calm none list = record {
   list = on;
 }
   where
-    on : tells → (l : List (ℕ × Entry)) (waiting : Option Entry) → Has a l waiting → GoesOn b l [] []
+    on : tells → (l : List (ℕ × Entry)) (waiting : Option Entry) → Has a l waiting → GoesOnBy b l [] []
     on told l None has = record {
       more = [];
       numbers = refl;
@@ -81,8 +81,8 @@ appended tells a b entry rank calm none list = record {
 
 pub stays : (tells : Type 0) (a b : Bench) (shown : List (ℕ × List ℕ))
     → b.log ≡ a.log → b.faults ≡ a.faults → (tells → b.disk ≡ a.disk)
-    → (tells → (list : List (ℕ × Entry)) (waiting : Option Entry) → Has a list waiting → All (HasBlock list) shown)
-    → Working tells a b [] shown
+    → (tells → (list : List (ℕ × Entry)) (waiting : Option Entry) → Has a list waiting → All (ShowsBlock list) shown)
+    → WorksOn tells a b [] shown
 stays tells a b shown log calm disk told = record {
   last = ap (λ k. k.rank.number) log ∙ sym (omega arith);
   numbers = refl;
@@ -92,7 +92,7 @@ stays tells a b shown log calm disk told = record {
     numbers = refl;
     waiting = waiting;
     has = subst (λ (xs : List (ℕ × Entry)). Has b xs waiting) (sym (append-nil l)) (rw (log, disk t) has);
-    shows = subst (λ (xs : List (ℕ × Entry)). All (HasBlock xs) shown) (sym (append-nil l)) (told t l waiting has);
+    shows = subst (λ (xs : List (ℕ × Entry)). All (ShowsBlock xs) shown) (sym (append-nil l)) (told t l waiting has);
   };
 }
 
@@ -101,7 +101,7 @@ pub sealed_one : (tells : Type 0) (a b : Bench) (number : ℕ) (waits : Option R
     → IfSome waits (λ rank. rank.number ≡ a.log.rank.number + 1) → IfSome waits (λ rank. b.log.rank ≡ rank)
     → b.faults ≡ a.faults
     → (tells → (list : List (ℕ × Entry)) (entry : Entry) → Has a list (Some entry) → Has b (with_waiting list entry) None)
-    → Working tells a b (number ∷ []) []
+    → WorksOn tells a b (number ∷ []) []
 sealed_one tells a b number None is here some next rank calm list = absurd (cc some)
 sealed_one tells a b number (Some r) is here some next rank calm list = record {
   last = ap (λ (k : Rank). k.number) rank ∙ next;
@@ -113,7 +113,7 @@ sealed_one tells a b number (Some r) is here some next rank calm list = record {
     one : number ≡ a.log.rank.number + 1
     one = here ∙ (rw is next)
 
-    on : tells → (l : List (ℕ × Entry)) (waiting : Option Entry) → Has a l waiting → GoesOn b l (number ∷ []) []
+    on : tells → (l : List (ℕ × Entry)) (waiting : Option Entry) → Has a l waiting → GoesOnBy b l (number ∷ []) []
     on told l None has = absurd (let h = has.waits in cc (is, h))
     on told l (Some w) has = record {
       more = (last_of l + 1, w) ∷ [];
@@ -123,7 +123,7 @@ sealed_one tells a b number (Some r) is here some next rank calm list = record {
       shows = shows_none (with_waiting l w);
     }
 
-shows_one : (list : List (ℕ × Entry)) (n op least : ℕ) (bytes : List ℕ) → numbered_entry list n ≡ Some (entry.Block op least bytes) → All (HasBlock list) ((n, bytes) ∷ [])
+shows_one : (list : List (ℕ × Entry)) (n op least : ℕ) (bytes : List ℕ) → numbered_entry list n ≡ Some (entry.Block op least bytes) → All (ShowsBlock list) ((n, bytes) ∷ [])
 shows_one list n op least bytes is zero d below = record { op = op; least = least; entry = is }
 shows_one list n op least bytes is (suc k) d below = absurd (omega (arith, below))
 
@@ -131,8 +131,8 @@ shows_one list n op least bytes is (suc k) d below = absurd (omega (arith, below
 pub read_done : (tells : Type 0) (a b : Bench) (n : ℕ) (e : Entry)
     → b.log ≡ a.log → b.faults ≡ a.faults → (tells → b.disk ≡ a.disk)
     → (tells → (list : List (ℕ × Entry)) (waiting : Option Entry) → Has a list waiting → numbered_entry list n ≡ Some e)
-    → HasDone tells a b (told_of n e)
-unfolding told_of
+    → HasDone tells a b (shown_of n e)
+unfolding shown_of
 read_done tells a b n (entry.View view) log calm disk told = (stays tells a b [] log calm disk (λ t l w has. shows_none l), λ t l w has bytes shown. cc (told t l w has, shown.entry))
 read_done tells a b n (entry.Block op least bytes) log calm disk told = stays tells a b ((n, bytes) ∷ []) log calm disk (λ t l w has. shows_one l n op least bytes (told t l w has))
 read_done tells a b n (entry.Mark op least block address) log calm disk told = (stays tells a b [] log calm disk (λ t l w has. shows_none l), λ t l w has bytes shown. cc (told t l w has, shown.entry))
@@ -153,11 +153,11 @@ gone_done tells a b n log calm disk told = (stays tells a b [] log calm disk (λ
 
 -- ---- jobs one after another
 
-pub working_none : (tells : Type 0) (a : Bench) → Working tells a a [] []
+pub working_none : (tells : Type 0) (a : Bench) → WorksOn tells a a [] []
 working_none tells a = stays tells a a [] refl refl (λ t. refl) (λ t l w has. shows_none l)
 
 pub working_more : (tells : Type 0) (a b c : Bench) (stored more : List ℕ) (shown further : List (ℕ × List ℕ))
-    → Working tells a b stored shown → Working tells b c more further → Working tells a c (stored ++ more) (shown ++ further)
+    → WorksOn tells a b stored shown → WorksOn tells b c more further → WorksOn tells a c (stored ++ more) (shown ++ further)
 working_more tells a b c stored more shown further one two = record {
   last = let e = length-append stored more in let p = one.last in let q = two.last in omega arith;
   numbers = numbers;
@@ -173,18 +173,18 @@ working_more tells a b c stored more shown further one two = record {
         ∙ (ap (λ (xs : List ℕ). range_with_len n (length stored) ++ xs) (two.numbers ∙ ap (λ (k : ℕ). range_with_len k (length more)) at)
         ∙ (sym (range_on n (length stored) (length more)) ∙ ap (λ (k : ℕ). range_with_len n k) (sym (length-append stored more))))
 
-    on : tells → (l : List (ℕ × Entry)) (waiting : Option Entry) → Has a l waiting → GoesOn c l (stored ++ more) (shown ++ further)
+    on : tells → (l : List (ℕ × Entry)) (waiting : Option Entry) → Has a l waiting → GoesOnBy c l (stored ++ more) (shown ++ further)
     on told l waiting has =
-        let first : GoesOn b l stored shown = one.list told l waiting has in
-        let second : GoesOn c (l ++ first.more) more further = two.list told (l ++ first.more) first.waiting first.has in
+        let first : GoesOnBy b l stored shown = one.list told l waiting has in
+        let second : GoesOnBy c (l ++ first.more) more further = two.list told (l ++ first.more) first.waiting first.has in
         record {
           more = first.more ++ second.more;
           numbers = map_on first.more second.more ∙ (ap (λ (xs : List ℕ). xs ++ map (λ (e : ℕ × Entry). e.0) second.more) first.numbers ∙ ap (λ (xs : List ℕ). stored ++ xs) second.numbers);
           waiting = second.waiting;
           has = subst (λ (xs : List (ℕ × Entry)). Has c xs second.waiting) (append_assoc l first.more second.more) second.has;
-          shows = All-append (HasBlock (l ++ (first.more ++ second.more))) shown further
-              (subst (λ (xs : List (ℕ × Entry)). All (HasBlock xs) shown) (append_assoc l first.more second.more) (shows_front (l ++ first.more) second.more shown first.shows))
-              (subst (λ (xs : List (ℕ × Entry)). All (HasBlock xs) further) (append_assoc l first.more second.more) second.shows);
+          shows = All-append (ShowsBlock (l ++ (first.more ++ second.more))) shown further
+              (subst (λ (xs : List (ℕ × Entry)). All (ShowsBlock xs) shown) (append_assoc l first.more second.more) (shows_front (l ++ first.more) second.more shown first.shows))
+              (subst (λ (xs : List (ℕ × Entry)). All (ShowsBlock xs) further) (append_assoc l first.more second.more) second.shows);
         }
 
 -- ---- what the slip tells
@@ -241,14 +241,14 @@ own_work job.Reset own = absurd (cc own)
 own_work (job.Copy from number) own = absurd (cc own)
 own_work job.Reclaim own = absurd (cc own)
 
-refused_stops : (slip : Slip) (w : Work) (b : Bench) (why : WorkFault) → slip.work ≡ Some w → IsRefused w b.log slip.stored why → Stops slip b.log why
+refused_stops : (slip : Slip) (w : Work) (b : Bench) (why : WorkFault) → slip.work ≡ Some w → RefusesWork w b.log slip.stored why → WorkStops slip b.log why
 refused_stops slip w b (fault.Core f) at not_so = absurd not_so
 refused_stops slip w b (fault.Torn place told kept) at torn = (torn.0, (w, at, torn.1))
 refused_stops slip w b fault.NoMemory at not_so = tt
 
 -- a job was not done
 pub stops_refused : (tells : Type 0) (slip : Slip) (a b : Bench) (j : Job) (why : WorkFault) → slip.work ≡ work_of j → is_own_job j ≡ true
-    → ((stored : List ℕ) (w : Work) → stored ≡ slip.stored → work_of j ≡ Some w → IsRefused w b.log stored why) → a.faults ≤ b.faults
+    → ((stored : List ℕ) (w : Work) → stored ≡ slip.stored → work_of j ≡ Some w → RefusesWork w b.log stored why) → a.faults ≤ b.faults
     → GrowsAndStops tells slip slip a b why
 stops_refused tells slip a b j why at own told later =
     let w = own_work j own in
@@ -273,7 +273,7 @@ given_grows tells s t b (Err (fault.Core f)) is = grows_none tells s t b (ap (λ
 given_grows tells s t b (Err (fault.Torn place told kept)) is = absurd is
 given_grows tells s t b (Err fault.NoMemory) is = grows_none tells s t b (ap (λ (x : Slip). x.peer) is) (ap (λ (x : Slip). x.stored) is) (ap (λ (x : Slip). x.shown) is)
 
-given_stops : (s t : Slip) (b : Bench) (why : WorkFault) → GivesJob s t (Err why) → Stops t b.log why
+given_stops : (s t : Slip) (b : Bench) (why : WorkFault) → GivesJob s t (Err why) → WorkStops t b.log why
 given_stops s t b (fault.Core f) is = ap (λ (x : Slip). x.fault) is
 given_stops s t b (fault.Torn place told kept) is = absurd is
 given_stops s t b fault.NoMemory is = tt
@@ -301,7 +301,7 @@ goes_more tells s t u v a b c given j goes gives is on goes_on came_on =
 
 -- its disk failed
 pub ends_failed : (tells : Type 0) (s t u v : Slip) (a b c : Bench) (given : Result (Option Job) WorkFault) (j : Job) → Goes tells s t a b → GivesJob t u given → given ≡ Ok (Some j)
-    → (on : Bool) → on ≡ false → Came tells u v b c on → Ends tells s v a c (Ok tt)
+    → (on : Bool) → on ≡ false → Came tells u v b c on → WorkEnds tells s v a c (Ok tt)
 ends_failed tells s t u v a b c given j goes gives is on fails_on came_on =
     let did : Came tells u v b c false = subst (λ (x : Bool). Came tells u v b c x) fails_on came_on in
     let gave : GivesJob t u (Ok (Some j)) = subst (λ (x : Result (Option Job) WorkFault). GivesJob t u x) is gives in
@@ -321,7 +321,7 @@ ends_failed tells s t u v a b c given j goes gives is on fails_on came_on =
 
 -- it is idle
 pub ends_idle : (tells : Type 0) (s t u : Slip) (a b : Bench) (given : Result (Option Job) WorkFault) → Goes tells s t a b → GivesJob t u given → given ≡ Ok None
-    → b.log.waits ≡ None → Ends tells s u a b (Ok tt)
+    → b.log.waits ≡ None → WorkEnds tells s u a b (Ok tt)
 ends_idle tells s t u a b given goes gives is sealed =
     let gave : GivesJob t u (Ok None) = subst (λ (x : Result (Option Job) WorkFault). GivesJob t u x) is gives in (
       ap (λ (x : Slip). x.fault) gave ∙ goes.calm,
@@ -330,20 +330,20 @@ ends_idle tells s t u a b given goes gives is sealed =
 
 -- it is idle, and an entry waits
 pub ends_waiting : (tells : Type 0) (s t u : Slip) (a b : Bench) (given : Result (Option Job) WorkFault) → Goes tells s t a b → GivesJob t u given
-    → Ends tells s u a b (Err fault.NoMemory)
+    → WorkEnds tells s u a b (Err fault.NoMemory)
 ends_waiting tells s t u a b given goes gives =
     record { between = b; grows = grows_more tells s t u a b b goes.grows (given_grows tells t u b given gives); later = omega arith; cause = tt }
 
 -- no job was taken
 pub ends_untaken : (tells : Type 0) (s t u : Slip) (a b : Bench) (given : Result (Option Job) WorkFault) (why : WorkFault) → Goes tells s t a b → GivesJob t u given → given ≡ Err why
-    → Ends tells s u a b (Err why)
+    → WorkEnds tells s u a b (Err why)
 ends_untaken tells s t u a b given why goes gives is =
     let gave : GivesJob t u (Err why) = subst (λ (x : Result (Option Job) WorkFault). GivesJob t u x) is gives in
     record { between = b; grows = grows_more tells s t u a b b goes.grows (given_grows tells t u b (Err why) gave); later = omega arith; cause = given_stops t u b why gave }
 
 -- a job was not done, or its report not taken
 pub ends_stopped : (tells : Type 0) (s t u v : Slip) (a b c : Bench) (given : Result (Option Job) WorkFault) (why : WorkFault) → Goes tells s t a b → GivesJob t u given
-    → GrowsAndStops tells u v b c why → Ends tells s v a c (Err why)
+    → GrowsAndStops tells u v b c why → WorkEnds tells s v a c (Err why)
 ends_stopped tells s t u v a b c given why goes gives stops = record {
   between = stops.between;
   grows = grows_more tells s u v a b stops.between (grows_more tells s t u a b b goes.grows (given_grows tells t u b given gives)) stops.grows;

@@ -8,7 +8,7 @@ use Rattle.hs_script.specs.Loads.{asked_behind, deletion_behind, session_name, w
 use Rattle.hs_desk.specs.declared.slip.Slip.{Slip}
 use Rattle.hs_desk.specs.declared.token.Token.{Token}
 use Rattle.hs_workers.specs.Asks.{HasEnded, sum_of}
-use Rattle.hs_workers.specs.Work.{Ends, bench_of}
+use Rattle.hs_workers.specs.Work.{WorkEnds, bench_of}
 use Rattle.hs_workers.specs.declared.element.Element.{Element}
 use Rattle.hs_workers.specs.declared.element.Element.TheVariants as element
 
@@ -23,7 +23,7 @@ module _ {S P D : Type 0} (seat : S → Slip) (pass : P → Token) (tells : Type
     -- each did its own work, of which it has the end
     abbrev pub HasCome : Element S P D → Element S P D → Type 0
     HasCome (element.Worker a) (element.Worker b) =
-        Ends tells (seat a.seat) (seat b.seat) (bench_of size stands faults a.log a.disk) (bench_of size stands faults b.log b.disk) b.ended
+        WorkEnds tells (seat a.seat) (seat b.seat) (bench_of size stands faults a.log a.disk) (bench_of size stands faults b.log b.disk) b.ended
         × (a.watch ≤ b.watch)
     HasCome (element.Writer a) (element.Writer b) =
         (b.number ≡ a.number)

@@ -3,8 +3,8 @@ use Rattle.hs_script.specs.Loads.{Stage, dropping, opening, rooting, writing}
 use Rattle.hs_workers.specs.declared.stage.Stage.{Stage as Held}
 use Rattle.hs_workers.specs.declared.stage.Stage.TheVariants as stage
 
-abbrev pub stage_of : Held → Stage
-stage_of stage.Opening = opening
-stage_of (stage.Writing file leaves) = writing file leaves
-stage_of (stage.Rooting file handle) = rooting file handle
-stage_of (stage.Dropping file) = dropping file
+abbrev pub stage_told : Held → Stage
+stage_told stage.Opening = opening
+stage_told (stage.Writing file leaves) = writing file leaves
+stage_told (stage.Rooting file handle) = rooting file handle
+stage_told (stage.Dropping file) = dropping file

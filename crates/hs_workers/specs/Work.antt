@@ -55,66 +55,66 @@ IsTorn (work.Seal number) log told kept = (told ≡ number) × (kept ≡ next_to
 IsTorn (work.Read number) log told kept = ⊥
 
 -- why a work was not done; what was stored before tells the place
-abbrev pub IsRefused : Work → Keeping → List ℕ → WorkFault → Type 0
-IsRefused w log stored (fault.Core f) = ⊥
-IsRefused w log stored (fault.Torn place told kept) = (place ≡ length stored) × IsTorn w log told kept
-IsRefused w log stored fault.NoMemory = ⊤
+abbrev pub RefusesWork : Work → Keeping → List ℕ → WorkFault → Type 0
+RefusesWork w log stored (fault.Core f) = ⊥
+RefusesWork w log stored (fault.Torn place told kept) = (place ≡ length stored) × IsTorn w log told kept
+RefusesWork w log stored fault.NoMemory = ⊤
 
 -- ---- what was done
 
 -- what is told of an entry that was read: the bytes of its block, or that it has none
-unfoldable pub told_of : ℕ → Entry → Done
-told_of number (entry.View view) = done.Gone number
-told_of number (entry.Block op least bytes) = done.Bytes number bytes
-told_of number (entry.Mark op least block address) = done.Gone number
-told_of number (entry.Root op held address key) = done.Gone number
-told_of number (entry.Drop op key) = done.Gone number
-told_of number (entry.Enter op epoch) = done.Gone number
-told_of number (entry.Got sender epoch round total deltas) = done.Gone number
-told_of number (entry.Base view epoch swept round frames) = done.Gone number
-told_of number (entry.KeptBlock born mark flags count bytes) = done.Gone number
-told_of number (entry.KeptRoot created dropped counted address key) = done.Gone number
-told_of number (entry.KeptRound way other epoch round total deltas) = done.Gone number
+unfoldable pub shown_of : ℕ → Entry → Done
+shown_of number (entry.View view) = done.Gone number
+shown_of number (entry.Block op least bytes) = done.Bytes number bytes
+shown_of number (entry.Mark op least block address) = done.Gone number
+shown_of number (entry.Root op held address key) = done.Gone number
+shown_of number (entry.Drop op key) = done.Gone number
+shown_of number (entry.Enter op epoch) = done.Gone number
+shown_of number (entry.Got sender epoch round total deltas) = done.Gone number
+shown_of number (entry.Base view epoch swept round frames) = done.Gone number
+shown_of number (entry.KeptBlock born mark flags count bytes) = done.Gone number
+shown_of number (entry.KeptRoot created dropped counted address key) = done.Gone number
+shown_of number (entry.KeptRound way other epoch round total deltas) = done.Gone number
 
 -- the list has an entry of this number, and these are the bytes of its block
-pub record HasBlock (list : List (ℕ × Entry)) (pair : ℕ × List ℕ) : Type 0 where
+pub record ShowsBlock (list : List (ℕ × Entry)) (pair : ℕ × List ℕ) : Type 0 where
   pub op : ℕ
   pub least : ℕ
   pub entry : numbered_entry list pair.0 ≡ Some (entry.Block op least pair.1)
 
 -- the list has no entry of this number, or none with a block
-abbrev pub LacksBlock : List (ℕ × Entry) → ℕ → Type 0
-LacksBlock list number = (bytes : List ℕ) → HasBlock list (number, bytes) → ⊥
+abbrev pub ShowsNoBlock : List (ℕ × Entry) → ℕ → Type 0
+ShowsNoBlock list number = (bytes : List ℕ) → ShowsBlock list (number, bytes) → ⊥
 
 -- from this list a log went on by the entries of the numbers that were sealed, and the blocks that were read stand in it
-pub record GoesOn (b : Bench) (list : List (ℕ × Entry)) (stored : List ℕ) (shown : List (ℕ × List ℕ)) : Type 0 where
+pub record GoesOnBy (b : Bench) (list : List (ℕ × Entry)) (stored : List ℕ) (shown : List (ℕ × List ℕ)) : Type 0 where
   pub more : List (ℕ × Entry)
   pub numbers : map (λ e. e.0) more ≡ stored
   pub waiting : Option Entry
   pub has : Has b (list ++ more) waiting
-  pub shows : All (HasBlock (list ++ more)) shown
+  pub shows : All (ShowsBlock (list ++ more)) shown
 
 -- on the way from one bench to another the entries of these numbers were sealed, one after another, and these blocks were read; the disk did not fail
-pub record Working (tells : Type 0) (a b : Bench) (stored : List ℕ) (shown : List (ℕ × List ℕ)) : Type 0 where
+pub record WorksOn (tells : Type 0) (a b : Bench) (stored : List ℕ) (shown : List (ℕ × List ℕ)) : Type 0 where
   pub last : b.log.rank.number ≡ a.log.rank.number + length stored
   pub numbers : stored ≡ range_with_len (a.log.rank.number + 1) (length stored)
   pub calm : b.faults ≡ a.faults
-  pub list : tells → (list : List (ℕ × Entry)) (waiting : Option Entry) → Has a list waiting → GoesOn b list stored shown
+  pub list : tells → (list : List (ℕ × Entry)) (waiting : Option Entry) → Has a list waiting → GoesOnBy b list stored shown
 
 -- the disk failed, or what a read of it gave is no entry of the log, which a disk that tells its contents never gives
-abbrev pub HasFailed : Type 0 → Bench → Bench → Type 0
-HasFailed tells a b = HasRisen a.faults b.faults ⊎ (tells → ⊥)
+abbrev pub DiskFailed : Type 0 → Bench → Bench → Type 0
+DiskFailed tells a b = HasRisen a.faults b.faults ⊎ (tells → ⊥)
 
 -- what is reported of one job is what was done
 abbrev pub HasDone : Type 0 → Bench → Bench → Done → Type 0
-HasDone tells a b (done.Stored number) = Working tells a b (stored_by (done.Stored number)) []
-HasDone tells a b (done.Sealed number) = Working tells a b (stored_by (done.Sealed number)) []
-HasDone tells a b (done.Bytes number bytes) = Working tells a b [] (shown_by (done.Bytes number bytes))
-HasDone tells a b (done.Gone number) = Working tells a b [] [] × (tells → (list : List (ℕ × Entry)) (waiting : Option Entry) → Has a list waiting → LacksBlock list number)
+HasDone tells a b (done.Stored number) = WorksOn tells a b (stored_by (done.Stored number)) []
+HasDone tells a b (done.Sealed number) = WorksOn tells a b (stored_by (done.Sealed number)) []
+HasDone tells a b (done.Bytes number bytes) = WorksOn tells a b [] (shown_by (done.Bytes number bytes))
+HasDone tells a b (done.Gone number) = WorksOn tells a b [] [] × (tells → (list : List (ℕ × Entry)) (waiting : Option Entry) → Has a list waiting → ShowsNoBlock list number)
 HasDone tells a b done.Emptied = ⊥
 HasDone tells a b (done.Copied number) = ⊥
 HasDone tells a b (done.Stepped switched) = ⊥
-HasDone tells a b (done.Failed disk) = HasFailed tells a b
+HasDone tells a b (done.Failed disk) = DiskFailed tells a b
 
 -- whether a report tells that a disk failed
 abbrev pub is_failed : Done → Bool
@@ -144,10 +144,10 @@ pub record Grows (tells : Type 0) (slip slip' : Slip) (a b : Bench) : Type 0 whe
   pub peer : slip'.peer ≡ slip.peer
   pub noted_stored : slip'.stored ≡ slip.stored ++ stored
   pub noted_shown : slip'.shown ≡ slip.shown ++ shown
-  pub done : Working tells a b stored shown
+  pub done : WorksOn tells a b stored shown
 
 -- the peer is idle, and its log has nothing unsealed
-pub record Rests (tells : Type 0) (slip' : Slip) (b : Bench) : Type 0 where
+pub record RestsSealed (tells : Type 0) (slip' : Slip) (b : Bench) : Type 0 where
   pub idle : slip'.idle ≡ true
   pub sealed : b.log.waits ≡ None
   pub in_place : IsInPlace tells b
@@ -161,25 +161,25 @@ pub record GrowsAndFails (tells : Type 0) (slip slip' : Slip) (a b : Bench) : Ty
   pub stored : slip'.stored ≡ before.stored ++ 0 ∷ []
   pub shown : slip'.shown ≡ before.shown
   pub later : between.faults ≤ b.faults
-  pub cause : HasFailed tells between b
+  pub cause : DiskFailed tells between b
 
 -- why a peer's work stopped: of a fault that the slip has; of a number that was not the next one, in the work in hand; or for want of memory
-abbrev pub Stops : Slip → Keeping → WorkFault → Type 0
-Stops slip log (fault.Core f) = slip.fault ≡ Some f
-Stops slip log (fault.Torn place told kept) = (place ≡ length slip.stored) × ((w : Work) × (slip.work ≡ Some w) × IsTorn w log told kept)
-Stops slip log fault.NoMemory = ⊤
+abbrev pub WorkStops : Slip → Keeping → WorkFault → Type 0
+WorkStops slip log (fault.Core f) = slip.fault ≡ Some f
+WorkStops slip log (fault.Torn place told kept) = (place ≡ length slip.stored) × ((w : Work) × (slip.work ≡ Some w) × IsTorn w log told kept)
+WorkStops slip log fault.NoMemory = ⊤
 
 -- a slip grew so up to a bench, and then the work stopped
 pub record GrowsAndStops (tells : Type 0) (slip slip' : Slip) (a b : Bench) (why : WorkFault) : Type 0 where
   pub between : Bench
   pub grows : Grows tells slip slip' a between
   pub later : between.faults ≤ b.faults
-  pub cause : Stops slip' b.log why
+  pub cause : WorkStops slip' b.log why
 
 -- how the work of a peer ends: idle with nothing unsealed, or with a 0, or with a fault
-abbrev pub Ends : Type 0 → Slip → Slip → Bench → Bench → Result ⊤ WorkFault → Type 0
-Ends tells slip slip' a b (Ok u) = (slip'.fault ≡ slip.fault) × ((Grows tells slip slip' a b × Rests tells slip' b) ⊎ GrowsAndFails tells slip slip' a b)
-Ends tells slip slip' a b (Err why) = GrowsAndStops tells slip slip' a b why
+abbrev pub WorkEnds : Type 0 → Slip → Slip → Bench → Bench → Result ⊤ WorkFault → Type 0
+WorkEnds tells slip slip' a b (Ok u) = (slip'.fault ≡ slip.fault) × ((Grows tells slip slip' a b × RestsSealed tells slip' b) ⊎ GrowsAndFails tells slip slip' a b)
+WorkEnds tells slip slip' a b (Err why) = GrowsAndStops tells slip slip' a b why
 
 -- what one job came to: true where the peer goes on, false where its disk failed
 abbrev pub Came : Type 0 → Slip → Slip → Bench → Bench → Bool → Type 0

@@ -2,7 +2,7 @@
 ghost use Rattle.std.specs.Prelude.{◌≡◌, None, Some, IfOk, IfErr};
 ghost use Rattle.hs_model.specs.Judge.{asked_of};
 ghost use Rattle.hs_desk.specs.Tokens.{HasAddress, IsOfSession, begun};
-ghost use Rattle.hs_workers.specs.Asks.{HasAsked, HasBegun};
+ghost use Rattle.hs_workers.specs.Asks.{AsksOnce, HasBegun};
 
 use crate::{Shared, WorkFault};
 use hs_desk::Clerk;
@@ -19,7 +19,7 @@ pub(crate) fn ask<H: Wait, B: Clerk>(
     requires asked { (B.Pass.noted pass.old).asked ≡ None }
     requires own { IsOfSession (B.Pass.noted pass.old).session op }
     requires address { HasAddress op }
-    ensures { HasAsked op (B.Pass.noted pass.old) (B.Pass.noted pass.new) result }
+    ensures { AsksOnce op (B.Pass.noted pass.old) (B.Pass.noted pass.new) result }
 {
     let number = begin(rt, book, pass, op)?;
     for _ in rt.forever() {

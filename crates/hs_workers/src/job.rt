@@ -6,7 +6,7 @@ ghost use Rattle.hs_desk.specs.declared.job.Job.TheVariants.{Append};
 ghost use Rattle.hs_desk.specs.declared.job.Work.{Work};
 ghost use Rattle.hs_desk.specs.declared.job.Work.TheVariants as work;
 ghost use Rattle.hs_peerlog.specs.Lists.{Keeping};
-ghost use Rattle.hs_workers.specs.Work.{Has, HasDone, IsInPlace, IsRefused, IsTorn, bench_of, is_failed, told_of, next_to_append, next_to_seal};
+ghost use Rattle.hs_workers.specs.Work.{Has, HasDone, IsInPlace, RefusesWork, IsTorn, bench_of, is_failed, shown_of, next_to_append, next_to_seal};
 
 use crate::WorkFault;
 use crate::readable::is_readable;
@@ -41,7 +41,7 @@ pub(crate) fn do_job<D: Disk>(
         → Has (bench_of D.size D.stands D.faults log.new disk.new) list (Some entry)) }
 
     ensures refused { (stored : List ℕ) (w : Work) → place ≡ length stored → work_of job.now ≡ Some w
-        → IfErr result (IsRefused w log.new stored) }
+        → IfErr result (RefusesWork w log.new stored) }
     ensures later { D.faults disk.old ≤ D.faults disk.new }
     ensures ticks { watch.old ≤ watch.new }
 {
@@ -79,7 +79,7 @@ fn append_one<D: Disk>(
         → Has (bench_of D.size D.stands D.faults log.new disk.new) list (Some entry.now)) }
 
     ensures refused { (stored : List ℕ) → place ≡ length stored
-        → IfErr result (IsRefused (work.Append number) log.new stored) }
+        → IfErr result (RefusesWork (work.Append number) log.new stored) }
     ensures later { D.faults disk.old ≤ D.faults disk.new }
     ensures ticks { watch.old ≤ watch.new }
 {
@@ -134,7 +134,7 @@ fn seal_one<D: Disk>(
         → IsInPlace D.tells (bench_of D.size D.stands D.faults log.new disk.new)) }
 
     ensures refused { (stored : List ℕ) → place ≡ length stored
-        → IfErr result (IsRefused (work.Seal number) log.new stored) }
+        → IfErr result (RefusesWork (work.Seal number) log.new stored) }
     ensures later { D.faults disk.old ≤ D.faults disk.new }
     ensures ticks { watch.old ≤ watch.new }
 {
@@ -171,7 +171,7 @@ fn read_one<D: Disk>(log: &PeerLog, disk: &mut D, peer: u8, number: u64) -> Resu
     ensures later { D.faults disk.old ≤ D.faults disk.new }
 {
     match log.read_entry(disk, number) {
-        Ok(Some(entry)) => Ok(told_of(number, entry)),
+        Ok(Some(entry)) => Ok(shown_of(number, entry)),
         Ok(None) => Ok(Done::Gone { number }),
         Err(LogFault::Disk | LogFault::NotALog { .. }) => Ok(Done::Failed { disk: peer }),
         Err(_) => Err(WorkFault::NoMemory),
@@ -179,9 +179,9 @@ fn read_one<D: Disk>(log: &PeerLog, disk: &mut D, peer: u8, number: u64) -> Resu
 }
 
 /// What is told of an entry that was read: the bytes of its block, or that it has none.
-#[tactic(auto, unfolding(crate::specs::Work::told_of))]
-fn told_of(number: u64, entry: Entry) -> Done
-    ensures value { result ≡ told_of number entry }
+#[tactic(auto, unfolding(crate::specs::Work::shown_of))]
+fn shown_of(number: u64, entry: Entry) -> Done
+    ensures value { result ≡ shown_of number entry }
     ensures answer { (peer : ℕ) → answers_one (work.Read number) peer result ≡ true }
 {
     match entry {

@@ -1,7 +1,7 @@
 //! One peer's work.
 ghost use Rattle.std.specs.Prelude.{◌≡◌, ◌≤◌, None, Some, true, OnOk, IfOk, IfErr};
 ghost use Rattle.hs_desk.specs.Slips.{answers_work, is_own_job, reported, work_of};
-ghost use Rattle.hs_workers.specs.Work.{Came, Ends, GivesJob, GrowsAndStops, IsInPlace, bench_of};
+ghost use Rattle.hs_workers.specs.Work.{Came, WorkEnds, GivesJob, GrowsAndStops, IsInPlace, bench_of};
 
 use crate::job::{do_job, is_failed};
 use crate::shared::is_own_fault;
@@ -27,7 +27,7 @@ pub fn peer_work<H: Wait, B: Desk, D: Disk, T: Gate>(
     requires work { (B.Seat.noted seat.old).work ≡ None }
     requires in_place { IsInPlace D.tells (bench_of D.size D.stands D.faults log.old disk.old) }
 
-    ensures ends { Ends D.tells (B.Seat.noted seat.old) (B.Seat.noted seat.new)
+    ensures ends { WorkEnds D.tells (B.Seat.noted seat.old) (B.Seat.noted seat.new)
         (bench_of D.size D.stands D.faults log.old disk.old)
         (bench_of D.size D.stands D.faults log.new disk.new) result }
     ensures ticks { watch.old ≤ watch.new }
@@ -51,7 +51,7 @@ fn do_jobs<H: Wait, B: Desk, D: Disk, T: Gate>(
 ) -> Result<(), WorkFault>
     requires in_place { IsInPlace D.tells (bench_of D.size D.stands D.faults log.old disk.old) }
 
-    ensures ends { Ends D.tells (B.Seat.noted seat.old) (B.Seat.noted seat.new)
+    ensures ends { WorkEnds D.tells (B.Seat.noted seat.old) (B.Seat.noted seat.new)
         (bench_of D.size D.stands D.faults log.old disk.old)
         (bench_of D.size D.stands D.faults log.new disk.new) result }
     ensures ticks { watch.old ≤ watch.new }

@@ -2,7 +2,7 @@
 ghost use Rattle.std.specs.Prelude.{◌≡◌, ◌+◌, [], ℕ, IfOk};
 ghost use Rattle.hs_script.specs.Loads.{Writer, behind_block, behind_root, stage_after, writer_of, writing};
 ghost use Rattle.hs_script.specs.Plans.{plan_of};
-ghost use Rattle.hs_workers.specs.Stages.{stage_of};
+ghost use Rattle.hs_workers.specs.Stages.{stage_told};
 
 use crate::blocks::leaf_address;
 use hs_block::Addresser;
@@ -38,8 +38,8 @@ pub(crate) fn next_stage<A: Addresser>(
     stage: Stage,
     reply: Reply,
 ) -> Result<Stage, AllocError>
-    ensures { (files : ℕ) → IfOk result (λ next. stage_of next
-        ≡ stage_after (writer_of (A.name naming.now) seed writer files) (stage_of stage) reply) }
+    ensures { (files : ℕ) → IfOk result (λ next. stage_told next
+        ≡ stage_after (writer_of (A.name naming.now) seed writer files) (stage_told stage) reply) }
 {
     match stage {
         Stage::Opening => Ok(first_stage(alloc, 0)),
@@ -77,7 +77,7 @@ pub(crate) fn plan_of(
 
 /// A file is begun.
 fn first_stage(alloc: Global, file: u32) -> Stage
-    ensures { stage_of result ≡ writing file [] }
+    ensures { stage_told result ≡ writing file [] }
 {
     Stage::Writing {
         file,
@@ -87,7 +87,7 @@ fn first_stage(alloc: Global, file: u32) -> Stage
 
 /// The next file is begun.
 fn next_file(alloc: Global, file: u32) -> Result<Stage, AllocError>
-    ensures { IfOk result (λ next. stage_of next ≡ writing (file + 1) []) }
+    ensures { IfOk result (λ next. stage_told next ≡ writing (file + 1) []) }
 {
     match file.checked_add(1) {
         Some(next) => Ok(first_stage(alloc, next)),
@@ -97,7 +97,7 @@ fn next_file(alloc: Global, file: u32) -> Result<Stage, AllocError>
 
 /// Behind a file whose root is kept: each fourth file is given up again.
 fn behind_root(alloc: Global, file: u32) -> Result<Stage, AllocError>
-    ensures { IfOk result (λ next. stage_of next ≡ behind_root file) }
+    ensures { IfOk result (λ next. stage_told next ≡ behind_root file) }
 {
     if file % 4 == 3 {
         Ok(Stage::Dropping { file })
@@ -116,7 +116,7 @@ fn behind_block<A: Addresser>(
     handle: u32,
 ) -> Result<Stage, AllocError>
     ensures { (w : Writer) → w.name ≡ A.name naming.now → w.plan file ≡ plan.now
-        → IfOk result (λ next. stage_of next ≡ behind_block w file leaves handle) }
+        → IfOk result (λ next. stage_told next ≡ behind_block w file leaves handle) }
 {
     let Some(leaf) = plan.leaves.as_slice().get(leaves.len()) else {
         return Ok(Stage::Rooting { file, handle });

@@ -1,6 +1,6 @@
 //! What a writer did, by the deeds that its token keeps.
 ghost use Rattle.std.specs.Prelude.{◌≡◌, ◌≤◌, length, drop, count_by, IfOk};
-ghost use Rattle.hs_workers.specs.Asks.{is_dropped, is_rooted, sum_of};
+ghost use Rattle.hs_workers.specs.Asks.{drops_file, roots_file, sum_of};
 
 use hs_model::{Deed, Reply};
 use hs_script::WriterSum;
@@ -22,11 +22,11 @@ pub(crate) fn sum_of(kept: &[(u64, Deed, Reply)], before: usize) -> Result<Write
 
 /// How many files were rooted.
 fn rooted(answers: &[(u64, Deed, Reply)]) -> usize
-    ensures { result ≡ count_by (λ item. is_rooted item.1) answers.now }
+    ensures { result ≡ count_by (λ item. roots_file item.1) answers.now }
 {
     let mut count = 0;
     for (_, deed, _) in answers {
-        if is_rooted(deed) {
+        if roots_file(deed) {
             count += 1;
         }
     }
@@ -35,11 +35,11 @@ fn rooted(answers: &[(u64, Deed, Reply)]) -> usize
 
 /// How many files were dropped.
 fn dropped(answers: &[(u64, Deed, Reply)]) -> usize
-    ensures { result ≡ count_by (λ item. is_dropped item.1) answers.now }
+    ensures { result ≡ count_by (λ item. drops_file item.1) answers.now }
 {
     let mut count = 0;
     for (_, deed, _) in answers {
-        if is_dropped(deed) {
+        if drops_file(deed) {
             count += 1;
         }
     }
@@ -47,17 +47,17 @@ fn dropped(answers: &[(u64, Deed, Reply)]) -> usize
 }
 
 /// Whether a deed kept a file's root.
-#[tactic(auto, unfolding(crate::specs::Asks::is_rooted))]
-fn is_rooted(deed: &Deed) -> bool
-    ensures { result ≡ is_rooted deed.now }
+#[tactic(auto, unfolding(crate::specs::Asks::roots_file))]
+fn roots_file(deed: &Deed) -> bool
+    ensures { result ≡ roots_file deed.now }
 {
     matches!(deed, Deed::Rooted { .. })
 }
 
 /// Whether a deed gave a file's root up.
-#[tactic(auto, unfolding(crate::specs::Asks::is_dropped))]
-fn is_dropped(deed: &Deed) -> bool
-    ensures { result ≡ is_dropped deed.now }
+#[tactic(auto, unfolding(crate::specs::Asks::drops_file))]
+fn drops_file(deed: &Deed) -> bool
+    ensures { result ≡ drops_file deed.now }
 {
     matches!(deed, Deed::Dropped { .. })
 }

@@ -3,7 +3,7 @@ ghost use Rattle.std.specs.Prelude.{◌≡◌, None, IfOk, IfSome, drop, length}
 ghost use Rattle.hs_desk.specs.Tokens.{HasAddress, IsOfSession};
 ghost use Rattle.hs_script.specs.Loads.{asked, asked_behind, session_name, writer_of};
 ghost use Rattle.hs_workers.specs.Asks.{HasEnded, sum_of};
-ghost use Rattle.hs_workers.specs.Stages.{stage_of};
+ghost use Rattle.hs_workers.specs.Stages.{stage_told};
 
 use crate::ask::ask;
 use crate::blocks::{block_op, file_key};
@@ -113,7 +113,7 @@ fn next_op<A: Addresser>(
     requires { session.now ≡ session_name writer }
 
     ensures value { IfOk result (λ op. op
-        ≡ asked (writer_of (A.name naming.now) seed writer files) (stage_of stage.now)) }
+        ≡ asked (writer_of (A.name naming.now) seed writer files) (stage_told stage.now)) }
     ensures own { IfOk result (λ op. IfSome op (IsOfSession session.now)) }
     ensures address { IfOk result (λ op. IfSome op HasAddress) }
 {

@@ -1,6 +1,6 @@
 -- Words that name a shape are run on as many disks as it has peers.
 use Rattle.std.proofs.Common.{◌≡◌, ◌∙◌, ℕ, ◌+◌, ◌*◌, ◌==◌, Bool, true, false, List, Option, Some, None, length, map, refl, subst, ap, arith}
-use Rattle.std.proofs.lemmas.Bool.{eq-eqb, eqb-eq}
+use Rattle.std.proofs.lemmas.Bool.{eq-eqb}
 use Rattle.std.specs.Option.{option_and_then, option_map, option_map_or}
 use Rattle.std.specs.Prelude.{if◌then◌else◌}
 use Rattle.hs_limits.specs.declared.shape.Shape.{Shape}

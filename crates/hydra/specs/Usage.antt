@@ -23,7 +23,6 @@ later_command command =
     if bytes_eq command (codes "load") then Some later.Load
     else if bytes_eq command (codes "store") then Some later.Store
     else if bytes_eq command (codes "fetch") then Some later.Fetch
-    else if bytes_eq command (codes "scrub") then Some later.From
     else if bytes_eq command (codes "copy") then Some later.Copy
     else None
 
@@ -45,7 +44,6 @@ later_text None = codes "hydra: see hydra --help\n"
 later_text (Some later.Load) = codes "hydra: load is not served yet: see hydra --help\n"
 later_text (Some later.Store) = codes "hydra: store is not served yet: see hydra --help\n"
 later_text (Some later.Fetch) = codes "hydra: fetch is not served yet: see hydra --help\n"
-later_text (Some later.From) = codes "hydra: scrub with --from is not served yet: see hydra --help\n"
 later_text (Some later.Copy) = codes "hydra: copy is not served yet: see hydra --help\n"
 later_text (Some later.Copies) = codes "hydra: R above 1 is not served yet: see hydra --help\n"
 later_text (Some later.Visits) = codes "hydra: --visits is not served yet: see hydra --help\n"

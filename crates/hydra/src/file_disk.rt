@@ -130,13 +130,14 @@ impl<F: FileExt + OpenFile + Seek + Drop> FileDisk<F> {
 }
 
 /// The disk of a peer: the files `peerP.side0` and `peerP.side1` of a folder, which are made where
-/// they are absent. A lock on the first keeps other runs out until the disk is dropped. Where one
+/// they are absent, if `makes` says so. A lock on the first keeps other runs out until the disk is dropped. Where one
 /// can't be opened, or another run has the lock, it is a disk whose calls all fail.
 pub fn open_disk<R: Files<File = File>>(
     rt: &R,
     alloc: Global,
     dir: &str,
     peer: usize,
+    makes: bool,
 ) -> FileDisk<File> {
     // A file that is opened while a standard stream is closed gets that stream's number, and
     // would be read as input or written as output. These take such numbers meanwhile.
@@ -144,7 +145,7 @@ pub fn open_disk<R: Files<File = File>>(
         Ok(held) => held,
         Err(reason) => return FileDisk::failed(Side::Zero, Deed::Open, reason),
     };
-    let zero = match open_side(rt, alloc, dir, peer, 0) {
+    let zero = match open_side(rt, alloc, dir, peer, 0, makes) {
         Ok(zero) => zero,
         Err(reason) => return FileDisk::failed(Side::Zero, Deed::Open, reason),
     };
@@ -156,7 +157,7 @@ pub fn open_disk<R: Files<File = File>>(
             return FileDisk::failed(Side::Zero, Deed::Lock, reason);
         }
     }
-    let one = open_side(rt, alloc, dir, peer, 1);
+    let one = open_side(rt, alloc, dir, peer, 1, makes);
     drop(held);
     match one {
         Ok(one) => FileDisk::new(Some((zero, one))),
@@ -180,10 +181,11 @@ fn open_side<R: Files<File = File>>(
     dir: &str,
     peer: usize,
     side: u8,
+    makes: bool,
 ) -> io::Result<File> {
     let path = format!(in alloc; "{dir}/peer{peer}.side{side}")?;
     let mut options = OpenOptions::new();
-    options.read(true).write(true).create(true);
+    options.read(true).write(true).create(makes);
     options.open(rt, path.as_str())
 }
 

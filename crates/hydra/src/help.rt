@@ -15,12 +15,13 @@ reads. A root keeps a block under a key, and with it all that the block points
 to, block by block. A deletion gives back the space of what no root keeps and no
 session has been given lately.
 
-Two commands are served so far:
+Three commands are served so far:
 
   hydra script DIR G 1 [options]
   hydra audit DIR G R
+  hydra scrub DIR G R [--from P]
 
-Not served yet: load, store, fetch, scrub and copy, and a script with R above 1.
+Not served yet: load, store, fetch and copy, and a script with R above 1.
 
 A script is read from standard input, and the answers go to standard output.
 G is the number of shards among which the blocks are parted: 1, 2, 4 or 8, the
@@ -30,12 +31,22 @@ answered, and a later run finds what an earlier one left, wherever that one
 stopped; sessions end with their run. One run at a time has a DIR: another is told
 so on standard error.
 
-An audit reads the files and writes none. It prints a line for each shard: its
-epoch, the last one that it swept, its blocks, its roots, and how many blocks its
-next deletion would give back; for each block that a root needs and that is not
-there a line `missing` with its address; and then `audit ok`, or `audit bad` and
-how many are missing. R is the number of copies of a shard, 1 to 4; of several
-the one is taken that a run would open with.
+An audit reads the files, and makes and writes none. It prints a line for each
+shard: its epoch, the last one that it swept, its blocks, its roots, and how many
+blocks its next deletion would give back; for each block that a root needs and
+that is not there a line `missing` with its address; and then `audit ok`, or
+`audit bad` and how many are missing. R is the number of copies of a shard, 1 to
+4; of several the one is taken that a run would open with.
+
+A scrub prints for each copy, by its number, whether it is the same as the one of
+its shard that a run would open with: `same`, `behind` where it only lacks the
+end, `differs` from an entry on, `nolog` where it can't be read from a byte on, or
+`fault` where a call failed; and then `scrub ok`, or `scrub bad` and how many are
+not the same. It makes no file, and without an option it writes none. With --from
+P it then empties the other copies of the shard of copy P and gives them what P
+has; a copy whose files fail meanwhile has one line more. Scrub again to see what
+came of it.
+
 
 An option of a script is a name and a number, and lowers a limit of the run: each
 at most once, in any order, with a number from 1 to the greatest, which is the
@@ -101,17 +112,20 @@ Exit statuses. Each but 0 has its line on standard error, and before it may stan
 another: the file that failed and why, which word is not served yet, or what is
 wrong with the line of a script.
 
-   0  the script was read to its end; the audit was printed, whatever it says
+   0  the script was read to its end; or an audit or a scrub was printed, whatever
+      it says
    2  the words are not those of a command
    3  a line is not in the script language; the lines before it were run
-   4  a disk failed or is no log of a store, or another run has DIR; the line
-      - down P stands in the output, unless a line of the script had it fail
+   4  a disk failed or is no log of a store, or another run has DIR; in a script's
+      output stands the line - down P, unless one of its lines had the disk fail
    5  the input could not be read
    6  the output could not be written
    7  out of memory
    8  a disk is of another store, or of another G; nothing was written to any
   10  the run has as many answers as --ops allows, and one more was due
   13  the input is too long
+  16  the copy that --from names has no log, or its files failed; nothing was
+      written
  126  of the launcher bin/hydra: the program could not be proved or built
  127  of the launcher: the command rt of the Rattle kit is not on the path
  130  of the launcher: the building was interrupted

@@ -135,8 +135,8 @@ fn dir_of(words: &[String]) -> &str {
     }
 }
 
-/// The disks of the peers under the folder that the words name, which is made where it is absent;
-/// none where they name no shape.
+/// The disks of the peers under the folder that the words name, which a script makes where it is
+/// absent, and nothing else; none where they name no shape.
 pub fn disks_of<R: Files<File = File>>(
     rt: &R,
     alloc: Global,
@@ -151,11 +151,24 @@ pub fn disks_of<R: Files<File = File>>(
     match shape_of(words) {
         Some(shape) => {
             let dir = dir_of(words);
-            let made = fs::create_dir_all(rt, dir).err();
+            let makes = is_script(words);
+            let made = if makes {
+                fs::create_dir_all(rt, dir).err()
+            } else {
+                None
+            };
             let peers = usize::from(shape.shards) * usize::from(shape.copies);
-            open_disks(rt, alloc, dir, made, peers)
+            open_disks(rt, alloc, dir, makes, made, peers)
         }
         None => Ok(Vec::new(alloc)),
+    }
+}
+
+// Whether the words begin with the command that makes files.
+fn is_script(words: &[String]) -> bool {
+    match words {
+        [command, ..] => command.as_bytes() == b"script".as_slice(),
+        [] => false,
     }
 }
 
@@ -165,6 +178,7 @@ fn open_disks<R: Files<File = File>>(
     rt: &R,
     alloc: Global,
     dir: &str,
+    makes: bool,
     made: Option<io::Error>,
     peers: usize,
 ) -> Result<Vec<FileDisk<File>>, AllocError>
@@ -175,7 +189,7 @@ fn open_disks<R: Files<File = File>>(
 {
     let mut disks = Vec::new(alloc);
     for peer in 0..peers {
-        let mut disk = open_disk(rt, alloc, dir, peer);
+        let mut disk = open_disk(rt, alloc, dir, peer, makes);
         if disk.is_taken {
             return taken_disks(alloc, peers);
         }

@@ -153,7 +153,7 @@ fn write_abc<D: Disk>(disk: &mut D) -> Result<(), PortFault> {
 }
 
 fn keep_abc(rt: &HostRuntime) -> Result<(), PortFault> {
-    let mut disk = open_disk(rt, rt.alloc(), "out/kept", 3);
+    let mut disk = open_disk(rt, rt.alloc(), "out/kept", 3, true);
     write_abc(&mut disk)
 }
 
@@ -178,7 +178,7 @@ fn read_on<D: Disk>(disk: &mut D, max: usize, into: &mut Vec<u8>)
 fn whole_side(rt: &HostRuntime, max: usize) -> Vec<u8>
     requires { 0 < max }
 {
-    let mut disk = open_disk(rt, rt.alloc(), "out/pieces", 0);
+    let mut disk = open_disk(rt, rt.alloc(), "out/pieces", 0, true);
     let mut into = Vec::new(rt.alloc());
     read_on(&mut disk, max, &mut into);
     into
@@ -206,7 +206,7 @@ fn read_over<D: Disk>(disk: &mut D, into: &mut Vec<u8>) {
 }
 
 fn all_read(rt: &HostRuntime) -> Vec<u8> {
-    let mut disk = open_disk(rt, rt.alloc(), "out/over", 0);
+    let mut disk = open_disk(rt, rt.alloc(), "out/over", 0, true);
     let mut into = Vec::new(rt.alloc());
     read_over(&mut disk, &mut into);
     into
@@ -221,13 +221,13 @@ fn a_read_sees_what_was_written_and_cut(rt: HostRuntime) -> io::Result<()> {
 
 // Whether another disk has the files, and a call of this one fails.
 fn is_taken(rt: &HostRuntime) -> bool {
-    let mut disk = open_disk(rt, rt.alloc(), "out/taken", 0);
+    let mut disk = open_disk(rt, rt.alloc(), "out/taken", 0, true);
     disk.is_taken && disk.len(Side::Zero) == Err(PortFault::Failed)
 }
 
 // The same beside a disk, and when it is gone.
 fn taken(rt: &HostRuntime) -> (bool, bool) {
-    let first = open_disk(rt, rt.alloc(), "out/taken", 0);
+    let first = open_disk(rt, rt.alloc(), "out/taken", 0, true);
     let beside = is_taken(rt);
     drop(first);
     (beside, is_taken(rt))

@@ -14,7 +14,6 @@ pub enum Later {
     Load,
     Store,
     Fetch,
-    Scrub,
     Copy,
     /// More than one copy.
     Copies,
@@ -43,7 +42,6 @@ fn later_line(later: Option<Later>) -> &'static str
         Some(Later::Load) => "hydra: load is not served yet: see hydra --help\n",
         Some(Later::Store) => "hydra: store is not served yet: see hydra --help\n",
         Some(Later::Fetch) => "hydra: fetch is not served yet: see hydra --help\n",
-        Some(Later::Scrub) => "hydra: scrub is not served yet: see hydra --help\n",
         Some(Later::Copy) => "hydra: copy is not served yet: see hydra --help\n",
         Some(Later::Copies) => "hydra: R above 1 is not served yet: see hydra --help\n",
         Some(Later::Visits) => "hydra: --visits is not served yet: see hydra --help\n",
@@ -89,8 +87,6 @@ fn later_command(command: &[u8]) -> Option<Later>
         Some(Later::Store)
     } else if command == b"fetch".as_slice() {
         Some(Later::Fetch)
-    } else if command == b"scrub".as_slice() {
-        Some(Later::Scrub)
     } else if command == b"copy".as_slice() {
         Some(Later::Copy)
     } else {

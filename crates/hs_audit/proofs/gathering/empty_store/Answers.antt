@@ -1,4 +1,4 @@
-use Rattle.std.proofs.Common.{arith, map, subst, sym, List, ℕ, ◌≡◌, ◌∙◌, length, ap}
+use Rattle.std.proofs.Common.{arith, map, subst, sym, List}
 use Rattle.std.proofs.lemmas.Grind.{common_steps}
 use Rattle.std.specs.List.Sorted.{IsStrictlySortedBy}
 use Rattle.std.specs.Map.{keys_of}

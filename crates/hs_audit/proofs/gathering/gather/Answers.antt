@@ -1,4 +1,4 @@
-use Rattle.std.proofs.Common.{◌≡◌, ◌∙◌, ◌*◌, ℕ, List, Option, ap, arith, length, map, refl, subst, sym}
+use Rattle.std.proofs.Common.{◌∙◌, ◌*◌, ℕ, List, Option, map, refl, sym}
 use Rattle.hs_audit.proofs.GatherLemmas.{gathered_more, gathered_none, still_viewed_shard}
 use Rattle.hs_audit.proofs.ReadLemmas.{first_unviewed, taken_shape}
 use Rattle.hs_audit.proofs.RereadLemmas.{all_reread, all_reread_then, all_still, all_still_then, views_stay}

@@ -1,5 +1,4 @@
-use Rattle.std.proofs.Common.{◌≡◌, ◌≢◌, ◌∙◌, ◌*◌, ◌+◌, ◌<◌, ℕ, List, Option, None, Some, ap, arith, inl, inr, is_some, length, map, refl, subst, sym, take, drop}
-use Rattle.std.proofs.lemmas.Grind.{common_steps}
+use Rattle.std.proofs.Common.{◌≡◌, ◌∙◌, ◌*◌, ◌+◌, ◌<◌, ℕ, List, Option, None, ap, arith, inl, inr, is_some, length, map, refl, subst, sym, take, drop}
 use Rattle.std.specs.Option.{option_map}
 use Rattle.std.specs.Prelude.{IfSome, IsSome, slice_index_or, slice_set, unwrap_or}
 use Rattle.hs_audit.proofs.ReadLemmas.{calm_of, some_is, unviewed_of}
@@ -8,7 +7,6 @@ use Rattle.hs_audit.proofs.ShardLemmas.{copy_within, none_viewed, taken_counts}
 use Rattle.hs_audit.specs.Rereading.{IsLogOf, viewing_at}
 use Rattle.hs_coldstart.specs.Choose.{choose}
 use Rattle.hs_entry.specs.declared.rank.Rank.{Rank}
-use Rattle.hs_fold.specs.Shards.Setting.{Numbered}
 use Rattle.hs_limits.specs.Shape.{peer_of}
 use Rattle.hs_memory.specs.Forget.{apply_all}
 use Rattle.hs_peerlog.specs.Views.{Viewing}

@@ -1,4 +1,4 @@
-use Rattle.std.proofs.Common.{◌≡◌, ◌≢◌, ◌∙◌, ◌*◌, ◌+◌, ◌<◌, ◌≤◌, ℕ, Bool, true, false, List, Option, None, Some, ap, arith, inl, inr, is_some, length, map, refl, subst, sym}
+use Rattle.std.proofs.Common.{◌≡◌, ◌∙◌, ◌*◌, ℕ, true, false, List, Option, None, Some, ap, arith, is_some, map, refl, subst}
 use Rattle.std.specs.Prelude.{IfSome}
 use Rattle.hs_audit.proofs.ReadLemmas.{taken_before}
 use Rattle.hs_audit.proofs.RereadLemmas.{all_reread, all_reread_then, all_still, all_still_then, views_stay}

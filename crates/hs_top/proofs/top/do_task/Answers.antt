@@ -1,6 +1,5 @@
 use Rattle.std.proofs.Common.{sym, subst, ℕ, List, Option, map}
 use Rattle.hs_checks.specs.Audited.{EndsAudit, IsAudited}
-use Rattle.hs_checks.specs.Compared.{EndsScrub, IsCompared}
 use Rattle.hs_limits.specs.Limits.{greatest_limits}
 use Rattle.hs_ports.specs.Objects.{Objects, handed}
 use Rattle.hs_promise.specs.Run.{Ran, ran_of}
@@ -31,14 +30,4 @@ returns-in-Scrub-clause-does g c =
     let source : Option (List ℕ) × ℕ = (g.S.Source.left c.args.source.now, g.S.Source.faults c.args.source.now) in
     let old : Objects = handed c.args.watch.now (map (λ disk. (g.D.Disk.stands disk, g.D.Disk.faults disk)) c.args.disks.now) (g.K.Sink.got c.args.sink.now, g.K.Sink.faults c.args.sink.now) source in
     let new : Objects = handed c.run_scrub.new.watch (map (λ disk. (g.D.Disk.stands disk, g.D.Disk.faults disk)) c.run_scrub.new.disks) (g.K.Sink.got c.run_scrub.new.sink, g.K.Sink.faults c.run_scrub.new.sink) source in
-    subst (λ (t : Task). Does g.D.Disk.tells (g.A.Addresser.name c.args.naming.now) c.args.shape t (ran_of c.run_scrub.result old new)) (sym c.in-Scrub.is) (c.run_scrub.ensures source)
-
--- a scrub never ends as a faulty command line
-pub returns-in-Scrub-clause-begun : goal.returns-in-Scrub-clause-begun
-returns-in-Scrub-clause-begun g c = λ ends.
-    let source : Option (List ℕ) × ℕ = (g.S.Source.left c.args.source.now, g.S.Source.faults c.args.source.now) in
-    let old : Objects = handed c.args.watch.now (map (λ disk. (g.D.Disk.stands disk, g.D.Disk.faults disk)) c.args.disks.now) (g.K.Sink.got c.args.sink.now, g.K.Sink.faults c.args.sink.now) source in
-    let new : Objects = handed c.run_scrub.new.watch (map (λ disk. (g.D.Disk.stands disk, g.D.Disk.faults disk)) c.run_scrub.new.disks) (g.K.Sink.got c.run_scrub.new.sink, g.K.Sink.faults c.run_scrub.new.sink) source in
-    let r : Ran = ran_of c.run_scrub.result old new in
-    let compared : IsCompared g.D.Disk.tells c.args.shape r = c.run_scrub.ensures source in
-    subst (λ (s : Status). EndsScrub g.D.Disk.tells c.args.shape compared.old compared.new r s) ends compared.ends
+    subst (λ (t : Task). Does g.D.Disk.tells (g.A.Addresser.name c.args.naming.now) c.args.shape t (ran_of c.run_scrub.result old new)) (sym c.in-Scrub.is) (c.run_scrub.ensures.compared source)

@@ -1,6 +1,6 @@
 use Rattle.std.proofs.Common.{◌≡◌, take, count_by}
-use Rattle.hs_workers.specs.Asks.{is_rooted}
+use Rattle.hs_workers.specs.Asks.{roots_file}
 use Rattle.hs_workers.proofs.sums.rooted.Given as goal
 
 abbrev pub invariant-loop-deed : goal.invariant-loop-deed
-invariant-loop-deed l = l.count ≡ count_by (λ item. is_rooted item.1) (take l.deed-index l.answers)
+invariant-loop-deed l = l.count ≡ count_by (λ item. roots_file item.1) (take l.deed-index l.answers)

@@ -1,0 +1,9 @@
+use Rattle.hs_asking.proofs.AskLemmas.{ask_judged}
+use Rattle.hs_asking.proofs.SaneLemmas.{answers_sane}
+use Rattle.hs_asking.proofs.laws.an_ask_is_judged.Goals as goal
+
+pub returns-clause-judged : goal.returns-clause-judged
+returns-clause-judged c = ask_judged
+
+pub returns-clause-sane : goal.returns-clause-sane
+returns-clause-sane c = answers_sane
