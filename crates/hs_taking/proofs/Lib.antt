@@ -1,4 +1,5 @@
 pub mod ChoiceLemmas
+pub mod DeltaLemmas
 pub mod DiskLemmas
 pub mod KeepLemmas
 pub mod LoadLemmas

@@ -1,5 +1,8 @@
+pub mod Ascending
+pub mod Copies
 pub mod Disks
 pub mod Loaded
+pub mod Pairs
 pub mod Past
 pub mod Shares
 pub mod Spared

@@ -2,8 +2,12 @@
 #![tactic(auto)]
 
 mod choosing;
+mod comparing;
+mod evening;
 mod fault;
 mod loading;
+mod pair;
+mod readable;
 mod shares;
 mod store;
 mod taking;
