@@ -11,23 +11,27 @@ use std::cmp::Ordering;
 /// Whether these are changes as a round tells them: each address once, ascending by its bytes, with an
 /// amount of at least 1. It takes no memory.
 pub fn are_changes(deltas: &[Delta]) -> bool
-    ensures { IsTrue result → AreChanges deltas.now }
+    ensures only { IsTrue result → AreChanges deltas.now }
+    ensures all { AreChanges deltas.now → IsTrue result }
 {
     have_amounts(deltas) && ascend(deltas)
 }
 
 /// Whether each amount is at least 1.
 fn have_amounts(deltas: &[Delta]) -> bool
-    ensures { IsTrue result → All (λ delta. 1 ≤ delta.amount) deltas.now }
+    ensures only { IsTrue result → All (λ delta. 1 ≤ delta.amount) deltas.now }
+    ensures all { All (λ delta. 1 ≤ delta.amount) deltas.now → IsTrue result }
 {
     deltas.iter().all(|delta| delta.amount >= 1)
 }
 
 /// Whether each address is below the next.
-#[tactic(auto, using(crate::proofs::ChangeLemmas::ascend_by_steps))]
+#[tactic(auto, using(crate::proofs::ChangeLemmas::ascend_by_steps, crate::proofs::ChangeLemmas::each_step_ascends))]
 fn ascend(deltas: &[Delta]) -> bool
-    ensures { IsTrue result → IsStrictlySortedBy (λ a b. slice_cmp nat_cmp a.0 b.0)
+    ensures only { IsTrue result → IsStrictlySortedBy (λ a b. slice_cmp nat_cmp a.0 b.0)
         (map (λ delta. delta.address) deltas.now) }
+    ensures all { IsStrictlySortedBy (λ a b. slice_cmp nat_cmp a.0 b.0)
+        (map (λ delta. delta.address) deltas.now) → IsTrue result }
 {
     for index in 1..deltas.len() {
         match deltas[index - 1].address.cmp(&deltas[index].address) {

@@ -11,7 +11,8 @@ impl Catalogue {
     /// Whether `apply` may be called: a Block comes with an address, and its number is that of no
     /// present block; a Got has its deltas in order. It takes no memory.
     pub fn may_take(&self, number: u64, entry: &Entry, named: Option<Address>) -> bool
-        ensures { IsTrue result → MayTake number entry.now named self.now }
+        ensures only { IsTrue result → MayTake number entry.now named self.now }
+        ensures all { MayTake number entry.now named self.now → IsTrue result }
     {
         match entry {
             Entry::Block { .. } => named.is_some() && self.blocks.pointers(number).is_none(),

@@ -17,5 +17,5 @@ loop-index-preserved c k h =
       | inr d ↦ c.loop-index.invariant k (omega (arith, h, d))
     ]
 
-pub returns : goal.returns
-returns c h = ascend_by_steps c.args.deltas.now no_delta (λ k less. c.loop-index.invariant k (omega (arith, less, c.loop-index-test.false)))
+pub returns-clause-only : goal.returns-clause-only
+returns-clause-only c h = ascend_by_steps c.args.deltas.now no_delta (λ k less. c.loop-index.invariant k (omega (arith, less, c.loop-index-test.false)))
