@@ -1,8 +1,10 @@
 pub mod ChoiceLemmas
 pub mod DeltaLemmas
 pub mod DiskLemmas
+pub mod EvenLemmas
 pub mod KeepLemmas
 pub mod LoadLemmas
+pub mod PairLemmas
 pub mod PastLemmas
 pub mod ShareLemmas
 pub mod StepLemmas

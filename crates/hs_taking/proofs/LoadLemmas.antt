@@ -67,6 +67,9 @@ none_beyond n (x ∷ es) (suc i) g is =
     let low = none_beyond (n + 1) es i g.2 (ap (λ j. numbered_entry es j) (sym k) ∙ sym (ap (λ b. cond b (Some x.1) (numbered_entry es (n + suc i + 1))) no) ∙ is) in
     omega (arith, low)
 
+pub none_past : (es : Numbered) (i : ℕ) → IsNumbered es → numbered_entry es (i + 1) ≡ None → length es ≤ i
+none_past es i g is = let k : i + 1 ≡ 0 + i + 1 = omega arith in none_beyond 0 es i g (ap (λ j. numbered_entry es j) (sym k) ∙ is)
+
 -- ---- the number of the last entry is their count
 
 plain_number : (r : Rank) (n : ℕ) (e : Entry) → is_of_base e ≡ false → (rank_after r n e).number ≡ n
@@ -124,7 +127,7 @@ one_loaded tells name start is_whole i old new rank next e before took after fou
 pub view_count : (v : Viewing) (seen : Side → List ℕ) (whole : Numbered) → HasView v seen whole → v.rank.number ≡ length whole
 view_count v seen whole has = ap (λ (r : Rank). r.number) has.rank ∙ count_is whole has.numbered
 
-take_all_of : {A : Type 0} (xs : List A) (n : ℕ) → length xs ≤ n → take n xs ≡ xs
+pub take_all_of : {A : Type 0} (xs : List A) (n : ℕ) → length xs ≤ n → take n xs ≡ xs
 take_all_of [] zero h = refl
 take_all_of [] (suc n) h = refl
 take_all_of (x ∷ xs) zero h = absurd (omega (arith, h))

@@ -1,5 +1,5 @@
 //! Making the log of a peer equal to the taken one.
-ghost use Rattle.std.specs.Prelude.{◌≡◌, ◌×◌, ◌+◌, ◌<◌, ◌≤◌, [], ℕ, None, Some, IfErr, IfOk, OnOk, length, map};
+ghost use Rattle.std.specs.Prelude.{◌≡◌, ◌+◌, ◌<◌, ◌≤◌, [], ℕ, None, Some, IfErr, IfOk, OnOk, length, map};
 ghost use Rattle.std.proofs.Common.{◌≢◌};
 ghost use Rattle.hs_entry.specs.declared.entry.Entry.{Entry};
 ghost use Rattle.hs_entry.specs.Reading.{IsReadable};
