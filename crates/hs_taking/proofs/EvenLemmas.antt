@@ -1,18 +1,30 @@
 -- Calls on a disk, one after another, and an empty log that gets the entries of another.
 use Rattle.std.proofs.Common.{◌≡◌, ◌∙◌, ap, sym, subst, inl, inr, ℕ, zero, suc, ◌+◌, ◌<◌, ◌≤◌, List, [], ◌∷◌, ◌++◌, take, length, Option, Some, None, refl, arith}
 use Rattle.std.proofs.lemmas.Bool.{cases_lt}
+use Rattle.std.specs.Prelude.{Err, Ok, Result}
 use Rattle.hs_entry.specs.declared.entry.Entry.{Entry}
 use Rattle.hs_entry.specs.declared.entry.Entry.TheVariants as kind
 use Rattle.hs_entry.specs.declared.rank.Rank.{Rank}
 use Rattle.hs_entry.specs.Entries.{rank_after, rank_of}
 use Rattle.hs_entry.specs.Reading.{IsReadable}
 use Rattle.hs_fold.specs.Shards.Setting.{Numbered}
-use Rattle.hs_peerlog.proofs.ImageLemmas.{Since}
+use Rattle.hs_peerlog.proofs.ImageLemmas.{Since, image-is, list-same}
 use Rattle.hs_peerlog.proofs.StayLemmas.{stays}
-use Rattle.hs_peerlog.specs.Images.{GivesList, Is, IsAny, IsOne, LeavesEach, LeavesOnly}
+use Rattle.hs_peerlog.specs.Images.{GivesList, Is, IsAlone, IsAny, IsOne, LeavesEach, LeavesOnly}
 use Rattle.hs_peerlog.specs.Lists.{HasLog, IsKept, IsNumbered, IsReady, Keeping, numbered_entry, with_waiting}
+use Rattle.hs_ports.specs.declared.disk.Side.{Side}
 use Rattle.hs_ports.specs.Disk.{IsImage, Standing}
+use Rattle.hs_ports.specs.Fault.{HasRisen, IsCausedBy}
+use Rattle.hs_peerlog.specs.Caused.{IsOutside}
+use Rattle.hs_peerlog.specs.declared.fault.LogFault.{LogFault}
+use Rattle.hs_peerlog.specs.declared.fault.LogFault.TheVariants.{NotALog, WrongShape, Disk, NoMemory}
 use Rattle.hs_side.specs.Current.{list_in}
+use Rattle.hs_taking.proofs.PairLemmas.{still_none}
+use Rattle.hs_taking.proofs.PastLemmas.{past_then}
+use Rattle.hs_taking.specs.declared.pair.PairFault.{PairFault}
+use Rattle.hs_taking.specs.declared.pair.PairFault.TheVariants as pair
+use Rattle.hs_taking.specs.Pairs.{HasEmptied, HasFilled, HasMadeEqual, IsPairFault, other_fault, taken_fault}
+use Rattle.hs_taking.specs.Past.{PastStays}
 use Rattle.hs_taking.proofs.LoadLemmas.{count_is, next_is, none_past}
 use Rattle.hs_taking.specs.Copies.{IsOwnOrFront, fronts}
 use Rattle.hs_taking.specs.Disks.{DiskSeen}
@@ -93,3 +105,57 @@ none_filled now disk list last since leaves = stays disk now [] (IsAny (fronts l
 -- what is kept of the entries in the log of a copy
 pub has_last : (copy : Keeping) (disk : Standing) (list : Numbered) (i : ℕ) → HasLog copy disk list None → copy.rank.number ≡ i → (rank_of list).number ≡ i
 has_last copy disk list i has is = ap (λ (r : Rank). r.number) (sym has.kept.rank) ∙ is
+
+-- a disk that stands as it was viewed leaves the list that it reads as
+pub viewed_only : (side : Side) (disk : Standing) (list : Numbered) → IsAlone side disk → list_in disk.seen ≡ Some list → LeavesOnly disk list
+viewed_only side disk list alone e image left = list-same disk.seen image (image-is disk image alone.settled left.sides) ∙ e
+
+-- ---- what makes a log equal to the taken one
+
+abbrev failed : {T : Type 0} → LogFault → Result T LogFault
+failed fault = Err fault
+
+-- the other disk failed, and the first was not called
+pub other_fails : {T : Type 0} (tells : Type 0) (a b b' : DiskSeen) (fault : LogFault) → (tells → IsOutside fault) → IsCausedBy Disk b.faults b'.faults (failed {T = T} fault) → IsPairFault tells a a b b' (other_fault fault)
+other_fails tells a b b' (NotALog at) out cause = (refl, λ told. absurd (out told))
+other_fails tells a b b' (WrongShape found) out cause = (refl, λ told. absurd (out told))
+other_fails tells a b b' Disk out cause = (refl, λ told. cause.failed refl)
+other_fails tells a b b' NoMemory out cause = tt
+
+pub taken_fails : {T : Type 0} (tells : Type 0) (a a' b b' : DiskSeen) (fault : LogFault) → (tells → IsOutside fault) → IsCausedBy Disk a.faults a'.faults (failed {T = T} fault) → IsPairFault tells a a' b b' (taken_fault fault)
+taken_fails tells a a' b b' (NotALog at) out cause = λ told. absurd (out told)
+taken_fails tells a a' b b' (WrongShape found) out cause = λ told. absurd (out told)
+taken_fails tells a a' b b' Disk out cause = λ told. cause.failed refl
+taken_fails tells a a' b b' NoMemory out cause = tt
+
+-- a fault behind calls that had none
+pub fault_then : (tells : Type 0) (a a' b m b' : DiskSeen) (fault : PairFault) → m.faults ≡ b.faults → IsPairFault tells a a' m b' fault → IsPairFault tells a a' b b' fault
+fault_then tells a a' b m b' pair.Taken calm is = is
+fault_then tells a a' b m b' pair.Other calm is = (is.0, λ told. subst (λ n. HasRisen n b'.faults) calm (is.1 told))
+fault_then tells a a' b m b' pair.NoMemory calm is = tt
+
+-- it was emptied, and that failed
+pub made_none : (tells : Type 0) (before now : ℕ) (a b b' : DiskSeen) (taken : Keeping) (fault : LogFault) (told : PairFault) → told ≡ other_fault fault → HasEmptied tells before now b b' (Err fault) → (tells → IsOutside fault)
+    → IsCausedBy Disk b.faults b'.faults (failed {T = Keeping} fault) → before ≤ now → HasMadeEqual tells before now a a b b' taken (Err told)
+made_none tells before now a b b' taken fault said is emptied out cause ticks = record {
+  source = still_none tells a;
+  has = tt;
+  ready = tt;
+  moments = λ told last list kept own e. each_weak (λ l one. own_or_empty own list l one) (emptied.moments told last own e);
+  past = emptied.past;
+  counted = cause.later;
+  calm = tt;
+  cause = subst (λ f. IsPairFault tells a a b b' f) (sym is) (other_fails {T = Keeping} tells a b b' fault out cause);
+  ticks = ticks;
+}
+
+-- it was emptied and then filled, as far as that came
+module _ (tells : Type 0) (before mid now : ℕ) (a a' b m b' : DiskSeen) (taken copy : Keeping) (emptied : HasEmptied tells before mid b m (Ok copy)) (filled : HasFilled tells mid now a a' m b' taken copy) where
+  pub made_moments : tells → b.stands.last ≤ before → (list : Numbered) → IsKept taken (a.stands.seen taken.log.side) list None → (own : Numbered) → list_in b.stands.seen ≡ Some own
+      → LeavesEach before now b.stands b'.stands (IsOwnOrFront own list)
+  made_moments told last list kept own e =
+      let first = emptied.moments told last own e in
+      each_then (each_weak (λ l one. own_or_empty own list l one) first) (each_weak (λ l one. inr one) (filled.moments told first.last list kept (emptied.has told last)))
+
+  pub made_past : tells → b.stands.last ≤ before → PastStays before now b.stands b'.stands
+  made_past told last = let first = emptied.past told last in past_then before mid now b.stands m.stands b'.stands first (filled.past told first.last)

@@ -147,10 +147,10 @@ module _ {A : Type 0} (f : A → DiskSeen) (disks front back : List A) (i j : �
   in_back [] = refl
   in_back (z ∷ zs) = in_back zs
 
-  old_i : seen_at (map f disks) i ≡ f (slice_index_or front i d)
+  pub old_i : seen_at (map f disks) i ≡ f (slice_index_or front i d)
   old_i = seen_is f disks i d low_disks ∙ ap (λ (xs : List A). f (slice_index_or xs i d)) split ∙ ap f (in_front front i low_front)
 
-  old_j : seen_at (map f disks) j ≡ f (slice_index_or back 0 e)
+  pub old_j : seen_at (map f disks) j ≡ f (slice_index_or back 0 e)
   old_j = seen_is f disks j e within ∙ ap (λ (xs : List A). f (slice_index_or xs j e)) split ∙ ap (λ k. f (slice_index_or (front ++ back) k e)) (sym long) ∙ ap f (in_back front)
 
   set_long : length (slice_set disks i x) ≡ length disks

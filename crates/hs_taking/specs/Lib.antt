@@ -5,6 +5,7 @@ pub mod Loaded
 pub mod Pairs
 pub mod Past
 pub mod Shares
+pub mod Slots
 pub mod Spared
 pub mod Store
 pub mod Viewed

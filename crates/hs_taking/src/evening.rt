@@ -135,9 +135,13 @@ fn empty_log<D: Disk>(
         return Ok(log);
     }
     match log.reset(disk, watch) {
-        Ok(()) => Ok(log),
-        Err(fault) => Err(fault),
+        Ok(()) => {}
+        Err(fault) => return Err(fault),
     }
+    if log.last() != 0 {
+        return Err(LogFault::NoMemory);
+    }
+    Ok(log)
 }
 
 /// Gives an empty log the entries of the taken one, one after another.

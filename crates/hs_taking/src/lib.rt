@@ -3,12 +3,14 @@
 
 mod choosing;
 mod comparing;
+mod copies;
 mod evening;
 mod fault;
 mod loading;
 mod pair;
 mod readable;
 mod shares;
+mod slot;
 mod store;
 mod taking;
 mod viewing;
