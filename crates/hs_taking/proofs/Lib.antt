@@ -7,6 +7,7 @@ pub mod LoadLemmas
 pub mod PairLemmas
 pub mod PastLemmas
 pub mod ShareLemmas
+pub mod SortLemmas
 pub mod StepLemmas
 pub mod StoreLemmas
 pub mod TakeLemmas

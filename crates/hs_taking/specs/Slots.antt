@@ -53,7 +53,8 @@ pub record HasTried (tells : Type 0) (a a' : DiskSeen) (before after : Bool) : T
 pub record AreSorted (tells : Type 0) (shape : Shape) (shard from to : ℕ) (old new : List DiskSeen) (slots slots' : List Slot) (lost : Bool) : Type 0 where
   pub each : (peer : ℕ) → IsOf shape shard peer → peer < to → IsSorted tells (seen_at old from) (seen_at old peer) (seen_at new peer) lost (slot_at slots peer) (slot_at slots' peer)
   pub rest : (peer : ℕ) → to ≤ peer → slot_at slots' peer ≡ slot_at slots peer
-  pub before : (peer : ℕ) → (IsOf shape shard peer → ⊥) → (slot_at slots' peer ≡ slot_at slots peer) × (seen_at new peer ≡ seen_at old peer)
+  pub untouched : (peer : ℕ) → to ≤ peer → (peer ≡ from → ⊥) → seen_at new peer ≡ seen_at old peer
+  pub outside : (peer : ℕ) → (IsOf shape shard peer → ⊥) → (slot_at slots' peer ≡ slot_at slots peer) × (seen_at new peer ≡ seen_at old peer)
   pub still : (peer : ℕ) → IsStill tells (seen_at old peer) (seen_at new peer)
   pub calm : lost ≡ false → (seen_at new from).faults ≡ (seen_at old from).faults
   pub failed : lost ≡ true → tells → HasRisen (seen_at old from).faults (seen_at new from).faults

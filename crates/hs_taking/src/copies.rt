@@ -4,7 +4,7 @@ ghost use Rattle.std.proofs.Common.{◌≢◌};
 ghost use Rattle.hs_limits.specs.Shape.{IsShape, peer_of};
 ghost use Rattle.hs_peerlog.specs.Views.{IsAsViewed, Viewing};
 ghost use Rattle.hs_taking.specs.declared.fault.TakeFault.TheVariants.{NoMemory};
-ghost use Rattle.hs_taking.specs.declared.slot.Slot.TheVariants as slot;
+ghost use Rattle.hs_taking.specs.declared.slot.Slot.TheVariants as kind;
 ghost use Rattle.hs_taking.specs.Copies.{IsOf};
 ghost use Rattle.hs_taking.specs.Disks.{seen_as, seen_at};
 ghost use Rattle.hs_taking.specs.Pairs.{IsStill};
@@ -33,13 +33,13 @@ pub(crate) fn compare_copies<D: Disk>(
     requires shard { shard < shape.shards }
     requires count { length disks.old ≡ shape.shards * shape.copies }
     requires slots { length slots.old.items ≡ shape.shards * shape.copies }
-    requires from { from < shape.shards * shape.copies }
+    requires from { IsOf shape shard from }
     requires taken { IsAsViewed D.tells view.now
         ((seen_at (map (λ disk. seen_as (D.size disk) (D.stands disk) (D.faults disk)) disks.old)
         from).size view.now.log.side)
         (seen_at (map (λ disk. seen_as (D.size disk) (D.stands disk) (D.faults disk)) disks.old)
         from).stands }
-    requires aside { slot_at slots.old.items from ≡ slot.Aside }
+    requires aside { slot_at slots.old.items from ≡ kind.Aside }
     requires viewed { (peer : ℕ) → peer < shape.shards * shape.copies → IsSlot D.tells shape peer
         (seen_at (map (λ disk. seen_as (D.size disk) (D.stands disk) (D.faults disk)) disks.old)
         peer) (slot_at slots.old.items peer) }
@@ -90,13 +90,13 @@ fn compare_copy<D: Disk>(
 ) -> Result<(), TakeFault>
     requires from { from < length disks.old }
     requires place { place < length disks.old }
-    requires apart { place ≡ from → slot.old ≡ slot.Aside }
+    requires apart { place ≡ from → slot.old ≡ kind.Aside }
     requires taken { IsAsViewed D.tells view.now
         ((seen_at (map (λ disk. seen_as (D.size disk) (D.stands disk) (D.faults disk)) disks.old)
         from).size view.now.log.side)
         (seen_at (map (λ disk. seen_as (D.size disk) (D.stands disk) (D.faults disk)) disks.old)
         from).stands }
-    requires viewed { (other : Viewing) → slot.old ≡ slot.Viewed other → IsAsViewed D.tells other
+    requires viewed { (other : Viewing) → slot.old ≡ kind.Viewed other → IsAsViewed D.tells other
         ((seen_at (map (λ disk. seen_as (D.size disk) (D.stands disk) (D.faults disk)) disks.old)
         place).size other.log.side)
         (seen_at (map (λ disk. seen_as (D.size disk) (D.stands disk) (D.faults disk)) disks.old)
