@@ -3,6 +3,7 @@ pub mod DeltaLemmas
 pub mod DiskLemmas
 pub mod EvenLemmas
 pub mod KeepLemmas
+pub mod LevelLemmas
 pub mod LoadLemmas
 pub mod PairLemmas
 pub mod PastLemmas

@@ -28,7 +28,7 @@ use Rattle.hs_taking.specs.Shares.{HasItsLog, HasShare, HasTaken, IsLater, IsLos
 -- ---- one disk, from an earlier moment on
 
 -- no call changed it
-quiet : (before mid : ℕ) (disk : Standing) → before ≤ mid → disk.last ≤ before → Since disk → LeavesAll before mid disk disk
+pub quiet : (before mid : ℕ) (disk : Standing) → before ≤ mid → disk.last ≤ before → Since disk → LeavesAll before mid disk disk
 quiet before mid disk up last since = record {
   later = up;
   last = omega (arith, last, up);
@@ -37,14 +37,14 @@ quiet before mid disk up last since = record {
   standing = λ side c image. image;
 }
 
-keeps_before : (tells : Type 0) (before mid now : ℕ) (old new : DiskSeen) → before ≤ mid → (tells → Since old.stands) → KeepsDisk tells mid now old new → KeepsDisk tells before now old new
+pub keeps_before : (tells : Type 0) (before mid now : ℕ) (old new : DiskSeen) → before ≤ mid → (tells → Since old.stands) → KeepsDisk tells mid now old new → KeepsDisk tells before now old new
 keeps_before tells before mid now old new up since keeps = record {
   moments = λ told last list leaves. then-each list (Is list) (keeps.moments told (omega (arith, last, up)) list leaves) (quiet before mid old.stands up last (since told)) leaves refl;
   past = λ told last. past_then before mid now old.stands old.stands new.stands (past_still before mid old.stands up last) (keeps.past told (omega (arith, last, up)));
   counted = keeps.counted;
 }
 
-keeps_wait : (tells : Type 0) (before mid now : ℕ) (old new : DiskSeen) → mid ≤ now → KeepsDisk tells before mid old new → KeepsDisk tells before now old new
+pub keeps_wait : (tells : Type 0) (before mid now : ℕ) (old new : DiskSeen) → mid ≤ now → KeepsDisk tells before mid old new → KeepsDisk tells before now old new
 keeps_wait tells before mid now old new up keeps = record {
   moments = λ told last list leaves. let e = keeps.moments told last list leaves in record {
     later = omega (arith, e.later, up);

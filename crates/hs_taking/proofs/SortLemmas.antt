@@ -9,13 +9,14 @@ use Rattle.hs_ports.specs.declared.disk.Side.{Side}
 use Rattle.hs_ports.specs.Disk.{Standing}
 use Rattle.hs_ports.specs.Fault.{HasRisen}
 use Rattle.hs_side.specs.Current.{list_in}
-use Rattle.hs_taking.proofs.PairLemmas.{still_none, still_then}
+use Rattle.hs_peerlog.specs.Views.{IsAsViewed, Viewing}
+use Rattle.hs_taking.proofs.PairLemmas.{still_none, still_then, viewed_still}
 use Rattle.hs_taking.specs.Copies.{IsOf}
 use Rattle.hs_taking.specs.declared.slot.Slot.{Slot}
 use Rattle.hs_taking.specs.declared.slot.Slot.TheVariants.{Aside, Viewed, Equal, Kept}
 use Rattle.hs_taking.specs.Disks.{DiskSeen, seen_at}
 use Rattle.hs_taking.specs.Pairs.{IsStill}
-use Rattle.hs_taking.specs.Slots.{AreSorted, HasTried, IsSorted, slot_at}
+use Rattle.hs_taking.specs.Slots.{AreSorted, HasTried, IsSlot, IsSorted, slot_at}
 
 -- of a disk that is not written what was read stays so
 pub sorted_from : (tells : Type 0) (a0 a b b' : DiskSeen) (lost : Bool) (old new : Slot) → IsStill tells a0 a → IsSorted tells a b b' lost old new → IsSorted tells a0 b b' lost old new
@@ -121,3 +122,10 @@ sort_more tells shape shard from place old now new slots so_far slot lost later 
           | inl same ↦ sorted_aside tells (seen_at old from) (seen_at old peer) (seen_at now peer) (seen_at old peer) (seen_at new peer) (seen_at old from) later later (slot_at slots peer) (slot_at so_far peer) (ap (λ p. slot_at slots p) same ∙ aside) s
           | inr other ↦ subst (λ (x : DiskSeen). IsSorted tells (seen_at old from) (seen_at old peer) x later (slot_at slots peer) (slot_at so_far peer)) (sym (rest peer other differs)) s
         ])
+
+-- a view that is compared is of its disk as it is then
+pub sort_viewed : (tells : Type 0) (shape : Shape) (shard from place : ℕ) (old now : List DiskSeen) (slots so_far : List Slot) (lost : Bool) (slot : Slot) → AreSorted tells shape shard from place old now slots so_far lost → slot ≡ slot_at so_far place
+    → IsSlot tells shape place (seen_at old place) (slot_at slots place) → (view : Viewing) → slot ≡ Viewed view → IsAsViewed tells view ((seen_at now place).size view.log.side) (seen_at now place).stands
+sort_viewed tells shape shard from place old now slots so_far lost slot inv at is view viewed =
+    let of : IsSlot tells shape place (seen_at old place) (Viewed view) = subst (λ (s : Slot). IsSlot tells shape place (seen_at old place) s) (sym (inv.rest place (omega arith)) ∙ sym at ∙ viewed) is in
+    viewed_still tells view (seen_at old place) (seen_at now place) (inv.still place) of.viewed

@@ -106,12 +106,13 @@ IsMoved tells before now b b' source is_taken (Viewed view) = HasMoved tells bef
 IsMoved tells before now b b' source is_taken (Equal view) = KeepsDisk tells before now b b'
 IsMoved tells before now b b' source is_taken (Kept log) = b' ≡ b
 
--- and what is kept of it then
-abbrev pub IsMade : Type 0 → ℕ → DiskSeen → DiskSeen → Source → (Numbered → Type 0) → Slot → Slot → Type 0
-IsMade tells before b b' source is_taken Aside new = new ≡ Aside
-IsMade tells before b b' source is_taken (Viewed view) new = IsKeptOr (IsGood tells before b b' is_taken) ((is_lost source ≡ true) ⊎ (tells → HasRisen b.faults b'.faults)) new
-IsMade tells before b b' source is_taken (Equal view) new = IsKeptOr (IsGoodView tells before b b') (tells → HasRisen b.faults b'.faults) new
-IsMade tells before b b' source is_taken (Kept log) new = new ≡ Kept log
+-- and what is kept of it then; the taken log before and behind it. Where it was lost before, nothing is kept of a list that was not found equal
+abbrev pub IsMade : Type 0 → ℕ → DiskSeen → DiskSeen → Source → Source → (Numbered → Type 0) → Slot → Slot → Type 0
+IsMade tells before b b' first last is_taken Aside new = new ≡ Aside
+IsMade tells before b b' first last is_taken (Viewed view) new =
+    IsKeptOr (IsGood tells before b b' is_taken) ((is_lost last ≡ true) ⊎ (tells → HasRisen b.faults b'.faults)) new × (is_lost first ≡ true → new ≡ Aside)
+IsMade tells before b b' first last is_taken (Equal view) new = IsKeptOr (IsGoodView tells before b b') (tells → HasRisen b.faults b'.faults) new
+IsMade tells before b b' first last is_taken (Kept log) new = new ≡ Kept log
 
 -- the taken log stays, and no call on its disk failed; or it is lost now
 abbrev pub IsSourceStep : Type 0 → ℕ → DiskSeen → DiskSeen → Source → Source → Type 0
@@ -124,3 +125,20 @@ IsSourceStep tells now a a' (source.Lost moment) (source.Lost same) = same ≡ m
 abbrev pub IsSource : Type 0 → DiskSeen → Source → Type 0
 IsSource tells a (source.Kept log) = IsReady tells log (a.size log.log.side) a.stands × (log.waits ≡ None)
 IsSource tells a (source.Lost moment) = ⊤
+
+-- the taken log stays, and no call on its disk failed; or it was lost at a moment in between
+abbrev pub IsSourceRun : Type 0 → ℕ → ℕ → DiskSeen → DiskSeen → Source → Source → Type 0
+IsSourceRun tells before now a a' (source.Kept log) (source.Kept same) = (same ≡ log) × (a'.faults ≡ a.faults)
+IsSourceRun tells before now a a' (source.Kept log) (source.Lost moment) = (before ≤ moment) × (moment ≤ now) × (tells → HasRisen a.faults a'.faults)
+IsSourceRun tells before now a a' (source.Lost moment) (source.Kept log) = ⊥
+IsSourceRun tells before now a a' (source.Lost moment) (source.Lost same) = same ≡ moment
+
+-- what became of the copies of a shard, up to a peer
+pub record AreMade (tells : Type 0) (shape : Shape) (shard from to : ℕ) (before now : ℕ) (old new : List DiskSeen) (slots slots' : List Slot) (first last : Source) : Type 0 where
+  pub each : (peer : ℕ) → IsOf shape shard peer → peer < to → IsMade tells before (seen_at old peer) (seen_at new peer) first last (IsSourceOf first (seen_at old from)) (slot_at slots peer) (slot_at slots' peer)
+  pub moved : (peer : ℕ) → IsOf shape shard peer → peer < to → (peer ≡ from → ⊥) → IsMoved tells before now (seen_at old peer) (seen_at new peer) first (IsSourceOf first (seen_at old from)) (slot_at slots peer)
+  pub rest : (peer : ℕ) → to ≤ peer → slot_at slots' peer ≡ slot_at slots peer
+  pub untouched : (peer : ℕ) → to ≤ peer → (peer ≡ from → ⊥) → seen_at new peer ≡ seen_at old peer
+  pub outside : (peer : ℕ) → (IsOf shape shard peer → ⊥) → (slot_at slots' peer ≡ slot_at slots peer) × (seen_at new peer ≡ seen_at old peer)
+  pub still : IsStill tells (seen_at old from) (seen_at new from)
+  pub source : IsSourceRun tells before now (seen_at old from) (seen_at new from) first last

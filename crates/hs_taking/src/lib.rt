@@ -6,6 +6,7 @@ mod comparing;
 mod copies;
 mod evening;
 mod fault;
+mod leveling;
 mod loading;
 mod pair;
 mod readable;

@@ -1,5 +1,6 @@
 //! Faults of two disks.
 ghost use Rattle.std.specs.Prelude.{◌≡◌};
+ghost use Rattle.hs_taking.specs.Loaded.{is_memory};
 ghost use Rattle.hs_taking.specs.Pairs.{other_fault, taken_fault};
 
 use hs_peerlog::LogFault;
@@ -33,5 +34,15 @@ pub(crate) fn other_fault(fault: LogFault) -> PairFault
     match fault {
         LogFault::NoMemory => PairFault::NoMemory,
         LogFault::Disk | LogFault::NotALog { .. } | LogFault::WrongShape { .. } => PairFault::Other,
+    }
+}
+
+/// Whether memory ran out.
+pub(crate) fn is_memory(fault: LogFault) -> bool
+    ensures { result ≡ is_memory fault }
+{
+    match fault {
+        LogFault::NoMemory => true,
+        LogFault::Disk | LogFault::NotALog { .. } | LogFault::WrongShape { .. } => false,
     }
 }

@@ -12,6 +12,7 @@ ghost use Rattle.hs_taking.specs.Viewed.{IsViewOf};
 
 use crate::TakeFault;
 use crate::choosing::{ranks_of, taken_peer};
+use crate::pair::is_memory;
 use crate::taking::{Recovered, take_log};
 use hs_block::Addresser;
 use hs_entry::Rank;
@@ -203,16 +204,6 @@ fn take_peer<A: Addresser, D: Disk>(
                 lost: Some(watch.now()),
             })
         }
-    }
-}
-
-/// Whether memory ran out.
-fn is_memory(fault: LogFault) -> bool
-    ensures { result ≡ is_memory fault }
-{
-    match fault {
-        LogFault::NoMemory => true,
-        LogFault::Disk | LogFault::NotALog { .. } | LogFault::WrongShape { .. } => false,
     }
 }
 
