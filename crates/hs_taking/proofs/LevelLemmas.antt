@@ -1,22 +1,24 @@
 -- The logs of a shard's copies are recovered, or made equal to the taken one, one after another.
 use Rattle.std.proofs.Common.{◌≡◌, ◌≢◌, ◌∙◌, ap, sym, subst, inl, inr, ℕ, ◌+◌, ◌<◌, ◌≤◌, Bool, true, false, List, length, None, Some, refl, arith}
-use Rattle.std.proofs.lemmas.Bool.{cases_eq}
+use Rattle.std.proofs.lemmas.Bool.{cases_eq, cases_lt}
 use Rattle.std.proofs.lemmas.List.{get_or-set_same, get_or-set_other}
-use Rattle.std.specs.Prelude.{slice_index_or, slice_set}
+use Rattle.std.specs.Prelude.{IsSome, Result, slice_index_or, slice_set}
 use Rattle.hs_fold.specs.Shards.Setting.{Numbered}
 use Rattle.hs_limits.specs.declared.shape.Shape.{Shape}
 use Rattle.hs_limits.specs.Shape.{peer_of}
 use Rattle.hs_peerlog.proofs.ImageLemmas.{Since}
 use Rattle.hs_peerlog.proofs.StayLemmas.{all-each}
 use Rattle.hs_peerlog.specs.Images.{LeavesEach, LeavesOnly}
-use Rattle.hs_peerlog.specs.Lists.{IsKept, Keeping}
-use Rattle.hs_peerlog.specs.Views.{Viewing}
+use Rattle.hs_peerlog.specs.Opening.{refusal_in}
+use Rattle.hs_peerlog.specs.Lists.{IsKept, IsReady, Keeping, KeepsSome}
+use Rattle.hs_peerlog.specs.Views.{HasView, Viewing}
 use Rattle.hs_ports.specs.Disk.{Standing}
 use Rattle.hs_ports.specs.Fault.{HasRisen}
 use Rattle.hs_side.specs.Current.{list_in}
+use Rattle.hs_side.specs.Standing.{HasBytes, HasRoom}
 use Rattle.hs_taking.proofs.EvenLemmas.{each_then}
 use Rattle.hs_taking.proofs.KeepLemmas.{keeps_none}
-use Rattle.hs_taking.proofs.PairLemmas.{still_none, still_then}
+use Rattle.hs_taking.proofs.PairLemmas.{still_none, still_then, viewed_still}
 use Rattle.hs_taking.proofs.PastLemmas.{past_still, past_then, past_wait}
 use Rattle.hs_taking.proofs.ShareLemmas.{keeps_before, keeps_wait, quiet}
 use Rattle.hs_taking.specs.Copies.{IsOf, IsOwnOrFront}
@@ -25,9 +27,10 @@ use Rattle.hs_taking.specs.declared.slot.Slot.TheVariants.{Aside, Viewed, Equal,
 use Rattle.hs_taking.specs.declared.slot.Source.{Source}
 use Rattle.hs_taking.specs.declared.slot.Source.TheVariants as source
 use Rattle.hs_taking.specs.Disks.{DiskSeen, seen_at}
-use Rattle.hs_taking.specs.Pairs.{IsStill}
+use Rattle.hs_taking.specs.declared.pair.PairFault.{PairFault}
+use Rattle.hs_taking.specs.Pairs.{HasMadeEqual, IsStill}
 use Rattle.hs_taking.specs.Shares.{KeepsDisk}
-use Rattle.hs_taking.specs.Slots.{AreMade, HasMoved, IsGood, IsKeptOr, IsMade, IsMoved, IsSlot, IsSource, IsSourceOf, IsSourceRun, IsSourceStep, is_lost, slot_at}
+use Rattle.hs_taking.specs.Slots.{AreMade, HasMoved, IsGood, IsMade, IsMoved, IsSlot, IsSource, IsSourceOf, IsSourceRun, IsSourceStep, is_lost, slot_at}
 use Rattle.hs_taking.specs.Viewed.{IsViewOf}
 
 -- ---- calls that come later
@@ -232,6 +235,15 @@ module _ (tells : Type 0) (shape : Shape) (shard from place before mid now : ℕ
       is_unmoved tells shape peer before now (seen_at old peer) (seen_at new peer) first Q (slot_at slots peer) (omega (arith, up, on)) (since peer) is
       (rest peer differs (λ same. omega (arith, same, high)) ∙ inv.untouched peer (omega (arith, high)) differs)
 
+  pub moved_each : (peer : ℕ) → IsOf shape shard peer → peer ≢ from → IsSlot tells shape peer (seen_at old peer) (slot_at slots peer) → IsMoved tells before now (seen_at old peer) (seen_at new peer) first Q (slot_at slots peer)
+  moved_each peer of differs is = elim (cases_eq peer place) [
+    | inl same ↦ subst (λ p. IsMoved tells before now (seen_at old p) (seen_at new p) first Q (slot_at slots p)) (sym same) (moved_here (λ e. differs (same ∙ e)))
+    | inr other ↦ elim (cases_lt peer place) [
+      | inl low ↦ moved_there peer of low differs
+      | inr high ↦ moved_after peer (omega (arith, high, other)) differs is
+    ]
+  ]
+
   pub still_here : IsStill tells (seen_at old from) (seen_at new from)
   still_here = still_then tells (seen_at old from) (seen_at cur from) (seen_at new from) inv.still still
 
@@ -282,3 +294,54 @@ module _ (tells : Type 0) (shape : Shape) (shard from place before mid now : ℕ
             | inl same ↦ made_aside tells before before (seen_at old peer) (seen_at cur peer) (seen_at old peer) (seen_at new peer) first later later Q Q (slot_at slots peer) (slot_at so_far peer) (ap (λ p. slot_at slots p) same ∙ aside) s
             | inr other ↦ subst (λ (x : DiskSeen). IsMade tells before (seen_at old peer) x first later Q (slot_at slots peer) (slot_at so_far peer)) (sym (rest peer other differs)) s
           ])
+
+-- ---- as the loop goes on
+
+pub ready_still : (tells : Type 0) (keeping : Keeping) (a b : DiskSeen) → IsStill tells a b → IsReady tells keeping (a.size keeping.log.side) a.stands → IsReady tells keeping (b.size keeping.log.side) b.stands
+ready_still tells keeping a b still ready = record {
+  stands = record {
+    room = subst (λ n. HasRoom keeping.log n) (sym (still.size keeping.log.side)) ready.stands.room;
+    told = λ told. subst (λ (d : Standing). HasBytes 0xa5 keeping.log (d.seen keeping.log.side) (d.loose keeping.log.side)) (sym (still.same told)) (ready.stands.told told);
+  };
+  begun = ready.begun;
+  waits = ready.waits;
+  counted = ready.counted;
+  next = ready.next;
+  told = λ told. subst (λ (d : Standing). KeepsSome keeping (d.seen keeping.log.side)) (sym (still.same told)) (ready.told told);
+}
+
+pub source_ready : (tells : Type 0) (now : ℕ) (c a' : DiskSeen) (source later : Source) → IsStill tells c a' → IsSourceStep tells now c a' source later → IsSource tells c source → IsSource tells a' later
+source_ready tells now c a' (source.Kept log) (source.Kept same) still step is =
+    (subst (λ (k : Keeping). IsReady tells k (a'.size k.log.side) a'.stands) (sym step.0) (ready_still tells log c a' still is.0), ap (λ (k : Keeping). k.waits) step.0 ∙ is.1)
+source_ready tells now c a' (source.Kept log) (source.Lost moment) still step is = tt
+source_ready tells now c a' (source.Lost moment) (source.Kept log) still step is = absurd step
+source_ready tells now c a' (source.Lost moment) (source.Lost same) still step is = tt
+
+pub level_slot : (tells : Type 0) (shape : Shape) (shard from place before mid : ℕ) (old cur : List DiskSeen) (slots so_far : List Slot) (first source : Source) (slot : Slot) → AreMade tells shape shard from place before mid old cur slots so_far first source → slot ≡ slot_at so_far place → place ≢ from
+    → IsSlot tells shape place (seen_at old place) (slot_at slots place) → IsSlot tells shape place (seen_at cur place) slot
+level_slot tells shape shard from place before mid old cur slots so_far first source slot inv at differs is =
+    subst (λ (s : Slot). IsSlot tells shape place (seen_at cur place) s) (sym (inv.rest place (omega arith)) ∙ sym at)
+    (subst (λ (d : DiskSeen). IsSlot tells shape place d (slot_at slots place)) (sym (inv.untouched place (omega arith) differs)) is)
+
+-- what was made equal to the taken log
+pub made_moves : (tells : Type 0) (before now : ℕ) (a a' b b' : DiskSeen) (log : Keeping) (r : Result Keeping PairFault) (taken : Source) → HasMadeEqual tells before now a a' b b' log r → taken ≡ source.Kept log → HasMoved tells before now b b' (IsSourceOf taken a)
+made_moves tells before now a a' b b' log r taken made is = subst (λ (s : Source). HasMoved tells before now b b' (IsSourceOf s a)) (sym is) (record { moments = made.moments; past = made.past; counted = made.counted })
+
+-- a view whose peer is not that of the taken log
+pub slot_apart : (place from : ℕ) (slot held : Slot) → (place ≡ from → slot ≡ Aside) → held ≡ slot → (held ≡ Aside → ⊥) → place ≢ from
+slot_apart place from slot held apart is some same = some (is ∙ apart same)
+
+pub view_apart : (tells : Type 0) (shape : Shape) (peer place from : ℕ) (disk : DiskSeen) (slot held : Slot) → (place ≡ from → slot ≡ Aside) → (place ≢ from → IsSlot tells shape peer disk slot) → held ≡ slot → (held ≡ Aside → ⊥) → IsSlot tells shape peer disk held
+view_apart tells shape peer place from disk slot held apart viewed is some = subst (λ (s : Slot). IsSlot tells shape peer disk s) (sym is) (viewed (slot_apart place from slot held apart is some))
+
+pub view_still : (tells : Type 0) (shape : Shape) (peer : ℕ) (a b : DiskSeen) (view : Viewing) → IsStill tells a b → IsViewOf tells shape peer a view → IsViewOf tells shape peer b view
+view_still tells shape peer a b view still viewed =
+    let now = viewed_still tells view a b still viewed.viewed in
+    record {
+      stands = now.stands;
+      viewed = now;
+      listed = λ told. subst (λ (d : Standing). IsSome (list_in d.seen)) (sym (still.same told)) (viewed.listed told);
+      has = λ told. subst (λ (d : Standing). (list : Numbered) → list_in d.seen ≡ Some list → HasView view d.seen list) (sym (still.same told)) (viewed.has told);
+      accepted = λ told. subst (λ (d : Standing). refusal_in shape peer d.seen ≡ None) (sym (still.same told)) (viewed.accepted told);
+      only = λ told. subst (λ (d : Standing). (list : Numbered) → list_in d.seen ≡ Some list → LeavesOnly d list) (sym (still.same told)) (viewed.only told);
+    }

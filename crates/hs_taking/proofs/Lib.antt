@@ -7,6 +7,7 @@ pub mod LevelLemmas
 pub mod LoadLemmas
 pub mod PairLemmas
 pub mod PastLemmas
+pub mod ShardLemmas
 pub mod ShareLemmas
 pub mod SortLemmas
 pub mod StepLemmas

@@ -1,6 +1,7 @@
 pub mod Ascending
 pub mod Copies
 pub mod Disks
+pub mod Evens
 pub mod Loaded
 pub mod Pairs
 pub mod Past

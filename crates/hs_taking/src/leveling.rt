@@ -145,23 +145,28 @@ fn even_copy<D: Disk>(
     ensures count { length disks.new ≡ length disks.old }
     ensures ticks { watch.old ≤ watch.new }
 {
-    let made = match replace(slot, Slot::Aside) {
-        Slot::Aside => return Ok(()),
+    match replace(slot, Slot::Aside) {
+        Slot::Aside => Ok(()),
         Slot::Kept(log) => {
             *slot = Slot::Kept(log);
-            return Ok(());
-        }
-        Slot::Equal(view) => recover_copy(view, &mut disks[place], watch, shape, peer),
-        Slot::Viewed(view) => {
-            level_copy(source, view, disks, from, place, watch, shape, peer)
-        }
-    };
-    match made {
-        Ok(made) => {
-            *slot = made;
             Ok(())
         }
-        Err(fault) => Err(fault),
+        Slot::Equal(view) => match recover_copy(view, &mut disks[place], watch, shape, peer) {
+            Ok(made) => {
+                *slot = made;
+                Ok(())
+            }
+            Err(fault) => Err(fault),
+        },
+        Slot::Viewed(view) => {
+            match level_copy(source, view, disks, from, place, watch, shape, peer) {
+                Ok(made) => {
+                    *slot = made;
+                    Ok(())
+                }
+                Err(fault) => Err(fault),
+            }
+        }
     }
 }
 

@@ -1,5 +1,6 @@
 use Rattle.std.proofs.Common.{◌≡◌, ◌∙◌, ◌+◌, ◌*◌, ◌<◌, ◌≤◌, ap, sym, subst, ℕ, List, map, length, refl, arith}
 use Rattle.std.proofs.lemmas.List.{length-set}
+use Rattle.std.specs.Prelude.{slice_set}
 use Rattle.hs_limits.specs.Shape.{peer_of}
 use Rattle.hs_taking.proofs.ChoiceLemmas.{shard_within}
 use Rattle.hs_taking.proofs.SortLemmas.{sort_more, sort_viewed}
@@ -47,7 +48,7 @@ loop-copy-preserved g c =
     (subst (λ (s : Slot). IsSorted g.D.Disk.tells (seen_at now j) (seen_at now i) (seen_at new i) c.compare_copy.new.lost s c.compare_copy.new.slot) at done.sorted) done.tried step.source step.disk step.rest in
     let next : i + 1 ≡ peer_of c.args.shape c.args.shard (c.loop-copy.copy + 1) = omega (arith, place) in
     record {
-      sorted = subst (λ n. AreSorted g.D.Disk.tells c.args.shape c.args.shard c.args.from n old new c.args.slots.now.items _ c.compare_copy.new.lost) next (subst (λ n. AreSorted g.D.Disk.tells c.args.shape c.args.shard n (i + 1) old new c.args.slots.now.items _ c.compare_copy.new.lost) c.from.ensures more);
+      sorted = subst (λ n. AreSorted g.D.Disk.tells c.args.shape c.args.shard c.args.from n old new c.args.slots.now.items (slice_set c.loop-copy.slots.items i c.compare_copy.new.slot) c.compare_copy.new.lost) next (subst (λ n. AreSorted g.D.Disk.tells c.args.shape c.args.shard n (i + 1) old new c.args.slots.now.items (slice_set c.loop-copy.slots.items i c.compare_copy.new.slot) c.compare_copy.new.lost) c.from.ensures more);
       count = step.count ∙ c.loop-copy.invariant.count;
       slots = length-set c.loop-copy.slots.items i c.compare_copy.new.slot ∙ c.loop-copy.invariant.slots;
     }
