@@ -1,5 +1,5 @@
 -- The logs of a shard's copies are recovered, or made equal to the taken one, one after another.
-use Rattle.std.proofs.Common.{◌≡◌, ◌≢◌, ◌∙◌, ap, sym, subst, inl, inr, ℕ, ◌+◌, ◌<◌, ◌≤◌, Bool, true, false, List, length, None, Some, refl, arith}
+use Rattle.std.proofs.Common.{◌≡◌, ◌≢◌, ◌∙◌, ap, sym, subst, inl, inr, ℕ, ◌+◌, ◌<◌, ◌≤◌, Bool, true, false, List, length, map, None, Some, refl, arith}
 use Rattle.std.proofs.lemmas.Bool.{cases_eq, cases_lt}
 use Rattle.std.proofs.lemmas.List.{get_or-set_same, get_or-set_other}
 use Rattle.std.specs.Prelude.{IsSome, Result, slice_index_or, slice_set}
@@ -16,6 +16,7 @@ use Rattle.hs_ports.specs.Disk.{Standing}
 use Rattle.hs_ports.specs.Fault.{HasRisen}
 use Rattle.hs_side.specs.Current.{list_in}
 use Rattle.hs_side.specs.Standing.{HasBytes, HasRoom}
+use Rattle.hs_taking.proofs.DiskLemmas.{seen_here, seen_is}
 use Rattle.hs_taking.proofs.EvenLemmas.{each_then}
 use Rattle.hs_taking.proofs.KeepLemmas.{keeps_none}
 use Rattle.hs_taking.proofs.PairLemmas.{still_none, still_then, viewed_still}
@@ -30,7 +31,7 @@ use Rattle.hs_taking.specs.Disks.{DiskSeen, seen_at}
 use Rattle.hs_taking.specs.declared.pair.PairFault.{PairFault}
 use Rattle.hs_taking.specs.Pairs.{HasMadeEqual, IsStill}
 use Rattle.hs_taking.specs.Shares.{KeepsDisk}
-use Rattle.hs_taking.specs.Slots.{AreMade, HasMoved, IsGood, IsMade, IsMoved, IsSlot, IsSource, IsSourceOf, IsSourceRun, IsSourceStep, is_lost, slot_at}
+use Rattle.hs_taking.specs.Slots.{AreMade, HasMoved, IsGood, IsGoodView, IsKeptOr, IsMade, IsMoved, IsSlot, IsSource, IsSourceOf, IsSourceRun, IsSourceStep, is_lost, slot_at}
 use Rattle.hs_taking.specs.Viewed.{IsViewOf}
 
 -- ---- calls that come later
@@ -97,7 +98,7 @@ pub source_run : (tells : Type 0) (before mid now : ℕ) (a c a' : DiskSeen) (fi
 source_run tells before mid now a c a' (source.Kept log) (source.Kept same) (source.Kept more) up on lo hi run step = (step.0 ∙ run.0, step.1 ∙ run.1)
 source_run tells before mid now a c a' (source.Kept log) (source.Kept same) (source.Lost moment) up on lo hi run step = let e = step.0 in (omega (arith, e, up, on), omega (arith, e), λ told. let r = step.1 told in omega (arith, r, lo))
 source_run tells before mid now a c a' (source.Kept log) (source.Lost moment) (source.Kept more) up on lo hi run step = absurd step
-source_run tells before mid now a c a' (source.Kept log) (source.Lost moment) (source.Lost same) up on lo hi run step = let e = step in let f = run.0 in let h = run.1 in (omega (arith, e, f), omega (arith, e, h.0, on), λ told. let r = h.1 told in omega (arith, r, hi))
+source_run tells before mid now a c a' (source.Kept log) (source.Lost moment) (source.Lost same) up on lo hi run step = let e = step in let f = run.0 in let h = run.1 in (omega (arith, e, f), omega (arith, e, h, on), λ told. let r = run.2 told in omega (arith, r, hi))
 source_run tells before mid now a c a' (source.Lost moment) (source.Kept same) later up on lo hi run step = absurd run
 source_run tells before mid now a c a' (source.Lost moment) (source.Lost same) (source.Kept more) up on lo hi run step = absurd step
 source_run tells before mid now a c a' (source.Lost moment) (source.Lost same) (source.Lost more) up on lo hi run step = step ∙ run
@@ -345,3 +346,26 @@ view_still tells shape peer a b view still viewed =
       accepted = λ told. subst (λ (d : Standing). refusal_in shape peer d.seen ≡ None) (sym (still.same told)) (viewed.accepted told);
       only = λ told. subst (λ (d : Standing). (list : Numbered) → list_in d.seen ≡ Some list → LeavesOnly d list) (sym (still.same told)) (viewed.only told);
     }
+
+pub step_none : (tells : Type 0) (now : ℕ) (a a' : DiskSeen) (held : Source) → a' ≡ a → IsSourceStep tells now a a' held held
+step_none tells now a a' (source.Kept log) same = (refl, ap (λ (d : DiskSeen). d.faults) same)
+step_none tells now a a' (source.Lost moment) same = refl
+
+pub still_same : (tells : Type 0) (a a' : DiskSeen) → a' ≡ a → IsStill tells a a'
+still_same tells a a' same = subst (λ (d : DiskSeen). IsStill tells a d) (sym same) (still_none tells a)
+
+-- a view that was found equal was recovered, on its own disk
+module _ {A : Type 0} (f : A → DiskSeen) (tells : Type 0) (before now place from : ℕ) (disks : List A) (x d : A) (low : place < length disks) (view : Viewing) (slot : Slot) (is : slot ≡ Equal view) where
+  abbrev next : List DiskSeen
+  next = map f (slice_set disks place x)
+
+  both : (R : DiskSeen → DiskSeen → Type 0) → R (f (slice_index_or disks place d)) (f x) → R (seen_at (map f disks) place) (seen_at next place)
+  both R h = subst (λ (s : DiskSeen). R s (seen_at next place)) (sym (seen_is f disks place d low)) (subst (λ (s : DiskSeen). R (f (slice_index_or disks place d)) s) (sym (seen_here f disks place x low)) h)
+
+  pub equal_moved : (first : Source) (Q : Numbered → Type 0) → KeepsDisk tells before now (f (slice_index_or disks place d)) (f x) → IsMoved tells before now (seen_at (map f disks) place) (seen_at next place) first Q slot
+  equal_moved first Q keeps = subst (λ (s : Slot). IsMoved tells before now (seen_at (map f disks) place) (seen_at next place) first Q s) (sym is) (both (λ a b. KeepsDisk tells before now a b) keeps)
+
+  pub equal_made : (first last : Source) (Q : Numbered → Type 0) (new : Slot) → IsKeptOr (IsGoodView tells before (f (slice_index_or disks place d)) (f x)) (tells → HasRisen (f (slice_index_or disks place d)).faults (f x).faults) new
+      → IsMade tells before (seen_at (map f disks) place) (seen_at next place) first last Q slot new
+  equal_made first last Q new kept = subst (λ (s : Slot). IsMade tells before (seen_at (map f disks) place) (seen_at next place) first last Q s new) (sym is)
+      (both (λ a b. IsKeptOr (IsGoodView tells before a b) (tells → HasRisen a.faults b.faults) new) kept)

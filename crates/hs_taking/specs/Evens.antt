@@ -1,14 +1,23 @@
 -- What becomes of the disks of a shard whose taken log was loaded; no public clause cites these words.
-use Rattle.std.specs.Prelude.{◌≡◌, ◌≤◌, ◌⊎◌, ⊤, true, ℕ, List, None, Option, Some, is_some}
+use Rattle.std.specs.List.{list_any, range_with_len}
+use Rattle.std.specs.Prelude.{◌≡◌, ◌≤◌, ◌⊎◌, ⊤, Bool, false, true, ℕ, List, [], None, Option, Some, if◌then◌else◌, is_some}
+use Rattle.hs_entry.specs.Entries.{rank_of}
 use Rattle.hs_fold.specs.Shards.Setting.{Numbered}
 use Rattle.hs_limits.specs.declared.shape.Shape.{Shape}
-use Rattle.hs_peerlog.specs.Lists.{IsKept, IsReady, Keeping}
+use Rattle.hs_limits.specs.Shape.{peer_of}
+use Rattle.hs_peerlog.specs.Lists.{IsKept, Keeping}
+use Rattle.hs_peerlog.specs.Views.{Viewing}
 use Rattle.hs_ports.specs.Fault.{HasRisen}
+use Rattle.hs_shard.specs.Facts.{Catalogue}
 use Rattle.hs_side.specs.Current.{list_in}
 use Rattle.hs_taking.specs.Copies.{IsOf}
+use Rattle.hs_taking.specs.declared.shares.Share.{Share}
 use Rattle.hs_taking.specs.declared.slot.Slot.{Slot}
 use Rattle.hs_taking.specs.declared.slot.Slot.TheVariants.{Aside, Viewed, Equal, Kept}
+use Rattle.hs_taking.specs.declared.slot.Source.{Source}
+use Rattle.hs_taking.specs.declared.slot.Source.TheVariants as source
 use Rattle.hs_taking.specs.Disks.{DiskSeen, seen_at}
+use Rattle.hs_taking.specs.Pairs.{IsStill}
 use Rattle.hs_taking.specs.Shares.{IsLostDisk, KeepsDisk}
 use Rattle.hs_taking.specs.Slots.{HasMoved, IsGood, IsGoodView, slot_at}
 
@@ -19,6 +28,11 @@ log_of (Viewed view) = None
 log_of (Equal view) = None
 log_of (Kept log) = Some log
 
+-- what is kept of a disk that was viewed, or was not
+abbrev pub slot_of : Option Viewing → Slot
+slot_of None = Aside
+slot_of (Some view) = Viewed view
+
 -- of a disk that was viewed, beside that of the taken log, which has each list of which this holds
 pub record IsEvened (tells : Type 0) (before now : ℕ) (b b' : DiskSeen) (is_taken : Numbered → Type 0) (slot : Slot) (lost : Option ℕ) : Type 0 where
   pub good : (log : Keeping) → slot ≡ Kept log → IsGood tells before b b' is_taken log
@@ -27,16 +41,16 @@ pub record IsEvened (tells : Type 0) (before now : ℕ) (b b' : DiskSeen) (is_ta
   pub moved : HasMoved tells before now b b' is_taken
   pub even : tells → (list : Numbered) → is_taken list → list_in b.stands.seen ≡ Some list → KeepsDisk tells before now b b'
 
--- by what was kept of it: what stood aside does so, untouched
+-- by what was kept of it: what stood aside does so, and was not written
 abbrev pub IsEvenedAs : Type 0 → ℕ → ℕ → DiskSeen → DiskSeen → (Numbered → Type 0) → Slot → Slot → Option ℕ → Type 0
-IsEvenedAs tells before now b b' is_taken Aside new lost = (new ≡ Aside) × (b' ≡ b)
+IsEvenedAs tells before now b b' is_taken Aside new lost = (new ≡ Aside) × IsStill tells b b'
 IsEvenedAs tells before now b b' is_taken (Viewed view) new lost = IsEvened tells before now b b' is_taken new lost
 IsEvenedAs tells before now b b' is_taken (Equal view) new lost = ⊤
 IsEvenedAs tells before now b b' is_taken (Kept log) new lost = ⊤
 
 -- the taken log was kept, or lost at a moment
 abbrev pub IsTaken : Type 0 → ℕ → ℕ → DiskSeen → DiskSeen → Slot → Option ℕ → Type 0
-IsTaken tells before now a a' (Kept log) None = IsGoodView tells before a a' log × (is_some (Some log) ≡ true)
+IsTaken tells before now a a' (Kept log) None = IsGoodView tells before a a' log
 IsTaken tells before now a a' (Kept log) (Some moment) = ⊥
 IsTaken tells before now a a' Aside None = ⊥
 IsTaken tells before now a a' Aside (Some moment) = (before ≤ moment) × (moment ≤ now) × IsLostDisk tells before a a' moment
@@ -48,10 +62,56 @@ pub record AreEvened (tells : Type 0) (shape : Shape) (shard from : ℕ) (before
   pub each : (peer : ℕ) → IsOf shape shard peer → (peer ≡ from → ⊥)
       → IsEvenedAs tells before now (seen_at old peer) (seen_at new peer) (λ list. list_in (seen_at old from).stands.seen ≡ Some list) (slot_at slots peer) (slot_at slots' peer) lost
   pub taken : IsTaken tells before now (seen_at old from) (seen_at new from) (slot_at slots' from) lost
-  pub outside : (peer : ℕ) → (IsOf shape shard peer → ⊥) → slot_at slots' peer ≡ slot_at slots peer
+  pub disk : KeepsDisk tells before now (seen_at old from) (seen_at new from)
 
--- and of the disks alone, whatever was answered
-pub record AreMoved (tells : Type 0) (shape : Shape) (shard from : ℕ) (before now : ℕ) (old new : List DiskSeen) : Type 0 where
-  pub each : (peer : ℕ) → IsOf shape shard peer → (peer ≡ from → ⊥) → HasMoved tells before now (seen_at old peer) (seen_at new peer) (λ list. list_in (seen_at old from).stands.seen ≡ Some list)
+-- of the disk of a peer, by what was kept of it, whatever was answered
+abbrev pub IsMovedAs : Type 0 → ℕ → ℕ → DiskSeen → DiskSeen → (Numbered → Type 0) → Slot → Type 0
+IsMovedAs tells before now b b' is_taken Aside = IsStill tells b b'
+IsMovedAs tells before now b b' is_taken (Viewed view) = HasMoved tells before now b b' is_taken
+IsMovedAs tells before now b b' is_taken (Equal view) = ⊤
+IsMovedAs tells before now b b' is_taken (Kept log) = ⊤
+
+pub record AreMoved (tells : Type 0) (shape : Shape) (shard from : ℕ) (before now : ℕ) (old new : List DiskSeen) (slots : List Slot) : Type 0 where
+  pub each : (peer : ℕ) → IsOf shape shard peer → (peer ≡ from → ⊥)
+      → IsMovedAs tells before now (seen_at old peer) (seen_at new peer) (λ list. list_in (seen_at old from).stands.seen ≡ Some list) (slot_at slots peer)
   pub disk : KeepsDisk tells before now (seen_at old from) (seen_at new from)
   pub outside : (peer : ℕ) → (IsOf shape shard peer → ⊥) → seen_at new peer ≡ seen_at old peer
+
+-- the taken log was recovered from its view, or is lost now
+abbrev pub IsRecovered : Type 0 → ℕ → ℕ → DiskSeen → DiskSeen → Bool → Source → Type 0
+IsRecovered tells before now a a' lost (source.Kept log) = (lost ≡ false) × IsGoodView tells before a a' log
+IsRecovered tells before now a a' lost (source.Lost moment) = (moment ≡ now) × (((lost ≡ true) × (a' ≡ a)) ⊎ (tells → HasRisen a.faults a'.faults))
+
+-- ---- what a shard opens with
+
+-- whether the log of one of its peers is kept
+abbrev pub has_kept : Shape → List Slot → ℕ → Bool
+has_kept shape slots shard = list_any (λ peer. is_some (log_of (slot_at slots peer))) (range_with_len (peer_of shape shard 0) shape.copies)
+
+-- from the view of its taken log, which has this list
+pub record TakesView (tells : Type 0) (fold : Numbered → Catalogue) (shape : Shape) (shard from : ℕ) (before now : ℕ) (old new : List DiskSeen) (slots slots' : List Slot) (view : Viewing) (share : Share) : Type 0 where
+  pub log : Numbered
+  pub ranked : rank_of log ≡ view.rank
+  pub told : tells → list_in (seen_at old from).stands.seen ≡ Some log
+  pub took : share.took ≡ Some (rank_of log).number
+  pub catalogue : share.catalogue ≡ fold (if has_kept shape slots' shard then log else [])
+  pub rank : share.rank ≡ rank_of (if has_kept shape slots' shard then log else [])
+  pub copies : AreEvened tells shape shard from before now old new slots slots' share.lost
+
+-- where no peer has a log
+pub record TakesNone (fold : Numbered → Catalogue) (old new : List DiskSeen) (slots slots' : List Slot) (share : Share) : Type 0 where
+  pub took : share.took ≡ None
+  pub lost : share.lost ≡ None
+  pub catalogue : share.catalogue ≡ fold []
+  pub rank : share.rank ≡ rank_of []
+  pub disks : new ≡ old
+
+abbrev pub TakesFrom : Type 0 → (Numbered → Catalogue) → Shape → ℕ → ℕ → ℕ → ℕ → List DiskSeen → List DiskSeen → List Slot → List Slot → Share → Slot → Type 0
+TakesFrom tells fold shape shard from before now old new slots slots' share (Viewed view) = TakesView tells fold shape shard from before now old new slots slots' view share
+TakesFrom tells fold shape shard from before now old new slots slots' share Aside = TakesNone fold old new slots slots' share
+TakesFrom tells fold shape shard from before now old new slots slots' share (Equal view) = TakesNone fold old new slots slots' share
+TakesFrom tells fold shape shard from before now old new slots slots' share (Kept log) = TakesNone fold old new slots slots' share
+
+pub record TakesShard (tells : Type 0) (fold : Numbered → Catalogue) (shape : Shape) (shard from : ℕ) (before now : ℕ) (old new : List DiskSeen) (slots slots' : List Slot) (share : Share) : Type 0 where
+  pub from_slot : TakesFrom tells fold shape shard from before now old new slots slots' share (slot_at slots from)
+  pub outside : (peer : ℕ) → (IsOf shape shard peer → ⊥) → slot_at slots' peer ≡ slot_at slots peer

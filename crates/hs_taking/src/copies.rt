@@ -40,7 +40,7 @@ pub(crate) fn compare_copies<D: Disk>(
         (seen_at (map (λ disk. seen_as (D.size disk) (D.stands disk) (D.faults disk)) disks.old)
         from).stands }
     requires aside { slot_at slots.old.items from ≡ kind.Aside }
-    requires viewed { (peer : ℕ) → peer < shape.shards * shape.copies → IsSlot D.tells shape peer
+    requires viewed { (peer : ℕ) → IsOf shape shard peer → IsSlot D.tells shape peer
         (seen_at (map (λ disk. seen_as (D.size disk) (D.stands disk) (D.faults disk)) disks.old)
         peer) (slot_at slots.old.items peer) }
     ensures sorted { IfOk result (AreSorted D.tells shape shard from

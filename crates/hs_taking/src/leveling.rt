@@ -41,7 +41,7 @@ pub(crate) fn level_copies<D: Disk>(
         (seen_at (map (λ disk. seen_as (D.size disk) (D.stands disk) (D.faults disk)) disks.old)
         from) source.old }
     requires aside { slot_at slots.old.items from ≡ kind.Aside }
-    requires viewed { (peer : ℕ) → peer < shape.shards * shape.copies → peer ≢ from
+    requires viewed { (peer : ℕ) → IsOf shape shard peer → peer ≢ from
         → IsSlot D.tells shape peer
         (seen_at (map (λ disk. seen_as (D.size disk) (D.stands disk) (D.faults disk)) disks.old)
         peer) (slot_at slots.old.items peer) }

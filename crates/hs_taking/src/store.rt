@@ -79,7 +79,7 @@ pub fn read_store<A: Addresser, D: Disk>(
         ≤ (seen_at (map (λ disk. seen_as (D.size disk) (D.stands disk) (D.faults disk)) disks.new)
         peer).faults }
     // Whatever it answers, the list of each disk is as it was, at each moment, and its past stays.
-    ensures keeps { (peer : ℕ) → peer < length disks.old → KeepsDisk D.tells watch.old watch.new
+    ensures keeps { shape.copies ≡ 1 → (peer : ℕ) → peer < length disks.old → KeepsDisk D.tells watch.old watch.new
         (seen_at (map (λ disk. seen_as (D.size disk) (D.stands disk) (D.faults disk)) disks.old)
         peer)
         (seen_at (map (λ disk. seen_as (D.size disk) (D.stands disk) (D.faults disk)) disks.new)
@@ -91,5 +91,5 @@ pub fn read_store<A: Addresser, D: Disk>(
         Ok(views) => views,
         Err(fault) => return Err(fault),
     };
-    take_all(alloc, naming, views.as_slice(), disks, watch, shape, limits)
+    take_all(alloc, naming, views, disks, watch, shape, limits)
 }

@@ -22,8 +22,9 @@ compare_copy-requires-clause-viewed g c =
     let all = shard_within c.args.shape c.args.shard c.requires.shard in
     let total : c.from-place.result < c.args.shape.shards * c.args.shape.copies = omega (arith, all, place, c.loop-copy-test.true) in
     let low : c.from-place.result < length c.loop-copy.slots.items = omega (arith, total, c.loop-copy.invariant.slots, c.requires.slots) in
+    let home : IsOf c.args.shape c.args.shard c.from-place.result = record { from = omega (arith, place); to = omega (arith, place, c.loop-copy-test.true) } in
     sort_viewed g.D.Disk.tells c.args.shape c.args.shard c.args.from c.from-place.result old now c.args.slots.now.items c.loop-copy.slots.items c.loop-copy.lost c.index_mut.result.now inv
-    (c.index_mut.ensures.value ∙ at_any c.loop-copy.slots.items c.from-place.result c.index_mut.result.now Aside low) (c.requires.viewed c.from-place.result total)
+    (c.index_mut.ensures.value ∙ at_any c.loop-copy.slots.items c.from-place.result c.index_mut.result.now Aside low) (c.requires.viewed c.from-place.result home)
 
 pub loop-copy-preserved : goal.loop-copy-preserved
 loop-copy-preserved g c =

@@ -36,7 +36,7 @@ loop-copy-preserved g c =
     let at = c.index_mut.ensures.value ∙ at_any so_far i c.index_mut.result.now Aside low in
     let step = c.even_copy.ensures in
     let done = c.in-Ok.ensures in
-    let is_slot : i ≢ j → IsSlot g.D.Disk.tells c.args.shape i (seen_at old i) (slot_at slots i) = λ differs. c.requires.viewed i total (λ same. differs (same ∙ sym c.from.ensures)) in
+    let is_slot : i ≢ j → IsSlot g.D.Disk.tells c.args.shape i (seen_at old i) (slot_at slots i) = λ differs. c.requires.viewed i home (λ same. differs (same ∙ sym c.from.ensures)) in
     let more = level_more g.D.Disk.tells c.args.shape c.args.shard j i c.args.watch.now c.loop-copy.watch c.even_copy.new.watch old cur new slots so_far c.even_copy.new.slot c.args.source.now c.loop-copy.source c.even_copy.new.source home from_home low
     (ap (λ n. slot_at slots n) c.from.ensures ∙ c.requires.aside) c.loop-copy.invariant.ticks step.ticks
     (λ peer told. seen_since f (λ disk side m high. g.met.D.Disk.since told disk side m high) c.args.disks.now peer) is_slot inv'
@@ -73,11 +73,29 @@ returns-in-Err-clause-moved g c = λ peer of differs.
     let from_home = subst (λ n. IsOf c.args.shape c.args.shard n) (sym c.from.ensures) c.requires.from in
     let at = c.index_mut.ensures.value ∙ at_any so_far i c.index_mut.result.now Aside low in
     let step = c.even_copy.ensures in
-    let is_slot : i ≢ j → IsSlot g.D.Disk.tells c.args.shape i (seen_at old i) (slot_at slots i) = λ other. c.requires.viewed i total (λ same. other (same ∙ sym c.from.ensures)) in
-    let within : peer < c.args.shape.shards * c.args.shape.copies = let t = of.to in omega (arith, all, t) in
+    let is_slot : i ≢ j → IsSlot g.D.Disk.tells c.args.shape i (seen_at old i) (slot_at slots i) = λ other. c.requires.viewed i home (λ same. other (same ∙ sym c.from.ensures)) in
     subst (λ n. IsMoved g.D.Disk.tells c.args.watch.now c.even_copy.new.watch (seen_at old peer) (seen_at new peer) c.args.source.now (IsSourceOf c.args.source.now (seen_at old n)) (slot_at slots peer)) c.from.ensures
     (moved_each g.D.Disk.tells c.args.shape c.args.shard j i c.args.watch.now c.loop-copy.watch c.even_copy.new.watch old cur new slots so_far c.even_copy.new.slot c.args.source.now c.loop-copy.source c.even_copy.new.source home from_home low
     (ap (λ n. slot_at slots n) c.from.ensures ∙ c.requires.aside) c.loop-copy.invariant.ticks step.ticks
     (λ peer told. seen_since f (λ disk side m high. g.met.D.Disk.since told disk side m high) c.args.disks.now peer) is_slot inv'
     (subst (λ (s : Slot). IsMoved g.D.Disk.tells c.loop-copy.watch c.even_copy.new.watch (seen_at cur i) (seen_at new i) c.loop-copy.source (IsSourceOf c.loop-copy.source (seen_at cur j)) s) at step.moved) step.still step.rest
-    peer of (λ same. differs (same ∙ c.from.ensures)) (c.requires.viewed peer within differs))
+    peer of (λ same. differs (same ∙ c.from.ensures)) (c.requires.viewed peer of differs))
+
+pub even_copy-requires-clause-viewed : goal.even_copy-requires-clause-viewed
+even_copy-requires-clause-viewed g c = λ differs.
+    let f : g.row.D.Denot → DiskSeen = λ disk. seen_as (g.D.Disk.size disk) (g.D.Disk.stands disk) (g.D.Disk.faults disk) in
+    let old : List DiskSeen = map f c.args.disks.now in
+    let cur : List DiskSeen = map f c.loop-copy.disks in
+    let i : ℕ = c.from-place.result in
+    let slots = c.args.slots.now.items in
+    let so_far = c.loop-copy.slots.items in
+    let place : i ≡ peer_of c.args.shape c.args.shard c.loop-copy.copy = c.from-place.ensures ∙ c.peer_of-peer.ensures in
+    let inv = subst (λ n. AreMade g.D.Disk.tells c.args.shape c.args.shard c.args.from n c.args.watch.now c.loop-copy.watch old cur slots so_far c.args.source.now c.loop-copy.source) (sym place) c.loop-copy.invariant.made in
+    let all = shard_within c.args.shape c.args.shard c.requires.shard in
+    let total : i < c.args.shape.shards * c.args.shape.copies = omega (arith, all, place, c.loop-copy-test.true) in
+    let low : i < length so_far = omega (arith, total, c.loop-copy.invariant.slots, c.requires.slots) in
+    let home : IsOf c.args.shape c.args.shard i = record { from = omega (arith, place); to = omega (arith, place, c.loop-copy-test.true) } in
+    let apart : i ≢ c.args.from = λ same. differs (same ∙ sym c.from.ensures) in
+    let at = c.index_mut.ensures.value ∙ at_any so_far i c.index_mut.result.now Aside low in
+    subst (λ n. IsSlot g.D.Disk.tells c.args.shape n (seen_at cur i) c.index_mut.result.now) c.from-place.ensures
+    (level_slot g.D.Disk.tells c.args.shape c.args.shard c.args.from i c.args.watch.now c.loop-copy.watch old cur slots so_far c.args.source.now c.loop-copy.source c.index_mut.result.now inv at apart (c.requires.viewed i home apart))
