@@ -1,14 +1,17 @@
 -- What becomes of the disks of a shard whose taken log was loaded; no public clause cites these words.
 use Rattle.std.specs.List.{list_any, range_with_len}
-use Rattle.std.specs.Prelude.{◌≡◌, ◌≤◌, ◌⊎◌, ⊤, Bool, false, true, ℕ, List, [], None, Option, Some, if◌then◌else◌, is_some}
+use Rattle.std.specs.Option.{option_map}
+use Rattle.std.specs.Prelude.{◌≡◌, ◌≤◌, ◌<◌, ◌⊎◌, ⊤, Bool, drop, false, length, map, take, true, unwrap_or, ℕ, List, [], None, Option, Some, if◌then◌else◌, is_some}
+use Rattle.hs_coldstart.specs.Choose.{choose}
 use Rattle.hs_entry.specs.Entries.{rank_of}
-use Rattle.hs_fold.specs.Shards.Setting.{Numbered}
+use Rattle.hs_fold.specs.Shards.Setting.{Numbered, Setting}
 use Rattle.hs_limits.specs.declared.shape.Shape.{Shape}
 use Rattle.hs_limits.specs.Shape.{peer_of}
 use Rattle.hs_peerlog.specs.Lists.{IsKept, Keeping}
 use Rattle.hs_peerlog.specs.Views.{Viewing}
 use Rattle.hs_ports.specs.Fault.{HasRisen}
-use Rattle.hs_shard.specs.Facts.{Catalogue}
+use Rattle.hs_memory.specs.Forget.{apply_all}
+use Rattle.hs_shard.specs.Facts.{Catalogue, empty_catalogue}
 use Rattle.hs_side.specs.Current.{list_in}
 use Rattle.hs_taking.specs.Copies.{IsOf}
 use Rattle.hs_taking.specs.declared.shares.Share.{Share}
@@ -18,7 +21,7 @@ use Rattle.hs_taking.specs.declared.slot.Source.{Source}
 use Rattle.hs_taking.specs.declared.slot.Source.TheVariants as source
 use Rattle.hs_taking.specs.Disks.{DiskSeen, seen_at}
 use Rattle.hs_taking.specs.Pairs.{IsStill}
-use Rattle.hs_taking.specs.Shares.{IsLostDisk, KeepsDisk}
+use Rattle.hs_taking.specs.Shares.{IsLostDisk, KeepsDisk, Taken, share_at}
 use Rattle.hs_taking.specs.Slots.{HasMoved, IsGood, IsGoodView, slot_at}
 
 -- the log of a slot, where one is kept
@@ -99,19 +102,33 @@ pub record TakesView (tells : Type 0) (fold : Numbered → Catalogue) (shape : S
   pub copies : AreEvened tells shape shard from before now old new slots slots' share.lost
 
 -- where no peer has a log
-pub record TakesNone (fold : Numbered → Catalogue) (old new : List DiskSeen) (slots slots' : List Slot) (share : Share) : Type 0 where
+pub record TakesNone (fold : Numbered → Catalogue) (shape : Shape) (shard from : ℕ) (old new : List DiskSeen) (slots slots' : List Slot) (share : Share) : Type 0 where
   pub took : share.took ≡ None
   pub lost : share.lost ≡ None
   pub catalogue : share.catalogue ≡ fold []
   pub rank : share.rank ≡ rank_of []
-  pub disks : new ≡ old
+  pub disks : (peer : ℕ) → IsOf shape shard peer → seen_at new peer ≡ seen_at old peer
+  pub others : (peer : ℕ) → IsOf shape shard peer → (peer ≡ from → ⊥) → slot_at slots' peer ≡ slot_at slots peer
+  pub own : slot_at slots' from ≡ Aside
 
 abbrev pub TakesFrom : Type 0 → (Numbered → Catalogue) → Shape → ℕ → ℕ → ℕ → ℕ → List DiskSeen → List DiskSeen → List Slot → List Slot → Share → Slot → Type 0
 TakesFrom tells fold shape shard from before now old new slots slots' share (Viewed view) = TakesView tells fold shape shard from before now old new slots slots' view share
-TakesFrom tells fold shape shard from before now old new slots slots' share Aside = TakesNone fold old new slots slots' share
-TakesFrom tells fold shape shard from before now old new slots slots' share (Equal view) = TakesNone fold old new slots slots' share
-TakesFrom tells fold shape shard from before now old new slots slots' share (Kept log) = TakesNone fold old new slots slots' share
+TakesFrom tells fold shape shard from before now old new slots slots' share Aside = TakesNone fold shape shard from old new slots slots' share
+TakesFrom tells fold shape shard from before now old new slots slots' share (Equal view) = TakesNone fold shape shard from old new slots slots' share
+TakesFrom tells fold shape shard from before now old new slots slots' share (Kept log) = TakesNone fold shape shard from old new slots slots' share
 
 pub record TakesShard (tells : Type 0) (fold : Numbered → Catalogue) (shape : Shape) (shard from : ℕ) (before now : ℕ) (old new : List DiskSeen) (slots slots' : List Slot) (share : Share) : Type 0 where
   pub from_slot : TakesFrom tells fold shape shard from before now old new slots slots' share (slot_at slots from)
   pub outside : (peer : ℕ) → (IsOf shape shard peer → ⊥) → slot_at slots' peer ≡ slot_at slots peer
+
+-- ---- what a store opens with
+
+-- from the views of its disks: by shard the peer whose rank is chosen, and what was taken of it
+pub record TakesAll (tells : Type 0) (set : Setting) (before now : ℕ) (old new : List DiskSeen) (views : List (Option Viewing)) (taken : Taken) : Type 0 where
+  pub slots : List Slot
+  pub logs : taken.logs ≡ map log_of slots
+  pub chosen : (shard : ℕ) → shard < length taken.shares
+      → (share_at taken shard).peer ≡ peer_of set.shape shard (unwrap_or (choose (take set.shape.copies (drop (peer_of set.shape shard 0) (map (λ view. option_map (λ v. v.rank) view) views)))) 0)
+  pub numbered : (shard : ℕ) → shard < length taken.shares → (share_at taken shard).shard ≡ shard
+  pub each : (shard : ℕ) → shard < length taken.shares
+      → TakesShard tells (apply_all set.name (empty_catalogue set.shape shard)) set.shape shard (share_at taken shard).peer before now old new (map slot_of views) slots (share_at taken shard)

@@ -4,7 +4,7 @@ ghost use Rattle.hs_limits.specs.Shape.{IsShape};
 ghost use Rattle.hs_shard.specs.Facts.{empty_catalogue};
 ghost use Rattle.hs_taking.specs.declared.fault.TakeFault.TheVariants.{NoMemory};
 ghost use Rattle.hs_taking.specs.Disks.{AreReady, seen_as, seen_at};
-ghost use Rattle.hs_taking.specs.Evens.{log_of, slot_of};
+ghost use Rattle.hs_taking.specs.Evens.{TakesAll, log_of, slot_of};
 ghost use Rattle.hs_taking.specs.Shares.{HasTaken, KeepsDisk};
 ghost use Rattle.hs_taking.specs.Viewed.{IsViewOf};
 
@@ -60,6 +60,11 @@ pub(crate) fn take_all<A: Addresser, D: Disk>(
         → IfSome (slice_index_or views.items peer None) (IsViewOf D.tells shape peer
         (seen_at (map (λ disk. seen_as (D.size disk) (D.stands disk) (D.faults disk)) disks.old)
         peer)) }
+    ensures takes { IfOk result (λ taking. TakesAll D.tells
+        (record { name = A.name naming.now; limits = limits; shape = shape }) watch.old watch.new
+        (map (λ disk. seen_as (D.size disk) (D.stands disk) (D.faults disk)) disks.old)
+        (map (λ disk. seen_as (D.size disk) (D.stands disk) (D.faults disk)) disks.new)
+        views.items (record { logs = taking.logs.items; shares = taking.shares.items })) }
     ensures taken { shape.copies ≡ 1 → IfOk result (λ taking. HasTaken D.tells
         (record { name = A.name naming.now; limits = limits; shape = shape })
         (record {

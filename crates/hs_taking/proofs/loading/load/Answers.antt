@@ -25,7 +25,7 @@ entries-preserved g c =
     = λ told whole has. subst (λ (d : Standing). HasView c.args.view.now d.seen whole) (sym (inv.same told)) has in
     record {
       so_far = one_loaded g.D.Disk.tells (g.A.Addresser.name c.args.naming.now) (empty_catalogue c.args.shape c.args.shard) (HasView c.args.view.now (g.D.Disk.stands c.args.disk.now).seen)
-          c.entries.index c.entries.catalogue c.take_entry.new.catalogue c.entries.rank c.after-rank.result c.in-Some.entry inv.so_far (c.take_entry.ensures c.if-not-take_entry.false) c.after-rank.ensures
+          c.entries.index c.entries.catalogue c.take_entry.new.catalogue c.entries.rank c.after-rank.result c.in-Some.entry inv.so_far (c.in-Ok-true.ensures.taken c.in-Ok-true.field-0-test) c.after-rank.ensures
           (λ told whole has. (has.numbered, sym (c.in-Ok.ensures.found told whole (there told whole has)) ∙ c.in-Some.is));
       same = λ told. c.entry.ensures.same told ∙ inv.same told;
       same_size = λ s. c.entry.ensures.same_size s ∙ inv.same_size s;
