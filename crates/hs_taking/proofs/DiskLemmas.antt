@@ -115,3 +115,9 @@ seen_since f each [] peer = none_since
     none_since side m high = refl
 seen_since f each (x ∷ xs) zero = each x
 seen_since f each (x ∷ xs) (suc k) = seen_since f each xs k
+
+-- what holds of a disk and its call holds of them among the others
+pub one_called : {A : Type 0} (f : A → DiskSeen) (disks : List A) (i peer : ℕ) (x d : A) → i ≡ peer → i < length disks → (R : DiskSeen → DiskSeen → Type 0) → R (f (slice_index_or disks i d)) (f x) → R (seen_at (map f disks) peer) (seen_at (map f (slice_set disks i x)) peer)
+one_called f disks i peer x d same low R h =
+    subst (λ n. R (seen_at (map f disks) n) (seen_at (map f (slice_set disks i x)) n)) same
+    (subst (λ (s : DiskSeen). R s (seen_at (map f (slice_set disks i x)) i)) (sym (seen_is f disks i d low)) (subst (λ (s : DiskSeen). R (f (slice_index_or disks i d)) s) (sym (seen_here f disks i x low)) h))

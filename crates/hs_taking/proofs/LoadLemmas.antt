@@ -1,5 +1,5 @@
 -- What a list amounts to, entry by entry.
-use Rattle.std.proofs.Common.{◌≡◌, ◌∙◌, ap, sym, ℕ, zero, suc, ◌+◌, ◌<◌, ◌≤◌, true, false, cond, eqb, List, [], ◌∷◌, ◌++◌, take, length, Some, None, refl, arith, inl, inr}
+use Rattle.std.proofs.Common.{◌≡◌, ◌∙◌, ap, sym, ℕ, zero, suc, ◌+◌, ◌<◌, ◌≤◌, ◌==◌, ◌&&◌, not, Bool, true, false, cond, eqb, List, [], ◌∷◌, ◌++◌, take, length, Some, None, refl, arith, inl, inr}
 use Rattle.std.proofs.lemmas.Bool.{ne_eqb}
 use Rattle.std.proofs.lemmas.Bool.Decides.{eqb_tells}
 use Rattle.std.proofs.lemmas.List.{append-nil, append_assoc}
@@ -143,3 +143,13 @@ none_wanting v seen whole i has low none =
     let k : i + 1 ≡ 0 + i + 1 = omega arith in
     let beyond = none_beyond 0 whole i has.numbered (ap (λ j. numbered_entry whole j) (sym k) ∙ none) in
     omega (arith, c, low, beyond)
+
+-- ranks that are told to differ
+pub ranks_differ : (a b : Rank) (other : Bool) → other ≡ not ((a.view == b.view) && (a.number == b.number)) → other ≡ true → a ≡ b → ⊥
+ranks_differ a b other is differ same =
+    let v : (a.view == b.view) ≡ true = ap (λ n. a.view == n) (sym (ap (λ (r : Rank). r.view) same)) ∙ same_number a.view in
+    let n : (a.number == b.number) ≡ true = ap (λ n. a.number == n) (sym (ap (λ (r : Rank). r.number) same)) ∙ same_number a.number in
+    no_truth (sym differ ∙ is ∙ ap (λ (x : Bool). not (x && (a.number == b.number))) v ∙ ap (λ (x : Bool). not (true && x)) n)
+  where
+    no_truth : true ≡ false → ⊥
+    no_truth e = cc e

@@ -26,7 +26,7 @@ use Rattle.hs_taking.specs.Evens.{AreEvened, AreMoved, IsEvened, IsEvenedAs, IsM
 use Rattle.hs_taking.specs.Pairs.{IsStill}
 use Rattle.hs_taking.specs.Past.{PastStays}
 use Rattle.hs_taking.specs.Shares.{KeepsDisk}
-use Rattle.hs_taking.specs.Slots.{AreMade, AreSorted, HasMoved, IsGood, IsGoodView, IsKeptOr, IsMade, IsMoved, IsSlot, IsSorted, IsSortedView, IsSourceOf, IsSourceRun, is_lost, lost_at, slot_at}
+use Rattle.hs_taking.specs.Slots.{AreMade, AreSorted, HasMoved, IsGood, IsGoodView, IsKeptOr, IsMade, IsMoved, IsSlot, IsSorted, IsSortedView, IsSource, IsSourceOf, IsSourceRun, is_lost, lost_at, slot_at}
 use Rattle.hs_taking.specs.Viewed.{IsViewOf}
 
 -- ---- a disk that was only read before
@@ -38,7 +38,7 @@ moved_still tells before now a b c P still moved = record {
   counted = omega (arith, still.counted, moved.counted);
 }
 
-keeps_still : (tells : Type 0) (before now : ℕ) (a b c : DiskSeen) → IsStill tells a b → KeepsDisk tells before now b c → KeepsDisk tells before now a c
+pub keeps_still : (tells : Type 0) (before now : ℕ) (a b c : DiskSeen) → IsStill tells a b → KeepsDisk tells before now b c → KeepsDisk tells before now a c
 keeps_still tells before now a b c still keeps = record {
   moments = λ told. subst (λ (s : Standing). s.last ≤ before → (list : Numbered) → LeavesOnly s list → LeavesEach before now s c.stands (Is list)) (still.same told) (keeps.moments told);
   past = λ told. subst (λ (s : Standing). s.last ≤ before → PastStays before now s c.stands) (still.same told) (keeps.past told);
@@ -46,7 +46,7 @@ keeps_still tells before now a b c still keeps = record {
 }
 
 -- and not again
-still_keeps : (tells : Type 0) (before now : ℕ) (a b : DiskSeen) → before ≤ now → (tells → Since a.stands) → IsStill tells a b → KeepsDisk tells before now a b
+pub still_keeps : (tells : Type 0) (before now : ℕ) (a b : DiskSeen) → before ≤ now → (tells → Since a.stands) → IsStill tells a b → KeepsDisk tells before now a b
 still_keeps tells before now a b up since still =
     let one : KeepsDisk tells before now a a = keeps_wait tells before before now a a up (keeps_none tells before a since) in
     record {
@@ -352,3 +352,22 @@ module _ (tells : Type 0) (shape : Shape) (shard from t1 t2 t3 : ℕ) (d0 d1 d2 
       by peer differs (Viewed view) s1 is s m =
           moved_one tells shape peer t1 t2 t3 (seen_at d0 from) (seen_at d2 from) (seen_at d0 peer) (seen_at d1 peer) (seen_at d3 peer) view lost1 first first (slot_at slots1 peer) None up on (since peer) is (sorted.still peer)
           (λ none list told e. recovered_has tells t1 t2 (seen_at d1 from) (seen_at d2 from) lost1 first rec none list told (ap (λ (x : Standing). list_in x.seen) ((sorted.still from).same told) ∙ e)) (recovered_gone tells t1 t2 (seen_at d1 from) (seen_at d2 from) lost1 first rec) s1 s m
+
+-- ---- what the steps ask
+
+pub sorted_slot : (tells : Type 0) (shape : Shape) (peer : ℕ) (a b b' : DiskSeen) (lost : Bool) (old new : Slot) → IsStill tells b b' → IsSlot tells shape peer b old → IsSorted tells a b b' lost old new → IsSlot tells shape peer b' new
+sorted_slot tells shape peer a b b' lost Aside new still is s = subst (λ (x : Slot). IsSlot tells shape peer b' x) (sym s) tt
+sorted_slot tells shape peer a b b' lost (Equal view) new still is s = subst (λ (x : Slot). IsSlot tells shape peer b' x) (sym s) (view_still tells shape peer b b' view still is)
+sorted_slot tells shape peer a b b' lost (Kept log) new still is s = subst (λ (x : Slot). IsSlot tells shape peer b' x) (sym s) (ready_still tells log b b' still is)
+sorted_slot tells shape peer a b b' lost (Viewed view) Aside still is s = tt
+sorted_slot tells shape peer a b b' lost (Viewed view) (Viewed same) still is s = subst (λ (v : Viewing). IsViewOf tells shape peer b' v) (sym s.0) (view_still tells shape peer b b' view still is)
+sorted_slot tells shape peer a b b' lost (Viewed view) (Equal same) still is s = subst (λ (v : Viewing). IsViewOf tells shape peer b' v) (sym s.0) (view_still tells shape peer b b' view still is)
+sorted_slot tells shape peer a b b' lost (Viewed view) (Kept log) still is s = absurd s
+
+pub recovered_source : (tells : Type 0) (t1 t2 : ℕ) (a1 a2 : DiskSeen) (lost : Bool) (first : Source) → IsRecovered tells t1 t2 a1 a2 lost first → IsSource tells a2 first
+recovered_source tells t1 t2 a1 a2 lost (source.Kept log) rec = (rec.1.good.ready, rec.1.sealed)
+recovered_source tells t1 t2 a1 a2 lost (source.Lost moment) rec = tt
+
+pub sorted_none : (tells : Type 0) (shape : Shape) (shard from to : ℕ) (old new : List DiskSeen) (slots slots' : List Slot) (lost : Bool) → IsOf shape shard from → from < to → slot_at slots from ≡ Aside → AreSorted tells shape shard from to old new slots slots' lost → slot_at slots' from ≡ Aside
+sorted_none tells shape shard from to old new slots slots' lost home low aside sorted =
+    subst (λ (x : Slot). IsSorted tells (seen_at old from) (seen_at old from) (seen_at new from) lost x (slot_at slots' from)) aside (sorted.each from home low)

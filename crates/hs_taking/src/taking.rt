@@ -46,6 +46,7 @@ pub(crate) fn take_shard<A: Addresser, D: Disk>(
     requires count { length disks.old ≡ shape.shards * shape.copies }
     requires slots { length slots.old.items ≡ shape.shards * shape.copies }
     requires peer { IsOf shape shard peer }
+    requires within { peer < shape.shards * shape.copies }
     requires viewed { (other : ℕ) → IsOf shape shard other → IsSlot D.tells shape other
         (seen_at (map (λ disk. seen_as (D.size disk) (D.stands disk) (D.faults disk)) disks.old)
         other) (slot_at slots.old.items other) }
@@ -93,6 +94,7 @@ fn take_viewed<A: Addresser, D: Disk>(
     requires count { length disks.old ≡ shape.shards * shape.copies }
     requires slots { length slots.old.items ≡ shape.shards * shape.copies }
     requires peer { IsOf shape shard peer }
+    requires within { peer < shape.shards * shape.copies }
     requires aside { slot_at slots.old.items peer ≡ kind.Aside }
     requires taken { IsViewOf D.tells shape peer
         (seen_at (map (λ disk. seen_as (D.size disk) (D.stands disk) (D.faults disk)) disks.old)
@@ -188,6 +190,7 @@ fn even_shard<D: Disk>(
     requires count { length disks.old ≡ shape.shards * shape.copies }
     requires slots { length slots.old.items ≡ shape.shards * shape.copies }
     requires peer { IsOf shape shard peer }
+    requires within { peer < shape.shards * shape.copies }
     requires aside { slot_at slots.old.items peer ≡ kind.Aside }
     requires taken { IsViewOf D.tells shape peer
         (seen_at (map (λ disk. seen_as (D.size disk) (D.stands disk) (D.faults disk)) disks.old)

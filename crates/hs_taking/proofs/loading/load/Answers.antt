@@ -1,9 +1,11 @@
-use Rattle.std.proofs.Common.{◌∙◌, ◌<◌, ◌≤◌, refl, sym, subst, arith}
+use Rattle.std.proofs.Common.{◌≡◌, ◌∙◌, ap, ◌<◌, ◌≤◌, refl, sym, subst, arith}
+use Rattle.hs_entry.specs.declared.rank.Rank.{Rank}
+use Rattle.hs_entry.specs.Entries.{rank_of}
 use Rattle.hs_fold.specs.Shards.Setting.{Numbered}
 use Rattle.hs_peerlog.specs.Views.{HasView}
 use Rattle.hs_ports.specs.Disk.{Standing}
 use Rattle.hs_shard.specs.Facts.{Catalogue, empty_catalogue}
-use Rattle.hs_taking.proofs.LoadLemmas.{IsLoading, all_read, none_loaded, none_wanting, one_loaded}
+use Rattle.hs_taking.proofs.LoadLemmas.{IsLoading, all_read, none_loaded, none_wanting, one_loaded, ranks_differ}
 use Rattle.hs_taking.proofs.loading.load.Goals as goal
 
 pub entries-init : goal.entries-init
@@ -52,3 +54,11 @@ returns-clause-loaded g c =
       rank = so_far.rank_is;
       told = λ told whole has. so_far.told told whole has ∙ all_read c.args.view.now (g.D.Disk.stands c.args.disk.now).seen whole c.entries.index has all;
     }
+
+pub returns-then-ne-clause-refused : goal.returns-then-ne-clause-refused
+returns-then-ne-clause-refused g c = λ told list has.
+    let so_far = c.entries.invariant.so_far in
+    let all : c.args.view.now.rank.number ≤ c.entries.index = omega (arith, c.entries-test.false, c.last-index-end.ensures) in
+    let same : c.entries.rank ≡ c.rank.result =
+    so_far.rank_is ∙ ap rank_of (so_far.told told list has ∙ all_read c.args.view.now (g.D.Disk.stands c.args.disk.now).seen list c.entries.index has all) ∙ sym has.rank ∙ sym c.rank.ensures in
+    ranks_differ c.entries.rank c.rank.result c.ne.result c.ne.ensures c.if-ne.true same
