@@ -1,5 +1,5 @@
 -- The disks of a shard, from the views of its peers to their logs.
-use Rattle.std.proofs.Common.{◌≡◌, ◌≢◌, ◌∙◌, ap, sym, subst, inl, inr, ℕ, ◌+◌, ◌<◌, ◌≤◌, Bool, true, false, List, length, Option, None, Some, is_some, refl, arith}
+use Rattle.std.proofs.Common.{◌≡◌, ◌≢◌, ◌∙◌, ◌⊎◌, ap, sym, subst, inl, inr, ℕ, ◌+◌, ◌<◌, ◌≤◌, Bool, true, false, List, length, Option, None, Some, is_some, refl, arith}
 use Rattle.std.proofs.lemmas.Bool.{cases_eq}
 use Rattle.hs_fold.specs.Shards.Setting.{Numbered}
 use Rattle.hs_limits.specs.declared.shape.Shape.{Shape}
@@ -239,15 +239,15 @@ module _ (tells : Type 0) (shape : Shape) (shard from t1 t2 t3 : ℕ) (d0 d1 d2 
   abbrev a3 : DiskSeen
   a3 = seen_at d3 from
 
-  abbrev T : Numbered → Type 0
-  T list = list_in a0.stands.seen ≡ Some list
+  abbrev Has : Numbered → Type 0
+  Has list = list_in a0.stands.seen ≡ Some list
 
   same_list : tells → list_in a1.stands.seen ≡ list_in a0.stands.seen
   same_list told = ap (λ (s : Standing). list_in s.seen) ((sorted.still from).same told)
 
   by_slot : (peer : ℕ) → IsOf shape shard peer → peer ≢ from → (s0 s1 s2 : Slot) → IsSlot tells shape peer (seen_at d0 peer) s0
       → IsSorted tells a0 (seen_at d0 peer) (seen_at d1 peer) lost1 s0 s1 → IsMade tells t2 (seen_at d1 peer) (seen_at d3 peer) first last (IsSourceOf first a2) s1 s2 → IsMoved tells t2 t3 (seen_at d1 peer) (seen_at d3 peer) first (IsSourceOf first a2) s1
-      → IsEvenedAs tells t1 t3 (seen_at d0 peer) (seen_at d3 peer) T s0 s2 (lost_at last)
+      → IsEvenedAs tells t1 t3 (seen_at d0 peer) (seen_at d3 peer) Has s0 s2 (lost_at last)
   by_slot peer of differs (Equal view) s1 s2 is s m v = tt
   by_slot peer of differs (Kept log) s1 s2 is s m v = tt
   by_slot peer of differs Aside s1 s2 is s m v =
@@ -257,11 +257,11 @@ module _ (tells : Type 0) (shape : Shape) (shard from t1 t2 t3 : ℕ) (d0 d1 d2 
       evened tells shape peer t1 t2 t3 a0 a2 (seen_at d0 peer) (seen_at d1 peer) (seen_at d3 peer) view lost1 first last s2 (lost_at last) up on (since peer) is (sorted.still peer)
       (λ none list told e. recovered_has tells t1 t2 a1 a2 lost1 first rec none list told (same_list told ∙ e)) (recovered_gone tells t1 t2 a1 a2 lost1 first rec) (run_gone tells t2 t3 a2 a3 first last made.source) (lost_told last) s1 s m v
 
-  each : (peer : ℕ) → IsOf shape shard peer → peer ≢ from → IsEvenedAs tells t1 t3 (seen_at d0 peer) (seen_at d3 peer) T (slot_at slots0 peer) (slot_at slots3 peer) (lost_at last)
+  each : (peer : ℕ) → IsOf shape shard peer → peer ≢ from → IsEvenedAs tells t1 t3 (seen_at d0 peer) (seen_at d3 peer) Has (slot_at slots0 peer) (slot_at slots3 peer) (lost_at last)
   each peer of differs =
       let low = of.to in
       let b = there peer differs in
-      subst (λ (x : Slot). IsEvenedAs tells t1 t3 (seen_at d0 peer) (seen_at d3 peer) T (slot_at slots0 peer) x (lost_at last)) (sym (others peer differs))
+      subst (λ (x : Slot). IsEvenedAs tells t1 t3 (seen_at d0 peer) (seen_at d3 peer) Has (slot_at slots0 peer) x (lost_at last)) (sym (others peer differs))
       (by_slot peer of differs (slot_at slots0 peer) (slot_at slots1 peer) (slot_at slots2 peer) (views peer of) (sorted.each peer of low)
       (subst (λ (x : DiskSeen). IsMade tells t2 x (seen_at d3 peer) first last (IsSourceOf first a2) (slot_at slots1 peer) (slot_at slots2 peer)) b (made.each peer of low))
       (subst (λ (x : DiskSeen). IsMoved tells t2 t3 x (seen_at d3 peer) first (IsSourceOf first a2) (slot_at slots1 peer)) b (made.moved peer of low differs)))
@@ -365,9 +365,13 @@ sorted_slot tells shape peer a b b' lost (Viewed view) (Equal same) still is s =
 sorted_slot tells shape peer a b b' lost (Viewed view) (Kept log) still is s = absurd s
 
 pub recovered_source : (tells : Type 0) (t1 t2 : ℕ) (a1 a2 : DiskSeen) (lost : Bool) (first : Source) → IsRecovered tells t1 t2 a1 a2 lost first → IsSource tells a2 first
-recovered_source tells t1 t2 a1 a2 lost (source.Kept log) rec = (rec.1.good.ready, rec.1.sealed)
-recovered_source tells t1 t2 a1 a2 lost (source.Lost moment) rec = tt
+recovered_source tells t1 t2 x y lost (source.Kept log) rec = (rec.1.good.ready, rec.1.sealed)
+recovered_source tells t1 t2 x y lost (source.Lost moment) rec = tt
 
 pub sorted_none : (tells : Type 0) (shape : Shape) (shard from to : ℕ) (old new : List DiskSeen) (slots slots' : List Slot) (lost : Bool) → IsOf shape shard from → from < to → slot_at slots from ≡ Aside → AreSorted tells shape shard from to old new slots slots' lost → slot_at slots' from ≡ Aside
 sorted_none tells shape shard from to old new slots slots' lost home low aside sorted =
     subst (λ (x : Slot). IsSorted tells (seen_at old from) (seen_at old from) (seen_at new from) lost x (slot_at slots' from)) aside (sorted.each from home low)
+
+pub made_none_at : (tells : Type 0) (shape : Shape) (shard from to before now : ℕ) (old new : List DiskSeen) (slots slots' : List Slot) (first last : Source) → IsOf shape shard from → from < to → slot_at slots from ≡ Aside → AreMade tells shape shard from to before now old new slots slots' first last → slot_at slots' from ≡ Aside
+made_none_at tells shape shard from to before now old new slots slots' first last home low aside made =
+    subst (λ (x : Slot). IsMade tells before (seen_at old from) (seen_at new from) first last (IsSourceOf first (seen_at old from)) x (slot_at slots' from)) aside (made.each from home low)

@@ -1,16 +1,19 @@
 use Rattle.std.proofs.Common.{◌≡◌, ◌≢◌, ◌∙◌, ◌+◌, ◌*◌, ◌<◌, ◌≤◌, ap, sym, subst, ℕ, List, map, length, refl, arith}
+use Rattle.std.proofs.lemmas.List.{get_or-set_other, get_or-set_same}
 use Rattle.std.specs.Prelude.{slice_index_or, slice_set}
 use Rattle.hs_limits.specs.Shape.{peer_of}
 use Rattle.hs_peerlog.proofs.ImageLemmas.{Since}
 use Rattle.hs_taking.proofs.DiskLemmas.{one_called, seen_is, seen_since, seen_there}
 use Rattle.hs_taking.proofs.LevelLemmas.{view_still}
-use Rattle.hs_taking.proofs.ShardLemmas.{all_evened, keeps_still, moved_all, moved_read, recovered_source, sorted_slot, still_keeps}
+use Rattle.hs_taking.proofs.ShardLemmas.{all_evened, keeps_still, made_none_at, moved_all, moved_read, recovered_source, slot_with, sorted_none, sorted_slot, still_keeps}
 use Rattle.hs_taking.specs.Copies.{IsOf}
 use Rattle.hs_taking.specs.Disks.{DiskSeen, seen_as, seen_at}
-use Rattle.hs_taking.specs.Evens.{IsRecovered}
+use Rattle.hs_taking.specs.declared.slot.Slot.TheVariants.{Aside, Kept}
+use Rattle.hs_taking.specs.declared.slot.Source.{Source}
+use Rattle.hs_taking.specs.Evens.{AreEvened, IsRecovered}
 use Rattle.hs_taking.specs.Pairs.{IsStill}
 use Rattle.hs_taking.specs.Shares.{KeepsDisk}
-use Rattle.hs_taking.specs.Slots.{IsSlot, slot_at}
+use Rattle.hs_taking.specs.Slots.{IsSlot, lost_at, slot_at}
 use Rattle.hs_taking.specs.Viewed.{IsViewOf}
 use Rattle.hs_taking.proofs.taking.even_shard.Goals as goal
 
@@ -164,3 +167,63 @@ returns-in-Lost-clause-moved g c =
     let two = c.level_copies.ensures in
     moved_all g.D.Disk.tells c.args.shape c.args.shard c.args.peer c.args.watch.now c.recover_taken.new.watch c.level_copies.new.watch d0 d1 d2 d3 c.args.slots.now.items c.compare_copies.new.slots.items c.in-Ok.lost c.in-Ok-recover_taken.source
     c.recover_taken.ensures.ticks two.ticks since since2 c.requires.viewed c.in-Ok.ensures.sorted rec keeps there c.requires.peer two.moved two.still two.outside
+
+pub returns-in-Kept-clause-evened : goal.returns-in-Kept-clause-evened
+returns-in-Kept-clause-evened g c =
+    let f : g.row.D.Denot → DiskSeen = λ disk. seen_as (g.D.Disk.size disk) (g.D.Disk.stands disk) (g.D.Disk.faults disk) in
+    let d0 : List DiskSeen = map f c.args.disks.now in
+    let d1 : List DiskSeen = map f c.compare_copies.new.disks in
+    let since : (peer : ℕ) → g.D.Disk.tells → Since (seen_at d0 peer).stands = λ peer told. seen_since f (λ disk side m high. g.met.D.Disk.since told disk side m high) c.args.disks.now peer in
+    let one = c.compare_copies.ensures in
+    let i : ℕ = c.from-place.result in
+    let at : i ≡ c.args.peer = c.from-place.ensures in
+    let low : i < length c.compare_copies.new.disks = omega (arith, at, c.requires.within, one.count, c.requires.count) in
+    let x = c.recover_taken.new.disk in
+    let d2 : List DiskSeen = map f (slice_set c.compare_copies.new.disks i x) in
+    let there : (peer : ℕ) → peer ≢ c.args.peer → seen_at d2 peer ≡ seen_at d1 peer = λ peer differs. seen_there f c.compare_copies.new.disks i peer x (λ same. differs (same ∙ at)) in
+    let keeps : KeepsDisk g.D.Disk.tells c.args.watch.now c.recover_taken.new.watch (seen_at d1 c.args.peer) (seen_at d2 c.args.peer) =
+    one_called f c.compare_copies.new.disks i c.args.peer x c.index-disks-place.result at low (λ a b. KeepsDisk g.D.Disk.tells c.args.watch.now c.recover_taken.new.watch a b) c.recover_taken.ensures.keeps in
+    let rec : IsRecovered g.D.Disk.tells c.args.watch.now c.recover_taken.new.watch (seen_at d1 c.args.peer) (seen_at d2 c.args.peer) c.in-Ok.lost c.in-Ok-recover_taken.source =
+    one_called f c.compare_copies.new.disks i c.args.peer x c.index-disks-place.result at low (λ a b. IsRecovered g.D.Disk.tells c.args.watch.now c.recover_taken.new.watch a b c.in-Ok.lost c.in-Ok-recover_taken.source) c.in-Ok-recover_taken.ensures.recovered in
+    let d3 : List DiskSeen = map f c.level_copies.new.disks in
+    let since2 : g.D.Disk.tells → Since (seen_at d2 c.args.peer).stands = λ told. seen_since f (λ disk side m high. g.met.D.Disk.since told disk side m high) (slice_set c.compare_copies.new.disks i x) c.args.peer in
+    let two = c.level_copies.ensures in
+    let last = c.level_copies.new.source in
+    let slots2 = c.level_copies.new.slots.items in
+    let slots3 = slice_set slots2 i (Kept c.in-Kept.log) in
+    subst (λ (s : Source). AreEvened g.D.Disk.tells c.args.shape c.args.shard c.args.peer c.args.watch.now c.level_copies.new.watch d0 d3 c.args.slots.now.items slots3 (lost_at s)) c.in-Kept.is
+    (all_evened g.D.Disk.tells c.args.shape c.args.shard c.args.peer c.args.watch.now c.recover_taken.new.watch c.level_copies.new.watch d0 d1 d2 d3 c.args.slots.now.items c.compare_copies.new.slots.items slots2 slots3 c.in-Ok.lost c.in-Ok-recover_taken.source last
+    c.recover_taken.ensures.ticks two.ticks since since2 c.requires.viewed c.in-Ok.ensures.sorted rec keeps there c.in-Ok-level_copies.ensures.made
+    (λ peer differs. get_or-set_other slots2 i peer (Kept c.in-Kept.log) Aside (λ same. differs (same ∙ at)))
+    (ap (λ n. slot_at slots3 n) (sym at) ∙ get_or-set_same slots2 i (Kept c.in-Kept.log) Aside (omega (arith, at, c.requires.within, two.slots, one.slots, c.requires.slots)) ∙ ap (λ (s : Source). slot_with s) (sym c.in-Kept.is)))
+
+pub returns-in-Lost-clause-evened : goal.returns-in-Lost-clause-evened
+returns-in-Lost-clause-evened g c =
+    let f : g.row.D.Denot → DiskSeen = λ disk. seen_as (g.D.Disk.size disk) (g.D.Disk.stands disk) (g.D.Disk.faults disk) in
+    let d0 : List DiskSeen = map f c.args.disks.now in
+    let d1 : List DiskSeen = map f c.compare_copies.new.disks in
+    let since : (peer : ℕ) → g.D.Disk.tells → Since (seen_at d0 peer).stands = λ peer told. seen_since f (λ disk side m high. g.met.D.Disk.since told disk side m high) c.args.disks.now peer in
+    let one = c.compare_copies.ensures in
+    let i : ℕ = c.from-place.result in
+    let at : i ≡ c.args.peer = c.from-place.ensures in
+    let low : i < length c.compare_copies.new.disks = omega (arith, at, c.requires.within, one.count, c.requires.count) in
+    let x = c.recover_taken.new.disk in
+    let d2 : List DiskSeen = map f (slice_set c.compare_copies.new.disks i x) in
+    let there : (peer : ℕ) → peer ≢ c.args.peer → seen_at d2 peer ≡ seen_at d1 peer = λ peer differs. seen_there f c.compare_copies.new.disks i peer x (λ same. differs (same ∙ at)) in
+    let keeps : KeepsDisk g.D.Disk.tells c.args.watch.now c.recover_taken.new.watch (seen_at d1 c.args.peer) (seen_at d2 c.args.peer) =
+    one_called f c.compare_copies.new.disks i c.args.peer x c.index-disks-place.result at low (λ a b. KeepsDisk g.D.Disk.tells c.args.watch.now c.recover_taken.new.watch a b) c.recover_taken.ensures.keeps in
+    let rec : IsRecovered g.D.Disk.tells c.args.watch.now c.recover_taken.new.watch (seen_at d1 c.args.peer) (seen_at d2 c.args.peer) c.in-Ok.lost c.in-Ok-recover_taken.source =
+    one_called f c.compare_copies.new.disks i c.args.peer x c.index-disks-place.result at low (λ a b. IsRecovered g.D.Disk.tells c.args.watch.now c.recover_taken.new.watch a b c.in-Ok.lost c.in-Ok-recover_taken.source) c.in-Ok-recover_taken.ensures.recovered in
+    let d3 : List DiskSeen = map f c.level_copies.new.disks in
+    let since2 : g.D.Disk.tells → Since (seen_at d2 c.args.peer).stands = λ told. seen_since f (λ disk side m high. g.met.D.Disk.since told disk side m high) (slice_set c.compare_copies.new.disks i x) c.args.peer in
+    let two = c.level_copies.ensures in
+    let last = c.level_copies.new.source in
+    let slots2 = c.level_copies.new.slots.items in
+    let slots3 = slots2 in
+    let none1 = sorted_none g.D.Disk.tells c.args.shape c.args.shard c.args.peer (peer_of c.args.shape c.args.shard 0 + c.args.shape.copies) d0 d1 c.args.slots.now.items c.compare_copies.new.slots.items c.in-Ok.lost c.requires.peer c.requires.peer.to c.requires.aside c.in-Ok.ensures.sorted in
+    let none2 : slot_at slots2 c.args.peer ≡ Aside = made_none_at g.D.Disk.tells c.args.shape c.args.shard c.args.peer (peer_of c.args.shape c.args.shard 0 + c.args.shape.copies) c.recover_taken.new.watch c.level_copies.new.watch d2 d3 c.compare_copies.new.slots.items slots2 c.in-Ok-recover_taken.source last c.requires.peer c.requires.peer.to none1 c.in-Ok-level_copies.ensures.made in
+    subst (λ (s : Source). AreEvened g.D.Disk.tells c.args.shape c.args.shard c.args.peer c.args.watch.now c.level_copies.new.watch d0 d3 c.args.slots.now.items slots3 (lost_at s)) c.in-Lost.is
+    (all_evened g.D.Disk.tells c.args.shape c.args.shard c.args.peer c.args.watch.now c.recover_taken.new.watch c.level_copies.new.watch d0 d1 d2 d3 c.args.slots.now.items c.compare_copies.new.slots.items slots2 slots3 c.in-Ok.lost c.in-Ok-recover_taken.source last
+    c.recover_taken.ensures.ticks two.ticks since since2 c.requires.viewed c.in-Ok.ensures.sorted rec keeps there c.in-Ok-level_copies.ensures.made
+    (λ peer differs. refl)
+    (none2 ∙ ap (λ (s : Source). slot_with s) (sym c.in-Lost.is)))
