@@ -56,7 +56,7 @@ still_keeps tells before now a b up since still =
     }
 
 -- what leaves the list leaves it or a front
-keeps_moved : (tells : Type 0) (shape : Shape) (peer before now : ℕ) (a b : DiskSeen) (view : Viewing) (P : Numbered → Type 0) → IsViewOf tells shape peer a view → KeepsDisk tells before now a b → HasMoved tells before now a b P
+pub keeps_moved : (tells : Type 0) (shape : Shape) (peer before now : ℕ) (a b : DiskSeen) (view : Viewing) (P : Numbered → Type 0) → IsViewOf tells shape peer a view → KeepsDisk tells before now a b → HasMoved tells before now a b P
 keeps_moved tells shape peer before now a b view P viewed keeps = record {
   moments = λ told last list p own e. each_weak (λ l same. inl same) (keeps.moments told last own (viewed.only told own e));
   past = keeps.past;

@@ -1,5 +1,5 @@
 -- What becomes of the disks of a shard whose taken log was loaded; no public clause cites these words.
-use Rattle.std.specs.List.{list_any, range_with_len}
+use Rattle.std.specs.List.{AllPairs, list_any, range_with_len}
 use Rattle.std.specs.Option.{option_map}
 use Rattle.std.specs.Prelude.{◌≡◌, ◌≤◌, ◌<◌, ◌⊎◌, ⊤, Bool, drop, false, length, map, take, true, unwrap_or, ℕ, List, [], None, Option, Some, if◌then◌else◌, is_some}
 use Rattle.hs_coldstart.specs.Choose.{choose}
@@ -21,7 +21,7 @@ use Rattle.hs_taking.specs.declared.slot.Source.{Source}
 use Rattle.hs_taking.specs.declared.slot.Source.TheVariants as source
 use Rattle.hs_taking.specs.Disks.{DiskSeen, seen_at}
 use Rattle.hs_taking.specs.Pairs.{IsStill}
-use Rattle.hs_taking.specs.Shares.{IsLostDisk, KeepsDisk, Taken, share_at}
+use Rattle.hs_taking.specs.Shares.{IsLater, IsLostDisk, KeepsDisk, Taken, all_lost, share_at}
 use Rattle.hs_taking.specs.Slots.{HasMoved, IsGood, IsGoodView, slot_at}
 
 -- the log of a slot, where one is kept
@@ -91,6 +91,20 @@ IsRecovered tells before now a a' lost (source.Lost moment) = (moment ≡ now) �
 abbrev pub has_kept : Shape → List Slot → ℕ → Bool
 has_kept shape slots shard = list_any (λ peer. is_some (log_of (slot_at slots peer))) (range_with_len (peer_of shape shard 0) shape.copies)
 
+-- the view of a slot, where one is there that was not compared
+abbrev pub viewed_of : Slot → Option Viewing
+viewed_of Aside = None
+viewed_of (Viewed view) = Some view
+viewed_of (Equal view) = None
+viewed_of (Kept log) = None
+
+-- nothing was done with a disk but that it was viewed
+abbrev pub IsFresh : Slot → Type 0
+IsFresh Aside = ⊤
+IsFresh (Viewed view) = ⊤
+IsFresh (Equal view) = ⊥
+IsFresh (Kept log) = ⊥
+
 -- from the view of its taken log, which has this list
 pub record TakesView (tells : Type 0) (fold : Numbered → Catalogue) (shape : Shape) (shard from : ℕ) (before now : ℕ) (old new : List DiskSeen) (slots slots' : List Slot) (view : Viewing) (share : Share) : Type 0 where
   pub log : Numbered
@@ -130,5 +144,7 @@ pub record TakesAll (tells : Type 0) (set : Setting) (before now : ℕ) (old new
   pub chosen : (shard : ℕ) → shard < length taken.shares
       → (share_at taken shard).peer ≡ peer_of set.shape shard (unwrap_or (choose (take set.shape.copies (drop (peer_of set.shape shard 0) (map (λ view. option_map (λ v. v.rank) view) views)))) 0)
   pub numbered : (shard : ℕ) → shard < length taken.shares → (share_at taken shard).shard ≡ shard
+  pub home : (shard : ℕ) → shard < length taken.shares → IsOf set.shape shard (share_at taken shard).peer
   pub each : (shard : ℕ) → shard < length taken.shares
-      → TakesShard tells (apply_all set.name (empty_catalogue set.shape shard)) set.shape shard (share_at taken shard).peer before now old new (map slot_of views) slots (share_at taken shard)
+      → TakesFrom tells (apply_all set.name (empty_catalogue set.shape shard)) set.shape shard (share_at taken shard).peer before now old new (map slot_of views) slots (share_at taken shard) (slot_at (map slot_of views) (share_at taken shard).peer)
+  pub once : AllPairs IsLater (all_lost taken)

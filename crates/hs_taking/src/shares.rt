@@ -5,7 +5,7 @@ ghost use Rattle.hs_shard.specs.Facts.{empty_catalogue};
 ghost use Rattle.hs_taking.specs.declared.fault.TakeFault.TheVariants.{NoMemory};
 ghost use Rattle.hs_taking.specs.Disks.{AreReady, seen_as, seen_at};
 ghost use Rattle.hs_taking.specs.Evens.{TakesAll, log_of, slot_of};
-ghost use Rattle.hs_taking.specs.Shares.{HasTaken, KeepsDisk};
+ghost use Rattle.hs_taking.specs.Shares.{KeepsDisk};
 ghost use Rattle.hs_taking.specs.Viewed.{IsViewOf};
 
 use crate::TakeFault;
@@ -65,14 +65,6 @@ pub(crate) fn take_all<A: Addresser, D: Disk>(
         (map (λ disk. seen_as (D.size disk) (D.stands disk) (D.faults disk)) disks.old)
         (map (λ disk. seen_as (D.size disk) (D.stands disk) (D.faults disk)) disks.new)
         views.items (record { logs = taking.logs.items; shares = taking.shares.items })) }
-    ensures taken { shape.copies ≡ 1 → IfOk result (λ taking. HasTaken D.tells
-        (record { name = A.name naming.now; limits = limits; shape = shape })
-        (record {
-          before = watch.old;
-          now = watch.new;
-          old = map (λ disk. seen_as (D.size disk) (D.stands disk) (D.faults disk)) disks.old;
-          new = map (λ disk. seen_as (D.size disk) (D.stands disk) (D.faults disk)) disks.new;
-        }) views.items (record { logs = taking.logs.items; shares = taking.shares.items })) }
     ensures shares { IfOk result (λ taking. length taking.shares.items ≡ shape.shards) }
     ensures logs { IfOk result (λ taking. length taking.logs.items
         ≡ shape.shards * shape.copies) }

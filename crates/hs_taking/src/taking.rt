@@ -1,6 +1,5 @@
 //! Taking the log of a shard.
-ghost use Rattle.std.specs.Prelude.{◌≡◌, ◌*◌, ◌<◌, ◌≤◌, ℕ, true, IfOk, IsOkUnless, length, map};
-ghost use Rattle.std.proofs.Common.{◌≢◌};
+ghost use Rattle.std.specs.Prelude.{◌≡◌, ◌*◌, ◌<◌, ◌≤◌, ℕ, IfOk, IsOkUnless, OnOk, is_some, length, map};
 ghost use Rattle.hs_limits.specs.Shape.{IsShape};
 ghost use Rattle.hs_memory.specs.Forget.{apply_all};
 ghost use Rattle.hs_shard.specs.Facts.{empty_catalogue};
@@ -8,7 +7,7 @@ ghost use Rattle.hs_taking.specs.declared.fault.TakeFault.TheVariants.{NoMemory}
 ghost use Rattle.hs_taking.specs.declared.slot.Slot.TheVariants as kind;
 ghost use Rattle.hs_taking.specs.Copies.{IsOf};
 ghost use Rattle.hs_taking.specs.Disks.{seen_as, seen_at};
-ghost use Rattle.hs_taking.specs.Evens.{AreEvened, AreMoved, IsRecovered, TakesShard, TakesView, has_kept};
+ghost use Rattle.hs_taking.specs.Evens.{AreEvened, AreMoved, IsFresh, IsRecovered, TakesShard, TakesView, has_kept, log_of, viewed_of};
 ghost use Rattle.hs_taking.specs.Shares.{KeepsDisk};
 ghost use Rattle.hs_taking.specs.Slots.{IsSlot, slot_at};
 ghost use Rattle.hs_taking.specs.Viewed.{IsViewOf};
@@ -50,6 +49,8 @@ pub(crate) fn take_shard<A: Addresser, D: Disk>(
     requires viewed { (other : ℕ) → IsOf shape shard other → IsSlot D.tells shape other
         (seen_at (map (λ disk. seen_as (D.size disk) (D.stands disk) (D.faults disk)) disks.old)
         other) (slot_at slots.old.items other) }
+    requires fresh { (other : ℕ) → IsOf shape shard other
+        → IsFresh (slot_at slots.old.items other) }
     ensures takes { IfOk result (TakesShard D.tells (apply_all (A.name naming.now)
         (empty_catalogue shape shard)) shape shard peer watch.old watch.new
         (map (λ disk. seen_as (D.size disk) (D.stands disk) (D.faults disk)) disks.old)
@@ -66,13 +67,23 @@ pub(crate) fn take_shard<A: Addresser, D: Disk>(
     ensures slots { length slots.new.items ≡ length slots.old.items }
     ensures ticks { watch.old ≤ watch.new }
 {
-    match replace(&mut slots[usize::from(peer)], Slot::Aside) {
-        Slot::Viewed(view) => take_viewed(
+    let place = usize::from(peer);
+    let slot = replace(&mut slots[place], Slot::Aside);
+    match viewed_of(slot) {
+        Some(view) => take_viewed(
             alloc, naming, view, slots, disks, watch, shape, limits, peer, shard,
         ),
-        Slot::Aside | Slot::Equal(_) | Slot::Kept(_) => {
-            Ok(empty_share(alloc, shape, limits, peer, shard))
-        }
+        None => Ok(empty_share(alloc, shape, limits, peer, shard)),
+    }
+}
+
+/// The view of a slot, where one is there that was not compared.
+fn viewed_of(slot: Slot) -> Option<PeerView>
+    ensures { result ≡ viewed_of slot }
+{
+    match slot {
+        Slot::Viewed(view) => Some(view),
+        Slot::Aside | Slot::Equal(_) | Slot::Kept(_) => None,
     }
 }
 
@@ -102,6 +113,8 @@ fn take_viewed<A: Addresser, D: Disk>(
     requires viewed { (other : ℕ) → IsOf shape shard other → IsSlot D.tells shape other
         (seen_at (map (λ disk. seen_as (D.size disk) (D.stands disk) (D.faults disk)) disks.old)
         other) (slot_at slots.old.items other) }
+    requires fresh { (other : ℕ) → IsOf shape shard other
+        → IsFresh (slot_at slots.old.items other) }
     ensures takes { IfOk result (TakesView D.tells (apply_all (A.name naming.now)
         (empty_catalogue shape shard)) shape shard peer watch.old watch.new
         (map (λ disk. seen_as (D.size disk) (D.stands disk) (D.faults disk)) disks.old)
@@ -111,6 +124,8 @@ fn take_viewed<A: Addresser, D: Disk>(
         (map (λ disk. seen_as (D.size disk) (D.stands disk) (D.faults disk)) disks.old)
         (map (λ disk. seen_as (D.size disk) (D.stands disk) (D.faults disk)) disks.new)
         slots.old.items }
+    ensures outside { OnOk result ((other : ℕ) → (IsOf shape shard other → ⊥)
+        → slot_at slots.new.items other ≡ slot_at slots.old.items other) }
     ensures shard { IfOk result (λ share. share.shard ≡ shard) }
     ensures peer { IfOk result (λ share. share.peer ≡ peer) }
     ensures only { IsOkUnless result NoMemory }
@@ -165,12 +180,21 @@ fn has_kept(slots: &[Slot], shape: Shape, shard: u8) -> bool
 {
     for copy in 0..shape.copies {
         let place = usize::from(peer_of(shard, copy, shape));
-        match &slots[place] {
-            Slot::Kept(_) => return true,
-            Slot::Aside | Slot::Viewed(_) | Slot::Equal(_) => {}
+        if is_kept(&slots[place]) {
+            return true;
         }
     }
     false
+}
+
+/// Whether a log is kept.
+fn is_kept(slot: &Slot) -> bool
+    ensures { result ≡ is_some (log_of slot.now) }
+{
+    match slot {
+        Slot::Kept(_) => true,
+        Slot::Aside | Slot::Viewed(_) | Slot::Equal(_) => false,
+    }
 }
 
 /// Finds the lists of a shard's peers equal to the taken one, or makes them so: nothing is written
@@ -206,6 +230,8 @@ fn even_shard<D: Disk>(
         (map (λ disk. seen_as (D.size disk) (D.stands disk) (D.faults disk)) disks.old)
         (map (λ disk. seen_as (D.size disk) (D.stands disk) (D.faults disk)) disks.new)
         slots.old.items }
+    ensures outside { OnOk result ((other : ℕ) → (IsOf shape shard other → ⊥)
+        → slot_at slots.new.items other ≡ slot_at slots.old.items other) }
     ensures only { IsOkUnless result NoMemory }
     ensures count { length disks.new ≡ length disks.old }
     ensures slots { length slots.new.items ≡ length slots.old.items }

@@ -227,3 +227,53 @@ returns-in-Lost-clause-evened g c =
     c.recover_taken.ensures.ticks two.ticks since since2 c.requires.viewed c.in-Ok.ensures.sorted rec keeps there c.in-Ok-level_copies.ensures.made
     (λ peer differs. refl)
     (none2 ∙ ap (λ (s : Source). slot_with s) (sym c.in-Lost.is)))
+
+pub returns-in-Kept-clause-outside : goal.returns-in-Kept-clause-outside
+returns-in-Kept-clause-outside g c =
+    let f : g.row.D.Denot → DiskSeen = λ disk. seen_as (g.D.Disk.size disk) (g.D.Disk.stands disk) (g.D.Disk.faults disk) in
+    let d0 : List DiskSeen = map f c.args.disks.now in
+    let d1 : List DiskSeen = map f c.compare_copies.new.disks in
+    let since : (peer : ℕ) → g.D.Disk.tells → Since (seen_at d0 peer).stands = λ peer told. seen_since f (λ disk side m high. g.met.D.Disk.since told disk side m high) c.args.disks.now peer in
+    let one = c.compare_copies.ensures in
+    let i : ℕ = c.from-place.result in
+    let at : i ≡ c.args.peer = c.from-place.ensures in
+    let low : i < length c.compare_copies.new.disks = omega (arith, at, c.requires.within, one.count, c.requires.count) in
+    let x = c.recover_taken.new.disk in
+    let d2 : List DiskSeen = map f (slice_set c.compare_copies.new.disks i x) in
+    let there : (peer : ℕ) → peer ≢ c.args.peer → seen_at d2 peer ≡ seen_at d1 peer = λ peer differs. seen_there f c.compare_copies.new.disks i peer x (λ same. differs (same ∙ at)) in
+    let keeps : KeepsDisk g.D.Disk.tells c.args.watch.now c.recover_taken.new.watch (seen_at d1 c.args.peer) (seen_at d2 c.args.peer) =
+    one_called f c.compare_copies.new.disks i c.args.peer x c.index-disks-place.result at low (λ a b. KeepsDisk g.D.Disk.tells c.args.watch.now c.recover_taken.new.watch a b) c.recover_taken.ensures.keeps in
+    let rec : IsRecovered g.D.Disk.tells c.args.watch.now c.recover_taken.new.watch (seen_at d1 c.args.peer) (seen_at d2 c.args.peer) c.in-Ok.lost c.in-Ok-recover_taken.source =
+    one_called f c.compare_copies.new.disks i c.args.peer x c.index-disks-place.result at low (λ a b. IsRecovered g.D.Disk.tells c.args.watch.now c.recover_taken.new.watch a b c.in-Ok.lost c.in-Ok-recover_taken.source) c.in-Ok-recover_taken.ensures.recovered in
+    let d3 : List DiskSeen = map f c.level_copies.new.disks in
+    let since2 : g.D.Disk.tells → Since (seen_at d2 c.args.peer).stands = λ told. seen_since f (λ disk side m high. g.met.D.Disk.since told disk side m high) (slice_set c.compare_copies.new.disks i x) c.args.peer in
+    let two = c.level_copies.ensures in
+    let last = c.level_copies.new.source in
+    let slots2 = c.level_copies.new.slots.items in
+    let slots3 = slice_set slots2 i (Kept c.in-Kept.log) in
+    λ other not. get_or-set_other slots2 i other (Kept c.in-Kept.log) Aside (λ same. not (subst (λ p. IsOf c.args.shape c.args.shard p) (sym (same ∙ at)) c.requires.peer)) ∙ (c.in-Ok-level_copies.ensures.made.outside other not).0 ∙ (c.in-Ok.ensures.sorted.outside other not).0
+
+pub returns-in-Lost-clause-outside : goal.returns-in-Lost-clause-outside
+returns-in-Lost-clause-outside g c =
+    let f : g.row.D.Denot → DiskSeen = λ disk. seen_as (g.D.Disk.size disk) (g.D.Disk.stands disk) (g.D.Disk.faults disk) in
+    let d0 : List DiskSeen = map f c.args.disks.now in
+    let d1 : List DiskSeen = map f c.compare_copies.new.disks in
+    let since : (peer : ℕ) → g.D.Disk.tells → Since (seen_at d0 peer).stands = λ peer told. seen_since f (λ disk side m high. g.met.D.Disk.since told disk side m high) c.args.disks.now peer in
+    let one = c.compare_copies.ensures in
+    let i : ℕ = c.from-place.result in
+    let at : i ≡ c.args.peer = c.from-place.ensures in
+    let low : i < length c.compare_copies.new.disks = omega (arith, at, c.requires.within, one.count, c.requires.count) in
+    let x = c.recover_taken.new.disk in
+    let d2 : List DiskSeen = map f (slice_set c.compare_copies.new.disks i x) in
+    let there : (peer : ℕ) → peer ≢ c.args.peer → seen_at d2 peer ≡ seen_at d1 peer = λ peer differs. seen_there f c.compare_copies.new.disks i peer x (λ same. differs (same ∙ at)) in
+    let keeps : KeepsDisk g.D.Disk.tells c.args.watch.now c.recover_taken.new.watch (seen_at d1 c.args.peer) (seen_at d2 c.args.peer) =
+    one_called f c.compare_copies.new.disks i c.args.peer x c.index-disks-place.result at low (λ a b. KeepsDisk g.D.Disk.tells c.args.watch.now c.recover_taken.new.watch a b) c.recover_taken.ensures.keeps in
+    let rec : IsRecovered g.D.Disk.tells c.args.watch.now c.recover_taken.new.watch (seen_at d1 c.args.peer) (seen_at d2 c.args.peer) c.in-Ok.lost c.in-Ok-recover_taken.source =
+    one_called f c.compare_copies.new.disks i c.args.peer x c.index-disks-place.result at low (λ a b. IsRecovered g.D.Disk.tells c.args.watch.now c.recover_taken.new.watch a b c.in-Ok.lost c.in-Ok-recover_taken.source) c.in-Ok-recover_taken.ensures.recovered in
+    let d3 : List DiskSeen = map f c.level_copies.new.disks in
+    let since2 : g.D.Disk.tells → Since (seen_at d2 c.args.peer).stands = λ told. seen_since f (λ disk side m high. g.met.D.Disk.since told disk side m high) (slice_set c.compare_copies.new.disks i x) c.args.peer in
+    let two = c.level_copies.ensures in
+    let last = c.level_copies.new.source in
+    let slots2 = c.level_copies.new.slots.items in
+    let slots3 = slots2 in
+    λ other not. (c.in-Ok-level_copies.ensures.made.outside other not).0 ∙ (c.in-Ok.ensures.sorted.outside other not).0
