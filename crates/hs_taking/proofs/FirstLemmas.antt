@@ -41,40 +41,18 @@ found ranks (suc i) =
     let next : i + 1 ≡ suc i = omega arith in
     (better one.0 i (get_or ranks i None), subst (λ n. IsSoFar ranks n (better one.0 i (get_or ranks i None))) next (so_far_more ranks i one.0 one.1))
 
--- by the view of a disk the list that it was read as: one of its rank, or none
-abbrev pub IsRanked : Option Viewing → Option Numbered → Type 0
-IsRanked None log = log ≡ None
-IsRanked (Some view) None = ⊥
-IsRanked (Some view) (Some list) = rank_of list ≡ view.rank
-
-some_is : (x y : Numbered) → Some x ≡ Some y → x ≡ y
-some_is x y e = cc e
-
 some_rank : (x y : Rank) → Some x ≡ Some y → x ≡ y
 some_rank x y e = cc e
 
 none_rank : (x : Rank) → None ≡ Some x → ⊥
 none_rank x e = cc e
 
-none_list : (x : Numbered) → None ≡ Some x → ⊥
-none_list x e = cc e
-
-ranked_as : (view : Option Viewing) (log : Option Numbered) (list : Numbered) → IsRanked view log → log ≡ Some list → option_map (λ v. v.rank) view ≡ Some (rank_of list)
-ranked_as None log list is e = absurd (none_list list (sym is ∙ e))
-ranked_as (Some view) None list is e = absurd is
-ranked_as (Some view) (Some other) list is e = ap (λ r. Some r) (sym is ∙ ap rank_of (some_is other list e))
-
-ranked_some : (view : Option Viewing) (log : Option Numbered) (rank : Rank) → IsRanked view log → option_map (λ v. v.rank) view ≡ Some rank → is_some log ≡ true
-ranked_some None log rank is e = absurd (none_rank rank e)
-ranked_some (Some view) None rank is e = absurd is
-ranked_some (Some view) (Some list) rank is e = refl
-
 list_of_some : (o : Option Numbered) → is_some o ≡ true → (list : Numbered) × (o ≡ Some list)
 list_of_some None e = cc e
 list_of_some (Some list) e = (list, refl)
 
 module _ (shape : Shape) (views : List (Option Viewing)) (shard peer : ℕ) (logs : ℕ → Option Numbered) (is : peer ≡ chosen_peer shape views shard) (home : IsOf shape shard peer) (long : peer_of shape shard 0 + shape.copies ≤ length views)
-    (ranked : (other : ℕ) → IsOf shape shard other → IsRanked (slice_index_or views other None) (logs other)) where
+    (ranked : (other : ℕ) → IsOf shape shard other → (list : Numbered) → logs other ≡ Some list → option_map (λ v. v.rank) (slice_index_or views other None) ≡ Some (rank_of list)) (own : (rank : Rank) → option_map (λ v. v.rank) (slice_index_or views peer None) ≡ Some rank → is_some (logs peer) ≡ true) where
   abbrev first : ℕ
   first = peer_of shape shard 0
 
@@ -87,7 +65,7 @@ module _ (shape : Shape) (views : List (Option Viewing)) (shard peer : ℕ) (log
       own_at shape views shard (other - first) (omega (arith, f, t)) ∙ ap (λ n. option_map (λ v. v.rank) (slice_index_or views n None)) back
 
   list_at : (other : ℕ) → IsOf shape shard other → (list : Numbered) → logs other ≡ Some list → get_or (own_ranks shape views shard) (other - first) None ≡ Some (rank_of list)
-  list_at other of list e = rank_at other of ∙ ranked_as (slice_index_or views other None) (logs other) list (ranked other of) e
+  list_at other of list e = rank_at other of ∙ ranked other of list e
 
   place_low : (other : ℕ) → IsOf shape shard other → other - first < length (own_ranks shape views shard)
   place_low other of = let l = own_long shape views shard long in let f = of.from in let t = of.to in omega (arith, l, f, t)
@@ -107,7 +85,7 @@ module _ (shape : Shape) (views : List (Option Viewing)) (shard peer : ℕ) (log
   best_first : (best : ℕ × Rank) → IsBest (own_ranks shape views shard) (length (own_ranks shape views shard)) best → choose (own_ranks shape views shard) ≡ Some best.0 → IsFirst shape logs shard peer
   best_first best h chosen = record {
     home = home;
-    some = λ other of some. ranked_some (slice_index_or views peer None) (logs peer) best.1 (ranked peer home) (sym (rank_at peer home) ∙ there);
+    some = λ other of some. own best.1 (sym (rank_at peer home) ∙ there);
     best = λ other of list taken e t. not_above (rank_of list) (rank_of taken) (own_rank taken t) (subst (λ o. is_up_to best.1 o ≡ true) (list_at other of list e) (h.greatest (other - first) (place_low other of)));
     first = λ other of less list taken e t.
         let f = of.from in

@@ -23,7 +23,7 @@ use Rattle.hs_shard.specs.Facts.{empty_catalogue}
 use Rattle.hs_side.specs.Current.{list_in}
 use Rattle.hs_taking.proofs.CarryLemmas.{any_same}
 use Rattle.hs_taking.proofs.EvenLemmas.{each_weak}
-use Rattle.hs_taking.proofs.FirstLemmas.{IsRanked, is_first}
+use Rattle.hs_taking.proofs.FirstLemmas.{is_first}
 use Rattle.hs_taking.proofs.KeepLemmas.{keeps_read, keeps_then}
 use Rattle.hs_taking.proofs.LevelLemmas.{still_same}
 use Rattle.hs_taking.proofs.PastLemmas.{past_all, past_then}
@@ -71,6 +71,22 @@ slot_kept (Kept log) keeping e = ap (λ k. Kept k) (some_log log keeping e)
 keeping_of : (o : Option Keeping) → is_some o ≡ true → (keeping : Keeping) × (o ≡ Some keeping)
 keeping_of None e = cc e
 keeping_of (Some keeping) e = (keeping, refl)
+
+-- a peer whose log is not in use though the taken one was not lost counts as having none: its disk failed
+abbrev pub put_out : Option Keeping → Bool → Option Numbered → Option Numbered
+put_out (Some keeping) lost log = log
+put_out None true log = log
+put_out None false log = None
+
+put_none : (o : Option Keeping) (lost : Bool) → put_out o lost None ≡ None
+put_none (Some keeping) lost = refl
+put_none None true = refl
+put_none None false = refl
+
+put_some : (o : Option Keeping) (lost : Bool) (log : Option Numbered) (list : Numbered) → put_out o lost log ≡ Some list → log ≡ Some list
+put_some (Some keeping) lost log list e = e
+put_some None true log list e = e
+put_some None false log list e = cc e
 
 -- ---- one peer
 
@@ -124,29 +140,64 @@ module _ (tells : Type 0) (shape : Shape) (peer before mid now : ℕ) (old via n
           subst (λ l. IsImage l (via.stands.seen side)) (sym loose) (settled_image (via.stands.seen side));
     }
 
-    evened_copy : (P : Numbered → Type 0) (slot : Slot) → (tells → P taken) → IsEvened tells mid now via new P slot lost → IsCopy tells before now old new (Some log) taken (log_of slot) (is_some lost)
-    evened_copy P slot has e = record {
-      read = λ told. inl (seen_list told);
-      kept = λ some. refl;
-      aside = λ none. elim (e.out none) [
-        | inl was ↦ inr (inr was)
-        | inr rose ↦ inr (inl (λ told. then_risen old.faults via.faults new.faults read.counted (rose told)))
-      ];
-      calm = λ some. let k = keeping_of (log_of slot) some in (e.good k.0 (slot_kept slot k.0 k.1)).calm ∙ viewed.calm;
-      has = λ told last keeping is. (e.good keeping (slot_kept slot keeping is)).has told (read.moments told last).last taken (has told);
-      reads = λ told keeping is listed. e.reads told keeping (slot_kept slot keeping is) taken (has told) (seen_same told ∙ listed);
-      disk = record {
-        moments = λ told last own leaves.
-            let one = read.moments told last in
-            let own_is = leaves_read before mid old.stands via.stands own one leaves via.stands.seen (stands_seen told) in
-            then-each own (IsOwnOrFront own taken) (e.moved.moments told one.last taken (has told) own own_is) one leaves (inl refl);
-        past = λ told last.
-            let one = read.moments told last in
-            past_then before mid now old.stands via.stands new.stands (past_all before mid old.stands via.stands one) (e.moved.past told one.last);
-        counted = let a = read.counted in let b = e.moved.counted in omega (arith, a, b);
-      };
-      even = λ told listed. keeps_from (e.even told taken (has told) (seen_same told ∙ listed));
-    }
+    evened_copy : (P : Numbered → Type 0) (slot : Slot) → (tells → P taken) → IsEvened tells mid now via new P slot lost → IsCopy tells before now old new (put_out (log_of slot) (is_some lost) (Some log)) taken (log_of slot) (is_some lost)
+    evened_copy P slot has e = by (log_of slot) refl (is_some lost) refl
+      where
+        disk : KeepsCopy tells before now old new taken
+        disk = record {
+          moments = λ told last own leaves.
+              let one = read.moments told last in
+              let own_is = leaves_read before mid old.stands via.stands own one leaves via.stands.seen (stands_seen told) in
+              then-each own (IsOwnOrFront own taken) (e.moved.moments told one.last taken (has told) own own_is) one leaves (inl refl);
+          past = λ told last.
+              let one = read.moments told last in
+              past_then before mid now old.stands via.stands new.stands (past_all before mid old.stands via.stands one) (e.moved.past told one.last);
+          counted = let a = read.counted in let b = e.moved.counted in omega (arith, a, b);
+        }
+
+        even : tells → list_in old.stands.seen ≡ Some taken → KeepsDisk tells before now old new
+        even told listed = keeps_from (e.even told taken (has told) (seen_same told ∙ listed))
+
+        some_not : (k : Keeping) → Some k ≡ None → ⊥
+        some_not k e = cc e
+
+        rose_or : (b : Bool) → is_some lost ≡ b → b ≡ false → (is_some lost ≡ true) ⊎ (tells → HasRisen via.faults new.faults) → tells → HasRisen old.faults new.faults
+        rose_or b is none why told = elim why [
+          | inl was ↦ absurd (not_some (sym (is ∙ none) ∙ was))
+          | inr rose ↦ then_risen old.faults via.faults new.faults read.counted (rose told)
+        ]
+
+        by : (o : Option Keeping) → log_of slot ≡ o → (b : Bool) → is_some lost ≡ b → IsCopy tells before now old new (put_out o b (Some log)) taken o b
+        by (Some k) is b gone = record {
+          read = λ told. inl (seen_list told);
+          kept = λ some. refl;
+          aside = λ none. absurd (some_not k none);
+          calm = λ some. (e.good k (slot_kept slot k is)).calm ∙ viewed.calm;
+          has = λ told last keeping same. (e.good keeping (slot_kept slot keeping (is ∙ same))).has told (read.moments told last).last taken (has told);
+          reads = λ told keeping same listed. e.reads told keeping (slot_kept slot keeping (is ∙ same)) taken (has told) (seen_same told ∙ listed);
+          disk = disk;
+          even = even;
+        }
+        by None is true gone = record {
+          read = λ told. inl (seen_list told);
+          kept = λ some. refl;
+          aside = λ none. inr (inr refl);
+          calm = λ some. absurd (not_some some);
+          has = λ told last keeping same. absurd (none_log keeping same);
+          reads = λ told keeping same. absurd (none_log keeping same);
+          disk = disk;
+          even = even;
+        }
+        by None is false gone = record {
+          read = λ told. inr (refl, rose_or false gone refl (e.out is) told);
+          kept = λ some. absurd (not_some some);
+          aside = λ none. inl refl;
+          calm = λ some. absurd (not_some some);
+          has = λ told last keeping same. absurd (none_log keeping same);
+          reads = λ told keeping same. absurd (none_log keeping same);
+          disk = disk;
+          even = even;
+        }
 
     -- the taken one
     taken_copy : (slot : Slot) → taken ≡ log → KeepsDisk tells mid now via new → IsTaken tells mid now via new slot lost → IsCopy tells before now old new (Some log) taken (log_of slot) (is_some lost)
@@ -204,30 +255,45 @@ module _ (tells : Type 0) (set : Setting) (before mid now : ℕ) (old via new : 
   picked peer = option_map (λ view. pick (list_in (seen_at via peer).stands.seen) view.rank) (slice_index_or views peer None)
 
   -- of the taken log the list that was applied
-  pub with_taken : ℕ → Option Numbered → ℕ → Option Numbered
-  with_taken from log peer = cond (peer == from) log (picked peer)
+  pub with_taken : ℕ → Option Numbered → Bool → ℕ → Option Numbered
+  with_taken from log lost peer = cond (peer == from) log (put_out (log_of (slot_at slots peer)) lost (picked peer))
 
-  with_here : (from : ℕ) (log : Option Numbered) → with_taken from log from ≡ log
+  with_here : (from : ℕ) (log : Option Numbered) (lost : Bool) → with_taken from log lost from ≡ log
   unfolding with_taken
-  with_here from log = elim (eqb_tells from from) [
-    | inl same ↦ ap (λ b. cond b log (picked from)) same.0
+  with_here from log lost = elim (eqb_tells from from) [
+    | inl same ↦ ap (λ b. cond b log (put_out (log_of (slot_at slots from)) lost (picked from))) same.0
     | inr differs ↦ absurd (differs.1 refl)
   ]
 
-  with_there : (from : ℕ) (log : Option Numbered) (peer : ℕ) → peer ≢ from → with_taken from log peer ≡ picked peer
+  with_there : (from : ℕ) (log : Option Numbered) (lost : Bool) (peer : ℕ) → peer ≢ from → with_taken from log lost peer ≡ put_out (log_of (slot_at slots peer)) lost (picked peer)
   unfolding with_taken
-  with_there from log peer differs = elim (eqb_tells peer from) [
+  with_there from log lost peer differs = elim (eqb_tells peer from) [
     | inl same ↦ absurd (differs same.1)
-    | inr not ↦ ap (λ b. cond b log (picked peer)) not.0
+    | inr not ↦ ap (λ b. cond b log (put_out (log_of (slot_at slots peer)) lost (picked peer))) not.0
   ]
 
-  ranked_by : (peer : ℕ) (view : Option Viewing) → IsRanked view (option_map (λ v. pick (list_in (seen_at via peer).stands.seen) v.rank) view)
-  ranked_by peer None = refl
-  ranked_by peer (Some view) = pick_rank (list_in (seen_at via peer).stands.seen) view.rank
+  ranked_by : (peer : ℕ) (view : Option Viewing) (list : Numbered) → option_map (λ v. pick (list_in (seen_at via peer).stands.seen) v.rank) view ≡ Some list → option_map (λ v. v.rank) view ≡ Some (rank_of list)
+  ranked_by peer None list e = cc e
+  ranked_by peer (Some view) list e = ap (λ r. Some r) (sym (pick_rank (list_in (seen_at via peer).stands.seen) view.rank) ∙ ap rank_of (some_list (pick (list_in (seen_at via peer).stands.seen) view.rank) list e))
+    where
+      some_list : (x y : Numbered) → Some x ≡ Some y → x ≡ y
+      some_list x y e = cc e
 
-  picked_ranked : (peer : ℕ) → IsRanked (slice_index_or views peer None) (picked peer)
+  picked_ranked : (peer : ℕ) (list : Numbered) → picked peer ≡ Some list → option_map (λ v. v.rank) (slice_index_or views peer None) ≡ Some (rank_of list)
   unfolding picked
-  picked_ranked peer = ranked_by peer (slice_index_or views peer None)
+  picked_ranked peer list e = ranked_by peer (slice_index_or views peer None) list e
+
+  picked_own : (peer : ℕ) (rank : Rank) → option_map (λ v. v.rank) (slice_index_or views peer None) ≡ Some rank → is_some (picked peer) ≡ true
+  unfolding picked
+  picked_own peer rank e = by (slice_index_or views peer None) e
+    where
+      by : (view : Option Viewing) → option_map (λ v. v.rank) view ≡ Some rank → is_some (option_map (λ v. pick (list_in (seen_at via peer).stands.seen) v.rank) view) ≡ true
+      by None e = cc e
+      by (Some view) e = refl
+
+  picked_none : (peer : ℕ) → slice_index_or views peer None ≡ None → picked peer ≡ None
+  unfolding picked
+  picked_none peer is = ap (λ (o : Option Viewing). option_map (λ v. pick (list_in (seen_at via peer).stands.seen) v.rank) o) is
 
   log_is : (peer : ℕ) → log_at taken.logs peer ≡ log_of (slot_at slots peer)
   log_is peer = ap (λ ls. log_at ls peer) logs_are ∙ log_slot slots peer
@@ -253,11 +319,12 @@ module _ (tells : Type 0) (set : Setting) (before mid now : ℕ) (old via new : 
         (none_copy tells set.shape peer before mid now (seen_at old peer) (seen_at via peer) (seen_at new peer) list lost (read peer low) (slot_at slots peer) aside ((viewed peer low).none none) (keeps_still peer still)))
 
     evened_by : (P : Numbered → Type 0) (peer : ℕ) → peer < total → (tells → P list) → (view : Option Viewing) → slice_index_or views peer None ≡ view → IsViewed tells set.shape peer (seen_at old peer) (seen_at via peer) view → IfSome view (IsViewOf tells set.shape peer (seen_at via peer))
-        → IsEvenedAs tells mid now (seen_at via peer) (seen_at new peer) P (slot_of view) (slot_at slots peer) lost → Copy peer (picked peer)
+        → IsEvenedAs tells mid now (seen_at via peer) (seen_at new peer) P (slot_of view) (slot_at slots peer) lost → Copy peer (put_out (log_of (slot_at slots peer)) (is_some lost) (picked peer))
     unfolding picked
-    evened_by P peer low has None is seen stands e = unseen peer low is e.0 e.1
-    evened_by P peer low has (Some view) is seen stands e = copy_at peer (picked peer)
-        (subst (λ (o : Option Viewing). IsCopy tells before now (seen_at old peer) (seen_at new peer) (option_map (λ v. pick (list_in (seen_at via peer).stands.seen) v.rank) o) list (log_of (slot_at slots peer)) (is_some lost)) (sym is)
+    evened_by P peer low has None is seen stands e =
+        subst (λ o. Copy peer o) (picked_none peer is ∙ sym (put_none (log_of (slot_at slots peer)) (is_some lost)) ∙ ap (λ o. put_out (log_of (slot_at slots peer)) (is_some lost) o) (sym (picked_none peer is))) (unseen peer low is e.0 e.1)
+    evened_by P peer low has (Some view) is seen stands e = copy_at peer (put_out (log_of (slot_at slots peer)) (is_some lost) (picked peer))
+        (subst (λ (o : Option Viewing). IsCopy tells before now (seen_at old peer) (seen_at new peer) (put_out (log_of (slot_at slots peer)) (is_some lost) (option_map (λ v. pick (list_in (seen_at via peer).stands.seen) v.rank) o)) list (log_of (slot_at slots peer)) (is_some lost)) (sym is)
         (evened_copy tells set.shape peer before mid now (seen_at old peer) (seen_at via peer) (seen_at new peer) list lost (read peer low) view seen.some (pick (list_in (seen_at via peer).stands.seen) view.rank) (pick_told tells set.shape peer (seen_at via peer) view stands) P (slot_at slots peer) has e))
 
   module _ (shard : ℕ) (within : (peer : ℕ) → IsOf set.shape shard peer → peer < total) (chosen : (share_at taken shard).peer ≡ chosen_peer set.shape views shard) (home : IsOf set.shape shard (share_at taken shard).peer) (long : peer_of set.shape shard 0 + set.shape.copies ≤ length views)
@@ -279,10 +346,6 @@ module _ (tells : Type 0) (set : Setting) (before mid now : ℕ) (old via new : 
     unfolding picked
     picked_some peer view is = ap (λ (o : Option Viewing). is_some (option_map (λ v. pick (list_in (seen_at via peer).stands.seen) v.rank) o)) is
 
-    picked_none : (peer : ℕ) → slice_index_or views peer None ≡ None → picked peer ≡ None
-    unfolding picked
-    picked_none peer is = ap (λ (o : Option Viewing). option_map (λ v. pick (list_in (seen_at via peer).stands.seen) v.rank) o) is
-
     -- no peer has a view
     none_shard : slice_index_or views from None ≡ None → TakesNone (apply_all set.name (empty_catalogue set.shape shard)) set.shape shard from via new (map slot_of views) slots share → HasShard tells set whole taken shard
     none_shard is t = record {
@@ -301,7 +364,7 @@ module _ (tells : Type 0) (set : Setting) (before mid now : ℕ) (old via new : 
         none = picked_none from is
 
         first : IsFirst set.shape picked shard from
-        first = is_first set.shape views shard from picked chosen home long (λ other of. picked_ranked other)
+        first = is_first set.shape views shard from picked chosen home long (λ other of list e. picked_ranked other list e) (picked_own from)
 
         begun : [] ≡ begun_list set.shape taken (picked from) shard
         begun = same_if (is_kept set.shape taken.logs shard) ∙ ap (λ (o : Option Numbered). if is_kept set.shape taken.logs shard then unwrap_or o [] else []) (sym none)
@@ -323,7 +386,7 @@ module _ (tells : Type 0) (set : Setting) (before mid now : ℕ) (old via new : 
     some_shard : (view : Viewing) → slice_index_or views from None ≡ Some view → TakesView tells (apply_all set.name (empty_catalogue set.shape shard)) set.shape shard from mid now via new (map slot_of views) slots view share → HasShard tells set whole taken shard
     some_shard view is t = record {
       logs = logs;
-      first = is_first set.shape views shard from logs chosen home long ranked;
+      first = is_first set.shape views shard from logs chosen home long ranked (λ rank e. ap (λ (o : Option Numbered). is_some o) here);
       each = each;
       disk = keeps_from tells set.shape from before mid now (seen_at old from) (seen_at via from) (seen_at new from) [] None (read from (within from home)) t.copies.disk;
       shard_is = numbered;
@@ -334,19 +397,24 @@ module _ (tells : Type 0) (set : Setting) (before mid now : ℕ) (old via new : 
     }
       where
         logs : ℕ → Option Numbered
-        logs = with_taken from (Some t.log)
+        logs = with_taken from (Some t.log) (is_some share.lost)
 
         here : logs from ≡ Some t.log
-        here = with_here from (Some t.log)
+        here = with_here from (Some t.log) (is_some share.lost)
 
         list_is : unwrap_or (logs from) [] ≡ t.log
         list_is = ap (λ (o : Option Numbered). unwrap_or o []) here
 
-        ranked : (other : ℕ) → IsOf set.shape shard other → IsRanked (slice_index_or views other None) (logs other)
-        ranked other of = elim (cases_eq other from) [
-          | inl same ↦ subst (λ p. IsRanked (slice_index_or views p None) (logs p)) (sym same) (subst (λ v. IsRanked v (logs from)) (sym is) (subst (λ o. IsRanked (Some view) o) (sym here) t.ranked))
-          | inr differs ↦ subst (λ o. IsRanked (slice_index_or views other None) o) (sym (with_there from (Some t.log) other differs)) (picked_ranked other)
+        ranked : (other : ℕ) → IsOf set.shape shard other → (list : Numbered) → logs other ≡ Some list → option_map (λ v. v.rank) (slice_index_or views other None) ≡ Some (rank_of list)
+        ranked other of list e = elim (cases_eq other from) [
+          | inl same ↦
+              let mine : t.log ≡ list = some_list t.log list (sym here ∙ ap (λ p. logs p) (sym same) ∙ e) in
+              ap (λ p. option_map (λ (v : Viewing). v.rank) (slice_index_or views p None)) same ∙ ap (λ (o : Option Viewing). option_map (λ v. v.rank) o) is ∙ ap (λ r. Some r) (sym t.ranked ∙ ap rank_of mine)
+          | inr differs ↦ picked_ranked other list (put_some (log_of (slot_at slots other)) (is_some share.lost) (picked other) list (sym (with_there from (Some t.log) (is_some share.lost) other differs) ∙ e))
         ]
+
+        some_list : (x y : Numbered) → Some x ≡ Some y → x ≡ y
+        some_list x y e = cc e
 
         begun : (if has_kept set.shape slots shard then t.log else []) ≡ begun_list set.shape taken (logs from) shard
         begun = ap (λ (b : Bool). if b then t.log else []) (sym (kept_is shard)) ∙ ap (λ (l : Numbered). if is_kept set.shape taken.logs shard then l else []) (sym list_is)
@@ -375,7 +443,7 @@ module _ (tells : Type 0) (set : Setting) (before mid now : ℕ) (old via new : 
           | inl same ↦ subst (λ p. IsCopy tells before now (seen_at old p) (seen_at new p) (logs p) (unwrap_or (logs from) []) (log_at taken.logs p) (is_some share.lost)) (sym same) own
           | inr differs ↦
               let low = within peer of in
-              subst (λ o. IsCopy tells before now (seen_at old peer) (seen_at new peer) o (unwrap_or (logs from) []) (log_at taken.logs peer) (is_some share.lost)) (sym (with_there from (Some t.log) peer differs))
+              subst (λ o. IsCopy tells before now (seen_at old peer) (seen_at new peer) o (unwrap_or (logs from) []) (log_at taken.logs peer) (is_some share.lost)) (sym (with_there from (Some t.log) (is_some share.lost) peer differs))
               (evened_by from share.lost (unwrap_or (logs from) []) (λ list. list_in (seen_at via from).stands.seen ≡ Some list) peer low told_list (slice_index_or views peer None) refl (viewed peer low) (stand peer low)
               (subst (λ (s : Slot). IsEvenedAs tells mid now (seen_at via peer) (seen_at new peer) (λ list. list_in (seen_at via from).stands.seen ≡ Some list) s (slot_at slots peer) share.lost) (view_slot views peer) (t.copies.each peer of differs)))
         ]

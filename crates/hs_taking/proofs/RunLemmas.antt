@@ -78,7 +78,7 @@ of_below shape shard next peer less of =
     omega (arith, m, d, t)
 
 -- the peer whose log is taken
-pub chosen_peer : Shape → List (Option Viewing) → ℕ → ℕ
+abbrev pub chosen_peer : Shape → List (Option Viewing) → ℕ → ℕ
 chosen_peer shape views shard = peer_of shape shard (unwrap_or (choose (take shape.copies (drop (peer_of shape shard 0) (map (λ view. option_map (λ v. v.rank) view) views)))) 0)
 
 -- ---- the first shards

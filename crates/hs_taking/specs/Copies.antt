@@ -49,7 +49,7 @@ pub record KeepsCopy (tells : Type 0) (before now : ℕ) (old new : DiskSeen) (t
 
 -- of a peer whose shard has this taken list; lost: whether the disk of the taken log failed
 -- read: its log is what its disk reads as, or the disk failed and counts as having none
--- aside: why it has no log in use: it had none, or its disk failed, where it tells that, or it was not found or made equal before the taken log was lost
+-- aside: why it has no log in use: it had none, or its disk failed, or it was not found or made equal before the taken log was lost
 -- calm: no call on the disk of a log that is in use failed
 -- has: that log has the taken list, whatever a stop leaves
 -- reads: where the disk had the taken list, reads of it give that, whatever a stop leaves
@@ -57,7 +57,7 @@ pub record KeepsCopy (tells : Type 0) (before now : ℕ) (old new : DiskSeen) (t
 pub record IsCopy (tells : Type 0) (before now : ℕ) (old new : DiskSeen) (log : Option Numbered) (taken : Numbered) (slot : Option Keeping) (lost : Bool) : Type 0 where
   pub read : tells → (log ≡ list_in old.stands.seen) ⊎ ((log ≡ None) × HasRisen old.faults new.faults)
   pub kept : is_some slot ≡ true → is_some log ≡ true
-  pub aside : slot ≡ None → (log ≡ None) ⊎ ((tells → HasRisen old.faults new.faults) ⊎ (lost ≡ true))
+  pub aside : slot ≡ None → (log ≡ None) ⊎ (HasRisen old.faults new.faults ⊎ (lost ≡ true))
   pub calm : StandsWithLog old new slot
   pub has : tells → old.stands.last ≤ before → (keeping : Keeping) → slot ≡ Some keeping → HasLog keeping new.stands taken None
   pub reads : tells → (keeping : Keeping) → slot ≡ Some keeping → list_in old.stands.seen ≡ Some taken → IsKept keeping (new.stands.seen keeping.log.side) taken None

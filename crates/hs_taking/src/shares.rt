@@ -18,7 +18,7 @@ use hs_limits::{Limits, Shape};
 use hs_peerlog::{PeerLog, PeerView};
 use hs_ports::{Disk, Watch};
 use hs_shard::Catalogue;
-use std::alloc::Global;
+use std::alloc::{AllocError, Global};
 
 /// What a shard opens with: the catalogue and the rank of its list, which are those of the empty list
 /// where no peer of it has a log.
@@ -85,7 +85,7 @@ pub(crate) fn take_all<A: Addresser, D: Disk>(
     ensures ticks { watch.old ≤ watch.new }
 {
     let ranks = ranks_of(alloc, views.as_slice())?;
-    let mut slots: Vec<Slot> = views.into_iter().map(slot_of).collect(alloc)?;
+    let mut slots = slots_of(alloc, views)?;
     let mut shares = Vec::new(alloc);
     for shard in 0..shape.shards {
         let peer = taken_peer(ranks.as_slice(), shape, shard);
@@ -100,8 +100,30 @@ pub(crate) fn take_all<A: Addresser, D: Disk>(
             return Err(TakeFault::NoMemory);
         }
     }
-    let logs: Vec<Option<PeerLog>> = slots.into_iter().map(log_of).collect(alloc)?;
+    let logs = logs_of(alloc, slots)?;
     Ok(Taking { logs, shares })
+}
+
+/// What is kept of the disks of all peers, from their views.
+fn slots_of(alloc: Global, views: Vec<Option<PeerView>>) -> Result<Vec<Slot>, AllocError>
+    ensures { IfOk result (λ slots. slots.items ≡ map slot_of views.items) }
+{
+    let mut slots = Vec::new(alloc);
+    for view in views {
+        slots.push(slot_of(view))?;
+    }
+    Ok(slots)
+}
+
+/// The logs of all peers, where they are kept.
+fn logs_of(alloc: Global, slots: Vec<Slot>) -> Result<Vec<Option<PeerLog>>, AllocError>
+    ensures { IfOk result (λ logs. logs.items ≡ map log_of slots.items) }
+{
+    let mut logs = Vec::new(alloc);
+    for slot in slots {
+        logs.push(log_of(slot))?;
+    }
+    Ok(logs)
 }
 
 /// What is kept of a disk that was viewed, or was not.

@@ -1,0 +1,255 @@
+use Rattle.std.proofs.Common.{◌≡◌, ◌∙◌, ◌*◌, ◌++◌, ◌∷◌, ◌<◌, ◌≤◌, [], ℕ, List, None, ap, arith, length, map, refl, subst, sym}
+use Rattle.std.proofs.lemmas.Grind.{common_steps}
+use Rattle.std.proofs.lemmas.List.{length-map}
+use Rattle.std.specs.Option.{option_map}
+use Rattle.std.specs.Prelude.{slice_index_or}
+use Rattle.std.specs.Prelude.{drop, take, unwrap_or}
+use Rattle.hs_coldstart.specs.Choose.{choose}
+use Rattle.hs_limits.specs.Shape.{peer_of}
+use Rattle.hs_fold.specs.Shards.Setting.{Setting}
+use Rattle.hs_peerlog.proofs.ImageLemmas.{Since}
+use Rattle.hs_peerlog.specs.Views.{Viewing}
+use Rattle.hs_taking.proofs.ChoiceLemmas.{shard_within}
+use Rattle.hs_taking.proofs.DiskLemmas.{seen_since}
+use Rattle.hs_taking.proofs.KeepLemmas.{keeps_none}
+use Rattle.hs_taking.proofs.RunLemmas.{TakesSome, chosen_peer, counted_since, fresh_views, keeps_since, logs_ready, takes_all, takes_more, takes_none, views_stand}
+use Rattle.hs_taking.specs.Copies.{IsOf}
+use Rattle.hs_taking.specs.declared.shares.Share.{Share}
+use Rattle.hs_taking.specs.declared.slot.Slot.{Slot}
+use Rattle.hs_taking.specs.Disks.{DiskSeen, seen_as, seen_at}
+use Rattle.hs_taking.specs.Evens.{IsFresh, slot_of}
+use Rattle.hs_taking.specs.Slots.{IsSlot, slot_at}
+use Rattle.hs_taking.proofs.shares.take_all.Goals as goal
+
+pub returns-in_err-ranks-clause-keeps : goal.returns-in_err-ranks-clause-keeps
+returns-in_err-ranks-clause-keeps g c =
+    let f : g.row.D.Denot → DiskSeen = λ disk. seen_as (g.D.Disk.size disk) (g.D.Disk.stands disk) (g.D.Disk.faults disk) in
+    let old : List DiskSeen = map f c.args.disks.now in
+    let set : Setting = record { name = g.A.Addresser.name c.args.naming.now; limits = c.args.limits; shape = c.args.shape } in
+    let since : (peer : ℕ) → g.D.Disk.tells → Since (seen_at old peer).stands = λ peer told. seen_since f (λ disk side m high. g.met.D.Disk.since told disk side m high) c.args.disks.now peer in
+    λ one peer low. keeps_none g.D.Disk.tells c.args.watch.now (seen_at old peer) (since peer)
+
+pub returns-in_err-slots-clause-keeps : goal.returns-in_err-slots-clause-keeps
+returns-in_err-slots-clause-keeps g c =
+    let f : g.row.D.Denot → DiskSeen = λ disk. seen_as (g.D.Disk.size disk) (g.D.Disk.stands disk) (g.D.Disk.faults disk) in
+    let old : List DiskSeen = map f c.args.disks.now in
+    let set : Setting = record { name = g.A.Addresser.name c.args.naming.now; limits = c.args.limits; shape = c.args.shape } in
+    let since : (peer : ℕ) → g.D.Disk.tells → Since (seen_at old peer).stands = λ peer told. seen_since f (λ disk side m high. g.met.D.Disk.since told disk side m high) c.args.disks.now peer in
+    λ one peer low. keeps_none g.D.Disk.tells c.args.watch.now (seen_at old peer) (since peer)
+
+pub loop-shard-init : goal.loop-shard-init
+loop-shard-init g c =
+    let f : g.row.D.Denot → DiskSeen = λ disk. seen_as (g.D.Disk.size disk) (g.D.Disk.stands disk) (g.D.Disk.faults disk) in
+    let old : List DiskSeen = map f c.args.disks.now in
+    let set : Setting = record { name = g.A.Addresser.name c.args.naming.now; limits = c.args.limits; shape = c.args.shape } in
+    let since : (peer : ℕ) → g.D.Disk.tells → Since (seen_at old peer).stands = λ peer told. seen_since f (λ disk side m high. g.met.D.Disk.since told disk side m high) c.args.disks.now peer in
+    let slots : c.in_ok-slots.slots.items ≡ map slot_of c.args.views.items = c.in_ok-slots.ensures in
+    record {
+      taken = subst (λ xs. TakesSome g.D.Disk.tells set c.args.watch.now c.args.watch.now old old c.args.views.items c.in_ok-slots.slots.items xs) (sym c.new-shares.ensures.items)
+          (subst (λ ss. TakesSome g.D.Disk.tells set c.args.watch.now c.args.watch.now old old c.args.views.items ss []) (sym slots) (takes_none g.D.Disk.tells set c.args.watch.now old c.args.views.items since));
+      ranks = c.in_ok-ranks.ensures ∙ ap (λ vs. map (λ view. option_map (λ (v : Viewing). v.rank) view) vs) c.as_slice.ensures.value;
+      shares = ap (λ (xs : List Share). length xs) c.new-shares.ensures.items;
+      slots = ap (λ (xs : List Slot). length xs) slots ∙ length-map slot_of c.args.views.items ∙ c.requires.views;
+      count = refl;
+      ticks = omega arith;
+    }
+
+pub take_shard-share-requires-clause-viewed : goal.take_shard-share-requires-clause-viewed
+take_shard-share-requires-clause-viewed g c =
+    let f : g.row.D.Denot → DiskSeen = λ disk. seen_as (g.D.Disk.size disk) (g.D.Disk.stands disk) (g.D.Disk.faults disk) in
+    let old : List DiskSeen = map f c.args.disks.now in
+    let set : Setting = record { name = g.A.Addresser.name c.args.naming.now; limits = c.args.limits; shape = c.args.shape } in
+    let since : (peer : ℕ) → g.D.Disk.tells → Since (seen_at old peer).stands = λ peer told. seen_since f (λ disk side m high. g.met.D.Disk.since told disk side m high) c.args.disks.now peer in
+    let cur : List DiskSeen = map f c.loop-shard.disks in
+    let inv = c.loop-shard.invariant in
+    let views = c.args.views.items in
+    let shard : ℕ = c.loop-shard.shard in
+    let low : (peer : ℕ) → IsOf c.args.shape shard peer → peer < c.args.shape.shards * c.args.shape.copies = λ peer of.
+        let w = shard_within c.args.shape shard c.loop-shard-test.true in
+        let t = of.to in
+        omega (arith, w, t) in
+    let stand : (peer : ℕ) → peer < c.args.shape.shards * c.args.shape.copies → IsSlot g.D.Disk.tells c.args.shape peer (seen_at old peer) (slot_at (map slot_of views) peer) =
+    λ peer less. views_stand g.D.Disk.tells c.args.shape peer (seen_at old peer) views (c.requires.viewed peer less) in
+    let rest : (peer : ℕ) → IsOf c.args.shape shard peer → (slot_at c.loop-shard.slots.items peer ≡ slot_at (map slot_of views) peer) × (seen_at cur peer ≡ seen_at old peer) = λ peer of.
+        let fr = of.from in
+        let same : length c.loop-shard.shares.items * c.args.shape.copies ≡ shard * c.args.shape.copies = ap (λ n. n * c.args.shape.copies) inv.shares in
+        inv.taken.rest peer (omega (arith, fr, same)) in
+    λ other of. subst (λ (d : DiskSeen). IsSlot g.D.Disk.tells c.args.shape other d (slot_at c.loop-shard.slots.items other)) (sym (rest other of).1)
+    (subst (λ (s : Slot). IsSlot g.D.Disk.tells c.args.shape other (seen_at old other) s) (sym (rest other of).0) (stand other (low other of)))
+
+pub take_shard-share-requires-clause-fresh : goal.take_shard-share-requires-clause-fresh
+take_shard-share-requires-clause-fresh g c =
+    let f : g.row.D.Denot → DiskSeen = λ disk. seen_as (g.D.Disk.size disk) (g.D.Disk.stands disk) (g.D.Disk.faults disk) in
+    let old : List DiskSeen = map f c.args.disks.now in
+    let set : Setting = record { name = g.A.Addresser.name c.args.naming.now; limits = c.args.limits; shape = c.args.shape } in
+    let since : (peer : ℕ) → g.D.Disk.tells → Since (seen_at old peer).stands = λ peer told. seen_since f (λ disk side m high. g.met.D.Disk.since told disk side m high) c.args.disks.now peer in
+    let cur : List DiskSeen = map f c.loop-shard.disks in
+    let inv = c.loop-shard.invariant in
+    let views = c.args.views.items in
+    let shard : ℕ = c.loop-shard.shard in
+    let low : (peer : ℕ) → IsOf c.args.shape shard peer → peer < c.args.shape.shards * c.args.shape.copies = λ peer of.
+        let w = shard_within c.args.shape shard c.loop-shard-test.true in
+        let t = of.to in
+        omega (arith, w, t) in
+    let stand : (peer : ℕ) → peer < c.args.shape.shards * c.args.shape.copies → IsSlot g.D.Disk.tells c.args.shape peer (seen_at old peer) (slot_at (map slot_of views) peer) =
+    λ peer less. views_stand g.D.Disk.tells c.args.shape peer (seen_at old peer) views (c.requires.viewed peer less) in
+    let rest : (peer : ℕ) → IsOf c.args.shape shard peer → (slot_at c.loop-shard.slots.items peer ≡ slot_at (map slot_of views) peer) × (seen_at cur peer ≡ seen_at old peer) = λ peer of.
+        let fr = of.from in
+        let same : length c.loop-shard.shares.items * c.args.shape.copies ≡ shard * c.args.shape.copies = ap (λ n. n * c.args.shape.copies) inv.shares in
+        inv.taken.rest peer (omega (arith, fr, same)) in
+    λ other of. subst (λ (s : Slot). IsFresh s) (sym (rest other of).0) (fresh_views views other)
+
+pub returns-in-Err-clause-counted : goal.returns-in-Err-clause-counted
+returns-in-Err-clause-counted g c =
+    let f : g.row.D.Denot → DiskSeen = λ disk. seen_as (g.D.Disk.size disk) (g.D.Disk.stands disk) (g.D.Disk.faults disk) in
+    let old : List DiskSeen = map f c.args.disks.now in
+    let set : Setting = record { name = g.A.Addresser.name c.args.naming.now; limits = c.args.limits; shape = c.args.shape } in
+    let since : (peer : ℕ) → g.D.Disk.tells → Since (seen_at old peer).stands = λ peer told. seen_since f (λ disk side m high. g.met.D.Disk.since told disk side m high) c.args.disks.now peer in
+    let cur : List DiskSeen = map f c.loop-shard.disks in
+    let inv = c.loop-shard.invariant in
+    let views = c.args.views.items in
+    let shard : ℕ = c.loop-shard.shard in
+    let low : (peer : ℕ) → IsOf c.args.shape shard peer → peer < c.args.shape.shards * c.args.shape.copies = λ peer of.
+        let w = shard_within c.args.shape shard c.loop-shard-test.true in
+        let t = of.to in
+        omega (arith, w, t) in
+    let stand : (peer : ℕ) → peer < c.args.shape.shards * c.args.shape.copies → IsSlot g.D.Disk.tells c.args.shape peer (seen_at old peer) (slot_at (map slot_of views) peer) =
+    λ peer less. views_stand g.D.Disk.tells c.args.shape peer (seen_at old peer) views (c.requires.viewed peer less) in
+    let rest : (peer : ℕ) → IsOf c.args.shape shard peer → (slot_at c.loop-shard.slots.items peer ≡ slot_at (map slot_of views) peer) × (seen_at cur peer ≡ seen_at old peer) = λ peer of.
+        let fr = of.from in
+        let same : length c.loop-shard.shares.items * c.args.shape.copies ≡ shard * c.args.shape.copies = ap (λ n. n * c.args.shape.copies) inv.shares in
+        inv.taken.rest peer (omega (arith, fr, same)) in
+    let next : List DiskSeen = map f c.take_shard-share.new.disks in
+    let home : IsOf c.args.shape shard c.taken_peer-peer.result = record { from = c.taken_peer-peer.ensures.from; to = c.taken_peer-peer.ensures.to } in
+    let step = c.take_shard-share.ensures in
+    λ peer within. counted_since g.D.Disk.tells set c.args.watch.now c.loop-shard.watch c.take_shard-share.new.watch shard c.taken_peer-peer.result old cur next views c.loop-shard.slots.items c.loop-shard.shares.items inv.shares inv.ticks step.ticks inv.taken home step.moved peer
+
+pub returns-in-Err-clause-keeps : goal.returns-in-Err-clause-keeps
+returns-in-Err-clause-keeps g c =
+    let f : g.row.D.Denot → DiskSeen = λ disk. seen_as (g.D.Disk.size disk) (g.D.Disk.stands disk) (g.D.Disk.faults disk) in
+    let old : List DiskSeen = map f c.args.disks.now in
+    let set : Setting = record { name = g.A.Addresser.name c.args.naming.now; limits = c.args.limits; shape = c.args.shape } in
+    let since : (peer : ℕ) → g.D.Disk.tells → Since (seen_at old peer).stands = λ peer told. seen_since f (λ disk side m high. g.met.D.Disk.since told disk side m high) c.args.disks.now peer in
+    let cur : List DiskSeen = map f c.loop-shard.disks in
+    let inv = c.loop-shard.invariant in
+    let views = c.args.views.items in
+    let shard : ℕ = c.loop-shard.shard in
+    let low : (peer : ℕ) → IsOf c.args.shape shard peer → peer < c.args.shape.shards * c.args.shape.copies = λ peer of.
+        let w = shard_within c.args.shape shard c.loop-shard-test.true in
+        let t = of.to in
+        omega (arith, w, t) in
+    let stand : (peer : ℕ) → peer < c.args.shape.shards * c.args.shape.copies → IsSlot g.D.Disk.tells c.args.shape peer (seen_at old peer) (slot_at (map slot_of views) peer) =
+    λ peer less. views_stand g.D.Disk.tells c.args.shape peer (seen_at old peer) views (c.requires.viewed peer less) in
+    let rest : (peer : ℕ) → IsOf c.args.shape shard peer → (slot_at c.loop-shard.slots.items peer ≡ slot_at (map slot_of views) peer) × (seen_at cur peer ≡ seen_at old peer) = λ peer of.
+        let fr = of.from in
+        let same : length c.loop-shard.shares.items * c.args.shape.copies ≡ shard * c.args.shape.copies = ap (λ n. n * c.args.shape.copies) inv.shares in
+        inv.taken.rest peer (omega (arith, fr, same)) in
+    let next : List DiskSeen = map f c.take_shard-share.new.disks in
+    let home : IsOf c.args.shape shard c.taken_peer-peer.result = record { from = c.taken_peer-peer.ensures.from; to = c.taken_peer-peer.ensures.to } in
+    let step = c.take_shard-share.ensures in
+    λ one peer within. keeps_since g.D.Disk.tells set c.args.watch.now c.loop-shard.watch c.take_shard-share.new.watch shard c.taken_peer-peer.result old cur next views c.loop-shard.slots.items c.loop-shard.shares.items inv.shares inv.ticks step.ticks inv.taken home step.moved one peer
+
+pub returns-then-is_err-clause-counted : goal.returns-then-is_err-clause-counted
+returns-then-is_err-clause-counted g c =
+    let f : g.row.D.Denot → DiskSeen = λ disk. seen_as (g.D.Disk.size disk) (g.D.Disk.stands disk) (g.D.Disk.faults disk) in
+    let old : List DiskSeen = map f c.args.disks.now in
+    let set : Setting = record { name = g.A.Addresser.name c.args.naming.now; limits = c.args.limits; shape = c.args.shape } in
+    let since : (peer : ℕ) → g.D.Disk.tells → Since (seen_at old peer).stands = λ peer told. seen_since f (λ disk side m high. g.met.D.Disk.since told disk side m high) c.args.disks.now peer in
+    let cur : List DiskSeen = map f c.loop-shard.disks in
+    let inv = c.loop-shard.invariant in
+    let views = c.args.views.items in
+    let shard : ℕ = c.loop-shard.shard in
+    let low : (peer : ℕ) → IsOf c.args.shape shard peer → peer < c.args.shape.shards * c.args.shape.copies = λ peer of.
+        let w = shard_within c.args.shape shard c.loop-shard-test.true in
+        let t = of.to in
+        omega (arith, w, t) in
+    let stand : (peer : ℕ) → peer < c.args.shape.shards * c.args.shape.copies → IsSlot g.D.Disk.tells c.args.shape peer (seen_at old peer) (slot_at (map slot_of views) peer) =
+    λ peer less. views_stand g.D.Disk.tells c.args.shape peer (seen_at old peer) views (c.requires.viewed peer less) in
+    let rest : (peer : ℕ) → IsOf c.args.shape shard peer → (slot_at c.loop-shard.slots.items peer ≡ slot_at (map slot_of views) peer) × (seen_at cur peer ≡ seen_at old peer) = λ peer of.
+        let fr = of.from in
+        let same : length c.loop-shard.shares.items * c.args.shape.copies ≡ shard * c.args.shape.copies = ap (λ n. n * c.args.shape.copies) inv.shares in
+        inv.taken.rest peer (omega (arith, fr, same)) in
+    let next : List DiskSeen = map f c.take_shard-share.new.disks in
+    let home : IsOf c.args.shape shard c.taken_peer-peer.result = record { from = c.taken_peer-peer.ensures.from; to = c.taken_peer-peer.ensures.to } in
+    let step = c.take_shard-share.ensures in
+    λ peer within. counted_since g.D.Disk.tells set c.args.watch.now c.loop-shard.watch c.take_shard-share.new.watch shard c.taken_peer-peer.result old cur next views c.loop-shard.slots.items c.loop-shard.shares.items inv.shares inv.ticks step.ticks inv.taken home step.moved peer
+
+pub returns-then-is_err-clause-keeps : goal.returns-then-is_err-clause-keeps
+returns-then-is_err-clause-keeps g c =
+    let f : g.row.D.Denot → DiskSeen = λ disk. seen_as (g.D.Disk.size disk) (g.D.Disk.stands disk) (g.D.Disk.faults disk) in
+    let old : List DiskSeen = map f c.args.disks.now in
+    let set : Setting = record { name = g.A.Addresser.name c.args.naming.now; limits = c.args.limits; shape = c.args.shape } in
+    let since : (peer : ℕ) → g.D.Disk.tells → Since (seen_at old peer).stands = λ peer told. seen_since f (λ disk side m high. g.met.D.Disk.since told disk side m high) c.args.disks.now peer in
+    let cur : List DiskSeen = map f c.loop-shard.disks in
+    let inv = c.loop-shard.invariant in
+    let views = c.args.views.items in
+    let shard : ℕ = c.loop-shard.shard in
+    let low : (peer : ℕ) → IsOf c.args.shape shard peer → peer < c.args.shape.shards * c.args.shape.copies = λ peer of.
+        let w = shard_within c.args.shape shard c.loop-shard-test.true in
+        let t = of.to in
+        omega (arith, w, t) in
+    let stand : (peer : ℕ) → peer < c.args.shape.shards * c.args.shape.copies → IsSlot g.D.Disk.tells c.args.shape peer (seen_at old peer) (slot_at (map slot_of views) peer) =
+    λ peer less. views_stand g.D.Disk.tells c.args.shape peer (seen_at old peer) views (c.requires.viewed peer less) in
+    let rest : (peer : ℕ) → IsOf c.args.shape shard peer → (slot_at c.loop-shard.slots.items peer ≡ slot_at (map slot_of views) peer) × (seen_at cur peer ≡ seen_at old peer) = λ peer of.
+        let fr = of.from in
+        let same : length c.loop-shard.shares.items * c.args.shape.copies ≡ shard * c.args.shape.copies = ap (λ n. n * c.args.shape.copies) inv.shares in
+        inv.taken.rest peer (omega (arith, fr, same)) in
+    let next : List DiskSeen = map f c.take_shard-share.new.disks in
+    let home : IsOf c.args.shape shard c.taken_peer-peer.result = record { from = c.taken_peer-peer.ensures.from; to = c.taken_peer-peer.ensures.to } in
+    let step = c.take_shard-share.ensures in
+    λ one peer within. keeps_since g.D.Disk.tells set c.args.watch.now c.loop-shard.watch c.take_shard-share.new.watch shard c.taken_peer-peer.result old cur next views c.loop-shard.slots.items c.loop-shard.shares.items inv.shares inv.ticks step.ticks inv.taken home step.moved one peer
+
+pub loop-shard-preserved : goal.loop-shard-preserved
+loop-shard-preserved g c =
+    let f : g.row.D.Denot → DiskSeen = λ disk. seen_as (g.D.Disk.size disk) (g.D.Disk.stands disk) (g.D.Disk.faults disk) in
+    let old : List DiskSeen = map f c.args.disks.now in
+    let set : Setting = record { name = g.A.Addresser.name c.args.naming.now; limits = c.args.limits; shape = c.args.shape } in
+    let since : (peer : ℕ) → g.D.Disk.tells → Since (seen_at old peer).stands = λ peer told. seen_since f (λ disk side m high. g.met.D.Disk.since told disk side m high) c.args.disks.now peer in
+    let cur : List DiskSeen = map f c.loop-shard.disks in
+    let inv = c.loop-shard.invariant in
+    let views = c.args.views.items in
+    let shard : ℕ = c.loop-shard.shard in
+    let low : (peer : ℕ) → IsOf c.args.shape shard peer → peer < c.args.shape.shards * c.args.shape.copies = λ peer of.
+        let w = shard_within c.args.shape shard c.loop-shard-test.true in
+        let t = of.to in
+        omega (arith, w, t) in
+    let stand : (peer : ℕ) → peer < c.args.shape.shards * c.args.shape.copies → IsSlot g.D.Disk.tells c.args.shape peer (seen_at old peer) (slot_at (map slot_of views) peer) =
+    λ peer less. views_stand g.D.Disk.tells c.args.shape peer (seen_at old peer) views (c.requires.viewed peer less) in
+    let rest : (peer : ℕ) → IsOf c.args.shape shard peer → (slot_at c.loop-shard.slots.items peer ≡ slot_at (map slot_of views) peer) × (seen_at cur peer ≡ seen_at old peer) = λ peer of.
+        let fr = of.from in
+        let same : length c.loop-shard.shares.items * c.args.shape.copies ≡ shard * c.args.shape.copies = ap (λ n. n * c.args.shape.copies) inv.shares in
+        inv.taken.rest peer (omega (arith, fr, same)) in
+    let next : List DiskSeen = map f c.take_shard-share.new.disks in
+    let home : IsOf c.args.shape shard c.taken_peer-peer.result = record { from = c.taken_peer-peer.ensures.from; to = c.taken_peer-peer.ensures.to } in
+    let step = c.take_shard-share.ensures in
+    let since_cur : (peer : ℕ) → g.D.Disk.tells → Since (seen_at cur peer).stands = λ peer told. seen_since f (λ disk side m high. g.met.D.Disk.since told disk side m high) c.loop-shard.disks peer in
+    let items : c.push.new.self.items ≡ c.loop-shard.shares.items ++ c.in-Ok.share ∷ [] = grind (arith, common_steps) in
+    let chosen : c.taken_peer-peer.result ≡ chosen_peer c.args.shape views shard = c.taken_peer-peer.ensures.value
+    ∙ ap (λ rs. peer_of c.args.shape shard (unwrap_or (choose (take c.args.shape.copies (drop (peer_of c.args.shape shard 0) rs))) 0)) (c.as_slice-in-loop-shard.ensures.value ∙ inv.ranks) in
+    record {
+      taken = subst (λ xs. TakesSome g.D.Disk.tells set c.args.watch.now c.take_shard-share.new.watch old next views c.take_shard-share.new.slots.items xs) (sym items)
+          (takes_more g.D.Disk.tells set c.args.watch.now c.loop-shard.watch c.take_shard-share.new.watch shard c.taken_peer-peer.result old cur next views c.loop-shard.slots.items c.loop-shard.shares.items inv.shares inv.ticks step.ticks inv.taken home step.moved c.take_shard-share.new.slots.items c.in-Ok.share chosen c.loop-shard-test.true since since_cur stand c.in-Ok.ensures.takes c.in-Ok.ensures.shard c.in-Ok.ensures.peer);
+      ranks = inv.ranks;
+      shares = grind (arith, common_steps, items, inv.shares);
+      slots = step.slots ∙ inv.slots;
+      count = step.count ∙ inv.count;
+      ticks = let a = inv.ticks in let b = step.ticks in omega (arith, a, b);
+    }
+
+pub returns-clause-takes : goal.returns-clause-takes
+returns-clause-takes g c =
+    let f : g.row.D.Denot → DiskSeen = λ disk. seen_as (g.D.Disk.size disk) (g.D.Disk.stands disk) (g.D.Disk.faults disk) in
+    let old : List DiskSeen = map f c.args.disks.now in
+    let set : Setting = record { name = g.A.Addresser.name c.args.naming.now; limits = c.args.limits; shape = c.args.shape } in
+    let since : (peer : ℕ) → g.D.Disk.tells → Since (seen_at old peer).stands = λ peer told. seen_since f (λ disk side m high. g.met.D.Disk.since told disk side m high) c.args.disks.now peer in
+    let cur : List DiskSeen = map f c.loop-shard.disks in
+    takes_all g.D.Disk.tells set c.args.watch.now c.loop-shard.watch old cur c.args.views.items c.loop-shard.slots.items c.loop-shard.shares.items c.in_ok-logs.logs.items c.in_ok-logs.ensures c.loop-shard.invariant.taken
+
+pub returns-clause-ready : goal.returns-clause-ready
+returns-clause-ready g c =
+    let f : g.row.D.Denot → DiskSeen = λ disk. seen_as (g.D.Disk.size disk) (g.D.Disk.stands disk) (g.D.Disk.faults disk) in
+    let old : List DiskSeen = map f c.args.disks.now in
+    let set : Setting = record { name = g.A.Addresser.name c.args.naming.now; limits = c.args.limits; shape = c.args.shape } in
+    let since : (peer : ℕ) → g.D.Disk.tells → Since (seen_at old peer).stands = λ peer told. seen_since f (λ disk side m high. g.met.D.Disk.since told disk side m high) c.args.disks.now peer in
+    let cur : List DiskSeen = map f c.loop-shard.disks in
+    logs_ready g.D.Disk.tells set c.args.watch.now c.loop-shard.watch old cur c.args.views.items c.loop-shard.slots.items c.loop-shard.shares.items c.in_ok-logs.logs.items c.in_ok-logs.ensures c.loop-shard.invariant.taken
