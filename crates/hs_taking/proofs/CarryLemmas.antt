@@ -52,11 +52,14 @@ taken_span tells before mid till now a a' (Kept log) (Some moment) up on t = abs
 taken_span tells before mid till now a a' Aside None up on t = absurd t
 taken_span tells before mid till now a a' Aside (Some moment) up on t =
     let low = t.0 in
-    let high = t.1 in
-    (omega (arith, up, low), omega (arith, on, high), record {
-      still = λ told last list leaves. t.2.still told (omega (arith, last, up)) list leaves;
-      failed = t.2.failed;
-    })
+    let high = t.1 in (
+      omega (arith, up, low),
+      omega (arith, on, high),
+      record {
+        still = λ told last list leaves. t.2.still told (omega (arith, last, up)) list leaves;
+        failed = t.2.failed;
+      },
+    )
 taken_span tells before mid till now a a' (Viewed view) lost up on t = absurd t
 taken_span tells before mid till now a a' (Equal view) lost up on t = absurd t
 

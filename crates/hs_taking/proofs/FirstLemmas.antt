@@ -17,17 +17,15 @@ use Rattle.hs_taking.proofs.RunLemmas.{chosen_peer}
 use Rattle.hs_taking.specs.Copies.{IsFirst, IsOf}
 
 -- the ranks of the views of a shard's peers
-own_ranks : Shape → List (Option Viewing) → ℕ → List (Option Rank)
+abbrev own_ranks : Shape → List (Option Viewing) → ℕ → List (Option Rank)
 own_ranks shape views shard = take shape.copies (drop (peer_of shape shard 0) (map (λ view. option_map (λ v. v.rank) view) views))
 
 own_at : (shape : Shape) (views : List (Option Viewing)) (shard copy : ℕ) → copy < shape.copies → get_or (own_ranks shape views shard) copy None ≡ option_map (λ v. v.rank) (slice_index_or views (peer_of shape shard 0 + copy) None)
-unfolding own_ranks
 own_at shape views shard copy low =
     get_or-take shape.copies (drop (peer_of shape shard 0) (map (λ view. option_map (λ v. v.rank) view) views)) copy None low ∙ get_or-drop (peer_of shape shard 0) (map (λ view. option_map (λ v. v.rank) view) views) copy None
     ∙ get_or-map (λ view. option_map (λ v. v.rank) view) views (peer_of shape shard 0 + copy) None
 
 own_long : (shape : Shape) (views : List (Option Viewing)) (shard : ℕ) → peer_of shape shard 0 + shape.copies ≤ length views → length (own_ranks shape views shard) ≡ shape.copies
-unfolding own_ranks
 own_long shape views shard long =
     let d = length-drop (peer_of shape shard 0) (map (λ view. option_map (λ v. v.rank) view) views) in
     let m = length-map (λ view. option_map (λ v. v.rank) view) views in
@@ -94,7 +92,6 @@ module _ (shape : Shape) (views : List (Option Viewing)) (shard peer : ℕ) (log
   }
     where
       place : peer - first ≡ best.0
-      unfolding own_ranks
       place =
           let at : peer ≡ first + best.0 = is ∙ ap (λ o. peer_of shape shard (unwrap_or o 0)) chosen ∙ same in
           omega (arith, at)

@@ -250,9 +250,10 @@ module _ (tells : Type 0) (shape : Shape) (shard from t1 t2 t3 : ℕ) (d0 d1 d2 
       → IsEvenedAs tells t1 t3 (seen_at d0 peer) (seen_at d3 peer) Has s0 s2 (lost_at last)
   by_slot peer of differs (Equal view) s1 s2 is s m v = tt
   by_slot peer of differs (Kept log) s1 s2 is s m v = tt
-  by_slot peer of differs Aside s1 s2 is s m v =
-      (subst (λ (x : Slot). IsMade tells t2 (seen_at d1 peer) (seen_at d3 peer) first last (IsSourceOf first a2) x s2) s m,
-      subst (λ (x : DiskSeen). IsStill tells (seen_at d0 peer) x) (sym (subst (λ (x : Slot). IsMoved tells t2 t3 (seen_at d1 peer) (seen_at d3 peer) first (IsSourceOf first a2) x) s v)) (sorted.still peer))
+  by_slot peer of differs Aside s1 s2 is s m v = (
+    subst (λ (x : Slot). IsMade tells t2 (seen_at d1 peer) (seen_at d3 peer) first last (IsSourceOf first a2) x s2) s m,
+    subst (λ (x : DiskSeen). IsStill tells (seen_at d0 peer) x) (sym (subst (λ (x : Slot). IsMoved tells t2 t3 (seen_at d1 peer) (seen_at d3 peer) first (IsSourceOf first a2) x) s v)) (sorted.still peer),
+  )
   by_slot peer of differs (Viewed view) s1 s2 is s m v =
       evened tells shape peer t1 t2 t3 a0 a2 (seen_at d0 peer) (seen_at d1 peer) (seen_at d3 peer) view lost1 first last s2 (lost_at last) up on (since peer) is (sorted.still peer)
       (λ none list told e. recovered_has tells t1 t2 a1 a2 lost1 first rec none list told (same_list told ∙ e)) (recovered_gone tells t1 t2 a1 a2 lost1 first rec) (run_gone tells t2 t3 a2 a3 first last made.source) (lost_told last) s1 s m v
@@ -284,10 +285,14 @@ module _ (tells : Type 0) (shape : Shape) (shard from t1 t2 t3 : ℕ) (d0 d1 d2 
       subst (λ (s : Standing). s.last ≤ t2) (sym (made.still.same told)) (keeps.past told a).last
 
   lost_is : (moment : ℕ) → t2 ≤ moment → moment ≤ t3 → (tells → HasRisen a0.faults a3.faults) → IsTaken tells t1 t3 a0 a3 Aside (Some moment)
-  lost_is moment low high rose = (omega (arith, low, up), high, record {
-    still = λ told last list leaves. let r = at_rest told last in omega (arith, r, low);
-    failed = rose;
-  })
+  lost_is moment low high rose = (
+    omega (arith, low, up),
+    high,
+    record {
+      still = λ told last list leaves. let r = at_rest told last in omega (arith, r, low);
+      failed = rose;
+    },
+  )
 
   counts : (a0.faults ≤ a1.faults) × (a1.faults ≤ a2.faults) × (a2.faults ≤ a3.faults)
   counts = ((sorted.still from).counted, keeps.counted, made.still.counted)

@@ -72,10 +72,14 @@ taken_since tells before now a b c (Kept log) None still calm t = record {
   sealed = t.sealed;
   reads = λ told list e. t.reads told list (ap (λ (s : Standing). list_in s.seen) (still.same told) ∙ e);
 }
-taken_since tells before now a b c Aside (Some moment) still calm t = (t.0, t.1, record {
-  still = λ told last list leaves. t.2.still told (subst (λ (s : Standing). s.last ≤ before) (sym (still.same told)) last) list (subst (λ (s : Standing). LeavesOnly s list) (sym (still.same told)) leaves);
-  failed = λ told. subst (λ n. HasRisen n c.faults) calm (t.2.failed told);
-})
+taken_since tells before now a b c Aside (Some moment) still calm t = (
+  t.0,
+  t.1,
+  record {
+    still = λ told last list leaves. t.2.still told (subst (λ (s : Standing). s.last ≤ before) (sym (still.same told)) last) list (subst (λ (s : Standing). LeavesOnly s list) (sym (still.same told)) leaves);
+    failed = λ told. subst (λ n. HasRisen n c.faults) calm (t.2.failed told);
+  },
+)
 
 module _ (tells : Type 0) (shape : Shape) (shard from before now : ℕ) (old via new : List DiskSeen) (slots : List Slot) (still : IsStill tells (seen_at old from) (seen_at via from)) (there : (peer : ℕ) → peer ≢ from → seen_at via peer ≡ seen_at old peer) where
   abbrev P : Numbered → Type 0
@@ -137,9 +141,13 @@ module _ (tells : Type 0) (shape : Shape) (shard from now moment : ℕ) (old new
   pub left_evened : moment ≡ now → slot_at slots from ≡ Aside → IsStill tells (seen_at old from) (seen_at new from) → (tells → HasRisen (seen_at old from).faults (seen_at new from).faults) → AreEvened tells shape shard from now now old new slots slots (Some moment)
   left_evened at aside still rose = record {
     each = λ peer of differs. left peer (slot_at slots peer) (still_same tells (seen_at old peer) (seen_at new peer) (there peer differs)) (views peer of);
-    taken = subst (λ (s : Slot). IsTaken tells now now (seen_at old from) (seen_at new from) s (Some moment)) (sym aside) (omega (arith, at), omega (arith, at), record {
-      still = λ told last list leaves. subst (λ n. (seen_at new from).stands.last ≤ n) (sym at) (subst (λ (s : Standing). s.last ≤ now) (sym (still.same told)) last);
-      failed = rose;
-    });
+    taken = subst (λ (s : Slot). IsTaken tells now now (seen_at old from) (seen_at new from) s (Some moment)) (sym aside) (
+      omega (arith, at),
+      omega (arith, at),
+      record {
+        still = λ told last list leaves. subst (λ n. (seen_at new from).stands.last ≤ n) (sym at) (subst (λ (s : Standing). s.last ≤ now) (sym (still.same told)) last);
+        failed = rose;
+      },
+    );
     disk = still_keeps tells now now (seen_at old from) (seen_at new from) (omega arith) (since from) still;
   }

@@ -11,10 +11,7 @@ use hs_peerlog::PeerView;
 use std::alloc::{AllocError, Global};
 
 /// The ranks of the lists of some views.
-pub fn ranks_of(
-    alloc: Global,
-    views: &[Option<PeerView>],
-) -> Result<Vec<Option<Rank>>, AllocError>
+pub fn ranks_of(alloc: Global, views: &[Option<PeerView>]) -> Result<Vec<Option<Rank>>, AllocError>
     ensures { IfOk result (λ ranks. ranks.items
         ≡ map (λ view. option_map (λ v. v.rank) view) views.now) }
 {

@@ -69,10 +69,26 @@ pub(crate) fn even_at<D: Disk>(
 {
     if from < place {
         let (low, high) = disks.split_at_mut(place);
-        even_out(taken, &mut low[from], view, &mut high[0], watch, shape, peer)
+        even_out(
+            taken,
+            &mut low[from],
+            view,
+            &mut high[0],
+            watch,
+            shape,
+            peer,
+        )
     } else {
         let (low, high) = disks.split_at_mut(from);
-        even_out(taken, &mut high[0], view, &mut low[place], watch, shape, peer)
+        even_out(
+            taken,
+            &mut high[0],
+            view,
+            &mut low[place],
+            watch,
+            shape,
+            peer,
+        )
     }
 }
 

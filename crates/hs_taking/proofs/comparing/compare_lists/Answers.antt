@@ -21,10 +21,10 @@ returns-in-Ok-false g c =
     (still_then g.D.Disk.tells (seen c.args.disk.now) (seen c.entries.disk) (seen c.compare_entry.new.disk) inv.disk step.disk)
     (told_calm.0 ∙ inv.source_calm) (told_calm.1 ∙ inv.disk_calm)
     (λ told whole own there here.
-        let a = subst (λ (d : Standing). HasView c.args.view.now d.seen whole) (sym (inv.source.same told)) there in
-        let b = subst (λ (d : Standing). HasView c.args.other.now d.seen own) (sym (inv.disk.same told)) here in
-        let is = c.in-Ok-false.ensures.same told whole own a b in
-        (λ y. absurd (no_truth' y), λ n same. let w = is.1 (ap (λ (l : Numbered). numbered_entry l (c.entries.index + 1)) same) in no_truth (sym w ∙ c.in-Ok-false.field-0-test)))
+    let a = subst (λ (d : Standing). HasView c.args.view.now d.seen whole) (sym (inv.source.same told)) there in
+    let b = subst (λ (d : Standing). HasView c.args.other.now d.seen own) (sym (inv.disk.same told)) here in
+    let is = c.in-Ok-false.ensures.same told whole own a b in
+    (λ y. absurd (no_truth' y), λ n same. let w = is.1 (ap (λ (l : Numbered). numbered_entry l (c.entries.index + 1)) same) in no_truth (sym w ∙ c.in-Ok-false.field-0-test)))
   where
     no_truth : true ≡ false → ⊥
     no_truth e = cc e

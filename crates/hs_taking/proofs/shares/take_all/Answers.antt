@@ -65,15 +65,15 @@ take_shard-share-requires-clause-viewed g c =
     let views = c.args.views.items in
     let shard : ℕ = c.loop-shard.shard in
     let low : (peer : ℕ) → IsOf c.args.shape shard peer → peer < c.args.shape.shards * c.args.shape.copies = λ peer of.
-        let w = shard_within c.args.shape shard c.loop-shard-test.true in
-        let t = of.to in
-        omega (arith, w, t) in
+    let w = shard_within c.args.shape shard c.loop-shard-test.true in
+    let t = of.to in
+    omega (arith, w, t) in
     let stand : (peer : ℕ) → peer < c.args.shape.shards * c.args.shape.copies → IsSlot g.D.Disk.tells c.args.shape peer (seen_at old peer) (slot_at (map slot_of views) peer) =
     λ peer less. views_stand g.D.Disk.tells c.args.shape peer (seen_at old peer) views (c.requires.viewed peer less) in
     let rest : (peer : ℕ) → IsOf c.args.shape shard peer → (slot_at c.loop-shard.slots.items peer ≡ slot_at (map slot_of views) peer) × (seen_at cur peer ≡ seen_at old peer) = λ peer of.
-        let fr = of.from in
-        let same : length c.loop-shard.shares.items * c.args.shape.copies ≡ shard * c.args.shape.copies = ap (λ n. n * c.args.shape.copies) inv.shares in
-        inv.taken.rest peer (omega (arith, fr, same)) in
+    let fr = of.from in
+    let same : length c.loop-shard.shares.items * c.args.shape.copies ≡ shard * c.args.shape.copies = ap (λ n. n * c.args.shape.copies) inv.shares in
+    inv.taken.rest peer (omega (arith, fr, same)) in
     λ other of. subst (λ (d : DiskSeen). IsSlot g.D.Disk.tells c.args.shape other d (slot_at c.loop-shard.slots.items other)) (sym (rest other of).1)
     (subst (λ (s : Slot). IsSlot g.D.Disk.tells c.args.shape other (seen_at old other) s) (sym (rest other of).0) (stand other (low other of)))
 
@@ -88,15 +88,15 @@ take_shard-share-requires-clause-fresh g c =
     let views = c.args.views.items in
     let shard : ℕ = c.loop-shard.shard in
     let low : (peer : ℕ) → IsOf c.args.shape shard peer → peer < c.args.shape.shards * c.args.shape.copies = λ peer of.
-        let w = shard_within c.args.shape shard c.loop-shard-test.true in
-        let t = of.to in
-        omega (arith, w, t) in
+    let w = shard_within c.args.shape shard c.loop-shard-test.true in
+    let t = of.to in
+    omega (arith, w, t) in
     let stand : (peer : ℕ) → peer < c.args.shape.shards * c.args.shape.copies → IsSlot g.D.Disk.tells c.args.shape peer (seen_at old peer) (slot_at (map slot_of views) peer) =
     λ peer less. views_stand g.D.Disk.tells c.args.shape peer (seen_at old peer) views (c.requires.viewed peer less) in
     let rest : (peer : ℕ) → IsOf c.args.shape shard peer → (slot_at c.loop-shard.slots.items peer ≡ slot_at (map slot_of views) peer) × (seen_at cur peer ≡ seen_at old peer) = λ peer of.
-        let fr = of.from in
-        let same : length c.loop-shard.shares.items * c.args.shape.copies ≡ shard * c.args.shape.copies = ap (λ n. n * c.args.shape.copies) inv.shares in
-        inv.taken.rest peer (omega (arith, fr, same)) in
+    let fr = of.from in
+    let same : length c.loop-shard.shares.items * c.args.shape.copies ≡ shard * c.args.shape.copies = ap (λ n. n * c.args.shape.copies) inv.shares in
+    inv.taken.rest peer (omega (arith, fr, same)) in
     λ other of. subst (λ (s : Slot). IsFresh s) (sym (rest other of).0) (fresh_views views other)
 
 pub returns-in-Err-clause-counted : goal.returns-in-Err-clause-counted
@@ -110,15 +110,15 @@ returns-in-Err-clause-counted g c =
     let views = c.args.views.items in
     let shard : ℕ = c.loop-shard.shard in
     let low : (peer : ℕ) → IsOf c.args.shape shard peer → peer < c.args.shape.shards * c.args.shape.copies = λ peer of.
-        let w = shard_within c.args.shape shard c.loop-shard-test.true in
-        let t = of.to in
-        omega (arith, w, t) in
+    let w = shard_within c.args.shape shard c.loop-shard-test.true in
+    let t = of.to in
+    omega (arith, w, t) in
     let stand : (peer : ℕ) → peer < c.args.shape.shards * c.args.shape.copies → IsSlot g.D.Disk.tells c.args.shape peer (seen_at old peer) (slot_at (map slot_of views) peer) =
     λ peer less. views_stand g.D.Disk.tells c.args.shape peer (seen_at old peer) views (c.requires.viewed peer less) in
     let rest : (peer : ℕ) → IsOf c.args.shape shard peer → (slot_at c.loop-shard.slots.items peer ≡ slot_at (map slot_of views) peer) × (seen_at cur peer ≡ seen_at old peer) = λ peer of.
-        let fr = of.from in
-        let same : length c.loop-shard.shares.items * c.args.shape.copies ≡ shard * c.args.shape.copies = ap (λ n. n * c.args.shape.copies) inv.shares in
-        inv.taken.rest peer (omega (arith, fr, same)) in
+    let fr = of.from in
+    let same : length c.loop-shard.shares.items * c.args.shape.copies ≡ shard * c.args.shape.copies = ap (λ n. n * c.args.shape.copies) inv.shares in
+    inv.taken.rest peer (omega (arith, fr, same)) in
     let next : List DiskSeen = map f c.take_shard-share.new.disks in
     let home : IsOf c.args.shape shard c.taken_peer-peer.result = record { from = c.taken_peer-peer.ensures.from; to = c.taken_peer-peer.ensures.to } in
     let step = c.take_shard-share.ensures in
@@ -135,15 +135,15 @@ returns-in-Err-clause-keeps g c =
     let views = c.args.views.items in
     let shard : ℕ = c.loop-shard.shard in
     let low : (peer : ℕ) → IsOf c.args.shape shard peer → peer < c.args.shape.shards * c.args.shape.copies = λ peer of.
-        let w = shard_within c.args.shape shard c.loop-shard-test.true in
-        let t = of.to in
-        omega (arith, w, t) in
+    let w = shard_within c.args.shape shard c.loop-shard-test.true in
+    let t = of.to in
+    omega (arith, w, t) in
     let stand : (peer : ℕ) → peer < c.args.shape.shards * c.args.shape.copies → IsSlot g.D.Disk.tells c.args.shape peer (seen_at old peer) (slot_at (map slot_of views) peer) =
     λ peer less. views_stand g.D.Disk.tells c.args.shape peer (seen_at old peer) views (c.requires.viewed peer less) in
     let rest : (peer : ℕ) → IsOf c.args.shape shard peer → (slot_at c.loop-shard.slots.items peer ≡ slot_at (map slot_of views) peer) × (seen_at cur peer ≡ seen_at old peer) = λ peer of.
-        let fr = of.from in
-        let same : length c.loop-shard.shares.items * c.args.shape.copies ≡ shard * c.args.shape.copies = ap (λ n. n * c.args.shape.copies) inv.shares in
-        inv.taken.rest peer (omega (arith, fr, same)) in
+    let fr = of.from in
+    let same : length c.loop-shard.shares.items * c.args.shape.copies ≡ shard * c.args.shape.copies = ap (λ n. n * c.args.shape.copies) inv.shares in
+    inv.taken.rest peer (omega (arith, fr, same)) in
     let next : List DiskSeen = map f c.take_shard-share.new.disks in
     let home : IsOf c.args.shape shard c.taken_peer-peer.result = record { from = c.taken_peer-peer.ensures.from; to = c.taken_peer-peer.ensures.to } in
     let step = c.take_shard-share.ensures in
@@ -160,15 +160,15 @@ returns-then-is_err-clause-counted g c =
     let views = c.args.views.items in
     let shard : ℕ = c.loop-shard.shard in
     let low : (peer : ℕ) → IsOf c.args.shape shard peer → peer < c.args.shape.shards * c.args.shape.copies = λ peer of.
-        let w = shard_within c.args.shape shard c.loop-shard-test.true in
-        let t = of.to in
-        omega (arith, w, t) in
+    let w = shard_within c.args.shape shard c.loop-shard-test.true in
+    let t = of.to in
+    omega (arith, w, t) in
     let stand : (peer : ℕ) → peer < c.args.shape.shards * c.args.shape.copies → IsSlot g.D.Disk.tells c.args.shape peer (seen_at old peer) (slot_at (map slot_of views) peer) =
     λ peer less. views_stand g.D.Disk.tells c.args.shape peer (seen_at old peer) views (c.requires.viewed peer less) in
     let rest : (peer : ℕ) → IsOf c.args.shape shard peer → (slot_at c.loop-shard.slots.items peer ≡ slot_at (map slot_of views) peer) × (seen_at cur peer ≡ seen_at old peer) = λ peer of.
-        let fr = of.from in
-        let same : length c.loop-shard.shares.items * c.args.shape.copies ≡ shard * c.args.shape.copies = ap (λ n. n * c.args.shape.copies) inv.shares in
-        inv.taken.rest peer (omega (arith, fr, same)) in
+    let fr = of.from in
+    let same : length c.loop-shard.shares.items * c.args.shape.copies ≡ shard * c.args.shape.copies = ap (λ n. n * c.args.shape.copies) inv.shares in
+    inv.taken.rest peer (omega (arith, fr, same)) in
     let next : List DiskSeen = map f c.take_shard-share.new.disks in
     let home : IsOf c.args.shape shard c.taken_peer-peer.result = record { from = c.taken_peer-peer.ensures.from; to = c.taken_peer-peer.ensures.to } in
     let step = c.take_shard-share.ensures in
@@ -185,15 +185,15 @@ returns-then-is_err-clause-keeps g c =
     let views = c.args.views.items in
     let shard : ℕ = c.loop-shard.shard in
     let low : (peer : ℕ) → IsOf c.args.shape shard peer → peer < c.args.shape.shards * c.args.shape.copies = λ peer of.
-        let w = shard_within c.args.shape shard c.loop-shard-test.true in
-        let t = of.to in
-        omega (arith, w, t) in
+    let w = shard_within c.args.shape shard c.loop-shard-test.true in
+    let t = of.to in
+    omega (arith, w, t) in
     let stand : (peer : ℕ) → peer < c.args.shape.shards * c.args.shape.copies → IsSlot g.D.Disk.tells c.args.shape peer (seen_at old peer) (slot_at (map slot_of views) peer) =
     λ peer less. views_stand g.D.Disk.tells c.args.shape peer (seen_at old peer) views (c.requires.viewed peer less) in
     let rest : (peer : ℕ) → IsOf c.args.shape shard peer → (slot_at c.loop-shard.slots.items peer ≡ slot_at (map slot_of views) peer) × (seen_at cur peer ≡ seen_at old peer) = λ peer of.
-        let fr = of.from in
-        let same : length c.loop-shard.shares.items * c.args.shape.copies ≡ shard * c.args.shape.copies = ap (λ n. n * c.args.shape.copies) inv.shares in
-        inv.taken.rest peer (omega (arith, fr, same)) in
+    let fr = of.from in
+    let same : length c.loop-shard.shares.items * c.args.shape.copies ≡ shard * c.args.shape.copies = ap (λ n. n * c.args.shape.copies) inv.shares in
+    inv.taken.rest peer (omega (arith, fr, same)) in
     let next : List DiskSeen = map f c.take_shard-share.new.disks in
     let home : IsOf c.args.shape shard c.taken_peer-peer.result = record { from = c.taken_peer-peer.ensures.from; to = c.taken_peer-peer.ensures.to } in
     let step = c.take_shard-share.ensures in
@@ -210,15 +210,15 @@ loop-shard-preserved g c =
     let views = c.args.views.items in
     let shard : ℕ = c.loop-shard.shard in
     let low : (peer : ℕ) → IsOf c.args.shape shard peer → peer < c.args.shape.shards * c.args.shape.copies = λ peer of.
-        let w = shard_within c.args.shape shard c.loop-shard-test.true in
-        let t = of.to in
-        omega (arith, w, t) in
+    let w = shard_within c.args.shape shard c.loop-shard-test.true in
+    let t = of.to in
+    omega (arith, w, t) in
     let stand : (peer : ℕ) → peer < c.args.shape.shards * c.args.shape.copies → IsSlot g.D.Disk.tells c.args.shape peer (seen_at old peer) (slot_at (map slot_of views) peer) =
     λ peer less. views_stand g.D.Disk.tells c.args.shape peer (seen_at old peer) views (c.requires.viewed peer less) in
     let rest : (peer : ℕ) → IsOf c.args.shape shard peer → (slot_at c.loop-shard.slots.items peer ≡ slot_at (map slot_of views) peer) × (seen_at cur peer ≡ seen_at old peer) = λ peer of.
-        let fr = of.from in
-        let same : length c.loop-shard.shares.items * c.args.shape.copies ≡ shard * c.args.shape.copies = ap (λ n. n * c.args.shape.copies) inv.shares in
-        inv.taken.rest peer (omega (arith, fr, same)) in
+    let fr = of.from in
+    let same : length c.loop-shard.shares.items * c.args.shape.copies ≡ shard * c.args.shape.copies = ap (λ n. n * c.args.shape.copies) inv.shares in
+    inv.taken.rest peer (omega (arith, fr, same)) in
     let next : List DiskSeen = map f c.take_shard-share.new.disks in
     let home : IsOf c.args.shape shard c.taken_peer-peer.result = record { from = c.taken_peer-peer.ensures.from; to = c.taken_peer-peer.ensures.to } in
     let step = c.take_shard-share.ensures in
