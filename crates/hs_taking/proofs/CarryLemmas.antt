@@ -124,6 +124,7 @@ module _ (tells : Type 0) (shape : Shape) (shard from before mid till now : ℕ)
       record {
         log = t.log;
         ranked = t.ranked;
+        blank = t.blank;
         told = λ told. ap (λ (x : DiskSeen). list_in x.stands.seen) (olds from home) ∙ t.told told;
         took = t.took;
         catalogue = t.catalogue ∙ ap (λ (b : Bool). fold (if b then t.log else [])) same;

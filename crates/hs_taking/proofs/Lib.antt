@@ -7,6 +7,7 @@ pub mod FirstLemmas
 pub mod KeepLemmas
 pub mod LevelLemmas
 pub mod LoadLemmas
+pub mod NameLemmas
 pub mod OpenedLemmas
 pub mod PairLemmas
 pub mod PastLemmas

@@ -80,6 +80,7 @@ module _ (tells : Type 0) (shape : Shape) (shard from before now : ℕ) (old new
     from_slot = subst (λ (s : Slot). TakesFrom tells fold shape shard from before now old new slots after share s) (sym is) (record {
       log = takes.log;
       ranked = takes.ranked;
+      blank = takes.blank;
       told = takes.told;
       took = takes.took;
       catalogue = takes.catalogue;

@@ -20,6 +20,7 @@ use Rattle.hs_peerlog.specs.Views.{HasView, Viewing}
 use Rattle.hs_ports.specs.Fault.{HasRisen, IsCausedBy}
 use Rattle.hs_shard.specs.Facts.{Catalogue}
 use Rattle.hs_side.specs.Current.{list_in}
+use Rattle.hs_taking.proofs.NameLemmas.{pick_blank, pick_log, pick_ranked, name_told}
 use Rattle.hs_taking.proofs.PastLemmas.{past_still}
 use Rattle.hs_taking.specs.Copies.{IsOf}
 use Rattle.hs_taking.specs.declared.loading.Loaded.{Loaded}
@@ -140,16 +141,20 @@ module _ (tells : Type 0) (fold : Numbered → Catalogue) (shape : Shape) (shard
   pub lost_takes : has_kept shape slots' shard ≡ false → share.catalogue ≡ fold [] → share.rank ≡ record { view = 0; number = 0 } → TakesView tells fold shape shard from before now old new slots slots' view share
   lost_takes none catalogue rank = record {
     log = log;
-    ranked = pick_rank (list_in (seen_at old from).stands.seen) view.rank;
-    told = pick_told tells shape from (seen_at old from) view viewed;
-    took = took ∙ ap (λ (r : Rank). Some r.number) (sym (pick_rank (list_in (seen_at old from).stands.seen) view.rank));
+    ranked = pick_ranked (list_in (seen_at old from).stands.seen) view.rank;
+    blank = pick_blank (list_in (seen_at old from).stands.seen) view.rank;
+    told = λ told.
+        let l = listed_of (list_in (seen_at old from).stands.seen) (viewed.listed told) in
+        let has = viewed.has told l.0 l.1 in
+        name_told (list_in (seen_at old from).stands.seen) view.rank l.0 l.1 has.numbered has.rank;
+    took = took ∙ ap (λ (r : Rank). Some r.number) (sym (pick_ranked (list_in (seen_at old from).stands.seen) view.rank));
     catalogue = catalogue ∙ ap (λ (b : Bool). fold (if b then log else [])) (sym none);
     rank = rank ∙ empty_rank ∙ ap (λ (b : Bool). rank_of (if b then log else [])) (sym none);
     copies = copies;
   }
     where
       log : Numbered
-      log = pick (list_in (seen_at old from).stands.seen) view.rank
+      log = pick_log (list_in (seen_at old from).stands.seen) view.rank
 
   -- it was loaded
   module _ (loaded : Loaded) (is : IsLoaded tells fold (HasView view (seen_at old from).stands.seen) loaded) (ranked : loaded.rank ≡ view.rank) where
@@ -160,6 +165,7 @@ module _ (tells : Type 0) (fold : Numbered → Catalogue) (shape : Shape) (shard
     view_takes true kept catalogue rank = record {
       log = is.list;
       ranked = sym is.rank ∙ ranked;
+      blank = λ zeros. is.blank (ap (λ (r : Rank). r.number) (is.rank ∙ zeros));
       told = list_told;
       took = took ∙ ap (λ (r : Rank). Some r.number) (sym ranked ∙ is.rank);
       catalogue = catalogue ∙ is.catalogue ∙ ap (λ (b : Bool). fold (if b then is.list else [])) (sym kept);
@@ -169,6 +175,7 @@ module _ (tells : Type 0) (fold : Numbered → Catalogue) (shape : Shape) (shard
     view_takes false kept catalogue rank = record {
       log = is.list;
       ranked = sym is.rank ∙ ranked;
+      blank = λ zeros. is.blank (ap (λ (r : Rank). r.number) (is.rank ∙ zeros));
       told = list_told;
       took = took ∙ ap (λ (r : Rank). Some r.number) (sym ranked ∙ is.rank);
       catalogue = catalogue ∙ ap (λ (b : Bool). fold (if b then is.list else [])) (sym kept);

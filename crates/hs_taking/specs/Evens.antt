@@ -109,6 +109,7 @@ IsFresh (Kept log) = ⊥
 pub record TakesView (tells : Type 0) (fold : Numbered → Catalogue) (shape : Shape) (shard from : ℕ) (before now : ℕ) (old new : List DiskSeen) (slots slots' : List Slot) (view : Viewing) (share : Share) : Type 0 where
   pub log : Numbered
   pub ranked : rank_of log ≡ view.rank
+  pub blank : rank_of log ≡ record { view = 0; number = 0 } → log ≡ []
   pub told : tells → list_in (seen_at old from).stands.seen ≡ Some log
   pub took : share.took ≡ Some (rank_of log).number
   pub catalogue : share.catalogue ≡ fold (if has_kept shape slots' shard then log else [])

@@ -5,7 +5,7 @@ use Rattle.hs_fold.specs.Shards.Setting.{Numbered}
 use Rattle.hs_peerlog.specs.Views.{HasView}
 use Rattle.hs_ports.specs.Disk.{Standing}
 use Rattle.hs_shard.specs.Facts.{Catalogue, empty_catalogue}
-use Rattle.hs_taking.proofs.LoadLemmas.{IsLoading, all_read, none_loaded, none_wanting, one_loaded, ranks_differ}
+use Rattle.hs_taking.proofs.LoadLemmas.{IsLoading, all_read, none_counted, none_loaded, none_wanting, numbers_same, one_loaded, ranks_differ}
 use Rattle.hs_taking.proofs.loading.load.Goals as goal
 
 pub entries-init : goal.entries-init
@@ -53,6 +53,10 @@ returns-clause-loaded g c =
       catalogue = so_far.catalogue_is;
       rank = so_far.rank_is;
       told = λ told whole has. so_far.told told whole has ∙ all_read c.args.view.now (g.D.Disk.stands c.args.disk.now).seen whole c.entries.index has all;
+      blank = λ none.
+          let same = numbers_same c.entries.rank c.rank.result c.ne.result c.ne.ensures c.if-ne.false in
+          let of_view : c.rank.result.number ≡ c.args.view.now.rank.number = ap (λ (r : Rank). r.number) c.rank.ensures in
+          none_counted so_far.list (omega (arith, so_far.counted, c.entries.auto.index-end, c.last-index-end.ensures, none, same, of_view));
     }
 
 pub returns-then-ne-clause-refused : goal.returns-then-ne-clause-refused
