@@ -78,11 +78,11 @@ put_out (Some keeping) lost log = log
 put_out None true log = log
 put_out None false log = None
 
-none_list : (list : Numbered) → None ≡ Some list → ⊥
-none_list list e = cc e
+never_list : (list : Numbered) → None ≡ Some list → ⊥
+never_list list e = cc e
 
-some_list : (x y : Numbered) → Some x ≡ Some y → x ≡ y
-some_list x y e = cc e
+one_list : (x y : Numbered) → Some x ≡ Some y → x ≡ y
+one_list x y e = cc e
 
 put_none : (o : Option Keeping) (lost : Bool) → put_out o lost None ≡ None
 put_none (Some keeping) lost = refl
@@ -357,7 +357,7 @@ module _ (tells : Type 0) (set : Setting) (before mid now : ℕ) (old via new : 
     none_shard is t = record {
       logs = picked;
       first = first;
-      blank = λ list has zeros. absurd (none_list list (sym none ∙ has));
+      blank = λ list has zeros. absurd (never_list list (sym none ∙ has));
       each = λ peer of. unseen from share.lost (unwrap_or (picked from) []) peer (within peer of) (unseen_all peer of (slice_index_or views peer None) refl) (aside peer of) (still peer of);
       disk = keeps_from tells set.shape from before mid now (seen_at old from) (seen_at via from) (seen_at new from) [] None (read from (within from home)) (keeps_still from share.lost [] from (still from home));
       shard_is = numbered;
@@ -393,7 +393,7 @@ module _ (tells : Type 0) (set : Setting) (before mid now : ℕ) (old via new : 
     some_shard : (view : Viewing) → slice_index_or views from None ≡ Some view → TakesView tells (apply_all set.name (empty_catalogue set.shape shard)) set.shape shard from mid now via new (map slot_of views) slots view share → HasShard tells set whole taken shard
     some_shard view is t = record {
       logs = logs;
-      blank = λ list has zeros. let e : t.log ≡ list = some_list t.log list (sym here ∙ has) in sym e ∙ t.blank (ap (λ (l : Numbered). rank_of l) e ∙ zeros);
+      blank = λ list has zeros. let e : t.log ≡ list = one_list t.log list (sym here ∙ has) in sym e ∙ t.blank (ap (λ (l : Numbered). rank_of l) e ∙ zeros);
       first = is_first set.shape views shard from logs chosen home long ranked (λ rank e. ap (λ (o : Option Numbered). is_some o) here);
       each = each;
       disk = keeps_from tells set.shape from before mid now (seen_at old from) (seen_at via from) (seen_at new from) [] None (read from (within from home)) t.copies.disk;
