@@ -78,6 +78,7 @@ begun_list shape taken log shard = if is_kept shape taken.logs shard then unwrap
 pub record HasShard (tells : Type 0) (set : Setting) (span : Span) (taken : Taken) (shard : ℕ) : Type 0 where
   pub logs : ℕ → Option Numbered
   pub first : IsFirst set.shape logs shard (share_at taken shard).peer
+  -- of the least rank it has no entries, as where no peer has a log
   pub blank : (list : Numbered) → logs (share_at taken shard).peer ≡ Some list → rank_of list ≡ record { view = 0; number = 0 } → list ≡ []
   pub each : (peer : ℕ) → IsOf set.shape shard peer
       → IsCopy tells span.before span.now (seen_at span.old peer) (seen_at span.new peer) (logs peer) (unwrap_or (logs (share_at taken shard).peer) []) (log_at taken.logs peer) (is_some (share_at taken shard).lost)
