@@ -59,10 +59,6 @@ log_slot [] peer = refl
 log_slot (s ∷ slots) zero = refl
 log_slot (s ∷ slots) (suc k) = log_slot slots k
 
-pub map_same : {A : Type 0} (xs : List A) → map (λ x. x) xs ≡ xs
-map_same [] = refl
-map_same (x ∷ xs) = ap (λ ys. x ∷ ys) (map_same xs)
-
 -- ---- the peers of a shard
 
 pub of_or : (shape : Shape) (shard peer : ℕ) → IsOf shape shard peer ⊎ (IsOf shape shard peer → ⊥)
