@@ -28,7 +28,7 @@ own_at shape views shard copy low =
 own_long : (shape : Shape) (views : List (Option Viewing)) (shard : ℕ) → peer_of shape shard 0 + shape.copies ≤ length views → length (own_ranks shape views shard) ≡ shape.copies
 own_long shape views shard long =
     let d = length-drop (peer_of shape shard 0) (map (λ view. option_map (λ v. v.rank) view) views) in
-    let m = length-map (λ view. option_map (λ v. v.rank) view) views in
+    let m = length-map views (λ view. option_map (λ v. v.rank) view) in
     length-take-le shape.copies (drop (peer_of shape shard 0) (map (λ view. option_map (λ v. v.rank) view) views)) (omega (arith, d, m, long))
 
 -- what was found of the first ranks

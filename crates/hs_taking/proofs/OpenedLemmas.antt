@@ -59,8 +59,8 @@ of_share (s ∷ shares) x has = elim (Contains-append_cases (lost_of s) (flat_ma
       record { at = suc o.at; within = omega (arith, w); peer = o.peer; lost = o.lost }
 ]
 
-lost_share_in : (share : Share) (m : ℕ) → share.lost ≡ Some m → Contains (lost_of share) (share.peer, m)
-lost_share_in share m e = subst (λ (o : Option ℕ). Contains (option_map_or (λ moment. (share.peer, moment) ∷ []) o []) (share.peer, m)) (sym e) (0, omega arith, refl)
+lost_share_in : (share : Share) (m : ℕ) → share.lost ≡ Some m → Contains {X = ℕ × ℕ} (lost_of share) (share.peer, m)
+lost_share_in share m e = subst (λ (o : Option ℕ). Contains {X = ℕ × ℕ} (option_map_or (λ moment. (share.peer, moment) ∷ []) o []) (share.peer, m)) (sym e) (0, omega arith, refl)
 
 lost_in : (shares : List Share) (k m : ℕ) → k < length shares → (slice_index_or shares k no_share).lost ≡ Some m → Contains (flat_map lost_of shares) ((slice_index_or shares k no_share).peer, m)
 lost_in [] k m low e = absurd (omega (arith, low))

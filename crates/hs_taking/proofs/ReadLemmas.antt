@@ -413,6 +413,9 @@ module _ (tells : Type 0) (set : Setting) (before mid now : ℕ) (old via new : 
         list_is : unwrap_or (logs from) [] ≡ t.log
         list_is = ap (λ (o : Option Numbered). unwrap_or o []) here
 
+        some_list : (x y : Numbered) → Some x ≡ Some y → x ≡ y
+        some_list x y e = cc e
+
         ranked : (other : ℕ) → IsOf set.shape shard other → (list : Numbered) → logs other ≡ Some list → option_map (λ v. v.rank) (slice_index_or views other None) ≡ Some (rank_of list)
         ranked other of list e = elim (cases_eq other from) [
           | inl same ↦
@@ -420,9 +423,6 @@ module _ (tells : Type 0) (set : Setting) (before mid now : ℕ) (old via new : 
               ap (λ p. option_map (λ (v : Viewing). v.rank) (slice_index_or views p None)) same ∙ ap (λ (o : Option Viewing). option_map (λ v. v.rank) o) is ∙ ap (λ r. Some r) (sym t.ranked ∙ ap rank_of mine)
           | inr differs ↦ picked_ranked other list (put_some (log_of (slot_at slots other)) (is_some share.lost) (picked other) list (sym (with_there from (Some t.log) (is_some share.lost) other differs) ∙ e))
         ]
-
-        some_list : (x y : Numbered) → Some x ≡ Some y → x ≡ y
-        some_list x y e = cc e
 
         begun : (if has_kept set.shape slots shard then t.log else []) ≡ begun_list set.shape taken (logs from) shard
         begun = ap (λ (b : Bool). if b then t.log else []) (sym (kept_is shard)) ∙ ap (λ (l : Numbered). if is_kept set.shape taken.logs shard then l else []) (sym list_is)

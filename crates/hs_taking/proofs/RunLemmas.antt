@@ -54,7 +54,7 @@ stands_of tells shape peer disk (Some view) is = is
 pub views_stand : (tells : Type 0) (shape : Shape) (peer : ℕ) (disk : DiskSeen) (views : List (Option Viewing)) → IfSome (slice_index_or views peer None) (IsViewOf tells shape peer disk) → IsSlot tells shape peer disk (slot_at (map slot_of views) peer)
 views_stand tells shape peer disk views is = subst (λ (s : Slot). IsSlot tells shape peer disk s) (sym (view_slot views peer)) (stands_of tells shape peer disk (slice_index_or views peer None) is)
 
-log_slot : (slots : List Slot) (peer : ℕ) → log_at (map log_of slots) peer ≡ log_of (slot_at slots peer)
+pub log_slot : (slots : List Slot) (peer : ℕ) → log_at (map log_of slots) peer ≡ log_of (slot_at slots peer)
 log_slot [] peer = refl
 log_slot (s ∷ slots) zero = refl
 log_slot (s ∷ slots) (suc k) = log_slot slots k

@@ -49,7 +49,7 @@ loop-shard-init g c =
           (subst (λ ss. TakesSome g.D.Disk.tells set c.args.watch.now c.args.watch.now old old c.args.views.items ss []) (sym slots) (takes_none g.D.Disk.tells set c.args.watch.now old c.args.views.items since));
       ranks = c.in_ok-ranks.ensures ∙ ap (λ vs. map (λ view. option_map (λ (v : Viewing). v.rank) view) vs) c.as_slice.ensures.value;
       shares = ap (λ (xs : List Share). length xs) c.new-shares.ensures.items;
-      slots = ap (λ (xs : List Slot). length xs) slots ∙ length-map slot_of c.args.views.items ∙ c.requires.views;
+      slots = ap (λ (xs : List Slot). length xs) slots ∙ length-map c.args.views.items slot_of ∙ c.requires.views;
       count = refl;
       ticks = omega arith;
     }
