@@ -39,10 +39,10 @@ use Rattle.hs_run.specs.Served.{Served}
 use Rattle.hs_run.specs.Stopping.{status_of}
 use Rattle.hs_run.proofs.CaseLemmas.{if_told}
 use Rattle.hs_run.proofs.DisksLemmas.{disk_is, falls_is, none_fell, past_is, read_as, risen_since, rose_is, told_as}
-use Rattle.hs_run.proofs.FoundLemmas.{has_found, opened_ready, opened_so}
+use Rattle.hs_run.proofs.FoundLemmas.{opened_ready, opened_so}
 use Rattle.hs_run.proofs.OpeningLemmas.{since_opened}
 use Rattle.hs_run.proofs.RiseLemmas.{rise_le}
-use Rattle.hs_run.proofs.RunLemmas.{FoundBy, IsOfStory, causes_run, ends_run, printed_run, prints_run, run_shape, story_run, time_run}
+use Rattle.hs_run.proofs.RunLemmas.{IsOfStory, causes_run, ends_run, printed_run, prints_run, run_shape, story_run, time_run}
 use Rattle.hs_run.proofs.ShapeLemmas.{refusal_of}
 
 -- as many disks as before
@@ -112,10 +112,6 @@ module _ (tells : Type 0) (set : Setting) (span : Span) (running : Running) (did
     ran : HasRun tells set.name did b old.left new.left part
     ran = runs b (record { named = refl; opened = opened; got = was_got })
 
-    found_by : FoundBy b
-    found_by = λ commands r lines here.
-        has_found tells set (record { before = span.before; now = opens.found.opened; old = span.old; new = opens.disks }) opens.found opens.begun.logs opens.events lines commands r (here ∙ entry) opens.finds
-
     -- a disk of another store failed
     no_other : (commands : ℕ → Option Command) (r : Ran) → r.old ≡ old → r.new ≡ new → (m : IsOfStory tells (record { set = set; commands = commands }) r) → tells → (peer : ℕ) (found : Header) → IsFirstOther (record { set = set; commands = commands }) r peer found
         → DiskRose r 1 peer
@@ -152,7 +148,7 @@ module _ (tells : Type 0) (set : Setting) (span : Span) (running : Running) (did
           left = left_told old.left new.left part.result part.new.line ends;
           ends = if_told (λ told. EndsBy told new.left part.result part.new.line) (λ told. IfSome new.left (Ends (ran_at (status_of part.result part.new.line) part.new.line (Some part.new.cluster) old new) told)) old.left ends
               (λ told h. ends_run part.result part.new.line (Some part.new.cluster) old new told h);
-          past = λ told. past_is old new m.runs.span.before m.runs.span.now m.runs.span.disks m.runs.span.left m.runs.old m.runs.new m.runs.before m.runs.now (m.runs.shown.past told);
+          past = λ told. past_is old new m.runs.span.before m.runs.span.now m.runs.span.disks m.runs.span.left m.runs.old m.runs.new m.runs.before m.runs.now (m.runs.shown.past one told);
           shape = λ told. record {
             only = λ peer found is. absurd (no_shape peer found is);
             exact = λ peer found first may calm. absurd (calm (no_other commands (ran_at (status_of part.result part.new.line) part.new.line (Some part.new.cluster) old new) refl refl m told peer found first));
@@ -166,7 +162,7 @@ module _ (tells : Type 0) (set : Setting) (span : Span) (running : Running) (did
     pub whole_hub : (ending : Status) → ending ≡ status_of part.result part.new.line → length new.disks ≡ length old.disks → StopCause old.source_faults new.source_faults old.sink_faults new.sink_faults part.result
         → IfSome old.left (λ told. EndsBy told new.left part.result part.new.line) → (commands : ℕ → Option Command) × IsOfCluster tells (record { set = set; commands = commands }) (ran_at ending part.new.line (Some part.new.cluster) old new)
     whole_hub ending ends_so handed_back cause ends =
-        let m = story_run tells set.name did b part new refl opened found_by now got was is ran in
+        let m = story_run tells set.name did b part new refl opened one now got was is ran in
         subst (λ (s : Status). (commands : ℕ → Option Command) × IsOfCluster tells (record { set = set; commands = commands }) (ran_at s part.new.line (Some part.new.cluster) old new)) (sym ends_so) (
           m.0,
           record {
@@ -179,7 +175,7 @@ module _ (tells : Type 0) (set : Setting) (span : Span) (running : Running) (did
             went = m.1.went;
             told = λ told. record {
               read = read_as tells (record { set = set; commands = m.0 }) (ran_at (status_of part.result part.new.line) part.new.line (Some part.new.cluster) old new) m.1.story m.1.runs told;
-              told = told_as tells (record { set = set; commands = m.0 }) (ran_at (status_of part.result part.new.line) part.new.line (Some part.new.cluster) old new) m.1.story m.1.runs told;
+              told = told_as tells (record { set = set; commands = m.0 }) (ran_at (status_of part.result part.new.line) part.new.line (Some part.new.cluster) old new) m.1.story m.1.runs one told;
             };
             runs = m.1.runs;
             ended = m.1.ended;

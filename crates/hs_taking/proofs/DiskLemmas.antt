@@ -3,6 +3,7 @@ use Rattle.std.proofs.Common.{◌≡◌, ◌≢◌, ◌+◌, ◌++◌, inl, inr,
 use Rattle.std.proofs.lemmas.List.{get_or-set_same, get_or-set_other, map-set}
 use Rattle.std.proofs.lemmas.Bool.{cases_eq}
 use Rattle.std.specs.Prelude.{slice_index_or, slice_set}
+use Rattle.hs_peerlog.proofs.ImageLemmas.{Since}
 use Rattle.hs_peerlog.specs.Lists.{IsReady, Keeping}
 use Rattle.hs_ports.specs.MemoryDisk.{untold}
 use Rattle.hs_taking.specs.Disks.{AreReady, DiskSeen, IsSlotReady, log_at, seen_at}
@@ -103,3 +104,20 @@ no_log_at (suc n) (suc peer) = no_log_at n peer
 
 pub none_ready : (tells : Type 0) (n : ℕ) (disks : List DiskSeen) → AreReady tells (replicate n no_log) disks
 none_ready tells n disks = record { each = λ peer keeping is. absurd (none_is_not keeping (sym (no_log_at n peer) ∙ is)) }
+
+-- ---- moments
+
+-- after the last call of any of them nothing changes; one that is not there has none
+pub seen_since : {A : Type 0} (f : A → DiskSeen) → ((x : A) → Since (f x).stands) → (disks : List A) (peer : ℕ) → Since (seen_at (map f disks) peer).stands
+seen_since f each [] peer = none_since
+  where
+    none_since : Since untold
+    none_since side m high = refl
+seen_since f each (x ∷ xs) zero = each x
+seen_since f each (x ∷ xs) (suc k) = seen_since f each xs k
+
+-- what holds of a disk and its call holds of them among the others
+pub one_called : {A : Type 0} (f : A → DiskSeen) (disks : List A) (i peer : ℕ) (x d : A) → i ≡ peer → i < length disks → (R : DiskSeen → DiskSeen → Type 0) → R (f (slice_index_or disks i d)) (f x) → R (seen_at (map f disks) peer) (seen_at (map f (slice_set disks i x)) peer)
+one_called f disks i peer x d same low R h =
+    subst (λ n. R (seen_at (map f disks) n) (seen_at (map f (slice_set disks i x)) n)) same
+    (subst (λ (s : DiskSeen). R s (seen_at (map f (slice_set disks i x)) i)) (sym (seen_is f disks i d low)) (subst (λ (s : DiskSeen). R (f (slice_index_or disks i d)) s) (sym (seen_here f disks i x low)) h))
