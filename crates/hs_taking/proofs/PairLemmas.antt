@@ -45,14 +45,6 @@ viewed_still tells view a b still viewed = record {
   told = λ told. subst (λ (d : Standing). HasSomeView view d.seen) (sym (still.same told)) (viewed.told told);
 }
 
--- ---- places of entries
-
-pub place_there : (places : List ℕ) (number : ℕ) → 0 < number → number ≤ length places → has_place places number ≡ true
-place_there places number some within = go (length places) within
-  where
-    go : (n : ℕ) → number ≤ n → (nat_lt 0 number && nat_le number n) ≡ true
-    go n low = grind (arith, nat_tests, some, low)
-
 -- ---- lists that have the same entries
 
 -- ranks that are the same

@@ -20,13 +20,6 @@ use Rattle.hs_taking.specs.Pairs.{IsStill}
 use Rattle.hs_taking.specs.Shares.{IsLostDisk}
 use Rattle.hs_taking.specs.Slots.{HasMoved, IsSlot, slot_at}
 
--- what is kept of a disk that was only read stands as it does
-pub slot_still : (tells : Type 0) (shape : Shape) (peer : ℕ) (a b : DiskSeen) (slot : Slot) → IsStill tells a b → IsSlot tells shape peer a slot → IsSlot tells shape peer b slot
-slot_still tells shape peer a b Aside still is = tt
-slot_still tells shape peer a b (Viewed view) still is = view_still tells shape peer a b view still is
-slot_still tells shape peer a b (Equal view) still is = view_still tells shape peer a b view still is
-slot_still tells shape peer a b (Kept log) still is = ready_still tells log a b still is
-
 -- ---- the others, where the taken log's disk has the list that it had
 
 moved_weak : (tells : Type 0) (before now : ℕ) (b b' : DiskSeen) (P Q : Numbered → Type 0) → ((list : Numbered) → tells → Q list → P list) → HasMoved tells before now b b' P → HasMoved tells before now b b' Q

@@ -42,13 +42,6 @@ false_is_not e = cc e
 some_is : {A : Type 0} (x y : A) → Some x ≡ Some y → x ≡ y
 some_is x y e = cc
 
--- what is not refused fails only from outside
-pub refused_outside : (fault : LogFault) (refusal : Option LogFault) → refusal ≡ None → IsRefusal fault refusal → IsOutside fault
-refused_outside (NotALog at) refusal none is = none_is_not (NotALog at) (sym none ∙ is)
-refused_outside (WrongShape found) refusal none is = none_is_not (WrongShape found) (sym none ∙ is)
-refused_outside Disk refusal none is = tt
-refused_outside NoMemory refusal none is = tt
-
 pub still_kept : (tells : Type 0) (now : ℕ) (disk : DiskSeen) → (tells → Since disk.stands) → KeepsDisk tells now now disk disk
 still_kept tells now disk since = record {
   moments = λ told last list leaves. stays disk.stands now list (Is list) last (since told) leaves refl;

@@ -7,5 +7,5 @@ use Rattle.hs_taking.proofs.shares.logs_of.Goals as goal
 
 pub returns : goal.returns
 returns c =
-    let t = YieldsList-end (YieldsList-from_vec c.args.slots.items c.into_iter-slot-iterator.ensures.rest c.into_iter-slot-iterator.ensures.len) c.loop-slot.yielded _ c.loop-slot.yielded_by _ _ c.in-None.is c.next.ensures.steps in
+    let t = YieldsList-end (YieldsList-from_vec c.args.slots.items c.into_iter-slot-iterator.ensures.into_iter_gives.0 (c.into_iter-slot-iterator.ensures.into_iter_gives.1 ∙ c.args.slots.ok.0)) c.loop-slot.yielded c.loop-slot.slot-iterator c.loop-slot.yielded_by c.next.result c.next.new.self c.in-None.is c.next.ensures.steps in
     c.loop-slot.invariant ∙ ap (λ xs. map log_of xs) (sym (map-id c.loop-slot.yielded) ∙ t.0)

@@ -7,5 +7,5 @@ use Rattle.hs_taking.proofs.shares.slots_of.Goals as goal
 
 pub returns : goal.returns
 returns c =
-    let t = YieldsList-end (YieldsList-from_vec c.args.views.items c.into_iter-view-iterator.ensures.rest c.into_iter-view-iterator.ensures.len) c.loop-view.yielded _ c.loop-view.yielded_by _ _ c.in-None.is c.next.ensures.steps in
+    let t = YieldsList-end (YieldsList-from_vec c.args.views.items c.into_iter-view-iterator.ensures.into_iter_gives.0 (c.into_iter-view-iterator.ensures.into_iter_gives.1 ∙ c.args.views.ok.0)) c.loop-view.yielded c.loop-view.view-iterator c.loop-view.yielded_by c.next.result c.next.new.self c.in-None.is c.next.ensures.steps in
     c.loop-view.invariant ∙ ap (λ xs. map slot_of xs) (sym (map-id c.loop-view.yielded) ∙ t.0)
