@@ -1,15 +1,13 @@
 -- Calls that leave the list of a disk as it is, one after another, and on one disk of several.
-use Rattle.std.proofs.Common.{◌∙◌, ap, sym, subst, ℕ, ◌<◌, ◌≤◌, List, Some, length, map, refl, arith, inl, inr}
-use Rattle.std.proofs.lemmas.Bool.{cases_eq, cases_lt}
-use Rattle.std.specs.Prelude.{slice_index_or, slice_set}
+use Rattle.std.proofs.Common.{◌∙◌, ap, subst, ℕ, ◌≤◌, Some, refl, arith, inl, inr}
+use Rattle.std.proofs.lemmas.Bool.{cases_lt}
 use Rattle.hs_fold.specs.Shards.Setting.{Numbered}
 use Rattle.hs_peerlog.proofs.ImageLemmas.{Since}
 use Rattle.hs_peerlog.proofs.StayLemmas.{all-each, stays}
 use Rattle.hs_peerlog.specs.Images.{Is}
 use Rattle.hs_ports.specs.Disk.{IsImage}
-use Rattle.hs_taking.proofs.DiskLemmas.{seen_here, seen_is, seen_there}
 use Rattle.hs_taking.proofs.PastLemmas.{past_all, past_still, past_then, past_wait}
-use Rattle.hs_taking.specs.Disks.{DiskSeen, seen_at}
+use Rattle.hs_taking.specs.Disks.{DiskSeen}
 use Rattle.hs_taking.specs.Shares.{KeepsDisk}
 use Rattle.hs_taking.specs.Viewed.{IsOnlyRead}
 

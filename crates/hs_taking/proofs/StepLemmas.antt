@@ -1,10 +1,6 @@
 -- An element of several.
-use Rattle.std.proofs.Common.{◌≡◌, ◌∙◌, ap, sym, subst, ℕ, zero, suc, ◌+◌, ◌*◌, ◌<◌, ◌≤◌, List, [], ◌∷◌, length, map, refl, arith, inl, inr}
-use Rattle.std.proofs.Math.Nat.{suc-mul}
-use Rattle.std.proofs.lemmas.Bool.{cases_eq}
-use Rattle.std.specs.Prelude.{slice_index_or, slice_set}
-use Rattle.hs_taking.proofs.DiskLemmas.{seen_here, seen_is, seen_there}
-use Rattle.hs_taking.specs.Disks.{DiskSeen, seen_at}
+use Rattle.std.proofs.Common.{◌≡◌, ℕ, zero, suc, ◌<◌, List, [], ◌∷◌, length, refl, arith}
+use Rattle.std.specs.Prelude.{slice_index_or}
 
 -- an element that is there, whatever stands for one that is not
 pub at_any : {A : Type 0} (xs : List A) (i : ℕ) (d e : A) → i < length xs → slice_index_or xs i d ≡ slice_index_or xs i e

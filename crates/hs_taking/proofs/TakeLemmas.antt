@@ -15,7 +15,6 @@ use Rattle.hs_peerlog.specs.Caused.{IsOutside}
 use Rattle.hs_peerlog.specs.declared.fault.LogFault.{LogFault}
 use Rattle.hs_peerlog.specs.declared.fault.LogFault.TheVariants.{NotALog, WrongShape, Disk, NoMemory}
 use Rattle.hs_peerlog.specs.Images.{Is}
-use Rattle.hs_peerlog.specs.Opening.{IsRefusal}
 use Rattle.hs_peerlog.specs.Views.{HasView, Viewing}
 use Rattle.hs_ports.specs.Fault.{HasRisen, IsCausedBy}
 use Rattle.hs_shard.specs.Facts.{Catalogue}
