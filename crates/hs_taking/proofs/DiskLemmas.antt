@@ -1,5 +1,5 @@
 -- Logs and disks of several peers, of which one has a call.
-use Rattle.std.proofs.Common.{◌≡◌, ◌≢◌, ◌+◌, ◌++◌, inl, inr, ◌∙◌, ap, sym, subst, ℕ, zero, suc, ◌<◌, List, [], ◌∷◌, Option, Some, None, map, length, refl, arith, replicate}
+use Rattle.std.proofs.Common.{◌≡◌, ◌≢◌, inl, inr, ◌∙◌, ap, sym, subst, ℕ, zero, suc, ◌<◌, List, [], ◌∷◌, Option, Some, None, map, length, refl, arith}
 use Rattle.std.proofs.lemmas.List.{get_or-set_same, get_or-set_other, map-set}
 use Rattle.std.proofs.lemmas.Bool.{cases_eq}
 use Rattle.std.specs.Prelude.{slice_index_or, slice_set}
@@ -85,25 +85,6 @@ seen_here f disks peer disk low =
 
 pub seen_there : {A : Type 0} (f : A → DiskSeen) (disks : List A) (peer other : ℕ) (disk : A) → other ≢ peer → seen_at (map f (slice_set disks peer disk)) other ≡ seen_at (map f disks) other
 seen_there f disks peer other disk differs = ap (λ ds. seen_at ds other) (map-set f disks peer disk) ∙ get_or-set_other (map f disks) peer other (f disk) no_disk differs
-
--- ---- no log is in use
-
-pub replicate_more : {A : Type 0} (n : ℕ) (x : A) → replicate (n + 1) x ≡ replicate n x ++ x ∷ []
-replicate_more zero x = refl
-replicate_more (suc n) x =
-    let e : suc n + 1 ≡ suc (n + 1) = omega arith in
-    rw e (ap (λ xs. x ∷ xs) (replicate_more n x))
-
-abbrev pub no_log : Option Keeping
-no_log = None
-
-pub no_log_at : (n peer : ℕ) → log_at (replicate n no_log) peer ≡ None
-no_log_at zero peer = refl
-no_log_at (suc n) zero = refl
-no_log_at (suc n) (suc peer) = no_log_at n peer
-
-pub none_ready : (tells : Type 0) (n : ℕ) (disks : List DiskSeen) → AreReady tells (replicate n no_log) disks
-none_ready tells n disks = record { each = λ peer keeping is. absurd (none_is_not keeping (sym (no_log_at n peer) ∙ is)) }
 
 -- ---- moments
 

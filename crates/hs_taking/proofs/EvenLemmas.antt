@@ -1,5 +1,5 @@
 -- Calls on a disk, one after another, and an empty log that gets the entries of another.
-use Rattle.std.proofs.Common.{◌≡◌, ◌∙◌, ap, sym, subst, inl, inr, ℕ, zero, suc, ◌+◌, ◌<◌, ◌≤◌, List, [], ◌∷◌, ◌++◌, take, length, Option, Some, None, refl, arith}
+use Rattle.std.proofs.Common.{◌≡◌, ◌∙◌, ap, sym, subst, inl, inr, ℕ, ◌+◌, ◌<◌, ◌≤◌, [], ◌∷◌, ◌++◌, take, Option, Some, None, refl, arith}
 use Rattle.std.proofs.lemmas.Bool.{cases_lt}
 use Rattle.std.specs.Prelude.{Err, Ok, Result}
 use Rattle.hs_entry.specs.declared.entry.Entry.{Entry}
@@ -10,8 +10,8 @@ use Rattle.hs_entry.specs.Reading.{IsReadable}
 use Rattle.hs_fold.specs.Shards.Setting.{Numbered}
 use Rattle.hs_peerlog.proofs.ImageLemmas.{Since, image-is, list-same}
 use Rattle.hs_peerlog.proofs.StayLemmas.{stays}
-use Rattle.hs_peerlog.specs.Images.{GivesList, Is, IsAlone, IsAny, IsOne, LeavesEach, LeavesOnly}
-use Rattle.hs_peerlog.specs.Lists.{HasLog, IsKept, IsNumbered, IsReady, Keeping, numbered_entry, with_waiting}
+use Rattle.hs_peerlog.specs.Images.{GivesList, IsAlone, IsAny, IsOne, LeavesEach, LeavesOnly}
+use Rattle.hs_peerlog.specs.Lists.{HasLog, IsKept, IsNumbered, Keeping, numbered_entry, with_waiting}
 use Rattle.hs_ports.specs.declared.disk.Side.{Side}
 use Rattle.hs_ports.specs.Disk.{IsImage, Standing}
 use Rattle.hs_ports.specs.Fault.{HasRisen, IsCausedBy}

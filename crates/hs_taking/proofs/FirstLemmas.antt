@@ -1,5 +1,5 @@
 -- The log that is chosen is the first of greatest rank.
-use Rattle.std.proofs.Common.{◌≡◌, ◌≢◌, ◌∙◌, ap, sym, subst, ℕ, zero, suc, ◌+◌, ◌-◌, ◌<◌, ◌≤◌, Bool, true, false, not, List, length, map, get_or, Option, Some, None, is_some, refl, arith, drop, take, unwrap_or}
+use Rattle.std.proofs.Common.{◌≡◌, ◌∙◌, ap, sym, subst, ℕ, zero, suc, ◌+◌, ◌-◌, ◌<◌, ◌≤◌, Bool, true, false, not, List, length, map, get_or, Option, Some, None, is_some, refl, arith, drop, take, unwrap_or}
 use Rattle.std.proofs.lemmas.List.{get_or-drop, get_or-take, length-drop, length-map, length-take-le}
 use Rattle.std.proofs.Math.ListN.{get_or-map}
 use Rattle.std.specs.Option.{option_map}

@@ -1,7 +1,7 @@
 -- What a store opens with, shard by shard, and what that is of one copy.
-use Rattle.std.proofs.Common.{◌≡◌, ◌≢◌, ◌∙◌, ap, sym, subst, inl, inr, ℕ, zero, suc, ◌+◌, ◌*◌, ◌<◌, ◌≤◌, ◌&&◌, ◌||◌, Bool, true, false, not, List, [], ◌∷◌, ◌++◌, length, map, Option, Some, None, is_some, refl, arith, if◌then◌else◌, Contains, unwrap_or}
+use Rattle.std.proofs.Common.{◌≡◌, ◌∙◌, ap, sym, subst, inl, inr, ℕ, zero, suc, ◌*◌, ◌<◌, ◌≤◌, ◌&&◌, ◌||◌, Bool, true, false, not, List, [], ◌∷◌, length, map, Option, Some, None, is_some, refl, arith, if◌then◌else◌, Contains, unwrap_or}
 use Rattle.std.proofs.lemmas.List.Elements.{Contains-append_cases, Contains-append_left, Contains-append_right}
-use Rattle.std.specs.List.{AllPairs, list_any, range_with_len}
+use Rattle.std.specs.List.{list_any, range_with_len}
 use Rattle.std.specs.Option.{option_map, option_map_or}
 use Rattle.std.specs.Prelude.{IfSome, flat_map, slice_index_or}
 use Rattle.hs_fold.specs.Shards.Setting.{Numbered, Setting}
@@ -9,10 +9,8 @@ use Rattle.hs_entry.specs.Entries.{rank_of}
 use Rattle.hs_limits.specs.Shape.{peer_of}
 use Rattle.hs_memory.specs.Forget.{apply_all}
 use Rattle.hs_peerlog.proofs.ImageLemmas.{Since}
-use Rattle.hs_peerlog.specs.Images.{LeavesOnly}
 use Rattle.hs_peerlog.specs.Lists.{HasLog, IsKept, Keeping}
 use Rattle.hs_peerlog.specs.Views.{Viewing}
-use Rattle.hs_ports.specs.Fault.{HasRisen}
 use Rattle.hs_shard.specs.Facts.{empty_catalogue}
 use Rattle.hs_side.specs.Current.{list_in}
 use Rattle.hs_taking.proofs.ChoiceLemmas.{shard_within}
@@ -24,7 +22,7 @@ use Rattle.hs_taking.specs.declared.slot.Slot.{Slot}
 use Rattle.hs_taking.specs.declared.slot.Slot.TheVariants.{Aside, Viewed, Equal, Kept}
 use Rattle.hs_taking.specs.Disks.{DiskSeen, log_at, seen_at}
 use Rattle.hs_taking.specs.Evens.{IsTaken, TakesAll, TakesFrom, slot_of}
-use Rattle.hs_taking.specs.Shares.{HasShare, IsLostAt, IsLostDisk, KeepsDisk, Span, Taken, all_lost, kept_list, lost_of, no_share, share_at}
+use Rattle.hs_taking.specs.Shares.{HasShare, IsLostDisk, KeepsDisk, Span, Taken, all_lost, kept_list, lost_of, no_share, share_at}
 use Rattle.hs_taking.specs.Slots.{slot_at}
 use Rattle.hs_taking.specs.Store.{HasRead}
 use Rattle.hs_taking.specs.Viewed.{IsOnlyRead, IsUnread, IsViewed, IsViewOf}

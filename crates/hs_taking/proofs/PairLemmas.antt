@@ -1,24 +1,20 @@
 -- Two disks of several: disks that were only read, and lists that are compared entry by entry.
-use Rattle.std.proofs.Common.{◌≡◌, ◌≢◌, ◌∙◌, ap, sym, subst, inl, inr, ℕ, zero, suc, ◌+◌, ◌<◌, ◌≤◌, ◌==◌, ◌&&◌, not, Bool, true, false, List, [], ◌∷◌, ◌++◌, take, length, map, Option, Some, None, refl, arith, nat_le, nat_lt}
-use Rattle.std.proofs.lemmas.Bool.Decides.{eqb_tells, nat_tests}
+use Rattle.std.proofs.Common.{◌≡◌, ◌≢◌, ◌∙◌, ap, sym, subst, inl, inr, ℕ, zero, suc, ◌+◌, ◌<◌, ◌==◌, ◌&&◌, not, Bool, true, false, List, [], ◌∷◌, ◌++◌, take, length, map, Option, Some, None, refl, arith}
+use Rattle.std.proofs.lemmas.Bool.Decides.{eqb_tells}
 use Rattle.std.proofs.lemmas.List.{length-set}
-use Rattle.std.specs.Prelude.{IfErr, IfOk, IsTrue, Ok, OnOk, Result, slice_index_or, slice_set}
+use Rattle.std.specs.Prelude.{Ok, slice_index_or, slice_set}
 use Rattle.hs_entry.specs.declared.entry.Entry.{Entry}
-use Rattle.hs_entry.specs.declared.rank.Rank.{Rank}
 use Rattle.hs_entry.specs.Entries.{rank_of}
 use Rattle.hs_fold.specs.Shards.Setting.{Numbered}
-use Rattle.hs_peerlog.specs.Lists.{IsNumbered, IsReady, Keeping, has_place, numbered_entry}
+use Rattle.hs_peerlog.specs.Lists.{IsNumbered, numbered_entry}
 use Rattle.hs_peerlog.specs.Views.{HasSomeView, HasView, IsAsViewed, Viewing}
-use Rattle.hs_ports.specs.declared.disk.Side.{Side}
 use Rattle.hs_ports.specs.Disk.{Standing}
 use Rattle.hs_peerlog.specs.Images.{IsAlone}
-use Rattle.hs_side.specs.Current.{list_in}
 use Rattle.hs_side.specs.Standing.{HasBytes, HasRoom}
 use Rattle.hs_taking.proofs.LoadLemmas.{count_is, next_is, none_past, take_all_of}
 use Rattle.hs_taking.proofs.DiskLemmas.{seen_here, seen_is, seen_there}
 use Rattle.hs_taking.specs.Disks.{DiskSeen, seen_at}
-use Rattle.hs_taking.specs.declared.pair.PairFault.{PairFault}
-use Rattle.hs_taking.specs.Pairs.{HasCompared, IsPairFault, IsStill}
+use Rattle.hs_taking.specs.Pairs.{HasCompared, IsStill}
 
 -- ---- a disk that was only read
 
@@ -44,14 +40,6 @@ viewed_still tells view a b still viewed = record {
   alone = λ told. subst (λ (d : Standing). IsAlone view.log.side d) (sym (still.same told)) (viewed.alone told);
   told = λ told. subst (λ (d : Standing). HasSomeView view d.seen) (sym (still.same told)) (viewed.told told);
 }
-
--- ---- places of entries
-
-pub place_there : (places : List ℕ) (number : ℕ) → 0 < number → number ≤ length places → has_place places number ≡ true
-place_there places number some within = go (length places) within
-  where
-    go : (n : ℕ) → number ≤ n → (nat_lt 0 number && nat_le number n) ≡ true
-    go n low = grind (arith, nat_tests, some, low)
 
 -- ---- lists that have the same entries
 

@@ -1,5 +1,5 @@
 -- From what was taken of a store to what it opens with.
-use Rattle.std.proofs.Common.{◌≡◌, ◌≢◌, ◌∙◌, ◌⊎◌, ap, sym, subst, inl, inr, ℕ, zero, suc, ◌+◌, ◌<◌, ◌≤◌, ◌==◌, ◌&&◌, Bool, true, false, not, cond, List, [], ◌∷◌, length, map, Option, Some, None, is_some, IsSome, refl, arith, if◌then◌else◌, Contains, unwrap_or}
+use Rattle.std.proofs.Common.{◌≡◌, ◌≢◌, ◌∙◌, ◌⊎◌, ap, sym, subst, inl, inr, ℕ, ◌+◌, ◌<◌, ◌≤◌, ◌==◌, ◌&&◌, Bool, true, false, not, cond, List, [], length, map, Option, Some, None, is_some, refl, arith, if◌then◌else◌, unwrap_or}
 use Rattle.std.proofs.lemmas.Bool.{cases_eq}
 use Rattle.std.proofs.lemmas.Bool.Decides.{eqb_tells}
 use Rattle.std.specs.Option.{option_map}
@@ -35,7 +35,7 @@ use Rattle.hs_taking.specs.declared.shares.Share.{Share}
 use Rattle.hs_taking.specs.declared.slot.Slot.{Slot}
 use Rattle.hs_taking.specs.declared.slot.Slot.TheVariants.{Aside, Viewed, Equal, Kept}
 use Rattle.hs_taking.specs.Disks.{DiskSeen, log_at, seen_at}
-use Rattle.hs_taking.specs.Evens.{IsEvened, IsEvenedAs, IsTaken, TakesAll, TakesFrom, TakesNone, TakesView, has_kept, log_of, slot_of}
+use Rattle.hs_taking.specs.Evens.{IsEvened, IsEvenedAs, IsTaken, TakesFrom, TakesNone, TakesView, has_kept, log_of, slot_of}
 use Rattle.hs_taking.specs.Pairs.{IsStill}
 use Rattle.hs_taking.specs.Shares.{KeepsDisk, Span, Taken, share_at}
 use Rattle.hs_taking.specs.Slots.{slot_at}

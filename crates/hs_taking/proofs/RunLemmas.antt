@@ -1,5 +1,5 @@
 -- The logs of one shard after another.
-use Rattle.std.proofs.Common.{◌≡◌, ◌≢◌, ◌∙◌, ◌⊎◌, ap, sym, subst, inl, inr, ℕ, zero, suc, ◌+◌, ◌*◌, ◌<◌, ◌≤◌, true, false, List, [], ◌∷◌, ◌++◌, length, map, Option, Some, None, is_some, refl, arith, Contains, drop, take, unwrap_or}
+use Rattle.std.proofs.Common.{◌≡◌, ◌∙◌, ◌⊎◌, ap, sym, subst, inl, inr, ℕ, zero, suc, ◌+◌, ◌*◌, ◌<◌, ◌≤◌, List, [], ◌∷◌, ◌++◌, length, map, Option, Some, None, refl, arith, Contains, drop, take, unwrap_or}
 use Rattle.std.proofs.lemmas.Bool.{cases_eq, cases_lt}
 use Rattle.std.proofs.lemmas.Grind.{flat_map-append}
 use Rattle.std.proofs.lemmas.List.{append-nil, get_or_push}
@@ -18,7 +18,7 @@ use Rattle.hs_memory.specs.Forget.{apply_all}
 use Rattle.hs_peerlog.proofs.ImageLemmas.{Since}
 use Rattle.hs_peerlog.specs.Lists.{IsReady, Keeping}
 use Rattle.hs_peerlog.specs.Views.{Viewing}
-use Rattle.hs_shard.specs.Facts.{Catalogue, empty_catalogue}
+use Rattle.hs_shard.specs.Facts.{empty_catalogue}
 use Rattle.hs_side.specs.Current.{list_in}
 use Rattle.hs_taking.proofs.CarryLemmas.{carried}
 use Rattle.hs_taking.proofs.ChoiceLemmas.{shard_within}
@@ -29,7 +29,7 @@ use Rattle.hs_taking.specs.declared.slot.Slot.{Slot}
 use Rattle.hs_taking.specs.declared.slot.Slot.TheVariants.{Aside, Viewed, Equal, Kept}
 use Rattle.hs_taking.specs.Disks.{AreReady, DiskSeen, log_at, seen_at}
 use Rattle.hs_taking.specs.Evens.{AreMoved, IsEvenedAs, IsFresh, IsMovedAs, IsTaken, TakesAll, TakesFrom, TakesShard, log_of, slot_of}
-use Rattle.hs_taking.specs.Shares.{IsLater, KeepsDisk, Taken, all_lost, lost_of, no_share, share_at}
+use Rattle.hs_taking.specs.Shares.{IsLater, KeepsDisk, lost_of, no_share}
 use Rattle.hs_taking.specs.Slots.{IsSlot, slot_at}
 use Rattle.hs_taking.specs.Viewed.{IsViewOf}
 

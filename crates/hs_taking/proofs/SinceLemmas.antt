@@ -9,23 +9,15 @@ use Rattle.hs_peerlog.specs.Lists.{Keeping}
 use Rattle.hs_ports.specs.Disk.{Standing}
 use Rattle.hs_ports.specs.Fault.{HasRisen}
 use Rattle.hs_side.specs.Current.{list_in}
-use Rattle.hs_taking.proofs.LevelLemmas.{ready_still, still_same, view_still}
+use Rattle.hs_taking.proofs.LevelLemmas.{still_same}
 use Rattle.hs_taking.proofs.ShardLemmas.{keeps_moved, keeps_still, still_keeps}
 use Rattle.hs_taking.specs.Copies.{IsOf}
 use Rattle.hs_taking.specs.declared.slot.Slot.{Slot}
 use Rattle.hs_taking.specs.declared.slot.Slot.TheVariants.{Aside, Viewed, Equal, Kept}
 use Rattle.hs_taking.specs.Disks.{DiskSeen, seen_at}
-use Rattle.hs_taking.specs.Evens.{AreEvened, AreMoved, IsEvened, IsEvenedAs, IsMovedAs, IsTaken, log_of}
+use Rattle.hs_taking.specs.Evens.{AreEvened, AreMoved, IsEvenedAs, IsMovedAs, IsTaken}
 use Rattle.hs_taking.specs.Pairs.{IsStill}
-use Rattle.hs_taking.specs.Shares.{IsLostDisk}
 use Rattle.hs_taking.specs.Slots.{HasMoved, IsSlot, slot_at}
-
--- what is kept of a disk that was only read stands as it does
-pub slot_still : (tells : Type 0) (shape : Shape) (peer : ℕ) (a b : DiskSeen) (slot : Slot) → IsStill tells a b → IsSlot tells shape peer a slot → IsSlot tells shape peer b slot
-slot_still tells shape peer a b Aside still is = tt
-slot_still tells shape peer a b (Viewed view) still is = view_still tells shape peer a b view still is
-slot_still tells shape peer a b (Equal view) still is = view_still tells shape peer a b view still is
-slot_still tells shape peer a b (Kept log) still is = ready_still tells log a b still is
 
 -- ---- the others, where the taken log's disk has the list that it had
 

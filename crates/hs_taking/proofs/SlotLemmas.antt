@@ -3,9 +3,7 @@ use Rattle.std.proofs.Common.{◌≡◌, ◌≢◌, ◌∙◌, ap, sym, subst, i
 use Rattle.std.proofs.lemmas.Bool.{cases_eq}
 use Rattle.std.specs.Prelude.{Err, IfOk, Ok, OnOk, Result}
 use Rattle.hs_fold.specs.Shards.Setting.{Numbered}
-use Rattle.hs_entry.specs.Entries.{rank_of}
 use Rattle.hs_limits.specs.declared.shape.Shape.{Shape}
-use Rattle.hs_peerlog.specs.Lists.{Keeping}
 use Rattle.hs_peerlog.specs.Views.{Viewing}
 use Rattle.hs_shard.specs.Facts.{Catalogue}
 use Rattle.hs_side.specs.Current.{list_in}
@@ -18,7 +16,6 @@ use Rattle.hs_taking.specs.declared.slot.Slot.TheVariants.{Aside, Viewed, Equal,
 use Rattle.hs_taking.specs.Disks.{DiskSeen, seen_at}
 use Rattle.hs_taking.specs.Evens.{AreEvened, AreMoved, IsEvenedAs, IsFresh, IsMovedAs, TakesFrom, TakesShard, TakesView, viewed_of}
 use Rattle.hs_taking.specs.Slots.{IsSlot, slot_at}
-use Rattle.hs_taking.specs.Viewed.{IsViewOf}
 
 -- ---- whether there is a view
 

@@ -15,7 +15,6 @@ use Rattle.hs_peerlog.specs.Caused.{IsOutside}
 use Rattle.hs_peerlog.specs.declared.fault.LogFault.{LogFault}
 use Rattle.hs_peerlog.specs.declared.fault.LogFault.TheVariants.{NotALog, WrongShape, Disk, NoMemory}
 use Rattle.hs_peerlog.specs.Images.{Is}
-use Rattle.hs_peerlog.specs.Opening.{IsRefusal}
 use Rattle.hs_peerlog.specs.Views.{HasView, Viewing}
 use Rattle.hs_ports.specs.Fault.{HasRisen, IsCausedBy}
 use Rattle.hs_shard.specs.Facts.{Catalogue}
@@ -42,13 +41,6 @@ false_is_not e = cc e
 
 some_is : {A : Type 0} (x y : A) → Some x ≡ Some y → x ≡ y
 some_is x y e = cc
-
--- what is not refused fails only from outside
-pub refused_outside : (fault : LogFault) (refusal : Option LogFault) → refusal ≡ None → IsRefusal fault refusal → IsOutside fault
-refused_outside (NotALog at) refusal none is = none_is_not (NotALog at) (sym none ∙ is)
-refused_outside (WrongShape found) refusal none is = none_is_not (WrongShape found) (sym none ∙ is)
-refused_outside Disk refusal none is = tt
-refused_outside NoMemory refusal none is = tt
 
 pub still_kept : (tells : Type 0) (now : ℕ) (disk : DiskSeen) → (tells → Since disk.stands) → KeepsDisk tells now now disk disk
 still_kept tells now disk since = record {

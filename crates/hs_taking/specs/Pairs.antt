@@ -1,5 +1,5 @@
 -- Words of private steps on two disks, of which the first has the taken log; no public clause cites them.
-use Rattle.std.specs.Prelude.{◌≡◌, ◌≤◌, ⊤, [], Bool, true, false, IfErr, IfOk, OnOk, ℕ, None, Option, Result, Some}
+use Rattle.std.specs.Prelude.{◌≡◌, ◌≤◌, ⊤, [], Bool, true, false, IfErr, IfOk, OnOk, ℕ, None, Result, Some}
 use Rattle.hs_fold.specs.Shards.Setting.{Numbered}
 use Rattle.hs_peerlog.specs.declared.fault.LogFault.{LogFault}
 use Rattle.hs_peerlog.specs.declared.fault.LogFault.TheVariants as log

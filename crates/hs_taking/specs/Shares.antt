@@ -1,7 +1,6 @@
 -- What taking the logs of a store comes to, shard by shard.
-use Rattle.std.specs.List.{AllPairs}
 use Rattle.std.specs.Option.{option_map, option_map_or}
-use Rattle.std.specs.Prelude.{◌≡◌, ◌≤◌, ◌<◌, ◌&&◌, ◌∷◌, ℕ, true, not, List, [], length, flat_map, Contains, Option, Some, None, is_some, slice_index_or, unwrap_or}
+use Rattle.std.specs.Prelude.{◌≡◌, ◌≤◌, ◌<◌, ◌&&◌, ◌∷◌, ℕ, true, not, List, [], length, flat_map, Option, Some, None, is_some, slice_index_or, unwrap_or}
 use Rattle.hs_entry.specs.Entries.{rank_of}
 use Rattle.hs_fold.specs.Shards.Setting.{Numbered, Setting}
 use Rattle.hs_memory.specs.Forget.{apply_all}

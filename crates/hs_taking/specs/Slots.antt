@@ -2,9 +2,9 @@
 use Rattle.std.specs.Prelude.{◌≡◌, ◌≤◌, ◌<◌, ◌⊎◌, ⊤, Bool, true, false, ℕ, List, None, Option, Some, slice_index_or}
 use Rattle.hs_fold.specs.Shards.Setting.{Numbered}
 use Rattle.hs_limits.specs.declared.shape.Shape.{Shape}
-use Rattle.hs_peerlog.specs.Images.{LeavesEach, LeavesOnly}
+use Rattle.hs_peerlog.specs.Images.{LeavesEach}
 use Rattle.hs_peerlog.specs.Lists.{HasLog, IsKept, IsReady, Keeping}
-use Rattle.hs_peerlog.specs.Views.{IsAsViewed, Viewing}
+use Rattle.hs_peerlog.specs.Views.{Viewing}
 use Rattle.hs_ports.specs.Fault.{HasRisen}
 use Rattle.hs_side.specs.Current.{list_in}
 use Rattle.hs_taking.specs.Copies.{IsOf, IsOwnOrFront}

@@ -1,4 +1,4 @@
-use Rattle.std.proofs.Common.{◌≡◌, ◌∙◌, ◌<◌, ◌≤◌, ap, sym, subst, ℕ, refl, arith}
+use Rattle.std.proofs.Common.{◌<◌, arith}
 use Rattle.hs_taking.proofs.PairLemmas.{pair_moved, pair_rest}
 use Rattle.hs_taking.specs.Disks.{DiskSeen, seen_as}
 use Rattle.hs_taking.specs.Pairs.{HasCompared}

@@ -1,7 +1,5 @@
-use Rattle.std.proofs.Common.{◌≡◌, ◌∙◌, ap, sym, subst, ℕ, Option, Some, true, refl}
-use Rattle.std.specs.Prelude.{IsTrue}
+use Rattle.std.proofs.Common.{◌≡◌, ◌∙◌, ap, sym, Some}
 use Rattle.hs_entry.specs.declared.entry.Entry.{Entry}
-use Rattle.hs_fold.specs.Shards.Setting.{Numbered}
 use Rattle.hs_taking.proofs.comparing.compare_entry.Goals as goal
 
 pub returns-clause-same : goal.returns-clause-same

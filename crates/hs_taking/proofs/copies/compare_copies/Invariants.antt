@@ -1,4 +1,4 @@
-use Rattle.std.proofs.Common.{◌≡◌, ◌+◌, ◌<◌, ◌≤◌, ℕ, length, map}
+use Rattle.std.proofs.Common.{◌≡◌, length, map}
 use Rattle.hs_limits.specs.Shape.{peer_of}
 use Rattle.hs_taking.specs.Disks.{seen_as}
 use Rattle.hs_taking.specs.Slots.{AreSorted}

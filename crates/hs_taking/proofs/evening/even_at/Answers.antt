@@ -1,4 +1,4 @@
-use Rattle.std.proofs.Common.{◌≡◌, ◌∙◌, ◌<◌, ◌≤◌, ap, sym, subst, ℕ, None, refl, arith}
+use Rattle.std.proofs.Common.{◌≡◌, ◌<◌, subst, None, arith}
 use Rattle.hs_taking.proofs.PairLemmas.{old_i, old_j, pair_moved, pair_rest}
 use Rattle.hs_peerlog.specs.Lists.{IsReady}
 use Rattle.hs_peerlog.specs.Opening.{refusal_in}

@@ -1,4 +1,4 @@
-use Rattle.std.proofs.Common.{◌≡◌, ◌∙◌, ◌≤◌, arith, sym, refl}
+use Rattle.std.proofs.Common.{◌∙◌, arith}
 use Rattle.hs_taking.proofs.EvenLemmas.{fault_then, made_moments, made_none, made_past}
 use Rattle.hs_taking.specs.Disks.{DiskSeen, seen_as}
 use Rattle.hs_taking.proofs.evening.even_out.Goals as goal

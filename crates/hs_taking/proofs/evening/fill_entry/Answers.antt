@@ -1,4 +1,4 @@
-use Rattle.std.proofs.Common.{◌≡◌, ◌∙◌, ap, sym, subst, inl, inr, refl, None, Some}
+use Rattle.std.proofs.Common.{◌≡◌, ◌∙◌, sym, subst, inl, refl, None, Some}
 use Rattle.hs_entry.specs.declared.entry.Entry.{Entry}
 use Rattle.hs_peerlog.proofs.StayLemmas.{stays}
 use Rattle.hs_peerlog.specs.Images.{IsOne, LeavesEach}

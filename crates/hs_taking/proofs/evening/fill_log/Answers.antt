@@ -1,6 +1,5 @@
-use Rattle.std.proofs.Common.{◌≡◌, ◌∙◌, ◌+◌, ◌<◌, ◌≤◌, [], ap, sym, subst, take, inl, inr, refl, arith, None, ℕ}
+use Rattle.std.proofs.Common.{◌∙◌, ◌<◌, ap, sym, subst, take, refl, arith, None}
 use Rattle.hs_entry.specs.declared.rank.Rank.{Rank}
-use Rattle.hs_entry.specs.Entries.{rank_of}
 use Rattle.hs_fold.specs.Shards.Setting.{Numbered}
 use Rattle.hs_peerlog.specs.Lists.{HasLog, IsKept, with_waiting}
 use Rattle.hs_ports.specs.Disk.{Standing}

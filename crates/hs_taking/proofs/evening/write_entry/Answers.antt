@@ -1,6 +1,6 @@
-use Rattle.std.proofs.Common.{◌≡◌, ◌∙◌, ap, sym, subst, inl, inr, refl}
+use Rattle.std.proofs.Common.{inl, refl}
 use Rattle.hs_peerlog.proofs.StayLemmas.{stays}
-use Rattle.hs_peerlog.specs.Images.{Is, IsOne}
+use Rattle.hs_peerlog.specs.Images.{IsOne}
 use Rattle.hs_peerlog.specs.Lists.{with_waiting}
 use Rattle.hs_taking.proofs.EvenLemmas.{each_then, each_weak}
 use Rattle.hs_taking.proofs.evening.write_entry.Goals as goal

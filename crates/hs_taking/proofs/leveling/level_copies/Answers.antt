@@ -1,18 +1,17 @@
-use Rattle.std.proofs.Common.{◌≡◌, ◌≢◌, ◌∙◌, ◌+◌, ◌*◌, ◌<◌, ◌≤◌, ap, sym, subst, ℕ, List, map, length, refl, arith}
+use Rattle.std.proofs.Common.{◌≡◌, ◌≢◌, ◌∙◌, ◌+◌, ◌*◌, ◌<◌, ap, sym, subst, ℕ, List, map, length, arith}
 use Rattle.std.proofs.lemmas.List.{length-set}
 use Rattle.std.specs.Prelude.{slice_set}
 use Rattle.hs_limits.specs.Shape.{peer_of}
-use Rattle.hs_peerlog.proofs.ImageLemmas.{Since}
 use Rattle.hs_taking.proofs.ChoiceLemmas.{shard_within}
 use Rattle.hs_taking.proofs.DiskLemmas.{seen_since}
-use Rattle.hs_taking.proofs.LevelLemmas.{level_more, level_slot, moved_each, none_made, source_ready}
+use Rattle.hs_taking.proofs.LevelLemmas.{level_more, level_slot, moved_each, source_ready}
 use Rattle.hs_taking.proofs.StepLemmas.{at_any}
 use Rattle.hs_taking.specs.Copies.{IsOf}
 use Rattle.hs_taking.specs.declared.slot.Slot.{Slot}
 use Rattle.hs_taking.specs.declared.slot.Slot.TheVariants.{Aside}
 use Rattle.hs_taking.specs.Disks.{DiskSeen, seen_as, seen_at}
 use Rattle.hs_taking.specs.Pairs.{IsStill}
-use Rattle.hs_taking.specs.Slots.{AreMade, IsMade, IsMoved, IsSlot, IsSource, IsSourceOf, IsSourceStep, slot_at}
+use Rattle.hs_taking.specs.Slots.{AreMade, IsMade, IsMoved, IsSlot, IsSourceOf, IsSourceStep, slot_at}
 use Rattle.hs_taking.proofs.leveling.level_copies.Goals as goal
 
 pub loop-copy-preserved : goal.loop-copy-preserved

@@ -1,6 +1,6 @@
-use Rattle.std.proofs.Common.{◌≡◌, ◌≢◌, ◌∙◌, ◌+◌, ◌*◌, ◌<◌, ◌≤◌, ap, sym, subst, ℕ, List, map, length, refl, arith}
+use Rattle.std.proofs.Common.{◌≡◌, ◌≢◌, ◌∙◌, ◌+◌, ◌<◌, ap, sym, subst, ℕ, List, map, length, refl, arith}
 use Rattle.std.proofs.lemmas.List.{get_or-set_other, get_or-set_same}
-use Rattle.std.specs.Prelude.{slice_index_or, slice_set}
+use Rattle.std.specs.Prelude.{slice_set}
 use Rattle.hs_limits.specs.Shape.{peer_of}
 use Rattle.hs_peerlog.proofs.ImageLemmas.{Since}
 use Rattle.hs_taking.proofs.DiskLemmas.{one_called, seen_is, seen_since, seen_there}

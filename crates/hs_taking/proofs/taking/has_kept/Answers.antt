@@ -1,5 +1,4 @@
 use Rattle.std.proofs.Common.{◌≡◌, ◌∙◌, ◌+◌, ◌-◌, ◌<◌, ap, sym, false, true, is_some, length, arith}
-use Rattle.std.specs.Prelude.{slice_index_or}
 use Rattle.hs_limits.specs.Shape.{peer_of}
 use Rattle.hs_taking.proofs.ChoiceLemmas.{shard_within}
 use Rattle.hs_taking.proofs.StepLemmas.{at_any}

@@ -1,4 +1,4 @@
-use Rattle.std.proofs.Common.{◌≡◌, ◌≢◌, ◌∙◌, ◌*◌, ◌<◌, ◌≤◌, ap, sym, subst, ℕ, List, Option, Some, map, length, true, false, refl, arith, rules}
+use Rattle.std.proofs.Common.{◌≡◌, ◌≢◌, ◌∙◌, ◌<◌, ap, sym, subst, ℕ, List, Option, map, length, true, false, refl, arith, rules}
 use Rattle.std.specs.Prelude.{slice_index_or, slice_set}
 use Rattle.hs_fold.specs.Shards.Setting.{Numbered}
 use Rattle.hs_memory.specs.Forget.{apply_all}
