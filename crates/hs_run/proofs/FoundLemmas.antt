@@ -1,16 +1,16 @@
 -- What opening found, as hs_promise says it, and the run right behind opening.
-use Rattle.std.proofs.Common.{◌≡◌, inl, inr, ◌∙◌, ap, sym, subst, ℕ, ◌+◌, ◌-◌, ◌^◌, ◌≤◌, ◌*◌, false, true, not, List, [], ◌∷◌, ◌++◌, Option, None, Result, Ok, Err, refl, arith, length}
+use Rattle.std.proofs.Common.{◌≡◌, inl, inr, ◌∙◌, ap, sym, subst, ℕ, ◌+◌, ◌-◌, ◌^◌, ◌≤◌, ◌*◌, true, false, not, List, ◌++◌, Option, Result, Ok, Err, refl, arith, length}
 use Rattle.std.proofs.lemmas.Bool.{cases_lt, false≢true}
 use Rattle.std.proofs.lemmas.List.{get_or_past}
 use Rattle.std.proofs.lemmas.List.Elements.{Contains-get_or}
 use Rattle.std.specs.Prelude.{All, Contains, is_ok, slice_index_or, ⊤}
+use Rattle.hs_cluster.proofs.CountLemmas.{rose_then}
 use Rattle.hs_cluster.proofs.OpenedLemmas.{opens_so}
 use Rattle.hs_cluster.proofs.RunLemmas.{runs_opened}
 use Rattle.hs_cluster.specs.Calls.{ran_out}
 use Rattle.hs_cluster.specs.declared.fault.ClusterFault.{ClusterFault}
-use Rattle.hs_cluster.proofs.CountLemmas.{rose_then}
 use Rattle.hs_cluster.specs.Disks.{AreReady, DiskSeen, seen_at, stands_of}
-use Rattle.hs_cluster.specs.Kept.{Span as Shown}
+use Rattle.hs_cluster.specs.Kept.{Span as Kept}
 use Rattle.hs_cluster.specs.Opens.{Finds, IsLostLog, Opens}
 use Rattle.hs_cluster.specs.Running.{Running}
 use Rattle.hs_cluster.specs.RunsOn.{CanRunOn, RunsOn}
@@ -18,20 +18,19 @@ use Rattle.hs_core_words.specs.State.{Core}
 use Rattle.hs_events.specs.Beginning.{first_items}
 use Rattle.hs_events.specs.Course.{items_of, steps}
 use Rattle.hs_events.specs.Due.{Events, next_turn}
-use Rattle.hs_events.specs.Found.{Found, first_core, opens_with}
+use Rattle.hs_events.specs.Found.{first_core, opens_with}
 use Rattle.hs_events.specs.Reports.{failures}
 use Rattle.hs_events.specs.Taken.{peer_count}
 use Rattle.hs_fold.specs.Shards.Setting.{Setting}
 use Rattle.hs_model.specs.declared.command.Command.{Command}
 use Rattle.hs_moments.specs.Moments.{Since}
 use Rattle.hs_ports.specs.Fault.{HasRisen}
-use Rattle.hs_ports.specs.Objects.{Objects, RoseBy, faults_at}
+use Rattle.hs_ports.specs.Objects.{Objects}
 use Rattle.hs_promise.specs.Found.{HasFound, IsLostBefore}
-use Rattle.hs_promise.specs.declared.status.Status.{Status}
+use Rattle.hs_promise.specs.Run.{DiskRose, Ran}
 use Rattle.hs_promise.specs.Story.{all_events}
 use Rattle.hs_taking.specs.Shares.{Span}
 use Rattle.hs_run.specs.Between.{IsReadyAt}
-use Rattle.hs_run.specs.Ended.{ran_at}
 use Rattle.hs_run.specs.Going.{Begun, IsOpened, script_by, story_of}
 use Rattle.hs_run.specs.Machine.{AreHanded}
 use Rattle.hs_run.proofs.AnsweredLemmas.{answered_opens, answered_steps}
@@ -40,19 +39,19 @@ use Rattle.hs_run.proofs.LastLineLemmas.{steps_later, steps_up, walk_up}
 use Rattle.hs_run.proofs.PassedLemmas.{going_of}
 use Rattle.hs_run.proofs.ShownLemmas.{can_first}
 
+-- ---- what was found
+
 all_of : {X : Type 0} (P : X → Type 0) (xs : List X) → ((x : X) → Contains xs x → P x) → All P xs
 all_of P xs h = λ k d low. h (slice_index_or xs k d) (Contains-get_or xs k d low)
 
--- ---- what was found
-
--- from what a run shows of its disks: those of the peers that were set aside failed, beside all that is told later, or had no log, or were left behind
-pub has_found : (tells : Type 0) (b : Begun) (span : Shown) (lines : List Events) (new : Objects) (commands : ℕ → Option Command) (ending : Status) (line : ℕ) (cluster : Option Running) → span.before ≡ b.old.moment → AreHanded b.old span.disks → AreHanded new span.left
-    → RunsOn tells b.set span b.found (all_events (story_of b lines)) → HasFound (script_by b commands) (ran_at ending line cluster b.old new) (story_of b lines)
-has_found tells b span lines new commands ending line cluster entry was is shown = record {
+-- of a run, by what its disks show
+pub has_found : (tells : Type 0) (b : Begun) (lines : List Events) (commands : ℕ → Option Command) (r : Ran) (span : Kept) → span.before ≡ r.old.moment → AreHanded r.old span.disks → AreHanded r.new span.left
+    → RunsOn tells b.set span b.found (all_events (story_of b lines)) → HasFound (script_by b commands) r (story_of b lines)
+has_found tells b lines commands r span entry was is shown = record {
   logs = finds.logs;
   goods = finds.goods;
-  later = let low = finds.later in let there = finds.opened in omega (arith, entry, low, there);
-  lost = all_of (IsLostBefore (script_by b commands) (ran_at ending line cluster b.old new) (story_of b lines)) b.found.lost (λ x among. lost_before x (finds.lost x among));
+  later = let low = finds.later in omega (arith, entry, low);
+  lost = all_of (IsLostBefore (script_by b commands) r (story_of b lines)) b.found.lost (λ x among. lost_before x (finds.lost x among));
   once = finds.once;
   all_lost = finds.all_lost;
   kept = λ peer good. elim (cases_lt peer (peer_count b.set.shape)) [
@@ -60,10 +59,10 @@ has_found tells b span lines new commands ending line cluster entry was is shown
     | inr high ↦ absurd (false≢true (sym (get_or_past b.found.good peer false (let long = finds.goods in omega (arith, high, long))) ∙ good))
   ];
   aside = λ peer low bad. elim ((finds.each peer low).aside bad) [
-    | inl rose ↦ inl (rises peer rose)
-    | inr why ↦ elim why [
+    | inl rose ↦ inl (beside peer rose)
+    | inr other ↦ elim other [
       | inl none ↦ inr (inl none)
-      | inr left ↦ inr (inr (record { lost = left.lost; among = left.among; same_shard = left.same_shard }))
+      | inr behind ↦ inr (inr (record { lost = behind.lost; among = behind.among; same_shard = behind.same_shard }))
     ]
   ];
 }
@@ -71,22 +70,21 @@ has_found tells b span lines new commands ending line cluster entry was is shown
     finds : Finds tells b.set (record { before = span.before; now = b.found.opened; old = span.disks; new = shown.disks }) b.found shown.slots
     finds = shown.finds
 
-    told : ℕ → ℕ
-    told peer = failures false peer (first_core b.set b.found) (all_events (story_of b lines))
-
-    -- once before the first turn, and as often as the reports tell
-    rises : (peer : ℕ) → HasRisen (seen_at span.disks peer).faults (seen_at shown.disks peer).faults → RoseBy (1 + told peer) (faults_at b.old.disk_faults peer) (faults_at new.disk_faults peer)
-    rises peer rose =
-        rose_is (1 + told peer) b.old new span.disks span.left was is peer
-        (rose_then (2 ^ 64 - 1) (seen_at span.disks peer).faults (seen_at shown.disks peer).faults (seen_at span.left peer).faults 1 (told peer) rose (shown.counted.failed peer))
-
-    lost_before : (x : ℕ × ℕ) → IsLostLog tells b.set (record { before = span.before; now = b.found.opened; old = span.disks; new = shown.disks }) b.found x → IsLostBefore (script_by b commands) (ran_at ending line cluster b.old new) (story_of b lines) x
+    lost_before : (x : ℕ × ℕ) → IsLostLog tells b.set (record { before = span.before; now = b.found.opened; old = span.disks; new = shown.disks }) b.found x → IsLostBefore (script_by b commands) r (story_of b lines) x
     lost_before x h = record {
       taken = h.taken;
       bad = h.bad;
       later = let low = h.later in omega (arith, entry, low);
-      before = let high = h.up_to in let there = finds.opened in omega (arith, high, there);
+      before = h.up_to;
     }
+
+    -- a disk that failed before the first turn, and by each report since
+    beside : (peer : ℕ) → HasRisen (seen_at span.disks peer).faults (seen_at shown.disks peer).faults
+        → DiskRose r (1 + failures false peer (first_core b.set b.found) (all_events (story_of b lines))) peer
+    beside peer rose =
+        rose_is (1 + failures false peer (first_core b.set b.found) (all_events (story_of b lines))) r.old r.new span.disks span.left was is peer
+        (rose_then (2 ^ 64 - 1) (seen_at span.disks peer).faults (seen_at shown.disks peer).faults (seen_at span.left peer).faults 1 (failures false peer (first_core b.set b.found) (all_events (story_of b lines)))
+        rose (shown.counted.failed peer))
 
 -- ---- behind opening
 
