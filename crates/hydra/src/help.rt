@@ -52,7 +52,6 @@ P it then empties the other copies of the shard of copy P and gives them what P
 has; a copy whose files fail meanwhile has one line more. Scrub again to see what
 came of it.
 
-
 An option of a script is a name and a number, and lowers a limit of the run: each
 at most once, in any order, with a number from 1 to the greatest, which is the
 limit where the option is not given:
