@@ -13,6 +13,7 @@ use Rattle.hs_ports.specs.Fault.{HasRisen}
 use Rattle.hs_side.specs.Current.{list_in}
 use Rattle.hs_side.specs.Standing.{HasBytes, HasRoom}
 use Rattle.hs_taking.proofs.DiskLemmas.{seen_here, seen_is, seen_there}
+use Rattle.hs_taking.proofs.PairLemmas.{viewed_still}
 use Rattle.hs_taking.specs.Disks.{DiskSeen, seen_at}
 use Rattle.hs_taking.specs.Viewed.{IsViewOf}
 
@@ -48,6 +49,7 @@ module _ (tells : Type 0) where
       room = subst (λ n. HasRoom viewing.log n) (sym (still.size viewing.log.side)) is.stands.room;
       told = λ told. subst (λ (s : Standing). HasBytes 0xa5 viewing.log (s.seen viewing.log.side) (s.loose viewing.log.side)) (sym (still.same told)) (is.stands.told told);
     };
+    viewed = viewed_still tells viewing a b (record { same = still.same; size = still.size; counted = still.counted }) is.viewed;
     listed = λ told. subst (λ (s : Standing). IsSome (list_in s.seen)) (sym (still.same told)) (is.listed told);
     has = λ told list e. subst (λ (s : Standing). HasView viewing s.seen list) (sym (still.same told)) (is.has told list (ap (λ (s : Standing). list_in s.seen) (sym (still.same told)) ∙ e));
     accepted = λ told. ap (λ (s : Standing). refusal_in shape peer s.seen) (still.same told) ∙ is.accepted told;

@@ -61,7 +61,7 @@ module _ (tells : Type 0) (S : Script) (r : Ran) (story : Story) (on : OnDisks S
       → ListsAtMoments whole_machine (open_whole S.set story.found) (happened (first_core S.set story.found) (all_events story)) (record { before = r.old.moment; now = r.new.moment; disks = r.new.disks })
   moments h going = record {
     fine = λ m p above up_to early counts image left.
-        (runs.lists told (sound h) going).moments.fine m p (omega (arith, above, before)) (omega (arith, up_to, now)) early counts image
+        (runs.lists on.one told (sound h) going).moments.fine m p (omega (arith, above, before)) (omega (arith, up_to, now)) early counts image
         (subst (λ (ds : List Standing). IsLeft (disk_at ds p) m image) (sym new) left);
   }
 
@@ -69,14 +69,14 @@ module _ (tells : Type 0) (S : Script) (r : Ran) (story : Story) (on : OnDisks S
   kept ended called p low =
       keeps_list tells r p span.before story.found.opened (seen_at span.disks p) (seen_at runs.disks p) told before (seen_as span.disks r.old.disks p old)
       (ap (λ (ds : List DiskSeen). (seen_at ds p).stands) (sym (runs.still ended)) ∙ seen_as span.left r.new.disks p new)
-      (runs.finds.each p (let all = ap (λ n. S.set.shape.shards * n) on.one in omega (arith, low, all))).disk (called p)
+      ((runs.finds.each p (let all = ap (λ n. S.set.shape.shards * n) on.one in omega (arith, low, all))).disk on.one) (called p)
 
   pub shown_of : Went S r story → ((peer : ℕ) → peer < peer_count S.set.shape → IsReadAs r story peer) → IsShown S r story
   shown_of went read = record {
     went = went;
     read = read;
     rooms = runs.rooms;
-    told = runs.told told;
+    told = runs.told on.one told;
     lists = moments;
     ended = kept;
   }

@@ -9,15 +9,16 @@ use Rattle.hs_cluster.specs.Running.{Running}
 use Rattle.hs_core_words.specs.Opening.{open_core}
 use Rattle.hs_fold.specs.Shards.Setting.{Setting}
 use Rattle.hs_limits.specs.declared.shape.Shape.{Shape}
+use Rattle.hs_limits.specs.Shape.{IsShape}
 use Rattle.hs_peerlog.specs.declared.fault.LogFault.TheVariants as log
 use Rattle.hs_peerlog.specs.Opening.{refusal_in}
 use Rattle.hs_ports.specs.Fault.{HasRisen}
 use Rattle.hs_side.specs.declared.header.Header.{Header}
+use Rattle.hs_taking.specs.Copies.{HasEvened}
 use Rattle.hs_taking.specs.declared.fault.TakeFault.{TakeFault}
 use Rattle.hs_taking.specs.declared.fault.TakeFault.TheVariants as take
 use Rattle.hs_taking.specs.Disks.{DiskSeen, seen_at}
 use Rattle.hs_taking.specs.Shares.{Span, Taken}
-use Rattle.hs_taking.specs.Store.{HasRead}
 use Rattle.hs_taking.specs.Viewed.{IsOther}
 
 pub closed_of : (tells : Type 0) (shape : Shape) (old new : List DiskSeen) (f : TakeFault) (fault : ClusterFault) → fault ≡ of_taking f → IsOther tells shape old new f → IsClosed tells shape old new fault
@@ -36,12 +37,13 @@ pub unwritten_memory : {T : Type 0} (P : Type 0) (r : Result T ClusterFault) →
 unwritten_memory P (Ok x) h = tt
 unwritten_memory P (Err fault) h = λ at found e. cc (sym h ∙ e)
 
-pub begins_ok : (tells : Type 0) (set : Setting) (span : Span) (taken : Taken) (entry moment : ℕ) (r : Result Running ClusterFault) → entry ≡ span.before → moment ≡ span.now → (set.shape.copies ≡ 1 → HasRead tells set span taken) → length taken.shares ≡ set.shape.shards
+pub begins_ok : (tells : Type 0) (set : Setting) (span : Span) (taken : Taken) (entry moment : ℕ) (r : Result Running ClusterFault) → entry ≡ span.before → moment ≡ span.now → IsShape set.shape → HasEvened tells set span taken → length taken.shares ≡ set.shape.shards
     → length taken.logs ≡ set.shape.shards * set.shape.copies → span.before ≤ span.now → length span.old ≡ set.shape.shards * set.shape.copies → length span.new ≡ length span.old → NoneFalls span.old span.new
     → (tells → (peer : ℕ) (found : Header) → peer < length span.old → refusal_in set.shape peer (seen_at span.old peer).stands.seen ≡ Some (log.WrongShape found) → HasRisen (seen_at span.old peer).faults (seen_at span.new peer).faults)
-    → IfOk r (λ c. c.logs ≡ taken.logs) → IfOk r (λ c. c.core ≡ open_core set.shape set.limits (opened_with taken) moment) → IfOk r (λ c. c.course ≡ begun_course entry taken) → IfOk r (Begins tells set span)
-begins_ok tells set span taken entry moment (Ok c) first last read shares count ticks disks left falls own logs core course = record {
+    → IfOk r (λ c. c.logs ≡ taken.logs) → IfOk r (λ c. c.core ≡ open_core set.shape set.limits (opened_with taken) moment) → IfOk r (λ c. c.course ≡ begun_course set.shape entry moment taken) → IfOk r (Begins tells set span)
+begins_ok tells set span taken entry moment (Ok c) first last shape read shares count ticks disks left falls own logs core course = record {
   taken = taken;
+  shape = shape;
   read = read;
   shares = shares;
   own = own;
@@ -52,6 +54,6 @@ begins_ok tells set span taken entry moment (Ok c) first last read shares count 
   left = left;
   logs = logs;
   core = core ∙ ap (λ m. open_core set.shape set.limits (opened_with taken) m) last;
-  course = course ∙ ap (λ m. begun_course m taken) first;
+  course = course ∙ (λ i. begun_course set.shape (first i) (last i) taken);
 }
-begins_ok tells set span taken entry moment (Err fault) first last read shares count ticks disks left falls own logs core course = tt
+begins_ok tells set span taken entry moment (Err fault) first last shape read shares count ticks disks left falls own logs core course = tt

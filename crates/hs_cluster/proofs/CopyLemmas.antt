@@ -1,13 +1,13 @@
 -- A job that needs the log of its peer, and maybe that of another: what it leaves of the logs and the disks of all.
-use Rattle.std.proofs.Common.{◌≡◌, ◌≢◌, ◌∙◌, ◌⊎◌, inl, inr, ap, sym, subst, ℕ, zero, suc, ◌+◌, ◌<◌, ◌≤◌, Bool, true, false, List, [], ◌∷◌, Option, Some, None, map, length, refl, arith}
+use Rattle.std.proofs.Common.{◌≡◌, ◌≢◌, ◌∙◌, ◌⊎◌, inl, inr, ap, sym, subst, ℕ, ◌+◌, ◌<◌, ◌≤◌, Bool, true, false, List, [], ◌∷◌, Option, Some, None, map, length, refl, arith}
 use Rattle.std.proofs.lemmas.Bool.{cases_eq, eq-eqb}
 use Rattle.std.proofs.lemmas.List.{get_or-set_same, get_or-set_other}
 use Rattle.std.specs.Option.{option_map, option_or}
 use Rattle.std.specs.Prelude.{◌==◌, ◌||◌, ◌&&◌, IfOk, Result, Ok, Err, if◌then◌else◌, is_none, is_some, nat_lt, not, slice_index_or, slice_set}
 use Rattle.hs_cluster.proofs.DiskLemmas.{length_map, length_set, stands_at, stands_other, stands_set}
-use Rattle.hs_cluster.proofs.JobLemmas.{Since, weaker}
+use Rattle.hs_cluster.proofs.JobLemmas.{Since}
 use Rattle.hs_cluster.specs.Disks.{DiskSeen, log_at, seen_at, stands_of}
-use Rattle.hs_cluster.specs.Jobs.{Copies, Empties, FailsAlone, HasCopied, IsAnyOrNone, LeavesCopy, StandsBeside, Try, WithCopy, Working, Works, WorksAlone, is_own, try_of}
+use Rattle.hs_cluster.specs.Jobs.{Empties, FailsAlone, HasCopied, IsAnyOrNone, LeavesCopy, StandsBeside, Try, WithCopy, Working, Works, WorksAlone, is_own}
 use Rattle.hs_core_words.specs.Asking.{no_peer, not_up, with_up}
 use Rattle.hs_core_words.specs.declared.event.Event.TheVariants as event
 use Rattle.hs_core_words.specs.Looking.{first_job, oldest_message}
@@ -24,7 +24,6 @@ use Rattle.hs_events.specs.declared.due.Due.{Due}
 use Rattle.hs_events.specs.declared.due.Due.TheVariants.{Handling, Reporting}
 use Rattle.hs_events.specs.Due.{peer_due, turn_behind, turn_of}
 use Rattle.hs_fold.specs.Shards.Setting.{Numbered}
-use Rattle.hs_peerlog.specs.Heads.{LeavesHeader}
 use Rattle.hs_peerlog.specs.Images.{GivesList, IsStanding, LeavesAny, LeavesEach}
 use Rattle.hs_peerlog.specs.Lists.{HasLog, IsKept, Keeping, numbered_entry}
 use Rattle.hs_ports.specs.declared.disk.Side.{Side}

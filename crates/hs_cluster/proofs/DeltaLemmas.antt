@@ -1,5 +1,5 @@
 -- Deltas that ascend are those of an entry.
-use Rattle.std.proofs.Common.{◌≡◌, ◌<◌, ◌≤◌, ◌&&◌, ap, suc, Bool, true, false, ℕ, List, [], ◌∷◌, length, map, Option, Some, None, refl, arith, leb}
+use Rattle.std.proofs.Common.{◌≡◌, ◌≤◌, ◌&&◌, ap, suc, Bool, true, false, ℕ, List, [], ◌∷◌, length, map, Option, Some, None, refl, arith, leb}
 use Rattle.std.specs.declared.cmp.Ordering.{Ordering}
 use Rattle.std.specs.declared.cmp.Ordering.TheVariants.{Less, Equal, Greater}
 use Rattle.std.proofs.lemmas.Cmp.{nat_list_cmp_total}

@@ -1,5 +1,5 @@
 -- Behind opening's reading a store of one copy may go on, and its turns are put behind that.
-use Rattle.std.proofs.Common.{◌≡◌, ◌∙◌, inl, inr, ap, sym, subst, ℕ, zero, suc, ◌+◌, ◌-◌, ◌*◌, ◌^◌, ◌<◌, ◌≤◌, not, true, false, List, [], ◌∷◌, ◌++◌, Option, Some, None, refl, arith, length, nat_lt, is_none, is_some, if◌then◌else◌}
+use Rattle.std.proofs.Common.{◌≡◌, ◌∙◌, inl, inr, ap, sym, subst, ℕ, zero, suc, ◌+◌, ◌-◌, ◌*◌, ◌^◌, ◌/◌, ◌<◌, ◌≤◌, not, true, false, List, [], ◌∷◌, ◌++◌, Option, Some, None, refl, arith, length, nat_lt, is_none, is_some, if◌then◌else◌}
 use Rattle.std.proofs.lemmas.Bool.{cases_lt}
 use Rattle.std.proofs.lemmas.List.{get_or_past, take_at}
 use Rattle.std.proofs.lemmas.List.Elements.{All-cons, All-nil}
@@ -36,7 +36,7 @@ use Rattle.hs_events.specs.Whole.{Whole, counts, floor, grown, open_whole, reach
 use Rattle.hs_fold.proofs.PrefixLemmas.{last-length}
 use Rattle.hs_fold.specs.Images.{IsLeft}
 use Rattle.hs_fold.specs.Shards.Setting.{Numbered, Setting}
-use Rattle.hs_members.specs.Members.{IsPeer, Members}
+use Rattle.hs_members.specs.Members.{IsPeer, Members, home_of}
 use Rattle.hs_moments.proofs.AloneEventLemmas.{home_here}
 use Rattle.hs_moments.proofs.HappenedLemmas.{happened_rise}
 use Rattle.hs_moments.proofs.MomentLemmas.{le-is}
@@ -54,10 +54,10 @@ use Rattle.hs_ports.specs.Moments.{disk_at}
 use Rattle.hs_replica.specs.Group.{entries_above, length_of}
 use Rattle.hs_side.specs.Current.{list_in}
 use Rattle.hs_taking.proofs.PastLemmas.{past_still, past_then, past_wait}
+use Rattle.hs_taking.specs.Copies.{HasEvened}
 use Rattle.hs_taking.specs.Disks.{DiskSeen, log_at, seen_at, stands_of}
 use Rattle.hs_taking.specs.Past.{PastStays}
 use Rattle.hs_taking.specs.Shares.{Span, Taken}
-use Rattle.hs_taking.specs.Store.{HasRead}
 
 -- ---- lists, disks, events
 
@@ -111,7 +111,7 @@ kept_by (Some keeping) e = (keeping, refl)
 
 -- ---- right before the first turn
 
-module _ (tells : Type 0) (set : Setting) (span : Span) (taken : Taken) (one : set.shape.copies ≡ 1) (h : HasRead tells set span taken) (shares : length taken.shares ≡ set.shape.shards) (logs : length taken.logs ≡ set.shape.shards * set.shape.copies) (ticks : span.before ≤ span.now)
+module _ (tells : Type 0) (set : Setting) (span : Span) (taken : Taken) (some : 0 < set.shape.copies) (one : set.shape.copies ≡ 1) (h : HasEvened tells set span taken) (shares : length taken.shares ≡ set.shape.shards) (logs : length taken.logs ≡ set.shape.shards * set.shape.copies) (ticks : span.before ≤ span.now)
     (olds : length span.old ≡ set.shape.shards * set.shape.copies) (news : length span.new ≡ length span.old) where
   abbrev count : ℕ
   count = set.shape.shards
@@ -120,13 +120,23 @@ module _ (tells : Type 0) (set : Setting) (span : Span) (taken : Taken) (one : s
   peers = ap (λ n. set.shape.shards * n) one ∙ omega arith
 
   abbrev f : Found
-  f = found tells set span taken one h shares logs ticks
+  f = found tells set span taken some h shares logs ticks
 
   all : Finds tells set span f taken.logs
-  all = finds tells set span taken one h shares logs ticks
+  all = finds tells set span taken some h shares logs ticks
 
   of : (p : ℕ) → p < count → IsFound tells set span f taken.logs p
   of p low = all.each p (omega (arith, low, peers))
+
+  home_one : (p : ℕ) → home_of set.shape p ≡ p
+  home_one p = ap (λ n. p / n) one ∙ omega arith
+
+  -- the log of a peer, by its number
+  log_of : (p : ℕ) (low : p < count) → tells → (seen_at span.old p).stands.last ≤ span.before → (keeping : Keeping) → log_at taken.logs p ≡ Some keeping → HasLog keeping (seen_at span.new p).stands (opened_list set f p) None
+  log_of p low told last keeping at = subst (λ k. HasLog keeping (seen_at span.new p).stands (opened_list set f k) None) (home_one p) ((of p low).log told last keeping at)
+
+  reads_of : (p : ℕ) (low : p < count) → tells → (keeping : Keeping) → log_at taken.logs p ≡ Some keeping → IsKept keeping ((seen_at span.new p).stands.seen keeping.log.side) (opened_list set f p) None
+  reads_of p low told keeping at = subst (λ k. IsKept keeping ((seen_at span.new p).stands.seen keeping.log.side) (opened_list set f k) None) (home_one p) ((of p low).reads one told keeping at)
 
   abbrev c : Whole
   c = open_whole set f
@@ -148,7 +158,7 @@ module _ (tells : Type 0) (set : Setting) (span : Span) (taken : Taken) (one : s
 
     past_seen : PastStays span.before span.now (seen_at span.old p).stands (seen_at span.new p).stands
     past_seen = elim (cases_lt p count) [
-      | inl low ↦ (of p low).disk.past told last_seen
+      | inl low ↦ (of p low).past told last_seen
       | inr high ↦ subst (λ (d : Standing). PastStays span.before span.now d (seen_at span.new p).stands) (sym (old_past p high))
           (subst (λ (d : Standing). PastStays span.before span.now untold d) (sym (new_past p high)) (past_still span.before span.now untold ticks (omega arith)))
     ]
@@ -164,7 +174,7 @@ module _ (tells : Type 0) (set : Setting) (span : Span) (taken : Taken) (one : s
         | inl low ↦ record {
           list = opened_list set f p;
           waiting = None;
-          has = subst (λ (d : Standing). HasLog keeping d (opened_list set f p) None) (sym (stands_seen span.new p)) ((of p low).log told last_seen keeping at);
+          has = subst (λ (d : Standing). HasLog keeping d (opened_list set f p) None) (sym (stands_seen span.new p)) (log_of p low told last_seen keeping at);
         }
         | inr high ↦ absurd (none_is_not keeping (sym (log_past p high) ∙ at))
       ];
@@ -181,7 +191,7 @@ module _ (tells : Type 0) (set : Setting) (span : Span) (taken : Taken) (one : s
     slot p low = kept_by (log_at taken.logs p) (sym (of p low).good ∙ good p low)
 
     read_is : (p : ℕ) (low : p < count) → (keeping : Keeping) → log_at taken.logs p ≡ Some keeping → IsKept keeping ((seen_at span.new p).stands.seen keeping.log.side) (opened_list set f p) None
-    read_is p low keeping at = (of p low).reads told keeping at
+    read_is p low keeping at = reads_of p low told keeping at
 
     numbered : (p : ℕ) → p < count → GoOn 0 (opened_list set f p)
     numbered p low = let s = slot p low in (read_is p low s.0 s.1).numbered
@@ -230,7 +240,7 @@ module _ (tells : Type 0) (set : Setting) (span : Span) (taken : Taken) (one : s
 
     module _ (sound : LeaveOneList span.before span.old) where
       log_is : (p : ℕ) (low : p < count) → (keeping : Keeping) → log_at taken.logs p ≡ Some keeping → HasLog keeping (seen_at span.new p).stands (opened_list set f p) None
-      log_is p low keeping at = (of p low).log told (sound.called p) keeping at
+      log_is p low keeping at = log_of p low told (sound.called p) keeping at
 
       listed : KeepsLogs c taken.logs span.new
       listed = record {
@@ -260,11 +270,11 @@ module _ (tells : Type 0) (set : Setting) (span : Span) (taken : Taken) (one : s
       }
 
       only : (p : ℕ) → p < count → LeavesOnly (seen_at span.old p).stands (opened_list set f p)
-      only p low = let s = slot p low in sound.only p (opened_list set f p) (was_read tells set span taken one h shares logs ticks p low s.0 s.1 told)
+      only p low = let s = slot p low in sound.only p (opened_list set f p) (was_read tells set span taken some h shares logs ticks one p (omega (arith, low, peers)) s.0 s.1 told ∙ ap (λ k. Some (opened_list set f k)) (home_one p))
 
       called : (p : ℕ) → (disk_at (stands_of span.new) p).last ≤ span.now
       called p = subst (λ (d : Standing). d.last ≤ span.now) (sym (stands_seen span.new p)) (elim (cases_lt p count) [
-        | inl low ↦ ((of p low).disk.moments told (sound.called p) (opened_list set f p) (only p low)).last
+        | inl low ↦ (((of p low).disk one).moments told (sound.called p) (opened_list set f p) (only p low)).last
         | inr high ↦ subst (λ (d : Standing). d.last ≤ span.now) (sym (new_past p high)) (omega arith)
       ])
 
@@ -288,7 +298,7 @@ module _ (tells : Type 0) (set : Setting) (span : Span) (taken : Taken) (one : s
         where
           at : (seen_at span.new p).stands.past m side ≡ (seen_at span.old p).stands.past m side
           at = elim (cases_lt p count) [
-            | inl below ↦ ((of p below).disk.moments told (sound.called p) (opened_list set f p) (only p below)).earlier side m low fits
+            | inl below ↦ (((of p below).disk one).moments told (sound.called p) (opened_list set f p) (only p below)).earlier side m low fits
             | inr high ↦ ap (λ (d : Standing). d.past m side) (new_past p high) ∙ sym (ap (λ (d : Standing). d.past m side) (old_past p high))
           ]
 
@@ -296,7 +306,7 @@ module _ (tells : Type 0) (set : Setting) (span : Span) (taken : Taken) (one : s
       read_moments m p after fits is image left =
           let low : p < count = counted_low p is in
           let there : IsLeft (seen_at span.new p).stands m image = subst (λ d. IsLeft d m image) (stands_seen span.new p) left in
-          let gives : GivesList (Is (opened_list set f p)) image = ((of p low).disk.moments told (sound.called p) (opened_list set f p) (only p low)).each m after fits image there.sides in
+          let gives : GivesList (Is (opened_list set f p)) image = (((of p low).disk one).moments told (sound.called p) (opened_list set f p) (only p low)).each m after fits image there.sides in
           fine_at p low image (gives.read ∙ ap (λ (l : Numbered). Some l) gives.holds)
 
 -- ---- and the turns
@@ -328,38 +338,41 @@ joined c es before mid now old between left begun cluster ticks rises earlier mo
 
 -- ---- all of it
 
-module _ (tells : Type 0) (set : Setting) (span : Span) (cluster : Running) (done : Result ⊤ ClusterFault) (one : set.shape.copies ≡ 1) (o : HasOpened tells set span cluster done) where
+module _ (tells : Type 0) (set : Setting) (span : Span) (cluster : Running) (done : Result ⊤ ClusterFault) (o : HasOpened tells set span cluster done) where
   abbrev mid : Span
   mid = record { before = span.before; now = o.opened; old = span.old; new = o.disks }
 
   abbrev b : Begins tells set (record { before = span.before; now = o.opened; old = span.old; new = o.disks }) o.begun
   b = o.begins
 
-  read : HasRead tells set (record { before = span.before; now = o.opened; old = span.old; new = o.disks }) o.begins.taken
-  read = o.begins.read one
+  read : HasEvened tells set (record { before = span.before; now = o.opened; old = span.old; new = o.disks }) o.begins.taken
+  read = o.begins.read
+
+  some : 0 < set.shape.copies
+  some = let c = b.shape.some_copy in omega (arith, c)
 
   abbrev opened_found : Found
-  opened_found = found tells set mid b.taken one read b.shares b.count b.ticks
+  opened_found = found tells set mid b.taken some read b.shares b.count b.ticks
 
   core_is : first_core set opened_found ≡ o.begun.core
-  core_is = ap (λ (x : Opened). open_core set.shape set.limits x o.opened) (opens_so tells set mid b.taken one read b.shares b.count b.ticks) ∙ sym b.core
+  core_is = ap (λ (x : Opened). open_core set.shape set.limits x o.opened) (opens_so tells set mid b.taken some read b.shares b.count b.ticks) ∙ sym b.core
 
   course_is : o.begun.course ≡ first_items set.shape opened_found span.before
-  course_is = b.course ∙ sym (begins_so tells set mid b.taken one read b.shares b.count b.ticks span.before)
+  course_is = b.course ∙ sym (begins_so tells set mid b.taken some read b.shares b.count b.ticks span.before)
 
-  can : tells → LeaveOneList span.before span.old → (first_core set opened_found).ended ≡ None → CanGoOn (open_whole set opened_found) o.begun.logs o.disks o.opened
-  can told sound going =
+  can : set.shape.copies ≡ 1 → tells → LeaveOneList span.before span.old → (first_core set opened_found).ended ≡ None → CanGoOn (open_whole set opened_found) o.begun.logs o.disks o.opened
+  can one told sound going =
       subst (λ l. CanGoOn (open_whole set opened_found) l o.disks o.opened) (sym b.logs)
-      (can_go_on tells set mid b.taken one read b.shares b.count b.ticks b.disks b.left told going sound)
+      (can_go_on tells set mid b.taken some one read b.shares b.count b.ticks b.disks b.left told going sound)
 
-  could_read : tells → (first_core set opened_found).ended ≡ None → CanRead (open_whole set opened_found) o.begun.logs o.disks
-  could_read told going =
+  could_read : set.shape.copies ≡ 1 → tells → (first_core set opened_found).ended ≡ None → CanRead (open_whole set opened_found) o.begun.logs o.disks
+  could_read one told going =
       subst (λ l. CanRead (open_whole set opened_found) l o.disks) (sym b.logs)
-      (can_read tells set mid b.taken one read b.shares b.count b.ticks b.disks b.left told going)
+      (can_read tells set mid b.taken some one read b.shares b.count b.ticks b.disks b.left told going)
 
   -- no disk failed before the first turn of a core that goes on
-  calm_first : (first_core set opened_found).ended ≡ None → GoesCalmly o.begun.core span.old o.disks
-  calm_first going = record {
+  calm_first : set.shape.copies ≡ 1 → (first_core set opened_found).ended ≡ None → GoesCalmly o.begun.core span.old o.disks
+  calm_first one going = record {
     whole = alone_whole set opened_found one f.goods going;
     same = core_is;
     sane = alone_sane set opened_found one f.goods going;
@@ -369,18 +382,18 @@ module _ (tells : Type 0) (set : Setting) (span : Span) (cluster : Running) (don
   }
     where
       f : Finds tells set mid opened_found b.taken.logs
-      f = finds tells set mid b.taken one read b.shares b.count b.ticks
+      f = finds tells set mid b.taken some read b.shares b.count b.ticks
 
       peers_are : set.shape.shards * set.shape.copies ≡ set.shape.shards
       peers_are = ap (λ n. set.shape.shards * n) one ∙ omega arith
 
-  lists : tells → LeaveOneList span.before span.old → (first_core set opened_found).ended ≡ None
+  lists : set.shape.copies ≡ 1 → tells → LeaveOneList span.before span.old → (first_core set opened_found).ended ≡ None
       → LeavesLists (open_whole set opened_found) o.turned.events (record { before = span.before; now = span.now; old = o.begun; new = cluster; disks = span.old; left = span.new })
-  lists told sound going =
+  lists one told sound going =
       joined (open_whole set opened_found) o.turned.events span.before o.opened span.now span.old o.disks span.new o.begun cluster b.ticks o.turned.rises
-      (read_earlier tells set mid b.taken one read b.shares b.count b.ticks b.disks b.left told going sound)
-      (read_moments tells set mid b.taken one read b.shares b.count b.ticks b.disks b.left told going sound)
-      (o.turned.shows.lists told (open_whole set opened_found) core_is (can told sound going))
+      (read_earlier tells set mid b.taken some one read b.shares b.count b.ticks b.disks b.left told going sound)
+      (read_moments tells set mid b.taken some one read b.shares b.count b.ticks b.disks b.left told going sound)
+      (o.turned.shows.lists told (open_whole set opened_found) core_is (can one told sound going))
 
   -- a core that goes on behind the turns went on before
   began : (x : ⊤) → done ≡ Ok x → (first_core set opened_found).ended ≡ None
@@ -388,24 +401,24 @@ module _ (tells : Type 0) (set : Setting) (span : Span) (cluster : Running) (don
       let does : Does o.turned.events o.begun cluster (Ok x) = subst (λ r. Does o.turned.events o.begun cluster r) is o.turned.does in
       going_before (first_core set opened_found) o.turned.events (ap (λ c. (steps c o.turned.events).ended) core_is ∙ ap (λ (c : Core). c.ended) (sym (does.core refl)) ∙ still_going o.turned.events o.begun cluster does)
 
-  calm : OnOk done (GoesCalmly cluster.core span.old span.new)
-  calm = by done refl
+  calm : set.shape.copies ≡ 1 → OnOk done (GoesCalmly cluster.core span.old span.new)
+  calm one = by done refl
     where
       by : (r : Result ⊤ ClusterFault) → done ≡ r → OnOk r (GoesCalmly cluster.core span.old span.new)
       by (Err fault) is = tt
-      by (Ok x) is = subst (λ r. OnOk r (GoesCalmly cluster.core span.old span.new)) is (o.turned.shows.calm span.old (calm_first (began x is)))
+      by (Ok x) is = subst (λ r. OnOk r (GoesCalmly cluster.core span.old span.new)) is (o.turned.shows.calm span.old (calm_first one (began x is)))
 
   -- ---- what is past
 
-  module _ (told : tells) (p : ℕ) (last : (disk_at (stands_of span.old) p).last ≤ span.before) where
+  module _ (one : set.shape.copies ≡ 1) (told : tells) (p : ℕ) (last : (disk_at (stands_of span.old) p).last ≤ span.before) where
     first_past : PastStays span.before o.opened (disk_at (stands_of span.old) p) (disk_at (stands_of o.disks) p)
-    first_past = read_past tells set mid b.taken one read b.shares b.count b.ticks b.disks b.left told p last
+    first_past = read_past tells set mid b.taken some one read b.shares b.count b.ticks b.disks b.left told p last
 
     first_holds : HoldsLog o.opened o.begun.logs o.disks p
-    first_holds = subst (λ l. HoldsLog o.opened l o.disks p) (sym b.logs) (read_holds tells set mid b.taken one read b.shares b.count b.ticks b.disks b.left told p last)
+    first_holds = subst (λ l. HoldsLog o.opened l o.disks p) (sym b.logs) (read_holds tells set mid b.taken some one read b.shares b.count b.ticks b.disks b.left told p last)
 
     turns_past : (first_core set opened_found).ended ≡ None → LeavesPast o.opened span.now o.disks span.new cluster.logs done p
-    turns_past going = o.turned.shows.past told span.old (calm_first going) p first_holds
+    turns_past going = o.turned.shows.past told span.old (calm_first one going) p first_holds
 
     whole_past : PastStays span.before span.now (disk_at (stands_of span.old) p) (disk_at (stands_of span.new) p)
     whole_past = go (first_core set opened_found).ended refl
@@ -424,23 +437,23 @@ module _ (tells : Type 0) (set : Setting) (span : Span) (cluster : Running) (don
         by (Err fault) is = tt
         by (Ok x) is = subst (λ r. OnOk r (HoldsLog span.now cluster.logs span.new p)) is (turns_past (began x is)).holds
 
-  goes_on : tells → LeaveOneList span.before span.old → OnOk done (CanGoOn (runs whole_machine (open_whole set opened_found) o.turned.events) cluster.logs span.new span.now)
-  goes_on told sound = by done refl
+  goes_on : set.shape.copies ≡ 1 → tells → LeaveOneList span.before span.old → OnOk done (CanGoOn (runs whole_machine (open_whole set opened_found) o.turned.events) cluster.logs span.new span.now)
+  goes_on one told sound = by done refl
     where
       by : (r : Result ⊤ ClusterFault) → done ≡ r → OnOk r (CanGoOn (runs whole_machine (open_whole set opened_found) o.turned.events) cluster.logs span.new span.now)
       by (Err fault) is = tt
       by (Ok x) is =
           subst (λ r. OnOk r (CanGoOn (runs whole_machine (open_whole set opened_found) o.turned.events) cluster.logs span.new span.now)) is
-          (o.turned.shows.goes_on told (open_whole set opened_found) core_is (can told sound (began x is)))
+          (o.turned.shows.goes_on told (open_whole set opened_found) core_is (can one told sound (began x is)))
 
-  reads_on : tells → OnOk done (CanRead (runs whole_machine (open_whole set opened_found) o.turned.events) cluster.logs span.new)
-  reads_on told = by done refl
+  reads_on : set.shape.copies ≡ 1 → tells → OnOk done (CanRead (runs whole_machine (open_whole set opened_found) o.turned.events) cluster.logs span.new)
+  reads_on one told = by done refl
     where
       by : (r : Result ⊤ ClusterFault) → done ≡ r → OnOk r (CanRead (runs whole_machine (open_whole set opened_found) o.turned.events) cluster.logs span.new)
       by (Err fault) is = tt
       by (Ok x) is =
           subst (λ r. OnOk r (CanRead (runs whole_machine (open_whole set opened_found) o.turned.events) cluster.logs span.new)) is
-          (o.turned.shows.reads_on told (open_whole set opened_found) core_is (could_read told (began x is)))
+          (o.turned.shows.reads_on told (open_whole set opened_found) core_is (could_read one told (began x is)))
 
   -- what was found is told of the core over what was taken
   pub opens_found : Opens tells set span cluster done
@@ -448,7 +461,7 @@ module _ (tells : Type 0) (set : Setting) (span : Span) (cluster : Running) (don
     found = opened_found;
     begun = o.begun;
     disks = o.disks;
-    finds = subst (λ l. Finds tells set mid opened_found l) (sym b.logs) (finds tells set mid b.taken one read b.shares b.count b.ticks);
+    finds = subst (λ l. Finds tells set mid opened_found l) (sym b.logs) (finds tells set mid b.taken some read b.shares b.count b.ticks);
     own = b.own;
     events = o.turned.events;
     due = subst (λ x. is_walk next_turn (not (ran_out done)) 0 x o.turned.events ≡ true) (sym core_is) o.turned.due;
@@ -467,9 +480,9 @@ module _ (tells : Type 0) (set : Setting) (span : Span) (cluster : Running) (don
     still = λ ended. o.turned.still (subst (λ (x : Core). IsSome x.ended) core_is ended);
     lists = lists;
     goes_on = goes_on;
-    told = λ told going. o.turned.shows.told told (open_whole set opened_found) core_is (could_read told going);
-    read = λ told going stored.
+    told = λ one told going. o.turned.shows.told told (open_whole set opened_found) core_is (could_read one told going);
+    read = λ one told going stored.
         subst (λ x. AreAllCounted x o.turned.events o.disks span.new) (sym core_is)
-        (o.turned.shows.read told (open_whole set opened_found) core_is (could_read told going) stored);
+        (o.turned.shows.read told (open_whole set opened_found) core_is (could_read one told going) stored);
     reads_on = reads_on;
   }

@@ -20,5 +20,6 @@ pub mod ReportLemmas
 pub mod RoomLemmas
 pub mod RunLemmas
 pub mod ShowLemmas
+pub mod TakenLemmas
 pub mod TurnedLemmas
 pub mod WalkLemmas

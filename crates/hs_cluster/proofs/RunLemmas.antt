@@ -56,14 +56,14 @@ runs_opened tells set s cluster done o = record {
   counted = o.counted;
   rooms = o.rooms;
   still = o.still;
-  past = λ told peer last. (o.past told peer last).stays;
+  past = λ one told peer last. (o.past one told peer last).stays;
   lists = o.lists;
   told = o.told;
   read = o.read;
 }
 
 pub can_opened : (tells : Type 0) (set : Setting) (s : Taking) (cluster : Running) (done : Result ⊤ ClusterFault) (o : Opens tells set s cluster done) → OnOk done (CanRunOn tells set (opening_span s o.begun cluster) o.found o.events)
-can_opened tells set s cluster (Ok x) o = record { calm = o.calm; holds = λ told peer last. (o.past told peer last).holds; goes = λ told sound. o.goes_on told sound; reads = λ told. o.reads_on told }
+can_opened tells set s cluster (Ok x) o = record { calm = o.calm; holds = λ one told peer last. (o.past one told peer last).holds; goes = λ one told sound. o.goes_on one told sound; reads = λ one told. o.reads_on one told }
 can_opened tells set s cluster (Err fault) o = tt
 
 -- ---- the events of a line
@@ -92,10 +92,10 @@ module _ (tells : Type 0) (set : Setting) (found : Found) (before mid now : ℕ)
   rise : MomentsRise before es mid
   rise = rises_from before found.opened mid es so_far.finds.later rises
 
-  lists : tells → LeaveOneList before disks → (first_core set found).ended ≡ None → LeavesLists c (es ++ fs) (record { before = before; now = now; old = begun; new = new; disks = disks; left = left })
-  lists told sound first =
-      let one = so_far.lists told sound first in
-      let two = shows.lists told behind behind_core (can.goes told sound) in
+  lists : set.shape.copies ≡ 1 → tells → LeaveOneList before disks → (first_core set found).ended ≡ None → LeavesLists c (es ++ fs) (record { before = before; now = now; old = begun; new = new; disks = disks; left = left })
+  lists alone told sound first =
+      let one = so_far.lists alone told sound first in
+      let two = shows.lists told behind behind_core (can.goes alone told sound) in
       let mine : happened c.core es ≡ es = all_happened c.core es goes in
       let all : happened c.core (es ++ fs) ≡ es ++ happened behind.core fs = happened_then c.core es fs goes ∙ ap (λ x. es ++ happened x fs) (sym (runs_core c es)) in
       record {
@@ -107,8 +107,8 @@ module _ (tells : Type 0) (set : Setting) (found : Found) (before mid now : ℕ)
         told = told_then c es fs one.told two.told;
       }
 
-  past : tells → (peer : ℕ) → (disk_at (stands_of disks) peer).last ≤ before → LeavesPast before now disks left new.logs r peer
-  past told peer last = leaves_then before mid now disks between left new.logs r peer (so_far.past told peer last) (shows.past told disks can.calm peer (can.holds told peer last))
+  past : set.shape.copies ≡ 1 → tells → (peer : ℕ) → (disk_at (stands_of disks) peer).last ≤ before → LeavesPast before now disks left new.logs r peer
+  past one told peer last = leaves_then before mid now disks between left new.logs r peer (so_far.past one told peer last) (shows.past told disks (can.calm one) peer (can.holds one told peer last))
 
   pub runs_more : RunsOn tells set (record { before = before; now = now; old = begun; new = new; disks = disks; left = left }) found (es ++ fs)
   runs_more = record {
@@ -119,26 +119,29 @@ module _ (tells : Type 0) (set : Setting) (found : Found) (before mid now : ℕ)
     falls = so_far.falls;
     counted = counted_then (first_core set found) here.core es fs so_far.disks between left core so_far.counted shows.counted;
     still = λ ended. absurd (not_ended (first_core set found).ended (going_before (first_core set found) es goes) ended);
-    past = λ told peer last. (past told peer last).stays;
+    past = λ one told peer last. (past one told peer last).stays;
     rooms = rooms_then (first_core set found) es fs so_far.rooms (subst (λ x. HaveRecordRoom x fs) core rooms);
     lists = lists;
-    told = λ told first. told_then c es fs (so_far.told told first) (shows.told told behind behind_core (can.reads told));
-    read = λ told first stored.
-        all_then (first_core set found) here.core es fs so_far.disks between left core (so_far.read told first (stored_front c es fs stored))
-        (shows.read told behind behind_core (can.reads told) (stored_back c es fs stored));
+    told = λ one told first. told_then c es fs (so_far.told one told first) (shows.told told behind behind_core (can.reads one told));
+    read = λ one told first stored.
+        all_then (first_core set found) here.core es fs so_far.disks between left core (so_far.read one told first (stored_front c es fs stored))
+        (shows.read told behind behind_core (can.reads one told) (stored_back c es fs stored));
   }
 
   pub can_more : OnOk r (CanRunOn tells set (record { before = before; now = now; old = begun; new = new; disks = disks; left = left }) found (es ++ fs))
-  can_more = by r (shows.calm disks can.calm) (λ told peer last. (past told peer last).holds) (λ told sound. shows.goes_on told behind behind_core (can.goes told sound)) (λ told. shows.reads_on told behind behind_core (can.reads told))
+  can_more =
+      by r (λ one. shows.calm disks (can.calm one)) (λ one told peer last. (past one told peer last).holds) (λ one told sound. shows.goes_on told behind behind_core (can.goes one told sound))
+      (λ one told. shows.reads_on told behind behind_core (can.reads one told))
     where
-      by : (r : Result ⊤ ClusterFault) → OnOk r (GoesCalmly new.core disks left) → (tells → (peer : ℕ) → (disk_at (stands_of disks) peer).last ≤ before → OnOk r (HoldsLog now new.logs left peer)) → (tells → LeaveOneList before disks → OnOk r (CanGoOn (runs whole_machine behind fs) new.logs left now)) → (tells → OnOk r (CanRead (runs whole_machine behind fs) new.logs left))
+      by : (r : Result ⊤ ClusterFault) → (set.shape.copies ≡ 1 → OnOk r (GoesCalmly new.core disks left)) → (set.shape.copies ≡ 1 → tells → (peer : ℕ) → (disk_at (stands_of disks) peer).last ≤ before → OnOk r (HoldsLog now new.logs left peer))
+          → (set.shape.copies ≡ 1 → tells → LeaveOneList before disks → OnOk r (CanGoOn (runs whole_machine behind fs) new.logs left now)) → (set.shape.copies ≡ 1 → tells → OnOk r (CanRead (runs whole_machine behind fs) new.logs left))
           → OnOk r (CanRunOn tells set (record { before = before; now = now; old = begun; new = new; disks = disks; left = left }) found (es ++ fs))
       by (Err fault) calm holds h g = tt
       by (Ok x) calm holds h g = record {
         calm = calm;
         holds = holds;
-        goes = λ told sound. subst (λ s. CanGoOn s new.logs left now) (sym (runs_append c es fs)) (h told sound);
-        reads = λ told. subst (λ s. CanRead s new.logs left) (sym (runs_append c es fs)) (g told);
+        goes = λ one told sound. subst (λ s. CanGoOn s new.logs left now) (sym (runs_append c es fs)) (h one told sound);
+        reads = λ one told. subst (λ s. CanRead s new.logs left) (sym (runs_append c es fs)) (g one told);
       }
 
 -- ---- time alone
@@ -183,8 +186,8 @@ runs_later tells set found before now later begun cluster disks left es ticks ri
   counted = so_far.counted;
   rooms = so_far.rooms;
   still = so_far.still;
-  past = λ told peer last. past_wait before now later (disk_at (stands_of disks) peer) (disk_at (stands_of left) peer) ticks (so_far.past told peer last);
-  lists = λ told sound first. lists_later (open_whole set found) es before now later begun cluster disks left ticks (rises_from before found.opened now es so_far.finds.later rises) (since told) (so_far.lists told sound first);
+  past = λ one told peer last. past_wait before now later (disk_at (stands_of disks) peer) (disk_at (stands_of left) peer) ticks (so_far.past one told peer last);
+  lists = λ one told sound first. lists_later (open_whole set found) es before now later begun cluster disks left ticks (rises_from before found.opened now es so_far.finds.later rises) (since told) (so_far.lists one told sound first);
   told = so_far.told;
   read = so_far.read;
 }
@@ -194,11 +197,11 @@ pub can_later : (tells : Type 0) (set : Setting) (found : Found) (before now lat
     → CanRunOn tells set (record { before = before; now = later; old = begun; new = cluster; disks = disks; left = left }) found es
 can_later tells set found before now later begun cluster disks left es ticks can = record {
   calm = can.calm;
-  holds = λ told peer last.
-      let so_far = can.holds told peer last in
+  holds = λ one told peer last.
+      let so_far = can.holds one told peer last in
       record { called = let low = so_far.called in omega (arith, low, ticks); log = so_far.log };
-  goes = λ told sound.
-      let so_far = can.goes told sound in
+  goes = λ one told sound.
+      let so_far = can.goes one told sound in
       record {
         sane = so_far.sane;
         listed = so_far.listed;
@@ -246,12 +249,12 @@ lost_before tells set s found es on told disk =
     (λ x among same. subst (λ p. HasRisen (seen_at s.disks p).faults (seen_at on.disks p).faults) same ((on.finds.lost x among).disk.failed told)) on.finds.once
 
 -- those of opening's reading, with those that the reports tell
-pub all_failed : (tells : Type 0) (set : Setting) (s : Span) (found : Found) (es : Events) → RunsOn tells set s found es → tells → (first_core set found).ended ≡ None → AreStored (open_whole set found) es
+pub all_failed : (tells : Type 0) (set : Setting) (s : Span) (found : Found) (es : Events) → RunsOn tells set s found es → set.shape.copies ≡ 1 → tells → (first_core set found).ended ≡ None → AreStored (open_whole set found) es
     → (disk : ℕ) → RoseBy (failures true disk (first_core set found) es + count_by (λ x. x.0 == disk) found.lost) (seen_at s.disks disk).faults (seen_at s.left disk).faults
-all_failed tells set s found es on told first stored = λ disk.
+all_failed tells set s found es on one told first stored = λ disk.
     subst (λ n. RoseBy n (seen_at s.disks disk).faults (seen_at s.left disk).faults) (swapped (count_by (λ x. x.0 == disk) found.lost) (failures true disk (first_core set found) es))
     (rose_then (2 ^ 64 - 1) (seen_at s.disks disk).faults (seen_at on.disks disk).faults (seen_at s.left disk).faults (count_by (λ x. x.0 == disk) found.lost) (failures true disk (first_core set found) es)
-    (lost_before tells set s found es on told disk) (on.read told first stored disk))
+    (lost_before tells set s found es on told disk) (on.read one told first stored disk))
   where
     swapped : (a b : ℕ) → a + b ≡ b + a
     swapped a b = omega arith

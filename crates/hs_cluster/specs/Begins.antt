@@ -1,6 +1,6 @@
 -- What a cluster begins with, from the logs that were taken, and its first turns.
 use Rattle.std.specs.Option.{option_map_or}
-use Rattle.std.specs.Prelude.{◌≡◌, ◌*◌, ◌++◌, ◌∷◌, ◌<◌, ◌≤◌, ℕ, ⊤, List, [], flat_map, is_some, length, map, not, IsSome, Result, Some, true}
+use Rattle.std.specs.Prelude.{◌≡◌, ◌*◌, ◌++◌, ◌∷◌, ◌<◌, ◌≤◌, ◌==◌, ◌&&◌, ℕ, ⊤, Bool, List, [], flat_map, if◌then◌else◌, is_some, length, map, not, slice_get, IsSome, Result, Some, false, true}
 use Rattle.hs_cluster.specs.Calls.{Does, ran_out}
 use Rattle.hs_cluster.specs.Counts.{NoneFalls}
 use Rattle.hs_cluster.specs.declared.fault.ClusterFault.{ClusterFault}
@@ -11,18 +11,20 @@ use Rattle.hs_core_words.specs.Opening.{Taken as Opened, open_core}
 use Rattle.hs_events.specs.Due.{Events, MomentsRise, is_walk, next_turn}
 use Rattle.hs_fold.specs.Shards.Setting.{Setting}
 use Rattle.hs_limits.specs.declared.shape.Shape.{Shape}
+use Rattle.hs_limits.specs.Shape.{IsShape}
+use Rattle.hs_members.specs.Members.{all_peers, home_of}
 use Rattle.hs_model.specs.declared.course.CourseItem.{CourseItem}
 use Rattle.hs_model.specs.declared.course.CourseItem.TheVariants as item
 use Rattle.hs_peerlog.specs.declared.fault.LogFault.TheVariants as log
 use Rattle.hs_peerlog.specs.Opening.{refusal_in}
 use Rattle.hs_ports.specs.Fault.{HasRisen}
 use Rattle.hs_side.specs.declared.header.Header.{Header}
+use Rattle.hs_taking.specs.Copies.{HasEvened}
 use Rattle.hs_taking.specs.declared.fault.TakeFault.{TakeFault}
 use Rattle.hs_taking.specs.declared.fault.TakeFault.TheVariants as take
 use Rattle.hs_taking.specs.declared.shares.Share.{Share}
-use Rattle.hs_taking.specs.Disks.{DiskSeen, seen_at}
+use Rattle.hs_taking.specs.Disks.{DiskSeen, log_at, seen_at}
 use Rattle.hs_taking.specs.Shares.{Span, Taken}
-use Rattle.hs_taking.specs.Store.{HasRead}
 use Rattle.hs_taking.specs.Viewed.{IsFirstOther}
 
 -- ---- faults
@@ -56,13 +58,23 @@ took_of entry share = option_map_or (λ number. item.Good share.peer entry ∷ i
 abbrev pub bad_of : Share → List CourseItem
 bad_of share = option_map_or (λ moment. item.Bad share.peer moment ∷ []) share.lost []
 
-abbrev pub begun_course : ℕ → Taken → List CourseItem
-begun_course entry taken = flat_map (took_of entry) taken.shares ++ flat_map bad_of taken.shares
+-- whether the log of a peer was taken
+abbrev pub is_took : Shape → List Share → ℕ → Bool
+is_took shape shares peer = option_map_or (λ share. is_some share.took && share.peer == peer) (slice_get shares (home_of shape peer)) false
+
+-- each other peer whose log is in use, when the core is opened
+abbrev pub good_of : Shape → Taken → ℕ → ℕ → List CourseItem
+good_of shape taken opened peer = if is_some (log_at taken.logs peer) && not (is_took shape taken.shares peer) then item.Good peer opened ∷ [] else []
+
+abbrev pub begun_course : Shape → ℕ → ℕ → Taken → List CourseItem
+begun_course shape entry opened taken =
+    flat_map (took_of entry) taken.shares ++ (flat_map bad_of taken.shares ++ flat_map (good_of shape taken opened) (all_peers shape))
 
 -- the core over what was taken, when all of it was
 pub record Begins (tells : Type 0) (set : Setting) (span : Span) (cluster : Running) : Type 0 where
   pub taken : Taken
-  pub read : set.shape.copies ≡ 1 → HasRead tells set span taken
+  pub shape : IsShape set.shape
+  pub read : HasEvened tells set span taken
   pub shares : length taken.shares ≡ set.shape.shards
   pub own : tells → (peer : ℕ) (found : Header) → peer < length span.old → refusal_in set.shape peer (seen_at span.old peer).stands.seen ≡ Some (log.WrongShape found)
       → HasRisen (seen_at span.old peer).faults (seen_at span.new peer).faults
@@ -73,7 +85,7 @@ pub record Begins (tells : Type 0) (set : Setting) (span : Span) (cluster : Runn
   pub left : length span.new ≡ length span.old
   pub logs : cluster.logs ≡ taken.logs
   pub core : cluster.core ≡ open_core set.shape set.limits (opened_with taken) span.now
-  pub course : cluster.course ≡ begun_course span.before taken
+  pub course : cluster.course ≡ begun_course set.shape span.before span.now taken
 
 -- ---- and the turns, until nobody has one, or memory runs out
 

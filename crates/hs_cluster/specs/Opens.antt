@@ -1,4 +1,4 @@
--- What opening a cluster promises, of a store of one copy a shard.
+-- What opening a cluster promises: what was found, and how the core goes on from it.
 use Rattle.std.specs.List.{AllPairs}
 use Rattle.std.specs.Prelude.{◌≡◌, ◌⊎◌, ◌++◌, ◌<◌, ◌≤◌, ℕ, ⊤, List, length, not, Contains, Option, None, Some, IsSome, OnOk, Result, false, is_some, true, slice_index_or}
 use Rattle.hs_cluster.specs.Calls.{outcome_by, ran_out}
@@ -22,11 +22,13 @@ use Rattle.hs_peerlog.specs.Images.{LeavesOnly}
 use Rattle.hs_peerlog.specs.declared.fault.LogFault.TheVariants as log
 use Rattle.hs_peerlog.specs.Lists.{HasLog, IsKept, Keeping}
 use Rattle.hs_peerlog.specs.Opening.{refusal_in}
+use Rattle.hs_members.specs.Members.{home_of}
 use Rattle.hs_ports.specs.Fault.{HasRisen}
 use Rattle.hs_ports.specs.Moments.{disk_at}
 use Rattle.hs_side.specs.Current.{list_in}
 use Rattle.hs_side.specs.declared.header.Header.{Header}
 use Rattle.hs_taking.specs.Disks.{DiskSeen, log_at, seen_at, stands_of}
+use Rattle.hs_taking.specs.Past.{PastStays}
 use Rattle.hs_taking.specs.Shares.{IsLater, IsLostDisk, KeepsDisk, Span}
 
 -- ---- what was found
@@ -35,24 +37,34 @@ use Rattle.hs_taking.specs.Shares.{IsLater, IsLostDisk, KeepsDisk, Span}
 abbrev pub log_in : Found → ℕ → Option Numbered
 log_in found peer = slice_index_or found.logs peer None
 
+-- the taken log of a peer's shard was lost: its own, or one to which its list was not yet found or made equal
+pub record IsLeftBehind (set : Setting) (found : Found) (peer : ℕ) : Type 0 where
+  pub lost : ℕ × ℕ
+  pub among : Contains found.lost lost
+  pub same_shard : home_of set.shape lost.0 ≡ home_of set.shape peer
+
 -- of one peer, from entry to the opening of the core, with the logs that are in use then
 -- read: its log is what its disk reads as at entry, or its disk failed and counts as having none
--- good, kept, aside: it is good where its log is in use, which is one that was read; any other had none, or it was lost since
+-- good, kept: it is good where its log is in use; its disk had a log then
+-- aside: of any other the disk failed, or had no log, or the taken log of its shard was lost
 -- calm: no call on a good peer's disk failed
--- disk, log: the calls on its disk leave its list as it is, at each moment; and the log has it, right before the first turn
--- reads: reads of the disk give it, whatever a stop leaves
+-- log: a log that is in use has the list that its shard opens with, right before the first turn, whatever a stop leaves
+-- reads: with one copy a shard, reads of the disk give it, however the disk was
+-- past: what is past of its disk stays
+-- disk: with one copy a shard, the calls on its disk leave its list as it is, at each moment
 pub record IsFound (tells : Type 0) (set : Setting) (span : Span) (found : Found) (logs : List (Option Keeping)) (peer : ℕ) : Type 0 where
   pub read : tells → (log_in found peer ≡ list_in (seen_at span.old peer).stands.seen)
       ⊎ ((log_in found peer ≡ None) × HasRisen (seen_at span.old peer).faults (seen_at span.new peer).faults)
   pub good : starts_good found peer ≡ is_some (log_at logs peer)
   pub kept : starts_good found peer ≡ true → IsSome (log_in found peer)
+  pub aside : starts_good found peer ≡ false → HasRisen (seen_at span.old peer).faults (seen_at span.new peer).faults ⊎ ((log_in found peer ≡ None) ⊎ IsLeftBehind set found peer)
   pub calm : starts_good found peer ≡ true → (seen_at span.new peer).faults ≡ (seen_at span.old peer).faults
-  pub aside : starts_good found peer ≡ false → (log_in found peer ≡ None) ⊎ ((moment : ℕ) × Contains found.lost (peer, moment))
-  pub disk : KeepsDisk tells span.before span.now (seen_at span.old peer) (seen_at span.new peer)
   pub log : tells → (seen_at span.old peer).stands.last ≤ span.before → (keeping : Keeping) → log_at logs peer ≡ Some keeping
-      → HasLog keeping (seen_at span.new peer).stands (opened_list set found peer) None
-  pub reads : tells → (keeping : Keeping) → log_at logs peer ≡ Some keeping
-      → IsKept keeping ((seen_at span.new peer).stands.seen keeping.log.side) (opened_list set found peer) None
+      → HasLog keeping (seen_at span.new peer).stands (opened_list set found (home_of set.shape peer)) None
+  pub reads : set.shape.copies ≡ 1 → tells → (keeping : Keeping) → log_at logs peer ≡ Some keeping
+      → IsKept keeping ((seen_at span.new peer).stands.seen keeping.log.side) (opened_list set found (home_of set.shape peer)) None
+  pub past : tells → (seen_at span.old peer).stands.last ≤ span.before → PastStays span.before span.now (seen_at span.old peer).stands (seen_at span.new peer).stands
+  pub disk : set.shape.copies ≡ 1 → KeepsDisk tells span.before span.now (seen_at span.old peer) (seen_at span.new peer)
 
 -- a peer of a taken log whose disk failed before the core was opened, and when
 pub record IsLostLog (tells : Type 0) (set : Setting) (span : Span) (found : Found) (x : ℕ × ℕ) : Type 0 where
@@ -70,6 +82,7 @@ pub record Finds (tells : Type 0) (set : Setting) (span : Span) (found : Found) 
   pub each : (peer : ℕ) → peer < peer_count set.shape → IsFound tells set span found slots peer
   pub lost : (x : ℕ × ℕ) → Contains found.lost x → IsLostLog tells set span found x
   pub once : AllPairs IsLater found.lost
+  pub all_lost : (peer : ℕ) → peer < peer_count set.shape → is_taken set.shape found.logs peer ≡ true → starts_good found peer ≡ false → (moment : ℕ) × Contains found.lost (peer, moment)
 
 -- ---- all of it
 
@@ -78,7 +91,8 @@ pub record LeaveOneList (before : ℕ) (disks : List DiskSeen) : Type 0 where
   pub called : (peer : ℕ) → (seen_at disks peer).stands.last ≤ before
   pub only : (peer : ℕ) (list : Numbered) → list_in (seen_at disks peer).stands.seen ≡ Some list → LeavesOnly (seen_at disks peer).stands list
 
--- the core over what was found; then the turns that were due, until nobody had one, or until memory ran out. Done: whether it goes on
+-- the core over what was found; then the turns that were due, until nobody had one, or until memory ran out. Done: whether it goes on.
+-- What is said of lists, and that no disk failed where it goes on, is so with one copy a shard
 pub record Opens (tells : Type 0) (set : Setting) (span : Span) (cluster : Running) (done : Result ⊤ ClusterFault) : Type 0 where
   pub found : Found
   -- the cluster and the disks right before the first turn
@@ -102,16 +116,16 @@ pub record Opens (tells : Type 0) (set : Setting) (span : Span) (cluster : Runni
   pub counted : AreCounted (first_core set found) events disks span.new
   pub rooms : HaveRecordRoom (first_core set found) events
   -- where the core goes on no disk failed since entry
-  pub calm : OnOk done (GoesCalmly cluster.core span.old span.new)
+  pub calm : set.shape.copies ≡ 1 → OnOk done (GoesCalmly cluster.core span.old span.new)
   -- what is past of each disk stays, where no call of it was ahead
-  pub past : tells → (peer : ℕ) → (disk_at (stands_of span.old) peer).last ≤ span.before → LeavesPast span.before span.now span.old span.new cluster.logs done peer
+  pub past : set.shape.copies ≡ 1 → tells → (peer : ℕ) → (disk_at (stands_of span.old) peer).last ≤ span.before → LeavesPast span.before span.now span.old span.new cluster.logs done peer
   -- where the core had ended nothing came behind the reading
   pub still : IsSome (first_core set found).ended → span.new ≡ disks
   -- where the core was opened: the lists at each moment from entry on, and behind all of it the cluster may go on
-  pub lists : tells → LeaveOneList span.before span.old → (first_core set found).ended ≡ None
+  pub lists : set.shape.copies ≡ 1 → tells → LeaveOneList span.before span.old → (first_core set found).ended ≡ None
       → LeavesLists (open_whole set found) events (record { before = span.before; now = span.now; old = begun; new = cluster; disks = span.old; left = span.new })
-  pub goes_on : tells → LeaveOneList span.before span.old → OnOk done (CanGoOn (runs whole_machine (open_whole set found) events) cluster.logs span.new span.now)
+  pub goes_on : set.shape.copies ≡ 1 → tells → LeaveOneList span.before span.old → OnOk done (CanGoOn (runs whole_machine (open_whole set found) events) cluster.logs span.new span.now)
   -- and, however the disks were at entry, what was told of blocks; and that reads too cost what is reported of failed calls
-  pub told : tells → (first_core set found).ended ≡ None → AreTold (open_whole set found) events
-  pub read : tells → (first_core set found).ended ≡ None → AreStored (open_whole set found) events → AreAllCounted (first_core set found) events disks span.new
-  pub reads_on : tells → OnOk done (CanRead (runs whole_machine (open_whole set found) events) cluster.logs span.new)
+  pub told : set.shape.copies ≡ 1 → tells → (first_core set found).ended ≡ None → AreTold (open_whole set found) events
+  pub read : set.shape.copies ≡ 1 → tells → (first_core set found).ended ≡ None → AreStored (open_whole set found) events → AreAllCounted (first_core set found) events disks span.new
+  pub reads_on : set.shape.copies ≡ 1 → tells → OnOk done (CanRead (runs whole_machine (open_whole set found) events) cluster.logs span.new)

@@ -21,7 +21,7 @@ use Rattle.hs_ports.specs.Moments.{disk_at}
 use Rattle.hs_side.specs.declared.header.Header.{Header}
 use Rattle.hs_taking.specs.Past.{PastStays}
 
--- what opening found; that counts of faults rose as the reports tell; and of disks that tell their contents, where a stop at entry leaves one list of each, the lists at each moment
+-- what opening found; that counts of faults rose as the reports tell; and, with one copy a shard, of disks that tell their contents, where a stop at entry leaves one list of each, the lists at each moment
 -- slots, disks: the logs in use right before the first turn, and the disks then
 -- own: a disk of another store failed
 -- still: where the core had ended nothing came behind the reading
@@ -37,16 +37,16 @@ pub record RunsOn (tells : Type 0) (set : Setting) (span : Span) (found : Found)
   pub counted : AreCounted (first_core set found) events disks span.left
   pub rooms : HaveRecordRoom (first_core set found) events
   pub still : IsSome (first_core set found).ended → span.left ≡ disks
-  pub past : tells → (peer : ℕ) → (disk_at (stands_of span.disks) peer).last ≤ span.before → PastStays span.before span.now (disk_at (stands_of span.disks) peer) (disk_at (stands_of span.left) peer)
-  pub lists : tells → LeaveOneList span.before span.disks → (first_core set found).ended ≡ None → LeavesLists (open_whole set found) events span
-  pub told : tells → (first_core set found).ended ≡ None → AreTold (open_whole set found) events
-  pub read : tells → (first_core set found).ended ≡ None → AreStored (open_whole set found) events → AreAllCounted (first_core set found) events disks span.left
+  pub past : set.shape.copies ≡ 1 → tells → (peer : ℕ) → (disk_at (stands_of span.disks) peer).last ≤ span.before → PastStays span.before span.now (disk_at (stands_of span.disks) peer) (disk_at (stands_of span.left) peer)
+  pub lists : set.shape.copies ≡ 1 → tells → LeaveOneList span.before span.disks → (first_core set found).ended ≡ None → LeavesLists (open_whole set found) events span
+  pub told : set.shape.copies ≡ 1 → tells → (first_core set found).ended ≡ None → AreTold (open_whole set found) events
+  pub read : set.shape.copies ≡ 1 → tells → (first_core set found).ended ≡ None → AreStored (open_whole set found) events → AreAllCounted (first_core set found) events disks span.left
 
--- and what it needs to go on, where its core does
+-- and what it needs to go on, where its core does, with one copy a shard
 pub record CanRunOn (tells : Type 0) (set : Setting) (span : Span) (found : Found) (events : Events) : Type 0 where
   -- no disk failed since entry
-  pub calm : GoesCalmly span.new.core span.disks span.left
+  pub calm : set.shape.copies ≡ 1 → GoesCalmly span.new.core span.disks span.left
   -- and the log of each that no call was ahead of has some list, whatever a stop leaves
-  pub holds : tells → (peer : ℕ) → (disk_at (stands_of span.disks) peer).last ≤ span.before → HoldsLog span.now span.new.logs span.left peer
-  pub goes : tells → LeaveOneList span.before span.disks → CanGoOn (runs whole_machine (open_whole set found) events) span.new.logs span.left span.now
-  pub reads : tells → CanRead (runs whole_machine (open_whole set found) events) span.new.logs span.left
+  pub holds : set.shape.copies ≡ 1 → tells → (peer : ℕ) → (disk_at (stands_of span.disks) peer).last ≤ span.before → HoldsLog span.now span.new.logs span.left peer
+  pub goes : set.shape.copies ≡ 1 → tells → LeaveOneList span.before span.disks → CanGoOn (runs whole_machine (open_whole set found) events) span.new.logs span.left span.now
+  pub reads : set.shape.copies ≡ 1 → tells → CanRead (runs whole_machine (open_whole set found) events) span.new.logs span.left

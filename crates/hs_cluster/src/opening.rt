@@ -1,12 +1,13 @@
 //! Opening a cluster.
 ghost use Rattle.std.specs.Prelude.{◌≡◌, ◌*◌, ◌++◌, ◌<◌, ◌≤◌, ℕ, None, flat_map, is_some, length, map, IfErr, IfOk, OnErr, OnOk};
-ghost use Rattle.hs_cluster.specs.Begins.{Begins, HasOpened, IsClosed, bad_of, begun_course, of_taking, opened_with, took_of};
+ghost use Rattle.hs_cluster.specs.Begins.{Begins, HasOpened, IsClosed, bad_of, begun_course, good_of, is_took, of_taking, opened_with, took_of};
 ghost use Rattle.hs_cluster.specs.Counts.{NoneFalls};
-ghost use Rattle.hs_cluster.specs.Disks.{AreReady, seen_as, seen_at};
+ghost use Rattle.hs_cluster.specs.Disks.{AreReady, log_at, seen_as, seen_at};
 ghost use Rattle.hs_cluster.specs.Opens.{Opens};
 ghost use Rattle.hs_cluster.specs.Unopened.{LeavesAsTaken};
 ghost use Rattle.hs_core_words.specs.Opening.{open_core};
 ghost use Rattle.hs_limits.specs.Shape.{IsShape};
+ghost use Rattle.hs_members.specs.Members.{IsPeer, all_peers};
 ghost use Rattle.hs_side.specs.declared.header.Header.{Header};
 ghost use Rattle.hs_taking.specs.Spared.{SparesDisks};
 ghost use Rattle.hs_taking.specs.Viewed.{IsOnlyRead};
@@ -15,6 +16,7 @@ use crate::{Cluster, ClusterFault};
 use hs_block::Addresser;
 use hs_core::Core;
 use hs_limits::{Limits, Shape};
+use hs_members::home_of;
 use hs_model::CourseItem;
 use hs_peerlog::PeerLog;
 use hs_ports::{Disk, Watch};
@@ -45,8 +47,7 @@ impl Cluster {
     /// Opens a cluster: reads every disk, takes the log of each shard, opens the core over them, and
     /// does turns until nobody has one. A disk that fails, or is no log, is out of use. A disk of
     /// another store, or of another peer, ends it before anything is written. Where the core has ended,
-    /// or memory ran out on the turns, the cluster has what was answered so far. Of several copies of a
-    /// shard one log alone is in use.
+    /// or memory ran out on the turns, the cluster has what was answered so far.
     pub fn open<A: Addresser, D: Disk>(
         alloc: Global,
         shape: Shape,
@@ -57,7 +58,7 @@ impl Cluster {
     ) -> Result<Opened, ClusterFault>
         requires shape { IsShape shape }
         requires count { length disks.old ≡ shape.shards * shape.copies }
-        ensures opens { shape.copies ≡ 1 → IfOk result (λ opened. Opens D.tells
+        ensures opens { IfOk result (λ opened. Opens D.tells
             (record { name = A.name naming.now; limits = limits; shape = shape })
             (record {
               before = watch.old;
@@ -90,8 +91,9 @@ impl Cluster {
           old = map (λ disk. seen_as (D.size disk) (D.stands disk) (D.faults disk)) disks.old;
           new = map (λ disk. seen_as (D.size disk) (D.stands disk) (D.faults disk)) disks.new;
         })) }
-        // Where no core was opened, the list of each disk is as it was, and its past.
-        ensures unopened { OnErr result (LeavesAsTaken D.tells (record {
+        // Where no core was opened, with one copy a shard, the list of each disk is as it was, and its
+        // past.
+        ensures unopened { shape.copies ≡ 1 → OnErr result (LeavesAsTaken D.tells (record {
           before = watch.old;
           now = watch.new;
           old = map (λ disk. seen_as (D.size disk) (D.stands disk) (D.faults disk)) disks.old;
@@ -168,7 +170,7 @@ impl Cluster {
         ensures counted { NoneFalls
             (map (λ disk. seen_as (D.size disk) (D.stands disk) (D.faults disk)) disks.old)
             (map (λ disk. seen_as (D.size disk) (D.stands disk) (D.faults disk)) disks.new) }
-        ensures keeps { LeavesAsTaken D.tells (record {
+        ensures keeps { shape.copies ≡ 1 → LeavesAsTaken D.tells (record {
           before = watch.old;
           now = watch.new;
           old = map (λ disk. seen_as (D.size disk) (D.stands disk) (D.faults disk)) disks.old;
@@ -201,14 +203,21 @@ fn begun(
     ensures core { IfOk result (λ cluster. cluster.core ≡ open_core shape limits (opened_with
         (record { logs = taking.logs.items; shares = taking.shares.items })) moment) }
     ensures logs { IfOk result (λ cluster. cluster.logs ≡ taking.logs.items) }
-    ensures course { IfOk result (λ cluster. cluster.course ≡ begun_course entry
+    ensures course { IfOk result (λ cluster. cluster.course ≡ begun_course shape entry moment
         (record { logs = taking.logs.items; shares = taking.shares.items })) }
     ensures shape { IfOk result (λ cluster. cluster.core.members.shape ≡ shape) }
     ensures moment { IfOk result (λ cluster. cluster.core.moment ≡ moment) }
     ensures only { IfErr result (λ fault. fault ≡ ClusterFault.NoMemory) }
 {
     let Taking { logs, shares } = taking;
-    let course = first_course(alloc, shares.as_slice(), entry)?;
+    let course = first_course(
+        alloc,
+        shape,
+        shares.as_slice(),
+        logs.as_slice(),
+        entry,
+        moment,
+    )?;
     let good = goods_in(alloc, logs.as_slice())?;
     let views = views_in(alloc, shares.as_slice())?;
     let lengths = lengths_in(alloc, shares.as_slice())?;
@@ -265,10 +274,19 @@ fn catalogues_in(alloc: Global, shares: Vec<Share>) -> Result<Vec<Catalogue>, Al
         .collect(alloc)
 }
 
-/// How a course begins: with the taken logs, and then the peers of these that were lost.
-fn first_course(alloc: Global, shares: &[Share], entry: u64) -> Result<Vec<CourseItem>, AllocError>
-    ensures { IfOk result (λ course. course.items
-        ≡ flat_map (took_of entry) shares.now ++ flat_map bad_of shares.now) }
+/// How a course begins: with the taken logs, then the peers of these that were lost, and then each
+/// other peer whose log is in use as the core opens.
+fn first_course(
+    alloc: Global,
+    shape: Shape,
+    shares: &[Share],
+    logs: &[Option<PeerLog>],
+    entry: u64,
+    opened: u64,
+) -> Result<Vec<CourseItem>, AllocError>
+    requires shape { IsShape shape }
+    ensures { IfOk result (λ course. course.items ≡ begun_course shape entry opened
+        (record { logs = logs.now; shares = shares.now })) }
 {
     let mut course = Vec::new(alloc);
     'tooks: for share in shares {
@@ -277,7 +295,72 @@ fn first_course(alloc: Global, shares: &[Share], entry: u64) -> Result<Vec<Cours
     'losses: for share in shares {
         note_lost(share, &mut course)?;
     }
+    note_others(shape, shares, logs, opened, &mut course)?;
     Ok(course)
+}
+
+/// Notes each peer whose log is in use and was not taken.
+fn note_others(
+    shape: Shape,
+    shares: &[Share],
+    logs: &[Option<PeerLog>],
+    opened: u64,
+    course: &mut Vec<CourseItem>,
+) -> Result<(), AllocError>
+    requires shape { IsShape shape }
+    ensures { IfOk result (λ done. course.new.items ≡ course.old.items
+        ++ flat_map (good_of shape (record { logs = logs.now; shares = shares.now }) opened)
+        (all_peers shape)) }
+{
+    for peer in 0..shape.shards * shape.copies {
+        note_other(shape, shares, logs, opened, peer, course)?;
+    }
+    Ok(())
+}
+
+/// Notes a peer where its log is in use and was not taken.
+fn note_other(
+    shape: Shape,
+    shares: &[Share],
+    logs: &[Option<PeerLog>],
+    opened: u64,
+    peer: u8,
+    course: &mut Vec<CourseItem>,
+) -> Result<(), AllocError>
+    requires shape { IsShape shape }
+    requires peer { IsPeer shape peer }
+    ensures { IfOk result (λ done. course.new.items ≡ course.old.items
+        ++ good_of shape (record { logs = logs.now; shares = shares.now }) opened peer) }
+{
+    if is_in_use(logs, peer) && !is_took(shape, shares, peer) {
+        course.push(CourseItem::Good {
+            peer,
+            moment: opened,
+        })?;
+    }
+    Ok(())
+}
+
+/// Whether the log of a peer is in use.
+fn is_in_use(logs: &[Option<PeerLog>], peer: u8) -> bool
+    ensures { result ≡ is_some (log_at logs.now peer) }
+{
+    match logs.get(usize::from(peer)) {
+        Some(log) => log.is_some(),
+        None => false,
+    }
+}
+
+/// Whether the log of a peer was taken.
+fn is_took(shape: Shape, shares: &[Share], peer: u8) -> bool
+    requires shape { IsShape shape }
+    requires peer { IsPeer shape peer }
+    ensures { result ≡ is_took shape shares.now peer }
+{
+    match shares.get(usize::from(home_of(peer, shape))) {
+        Some(share) => share.took.is_some() && share.peer == peer,
+        None => false,
+    }
 }
 
 /// Notes the log that was taken of a shard, where there was one.

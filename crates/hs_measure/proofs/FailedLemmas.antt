@@ -56,12 +56,12 @@ module _ (seals : Seals) (S : Script) (r : Ran) (story : Story) (on : OnDisks S 
   rose tells told runs disk = go (first_core S.set story.found).ended refl
     where
       go : (o : Option CoreFault) → (first_core S.set story.found).ended ≡ o → DiskRose r (failures true disk (first_core S.set story.found) (all_events story) + loss_count story disk) disk
-      go None going = runs.failed told going (stored going) disk
+      go None going = runs.failed on.one told going (stored going) disk
       go (Some fault) over =
           let none : failures true disk (first_core S.set story.found) (all_events story) ≡ 0 = ap (λ (es : Events). failures true disk (first_core S.set story.found) es) (no_event fault over) in
           let same : loss_count story disk ≡ failures true disk (first_core S.set story.found) (all_events story) + loss_count story disk = omega (arith, none) in
           subst (λ (n : ℕ). DiskRose r n disk) same (runs.lost told disk)
 
-pub machine_counts : Seals → (tells : Type 0) (S : Script) (r : Ran) → GivesAddresses S.set.name → (machine : IsOfCluster tells S r) → tells → IfSome machine.how (CountsAllFailures S r)
-machine_counts seals tells S r names machine told =
-    if_run tells S r (CountsAllFailures S r) names machine told (λ story on shown runs. rose seals S r story on shown tells told runs)
+pub machine_counts : Seals → (tells : Type 0) (S : Script) (r : Ran) → GivesAddresses S.set.name → (machine : IsOfCluster tells S r) → S.set.shape.copies ≡ 1 → tells → IfSome machine.how (CountsAllFailures S r)
+machine_counts seals tells S r names machine one told =
+    if_run tells S r (CountsAllFailures S r) names machine one told (λ story on shown runs. rose seals S r story on shown tells told runs)

@@ -184,7 +184,7 @@ module _ (opening : OpeningLaws) (tells : Type 0) (told : tells) (set : Setting)
     fresh = opening.fresh set.name false first o.events walks;
     addressed = settle_addressed (judging_of start) false 0 first o.events walks;
     rooms = o.rooms;
-    told = o.told told first_going;
+    told = o.told one told first_going;
   }
 
   -- ---- how it goes on behind them
@@ -213,7 +213,7 @@ module _ (opening : OpeningLaws) (tells : Type 0) (told : tells) (set : Setting)
         whole = runs whole_machine (open_whole set found) o.events;
         same = runs_core (open_whole set found) o.events ∙ sym (o.core fine);
         along = goes_on along start (open_whole set found) first_along o.events comes going;
-        logs = from_ok done ok (o.reads_on told);
+        logs = from_ok done ok (o.reads_on one told);
       }
 
       first_next : IsNext commands cluster.core 1

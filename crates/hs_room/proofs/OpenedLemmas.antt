@@ -92,7 +92,7 @@ module _ (opening : OpeningLaws) (laws : CallLaws) (tells : Type 0) (told : tell
   stores = laws.stored (open_whole set found) o.events (opening.reads start found opens).stands.whole.sane (laws.numbered set found (lists opening tells told set commands span cluster done shape one names nobody o first_going sound))
 
   counted : AreAllCounted (first_core set o.found) o.events o.disks span.new
-  counted = o.read told first_going stores
+  counted = o.read one told first_going stores
 
   lost : (g : ℕ) → (steps (first_core set o.found) o.events).ended ≡ Some (fault.ShardLost g) → LossCause None span.old span.new g
   lost g over = elim (rose_or (seen_at o.disks g).faults (seen_at span.new g).faults (failures true g first o.events) (counted g)) [

@@ -208,8 +208,8 @@ module _ (tells : Type 0) (set : Setting) (span : Taking) (old new : Objects) (w
 
 module _ (tells : Type 0) (set : Setting) (span : Taking) (fault : ClusterFault) (old new : Objects) (closed : IsClosed tells set.shape span.old span.new fault) (unread : new.left ≡ old.left) (unput : new.got ≡ old.got)
     (before : span.before ≡ old.moment) (now : span.now ≡ new.moment) (later : span.before ≤ span.now) (was : AreHanded old span.old) (is : AreHanded new span.new) (falls : NoneFalls span.old span.new) (since : tells → Since (stands_of span.new))
-    (shape : IsShape set.shape) (one : set.shape.copies ≡ 1) (disks : length span.old ≡ set.shape.shards * set.shape.copies) (handed : length old.disks ≡ length span.old) (same : length span.new ≡ length span.old) (handed_back : length new.disks ≡ length old.disks)
-    (sink : old.sink_faults ≤ new.sink_faults) (source : old.source_faults ≤ new.source_faults) (taken : LeavesAsTaken tells span)
+    (shape : IsShape set.shape) (disks : length span.old ≡ set.shape.shards * set.shape.copies) (handed : length old.disks ≡ length span.old) (same : length span.new ≡ length span.old) (handed_back : length new.disks ≡ length old.disks)
+    (sink : old.sink_faults ≤ new.sink_faults) (source : old.source_faults ≤ new.source_faults) (taken : set.shape.copies ≡ 1 → LeavesAsTaken tells span)
     (spares : SparesDisks tells set.shape span) where
   abbrev r : Ran
   r = ran_at (status_of (Err (of_cluster fault)) 0) 0 None old new
@@ -278,15 +278,15 @@ module _ (tells : Type 0) (set : Setting) (span : Taking) (fault : ClusterFault)
         unwritten = spared tells set span old new was is before disks handed same asked (ran_at status.NoMemory 0 None old new) refl refl told spares;
       }
 
-  closed_keeps : tells → KeepsPast old new
-  closed_keeps told = past_is old new span.before span.now span.old span.new was is before now (λ peer last.
+  closed_keeps : set.shape.copies ≡ 1 → tells → KeepsPast old new
+  closed_keeps one told = past_is old new span.before span.now span.old span.new was is before now (λ peer last.
       subst (λ (d : Standing). PastStays span.before span.now d (disk_at (stands_of span.new) peer)) (sym (stands_at span.old peer))
       (subst (λ (d : Standing). PastStays span.before span.now (seen_at span.old peer).stands d) (sym (stands_at span.new peer))
       (by_place peer (subst (λ (d : Standing). d.last ≤ span.before) (stands_at span.old peer) last))))
     where
       by_place : (peer : ℕ) → (seen_at span.old peer).stands.last ≤ span.before → PastStays span.before span.now (seen_at span.old peer).stands (seen_at span.new peer).stands
       by_place peer last = elim (cases_lt peer (length span.old)) [
-        | inl low ↦ (taken.each peer low).past told last
+        | inl low ↦ ((taken one).each peer low).past told last
         | inr high ↦ subst (λ (d : Standing). PastStays span.before span.now d (seen_at span.new peer).stands) (sym (seen_past span.old peer high))
             (subst (λ (d : Standing). PastStays span.before span.now untold d) (sym (seen_past span.new peer (omega (arith, high, same)))) (past_still span.before span.now untold later (omega arith)))
       ]
@@ -316,8 +316,7 @@ module _ (tells : Type 0) (set : Setting) (span : Taking) (fault : ClusterFault)
     asked,
     record {
       shape = shape;
-      one = one;
-      count = handed ∙ disks ∙ ap (λ (n : ℕ). set.shape.shards * n) one ∙ omega arith;
+      count = handed ∙ disks;
       script = chosen_told old.left [];
       nobody = chosen_first old.left [];
       how = None;
@@ -325,14 +324,14 @@ module _ (tells : Type 0) (set : Setting) (span : Taking) (fault : ClusterFault)
       told = λ told. tt;
       runs = tt;
       ended = tt;
-      unopened = λ none. record {
+      unopened = λ one none. record {
         span = span;
         before = before;
         now = now;
         old = was;
         new = is;
         since = λ told. subst (λ (d : List Standing). Since d) is.stands (since told);
-        taken = taken;
+        taken = taken one;
       };
       served = closed_served;
     },

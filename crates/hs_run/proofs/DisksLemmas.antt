@@ -120,8 +120,8 @@ tell_lists : (c : Whole) (es : Events) → AreTold c es → TellTheirLists c es
 tell_lists c [] h = tt
 tell_lists c (e ∷ es) h = (told_of c (report_in e.0) h.0, tell_lists (step_whole e.0 e.1 c) es h.1)
 
-pub told_as : (tells : Type 0) (S : Script) (r : Ran) (story : Story) → RunsOnDisks tells S r story → tells → (first_core S.set story.found).ended ≡ None → TellTheirLists (open_whole S.set story.found) (all_events story)
-told_as tells S r story runs told going = tell_lists (open_whole S.set story.found) (all_events story) (runs.shown.told told going)
+pub told_as : (tells : Type 0) (S : Script) (r : Ran) (story : Story) → RunsOnDisks tells S r story → S.set.shape.copies ≡ 1 → tells → (first_core S.set story.found).ended ≡ None → TellTheirLists (open_whole S.set story.found) (all_events story)
+told_as tells S r story runs one told going = tell_lists (open_whole S.set story.found) (all_events story) (runs.shown.told one told going)
 
 -- ---- all failures
 
@@ -132,9 +132,9 @@ lost_by tells set span found events old new was is shown told disk =
     rose_is lost old new span.disks span.left was is disk
     (up_to (min ((seen_at span.disks disk).faults + lost) (2 ^ 64 - 1)) (seen_at shown.disks disk).faults (seen_at span.left disk).faults (lost_before tells set span found events shown told disk) (shown.counted.later disk))
 
-pub failed_by : (tells : Type 0) (set : Setting) (span : Span) (found : Found) (events : Events) (old new : Objects) → AreHanded old span.disks → AreHanded new span.left → RunsOn tells set span found events → tells
+pub failed_by : (tells : Type 0) (set : Setting) (span : Span) (found : Found) (events : Events) (old new : Objects) → AreHanded old span.disks → AreHanded new span.left → RunsOn tells set span found events → set.shape.copies ≡ 1 → tells
     → (first_core set found).ended ≡ None → AreStored (open_whole set found) events
     → (disk : ℕ) → RoseBy (failures true disk (first_core set found) events + count_by (λ peer. peer.0 == disk) found.lost) (faults_at old.disk_faults disk) (faults_at new.disk_faults disk)
-failed_by tells set span found events old new was is shown told going stored disk =
+failed_by tells set span found events old new was is shown one told going stored disk =
     rose_is (failures true disk (first_core set found) events + count_by (λ peer. peer.0 == disk) found.lost) old new span.disks span.left was is disk
-    (all_failed tells set span found events shown told going stored disk)
+    (all_failed tells set span found events shown one told going stored disk)

@@ -1,103 +1,90 @@
 -- What opening found, as hs_promise says it, and the run right behind opening.
-use Rattle.std.proofs.Common.{◌≡◌, inl, inr, ◌∙◌, ap, sym, subst, ℕ, ◌≤◌, ◌*◌, ◌==◌, Bool, true, false, cond, not, List, [], ◌∷◌, ◌++◌, Option, Some, None, Result, Ok, Err, refl, arith, length}
-use Rattle.std.proofs.lemmas.Bool.{cases_lt, eqb-true, false≢true}
+use Rattle.std.proofs.Common.{◌≡◌, inl, inr, ◌∙◌, ap, sym, subst, ℕ, ◌+◌, ◌-◌, ◌^◌, ◌≤◌, ◌*◌, true, false, not, List, ◌++◌, Option, Result, Ok, Err, refl, arith, length}
+use Rattle.std.proofs.lemmas.Bool.{cases_lt, false≢true}
 use Rattle.std.proofs.lemmas.List.{get_or_past}
 use Rattle.std.proofs.lemmas.List.Elements.{Contains-get_or}
-use Rattle.std.specs.Option.{option_map_or}
-use Rattle.std.specs.Prelude.{All, Contains, find, is_ok, slice_index_or, ⊤}
+use Rattle.std.specs.Prelude.{All, Contains, is_ok, slice_index_or, ⊤}
+use Rattle.hs_cluster.proofs.CountLemmas.{rose_then}
 use Rattle.hs_cluster.proofs.OpenedLemmas.{opens_so}
 use Rattle.hs_cluster.proofs.RunLemmas.{runs_opened}
 use Rattle.hs_cluster.specs.Calls.{ran_out}
 use Rattle.hs_cluster.specs.declared.fault.ClusterFault.{ClusterFault}
-use Rattle.hs_cluster.specs.Disks.{AreReady, DiskSeen, stands_of}
+use Rattle.hs_cluster.specs.Disks.{AreReady, DiskSeen, seen_at, stands_of}
+use Rattle.hs_cluster.specs.Kept.{Span as Kept}
 use Rattle.hs_cluster.specs.Opens.{Finds, IsLostLog, Opens}
 use Rattle.hs_cluster.specs.Running.{Running}
 use Rattle.hs_cluster.specs.RunsOn.{CanRunOn, RunsOn}
 use Rattle.hs_core_words.specs.State.{Core}
-use Rattle.hs_entry.specs.Entries.{rank_of}
 use Rattle.hs_events.specs.Beginning.{first_items}
 use Rattle.hs_events.specs.Course.{items_of, steps}
 use Rattle.hs_events.specs.Due.{Events, next_turn}
-use Rattle.hs_events.specs.Found.{Found, first_core, opens_with}
-use Rattle.hs_events.specs.Taken.{is_best, is_taken, peer_count, taken_list, taken_peer}
-use Rattle.hs_fold.specs.Opened.{outranks}
-use Rattle.hs_fold.specs.Shards.Setting.{Numbered, Setting}
-use Rattle.hs_limits.specs.declared.shape.Shape.{Shape}
-use Rattle.hs_members.specs.Members.{home_of, peers_of}
+use Rattle.hs_events.specs.Found.{first_core, opens_with}
+use Rattle.hs_events.specs.Reports.{failures}
+use Rattle.hs_events.specs.Taken.{peer_count}
+use Rattle.hs_fold.specs.Shards.Setting.{Setting}
 use Rattle.hs_model.specs.declared.command.Command.{Command}
 use Rattle.hs_moments.specs.Moments.{Since}
-use Rattle.hs_peerlog.specs.Lists.{Keeping}
+use Rattle.hs_ports.specs.Fault.{HasRisen}
 use Rattle.hs_ports.specs.Objects.{Objects}
 use Rattle.hs_promise.specs.Found.{HasFound, IsLostBefore}
-use Rattle.hs_promise.specs.Run.{Ran}
+use Rattle.hs_promise.specs.Run.{DiskRose, Ran}
+use Rattle.hs_promise.specs.Story.{all_events}
 use Rattle.hs_taking.specs.Shares.{Span}
 use Rattle.hs_run.specs.Between.{IsReadyAt}
-use Rattle.hs_run.specs.Going.{IsOpened}
+use Rattle.hs_run.specs.Going.{Begun, IsOpened, script_by, story_of}
+use Rattle.hs_run.specs.Machine.{AreHanded}
 use Rattle.hs_run.proofs.AnsweredLemmas.{answered_opens, answered_steps}
+use Rattle.hs_run.proofs.DisksLemmas.{rose_is}
 use Rattle.hs_run.proofs.LastLineLemmas.{steps_later, steps_up, walk_up}
 use Rattle.hs_run.proofs.PassedLemmas.{going_of}
 use Rattle.hs_run.proofs.ShownLemmas.{can_first}
 
--- ---- a taken log is one that was read
-
-some_is : (x y : ℕ) → Some x ≡ Some y → x ≡ y
-some_is x y e = cc
-
-find_true : (p : ℕ → Bool) (xs : List ℕ) (x : ℕ) → find p xs ≡ Some x → p x ≡ true
-find_true p [] x e = absurd cc
-find_true p (y ∷ ys) x e = go (λ k. find_true p ys x k) (p y) refl e
-  where
-    go : (find p ys ≡ Some x → p x ≡ true) → (b : Bool) → p y ≡ b → cond b (Some y) (find p ys) ≡ Some x → p x ≡ true
-    go ih true here k = subst (λ (z : ℕ). p z ≡ true) (some_is y x k) here
-    go ih false here k = ih k
-
-taken_has : (shape : Shape) (logs : List (Option Numbered)) (peer : ℕ) → slice_index_or logs peer None ≡ None → is_taken shape logs peer ≡ true → ⊥
-taken_has shape logs peer none taken = go (taken_peer shape logs (home_of shape peer)) refl taken
-  where
-    go : (o : Option ℕ) → taken_peer shape logs (home_of shape peer) ≡ o → option_map_or (λ p. p == peer) o false ≡ true → ⊥
-    go None is h = false≢true h
-    go (Some p) is h =
-        let best : is_best shape logs (home_of shape peer) p ≡ true = find_true (is_best shape logs (home_of shape peer)) (peers_of shape (home_of shape peer)) p is in
-        let same : p ≡ peer = eqb-true p peer h in
-        let there : is_best shape logs (home_of shape peer) peer ≡ true = subst (λ (q : ℕ). is_best shape logs (home_of shape peer) q ≡ true) same best in
-        let nowhere : is_best shape logs (home_of shape peer) peer ≡ false =
-        ap (λ (o : Option Numbered). option_map_or (λ log. not (outranks (rank_of (taken_list shape logs (home_of shape peer))) (rank_of log))) o false) none in
-        false≢true (sym nowhere ∙ there)
+-- ---- what was found
 
 all_of : {X : Type 0} (P : X → Type 0) (xs : List X) → ((x : X) → Contains xs x → P x) → All P xs
 all_of P xs h = λ k d low. h (slice_index_or xs k d) (Contains-get_or xs k d low)
 
--- ---- what was found
-
-pub has_found : (tells : Type 0) (set : Setting) (span : Span) (found : Found) (logs : List (Option Keeping)) (opening : Events) (lines : List Events) (commands : ℕ → Option Command) (r : Ran) → r.old.moment ≡ span.before
-    → Finds tells set span found logs → HasFound (record { set = set; commands = commands }) r (record { found = found; opening = opening; lines = lines })
-has_found tells set span found logs opening lines commands r entry finds = record {
+-- of a run, by what its disks show
+pub has_found : (tells : Type 0) (b : Begun) (lines : List Events) (commands : ℕ → Option Command) (r : Ran) (span : Kept) → span.before ≡ r.old.moment → AreHanded r.old span.disks → AreHanded r.new span.left
+    → RunsOn tells b.set span b.found (all_events (story_of b lines)) → HasFound (script_by b commands) r (story_of b lines)
+has_found tells b lines commands r span entry was is shown = record {
   logs = finds.logs;
   goods = finds.goods;
-  later = let low = finds.later in let there = finds.opened in omega (arith, entry, low, there);
-  lost = all_of (IsLostBefore (record { set = set; commands = commands }) r (record { found = found; opening = opening; lines = lines })) found.lost (λ x among. lost_before x (finds.lost x among));
+  later = let low = finds.later in omega (arith, entry, low);
+  lost = all_of (IsLostBefore (script_by b commands) r (story_of b lines)) b.found.lost (λ x among. lost_before x (finds.lost x among));
   once = finds.once;
-  all_lost = λ peer low taken bad. elim ((finds.each peer low).aside bad) [
-    | inl none ↦ absurd (taken_has set.shape found.logs peer none taken)
-    | inr there ↦ there
-  ];
-  kept = λ peer good. elim (cases_lt peer (peer_count set.shape)) [
+  all_lost = finds.all_lost;
+  kept = λ peer good. elim (cases_lt peer (peer_count b.set.shape)) [
     | inl low ↦ (finds.each peer low).kept good
-    | inr high ↦ absurd (false≢true (sym (get_or_past found.good peer false (let long = finds.goods in omega (arith, high, long))) ∙ good))
+    | inr high ↦ absurd (false≢true (sym (get_or_past b.found.good peer false (let long = finds.goods in omega (arith, high, long))) ∙ good))
   ];
   aside = λ peer low bad. elim ((finds.each peer low).aside bad) [
-    | inl none ↦ inr (inl none)
-    | inr there ↦ inr (inr (record { lost = (peer, there.0); among = there.1; same_shard = refl }))
+    | inl rose ↦ inl (beside peer rose)
+    | inr other ↦ elim other [
+      | inl none ↦ inr (inl none)
+      | inr behind ↦ inr (inr (record { lost = behind.lost; among = behind.among; same_shard = behind.same_shard }))
+    ]
   ];
 }
   where
-    lost_before : (x : ℕ × ℕ) → IsLostLog tells set span found x → IsLostBefore (record { set = set; commands = commands }) r (record { found = found; opening = opening; lines = lines }) x
+    finds : Finds tells b.set (record { before = span.before; now = b.found.opened; old = span.disks; new = shown.disks }) b.found shown.slots
+    finds = shown.finds
+
+    lost_before : (x : ℕ × ℕ) → IsLostLog tells b.set (record { before = span.before; now = b.found.opened; old = span.disks; new = shown.disks }) b.found x → IsLostBefore (script_by b commands) r (story_of b lines) x
     lost_before x h = record {
       taken = h.taken;
       bad = h.bad;
       later = let low = h.later in omega (arith, entry, low);
-      before = let high = h.up_to in let there = finds.opened in omega (arith, high, there);
+      before = h.up_to;
     }
+
+    -- a disk that failed before the first turn, and by each report since
+    beside : (peer : ℕ) → HasRisen (seen_at span.disks peer).faults (seen_at shown.disks peer).faults
+        → DiskRose r (1 + failures false peer (first_core b.set b.found) (all_events (story_of b lines))) peer
+    beside peer rose =
+        rose_is (1 + failures false peer (first_core b.set b.found) (all_events (story_of b lines))) r.old r.new span.disks span.left was is peer
+        (rose_then (2 ^ 64 - 1) (seen_at span.disks peer).faults (seen_at shown.disks peer).faults (seen_at span.left peer).faults 1 (failures false peer (first_core b.set b.found) (all_events (story_of b lines)))
+        rose (shown.counted.failed peer))
 
 -- ---- behind opening
 

@@ -47,6 +47,7 @@ use Rattle.hs_run.specs.Served.{HasCauses, PrintsText}
 use Rattle.hs_run.specs.Stopping.{IsPutStop, end_of, status_of}
 use Rattle.hs_run.proofs.DisksLemmas.{calm_is, failed_by, lost_by, paid_by}
 use Rattle.hs_run.proofs.EndsLemmas.{IsWithin, end_within}
+use Rattle.hs_run.proofs.FoundLemmas.{has_found}
 use Rattle.hs_run.proofs.OpeningLemmas.{opening_printed, opening_so_far}
 use Rattle.hs_run.proofs.PassedLemmas.{answered_more, put_so_far, put_whole}
 use Rattle.hs_run.proofs.ReadLemmas.{read_untold}
@@ -118,10 +119,6 @@ opening_within did running part result outcome cut put = subst (λ (r : Result �
 
 -- ---- it is the machine's
 
--- whatever was asked, this is what opening found
-abbrev pub FoundBy : Begun → Type 0
-FoundBy b = (commands : ℕ → Option Command) (r : Ran) (lines : List Events) → r.old.moment ≡ b.old.moment → HasFound (script_by b commands) r (story_of b lines)
-
 -- it went as a story says, and this its disks show
 pub record IsOfStory (tells : Type 0) (S : Script) (r : Ran) : Type 0 where
   pub script : AreOfScript S r
@@ -132,10 +129,15 @@ pub record IsOfStory (tells : Type 0) (S : Script) (r : Ran) : Type 0 where
   pub calm : PassesCalmly S r
   pub nobody : S.commands 0 ≡ None
 
-module _ (tells : Type 0) (name : List ℕ → Address) (did : Result ⊤ ClusterFault) (b : Begun) (part : Stretch) (new : Objects) (named : b.set.name ≡ name) (opened : IsOpened tells b did part.old) (found : FoundBy b)
+module _ (tells : Type 0) (name : List ℕ → Address) (did : Result ⊤ ClusterFault) (b : Begun) (part : Stretch) (new : Objects) (named : b.set.name ≡ name) (opened : IsOpened tells b did part.old)
     (now : part.new.now ≡ new.moment) (got : part.new.got ≡ new.got) (was : AreHanded b.old b.disks) (is : AreHanded new part.new.disks) where
   abbrev whole_span : Running → Span
   whole_span last = record { before = b.old.moment; now = part.new.now; old = b.first; new = last; disks = b.disks; left = part.new.disks }
+
+  -- what opening found, from what its disks show
+  found : (commands : ℕ → Option Command) (ending : Status) (line : ℕ) (cluster : Option Running) (lines : List Events) (last : Running)
+      → RunsOn tells b.set (whole_span last) b.found (all_events (story_of b lines)) → HasFound (script_by b commands) (ran_at ending line cluster b.old new) (story_of b lines)
+  found commands ending line cluster lines last shown = has_found tells b lines commands (ran_at ending line cluster b.old new) (whole_span last) refl was is shown
 
   -- what its disks show, from what they showed by its last events
   on_disks : (commands : ℕ → Option Command) (ending : Status) (line : ℕ) (cluster : Option Running) (lines : List Events) (last : Running) → (tells → Since (stands_of part.new.disks))
@@ -166,7 +168,7 @@ module _ (tells : Type 0) (name : List ℕ → Address) (did : Result ⊤ Cluste
           story = story_of b [];
           went = subst (λ (c : Running). Went (script_by b (chosen b.old.left [])) (ran_at (status_of part.result part.new.line) part.new.line (Some c) b.old new) (story_of b [])) (sym same)
               (went_unopened tells b did part.old part.result part.new.line new (record { before = part.old.now; now = part.new.now; old = part.old.got; new = part.new.got }) (chosen b.old.left []) opened (let there = now in omega (arith, later, there)) zero cut put
-              (found (chosen b.old.left []) (ran_at (status_of part.result part.new.line) part.new.line (Some part.old.cluster) b.old new) [] refl)
+              (found (chosen b.old.left []) (status_of part.result part.new.line) part.new.line (Some part.old.cluster) [] part.old.cluster shown)
               (paid_by tells b.set (whole_span part.old.cluster) b.found (all_events (story_of b [])) b.old new was is shown));
           runs = on_disks (chosen b.old.left []) (status_of part.result part.new.line) part.new.line (Some part.new.cluster) [] part.old.cluster (λ told. subst (λ (d : List DiskSeen). Since (stands_of d)) (sym left) (opened.since told)) shown;
           ended = record {
@@ -187,7 +189,7 @@ module _ (tells : Type 0) (name : List ℕ → Address) (did : Result ⊤ Cluste
       script = chosen_told b.old.left so_far.read;
       story = story_of b so_far.lines;
       went = went_between b so_far.read so_far.lines part.new (status_of part.result part.new.line) new (chosen b.old.left so_far.read) now got so_far.gone (chosen_read b.old.left so_far.read so_far.said)
-          (found (chosen b.old.left so_far.read) (ran_at (status_of part.result part.new.line) part.new.line (Some part.new.cluster) b.old new) so_far.lines refl) (plain_between part.result part.new.line stops)
+          (found (chosen b.old.left so_far.read) (status_of part.result part.new.line) part.new.line (Some part.new.cluster) so_far.lines part.new.cluster so_far.shows.shown) (plain_between part.result part.new.line stops)
           (paid_by tells b.set (span_to b part.new) b.found (all_events (story_of b so_far.lines)) b.old new was is so_far.shows.shown);
       runs = on_disks (chosen b.old.left so_far.read) (status_of part.result part.new.line) part.new.line (Some part.new.cluster) so_far.lines part.new.cluster so_far.shows.since so_far.shows.shown;
       ended = record {
@@ -195,7 +197,7 @@ module _ (tells : Type 0) (name : List ℕ → Address) (did : Result ⊤ Cluste
         answered = λ is. absurd (between_write part.result part.new.line stops is);
         unread = λ some. absurd (none_some (first_core b.set b.found).ended (first_going (first_core b.set b.found) (all_events (story_of b so_far.lines)) (ap (λ (c : Core). c.ended) (sym so_far.gone.behind.core) ∙ so_far.gone.going)) some);
       };
-      calm = λ one past. calm_is b.old new b.disks part.new.disks was is so_far.shows.may.calm.none;
+      calm = λ one past. calm_is b.old new b.disks part.new.disks was is (so_far.shows.may.calm one).none;
       nobody = chosen_first b.old.left so_far.read;
     },
   )
@@ -207,7 +209,7 @@ module _ (tells : Type 0) (name : List ℕ → Address) (did : Result ⊤ Cluste
           story = story_of b (lines ++ runs.runs.events ∷ []);
           went = went_within tells name b read lines at part.new line asked part.result named gone says_so cut runs (within_of tells name asked (record { old = at; new = part.new; result = part.result }) cut runs)
               new (chosen b.old.left (read ++ line ∷ [])) now got (chosen_read b.old.left (read ++ line ∷ []) said)
-              (found (chosen b.old.left (read ++ line ∷ [])) (ran_at (status_of part.result part.new.line) part.new.line (Some part.new.cluster) b.old new) (lines ++ runs.runs.events ∷ []) refl)
+              (found (chosen b.old.left (read ++ line ∷ [])) (status_of part.result part.new.line) part.new.line (Some part.new.cluster) (lines ++ runs.runs.events ∷ []) part.new.cluster shown)
               (paid_by tells b.set (span_to b part.new) b.found (all_events (story_of b (lines ++ runs.runs.events ∷ []))) b.old new was is shown);
           runs = on_disks (chosen b.old.left (read ++ line ∷ [])) (status_of part.result part.new.line) part.new.line (Some part.new.cluster) (lines ++ runs.runs.events ∷ []) part.new.cluster runs.since shown;
           ended = record {

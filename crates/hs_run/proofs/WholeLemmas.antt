@@ -39,10 +39,10 @@ use Rattle.hs_run.specs.Served.{Served}
 use Rattle.hs_run.specs.Stopping.{status_of}
 use Rattle.hs_run.proofs.CaseLemmas.{if_told}
 use Rattle.hs_run.proofs.DisksLemmas.{disk_is, falls_is, none_fell, past_is, read_as, risen_since, rose_is, told_as}
-use Rattle.hs_run.proofs.FoundLemmas.{has_found, opened_ready, opened_so}
+use Rattle.hs_run.proofs.FoundLemmas.{opened_ready, opened_so}
 use Rattle.hs_run.proofs.OpeningLemmas.{since_opened}
 use Rattle.hs_run.proofs.RiseLemmas.{rise_le}
-use Rattle.hs_run.proofs.RunLemmas.{FoundBy, IsOfStory, causes_run, ends_run, printed_run, prints_run, run_shape, story_run, time_run}
+use Rattle.hs_run.proofs.RunLemmas.{IsOfStory, causes_run, ends_run, printed_run, prints_run, run_shape, story_run, time_run}
 use Rattle.hs_run.proofs.ShapeLemmas.{refusal_of}
 
 -- as many disks as before
@@ -99,7 +99,7 @@ module _ (tells : Type 0) (set : Setting) (span : Span) (running : Running) (did
       (subst (λ (n : ℕ). IsReadyAt tells (record at { cluster = running; now = n })) (sym now) h)
 
   module _ (old new : Objects) (part : Stretch) (same : part.old.cluster ≡ running) (begun : part.old.now ≡ span.now) (left : part.old.disks ≡ span.new) (since : tells → Since (stands_of part.old.disks)) (entry : old.moment ≡ span.before) (was_got : part.old.got ≡ old.got)
-      (now : part.new.now ≡ new.moment) (got : part.new.got ≡ new.got) (was : AreHanded old span.old) (is : AreHanded new part.new.disks) (shape : IsShape set.shape) (one : set.shape.copies ≡ 1) (disks : length span.old ≡ set.shape.shards * set.shape.copies) (handed : length old.disks ≡ length span.old)
+      (now : part.new.now ≡ new.moment) (got : part.new.got ≡ new.got) (was : AreHanded old span.old) (is : AreHanded new part.new.disks) (shape : IsShape set.shape) (disks : length span.old ≡ set.shape.shards * set.shape.copies) (handed : length old.disks ≡ length span.old)
       (runs : (b : Begun) → StartsAt tells b set.name did part.old → HasRun tells set.name did b old.left new.left part) where
     abbrev b : Begun
     b = record { set = set; old = old; disks = span.old; found = opens.found; first = opens.begun; opening = opens.events }
@@ -111,10 +111,6 @@ module _ (tells : Type 0) (set : Setting) (span : Span) (running : Running) (did
 
     ran : HasRun tells set.name did b old.left new.left part
     ran = runs b (record { named = refl; opened = opened; got = was_got })
-
-    found_by : FoundBy b
-    found_by = λ commands r lines here.
-        has_found tells set (record { before = span.before; now = opens.found.opened; old = span.old; new = opens.disks }) opens.found opens.begun.logs opens.events lines commands r (here ∙ entry) opens.finds
 
     -- a disk of another store failed
     no_other : (commands : ℕ → Option Command) (r : Ran) → r.old ≡ old → r.new ≡ new → (m : IsOfStory tells (record { set = set; commands = commands }) r) → tells → (peer : ℕ) (found : Header) → IsFirstOther (record { set = set; commands = commands }) r peer found
@@ -152,7 +148,7 @@ module _ (tells : Type 0) (set : Setting) (span : Span) (running : Running) (did
           left = left_told old.left new.left part.result part.new.line ends;
           ends = if_told (λ told. EndsBy told new.left part.result part.new.line) (λ told. IfSome new.left (Ends (ran_at (status_of part.result part.new.line) part.new.line (Some part.new.cluster) old new) told)) old.left ends
               (λ told h. ends_run part.result part.new.line (Some part.new.cluster) old new told h);
-          past = λ told. past_is old new m.runs.span.before m.runs.span.now m.runs.span.disks m.runs.span.left m.runs.old m.runs.new m.runs.before m.runs.now (m.runs.shown.past told);
+          past = λ one told. past_is old new m.runs.span.before m.runs.span.now m.runs.span.disks m.runs.span.left m.runs.old m.runs.new m.runs.before m.runs.now (m.runs.shown.past one told);
           shape = λ told. record {
             only = λ peer found is. absurd (no_shape peer found is);
             exact = λ peer found first may calm. absurd (calm (no_other commands (ran_at (status_of part.result part.new.line) part.new.line (Some part.new.cluster) old new) refl refl m told peer found first));
@@ -166,24 +162,23 @@ module _ (tells : Type 0) (set : Setting) (span : Span) (running : Running) (did
     pub whole_hub : (ending : Status) → ending ≡ status_of part.result part.new.line → length new.disks ≡ length old.disks → StopCause old.source_faults new.source_faults old.sink_faults new.sink_faults part.result
         → IfSome old.left (λ told. EndsBy told new.left part.result part.new.line) → (commands : ℕ → Option Command) × IsOfCluster tells (record { set = set; commands = commands }) (ran_at ending part.new.line (Some part.new.cluster) old new)
     whole_hub ending ends_so handed_back cause ends =
-        let m = story_run tells set.name did b part new refl opened found_by now got was is ran in
+        let m = story_run tells set.name did b part new refl opened now got was is ran in
         subst (λ (s : Status). (commands : ℕ → Option Command) × IsOfCluster tells (record { set = set; commands = commands }) (ran_at s part.new.line (Some part.new.cluster) old new)) (sym ends_so) (
           m.0,
           record {
             shape = shape;
-            one = one;
-            count = handed ∙ disks ∙ ap (λ (n : ℕ). set.shape.shards * n) one ∙ omega arith;
+            count = handed ∙ disks;
             script = m.1.script;
             nobody = m.1.nobody;
             how = Some m.1.story;
             went = m.1.went;
             told = λ told. record {
               read = read_as tells (record { set = set; commands = m.0 }) (ran_at (status_of part.result part.new.line) part.new.line (Some part.new.cluster) old new) m.1.story m.1.runs told;
-              told = told_as tells (record { set = set; commands = m.0 }) (ran_at (status_of part.result part.new.line) part.new.line (Some part.new.cluster) old new) m.1.story m.1.runs told;
+              told = λ one. told_as tells (record { set = set; commands = m.0 }) (ran_at (status_of part.result part.new.line) part.new.line (Some part.new.cluster) old new) m.1.story m.1.runs one told;
             };
             runs = m.1.runs;
             ended = m.1.ended;
-            unopened = λ none. absurd (some_none m.1.story none);
+            unopened = λ one none. absurd (some_none m.1.story none);
             served = whole_served m.0 m.1 handed_back cause ends;
           },
         )

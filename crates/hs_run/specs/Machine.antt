@@ -36,15 +36,15 @@ pub record RunsOnDisks (tells : Type 0) (S : Script) (r : Ran) (story : Story) :
   pub new : AreHanded r.new span.left
   pub since : tells → Since r.new.disks
   pub shown : RunsOn tells S.set span story.found (all_events story)
-  -- each count rose by the losses before the core was opened; and by all failures too, where what a peer is to read stands in its list
+  -- each count rose by the losses before the core was opened; and, with one copy a shard, by all failures too, where what a peer is to read stands in its list
   pub lost : tells → (disk : ℕ) → DiskRose r (loss_count story disk) disk
-  pub failed : tells → (first_core S.set story.found).ended ≡ None → AreStored (open_whole S.set story.found) (all_events story)
+  pub failed : S.set.shape.copies ≡ 1 → tells → (first_core S.set story.found).ended ≡ None → AreStored (open_whole S.set story.found) (all_events story)
       → (disk : ℕ) → DiskRose r (failures true disk (first_core S.set story.found) (all_events story) + loss_count story disk) disk
 
--- where they tell their contents, a peer's log is that of its disk, or its disk failed; and what was read is told
+-- where they tell their contents, a peer's log is that of its disk, or its disk failed; and, with one copy a shard, what was read is told
 pub record HasReadDisks (S : Script) (r : Ran) (story : Story) : Type 0 where
   pub read : (peer : ℕ) → peer < peer_count S.set.shape → IsReadAs r story peer
-  pub told : (first_core S.set story.found).ended ≡ None → TellTheirLists (open_whole S.set story.found) (all_events story)
+  pub told : S.set.shape.copies ≡ 1 → (first_core S.set story.found).ended ≡ None → TellTheirLists (open_whole S.set story.found) (all_events story)
 
 -- a sink failed only where its line had answered something, or opening, where no line was begun; and nothing was read where the core ended as it opened
 pub record HasItsEnd (S : Script) (r : Ran) (story : Story) : Type 0 where
@@ -53,7 +53,7 @@ pub record HasItsEnd (S : Script) (r : Ran) (story : Story) : Type 0 where
   pub answered : r.ending ≡ status.WriteFault → story.lines ≡ [] → 0 < length r.journal
   pub unread : IsSome (first_core S.set story.found).ended → r.new.left ≡ r.old.left
 
--- no core was opened: the calls on each disk left its list as it was, and its past
+-- with one copy a shard no core was opened: the calls on each disk left its list as it was, and its past
 pub record IsUnopened (tells : Type 0) (r : Ran) : Type 0 where
   pub span : Taking
   pub before : span.before ≡ r.old.moment
@@ -66,8 +66,7 @@ pub record IsUnopened (tells : Type 0) (r : Ran) : Type 0 where
 -- the run is the machine's on the events that are due, and on no others; this its disks show; and this is had of the promise without a word of the plain store
 pub record IsOfCluster (tells : Type 0) (S : Script) (r : Ran) : Type 0 where
   pub shape : IsShape S.set.shape
-  pub one : S.set.shape.copies ≡ 1
-  pub count : length r.old.disks ≡ S.set.shape.shards
+  pub count : length r.old.disks ≡ peer_count S.set.shape
   pub script : AreOfScript S r
   -- no command has the number 0
   pub nobody : S.commands 0 ≡ None
@@ -76,5 +75,5 @@ pub record IsOfCluster (tells : Type 0) (S : Script) (r : Ran) : Type 0 where
   pub told : tells → IfSome how (HasReadDisks S r)
   pub runs : IfSome how (RunsOnDisks tells S r)
   pub ended : IfSome how (HasItsEnd S r)
-  pub unopened : how ≡ None → IsUnopened tells r
+  pub unopened : S.set.shape.copies ≡ 1 → how ≡ None → IsUnopened tells r
   pub served : Served tells S r

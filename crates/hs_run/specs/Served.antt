@@ -48,5 +48,5 @@ pub record Served (tells : Type 0) (S : Script) (r : Ran) : Type 0 where
   -- a source that tells what it has tells what it has left
   pub left : IsSome r.old.left → IsSome r.new.left
   pub ends : IfSome r.old.left (λ script. IfSome r.new.left (Ends r script))
-  pub past : tells → KeepsPast r.old r.new
+  pub past : S.set.shape.copies ≡ 1 → tells → KeepsPast r.old r.new
   pub shape : tells → ShapeCause S r

@@ -84,8 +84,8 @@ fn go<A: Addresser, S: Source, K: Sink, D: Disk>(
     serve(run, &mut reader, naming, source, disks, sink, watch)
 }
 
-/// Runs the script that the source has on the disks of a store of one copy a shard, one disk for each
-/// peer, and puts what is answered into the sink.
+/// Runs the script that the source has on the disks of a store, one disk for each peer, and puts what
+/// is answered into the sink.
 pub fn run_script_on<A: Addresser, S: Source, K: Sink, D: Disk>(
     alloc: Global,
     shape: Shape,
@@ -97,7 +97,6 @@ pub fn run_script_on<A: Addresser, S: Source, K: Sink, D: Disk>(
     watch: &mut Watch,
 ) -> Outcome
     requires shape { IsShape shape }
-    requires copies { shape.copies ≡ 1 }
     requires count { length disks.old ≡ shape.shards * shape.copies }
 
     // Some run was begun.

@@ -19,6 +19,7 @@ use Rattle.hs_scrub.specs.Marks.{IsMarked, is_read}
 use Rattle.hs_scrub.specs.Scrubbed.{mark_at}
 use Rattle.hs_scrub.specs.Steps.{AreFewer, AreKept, AreLooked, AreStill, AreViews, Counts, Ends, Fits, Goes, IsGreatest, IsLooked, IsLost, IsLostBy, IsStill, Settles, State, Touches, Walks, mark_of, view_at}
 use Rattle.hs_side.specs.Current.{list_in}
+use Rattle.hs_taking.proofs.PairLemmas.{viewed_still as as_viewed_still}
 use Rattle.hs_taking.specs.Disks.{DiskSeen, seen_at}
 use Rattle.hs_taking.specs.Viewed.{HasViewed}
 
@@ -36,6 +37,7 @@ any_other (x ∷ xs) (suc k) c d low = any_other xs k c d (omega (arith, low))
 viewed_still : (tells : Type 0) (shape : Shape) (peer : ℕ) (old a b : DiskSeen) (view : Viewing) → IsStill tells a b → b.faults ≡ a.faults → HasViewed tells shape peer old a view → HasViewed tells shape peer old b view
 viewed_still tells shape peer old a b view still same h = record {
   stands = stands_still tells view.log a b still h.stands;
+  viewed = as_viewed_still tells view a b (record { same = still.stands; size = still.size; counted = omega (arith, same) }) h.viewed;
   listed = h.listed;
   has = λ told list e. has_still tells a b view list still told (h.has told list e);
   accepted = h.accepted;

@@ -1,8 +1,9 @@
 -- Logs and disks of several peers, of which one has a call.
-use Rattle.std.proofs.Common.{◌≡◌, ◌≢◌, ◌+◌, ◌++◌, inl, inr, ◌∙◌, ap, sym, subst, ℕ, zero, suc, ◌<◌, List, [], ◌∷◌, Option, Some, None, map, length, refl, arith, replicate}
+use Rattle.std.proofs.Common.{◌≡◌, ◌≢◌, inl, inr, ◌∙◌, ap, sym, subst, ℕ, zero, suc, ◌<◌, List, [], ◌∷◌, Option, Some, None, map, length, refl, arith}
 use Rattle.std.proofs.lemmas.List.{get_or-set_same, get_or-set_other, map-set}
 use Rattle.std.proofs.lemmas.Bool.{cases_eq}
 use Rattle.std.specs.Prelude.{slice_index_or, slice_set}
+use Rattle.hs_peerlog.proofs.ImageLemmas.{Since}
 use Rattle.hs_peerlog.specs.Lists.{IsReady, Keeping}
 use Rattle.hs_ports.specs.MemoryDisk.{untold}
 use Rattle.hs_taking.specs.Disks.{AreReady, DiskSeen, IsSlotReady, log_at, seen_at}
@@ -85,21 +86,19 @@ seen_here f disks peer disk low =
 pub seen_there : {A : Type 0} (f : A → DiskSeen) (disks : List A) (peer other : ℕ) (disk : A) → other ≢ peer → seen_at (map f (slice_set disks peer disk)) other ≡ seen_at (map f disks) other
 seen_there f disks peer other disk differs = ap (λ ds. seen_at ds other) (map-set f disks peer disk) ∙ get_or-set_other (map f disks) peer other (f disk) no_disk differs
 
--- ---- no log is in use
+-- ---- moments
 
-pub replicate_more : {A : Type 0} (n : ℕ) (x : A) → replicate (n + 1) x ≡ replicate n x ++ x ∷ []
-replicate_more zero x = refl
-replicate_more (suc n) x =
-    let e : suc n + 1 ≡ suc (n + 1) = omega arith in
-    rw e (ap (λ xs. x ∷ xs) (replicate_more n x))
+-- after the last call of any of them nothing changes; one that is not there has none
+pub seen_since : {A : Type 0} (f : A → DiskSeen) → ((x : A) → Since (f x).stands) → (disks : List A) (peer : ℕ) → Since (seen_at (map f disks) peer).stands
+seen_since f each [] peer = none_since
+  where
+    none_since : Since untold
+    none_since side m high = refl
+seen_since f each (x ∷ xs) zero = each x
+seen_since f each (x ∷ xs) (suc k) = seen_since f each xs k
 
-abbrev pub no_log : Option Keeping
-no_log = None
-
-pub no_log_at : (n peer : ℕ) → log_at (replicate n no_log) peer ≡ None
-no_log_at zero peer = refl
-no_log_at (suc n) zero = refl
-no_log_at (suc n) (suc peer) = no_log_at n peer
-
-pub none_ready : (tells : Type 0) (n : ℕ) (disks : List DiskSeen) → AreReady tells (replicate n no_log) disks
-none_ready tells n disks = record { each = λ peer keeping is. absurd (none_is_not keeping (sym (no_log_at n peer) ∙ is)) }
+-- what holds of a disk and its call holds of them among the others
+pub one_called : {A : Type 0} (f : A → DiskSeen) (disks : List A) (i peer : ℕ) (x d : A) → i ≡ peer → i < length disks → (R : DiskSeen → DiskSeen → Type 0) → R (f (slice_index_or disks i d)) (f x) → R (seen_at (map f disks) peer) (seen_at (map f (slice_set disks i x)) peer)
+one_called f disks i peer x d same low R h =
+    subst (λ n. R (seen_at (map f disks) n) (seen_at (map f (slice_set disks i x)) n)) same
+    (subst (λ (s : DiskSeen). R s (seen_at (map f (slice_set disks i x)) i)) (sym (seen_is f disks i d low)) (subst (λ (s : DiskSeen). R (f (slice_index_or disks i d)) s) (sym (seen_here f disks i x low)) h))

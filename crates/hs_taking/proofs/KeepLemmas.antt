@@ -1,15 +1,13 @@
 -- Calls that leave the list of a disk as it is, one after another, and on one disk of several.
-use Rattle.std.proofs.Common.{◌∙◌, ap, sym, subst, ℕ, ◌<◌, ◌≤◌, List, Some, length, map, refl, arith, inl, inr}
-use Rattle.std.proofs.lemmas.Bool.{cases_eq, cases_lt}
-use Rattle.std.specs.Prelude.{slice_index_or, slice_set}
+use Rattle.std.proofs.Common.{◌∙◌, ap, subst, ℕ, ◌≤◌, Some, refl, arith, inl, inr}
+use Rattle.std.proofs.lemmas.Bool.{cases_lt}
 use Rattle.hs_fold.specs.Shards.Setting.{Numbered}
 use Rattle.hs_peerlog.proofs.ImageLemmas.{Since}
 use Rattle.hs_peerlog.proofs.StayLemmas.{all-each, stays}
 use Rattle.hs_peerlog.specs.Images.{Is}
 use Rattle.hs_ports.specs.Disk.{IsImage}
-use Rattle.hs_taking.proofs.DiskLemmas.{seen_here, seen_is, seen_there}
 use Rattle.hs_taking.proofs.PastLemmas.{past_all, past_still, past_then, past_wait}
-use Rattle.hs_taking.specs.Disks.{DiskSeen, seen_at}
+use Rattle.hs_taking.specs.Disks.{DiskSeen}
 use Rattle.hs_taking.specs.Shares.{KeepsDisk}
 use Rattle.hs_taking.specs.Viewed.{IsOnlyRead}
 
@@ -64,16 +62,3 @@ keeps_wait tells before mid now a b up so_far = record {
   past = λ told last. past_wait before mid now a.stands b.stands up (so_far.past told last);
   counted = so_far.counted;
 }
-
--- one disk of several had calls, and the others had none
-pub keeps_more : {A : Type 0} (f : A → DiskSeen) (tells : Type 0) (before mid now : ℕ) (old : List DiskSeen) (disks : List A) (i total : ℕ) (x d : A) → i < length disks → mid ≤ now
-    → ((peer : ℕ) → peer < total → KeepsDisk tells before mid (seen_at old peer) (seen_at (map f disks) peer)) → KeepsDisk tells mid now (f (slice_index_or disks i d)) (f x)
-    → (peer : ℕ) → peer < total → KeepsDisk tells before now (seen_at old peer) (seen_at (map f (slice_set disks i x)) peer)
-keeps_more f tells before mid now old disks i total x d low up so_far one peer within = elim (cases_eq peer i) [
-  | inl same ↦ subst (λ p. KeepsDisk tells before now (seen_at old p) (seen_at (map f (slice_set disks i x)) p)) (sym same)
-      (subst (λ (s : DiskSeen). KeepsDisk tells before now (seen_at old i) s) (sym (seen_here f disks i x low))
-      (keeps_then tells before mid now (seen_at old i) (seen_at (map f disks) i) (f x) (so_far i (subst (λ p. p < total) same within))
-      (subst (λ (s : DiskSeen). KeepsDisk tells mid now s (f x)) (sym (seen_is f disks i d low)) one)))
-  | inr differs ↦ subst (λ (s : DiskSeen). KeepsDisk tells before now (seen_at old peer) s) (sym (seen_there f disks i peer x differs))
-      (keeps_wait tells before mid now (seen_at old peer) (seen_at (map f disks) peer) up (so_far peer within))
-]

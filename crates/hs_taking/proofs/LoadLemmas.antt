@@ -1,8 +1,8 @@
 -- What a list amounts to, entry by entry.
-use Rattle.std.proofs.Common.{◌≡◌, ◌∙◌, ap, sym, ℕ, zero, suc, ◌+◌, ◌<◌, ◌≤◌, true, false, cond, eqb, List, [], ◌∷◌, ◌++◌, take, length, Some, None, refl, arith, inl, inr}
+use Rattle.std.proofs.Common.{◌≡◌, ◌∙◌, ap, sym, ℕ, zero, suc, ◌+◌, ◌<◌, ◌≤◌, ◌==◌, ◌&&◌, not, Bool, true, false, cond, eqb, List, [], ◌∷◌, ◌++◌, take, length, Some, None, refl, arith, inl, inr}
 use Rattle.std.proofs.lemmas.Bool.{ne_eqb}
 use Rattle.std.proofs.lemmas.Bool.Decides.{eqb_tells}
-use Rattle.std.proofs.lemmas.List.{append-nil, append_assoc}
+use Rattle.std.proofs.lemmas.List.{append-nil, append_assoc, length-append}
 use Rattle.hs_entry.proofs.RankLemmas.{rank_more}
 use Rattle.hs_entry.specs.declared.entry.Entry.{Entry}
 use Rattle.hs_entry.specs.declared.entry.Entry.TheVariants as kind
@@ -67,6 +67,9 @@ none_beyond n (x ∷ es) (suc i) g is =
     let low = none_beyond (n + 1) es i g.2 (ap (λ j. numbered_entry es j) (sym k) ∙ sym (ap (λ b. cond b (Some x.1) (numbered_entry es (n + suc i + 1))) no) ∙ is) in
     omega (arith, low)
 
+pub none_past : (es : Numbered) (i : ℕ) → IsNumbered es → numbered_entry es (i + 1) ≡ None → length es ≤ i
+none_past es i g is = let k : i + 1 ≡ 0 + i + 1 = omega arith in none_beyond 0 es i g (ap (λ j. numbered_entry es j) (sym k) ∙ is)
+
 -- ---- the number of the last entry is their count
 
 plain_number : (r : Rank) (n : ℕ) (e : Entry) → is_of_base e ≡ false → (rank_after r n e).number ≡ n
@@ -105,10 +108,11 @@ pub record IsLoading (tells : Type 0) (name : List ℕ → Address) (start : Cat
   pub catalogue_is : catalogue ≡ apply_all name start list
   pub rank_is : rank ≡ rank_of list
   pub told : tells → (whole : Numbered) → is_whole whole → list ≡ take count whole
+  pub counted : length list ≡ count
 
 pub none_loaded : (tells : Type 0) (name : List ℕ → Address) (start : Catalogue) (is_whole : Numbered → Type 0) → IsLoading tells name start is_whole 0 start (record { view = 0; number = 0 })
 unfolding rank_of
-none_loaded tells name start is_whole = record { list = []; catalogue_is = refl; rank_is = refl; told = λ told whole is. refl }
+none_loaded tells name start is_whole = record { list = []; catalogue_is = refl; rank_is = refl; told = λ told whole is. refl; counted = refl }
 
 pub one_loaded : (tells : Type 0) (name : List ℕ → Address) (start : Catalogue) (is_whole : Numbered → Type 0) (i : ℕ) (old new : Catalogue) (rank next : Rank) (e : Entry)
     → IsLoading tells name start is_whole i old rank → new ≡ (apply (i + 1) e (named name e) old).catalogue → next ≡ rank_after rank (i + 1) e
@@ -118,13 +122,19 @@ one_loaded tells name start is_whole i old new rank next e before took after fou
   catalogue_is = took ∙ ap (λ c. (apply (i + 1) e (named name e) c).catalogue) before.catalogue_is ∙ sym (apply_more name start before.list (i + 1) e);
   rank_is = after ∙ ap (λ r. rank_after r (i + 1) e) before.rank_is ∙ sym (rank_more before.list (i + 1) e);
   told = λ told whole is. let f = found told whole is in ap (λ es. es ++ (i + 1, e) ∷ []) (before.told told whole is) ∙ sym (next_is whole i e f.0 f.1);
+  counted = length-append before.list ((i + 1, e) ∷ []) ∙ ap (λ n. n + 1) before.counted;
 }
+
+-- where nothing was to be read there is nothing
+pub none_counted : (list : Numbered) → length list ≤ 0 → list ≡ []
+none_counted [] low = refl
+none_counted (x ∷ xs) low = absurd (omega (arith, low))
 
 -- a view tells how many they are
 pub view_count : (v : Viewing) (seen : Side → List ℕ) (whole : Numbered) → HasView v seen whole → v.rank.number ≡ length whole
 view_count v seen whole has = ap (λ (r : Rank). r.number) has.rank ∙ count_is whole has.numbered
 
-take_all_of : {A : Type 0} (xs : List A) (n : ℕ) → length xs ≤ n → take n xs ≡ xs
+pub take_all_of : {A : Type 0} (xs : List A) (n : ℕ) → length xs ≤ n → take n xs ≡ xs
 take_all_of [] zero h = refl
 take_all_of [] (suc n) h = refl
 take_all_of (x ∷ xs) zero h = absurd (omega (arith, h))
@@ -140,3 +150,24 @@ none_wanting v seen whole i has low none =
     let k : i + 1 ≡ 0 + i + 1 = omega arith in
     let beyond = none_beyond 0 whole i has.numbered (ap (λ j. numbered_entry whole j) (sym k) ∙ none) in
     omega (arith, c, low, beyond)
+
+-- ranks that are told to differ
+pub ranks_differ : (a b : Rank) (other : Bool) → other ≡ not ((a.view == b.view) && (a.number == b.number)) → other ≡ true → a ≡ b → ⊥
+ranks_differ a b other is differ same =
+    let v : (a.view == b.view) ≡ true = ap (λ n. a.view == n) (sym (ap (λ (r : Rank). r.view) same)) ∙ same_number a.view in
+    let n : (a.number == b.number) ≡ true = ap (λ n. a.number == n) (sym (ap (λ (r : Rank). r.number) same)) ∙ same_number a.number in
+    no_truth (sym differ ∙ is ∙ ap (λ (x : Bool). not (x && (a.number == b.number))) v ∙ ap (λ (x : Bool). not (true && x)) n)
+  where
+    no_truth : true ≡ false → ⊥
+    no_truth e = cc e
+
+-- or not to differ
+pub numbers_same : (a b : Rank) (other : Bool) → other ≡ not ((a.view == b.view) && (a.number == b.number)) → other ≡ false → a.number ≡ b.number
+numbers_same a b other is same = elim (eqb_tells a.number b.number) [
+  | inl e ↦ e.1
+  | inr apart ↦ absurd (differ (a.view == b.view) (sym same ∙ is ∙ ap (λ x. not ((a.view == b.view) && x)) apart.0))
+]
+  where
+    differ : (x : Bool) → false ≡ not (x && false) → ⊥
+    differ true e = cc e
+    differ false e = cc e

@@ -202,6 +202,7 @@ view_of tells shape peer old new None seen is = tt
 view_of tells shape peer old new (Some viewing) seen is =
     record {
       stands = is.stands;
+      viewed = is.viewed;
       listed = λ told. subst (λ o. IsSome o) (sym (same told)) (is.listed told);
       has = λ told list e. is.has told list (sym (same told) ∙ e);
       accepted = λ told. ap (λ (s : Side → List ℕ). refusal_in shape peer s) (both told) ∙ is.accepted told;

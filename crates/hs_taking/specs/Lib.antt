@@ -1,7 +1,12 @@
+pub mod Ascending
+pub mod Copies
 pub mod Disks
+pub mod Evens
 pub mod Loaded
+pub mod Pairs
 pub mod Past
 pub mod Shares
+pub mod Slots
 pub mod Spared
 pub mod Store
 pub mod Viewed

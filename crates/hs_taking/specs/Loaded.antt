@@ -1,5 +1,5 @@
 -- What the list of a log amounts to.
-use Rattle.std.specs.Prelude.{◌≡◌, Bool, true, false}
+use Rattle.std.specs.Prelude.{◌≡◌, [], Bool, true, false}
 use Rattle.hs_entry.specs.Entries.{rank_of}
 use Rattle.hs_fold.specs.Shards.Setting.{Numbered}
 use Rattle.hs_peerlog.specs.declared.fault.LogFault.{LogFault}
@@ -13,6 +13,8 @@ pub record IsLoaded (tells : Type 0) (fold : Numbered → Catalogue) (is_whole :
   pub catalogue : loaded.catalogue ≡ fold list
   pub rank : loaded.rank ≡ rank_of list
   pub told : tells → (whole : Numbered) → is_whole whole → list ≡ whole
+  -- none of the least rank but the empty one
+  pub blank : loaded.rank.number ≡ 0 → list ≡ []
 
 -- whether memory ran out
 abbrev pub is_memory : LogFault → Bool

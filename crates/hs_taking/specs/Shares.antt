@@ -1,13 +1,11 @@
 -- What taking the logs of a store comes to, shard by shard.
-use Rattle.std.specs.List.{AllPairs}
 use Rattle.std.specs.Option.{option_map, option_map_or}
-use Rattle.std.specs.Prelude.{◌≡◌, ◌≤◌, ◌<◌, ◌&&◌, ◌∷◌, ℕ, true, not, List, [], length, flat_map, Contains, Option, Some, None, is_some, slice_index_or, unwrap_or}
+use Rattle.std.specs.Prelude.{◌≡◌, ◌≤◌, ◌<◌, ◌&&◌, ◌∷◌, ℕ, true, not, List, [], length, flat_map, Option, Some, None, is_some, slice_index_or, unwrap_or}
 use Rattle.hs_entry.specs.Entries.{rank_of}
 use Rattle.hs_fold.specs.Shards.Setting.{Numbered, Setting}
 use Rattle.hs_memory.specs.Forget.{apply_all}
 use Rattle.hs_peerlog.specs.Images.{Is, LeavesEach, LeavesOnly}
 use Rattle.hs_peerlog.specs.Lists.{HasLog, IsKept, Keeping}
-use Rattle.hs_peerlog.specs.Views.{Viewing}
 use Rattle.hs_ports.specs.Fault.{HasRisen}
 use Rattle.hs_shard.specs.Facts.{Catalogue, empty_catalogue}
 use Rattle.hs_side.specs.Current.{list_in}
@@ -113,12 +111,3 @@ pub record IsLostAt (tells : Type 0) (span : Span) (taken : Taken) (x : ℕ × �
   pub later : span.before ≤ x.1
   pub up_to : x.1 ≤ span.now
   pub disk : IsLostDisk tells span.before (seen_at span.old x.0) (seen_at span.new x.0) x.1
-
--- so many shards were taken, where these are the views of the disks: one for each that has a log
-pub record HasTaken (tells : Type 0) (set : Setting) (span : Span) (views : List (Option Viewing)) (taken : Taken) : Type 0 where
-  pub each : (peer : ℕ) → peer < length taken.shares → HasShare tells set span taken peer
-  pub viewed : (peer : ℕ) → peer < length taken.shares → is_some (share_at taken peer).took ≡ is_some (slice_index_or views peer None)
-  pub others : (peer : ℕ) → length taken.shares ≤ peer → (seen_at span.new peer ≡ seen_at span.old peer) × (log_at taken.logs peer ≡ None)
-  pub lost : (x : ℕ × ℕ) → Contains (all_lost taken) x → IsLostAt tells span taken x
-  pub once : AllPairs IsLater (all_lost taken)
-  pub all : (peer : ℕ) → peer < length taken.shares → is_some (share_at taken peer).lost ≡ true → (moment : ℕ) × Contains (all_lost taken) (peer, moment)

@@ -5,7 +5,7 @@ use Rattle.hs_limits.specs.declared.shape.Shape.{Shape}
 use Rattle.hs_peerlog.specs.declared.fault.LogFault.TheVariants as log
 use Rattle.hs_peerlog.specs.Images.{LeavesAll, LeavesOnly}
 use Rattle.hs_peerlog.specs.Opening.{refusal_in}
-use Rattle.hs_peerlog.specs.Views.{HasView, Viewing}
+use Rattle.hs_peerlog.specs.Views.{HasView, IsAsViewed, Viewing}
 use Rattle.hs_ports.specs.declared.disk.Side.{Side}
 use Rattle.hs_ports.specs.Disk.{settled}
 use Rattle.hs_ports.specs.Fault.{HasRisen}
@@ -25,6 +25,7 @@ pub record IsOnlyRead (tells : Type 0) (before now : ℕ) (old new : DiskSeen) :
 -- a view of the list that the disk reads as, of which all is on the medium
 pub record HasViewed (tells : Type 0) (shape : Shape) (peer : ℕ) (old new : DiskSeen) (viewing : Viewing) : Type 0 where
   pub stands : Stands tells viewing.log (new.size viewing.log.side) new.stands
+  pub viewed : IsAsViewed tells viewing (new.size viewing.log.side) new.stands
   pub listed : tells → IsSome (list_in old.stands.seen)
   pub has : tells → (list : Numbered) → list_in old.stands.seen ≡ Some list → HasView viewing new.stands.seen list
   pub accepted : tells → refusal_in shape peer old.stands.seen ≡ None
@@ -63,6 +64,7 @@ IsOther tells shape old new NoMemory = ⊤
 -- a view of a disk that was not written since: it is of what the disk reads as, and whatever a stop leaves has it
 pub record IsViewOf (tells : Type 0) (shape : Shape) (peer : ℕ) (disk : DiskSeen) (viewing : Viewing) : Type 0 where
   pub stands : Stands tells viewing.log (disk.size viewing.log.side) disk.stands
+  pub viewed : IsAsViewed tells viewing (disk.size viewing.log.side) disk.stands
   pub listed : tells → IsSome (list_in disk.stands.seen)
   pub has : tells → (list : Numbered) → list_in disk.stands.seen ≡ Some list → HasView viewing disk.stands.seen list
   pub accepted : tells → refusal_in shape peer disk.stands.seen ≡ None

@@ -2,9 +2,16 @@
 #![tactic(auto)]
 
 mod choosing;
+mod comparing;
+mod copies;
+mod evening;
 mod fault;
+mod leveling;
 mod loading;
+mod pair;
+mod readable;
 mod shares;
+mod slot;
 mod store;
 mod taking;
 mod viewing;

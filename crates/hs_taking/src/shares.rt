@@ -1,22 +1,21 @@
 //! Taking the logs of all shards.
-ghost use Rattle.std.specs.Prelude.{◌≡◌, ◌*◌, ◌<◌, ◌≤◌, ℕ, None, Some, is_some, length, map, replicate, slice_index_or, true, IfOk, IfSome, IsOkUnless, OnOk};
+ghost use Rattle.std.specs.Prelude.{◌≡◌, ◌*◌, ◌<◌, ◌≤◌, ℕ, None, Some, length, map, slice_index_or, IfOk, IfSome, IsOkUnless};
 ghost use Rattle.hs_limits.specs.Shape.{IsShape};
-ghost use Rattle.hs_memory.specs.Forget.{apply_all};
 ghost use Rattle.hs_shard.specs.Facts.{empty_catalogue};
-ghost use Rattle.hs_side.specs.Current.{list_in};
 ghost use Rattle.hs_taking.specs.declared.fault.TakeFault.TheVariants.{NoMemory};
-ghost use Rattle.hs_taking.specs.Disks.{AreReady, IsSlotReady, seen_as, seen_at};
-ghost use Rattle.hs_taking.specs.Loaded.{is_memory};
-ghost use Rattle.hs_taking.specs.Shares.{HasItsLog, HasTaken, IsLostDisk, IsShare, KeepsDisk, ReadsItsLog, StandsWithLog};
+ghost use Rattle.hs_taking.specs.Disks.{AreReady, seen_as, seen_at};
+ghost use Rattle.hs_taking.specs.Evens.{TakesAll, log_of, slot_of};
+ghost use Rattle.hs_taking.specs.Shares.{KeepsDisk};
 ghost use Rattle.hs_taking.specs.Viewed.{IsViewOf};
 
 use crate::TakeFault;
 use crate::choosing::{ranks_of, taken_peer};
-use crate::taking::{Recovered, take_log};
+use crate::slot::Slot;
+use crate::taking::take_shard;
 use hs_block::Addresser;
 use hs_entry::Rank;
 use hs_limits::{Limits, Shape};
-use hs_peerlog::{LogFault, PeerLog, PeerView};
+use hs_peerlog::{PeerLog, PeerView};
 use hs_ports::{Disk, Watch};
 use hs_shard::Catalogue;
 use std::alloc::{AllocError, Global};
@@ -43,12 +42,12 @@ pub struct Taking {
     pub shares: Vec<Share>,
 }
 
-/// Takes the log of each shard: of the views of its peers that of greatest rank. Of a shard with
-/// several copies no other peer has its log.
+/// Takes the log of each shard: of the views of its peers that of greatest rank. Each other list of
+/// the shard is found or made equal to it.
 pub(crate) fn take_all<A: Addresser, D: Disk>(
     alloc: Global,
     naming: &A,
-    views: &[Option<PeerView>],
+    views: Vec<Option<PeerView>>,
     disks: &mut [D],
     watch: &mut Watch,
     shape: Shape,
@@ -56,19 +55,16 @@ pub(crate) fn take_all<A: Addresser, D: Disk>(
 ) -> Result<Taking, TakeFault>
     requires shape { IsShape shape }
     requires count { length disks.old ≡ shape.shards * shape.copies }
-    requires views { length views.now ≡ shape.shards * shape.copies }
+    requires views { length views.items ≡ shape.shards * shape.copies }
     requires viewed { (peer : ℕ) → peer < shape.shards * shape.copies
-        → IfSome (slice_index_or views.now peer None) (IsViewOf D.tells shape peer
+        → IfSome (slice_index_or views.items peer None) (IsViewOf D.tells shape peer
         (seen_at (map (λ disk. seen_as (D.size disk) (D.stands disk) (D.faults disk)) disks.old)
         peer)) }
-    ensures taken { shape.copies ≡ 1 → IfOk result (λ taking. HasTaken D.tells
-        (record { name = A.name naming.now; limits = limits; shape = shape })
-        (record {
-          before = watch.old;
-          now = watch.new;
-          old = map (λ disk. seen_as (D.size disk) (D.stands disk) (D.faults disk)) disks.old;
-          new = map (λ disk. seen_as (D.size disk) (D.stands disk) (D.faults disk)) disks.new;
-        }) views.now (record { logs = taking.logs.items; shares = taking.shares.items })) }
+    ensures takes { IfOk result (λ taking. TakesAll D.tells
+        (record { name = A.name naming.now; limits = limits; shape = shape }) watch.old watch.new
+        (map (λ disk. seen_as (D.size disk) (D.stands disk) (D.faults disk)) disks.old)
+        (map (λ disk. seen_as (D.size disk) (D.stands disk) (D.faults disk)) disks.new)
+        views.items (record { logs = taking.logs.items; shares = taking.shares.items })) }
     ensures shares { IfOk result (λ taking. length taking.shares.items ≡ shape.shards) }
     ensures logs { IfOk result (λ taking. length taking.logs.items
         ≡ shape.shards * shape.copies) }
@@ -79,7 +75,7 @@ pub(crate) fn take_all<A: Addresser, D: Disk>(
         peer).faults
         ≤ (seen_at (map (λ disk. seen_as (D.size disk) (D.stands disk) (D.faults disk)) disks.new)
         peer).faults }
-    ensures keeps { (peer : ℕ) → peer < length disks.old → KeepsDisk D.tells watch.old watch.new
+    ensures keeps { shape.copies ≡ 1 → (peer : ℕ) → peer < length disks.old → KeepsDisk D.tells watch.old watch.new
         (seen_at (map (λ disk. seen_as (D.size disk) (D.stands disk) (D.faults disk)) disks.old)
         peer)
         (seen_at (map (λ disk. seen_as (D.size disk) (D.stands disk) (D.faults disk)) disks.new)
@@ -88,23 +84,13 @@ pub(crate) fn take_all<A: Addresser, D: Disk>(
     ensures count { length disks.new ≡ length disks.old }
     ensures ticks { watch.old ≤ watch.new }
 {
-    let ranks = ranks_of(alloc, views)?;
-    let mut logs = no_logs(alloc, shape.shards * shape.copies)?;
+    let ranks = ranks_of(alloc, views.as_slice())?;
+    let mut slots = slots_of(alloc, views)?;
     let mut shares = Vec::new(alloc);
     for shard in 0..shape.shards {
         let peer = taken_peer(ranks.as_slice(), shape, shard);
-        let place = usize::from(peer);
-        let share = take_peer(
-            alloc,
-            naming,
-            &views[place],
-            &mut logs[place],
-            &mut disks[place],
-            watch,
-            shape,
-            limits,
-            peer,
-            shard,
+        let share = take_shard(
+            alloc, naming, &mut slots, disks, watch, shape, limits, peer, shard,
         );
         let share = match share {
             Ok(share) => share,
@@ -114,110 +100,54 @@ pub(crate) fn take_all<A: Addresser, D: Disk>(
             return Err(TakeFault::NoMemory);
         }
     }
+    let logs = logs_of(alloc, slots)?;
     Ok(Taking { logs, shares })
 }
 
-/// The logs of so many peers, of which none is in use.
-#[tactic(auto, using(crate::proofs::DiskLemmas::replicate_more))]
-fn no_logs(alloc: Global, peers: u8) -> Result<Vec<Option<PeerLog>>, AllocError>
-    ensures { IfOk result (λ logs. logs.items ≡ replicate peers None) }
+/// What is kept of the disks of all peers, from their views.
+fn slots_of(alloc: Global, views: Vec<Option<PeerView>>) -> Result<Vec<Slot>, AllocError>
+    ensures { IfOk result (λ slots. slots.items ≡ map slot_of views.items) }
+{
+    let mut slots = Vec::new(alloc);
+    for view in views {
+        slots.push(slot_of(view))?;
+    }
+    Ok(slots)
+}
+
+/// The logs of all peers, where they are kept.
+fn logs_of(alloc: Global, slots: Vec<Slot>) -> Result<Vec<Option<PeerLog>>, AllocError>
+    ensures { IfOk result (λ logs. logs.items ≡ map log_of slots.items) }
 {
     let mut logs = Vec::new(alloc);
-    for _peer in 0..peers {
-        logs.push(None)?;
+    for slot in slots {
+        logs.push(log_of(slot))?;
     }
     Ok(logs)
 }
 
-/// Takes the log of a peer, where its disk has one. A disk that fails is out of use from then on.
-fn take_peer<A: Addresser, D: Disk>(
-    alloc: Global,
-    naming: &A,
-    view: &Option<PeerView>,
-    slot: &mut Option<PeerLog>,
-    disk: &mut D,
-    watch: &mut Watch,
-    shape: Shape,
-    limits: Limits,
-    peer: u8,
-    shard: u8,
-) -> Result<Share, TakeFault>
-    requires shape { IsShape shape }
-    requires shard { shard < shape.shards }
-    requires viewed { IfSome view.now (IsViewOf D.tells shape peer
-        (seen_as (D.size disk.old) (D.stands disk.old) (D.faults disk.old))) }
-    ensures share { IfOk result (IsShare D.tells
-        (apply_all (A.name naming.now) (empty_catalogue shape shard))
-        (list_in (D.stands disk.old).seen) slot.new) }
-    ensures shard { IfOk result (λ share. share.shard ≡ shard) }
-    ensures peer { IfOk result (λ share. share.peer ≡ peer) }
-    ensures viewed { IfOk result (λ share. is_some share.took ≡ is_some view.now) }
-    ensures ready { OnOk result (IsSlotReady D.tells slot.new (D.size disk.new)
-        (D.stands disk.new)) }
-    ensures log { OnOk result (HasItsLog D.tells watch.old
-        (seen_as (D.size disk.old) (D.stands disk.old) (D.faults disk.old))
-        (seen_as (D.size disk.new) (D.stands disk.new) (D.faults disk.new)) slot.new) }
-    ensures reads { OnOk result (ReadsItsLog D.tells
-        (seen_as (D.size disk.old) (D.stands disk.old) (D.faults disk.old))
-        (seen_as (D.size disk.new) (D.stands disk.new) (D.faults disk.new)) slot.new) }
-    ensures calm { OnOk result (StandsWithLog
-        (seen_as (D.size disk.old) (D.stands disk.old) (D.faults disk.old))
-        (seen_as (D.size disk.new) (D.stands disk.new) (D.faults disk.new)) slot.new) }
-    ensures moment { IfOk result (λ share. (moment : ℕ) → share.lost ≡ Some moment
-        → moment ≡ watch.new) }
-    ensures lost { IfOk result (λ share. is_some share.lost ≡ true → IsLostDisk D.tells watch.old
-        (seen_as (D.size disk.old) (D.stands disk.old) (D.faults disk.old))
-        (seen_as (D.size disk.new) (D.stands disk.new) (D.faults disk.new)) watch.new) }
-    ensures keeps { KeepsDisk D.tells watch.old watch.new
-        (seen_as (D.size disk.old) (D.stands disk.old) (D.faults disk.old))
-        (seen_as (D.size disk.new) (D.stands disk.new) (D.faults disk.new)) }
-    ensures only { IsOkUnless result NoMemory }
-    ensures ticks { watch.old ≤ watch.new }
+/// What is kept of a disk that was viewed, or was not.
+fn slot_of(view: Option<PeerView>) -> Slot
+    ensures { result ≡ slot_of view }
 {
-    *slot = None;
-    let Some(view) = view else {
-        return Ok(empty_share(alloc, shape, limits, peer, shard));
-    };
-    match take_log(alloc, naming, view, disk, watch, shape, limits, peer, shard) {
-        Ok(Recovered { log, loaded }) => {
-            *slot = Some(log);
-            Ok(Share {
-                shard,
-                peer,
-                catalogue: loaded.catalogue,
-                rank: loaded.rank,
-                took: Some(loaded.rank.number),
-                lost: None,
-            })
-        }
-        Err(fault) => {
-            if is_memory(fault) {
-                return Err(TakeFault::NoMemory);
-            }
-            Ok(Share {
-                shard,
-                peer,
-                catalogue: Catalogue::new(alloc, shape, shard, limits),
-                rank: Rank { view: 0, number: 0 },
-                took: Some(view.last()),
-                lost: Some(watch.now()),
-            })
-        }
+    match view {
+        Some(view) => Slot::Viewed(view),
+        None => Slot::Aside,
     }
 }
 
-/// Whether memory ran out.
-fn is_memory(fault: LogFault) -> bool
-    ensures { result ≡ is_memory fault }
+/// The log of a slot, where one is kept.
+fn log_of(slot: Slot) -> Option<PeerLog>
+    ensures { result ≡ log_of slot }
 {
-    match fault {
-        LogFault::NoMemory => true,
-        LogFault::Disk | LogFault::NotALog { .. } | LogFault::WrongShape { .. } => false,
+    match slot {
+        Slot::Kept(log) => Some(log),
+        Slot::Aside | Slot::Viewed(_) | Slot::Equal(_) => None,
     }
 }
 
 /// What a shard opens with where no peer of it has a log.
-fn empty_share(alloc: Global, shape: Shape, limits: Limits, peer: u8, shard: u8) -> Share
+pub(crate) fn empty_share(alloc: Global, shape: Shape, limits: Limits, peer: u8, shard: u8) -> Share
     requires shape { IsShape shape }
     requires shard { shard < shape.shards }
     ensures { result ≡ record {
@@ -236,5 +166,36 @@ fn empty_share(alloc: Global, shape: Shape, limits: Limits, peer: u8, shard: u8)
         rank: Rank { view: 0, number: 0 },
         took: None,
         lost: None,
+    }
+}
+
+/// What a shard opens with where its taken log was read, and no log of it is kept.
+pub(crate) fn lost_share(
+    alloc: Global,
+    shape: Shape,
+    limits: Limits,
+    peer: u8,
+    shard: u8,
+    took: u64,
+    lost: Option<u64>,
+) -> Share
+    requires shape { IsShape shape }
+    requires shard { shard < shape.shards }
+    ensures { result ≡ record {
+      shard = shard;
+      peer = peer;
+      catalogue = empty_catalogue shape shard;
+      rank = record { view = 0; number = 0 };
+      took = Some took;
+      lost = lost;
+    } }
+{
+    Share {
+        shard,
+        peer,
+        catalogue: Catalogue::new(alloc, shape, shard, limits),
+        rank: Rank { view: 0, number: 0 },
+        took: Some(took),
+        lost,
     }
 }

@@ -5,6 +5,7 @@ ghost use Rattle.hs_peerlog.specs.declared.fault.LogFault.TheVariants as log;
 ghost use Rattle.hs_peerlog.specs.Opening.{refusal_in};
 ghost use Rattle.hs_ports.specs.Fault.{HasRisen};
 ghost use Rattle.hs_side.specs.declared.header.Header.{Header};
+ghost use Rattle.hs_taking.specs.Copies.{HasEvened};
 ghost use Rattle.hs_taking.specs.Disks.{AreReady, seen_as, seen_at};
 ghost use Rattle.hs_taking.specs.Shares.{KeepsDisk};
 ghost use Rattle.hs_taking.specs.Spared.{SparesDisks};
@@ -20,9 +21,10 @@ use hs_ports::{Disk, Watch};
 use std::alloc::Global;
 
 /// Reads every disk of a store before it writes any, and takes for each shard the log of greatest
-/// rank: recovers it, and applies it whole. A disk of another store, or of another peer, ends it
-/// before anything is written: the first one whose count stands. A disk that fails, or is no log, is
-/// out of use, and so is each other one of a shard with several copies.
+/// rank: applies it whole, and makes each other list of the shard equal to it. A disk of another
+/// store, or of another peer, ends it before anything is written: the first one whose count stands. A
+/// disk that fails, or is no log, is out of use. Where the disk of a taken log fails, so is each one
+/// of its shard that was not yet found or made equal.
 pub fn read_store<A: Addresser, D: Disk>(
     alloc: Global,
     naming: &A,
@@ -33,6 +35,15 @@ pub fn read_store<A: Addresser, D: Disk>(
 ) -> Result<Taking, TakeFault>
     requires shape { IsShape shape }
     requires count { length disks.old ≡ shape.shards * shape.copies }
+    // What each shard opens with: the log of greatest rank, which every good peer of it has.
+    ensures evened { IfOk result (λ taking. HasEvened D.tells
+        (record { name = A.name naming.now; limits = limits; shape = shape })
+        (record {
+          before = watch.old;
+          now = watch.new;
+          old = map (λ disk. seen_as (D.size disk) (D.stands disk) (D.faults disk)) disks.old;
+          new = map (λ disk. seen_as (D.size disk) (D.stands disk) (D.faults disk)) disks.new;
+        }) (record { logs = taking.logs.items; shares = taking.shares.items })) }
     ensures read { shape.copies ≡ 1 → IfOk result (λ taking. HasRead D.tells
         (record { name = A.name naming.now; limits = limits; shape = shape })
         (record {
@@ -79,7 +90,7 @@ pub fn read_store<A: Addresser, D: Disk>(
         ≤ (seen_at (map (λ disk. seen_as (D.size disk) (D.stands disk) (D.faults disk)) disks.new)
         peer).faults }
     // Whatever it answers, the list of each disk is as it was, at each moment, and its past stays.
-    ensures keeps { (peer : ℕ) → peer < length disks.old → KeepsDisk D.tells watch.old watch.new
+    ensures keeps { shape.copies ≡ 1 → (peer : ℕ) → peer < length disks.old → KeepsDisk D.tells watch.old watch.new
         (seen_at (map (λ disk. seen_as (D.size disk) (D.stands disk) (D.faults disk)) disks.old)
         peer)
         (seen_at (map (λ disk. seen_as (D.size disk) (D.stands disk) (D.faults disk)) disks.new)
@@ -91,5 +102,5 @@ pub fn read_store<A: Addresser, D: Disk>(
         Ok(views) => views,
         Err(fault) => return Err(fault),
     };
-    take_all(alloc, naming, views.as_slice(), disks, watch, shape, limits)
+    take_all(alloc, naming, views, disks, watch, shape, limits)
 }

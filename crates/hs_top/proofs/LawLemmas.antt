@@ -26,7 +26,7 @@ use Rattle.hs_limits.specs.Shape.{IsShape}
 use Rattle.hs_ports.specs.Fault.{HasRisen}
 use Rattle.hs_ports.specs.Objects.{faults_at}
 use Rattle.hs_promise.specs.Answers.{Answers, BeganNothing, IsEntry}
-use Rattle.hs_promise.specs.Causes.{Cause, FullCause}
+use Rattle.hs_promise.specs.Causes.{Cause, CauseButLoss, FullCause}
 use Rattle.hs_promise.specs.Completes.{EndsWell, HasPrompt, MayEndWell, SettlesEach}
 use Rattle.hs_promise.specs.declared.status.Status.TheVariants as status
 use Rattle.hs_promise.specs.Deletes.{Deletes}
@@ -76,6 +76,9 @@ pub record Laws : Type 0 where
   pub ordered : (S : Script) (r : Ran) (how : Option Story) → client_op (S.commands 0) ≡ None → WentAs S r how → IsOrdered S.commands r.journal
   pub none_good : (S : Script) (r : Ran) (how : Option Story) → WentAs S r how → IsShape S.set.shape → IfSome how (FailsInOpening r) → r.course ≡ [] → NoneGoodCause S r
   pub prompt : (S : Script) (r : Ran) (how : Option Story) → client_op (S.commands 0) ≡ None → WentAs S r how → IfSome how (FailsInText S r) → (line : ℕ) → HasPrompt S r line
+  pub any_cause : (S : Script) (r : Ran) (how : Option Story) → WentAs S r how → (r.ending ≡ status.ReadFault → HasRisen r.old.source_faults r.new.source_faults)
+      → (r.ending ≡ status.WriteFault → HasRisen r.old.sink_faults r.new.sink_faults)
+      → ((peer : ℕ) (found : Header) → r.ending ≡ status.WrongShape peer found → peer < peer_count S.set.shape) → CauseButLoss S r r.ending
   pub cause : (S : Script) (r : Ran) (how : Option Story) → S.set.shape.copies ≡ 1 → WentAs S r how → (r.ending ≡ status.ReadFault → HasRisen r.old.source_faults r.new.source_faults)
       → (r.ending ≡ status.WriteFault → HasRisen r.old.sink_faults r.new.sink_faults)
       → ((peer : ℕ) (found : Header) → r.ending ≡ status.WrongShape peer found → peer < peer_count S.set.shape) → Cause S r r.ending

@@ -78,4 +78,4 @@ module _ (laws : Laws) (S : Script) (r : Ran) (story : Story) (on : OnDisks S r)
 
   pub failed_by : (tells : Type 0) → tells → RunsOnDisks tells S r story
       → (disk : ℕ) → DiskRose r (failures true disk (first_core S.set story.found) (all_events story) + loss_count story disk) disk
-  failed_by tells t runs disk = runs.failed t going stored_by disk
+  failed_by tells t runs disk = runs.failed on.one t going stored_by disk

@@ -33,21 +33,11 @@ use Rattle.hs_top.proofs.LawLemmas.{Laws}
 use Rattle.hs_top.proofs.NoteLemmas.{WhyAside, failed_by, never_aside, why_aside}
 use Rattle.hs_top.proofs.SettleLemmas.{no_line, settles_none}
 use Rattle.hs_top.proofs.PastLemmas.{never_past}
-use Rattle.hs_top.specs.Calls.{Promised, PromisedWhereTold}
+use Rattle.hs_top.specs.Calls.{Promised, PromisedAlone, PromisedWhereTold}
 
 module _ (laws : Laws) (tells : Type 0) (S : Script) (r : Ran) (names : GivesAddresses S.set.name) (asked : r.ending ≡ status.Usage → ⊥) (cluster : IsOfCluster tells S r) where
   nobody : client_op (S.commands 0) ≡ None
   nobody = ap (λ (c : Option Command). client_op c) cluster.nobody
-
-  on : OnDisks S r
-  on = record {
-    shape = cluster.shape;
-    one = cluster.one;
-    names = names;
-    nobody = nobody;
-    disks = cluster.count;
-    left = cluster.served.handed_back ∙ cluster.count;
-  }
 
   -- ---- what stands whatever the objects tell
 
@@ -70,117 +60,140 @@ module _ (laws : Laws) (tells : Type 0) (S : Script) (r : Ran) (names : GivesAdd
     in_time = cluster.served.prints.in_time;
   }
 
-  cause : Cause S r r.ending
-  cause = laws.cause S r cluster.how cluster.one cluster.went cluster.served.causes.read cluster.served.causes.write cluster.served.within
+  -- ---- with one copy a shard
 
-  good_by : (how : Option Story) → WentAs S r how → IsGoodUntold S r
-  good_by None went past m peer during low untold none = absurd (never_past r went past)
-  good_by (Some story) went past m peer during low untold none =
-      let start : starts_good story.found peer ≡ true = laws.start_good S r story cluster.one went past peer low in
-      let count : S.set.shape.shards * S.set.shape.copies ≡ S.set.shape.shards = ap (λ n. S.set.shape.shards * n) cluster.one ∙ omega arith in
-      let within : peer < S.set.shape.shards * S.set.shape.copies = low in
-      laws.stay_good S r story cluster.one went past m peer low (opens_good S r story went.found cluster.one m peer during.above (omega (arith, within, count)) start) untold none
-
-  -- ---- what stands where the disks tell
-
-  module _ (told : tells) where
-    shown_by : (how : Option Story) → WentAs S r how → IfSome how (HasReadDisks S r) → IfSome how (RunsOnDisks tells S r) → (how ≡ None → IsUnopened tells r) → ShownAs S r how
-    shown_by None went read runs unopened =
-        let u : IsUnopened tells r = unopened refl in
-        unopened_of tells S r on u.span told u.before u.old.stands u.new.stands went (λ wanting. u.taken)
-    shown_by (Some story) went read runs unopened =
-        shown_of tells S r story on runs.span told runs.before runs.now runs.old.stands runs.new.stands runs.shown went read.read
-
-    shown : ShownAs S r cluster.how
-    shown = shown_by cluster.how cluster.went (cluster.told told) cluster.runs cluster.unopened
-
-    run : IsToldRun S r
-    run = record { on = on; how = cluster.how; shown = shown }
-
-    deletes_by : (how : Option Story) → WentAs S r how → ShownAs S r how → IsSoundAtEntry S r → Deletes S (entry_store S r) r
-    deletes_by None went so sound = laws.deletes_never S r went
-    deletes_by (Some story) went so sound = go (first_core S.set story.found).ended refl
-      where
-        go : (o : Option CoreFault) → (first_core S.set story.found).ended ≡ o → Deletes S (entry_store S r) r
-        go None going = laws.deletes S r story went (laws.opens S r story on so sound going) (laws.stands S r story on so sound going)
-        go (Some fault) ended = laws.deletes_ended S r story fault went ended
-
-    aside_by : (how : Option Story) → WentAs S r how → ShownAs S r how → (p : ℕ) → p < length r.old.disks → is_aside S r p ≡ true → WhyAside r p
-    aside_by None went so p low is = never_aside S r went p is
-    aside_by (Some story) went so p low is = why_aside S r story on so p low is
-
-    notes_by : (how : Option Story) → WentAs S r how → IfSome how (HasReadDisks S r) → IfSome how (RunsOnDisks tells S r) → ShownAs S r how → NotesCause S r
-    notes_by None went read runs so = laws.notes_never S r went cluster.served.counts.disks
-    notes_by (Some story) went read runs so =
-        laws.notes S r story cluster.one went read.read (runs.lost told) (λ going. failed_by laws S r story on so going tells told runs)
-
-    -- ---- what each settle has done
-
-    settles_by : (how : Option Story) → WentAs S r how → ShownAs S r how → IsSoundAtEntry S r → SettlesEach S (entry_store S r) r
-    settles_by None went so sound = settles_none S (entry_store S r) r cluster.nobody went.line
-    settles_by (Some story) went so sound = go (first_core S.set story.found).ended refl
-      where
-        go : (o : Option CoreFault) → (first_core S.set story.found).ended ≡ o → SettlesEach S (entry_store S r) r
-        go None going = laws.settles S r story went cluster.nobody (laws.opens S r story on so sound going) (laws.stands S r story on so sound going) (laws.answers S r run sound)
-        go (Some fault) ended = settles_none S (entry_store S r) r cluster.nobody (no_line S r story fault went ended)
-
-    -- ---- how a run without faults ends
-
-    whole_by : (how : Option Story) → WentAs S r how → ShownAs S r how → IsSoundAtEntry S r → Deletes S (entry_store S r) (whole_of r)
-    whole_by None went so sound = laws.whole_never S r went
-    whole_by (Some story) went so sound = go (first_core S.set story.found).ended refl
-      where
-        go : (o : Option CoreFault) → (first_core S.set story.found).ended ≡ o → Deletes S (entry_store S r) (whole_of r)
-        go None going = laws.whole S r story went (laws.opens S r story on so sound going) (laws.stands S r story on so sound going)
-        go (Some fault) ended = laws.whole_ended S r story fault went ended
-
-    led_by : (how : Option Story) → WentAs S r how → ShownAs S r how → IsSoundAtEntry S r → AreLed (r.journal ++ r.refused)
-    led_by None went so sound = laws.led_never r went
-    led_by (Some story) went so sound = go (first_core S.set story.found).ended refl
-      where
-        go : (o : Option CoreFault) → (first_core S.set story.found).ended ≡ o → AreLed (r.journal ++ r.refused)
-        go None going = laws.led S r story went (laws.opens S r story on so sound going) (laws.stands S r story on so sound going)
-        go (Some fault) ended = laws.led_ended S r story fault went ended
-
-    its_cause : HasItsCause S r
-    its_cause = record { cause = cause; asked = asked; shape = (cluster.served.shape told).only }
-
-    tells_so : IsSoundAtEntry S r → TellsAsPromised S r
-    tells_so sound = record {
-      valid = laws.valid S r sound;
-      entries = laws.entries S r cluster.how cluster.went;
-      notes = notes_by cluster.how cluster.went (cluster.told told) cluster.runs shown;
-      full = laws.full S r run sound;
-      deletes = whole_by cluster.how cluster.went shown sound;
-      led = led_by cluster.how cluster.went shown sound;
+  module _ (one : S.set.shape.copies ≡ 1) where
+    on : OnDisks S r
+    on = record {
+      shape = cluster.shape;
+      one = one;
+      names = names;
+      nobody = nobody;
+      disks = disks;
+      left = cluster.served.handed_back ∙ disks;
     }
+      where
+        disks : length r.old.disks ≡ S.set.shape.shards
+        disks = cluster.count ∙ ap (λ n. S.set.shape.shards * n) one ∙ omega arith
 
-    ends_by : (old new : Option (List ℕ)) → IfSome old (λ script. (n : ℕ) → S.commands n ≡ commands script n) → IfSome old (λ script. IfSome new (Ends r script))
-        → (IsSome old → IsSome new) → IsSoundAtEntry S r → IfSome old (λ script. MayEndWell S script r → EndsWell S r)
-    ends_by None new reads ends left sound = tt
-    ends_by (Some script) None reads ends left sound = absurd (false≢true (left refl))
-    ends_by (Some script) (Some rest) reads ends left sound = λ may. laws.ends_well S r script rest reads its_cause ends (tells_so sound) may
+    cause : Cause S r r.ending
+    cause = laws.cause S r cluster.how one cluster.went cluster.served.causes.read cluster.served.causes.write cluster.served.within
 
-    -- ---- all of it
+    good_by : (how : Option Story) → WentAs S r how → IsGoodUntold S r
+    good_by None went past m peer during low untold none = absurd (never_past r went past)
+    good_by (Some story) went past m peer during low untold none =
+        let start : starts_good story.found peer ≡ true = laws.start_good S r story one went past peer low in
+        let count : S.set.shape.shards * S.set.shape.copies ≡ S.set.shape.shards = ap (λ n. S.set.shape.shards * n) one ∙ omega arith in
+        let within : peer < S.set.shape.shards * S.set.shape.copies = low in
+        laws.stay_good S r story one went past m peer low (opens_good S r story went.found one m peer during.above (omega (arith, within, count)) start) untold none
 
-    clauses : IsSoundAtEntry S r → Clauses S r
-    clauses sound = record {
-      answers = laws.answers S r run sound;
-      full = laws.full S r run sound;
-      keeps = laws.keeps S r run sound;
-      deletes = deletes_by cluster.how cluster.went shown sound;
-      settles = settles_by cluster.how cluster.went shown sound;
-      ends = ends_by r.old.left r.new.left cluster.script cluster.served.ends cluster.served.left sound;
-    }
+    -- ---- what stands where the disks tell
 
-    where_told : PromisedWhereTold S r
-    where_told = record {
-      clauses = clauses;
-      stops = λ may. laws.stops S r run may;
-      past = cluster.served.past told;
-      shape = cluster.served.shape told;
-      aside = aside_by cluster.how cluster.went shown;
-      notes = notes_by cluster.how cluster.went (cluster.told told) cluster.runs shown;
+    module _ (told : tells) where
+      shown_by : (how : Option Story) → WentAs S r how → IfSome how (HasReadDisks S r) → IfSome how (RunsOnDisks tells S r) → (how ≡ None → IsUnopened tells r) → ShownAs S r how
+      shown_by None went read runs unopened =
+          let u : IsUnopened tells r = unopened refl in
+          unopened_of tells S r on u.span told u.before u.old.stands u.new.stands went (λ wanting. u.taken)
+      shown_by (Some story) went read runs unopened =
+          shown_of tells S r story on runs.span told runs.before runs.now runs.old.stands runs.new.stands runs.shown went read.read
+
+      shown : ShownAs S r cluster.how
+      shown = shown_by cluster.how cluster.went (cluster.told told) cluster.runs (cluster.unopened one)
+
+      run : IsToldRun S r
+      run = record { on = on; how = cluster.how; shown = shown }
+
+      deletes_by : (how : Option Story) → WentAs S r how → ShownAs S r how → IsSoundAtEntry S r → Deletes S (entry_store S r) r
+      deletes_by None went so sound = laws.deletes_never S r went
+      deletes_by (Some story) went so sound = go (first_core S.set story.found).ended refl
+        where
+          go : (o : Option CoreFault) → (first_core S.set story.found).ended ≡ o → Deletes S (entry_store S r) r
+          go None going = laws.deletes S r story went (laws.opens S r story on so sound going) (laws.stands S r story on so sound going)
+          go (Some fault) ended = laws.deletes_ended S r story fault went ended
+
+      aside_by : (how : Option Story) → WentAs S r how → ShownAs S r how → (p : ℕ) → p < length r.old.disks → is_aside S r p ≡ true → WhyAside r p
+      aside_by None went so p low is = never_aside S r went p is
+      aside_by (Some story) went so p low is = why_aside S r story on so p low is
+
+      notes_by : (how : Option Story) → WentAs S r how → IfSome how (HasReadDisks S r) → IfSome how (RunsOnDisks tells S r) → ShownAs S r how → NotesCause S r
+      notes_by None went read runs so = laws.notes_never S r went cluster.served.counts.disks
+      notes_by (Some story) went read runs so =
+          laws.notes S r story one went read.read (runs.lost told) (λ going. failed_by laws S r story on so going tells told runs)
+
+      -- ---- what each settle has done
+
+      settles_by : (how : Option Story) → WentAs S r how → ShownAs S r how → IsSoundAtEntry S r → SettlesEach S (entry_store S r) r
+      settles_by None went so sound = settles_none S (entry_store S r) r cluster.nobody went.line
+      settles_by (Some story) went so sound = go (first_core S.set story.found).ended refl
+        where
+          go : (o : Option CoreFault) → (first_core S.set story.found).ended ≡ o → SettlesEach S (entry_store S r) r
+          go None going = laws.settles S r story went cluster.nobody (laws.opens S r story on so sound going) (laws.stands S r story on so sound going) (laws.answers S r run sound)
+          go (Some fault) ended = settles_none S (entry_store S r) r cluster.nobody (no_line S r story fault went ended)
+
+      -- ---- how a run without faults ends
+
+      whole_by : (how : Option Story) → WentAs S r how → ShownAs S r how → IsSoundAtEntry S r → Deletes S (entry_store S r) (whole_of r)
+      whole_by None went so sound = laws.whole_never S r went
+      whole_by (Some story) went so sound = go (first_core S.set story.found).ended refl
+        where
+          go : (o : Option CoreFault) → (first_core S.set story.found).ended ≡ o → Deletes S (entry_store S r) (whole_of r)
+          go None going = laws.whole S r story went (laws.opens S r story on so sound going) (laws.stands S r story on so sound going)
+          go (Some fault) ended = laws.whole_ended S r story fault went ended
+
+      led_by : (how : Option Story) → WentAs S r how → ShownAs S r how → IsSoundAtEntry S r → AreLed (r.journal ++ r.refused)
+      led_by None went so sound = laws.led_never r went
+      led_by (Some story) went so sound = go (first_core S.set story.found).ended refl
+        where
+          go : (o : Option CoreFault) → (first_core S.set story.found).ended ≡ o → AreLed (r.journal ++ r.refused)
+          go None going = laws.led S r story went (laws.opens S r story on so sound going) (laws.stands S r story on so sound going)
+          go (Some fault) ended = laws.led_ended S r story fault went ended
+
+      its_cause : HasItsCause S r
+      its_cause = record { cause = cause; asked = asked; shape = (cluster.served.shape told).only }
+
+      tells_so : IsSoundAtEntry S r → TellsAsPromised S r
+      tells_so sound = record {
+        valid = laws.valid S r sound;
+        entries = laws.entries S r cluster.how cluster.went;
+        notes = notes_by cluster.how cluster.went (cluster.told told) cluster.runs shown;
+        full = laws.full S r run sound;
+        deletes = whole_by cluster.how cluster.went shown sound;
+        led = led_by cluster.how cluster.went shown sound;
+      }
+
+      ends_by : (old new : Option (List ℕ)) → IfSome old (λ script. (n : ℕ) → S.commands n ≡ commands script n) → IfSome old (λ script. IfSome new (Ends r script))
+          → (IsSome old → IsSome new) → IsSoundAtEntry S r → IfSome old (λ script. MayEndWell S script r → EndsWell S r)
+      ends_by None new reads ends left sound = tt
+      ends_by (Some script) None reads ends left sound = absurd (false≢true (left refl))
+      ends_by (Some script) (Some rest) reads ends left sound = λ may. laws.ends_well S r script rest reads its_cause ends (tells_so sound) may
+
+      -- ---- all of it
+
+      clauses : IsSoundAtEntry S r → Clauses S r
+      clauses sound = record {
+        answers = laws.answers S r run sound;
+        full = laws.full S r run sound;
+        keeps = laws.keeps S r run sound;
+        deletes = deletes_by cluster.how cluster.went shown sound;
+        settles = settles_by cluster.how cluster.went shown sound;
+        ends = ends_by r.old.left r.new.left cluster.script cluster.served.ends cluster.served.left sound;
+      }
+
+      where_told : PromisedWhereTold S r
+      where_told = record {
+        clauses = clauses;
+        stops = λ may. laws.stops S r run may;
+        past = cluster.served.past one told;
+        aside = aside_by cluster.how cluster.went shown;
+        notes = notes_by cluster.how cluster.went (cluster.told told) cluster.runs shown;
+      }
+
+    promised_alone : PromisedAlone tells S r
+    promised_alone = record {
+      cause = cause;
+      good = good_by cluster.how cluster.went;
+      notes_end = laws.notes_end S r cluster.how one cluster.went;
+      told = where_told;
     }
 
   pub promised_of : Promised tells S r
@@ -192,12 +205,11 @@ module _ (laws : Laws) (tells : Type 0) (S : Script) (r : Ran) (names : GivesAdd
     time = cluster.served.time;
     counts = cluster.served.counts;
     no_load = cluster.served.no_load;
-    cause = cause;
+    cause = laws.any_cause S r cluster.how cluster.went cluster.served.causes.read cluster.served.causes.write cluster.served.within;
     calm = cluster.served.calm;
-    good = good_by cluster.how cluster.went;
-    notes_end = laws.notes_end S r cluster.how cluster.one cluster.went;
     ordered = laws.ordered S r cluster.how nobody cluster.went;
     none_good = λ none. laws.none_good S r cluster.how cluster.went cluster.shape in_opening none;
     ends = cluster.served.ends;
-    told = where_told;
+    shape = cluster.served.shape;
+    alone = promised_alone;
   }

@@ -10,7 +10,7 @@ use Rattle.hs_ports.specs.Moments.{disk_at}
 use Rattle.hs_ports.specs.Objects.{CountsStand, KeepsPast, KeepsTime}
 use Rattle.hs_promise.specs.Answers.{Prints}
 use Rattle.hs_promise.specs.Calm.{EndsCalm}
-use Rattle.hs_promise.specs.Causes.{Cause}
+use Rattle.hs_promise.specs.Causes.{Cause, CauseButLoss}
 use Rattle.hs_promise.specs.Completes.{HasPrompt}
 use Rattle.hs_promise.specs.Ends.{Ends}
 use Rattle.hs_promise.specs.Entry.{IsSoundAtEntry, MayStop, entry_store, is_aside}
@@ -29,16 +29,22 @@ use Rattle.hs_top.specs.Words.{served_on}
 
 -- ---- what is promised of a run: `Promise` of hs_promise, and what stands beside it of any run
 
--- over disks that tell their contents; a peer is set aside only where its disk failed, or has no log
+-- with one copy a shard, over disks that tell their contents; a peer is set aside only where its disk failed, or has no log
 pub record PromisedWhereTold (S : Script) (r : Ran) : Type 0 where
   pub clauses : IsSoundAtEntry S r → Clauses S r
   pub stops : MayStop S r → Stops S (entry_store S r) r
   pub past : KeepsPast r.old r.new
-  pub shape : ShapeCause S r
   pub aside : (peer : ℕ) → peer < length r.old.disks → is_aside S r peer ≡ true → DiskRose r 1 peer ⊎ (list_in (disk_at r.old.disks peer).seen ≡ None)
   pub notes : NotesCause S r
 
--- all of it: what stands whatever the objects tell, and what stands where they do
+-- so far with one copy a shard: why one is lost, what notes tell, and how long a peer is good
+pub record PromisedAlone (tells : Type 0) (S : Script) (r : Ran) : Type 0 where
+  pub cause : Cause S r r.ending
+  pub good : IsGoodUntold S r
+  pub notes_end : NotesEnd r
+  pub told : tells → PromisedWhereTold S r
+
+-- all of it: what stands whatever the objects tell, and where the disks do, of any number of copies; and what stands of one
 pub record Promised (tells : Type 0) (S : Script) (r : Ran) : Type 0 where
   pub script : AreOfScript S r
   pub handed_back : length r.new.disks ≡ length r.old.disks
@@ -47,14 +53,13 @@ pub record Promised (tells : Type 0) (S : Script) (r : Ran) : Type 0 where
   pub time : KeepsTime r.old r.new
   pub counts : CountsStand r.old r.new
   pub no_load : IsNoLoad r
-  pub cause : Cause S r r.ending
+  pub cause : CauseButLoss S r r.ending
   pub calm : EndsCalm S r
-  pub good : IsGoodUntold S r
-  pub notes_end : NotesEnd r
   pub ordered : IsOrdered S.commands r.journal
   pub none_good : r.course ≡ [] → NoneGoodCause S r
   pub ends : IfSome r.old.left (λ script. IfSome r.new.left (Ends r script))
-  pub told : tells → PromisedWhereTold S r
+  pub shape : tells → ShapeCause S r
+  pub alone : S.set.shape.copies ≡ 1 → PromisedAlone tells S r
 
 -- ---- what a call promises
 

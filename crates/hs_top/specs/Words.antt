@@ -1,21 +1,21 @@
 -- What the words of the command line ask for.
 use Rattle.std.specs.Option.{option_and_then, option_map}
-use Rattle.std.specs.Prelude.{Bool, List, None, Option, Some, [], bytes_eq, codes, false, if◌then◌else◌, true, ℕ, ◌==◌, ◌∷◌}
+use Rattle.std.specs.Prelude.{Bool, List, None, Option, Some, [], bytes_eq, codes, false, if◌then◌else◌, true, ℕ, ◌∷◌}
 use Rattle.hs_limits.specs.declared.shape.Shape.{Shape}
 use Rattle.hs_script.specs.CommandLine.{invocation_of, invocation_on}
 use Rattle.hs_script.specs.declared.invocation.Invocation.{Invocation}
 use Rattle.hs_script.specs.declared.invocation.Task.{Task}
 use Rattle.hs_script.specs.declared.invocation.Task.TheVariants as task
 
--- what is served so far: a script on one copy a shard without --visits and --cache, an audit, a scrub
-abbrev pub is_served : Shape → Task → Bool
-is_served shape (task.Script limits None None) = shape.copies == 1
-is_served shape task.Audit = true
-is_served shape (task.Scrub from) = true
-is_served shape other = false
+-- what is served so far: a script without --visits and --cache, an audit, a scrub
+abbrev pub is_served : Task → Bool
+is_served (task.Script limits None None) = true
+is_served task.Audit = true
+is_served (task.Scrub from) = true
+is_served other = false
 
 abbrev pub where_served : Invocation → Option Invocation
-where_served asked = if is_served asked.shape asked.task then Some asked else None
+where_served asked = if is_served asked.task then Some asked else None
 
 -- what they ask for, where it is served and is run on so many disks
 abbrev pub served_on : List (List ℕ) → ℕ → Option Invocation

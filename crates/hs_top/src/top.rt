@@ -30,7 +30,7 @@ use std::alloc::Global;
 use std::sync::Wait;
 use std::thread::Threads;
 
-/// Runs a script on a store of one copy a shard. The calls before it are laws.
+/// Runs a script on a store. The calls before it are laws.
 fn run_script<A: Addresser, S: Source, K: Sink, D: Disk>(
     alloc: Global,
     shape: Shape,
@@ -42,7 +42,6 @@ fn run_script<A: Addresser, S: Source, K: Sink, D: Disk>(
     watch: &mut Watch,
 ) -> Outcome
     requires shape { IsShape shape }
-    requires copies { shape.copies ≡ 1 }
     requires count { length disks.old ≡ shape.shards * shape.copies }
     ensures runs { (commands : ℕ → Option Command) × RunsSo D.tells
         (script_of (A.name naming.now) (record { shape = shape; limits = limits }) commands)
@@ -88,7 +87,7 @@ fn do_task<A: Addresser, S: Source, K: Sink, D: Disk>(
     watch: &mut Watch,
 ) -> Outcome
     requires shape { IsShape shape }
-    requires served { is_served shape task.now ≡ true }
+    requires served { is_served task.now ≡ true }
     requires task { IsTask shape task.now }
     requires count { length disks.old ≡ shape.shards * shape.copies }
     ensures does { Does D.tells (A.name naming.now) shape task.now
@@ -148,7 +147,7 @@ fn run_words<A: Addresser, S: Source, K: Sink, D: Disk + Drop>(
     }
 }
 
-/// Does every command but `load`, and waits for nobody. So far these are `script DIR G 1` with its
+/// Does every command but `load`, and waits for nobody. So far these are `script DIR G R` with its
 /// options, which runs the script that the source has on the disks of a store, one for each peer, and
 /// puts what is answered into the sink; `audit DIR G R`, which puts there what the logs of a store
 /// amount to; and `scrub DIR G R`, which puts there whether the copies of each shard agree, and with

@@ -14,7 +14,7 @@ pub fn shape_of(words: &[String]) -> Option<Shape>
     ensures { result ≡ shape_in (map (λ word. string_bytes word) words.now) }
 {
     let asked = invocation_of(words)?;
-    if is_served(asked.shape, &asked.task) {
+    if is_served(&asked.task) {
         Some(asked.shape)
     } else {
         None
@@ -26,10 +26,10 @@ pub(crate) fn served_on<'a>(words: &'a [String], disks: usize) -> Option<Invocat
     ensures exact { result ≡ served_on (map (λ word. string_bytes word) words.now) disks }
     ensures bounds { IfSome result IsInvocation }
     ensures count { IfSome result (λ asked. disks ≡ disks_of asked) }
-    ensures served { IfSome result (λ asked. is_served asked.shape asked.task ≡ true) }
+    ensures served { IfSome result (λ asked. is_served asked.task ≡ true) }
 {
     let asked = invocation_on(words, disks)?;
-    if is_served(asked.shape, &asked.task) {
+    if is_served(&asked.task) {
         Some(asked)
     } else {
         None
@@ -37,16 +37,17 @@ pub(crate) fn served_on<'a>(words: &'a [String], disks: usize) -> Option<Invocat
 }
 
 /// Whether what is asked for is served so far.
-fn is_served(shape: Shape, task: &Task<'_>) -> bool
-    ensures { result ≡ is_served shape task.now }
+fn is_served(task: &Task<'_>) -> bool
+    ensures { result ≡ is_served task.now }
 {
     match task {
         Task::Script {
             limits: _,
             visits: None,
             cache: None,
-        } => shape.copies == 1,
-        Task::Audit | Task::Scrub { .. } => true,
+        }
+        | Task::Audit
+        | Task::Scrub { .. } => true,
         Task::Script { .. }
         | Task::Load { .. }
         | Task::Store { .. }

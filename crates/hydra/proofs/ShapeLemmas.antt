@@ -3,7 +3,6 @@ use Rattle.std.proofs.Common.{◌≡◌, ◌∙◌, ℕ, ◌+◌, ◌*◌, ◌==
 use Rattle.std.proofs.lemmas.Bool.{eq-eqb}
 use Rattle.std.specs.Option.{option_and_then, option_map, option_map_or}
 use Rattle.std.specs.Prelude.{if◌then◌else◌}
-use Rattle.hs_limits.specs.declared.shape.Shape.{Shape}
 use Rattle.hs_script.specs.CommandLine.{disks_of, invocation_of, second_disks}
 use Rattle.hs_script.specs.declared.invocation.Invocation.{Invocation}
 use Rattle.hs_script.specs.declared.invocation.Task.{Task}
@@ -16,14 +15,14 @@ some_none : {X : Type 0} (x : X) → Some x ≡ None → ⊥
 some_none x is = absurd cc
 
 -- what is served is run on the disks of one store
-one_store : (shape : Shape) (t : Task) → is_served shape t ≡ true → second_disks t ≡ 0
-one_store shape (task.Script limits visits cache) is = refl
-one_store shape (task.Load seed writers files) is = refl
-one_store shape task.Audit is = refl
-one_store shape (task.Store key) is = refl
-one_store shape (task.Fetch key) is = refl
-one_store shape (task.Scrub from) is = refl
-one_store shape (task.Copy key dir second delete) is = absurd cc
+one_store : (t : Task) → is_served t ≡ true → second_disks t ≡ 0
+one_store (task.Script limits visits cache) is = refl
+one_store (task.Load seed writers files) is = refl
+one_store task.Audit is = refl
+one_store (task.Store key) is = refl
+one_store (task.Fetch key) is = refl
+one_store (task.Scrub from) is = refl
+one_store (task.Copy key dir second delete) is = absurd cc
 
 module _ (n : ℕ) (a : Invocation) where
   unshaped : (o : Option Invocation) → option_map (λ asked. asked.shape) o ≡ None → o ≡ None
@@ -34,9 +33,9 @@ module _ (n : ℕ) (a : Invocation) where
   no_fit true none = none
   no_fit false none = refl
 
-  shaped : (served : Bool) → is_served a.shape a.task ≡ served → n ≡ option_map_or (λ shape. shape.shards * shape.copies) (option_map (λ asked. asked.shape) (if served then Some a else None)) 0
+  shaped : (served : Bool) → is_served a.task ≡ served → n ≡ option_map_or (λ shape. shape.shards * shape.copies) (option_map (λ asked. asked.shape) (if served then Some a else None)) 0
       → ((n == disks_of a) ≡ true → (if served then Some a else None) ≡ None) → option_map (λ asked. asked.shape) (if served then Some a else None) ≡ None
-  shaped true is same none = absurd (some_none a (none (eq-eqb n (disks_of a) (omega (arith, same, one_store a.shape a.task is)))))
+  shaped true is same none = absurd (some_none a (none (eq-eqb n (disks_of a) (omega (arith, same, one_store a.task is)))))
   shaped false is same none = refl
 
   where_fit : (fits : Bool) → option_and_then where_served (if fits then Some a else None) ≡ None → fits ≡ true → where_served a ≡ None
@@ -60,7 +59,7 @@ no_run words n same none = go (invocation_of words) same none
         → option_and_then where_served (option_and_then (λ asked. if n == disks_of asked then Some asked else None) o) ≡ None
         → option_map (λ asked. asked.shape) (option_and_then where_served o) ≡ None
     go None m h = refl
-    go (Some a) m h = shaped n a (is_served a.shape a.task) refl m (where_fit n a (n == disks_of a) h)
+    go (Some a) m h = shaped n a (is_served a.task) refl m (where_fit n a (n == disks_of a) h)
 
 -- nor do those that are handed in
 pub no_run_on : {A B C : Type 0} (f : A → B × C) (words : List (List ℕ)) (disks : List A) → length disks ≡ peers_in words

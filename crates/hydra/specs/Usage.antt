@@ -1,14 +1,10 @@
 -- What the program says of words that are outside the command language.
-use Rattle.std.specs.Prelude.{ℕ, Bool, ◌||◌, not, if◌then◌else◌, List, [], ◌∷◌, Option, Some, None, bytes_eq, codes}
+use Rattle.std.specs.Prelude.{ℕ, not, if◌then◌else◌, List, [], ◌∷◌, Option, Some, None, bytes_eq, codes}
 use Rattle.std.specs.List.{list_any}
 use Rattle.hs_limits.specs.declared.shape.Shape.{Shape}
 use Rattle.hs_top.specs.Words.{shape_in}
 use Rattle.hydra.specs.declared.usage.Later.{Later}
 use Rattle.hydra.specs.declared.usage.Later.TheVariants as later
-
--- a number of copies that a later step serves
-abbrev pub is_later_copies : List ℕ → Bool
-is_later_copies word = bytes_eq word (codes "2") || (bytes_eq word (codes "3") || bytes_eq word (codes "4"))
 
 -- an option that a later step serves
 unfoldable pub later_option : List (List ℕ) → Option Later
@@ -26,16 +22,15 @@ later_command command =
     else if bytes_eq command (codes "copy") then Some later.Copy
     else None
 
--- the first of these that a later step serves: the command, or more copies or an option of a script
-unfoldable pub later_part : List ℕ → List ℕ → List (List ℕ) → Option Later
-later_part command copies options =
+-- the first of these that a later step serves: the command, or an option of a script
+unfoldable pub later_part : List ℕ → List (List ℕ) → Option Later
+later_part command options =
     if not (bytes_eq command (codes "script")) then later_command command
-    else if is_later_copies copies then Some later.Copies
     else later_option options
 
 -- the first part of the words that a later step serves
 abbrev pub later_in : List (List ℕ) → Option Later
-later_in (command ∷ dir ∷ shards ∷ copies ∷ options) = later_part command copies options
+later_in (command ∷ dir ∷ shards ∷ copies ∷ options) = later_part command options
 later_in other = None
 
 -- the line on standard error of words outside the language
@@ -45,7 +40,6 @@ later_text (Some later.Load) = codes "hydra: load is not served yet: see hydra -
 later_text (Some later.Store) = codes "hydra: store is not served yet: see hydra --help\n"
 later_text (Some later.Fetch) = codes "hydra: fetch is not served yet: see hydra --help\n"
 later_text (Some later.Copy) = codes "hydra: copy is not served yet: see hydra --help\n"
-later_text (Some later.Copies) = codes "hydra: R above 1 is not served yet: see hydra --help\n"
 later_text (Some later.Visits) = codes "hydra: --visits is not served yet: see hydra --help\n"
 later_text (Some later.Cache) = codes "hydra: --cache is not served yet: see hydra --help\n"
 

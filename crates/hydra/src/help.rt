@@ -17,19 +17,24 @@ session has been given lately.
 
 Three commands are served so far:
 
-  hydra script DIR G 1 [options]
+  hydra script DIR G R [options]
   hydra audit DIR G R
   hydra scrub DIR G R [--from P]
 
-Not served yet: load, store, fetch and copy, and a script with R above 1.
+Not served yet: load, store, fetch and copy.
 
 A script is read from standard input, and the answers go to standard output.
-G is the number of shards among which the blocks are parted: 1, 2, 4 or 8, the
-same at each run. Shard P keeps its blocks in DIR, which is made if absent, in the
-files peerP.side0 and peerP.side1. What a line did is on the disk before it is
-answered, and a later run finds what an earlier one left, wherever that one
-stopped; sessions end with their run. One run at a time has a DIR: another is told
-so on standard error.
+G is the number of shards among which the blocks are parted: 1, 2, 4 or 8. R is
+the number of copies of each: 1 to 4. Both are the same at each run. Shard S has
+the peers S*R to S*R + R - 1, one a copy. Peer P keeps it in DIR, which is made if
+absent, in the files peerP.side0 and peerP.side1: its disk. What a line did is on
+each disk in use before it is answered, and a later run finds what an earlier one
+left, wherever that one stopped; sessions end with their run. One run at a time
+has a DIR: another is told so on standard error.
+
+A shard goes on as long as one of its disks is in use. One that fails, or is no
+log of a store, is out of use, which - down P tells, until a line start P empties
+it and fills it again. Each run begins by making the disks of a shard equal.
 
 An audit reads the files, and makes and writes none. It prints a line for each
 shard: its epoch, the last one that it swept, its blocks, its roots, and how many
@@ -47,7 +52,6 @@ P it then empties the other copies of the shard of copy P and gives them what P
 has; a copy whose files fail meanwhile has one line more. Scrub again to see what
 came of it.
 
-
 An option of a script is a name and a number, and lowers a limit of the run: each
 at most once, in any order, with a number from 1 to the greatest, which is the
 limit where the option is not given:
@@ -57,7 +61,7 @@ limit where the option is not given:
   --roots N     roots of a shard; 4096
   --sessions N  sessions that are open; 64
   --handles N   handles that a session holds; 4096
-  --pool N      messages under way between shards; from 16 on; 65536
+  --pool N      messages under way between peers; from 16 on; 65536
   --epochs N    the last epoch, at which no deletion begins; 281474976710655
 
 The lines of a script, each ended by a line feed:
@@ -85,12 +89,13 @@ A write, a read, a root, a drop and a deletion wait for the disks, which work at
 gets `no busy`. These lines have the disks do single things, for who wants to see
 them in another order:
 
-  turn P           shard P does its next job, or takes its oldest message
-  nudge P          shard P sends again what may have been lost
+  turn P           peer P does its next job, or takes its oldest message
+  nudge P          peer P sends again what may have been lost
   deliver K, lose K, repeat K
                    message K comes now, is lost, or is sent once more
-  fail P           shard P fails, and with its only copy the run ends
-  start P          a failed shard joins again; with its only copy none is there
+  fail P           peer P fails, and with the last one of its shard the run ends
+  start P          a failed peer joins again: its disk is emptied, and filled from
+                   that of another one of its shard, at settle
 
 An answer begins with the number of the line that asked, or with - where none
 did: ok, new for a block that was not there, dup for one that was, bytes for its
@@ -116,12 +121,13 @@ wrong with the line of a script.
       it says
    2  the words are not those of a command
    3  a line is not in the script language; the lines before it were run
-   4  a disk failed or is no log of a store, or another run has DIR; in a script's
-      output stands the line - down P, unless one of its lines had the disk fail
+   4  a shard has no peer left: each of its disks failed or is no log of a store,
+      or another run has DIR; in a script's output stands the line - down P for
+      each, unless one of its lines had the disk fail
    5  the input could not be read
    6  the output could not be written
    7  out of memory
-   8  a disk is of another store, or of another G; nothing was written to any
+   8  a disk is of another store, or of another G or R; nothing was written to any
   10  the run has as many answers as --ops allows, and one more was due
   13  the input is too long
   16  the copy that --from names has no log, or its files failed; nothing was
@@ -133,5 +139,8 @@ wrong with the line of a script.
 A damaged disk: a log has no checksum. A bit that flips in a block's data gives
 the block another address at the next opening: a read of the old one has no data,
 and two deletions remove the block, until an audit tells what is missing. A bit
-that flips in a gate hides what is behind it in the log.
+that flips in a gate hides what is behind it in the log. With several copies each
+script begins by making those equal that differ, and takes the longest list of the
+latest run: it can't tell which one is damaged. A scrub before it tells of each
+whether it is that one.
 ";

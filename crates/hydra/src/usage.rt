@@ -2,7 +2,7 @@
 ghost use Rattle.std.specs.Prelude.{◌≡◌, OnOk, bytes_eq, map, string_bytes};
 ghost use Rattle.std.specs.Io.KnownBytes.{Appends};
 ghost use Rattle.std.specs.List.{list_any};
-ghost use Rattle.hydra.specs.Usage.{is_later_copies, later_command, later_in, later_option, later_part, later_text, usage_text};
+ghost use Rattle.hydra.specs.Usage.{later_command, later_in, later_option, later_part, later_text, usage_text};
 
 use hs_top::shape_of;
 use std::io;
@@ -15,8 +15,6 @@ pub enum Later {
     Store,
     Fetch,
     Copy,
-    /// More than one copy.
-    Copies,
     Visits,
     Cache,
 }
@@ -43,7 +41,6 @@ fn later_line(later: Option<Later>) -> &'static str
         Some(Later::Store) => "hydra: store is not served yet: see hydra --help\n",
         Some(Later::Fetch) => "hydra: fetch is not served yet: see hydra --help\n",
         Some(Later::Copy) => "hydra: copy is not served yet: see hydra --help\n",
-        Some(Later::Copies) => "hydra: R above 1 is not served yet: see hydra --help\n",
         Some(Later::Visits) => "hydra: --visits is not served yet: see hydra --help\n",
         Some(Later::Cache) => "hydra: --cache is not served yet: see hydra --help\n",
     }
@@ -54,23 +51,18 @@ fn later_of(words: &[String]) -> Option<Later>
     ensures { result ≡ later_in (map (λ word. string_bytes word) words.now) }
 {
     match words {
-        [command, _, _, copies, options @ ..] => {
-            later_part(command.as_bytes(), copies.as_bytes(), options)
-        }
+        [command, _, _, _, options @ ..] => later_part(command.as_bytes(), options),
         _ => None,
     }
 }
 
 // The same of the words by their place.
 #[tactic(auto, unfolding(crate::specs::Usage::later_part))]
-fn later_part(command: &[u8], copies: &[u8], options: &[String]) -> Option<Later>
-    ensures { result ≡ later_part command.now copies.now
-        (map (λ word. string_bytes word) options.now) }
+fn later_part(command: &[u8], options: &[String]) -> Option<Later>
+    ensures { result ≡ later_part command.now (map (λ word. string_bytes word) options.now) }
 {
     if command != b"script".as_slice() {
         later_command(command)
-    } else if is_later_copies(copies) {
-        Some(Later::Copies)
     } else {
         later_option(options)
     }
@@ -92,13 +84,6 @@ fn later_command(command: &[u8]) -> Option<Later>
     } else {
         None
     }
-}
-
-// Whether a word is a number of copies that a later step serves.
-fn is_later_copies(word: &[u8]) -> bool
-    ensures { result ≡ is_later_copies word.now }
-{
-    word == b"2".as_slice() || word == b"3".as_slice() || word == b"4".as_slice()
 }
 
 // The option among these words that a later step serves.

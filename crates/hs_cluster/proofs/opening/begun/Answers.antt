@@ -17,9 +17,9 @@ returns-clause-core c =
     let made : Opened = record { catalogues = c.in_ok-catalogues.catalogues.items; views = c.in_ok-views.views.items; lengths = c.in_ok-lengths.lengths.items; good = c.in_ok-good.good.items } in
     core_opens c.args.shape c.args.limits made (opened_with (record { logs = c.args.taking.logs.items; shares = c.args.taking.shares.items })) c.args.moment c.in_ok-core.core c.in_ok-core.ensures.ok
     c.in_ok-catalogues.ensures
-    (c.in_ok-views.ensures ∙ ap (map (λ (share : Share). share.rank.view)) c.as_slice-3.ensures.value)
-    (c.in_ok-lengths.ensures ∙ ap (map (λ (share : Share). share.rank.number)) c.as_slice-4.ensures.value)
-    (c.in_ok-good.ensures ∙ ap (map (λ (log : Option Keeping). is_some log)) c.as_slice-2.ensures.value)
+    (c.in_ok-views.ensures ∙ ap (map (λ (share : Share). share.rank.view)) c.as_slice-4.ensures.value)
+    (c.in_ok-lengths.ensures ∙ ap (map (λ (share : Share). share.rank.number)) c.as_slice-5.ensures.value)
+    (c.in_ok-good.ensures ∙ ap (map (λ (log : Option Keeping). is_some log)) c.as_slice-3.ensures.value)
 
 pub returns-clause-shape : goal.returns-clause-shape
 returns-clause-shape c =

@@ -4,6 +4,6 @@ use Rattle.hs_measure.proofs.machine.each_core_of_the_machines_run_keeps_the_pro
 use Rattle.hs_measure.specs.Served.{EachCoreKeeps}
 
 pub returns : goal.returns
-returns g c = λ naming wanted commands r machine told sound.
-    if_shown g.D.Disk.tells (script_of (g.A.Addresser.name naming) wanted commands) r (EachCoreKeeps (script_of (g.A.Addresser.name naming) wanted commands) r) (g.A.Addresser.sized naming) machine told
+returns g c = λ naming wanted commands r machine one told sound.
+    if_shown g.D.Disk.tells (script_of (g.A.Addresser.name naming) wanted commands) r (EachCoreKeeps (script_of (g.A.Addresser.name naming) wanted commands) r) (g.A.Addresser.sized naming) machine one told
     (λ story on shown. c.each_core_of_a_run_keeps_the_promise.ensures (script_of (g.A.Addresser.name naming) wanted commands) r story on shown sound)

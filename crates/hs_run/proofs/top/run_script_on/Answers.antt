@@ -42,7 +42,7 @@ returns-in-Err-clause-ran g c =
     (closed_hub g.D.Disk.tells set span c.in-Err.fault old new c.in-Err.ensures.closed refl refl refl refl c.open.ensures.ticks
     (record { stands = handed_stands f h (λ disk. refl) c.args.disks.now; counts = handed_counts f h (λ disk. refl) c.args.disks.now })
     (record { stands = handed_stands f h (λ disk. refl) c.open.new.disks; counts = handed_counts f h (λ disk. refl) c.open.new.disks })
-    c.open.ensures.counted (λ told. since_of f c.open.new.disks (g.met.D.Disk.since told)) c.requires.shape c.requires.copies
+    c.open.ensures.counted (λ told. since_of f c.open.new.disks (g.met.D.Disk.since told)) c.requires.shape
     (length-map c.args.disks.now f ∙ c.requires.count) (seen_count h f c.args.disks.now) (length-map c.open.new.disks f ∙ c.open.ensures.count ∙ sym (length-map c.args.disks.now f))
     (handed_count h c.args.disks.now c.open.new.disks c.open.ensures.count) (omega arith) (omega arith) c.in-Err.ensures.unopened c.in-Err.ensures.spares)
 
@@ -56,7 +56,7 @@ go-ended-requires g c =
     let f : g.row.D.Denot → DiskSeen = λ disk. seen_as (g.D.Disk.size disk) (g.D.Disk.stands disk) (g.D.Disk.faults disk) in
     let set : Setting = record { name = g.A.Addresser.name c.args.naming.now; limits = c.args.limits; shape = c.args.shape } in
     let span : Span = record { before = c.args.watch.now; now = c.open.new.watch; old = map f c.args.disks.now; new = map f c.open.new.disks } in
-    let opens = c.in-Ok.ensures.opens c.requires.copies in
+    let opens = c.in-Ok.ensures.opens in
     record {
       printed = c.new-run.ensures.printed;
       line = c.new-run.ensures.line;
@@ -77,9 +77,9 @@ returns-clause-ran g c =
     let same : ran_of c.outcome_of.result old new ≡ ran_at c.status_of-2.result c.go-ended.new.run.line (Some c.go-ended.new.run.cluster) old new =
     ran_same c.outcome_of.result c.status_of-2.result c.go-ended.new.run.line (Some c.go-ended.new.run.cluster) old new c.outcome_of.ensures.status c.outcome_of.ensures.line c.outcome_of.ensures.journal c.outcome_of.ensures.kept c.outcome_of.ensures.stored c.outcome_of.ensures.refused c.outcome_of.ensures.course in
     subst (λ (r : Ran). (commands : ℕ → Option Command) × IsOfCluster g.D.Disk.tells (record { set = set; commands = commands }) r) (sym same)
-    (whole_hub g.D.Disk.tells set span c.in-Ok.opened.cluster c.in-Ok.opened.done (c.in-Ok.ensures.opens c.requires.copies) old new _ c.new-run.ensures.cluster refl refl (λ told. since_of f c.open.new.disks (g.met.D.Disk.since told)) refl refl refl refl
+    (whole_hub g.D.Disk.tells set span c.in-Ok.opened.cluster c.in-Ok.opened.done c.in-Ok.ensures.opens old new _ c.new-run.ensures.cluster refl refl (λ told. since_of f c.open.new.disks (g.met.D.Disk.since told)) refl refl refl refl
     (record { stands = handed_stands f h (λ disk. refl) c.args.disks.now; counts = handed_counts f h (λ disk. refl) c.args.disks.now })
     (record { stands = handed_stands f h (λ disk. refl) c.go-ended.new.disks; counts = handed_counts f h (λ disk. refl) c.go-ended.new.disks })
-    c.requires.shape c.requires.copies (length-map c.args.disks.now f ∙ c.requires.count) (seen_count h f c.args.disks.now)
+    c.requires.shape (length-map c.args.disks.now f ∙ c.requires.count) (seen_count h f c.args.disks.now)
     c.go-ended.ensures.runs c.status_of-2.result c.status_of-2.ensures
     (handed_count h c.args.disks.now c.go-ended.new.disks (c.go-ended.ensures.count ∙ c.open.ensures.count)) c.go-ended.ensures.cause c.go-ended.ensures.ends)

@@ -1,9 +1,11 @@
-use Rattle.std.proofs.Common.{◌∙◌, ◌<◌, ◌≤◌, refl, sym, subst, arith}
+use Rattle.std.proofs.Common.{◌≡◌, ◌∙◌, ap, ◌<◌, ◌≤◌, refl, sym, subst, arith}
+use Rattle.hs_entry.specs.declared.rank.Rank.{Rank}
+use Rattle.hs_entry.specs.Entries.{rank_of}
 use Rattle.hs_fold.specs.Shards.Setting.{Numbered}
 use Rattle.hs_peerlog.specs.Views.{HasView}
 use Rattle.hs_ports.specs.Disk.{Standing}
 use Rattle.hs_shard.specs.Facts.{Catalogue, empty_catalogue}
-use Rattle.hs_taking.proofs.LoadLemmas.{IsLoading, all_read, none_loaded, none_wanting, one_loaded}
+use Rattle.hs_taking.proofs.LoadLemmas.{IsLoading, all_read, none_counted, none_loaded, none_wanting, numbers_same, one_loaded, ranks_differ}
 use Rattle.hs_taking.proofs.loading.load.Goals as goal
 
 pub entries-init : goal.entries-init
@@ -25,7 +27,7 @@ entries-preserved g c =
     = λ told whole has. subst (λ (d : Standing). HasView c.args.view.now d.seen whole) (sym (inv.same told)) has in
     record {
       so_far = one_loaded g.D.Disk.tells (g.A.Addresser.name c.args.naming.now) (empty_catalogue c.args.shape c.args.shard) (HasView c.args.view.now (g.D.Disk.stands c.args.disk.now).seen)
-          c.entries.index c.entries.catalogue c.take_entry.new.catalogue c.entries.rank c.after-rank.result c.in-Some.entry inv.so_far (c.take_entry.ensures c.if-not-take_entry.false) c.after-rank.ensures
+          c.entries.index c.entries.catalogue c.take_entry.new.catalogue c.entries.rank c.after-rank.result c.in-Some.entry inv.so_far (c.in-Ok-true.ensures.taken c.in-Ok-true.field-0-test) c.after-rank.ensures
           (λ told whole has. (has.numbered, sym (c.in-Ok.ensures.found told whole (there told whole has)) ∙ c.in-Some.is));
       same = λ told. c.entry.ensures.same told ∙ inv.same told;
       same_size = λ s. c.entry.ensures.same_size s ∙ inv.same_size s;
@@ -51,4 +53,16 @@ returns-clause-loaded g c =
       catalogue = so_far.catalogue_is;
       rank = so_far.rank_is;
       told = λ told whole has. so_far.told told whole has ∙ all_read c.args.view.now (g.D.Disk.stands c.args.disk.now).seen whole c.entries.index has all;
+      blank = λ none.
+          let same = numbers_same c.entries.rank c.rank.result c.ne.result c.ne.ensures c.if-ne.false in
+          let of_view : c.rank.result.number ≡ c.args.view.now.rank.number = ap (λ (r : Rank). r.number) c.rank.ensures in
+          none_counted so_far.list (omega (arith, so_far.counted, c.entries.auto.index-end, c.last-index-end.ensures, none, same, of_view));
     }
+
+pub returns-then-ne-clause-refused : goal.returns-then-ne-clause-refused
+returns-then-ne-clause-refused g c = λ told list has.
+    let so_far = c.entries.invariant.so_far in
+    let all : c.args.view.now.rank.number ≤ c.entries.index = omega (arith, c.entries-test.false, c.last-index-end.ensures) in
+    let same : c.entries.rank ≡ c.rank.result =
+    so_far.rank_is ∙ ap rank_of (so_far.told told list has ∙ all_read c.args.view.now (g.D.Disk.stands c.args.disk.now).seen list c.entries.index has all) ∙ sym has.rank ∙ sym c.rank.ensures in
+    ranks_differ c.entries.rank c.rank.result c.ne.result c.ne.ensures c.if-ne.true same

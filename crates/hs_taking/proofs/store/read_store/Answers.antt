@@ -1,25 +1,35 @@
-use Rattle.std.proofs.Common.{◌≡◌, ◌∙◌, ◌<◌, ℕ, List, None, arith, length, map, subst, sym}
+use Rattle.std.proofs.Common.{◌≡◌, ◌∙◌, ◌*◌, ◌<◌, ℕ, List, None, arith, length, map, subst, sym}
 use Rattle.std.proofs.lemmas.Grind.{common_steps}
 use Rattle.std.specs.Prelude.{slice_index_or}
 use Rattle.hs_fold.specs.Shards.Setting.{Setting}
-use Rattle.hs_taking.proofs.DiskLemmas.{seen_count}
+use Rattle.hs_peerlog.proofs.ImageLemmas.{Since}
+use Rattle.hs_taking.proofs.DiskLemmas.{seen_count, seen_since}
 use Rattle.hs_taking.proofs.KeepLemmas.{keeps_read, keeps_then}
-use Rattle.hs_taking.proofs.StoreLemmas.{no_other, no_wrong, other_rose, read_ok, spares_read, spares_taken}
+use Rattle.hs_taking.proofs.StoreLemmas.{no_other, no_wrong, opened_ok, other_rose, read_ok, spares_read, spares_taken}
 use Rattle.hs_taking.proofs.ViewLemmas.{view_of}
 use Rattle.hs_taking.specs.Disks.{DiskSeen, seen_as, seen_at}
 use Rattle.hs_taking.specs.Shares.{Span}
-use Rattle.hs_taking.specs.Viewed.{IsViewed}
 use Rattle.hs_taking.proofs.store.read_store.Goals as goal
 
 pub take_all-requires-clause-viewed : goal.take_all-requires-clause-viewed
-take_all-requires-clause-viewed g c =
+take_all-requires-clause-viewed g c = λ peer within.
+    let f : g.row.D.Denot → DiskSeen = λ disk. seen_as (g.D.Disk.size disk) (g.D.Disk.stands disk) (g.D.Disk.faults disk) in
+    let low : peer < length c.args.disks.now = omega (arith, within, c.requires.count) in
+    view_of g.D.Disk.tells c.args.shape peer (seen_at (map f c.args.disks.now) peer) (seen_at (map f c.view_all.new.disks) peer) (slice_index_or c.in-Ok.views.items peer None) (c.view_all.ensures.read peer low).seen (c.in-Ok.ensures.viewed peer low).some
+
+pub returns-clause-evened : goal.returns-clause-evened
+returns-clause-evened g c =
     let f : g.row.D.Denot → DiskSeen = λ disk. seen_as (g.D.Disk.size disk) (g.D.Disk.stands disk) (g.D.Disk.faults disk) in
     let old : List DiskSeen = map f c.args.disks.now in
     let via : List DiskSeen = map f c.view_all.new.disks in
-    λ peer within.
-    let low : peer < length c.args.disks.now = omega (arith, within, c.requires.count) in
-    let viewed = subst (λ vs. IsViewed g.D.Disk.tells c.args.shape peer (seen_at old peer) (seen_at via peer) (slice_index_or vs peer None)) (sym c.as_slice.ensures.value) (c.in-Ok.ensures.viewed peer low) in
-    view_of g.D.Disk.tells c.args.shape peer (seen_at old peer) (seen_at via peer) (slice_index_or c.as_slice.result.now peer None) (c.view_all.ensures.read peer low).seen viewed.some
+    let new : List DiskSeen = map f c.take_all.new.disks in
+    let set : Setting = record { name = g.A.Addresser.name c.args.naming.now; limits = c.args.limits; shape = c.args.shape } in
+    let views = c.in-Ok.views.items in
+    let within : (peer : ℕ) → peer < c.args.shape.shards * c.args.shape.copies → peer < length c.args.disks.now = λ peer low. omega (arith, low, c.requires.count) in
+    let many : length views ≡ c.args.shape.shards * c.args.shape.copies = grind (arith, common_steps) in
+    let since : (peer : ℕ) → g.D.Disk.tells → Since (seen_at via peer).stands = λ peer told. seen_since f (λ disk side m high. g.met.D.Disk.since told disk side m high) c.view_all.new.disks peer in
+    opened_ok g.D.Disk.tells set c.args.watch.now c.view_all.new.watch c.take_all.new.watch old via new views c.view_all.ensures.ticks c.take_all.ensures.ticks many
+    (λ peer low. c.view_all.ensures.read peer (within peer low)) (λ peer low. c.in-Ok.ensures.viewed peer (within peer low)) since c.take_all.result c.take_all.ensures.shares c.take_all.ensures.takes
 
 pub returns-clause-read : goal.returns-clause-read
 returns-clause-read g c =
@@ -28,13 +38,13 @@ returns-clause-read g c =
     let via : List DiskSeen = map f c.view_all.new.disks in
     let new : List DiskSeen = map f c.take_all.new.disks in
     let set : Setting = record { name = g.A.Addresser.name c.args.naming.now; limits = c.args.limits; shape = c.args.shape } in
+    let views = c.in-Ok.views.items in
+    let within : (peer : ℕ) → peer < c.args.shape.shards * c.args.shape.copies → peer < length c.args.disks.now = λ peer low. omega (arith, low, c.requires.count) in
+    let many : length views ≡ c.args.shape.shards * c.args.shape.copies = grind (arith, common_steps) in
+    let since : (peer : ℕ) → g.D.Disk.tells → Since (seen_at via peer).stands = λ peer told. seen_since f (λ disk side m high. g.met.D.Disk.since told disk side m high) c.view_all.new.disks peer in
     λ one.
-    let total : length c.args.disks.now ≡ c.args.shape.shards = grind (arith, common_steps) in
-    let within : (peer : ℕ) → peer < c.args.shape.shards → peer < length c.args.disks.now = λ peer low. omega (arith, low, total) in
-    read_ok g.D.Disk.tells set c.args.watch.now c.view_all.new.watch c.take_all.new.watch c.args.shape.shards old via new c.as_slice.result.now c.take_all.result c.view_all.ensures.ticks
-    (λ peer low. c.view_all.ensures.read peer (within peer low))
-    (λ peer low. subst (λ vs. IsViewed g.D.Disk.tells c.args.shape peer (seen_at old peer) (seen_at via peer) (slice_index_or vs peer None)) (sym c.as_slice.ensures.value) (c.in-Ok.ensures.viewed peer (within peer low)))
-    c.take_all.ensures.shares (c.take_all.ensures.taken one)
+    read_ok g.D.Disk.tells set c.args.watch.now c.view_all.new.watch c.take_all.new.watch old via new views c.view_all.ensures.ticks c.take_all.ensures.ticks many
+    (λ peer low. c.view_all.ensures.read peer (within peer low)) (λ peer low. c.in-Ok.ensures.viewed peer (within peer low)) since c.take_all.result one (λ peer low. c.take_all.ensures.counted peer (subst (λ n. peer < n) (sym c.view_all.ensures.count) (within peer low))) c.take_all.ensures.shares c.take_all.ensures.takes
 
 pub returns-clause-other : goal.returns-clause-other
 returns-clause-other g c = no_other g.D.Disk.tells c.args.shape _ _ c.take_all.result c.take_all.ensures.only
@@ -74,13 +84,13 @@ returns-clause-counted g c = λ peer low.
     omega (arith, a, b)
 
 pub returns-in-Err-clause-keeps : goal.returns-in-Err-clause-keeps
-returns-in-Err-clause-keeps g c = λ peer low. keeps_read g.D.Disk.tells c.args.watch.now c.view_all.new.watch _ _ (c.view_all.ensures.read peer low)
+returns-in-Err-clause-keeps g c = λ one peer low. keeps_read g.D.Disk.tells c.args.watch.now c.view_all.new.watch _ _ (c.view_all.ensures.read peer low)
 
 pub returns-clause-keeps : goal.returns-clause-keeps
 returns-clause-keeps g c =
     let f : g.row.D.Denot → DiskSeen = λ disk. seen_as (g.D.Disk.size disk) (g.D.Disk.stands disk) (g.D.Disk.faults disk) in
     let same : length c.view_all.new.disks ≡ length c.args.disks.now = c.view_all.ensures.count in
-    λ peer low.
+    λ one peer low.
     keeps_then g.D.Disk.tells c.args.watch.now c.view_all.new.watch c.take_all.new.watch (seen_at (map f c.args.disks.now) peer) (seen_at (map f c.view_all.new.disks) peer) (seen_at (map f c.take_all.new.disks) peer)
     (keeps_read g.D.Disk.tells c.args.watch.now c.view_all.new.watch (seen_at (map f c.args.disks.now) peer) (seen_at (map f c.view_all.new.disks) peer) (c.view_all.ensures.read peer low))
-    (c.take_all.ensures.keeps peer (omega (arith, low, same)))
+    (c.take_all.ensures.keeps one peer (omega (arith, low, same)))

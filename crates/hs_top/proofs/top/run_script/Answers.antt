@@ -24,6 +24,7 @@ returns g c =
       ordered = c.a_journal_is_in_order.ensures;
       none_good = c.a_run_without_a_course_has_its_cause.ensures;
       prompt = c.a_prompt_line_has_its_entry.ensures;
+      any_cause = c.each_status_has_its_cause.ensures.any;
       cause = c.each_status_has_its_cause.ensures.one;
       notes = c.each_note_has_its_cause.ensures.opened;
       notes_never = c.each_note_has_its_cause.ensures.never;

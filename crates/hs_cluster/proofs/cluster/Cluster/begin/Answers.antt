@@ -14,7 +14,7 @@ returns-clause-begins g c =
     let span : Span = record { before = c.args.watch.now; now = c.read_store.new.watch; old = map f c.args.disks.now; new = map f c.read_store.new.disks } in
     let taken : Taken = record { logs = c.in-Ok.taking.logs.items; shares = c.in-Ok.taking.shares.items } in
     begins_ok g.D.Disk.tells set span taken c.now-entry.result c.now.result c.begun.result c.now-entry.ensures.value c.now.ensures.value
-    c.in-Ok.ensures.read c.in-Ok.ensures.shares c.in-Ok.ensures.logs c.read_store.ensures.ticks
+    c.requires.shape c.in-Ok.ensures.evened c.in-Ok.ensures.shares c.in-Ok.ensures.logs c.read_store.ensures.ticks
     (length-map c.args.disks.now f ∙ c.requires.count)
     (length-map c.read_store.new.disks f ∙ c.read_store.ensures.count ∙ sym (length-map c.args.disks.now f))
     (falls_within span.old span.new (λ peer low. c.read_store.ensures.counted peer (subst (λ n. peer < n) (length-map c.args.disks.now f) low)))
@@ -44,11 +44,11 @@ returns-in-Err-clause-counted g c =
     falls_within (map f c.args.disks.now) (map f c.read_store.new.disks) (λ peer low. c.read_store.ensures.counted peer (subst (λ n. peer < n) (length-map c.args.disks.now f) low))
 
 pub returns-clause-keeps : goal.returns-clause-keeps
-returns-clause-keeps g c =
+returns-clause-keeps g c = λ one.
     let f : g.row.D.Denot → DiskSeen = λ disk. seen_as (g.D.Disk.size disk) (g.D.Disk.stands disk) (g.D.Disk.faults disk) in
-    record { each = λ peer low. c.read_store.ensures.keeps peer (subst (λ n. peer < n) (length-map c.args.disks.now f) low) }
+    record { each = λ peer low. c.read_store.ensures.keeps one peer (subst (λ n. peer < n) (length-map c.args.disks.now f) low) }
 
 pub returns-in-Err-clause-keeps : goal.returns-in-Err-clause-keeps
-returns-in-Err-clause-keeps g c =
+returns-in-Err-clause-keeps g c = λ one.
     let f : g.row.D.Denot → DiskSeen = λ disk. seen_as (g.D.Disk.size disk) (g.D.Disk.stands disk) (g.D.Disk.faults disk) in
-    record { each = λ peer low. c.read_store.ensures.keeps peer (subst (λ n. peer < n) (length-map c.args.disks.now f) low) }
+    record { each = λ peer low. c.read_store.ensures.keeps one peer (subst (λ n. peer < n) (length-map c.args.disks.now f) low) }

@@ -21,12 +21,12 @@ returns-in-Some-clause-opened g c =
     (opens_so_far set.shape set.limits (opened_with c.in-Ok.ensures.begins.taken) c.begin.new.watch c.in-Ok.cluster.core c.in-Some.fault c.in-Ok.ensures.begins.core is))
 
 pub returns-in-Some-clause-opens : goal.returns-in-Some-clause-opens
-returns-in-Some-clause-opens g c = λ one.
+returns-in-Some-clause-opens g c =
     let f : g.row.D.Denot → DiskSeen = λ disk. seen_as (g.D.Disk.size disk) (g.D.Disk.stands disk) (g.D.Disk.faults disk) in
     let set : Setting = record { name = g.A.Addresser.name c.args.naming.now; limits = c.args.limits; shape = c.args.shape } in
     let span : Span = record { before = c.args.watch.now; now = c.begin.new.watch; old = map f c.args.disks.now; new = map f c.begin.new.disks } in
     let is : c.in-Ok.cluster.core.ended ≡ Some c.in-Some.fault = sym c.ended.ensures ∙ c.in-Some.is in
-    opens_found g.D.Disk.tells set span c.in-Ok.cluster (Err c.from.result) one
+    opens_found g.D.Disk.tells set span c.in-Ok.cluster (Err c.from.result)
     (opened g.D.Disk.tells set span c.in-Ok.cluster c.in-Ok.cluster (Err c.from.result) c.begin.new.watch (map f c.begin.new.disks) c.in-Ok.ensures.begins
     (not_turned g.D.Disk.tells c.begin.new.watch c.in-Ok.cluster (map f c.begin.new.disks) c.in-Some.fault c.from.result is c.from.ensures
     (opens_so_far set.shape set.limits (opened_with c.in-Ok.ensures.begins.taken) c.begin.new.watch c.in-Ok.cluster.core c.in-Some.fault c.in-Ok.ensures.begins.core is)))
@@ -41,12 +41,12 @@ returns-clause-opened g c =
     (turned g.D.Disk.tells turns c.settle-done.result (sym c.ended.ensures ∙ c.in-None.is) c.settle-done.ensures.walks)
 
 pub returns-clause-opens : goal.returns-clause-opens
-returns-clause-opens g c = λ one.
+returns-clause-opens g c =
     let f : g.row.D.Denot → DiskSeen = λ disk. seen_as (g.D.Disk.size disk) (g.D.Disk.stands disk) (g.D.Disk.faults disk) in
     let set : Setting = record { name = g.A.Addresser.name c.args.naming.now; limits = c.args.limits; shape = c.args.shape } in
     let span : Span = record { before = c.args.watch.now; now = c.settle-done.new.watch; old = map f c.args.disks.now; new = map f c.settle-done.new.disks } in
     let turns : Turns = record { before = c.begin.new.watch; now = c.settle-done.new.watch; old = c.in-Ok.cluster; new = c.settle-done.new.self; disks = map f c.begin.new.disks; left = map f c.settle-done.new.disks } in
-    opens_found g.D.Disk.tells set span c.settle-done.new.self c.settle-done.result one
+    opens_found g.D.Disk.tells set span c.settle-done.new.self c.settle-done.result
     (opened g.D.Disk.tells set span c.in-Ok.cluster c.settle-done.new.self c.settle-done.result c.begin.new.watch (map f c.begin.new.disks) c.in-Ok.ensures.begins
     (turned g.D.Disk.tells turns c.settle-done.result (sym c.ended.ensures ∙ c.in-None.is) c.settle-done.ensures.walks))
 
